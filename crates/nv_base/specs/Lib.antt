@@ -1,0 +1,4 @@
+pub mod Limits
+pub mod Homes
+pub mod Names
+pub mod Texts

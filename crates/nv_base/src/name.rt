@@ -1,0 +1,82 @@
+//! Lawful names.
+
+ghost use Rattle.std.specs.Prelude.{◌≡◌, ◌↔◌, IsTrue, IsOk, IfOk, IfErr};
+ghost use Rattle.std.specs.Prelude.{◌⊎◌};
+ghost use Rattle.nv_base.specs.Names.{is_dots, is_lawful_name, is_name_byte};
+ghost use Rattle.std.specs.List.{list_all};
+
+use crate::{Fault, limits};
+use std::alloc::{AllocError, Global};
+use std::marker::Model;
+
+/// A lawful name: 1 to 255 bytes without `/` and NUL, and neither `.` nor `..`. Contracts see its bytes.
+#[derive(Debug, Drop)]
+pub struct Name {
+    bytes: Vec<u8>,
+}
+
+impl Model for Name {
+    ghost use Rattle.std.specs.Prelude.{List, ℕ, IsTrue};
+    ghost use Rattle.nv_base.specs.Names.{is_lawful_name};
+
+    ghost Value = { List ℕ };
+
+    ghost view = { λ n. n.bytes.items };
+
+    ghost invariant = { λ n. IsTrue (is_lawful_name n.bytes.items) };
+}
+
+impl Name {
+    /// Whether these bytes are a lawful name: `BadName` where they are not.
+    pub fn check(bytes: &[u8]) -> Result<(), Fault>
+        ensures ok { IsOk result ↔ IsTrue (is_lawful_name bytes.now) }
+        ensures err { IfErr result (λ fault. fault ≡ Fault.BadName) }
+    {
+        let fits = !bytes.is_empty() && bytes.len() <= limits::NAME_BYTES;
+        if fits && has_name_bytes(bytes) && !is_dots(bytes) {
+            return Ok(());
+        }
+        Err(Fault::BadName)
+    }
+
+    /// The name with these bytes: `BadName` where they are no lawful name, else `OutOfMemory` where there
+    /// is no room for them.
+    pub fn read(alloc: Global, bytes: &[u8]) -> Result<Name, Fault>
+        ensures ok { IfOk result (λ name. name ≡ bytes.now) }
+        ensures lawful { IsOk result → IsTrue (is_lawful_name bytes.now) }
+        ensures err { IfErr result (λ fault. ((fault ≡ Fault.BadName) × (IsTrue (is_lawful_name bytes.now) → ⊥))
+            ⊎ ((fault ≡ Fault.OutOfMemory) × IsTrue (is_lawful_name bytes.now))) }
+    {
+        Name::check(bytes)?;
+        let bytes = Vec::from_slice(alloc, bytes)?;
+        Ok(Name { bytes })
+    }
+
+    /// The same name once more.
+    pub fn copied(&self, alloc: Global) -> Result<Name, AllocError>
+        ensures { IfOk result (λ name. name ≡ self.now) }
+    {
+        let bytes = Vec::from_slice(alloc, &self.bytes)?;
+        Ok(Name { bytes })
+    }
+
+    /// The bytes of the name.
+    pub fn bytes(&self) -> &[u8]
+        ensures value { result.now ≡ self.now }
+        ensures lawful { IsTrue (is_lawful_name self.now) }
+    {
+        &self.bytes
+    }
+}
+
+fn has_name_bytes(bytes: &[u8]) -> bool
+    ensures { result ≡ list_all is_name_byte bytes.now }
+{
+    bytes.iter().all(|byte| *byte != b'/' && *byte != 0)
+}
+
+fn is_dots(bytes: &[u8]) -> bool
+    ensures { result ≡ is_dots bytes.now }
+{
+    bytes == b".".as_slice() || bytes == b"..".as_slice()
+}

@@ -1,0 +1,10 @@
+pub mod Data
+pub mod Keys
+pub mod Parts
+pub mod Log
+pub mod Held
+pub mod Index
+pub mod Counts
+pub mod Clean
+pub mod Laws
+pub mod Node
