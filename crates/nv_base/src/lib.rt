@@ -12,6 +12,8 @@ pub mod limits;
 mod name;
 mod node;
 mod numbers;
+#[cfg(test)]
+mod tests;
 
 pub use bytes::Bytes;
 pub use fault::{Fault, GeometryField, ImageFault, MismatchPart, ScriptFaultKind};

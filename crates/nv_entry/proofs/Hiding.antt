@@ -53,7 +53,7 @@ run_parts first run page h =
     let q = and_parts (nat_le first page) (nat_lt page (first + run.len)) p.0 in
     (leb-true first page q.0, ltb-true page (first + run.len) q.1, ltb-true page 65536 p.1)
 
-run_from : (first : ℕ) (run : Run) (page : ℕ) → first ≤ page → page < first + run.len → page < 65536 → in_run first run page ≡ true
+pub run_from : (first : ℕ) (run : Run) (page : ℕ) → first ≤ page → page < first + run.len → page < 65536 → in_run first run page ≡ true
 run_from first run page a b c =
     and_from (nat_le first page && nat_lt page (first + run.len)) (is_page page)
     (and_from (nat_le first page) (nat_lt page (first + run.len)) (le-leb first page a) (lt-ltb page (first + run.len) b))

@@ -2,6 +2,7 @@ pub mod Dying
 pub mod Hiding
 pub mod Nodes
 pub mod PartLists
+pub mod PartsSet
 pub mod Removal
 pub mod Steps
 pub mod Values

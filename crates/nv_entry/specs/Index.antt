@@ -19,7 +19,7 @@ abbrev pub last_cover : ℕ → List Entry → Key → Option Entry
 last_cover block [] key = None
 last_cover block (e ∷ later) key = option_or (last_cover block later key) (if covers block e.item key then Some e else None)
 
--- where a page stands that an entry sets so
+-- where a page stands by an entry's setting of it
 abbrev pub source_of : Entry → Setting → Option PageSource
 source_of e (Present (datum.Block block)) = Some (record { entry = e.id; block = block })
 source_of e setting = None

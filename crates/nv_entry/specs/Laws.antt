@@ -1,15 +1,17 @@
 -- What one more entry does to what a log says.
-use Rattle.std.specs.Prelude.{◌≡◌, ℕ, ◌<◌, Bool, if◌then◌else◌, List, [], ◌∷◌, ◌++◌, Option, Some, None}
+use Rattle.std.specs.Prelude.{◌≡◌, ℕ, ◌<◌, Bool, true, false, if◌then◌else◌, List, [], ◌∷◌, ◌++◌, Option, Some, None}
 use Rattle.std.specs.Option.{option_or}
+use Rattle.std.specs.List.{AllByRecursion}
 use Rattle.nv_entry.specs.declared.index.PageSource.{PageSource}
 use Rattle.nv_entry.specs.declared.item.Entry.{Entry}
+use Rattle.nv_entry.specs.declared.item.Item.{Item}
 use Rattle.nv_entry.specs.declared.key.Datum.{Datum}
 use Rattle.nv_entry.specs.declared.key.Setting.{Setting}
 use Rattle.nv_entry.specs.declared.key.Setting.TheVariants.{Untouched, Absent, Present}
 use Rattle.nv_entry.specs.declared.part.PartId.{PartId}
 use Rattle.nv_entry.specs.Clean.{IsDroppable, SameValues, kept_of}
 use Rattle.nv_entry.specs.Index.{source_of, page_source, names_of, names_after}
-use Rattle.nv_entry.specs.Keys.{Key, PageKey, sets, covers}
+use Rattle.nv_entry.specs.Keys.{Key, PageKey, sets, covers, key_of, parts_of}
 use Rattle.nv_entry.specs.Log.{value_now, value_at, first_cover}
 
 -- what a setting leaves of a value
@@ -43,3 +45,12 @@ NoneDroppable block snapshots pending before (e ∷ later) =
 pub record IsCleaned (block : ℕ) (snapshots : List ℕ) (pending : List PartId) (log : List Entry) : Type 0 where
   pub same : SameValues block snapshots log (kept_of block snapshots pending log)
   pub none_left : NoneDroppable block snapshots pending [] (kept_of block snapshots pending log)
+
+abbrev pub is_present : Setting → Bool
+is_present Untouched = false
+is_present Absent = false
+is_present (Present value) = true
+
+-- each part of an item is a key that it sets to a value
+abbrev pub PartsAreSet : ℕ → Item → Type 0
+PartsAreSet block item = AllByRecursion (λ part. is_present (sets block item (key_of item part)) ≡ true) (parts_of item)

@@ -2,10 +2,16 @@
 
 ghost use Rattle.std.specs.Prelude.{ℕ, List, [], ◌∷◌, ◌++◌};
 ghost use Rattle.nv_entry.specs.Clean.{IsDroppable, SameValues, entries_of, pages_left};
-ghost use Rattle.nv_entry.specs.Laws.{IsCleaned, OneMore};
+ghost use Rattle.nv_entry.specs.Laws.{IsCleaned, OneMore, PartsAreSet};
 ghost use Rattle.nv_entry.specs.Log.{IsLog};
 ghost use Rattle.nv_entry.specs.declared.part.PartId.{PartId};
 ghost use Rattle.nv_entry.specs.declared.item.Entry.{Entry};
+ghost use Rattle.nv_entry.specs.declared.item.Item.{Item};
+
+/// Each part of an item is a key that it sets to a value.
+pub fn parts_are_set()
+    ensures { (block : ℕ) (item : Item) → PartsAreSet block item }
+{}
 
 /// One more entry changes each value, the deaths of pairs, the index and the names exactly as that entry
 /// says. The values at earlier epochs stay.

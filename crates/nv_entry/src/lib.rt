@@ -17,6 +17,8 @@ pub mod laws;
 mod names;
 mod node;
 mod part;
+#[cfg(test)]
+mod tests;
 mod value;
 
 pub use clean::is_droppable;
@@ -26,6 +28,6 @@ pub use index::{PageSource, page_source};
 pub use item::{Entry, Item, Run};
 pub use key::{Datum, Key, Setting};
 pub use names::{BoundName, NameList, names_when};
-pub use node::{BlockBytes, NodeCopy, node_when, size_when};
+pub use node::{BlockBytes, NodeCopy, file_bytes_when, node_when, size_when};
 pub use part::{Part, PartId, Parts};
 pub use value::{When, first_cover, value_at, value_now, value_when};

@@ -70,7 +70,8 @@ fn mode_when(block: u64, when: When, log: &[Entry]) -> Mode
     }
 }
 
-fn file_bytes_when<B: BlockBytes>(
+/// The bytes of a file now or at an epoch: page by page, zeros where a page is absent, cut at the size.
+pub fn file_bytes_when<B: BlockBytes>(
     alloc: Global,
     block: u64,
     when: When,

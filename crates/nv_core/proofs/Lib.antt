@@ -1,0 +1,10 @@
+pub mod CreateLaw
+pub mod Format
+pub mod LogLists
+pub mod NameValues
+pub mod Outcomes
+pub mod Pages
+pub mod Touched
+pub mod WriteLaw
+pub mod WriteNodes
+pub mod WritePages

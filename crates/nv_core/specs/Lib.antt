@@ -1,0 +1,9 @@
+pub mod Bytes
+pub mod Checks
+pub mod Logs
+pub mod Meets
+pub mod Plain
+pub mod Roots
+pub mod Steps
+pub mod World
+pub mod Written

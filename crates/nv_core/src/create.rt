@@ -1,0 +1,138 @@
+//! Making files.
+
+ghost use Rattle.std.specs.Prelude.{◌≡◌, ◌+◌, ◌<◌, ◌≤◌, ◌^◌, ◌⊎◌, Ok, Err, IfErr, IfOk};
+ghost use Rattle.std.specs.Prelude.{◌∷◌, ◌++◌, [], OnErr, OnOk, slice_index_or, slice_set, vec_capacity, vec_len};
+ghost use Rattle.nv_core.specs.Checks.{create_check, created, init_entry, next_handle};
+ghost use Rattle.nv_core.specs.Logs.{logs_of};
+
+use crate::{Answer, World};
+use nv_base::{CommitNo, EntryId, Epoch, Fault, Gen, Handle, Ino, Kind, Mode, Name, limits};
+use nv_entry::{Entry, Item};
+use std::alloc::{AllocError, Global};
+
+impl World {
+    /// Makes an empty file in a directory, and binds a name to it.
+    pub(crate) fn create(&mut self, dir: Handle, name: &[u8], mode: Mode) -> Result<Answer, Fault>
+        ensures ok { IfOk result (λ answer. (answer ≡ Answer.Made (next_handle self.old))
+            × (create_check self.old dir name.now ≡ Ok tt) × (self.old.commit < 2 ^ 62)
+            × (self.new ≡ created self.old dir name.now mode)) }
+        ensures same { IfErr result (λ _. self.new ≡ self.old) }
+        ensures err { IfErr result (λ fault. (create_check self.old dir name.now ≡ Err fault)
+            ⊎ ((create_check self.old dir name.now ≡ Ok tt) × (fault ≡ Fault.OutOfMemory))
+            ⊎ ((create_check self.old dir name.now ≡ Ok tt) × (fault ≡ Fault.CommitLimit) × (2 ^ 62 ≤ self.old.commit))) }
+    {
+        self.check_create(&dir, name)?;
+        let ino = slot_of(&dir);
+        let commit = self.next_commit()?;
+        let to = self.next_handle();
+        let made = self.next_handle();
+        let name = Name::read(self.alloc, name)?;
+        let log = first_log(self.alloc, commit, mode)?;
+        let bind = new_entry(commit, 0, Item::Bind { name, to });
+        add_file(&mut self.logs, ino, bind, log)?;
+        self.commit = commit;
+        Ok(Answer::Made(made))
+    }
+
+    /// The handle that the next new inode gets.
+    fn next_handle(&self) -> Handle
+        ensures { result ≡ next_handle self.now }
+    {
+        Handle {
+            ino: Ino::new(self.logs.len() as u64),
+            generation: Gen::new(1),
+        }
+    }
+
+    /// Why a create is refused before it takes memory.
+    fn check_create(&self, dir: &Handle, name: &[u8]) -> Result<(), Fault>
+        ensures { result ≡ create_check self.now dir.now name.now }
+    {
+        match self.kind_under(dir) {
+            None => return Err(Fault::Stale),
+            Some(Kind::File) => return Err(Fault::NotDirectory),
+            Some(Kind::Dir) => {}
+        }
+        Name::check(name)?;
+        if self.is_bound(slot_of(dir), name) {
+            return Err(Fault::Exists);
+        }
+        if self.logs.len() as u64 >= self.geometry.inodes {
+            return Err(Fault::NoInode);
+        }
+        Ok(())
+    }
+
+    /// The number of the next commit.
+    pub(crate) fn next_commit(&self) -> Result<CommitNo, Fault>
+        ensures ok { IfOk result (λ commit. (commit ≡ self.now.commit + 1) × (self.now.commit < 2 ^ 62)) }
+        ensures err { IfErr result (λ fault. (fault ≡ Fault.CommitLimit) × (2 ^ 62 ≤ self.now.commit)) }
+    {
+        if self.commit.number() >= limits::NUMBER {
+            return Err(Fault::CommitLimit);
+        }
+        Ok(self.commit.next())
+    }
+}
+
+/// An entry of the first epoch.
+pub(crate) fn new_entry(commit: CommitNo, place: u32, item: Item) -> Entry
+    ensures { result ≡ record { id = record { commit = commit; place = place }; epoch = 1; item = item } }
+{
+    Entry {
+        id: EntryId { commit, place },
+        epoch: Epoch::new(1),
+        item,
+    }
+}
+
+/// The log of a new file.
+fn first_log(alloc: Global, commit: CommitNo, mode: Mode) -> Result<Vec<Entry>, AllocError>
+    ensures { IfOk result (λ log. log.items ≡ init_entry commit mode ∷ []) }
+{
+    let mut log = Vec::with_capacity(alloc, 1)?;
+    let kind = Kind::File;
+    log.push(new_entry(commit, 1, Item::Init { kind, mode }))?;
+    Ok(log)
+}
+
+/// Appends an entry to a directory's log, and adds the log of a new inode. Where there is no room for both,
+/// nothing changes.
+fn add_file(
+    logs: &mut Vec<Vec<Entry>>,
+    ino: usize,
+    bind: Entry,
+    log: Vec<Entry>,
+) -> Result<(), AllocError>
+    requires { ino < vec_len logs.old }
+    ensures ok { OnOk result (logs_of logs.new
+        ≡ slice_set (logs_of logs.old) ino
+        (slice_index_or (logs_of logs.old) ino [] ++ bind ∷ []) ++ log.items ∷ []) }
+    ensures err { OnErr result (logs_of logs.new ≡ logs_of logs.old) }
+{
+    logs.reserve(1)?;
+    append(logs, ino, bind)?;
+    logs.push_reserved(log);
+    Ok(())
+}
+
+/// Appends an entry to one log. Where there is no room for it, nothing changes.
+pub(crate) fn append(logs: &mut Vec<Vec<Entry>>, ino: usize, entry: Entry) -> Result<(), AllocError>
+    requires { ino < vec_len logs.old }
+    ensures ok { OnOk result (logs_of logs.new
+        ≡ slice_set (logs_of logs.old) ino
+        (slice_index_or (logs_of logs.old) ino [] ++ entry ∷ [])) }
+    ensures err { OnErr result (logs_of logs.new ≡ logs_of logs.old) }
+    ensures len { vec_len logs.new ≡ vec_len logs.old }
+    ensures capacity { vec_capacity logs.new ≡ vec_capacity logs.old }
+{
+    logs[ino].push(entry)?;
+    Ok(())
+}
+
+/// The place of a handle's slot.
+pub(crate) fn slot_of(handle: &Handle) -> usize
+    ensures { result ≡ handle.now.ino }
+{
+    handle.ino.number() as usize
+}

@@ -1,0 +1,7 @@
+//! Small logs by hand, and what they say: the values that no clause can vouch for come from worked examples.
+
+mod cleaning;
+mod files;
+mod items;
+mod logs;
+mod names;

@@ -1,0 +1,125 @@
+//! The index of a file's pages.
+
+ghost use Rattle.std.specs.Prelude.{◌≡◌, ℕ, ◌+◌, ◌*◌, ◌<◌, ◌≤◌, [], IsSome, IfSome, IsOk, OnOk, OnErr, IfErr};
+ghost use Rattle.nv_base.specs.declared.fault.Fault.TheVariants.{OutOfMemory};
+ghost use Rattle.nv_findex.specs.Pages.{ref_at, run_count_of, SetsRun, CutsFrom, IsNextFrom};
+
+use crate::PageRef;
+use crate::runs::{self, Run};
+use nv_base::limits::FILE_PAGES;
+use nv_base::{EntryId, Fault};
+use std::alloc::Global;
+use std::marker::Model;
+
+/// Where each present page of a file lies: a map from page number to [`PageRef`].
+///
+/// Pages that follow one another in the file and in one entry's run are kept as one run, so that an index
+/// takes memory by its runs and not by the file's length, and a look-up halves the runs.
+#[derive(Debug, Drop)]
+pub struct FileIndex {
+    runs: Vec<Run>,
+}
+
+impl Model for FileIndex {
+    ghost use Rattle.std.specs.Prelude.{◌-◌, vec_len, vec_capacity};
+    ghost use Rattle.nv_findex.specs.Pages.{PageMap};
+    ghost use Rattle.nv_findex.specs.Runs.{AreIndex, pages_of};
+
+    ghost Value = { PageMap };
+
+    ghost view = { λ i. record { pages = pages_of i.runs.items; room = vec_capacity i.runs - vec_len i.runs } };
+
+    ghost invariant = { λ i. AreIndex i.runs.items };
+}
+
+impl FileIndex {
+    /// An index without pages. It takes no memory yet.
+    pub fn new(alloc: Global) -> Self
+        ensures { result ≡ record { pages = []; room = 0 } }
+    {
+        FileIndex {
+            runs: Vec::new(alloc),
+        }
+    }
+
+    /// Where a page lies, or `None` if it isn't present. No page from 65,536 on is.
+    pub fn at(&self, page: u32) -> Option<PageRef>
+        ensures found { result ≡ ref_at self.now.pages page }
+        ensures within { IsSome result → page < FILE_PAGES }
+    {
+        runs::find(&self.runs, page)
+    }
+
+    /// The least present page that isn't below `page`, and where it lies. From page 0 on, and then from the
+    /// page behind each that was found, this walks all present pages in rising order.
+    pub fn next_from(&self, page: u32) -> Option<(u32, PageRef)>
+        ensures next { IsNextFrom page (ref_at self.now.pages) result }
+        ensures within { IfSome result (λ found. found.0 < FILE_PAGES) }
+    {
+        runs::find_next(&self.runs, page)
+    }
+
+    /// How many runs the pages make: of two neighbours that lie one after the other in one entry's run,
+    /// both are of one run.
+    pub fn run_count(&self) -> usize
+        ensures { result ≡ run_count_of self.now.pages }
+    {
+        self.runs.len()
+    }
+
+    /// For how many more runs there is room.
+    pub fn room(&self) -> usize
+        ensures { result ≡ self.now.room }
+    {
+        self.runs.capacity() - self.runs.len()
+    }
+
+    /// Makes room for as many calls of `set_run`, two more runs for each.
+    ///
+    /// Fails with `OutOfMemory` alone, and only where that room was missing; then nothing has changed.
+    pub fn reserve_for(&mut self, runs: usize) -> Result<(), Fault>
+        ensures pages { self.new.pages ≡ self.old.pages }
+        ensures ok { OnOk result (2 * runs ≤ self.new.room) }
+        ensures kept { self.old.room ≤ self.new.room }
+        ensures err { OnErr result (self.new.room ≡ self.old.room) }
+        ensures missing { OnErr result (self.old.room < 2 * runs) }
+        ensures fault { IfErr result (λ fault. fault ≡ OutOfMemory) }
+    {
+        if runs <= self.room() / 2 {
+            return Ok(());
+        }
+        let more = runs.checked_mul(2).ok_or(Fault::OutOfMemory)?;
+        self.runs.reserve(more)?;
+        Ok(())
+    }
+
+    /// Sets the pages `first` to `first + len - 1` to places 0 to `len - 1` of an entry's run, whether or
+    /// not they were present. It takes no memory, and as much room as the index has more runs after it.
+    ///
+    /// The place is found by halving; the runs behind it are moved where their number changes.
+    pub fn set_run(&mut self, first: u32, len: u32, entry: EntryId)
+        requires some { 0 < len }
+        requires within { first + len ≤ FILE_PAGES }
+        requires room { 2 ≤ self.old.room }
+        ensures pages { SetsRun first len entry (ref_at self.old.pages) (ref_at self.new.pages) }
+        ensures runs { run_count_of self.new.pages ≤ run_count_of self.old.pages + 2 }
+        ensures room { self.new.room + run_count_of self.new.pages ≡ self.old.room + run_count_of self.old.pages }
+    {
+        let run = Run {
+            first,
+            end: first + len,
+            start: PageRef { entry, place: 0 },
+        };
+        runs::put(&mut self.runs, run);
+    }
+
+    /// Makes every page from `page` on absent. It takes no memory, and gives back the room of the runs that
+    /// go.
+    pub fn cut_from(&mut self, page: u32)
+        ensures pages { CutsFrom page (ref_at self.old.pages) (ref_at self.new.pages) }
+        ensures runs { run_count_of self.new.pages ≤ run_count_of self.old.pages }
+        ensures room { self.new.room + run_count_of self.new.pages ≡ self.old.room + run_count_of self.old.pages }
+    {
+        runs::cut(&mut self.runs, page);
+    }
+}

@@ -1,0 +1,13 @@
+//! Where the pages of a file lie: a map from page to log entry, kept as sorted runs.
+#![tactic(auto)]
+
+mod file_index;
+mod page_ref;
+mod runs;
+#[cfg(test)]
+mod slot_index;
+#[cfg(test)]
+mod tests;
+
+pub use file_index::FileIndex;
+pub use page_ref::PageRef;
