@@ -4,6 +4,7 @@ pub mod LogLists
 pub mod NameValues
 pub mod Outcomes
 pub mod Pages
+pub mod Runs
 pub mod Touched
 pub mod WriteLaw
 pub mod WriteNodes

@@ -4,6 +4,7 @@ pub mod Logs
 pub mod Meets
 pub mod Plain
 pub mod Roots
+pub mod Runs
 pub mod Steps
 pub mod World
 pub mod Written

@@ -11,7 +11,10 @@ mod data;
 mod event;
 mod file;
 mod node;
+mod run;
 mod step;
+#[cfg(test)]
+mod tests;
 mod world;
 
 pub use call::{Answer, Call};
