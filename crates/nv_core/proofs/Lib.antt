@@ -6,6 +6,7 @@ pub mod Outcomes
 pub mod Pages
 pub mod Runs
 pub mod Touched
+pub mod TreeSteps
 pub mod WriteLaw
 pub mod WriteNodes
 pub mod WritePages

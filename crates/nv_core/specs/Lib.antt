@@ -6,5 +6,6 @@ pub mod Plain
 pub mod Roots
 pub mod Runs
 pub mod Steps
+pub mod Tree
 pub mod World
 pub mod Written

@@ -13,8 +13,10 @@ mod file;
 mod node;
 mod run;
 mod step;
+mod tree;
 mod world;
 
 pub use call::{Answer, Call};
 pub use event::{Event, Reply};
+pub use tree::{Path, Tree, TreeNode};
 pub use world::World;

@@ -1,11 +1,14 @@
 //! Look-ups of nodes in a world's logs.
 
-ghost use Rattle.std.specs.Prelude.{◌≡◌, ◌<◌, length};
+ghost use Rattle.std.specs.Prelude.{◌≡◌, ◌<◌, IfOk, length};
 ghost use Rattle.nv_core.specs.Checks.{is_bound, kind_under};
+ghost use Rattle.nv_core.specs.Tree.{node_in};
+ghost use Rattle.nv_core.specs.World.{plain_of};
 
 use crate::World;
 use nv_base::{Handle, Kind};
-use nv_entry::{Datum, Key, value_now};
+use nv_entry::{Datum, Key, NodeCopy, When, node_when, value_now};
+use std::alloc::AllocError;
 
 impl World {
     /// The kind of the node under a handle; none where the handle is stale.
@@ -20,6 +23,23 @@ impl World {
             Some(Datum::Kind(kind)) => Some(kind),
             _ => None,
         }
+    }
+
+    /// The node under a handle now; none where the handle is stale.
+    pub(crate) fn node_under(&self, handle: &Handle) -> Result<Option<NodeCopy>, AllocError>
+        ensures { IfOk result (λ node. node ≡ node_in (plain_of self.now) handle.now) }
+    {
+        if handle.generation.number() != 1 || handle.ino.number() >= self.logs.len() as u64 {
+            return Ok(None);
+        }
+        let log = &self.logs[handle.ino.number() as usize];
+        node_when(
+            self.alloc,
+            self.geometry.block,
+            When::Now,
+            log,
+            &self.blocks,
+        )
     }
 
     /// Whether the log of a slot binds a name.
