@@ -13,6 +13,8 @@ mod file;
 mod node;
 mod run;
 mod step;
+#[cfg(test)]
+mod tests;
 mod tree;
 mod world;
 
