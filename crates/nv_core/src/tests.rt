@@ -236,3 +236,34 @@ fn refusals_of_actors(rt: HostRuntime) -> Result<(), Fail> {
     assert!(rt; is_refused(&reply, Fault::ActorIdle));
     Ok(())
 }
+
+#[test]
+fn a_tree_after_a_run(rt: HostRuntime) -> Result<(), Fail> {
+    let mut world = World::format(rt.alloc(), geometry()?)?;
+    let mut events = Vec::new(rt.alloc());
+    events.push(Event::Start(0, create(rt.alloc(), handle(0, 1), b"log.txt")?))?;
+    events.push(Event::Go(0))?;
+    events.push(Event::Start(1, create(rt.alloc(), handle(0, 1), b"b")?))?;
+    events.push(Event::Go(1))?;
+    events.push(Event::Start(0, write(rt.alloc(), handle(1, 1), 2, b"hello")?))?;
+    events.push(Event::Go(0))?;
+    let Ok(replies) = world.run(events) else {
+        return Err("run".into());
+    };
+    assert!(rt; replies.len() == 6);
+    assert!(rt; is_count(&replies[5], 5));
+    let tree = world.tree()?;
+    let nodes = tree.as_slice();
+    assert!(rt; nodes.len() == 3);
+    for (node, name, bytes) in [
+        (1, b"log.txt".as_slice(), b"\0\0hello".as_slice()),
+        (2, b"b".as_slice(), b"".as_slice()),
+    ] {
+        let path = nodes[node].path.as_slice();
+        assert!(rt; path.len() == 1 && path[0].bytes() == name, "path {node}");
+        assert!(rt; nodes[node].node.bytes.as_slice() == bytes, "bytes {node}");
+    }
+    assert!(rt; nodes[0].path.as_slice().is_empty());
+    assert!(rt; nodes[0].node.names.as_slice().len() == 2);
+    Ok(())
+}
