@@ -28,7 +28,7 @@ root = record { ino = 0; generation = 1 }
 abbrev pub node_in : Plain → Handle → Option NodeCopy
 node_in plain handle = option_map (λ p. p.node) (plain.nodes handle)
 
--- The tree of a plain world with so many inodes. Its directories form a tree, so a way down from the root
+-- The tree of a plain world with so many inodes. Where its directories form a tree, a way down from the root
 -- meets no inode twice, and the bound cuts none short.
 abbrev pub tree_of : ℕ → Plain → List TreeNode
 tree_of inodes plain = tree_from (node_in plain) inodes [] root
