@@ -1,0 +1,5 @@
+pub mod Grammar
+pub mod Lines
+pub mod Play
+pub mod Texts
+pub mod Words

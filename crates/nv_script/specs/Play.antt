@@ -1,0 +1,166 @@
+-- What a whole script writes.
+use Rattle.std.specs.Prelude.{◌≡◌, ◌≢◌, ◌⊎◌, ◌≤◌, ℕ, ◌+◌, Bool, true, false, not, if◌then◌else◌, nat_lt, List, [], ◌∷◌, ◌++◌, length, codes, Option, Some, None, IfSome, is_some, Result, Ok, Err, MatchBool}
+use Rattle.std.specs.Io.KnownBytes.{Appends}
+use Rattle.nv_base.specs.Limits.{first_bad_field}
+use Rattle.nv_base.specs.declared.fault.Fault.{Fault}
+use Rattle.nv_base.specs.declared.fault.Fault.TheVariants as fault
+use Rattle.nv_base.specs.declared.fault.GeometryField.{GeometryField}
+use Rattle.nv_base.specs.declared.fault.ScriptFaultKind.{ScriptFaultKind}
+use Rattle.nv_base.specs.declared.fault.ScriptFaultKind.TheVariants as kind
+use Rattle.nv_core.specs.declared.call.Call.{Call}
+use Rattle.nv_core.specs.declared.event.Event.TheVariants.{Start, Go}
+use Rattle.nv_core.specs.declared.event.Reply.{Reply}
+use Rattle.nv_core.specs.declared.event.Reply.TheVariants as reply
+use Rattle.nv_core.specs.Roots.{formatted}
+use Rattle.nv_core.specs.Steps.{IsStep}
+use Rattle.nv_core.specs.Tree.{tree_of}
+use Rattle.nv_core.specs.World.{WorldValue, plain_of}
+use Rattle.nv_script.specs.declared.command.Command.{Command}
+use Rattle.nv_script.specs.declared.command.Command.TheVariants as command
+use Rattle.nv_script.specs.declared.command.FormatNumbers.{FormatNumbers}
+use Rattle.nv_script.specs.declared.fault.LineFault.{LineFault}
+use Rattle.nv_script.specs.declared.fault.LineFault.TheVariants as line_fault
+use Rattle.nv_script.specs.Grammar.{line_command}
+use Rattle.nv_script.specs.Lines.{IsCutOff, IsLine, ended}
+use Rattle.nv_script.specs.Texts.{line_of, refused_line, reply_line, tree_lines}
+
+-- the first of seven numbers that is out of a geometry's limits
+abbrev pub bad_field : FormatNumbers → Option GeometryField
+bad_field n = first_bad_field n.blocks n.cpus n.block n.page n.inodes n.snaps n.actors
+
+abbrev pub new_world : FormatNumbers → WorldValue
+new_world n = formatted n.block n.blocks n.inodes n.actors 0
+
+-- a `format` makes an empty world; or it is refused, for a number or for want of memory, and there is still none
+abbrev pub Formats : Option GeometryField → FormatNumbers → List ℕ → Option WorldValue → Type 0
+Formats (Some field) numbers text new = (text ≡ refused_line (fault.BadGeometry field)) × (new ≡ None)
+Formats None numbers text new =
+    ((text ≡ line_of (codes "formatted")) × (new ≡ Some (new_world numbers)))
+    ⊎ ((text ≡ refused_line fault.OutOfMemory) × (new ≡ None))
+
+-- a call that was started goes on; one that was refused does not
+abbrev pub GoesOn : Reply → WorldValue → ℕ → Reply → WorldValue → Type 0
+GoesOn reply.Started old actor last new = IsStep old (Go actor) last new
+GoesOn first old actor last new = (last ≡ first) × (new ≡ old)
+
+abbrev pub Makes : WorldValue → ℕ → Call → Reply → WorldValue → Type 0
+Makes old actor call last new = (first : Reply) × (mid : WorldValue) × IsStep old (Start actor call) first mid × GoesOn first mid actor last new
+
+-- the last reply is written
+abbrev pub Answers : (Reply → WorldValue → Type 0) → List ℕ → WorldValue → Type 0
+Answers Replies text new = (last : Reply) × Replies last new × (text ≡ reply_line last)
+
+-- the tree now, or a refusal for want of memory; nothing changes
+abbrev pub ShowsTree : WorldValue → List ℕ → WorldValue → Type 0
+ShowsTree old text new =
+    ((text ≡ tree_lines (tree_of (length old.logs) (plain_of old))) ⊎ (text ≡ refused_line fault.OutOfMemory)) × (new ≡ old)
+
+-- what a command on a world writes and leaves. A Go makes a whole call, so its reply is the last at once
+abbrev pub ActsOn : WorldValue → Command → List ℕ → WorldValue → Type 0
+ActsOn old (command.Format numbers) text new = ⊥
+ActsOn old (command.Start actor call) text new = Answers (IsStep old (Start actor call)) text new
+ActsOn old (command.Go actor times) text new = Answers (IsStep old (Go actor)) text new
+ActsOn old (command.Run actor) text new = Answers (IsStep old (Go actor)) text new
+ActsOn old (command.Do actor call) text new = Answers (Makes old actor call) text new
+ActsOn old command.Tree text new = ShowsTree old text new
+
+-- what a command writes and leaves: `format` where there is no world, any other on the world
+abbrev pub Acts : Option WorldValue → Command → List ℕ → Option WorldValue → Type 0
+Acts None (command.Format numbers) text new = Formats (bad_field numbers) numbers text new
+Acts None command text new = ⊥
+Acts (Some old) command text new = (world : WorldValue) × ActsOn old command text world × (new ≡ Some world)
+
+-- a line that is skipped writes and changes nothing
+abbrev pub ActsIfAny : Option WorldValue → Option Command → List ℕ → Option WorldValue → Type 0
+ActsIfAny old None text new = (text ≡ []) × (new ≡ old)
+ActsIfAny old (Some command) text new = Acts old command text new
+
+-- one line without a fault
+abbrev pub Plays : Option WorldValue → List ℕ → List ℕ → Option WorldValue → Type 0
+Plays old line text new = (c : Option Command) × (line_command (is_some old) line ≡ Ok c) × ActsIfAny old c text new
+
+-- some lines, one after another
+abbrev pub PlaysAll : Option WorldValue → List (List ℕ) → List ℕ → Option WorldValue → Type 0
+PlaysAll old [] text new = (text ≡ []) × (new ≡ old)
+PlaysAll old (line ∷ lines) text new =
+    (first rest : List ℕ) × (mid : Option WorldValue) × IsLine line × Plays old line first mid × PlaysAll mid lines rest new × (text ≡ first ++ rest)
+
+-- the most lines of a script
+abbrev pub most_lines : ℕ
+most_lines = 1048576
+
+-- the first lines of what the reader had, what they wrote, the world after them, and the bytes past them
+pub record Played (input : Option (List ℕ)) (lines : List (List ℕ)) (rest : List ℕ) (text : List ℕ) (world : Option WorldValue) : Type 0 where
+  pub split : IfSome input (λ bytes. bytes ≡ ended lines ++ rest)
+  pub few : length lines ≤ most_lines
+  pub plays : PlaysAll None lines text world
+
+-- more than 4,096 bytes come before the next line end
+abbrev pub IsLong : List ℕ → Type 0
+IsLong bytes = (line rest : List ℕ) × (byte : ℕ) × IsLine line × (length line ≡ 4096) × (byte ≢ 10) × (bytes ≡ (line ++ byte ∷ []) ++ rest)
+
+-- some bytes, at most 4,096, and no line end
+abbrev pub IsUnended : List ℕ → Type 0
+IsUnended bytes = IsLine bytes × (bytes ≢ [])
+
+-- the next line has a fault of its words
+abbrev pub IsFaulty : Bool → List ℕ → ScriptFaultKind → Type 0
+IsFaulty made bytes fault = (line rest : List ℕ) × IsLine line × (bytes ≡ (line ++ 10 ∷ []) ++ rest) × (line_command made line ≡ Err fault)
+
+-- the fault of the line with this number, which the bytes begin: past the last allowed line any byte is a fault
+abbrev pub IsFault : ℕ → Bool → List ℕ → ScriptFaultKind → Type 0
+IsFault number made bytes fault = MatchBool (nat_lt most_lines number)
+    ((fault ≡ kind.Lines) × (bytes ≢ []))
+    (((fault ≡ kind.Long) × IsLong bytes) ⊎ (((fault ≡ kind.Unended) × IsUnended bytes) ⊎ IsFaulty made bytes fault))
+
+-- all lines were played, and their text was written
+abbrev pub EndsWell : Option (List ℕ) → Option (List ℕ) → Option (List ℕ) → Type 0
+EndsWell input old new = (lines : List (List ℕ)) × (text : List ℕ) × (world : Option WorldValue) × Played input lines [] text world × Appends old new text
+
+-- some lines were played, and their text was written
+abbrev pub EndsAfter : Option (List ℕ) → Option (List ℕ) → Option (List ℕ) → (List (List ℕ) → List ℕ → Option WorldValue → Type 0) → Type 0
+EndsAfter input old new Also = (lines : List (List ℕ)) × (rest text : List ℕ) × (world : Option WorldValue) × Played input lines rest text world × Also lines rest world × Appends old new text
+
+-- the line that the bytes begin with is played, and of its text these bytes alone are written
+abbrev pub BreaksOff : List ℕ → Option WorldValue → List ℕ → Type 0
+BreaksOff bytes world sent = (line rest text : List ℕ) × (new : Option WorldValue) × IsLine line × (bytes ≡ (line ++ 10 ∷ []) ++ rest) × Plays world line text new × IsCutOff sent text
+
+-- how a script ends: a fault of a line, a failed read or want of memory leaves the text of the lines before; a
+-- failed write leaves that text and a front of the text of the line after them
+abbrev pub EndsBy : Fault → Option (List ℕ) → Option (List ℕ) → Option (List ℕ) → Type 0
+EndsBy (fault.ScriptFault number fault) input old new = EndsAfter input old new (λ lines rest world. (number ≡ length lines + 1) × IsFault number (is_some world) rest fault)
+EndsBy fault.Read input old new = EndsAfter input old new (λ lines rest world. Unit {0})
+EndsBy fault.OutOfMemory input old new = EndsAfter input old new (λ lines rest world. Unit {0})
+EndsBy fault.Write input old new = (lines : List (List ℕ)) × (rest text sent : List ℕ) × (world : Option WorldValue) × Played input lines rest text world × BreaksOff rest world sent × Appends old new (text ++ sent)
+EndsBy _ input old new = ⊥
+
+abbrev pub PlaysScript : Result (Unit {0}) Fault → Option (List ℕ) → Option (List ℕ) → Option (List ℕ) → Type 0
+PlaysScript (Ok done) input old new = EndsWell input old new
+PlaysScript (Err fault) input old new = EndsBy fault input old new
+
+-- what became of one line: its text; or its fault, and then the world has not changed; or memory was refused
+abbrev pub LineFaultIs : LineFault → Option WorldValue → List ℕ → Option WorldValue → Type 0
+LineFaultIs line_fault.OutOfMemory old line new = Unit {0}
+LineFaultIs (line_fault.Faulty fault) old line new = (line_command (is_some old) line ≡ Err fault) × (new ≡ old)
+
+abbrev pub LineIs : {S : Type 0} → (S → List ℕ) → Result S LineFault → Option WorldValue → List ℕ → Option WorldValue → Type 0
+LineIs bytes (Ok s) old line new = Plays old line (bytes s) new
+LineIs bytes (Err fault) old line new = LineFaultIs fault old line new
+
+abbrev pub is_format : Command → Bool
+is_format (command.Format numbers) = true
+is_format _ = false
+
+-- a command can be acted on: `format` where there is no world, and any other where there is one
+abbrev pub fits : Bool → Command → Bool
+fits made command = if is_format command then not made else made
+
+-- a new world, the first number that is out of a geometry's limits, or want of memory
+abbrev pub IsFormatted : Option GeometryField → FormatNumbers → Result WorldValue Fault → Type 0
+IsFormatted (Some field) numbers result = result ≡ Err (fault.BadGeometry field)
+IsFormatted None numbers result = (result ≡ Ok (new_world numbers)) ⊎ (result ≡ Err fault.OutOfMemory)
+
+-- how a line's fault ends the script
+abbrev pub ending_of : ℕ → LineFault → Fault
+ending_of number line_fault.OutOfMemory = fault.OutOfMemory
+ending_of number (line_fault.Faulty kind) = fault.ScriptFault number kind

@@ -1,0 +1,163 @@
+//! The lines of a reader, taken one at a time through a chunk of fixed size.
+ghost use Rattle.std.specs.Prelude.{◌≡◌, ◌≢◌, ℕ, ◌+◌, ◌≤◌, ◌<◌, [], ◌∷◌, ◌++◌, length, take, slice_index, IfOk, MatchResult, MatchOption, MatchBool};
+ghost use Rattle.std.specs.Vec.{vec_capacity};
+ghost use Rattle.std.specs.Io.KnownBytes.{prepend_known, Consumes, Keeps, IsAtEnd};
+
+use std::alloc::{AllocError, Global};
+use std::io::Read;
+use std::marker::Model;
+
+/// The most bytes of a line, without its end.
+pub(crate) const LINE_BYTES: usize = 4096;
+
+/// The byte that ends a line.
+const LINE_END: u8 = b'\n';
+
+/// The most bytes that are read ahead.
+const CHUNK_BYTES: usize = 65_536;
+
+/// How a line was taken.
+#[derive(Clone, Copy, Debug, PartialEq, Eq, Drop)]
+pub(crate) enum Taken {
+    /// A line and its end.
+    Line,
+    /// Nothing: the reader has no more bytes.
+    End,
+    /// The last bytes, which have no line end.
+    Unended,
+    /// The first bytes of a line that is too long.
+    Long,
+}
+
+/// A read failed.
+#[derive(Clone, Copy, Debug, PartialEq, Eq, Drop)]
+pub(crate) struct ReadFailed;
+
+/// Bytes that were read ahead: those of `chunk` from `at` up to `end`.
+#[derive(Drop)]
+pub(crate) struct Feed {
+    chunk: Vec<u8>,
+    at: usize,
+    end: usize,
+}
+
+impl Model for Feed {
+    ghost use Rattle.std.specs.Prelude.{ℕ, List, ◌≤◌, ◌<◌, take, drop, length};
+
+    ghost Value = { List ℕ };
+
+    ghost view = { λ feed. drop feed.at (take feed.end feed.chunk.items) };
+
+    ghost invariant = { λ feed. (feed.at ≤ feed.end) × (feed.end ≤ length feed.chunk.items) × (0 < length feed.chunk.items) };
+}
+
+impl Feed {
+    ghost use Rattle.nv_script.specs.Lines.{IsLine, TakenIs};
+
+    /// A feed with no bytes read ahead.
+    pub(crate) fn new(alloc: Global) -> Result<Feed, AllocError>
+        ensures { IfOk result (λ ahead. ahead ≡ []) }
+    {
+        let chunk = vec![in alloc; 0u8; CHUNK_BYTES]?;
+        Ok(Feed {
+            chunk,
+            at: 0,
+            end: 0,
+        })
+    }
+
+    /// Takes the next line into `line`, in place of what it held.
+    ///
+    /// After a failed read `line` has the bytes that were taken until then.
+    pub(crate) fn next_line<R: Read>(
+        &mut self,
+        reader: &mut R,
+        line: &mut Vec<u8>,
+    ) -> Result<Taken, ReadFailed>
+        requires { LINE_BYTES ≤ vec_capacity line.old }
+        ensures room { LINE_BYTES ≤ vec_capacity line.new }
+        ensures line { IsLine line.new.items }
+        ensures taken { let old = prepend_known self.old (R.remaining reader.old) in
+            let new = prepend_known self.new (R.remaining reader.new) in
+            MatchResult result
+            (λ taken. TakenIs taken old new line.new.items)
+            (λ _. Consumes old new line.new.items) }
+    {
+        line.clear();
+        while self.fill(reader)? {
+            if let Some(byte) = self.take_front(line) {
+                return Ok(if byte == LINE_END {
+                    Taken::Line
+                } else {
+                    Taken::Long
+                });
+            }
+        }
+        Ok(if line.is_empty() {
+            Taken::End
+        } else {
+            Taken::Unended
+        })
+    }
+
+    /// Reads ahead where no byte is read ahead, and says whether one is then: none is at the reader's end.
+    fn fill<R: Read>(&mut self, reader: &mut R) -> Result<bool, ReadFailed>
+        ensures kept { Keeps (prepend_known self.old (R.remaining reader.old)) (prepend_known self.new (R.remaining reader.new)) }
+        ensures filled { IfOk result (λ filled. MatchBool filled
+            (0 < length self.new)
+            (IsAtEnd (prepend_known self.new (R.remaining reader.new)))) }
+    {
+        if self.at < self.end {
+            return Ok(true);
+        }
+        let Ok(count) = reader.read(self.chunk.as_mut_slice()) else {
+            return Err(ReadFailed);
+        };
+        self.at = 0;
+        self.end = count;
+        Ok(count > 0)
+    }
+
+    /// Takes bytes that are read ahead into `line`, and then the byte that ends it or has no room in it.
+    ///
+    /// The result is that byte, or `None` where all bytes went into `line`.
+    fn take_front(&mut self, line: &mut Vec<u8>) -> Option<u8>
+        requires room { LINE_BYTES ≤ vec_capacity line.old }
+        requires line { IsLine line.old.items }
+        ensures room { LINE_BYTES ≤ vec_capacity line.new }
+        ensures line { IsLine line.new.items }
+        ensures taken { MatchOption result
+            ((line.new.items ≡ line.old.items ++ self.old) × (self.new ≡ []))
+            (λ byte. line.old.items ++ self.old ≡ (line.new.items ++ byte ∷ []) ++ self.new) }
+        ensures full { MatchOption result
+            (Unit {0})
+            (λ byte. byte ≢ LINE_END → length line.new.items ≡ LINE_BYTES) }
+    {
+        self.at += Self::push_front(&self.chunk[self.at..self.end], line);
+        if self.at == self.end {
+            return None;
+        }
+        let byte = self.chunk[self.at];
+        self.at += 1;
+        Some(byte)
+    }
+
+    /// Pushes the bytes before the first line end, as far as `line` has room, and returns how many these are.
+    fn push_front(bytes: &[u8], line: &mut Vec<u8>) -> usize
+        requires room { LINE_BYTES ≤ vec_capacity line.old }
+        requires line { IsLine line.old.items }
+        ensures room { LINE_BYTES ≤ vec_capacity line.new }
+        ensures line { IsLine line.new.items }
+        ensures within { result ≤ length bytes.now }
+        ensures pushed { line.new.items ≡ line.old.items ++ take result bytes.now }
+        ensures stopped { result < length bytes.now → slice_index bytes.now result ≢ LINE_END → length line.new.items ≡ LINE_BYTES }
+    {
+        for (index, byte) in bytes.iter().enumerate() {
+            if *byte == LINE_END || line.len() == LINE_BYTES {
+                return index;
+            }
+            line.push_reserved(*byte);
+        }
+        bytes.len()
+    }
+}

@@ -1,0 +1,21 @@
+//! Scripts of calls: bytes in, texts out.
+//!
+//! A script is lines of words. Each line is one command: `format` makes a world, and the others make calls of
+//! its actors or report on it. `play` writes the text of what each line is answered.
+#![tactic(auto)]
+
+mod act;
+mod command;
+mod fault;
+mod feed;
+mod keyword;
+mod script;
+mod send;
+#[cfg(test)]
+mod tests;
+mod text;
+mod word;
+
+pub use script::play;
+pub use text::fault_text;
+pub use word::printed_text_reads_back;

@@ -1,0 +1,27 @@
+//! Writes that stop at the first failure.
+ghost use Rattle.std.specs.Prelude.{◌≡◌, ℕ, List, MatchResult};
+ghost use Rattle.std.specs.Io.KnownBytes.{Appends};
+ghost use Rattle.nv_script.specs.Lines.{IsCutOff};
+
+use std::io::Write;
+
+/// A write failed, or took no byte.
+#[derive(Clone, Copy, Debug, PartialEq, Eq, Drop)]
+pub(crate) struct WriteFailed;
+
+/// Writes all bytes, or a front of them up to the first write that fails.
+pub(crate) fn send<W: Write>(writer: &mut W, bytes: &[u8]) -> Result<(), WriteFailed>
+    ensures { MatchResult result
+        (λ _. Appends (W.contents writer.old) (W.contents writer.new) bytes.now)
+        (λ _. (sent : List ℕ) × IsCutOff sent bytes.now × Appends (W.contents writer.old) (W.contents writer.new) sent) }
+{
+    let mut rest = bytes;
+    while !rest.is_empty() {
+        match writer.write(rest) {
+            Ok(0) => return Err(WriteFailed),
+            Ok(count) => rest = &rest[count..],
+            Err(_) => return Err(WriteFailed),
+        }
+    }
+    Ok(())
+}

@@ -1,0 +1,7 @@
+//! Lines, words and whole scripts. What scripts write comes from worked examples.
+
+mod ends;
+mod faults;
+mod lines;
+mod scripts;
+mod words;

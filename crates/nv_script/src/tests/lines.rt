@@ -1,0 +1,145 @@
+//! Lines of readers in memory and of one that fails, and writes to buffers.
+ghost use Rattle.std.specs.Prelude.{◌≤◌};
+ghost use Rattle.std.specs.Vec.{vec_capacity};
+
+use crate::feed::{Feed, LINE_BYTES, ReadFailed, Taken};
+use crate::send::{WriteFailed, send};
+use std::alloc::{AllocError, Global};
+use std::io;
+use std::io::{ErrorKind, Read};
+use std::process::Abort;
+use std::test::Fail;
+
+/// A feed, and a line with room for the longest line.
+#[derive(Drop)]
+struct Lines {
+    feed: Feed,
+    line: Vec<u8>,
+    ghost room: { 4096 ≤ vec_capacity line },
+}
+
+impl Lines {
+    fn new(alloc: Global) -> Result<Lines, AllocError> {
+        Ok(Lines {
+            feed: Feed::new(alloc)?,
+            line: Vec::with_capacity(alloc, LINE_BYTES)?,
+        })
+    }
+
+    /// Takes a line, and asserts how it was taken and what it holds.
+    fn take<R: Read>(
+        &mut self,
+        rt: &impl Abort,
+        reader: &mut R,
+        taken: Result<Taken, ReadFailed>,
+        want: &[u8],
+    ) {
+        let result = self.feed.next_line(reader, &mut self.line);
+        assert!(rt; result == taken);
+        assert!(rt; self.line.as_slice() == want);
+    }
+}
+
+#[test]
+fn lines_and_ends(rt: HostRuntime) -> Result<(), Fail> {
+    let mut lines = Lines::new(rt.alloc())?;
+    let mut reader = b"one\n\ntwo\r\nrest".as_slice();
+    for (taken, want) in [
+        (Taken::Line, b"one".as_slice()),
+        (Taken::Line, b"".as_slice()),
+        (Taken::Line, b"two\r".as_slice()),
+        (Taken::Unended, b"rest".as_slice()),
+        (Taken::End, b"".as_slice()),
+        (Taken::End, b"".as_slice()),
+    ] {
+        lines.take(&rt, &mut reader, Ok(taken), want);
+    }
+    let mut last_ended = b"a\n".as_slice();
+    lines.take(&rt, &mut last_ended, Ok(Taken::Line), b"a");
+    lines.take(&rt, &mut last_ended, Ok(Taken::End), b"");
+    Ok(())
+}
+
+#[test]
+fn longest_lines(rt: HostRuntime) -> Result<(), Fail> {
+    let longest = vec![in rt.alloc(); b'a'; LINE_BYTES]?;
+    for (tail, taken) in [
+        (b"\n".as_slice(), Taken::Line),
+        (b"".as_slice(), Taken::Unended),
+        (b"b".as_slice(), Taken::Long),
+        (b"b\n".as_slice(), Taken::Long),
+    ] {
+        let mut text = Vec::from_slice(rt.alloc(), &longest)?;
+        text.extend_from_slice(tail)?;
+        let mut reader = text.as_slice();
+        let mut lines = Lines::new(rt.alloc())?;
+        lines.take(&rt, &mut reader, Ok(taken), &longest);
+    }
+    Ok(())
+}
+
+#[test]
+fn lines_over_many_chunks(rt: HostRuntime) -> Result<(), Fail> {
+    let long = vec![in rt.alloc(); b'a'; 999]?;
+    let mut text = Vec::new(rt.alloc());
+    for _ in 0..200 {
+        text.extend_from_slice(&long)?;
+        text.extend_from_slice(b"\n\n")?;
+    }
+    let mut reader = text.as_slice();
+    let mut lines = Lines::new(rt.alloc())?;
+    for _ in 0..200 {
+        lines.take(&rt, &mut reader, Ok(Taken::Line), &long);
+        lines.take(&rt, &mut reader, Ok(Taken::Line), b"");
+    }
+    lines.take(&rt, &mut reader, Ok(Taken::End), b"");
+    Ok(())
+}
+
+/// Gives `ab`, `c`, a failure, `d`, a line end and then nothing, by one read each.
+#[derive(Drop)]
+struct Faltering {
+    reads: u8,
+}
+
+impl Read for Faltering {
+    fn read(&mut self, buf: &mut [u8]) -> io::Result<usize> {
+        let piece = match self.reads {
+            0 => b"ab".as_slice(),
+            1 => b"c".as_slice(),
+            2 => {
+                self.reads = 3;
+                return Err(ErrorKind::Other.into());
+            }
+            3 => b"d".as_slice(),
+            4 => b"\n".as_slice(),
+            _ => return Ok(0),
+        };
+        self.reads += 1;
+        let count = piece.len().min(buf.len());
+        buf[..count].copy_from_slice(&piece[..count]);
+        Ok(count)
+    }
+}
+
+#[test]
+fn failed_read(rt: HostRuntime) -> Result<(), Fail> {
+    let mut lines = Lines::new(rt.alloc())?;
+    let mut reader = Faltering { reads: 0 };
+    lines.take(&rt, &mut reader, Err(ReadFailed), b"abc");
+    lines.take(&rt, &mut reader, Ok(Taken::Line), b"d");
+    lines.take(&rt, &mut reader, Ok(Taken::End), b"");
+    Ok(())
+}
+
+#[test]
+fn sent_bytes(rt: HostRuntime) -> Result<(), Fail> {
+    let mut all = Vec::from_slice(rt.alloc(), b"to")?;
+    assert!(rt; send(&mut all, b" all").is_ok());
+    assert!(rt; all.as_slice() == b"to all".as_slice());
+    let mut room = [0u8; 3];
+    let mut short = room.as_mut_slice();
+    assert!(rt; send(&mut short, b"four") == Err(WriteFailed));
+    assert!(rt; room == *b"fou");
+    Ok(())
+}

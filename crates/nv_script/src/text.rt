@@ -1,0 +1,204 @@
+//! The texts of replies and reports. Each line ends with LF; numbers are plain decimal.
+
+ghost use Rattle.std.specs.Prelude.{◌≡◌, ◌++◌, IfOk, OnOk, string_bytes};
+ghost use Rattle.nv_script.specs.Texts.{answer_text, counted_bytes, fault_fields, fault_name, fault_text, kind_text, names_text, node_line, path_text, refused_line, reply_line, tree_lines};
+ghost use Rattle.std.specs.List.{flat_map};
+
+use crate::word::push_escaped;
+use nv_base::{Fault, Kind, Name};
+use nv_core::{Answer, Path, Reply, TreeNode};
+use nv_entry::NodeCopy;
+use std::alloc::{AllocError, Global};
+
+/// The number and the name of a fault.
+fn fault_name(fault: &Fault) -> &'static str
+    ensures { result.now ≡ fault_name fault.now }
+{
+    match fault {
+        Fault::OutOfMemory => "E1 OutOfMemory",
+        Fault::BadGeometry(_) => "E2 BadGeometry",
+        Fault::Stale => "E3 Stale",
+        Fault::NotFile => "E4 NotFile",
+        Fault::NotDirectory => "E5 NotDirectory",
+        Fault::BadName => "E6 BadName",
+        Fault::Missing => "E7 Missing",
+        Fault::Exists => "E8 Exists",
+        Fault::NotEmpty => "E9 NotEmpty",
+        Fault::FileTooBig => "E10 FileTooBig",
+        Fault::WriteTooBig => "E11 WriteTooBig",
+        Fault::NoInode => "E12 NoInode",
+        Fault::NoSpace => "E13 NoSpace",
+        Fault::CommitLimit => "E14 CommitLimit",
+        Fault::EpochLimit => "E15 EpochLimit",
+        Fault::TooManySnapshots => "E16 TooManySnapshots",
+        Fault::NoSnapshot => "E17 NoSnapshot",
+        Fault::Pinned => "E18 Pinned",
+        Fault::MoveDirectory => "E19 MoveDirectory",
+        Fault::Contended => "E20 Contended",
+        Fault::ActorBusy => "E21 ActorBusy",
+        Fault::ActorIdle => "E22 ActorIdle",
+        Fault::NoActor => "E23 NoActor",
+        Fault::Mismatch(_) => "E24 Mismatch",
+        Fault::SeatsOut => "E25 SeatsOut",
+        Fault::BadImage(_) => "E26 BadImage",
+        Fault::ScriptFault(_, _) => "E27 ScriptFault",
+        Fault::Read => "E28 Read",
+        Fault::Write => "E29 Write",
+    }
+}
+
+/// Adds the fields of a fault in brackets, if it has any.
+fn push_fields(out: &mut String, fault: &Fault) -> Result<(), AllocError>
+    ensures { OnOk result (string_bytes out.new ≡ string_bytes out.old ++ fault_fields fault.now) }
+{
+    match fault {
+        Fault::BadGeometry(field) => {
+            let name = field.name();
+            write!(out, "({name})")
+        }
+        Fault::Mismatch(part) => {
+            let name = part.name();
+            write!(out, "({name})")
+        }
+        Fault::BadImage(image) => {
+            let name = image.name();
+            write!(out, "({name})")
+        }
+        Fault::ScriptFault(line, kind) => {
+            let name = kind.name();
+            write!(out, "({line}, {name})")
+        }
+        _ => Ok(()),
+    }
+}
+
+/// The text of a fault: its number, its name and, in brackets, its fields.
+pub fn fault_text(alloc: Global, fault: &Fault) -> Result<String, AllocError>
+    ensures { IfOk result (λ text. string_bytes text ≡ fault_text fault.now) }
+{
+    let mut out = String::from_str(alloc, fault_name(fault))?;
+    push_fields(&mut out, fault)?;
+    Ok(out)
+}
+
+/// The line of a refusal.
+pub(crate) fn refused_line(alloc: Global, fault: &Fault) -> Result<String, AllocError>
+    ensures { IfOk result (λ text. string_bytes text ≡ refused_line fault.now) }
+{
+    let fault = fault_text(alloc, fault)?;
+    format!(in alloc; "refused {fault}\n")
+}
+
+/// Adds how many bytes there are, and the bytes, if there are any.
+fn push_counted_bytes(out: &mut String, bytes: &[u8]) -> Result<(), AllocError>
+    ensures { OnOk result (string_bytes out.new ≡ string_bytes out.old ++ counted_bytes bytes.now) }
+{
+    let count = bytes.len();
+    if count == 0 {
+        return out.push_str("0");
+    }
+    write!(out, "{count} ")?;
+    push_escaped(out, bytes)
+}
+
+/// Adds what an answer shows.
+fn push_answer(out: &mut String, answer: &Answer) -> Result<(), AllocError>
+    ensures { OnOk result (string_bytes out.new ≡ string_bytes out.old ++ answer_text answer.now) }
+{
+    match answer {
+        Answer::Made(handle) => {
+            let ino = handle.ino.number();
+            let generation = handle.generation.number();
+            write!(out, "{ino}.{generation}")
+        }
+        Answer::Count(count) => write!(out, "{count}"),
+        Answer::Bytes(bytes) => push_counted_bytes(out, bytes.as_slice()),
+    }
+}
+
+/// The line of an answer.
+fn done_line(alloc: Global, answer: &Answer) -> Result<String, AllocError>
+    ensures { IfOk result (λ text. string_bytes text ≡ reply_line (Reply.Done answer.now)) }
+{
+    let mut out = String::from_str(alloc, "done ")?;
+    push_answer(&mut out, answer)?;
+    out.push_str("\n")?;
+    Ok(out)
+}
+
+/// The line of a reply.
+pub(crate) fn reply_line(alloc: Global, reply: &Reply) -> Result<String, AllocError>
+    ensures { IfOk result (λ text. string_bytes text ≡ reply_line reply.now) }
+{
+    match reply {
+        Reply::Started => String::from_str(alloc, "started\n"),
+        Reply::Done(answer) => done_line(alloc, answer),
+        Reply::Refused(fault) => refused_line(alloc, fault),
+    }
+}
+
+/// Adds each name behind a `/`.
+fn push_names(out: &mut String, names: &[Name]) -> Result<(), AllocError>
+    ensures { OnOk result (string_bytes out.new ≡ string_bytes out.old ++ names_text names.now) }
+{
+    for name in names {
+        out.push_str("/")?;
+        push_escaped(out, name.bytes())?;
+    }
+    Ok(())
+}
+
+fn push_path(out: &mut String, path: &Path) -> Result<(), AllocError>
+    ensures { OnOk result (string_bytes out.new ≡ string_bytes out.old ++ path_text path.now) }
+{
+    let names = path.as_slice();
+    if names.is_empty() {
+        return out.push_str("/");
+    }
+    push_names(out, names)
+}
+
+/// Adds a file's letter, mode and bytes, or a directory's letter and mode.
+fn push_kind(out: &mut String, node: &NodeCopy) -> Result<(), AllocError>
+    ensures { OnOk result (string_bytes out.new
+        ≡ string_bytes out.old ++ kind_text node.now.kind node.now.mode node.now.bytes) }
+{
+    let mode = node.mode.bits();
+    match node.kind {
+        Kind::File => {
+            write!(out, "f {mode} ")?;
+            push_counted_bytes(out, node.bytes.as_slice())
+        }
+        Kind::Dir => write!(out, "d {mode}"),
+    }
+}
+
+/// Adds the line of a node.
+fn push_node(out: &mut String, node: &TreeNode) -> Result<(), AllocError>
+    ensures { OnOk result (string_bytes out.new ≡ string_bytes out.old ++ node_line node.now) }
+{
+    push_path(out, &node.path)?;
+    out.push_str(" ")?;
+    push_kind(out, &node.node)?;
+    out.push_str("\n")
+}
+
+/// Adds the lines of nodes.
+fn push_nodes(out: &mut String, nodes: &[TreeNode]) -> Result<(), AllocError>
+    ensures { OnOk result (string_bytes out.new ≡ string_bytes out.old ++ flat_map node_line nodes.now) }
+{
+    for node in nodes {
+        push_node(out, node)?;
+    }
+    Ok(())
+}
+
+/// The lines of a tree.
+pub(crate) fn tree_lines(alloc: Global, nodes: &[TreeNode]) -> Result<String, AllocError>
+    ensures { IfOk result (λ text. string_bytes text ≡ tree_lines nodes.now) }
+{
+    let mut out = String::new(alloc);
+    push_nodes(&mut out, nodes)?;
+    out.push_str("end\n")?;
+    Ok(out)
+}

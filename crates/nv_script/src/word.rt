@@ -1,0 +1,160 @@
+//! The words of a line, and what a word spells: a number, a mode, a handle, escaped bytes.
+
+ghost use Rattle.std.specs.Prelude.{◌≡◌, ◌<◌, ◌≤◌, ◌++◌, ◌∷◌, ℕ, List, length, map, IfOk, IfSome, OnOk, MatchOption, string_bytes};
+ghost use Rattle.std.specs.List.{All};
+ghost use Rattle.nv_script.specs.Words.{number_of, number_up_to, words_of, handle_from, handle_of, is_plain, hex_value, before, unescaped, text_of, escaped_byte, escaped};
+
+use nv_base::{Bytes, Gen, Handle, Ino, Mode, limits};
+use std::alloc::{AllocError, Global};
+
+/// The most digits of a number. The greatest number has this many, and shorter ones may have zeros in front.
+const DIGITS: usize = 20;
+
+/// What parts the inode number of a handle from its generation.
+const POINT: u8 = b'.';
+
+/// What begins the two digits of an escaped byte.
+const ESCAPE: u8 = b'%';
+
+/// The number that 1 to 20 decimal digits spell, if it is below 2 to the power of 64.
+pub(crate) fn number(word: &[u8]) -> Option<u64>
+    ensures { result ≡ number_of word.now }
+{
+    if word.is_empty() || word.len() > DIGITS {
+        return None;
+    }
+    let mut value: u64 = 0;
+    for digit in word {
+        if !digit.is_ascii_digit() {
+            return None;
+        }
+        value = value
+            .checked_mul(10)?
+            .checked_add(u64::from(*digit - b'0'))?;
+    }
+    Some(value)
+}
+
+/// The number that a word spells, if it is at most `most`.
+pub(crate) fn number_up_to(most: u64, word: &[u8]) -> Option<u64>
+    ensures { result ≡ number_up_to most word.now }
+{
+    number(word).filter(|value| *value <= most)
+}
+
+/// The mode that a word spells in decimal digits.
+pub(crate) fn mode(word: &[u8]) -> Option<Mode>
+    ensures { result ≡ number_up_to 4095 word.now }
+{
+    let bits = number_up_to(u64::from(limits::MODE), word)?;
+    Mode::checked(bits as u16)
+}
+
+/// The handle that a word spells: two numbers with a point between them.
+pub(crate) fn handle(word: &[u8]) -> Option<Handle>
+    ensures { result ≡ handle_of word.now }
+{
+    let (ino, generation) = around_point(word)?;
+    Some(Handle {
+        ino: Ino::new(number(ino)?),
+        generation: Gen::new(number(generation)?),
+    })
+}
+
+/// What stands before the first point of a word, and what stands after it. Another point may stand after
+/// it, and then that part spells no number.
+fn around_point(word: &[u8]) -> Option<(&[u8], &[u8])>
+    ensures { MatchOption result
+        (handle_of word.now ≡ None)
+        (λ p. handle_of word.now ≡ handle_from (number_of p.0.now) (number_of p.1.now)) }
+{
+    let point = word.iter().position(|byte| *byte == POINT)?;
+    Some((&word[..point], &word[point + 1..]))
+}
+
+/// The words of a line, between single spaces. Two spaces in a row have an empty word between them.
+pub(crate) fn words(alloc: Global, line: &[u8]) -> Result<Vec<&[u8]>, AllocError>
+    ensures { IfOk result (λ v. map (λ w. w.now) v.items ≡ words_of line.now) }
+{
+    line.split(|byte| *byte == b' ').collect(alloc)
+}
+
+/// Whether a byte stands for itself in escaped text: it is visible, and does not begin an escaped byte.
+fn is_plain(byte: u8) -> bool
+    ensures { result ≡ is_plain byte }
+{
+    byte.is_ascii_graphic() && byte != ESCAPE
+}
+
+/// The value of a hexadecimal digit of either case.
+fn hex_value(digit: u8) -> Option<u8>
+    ensures { result ≡ hex_value digit }
+{
+    match digit {
+        b'0'..=b'9' => Some(digit - b'0'),
+        b'a'..=b'f' => Some(digit - b'a' + 10),
+        b'A'..=b'F' => Some(digit - b'A' + 10),
+        _ => None,
+    }
+}
+
+/// The byte that stands at the front of escaped text, and the text after it.
+fn taken(first: u8, after: &[u8]) -> Option<(u8, &[u8])>
+    ensures stands { MatchOption result
+        (unescaped (first ∷ after.now) ≡ None)
+        (λ t. unescaped (first ∷ after.now) ≡ before (Some t.0) (unescaped t.1.now)) }
+    ensures shorter { IfSome result (λ t. length t.1.now ≤ length after.now) }
+{
+    if first != ESCAPE {
+        return is_plain(first).then_some((first, after));
+    }
+    let [high, low, rest @ ..] = after else {
+        return None;
+    };
+    Some((16 * hex_value(*high)? + hex_value(*low)?, rest))
+}
+
+/// The bytes that a word of escaped text stands for. It has one or more.
+pub(crate) fn text(alloc: Global, word: &[u8]) -> Result<Option<Bytes>, AllocError>
+    ensures { IfOk result (λ t. t ≡ text_of word.now) }
+{
+    if word.is_empty() {
+        return Ok(None);
+    }
+    let mut bytes = Vec::new(alloc);
+    let mut rest = word;
+    while let Some((first, after)) = rest.split_first() {
+        let Some((byte, left)) = taken(*first, after) else {
+            return Ok(None);
+        };
+        bytes.push(byte)?;
+        rest = left;
+    }
+    Ok(Some(Bytes::from_vec(bytes)))
+}
+
+/// Adds one byte as it is printed.
+fn push_byte(out: &mut String, byte: u8) -> Result<(), AllocError>
+    ensures { OnOk result (string_bytes out.new ≡ string_bytes out.old ++ escaped_byte byte) }
+{
+    if is_plain(byte) {
+        out.push(char::from(byte))
+    } else {
+        write!(out, "%{byte:02x}")
+    }
+}
+
+/// Adds bytes as they are printed.
+pub(crate) fn push_escaped(out: &mut String, bytes: &[u8]) -> Result<(), AllocError>
+    ensures { OnOk result (string_bytes out.new ≡ string_bytes out.old ++ escaped bytes.now) }
+{
+    for byte in bytes {
+        push_byte(out, *byte)?;
+    }
+    Ok(())
+}
+
+/// A law: printed text reads back as the bytes that were printed.
+pub fn printed_text_reads_back()
+    ensures { (bytes : List ℕ) → All (λ byte. byte < 256) bytes → unescaped (escaped bytes) ≡ Some bytes }
+{}
