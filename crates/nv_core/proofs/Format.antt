@@ -1,5 +1,5 @@
 -- A new world is lawful.
-use Rattle.std.proofs.Common.{◌*◌, ◌≡◌, ℕ, zero, suc, ◌<◌, ◌≤◌, ◌^◌, List, [], ◌∷◌, length, None, arith, refl}
+use Rattle.std.proofs.Common.{◌*◌, ℕ, zero, suc, ◌<◌, ◌≤◌, ◌^◌, [], ◌∷◌, arith}
 use Rattle.nv_core.specs.Roots.{formatted, root_log}
 use Rattle.nv_core.specs.World.{HasPages, IsWorld, log_at}
 use Rattle.nv_core.proofs.CreateLaw.{zeros_page}

@@ -1,5 +1,5 @@
 -- The logs of a world as lists, after a change of one.
-use Rattle.std.proofs.Common.{◌≡◌, ℕ, zero, suc, ◌<◌, List, [], ◌∷◌, ◌++◌, length, map, Vec, arith, refl, ap, sym, ◌∙◌}
+use Rattle.std.proofs.Common.{◌≡◌, ℕ, zero, suc, ◌<◌, List, [], ◌∷◌, length, map, Vec, arith, refl, ap, sym, ◌∙◌}
 use Rattle.std.specs.Prelude.{OnErr, Result, Ok, Err, slice_index_or, slice_set}
 use Rattle.std.specs.declared.alloc.Global.{Global}
 use Rattle.nv_entry.specs.declared.item.Entry.{Entry}

@@ -1,5 +1,5 @@
 -- Results of calls, and the plain world's outcomes.
-use Rattle.std.proofs.Common.{◌≡◌, ℕ, ◌+◌, ◌*◌, ◌^◌, ◌<◌, ◌≤◌, ◌⊎◌, inl, inr, Bool, true, false, cond, nat_lt, List, [], ◌∷◌, length, Option, Some, None, Result, Ok, Err, IfOk, IfErr, arith, refl, ap, sym, ◌∙◌, subst}
+use Rattle.std.proofs.Common.{◌≡◌, ℕ, ◌^◌, ◌<◌, ◌≤◌, ◌⊎◌, inl, inr, Bool, true, false, nat_lt, List, [], length, Option, Some, None, Result, Ok, Err, IfOk, IfErr, arith, refl, ap, sym, ◌∙◌, subst}
 use Rattle.std.specs.Prelude.{◌==◌, option_map, unwrap_or}
 use Rattle.std.proofs.lemmas.Bool.{cases_lt, ltb-false}
 use Rattle.nv_base.specs.declared.fault.Fault.{Fault}
@@ -18,8 +18,7 @@ use Rattle.nv_entry.specs.Node.{file_bytes, node_of_kind}
 use Rattle.nv_core.specs.declared.call.Answer.{Answer}
 use Rattle.nv_core.specs.declared.call.Answer.TheVariants as answer
 use Rattle.nv_core.specs.Bytes.{read_at}
-use Rattle.nv_core.specs.Checks.{bytes_under, create_check, created, kind_under, next_handle, unless, want_file, write_check, wrote, IsNextRun}
-use Rattle.nv_core.specs.Meets.{CreateMeets, Stands, WriteMeets}
+use Rattle.nv_core.specs.Checks.{bytes_under, create_check, created, kind_under, next_handle, unless, want_file, write_check, IsNextRun}
 use Rattle.nv_core.specs.Plain.{Outcome, Plain, PlainNode, Refuses, Answers, SamePlain, create_outcome, if_file, on_file, pages_touched, read_outcome, write_outcome}
 use Rattle.nv_core.specs.Steps.{IsOutcome}
 use Rattle.nv_core.specs.World.{IsWorld, WorldValue, bytes_in, last_commit, log_at, node_under, numbers_of, plain_node, plain_of}

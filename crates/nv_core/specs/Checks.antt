@@ -1,5 +1,5 @@
 -- What a call is refused for before it takes memory, and the world after it.
-use Rattle.std.specs.Prelude.{◌≡◌, ℕ, ◌+◌, ◌-◌, ◌*◌, ◌/◌, ◌%◌, ◌<◌, Bool, true, false, not, if◌then◌else◌, nat_lt, nat_le, is_some, max, List, [], ◌∷◌, ◌++◌, length, map, Option, Some, None, Result, Ok, Err, option_map, slice_set}
+use Rattle.std.specs.Prelude.{◌≡◌, ℕ, ◌+◌, ◌-◌, ◌*◌, ◌/◌, Bool, true, false, not, nat_lt, List, [], ◌∷◌, ◌++◌, length, map, Option, Some, None, Result, Ok, Err, option_map, slice_set}
 use Rattle.std.specs.List.{range_with_len}
 use Rattle.nv_base.specs.Names.{is_lawful_name}
 use Rattle.nv_base.specs.declared.fault.Fault.{Fault}
@@ -11,9 +11,9 @@ use Rattle.nv_entry.specs.declared.item.Entry.{Entry}
 use Rattle.nv_entry.specs.declared.item.Run.{Run}
 use Rattle.nv_entry.specs.declared.item.Item.TheVariants.{Init, Write, Bind}
 use Rattle.nv_entry.specs.Index.{bound_to, names_of}
-use Rattle.nv_entry.specs.Node.{file_bytes, size_now}
+use Rattle.nv_entry.specs.Node.{file_bytes}
 use Rattle.nv_core.specs.Bytes.{page_of, written}
-use Rattle.nv_core.specs.Plain.{PlainNode, pages_touched}
+use Rattle.nv_core.specs.Plain.{pages_touched}
 use Rattle.nv_core.specs.World.{WorldValue, log_at, bytes_in, node_under}
 
 -- the kind of the node under a handle

@@ -1,5 +1,5 @@
 -- What a world replies to an event, and what it leaves.
-use Rattle.std.specs.Prelude.{◌≡◌, ◌≢◌, ℕ, ◌<◌, ◌⊎◌, Bool, nat_lt, List, [], ◌∷◌, length, Option, Some, None, Result, Ok, Err, MatchBool, slice_index_or, slice_set}
+use Rattle.std.specs.Prelude.{◌≡◌, ℕ, ◌⊎◌, nat_lt, length, Option, Some, None, Result, Ok, Err, MatchBool, slice_index_or, slice_set}
 use Rattle.nv_base.specs.declared.fault.Fault.{Fault}
 use Rattle.nv_base.specs.declared.fault.Fault.TheVariants.{ActorBusy, ActorIdle, CommitLimit, NoActor, OutOfMemory}
 use Rattle.nv_core.specs.declared.call.Answer.{Answer}

@@ -1,6 +1,5 @@
-use Rattle.std.proofs.Common.{◌≡◌, ◌<◌, length, rules, ◌++◌, ◌∷◌, [], ap, sym, ◌∙◌}
-use Rattle.std.specs.Prelude.{slice_index_or, slice_set}
-use Rattle.std.proofs.lemmas.Result.{err_from_is_err_and}
+use Rattle.std.proofs.Common.{◌<◌, length, rules, ◌++◌, ◌∷◌, [], ap, sym, ◌∙◌}
+use Rattle.std.specs.Prelude.{slice_set}
 use Rattle.nv_core.specs.Logs.{logs_of}
 use Rattle.nv_core.proofs.LogLists.{entries-at, entries-set, on_err, set-same}
 use Rattle.nv_core.proofs.create.append.Goals as goal

@@ -1,5 +1,5 @@
 use Rattle.std.proofs.Common.{◌≡◌, ◌<◌, ◌++◌, ◌∷◌, [], length, rules, ap, sym, ◌∙◌}
-use Rattle.std.specs.Prelude.{slice_index_or, slice_set}
+use Rattle.std.specs.Prelude.{slice_set}
 use Rattle.nv_core.specs.Logs.{logs_of}
 use Rattle.nv_core.proofs.LogLists.{at-set, entries-at, entries-kept, entries-twice, on_err}
 use Rattle.nv_core.proofs.file.add_pages.Goals as goal

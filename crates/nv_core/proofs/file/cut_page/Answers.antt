@@ -1,4 +1,4 @@
-use Rattle.std.proofs.Common.{◌≡◌, ◌+◌, ◌*◌, ap, refl, slice_index_or}
+use Rattle.std.proofs.Common.{◌+◌, ◌*◌, refl, slice_index_or}
 use Rattle.std.proofs.lemmas.List.FromFn.{map-range_with_len_more}
 use Rattle.nv_core.proofs.file.cut_page.Goals as goal
 

@@ -1,4 +1,3 @@
-use Rattle.std.proofs.Common.{arith}
 use Rattle.nv_core.proofs.Touched.{touched_from_place}
 use Rattle.nv_core.proofs.file.pages_touched.Goals as goal
 

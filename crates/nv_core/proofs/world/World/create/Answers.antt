@@ -1,5 +1,4 @@
-use Rattle.std.proofs.Common.{◌≡◌, ◌+◌, ◌<◌, ap, map, sym, ◌∙◌, subst, arith, rules}
-use Rattle.std.proofs.lemmas.Grind.{common_steps}
+use Rattle.std.proofs.Common.{◌≡◌, sym, ◌∙◌, subst, rules}
 use Rattle.nv_core.specs.Checks.{created}
 use Rattle.nv_core.specs.Logs.{logs_of}
 use Rattle.nv_core.specs.World.{IsWorld, value_of}

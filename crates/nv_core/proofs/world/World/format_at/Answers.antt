@@ -1,4 +1,4 @@
-use Rattle.std.proofs.Common.{rules, ◌≡◌, length, replicate, None, map, subst, ap, ◌∙◌}
+use Rattle.std.proofs.Common.{rules, ◌≡◌, length, None, map, subst, ap, ◌∙◌}
 use Rattle.std.proofs.lemmas.List.{length-replicate}
 use Rattle.nv_core.specs.Roots.{formatted}
 use Rattle.nv_core.specs.World.{IsWorld, value_of}

@@ -3,7 +3,6 @@ use Rattle.std.specs.Prelude.{is_some}
 use Rattle.std.proofs.lemmas.List.{length-map}
 use Rattle.nv_entry.specs.Keys.{NameKey}
 use Rattle.nv_entry.specs.Log.{value_now}
-use Rattle.nv_core.specs.Checks.{is_bound}
 use Rattle.nv_core.specs.World.{log_at}
 use Rattle.nv_core.specs.Logs.{logs_of}
 use Rattle.nv_core.proofs.LogLists.{entries-at}

@@ -1,14 +1,13 @@
-use Rattle.std.proofs.Common.{vec_len, ◌≡◌, ◌+◌, ◌*◌, ◌/◌, ◌<◌, ◌≤◌, ◌++◌, ◌∷◌, [], length, map, ap, sym, ◌∙◌, subst, arith, rules, refl}
+use Rattle.std.proofs.Common.{◌≡◌, ◌+◌, ◌/◌, ◌<◌, ◌++◌, ◌∷◌, [], length, map, ap, sym, ◌∙◌, subst, arith, rules, refl}
 use Rattle.std.proofs.lemmas.Grind.{common_steps}
-use Rattle.std.proofs.lemmas.List.{length-map}
 use Rattle.std.specs.Prelude.{slice_set}
 use Rattle.std.specs.List.{range_with_len}
 use Rattle.nv_entry.specs.Node.{file_bytes}
 use Rattle.nv_core.specs.Bytes.{page_of, written}
-use Rattle.nv_core.specs.Checks.{IsNextRun, bytes_under, new_pages, write_entry, wrote}
+use Rattle.nv_core.specs.Checks.{IsNextRun, new_pages, write_entry, wrote}
 use Rattle.nv_core.specs.Logs.{logs_of}
 use Rattle.nv_core.specs.World.{IsWorld, bytes_in, log_at, value_of}
-use Rattle.nv_core.specs.Written.{IsWritten, touched}
+use Rattle.nv_core.specs.Written.{touched}
 use Rattle.nv_core.proofs.LogLists.{entries-at}
 use Rattle.nv_core.proofs.Touched.{touched_end}
 use Rattle.nv_core.proofs.WriteLaw.{write_meets_some}

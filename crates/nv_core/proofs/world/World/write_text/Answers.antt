@@ -1,4 +1,4 @@
-use Rattle.std.proofs.Common.{◌<◌, length, arith, rules}
+use Rattle.std.proofs.Common.{◌<◌, length, arith}
 use Rattle.std.proofs.lemmas.Grind.{common_steps}
 use Rattle.nv_core.proofs.Outcomes.{write_is_outcome}
 use Rattle.nv_core.proofs.world.World.write_text.Goals as goal
