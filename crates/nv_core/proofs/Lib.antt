@@ -5,6 +5,7 @@ pub mod NameValues
 pub mod Outcomes
 pub mod Pages
 pub mod Runs
+pub mod Taken
 pub mod Touched
 pub mod TreeSteps
 pub mod WriteLaw

@@ -2,7 +2,7 @@
 
 ghost use Rattle.std.specs.Prelude.{◌≡◌};
 ghost use Rattle.nv_core.specs.Plain.{outcome_of, write_outcome};
-ghost use Rattle.nv_core.specs.Steps.{IsOutcome, IsStep, KeepsNumbers, reply_of};
+ghost use Rattle.nv_core.specs.Steps.{IsOutcome, IsStep, KeepsNumbers, Takes, reply_of};
 ghost use Rattle.nv_core.specs.World.{IsWorld, numbers_of, plain_of};
 
 use crate::{Answer, Call, Event, Reply, World};
@@ -13,7 +13,9 @@ impl World {
     ///
     /// The reply is the plain world's answer, or its refusal, and the world then stands for the plain world
     /// after it. A refused event changes nothing but that the actor goes idle. Want of memory refuses a call
-    /// that the plain world does not refuse, or refuses for its commit number alone.
+    /// that the plain world does not refuse, or refuses for its commit number alone. An answered write takes
+    /// one data block for each page that its text touches, an answered create one inode slot, and no other
+    /// call takes any.
     pub fn step(&mut self, event: Event) -> Reply
         ensures { IsStep self.old event result self.new }
     {
@@ -52,6 +54,7 @@ impl World {
     fn make(&mut self, call: Call) -> Result<Answer, Fault>
         ensures outcome { IsOutcome (outcome_of (numbers_of self.old) (plain_of self.old) call) self.old result self.new }
         ensures kept { KeepsNumbers self.old self.new }
+        ensures taken { Takes call self.old result self.new }
     {
         self.known();
         match call {
@@ -69,6 +72,7 @@ impl World {
     fn write_text(&mut self, file: Handle, offset: u64, text: &[u8]) -> Result<Answer, Fault>
         ensures outcome { IsOutcome (write_outcome (numbers_of self.old) (plain_of self.old) file offset text.now) self.old result self.new }
         ensures kept { KeepsNumbers self.old self.new }
+        ensures taken { Takes (Call.Write file offset text.now) self.old result self.new }
     {
         self.known();
         if !text.is_empty() {

@@ -1,5 +1,6 @@
 pub mod Grammar
 pub mod Lines
 pub mod Play
+pub mod Results
 pub mod Texts
 pub mod Words

@@ -1,6 +1,6 @@
 -- What a whole script writes.
-use Rattle.std.specs.Prelude.{◌≡◌, ◌≢◌, ◌⊎◌, ◌≤◌, ℕ, ◌+◌, Bool, true, false, not, if◌then◌else◌, nat_lt, List, [], ◌∷◌, ◌++◌, length, codes, Option, Some, None, IfSome, is_some, Result, Ok, Err, MatchBool}
-use Rattle.std.specs.Io.KnownBytes.{Appends}
+use Rattle.std.specs.Prelude.{◌≡◌, ◌≢◌, ◌⊎◌, ◌≤◌, ℕ, ◌+◌, Bool, false, nat_lt, List, [], ◌∷◌, ◌++◌, length, codes, Option, Some, None, IfSome, is_some, Result, Ok, Err, MatchBool}
+use Rattle.std.specs.Io.KnownBytes.{Appends, Consumes, IsAtEnd}
 use Rattle.nv_base.specs.Limits.{first_bad_field}
 use Rattle.nv_base.specs.declared.fault.Fault.{Fault}
 use Rattle.nv_base.specs.declared.fault.Fault.TheVariants as fault
@@ -18,9 +18,7 @@ use Rattle.nv_core.specs.World.{WorldValue, plain_of}
 use Rattle.nv_script.specs.declared.command.Command.{Command}
 use Rattle.nv_script.specs.declared.command.Command.TheVariants as command
 use Rattle.nv_script.specs.declared.command.FormatNumbers.{FormatNumbers}
-use Rattle.nv_script.specs.declared.fault.LineFault.{LineFault}
-use Rattle.nv_script.specs.declared.fault.LineFault.TheVariants as line_fault
-use Rattle.nv_script.specs.Grammar.{line_command}
+use Rattle.nv_script.specs.Grammar.{is_skipped, line_command}
 use Rattle.nv_script.specs.Lines.{IsCutOff, IsLine, ended}
 use Rattle.nv_script.specs.Texts.{line_of, refused_line, reply_line, tree_lines}
 
@@ -38,7 +36,7 @@ Formats None numbers text new =
     ((text ≡ line_of (codes "formatted")) × (new ≡ Some (new_world numbers)))
     ⊎ ((text ≡ refused_line fault.OutOfMemory) × (new ≡ None))
 
--- a call that was started goes on; one that was refused does not
+-- a call that was started goes on, and a Go makes the whole of it; one that was refused does not
 abbrev pub GoesOn : Reply → WorldValue → ℕ → Reply → WorldValue → Type 0
 GoesOn reply.Started old actor last new = IsStep old (Go actor) last new
 GoesOn first old actor last new = (last ≡ first) × (new ≡ old)
@@ -55,12 +53,9 @@ abbrev pub ShowsTree : WorldValue → List ℕ → WorldValue → Type 0
 ShowsTree old text new =
     ((text ≡ tree_lines (tree_of (length old.logs) (plain_of old))) ⊎ (text ≡ refused_line fault.OutOfMemory)) × (new ≡ old)
 
--- what a command on a world writes and leaves. A Go makes a whole call, so its reply is the last at once
+-- what a command on a world writes and leaves
 abbrev pub ActsOn : WorldValue → Command → List ℕ → WorldValue → Type 0
 ActsOn old (command.Format numbers) text new = ⊥
-ActsOn old (command.Start actor call) text new = Answers (IsStep old (Start actor call)) text new
-ActsOn old (command.Go actor times) text new = Answers (IsStep old (Go actor)) text new
-ActsOn old (command.Run actor) text new = Answers (IsStep old (Go actor)) text new
 ActsOn old (command.Do actor call) text new = Answers (Makes old actor call) text new
 ActsOn old command.Tree text new = ShowsTree old text new
 
@@ -95,7 +90,7 @@ pub record Played (input : Option (List ℕ)) (lines : List (List ℕ)) (rest : 
   pub few : length lines ≤ most_lines
   pub plays : PlaysAll None lines text world
 
--- more than 4,096 bytes come before the next line end
+-- more than 4,096 bytes come before the next line end, or before the end of the bytes
 abbrev pub IsLong : List ℕ → Type 0
 IsLong bytes = (line rest : List ℕ) × (byte : ℕ) × IsLine line × (length line ≡ 4096) × (byte ≢ 10) × (bytes ≡ (line ++ byte ∷ []) ++ rest)
 
@@ -113,54 +108,33 @@ IsFault number made bytes fault = MatchBool (nat_lt most_lines number)
     ((fault ≡ kind.Lines) × (bytes ≢ []))
     (((fault ≡ kind.Long) × IsLong bytes) ⊎ (((fault ≡ kind.Unended) × IsUnended bytes) ⊎ IsFaulty made bytes fault))
 
--- all lines were played, and their text was written
-abbrev pub EndsWell : Option (List ℕ) → Option (List ℕ) → Option (List ℕ) → Type 0
-EndsWell input old new = (lines : List (List ℕ)) × (text : List ℕ) × (world : Option WorldValue) × Played input lines [] text world × Appends old new text
+-- the next line is a command and not skipped
+abbrev pub HasCommand : List ℕ → Type 0
+HasCommand bytes = (line rest : List ℕ) × IsLine line × (bytes ≡ (line ++ 10 ∷ []) ++ rest) × (is_skipped line ≡ false)
 
--- some lines were played, and their text was written
-abbrev pub EndsAfter : Option (List ℕ) → Option (List ℕ) → Option (List ℕ) → (List (List ℕ) → List ℕ → Option WorldValue → Type 0) → Type 0
-EndsAfter input old new Also = (lines : List (List ℕ)) × (rest text : List ℕ) × (world : Option WorldValue) × Played input lines rest text world × Also lines rest world × Appends old new text
-
--- the line that the bytes begin with is played, and of its text these bytes alone are written
+-- the next line was played, and of its text these bytes alone were written
 abbrev pub BreaksOff : List ℕ → Option WorldValue → List ℕ → Type 0
 BreaksOff bytes world sent = (line rest text : List ℕ) × (new : Option WorldValue) × IsLine line × (bytes ≡ (line ++ 10 ∷ []) ++ rest) × Plays world line text new × IsCutOff sent text
 
--- how a script ends: a fault of a line, a failed read or want of memory leaves the text of the lines before; a
--- failed write leaves that text and a front of the text of the line after them
-abbrev pub EndsBy : Fault → Option (List ℕ) → Option (List ℕ) → Option (List ℕ) → Type 0
-EndsBy (fault.ScriptFault number fault) input old new = EndsAfter input old new (λ lines rest world. (number ≡ length lines + 1) × IsFault number (is_some world) rest fault)
-EndsBy fault.Read input old new = EndsAfter input old new (λ lines rest world. Unit {0})
-EndsBy fault.OutOfMemory input old new = EndsAfter input old new (λ lines rest world. Unit {0})
-EndsBy fault.Write input old new = (lines : List (List ℕ)) × (rest text sent : List ℕ) × (world : Option WorldValue) × Played input lines rest text world × BreaksOff rest world sent × Appends old new (text ++ sent)
-EndsBy _ input old new = ⊥
+-- all lines were played and their text was written, and nothing is left
+abbrev pub EndsWell : (input left old new : Option (List ℕ)) → Type 0
+EndsWell input left old new = (lines : List (List ℕ)) × (text : List ℕ) × (world : Option WorldValue) × Played input lines [] text world × IsAtEnd left × Appends old new text
 
-abbrev pub PlaysScript : Result (Unit {0}) Fault → Option (List ℕ) → Option (List ℕ) → Option (List ℕ) → Type 0
-PlaysScript (Ok done) input old new = EndsWell input old new
-PlaysScript (Err fault) input old new = EndsBy fault input old new
+-- the first lines were played and their text was written
+abbrev pub EndsAfter : (input old new : Option (List ℕ)) → (List (List ℕ) → List ℕ → Option WorldValue → Type 0) → Type 0
+EndsAfter input old new Also = (lines : List (List ℕ)) × (rest text : List ℕ) × (world : Option WorldValue) × Played input lines rest text world × Also lines rest world × Appends old new text
 
--- what became of one line: its text; or its fault, and then the world has not changed; or memory was refused
-abbrev pub LineFaultIs : LineFault → Option WorldValue → List ℕ → Option WorldValue → Type 0
-LineFaultIs line_fault.OutOfMemory old line new = Unit {0}
-LineFaultIs (line_fault.Faulty fault) old line new = (line_command (is_some old) line ≡ Err fault) × (new ≡ old)
+-- how a script ends early: by a fault of the next line, with the number of that line; by a failed read, of whose
+-- reader no more than a piece of the next line is gone; for want of memory, before the first line or at a command;
+-- by a failed write, which leaves a front of the text of the line after them
+abbrev pub EndsBy : Fault → (input left old new : Option (List ℕ)) → Type 0
+EndsBy (fault.ScriptFault number why) input left old new = EndsAfter input old new (λ lines rest world. (number ≡ length lines + 1) × IsFault number (is_some world) rest why)
+EndsBy fault.Read input left old new = EndsAfter input old new (λ lines rest world. (piece : List ℕ) × IsLine piece × Consumes input left (ended lines ++ piece))
+EndsBy fault.OutOfMemory input left old new = EndsAfter input old new (λ lines rest world. (lines ≡ []) ⊎ HasCommand rest)
+EndsBy fault.Write input left old new = (lines : List (List ℕ)) × (rest text sent : List ℕ) × (world : Option WorldValue) × Played input lines rest text world × BreaksOff rest world sent × Appends old new (text ++ sent)
+EndsBy _ input left old new = ⊥
 
-abbrev pub LineIs : {S : Type 0} → (S → List ℕ) → Result S LineFault → Option WorldValue → List ℕ → Option WorldValue → Type 0
-LineIs bytes (Ok s) old line new = Plays old line (bytes s) new
-LineIs bytes (Err fault) old line new = LineFaultIs fault old line new
-
-abbrev pub is_format : Command → Bool
-is_format (command.Format numbers) = true
-is_format _ = false
-
--- a command can be acted on: `format` where there is no world, and any other where there is one
-abbrev pub fits : Bool → Command → Bool
-fits made command = if is_format command then not made else made
-
--- a new world, the first number that is out of a geometry's limits, or want of memory
-abbrev pub IsFormatted : Option GeometryField → FormatNumbers → Result WorldValue Fault → Type 0
-IsFormatted (Some field) numbers result = result ≡ Err (fault.BadGeometry field)
-IsFormatted None numbers result = (result ≡ Ok (new_world numbers)) ⊎ (result ≡ Err fault.OutOfMemory)
-
--- how a line's fault ends the script
-abbrev pub ending_of : ℕ → LineFault → Fault
-ending_of number line_fault.OutOfMemory = fault.OutOfMemory
-ending_of number (line_fault.Faulty kind) = fault.ScriptFault number kind
+-- what the reader has at first and is left with, and what the writer has at first and is left with
+abbrev pub PlaysScript : Result (Unit {0}) Fault → (input left old new : Option (List ℕ)) → Type 0
+PlaysScript (Ok done) input left old new = EndsWell input left old new
+PlaysScript (Err why) input left old new = EndsBy why input left old new

@@ -1,7 +1,8 @@
 //! What commands do to a world, and what they write.
 
 ghost use Rattle.std.specs.Prelude.{◌≡◌, IfOk, IsTrue, None, is_some, true, string_bytes};
-ghost use Rattle.nv_script.specs.Play.{Acts, ActsOn, Formats, IsFormatted, LineIs, Makes, ShowsTree, bad_field, fits};
+ghost use Rattle.nv_script.specs.Play.{Acts, ActsOn, Formats, Makes, ShowsTree, bad_field};
+ghost use Rattle.nv_script.specs.Results.{IsNewWorld, LineIs, fits};
 
 use crate::command::{Command, FormatNumbers, line_command};
 use crate::fault::LineFault;
@@ -47,7 +48,7 @@ fn format(
     requires { world.old ≡ None }
     ensures { IfOk result (λ text. Formats (bad_field numbers.now) numbers.now (string_bytes text) world.new) }
 {
-    match formatted(alloc, numbers) {
+    match new_world(alloc, numbers) {
         Ok(made) => {
             *world = Some(made);
             String::from_str(alloc, "formatted\n")
@@ -57,8 +58,8 @@ fn format(
 }
 
 /// An empty world of these numbers.
-fn formatted(alloc: Global, numbers: &FormatNumbers) -> Result<World, Fault>
-    ensures { IsFormatted (bad_field numbers.now) numbers.now result }
+fn new_world(alloc: Global, numbers: &FormatNumbers) -> Result<World, Fault>
+    ensures { IsNewWorld (bad_field numbers.now) numbers.now result }
 {
     let geometry = Geometry::checked(
         numbers.blocks,
@@ -72,22 +73,19 @@ fn formatted(alloc: Global, numbers: &FormatNumbers) -> Result<World, Fault>
     World::format(alloc, geometry)
 }
 
-/// Acts on a command on the world. A Go makes a whole call, so its reply is the last at once.
+/// Acts on a command on the world.
 fn act_on(alloc: Global, world: &mut World, command: Command) -> Result<String, AllocError>
     requires { IsTrue (fits true command) }
     ensures { IfOk result (λ text. ActsOn world.old command (string_bytes text) world.new) }
 {
     match command {
         Command::Format(_) => unreachable!(),
-        Command::Start(actor, call) => reply_line(alloc, &world.step(Event::Start(actor, call))),
-        Command::Go(actor, _) => reply_line(alloc, &world.step(Event::Go(actor))),
-        Command::Run(actor) => reply_line(alloc, &world.step(Event::Go(actor))),
         Command::Do(actor, call) => reply_line(alloc, &make(world, actor, call)),
         Command::Tree => tree(alloc, world),
     }
 }
 
-/// Starts a call, and goes on with it if it was started.
+/// Starts a call, and goes on with it if it was started. A Go makes the whole call.
 fn make(world: &mut World, actor: u64, call: Call) -> Reply
     ensures { Makes world.old actor call result world.new }
 {

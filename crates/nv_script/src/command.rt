@@ -1,17 +1,14 @@
 //! The commands of a script, read from the words of a line.
 
-ghost use Rattle.std.specs.Prelude.{◌≡◌};
-ghost use Rattle.nv_script.specs.Grammar.{Reads, call_with, command_of, command_with, format_with, handle_at, line_command, mode_at, none_empty, number_at, setting_at, setting_of, text_at, texts, times_of, times_with};
+ghost use Rattle.std.specs.Prelude.{◌≡◌, IsErr, false};
+ghost use Rattle.nv_script.specs.Grammar.{Reads, call_with, command_of, command_with, format_with, handle_at, is_skipped, line_command, mode_at, none_empty, number_at, setting_at, setting_of, text_at, texts};
 
 use crate::fault::LineFault;
 use crate::keyword::{CallWord, CommandWord, word_at};
-use crate::word::{handle, mode, number, number_up_to, text, words};
+use crate::word::{handle, mode, number, text, words};
 use nv_base::{Bytes, Handle, Mode, ScriptFaultKind};
 use nv_core::Call;
 use std::alloc::Global;
-
-/// The most times that a `go` goes.
-const TIMES: u64 = 1_048_576;
 
 /// The numbers of a `format`, which may be out of a geometry's limits.
 #[derive(Clone, Copy, Debug, PartialEq, Eq, Drop)]
@@ -30,13 +27,7 @@ pub(crate) struct FormatNumbers {
 pub(crate) enum Command {
     /// Makes the world.
     Format(FormatNumbers),
-    /// An actor starts a call.
-    Start(u64, Call),
-    /// An actor's call goes on, so many times at most.
-    Go(u64, u64),
-    /// An actor's call goes on to its end.
-    Run(u64),
-    /// An actor starts a call, which goes on to its end.
+    /// An actor makes a call.
     Do(u64, Call),
     /// The tree now.
     Tree,
@@ -49,7 +40,8 @@ pub(crate) fn line_command(
     made: bool,
     line: &[u8],
 ) -> Result<Option<Command>, LineFault>
-    ensures { Reads result (line_command made line.now) }
+    ensures command { Reads result (line_command made line.now) }
+    ensures some { IsErr result → is_skipped line.now ≡ false }
 {
     if line.is_empty() || line[0] == b'#' {
         return Ok(None);
@@ -72,6 +64,7 @@ fn command_of(alloc: Global, made: bool, words: &[&[u8]]) -> Result<Command, Lin
     command_with(alloc, word, words)
 }
 
+/// Whether each word has a byte.
 fn none_empty(words: &[&[u8]]) -> bool
     ensures { result ≡ none_empty (texts words.now) }
 {
@@ -89,12 +82,6 @@ fn command_with(alloc: Global, word: CommandWord, words: &[&[u8]]) -> Result<Com
 {
     match word {
         CommandWord::Format => Ok(Command::Format(format_with(words)?)),
-        CommandWord::Start(call) => Ok(Command::Start(
-            number_at(words, 1)?,
-            call_with(alloc, call, words)?,
-        )),
-        CommandWord::Go => Ok(Command::Go(number_at(words, 1)?, times_with(words)?)),
-        CommandWord::Run => Ok(Command::Run(number_at(words, 1)?)),
         CommandWord::Do(call) => Ok(Command::Do(
             number_at(words, 1)?,
             call_with(alloc, call, words)?,
@@ -151,26 +138,6 @@ fn text_at(alloc: Global, words: &[&[u8]], place: usize) -> Result<Bytes, LineFa
         Some(text) => Ok(text),
         None => Err(LineFault::Faulty(ScriptFaultKind::Text)),
     }
-}
-
-/// How often a `go` goes: the number of its third word, or once.
-fn times_with(words: &[&[u8]]) -> Result<u64, ScriptFaultKind>
-    ensures { result ≡ times_with (texts words.now) }
-{
-    if words.len() == 2 {
-        return Ok(1);
-    }
-    times_of(word_at(words, 2)).ok_or(ScriptFaultKind::Number)
-}
-
-fn times_of(word: &[u8]) -> Option<u64>
-    ensures { result ≡ times_of word.now }
-{
-    let times = number_up_to(TIMES, word)?;
-    if times == 0 {
-        return None;
-    }
-    Some(times)
 }
 
 /// The seven numbers of a `format`, in this order.

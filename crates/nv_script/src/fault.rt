@@ -1,4 +1,4 @@
-//! Why a line is not played.
+//! Why a line ends the script.
 
 ghost use Rattle.std.specs.Prelude.{◌≡◌};
 ghost use Rattle.nv_script.specs.declared.fault.LineFault.TheVariants as line;
@@ -6,7 +6,7 @@ ghost use Rattle.nv_script.specs.declared.fault.LineFault.TheVariants as line;
 use nv_base::ScriptFaultKind;
 use std::alloc::AllocError;
 
-/// Why a line is not played.
+/// Why a line ends the script.
 #[derive(Clone, Copy, Debug, PartialEq, Eq, Drop)]
 pub(crate) enum LineFault {
     /// A growth of memory was refused.

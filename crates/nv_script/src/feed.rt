@@ -1,5 +1,5 @@
 //! The lines of a reader, taken one at a time through a chunk of fixed size.
-ghost use Rattle.std.specs.Prelude.{◌≡◌, ◌≢◌, ℕ, ◌+◌, ◌≤◌, ◌<◌, [], ◌∷◌, ◌++◌, length, take, slice_index, IfOk, MatchResult, MatchOption, MatchBool};
+ghost use Rattle.std.specs.Prelude.{◌≡◌, ◌≢◌, ℕ, ◌+◌, ◌≤◌, ◌<◌, [], ◌∷◌, ◌++◌, length, take, slice_index, IfOk, IsErr, MatchResult, MatchOption, MatchBool};
 ghost use Rattle.std.specs.Vec.{vec_capacity};
 ghost use Rattle.std.specs.Io.KnownBytes.{prepend_known, Consumes, Keeps, IsAtEnd};
 
@@ -8,7 +8,7 @@ use std::io::Read;
 use std::marker::Model;
 
 /// The most bytes of a line, without its end.
-pub(crate) const LINE_BYTES: usize = 4096;
+pub(crate) const MAX_LINE_BYTES: usize = 4096;
 
 /// The byte that ends a line.
 const LINE_END: u8 = b'\n';
@@ -68,20 +68,21 @@ impl Feed {
 
     /// Takes the next line into `line`, in place of what it held.
     ///
-    /// After a failed read `line` has the bytes that were taken until then.
+    /// After a failed read `line` has the bytes that were taken until then, and no byte is read ahead.
     pub(crate) fn next_line<R: Read>(
         &mut self,
         reader: &mut R,
         line: &mut Vec<u8>,
     ) -> Result<Taken, ReadFailed>
-        requires { LINE_BYTES ≤ vec_capacity line.old }
-        ensures room { LINE_BYTES ≤ vec_capacity line.new }
+        requires { MAX_LINE_BYTES ≤ vec_capacity line.old }
+        ensures room { MAX_LINE_BYTES ≤ vec_capacity line.new }
         ensures line { IsLine line.new.items }
         ensures taken { let old = prepend_known self.old (R.remaining reader.old) in
             let new = prepend_known self.new (R.remaining reader.new) in
             MatchResult result
             (λ taken. TakenIs taken old new line.new.items)
             (λ _. Consumes old new line.new.items) }
+        ensures ahead { IsErr result → self.new ≡ [] }
     {
         line.clear();
         while self.fill(reader)? {
@@ -106,6 +107,7 @@ impl Feed {
         ensures filled { IfOk result (λ filled. MatchBool filled
             (0 < length self.new)
             (IsAtEnd (prepend_known self.new (R.remaining reader.new)))) }
+        ensures ahead { IsErr result → self.new ≡ [] }
     {
         if self.at < self.end {
             return Ok(true);
@@ -122,16 +124,16 @@ impl Feed {
     ///
     /// The result is that byte, or `None` where all bytes went into `line`.
     fn take_front(&mut self, line: &mut Vec<u8>) -> Option<u8>
-        requires room { LINE_BYTES ≤ vec_capacity line.old }
+        requires room { MAX_LINE_BYTES ≤ vec_capacity line.old }
         requires line { IsLine line.old.items }
-        ensures room { LINE_BYTES ≤ vec_capacity line.new }
+        ensures room { MAX_LINE_BYTES ≤ vec_capacity line.new }
         ensures line { IsLine line.new.items }
         ensures taken { MatchOption result
             ((line.new.items ≡ line.old.items ++ self.old) × (self.new ≡ []))
             (λ byte. line.old.items ++ self.old ≡ (line.new.items ++ byte ∷ []) ++ self.new) }
         ensures full { MatchOption result
             (Unit {0})
-            (λ byte. byte ≢ LINE_END → length line.new.items ≡ LINE_BYTES) }
+            (λ byte. byte ≢ LINE_END → length line.new.items ≡ MAX_LINE_BYTES) }
     {
         self.at += Self::push_front(&self.chunk[self.at..self.end], line);
         if self.at == self.end {
@@ -144,16 +146,16 @@ impl Feed {
 
     /// Pushes the bytes before the first line end, as far as `line` has room, and returns how many these are.
     fn push_front(bytes: &[u8], line: &mut Vec<u8>) -> usize
-        requires room { LINE_BYTES ≤ vec_capacity line.old }
+        requires room { MAX_LINE_BYTES ≤ vec_capacity line.old }
         requires line { IsLine line.old.items }
-        ensures room { LINE_BYTES ≤ vec_capacity line.new }
+        ensures room { MAX_LINE_BYTES ≤ vec_capacity line.new }
         ensures line { IsLine line.new.items }
         ensures within { result ≤ length bytes.now }
         ensures pushed { line.new.items ≡ line.old.items ++ take result bytes.now }
-        ensures stopped { result < length bytes.now → slice_index bytes.now result ≢ LINE_END → length line.new.items ≡ LINE_BYTES }
+        ensures stopped { result < length bytes.now → slice_index bytes.now result ≢ LINE_END → length line.new.items ≡ MAX_LINE_BYTES }
     {
         for (index, byte) in bytes.iter().enumerate() {
-            if *byte == LINE_END || line.len() == LINE_BYTES {
+            if *byte == LINE_END || line.len() == MAX_LINE_BYTES {
                 return index;
             }
             line.push_reserved(*byte);

@@ -18,9 +18,6 @@ pub(crate) enum CallWord {
 #[derive(Clone, Copy, Debug, PartialEq, Eq, Drop)]
 pub(crate) enum CommandWord {
     Format,
-    Start(CallWord),
-    Go,
-    Run,
     Do(CallWord),
     Tree,
 }
@@ -83,15 +80,6 @@ impl CommandWord {
         if name == b"format".as_slice() {
             return Ok(CommandWord::Format);
         }
-        if name == b"start".as_slice() {
-            return Ok(CommandWord::Start(third_call(words)?));
-        }
-        if name == b"go".as_slice() {
-            return Ok(CommandWord::Go);
-        }
-        if name == b"run".as_slice() {
-            return Ok(CommandWord::Run);
-        }
         if name == b"do".as_slice() {
             return Ok(CommandWord::Do(third_call(words)?));
         }
@@ -117,9 +105,6 @@ impl CommandWord {
     {
         match self {
             CommandWord::Format => count == 8,
-            CommandWord::Start(call) => count == 3 + call.words(),
-            CommandWord::Go => count == 2 || count == 3,
-            CommandWord::Run => count == 2,
             CommandWord::Do(call) => count == 3 + call.words(),
             CommandWord::Tree => count == 1,
         }

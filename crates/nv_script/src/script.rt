@@ -1,11 +1,12 @@
 //! A whole script: bytes in, bytes out.
 
 ghost use Rattle.std.specs.Prelude.{◌≡◌};
-ghost use Rattle.nv_script.specs.Play.{PlaysScript, ending_of};
+ghost use Rattle.nv_script.specs.Play.{PlaysScript};
+ghost use Rattle.nv_script.specs.Results.{ending_of};
 
 use crate::act::play_line;
 use crate::fault::LineFault;
-use crate::feed::{Feed, LINE_BYTES, Taken};
+use crate::feed::{Feed, MAX_LINE_BYTES, Taken};
 use crate::send::send;
 use nv_base::{Fault, ScriptFaultKind};
 use nv_core::World;
@@ -13,7 +14,7 @@ use std::alloc::Global;
 use std::io::{Read, Write};
 
 /// The most lines of a script.
-const LINES: u64 = 1_048_576;
+const MAX_LINES: u64 = 1_048_576;
 
 /// How a line's fault ends the script.
 fn ending_of(number: u64, fault: LineFault) -> Fault
@@ -27,35 +28,39 @@ fn ending_of(number: u64, fault: LineFault) -> Fault
 
 /// Plays a script: its lines are read, acted on and answered one after another, in bounded memory.
 ///
-/// What is written is the text of the lines before the first fault. Faults are `ScriptFault` with the line,
-/// counted from 1, and its kind; `Read` for any failed read; `Write` for any failed write and one that takes no
-/// byte; `OutOfMemory` where room for the lines, their words or their texts is refused. A call or a report
-/// whose growth is refused is printed as refused, and the script goes on.
+/// What is written is the text of the lines before the first fault, and after a failed write a front of the text
+/// of the next line too. Faults are `ScriptFault` with the line, counted from 1, and its kind; `Read` for any failed
+/// read; `Write` for any failed write and one that takes no byte; `OutOfMemory` where room for the lines, their
+/// words or their texts is refused. A format, call or tree whose own growth is refused is printed as refused and
+/// changes nothing, and the script goes on.
+///
+/// Bytes are read ahead, so some of those past a fault may be gone from the reader. The writer is not flushed.
 pub fn play<R: Read, W: Write>(alloc: Global, reader: &mut R, writer: &mut W) -> Result<(), Fault>
-    ensures { PlaysScript result (R.remaining reader.old) (W.contents writer.old) (W.contents writer.new) }
+    ensures { PlaysScript result (R.remaining reader.old) (R.remaining reader.new)
+        (W.contents writer.old) (W.contents writer.new) }
 {
     let Ok(mut feed) = Feed::new(alloc) else {
         return Err(Fault::OutOfMemory);
     };
-    let Ok(mut line) = Vec::with_capacity(alloc, LINE_BYTES) else {
+    let Ok(mut line) = Vec::with_capacity(alloc, MAX_LINE_BYTES) else {
         return Err(Fault::OutOfMemory);
     };
     let mut world: Option<World> = None;
-    for number in 1..=LINES + 1 {
+    for number in 1..=MAX_LINES + 1 {
         let Ok(taken) = feed.next_line(reader, &mut line) else {
             return Err(Fault::Read);
         };
         if taken == Taken::End {
             return Ok(());
         }
-        if number > LINES {
+        if number > MAX_LINES {
             return Err(Fault::ScriptFault(number, ScriptFaultKind::Lines));
         }
-        match taken {
-            Taken::End => return Ok(()),
-            Taken::Long => return Err(Fault::ScriptFault(number, ScriptFaultKind::Long)),
-            Taken::Unended => return Err(Fault::ScriptFault(number, ScriptFaultKind::Unended)),
-            Taken::Line => {}
+        if taken == Taken::Long {
+            return Err(Fault::ScriptFault(number, ScriptFaultKind::Long));
+        }
+        if taken == Taken::Unended {
+            return Err(Fault::ScriptFault(number, ScriptFaultKind::Unended));
         }
         let text = match play_line(alloc, &mut world, line.as_slice()) {
             Ok(text) => text,
@@ -65,5 +70,6 @@ pub fn play<R: Read, W: Write>(alloc: Global, reader: &mut R, writer: &mut W) ->
             return Err(Fault::Write);
         };
     }
+    // The turn past the last line always returns.
     unreachable!()
 }

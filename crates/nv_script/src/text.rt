@@ -85,8 +85,8 @@ pub fn fault_text(alloc: Global, fault: &Fault) -> Result<String, AllocError>
 pub(crate) fn refused_line(alloc: Global, fault: &Fault) -> Result<String, AllocError>
     ensures { IfOk result (λ text. string_bytes text ≡ refused_line fault.now) }
 {
-    let fault = fault_text(alloc, fault)?;
-    format!(in alloc; "refused {fault}\n")
+    let text = fault_text(alloc, fault)?;
+    format!(in alloc; "refused {text}\n")
 }
 
 /// Adds how many bytes there are, and the bytes, if there are any.
@@ -148,6 +148,7 @@ fn push_names(out: &mut String, names: &[Name]) -> Result<(), AllocError>
     Ok(())
 }
 
+/// Adds a path: `/` for the root.
 fn push_path(out: &mut String, path: &Path) -> Result<(), AllocError>
     ensures { OnOk result (string_bytes out.new ≡ string_bytes out.old ++ path_text path.now) }
 {

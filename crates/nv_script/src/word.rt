@@ -8,7 +8,7 @@ use nv_base::{Bytes, Gen, Handle, Ino, Mode, limits};
 use std::alloc::{AllocError, Global};
 
 /// The most digits of a number. The greatest number has this many, and shorter ones may have zeros in front.
-const DIGITS: usize = 20;
+const MAX_DIGITS: usize = 20;
 
 /// What parts the inode number of a handle from its generation.
 const POINT: u8 = b'.';
@@ -20,7 +20,7 @@ const ESCAPE: u8 = b'%';
 pub(crate) fn number(word: &[u8]) -> Option<u64>
     ensures { result ≡ number_of word.now }
 {
-    if word.is_empty() || word.len() > DIGITS {
+    if word.is_empty() || word.len() > MAX_DIGITS {
         return None;
     }
     let mut value: u64 = 0;
@@ -61,8 +61,8 @@ pub(crate) fn handle(word: &[u8]) -> Option<Handle>
     })
 }
 
-/// What stands before the first point of a word, and what stands after it. Another point may stand after
-/// it, and then that part spells no number.
+/// What stands before the first point of a word, and what stands after that point. A second point makes the
+/// latter no number.
 fn around_point(word: &[u8]) -> Option<(&[u8], &[u8])>
     ensures { MatchOption result
         (handle_of word.now ≡ None)

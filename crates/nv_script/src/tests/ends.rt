@@ -8,7 +8,7 @@ use std::io;
 use std::io::{ErrorKind, Read, Write};
 use std::test::Fail;
 
-/// Reads or takes at most seven bytes at a call, and fails when no call is left.
+/// Reads or takes at most seven bytes at a call, and is interrupted once, when no call is left.
 #[derive(Drop)]
 struct Failing<T> {
     inner: T,
@@ -18,7 +18,8 @@ struct Failing<T> {
 impl<T> Failing<T> {
     fn turn(&mut self, len: usize) -> io::Result<usize> {
         if self.calls == 0 {
-            return Err(ErrorKind::Other.into());
+            self.calls = usize::MAX;
+            return Err(ErrorKind::Interrupted.into());
         }
         self.calls -= 1;
         Ok(len.min(7))
@@ -74,7 +75,7 @@ fn failed_reads(rt: HostRuntime) -> Result<(), Fail> {
 #[test]
 fn failed_writes(rt: HostRuntime) -> Result<(), Fail> {
     let (script, want) = SCRIPTS[2];
-    for calls in 0..10 {
+    for calls in 0..17 {
         let mut reader = script.as_bytes();
         let mut writer = Failing {
             inner: Vec::new(rt.alloc()),
@@ -161,6 +162,7 @@ fn one_refused_growth(rt: HostRuntime) -> Result<(), Fail> {
         assert!(rt; outcome == Err(Fault::ScriptFault(2, nv_base::ScriptFaultKind::Order)));
     } else {
         assert!(rt; outcome == Err(Fault::OutOfMemory));
+        assert!(rt; written.last().is_none_or(|byte| *byte == b'\n'));
     }
     Ok(())
 }

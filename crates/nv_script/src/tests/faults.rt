@@ -9,7 +9,7 @@ use std::test::Fail;
 const FORMAT: &str = "format blocks=16 cpus=2 block=4 page=4 inodes=8 snaps=4 actors=3\n";
 
 /// Second lines, after a format, with the fault of each.
-const SECOND_LINES: [(&str, ScriptFaultKind); 48] = [
+const SECOND_LINES: [(&str, ScriptFaultKind); 42] = [
     ("jump\n", ScriptFaultKind::Word),
     ("tree\r\n", ScriptFaultKind::Word),
     (" tree\n", ScriptFaultKind::Word),
@@ -18,29 +18,29 @@ const SECOND_LINES: [(&str, ScriptFaultKind); 48] = [
     ("snaps\n", ScriptFaultKind::Word),
     ("do 0 \n", ScriptFaultKind::Word),
     ("do 0 snap\n", ScriptFaultKind::Word),
-    ("start x jump y\n", ScriptFaultKind::Word),
+    ("go 0\n", ScriptFaultKind::Word),
+    ("start 0 create 0.1 a 420\n", ScriptFaultKind::Word),
+    ("do x jump y\n", ScriptFaultKind::Word),
     ("do\n", ScriptFaultKind::Count),
+    ("do jump\n", ScriptFaultKind::Count),
     ("do 0\n", ScriptFaultKind::Count),
-    ("start jump\n", ScriptFaultKind::Count),
     ("tree \n", ScriptFaultKind::Count),
     ("tree tree\n", ScriptFaultKind::Count),
-    ("go\n", ScriptFaultKind::Count),
-    ("go 0 1 2\n", ScriptFaultKind::Count),
-    ("run\n", ScriptFaultKind::Count),
-    ("run 0 1\n", ScriptFaultKind::Count),
-    ("run \n", ScriptFaultKind::Count),
     ("do  create 0.1 a 420\n", ScriptFaultKind::Count),
     ("do 0 create 0.1 a\n", ScriptFaultKind::Count),
     ("do 0 create 0.1  420\n", ScriptFaultKind::Count),
     ("do 0 create x %4 420 1\n", ScriptFaultKind::Count),
     ("do 0 read 1.1 0\n", ScriptFaultKind::Count),
-    ("start 0 write 1.1 0 a b\n", ScriptFaultKind::Count),
-    ("go x\n", ScriptFaultKind::Number),
-    ("go 0 0\n", ScriptFaultKind::Number),
-    ("go 0 1048577\n", ScriptFaultKind::Number),
-    ("run -1\n", ScriptFaultKind::Number),
-    ("run 18446744073709551616\n", ScriptFaultKind::Number),
-    ("run 000000000000000000001\n", ScriptFaultKind::Number),
+    ("do 0 write 1.1 0 a b\n", ScriptFaultKind::Count),
+    ("do -1 create 0.1 a 420\n", ScriptFaultKind::Number),
+    (
+        "do 18446744073709551616 create 0.1 a 420\n",
+        ScriptFaultKind::Number,
+    ),
+    (
+        "do 000000000000000000001 create 0.1 a 420\n",
+        ScriptFaultKind::Number,
+    ),
     ("do x create 0.1 a 420\n", ScriptFaultKind::Number),
     ("do 0 create 0 a 420\n", ScriptFaultKind::Number),
     ("do 0 create 0.1.1 a 420\n", ScriptFaultKind::Number),
@@ -76,7 +76,7 @@ fn second_lines_have_their_faults(rt: HostRuntime) -> Result<(), Fail> {
 /// First lines, with the fault of each. Comments and empty lines count.
 const FIRST_LINES: [(&str, u64, ScriptFaultKind); 12] = [
     ("tree\n", 1, ScriptFaultKind::Order),
-    ("# a comment\n\ngo\n", 3, ScriptFaultKind::Order),
+    ("# a comment\n\ntree 1\n", 3, ScriptFaultKind::Order),
     ("do 0 create 0.1 a 420\n", 1, ScriptFaultKind::Order),
     ("do 0\n", 1, ScriptFaultKind::Count),
     ("jump\n", 1, ScriptFaultKind::Word),

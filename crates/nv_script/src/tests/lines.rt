@@ -2,7 +2,7 @@
 ghost use Rattle.std.specs.Prelude.{◌≤◌};
 ghost use Rattle.std.specs.Vec.{vec_capacity};
 
-use crate::feed::{Feed, LINE_BYTES, ReadFailed, Taken};
+use crate::feed::{Feed, MAX_LINE_BYTES, ReadFailed, Taken};
 use crate::send::{WriteFailed, send};
 use std::alloc::{AllocError, Global};
 use std::io;
@@ -22,7 +22,7 @@ impl Lines {
     fn new(alloc: Global) -> Result<Lines, AllocError> {
         Ok(Lines {
             feed: Feed::new(alloc)?,
-            line: Vec::with_capacity(alloc, LINE_BYTES)?,
+            line: Vec::with_capacity(alloc, MAX_LINE_BYTES)?,
         })
     }
 
@@ -62,7 +62,7 @@ fn lines_and_ends(rt: HostRuntime) -> Result<(), Fail> {
 
 #[test]
 fn longest_lines(rt: HostRuntime) -> Result<(), Fail> {
-    let longest = vec![in rt.alloc(); b'a'; LINE_BYTES]?;
+    let longest = vec![in rt.alloc(); b'a'; MAX_LINE_BYTES]?;
     for (tail, taken) in [
         (b"\n".as_slice(), Taken::Line),
         (b"".as_slice(), Taken::Unended),

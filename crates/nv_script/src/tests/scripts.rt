@@ -46,31 +46,19 @@ pub(super) const SCRIPTS: [(&str, &str); 8] = [
          do 0 create 0.1 b 420\n",
         "formatted\ndone 1.1\ndone 2.1\n",
     ),
-    // Actors: none with this number, busy, idle; a go ends with the first reply that is not `moved`.
+    // Actors by their numbers, and numbers at their limits.
     (
         "format blocks=16 cpus=2 block=4 page=4 inodes=8 snaps=4 actors=3\n\
-         go 0\n\
-         start 3 read 0.1 0 1\n\
+         do 3 read 0.1 0 1\n\
          do 18446744073709551615 read 0.1 0 1\n\
-         start 0 create 0.1 a 420\n\
-         start 0 read 0.1 0 1\n\
-         do 0 read 0.1 0 1\n\
-         go 0 1048576\n\
-         start 2 write 1.1 0 %7a%7A\n\
-         run 2\n\
-         run 2\n\
+         do 2 create 0.1 a 420\n\
+         do 1 write 1.1 0 %7a%7A\n\
          do 0 read 1.1 00000000000000000001 18446744073709551615\n",
         "formatted\n\
-         refused E22 ActorIdle\n\
          refused E23 NoActor\n\
          refused E23 NoActor\n\
-         started\n\
-         refused E21 ActorBusy\n\
-         refused E21 ActorBusy\n\
          done 1.1\n\
-         started\n\
          done 2\n\
-         refused E22 ActorIdle\n\
          done 1 z\n",
     ),
     // Refusals of calls, and a name that is printed with escapes.
