@@ -6,8 +6,8 @@ use Rattle.nv_base.specs.declared.fault.ScriptFaultKind.{ScriptFaultKind}
 use Rattle.nv_base.specs.declared.fault.ScriptFaultKind.TheVariants as kind
 use Rattle.nv_script.specs.declared.command.Command.{Command}
 use Rattle.nv_script.specs.declared.command.Command.TheVariants as command
-use Rattle.nv_script.specs.declared.keyword.CommandWord.{CommandWord}
-use Rattle.nv_script.specs.declared.keyword.CommandWord.TheVariants as word
+use Rattle.nv_script.specs.declared.command.CommandWord.{CommandWord}
+use Rattle.nv_script.specs.declared.command.CommandWord.TheVariants as word
 use Rattle.nv_script.specs.Grammar.{Parsed, ◌>>=◌, if_so, is_due, call_with, command_named, command_of, command_with, format_with, is_skipped, line_command, none_empty, number_at, takes_words, texts}
 use Rattle.nv_script.specs.Results.{fits}
 use Rattle.nv_script.specs.Words.{words_of}

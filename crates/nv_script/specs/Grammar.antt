@@ -12,10 +12,10 @@ use Rattle.nv_script.specs.declared.command.Command.TheVariants as command
 use Rattle.nv_script.specs.declared.command.FormatNumbers.{FormatNumbers}
 use Rattle.nv_script.specs.declared.fault.LineFault.{LineFault}
 use Rattle.nv_script.specs.declared.fault.LineFault.TheVariants as line
-use Rattle.nv_script.specs.declared.keyword.CallWord.{CallWord}
-use Rattle.nv_script.specs.declared.keyword.CallWord.TheVariants as calls
-use Rattle.nv_script.specs.declared.keyword.CommandWord.{CommandWord}
-use Rattle.nv_script.specs.declared.keyword.CommandWord.TheVariants as word
+use Rattle.nv_script.specs.declared.call.CallWord.{CallWord}
+use Rattle.nv_script.specs.declared.call.CallWord.TheVariants as calls
+use Rattle.nv_script.specs.declared.command.CommandWord.{CommandWord}
+use Rattle.nv_script.specs.declared.command.CommandWord.TheVariants as word
 use Rattle.nv_script.specs.Words.{number_of, number_up_to, handle_of, text_of, words_of}
 
 -- what was read, or the fault of a line

@@ -1,12 +1,14 @@
-//! The commands of a script, read from the words of a line.
+//! The commands of a script, read from the words of a line. A new command is added here, beside the definitions of
+//! `command_named`, `takes_words` and `command_with`, and acted on in `act`.
 
 ghost use Rattle.std.specs.Prelude.{◌≡◌, IsErr, false};
-ghost use Rattle.nv_script.specs.Grammar.{Reads, call_with, command_of, command_with, format_with, handle_at, is_skipped, line_command, mode_at, none_empty, number_at, setting_at, setting_of, text_at, texts};
+ghost use Rattle.nv_script.specs.Grammar.{Reads, command_named, command_of, command_with, format_with, is_due, is_skipped, line_command, none_empty, takes_words, texts};
 
+use crate::call::CallWord;
 use crate::fault::LineFault;
-use crate::keyword::{CallWord, CommandWord, word_at};
-use crate::word::{handle, mode, number, text, words};
-use nv_base::{Bytes, Handle, Mode, ScriptFaultKind};
+use crate::field::{number_at, setting_at, word_at};
+use crate::word::words;
+use nv_base::ScriptFaultKind;
 use nv_core::Call;
 use std::alloc::Global;
 
@@ -30,6 +32,14 @@ pub(crate) enum Command {
     /// An actor makes a call.
     Do(u64, Call),
     /// The tree now.
+    Tree,
+}
+
+/// A command by its name, with the call that it names.
+#[derive(Clone, Copy, Debug, PartialEq, Eq, Drop)]
+pub(crate) enum CommandWord {
+    Format,
+    Do(CallWord),
     Tree,
 }
 
@@ -61,7 +71,7 @@ fn command_of(alloc: Global, made: bool, words: &[&[u8]]) -> Result<Command, Lin
     if !word.takes_words(words.len()) || !none_empty(words) {
         return Err(LineFault::Faulty(ScriptFaultKind::Count));
     }
-    command_with(alloc, word, words)
+    word.read(alloc, words)
 }
 
 /// Whether each word has a byte.
@@ -76,67 +86,57 @@ fn none_empty(words: &[&[u8]]) -> bool
     true
 }
 
-/// The command with all words of its line, read from left to right.
-fn command_with(alloc: Global, word: CommandWord, words: &[&[u8]]) -> Result<Command, LineFault>
-    ensures { Reads result (command_with word (texts words.now)) }
-{
-    match word {
-        CommandWord::Format => Ok(Command::Format(format_with(words)?)),
-        CommandWord::Do(call) => Ok(Command::Do(
-            number_at(words, 1)?,
-            call_with(alloc, call, words)?,
-        )),
-        CommandWord::Tree => Ok(Command::Tree),
+impl CommandWord {
+    /// The command that the first words name.
+    fn named(words: &[&[u8]]) -> Result<CommandWord, ScriptFaultKind>
+        ensures { result ≡ command_named (texts words.now) }
+    {
+        let name = word_at(words, 0);
+        if name == b"format".as_slice() {
+            return Ok(CommandWord::Format);
+        }
+        if name == b"do".as_slice() {
+            return Ok(CommandWord::Do(CallWord::third(words)?));
+        }
+        if name == b"tree".as_slice() {
+            return Ok(CommandWord::Tree);
+        }
+        Err(ScriptFaultKind::Word)
     }
-}
 
-/// The call of a line, whose own words stand from place 3 on.
-fn call_with(alloc: Global, call: CallWord, words: &[&[u8]]) -> Result<Call, LineFault>
-    ensures { Reads result (call_with call (texts words.now)) }
-{
-    match call {
-        CallWord::Create => Ok(Call::Create {
-            dir: handle_at(words, 3)?,
-            name: text_at(alloc, words, 4)?,
-            mode: mode_at(words, 5)?,
-        }),
-        CallWord::Write => Ok(Call::Write {
-            file: handle_at(words, 3)?,
-            offset: number_at(words, 4)?,
-            text: text_at(alloc, words, 5)?,
-        }),
-        CallWord::Read => Ok(Call::Read {
-            file: handle_at(words, 3)?,
-            offset: number_at(words, 4)?,
-            count: number_at(words, 5)?,
-        }),
+    /// Whether the command may come next: `format` where no world is made, and any other where one is.
+    fn is_due(self, made: bool) -> bool
+        ensures { result ≡ is_due made self }
+    {
+        match self {
+            CommandWord::Format => !made,
+            _ => made,
+        }
     }
-}
 
-fn number_at(words: &[&[u8]], place: usize) -> Result<u64, ScriptFaultKind>
-    ensures { result ≡ number_at (texts words.now) place }
-{
-    number(word_at(words, place)).ok_or(ScriptFaultKind::Number)
-}
+    /// Whether a line of this command may have so many words.
+    fn takes_words(self, count: usize) -> bool
+        ensures { result ≡ takes_words self count }
+    {
+        match self {
+            CommandWord::Format => count == 8,
+            CommandWord::Do(call) => count == 3 + call.words(),
+            CommandWord::Tree => count == 1,
+        }
+    }
 
-fn mode_at(words: &[&[u8]], place: usize) -> Result<Mode, ScriptFaultKind>
-    ensures { result ≡ mode_at (texts words.now) place }
-{
-    mode(word_at(words, place)).ok_or(ScriptFaultKind::Number)
-}
-
-fn handle_at(words: &[&[u8]], place: usize) -> Result<Handle, ScriptFaultKind>
-    ensures { result ≡ handle_at (texts words.now) place }
-{
-    handle(word_at(words, place)).ok_or(ScriptFaultKind::Number)
-}
-
-fn text_at(alloc: Global, words: &[&[u8]], place: usize) -> Result<Bytes, LineFault>
-    ensures { Reads result (text_at (texts words.now) place) }
-{
-    match text(alloc, word_at(words, place))? {
-        Some(text) => Ok(text),
-        None => Err(LineFault::Faulty(ScriptFaultKind::Text)),
+    /// The command with all words of its line, read from left to right.
+    fn read(self, alloc: Global, words: &[&[u8]]) -> Result<Command, LineFault>
+        ensures { Reads result (command_with self (texts words.now)) }
+    {
+        match self {
+            CommandWord::Format => Ok(Command::Format(format_with(words)?)),
+            CommandWord::Do(call) => Ok(Command::Do(
+                number_at(words, 1)?,
+                call.read(alloc, words)?,
+            )),
+            CommandWord::Tree => Ok(Command::Tree),
+        }
     }
 }
 
@@ -153,17 +153,4 @@ fn format_with(words: &[&[u8]]) -> Result<FormatNumbers, ScriptFaultKind>
         snaps: setting_at(words, 6, b"snaps=")?,
         actors: setting_at(words, 7, b"actors=")?,
     })
-}
-
-fn setting_at(words: &[&[u8]], place: usize, name: &[u8]) -> Result<u64, ScriptFaultKind>
-    ensures { result ≡ setting_at (texts words.now) place name.now }
-{
-    setting_of(name, word_at(words, place)).ok_or(ScriptFaultKind::Number)
-}
-
-/// The number that stands behind a name, which comes with its `=`.
-fn setting_of(name: &[u8], word: &[u8]) -> Option<u64>
-    ensures { result ≡ setting_of name.now word.now }
-{
-    number(word.strip_prefix(name)?)
 }

@@ -5,10 +5,11 @@
 #![tactic(auto)]
 
 mod act;
+mod call;
 mod command;
 mod fault;
 mod feed;
-mod keyword;
+mod field;
 mod script;
 mod send;
 #[cfg(test)]
