@@ -1,9 +1,8 @@
 -- The home ranges cut the block numbers.
-use Rattle.std.proofs.Common.{◌≡◌, ℕ, ◌+◌, ◌-◌, ◌*◌, ◌/◌, ◌<◌, ◌≤◌, ◌⊎◌, inl, inr, arith, refl}
-use Rattle.std.proofs.Math.Nat.{mul-div_cancel_left, div-mul-le_self, lt-div-mul-add, zero-div, zero-mul, mul-le-mul_right, add-mul, one-mul}
+use Rattle.std.proofs.Common.{ℕ, ◌+◌, ◌-◌, ◌*◌, ◌/◌, ◌<◌, ◌≤◌, arith}
+use Rattle.std.proofs.Math.Nat.{mul-div_cancel_left, div-mul-le_self, lt-div-mul-add, mul-le-mul_right, add-mul, one-mul}
 use Rattle.std.proofs.lemmas.Nat.{div_below, le-div}
-use Rattle.std.proofs.lemmas.Bool.{cases_order}
-use Rattle.nv_base.specs.Homes.{home_start, IsHome, HasOneHome, CutsBlocks}
+use Rattle.nv_base.specs.Homes.{home_start, IsHome, CutsBlocks}
 
 -- later CPUs start no earlier
 home_start-mono : (blocks cpus c d : ℕ) → 0 < cpus → c ≤ d → home_start blocks cpus c ≤ home_start blocks cpus d

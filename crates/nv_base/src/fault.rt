@@ -1,7 +1,7 @@
 //! Why a call was refused.
 
-ghost use Rattle.std.specs.Prelude.{◌≡◌};
-ghost use Rattle.nv_base.specs.Texts.{field_name, part_name, image_fault_name, script_fault_name};
+ghost use Rattle.std.specs.Prelude.{◌≡◌, Some};
+ghost use Rattle.nv_base.specs.Texts.{fault_name, fault_text, field_name, image_fault_name, part_name, script_fault_name};
 ghost use Rattle.nv_base.specs.declared.fault.Fault.TheVariants.{OutOfMemory};
 
 use std::alloc::{AllocError, AllocFailed};
@@ -40,8 +40,11 @@ impl GeometryField {
 }
 
 impl fmt::Display for GeometryField {
+    ghost output = { λ field. Some (field_name field) };
+
     fn fmt<W: fmt::Write>(&self, f: &mut fmt::Formatter<W>) -> fmt::Result {
-        f.write_str(self.name())
+        let field = self.name();
+        f.write_str(field)
     }
 }
 
@@ -71,8 +74,11 @@ impl MismatchPart {
 }
 
 impl fmt::Display for MismatchPart {
+    ghost output = { λ part. Some (part_name part) };
+
     fn fmt<W: fmt::Write>(&self, f: &mut fmt::Formatter<W>) -> fmt::Result {
-        f.write_str(self.name())
+        let part = self.name();
+        f.write_str(part)
     }
 }
 
@@ -108,8 +114,11 @@ impl ImageFault {
 }
 
 impl fmt::Display for ImageFault {
+    ghost output = { λ fault. Some (image_fault_name fault) };
+
     fn fmt<W: fmt::Write>(&self, f: &mut fmt::Formatter<W>) -> fmt::Result {
-        f.write_str(self.name())
+        let fault = self.name();
+        f.write_str(fault)
     }
 }
 
@@ -145,8 +154,11 @@ impl ScriptFaultKind {
 }
 
 impl fmt::Display for ScriptFaultKind {
+    ghost output = { λ kind. Some (script_fault_name kind) };
+
     fn fmt<W: fmt::Write>(&self, f: &mut fmt::Formatter<W>) -> fmt::Result {
-        f.write_str(self.name())
+        let kind = self.name();
+        f.write_str(kind)
     }
 }
 
@@ -154,92 +166,117 @@ impl fmt::Display for ScriptFaultKind {
 #[derive(Clone, Copy, Debug, PartialEq, Eq, Error)]
 pub enum Fault {
     /// A growth of memory was refused.
-    #[error("E1 OutOfMemory")]
     OutOfMemory,
     /// The first field of a geometry that is out of its limits.
-    #[error("E2 BadGeometry({0})")]
     BadGeometry(GeometryField),
     /// The handle's slot is out of range, empty or gone, or has another generation.
-    #[error("E3 Stale")]
     Stale,
     /// The call is for files, and this is a directory.
-    #[error("E4 NotFile")]
     NotFile,
     /// The call is for directories, and this is a file.
-    #[error("E5 NotDirectory")]
     NotDirectory,
     /// The bytes are no lawful name.
-    #[error("E6 BadName")]
     BadName,
     /// The directory has no such name.
-    #[error("E7 Missing")]
     Missing,
     /// The directory has the name already.
-    #[error("E8 Exists")]
     Exists,
     /// The directory still has names.
-    #[error("E9 NotEmpty")]
     NotEmpty,
     /// The file would have more than 65,536 pages.
-    #[error("E10 FileTooBig")]
     FileTooBig,
     /// The write touches more than 1,024 pages.
-    #[error("E11 WriteTooBig")]
     WriteTooBig,
     /// No inode number is free.
-    #[error("E12 NoInode")]
     NoInode,
     /// The free lists have too few blocks.
-    #[error("E13 NoSpace")]
     NoSpace,
     /// The commit numbers are used up.
-    #[error("E14 CommitLimit")]
     CommitLimit,
     /// The epochs are used up.
-    #[error("E15 EpochLimit")]
     EpochLimit,
     /// There is no room for another snapshot.
-    #[error("E16 TooManySnapshots")]
     TooManySnapshots,
     /// No living snapshot has this number.
-    #[error("E17 NoSnapshot")]
     NoSnapshot,
     /// The snapshot is being read.
-    #[error("E18 Pinned")]
     Pinned,
     /// A directory can't move to another parent.
-    #[error("E19 MoveDirectory")]
     MoveDirectory,
     /// A name was bound anew in each round.
-    #[error("E20 Contended")]
     Contended,
     /// The actor has a call already.
-    #[error("E21 ActorBusy")]
     ActorBusy,
     /// The actor has no call.
-    #[error("E22 ActorIdle")]
     ActorIdle,
     /// There is no such actor.
-    #[error("E23 NoActor")]
     NoActor,
     /// The first part that differs from one scan of the logs.
-    #[error("E24 Mismatch({0})")]
     Mismatch(MismatchPart),
     /// A seat of the service is missing, strange or handed out already.
-    #[error("E25 SeatsOut")]
     SeatsOut,
     /// The first fault of an image.
-    #[error("E26 BadImage({0})")]
     BadImage(ImageFault),
     /// The first fault of a script: its line, counted from 1, and its kind.
-    #[error("E27 ScriptFault({0}, {1})")]
     ScriptFault(u64, ScriptFaultKind),
     /// A read failed.
-    #[error("E28 Read")]
     Read,
     /// A write failed.
-    #[error("E29 Write")]
     Write,
+}
+
+impl Fault {
+    /// The fault's number and name.
+    pub fn name(&self) -> &'static str
+        ensures { result.now ≡ fault_name self.now }
+    {
+        match self {
+            Fault::OutOfMemory => "E1 OutOfMemory",
+            Fault::BadGeometry(_) => "E2 BadGeometry",
+            Fault::Stale => "E3 Stale",
+            Fault::NotFile => "E4 NotFile",
+            Fault::NotDirectory => "E5 NotDirectory",
+            Fault::BadName => "E6 BadName",
+            Fault::Missing => "E7 Missing",
+            Fault::Exists => "E8 Exists",
+            Fault::NotEmpty => "E9 NotEmpty",
+            Fault::FileTooBig => "E10 FileTooBig",
+            Fault::WriteTooBig => "E11 WriteTooBig",
+            Fault::NoInode => "E12 NoInode",
+            Fault::NoSpace => "E13 NoSpace",
+            Fault::CommitLimit => "E14 CommitLimit",
+            Fault::EpochLimit => "E15 EpochLimit",
+            Fault::TooManySnapshots => "E16 TooManySnapshots",
+            Fault::NoSnapshot => "E17 NoSnapshot",
+            Fault::Pinned => "E18 Pinned",
+            Fault::MoveDirectory => "E19 MoveDirectory",
+            Fault::Contended => "E20 Contended",
+            Fault::ActorBusy => "E21 ActorBusy",
+            Fault::ActorIdle => "E22 ActorIdle",
+            Fault::NoActor => "E23 NoActor",
+            Fault::Mismatch(_) => "E24 Mismatch",
+            Fault::SeatsOut => "E25 SeatsOut",
+            Fault::BadImage(_) => "E26 BadImage",
+            Fault::ScriptFault(_, _) => "E27 ScriptFault",
+            Fault::Read => "E28 Read",
+            Fault::Write => "E29 Write",
+        }
+    }
+}
+
+impl fmt::Display for Fault {
+    ghost output = { λ fault. Some (fault_text fault) };
+
+    fn fmt<W: fmt::Write>(&self, f: &mut fmt::Formatter<W>) -> fmt::Result {
+        f.write_str(self.name())?;
+        match self {
+            Fault::BadGeometry(field) => write!(f, "({field})"),
+            Fault::Mismatch(part) => write!(f, "({part})"),
+            Fault::BadImage(fault) => write!(f, "({fault})"),
+            Fault::ScriptFault(line, kind) => write!(f, "({line}, {kind})"),
+            _ => Ok(()),
+        }
+    }
 }
 
 impl From<AllocError> for Fault {

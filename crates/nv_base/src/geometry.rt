@@ -1,14 +1,15 @@
 //! The numbers that a device and its world are made with.
 
-ghost use Rattle.std.specs.Prelude.{◌≡◌, ℕ, ◌<◌, ◌≤◌, ◌↔◌, true, false, IsOk, IfOk, IfErr, OnOk};
+ghost use Rattle.std.specs.Prelude.{◌≡◌, ℕ, ◌<◌, ◌≤◌, ◌↔◌, IsTrue, IsOk, IfOk, IfErr};
 ghost use Rattle.nv_base.specs.Homes.{home_start, IsHome, CutsBlocks};
 ghost use Rattle.nv_base.specs.Limits.{IsFirstBad, IsWithinLimits, first_bad_field, is_between};
+ghost use Rattle.nv_base.specs.Refusals.{FailsOnly};
 
 use crate::{BlockNo, Fault, GeometryField, limits};
 
-/// The numbers of a device and its world, all within their limits.
+/// The numbers that a device and its world are to be made with, which may be out of their limits.
 #[derive(Clone, Copy, Debug, PartialEq, Eq)]
-pub struct Geometry {
+pub struct GeometryNumbers {
     /// Blocks of the device.
     pub blocks: u64,
     /// CPUs, each with a free list of its own.
@@ -23,28 +24,33 @@ pub struct Geometry {
     pub snaps: u64,
     /// Actors, each of which runs one call at a time.
     pub actors: u64,
-    pub ghost limits: { IsWithinLimits blocks cpus block page inodes snaps actors },
+}
+
+/// The numbers of a device and its world, all within their limits.
+#[derive(Clone, Copy, Debug, PartialEq, Eq)]
+pub struct Geometry {
+    pub numbers: GeometryNumbers,
+    pub ghost limits: { IsWithinLimits numbers },
 }
 
 impl Geometry {
-    /// The geometry with these numbers, or `BadGeometry` with the first that is out of its limits, in the
-    /// order of the parameters: `blocks` 2 to 1,048,576, `cpus` 1 to 64 and at most `blocks`, `block` 1 to
-    /// 4,096, `page` 2 to 63, `inodes` 1 to 65,536, `snaps` 1 to 1,024, `actors` 1 to 64.
-    pub fn checked(
-        blocks: u64,
-        cpus: u64,
-        block: u64,
-        page: u64,
-        inodes: u64,
-        snaps: u64,
-        actors: u64,
-    ) -> Result<Geometry, Fault>
-        ensures within { IsOk result ↔ IsWithinLimits blocks cpus block page inodes snaps actors }
-        ensures numbers { IfOk result (λ g. (g.blocks ≡ blocks) × (g.cpus ≡ cpus) × (g.block ≡ block)
-            × (g.page ≡ page) × (g.inodes ≡ inodes) × (g.snaps ≡ snaps) × (g.actors ≡ actors)) }
-        ensures first { IfErr result (λ fault. IsFirstBad fault
-            (first_bad_field blocks cpus block page inodes snaps actors)) }
+    /// The geometry with these numbers, or `BadGeometry` with the first that is out of its limits, in their
+    /// order: `blocks` 2 to 1,048,576, `cpus` 1 to 64 and at most `blocks`, `block` 1 to 4,096, `page` 2 to 63,
+    /// `inodes` 1 to 65,536, `snaps` 1 to 1,024, `actors` 1 to 64.
+    pub fn checked(numbers: GeometryNumbers) -> Result<Geometry, Fault>
+        ensures ok { IfOk result (λ geometry. geometry.numbers ≡ numbers) }
+        ensures within { IsOk result ↔ IsWithinLimits numbers }
+        ensures err { IfErr result (λ fault. IsFirstBad fault (first_bad_field numbers)) }
     {
+        let GeometryNumbers {
+            blocks,
+            cpus,
+            block,
+            page,
+            inodes,
+            snaps,
+            actors,
+        } = numbers;
         require(
             is_between(limits::LEAST_BLOCKS, limits::BLOCKS, blocks),
             GeometryField::Blocks,
@@ -64,34 +70,26 @@ impl Geometry {
         require(is_between(1, limits::INODES, inodes), GeometryField::Inodes)?;
         require(is_between(1, limits::SNAPS, snaps), GeometryField::Snaps)?;
         require(is_between(1, limits::ACTORS, actors), GeometryField::Actors)?;
-        Ok(Geometry {
-            blocks,
-            cpus,
-            block,
-            page,
-            inodes,
-            snaps,
-            actors,
-        })
+        Ok(Geometry { numbers })
     }
 
     /// The first block number whose home is this CPU or a later one. A CPU's home range ends where the
     /// next one's starts.
     pub fn home_start(&self, cpu: u64) -> u64
-        requires { cpu ≤ self.now.cpus }
-        ensures value { result ≡ home_start self.now.blocks self.now.cpus cpu }
-        ensures within { result ≤ self.now.blocks }
+        requires { cpu ≤ self.now.numbers.cpus }
+        ensures value { result ≡ home_start self.now.numbers.blocks self.now.numbers.cpus cpu }
+        ensures within { result ≤ self.now.numbers.blocks }
     {
-        cpu * self.blocks / self.cpus
+        cpu * self.numbers.blocks / self.numbers.cpus
     }
 
     /// The CPU whose home range has this block: the list that the block always goes back to.
     pub fn home_of(&self, block: BlockNo) -> u64
-        requires { block < self.now.blocks }
-        ensures cpu { result < self.now.cpus }
-        ensures home { IsHome self.now.blocks self.now.cpus result block }
+        requires { block < self.now.numbers.blocks }
+        ensures cpu { result < self.now.numbers.cpus }
+        ensures home { IsHome self.now.numbers.blocks self.now.numbers.cpus result block }
     {
-        ((block.number() + 1) * self.cpus - 1) / self.blocks
+        ((block.number() + 1) * self.numbers.cpus - 1) / self.numbers.blocks
     }
 }
 
@@ -103,8 +101,8 @@ fn is_between(least: u64, most: u64, number: u64) -> bool
 
 /// `BadGeometry` with this field where the field's test fails.
 fn require(holds: bool, field: GeometryField) -> Result<(), Fault>
-    ensures ok { OnOk result (holds ≡ true) }
-    ensures err { IfErr result (λ fault. (holds ≡ false) × (fault ≡ Fault.BadGeometry field)) }
+    ensures ok { IsOk result ↔ IsTrue holds }
+    ensures err { FailsOnly (Fault.BadGeometry field) result }
 {
     if holds {
         return Ok(());

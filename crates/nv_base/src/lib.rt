@@ -5,9 +5,9 @@
 //! refused.
 #![tactic(auto)]
 
-mod bytes;
 mod fault;
 mod geometry;
+mod items;
 pub mod limits;
 mod name;
 mod node;
@@ -15,9 +15,9 @@ mod numbers;
 #[cfg(test)]
 mod tests;
 
-pub use bytes::Bytes;
 pub use fault::{Fault, GeometryField, ImageFault, MismatchPart, ScriptFaultKind};
-pub use geometry::{Geometry, home_ranges_cut_the_blocks};
+pub use geometry::{Geometry, GeometryNumbers, home_ranges_cut_the_blocks};
+pub use items::{Bytes, Items};
 pub use name::Name;
 pub use node::{Kind, Mode};
-pub use numbers::{BlockNo, CommitNo, EntryId, Epoch, Gen, Handle, Ino};
+pub use numbers::{BlockNo, CommitNo, EntryId, Epoch, Gen, Handle, Ino, ids_are_ordered};

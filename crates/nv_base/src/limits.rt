@@ -1,5 +1,8 @@
 //! The limits that hold for every geometry, call and name.
 
+ghost use Rattle.std.specs.Prelude.{◌≡◌, ◌≤◌, ◌↔◌, IsTrue, max, min};
+ghost use Rattle.nv_base.specs.declared.limits.TheConstants.{DRAIN, LOCK_ROUNDS};
+
 /// The most bytes of a block.
 pub const BLOCK_BYTES: u64 = 4_096;
 
@@ -39,7 +42,11 @@ pub const NAME_BYTES: usize = 255;
 /// The greatest mode.
 pub const MODE: u16 = 4_095;
 
-/// How many times a call looks its names up anew before it is contended.
+/// The most readers that pin one snapshot at a time.
+pub const PINS: u32 = 64;
+
+/// How many rounds of looking names up and locking a call makes: once so many have failed, since another call
+/// bound one of its names anew in each, the call is contended.
 pub const LOCK_ROUNDS: u64 = 8;
 
 /// The most records that one drain releases.
@@ -47,3 +54,18 @@ pub const DRAIN: u64 = 1_048_576;
 
 /// The greatest epoch, commit number, generation and version: 2 to the power of 62.
 pub const NUMBER: u64 = 4_611_686_018_427_387_904;
+
+/// Whether a call with so many failed rounds is contended.
+pub fn is_contended(failed_rounds: u64) -> bool
+    ensures { IsTrue result ↔ (LOCK_ROUNDS ≤ failed_rounds) }
+{
+    failed_rounds >= LOCK_ROUNDS
+}
+
+/// How many records a drain of this number releases at most: a number outside 1 to [`DRAIN`] counts as the
+/// nearest of these.
+pub fn most_drained(number: u64) -> u64
+    ensures { result ≡ max 1 (min number DRAIN) }
+{
+    number.clamp(1, DRAIN)
+}

@@ -1,9 +1,9 @@
 //! Lawful names.
 
-ghost use Rattle.std.specs.Prelude.{◌≡◌, ◌↔◌, IsTrue, IsOk, IfOk, IfErr};
-ghost use Rattle.std.specs.Prelude.{◌⊎◌};
-ghost use Rattle.nv_base.specs.Names.{is_dots, is_lawful_name, is_name_byte};
+ghost use Rattle.std.specs.Prelude.{◌≡◌, ◌↔◌, false, IsTrue, IsOk, IfOk};
 ghost use Rattle.std.specs.List.{list_all};
+ghost use Rattle.nv_base.specs.Names.{is_dots, is_lawful_name, is_name_byte};
+ghost use Rattle.nv_base.specs.Refusals.{FailsEither, FailsOnly, IsRefusedBy};
 
 use crate::{Fault, limits};
 use std::alloc::{AllocError, Global};
@@ -30,7 +30,7 @@ impl Name {
     /// Whether these bytes are a lawful name: `BadName` where they are not.
     pub fn check(bytes: &[u8]) -> Result<(), Fault>
         ensures ok { IsOk result ↔ IsTrue (is_lawful_name bytes.now) }
-        ensures err { IfErr result (λ fault. fault ≡ Fault.BadName) }
+        ensures err { FailsOnly Fault.BadName result }
     {
         let fits = !bytes.is_empty() && bytes.len() <= limits::NAME_BYTES;
         if fits && has_name_bytes(bytes) && !is_dots(bytes) {
@@ -39,13 +39,12 @@ impl Name {
         Err(Fault::BadName)
     }
 
-    /// The name with these bytes: `BadName` where they are no lawful name, else `OutOfMemory` where there
-    /// is no room for them.
+    /// The name with these bytes: `BadName` exactly where they are no lawful name, and else at worst
+    /// `OutOfMemory`.
     pub fn read(alloc: Global, bytes: &[u8]) -> Result<Name, Fault>
         ensures ok { IfOk result (λ name. name ≡ bytes.now) }
-        ensures lawful { IsOk result → IsTrue (is_lawful_name bytes.now) }
-        ensures err { IfErr result (λ fault. ((fault ≡ Fault.BadName) × (IsTrue (is_lawful_name bytes.now) → ⊥))
-            ⊎ ((fault ≡ Fault.OutOfMemory) × IsTrue (is_lawful_name bytes.now))) }
+        ensures err { FailsEither Fault.BadName Fault.OutOfMemory result }
+        ensures unlawful { IsRefusedBy result Fault.BadName ↔ (is_lawful_name bytes.now ≡ false) }
     {
         Name::check(bytes)?;
         let bytes = Vec::from_slice(alloc, bytes)?;

@@ -2,6 +2,7 @@
 
 ghost use Rattle.std.specs.Prelude.{◌≡◌, ◌≤◌};
 ghost use Rattle.std.specs.Option.{SomeIff};
+ghost use Rattle.nv_base.specs.declared.limits.TheConstants.{MODE};
 
 use crate::limits;
 use std::marker::Model;
@@ -21,6 +22,7 @@ pub struct Mode {
 
 impl Model for Mode {
     ghost use Rattle.std.specs.Prelude.{ℕ, ◌≤◌};
+    ghost use Rattle.nv_base.specs.declared.limits.TheConstants.{MODE};
 
     ghost Value = { ℕ };
 
@@ -28,13 +30,13 @@ impl Model for Mode {
 
     ghost inverse = { λ n. record { bits = n } };
 
-    ghost invariant = { λ m. m.bits ≤ 4095 };
+    ghost invariant = { λ m. m.bits ≤ MODE };
 }
 
 impl Mode {
     /// The mode of these bits, or `None` above 4,095.
     pub fn checked(bits: u16) -> Option<Mode>
-        ensures { SomeIff result (bits ≤ 4095) bits }
+        ensures { SomeIff result (bits ≤ MODE) bits }
     {
         if bits <= limits::MODE {
             return Some(Mode { bits });
@@ -44,7 +46,7 @@ impl Mode {
 
     pub fn bits(self) -> u16
         ensures value { result ≡ self }
-        ensures limit { result ≤ 4095 }
+        ensures limit { result ≤ MODE }
     {
         self.bits
     }

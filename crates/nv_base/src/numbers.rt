@@ -1,6 +1,8 @@
 //! Numbers, each kind a type of its own. Contracts see each as a natural number.
 
-ghost use Rattle.std.specs.Prelude.{◌≡◌, ◌+◌, ◌<◌, ◌^◌};
+ghost use Rattle.std.specs.Prelude.{◌≡◌, ◌+◌, ◌<◌, ◌↔◌, IsTrue};
+ghost use Rattle.nv_base.specs.Ids.{AreIdsOrdered, IsIdBefore};
+ghost use Rattle.nv_base.specs.declared.limits.TheConstants.{NUMBER};
 
 use std::marker::Model;
 
@@ -65,7 +67,7 @@ impl Gen {
 
     /// The generation after this one.
     pub fn next(self) -> Gen
-        requires { self < 2 ^ 62 }
+        requires { self < NUMBER }
         ensures { result ≡ self + 1 }
     {
         Gen {
@@ -143,7 +145,7 @@ impl Epoch {
 
     /// The epoch after this one.
     pub fn next(self) -> Epoch
-        requires { self < 2 ^ 62 }
+        requires { self < NUMBER }
         ensures { result ≡ self + 1 }
     {
         Epoch {
@@ -183,7 +185,7 @@ impl CommitNo {
 
     /// The commit number after this one.
     pub fn next(self) -> CommitNo
-        requires { self < 2 ^ 62 }
+        requires { self < NUMBER }
         ensures { result ≡ self + 1 }
     {
         CommitNo {
@@ -199,3 +201,17 @@ pub struct EntryId {
     pub commit: CommitNo,
     pub place: u32,
 }
+
+impl EntryId {
+    /// Whether this id stands before another.
+    pub fn is_before(self, other: EntryId) -> bool
+        ensures { IsTrue result ↔ IsIdBefore self other }
+    {
+        self < other
+    }
+}
+
+/// A law: ids stand in one order, no id before itself, and the tests of the definitions say so.
+pub fn ids_are_ordered()
+    ensures { AreIdsOrdered }
+{}

@@ -1,4 +1,4 @@
-//! The texts of faults, which no clause names, and each call once by hand-made values.
+//! The definitions by worked values: texts of faults, geometries, names and numbers.
 
 mod geometry;
 mod texts;

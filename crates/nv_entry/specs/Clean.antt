@@ -1,6 +1,7 @@
 -- Which entries a cleaner may remove, and what its walks leave.
 use Rattle.std.specs.Prelude.{◌≡◌, ℕ, ◌+◌, ◌<◌, ◌&&◌, Bool, true, false, not, if◌then◌else◌, nat_lt, max, min, List, [], ◌∷◌, ◌++◌, length}
 use Rattle.std.specs.List.{AllByRecursion, list_any, flat_map}
+use Rattle.nv_base.specs.declared.limits.TheConstants.{FILE_PAGES}
 use Rattle.nv_entry.specs.declared.item.Entry.{Entry}
 use Rattle.nv_entry.specs.declared.item.Item.{Item}
 use Rattle.nv_entry.specs.declared.item.Item.TheVariants.{Init, Write, SetSize, SetMode, Bind, Unbind, Gone}
@@ -19,9 +20,9 @@ pub record IsDroppable (block : ℕ) (snapshots : List ℕ) (pending : List Part
 
 -- the item covers a page that a file can have, from this one on
 abbrev pub covers_from : ℕ → ℕ → Item → Bool
-covers_from block page (Write first run size) = nat_lt (max page first) (min (first + run.len) 65536)
-covers_from block page (SetSize size) = nat_lt (max page (pages_for block size)) 65536
-covers_from block page Gone = nat_lt page 65536
+covers_from block page (Write first run size) = nat_lt (max page first) (min (first + run.len) FILE_PAGES)
+covers_from block page (SetSize size) = nat_lt (max page (pages_for block size)) FILE_PAGES
+covers_from block page Gone = nat_lt page FILE_PAGES
 covers_from block page item = false
 
 -- the item sets a key to absent that an earlier item covers

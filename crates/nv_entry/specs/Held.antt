@@ -1,7 +1,7 @@
 -- Which pairs are current, held by a snapshot, and needed.
 use Rattle.std.specs.Prelude.{ℕ, ◌==◌, ◌&&◌, ◌||◌, Bool, true, false, not, nat_eq, nat_lt, nat_le, List, Option, Some, None}
 use Rattle.std.specs.List.{list_any}
-use Rattle.nv_base.specs.declared.numbers.EntryId.{EntryId}
+use Rattle.nv_base.specs.Ids.{is_same_id}
 use Rattle.nv_entry.specs.declared.part.Part.{Part}
 use Rattle.nv_entry.specs.declared.part.Part.TheVariants as part
 use Rattle.nv_entry.specs.declared.part.PartId.{PartId}
@@ -30,9 +30,6 @@ is_current pair = has_no_death pair.death where
 abbrev pub is_needed : List ℕ → Pair → Bool
 is_needed snapshots pair = is_current pair || is_held snapshots pair
 
-abbrev pub same_id : EntryId → EntryId → Bool
-same_id a b = a.commit == b.commit && a.place == b.place
-
 abbrev pub same_part : Part → Part → Bool
 same_part part.Kind part.Kind = true
 same_part part.Mode part.Mode = true
@@ -42,7 +39,7 @@ same_part (part.Page p) (part.Page q) = p == q
 same_part a b = false
 
 abbrev pub has_name : Pair → PartId → Bool
-has_name pair name = same_id name.entry pair.entry && same_part name.part pair.part
+has_name pair name = is_same_id name.entry pair.entry && same_part name.part pair.part
 
 -- the pair is among the named ones: those that are pending, or killed and not yet retired
 abbrev pub is_named : List PartId → Pair → Bool

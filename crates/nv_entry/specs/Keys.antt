@@ -3,6 +3,7 @@ use Rattle.std.specs.Prelude.{ℕ, ◌+◌, ◌-◌, ◌&&◌, Bool, true, false
 use Rattle.std.specs.Int.{div_ceil}
 use Rattle.std.specs.List.{range_with_len}
 use Rattle.nv_base.specs.Names.{same_name}
+use Rattle.nv_base.specs.declared.limits.TheConstants.{FILE_PAGES}
 use Rattle.nv_base.specs.declared.node.Kind.{Kind}
 use Rattle.nv_entry.specs.declared.item.Run.{Run}
 use Rattle.nv_entry.specs.declared.item.Item.{Item}
@@ -33,7 +34,7 @@ key_named (code.Page page) = PageKey page
 
 -- a file has pages below 65,536 alone
 abbrev pub is_page : ℕ → Bool
-is_page page = nat_lt page 65536
+is_page page = nat_lt page FILE_PAGES
 
 -- how many pages hold that many bytes, with blocks of `block` bytes
 abbrev pub pages_for : ℕ → ℕ → ℕ
@@ -74,7 +75,7 @@ covers block item key = touches (sets block item key)
 
 -- the pages of a run that a file can have
 abbrev pub run_pages : ℕ → Run → List ℕ
-run_pages first run = range_with_len first (min run.len (65536 - first))
+run_pages first run = range_with_len first (min run.len (FILE_PAGES - first))
 
 -- the keys that an item sets to a value, as parts of its entry: kind, mode, size, name, pages rising
 abbrev pub parts_of : Item → List Part

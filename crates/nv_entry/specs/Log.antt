@@ -1,7 +1,7 @@
 -- What a log says of a key: its value now and at an epoch, and how long each pair lives.
-use Rattle.std.specs.Prelude.{◌≡◌, ℕ, ◌<◌, ◌≤◌, ◌⊎◌, Bool, true, false, if◌then◌else◌, nat_le, List, [], ◌∷◌, ◌++◌, map, filter, Option, Some, None}
+use Rattle.std.specs.Prelude.{ℕ, ◌≤◌, Bool, true, false, if◌then◌else◌, nat_le, List, [], ◌∷◌, ◌++◌, map, filter, Option, Some, None}
 use Rattle.std.specs.List.{AllByRecursion}
-use Rattle.nv_base.specs.declared.numbers.EntryId.{EntryId}
+use Rattle.nv_base.specs.Ids.{IsIdBefore}
 use Rattle.nv_entry.specs.declared.item.Entry.{Entry}
 use Rattle.nv_entry.specs.declared.key.Datum.{Datum}
 use Rattle.nv_entry.specs.declared.key.Datum.TheVariants as datum
@@ -13,10 +13,6 @@ use Rattle.nv_entry.specs.declared.held.Pair.{Pair}
 use Rattle.nv_entry.specs.declared.value.When.{When}
 use Rattle.nv_entry.specs.declared.value.When.TheVariants.{Now, At}
 use Rattle.nv_entry.specs.Keys.{Key, PageKey, sets, covers, parts_of, key_of}
-
--- an id stands before another: by commit, and then by place
-abbrev pub IsIdBefore : EntryId → EntryId → Type 0
-IsIdBefore a b = (a.commit < b.commit) ⊎ ((a.commit ≡ b.commit) × (a.place < b.place))
 
 -- an entry may stand somewhere behind another in one log
 pub record MayFollow (earlier later : Entry) : Type 0 where

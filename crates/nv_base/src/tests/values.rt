@@ -1,59 +1,59 @@
-//! Names, modes, bytes and numbers.
+//! Names, modes, items and numbers.
 
+use crate::limits::{is_contended, most_drained};
 use crate::{BlockNo, Bytes, CommitNo, EntryId, Epoch, Fault, Gen, Ino, Kind, Mode, Name};
 use std::test::Fail;
 
+/// Bytes, and whether they are a lawful name.
+const CHECKED: [(&[u8], bool); 17] = [
+    (b"a", true),
+    (b"...", true),
+    (b".a", true),
+    (b"a.", true),
+    (b" ", true),
+    (b"\x01", true),
+    (b"\xff", true),
+    (&[b'n'; 255], true),
+    (b"", false),
+    (b".", false),
+    (b"..", false),
+    (b"/", false),
+    (b"a/b", false),
+    (b"a/", false),
+    (b"\0", false),
+    (b"ab\0", false),
+    (&[b'n'; 256], false),
+];
+
 #[test]
-fn names_that_are_lawful(rt: HostRuntime) -> Result<(), Fail> {
-    let longest = [b'n'; 255];
-    let lawful = [
-        b"a".as_slice(),
-        b"...".as_slice(),
-        b".a".as_slice(),
-        b"a.".as_slice(),
-        b" ".as_slice(),
-        b"\x01".as_slice(),
-        b"\xff".as_slice(),
-        longest.as_slice(),
-    ];
-    for bytes in lawful {
-        assert_eq!(rt; Name::check(bytes), Ok(()), "{bytes:?}");
-        let name = Name::read(rt.alloc(), bytes)?;
-        assert_eq!(rt; name.bytes(), bytes);
-        let copy = name.copied(rt.alloc())?;
-        assert_eq!(rt; copy.bytes(), bytes);
+fn names(rt: HostRuntime) -> Result<(), Fail> {
+    for (bytes, lawful) in CHECKED {
+        if lawful {
+            assert_eq!(rt; Name::check(bytes), Ok(()), "{bytes:?}");
+            let name = Name::read(rt.alloc(), bytes)?;
+            assert_eq!(rt; name.bytes(), bytes);
+            assert_eq!(rt; name.copied(rt.alloc())?.bytes(), bytes);
+        } else {
+            assert_eq!(rt; Name::check(bytes), Err(Fault::BadName), "{bytes:?}");
+            let read = Name::read(rt.alloc(), bytes).err();
+            assert_eq!(rt; read, Some(Fault::BadName), "{bytes:?}");
+        }
     }
     Ok(())
 }
 
 #[test]
-fn names_that_are_not(rt: HostRuntime) {
-    let too_long = [b'n'; 256];
-    let refused = [
-        b"".as_slice(),
-        b".".as_slice(),
-        b"..".as_slice(),
-        b"/".as_slice(),
-        b"a/b".as_slice(),
-        b"a/".as_slice(),
-        b"\0".as_slice(),
-        b"ab\0".as_slice(),
-        too_long.as_slice(),
-    ];
-    for bytes in refused {
-        assert_eq!(rt; Name::check(bytes), Err(Fault::BadName), "{bytes:?}");
-        let read = Name::read(rt.alloc(), bytes).map(|_name| ());
-        assert_eq!(rt; read, Err(Fault::BadName), "{bytes:?}");
-    }
-}
-
-#[test]
 fn modes(rt: HostRuntime) {
-    for bits in [0, 420, 493, 4_095] {
-        assert_eq!(rt; Mode::checked(bits).map(|mode| mode.bits()), Some(bits));
-    }
-    for bits in [4_096, 65_535] {
-        assert_eq!(rt; Mode::checked(bits), None);
+    for (bits, lawful) in [
+        (0, true),
+        (420, true),
+        (493, true),
+        (4_095, true),
+        (4_096, false),
+        (65_535, false),
+    ] {
+        let kept = Mode::checked(bits).map(|mode| mode.bits());
+        assert_eq!(rt; kept, lawful.then_some(bits));
     }
     assert!(rt; Kind::File != Kind::Dir);
 }
@@ -73,7 +73,7 @@ fn bytes_of_a_vec(rt: HostRuntime) -> Result<(), Fail> {
 }
 
 #[test]
-fn numbers_and_their_order(rt: HostRuntime) {
+fn numbers(rt: HostRuntime) {
     assert_eq!(rt; Ino::new(7).number(), 7);
     assert_eq!(rt; BlockNo::new(7).number(), 7);
     assert_eq!(rt; Gen::new(1).next(), Gen::new(2));
@@ -81,11 +81,27 @@ fn numbers_and_their_order(rt: HostRuntime) {
     assert_eq!(rt; CommitNo::new(0).next(), CommitNo::new(1));
     assert_eq!(rt; (Gen::new(3).number(), Epoch::new(4).number()), (3, 4));
     assert_eq!(rt; CommitNo::new(5).number(), 5);
+    for (number, records) in [
+        (0, 1),
+        (1, 1),
+        (1_048_576, 1_048_576),
+        (1_048_577, 1_048_576),
+    ] {
+        assert_eq!(rt; most_drained(number), records);
+    }
+    assert!(rt; !is_contended(7) && is_contended(8));
+}
 
+#[test]
+fn ids_in_order(rt: HostRuntime) {
     let id = |commit, place| EntryId {
         commit: CommitNo::new(commit),
         place,
     };
-    assert!(rt; id(2, 0) < id(2, 1));
-    assert!(rt; id(2, 9) < id(3, 0));
+    for (earlier, later) in [(id(2, 0), id(2, 1)), (id(2, 9), id(3, 0))] {
+        assert!(rt; earlier < later);
+        assert!(rt; earlier.is_before(later));
+        assert!(rt; !later.is_before(earlier));
+        assert!(rt; !later.is_before(later));
+    }
 }

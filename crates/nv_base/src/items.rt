@@ -1,47 +1,50 @@
-//! Bytes that contracts see as a list.
+//! A list of items that contracts see as a list.
 
 ghost use Rattle.std.specs.Prelude.{◌≡◌, ◌↔◌, [], IsTrue, length};
 
 use std::alloc::Global;
 use std::marker::Model;
 
-/// Bytes that contracts see as a list. They are made from a `Vec` and give it back without memory.
+/// Items in order, which contracts see as a list. They are made from a `Vec` and give it back without memory.
 #[derive(Debug, Drop)]
-pub struct Bytes {
-    items: Vec<u8>,
+pub struct Items<T> {
+    items: Vec<T>,
 }
 
-impl Model for Bytes {
-    ghost use Rattle.std.specs.Prelude.{List, ℕ};
+/// Bytes that contracts see as a list.
+pub type Bytes = Items<u8>;
 
-    ghost Value = { List ℕ };
+impl<T> Model for Items<T> {
+    ghost use Rattle.std.specs.Prelude.{List};
 
-    ghost view = { λ b. b.items.items };
+    ghost Value = { List T };
+
+    ghost view = { λ i. i.items.items };
 }
 
-impl Bytes {
-    /// No bytes, which takes no memory.
-    pub fn empty(alloc: Global) -> Bytes
+impl<T> Items<T> {
+    /// No items, which take no memory.
+    pub fn empty(alloc: Global) -> Items<T>
         ensures { result ≡ [] }
     {
-        Bytes {
+        Items {
             items: Vec::new(alloc),
         }
     }
 
-    pub fn from_vec(items: Vec<u8>) -> Bytes
+    pub fn from_vec(items: Vec<T>) -> Items<T>
         ensures { result ≡ items.items }
     {
-        Bytes { items }
+        Items { items }
     }
 
-    pub fn into_vec(self) -> Vec<u8>
+    pub fn into_vec(self) -> Vec<T>
         ensures { result.items ≡ self }
     {
         self.items
     }
 
-    pub fn as_slice(&self) -> &[u8]
+    pub fn as_slice(&self) -> &[T]
         ensures { result.now ≡ self.now }
     {
         &self.items
