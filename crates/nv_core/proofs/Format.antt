@@ -1,12 +1,17 @@
 -- A new world is lawful.
-use Rattle.std.proofs.Common.{◌*◌, ℕ, zero, suc, ◌<◌, ◌≤◌, ◌^◌, [], ◌∷◌, arith}
-use Rattle.nv_core.specs.Roots.{formatted, root_log}
-use Rattle.nv_core.specs.World.{HasPages, IsWorld, log_at}
-use Rattle.nv_core.proofs.CreateLaw.{zeros_page}
+use Rattle.std.proofs.Common.{ℕ, zero, suc, ◌<◌, ◌≤◌, ◌^◌, [], ◌∷◌, ◌≡◌, None, Some, arith, refl}
+use Rattle.nv_base.specs.declared.node.Kind.TheVariants.{Dir}
+use Rattle.nv_entry.specs.Sound.{empty_node}
+use Rattle.nv_entry.proofs.SoundLogs.{lawful_gives}
+use Rattle.nv_core.specs.Roots.{formatted, root_entry, root_log}
+use Rattle.nv_core.specs.World.{IsKept, IsWorld, bytes_in, log_at}
 
-root_pages : (block commit ino : ℕ) → HasPages block [] (log_at (root_log commit ∷ []) ino)
-root_pages block commit zero = record { pages = λ page. zeros_page (page * block) block; in_use = λ page number e. cc }
-root_pages block commit (suc ino) = record { pages = λ page. zeros_page (page * block) block; in_use = λ page number e. cc }
+root_kept : (block commit ino : ℕ) → 0 < block → IsKept block [] (log_at (root_log commit ∷ []) ino)
+root_kept block commit zero some = record {
+  sound = (lawful_gives (bytes_in []) block [] (root_entry commit) (Some (empty_node Dir 493)) some refl refl).sound;
+  in_use = λ number u. let none : None ≡ Some number = u.1 in cc;
+}
+root_kept block commit (suc ino) some = record { sound = refl; in_use = λ number u. let none : None ≡ Some number = u.1 in cc }
 
 pub format_is_world : (block blocks inodes actors commit : ℕ) → 0 < block → blocks ≤ 1048576 → 1 ≤ inodes → commit ≤ 2 ^ 62 → IsWorld (formatted block blocks inodes actors commit)
 format_is_world block blocks inodes actors commit some few slots fits = record {
@@ -15,5 +20,5 @@ format_is_world block blocks inodes actors commit some few slots fits = record {
   slots_fit = slots;
   blocks_fit = omega arith;
   commits_fit = fits;
-  files = root_pages block commit;
+  files = λ ino. root_kept block commit ino some;
 }

@@ -1,13 +1,9 @@
-pub mod CreateLaw
+pub mod Changes
 pub mod Format
 pub mod LogLists
-pub mod NameValues
 pub mod Outcomes
-pub mod Pages
 pub mod Runs
+pub mod Slots
 pub mod Taken
 pub mod Touched
 pub mod TreeSteps
-pub mod WriteLaw
-pub mod WriteNodes
-pub mod WritePages

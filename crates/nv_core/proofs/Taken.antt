@@ -1,7 +1,6 @@
 -- How many data blocks and inode slots calls take.
 use Rattle.std.proofs.Common.{◌≡◌, ℕ, ◌+◌, ◌^◌, ◌<◌, ◌/◌, List, [], ◌∷◌, length, Result, Ok, Err, IfOk, IfErr, arith, refl, ap, sym, ◌∙◌}
 use Rattle.std.proofs.lemmas.List.{length-append, length-set}
-use Rattle.std.proofs.lemmas.List.FromFn.{length-map-range_with_len}
 use Rattle.nv_base.specs.declared.fault.Fault.{Fault}
 use Rattle.nv_base.specs.declared.numbers.Handle.{Handle}
 use Rattle.nv_entry.specs.declared.item.Entry.{Entry}
@@ -10,12 +9,12 @@ use Rattle.nv_core.specs.declared.call.Answer.{Answer}
 use Rattle.nv_core.specs.declared.call.Answer.TheVariants as answer
 use Rattle.nv_core.specs.declared.call.Call.{Call}
 use Rattle.nv_core.specs.declared.call.Call.TheVariants as call
-use Rattle.nv_core.specs.Bytes.{page_of, written}
-use Rattle.nv_core.specs.Checks.{bytes_under, new_pages, one_more, write_check, wrote}
-use Rattle.nv_core.specs.Plain.{pages_touched}
+use Rattle.nv_entry.specs.Bytes.{pages_touched, written}
+use Rattle.nv_core.specs.Changed.{IsWritten, bytes_at, new_pages, one_more, wrote}
+use Rattle.nv_core.specs.Plain.{write_check}
 use Rattle.nv_core.specs.Steps.{Takes, text_takes}
-use Rattle.nv_core.specs.World.{WorldValue}
-use Rattle.nv_core.specs.Written.{IsWritten}
+use Rattle.nv_core.specs.World.{WorldValue, numbers_of, plain_of}
+use Rattle.nv_core.proofs.Changes.{length-new_pages}
 
 -- a refused call takes nothing
 refused_takes_none : (c : Call) (old : WorldValue) (why : Fault) (new : WorldValue) → new ≡ old → Takes c old (Err why) new
@@ -26,20 +25,17 @@ slots_one_more : (world : WorldValue) (ino : ℕ) (e : Entry) → length (one_mo
 slots_one_more world ino e = length-set world.logs ino _
 
 -- one block for each page that a text touches
-blocks_new : (block offset : ℕ) (text bytes : List ℕ) → length (new_pages block offset text bytes) ≡ pages_touched block offset text
-blocks_new block offset text bytes = length-map-range_with_len (λ page. page_of block page bytes) (offset / block) (pages_touched block offset text)
-
-wrote_blocks : (old : WorldValue) (file : Handle) (offset : ℕ) (text : List ℕ) (run : Run) → length (wrote old file offset text run).data_blocks ≡ length old.data_blocks + pages_touched old.block offset text
+wrote_blocks : (old : WorldValue) (file : Handle) (offset : ℕ) (text : List ℕ) (run : Run) → length (wrote old file offset text run).data_blocks ≡ length old.data_blocks + pages_touched old.block offset (length text)
 wrote_blocks old file offset text run =
-    let bytes = written offset text (bytes_under old file) in
-    length-append old.data_blocks (new_pages old.block offset text bytes) ∙ ap (λ n. length old.data_blocks + n) (blocks_new old.block offset text bytes)
+    let bytes = written offset text (bytes_at old file.ino) in
+    length-append old.data_blocks (new_pages old.block offset text bytes) ∙ ap (λ n. length old.data_blocks + n) (length-new_pages old.block offset text bytes)
 
-some_takes : (block offset : ℕ) (text : List ℕ) → 0 < length text → text_takes block offset text ≡ pages_touched block offset text
+some_takes : (block offset : ℕ) (text : List ℕ) → 0 < length text → text_takes block offset text ≡ pages_touched block offset (length text)
 some_takes block offset [] some = absurd (omega arith)
 some_takes block offset (byte ∷ rest) some = refl
 
 pub write_takes : (old : WorldValue) (file : Handle) (offset : ℕ) (text : List ℕ) (result : Result Answer Fault) (new : WorldValue) → 0 < length text
-    → IfOk result (λ a. (a ≡ answer.Count (length text)) × (write_check old file offset text ≡ Ok tt) × (old.commit < 2 ^ 62) × IsWritten old file offset text new)
+    → IfOk result (λ a. (a ≡ answer.Count (length text)) × (write_check (numbers_of old) (plain_of old) file offset text ≡ Ok tt) × (old.commit < 2 ^ 62) × IsWritten old file offset text new)
     → IfErr result (λ _. new ≡ old)
     → Takes (call.Write file offset text) old result new
 write_takes old file offset text (Ok a) new some ok same = record {

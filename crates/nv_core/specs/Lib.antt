@@ -1,11 +1,8 @@
-pub mod Bytes
-pub mod Checks
+pub mod Changed
 pub mod Logs
-pub mod Meets
 pub mod Plain
 pub mod Roots
 pub mod Runs
 pub mod Steps
 pub mod Tree
 pub mod World
-pub mod Written

@@ -1,18 +1,20 @@
 -- The plain world: nodes by handle, and what calls do to them.
-use Rattle.std.specs.Prelude.{◌≡◌, ℕ, ◌+◌, ◌-◌, ◌*◌, ◌/◌, ◌^◌, ◌==◌, ◌&&◌, Bool, true, false, not, if◌then◌else◌, nat_lt, nat_le, is_some, List, [], ◌∷◌, length, Option, Some, None}
+use Rattle.std.specs.Prelude.{ℕ, ◌+◌, ◌*◌, ◌^◌, ◌==◌, ◌&&◌, Bool, true, false, not, if◌then◌else◌, nat_lt, nat_le, is_some, List, [], ◌∷◌, length, Option, Some, None, Result, Ok, Err, option_map}
 use Rattle.nv_base.specs.Names.{is_lawful_name}
 use Rattle.nv_base.specs.declared.fault.Fault.{Fault}
 use Rattle.nv_base.specs.declared.fault.Fault.TheVariants as fault
 use Rattle.nv_base.specs.declared.node.Kind.{Kind}
 use Rattle.nv_base.specs.declared.node.Kind.TheVariants.{File, Dir}
 use Rattle.nv_base.specs.declared.numbers.Handle.{Handle}
+use Rattle.nv_entry.specs.Bytes.{pages_touched, read_at}
 use Rattle.nv_entry.specs.Index.{bound_to, with_last}
+use Rattle.nv_entry.specs.Sound.{empty_node, rewritten}
+use Rattle.nv_entry.specs.declared.names.BoundName.{BoundName}
 use Rattle.nv_entry.specs.declared.node.NodeCopy.{NodeCopy}
 use Rattle.nv_core.specs.declared.call.Answer.{Answer}
 use Rattle.nv_core.specs.declared.call.Answer.TheVariants as answer
 use Rattle.nv_core.specs.declared.call.Call.{Call}
 use Rattle.nv_core.specs.declared.call.Call.TheVariants as call
-use Rattle.nv_core.specs.Bytes.{read_at, written}
 
 -- a node, and the commit that changed it last
 pub record PlainNode : Type 0 where
@@ -25,112 +27,130 @@ pub record PlainSnapshot : Type 0 where
   pub nodes : Handle → Option NodeCopy
   pub pins : ℕ
 
+-- Two plain worlds are the same where all four are: the node under each handle, the snapshots, the epoch and
+-- the commit number.
 pub record Plain : Type 0 where
   pub nodes : Handle → Option PlainNode
   pub snapshots : List PlainSnapshot
   pub epoch : ℕ
   pub commit : ℕ
 
--- which numbers calls may take: bytes of a block, the handle that a new inode gets, and blocks left
+-- which numbers calls may take: bytes of a block, the handle of the next new inode, inodes and blocks left
 pub record Numbers : Type 0 where
   pub block : ℕ
-  pub fresh : Option Handle
-  pub space : ℕ
+  pub fresh : Handle
+  pub inodes : ℕ
+  pub blocks : ℕ
 
 -- a call is refused, or answered with the plain world after it
 pub data Outcome : Type 0 where
   Refuses : Fault → Outcome
   Answers : Answer → Plain → Outcome
 
+-- ---- nodes
+
 abbrev pub same_handle : Handle → Handle → Bool
 same_handle a b = a.ino == b.ino && a.generation == b.generation
 
--- another node under one handle
-abbrev pub with_node : Handle → PlainNode → (Handle → Option PlainNode) → Handle → Option PlainNode
-with_node handle node nodes other = if same_handle handle other then Some node else nodes other
+-- the node under a handle, without the commit that changed it last, its kind, bytes and names
+abbrev pub node_in : Plain → Handle → Option NodeCopy
+node_in plain handle = option_map (λ p. p.node) (plain.nodes handle)
 
--- goes on with a file, or with a directory
-abbrev pub if_file : Kind → PlainNode → (PlainNode → Outcome) → Outcome
-if_file File node go = go node
-if_file Dir node go = Refuses fault.NotFile
+abbrev pub kind_in : Plain → Handle → Option Kind
+kind_in plain handle = option_map (λ n. n.kind) (node_in plain handle)
 
-abbrev pub if_directory : Kind → PlainNode → (PlainNode → Outcome) → Outcome
-if_directory File node go = Refuses fault.NotDirectory
-if_directory Dir node go = go node
+abbrev pub bytes_of : Option NodeCopy → List ℕ
+bytes_of None = []
+bytes_of (Some node) = node.bytes
 
-abbrev pub on_file : Option PlainNode → (PlainNode → Outcome) → Outcome
-on_file None go = Refuses fault.Stale
-on_file (Some node) go = if_file node.node.kind node go
+abbrev pub names_of_node : Option NodeCopy → List BoundName
+names_of_node None = []
+names_of_node (Some node) = node.names
 
-abbrev pub on_directory : Option PlainNode → (PlainNode → Outcome) → Outcome
-on_directory None go = Refuses fault.Stale
-on_directory (Some node) go = if_directory node.node.kind node go
+-- a node as a commit changed it
+abbrev pub stamped : ℕ → Option NodeCopy → Option PlainNode
+stamped commit node = option_map (λ n. record { node = n; changed = commit }) node
 
--- a refusal where a test holds
-abbrev pub refuse_if : Bool → Fault → Outcome → Outcome
-refuse_if true fault outcome = Refuses fault
-refuse_if false fault outcome = outcome
-
--- goes on with the next commit number
-abbrev pub on_commit : Plain → (ℕ → Outcome) → Outcome
-on_commit plain go = refuse_if (nat_le (2 ^ 62) plain.commit) fault.CommitLimit (go (plain.commit + 1))
-
-abbrev pub empty_file : ℕ → NodeCopy
-empty_file mode = record { kind = File; mode = mode; bytes = []; names = [] }
-
--- a new file in a directory: its name goes last
-abbrev pub made : Plain → Handle → PlainNode → List ℕ → Handle → ℕ → ℕ → Plain
-made plain dir node name to mode commit = record plain {
-  nodes = with_node to (record { node = empty_file mode; changed = commit })
-      (with_node dir (record { node = record node.node { names = with_last name to node.node.names }; changed = commit }) plain.nodes);
-  commit = commit;
+-- the nodes after a commit's change of one of them
+abbrev pub changed_at : Handle → ℕ → (Option NodeCopy → Option NodeCopy) → Plain → Plain
+changed_at handle commit change plain = record plain {
+  nodes = λ other. if same_handle handle other then stamped commit (change (node_in plain handle)) else plain.nodes other;
 }
 
-abbrev pub on_fresh : Option Handle → (Handle → Outcome) → Outcome
-on_fresh None go = Refuses fault.NoInode
-on_fresh (Some handle) go = go handle
+-- ---- refusals
+
+-- the first of these tests that holds refuses
+abbrev pub refuse_if : Bool → Fault → Result (Unit {0}) Fault → Result (Unit {0}) Fault
+refuse_if true fault next = Err fault
+refuse_if false fault next = next
+
+abbrev pub want_directory : Option Kind → Result (Unit {0}) Fault → Result (Unit {0}) Fault
+want_directory None next = Err fault.Stale
+want_directory (Some File) next = Err fault.NotDirectory
+want_directory (Some Dir) next = next
+
+abbrev pub want_file : Option Kind → Result (Unit {0}) Fault → Result (Unit {0}) Fault
+want_file None next = Err fault.Stale
+want_file (Some File) next = next
+want_file (Some Dir) next = Err fault.NotFile
+
+-- what comes where the tests let a call pass
+abbrev pub passed : Result (Unit {0}) Fault → Outcome → Outcome
+passed (Err fault) outcome = Refuses fault
+passed (Ok nothing) outcome = outcome
+
+-- an answer with the next commit number, and what that commit does
+abbrev pub committed : Answer → (ℕ → Plain → Plain) → Plain → Outcome
+committed answer change plain =
+    passed (refuse_if (nat_le (2 ^ 62) plain.commit) fault.CommitLimit (Ok tt))
+    (Answers answer (change (plain.commit + 1) (record plain { commit = plain.commit + 1 })))
+
+-- ---- calls
+
+-- the name goes last
+abbrev pub with_name : List ℕ → Handle → Option NodeCopy → Option NodeCopy
+with_name name to node = option_map (λ (n : NodeCopy). record n { names = with_last name to n.names }) node
+
+abbrev pub create_check : Numbers → Plain → Handle → List ℕ → Result (Unit {0}) Fault
+create_check numbers plain dir name =
+    want_directory (kind_in plain dir)
+    (refuse_if (not (is_lawful_name name)) fault.BadName
+    (refuse_if (is_some (bound_to name (names_of_node (node_in plain dir)))) fault.Exists
+    (refuse_if (numbers.inodes == 0) fault.NoInode (Ok tt))))
+
+-- a new file in a directory
+abbrev pub file_made : Handle → List ℕ → ℕ → Handle → ℕ → Plain → Plain
+file_made dir name mode to commit plain =
+    changed_at to commit (λ old. Some (empty_node File mode)) (changed_at dir commit (with_name name to) plain)
 
 abbrev pub create_outcome : Numbers → Plain → Handle → List ℕ → ℕ → Outcome
-create_outcome numbers plain dir name mode = on_directory (plain.nodes dir) (λ node.
-    refuse_if (not (is_lawful_name name)) fault.BadName
-    (refuse_if (is_some (bound_to name node.node.names)) fault.Exists
-    (on_fresh numbers.fresh (λ to.
-    on_commit plain (λ commit. Answers (answer.Made to) (made plain dir node name to mode commit))))))
+create_outcome numbers plain dir name mode =
+    passed (create_check numbers plain dir name) (committed (answer.Made numbers.fresh) (file_made dir name mode numbers.fresh) plain)
 
--- how many pages a text touches
-abbrev pub pages_touched : ℕ → ℕ → List ℕ → ℕ
-pages_touched block offset text = (offset + length text - 1) / block + 1 - offset / block
-
-abbrev pub file_written : Plain → Handle → PlainNode → ℕ → List ℕ → ℕ → Plain
-file_written plain file node offset text commit = record plain {
-  nodes = with_node file (record { node = record node.node { bytes = written offset text node.node.bytes }; changed = commit }) plain.nodes;
-  commit = commit;
-}
-
-abbrev pub text_outcome : Numbers → Plain → Handle → ℕ → List ℕ → PlainNode → Outcome
-text_outcome numbers plain file offset [] node = Answers (answer.Count 0) plain
-text_outcome numbers plain file offset (byte ∷ rest) node =
-    let text = byte ∷ rest in
-    refuse_if (nat_lt 1024 (pages_touched numbers.block offset text)) fault.WriteTooBig
+-- the tests of a text of at least one byte
+abbrev pub write_check : Numbers → Plain → Handle → ℕ → List ℕ → Result (Unit {0}) Fault
+write_check numbers plain file offset text =
+    want_file (kind_in plain file)
+    (refuse_if (nat_lt 1024 (pages_touched numbers.block offset (length text))) fault.WriteTooBig
     (refuse_if (nat_lt (65536 * numbers.block) (offset + length text)) fault.FileTooBig
-    (refuse_if (nat_lt numbers.space (pages_touched numbers.block offset text)) fault.NoSpace
-    (on_commit plain (λ commit. Answers (answer.Count (length text)) (file_written plain file node offset text commit)))))
+    (refuse_if (nat_lt numbers.blocks (pages_touched numbers.block offset (length text))) fault.NoSpace (Ok tt))))
 
+abbrev pub file_written : Handle → ℕ → List ℕ → ℕ → Plain → Plain
+file_written file offset text commit plain = changed_at file commit (option_map (rewritten offset text)) plain
+
+-- a text of no bytes changes nothing
 abbrev pub write_outcome : Numbers → Plain → Handle → ℕ → List ℕ → Outcome
-write_outcome numbers plain file offset text = on_file (plain.nodes file) (text_outcome numbers plain file offset text)
+write_outcome numbers plain file offset [] = passed (want_file (kind_in plain file) (Ok tt)) (Answers (answer.Count 0) plain)
+write_outcome numbers plain file offset (byte ∷ rest) =
+    passed (write_check numbers plain file offset (byte ∷ rest))
+    (committed (answer.Count (length (byte ∷ rest))) (file_written file offset (byte ∷ rest)) plain)
 
 abbrev pub read_outcome : Plain → Handle → ℕ → ℕ → Outcome
-read_outcome plain file offset count = on_file (plain.nodes file) (λ node. Answers (answer.Bytes (read_at offset count node.node.bytes)) plain)
+read_outcome plain file offset count =
+    passed (want_file (kind_in plain file) (Ok tt)) (Answers (answer.Bytes (read_at offset count (bytes_of (node_in plain file)))) plain)
 
 -- what a call does
 abbrev pub outcome_of : Numbers → Plain → Call → Outcome
 outcome_of numbers plain (call.Create dir name mode) = create_outcome numbers plain dir name mode
 outcome_of numbers plain (call.Write file offset text) = write_outcome numbers plain file offset text
 outcome_of numbers plain (call.Read file offset count) = read_outcome plain file offset count
-
--- two plain worlds are the same
-pub record SamePlain (a b : Plain) : Type 0 where
-  pub nodes : (handle : Handle) → a.nodes handle ≡ b.nodes handle
-  pub snapshots : a.snapshots ≡ b.snapshots
-  pub epoch : a.epoch ≡ b.epoch
-  pub commit : a.commit ≡ b.commit

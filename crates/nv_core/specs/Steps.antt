@@ -9,14 +9,15 @@ use Rattle.nv_core.specs.declared.event.Event.{Event}
 use Rattle.nv_core.specs.declared.event.Event.TheVariants.{Start, Go}
 use Rattle.nv_core.specs.declared.event.Reply.{Reply}
 use Rattle.nv_core.specs.declared.event.Reply.TheVariants.{Started, Done, Refused}
-use Rattle.nv_core.specs.Plain.{Outcome, Refuses, Answers, SamePlain, outcome_of, pages_touched}
+use Rattle.nv_entry.specs.Bytes.{pages_touched}
+use Rattle.nv_core.specs.Plain.{Outcome, Refuses, Answers, outcome_of}
 use Rattle.nv_core.specs.World.{WorldValue, numbers_of, plain_of}
 
 -- a call is answered as the outcome says, and the world then stands for the plain world after it; or it is
 -- refused, as the outcome says or for want of memory, and nothing has changed. Want of memory may come in
 -- place of an answer, and before the limit of commit numbers is met.
 abbrev pub IsOutcome : Outcome → WorldValue → Result Answer Fault → WorldValue → Type 0
-IsOutcome (Answers answer after) old result new = ((result ≡ Ok answer) × SamePlain (plain_of new) after) ⊎ ((result ≡ Err OutOfMemory) × (new ≡ old))
+IsOutcome (Answers answer after) old result new = ((result ≡ Ok answer) × (plain_of new ≡ after)) ⊎ ((result ≡ Err OutOfMemory) × (new ≡ old))
 IsOutcome (Refuses fault) old result new = ((result ≡ Err fault) ⊎ ((fault ≡ CommitLimit) × (result ≡ Err OutOfMemory))) × (new ≡ old)
 
 abbrev pub reply_of : Result Answer Fault → Reply
@@ -40,7 +41,7 @@ pub record KeepsNumbers (old new : WorldValue) : Type 0 where
 -- how many blocks a text takes: one for each page that it touches, none where it has no bytes
 abbrev pub text_takes : ℕ → ℕ → List ℕ → ℕ
 text_takes block offset [] = 0
-text_takes block offset (byte ∷ rest) = pages_touched block offset (byte ∷ rest)
+text_takes block offset (byte ∷ rest) = pages_touched block offset (length (byte ∷ rest))
 
 -- how many data blocks a call takes: only a write takes any
 abbrev pub blocks_taken : ℕ → Call → ℕ

@@ -1,11 +1,11 @@
 -- The tree: the nodes that are reached from the root, by their paths.
-use Rattle.std.specs.Prelude.{ℕ, zero, suc, List, [], ◌∷◌, ◌++◌, Option, Some, None, option_map}
+use Rattle.std.specs.Prelude.{ℕ, zero, suc, List, [], ◌∷◌, ◌++◌, Option, Some, None}
 use Rattle.std.specs.List.{flat_map}
 use Rattle.nv_base.specs.declared.numbers.Handle.{Handle}
 use Rattle.nv_entry.specs.declared.names.BoundName.{BoundName}
 use Rattle.nv_entry.specs.declared.node.NodeCopy.{NodeCopy}
 use Rattle.nv_core.specs.declared.tree.TreeNode.{TreeNode}
-use Rattle.nv_core.specs.Plain.{Plain}
+use Rattle.nv_core.specs.Plain.{Plain, node_in}
 
 -- the path of a name in the directory at a path
 abbrev pub path_below : List (List ℕ) → List ℕ → List (List ℕ)
@@ -23,10 +23,6 @@ tree_from nodes (suc depth) path handle = node_and_below (nodes handle) path (λ
 
 abbrev pub root : Handle
 root = record { ino = 0; generation = 1 }
-
--- the node under a handle, without the commit that changed it last
-abbrev pub node_in : Plain → Handle → Option NodeCopy
-node_in plain handle = option_map (λ p. p.node) (plain.nodes handle)
 
 -- The tree of a plain world with so many inodes. Where its directories form a tree, a way down from the root
 -- meets no inode twice, and the bound cuts none short.

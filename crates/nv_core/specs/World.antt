@@ -1,11 +1,12 @@
 -- What a world is to its callers, and the plain world that its logs give.
-use Rattle.std.specs.Prelude.{◌≡◌, ℕ, ◌-◌, ◌<◌, ◌≤◌, ◌^◌, ◌==◌, if◌then◌else◌, nat_lt, List, [], ◌∷◌, length, Option, Some, None, option_map, slice_index_or}
+use Rattle.std.specs.Prelude.{◌≡◌, ℕ, ◌-◌, ◌<◌, ◌≤◌, ◌^◌, ◌==◌, if◌then◌else◌, List, [], ◌∷◌, length, Option, None, slice_index_or}
 use Rattle.nv_base.specs.declared.numbers.Handle.{Handle}
 use Rattle.nv_entry.specs.declared.item.Entry.{Entry}
-use Rattle.nv_entry.specs.Node.{node_now, block_now, file_bytes, page_bytes}
+use Rattle.nv_entry.specs.Blocks.{Uses}
+use Rattle.nv_entry.specs.Node.{node_now}
+use Rattle.nv_entry.specs.Sound.{IsSound}
 use Rattle.nv_core.specs.declared.call.Call.{Call}
-use Rattle.nv_core.specs.Bytes.{page_of}
-use Rattle.nv_core.specs.Plain.{Numbers, Plain, PlainNode}
+use Rattle.nv_core.specs.Plain.{Numbers, Plain, PlainNode, stamped}
 
 -- the numbers that a world was made with, the log of each slot in use, the bytes of each data block in use
 -- by its number, the last commit number, and each actor's call
@@ -30,30 +31,33 @@ last_commit [] = 0
 last_commit (e ∷ []) = e.id.commit
 last_commit (e ∷ f ∷ later) = last_commit (f ∷ later)
 
--- the node that a log gives
-abbrev pub plain_node : ℕ → List (List ℕ) → List Entry → Option PlainNode
-plain_node block data_blocks log = option_map (λ node. record { node = node; changed = last_commit log }) (node_now (bytes_in data_blocks) block log)
-
 -- the node under a handle: that of its slot, whose generation is 1
 abbrev pub node_under : ℕ → List (List Entry) → List (List ℕ) → Handle → Option PlainNode
-node_under block logs data_blocks handle = if handle.generation == 1 then plain_node block data_blocks (log_at logs handle.ino) else None
+node_under block logs data_blocks handle =
+    let log = log_at logs handle.ino in
+    if handle.generation == 1 then stamped (last_commit log) (node_now (bytes_in data_blocks) block log) else None
 
 -- the plain world that a world's logs give
 abbrev pub plain_of : WorldValue → Plain
 plain_of world = record { nodes = node_under world.block world.logs world.data_blocks; snapshots = []; epoch = 1; commit = world.commit }
 
+-- the handle of the next new inode
+abbrev pub next_handle : WorldValue → Handle
+next_handle world = record { ino = length world.logs; generation = 1 }
+
 -- the numbers that its next call may take
 abbrev pub numbers_of : WorldValue → Numbers
 numbers_of world = record {
   block = world.block;
-  fresh = if nat_lt (length world.logs) world.inodes then Some (record { ino = length world.logs; generation = 1 }) else None;
-  space = world.blocks - length world.data_blocks;
+  fresh = next_handle world;
+  inodes = world.inodes - length world.logs;
+  blocks = world.blocks - length world.data_blocks;
 }
 
--- the pages of a log are the file's bytes cut into pages, with zeros past the size, and stand in blocks in use
-pub record HasPages (block : ℕ) (data_blocks : List (List ℕ)) (log : List Entry) : Type 0 where
-  pub pages : (page : ℕ) → page_bytes (bytes_in data_blocks) block (block_now block log page) ≡ page_of block page (file_bytes (bytes_in data_blocks) block log)
-  pub in_use : (page number : ℕ) → block_now block log page ≡ Some number → number < length data_blocks
+-- a log is sound, and its pages stand in blocks in use
+pub record IsKept (block : ℕ) (data_blocks : List (List ℕ)) (log : List Entry) : Type 0 where
+  pub sound : IsSound (bytes_in data_blocks) block log
+  pub in_use : (number : ℕ) → Uses block log number → number < length data_blocks
 
 abbrev pub value_of : ℕ → ℕ → ℕ → List (List Entry) → List (List ℕ) → ℕ → List (Option Call) → WorldValue
 value_of block blocks inodes logs data_blocks commit calls =
@@ -66,4 +70,4 @@ pub record IsWorld (world : WorldValue) : Type 0 where
   pub slots_fit : length world.logs ≤ world.inodes
   pub blocks_fit : length world.data_blocks ≤ world.blocks
   pub commits_fit : world.commit ≤ 2 ^ 62
-  pub files : (ino : ℕ) → HasPages world.block world.data_blocks (log_at world.logs ino)
+  pub files : (ino : ℕ) → IsKept world.block world.data_blocks (log_at world.logs ino)

@@ -2,8 +2,10 @@
 
 ghost use Rattle.std.specs.Prelude.{◌≡◌, ◌+◌, ◌<◌, ◌≤◌, ◌^◌, ◌⊎◌, Ok, Err, IfErr, IfOk};
 ghost use Rattle.std.specs.Prelude.{◌∷◌, ◌++◌, [], OnErr, OnOk, slice_index_or, slice_set, vec_capacity, vec_len};
-ghost use Rattle.nv_core.specs.Checks.{create_check, created, init_entry, next_handle};
+ghost use Rattle.nv_core.specs.Changed.{created, new_entry};
 ghost use Rattle.nv_core.specs.Logs.{logs_of};
+ghost use Rattle.nv_core.specs.Plain.{create_check};
+ghost use Rattle.nv_core.specs.World.{next_handle, numbers_of, plain_of};
 
 use crate::{Answer, World};
 use nv_base::{CommitNo, EntryId, Epoch, Fault, Gen, Handle, Ino, Kind, Mode, Name, limits};
@@ -14,12 +16,16 @@ impl World {
     /// Makes an empty file in a directory, and binds a name to it.
     pub(crate) fn create(&mut self, dir: Handle, name: &[u8], mode: Mode) -> Result<Answer, Fault>
         ensures ok { IfOk result (λ answer. (answer ≡ Answer.Made (next_handle self.old))
-            × (create_check self.old dir name.now ≡ Ok tt) × (self.old.commit < 2 ^ 62)
+            × (create_check (numbers_of self.old) (plain_of self.old) dir name.now ≡ Ok tt)
+            × (self.old.commit < 2 ^ 62)
             × (self.new ≡ created self.old dir name.now mode)) }
         ensures same { IfErr result (λ _. self.new ≡ self.old) }
-        ensures err { IfErr result (λ fault. (create_check self.old dir name.now ≡ Err fault)
-            ⊎ ((create_check self.old dir name.now ≡ Ok tt) × (fault ≡ Fault.OutOfMemory))
-            ⊎ ((create_check self.old dir name.now ≡ Ok tt) × (fault ≡ Fault.CommitLimit) × (2 ^ 62 ≤ self.old.commit))) }
+        ensures err { IfErr result (λ fault.
+            (create_check (numbers_of self.old) (plain_of self.old) dir name.now ≡ Err fault)
+            ⊎ ((create_check (numbers_of self.old) (plain_of self.old) dir name.now ≡ Ok tt)
+            × (fault ≡ Fault.OutOfMemory))
+            ⊎ ((create_check (numbers_of self.old) (plain_of self.old) dir name.now ≡ Ok tt)
+            × (fault ≡ Fault.CommitLimit) × (2 ^ 62 ≤ self.old.commit))) }
     {
         self.check_create(&dir, name)?;
         let ino = slot_of(&dir);
@@ -46,7 +52,7 @@ impl World {
 
     /// Why a create is refused before it takes memory.
     fn check_create(&self, dir: &Handle, name: &[u8]) -> Result<(), Fault>
-        ensures { result ≡ create_check self.now dir.now name.now }
+        ensures { result ≡ create_check (numbers_of self.now) (plain_of self.now) dir.now name.now }
     {
         match self.kind_under(dir) {
             None => return Err(Fault::Stale),
@@ -54,10 +60,10 @@ impl World {
             Some(Kind::Dir) => {}
         }
         Name::check(name)?;
-        if self.is_bound(slot_of(dir), name) {
+        if self.is_bound(dir, name) {
             return Err(Fault::Exists);
         }
-        if self.logs.len() as u64 >= self.geometry.inodes {
+        if self.geometry.inodes - self.logs.len() as u64 == 0 {
             return Err(Fault::NoInode);
         }
         Ok(())
@@ -77,7 +83,7 @@ impl World {
 
 /// An entry of the first epoch.
 pub(crate) fn new_entry(commit: CommitNo, place: u32, item: Item) -> Entry
-    ensures { result ≡ record { id = record { commit = commit; place = place }; epoch = 1; item = item } }
+    ensures { result ≡ new_entry commit place item }
 {
     Entry {
         id: EntryId { commit, place },
@@ -88,7 +94,7 @@ pub(crate) fn new_entry(commit: CommitNo, place: u32, item: Item) -> Entry
 
 /// The log of a new file.
 fn first_log(alloc: Global, commit: CommitNo, mode: Mode) -> Result<Vec<Entry>, AllocError>
-    ensures { IfOk result (λ log. log.items ≡ init_entry commit mode ∷ []) }
+    ensures { IfOk result (λ log. log.items ≡ new_entry commit 1 (Item.Init Kind.File mode) ∷ []) }
 {
     let mut log = Vec::with_capacity(alloc, 1)?;
     let kind = Kind::File;

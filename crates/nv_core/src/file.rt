@@ -3,11 +3,11 @@
 ghost use Rattle.std.specs.Prelude.{◌≡◌, ◌+◌, ◌-◌, ◌*◌, ◌/◌, ◌<◌, ◌≤◌, ◌^◌, ◌⊎◌, ◌∷◌, ◌++◌, [], Ok, Err, IfErr, IfOk, OnErr, OnOk, length, map, slice_index_or, slice_set, vec_len};
 ghost use Rattle.std.specs.List.{range_with_len};
 ghost use Rattle.nv_entry.specs.Node.{file_bytes};
-ghost use Rattle.nv_core.specs.Bytes.{page_of, read_at, written};
-ghost use Rattle.nv_core.specs.Checks.{bytes_under, kind_under, want_file, write_check, write_entry};
+ghost use Rattle.nv_entry.specs.Bytes.{page_of, pages_touched, read_at, written};
+ghost use Rattle.nv_core.specs.Changed.{IsWritten, bytes_at, new_entry};
 ghost use Rattle.nv_core.specs.Logs.{logs_of};
-ghost use Rattle.nv_core.specs.Written.{IsWritten, touched};
-ghost use Rattle.nv_core.specs.World.{bytes_in};
+ghost use Rattle.nv_core.specs.Plain.{kind_in, want_file, write_check};
+ghost use Rattle.nv_core.specs.World.{bytes_in, numbers_of, plain_of};
 
 use crate::create::{new_entry, slot_of};
 use crate::data::DataBlocks;
@@ -21,12 +21,15 @@ impl World {
     pub(crate) fn write(&mut self, file: Handle, offset: u64, text: &[u8]) -> Result<Answer, Fault>
         requires { 0 < length text.now }
         ensures ok { IfOk result (λ answer. (answer ≡ Answer.Count (length text.now))
-            × (write_check self.old file offset text.now ≡ Ok tt) × (self.old.commit < 2 ^ 62)
-            × IsWritten self.old file offset text.now self.new) }
+            × (write_check (numbers_of self.old) (plain_of self.old) file offset text.now ≡ Ok tt)
+            × (self.old.commit < 2 ^ 62) × IsWritten self.old file offset text.now self.new) }
         ensures same { IfErr result (λ _. self.new ≡ self.old) }
-        ensures err { IfErr result (λ fault. (write_check self.old file offset text.now ≡ Err fault)
-            ⊎ ((write_check self.old file offset text.now ≡ Ok tt) × (fault ≡ Fault.OutOfMemory))
-            ⊎ ((write_check self.old file offset text.now ≡ Ok tt) × (fault ≡ Fault.CommitLimit) × (2 ^ 62 ≤ self.old.commit))) }
+        ensures err { IfErr result (λ fault.
+            (write_check (numbers_of self.old) (plain_of self.old) file offset text.now ≡ Err fault)
+            ⊎ ((write_check (numbers_of self.old) (plain_of self.old) file offset text.now ≡ Ok tt)
+            × (fault ≡ Fault.OutOfMemory))
+            ⊎ ((write_check (numbers_of self.old) (plain_of self.old) file offset text.now ≡ Ok tt)
+            × (fault ≡ Fault.CommitLimit) × (2 ^ 62 ≤ self.old.commit))) }
     {
         self.check_write(&file, offset, text)?;
         let commit = self.next_commit()?;
@@ -52,10 +55,10 @@ impl World {
 
     /// Reads at most `count` bytes of a file from `offset` on, none past its end.
     pub(crate) fn read(&self, file: Handle, offset: u64, count: u64) -> Result<Answer, Fault>
-        ensures ok { IfOk result (λ answer. (want_file (kind_under self.now file) (Ok tt) ≡ Ok tt)
-            × (answer ≡ Answer.Bytes (read_at offset count (bytes_under self.now file)))) }
-        ensures err { IfErr result (λ fault. (want_file (kind_under self.now file) (Ok tt) ≡ Err fault)
-            ⊎ ((want_file (kind_under self.now file) (Ok tt) ≡ Ok tt) × (fault ≡ Fault.OutOfMemory))) }
+        ensures ok { IfOk result (λ answer. (want_file (kind_in (plain_of self.now) file) (Ok tt) ≡ Ok tt)
+            × (answer ≡ Answer.Bytes (read_at offset count (bytes_at self.now file.ino)))) }
+        ensures err { IfErr result (λ fault. (want_file (kind_in (plain_of self.now) file) (Ok tt) ≡ Err fault)
+            ⊎ ((want_file (kind_in (plain_of self.now) file) (Ok tt) ≡ Ok tt) × (fault ≡ Fault.OutOfMemory))) }
     {
         self.check_file(&file)?;
         let log = &self.logs[slot_of(&file)];
@@ -71,7 +74,7 @@ impl World {
 
     /// Refuses what is no file.
     pub(crate) fn check_file(&self, file: &Handle) -> Result<(), Fault>
-        ensures { result ≡ want_file (kind_under self.now file.now) (Ok tt) }
+        ensures { result ≡ want_file (kind_in (plain_of self.now) file.now) (Ok tt) }
     {
         match self.kind_under(file) {
             None => Err(Fault::Stale),
@@ -83,7 +86,7 @@ impl World {
     /// Why a write of at least one byte is refused before it takes memory.
     fn check_write(&self, file: &Handle, offset: u64, text: &[u8]) -> Result<(), Fault>
         requires { 0 < length text.now }
-        ensures check { result ≡ write_check self.now file.now offset text.now }
+        ensures check { result ≡ write_check (numbers_of self.now) (plain_of self.now) file.now offset text.now }
         ensures fits { OnOk result (offset + length text.now ≤ 65536 * self.now.block) }
     {
         match self.kind_under(file) {
@@ -132,7 +135,7 @@ fn next_run(blocks: &DataBlocks, count: u64) -> Run
 /// The entry of a write.
 fn write_entry(commit: CommitNo, first: u64, run: Run, size: u64) -> Entry
     requires { first < 65536 }
-    ensures { result ≡ write_entry commit first run size }
+    ensures { result ≡ new_entry commit 0 (Item.Write first run size) }
 {
     let first = first as u32;
     new_entry(commit, 0, Item::Write { first, run, size })
@@ -144,7 +147,7 @@ fn pages_touched(block: u64, offset: u64, count: u64) -> u64
     requires few_bytes { block ≤ 4096 }
     requires some_text { 0 < count }
     requires text_fits { count < 2 ^ 63 }
-    ensures { result ≡ touched block offset count }
+    ensures { result ≡ pages_touched block offset count }
 {
     (offset % block + (count - 1)) / block + 1
 }

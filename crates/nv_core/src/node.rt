@@ -1,8 +1,8 @@
 //! Look-ups of nodes in a world's logs.
 
-ghost use Rattle.std.specs.Prelude.{◌≡◌, ◌<◌, IfOk, length};
-ghost use Rattle.nv_core.specs.Checks.{is_bound, kind_under};
-ghost use Rattle.nv_core.specs.Tree.{node_in};
+ghost use Rattle.std.specs.Prelude.{◌≡◌, IfOk, Some, is_some};
+ghost use Rattle.nv_entry.specs.Index.{bound_to};
+ghost use Rattle.nv_core.specs.Plain.{kind_in, names_of_node, node_in};
 ghost use Rattle.nv_core.specs.World.{plain_of};
 
 use crate::World;
@@ -13,7 +13,7 @@ use std::alloc::AllocError;
 impl World {
     /// The kind of the node under a handle; none where the handle is stale.
     pub(crate) fn kind_under(&self, handle: &Handle) -> Option<Kind>
-        ensures { result ≡ kind_under self.now handle.now }
+        ensures { result ≡ kind_in (plain_of self.now) handle.now }
     {
         if handle.generation.number() != 1 || handle.ino.number() >= self.logs.len() as u64 {
             return None;
@@ -42,11 +42,12 @@ impl World {
         )
     }
 
-    /// Whether the log of a slot binds a name.
-    pub(crate) fn is_bound(&self, ino: usize, name: &[u8]) -> bool
-        requires { ino < length self.now.logs }
-        ensures { result ≡ is_bound self.now ino name.now }
+    /// Whether a directory binds a name.
+    pub(crate) fn is_bound(&self, dir: &Handle, name: &[u8]) -> bool
+        requires { kind_in (plain_of self.now) dir.now ≡ Some Kind.Dir }
+        ensures { result ≡ is_some (bound_to name.now (names_of_node (node_in (plain_of self.now) dir.now))) }
     {
-        value_now(self.geometry.block, &self.logs[ino], Key::Name(name)).is_some()
+        let log = &self.logs[dir.ino.number() as usize];
+        value_now(self.geometry.block, log, Key::Name(name)).is_some()
     }
 }

@@ -6,6 +6,34 @@ use std::alloc::Global;
 use std::process::Abort;
 use std::test::Fail;
 
+/// A call: inode and generation of its handle, and then its name, or its offset and text or count.
+#[derive(Clone, Copy)]
+enum Words<'a> {
+    Create(u64, u64, &'a [u8]),
+    Write(u64, u64, u64, &'a [u8]),
+    Read(u64, u64, u64, u64),
+}
+
+/// An actor starts a call, or goes on; `Do` is both by actor 0.
+#[derive(Clone, Copy)]
+enum Step<'a> {
+    Start(u64, Words<'a>),
+    Go(u64),
+    Do(Words<'a>),
+}
+
+#[derive(Clone, Copy)]
+enum Want<'a> {
+    Started,
+    Made(u64),
+    Count(u64),
+    Bytes(&'a [u8]),
+    Refused(Fault),
+}
+
+use Step::{Do, Go, Start};
+use Words::{Create, Read, Write};
+
 fn handle(ino: u64, generation: u64) -> Handle {
     Handle {
         ino: Ino::new(ino),
@@ -13,57 +41,62 @@ fn handle(ino: u64, generation: u64) -> Handle {
     }
 }
 
-fn create(alloc: Global, dir: Handle, name: &[u8]) -> Result<Call, Fail> {
-    Ok(Call::Create {
-        dir,
-        name: Bytes::from_vec(Vec::from_slice(alloc, name)?),
-        mode: Mode::checked(420).ok_or("mode")?,
+fn bytes(alloc: Global, text: &[u8]) -> Result<Bytes, Fail> {
+    Ok(Bytes::from_vec(Vec::from_slice(alloc, text)?))
+}
+
+fn call(alloc: Global, words: &Words<'_>) -> Result<Call, Fail> {
+    Ok(match words {
+        Create(ino, generation, name) => Call::Create {
+            dir: handle(*ino, *generation),
+            name: bytes(alloc, name)?,
+            mode: Mode::checked(420).ok_or("mode")?,
+        },
+        Write(ino, generation, offset, text) => Call::Write {
+            file: handle(*ino, *generation),
+            offset: *offset,
+            text: bytes(alloc, text)?,
+        },
+        Read(ino, generation, offset, count) => Call::Read {
+            file: handle(*ino, *generation),
+            offset: *offset,
+            count: *count,
+        },
     })
 }
 
-fn write(alloc: Global, file: Handle, offset: u64, text: &[u8]) -> Result<Call, Fail> {
-    Ok(Call::Write {
-        file,
-        offset,
-        text: Bytes::from_vec(Vec::from_slice(alloc, text)?),
-    })
-}
-
-/// Starts a call of actor 0 and makes it.
-fn made(rt: &impl Abort, world: &mut World, call: Call) -> Reply {
-    let started = world.step(Event::Start(0, call));
-    assert!(rt; matches!(started, Reply::Started));
-    world.step(Event::Go(0))
-}
-
-fn is_refused(reply: &Reply, why: Fault) -> bool {
-    match reply {
-        Reply::Refused(fault) => *fault == why,
-        Reply::Started | Reply::Done(_) => false,
-    }
-}
-
-fn is_count(reply: &Reply, want: u64) -> bool {
-    match reply {
-        Reply::Done(Answer::Count(count)) => *count == want,
+fn is_wanted(reply: &Reply, want: &Want<'_>) -> bool {
+    match (reply, want) {
+        (Reply::Started, Want::Started) => true,
+        (Reply::Done(Answer::Made(made)), Want::Made(ino)) => *made == handle(*ino, 1),
+        (Reply::Done(Answer::Count(count)), Want::Count(want)) => count == want,
+        (Reply::Done(Answer::Bytes(bytes)), Want::Bytes(want)) => bytes.as_slice() == *want,
+        (Reply::Refused(fault), Want::Refused(want)) => fault == want,
         _ => false,
     }
 }
 
-fn is_bytes(reply: &Reply, want: &[u8]) -> bool {
-    match reply {
-        Reply::Done(Answer::Bytes(bytes)) => bytes.as_slice() == want,
-        _ => false,
+/// Makes each step, and wants its reply.
+fn plays(
+    rt: &impl Abort,
+    alloc: Global,
+    world: &mut World,
+    rows: &[(Step<'_>, Want<'_>)],
+) -> Result<(), Fail> {
+    for i in 0..rows.len() {
+        let event = match &rows[i].0 {
+            Start(actor, words) => Event::Start(*actor, call(alloc, words)?),
+            Go(actor) => Event::Go(*actor),
+            Do(words) => {
+                let started = world.step(Event::Start(0, call(alloc, words)?));
+                assert!(rt; matches!(started, Reply::Started), "row {i}");
+                Event::Go(0)
+            }
+        };
+        let reply = world.step(event);
+        assert!(rt; is_wanted(&reply, &rows[i].1), "row {i}");
     }
-}
-
-fn is_made(reply: &Reply, ino: u64) -> bool {
-    match reply {
-        Reply::Done(Answer::Made(made)) => {
-            made.ino.number() == ino && made.generation.number() == 1
-        }
-        _ => false,
-    }
+    Ok(())
 }
 
 fn geometry() -> Result<Geometry, Fault> {
@@ -71,187 +104,125 @@ fn geometry() -> Result<Geometry, Fault> {
 }
 
 #[test]
-fn partial_at_both_ends(rt: HostRuntime) -> Result<(), Fail> {
+fn files(rt: HostRuntime) -> Result<(), Fail> {
     let mut world = World::format(rt.alloc(), geometry()?)?;
-    let reply = made(&rt, &mut world, create(rt.alloc(), handle(0, 1), b"a")?);
-    assert!(rt; is_made(&reply, 1));
-    let reply = made(
+    plays(
         &rt,
+        rt.alloc(),
         &mut world,
-        write(rt.alloc(), handle(1, 1), 3, b"abcdefghij")?,
-    );
-    assert!(rt; is_count(&reply, 10));
-    for (offset, count, want) in [
-        (0, 20, b"\0\0\0abcdefghij".as_slice()),
-        (2, 3, b"\0ab".as_slice()),
-        (12, 9, b"j".as_slice()),
-        (13, 1, b"".as_slice()),
-        (u64::MAX, u64::MAX, b"".as_slice()),
-    ] {
-        let file = handle(1, 1);
-        let reply = made(
-            &rt,
-            &mut world,
-            Call::Read {
-                file,
-                offset,
-                count,
-            },
-        );
-        assert!(rt; is_bytes(&reply, want), "at {offset}");
-    }
-    Ok(())
-}
-
-#[test]
-fn writes_over_and_past_the_end(rt: HostRuntime) -> Result<(), Fail> {
-    let mut world = World::format(rt.alloc(), geometry()?)?;
-    let _made = made(&rt, &mut world, create(rt.alloc(), handle(0, 1), b"a")?);
-    for (offset, text, want) in [
-        (0, b"abcdefghij".as_slice(), b"abcdefghij".as_slice()),
-        (2, b"XY".as_slice(), b"abXYefghij".as_slice()),
-        (3, b"".as_slice(), b"abXYefghij".as_slice()),
-        (12, b"Z".as_slice(), b"abXYefghij\0\0Z".as_slice()),
-    ] {
-        let count = text.len() as u64;
-        let reply = made(
-            &rt,
-            &mut world,
-            write(rt.alloc(), handle(1, 1), offset, text)?,
-        );
-        assert!(rt; is_count(&reply, count), "write at {offset}");
-        let file = handle(1, 1);
-        let reply = made(
-            &rt,
-            &mut world,
-            Call::Read {
-                file,
-                offset: 0,
-                count: 99,
-            },
-        );
-        assert!(rt; is_bytes(&reply, want), "after a write at {offset}");
-    }
-    Ok(())
-}
-
-#[test]
-fn limits_of_files_and_slots(rt: HostRuntime) -> Result<(), Fail> {
-    let mut world = World::format(rt.alloc(), Geometry::checked(8, 1, 1, 2, 2, 1, 1)?)?;
-    let reply = made(&rt, &mut world, create(rt.alloc(), handle(0, 1), b"a")?);
-    assert!(rt; is_made(&reply, 1));
-    let reply = made(&rt, &mut world, create(rt.alloc(), handle(0, 1), b"b")?);
-    assert!(rt; is_refused(&reply, Fault::NoInode));
-    let reply = made(
-        &rt,
-        &mut world,
-        write(rt.alloc(), handle(1, 1), 65536, b"a")?,
-    );
-    assert!(rt; is_refused(&reply, Fault::FileTooBig));
-    let long = vec![in rt.alloc(); b'a'; 1025]?;
-    let reply = made(
-        &rt,
-        &mut world,
-        write(rt.alloc(), handle(1, 1), 65536, &long)?,
-    );
-    assert!(rt; is_refused(&reply, Fault::WriteTooBig));
-    let reply = made(
-        &rt,
-        &mut world,
-        write(rt.alloc(), handle(1, 1), 0, b"abcdefghi")?,
-    );
-    assert!(rt; is_refused(&reply, Fault::NoSpace));
-    let reply = made(
-        &rt,
-        &mut world,
-        write(rt.alloc(), handle(1, 1), 0, b"abcdefgh")?,
-    );
-    assert!(rt; is_count(&reply, 8));
-    let reply = made(&rt, &mut world, write(rt.alloc(), handle(1, 1), 0, b"a")?);
-    assert!(rt; is_refused(&reply, Fault::NoSpace));
-    Ok(())
-}
-
-#[test]
-fn the_last_commit_number(rt: HostRuntime) -> Result<(), Fail> {
-    let first = CommitNo::new(limits::NUMBER - 1);
-    let mut world = World::format_at(rt.alloc(), geometry()?, first)?;
-    let reply = made(&rt, &mut world, create(rt.alloc(), handle(0, 1), b"a")?);
-    assert!(rt; is_made(&reply, 1));
-    let reply = made(&rt, &mut world, create(rt.alloc(), handle(0, 1), b"b")?);
-    assert!(rt; is_refused(&reply, Fault::CommitLimit));
-    let reply = made(&rt, &mut world, write(rt.alloc(), handle(1, 1), 0, b"a")?);
-    assert!(rt; is_refused(&reply, Fault::CommitLimit));
-    Ok(())
+        &[
+            (Do(Create(0, 1, b"a")), Want::Made(1)),
+            // partial at both ends
+            (Do(Write(1, 1, 3, b"abcdefghij")), Want::Count(10)),
+            (Do(Read(1, 1, 0, 20)), Want::Bytes(b"\0\0\0abcdefghij")),
+            (Do(Read(1, 1, 2, 3)), Want::Bytes(b"\0ab")),
+            (Do(Read(1, 1, 12, 9)), Want::Bytes(b"j")),
+            (Do(Read(1, 1, 13, 1)), Want::Bytes(b"")),
+            (Do(Read(1, 1, u64::MAX, u64::MAX)), Want::Bytes(b"")),
+            // over old bytes, of none, and past the end
+            (Do(Create(0, 1, b"b")), Want::Made(2)),
+            (Do(Write(2, 1, 0, b"abcdefghij")), Want::Count(10)),
+            (Do(Write(2, 1, 2, b"XY")), Want::Count(2)),
+            (Do(Read(2, 1, 0, 99)), Want::Bytes(b"abXYefghij")),
+            (Do(Write(2, 1, 3, b"")), Want::Count(0)),
+            (Do(Read(2, 1, 0, 99)), Want::Bytes(b"abXYefghij")),
+            (Do(Write(2, 1, 12, b"Z")), Want::Count(1)),
+            (Do(Read(2, 1, 0, 99)), Want::Bytes(b"abXYefghij\0\0Z")),
+        ],
+    )
 }
 
 #[test]
 fn refusals_in_order(rt: HostRuntime) -> Result<(), Fail> {
     let mut world = World::format(rt.alloc(), geometry()?)?;
-    let _made = made(&rt, &mut world, create(rt.alloc(), handle(0, 1), b"a")?);
-    for (dir, name, why) in [
-        (handle(7, 1), b"..".as_slice(), Fault::Stale),
-        (handle(0, 2), b"b".as_slice(), Fault::Stale),
-        (handle(99, 1), b"b".as_slice(), Fault::Stale),
-        (handle(1, 1), b"..".as_slice(), Fault::NotDirectory),
-        (handle(0, 1), b"..".as_slice(), Fault::BadName),
-        (handle(0, 1), b"a/b".as_slice(), Fault::BadName),
-        (handle(0, 1), b"a".as_slice(), Fault::Exists),
-    ] {
-        let reply = made(&rt, &mut world, create(rt.alloc(), dir, name)?);
-        assert!(rt; is_refused(&reply, why), "{why}");
-    }
-    let reply = made(&rt, &mut world, write(rt.alloc(), handle(0, 1), 0, b"")?);
-    assert!(rt; is_refused(&reply, Fault::NotFile));
-    let file = handle(2, 1);
-    let reply = made(
+    plays(
         &rt,
+        rt.alloc(),
         &mut world,
-        Call::Read {
-            file,
-            offset: 0,
-            count: 1,
-        },
-    );
-    assert!(rt; is_refused(&reply, Fault::Stale));
-    Ok(())
+        &[
+            (Do(Create(0, 1, b"a")), Want::Made(1)),
+            (Do(Create(7, 1, b"..")), Want::Refused(Fault::Stale)),
+            (Do(Create(0, 2, b"b")), Want::Refused(Fault::Stale)),
+            (Do(Create(99, 1, b"b")), Want::Refused(Fault::Stale)),
+            (Do(Create(1, 1, b"..")), Want::Refused(Fault::NotDirectory)),
+            (Do(Create(0, 1, b"..")), Want::Refused(Fault::BadName)),
+            (Do(Create(0, 1, b"a/b")), Want::Refused(Fault::BadName)),
+            (Do(Create(0, 1, b"a")), Want::Refused(Fault::Exists)),
+            (Do(Write(0, 1, 0, b"")), Want::Refused(Fault::NotFile)),
+            (Do(Read(2, 1, 0, 1)), Want::Refused(Fault::Stale)),
+            // of actors
+            (Go(0), Want::Refused(Fault::ActorIdle)),
+            (Go(3), Want::Refused(Fault::NoActor)),
+            (Start(3, Create(0, 1, b"b")), Want::Refused(Fault::NoActor)),
+            (Start(2, Create(0, 1, b"b")), Want::Started),
+            (
+                Start(2, Create(0, 1, b"c")),
+                Want::Refused(Fault::ActorBusy),
+            ),
+            (Go(2), Want::Made(2)),
+            (Go(2), Want::Refused(Fault::ActorIdle)),
+        ],
+    )
 }
 
 #[test]
-fn refusals_of_actors(rt: HostRuntime) -> Result<(), Fail> {
-    let mut world = World::format(rt.alloc(), geometry()?)?;
-    let reply = world.step(Event::Go(0));
-    assert!(rt; is_refused(&reply, Fault::ActorIdle));
-    let reply = world.step(Event::Go(3));
-    assert!(rt; is_refused(&reply, Fault::NoActor));
-    let reply = world.step(Event::Start(3, create(rt.alloc(), handle(0, 1), b"a")?));
-    assert!(rt; is_refused(&reply, Fault::NoActor));
-    let reply = world.step(Event::Start(2, create(rt.alloc(), handle(0, 1), b"a")?));
-    assert!(rt; matches!(reply, Reply::Started));
-    let reply = world.step(Event::Start(2, create(rt.alloc(), handle(0, 1), b"b")?));
-    assert!(rt; is_refused(&reply, Fault::ActorBusy));
-    let reply = world.step(Event::Go(2));
-    assert!(rt; is_made(&reply, 1));
-    let reply = world.step(Event::Go(2));
-    assert!(rt; is_refused(&reply, Fault::ActorIdle));
-    Ok(())
+fn limits_of_a_world(rt: HostRuntime) -> Result<(), Fail> {
+    let mut world = World::format(rt.alloc(), Geometry::checked(8, 1, 1, 2, 2, 1, 1)?)?;
+    let long = vec![in rt.alloc(); b'a'; 1025]?;
+    plays(
+        &rt,
+        rt.alloc(),
+        &mut world,
+        &[
+            (Do(Create(0, 1, b"a")), Want::Made(1)),
+            (Do(Create(0, 1, b"b")), Want::Refused(Fault::NoInode)),
+            (
+                Do(Write(1, 1, 65536, b"a")),
+                Want::Refused(Fault::FileTooBig),
+            ),
+            (
+                Do(Write(1, 1, 65536, &long)),
+                Want::Refused(Fault::WriteTooBig),
+            ),
+            (
+                Do(Write(1, 1, 0, b"abcdefghi")),
+                Want::Refused(Fault::NoSpace),
+            ),
+            (Do(Write(1, 1, 0, b"abcdefgh")), Want::Count(8)),
+            (Do(Write(1, 1, 0, b"a")), Want::Refused(Fault::NoSpace)),
+        ],
+    )?;
+    let first = CommitNo::new(limits::NUMBER - 1);
+    let mut world = World::format_at(rt.alloc(), geometry()?, first)?;
+    plays(
+        &rt,
+        rt.alloc(),
+        &mut world,
+        &[
+            (Do(Create(0, 1, b"a")), Want::Made(1)),
+            (Do(Create(0, 1, b"b")), Want::Refused(Fault::CommitLimit)),
+            (Do(Write(1, 1, 0, b"a")), Want::Refused(Fault::CommitLimit)),
+        ],
+    )
 }
 
 #[test]
 fn a_tree_after_a_run(rt: HostRuntime) -> Result<(), Fail> {
     let mut world = World::format(rt.alloc(), geometry()?)?;
     let mut events = Vec::new(rt.alloc());
-    events.push(Event::Start(0, create(rt.alloc(), handle(0, 1), b"log.txt")?))?;
-    events.push(Event::Go(0))?;
-    events.push(Event::Start(1, create(rt.alloc(), handle(0, 1), b"b")?))?;
-    events.push(Event::Go(1))?;
-    events.push(Event::Start(0, write(rt.alloc(), handle(1, 1), 2, b"hello")?))?;
-    events.push(Event::Go(0))?;
+    for (actor, words) in [
+        (0, Create(0, 1, b"log.txt")),
+        (1, Create(0, 1, b"b")),
+        (0, Write(1, 1, 2, b"hello")),
+    ] {
+        events.push(Event::Start(actor, call(rt.alloc(), &words)?))?;
+        events.push(Event::Go(actor))?;
+    }
     let Ok(replies) = world.run(events) else {
         return Err("run".into());
     };
     assert!(rt; replies.len() == 6);
-    assert!(rt; is_count(&replies[5], 5));
+    assert!(rt; is_wanted(&replies[5], &Want::Count(5)));
     let tree = world.tree()?;
     let nodes = tree.as_slice();
     assert!(rt; nodes.len() == 3);

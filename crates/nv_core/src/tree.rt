@@ -1,7 +1,8 @@
 //! The tree of a world: its nodes with their paths.
 
 ghost use Rattle.std.specs.Prelude.{◌≡◌, ◌++◌, ◌∷◌, [], IfErr, IfOk, length};
-ghost use Rattle.nv_core.specs.Tree.{node_in, path_below, tree_from, tree_of};
+ghost use Rattle.nv_core.specs.Tree.{path_below, tree_from, tree_of};
+ghost use Rattle.nv_core.specs.Plain.{node_in};
 ghost use Rattle.nv_core.specs.World.{plain_of};
 
 use crate::World;

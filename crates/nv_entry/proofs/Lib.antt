@@ -1,9 +1,13 @@
 pub mod Dying
 pub mod Hiding
+pub mod NameLookup
 pub mod Nodes
+pub mod PageBytes
 pub mod PartLists
 pub mod PartsSet
 pub mod Removal
+pub mod SoundLogs
 pub mod Steps
+pub mod StoredItems
 pub mod Values
 pub mod Walks

@@ -8,3 +8,8 @@ pub mod Counts
 pub mod Clean
 pub mod Laws
 pub mod Node
+pub mod Bytes
+pub mod Stored
+pub mod Sound
+pub mod Blocks
+pub mod Bindings

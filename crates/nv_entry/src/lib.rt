@@ -17,6 +17,7 @@ pub mod laws;
 mod names;
 mod node;
 mod part;
+pub mod stored;
 #[cfg(test)]
 mod tests;
 mod value;

@@ -9,11 +9,13 @@ use nv_base::limits::FILE_PAGES;
 use nv_base::{BlockNo, Bytes, Kind, Mode};
 use std::alloc::{AllocError, Global};
 
-/// What a node is at one time: a file has bytes, and a directory has names.
+/// What a node is at one time: a file has bytes, and a directory has names. The size is that of a file in
+/// bytes, and 0 for a directory.
 #[derive(Debug, Drop)]
 pub struct NodeCopy {
     pub kind: Kind,
     pub mode: Mode,
+    pub size: u64,
     pub bytes: Bytes,
     pub names: NameList,
 }
@@ -27,7 +29,7 @@ pub trait BlockBytes {
         ensures { result.now ≡ bytes_of self.now number };
 }
 
-/// The node now or at an epoch: kind, mode, the bytes page by page with zeros where a page is absent, cut
+/// The node now or at an epoch: kind, mode, size, the bytes page by page with zeros where a page is absent, cut
 /// at the size, and the names in log order. None where the inode has no kind there.
 pub fn node_when<B: BlockBytes>(
     alloc: Global,
@@ -43,6 +45,7 @@ pub fn node_when<B: BlockBytes>(
         Some(Datum::Kind(kind)) => Ok(Some(NodeCopy {
             kind,
             mode: mode_when(block, when, log),
+            size: size_when(block, when, log),
             bytes: file_bytes_when(alloc, block, when, log, blocks)?,
             names: names_when(alloc, when, log)?,
         })),

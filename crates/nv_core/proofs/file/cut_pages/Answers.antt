@@ -1,6 +1,6 @@
 use Rattle.std.proofs.Common.{◌+◌, refl}
 use Rattle.std.proofs.lemmas.List.FromFn.{map-range_with_len_more}
-use Rattle.nv_core.specs.Bytes.{page_of}
+use Rattle.nv_entry.specs.Bytes.{page_of}
 use Rattle.nv_core.proofs.file.cut_pages.Goals as goal
 
 pub loop-page-preserved : goal.loop-page-preserved

@@ -1,5 +1,5 @@
 use Rattle.std.proofs.Common.{arith, sym, ◌∙◌}
-use Rattle.nv_core.specs.Tree.{node_in}
+use Rattle.nv_core.specs.Plain.{node_in}
 use Rattle.nv_core.specs.World.{plain_of}
 use Rattle.nv_core.proofs.TreeSteps.{node-first}
 use Rattle.nv_core.proofs.world.World.+tree_from.Goals as goal

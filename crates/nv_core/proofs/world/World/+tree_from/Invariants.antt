@@ -1,6 +1,6 @@
 use Rattle.std.proofs.Common.{◌≡◌, ◌-◌, take}
 use Rattle.std.specs.List.{flat_map}
-use Rattle.nv_core.specs.Tree.{node_in}
+use Rattle.nv_core.specs.Plain.{node_in}
 use Rattle.nv_core.specs.World.{plain_of}
 use Rattle.nv_core.proofs.TreeSteps.{tree_below}
 use Rattle.nv_core.proofs.world.World.+tree_from.Given as goal

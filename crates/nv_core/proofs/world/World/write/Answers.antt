@@ -3,14 +3,14 @@ use Rattle.std.proofs.lemmas.Grind.{common_steps}
 use Rattle.std.specs.Prelude.{slice_set}
 use Rattle.std.specs.List.{range_with_len}
 use Rattle.nv_entry.specs.Node.{file_bytes}
-use Rattle.nv_core.specs.Bytes.{page_of, written}
-use Rattle.nv_core.specs.Checks.{IsNextRun, new_pages, write_entry, wrote}
+use Rattle.nv_entry.specs.Bytes.{page_of, pages_touched, written}
+use Rattle.nv_entry.proofs.PageBytes.{touched_end}
+use Rattle.nv_entry.specs.declared.item.Item.TheVariants.{Write}
+use Rattle.nv_core.specs.Changed.{new_entry, new_pages, wrote}
 use Rattle.nv_core.specs.Logs.{logs_of}
 use Rattle.nv_core.specs.World.{IsWorld, bytes_in, log_at, value_of}
-use Rattle.nv_core.specs.Written.{touched}
 use Rattle.nv_core.proofs.LogLists.{entries-at}
-use Rattle.nv_core.proofs.Touched.{touched_end}
-use Rattle.nv_core.proofs.WriteLaw.{write_meets_some}
+use Rattle.nv_core.proofs.Changes.{write_passed, wrote_stands}
 use Rattle.nv_core.proofs.world.World.write.Goals as goal
 
 pub cut_pages-requires-clause-end : goal.cut_pages-requires-clause-end
@@ -21,11 +21,11 @@ cut_pages-requires-clause-end c =
     omega (arith, end.1, count)
 
 -- the run of the new blocks
-next_of : (c : goal.After-drop-bytes-2) → IsNextRun c.args.self.now c.args.offset c.args.text.now c.next_run-run.result
-next_of c = record {
-  start = c.next_run-run.ensures.start ∙ ap (λ w. length w.data_blocks) c.self.view_is;
-  len = c.next_run-run.ensures.len ∙ c.pages_touched-count.ensures ∙ ap (λ w. touched w.block c.args.offset (length c.args.text.now)) c.self.view_is;
-}
+start_of : (c : goal.After-drop-bytes-2) → c.next_run-run.result.start ≡ length c.args.self.now.data_blocks
+start_of c = c.next_run-run.ensures.start ∙ ap (λ w. length w.data_blocks) c.self.view_is
+
+count_of : (c : goal.After-drop-bytes-2) → c.next_run-run.result.len ≡ pages_touched c.args.self.now.block c.args.offset (length c.args.text.now)
+count_of c = c.next_run-run.ensures.len ∙ c.pages_touched-count.ensures ∙ ap (λ w. pages_touched w.block c.args.offset (length c.args.text.now)) c.self.view_is
 
 -- the bytes after the write
 bytes_of : (c : goal.After-drop-bytes-2) → c.in_ok-bytes.bytes.items ≡ written c.args.offset c.args.text.now (file_bytes (bytes_in c.self.inside.blocks) c.self.inside.geometry.block (log_at (logs_of c.self.inside.logs) c.args.file.ino))
@@ -36,13 +36,13 @@ bytes_of c =
     c.in_ok-bytes.ensures ∙ ap (λ l. written c.args.offset c.args.text.now (file_bytes (bytes_in w.blocks) w.geometry.block l)) log
 
 -- the log after the write
-log_of : (c : goal.After-drop-bytes-2) → logs_of c.add_pages.new.logs ≡ slice_set (logs_of c.self.inside.logs) c.args.file.ino (log_at (logs_of c.self.inside.logs) c.args.file.ino ++ write_entry (c.self.inside.commit + 1) (c.args.offset / c.self.inside.geometry.block) c.next_run-run.result (length c.in_ok-bytes.bytes.items) ∷ [])
+log_of : (c : goal.After-drop-bytes-2) → logs_of c.add_pages.new.logs ≡ slice_set (logs_of c.self.inside.logs) c.args.file.ino (log_at (logs_of c.self.inside.logs) c.args.file.ino ++ new_entry (c.self.inside.commit + 1) 0 (Write (c.args.offset / c.self.inside.geometry.block) c.next_run-run.result (length c.in_ok-bytes.bytes.items)) ∷ [])
 log_of c =
     let w = c.self.inside in
     let slot = c.slot_of-ino.ensures in
     let commit : c.in_ok-commit.commit ≡ w.commit + 1 = c.in_ok-commit.ensures.ok.0 ∙ sym (ap (λ v. v.commit + 1) c.self.view_is) in
     let len : c.len.result ≡ length c.in_ok-bytes.bytes.items = search rules in
-    let made : c.write_entry-entry.result ≡ write_entry (w.commit + 1) (c.args.offset / w.geometry.block) c.next_run-run.result (length c.in_ok-bytes.bytes.items) = cc in
+    let made : c.write_entry-entry.result ≡ new_entry (w.commit + 1) 0 (Write (c.args.offset / w.geometry.block) c.next_run-run.result (length c.in_ok-bytes.bytes.items)) = cc in
     c.in_ok-add_pages.ensures.log
     ∙ ap (λ n. slice_set (logs_of w.logs) n (log_at (logs_of w.logs) n ++ c.write_entry-entry.result ∷ [])) slot
     ∙ ap (λ e. slice_set (logs_of w.logs) c.args.file.ino (log_at (logs_of w.logs) c.args.file.ino ++ e ∷ [])) made
@@ -67,14 +67,15 @@ world_of c =
 
 pub invariant_of-self-2 : goal.invariant_of-self-2
 invariant_of-self-2 c =
-    let law = write_meets_some c.args.self.now c.args.file c.args.offset c.args.text.now (rw (← c.self.view_is) c.self.invariant.0) c.requires in
-    let lawful = (law.done (sym c.check_write.ensures.check ∙ c.in_ok-check_write.was) c.in_ok-commit.ensures.ok.1 c.next_run-run.result (next_of c)).lawful in
-    (subst IsWorld (world_of c) lawful, c.self.invariant.1)
+    let old : IsWorld c.args.self.now = rw (← c.self.view_is) c.self.invariant.0 in
+    let passed = write_passed c.args.self.now c.args.file c.args.offset c.args.text.now (sym c.check_write.ensures.check ∙ c.in_ok-check_write.was) in
+    let law = wrote_stands c.args.self.now c.args.file c.args.offset c.args.text.now c.next_run-run.result old c.requires passed (start_of c) (count_of c) c.in_ok-commit.ensures.ok.1 in
+    (subst IsWorld (world_of c) law.lawful, c.self.invariant.1)
 
 pub returns-clause-ok : goal.returns-clause-ok
 returns-clause-ok c = (
   refl,
   sym c.check_write.ensures.check ∙ c.in_ok-check_write.was,
   c.in_ok-commit.ensures.ok.1,
-  record { run = c.next_run-run.result; next = next_of c; world = sym (world_of c) },
+  record { run = c.next_run-run.result; start = start_of c; count = count_of c; world = sym (world_of c) },
 )
