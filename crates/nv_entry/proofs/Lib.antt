@@ -1,8 +1,17 @@
+pub mod Binders
+pub mod Covering
+pub mod Currents
 pub mod Dying
 pub mod Hiding
+pub mod Killing
+pub mod Later
+pub mod Leaving
 pub mod Nodes
+pub mod Numbered
 pub mod PartLists
 pub mod PartsSet
+pub mod Placed
+pub mod Refs
 pub mod Removal
 pub mod Steps
 pub mod Values

@@ -8,3 +8,8 @@ pub mod Counts
 pub mod Clean
 pub mod Laws
 pub mod Node
+pub mod Covered
+pub mod Refs
+pub mod Later
+pub mod Leaving
+pub mod Killing

@@ -13,10 +13,12 @@ mod held;
 mod index;
 mod item;
 mod key;
+pub mod key_laws;
 pub mod laws;
 mod names;
 mod node;
 mod part;
+mod part_ref;
 #[cfg(test)]
 mod tests;
 mod value;
@@ -30,4 +32,5 @@ pub use key::{Datum, Key, Setting};
 pub use names::{BoundName, NameList, names_when};
 pub use node::{BlockBytes, NodeCopy, file_bytes_when, node_when, size_when};
 pub use part::{Part, PartId, Parts};
+pub use part_ref::{PartRef, current_part};
 pub use value::{When, first_cover, value_at, value_now, value_when};
