@@ -13,3 +13,8 @@ pub mod Stored
 pub mod Sound
 pub mod Blocks
 pub mod Bindings
+pub mod Covered
+pub mod Refs
+pub mod Later
+pub mod Leaving
+pub mod Killing

@@ -1,0 +1,137 @@
+-- The places of an item's parts.
+use Rattle.std.proofs.Common.{◌≡◌, ℕ, zero, suc, ◌+◌, ◌-◌, ◌<◌, ◌≤◌, Bool, true, false, cond, List, ◌∷◌, length, map, Option, Some, None, arith, refl, ap, sym, ◌∙◌}
+use Rattle.std.specs.Prelude.{slice_get}
+use Rattle.std.specs.Option.{option_map}
+use Rattle.std.proofs.lemmas.Option.{same_Some, slice_get_within}
+use Rattle.nv_base.specs.Names.{same_name}
+use Rattle.nv_entry.specs.declared.item.Item.{Item}
+use Rattle.nv_entry.specs.declared.item.Item.TheVariants.{Init, Write, SetSize, SetMode, Bind, Unbind, Gone}
+use Rattle.nv_entry.specs.declared.item.Run.{Run}
+use Rattle.nv_entry.specs.declared.key.Datum.{Datum}
+use Rattle.nv_entry.specs.declared.key.Datum.TheVariants as datum
+use Rattle.nv_entry.specs.declared.key.Setting.TheVariants.{Untouched, Absent, Present}
+use Rattle.nv_entry.specs.declared.part.Part.{Part}
+use Rattle.nv_entry.specs.declared.part.Part.TheVariants as part
+use Rattle.nv_entry.specs.Keys.{Key, KindKey, ModeKey, SizeKey, NameKey, PageKey, in_run, is_page, is_past, key_of, parts_of, run_pages, sets}
+use Rattle.nv_entry.specs.Laws.{is_present}
+use Rattle.nv_entry.specs.Refs.{IsPlaced, place_in}
+use Rattle.nv_entry.proofs.Hiding.{run_parts, same_name-equal}
+use Rattle.nv_entry.proofs.PartLists.{length-written, page_at}
+
+never_present : (b : Bool) → is_present (cond b Absent Untouched) ≡ true → ⊥
+never_present true h = cc
+never_present false h = cc
+
+if_present : (b : Bool) (value : Datum) → is_present (cond b (Present value) Untouched) ≡ true → b ≡ true
+if_present true value h = refl
+if_present false value h = cc
+
+-- the part at the place of a key
+abbrev AtPlace : Item → Key → Type 0
+AtPlace item key = option_map (key_of item) (slice_get (parts_of item) (place_in item key)) ≡ Some key
+
+page_placed : (first : ℕ) (run : Run) (size page : ℕ) → in_run first run page ≡ true → AtPlace (Write first run size) (PageKey page)
+page_placed first run size page h =
+    let p = run_parts first run page h in
+    let same : first + (page - first + 1 - 1) ≡ page = omega (arith, p) in
+    ap (option_map (key_of (Write first run size))) (page_at first run (page - first + 1) (omega arith) (omega (arith, p)))
+    ∙ ap (λ (n : ℕ). Some (PageKey n)) same
+
+at_place : (block : ℕ) (item : Item) (key : Key) → is_present (sets block item key) ≡ true → AtPlace item key
+at_place block (Init kind mode) KindKey h = refl
+at_place block (Init kind mode) ModeKey h = refl
+at_place block (Init kind mode) SizeKey h = refl
+at_place block (Init kind mode) (NameKey name) h = cc
+at_place block (Init kind mode) (PageKey page) h = cc
+at_place block (Write first run size) KindKey h = cc
+at_place block (Write first run size) ModeKey h = cc
+at_place block (Write first run size) SizeKey h = refl
+at_place block (Write first run size) (NameKey name) h = cc
+at_place block (Write first run size) (PageKey page) h =
+    page_placed first run size page (if_present (in_run first run page) (datum.Block (run.start + (page - first))) h)
+at_place block (SetSize size) KindKey h = cc
+at_place block (SetSize size) ModeKey h = cc
+at_place block (SetSize size) SizeKey h = refl
+at_place block (SetSize size) (NameKey name) h = cc
+at_place block (SetSize size) (PageKey page) h = absurd (never_present (is_past block size page) h)
+at_place block (SetMode mode) KindKey h = cc
+at_place block (SetMode mode) ModeKey h = refl
+at_place block (SetMode mode) SizeKey h = cc
+at_place block (SetMode mode) (NameKey name) h = cc
+at_place block (SetMode mode) (PageKey page) h = cc
+at_place block (Bind name to) KindKey h = cc
+at_place block (Bind name to) ModeKey h = cc
+at_place block (Bind name to) SizeKey h = cc
+at_place block (Bind name to) (NameKey other) h =
+    ap (λ (n : List ℕ). Some (NameKey n)) (same_name-equal name other (if_present (same_name name other) (datum.Node to) h))
+at_place block (Bind name to) (PageKey page) h = cc
+at_place block (Unbind name) KindKey h = cc
+at_place block (Unbind name) ModeKey h = cc
+at_place block (Unbind name) SizeKey h = cc
+at_place block (Unbind name) (NameKey other) h = absurd (never_present (same_name name other) h)
+at_place block (Unbind name) (PageKey page) h = cc
+at_place block Gone KindKey h = cc
+at_place block Gone ModeKey h = cc
+at_place block Gone SizeKey h = cc
+at_place block Gone (NameKey name) h = cc
+at_place block Gone (PageKey page) h = absurd (never_present (is_page page) h)
+
+-- the key of a part of a list is at the part's place
+abbrev KeyPlace : Item → ℕ → Part → Type 0
+KeyPlace item n p = place_in item (key_of item p) ≡ n
+
+page_place : (first : ℕ) (run : Run) (size n : ℕ) (p : Part) → slice_get (map part.Page (run_pages first run)) n ≡ Some p
+    → KeyPlace (Write first run size) (suc n) p
+page_place first run size n p h =
+    let lt : suc n < length (part.Size ∷ map part.Page (run_pages first run)) =
+    slice_get_within (part.Size ∷ map part.Page (run_pages first run)) (suc n) p h in
+    let at = page_at first run (suc n) (omega arith) (omega (arith, lt, length-written first run)) in
+    let is : p ≡ part.Page (first + (suc n - 1)) = same_Some p (part.Page (first + (suc n - 1))) (sym h ∙ at) in
+    rw is (let z : first + (suc n - 1) - first + 1 ≡ suc n = omega arith in z)
+
+key_place : (item : Item) (n : ℕ) (p : Part) → slice_get (parts_of item) n ≡ Some p → KeyPlace item n p
+key_place (Init kind mode) zero p h = let is : p ≡ part.Kind = cc in rw is refl
+key_place (Init kind mode) (suc zero) p h = let is : p ≡ part.Mode = cc in rw is refl
+key_place (Init kind mode) (suc (suc zero)) p h = let is : p ≡ part.Size = cc in rw is refl
+key_place (Init kind mode) (suc (suc (suc n))) p h = cc
+key_place (Write first run size) zero p h = let is : p ≡ part.Size = cc in rw is refl
+key_place (Write first run size) (suc n) p h = page_place first run size n p h
+key_place (SetSize size) zero p h = refl
+key_place (SetSize size) (suc n) p h = cc
+key_place (SetMode mode) zero p h = refl
+key_place (SetMode mode) (suc n) p h = cc
+key_place (Bind name to) zero p h = refl
+key_place (Bind name to) (suc n) p h = cc
+key_place (Unbind name) n p h = cc
+key_place Gone n p h = cc
+
+pub placed : (block : ℕ) (item : Item) → IsPlaced block item
+placed block item = record { at = at_place block item; place = key_place item }
+
+-- the part at the place of a key that an item sets to a value
+pub record PartOf (item : Item) (key : Key) : Type 0 where
+  pub part : Part
+  pub at : slice_get (parts_of item) (place_in item key) ≡ Some part
+  pub is_key : key_of item part ≡ key
+
+pub part_of : (block : ℕ) (item : Item) (key : Key) → is_present (sets block item key) ≡ true → PartOf item key
+part_of block item key h = go (slice_get (parts_of item) (place_in item key)) refl (at_place block item key h) where
+  go : (o : Option Part) → slice_get (parts_of item) (place_in item key) ≡ o → option_map (key_of item) o ≡ Some key → PartOf item key
+  go None q h = cc
+  go (Some p) q h = record { part = p; at = q; is_key = same_Some (key_of item p) key h }
+
+few_parts : (item : Item) → length (parts_of item) ≤ 65537
+few_parts (Init kind mode) = omega arith
+few_parts (Write first run size) = omega (arith, length-written first run)
+few_parts (SetSize size) = omega arith
+few_parts (SetMode mode) = omega arith
+few_parts (Bind name to) = omega arith
+few_parts (Unbind name) = omega arith
+few_parts Gone = omega arith
+
+pub place_small : (block : ℕ) (item : Item) (key : Key) (value : Datum) → sets block item key ≡ Present value → place_in item key < 65537
+place_small block item key value h =
+    let set : is_present (sets block item key) ≡ true = ap is_present h in
+    let p = part_of block item key set in
+    let lt : place_in item key < length (parts_of item) = slice_get_within (parts_of item) (place_in item key) p.part p.at in
+    omega (arith, lt, few_parts item)
