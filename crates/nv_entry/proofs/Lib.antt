@@ -3,13 +3,13 @@ pub mod Covering
 pub mod Currents
 pub mod Dying
 pub mod Hiding
-pub mod NameLookup
-pub mod Nodes
-pub mod PageBytes
 pub mod Killing
 pub mod Later
 pub mod Leaving
+pub mod NameLookup
+pub mod Nodes
 pub mod Numbered
+pub mod PageBytes
 pub mod PartLists
 pub mod PartsSet
 pub mod Placed

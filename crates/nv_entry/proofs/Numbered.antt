@@ -10,7 +10,9 @@ use Rattle.nv_entry.specs.declared.part.Part.TheVariants as part
 use Rattle.nv_entry.specs.Covered.{any_cover, is_covered, key_at, part_count, part_key, part_total}
 use Rattle.nv_entry.specs.Keys.{Key, covers, parts_of, sets}
 use Rattle.nv_entry.specs.Laws.{is_present}
-use Rattle.nv_entry.specs.Log.{IsIdBefore, IsLog, MayFollow}
+use Rattle.nv_base.proofs.Ids.{before-irrefl}
+use Rattle.nv_base.specs.Ids.{IsIdBefore}
+use Rattle.nv_entry.specs.Log.{IsLog, MayFollow}
 use Rattle.nv_entry.specs.Refs.{UncoveredIsHeld, part_ref, ref_after, ref_at, scan_ref}
 use Rattle.nv_entry.proofs.Covering.{part_present, touches-present}
 use Rattle.nv_entry.proofs.Placed.{placed}
@@ -37,10 +39,7 @@ own_covered block (e ∷ later) n lt = go (nat_lt n (part_count e)) refl (λ l. 
       (rec (omega (arith, lt, ltb-false n (part_count e) q)))
 
 never_before_itself : (a b : EntryId) → b ≡ a → IsIdBefore a b → ⊥
-never_before_itself a b same h = go (subst (IsIdBefore a) same h) where
-  go : IsIdBefore a a → ⊥
-  go (inl lt) = omega arith
-  go (inr lt) = omega arith
+never_before_itself a b same h = before-irrefl a (subst (IsIdBefore a) same h)
 
 -- no later entry holds a part of that id
 not_later : (block : ℕ) (e : Entry) (later : List Entry) (key : Key) (place : ℕ) → AllByRecursion (MayFollow e) later

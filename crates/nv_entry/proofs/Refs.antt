@@ -11,11 +11,12 @@ use Rattle.nv_entry.specs.declared.key.Setting.{Setting}
 use Rattle.nv_entry.specs.declared.key.Setting.TheVariants.{Untouched, Absent, Present}
 use Rattle.nv_entry.specs.declared.part_ref.PartRef.{PartRef}
 use Rattle.nv_entry.specs.Covered.{any_cover}
-use Rattle.nv_entry.specs.Held.{same_id}
 use Rattle.nv_entry.specs.Index.{last_cover, source_of}
 use Rattle.nv_entry.specs.Keys.{Key, PageKey, covers, parts_of, sets, touches}
 use Rattle.nv_entry.specs.Laws.{is_present}
-use Rattle.nv_entry.specs.Log.{IsIdBefore, IsLog, MayFollow, value_now, value_of}
+use Rattle.nv_base.proofs.Ids.{before-same}
+use Rattle.nv_base.specs.Ids.{is_same_id}
+use Rattle.nv_entry.specs.Log.{IsLog, MayFollow, value_now, value_of}
 use Rattle.nv_entry.specs.Refs.{IsCurrentPart, RefsGive, entry_with, left_by, part_ref, place_in, ref_after, scan_ref}
 use Rattle.nv_entry.proofs.Covering.{IsLast, any_cover-last, is_last, last_cover-append, last_cover-split, last_setting-last, no_last, part_present, setting_by, touches-present}
 use Rattle.nv_entry.proofs.Placed.{part_of, placed}
@@ -127,11 +128,7 @@ current_part block log key r = (to_current block log key r, from_current block l
 
 -- ---- by the ids of a log
 
-other_id : (a b : EntryId) → IsIdBefore a b → same_id a b ≡ false
-other_id a b (inl h) = grind (arith, nat_tests)
-other_id a b (inr h) = grind (arith, nat_tests)
-
-own_id : (a : EntryId) → same_id a a ≡ true
+own_id : (a : EntryId) → is_same_id a a ≡ true
 own_id a = grind (arith, nat_tests)
 
 pub follows : (x : Entry) (before : List Entry) (e : Entry) (later : List Entry) → AllByRecursion (MayFollow x) (before ++ e ∷ later)
@@ -143,7 +140,7 @@ pub entry_with-own : (before : List Entry) (e : Entry) (later : List Entry) → 
     → entry_with e.id (before ++ e ∷ later) ≡ Some e
 entry_with-own [] e later is = rw (own_id e.id) refl
 entry_with-own (x ∷ before) e later is =
-    let other : same_id x.id e.id ≡ false = other_id x.id e.id (follows x before e later is.0).id_rises in
+    let other : is_same_id x.id e.id ≡ false = before-same x.id e.id (follows x before e later is.0).id_rises in
     rw other (entry_with-own before e later is.1)
 
 -- what is read off the last entry that covers a key is read off the entry of the part that holds it

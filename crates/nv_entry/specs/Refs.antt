@@ -2,6 +2,7 @@
 use Rattle.std.specs.Prelude.{◌≡◌, ℕ, ◌+◌, ◌-◌, ◌<◌, ◌↔◌, ◌&&◌, Bool, true, false, not, if◌then◌else◌, nat_lt, List, [], ◌∷◌, ◌++◌, find, Option, Some, None, option_and_then, slice_get}
 use Rattle.std.specs.List.{flat_map}
 use Rattle.std.specs.Option.{option_map}
+use Rattle.nv_base.specs.Ids.{is_same_id}
 use Rattle.nv_base.specs.Names.{same_name}
 use Rattle.nv_base.specs.declared.numbers.EntryId.{EntryId}
 use Rattle.nv_entry.specs.declared.index.PageSource.{PageSource}
@@ -14,7 +15,6 @@ use Rattle.nv_entry.specs.declared.key.Setting.TheVariants.{Untouched, Absent, P
 use Rattle.nv_entry.specs.declared.part.Part.{Part}
 use Rattle.nv_entry.specs.declared.part_ref.PartRef.{PartRef}
 use Rattle.nv_entry.specs.Covered.{any_cover, is_covered, key_at, part_count, part_total}
-use Rattle.nv_entry.specs.Held.{same_id}
 use Rattle.nv_entry.specs.Index.{bound_name, last_cover, names_of, page_source, source_of}
 use Rattle.nv_entry.specs.Keys.{Key, ModeKey, NameKey, PageKey, SizeKey, key_of, name_of, parts_of, sets}
 use Rattle.nv_entry.specs.Laws.{is_present}
@@ -74,7 +74,7 @@ UncoveredIsHeld block log =
 
 -- the entry of that id
 abbrev pub entry_with : EntryId → List Entry → Option Entry
-entry_with id log = find (λ e. same_id e.id id) log
+entry_with id log = find (λ e. is_same_id e.id id) log
 
 -- what the entry of a part sets a key to, and where it puts a page
 abbrev pub value_in : ℕ → List Entry → Key → PartRef → Option Datum

@@ -18,8 +18,8 @@ pub mod laws;
 mod names;
 mod node;
 mod part;
-pub mod stored;
 mod part_ref;
+pub mod stored;
 #[cfg(test)]
 mod tests;
 mod value;
