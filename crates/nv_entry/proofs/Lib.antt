@@ -1,9 +1,12 @@
 pub mod Dying
+pub mod Flags
 pub mod Hiding
 pub mod Nodes
 pub mod PartLists
 pub mod PartsSet
 pub mod Removal
+pub mod Spans
+pub mod Spared
 pub mod Steps
 pub mod Values
 pub mod Walks

@@ -17,9 +17,11 @@ pub mod laws;
 mod names;
 mod node;
 mod part;
+mod retention;
 #[cfg(test)]
 mod tests;
 mod value;
+mod walk;
 
 pub use clean::is_droppable;
 pub use counts::{live, valid};
@@ -30,4 +32,6 @@ pub use key::{Datum, Key, Setting};
 pub use names::{BoundName, NameList, names_when};
 pub use node::{BlockBytes, NodeCopy, file_bytes_when, node_when, size_when};
 pub use part::{Part, PartId, Parts};
+pub use retention::Retention;
 pub use value::{When, first_cover, value_at, value_now, value_when};
+pub use walk::{fast_keeps, thorough_keeps};

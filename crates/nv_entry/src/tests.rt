@@ -4,4 +4,5 @@ mod cleaning;
 mod files;
 mod items;
 mod logs;
-mod names;
+mod nodes;
+mod rows;
