@@ -14,6 +14,7 @@ use Rattle.nv_entry.specs.Keys.{Key, covers, key_of, parts_of, sets, touches}
 use Rattle.nv_entry.specs.Laws.{is_present}
 use Rattle.nv_entry.specs.Log.{first_cover, last_setting, later_of}
 use Rattle.nv_entry.proofs.PartsSet.{parts_are_set}
+use Rattle.nv_entry.proofs.Values.{last_cover-append}
 
 -- ---- settings
 
@@ -41,21 +42,6 @@ part_present block item n p q =
     at_place_of (λ r. is_present (sets block item (key_of item r)) ≡ true) (parts_of item) n p (parts_are_set block item) q
 
 -- ---- the last cover
-
-option_or-none : {T : Type 0} (a : Option T) → option_or a None ≡ a
-option_or-none None = refl
-option_or-none (Some x) = refl
-
-option_or-assoc : {T : Type 0} (a b c : Option T) → option_or a (option_or b c) ≡ option_or (option_or a b) c
-option_or-assoc None b c = refl
-option_or-assoc (Some x) b c = refl
-
-pub last_cover-append : (block : ℕ) (xs ys : List Entry) (key : Key)
-    → last_cover block (xs ++ ys) key ≡ option_or (last_cover block ys key) (last_cover block xs key)
-last_cover-append block [] ys key = sym (option_or-none (last_cover block ys key))
-last_cover-append block (x ∷ xs) ys key =
-    ap (λ o. option_or o (cond (covers block x.item key) (Some x) None)) (last_cover-append block xs ys key)
-    ∙ sym (option_or-assoc (last_cover block ys key) (last_cover block xs key) (cond (covers block x.item key) (Some x) None))
 
 pub any_cover-last : (block : ℕ) (log : List Entry) (key : Key) → any_cover block log key ≡ is_some (last_cover block log key)
 any_cover-last block [] key = refl

@@ -10,23 +10,23 @@ use Rattle.nv_entry.specs.declared.item.Entry.{Entry}
 use Rattle.nv_entry.specs.declared.key.Setting.{Setting}
 use Rattle.nv_entry.specs.declared.key.Setting.TheVariants.{Untouched, Absent, Present}
 use Rattle.nv_entry.specs.declared.held.Pair.{Pair}
-use Rattle.nv_entry.specs.declared.part.PartId.{PartId}
-use Rattle.nv_entry.specs.Clean.{IsDroppable, hides}
+use Rattle.nv_entry.specs.Clean.{IsDroppable, hides, select}
 use Rattle.nv_entry.specs.Counts.{is_live}
 use Rattle.nv_entry.specs.Covered.{any_cover, covered_of, covered_parts}
-use Rattle.nv_entry.specs.Held.{is_current, is_held, is_named, keeps}
+use Rattle.nv_entry.specs.Held.{Retention, is_current, is_held, is_named, keeps}
 use Rattle.nv_entry.specs.Index.{bound_name, last_cover, names_of, page_source, source_of}
 use Rattle.nv_entry.specs.Keys.{Key, NameKey, PageKey, covers, key_of, name_of, parts_of, sets, touches}
 use Rattle.nv_entry.specs.Laws.{is_present}
 use Rattle.nv_entry.specs.Log.{pair_of, pairs_of}
-use Rattle.nv_entry.specs.Leaving.{MayAllLeave, MayLeave, KeepsTheRest, select}
+use Rattle.nv_entry.specs.Leaving.{MayAllLeave, MayLeave, KeepsTheRest}
 use Rattle.nv_entry.specs.Refs.{place_in, ref_after, scan_ref}
 use Rattle.nv_entry.proofs.Binders.{any_cover-name, binds_or_not, names_of-cons, nil_either}
-use Rattle.nv_entry.proofs.Covering.{last_cover-append, no_last, any_cover-last, touches-present}
+use Rattle.nv_entry.proofs.Covering.{no_last, any_cover-last, touches-present}
 use Rattle.nv_entry.proofs.Currents.{any_map, current-uncovered}
 use Rattle.nv_entry.proofs.Hiding.{hides_nothing_before}
 use Rattle.nv_entry.proofs.PartsSet.{parts_are_set}
 use Rattle.nv_entry.proofs.Placed.{part_of}
+use Rattle.nv_entry.proofs.Values.{last_cover-append}
 
 pub any_cover-append : (block : ℕ) (xs ys : List Entry) (key : Key)
     → any_cover block (xs ++ ys) key ≡ (any_cover block xs key || any_cover block ys key)
@@ -225,18 +225,17 @@ idle_may_leave block before e later idle hidden = record {
   hides_nothing = hides_nothing_before block e.item before hidden;
 }
 
-kept-live : (snapshots : List ℕ) (named : List PartId) (pairs : List Pair) → list_any (keeps snapshots named) pairs ≡ false
-    → list_any is_current pairs ≡ false
-kept-live snapshots named [] h = refl
-kept-live snapshots named (pair ∷ pairs) h =
-    let p = or_parts (keeps snapshots named pair) (list_any (keeps snapshots named) pairs) h in
-    let q = or_parts (is_current pair || is_held snapshots pair) (is_named named pair) p.0 in
-    or_from (is_current pair) (list_any is_current pairs) (or_parts (is_current pair) (is_held snapshots pair) q.0).0
-    (kept-live snapshots named pairs p.1)
+kept-live : (r : Retention) (pairs : List Pair) → list_any (keeps r) pairs ≡ false → list_any is_current pairs ≡ false
+kept-live r [] h = refl
+kept-live r (pair ∷ pairs) h =
+    let p = or_parts (keeps r pair) (list_any (keeps r) pairs) h in
+    let q = or_parts (is_current pair || is_held r.snapshots pair) (is_named r.pending pair) p.0 in
+    or_from (is_current pair) (list_any is_current pairs) (or_parts (is_current pair) (is_held r.snapshots pair) q.0).0
+    (kept-live r pairs p.1)
 
-pub droppable_may_leave : (block : ℕ) (snapshots : List ℕ) (pending : List PartId) (before : List Entry) (e : Entry) (later : List Entry)
-    → IsDroppable block snapshots pending before e later → MayLeave block before e later
-droppable_may_leave block snapshots pending before e later h = record {
-  dead = all_dead block e later (kept-live snapshots pending (pairs_of block e later) h.unneeded);
+pub droppable_may_leave : (r : Retention) (before : List Entry) (e : Entry) (later : List Entry) → IsDroppable r before e later
+    → MayLeave r.block before e later
+droppable_may_leave r before e later h = record {
+  dead = all_dead r.block e later (kept-live r (pairs_of r.block e later) h.unneeded);
   hides_nothing = h.hides_nothing;
 }

@@ -2,6 +2,7 @@ pub mod Binders
 pub mod Covering
 pub mod Currents
 pub mod Dying
+pub mod Flags
 pub mod Hiding
 pub mod Killing
 pub mod Later
@@ -16,6 +17,8 @@ pub mod Placed
 pub mod Refs
 pub mod Removal
 pub mod SoundLogs
+pub mod Spans
+pub mod Spared
 pub mod Steps
 pub mod StoredItems
 pub mod Values

@@ -1,17 +1,15 @@
 -- The pages of a node.
-use Rattle.std.proofs.Common.{add-one, add-zero, zero-add, zero, suc, ◌≡◌, ℕ, ◌+◌, ◌<◌, ◌≤◌, ◌&&◌, Bool, true, false, cond, nat_lt, nat_le, List, [], ◌∷◌, ◌++◌, Option, Some, None, arith, refl, ap, sym, ◌∙◌}
+use Rattle.std.proofs.Common.{add-one, add-zero, zero-add, zero, suc, ◌≡◌, ℕ, ◌+◌, ◌≤◌, ◌&&◌, Bool, true, false, cond, nat_lt, nat_le, List, [], ◌∷◌, ◌++◌, None, arith, refl, ap, sym, ◌∙◌}
 use Rattle.std.specs.List.{flat_map, range_with_len}
 use Rattle.std.proofs.lemmas.Bool.{le-ltb, and_right}
 use Rattle.std.proofs.lemmas.Grind.{flat_map-append}
 use Rattle.std.proofs.lemmas.List.{append-nil}
 use Rattle.nv_entry.specs.declared.item.Entry.{Entry}
-use Rattle.nv_entry.specs.declared.item.Run.{Run}
 use Rattle.nv_entry.specs.declared.item.Item.{Item}
 use Rattle.nv_entry.specs.declared.item.Item.TheVariants.{Init, Write, SetSize, SetMode, Bind, Unbind, Gone}
-use Rattle.nv_entry.specs.declared.key.Setting.{Setting}
-use Rattle.nv_entry.specs.declared.key.Setting.TheVariants.{Untouched, Absent, Present}
+use Rattle.nv_entry.specs.declared.key.Setting.TheVariants.{Untouched, Absent}
 use Rattle.nv_entry.specs.Keys.{PageKey, is_page, in_run, is_past, pages_for, sets}
-use Rattle.nv_entry.specs.Log.{later_of, last_setting}
+use Rattle.nv_entry.specs.Log.{last_setting}
 use Rattle.nv_entry.specs.Node.{block_now, page_bytes, pages_bytes}
 
 choice_false : {A : Type 0} (b : Bool) (x y : A) → b ≡ false → cond b x y ≡ y

@@ -1,13 +1,11 @@
 -- The parts of an item as a list.
-use Rattle.std.proofs.Common.{add-one, ◌≡◌, ℕ, zero, suc, ◌+◌, ◌-◌, ◌<◌, ◌≤◌, Bool, true, false, min, List, [], ◌∷◌, length, map, drop, take, get_or, Option, Some, None, arith, refl, ap, sym, ◌∙◌}
+use Rattle.std.proofs.Common.{add-one, ◌≡◌, ℕ, zero, suc, ◌+◌, ◌-◌, ◌<◌, min, List, [], ◌∷◌, length, map, drop, Some, None, arith, refl, ap, ◌∙◌}
 use Rattle.std.specs.Prelude.{slice_get}
-use Rattle.std.specs.List.{range_with_len}
 use Rattle.std.proofs.lemmas.List.FromFn.{length-map-range_with_len, get_or-map-range_with_len}
-use Rattle.std.proofs.lemmas.Option.{slice_get-get_or, slice_get_past}
+use Rattle.std.proofs.lemmas.Option.{slice_get-get_or}
 use Rattle.nv_entry.specs.declared.item.Run.{Run}
-use Rattle.nv_entry.specs.declared.part.Part.{Part}
 use Rattle.nv_entry.specs.declared.part.Part.TheVariants as part
-use Rattle.nv_entry.specs.Keys.{run_pages, parts_of}
+use Rattle.nv_entry.specs.Keys.{run_pages}
 
 -- how many parts a write has
 pub length-written : (first : ℕ) (run : Run) → length (part.Size ∷ map part.Page (run_pages first run)) ≡ 1 + min run.len (65536 - first)

@@ -18,8 +18,9 @@ use Rattle.nv_base.proofs.Ids.{before-same}
 use Rattle.nv_base.specs.Ids.{is_same_id}
 use Rattle.nv_entry.specs.Log.{IsLog, MayFollow, value_now, value_of}
 use Rattle.nv_entry.specs.Refs.{IsCurrentPart, RefsGive, entry_with, left_by, part_ref, place_in, ref_after, scan_ref}
-use Rattle.nv_entry.proofs.Covering.{IsLast, any_cover-last, is_last, last_cover-append, last_cover-split, last_setting-last, no_last, part_present, setting_by, touches-present}
+use Rattle.nv_entry.proofs.Covering.{IsLast, any_cover-last, is_last, last_cover-split, last_setting-last, no_last, part_present, setting_by, touches-present}
 use Rattle.nv_entry.proofs.Placed.{part_of, placed}
+use Rattle.nv_entry.proofs.Values.{last_cover-append}
 
 -- ---- one more entry
 

@@ -1,15 +1,14 @@
 -- The steps of loops over a log.
-use Rattle.std.proofs.Common.{length-drop, take_all, ◌≡◌, ℕ, zero, suc, ◌+◌, ◌-◌, ◌<◌, ◌≤◌, ◌||◌, add-one, drop, drop-cons, Bool, true, false, cond, nat_le, List, [], ◌∷◌, ◌++◌, length, take, filter, get_or, arith, refl, ap, sym, ◌∙◌}
+use Rattle.std.proofs.Common.{length-drop, take_all, ◌≡◌, ℕ, zero, suc, ◌+◌, ◌-◌, ◌<◌, ◌≤◌, ◌||◌, add-one, drop, drop-cons, Bool, true, false, cond, nat_le, List, [], ◌∷◌, ◌++◌, length, take, get_or, arith, refl, ap, sym, ◌∙◌}
 use Rattle.std.proofs.lemmas.List.{append-nil, take_more}
 use Rattle.std.specs.List.{list_any}
 use Rattle.std.proofs.lemmas.List.Elements.{filter-append}
 use Rattle.nv_entry.specs.declared.item.Entry.{Entry}
 use Rattle.nv_entry.specs.declared.held.Pair.{Pair}
-use Rattle.nv_entry.specs.declared.part.PartId.{PartId}
 use Rattle.nv_entry.specs.declared.value.When.{When}
 use Rattle.nv_entry.specs.declared.value.When.TheVariants.{Now, At}
 use Rattle.nv_entry.specs.Counts.{is_kept, is_live, live_of, valid_of}
-use Rattle.nv_entry.specs.Held.{is_current, keeps}
+use Rattle.nv_entry.specs.Held.{Retention, is_current, keeps}
 use Rattle.nv_entry.specs.Index.{page_source}
 use Rattle.nv_entry.specs.Keys.{Key, PageKey, sets}
 use Rattle.nv_entry.specs.Laws.{source_after}
@@ -57,9 +56,9 @@ page_source-skips block when log i e page lt is h =
     ∙ ap (λ xs. page_source block xs page) (seen-unseen when (take i log) e h)
 
 -- the count of a page's kept entries, from one of them on
-pub valid_of-drop : (block : ℕ) (snapshots : List ℕ) (named : List PartId) (count : ℕ) (log : List Entry) (i : ℕ) (e : Entry) → i < count → count ≤ length log → e ≡ get_or log i e
-    → valid_of block snapshots named (count - i) (drop i log) ≡ cond (is_kept block snapshots named e (drop (i + 1) log)) 1 0 + valid_of block snapshots named (count - (i + 1)) (drop (i + 1) log)
-valid_of-drop block snapshots named count log i e lt le is =
+pub valid_of-drop : (r : Retention) (count : ℕ) (log : List Entry) (i : ℕ) (e : Entry) → i < count → count ≤ length log → e ≡ get_or log i e
+    → valid_of r (count - i) (drop i log) ≡ cond (is_kept r e (drop (i + 1) log)) 1 0 + valid_of r (count - (i + 1)) (drop (i + 1) log)
+valid_of-drop r count log i e lt le is =
     let n : count - i ≡ suc (count - (i + 1)) = omega arith in
     let short : i < length log = omega arith in
     let d : drop i log ≡ e ∷ drop (i + 1) log = rw add-one (drop-cons log i e short ∙ ap (λ x. x ∷ drop (suc i) log) (sym is)) in
@@ -70,14 +69,17 @@ keeps_nothing : (b : Bool) → ((b || false) || false) ≡ b
 keeps_nothing true = refl
 keeps_nothing false = refl
 
-kept-live : (pairs : List Pair) → list_any (keeps [] []) pairs ≡ list_any is_current pairs
-kept-live [] = refl
-kept-live (p ∷ pairs) = rw (keeps_nothing (is_current p)) (ap (λ b. is_current p || b) (kept-live pairs))
+abbrev pub current_alone : ℕ → Retention
+current_alone block = record { block = block; snapshots = []; pending = [] }
 
-pub valid_of-live : (block count : ℕ) (log : List Entry) → valid_of block [] [] count log ≡ live_of block count log
+kept-live : (block : ℕ) (pairs : List Pair) → list_any (keeps (current_alone block)) pairs ≡ list_any is_current pairs
+kept-live block [] = refl
+kept-live block (p ∷ pairs) = rw (keeps_nothing (is_current p)) (ap (λ b. is_current p || b) (kept-live block pairs))
+
+pub valid_of-live : (block count : ℕ) (log : List Entry) → valid_of (current_alone block) count log ≡ live_of block count log
 valid_of-live block zero log = refl
 valid_of-live block (suc count) [] = refl
-valid_of-live block (suc count) (e ∷ later) = rw (kept-live (pairs_of block e later)) (ap (λ n. cond (is_live block e later) 1 0 + n) (valid_of-live block count later))
+valid_of-live block (suc count) (e ∷ later) = rw (kept-live block (pairs_of block e later)) (ap (λ n. cond (is_live block e later) 1 0 + n) (valid_of-live block count later))
 
 -- the rest of a slice from a place on
 pub rest_from : {A : Type 0} (xs : List A) (k : ℕ) → take (length xs - k) (drop k xs) ≡ drop k xs

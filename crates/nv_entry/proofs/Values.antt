@@ -1,18 +1,16 @@
 -- The values of a log that goes on by entries.
-use Rattle.std.proofs.Common.{◌≡◌, ◌≢◌, ℕ, ◌+◌, ◌<◌, ◌≤◌, Bool, true, false, not, cond, nat_le, List, [], ◌∷◌, ◌++◌, filter, Option, Some, None, arith, refl, ap, sym, ◌∙◌, append_assoc}
+use Rattle.std.proofs.Common.{◌≡◌, ℕ, ◌<◌, Bool, true, false, not, cond, nat_le, List, [], ◌∷◌, ◌++◌, filter, Option, Some, None, arith, refl, ap, sym, ◌∙◌, append_assoc}
 use Rattle.std.specs.Option.{option_or}
 use Rattle.std.specs.Prelude.{option_and_then}
-use Rattle.std.proofs.lemmas.Bool.{leb-true, leb-false}
+use Rattle.std.proofs.lemmas.Bool.{leb-true}
 use Rattle.std.proofs.lemmas.List.{append-nil}
 use Rattle.std.proofs.lemmas.List.Elements.{filter-append}
 use Rattle.nv_base.specs.declared.numbers.Handle.{Handle}
 use Rattle.nv_base.specs.Names.{same_name}
-use Rattle.nv_entry.specs.declared.index.PageSource.{PageSource}
 use Rattle.nv_entry.specs.declared.names.BoundName.{BoundName}
 use Rattle.nv_entry.specs.declared.item.Entry.{Entry}
 use Rattle.nv_entry.specs.declared.item.Item.{Item}
 use Rattle.nv_entry.specs.declared.item.Item.TheVariants.{Init, Write, SetSize, SetMode, Bind, Unbind, Gone}
-use Rattle.nv_entry.specs.declared.key.Datum.{Datum}
 use Rattle.nv_entry.specs.declared.key.Datum.TheVariants as datum
 use Rattle.nv_entry.specs.declared.key.Setting.{Setting}
 use Rattle.nv_entry.specs.declared.key.Setting.TheVariants.{Untouched, Absent, Present}
@@ -81,7 +79,7 @@ option_or-none : {T : Type 0} (a : Option T) → option_or a None ≡ a
 option_or-none None = refl
 option_or-none (Some x) = refl
 
-last_cover-append : (block : ℕ) (xs ys : List Entry) (key : Key) → last_cover block (xs ++ ys) key ≡ option_or (last_cover block ys key) (last_cover block xs key)
+pub last_cover-append : (block : ℕ) (xs ys : List Entry) (key : Key) → last_cover block (xs ++ ys) key ≡ option_or (last_cover block ys key) (last_cover block xs key)
 last_cover-append block [] ys key = sym (option_or-none (last_cover block ys key))
 last_cover-append block (x ∷ xs) ys key =
     ap (λ o. option_or o (cond (covers block x.item key) (Some x) None)) (last_cover-append block xs ys key)

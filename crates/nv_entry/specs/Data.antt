@@ -2,7 +2,7 @@
 use Rattle.std.specs.Prelude.{ℕ, Option, Some, None}
 use Rattle.nv_base.specs.declared.numbers.Handle.{Handle}
 use Rattle.nv_entry.specs.declared.key.Datum.{Datum}
-use Rattle.nv_entry.specs.declared.key.Datum.TheVariants.{Kind, Mode, Size, Node, Block}
+use Rattle.nv_entry.specs.declared.key.Datum.TheVariants.{Mode, Size, Node, Block}
 
 abbrev pub mode_in : Datum → Option ℕ
 mode_in (Mode mode) = Some mode

@@ -1,11 +1,27 @@
 -- Which pairs are current, held by a snapshot, and needed.
-use Rattle.std.specs.Prelude.{ℕ, ◌==◌, ◌&&◌, ◌||◌, Bool, true, false, not, nat_eq, nat_lt, nat_le, List, Option, Some, None}
+use Rattle.std.specs.Prelude.{ℕ, ◌==◌, ◌&&◌, ◌||◌, Bool, true, false, nat_lt, nat_le, List, Option, Some, None}
 use Rattle.std.specs.List.{list_any}
 use Rattle.nv_base.specs.Ids.{is_same_id}
 use Rattle.nv_entry.specs.declared.part.Part.{Part}
 use Rattle.nv_entry.specs.declared.part.Part.TheVariants as part
 use Rattle.nv_entry.specs.declared.part.PartId.{PartId}
 use Rattle.nv_entry.specs.declared.held.Pair.{Pair}
+use Rattle.nv_entry.specs.declared.retention.Retention.{Retention as CodeRetention}
+
+-- what keeps pairs that are no longer current: the living snapshots, and the pending pairs by name; with the
+-- size of blocks in bytes
+pub record Retention : Type 0 where
+  pub block : ℕ
+  pub snapshots : List ℕ
+  pub pending : List PartId
+
+-- the same with other pairs pending
+abbrev pub with_pending : List PartId → Retention → Retention
+with_pending pending r = record { block = r.block; snapshots = r.snapshots; pending = pending }
+
+-- the retention that the code names so
+abbrev pub retention_of : CodeRetention → Retention
+retention_of r = record { block = r.block; snapshots = r.snapshots.now; pending = r.pending.now }
 
 -- an epoch is before a death; where there is none, each epoch is
 abbrev pub is_before_death : ℕ → Option ℕ → Bool
@@ -38,6 +54,10 @@ same_part part.Bound part.Bound = true
 same_part (part.Page p) (part.Page q) = p == q
 same_part a b = false
 
+-- what names a pair within its log
+abbrev pub pair_name : Pair → PartId
+pair_name pair = record { entry = pair.entry; part = pair.part }
+
 abbrev pub has_name : Pair → PartId → Bool
 has_name pair name = is_same_id name.entry pair.entry && same_part name.part pair.part
 
@@ -45,6 +65,6 @@ has_name pair name = is_same_id name.entry pair.entry && same_part name.part pai
 abbrev pub is_named : List PartId → Pair → Bool
 is_named names pair = list_any (has_name pair) names
 
--- a pair is needed or named
-abbrev pub keeps : List ℕ → List PartId → Pair → Bool
-keeps snapshots named pair = is_needed snapshots pair || is_named named pair
+-- a pair is needed or pending
+abbrev pub keeps : Retention → Pair → Bool
+keeps r pair = is_needed r.snapshots pair || is_named r.pending pair

@@ -1,5 +1,5 @@
 -- The index of a file and the names of a directory, from scratch.
-use Rattle.std.specs.Prelude.{ℕ, Bool, true, false, not, if◌then◌else◌, List, [], ◌∷◌, ◌++◌, filter, Option, Some, None, option_and_then}
+use Rattle.std.specs.Prelude.{ℕ, not, if◌then◌else◌, List, [], ◌∷◌, ◌++◌, filter, Option, Some, None, option_and_then}
 use Rattle.std.specs.Option.{option_or}
 use Rattle.nv_base.specs.Names.{same_name}
 use Rattle.nv_base.specs.declared.numbers.Handle.{Handle}
@@ -10,7 +10,7 @@ use Rattle.nv_entry.specs.declared.item.Item.{Item}
 use Rattle.nv_entry.specs.declared.item.Item.TheVariants.{Init, Write, SetSize, SetMode, Bind, Unbind, Gone}
 use Rattle.nv_entry.specs.declared.key.Datum.TheVariants as datum
 use Rattle.nv_entry.specs.declared.key.Setting.{Setting}
-use Rattle.nv_entry.specs.declared.key.Setting.TheVariants.{Untouched, Absent, Present}
+use Rattle.nv_entry.specs.declared.key.Setting.TheVariants.{Present}
 use Rattle.nv_entry.specs.Keys.{Key, PageKey, NameKey, sets, covers, name_of}
 use Rattle.nv_entry.specs.Log.{first_cover}
 
@@ -31,7 +31,13 @@ page_source block log page = option_and_then (λ e. source_of e (sets block e.it
 -- a binding that has not died
 abbrev pub bound_name : Item → Option ℕ → List BoundName
 bound_name (Bind name to) None = record { name = name; to = to } ∷ []
-bound_name item death = []
+bound_name (Bind name to) (Some death) = []
+bound_name (Init kind mode) death = []
+bound_name (Write first run size) death = []
+bound_name (SetSize size) death = []
+bound_name (SetMode mode) death = []
+bound_name (Unbind name) death = []
+bound_name Gone death = []
 
 -- the names from scratch: the current bindings in log order; the size of blocks says nothing of names, so
 -- that any will do
@@ -54,7 +60,10 @@ bound_to name (bound ∷ list) = if same_name name bound.name then Some bound.to
 
 -- the names after one more item
 abbrev pub names_after : Item → List BoundName → List BoundName
+names_after (Init kind mode) list = list
+names_after (Write first run size) list = list
+names_after (SetSize size) list = list
+names_after (SetMode mode) list = list
 names_after (Bind name to) list = with_last name to list
 names_after (Unbind name) list = without name list
 names_after Gone list = []
-names_after item list = list

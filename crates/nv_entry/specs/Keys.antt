@@ -4,7 +4,6 @@ use Rattle.std.specs.Int.{div_ceil}
 use Rattle.std.specs.List.{range_with_len}
 use Rattle.nv_base.specs.Names.{same_name}
 use Rattle.nv_base.specs.declared.limits.TheConstants.{FILE_PAGES}
-use Rattle.nv_base.specs.declared.node.Kind.{Kind}
 use Rattle.nv_entry.specs.declared.item.Run.{Run}
 use Rattle.nv_entry.specs.declared.item.Item.{Item}
 use Rattle.nv_entry.specs.declared.item.Item.TheVariants.{Init, Write, SetSize, SetMode, Bind, Unbind, Gone}
@@ -53,16 +52,21 @@ abbrev pub sets : ℕ → Item → Key → Setting
 sets block (Init kind mode) KindKey = Present (datum.Kind kind)
 sets block (Init kind mode) ModeKey = Present (datum.Mode mode)
 sets block (Init kind mode) SizeKey = Present (datum.Size 0)
+sets block (Init kind mode) key = Untouched
 sets block (Write first run size) SizeKey = Present (datum.Size size)
 sets block (Write first run size) (PageKey page) = if in_run first run page then Present (datum.Block (run.start + (page - first))) else Untouched
+sets block (Write first run size) key = Untouched
 sets block (SetSize size) SizeKey = Present (datum.Size size)
 sets block (SetSize size) (PageKey page) = if is_past block size page then Absent else Untouched
+sets block (SetSize size) key = Untouched
 sets block (SetMode mode) ModeKey = Present (datum.Mode mode)
+sets block (SetMode mode) key = Untouched
 sets block (Bind name to) (NameKey other) = if same_name name other then Present (datum.Node to) else Untouched
+sets block (Bind name to) key = Untouched
 sets block (Unbind name) (NameKey other) = if same_name name other then Absent else Untouched
+sets block (Unbind name) key = Untouched
 sets block Gone (PageKey page) = if is_page page then Absent else Untouched
 sets block Gone key = Absent
-sets block item key = Untouched
 
 -- an item covers the keys that it sets, to a value or to absent
 abbrev pub touches : Setting → Bool
@@ -87,11 +91,15 @@ parts_of (Bind name to) = part.Bound ∷ []
 parts_of (Unbind name) = []
 parts_of Gone = []
 
--- the name that an item speaks of
+-- the name that an item speaks of, if any; else no bytes
 abbrev pub name_of : Item → List ℕ
+name_of (Init kind mode) = []
+name_of (Write first run size) = []
+name_of (SetSize size) = []
+name_of (SetMode mode) = []
 name_of (Bind name to) = name
 name_of (Unbind name) = name
-name_of item = []
+name_of Gone = []
 
 -- the key of a part of an entry with that item
 abbrev pub key_of : Item → Part → Key

@@ -1,7 +1,8 @@
 -- Which entries may leave a log, by what is covered alone, and what that leaves as it was.
-use Rattle.std.specs.Prelude.{◌≡◌, ℕ, Bool, true, false, if◌then◌else◌, List, [], ◌∷◌, ◌++◌}
+use Rattle.std.specs.Prelude.{◌≡◌, ℕ, Bool, true, false, List, [], ◌∷◌, ◌++◌}
 use Rattle.nv_entry.specs.declared.item.Entry.{Entry}
 use Rattle.nv_entry.specs.declared.key.Setting.TheVariants.{Absent}
+use Rattle.nv_entry.specs.Clean.{select}
 use Rattle.nv_entry.specs.Covered.{any_cover, covered_parts}
 use Rattle.nv_entry.specs.Index.{names_of, page_source}
 use Rattle.nv_entry.specs.Keys.{Key, sets}
@@ -13,12 +14,6 @@ use Rattle.nv_entry.specs.Refs.{scan_ref}
 pub record MayLeave (block : ℕ) (before : List Entry) (e : Entry) (later : List Entry) : Type 0 where
   pub dead : (key : Key) → is_present (sets block e.item key) ≡ true → any_cover block later key ≡ true
   pub hides_nothing : (key : Key) → sets block e.item key ≡ Absent → any_cover block before key ≡ false
-
--- those of a list that stay, one flag each
-abbrev pub select : {X : Type 0} → List Bool → List X → List X
-select [] xs = []
-select (stays ∷ flags) [] = []
-select (stays ∷ flags) (x ∷ xs) = if stays then x ∷ select flags xs else select flags xs
 
 -- each of the entries to come that goes may leave, with the earlier ones gone; `before` are those that stay before them
 abbrev pub MayAllLeave : ℕ → List Entry → List Entry → List Bool → Type 0

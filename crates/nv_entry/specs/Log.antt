@@ -1,18 +1,16 @@
 -- What a log says of a key: its value now and at an epoch, and how long each pair lives.
-use Rattle.std.specs.Prelude.{ℕ, ◌≤◌, Bool, true, false, if◌then◌else◌, nat_le, List, [], ◌∷◌, ◌++◌, map, filter, Option, Some, None}
+use Rattle.std.specs.Prelude.{ℕ, ◌≤◌, Bool, true, if◌then◌else◌, nat_le, List, [], ◌∷◌, ◌++◌, map, filter, Option, Some, None}
 use Rattle.std.specs.List.{AllByRecursion}
 use Rattle.nv_base.specs.Ids.{IsIdBefore}
 use Rattle.nv_entry.specs.declared.item.Entry.{Entry}
 use Rattle.nv_entry.specs.declared.key.Datum.{Datum}
-use Rattle.nv_entry.specs.declared.key.Datum.TheVariants as datum
 use Rattle.nv_entry.specs.declared.key.Setting.{Setting}
 use Rattle.nv_entry.specs.declared.key.Setting.TheVariants.{Untouched, Absent, Present}
 use Rattle.nv_entry.specs.declared.part.Part.{Part}
-use Rattle.nv_entry.specs.declared.part.Part.TheVariants as part
 use Rattle.nv_entry.specs.declared.held.Pair.{Pair}
 use Rattle.nv_entry.specs.declared.value.When.{When}
 use Rattle.nv_entry.specs.declared.value.When.TheVariants.{Now, At}
-use Rattle.nv_entry.specs.Keys.{Key, PageKey, sets, covers, parts_of, key_of}
+use Rattle.nv_entry.specs.Keys.{Key, sets, covers, parts_of, key_of}
 
 -- an entry may stand somewhere behind another in one log
 pub record MayFollow (earlier later : Entry) : Type 0 where
@@ -50,14 +48,14 @@ abbrev pub sees : When → ℕ → Bool
 sees Now epoch = true
 sees (At last) epoch = nat_le epoch last
 
--- what of a log is seen now or at an epoch
-abbrev pub seen : When → List Entry → List Entry
-seen Now log = log
-seen (At last) log = filter (λ e. nat_le e.epoch last) log
-
 -- the entries of an epoch and of those before it
 abbrev pub up_to : ℕ → List Entry → List Entry
 up_to epoch log = filter (λ e. nat_le e.epoch epoch) log
+
+-- what of a log is seen now or at an epoch
+abbrev pub seen : When → List Entry → List Entry
+seen Now log = log
+seen (At last) log = up_to last log
 
 -- the value of a key at an epoch
 abbrev pub value_at : ℕ → ℕ → List Entry → Key → Option Datum

@@ -1,8 +1,7 @@
 -- What an inode is by its log: a node.
-use Rattle.std.specs.Prelude.{ℕ, ◌+◌, ◌*◌, List, [], ◌++◌, take, replicate, Option, Some, None, option_and_then, unwrap_or}
+use Rattle.std.specs.Prelude.{ℕ, List, take, replicate, Option, Some, None, option_and_then, unwrap_or}
 use Rattle.nv_entry.specs.Data.{block_in, mode_in, size_in}
 use Rattle.std.specs.List.{flat_map, range_with_len}
-use Rattle.nv_base.specs.declared.node.Kind.{Kind}
 use Rattle.nv_entry.specs.declared.item.Entry.{Entry}
 use Rattle.nv_entry.specs.declared.key.Datum.{Datum}
 use Rattle.nv_entry.specs.declared.key.Datum.TheVariants as datum

@@ -3,45 +3,39 @@
 ghost use Rattle.std.specs.Prelude.{◌≡◌, ◌<◌, ◌↔◌, IsTrue};
 ghost use Rattle.std.specs.List.{list_any};
 ghost use Rattle.nv_entry.specs.Clean.{IsDroppable, covers_from, hides, is_droppable};
+ghost use Rattle.nv_entry.specs.Held.{retention_of};
 ghost use Rattle.nv_entry.specs.declared.item.Entry.{Entry};
 
-use crate::{Entry, Item, Key, PartId, is_kept};
-use nv_base::Epoch;
+use crate::{Entry, Item, Key, Retention, is_kept};
 use nv_base::limits::FILE_PAGES;
 
 /// Whether a cleaner may remove an entry: it is not the last of its log, none of its pairs is current, held
 /// by a snapshot or pending, and no earlier entry covers a key that it sets to absent. `before` are the
 /// earlier entries that are still in the log, and `later` those behind the entry.
 pub fn is_droppable(
-    block: u64,
-    snapshots: &[Epoch],
-    pending: &[PartId],
+    retention: &Retention<'_>,
     before: &[Entry],
     entry: &Entry,
     later: &[Entry],
 ) -> bool
-    requires { 0 < block }
-    ensures value { result ≡ is_droppable block snapshots.now pending.now before.now entry.now later.now }
+    ensures value { result ≡ is_droppable (retention_of retention.now) before.now entry.now later.now }
     ensures meaning { IsTrue result
-        ↔ IsDroppable block snapshots.now pending.now before.now entry.now later.now }
+        ↔ IsDroppable (retention_of retention.now) before.now entry.now later.now }
 {
-    passes_test(block, snapshots, pending, before, entry, later)
+    passes_test(retention, before, entry, later)
 }
 
 fn passes_test(
-    block: u64,
-    snapshots: &[Epoch],
-    pending: &[PartId],
+    retention: &Retention<'_>,
     before: &[Entry],
     entry: &Entry,
     later: &[Entry],
 ) -> bool
-    requires { 0 < block }
-    ensures { result ≡ is_droppable block snapshots.now pending.now before.now entry.now later.now }
+    ensures { result ≡ is_droppable (retention_of retention.now) before.now entry.now later.now }
 {
     !later.is_empty()
-        && !is_kept(block, snapshots, pending, entry, later)
-        && !hides_any(block, &entry.item, before)
+        && !is_kept(retention, entry, later)
+        && !hides_any(retention.block, &entry.item, before)
 }
 
 fn hides_any(block: u64, item: &Item, before: &[Entry]) -> bool
@@ -54,7 +48,7 @@ fn hides_any(block: u64, item: &Item, before: &[Entry]) -> bool
 }
 
 /// Whether the item sets a key to absent that the earlier item covers.
-fn hides(block: u64, item: &Item, earlier: &Item) -> bool
+pub(crate) fn hides(block: u64, item: &Item, earlier: &Item) -> bool
     requires { 0 < block }
     ensures { result ≡ hides block item.now earlier.now }
 {

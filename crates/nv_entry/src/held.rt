@@ -1,12 +1,12 @@
 //! Pairs of an entry and a part, and which of them are current, held by a snapshot, and needed.
 
-ghost use Rattle.std.specs.Prelude.{◌≡◌, ◌<◌, length, slice_index_or};
+ghost use Rattle.std.specs.Prelude.{◌≡◌, ◌<◌, length, slice_get, slice_index_or};
 ghost use Rattle.nv_entry.specs.Counts.{is_kept};
-ghost use Rattle.nv_entry.specs.Held.{has_name, holds, is_current, is_held, is_named, is_needed, keeps};
-ghost use Rattle.nv_entry.specs.Keys.{parts_of};
-ghost use Rattle.nv_entry.specs.Log.{pair_of, pairs_of};
+ghost use Rattle.nv_entry.specs.Held.{has_name, holds, is_current, is_held, is_named, is_needed, keeps, retention_of};
+ghost use Rattle.nv_entry.specs.Keys.{key_of, parts_of};
+ghost use Rattle.nv_entry.specs.Log.{first_cover, pair_of, pairs_of};
 
-use crate::{Entry, Part, PartId, When, first_cover};
+use crate::{Entry, Part, PartId, Retention, When, first_cover};
 use nv_base::{EntryId, Epoch};
 
 /// A part of an entry, with its birth and its death: it is the value of its key from the one epoch on, and
@@ -20,8 +20,17 @@ pub struct Pair {
 }
 
 impl Pair {
-    /// The pair of an entry's part, where `later` are the entries of the log behind the entry.
-    pub fn of(block: u64, entry: &Entry, later: &[Entry], part: Part) -> Pair
+    /// The pair of an entry's part at a place among its parts, from 0; none past them. `later` are the
+    /// entries of the log behind the entry.
+    pub fn at(block: u64, entry: &Entry, later: &[Entry], place: u32) -> Option<Pair>
+        requires { 0 < block }
+        ensures { result ≡ slice_get (pairs_of block entry.now later.now) place }
+    {
+        let part = entry.item.part_at(place)?;
+        Some(Pair::of(block, entry, later, part))
+    }
+
+    fn of(block: u64, entry: &Entry, later: &[Entry], part: Part) -> Pair
         requires { 0 < block }
         ensures { result ≡ pair_of block entry.now later.now part }
     {
@@ -77,41 +86,26 @@ impl Pair {
     }
 }
 
-/// Whether a pair of the entry is needed, or is among the named ones. `later` are the entries of the log
-/// behind the entry.
-pub fn is_kept(
-    block: u64,
-    snapshots: &[Epoch],
-    named: &[PartId],
-    entry: &Entry,
-    later: &[Entry],
-) -> bool
-    requires { 0 < block }
-    ensures { result ≡ is_kept block snapshots.now named.now entry.now later.now }
+/// Whether a pair of the entry is needed or pending. `later` are the entries of the log behind the entry.
+pub fn is_kept(retention: &Retention<'_>, entry: &Entry, later: &[Entry]) -> bool
+    ensures { result ≡ is_kept (retention_of retention.now) entry.now later.now }
 {
     for place in 0..entry.item.part_count() {
-        if is_part_kept(block, snapshots, named, entry, later, place) {
+        if is_part_kept(retention, entry, later, place) {
             return true;
         }
     }
     false
 }
 
-/// Whether the pair of an entry's part at a place is needed or named.
-fn is_part_kept(
-    block: u64,
-    snapshots: &[Epoch],
-    named: &[PartId],
-    entry: &Entry,
-    later: &[Entry],
-    place: u32,
-) -> bool
-    requires size { 0 < block }
-    requires part { place < length (parts_of entry.now.item) }
-    ensures { result ≡ keeps snapshots.now named.now
-        (slice_index_or (pairs_of block entry.now later.now) place (pair_of block entry.now later.now Part.Kind)) }
+/// Whether the pair of an entry's part at a place is needed or pending.
+fn is_part_kept(retention: &Retention<'_>, entry: &Entry, later: &[Entry], place: u32) -> bool
+    requires { place < length (parts_of entry.now.item) }
+    ensures { result ≡ keeps (retention_of retention.now)
+        (slice_index_or (pairs_of retention.now.block entry.now later.now) place
+        (pair_of retention.now.block entry.now later.now Part.Kind)) }
 {
     let part = entry.item.part_at(place).unwrap();
-    let pair = Pair::of(block, entry, later, part);
-    pair.is_needed(snapshots) || pair.is_named(named)
+    let pair = Pair::of(retention.block, entry, later, part);
+    pair.is_needed(retention.snapshots) || pair.is_named(retention.pending)
 }

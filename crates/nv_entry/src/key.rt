@@ -106,7 +106,11 @@ fn kind_setting(item: &Item) -> Setting
     match item {
         Item::Init { kind, .. } => Setting::Present(Datum::Kind(*kind)),
         Item::Gone => Setting::Absent,
-        _ => Setting::Untouched,
+        Item::Write { .. }
+        | Item::SetSize { .. }
+        | Item::SetMode { .. }
+        | Item::Bind { .. }
+        | Item::Unbind { .. } => Setting::Untouched,
     }
 }
 
@@ -116,7 +120,9 @@ fn mode_setting(item: &Item) -> Setting
     match item {
         Item::Init { mode, .. } | Item::SetMode { mode } => Setting::Present(Datum::Mode(*mode)),
         Item::Gone => Setting::Absent,
-        _ => Setting::Untouched,
+        Item::Write { .. } | Item::SetSize { .. } | Item::Bind { .. } | Item::Unbind { .. } => {
+            Setting::Untouched
+        }
     }
 }
 
@@ -127,7 +133,7 @@ fn size_setting(item: &Item) -> Setting
         Item::Init { .. } => Setting::Present(Datum::Size(0)),
         Item::Write { size, .. } | Item::SetSize { size } => Setting::Present(Datum::Size(*size)),
         Item::Gone => Setting::Absent,
-        _ => Setting::Untouched,
+        Item::SetMode { .. } | Item::Bind { .. } | Item::Unbind { .. } => Setting::Untouched,
     }
 }
 
@@ -138,7 +144,12 @@ fn name_setting(item: &Item, other: &[u8]) -> Setting
         Item::Bind { name, to } if name.bytes() == other => Setting::Present(Datum::Node(*to)),
         Item::Unbind { name } if name.bytes() == other => Setting::Absent,
         Item::Gone => Setting::Absent,
-        _ => Setting::Untouched,
+        Item::Init { .. }
+        | Item::Write { .. }
+        | Item::SetSize { .. }
+        | Item::SetMode { .. }
+        | Item::Bind { .. }
+        | Item::Unbind { .. } => Setting::Untouched,
     }
 }
 
@@ -153,7 +164,11 @@ fn page_setting(block: u64, item: &Item, page: u32) -> Setting
         Item::Write { first, run, .. } => run_setting(*first, run, page),
         Item::SetSize { size } if u64::from(page) >= size.div_ceil(block) => Setting::Absent,
         Item::Gone => Setting::Absent,
-        _ => Setting::Untouched,
+        Item::Init { .. }
+        | Item::SetSize { .. }
+        | Item::SetMode { .. }
+        | Item::Bind { .. }
+        | Item::Unbind { .. } => Setting::Untouched,
     }
 }
 

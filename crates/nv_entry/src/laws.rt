@@ -1,10 +1,11 @@
 //! Laws of logs, each the contract of a function that does nothing.
 
-ghost use Rattle.std.specs.Prelude.{ℕ, List, [], ◌∷◌, ◌++◌};
-ghost use Rattle.nv_entry.specs.Clean.{IsDroppable, SameValues, entries_of, pages_left};
-ghost use Rattle.nv_entry.specs.Laws.{IsCleaned, OneMore, PartsAreSet};
+ghost use Rattle.std.specs.Prelude.{◌≡◌, ◌↔◌, ℕ, List, [], ◌∷◌, ◌++◌, true};
+ghost use Rattle.nv_entry.specs.Clean.{IsDroppable, entries_of, is_droppable};
+ghost use Rattle.nv_entry.specs.Held.{Retention};
+ghost use Rattle.nv_entry.specs.Keys.{parts_of};
+ghost use Rattle.nv_entry.specs.Laws.{IsFast, IsThorough, KeepsReads, OneMore, PartsAreSet, PartsRise, SetsAreParts};
 ghost use Rattle.nv_entry.specs.Log.{IsLog};
-ghost use Rattle.nv_entry.specs.declared.part.PartId.{PartId};
 ghost use Rattle.nv_entry.specs.declared.item.Entry.{Entry};
 ghost use Rattle.nv_entry.specs.declared.item.Item.{Item};
 
@@ -13,28 +14,44 @@ pub fn parts_are_set()
     ensures { (block : ℕ) (item : Item) → PartsAreSet block item }
 {}
 
+/// Each key that an item sets to a value is that of one of its parts.
+pub fn sets_are_parts()
+    ensures { (block : ℕ) (item : Item) → SetsAreParts block item }
+{}
+
+/// The parts of an item go by kind, mode, size, bound name, and then pages rising.
+pub fn parts_are_in_order()
+    ensures { (item : Item) → PartsRise (parts_of item) }
+{}
+
 /// One more entry changes each value, the deaths of pairs, the index and the names exactly as that entry
 /// says. The values at earlier epochs stay.
 pub fn one_more_entry()
     ensures { (block : ℕ) (log : List Entry) (e : Entry) → OneMore block log e }
 {}
 
-/// The removal of a droppable entry changes no value, now or at a living snapshot.
-pub fn removal_keeps_values()
-    ensures { (block : ℕ) (snapshots : List ℕ) (pending : List PartId) (before : List Entry) (e : Entry)
-        (later : List Entry) → IsDroppable block snapshots pending before e later
-        → SameValues block snapshots (before ++ e ∷ later) (before ++ later) }
+/// The test of a droppable entry says that it is one.
+pub fn droppable_is_tested()
+    ensures { (r : Retention) (before : List Entry) (e : Entry) (later : List Entry)
+        → (is_droppable r before e later ≡ true) ↔ IsDroppable r before e later }
 {}
 
-/// What thorough cleaning leaves of a log has the same values, and no droppable entry.
-pub fn thorough_leaves_nothing_droppable()
-    ensures { (block : ℕ) (snapshots : List ℕ) (pending : List PartId) (log : List Entry) → IsLog log
-        → IsCleaned block snapshots pending log }
+/// The removal of a droppable entry keeps what is read, now and at every epoch whose pairs are all needed or
+/// pending, and the pairs that are current, pending, or held by a living snapshot.
+pub fn removal_keeps_reads()
+    ensures { (r : Retention) (before : List Entry) (e : Entry) (later : List Entry)
+        → IsLog (before ++ e ∷ later) → IsDroppable r before e later
+        → KeepsReads r (before ++ e ∷ later) (before ++ later) }
 {}
 
-/// What fast cleaning leaves of a log's pages has the same values.
-pub fn fast_keeps_values()
-    ensures { (block : ℕ) (snapshots : List ℕ) (pending : List PartId) (pages : List (List Entry))
-        → SameValues block snapshots (entries_of pages)
-        (entries_of (pages_left block snapshots pending pages)) }
+/// Thorough cleaning takes out of a log the entries that are droppable, with the earlier removals made, and
+/// no others. It leaves none that is droppable, and keeps what is read.
+pub fn thorough_takes_what_is_droppable()
+    ensures { (r : Retention) (log : List Entry) → IsLog log → IsThorough r log }
+{}
+
+/// Fast cleaning takes out of a log the pages that are droppable throughout, with the earlier pages gone, and
+/// no others, and keeps what is read.
+pub fn fast_takes_what_is_droppable()
+    ensures { (r : Retention) (pages : List (List Entry)) → IsLog (entries_of pages) → IsFast r pages }
 {}

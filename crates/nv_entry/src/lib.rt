@@ -19,10 +19,12 @@ mod names;
 mod node;
 mod part;
 mod part_ref;
+mod retention;
 pub mod stored;
 #[cfg(test)]
 mod tests;
 mod value;
+mod walk;
 
 pub use clean::is_droppable;
 pub use counts::{live, valid};
@@ -34,4 +36,6 @@ pub use names::{BoundName, NameList, names_when};
 pub use node::{BlockBytes, NodeCopy, file_bytes_when, node_when, size_when};
 pub use part::{Part, PartId, Parts};
 pub use part_ref::{PartRef, current_part};
+pub use retention::Retention;
 pub use value::{When, first_cover, value_at, value_now, value_when};
+pub use walk::{fast_keeps, thorough_keeps};

@@ -105,7 +105,11 @@ impl Item {
     {
         match self {
             Item::Bind { name, .. } | Item::Unbind { name } => name.bytes(),
-            _ => &[],
+            Item::Init { .. }
+            | Item::Write { .. }
+            | Item::SetSize { .. }
+            | Item::SetMode { .. }
+            | Item::Gone => &[],
         }
     }
 

@@ -4,5 +4,6 @@ mod cleaning;
 mod files;
 mod items;
 mod logs;
-mod names;
+mod nodes;
 mod refs;
+mod rows;

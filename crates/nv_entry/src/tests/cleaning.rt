@@ -1,109 +1,150 @@
-//! Which entries a cleaner may remove.
+//! Which entries and pages cleaners may remove.
 
-use super::logs::{BLOCK, bind, directory, entry, file, handle, id, unbind, write};
-use crate::{
-    Datum, Entry, Key, Pair, Part, PartId, is_droppable, is_kept, live, valid, value_at, value_now,
-};
-use nv_base::{BlockNo, Epoch};
+ghost use Rattle.std.specs.Prelude.{◌≡◌, IfSome, sum};
+
+use super::logs::{BLOCK, Line, epochs, id, log_of, retention};
+use super::rows::{KILLER, KILLER_GONE, MODES, MODES_LEFT, RUNS, SHORT_LIVED, SIZES, TOMBSTONE, UNBOUND_TWICE};
+use crate::{Entry, Part, PartId, Retention, fast_keeps, is_droppable, is_kept, live, thorough_keeps, valid};
 use std::alloc::Global;
+use std::process::Abort;
 use std::test::Fail;
 
-/// Whether the entry at a place may go, all those before it still standing.
-fn goes(snapshots: &[Epoch], pending: &[PartId], log: &[Entry], place: usize) -> Option<bool> {
-    let entry = log.get(place)?;
-    let (before, rest) = log.split_at(place);
-    Some(is_droppable(BLOCK, snapshots, pending, before, entry, rest.get(1..)?))
-}
+/// A log, its living snapshots, and how many entries of it from a place on have a current pair, or one that is
+/// kept.
+const COUNTS: &[(&[Line], &[u64], usize, usize, usize, usize)] = &[
+    (SHORT_LIVED, &[1], 0, 4, 2, 3),
+    (KILLER, &[1], 0, 4, 2, 3),
+    (KILLER_GONE, &[1], 0, 3, 2, 3),
+    (RUNS, &[], 0, 4, 4, 4),
+    (RUNS, &[], 4, 1, 1, 1),
+    (MODES, &[], 0, 2, 1, 1),
+    (MODES, &[], 2, 2, 0, 0),
+    (MODES, &[], 4, 2, 0, 0),
+    (MODES, &[], 6, 2, 0, 0),
+    (MODES, &[], 8, 1, 1, 1),
+    (MODES_LEFT, &[], 0, 2, 1, 1),
+    (MODES_LEFT, &[], 2, 1, 1, 1),
+];
 
 #[test]
-fn the_tombstone(rt: HostRuntime) -> Result<(), Fail> {
-    let alloc = rt.alloc();
-    let log = vec![in alloc;
-        entry(0, 0, 1, directory()?),
-        entry(1, 0, 1, bind(alloc, b"a", handle(1, 1))?),
-        // snapshot 1
-        entry(2, 0, 2, unbind(alloc, b"a")?),
-        entry(3, 0, 2, bind(alloc, b"b", handle(2, 1))?),
-    ]?;
-    assert_eq!(rt; log.len(), 4);
-    let one = Epoch::new(1);
-    let binding = PartId {
-        entry: id(1, 0),
-        part: Part::Bound,
-    };
-    for place in 0..4 {
-        // the snapshot holds the old binding, and so the tombstone stays too
-        assert_eq!(rt; goes(&[one], &[], &log, place), Some(false), "at {place}");
-        // the snapshot is dropped, and its record isn't released yet
-        assert_eq!(rt;
-            goes(&[], &[binding], &log, place),
-            Some(false),
-            "at {place}"
-        );
+fn counts_of_pages(rt: HostRuntime) -> Result<(), Fail> {
+    for (lines, snapshots, from, count, current, kept) in COUNTS {
+        let log = log_of(rt.alloc(), lines)?;
+        let snapshots = epochs(rt.alloc(), snapshots)?;
+        let page = log.get(*from..).ok_or("a page")?;
+        assert!(rt; *count <= page.len());
+        assert_eq!(rt; live(BLOCK, page, *count), *current, "{lines:?}");
+        let retention = retention(&snapshots, &[]);
+        assert_eq!(rt; valid(&retention, page, *count), *kept, "{lines:?}");
     }
-    let old = Pair::of(BLOCK, &log[1], &log[2..], Part::Bound);
-    assert!(rt; old.is_named(&[binding]) && !old.is_named(&[]));
-    assert!(rt; is_kept(BLOCK, &[], &[binding], &log[1], &log[2..]));
-    assert!(rt; !is_kept(BLOCK, &[], &[], &log[1], &log[2..]));
+    Ok(())
+}
 
+/// The binding that a name had before its tombstone.
+const BINDING: (u64, u32, Part) = (1, 0, Part::Bound);
+
+/// A log, its living snapshots and pending pairs, and which entries may go while all others stay.
+const MAY_GO: &[(&[Line], &[u64], &[(u64, u32, Part)], &[bool])] = &[
+    // the snapshot holds the old binding, and so the tombstone stays too
+    (TOMBSTONE, &[1], &[], &[false, false, false, false]),
+    // the snapshot is dropped, and its record isn't released yet
+    (TOMBSTONE, &[], &[BINDING], &[false, false, false, false]),
     // released: the old binding may go, and the tombstone once that has gone
-    let may_go = [false, true, false, false];
-    for (place, wanted) in (0..4).zip(may_go) {
-        assert_eq!(rt; goes(&[], &[], &log, place), Some(wanted), "at {place}");
-    }
-    assert!(rt; is_droppable(BLOCK, &[], &[], &log[..1], &log[2], &log[3..]));
-    Ok(())
-}
-
-/// The log of a file that was written in three epochs, with or without its second writing.
-fn three_epochs(alloc: Global, second: bool) -> Result<Vec<Entry>, Fail> {
-    let mut log = Vec::new(alloc);
-    log.push(entry(1, 1, 1, file()?))?;
-    log.push(entry(2, 0, 1, write(0, 2, 1, 4)))?;
-    if second {
-        log.push(entry(3, 0, 2, write(0, 3, 1, 4)))?;
-    }
-    log.push(entry(4, 0, 3, write(0, 4, 1, 4)))?;
-    Ok(log)
-}
+    (TOMBSTONE, &[], &[], &[false, true, false, false]),
+    // the second writing killed the first, and may go; while snapshot 2 lived it had to stay
+    (KILLER, &[1], &[], &[false, false, true, false]),
+    (KILLER, &[1, 2], &[], &[false, false, false, false]),
+];
 
 #[test]
-fn a_killer_is_cleaned_away(rt: HostRuntime) -> Result<(), Fail> {
-    let block = |number| Some(Datum::Block(BlockNo::new(number)));
-    let [one, two, three] = [1, 2, 3].map(Epoch::new);
-    let log = three_epochs(rt.alloc(), true)?;
-    assert_eq!(rt; log.len(), 4);
-    assert_eq!(rt;
-        (live(BLOCK, &log, 4), valid(BLOCK, &[one], &[], &log, 4)),
-        (2, 3)
-    );
-    let killed = Pair::of(BLOCK, &log[1], &log[2..], Part::Page(0));
-    assert_eq!(rt; killed.death, Some(two));
-
-    // the second writing killed the first, and may go; while snapshot 2 lived it had to stay
-    let may_go = [false, false, true, false];
-    for (place, wanted) in (0..4).zip(may_go) {
-        assert_eq!(rt; goes(&[one], &[], &log, place), Some(wanted), "at {place}");
-        assert_eq!(rt;
-            goes(&[one, two], &[], &log, place),
-            Some(false),
-            "at {place}"
-        );
+fn droppable_entries(rt: HostRuntime) -> Result<(), Fail> {
+    for (lines, snapshots, pending, wanted) in MAY_GO {
+        let log = log_of(rt.alloc(), lines)?;
+        let snapshots = epochs(rt.alloc(), snapshots)?;
+        let pending = names(rt.alloc(), pending)?;
+        let retention = retention(&snapshots, &pending);
+        for place in 0..log.len() {
+            let goes = is_droppable(&retention, &log[..place], &log[place], &log[place + 1..]);
+            assert_eq!(rt; Some(&goes), wanted.get(place), "{lines:?} at {place}");
+        }
     }
-
-    let left = three_epochs(rt.alloc(), false)?;
-    assert_eq!(rt; left.len(), 3);
-    assert_eq!(rt;
-        (live(BLOCK, &left, 3), valid(BLOCK, &[one], &[], &left, 3)),
-        (2, 3)
-    );
-    let killed = Pair::of(BLOCK, &left[1], &left[2..], Part::Page(0));
-    assert_eq!(rt; killed.death, Some(three));
-    assert_eq!(rt; value_at(BLOCK, one, &left, Key::Page(0)), block(2));
-    assert_eq!(rt; value_at(BLOCK, one, &log, Key::Page(0)), block(2));
-    assert_eq!(rt; value_now(BLOCK, &left, Key::Page(0)), block(4));
-    // no living snapshot sees the difference
-    assert_eq!(rt; value_at(BLOCK, two, &log, Key::Page(0)), block(3));
-    assert_eq!(rt; value_at(BLOCK, two, &left, Key::Page(0)), block(2));
     Ok(())
+}
+
+/// A log, its living snapshots and pending pairs, which entries thorough cleaning keeps, how many entries each
+/// page has, and which pages fast cleaning keeps.
+type Walked = (
+    &'static [Line],
+    &'static [u64],
+    &'static [(u64, u32, Part)],
+    &'static [bool],
+    &'static [usize],
+    &'static [bool],
+);
+
+const WALKS: &[Walked] = &[
+    // the tombstone stays with the binding that the snapshot holds, or that is pending, and goes after it
+    (TOMBSTONE, &[1], &[], &[true, true, true, true], &[2, 2], &[true, true]),
+    (TOMBSTONE, &[], &[BINDING], &[true, true, true, true], &[2, 2], &[true, true]),
+    (TOMBSTONE, &[], &[], &[true, false, false, true], &[1, 2, 1], &[true, false, true]),
+    // a page stays with the binding in it, though that may go, and so does the tombstone on the next page
+    (TOMBSTONE, &[], &[], &[true, false, false, true], &[2, 1, 1], &[true, true, true]),
+    // a killer is cleaned away, and what is left then stays
+    (KILLER, &[1], &[], &[true, true, false, true], &[2, 1, 1], &[true, false, true]),
+    (KILLER, &[1, 2], &[], &[true, true, true, true], &[1, 1, 1, 1], &[true, true, true, true]),
+    (KILLER_GONE, &[1], &[], &[true, true, true], &[3], &[true]),
+    // fast cleaning, repeated: a page in part droppable stays, also when the others are gone
+    (MODES, &[], &[], MODES_KEPT, &[2, 2, 2, 2, 1], &[true, false, false, false, true]),
+    (MODES_LEFT, &[], &[], &[true, false, true], &[2, 1], &[true, true]),
+    // an earlier size that the snapshot holds keeps a later one that cuts the same pages, unless it goes first
+    (SIZES, &[1], &[], &[true, true, true, true], &[2, 1, 1], &[true, true, true]),
+    (SIZES, &[], &[], &[true, false, false, true], &[1, 1, 1, 1], &[true, false, false, true]),
+    // an earlier unbinding keeps a later one of the name, unless it goes first
+    (UNBOUND_TWICE, &[1], &[], &[true, true, true, false, true, true], &[4, 1, 1], &[true, true, true]),
+    (UNBOUND_TWICE, &[], &[], &[true, false, false, false, false, true], &[1, 2, 2, 1], &[true, false, false, true]),
+    // entries of one page are tried one after another; what a page that stays has tried does not count for the next
+    (UNBOUND_TWICE, &[], &[], &[true, false, false, false, false, true], &[1, 4, 1], &[true, false, true]),
+    (UNBOUND_TWICE, &[], &[], &[true, false, false, false, false, true], &[2, 2, 2], &[true, true, true]),
+    // a page without entries stays
+    (KILLER, &[1], &[], &[true, true, false, true], &[2, 0, 1, 1, 0], &[true, true, false, true, true]),
+];
+
+/// Of nine modes the first entry has a kind as well, and the last mode is current.
+const MODES_KEPT: &[bool] = &[true, false, false, false, false, false, false, false, true];
+
+#[test]
+fn walks_of_cleaners(rt: HostRuntime) -> Result<(), Fail> {
+    for (lines, snapshots, pending, entries, counts, pages) in WALKS {
+        let log = log_of(rt.alloc(), lines)?;
+        let snapshots = epochs(rt.alloc(), snapshots)?;
+        let pending = names(rt.alloc(), pending)?;
+        let retention = retention(&snapshots, &pending);
+        let kept = thorough_keeps(rt.alloc(), &retention, &log)?;
+        assert_eq!(rt; kept.as_slice(), *entries, "{lines:?}");
+        assert_eq!(rt; fast_cleaned(&rt, rt.alloc(), &retention, &log, counts)?.as_slice(), *pages, "{lines:?}");
+    }
+    Ok(())
+}
+
+fn fast_cleaned(rt: &impl Abort, alloc: Global, retention: &Retention<'_>, log: &[Entry], counts: &[usize]) -> Result<Vec<bool>, Fail> {
+    assert_eq!(rt; sum_of(counts), Some(log.len()));
+    Ok(fast_keeps(alloc, retention, log, counts)?)
+}
+
+fn names(alloc: Global, names: &[(u64, u32, Part)]) -> Result<Vec<PartId>, Fail> {
+    let mut list = Vec::new(alloc);
+    for (commit, place, part) in names {
+        list.push(PartId { entry: id(*commit, *place), part: *part })?;
+    }
+    Ok(list)
+}
+
+fn sum_of(counts: &[usize]) -> Option<usize>
+    ensures { IfSome result (λ n. n ≡ sum counts.now) }
+{
+    let mut sum = 0_usize;
+    for count in counts {
+        sum = sum.checked_add(*count)?;
+    }
+    Some(sum)
 }

@@ -1,198 +1,124 @@
-//! What the logs of files say, now and at a snapshot.
+//! What logs say of their keys, now and at a snapshot.
 
-use super::logs::{BLOCK, Device, entry, file, id, set_size, write};
-use crate::{
-    BlockBytes, Datum, Entry, Key, PageSource, Pair, Part, When, first_cover, live, node_when,
-    page_source, size_when, valid, value_at, value_now, value_when,
-};
-use nv_base::{BlockNo, Epoch, Kind};
-use std::alloc::Global;
+use super::logs::{BLOCK, Line, epochs, handle, id, log_of, when};
+use super::rows::{CUT, KILLER, KILLER_GONE, NAMES, OVERWRITTEN, RUNS, SHORT_LIVED};
+use crate::{Datum, Entry, Key, PageSource, Pair, PartId, first_cover, page_source, value_at, value_now, value_when};
+use nv_base::{BlockNo, Epoch};
 use std::process::Abort;
 use std::test::Fail;
 
-fn has_bytes(
-    rt: &impl Abort,
-    alloc: Global,
-    when: When,
-    log: &[Entry],
-    device: &Device,
-    bytes: &[u8],
-) -> Result<(), Fail> {
-    let node = node_when(alloc, BLOCK, when, log, device)?.ok_or("no node")?;
-    assert_eq!(rt; (node.kind, node.mode.bits()), (Kind::File, 420));
-    assert_eq!(rt; node.bytes.as_slice(), bytes);
-    assert!(rt; node.names.is_empty());
-    assert_eq!(rt; size_when(BLOCK, when, log), bytes.len() as u64);
+/// A log, a time, a key, and the block or the inode that is its value there.
+const VALUES: &[(&[Line], Option<u64>, Key<'static>, Option<u64>)] = &[
+    (OVERWRITTEN, Some(1), Key::Page(0), Some(2)),
+    (OVERWRITTEN, Some(2), Key::Page(0), Some(3)),
+    (OVERWRITTEN, None, Key::Page(0), Some(3)),
+    (OVERWRITTEN, None, Key::Page(1), None),
+    (KILLER, Some(1), Key::Page(0), Some(2)),
+    (KILLER_GONE, Some(1), Key::Page(0), Some(2)),
+    (KILLER_GONE, None, Key::Page(0), Some(4)),
+    // no living snapshot sees the difference
+    (KILLER, Some(2), Key::Page(0), Some(3)),
+    (KILLER_GONE, Some(2), Key::Page(0), Some(2)),
+    (NAMES, Some(2), Key::Name(b"b"), Some(2)),
+    (NAMES, None, Key::Name(b"b"), None),
+];
+
+#[test]
+fn values(rt: HostRuntime) -> Result<(), Fail> {
+    for (lines, epoch, key, number) in VALUES {
+        let log = log_of(rt.alloc(), lines)?;
+        let wanted = number.map(|number| datum(*key, number));
+        assert_eq!(rt; value_when(BLOCK, when(*epoch), &log, *key), wanted, "{lines:?}");
+        let value = match epoch {
+            Some(number) => value_at(BLOCK, Epoch::new(*number), &log, *key),
+            None => value_now(BLOCK, &log, *key),
+        };
+        assert_eq!(rt; value, wanted, "{lines:?}");
+    }
     Ok(())
 }
 
-fn block(number: u64) -> Option<Datum> {
-    Some(Datum::Block(BlockNo::new(number)))
-}
-
-fn source(commit: u64, place: u32, number: u64) -> Option<PageSource> {
-    Some(PageSource {
-        entry: id(commit, place),
-        block: BlockNo::new(number),
-    })
-}
-
-#[test]
-fn overwrite_across_a_snapshot(rt: HostRuntime) -> Result<(), Fail> {
-    let log = vec![in rt.alloc();
-        entry(1, 1, 1, file()?),
-        entry(2, 0, 1, write(0, 2, 1, 4)),
-        // snapshot 1
-        entry(3, 0, 2, write(0, 3, 1, 4)),
-    ]?;
-    assert_eq!(rt; log.len(), 3);
-    let one = Epoch::new(1);
-    let two = Epoch::new(2);
-    assert_eq!(rt; value_at(BLOCK, one, &log, Key::Page(0)), block(2));
-    assert_eq!(rt; value_at(BLOCK, two, &log, Key::Page(0)), block(3));
-    assert_eq!(rt; value_now(BLOCK, &log, Key::Page(0)), block(3));
-    assert_eq!(rt; value_when(BLOCK, When::Now, &log, Key::Page(1)), None);
-    assert_eq!(rt;
-        first_cover(BLOCK, When::Now, &log, Key::Page(0)),
-        Some(one)
-    );
-    assert_eq!(rt;
-        first_cover(BLOCK, When::At(one), &log[2..], Key::Page(0)),
-        None
-    );
-
-    let old = Pair::of(BLOCK, &log[1], &log[2..], Part::Page(0));
-    assert_eq!(rt; (old.birth, old.death), (one, Some(two)));
-    assert!(rt; !old.is_current());
-    assert!(rt; old.is_held(&[one]) && old.is_needed(&[one]));
-    assert!(rt; !old.is_held(&[two]) && !old.is_needed(&[two]));
-
-    let new = Pair::of(BLOCK, &log[2], &log[3..], Part::Page(0));
-    assert_eq!(rt; (new.birth, new.death), (two, None));
-    assert!(rt; new.is_current() && new.is_needed(&[]));
-    assert!(rt; !new.is_held(&[one]) && new.is_held(&[two]));
-
-    let device = Device {
-        blocks: &[[0; 4], [0; 4], *b"aaaa", *b"bbbb"],
-    };
-    has_bytes(&rt, rt.alloc(), When::At(one), &log, &device, b"aaaa")?;
-    has_bytes(&rt, rt.alloc(), When::Now, &log, &device, b"bbbb")
-}
-
-#[test]
-fn born_and_dead_in_one_epoch(rt: HostRuntime) -> Result<(), Fail> {
-    let log = vec![in rt.alloc();
-        entry(1, 1, 1, file()?),
-        entry(2, 0, 1, write(0, 2, 1, 4)),
-        // snapshot 1
-        entry(3, 0, 2, write(0, 3, 1, 4)),
-        entry(4, 0, 2, write(0, 4, 1, 4)),
-    ]?;
-    assert_eq!(rt; log.len(), 4);
-    let one = Epoch::new(1);
-    let two = Epoch::new(2);
-    for part in [Part::Size, Part::Page(0)] {
-        let pair = Pair::of(BLOCK, &log[2], &log[3..], part);
-        assert_eq!(rt; (pair.birth, pair.death), (two, Some(two)));
-        assert!(rt; !pair.is_needed(&[one, two, Epoch::new(3)]));
+fn datum(key: Key<'_>, number: u64) -> Datum {
+    match key {
+        Key::Name(_) => Datum::Node(handle(number)),
+        _ => Datum::Block(BlockNo::new(number)),
     }
-    assert_eq!(rt; live(BLOCK, &log, 4), 2);
-    assert_eq!(rt; valid(BLOCK, &[one], &[], &log, 4), 3);
-
-    let device = Device {
-        blocks: &[[0; 4], [0; 4], *b"aaaa", *b"bbbb", *b"cccc"],
-    };
-    has_bytes(&rt, rt.alloc(), When::At(one), &log, &device, b"aaaa")?;
-    has_bytes(&rt, rt.alloc(), When::Now, &log, &device, b"cccc")
 }
 
 #[test]
-fn a_cut_inside_a_block(rt: HostRuntime) -> Result<(), Fail> {
-    let log = vec![in rt.alloc();
-        entry(1, 1, 1, file()?),
-        entry(2, 0, 1, write(0, 2, 3, 10)),
-        // snapshot 1, then cut at 5: page 1 is written anew with zeros from there on
-        entry(3, 0, 2, write(1, 5, 1, 5)),
-        entry(3, 1, 2, set_size(5)),
-        entry(4, 0, 2, set_size(12)),
-    ]?;
-    let device = Device {
-        blocks: &[[0; 4], [0; 4], *b"abcd", *b"efgh", *b"ij\0\0", *b"e\0\0\0"],
-    };
-    let then = When::At(Epoch::new(1));
-    has_bytes(&rt, rt.alloc(), then, &log, &device, b"abcdefghij")?;
-    has_bytes(
-        &rt,
-        rt.alloc(),
-        When::Now,
-        &log,
-        &device,
-        b"abcde\0\0\0\0\0\0\0",
-    )?;
-
-    let sources = [source(2, 0, 2), source(3, 0, 5), None, None];
-    for (page, now) in (0..4).zip(sources) {
-        assert_eq!(rt;
-            page_source(BLOCK, When::Now, &log, page),
-            now,
-            "page {page}"
-        );
-    }
-    assert_eq!(rt; page_source(BLOCK, then, &log, 1), source(2, 0, 3));
-    assert_eq!(rt; page_source(BLOCK, then, &log, 2), source(2, 0, 4));
+fn first_covers(rt: HostRuntime) -> Result<(), Fail> {
+    let log = log_of(rt.alloc(), OVERWRITTEN)?;
+    let later = log.get(2..).ok_or("entries")?;
+    let covered = first_cover(BLOCK, when(None), &log, Key::Page(0));
+    assert_eq!(rt; covered, Some(Epoch::new(1)));
+    assert_eq!(rt; first_cover(BLOCK, when(Some(1)), later, Key::Page(0)), None);
     Ok(())
 }
 
-#[test]
-fn several_runs_in_one_write(rt: HostRuntime) -> Result<(), Fail> {
-    let log = vec![in rt.alloc();
-        entry(1, 1, 1, file()?),
-        entry(2, 0, 1, write(0, 2, 3, 12)),
-        entry(3, 0, 1, write(1, 5, 1, 12)),
-        // pages 3 and 4 stand in blocks 3 and 6
-        entry(4, 0, 1, write(3, 3, 1, 20)),
-        entry(4, 1, 1, write(4, 6, 1, 20)),
-    ]?;
-    assert_eq!(rt; log.len(), 5);
-    let device = Device {
-        blocks: &[
-            [0; 4], [0; 4], *b"aaaa", *b"dddd", *b"cccc", *b"BBBB", *b"eeee",
-        ],
-    };
-    let bytes = b"aaaaBBBBccccddddeeee";
-    has_bytes(&rt, rt.alloc(), When::Now, &log, &device, bytes)?;
+/// A log, an entry's place, its part's place, birth and death of their pair, and epochs that hold it and do not.
+type Lives = (&'static [Line], usize, u32, u64, Option<u64>, &'static [u64], &'static [u64]);
 
-    let sources = [
-        source(2, 0, 2),
-        source(3, 0, 5),
-        source(2, 0, 4),
-        source(4, 0, 3),
-        source(4, 1, 6),
-    ];
-    for (page, now) in (0..5).zip(sources) {
-        assert_eq!(rt;
-            page_source(BLOCK, When::Now, &log, page),
-            now,
-            "page {page}"
-        );
+const PAIRS: &[Lives] = &[
+    (OVERWRITTEN, 1, 1, 1, Some(2), &[1], &[2]),
+    (OVERWRITTEN, 2, 1, 2, None, &[2], &[1]),
+    // born and dead in one epoch: no snapshot holds it
+    (SHORT_LIVED, 2, 0, 2, Some(2), &[], &[1, 2, 3]),
+    (SHORT_LIVED, 2, 1, 2, Some(2), &[], &[1, 2, 3]),
+    // the second entry of a write kills the size of the first, in one epoch
+    (RUNS, 3, 0, 1, Some(1), &[], &[1]),
+    // without its killer the first writing dies later, behind the same snapshot
+    (KILLER, 1, 1, 1, Some(2), &[1], &[2, 3]),
+    (KILLER_GONE, 1, 1, 1, Some(3), &[1, 2], &[3]),
+];
+
+#[test]
+fn pairs(rt: HostRuntime) -> Result<(), Fail> {
+    for (lines, place, part, birth, death, holders, others) in PAIRS {
+        let log = log_of(rt.alloc(), lines)?;
+        let entry = log.get(*place).ok_or("an entry")?;
+        let later = log.get(*place + 1..).ok_or("entries")?;
+        let pair = Pair::at(BLOCK, entry, later, *part).ok_or("a part")?;
+        assert_eq!(rt; (pair.birth, pair.death), (Epoch::new(*birth), death.map(Epoch::new)), "{lines:?}");
+        assert_eq!(rt; pair.is_current(), death.is_none(), "{lines:?}");
+        is_held(&rt, &pair, &epochs(rt.alloc(), holders)?, &epochs(rt.alloc(), others)?);
+        let name = PartId { entry: pair.entry, part: pair.part };
+        assert!(rt; pair.is_named(&[name]) && !pair.is_named(&[]), "{lines:?}");
     }
-    // the second entry of the write kills the size of the first, in one epoch
-    let size = Pair::of(BLOCK, &log[3], &log[4..], Part::Size);
-    assert_eq!(rt;
-        (size.birth, size.death),
-        (Epoch::new(1), Some(Epoch::new(1)))
-    );
-    assert_eq!(rt; (live(BLOCK, &log, 4), live(BLOCK, &log[4..], 1)), (4, 1));
-    assert_eq!(rt; valid(BLOCK, &[], &[], &log, 4), 4);
-    assert_eq!(rt; valid(BLOCK, &[], &[], &log[4..], 1), 1);
     Ok(())
 }
 
+fn is_held(rt: &impl Abort, pair: &Pair, holders: &[Epoch], others: &[Epoch]) {
+    for holder in holders {
+        assert!(rt; pair.is_held(&[*holder]) && pair.is_needed(&[*holder]), "{pair:?}");
+    }
+    assert!(rt; !pair.is_held(others), "{pair:?}");
+    assert_eq!(rt; pair.is_needed(others), pair.is_current(), "{pair:?}");
+}
+
+/// A log, a time, a page, and the entry and block that it stands in there.
+const SOURCES: &[(&[Line], Option<u64>, u32, Option<(u64, u32, u64)>)] = &[
+    (CUT, None, 0, Some((2, 0, 2))),
+    (CUT, None, 1, Some((3, 0, 5))),
+    (CUT, None, 2, None),
+    (CUT, None, 3, None),
+    (CUT, Some(1), 1, Some((2, 0, 3))),
+    (CUT, Some(1), 2, Some((2, 0, 4))),
+    (RUNS, None, 0, Some((2, 0, 2))),
+    (RUNS, None, 1, Some((3, 0, 5))),
+    (RUNS, None, 2, Some((2, 0, 4))),
+    (RUNS, None, 3, Some((4, 0, 3))),
+    (RUNS, None, 4, Some((4, 1, 6))),
+];
+
 #[test]
-fn a_device_has_no_further_blocks(rt: HostRuntime) {
-    let device = Device {
-        blocks: &[*b"aaaa"],
-    };
-    assert_eq!(rt; device.bytes(BlockNo::new(0)), b"aaaa".as_slice());
-    assert!(rt; device.bytes(BlockNo::new(1)).is_empty());
+fn sources_of_pages(rt: HostRuntime) -> Result<(), Fail> {
+    for (lines, epoch, page, wanted) in SOURCES {
+        let log = log_of(rt.alloc(), lines)?;
+        let wanted = wanted.map(|(commit, place, block)| PageSource {
+            entry: id(commit, place),
+            block: BlockNo::new(block),
+        });
+        assert_eq!(rt; page_source(BLOCK, when(*epoch), &log, *page), wanted, "page {page} of {lines:?}");
+    }
+    Ok(())
 }

@@ -1,4 +1,3 @@
-use Rattle.std.proofs.Common.{arith}
 use Rattle.nv_entry.specs.Log.{seen}
 use Rattle.nv_entry.proofs.Nodes.{pages_bytes-more}
 use Rattle.nv_entry.proofs.node.file_bytes_when.Goals as goal

@@ -1,4 +1,4 @@
-use Rattle.std.proofs.Common.{◌≡◌, ℕ}
+use Rattle.std.proofs.Common.{◌≡◌}
 use Rattle.nv_entry.specs.Log.{seen}
 use Rattle.nv_entry.specs.Node.{pages_bytes}
 use Rattle.nv_entry.proofs.node.file_bytes_when.Given as goal

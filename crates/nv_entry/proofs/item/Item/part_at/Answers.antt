@@ -1,4 +1,4 @@
-use Rattle.std.proofs.Common.{◌≡◌, ◌+◌, ◌-◌, ◌<◌, ap, arith, length, min, sym, ◌∙◌, ℕ}
+use Rattle.std.proofs.Common.{ap, arith, length, sym, ◌∙◌}
 use Rattle.std.specs.Prelude.{slice_get}
 use Rattle.nv_entry.specs.declared.item.Item.{Item}
 use Rattle.nv_entry.specs.Keys.{parts_of}

@@ -1,6 +1,4 @@
-use Rattle.std.proofs.Common.{◌≡◌, ◌+◌, ◌<◌, drop, length, arith, sym, ◌∙◌, ap}
-use Rattle.nv_entry.specs.declared.part.Part.{Part}
-use Rattle.std.proofs.Common.{List}
+use Rattle.std.proofs.Common.{sym, ◌∙◌}
 use Rattle.nv_entry.specs.Keys.{parts_of}
 use Rattle.nv_entry.proofs.PartLists.{drop-some, drop-none, drop-less}
 use Rattle.nv_entry.proofs.part.PartsIterator.next.Goals as goal
