@@ -1,9 +1,9 @@
 -- A create and a write do to a world what they do to the plain world.
-use Rattle.std.proofs.Common.{◌≡◌, ◌≢◌, ℕ, ◌+◌, ◌-◌, ◌*◌, ◌/◌, ◌^◌, ◌<◌, ◌≤◌, ◌⊎◌, inl, inr, ◌==◌, Bool, true, false, not, cond, nat_lt, List, [], ◌∷◌, ◌++◌, length, Option, Some, None, Result, Ok, Err, arith, refl, ap, sym, ◌∙◌, subst}
-use Rattle.std.specs.Prelude.{is_some, option_map, slice_set}
+use Rattle.std.proofs.Common.{◌≡◌, ℕ, ◌+◌, ◌-◌, ◌*◌, ◌/◌, ◌^◌, ◌<◌, ◌≤◌, ◌⊎◌, inl, inr, ◌==◌, Bool, true, false, not, cond, nat_lt, List, [], ◌∷◌, ◌++◌, length, Option, Some, None, Result, Ok, arith, refl, ap, sym, ◌∙◌, subst}
+use Rattle.std.specs.Prelude.{is_some, option_map}
 use Rattle.std.proofs.Math.Path.{fun_ext}
 use Rattle.std.proofs.lemmas.Bool.{eqb-false, ltb-false}
-use Rattle.std.proofs.lemmas.List.{length-append, length-set, get_or_past, get_or_push, get_or_append_left, get_or-append-add, get_or-set_same, get_or-set_other}
+use Rattle.std.proofs.lemmas.List.{length-append, length-set, get_or_push, get_or_append_left, get_or-append-add, get_or-set_same, get_or-set_other}
 use Rattle.std.proofs.lemmas.List.FromFn.{length-map-range_with_len, get_or-map-range_with_len}
 use Rattle.nv_base.specs.Names.{is_lawful_name}
 use Rattle.nv_base.specs.declared.fault.Fault.{Fault}
@@ -22,8 +22,8 @@ use Rattle.nv_entry.specs.declared.names.BoundName.{BoundName}
 use Rattle.nv_entry.specs.Index.{bound_to, names_of}
 use Rattle.nv_entry.specs.Keys.{NameKey}
 use Rattle.nv_entry.specs.Log.{value_now}
-use Rattle.nv_entry.specs.Node.{file_bytes, node_now}
-use Rattle.nv_entry.specs.Sound.{Gives, IsSound, Makes, Tied, empty_node, rewritten}
+use Rattle.nv_entry.specs.Node.{node_now}
+use Rattle.nv_entry.specs.Sound.{Gives, Makes, Tied, empty_node, rewritten}
 use Rattle.nv_entry.specs.Stored.{stored}
 use Rattle.nv_entry.proofs.NameLookup.{name_value}
 use Rattle.nv_entry.proofs.PageBytes.{written_makes}

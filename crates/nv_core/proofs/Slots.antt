@@ -44,9 +44,6 @@ pub record Found (block : ℕ) (logs : List (List Entry)) (data_blocks : List (L
 pub found : (block : ℕ) (logs : List (List Entry)) (data_blocks : List (List ℕ)) (handle : Handle) (kind : Kind)
     → option_map (λ (n : NodeCopy). n.kind) (option_map (λ (p : PlainNode). p.node) (node_under block logs data_blocks handle)) ≡ Some kind → Found block logs data_blocks handle
 found block logs data_blocks handle kind h = by_generation (handle.generation == 1) refl h where
-  log : List Entry
-  log = log_at logs handle.ino
-
   used : (node : NodeCopy) → node_now (bytes_in data_blocks) block (log_at logs handle.ino) ≡ Some node → (handle.ino < length logs) ⊎ (length logs ≤ handle.ino) → handle.ino < length logs
   used node e (inl lt) = lt
   used node e (inr past) = let none : None ≡ Some node = sym (ap (node_now (bytes_in data_blocks) block) (get_or_past logs handle.ino [] past)) ∙ e in cc
@@ -117,12 +114,6 @@ module _ (block : ℕ) (old new : List (List Entry)) (data_blocks after : List (
   pub nodes_after : (other : Handle)
       → node_under block new after other ≡ cond (same_handle handle other) (stamped commit (change (option_map (λ (p : PlainNode). p.node) (node_under block old data_blocks handle)))) (node_under block old data_blocks other)
   nodes_after other = go (cases_eq other.ino handle.ino) where
-    goes : List Entry → Option PlainNode
-    goes log = stamped (last_commit log) (node_now (bytes_in after) block log)
-
-    changed : Option PlainNode
-    changed = stamped commit (change (option_map (λ (p : PlainNode). p.node) (node_under block old data_blocks handle)))
-
     go : (other.ino ≡ handle.ino) ⊎ (other.ino ≡ handle.ino → ⊥)
         → node_under block new after other ≡ cond (same_handle handle other) (stamped commit (change (option_map (λ (p : PlainNode). p.node) (node_under block old data_blocks handle)))) (node_under block old data_blocks other)
     go (inl same) =

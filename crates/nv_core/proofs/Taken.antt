@@ -1,5 +1,5 @@
 -- How many data blocks and inode slots calls take.
-use Rattle.std.proofs.Common.{◌≡◌, ℕ, ◌+◌, ◌^◌, ◌<◌, ◌/◌, List, [], ◌∷◌, length, Result, Ok, Err, IfOk, IfErr, arith, refl, ap, sym, ◌∙◌}
+use Rattle.std.proofs.Common.{◌≡◌, ℕ, ◌+◌, ◌^◌, ◌<◌, List, [], ◌∷◌, length, Result, Ok, Err, IfOk, IfErr, arith, refl, ap, sym, ◌∙◌}
 use Rattle.std.proofs.lemmas.List.{length-append, length-set}
 use Rattle.nv_base.specs.declared.fault.Fault.{Fault}
 use Rattle.nv_base.specs.declared.numbers.Handle.{Handle}

@@ -9,7 +9,7 @@ use Rattle.nv_entry.specs.declared.item.Item.TheVariants.{Write}
 use Rattle.nv_core.specs.Changed.{new_entry, new_pages, wrote}
 use Rattle.nv_core.specs.Logs.{logs_of}
 use Rattle.nv_core.specs.World.{IsWorld, bytes_in, log_at, value_of}
-use Rattle.nv_core.proofs.LogLists.{entries-at}
+use Rattle.nv_core.proofs.LogLists.{log_here}
 use Rattle.nv_core.proofs.Changes.{write_passed, wrote_stands}
 use Rattle.nv_core.proofs.world.World.write.Goals as goal
 
@@ -32,7 +32,7 @@ bytes_of : (c : goal.After-drop-bytes-2) → c.in_ok-bytes.bytes.items ≡ writt
 bytes_of c =
     let w = c.self.inside in
     let within : c.slot_of-ino.result < length w.logs.items = grind (arith, common_steps) in
-    let log : c.deref.result.now ≡ log_at (logs_of w.logs) c.args.file.ino = c.deref.ensures.value ∙ ap (λ l. l.items) c.index.ensures ∙ sym (entries-at w.logs.items c.slot_of-ino.result c.index.result.now within) ∙ ap (log_at (logs_of w.logs)) c.slot_of-ino.ensures in
+    let log = log_here w.logs.items c.index.result.now c.deref.result.now c.slot_of-ino.result c.args.file.ino within c.deref.ensures.value c.index.ensures c.slot_of-ino.ensures in
     c.in_ok-bytes.ensures ∙ ap (λ l. written c.args.offset c.args.text.now (file_bytes (bytes_in w.blocks) w.geometry.block l)) log
 
 -- the log after the write
