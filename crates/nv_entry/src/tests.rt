@@ -5,3 +5,4 @@ mod files;
 mod items;
 mod logs;
 mod names;
+mod stored;
