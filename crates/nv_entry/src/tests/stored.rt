@@ -15,22 +15,24 @@ use crate::stored::{lawful_items_keep_logs_sound, names_are_values, several_item
 fn two_more_entries()
     ensures { (bytes : ℕ → List ℕ) (block : ℕ) (log : List Entry) (e f : Entry)
         → stored bytes block (log ++ e ∷ f ∷ [])
-        ≡ stored_after bytes block f.item (stored_after bytes block e.item (stored bytes block log)) }
+        ≡ stored_after bytes block f.item
+        (stored_after bytes block e.item (stored bytes block log)) }
 {
     several_items();
 }
 
 fn a_new_node_is_sound()
-    ensures { (bytes : ℕ → List ℕ) (block commit place epoch : ℕ) (kind : Kind) (mode : ℕ) → 0 < block
-        → Gives bytes block (record { id = record { commit = commit; place = place }; epoch = epoch; item = Init kind mode } ∷ [])
+    ensures { (bytes : ℕ → List ℕ) (block commit place epoch : ℕ) (kind : Kind) (mode : ℕ)
+        → 0 < block → Gives bytes block (record { id = record { commit = commit; place = place };
+            epoch = epoch; item = Init kind mode } ∷ [])
         (Some (empty_node kind mode)) }
 {
     lawful_items_keep_logs_sound();
 }
 
 fn a_name_without_a_value_is_unbound()
-    ensures { (block : ℕ) (log : List Entry) (name : List ℕ) → value_now block log (NameKey name) ≡ None
-        → bound_to name (names_of log) ≡ None }
+    ensures { (block : ℕ) (log : List Entry) (name : List ℕ)
+        → value_now block log (NameKey name) ≡ None → bound_to name (names_of log) ≡ None }
 {
     names_are_values();
 }

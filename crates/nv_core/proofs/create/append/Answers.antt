@@ -7,11 +7,13 @@ use Rattle.nv_core.proofs.create.append.Goals as goal
 pub returns-in_err-push-clause-err : goal.returns-in_err-push-clause-err
 returns-in_err-push-clause-err c =
     let lt : c.args.ino < length c.args.logs.now.items = search rules in
-    on_err c.from_residual.result (entries-kept c.args.logs.now.items c.args.ino c.push.new.self c.index_mut.result.now lt c.index_mut.ensures.value c.in_err-push.ensures.items)
+    on_err c.from_residual.result (entries-kept c.args.logs.now.items c.args.ino c.push.new.self c.index_mut.result.now lt
+    c.index_mut.ensures.value c.in_err-push.ensures.items)
 
 pub returns-clause-ok : goal.returns-clause-ok
 returns-clause-ok c =
     let lt : c.args.ino < length c.args.logs.now.items = search rules in
-    let old = ap (λ log. log.items) c.index_mut.ensures.value ∙ sym (entries-at c.args.logs.now.items c.args.ino c.index_mut.result.now lt) in
+    let old = ap (λ log. log.items) c.index_mut.ensures.value ∙ sym
+    (entries-at c.args.logs.now.items c.args.ino c.index_mut.result.now lt) in
     entries-set c.args.logs.now.items c.args.ino c.push.new.self
     ∙ ap (slice_set (logs_of c.args.logs.now) c.args.ino) (c.in_ok-push.ensures.items ∙ ap (λ log. log ++ c.args.entry ∷ []) old)

@@ -16,7 +16,9 @@ returns c =
     let lawful : IsWorld c.args.self.now = rw (← c.self.view_is) c.self.invariant.0 in
     let within = rw (← c.self.view_is) at (found_in c.args.self.now c.args.dir.now Dir c.requires).in_use in
     let lt : c.number.result < length w.logs.items = omega (arith, within, length-map w.logs.items (λ l. l.items), c.number.ensures) in
-    let log = log_here w.logs.items c.index-log.result.now c.deref.result.now c.number.result c.args.dir.now.ino lt c.deref.ensures.value c.index-log.ensures c.number.ensures in
+    let log = log_here w.logs.items c.index-log.result.now c.deref.result.now c.number.result c.args.dir.now.ino
+    lt c.deref.ensures.value c.index-log.ensures c.number.ensures in
     c.is_some.ensures
-    ∙ ap is_some (c.value_now.ensures ∙ ap (λ l. value_now w.geometry.block l key) log ∙ ap (λ v. value_now v.block (log_at v.logs c.args.dir.now.ino) key) c.self.view_is)
+    ∙ ap is_some (c.value_now.ensures ∙ ap (λ l. value_now w.geometry.block l key) log ∙ ap
+    (λ v. value_now v.block (log_at v.logs c.args.dir.now.ino) key) c.self.view_is)
     ∙ bound_found c.args.self.now c.args.dir.now c.args.name.now lawful c.requires
