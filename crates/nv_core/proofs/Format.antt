@@ -13,7 +13,8 @@ root_kept block commit zero some = record {
 }
 root_kept block commit (suc ino) some = record { sound = refl; in_use = λ number u. let none : None ≡ Some number = u.1 in cc }
 
-pub format_is_world : (block blocks inodes actors commit : ℕ) → 0 < block → blocks ≤ 1048576 → 1 ≤ inodes → commit ≤ 2 ^ 62 → IsWorld (formatted block blocks inodes actors commit)
+pub format_is_world : (block blocks inodes actors commit : ℕ) → 0 < block → blocks ≤ 1048576 → 1 ≤ inodes → commit ≤ 2 ^ 62
+    → IsWorld (formatted block blocks inodes actors commit)
 format_is_world block blocks inodes actors commit some few slots fits = record {
   some_bytes = some;
   few_blocks = few;

@@ -71,8 +71,10 @@ impl World {
 
     /// The number of the next commit.
     pub(crate) fn next_commit(&self) -> Result<CommitNo, Fault>
-        ensures ok { IfOk result (λ commit. (commit ≡ self.now.commit + 1) × (self.now.commit < 2 ^ 62)) }
-        ensures err { IfErr result (λ fault. (fault ≡ Fault.CommitLimit) × (2 ^ 62 ≤ self.now.commit)) }
+        ensures ok { IfOk result (λ commit.
+            (commit ≡ self.now.commit + 1) × (self.now.commit < 2 ^ 62)) }
+        ensures err { IfErr result (λ fault.
+            (fault ≡ Fault.CommitLimit) × (2 ^ 62 ≤ self.now.commit)) }
     {
         if self.commit.number() >= limits::NUMBER {
             return Err(Fault::CommitLimit);

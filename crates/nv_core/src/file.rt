@@ -55,10 +55,13 @@ impl World {
 
     /// Reads at most `count` bytes of a file from `offset` on, none past its end.
     pub(crate) fn read(&self, file: Handle, offset: u64, count: u64) -> Result<Answer, Fault>
-        ensures ok { IfOk result (λ answer. (want_file (kind_in (plain_of self.now) file) (Ok tt) ≡ Ok tt)
+        ensures ok { IfOk result (λ answer.
+            (want_file (kind_in (plain_of self.now) file) (Ok tt) ≡ Ok tt)
             × (answer ≡ Answer.Bytes (read_at offset count (bytes_at self.now file.ino)))) }
-        ensures err { IfErr result (λ fault. (want_file (kind_in (plain_of self.now) file) (Ok tt) ≡ Err fault)
-            ⊎ ((want_file (kind_in (plain_of self.now) file) (Ok tt) ≡ Ok tt) × (fault ≡ Fault.OutOfMemory))) }
+        ensures err { IfErr result (λ fault.
+            (want_file (kind_in (plain_of self.now) file) (Ok tt) ≡ Err fault)
+            ⊎ ((want_file (kind_in (plain_of self.now) file) (Ok tt) ≡ Ok tt)
+            × (fault ≡ Fault.OutOfMemory))) }
     {
         self.check_file(&file)?;
         let log = &self.logs[slot_of(&file)];
@@ -86,7 +89,8 @@ impl World {
     /// Why a write of at least one byte is refused before it takes memory.
     fn check_write(&self, file: &Handle, offset: u64, text: &[u8]) -> Result<(), Fault>
         requires { 0 < length text.now }
-        ensures check { result ≡ write_check (numbers_of self.now) (plain_of self.now) file.now offset text.now }
+        ensures check { result
+            ≡ write_check (numbers_of self.now) (plain_of self.now) file.now offset text.now }
         ensures fits { OnOk result (offset + length text.now ≤ 65536 * self.now.block) }
     {
         match self.kind_under(file) {
@@ -163,7 +167,8 @@ fn bytes_written(
 ) -> Result<Vec<u8>, AllocError>
     requires some_bytes { 0 < block }
     requires end { offset + length text.now < 2 ^ 62 }
-    ensures { IfOk result (λ bytes. bytes.items ≡ written offset text.now (file_bytes (bytes_in blocks.now) block log.now)) }
+    ensures { IfOk result (λ bytes. bytes.items
+        ≡ written offset text.now (file_bytes (bytes_in blocks.now) block log.now)) }
 {
     let old = file_bytes_when(alloc, block, When::Now, log, blocks)?;
     let old = old.as_slice();

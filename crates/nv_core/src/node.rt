@@ -45,7 +45,8 @@ impl World {
     /// Whether a directory binds a name.
     pub(crate) fn is_bound(&self, dir: &Handle, name: &[u8]) -> bool
         requires { kind_in (plain_of self.now) dir.now ≡ Some Kind.Dir }
-        ensures { result ≡ is_some (bound_to name.now (names_of_node (node_in (plain_of self.now) dir.now))) }
+        ensures { result ≡ is_some (bound_to name.now
+            (names_of_node (node_in (plain_of self.now) dir.now))) }
     {
         let log = &self.logs[dir.ino.number() as usize];
         value_now(self.geometry.block, log, Key::Name(name)).is_some()

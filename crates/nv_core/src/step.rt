@@ -52,7 +52,8 @@ impl World {
 
     /// Makes a call.
     fn make(&mut self, call: Call) -> Result<Answer, Fault>
-        ensures outcome { IsOutcome (outcome_of (numbers_of self.old) (plain_of self.old) call) self.old result self.new }
+        ensures outcome { IsOutcome (outcome_of (numbers_of self.old) (plain_of self.old) call)
+            self.old result self.new }
         ensures kept { KeepsNumbers self.old self.new }
         ensures taken { Takes call self.old result self.new }
     {
@@ -70,7 +71,9 @@ impl World {
 
     /// Writes a text into a file. A text of no bytes changes nothing.
     fn write_text(&mut self, file: Handle, offset: u64, text: &[u8]) -> Result<Answer, Fault>
-        ensures outcome { IsOutcome (write_outcome (numbers_of self.old) (plain_of self.old) file offset text.now) self.old result self.new }
+        ensures outcome { IsOutcome
+            (write_outcome (numbers_of self.old) (plain_of self.old) file offset text.now)
+            self.old result self.new }
         ensures kept { KeepsNumbers self.old self.new }
         ensures taken { Takes (Call.Write file offset text.now) self.old result self.new }
     {

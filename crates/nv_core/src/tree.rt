@@ -106,7 +106,8 @@ impl World {
     /// The tree now: the nodes that are reached from the root through names. A name that leads to no node
     /// has nothing in the tree.
     pub fn tree(&self) -> Result<Tree, Fault>
-        ensures ok { IfOk result (λ tree. tree ≡ tree_of (length self.now.logs) (plain_of self.now)) }
+        ensures ok { IfOk result (λ tree. tree
+            ≡ tree_of (length self.now.logs) (plain_of self.now)) }
         ensures err { IfErr result (λ fault. fault ≡ Fault.OutOfMemory) }
     {
         let path = Path::from_vec(Vec::new(self.alloc));
@@ -125,7 +126,8 @@ impl World {
         path: Path,
         handle: &Handle,
     ) -> Result<Vec<TreeNode>, AllocError>
-        ensures { IfOk result (λ tree. tree.items ≡ tree_from (node_in (plain_of self.now)) depth path handle.now) }
+        ensures { IfOk result (λ tree. tree.items
+            ≡ tree_from (node_in (plain_of self.now)) depth path handle.now) }
     {
         let alloc = self.alloc;
         let mut tree = Vec::new(alloc);

@@ -1,5 +1,5 @@
 -- A name's value is what the names from scratch bind it to, each once.
-use Rattle.std.proofs.Common.{◌≡◌, ℕ, Bool, true, false, cond, List, [], ◌∷◌, ◌++◌, Option, Some, None, refl, ap, sym, ◌∙◌, subst}
+use Rattle.std.proofs.Common.{◌≡◌, ℕ, Bool, true, false, cond, List, [], ◌∷◌, ◌++◌, Option, Some, None, refl, ap, ◌∙◌}
 use Rattle.std.specs.Prelude.{is_some, option_map}
 use Rattle.nv_base.specs.Names.{same_name}
 use Rattle.nv_base.specs.declared.numbers.Handle.{Handle}
@@ -20,13 +20,15 @@ use Rattle.nv_entry.proofs.Values.{later_of-untouched}
 
 same_name-sym : (a b : List ℕ) (t : Bool) → same_name a b ≡ t → same_name b a ≡ t
 same_name-sym a b true h = let e : a ≡ b = same_name-equal a b h in rw e (same_name-self b)
-same_name-sym a b false h = not_true (same_name b a) (λ t. let e : b ≡ a = same_name-equal b a t in let s : same_name a b ≡ true = rw e (same_name-self a) in cc)
+same_name-sym a b false h = not_true (same_name b a) (λ t. let e : b ≡ a = same_name-equal b a t in let s : same_name a b ≡ true = rw e
+    (same_name-self a) in cc)
 
 -- a key is set where it is covered
 set_where_covered : (block : ℕ) (log : List Entry) (key : Key) → touches (last_setting block log key) ≡ is_some (first_cover block log key)
 set_where_covered block [] key = refl
 set_where_covered block (e ∷ log) key = go (sets block e.item key) (last_setting block log key) (set_where_covered block log key) where
-  go : (s last : Setting) → touches last ≡ is_some (first_cover block log key) → touches (later_of s last) ≡ is_some (cond (touches s) (Some e.epoch) (first_cover block log key))
+  go : (s last : Setting) → touches last ≡ is_some (first_cover block log key)
+      → touches (later_of s last) ≡ is_some (cond (touches s) (Some e.epoch) (first_cover block log key))
   go Untouched Untouched h = h
   go Untouched Absent h = h
   go Untouched (Present value) h = h
@@ -47,7 +49,8 @@ sets-name block (Bind other to) name = refl
 sets-name block (Unbind other) name = refl
 sets-name block Gone name = refl
 
-last_setting-name : (block : ℕ) (log : List Entry) (name : List ℕ) → last_setting block log (NameKey name) ≡ last_setting 1 log (NameKey name)
+last_setting-name : (block : ℕ) (log : List Entry) (name : List ℕ)
+    → last_setting block log (NameKey name) ≡ last_setting 1 log (NameKey name)
 last_setting-name block [] name = refl
 last_setting-name block (e ∷ log) name =
     ap (λ (s : Setting). later_of s (last_setting block log (NameKey name))) (sets-name block e.item name)
@@ -57,10 +60,13 @@ last_setting-name block (e ∷ log) name =
 abbrev bound_value : List ℕ → List BoundName → Option Datum
 bound_value name list = option_map datum.Node (bound_to name list)
 
-bound_before : (n name : List ℕ) (to : Handle) (death : Option ℕ) (last : Setting) (list : List BoundName) → (n ≡ name → touches last ≡ is_some death) → value_of last ≡ bound_value name list
-    → value_of (later_of (cond (same_name n name) (Present (datum.Node to)) Untouched) last) ≡ bound_value name (bound_name (Bind n to) death ++ list)
+bound_before : (n name : List ℕ) (to : Handle) (death : Option ℕ) (last : Setting) (list : List BoundName)
+    → (n ≡ name → touches last ≡ is_some death) → value_of last ≡ bound_value name list
+    → value_of (later_of (cond (same_name n name) (Present (datum.Node to)) Untouched) last) ≡ bound_value name
+    (bound_name (Bind n to) death ++ list)
 bound_before n name to death last list ends h = go (same_name n name) refl death last ends h where
-  go : (b : Bool) → same_name n name ≡ b → (death : Option ℕ) (last : Setting) → (n ≡ name → touches last ≡ is_some death) → value_of last ≡ bound_value name list
+  go : (b : Bool) → same_name n name ≡ b → (death : Option ℕ) (last : Setting) → (n ≡ name → touches last ≡ is_some death)
+      → value_of last ≡ bound_value name list
       → value_of (later_of (cond b (Present (datum.Node to)) Untouched) last) ≡ bound_value name (bound_name (Bind n to) death ++ list)
   go true q None Untouched ends h = rw (same_name-sym n name true q) refl
   go true q None Absent ends h = let k = ends (same_name-equal n name q) in cc
@@ -78,7 +84,8 @@ absent_before true (Present value) = refl
 absent_before false last = ap value_of (later_of-untouched last)
 
 name_before : (item : Item) (log : List Entry) (name : List ℕ) → value_now 1 log (NameKey name) ≡ bound_value name (names_of log)
-    → value_of (later_of (sets 1 item (NameKey name)) (last_setting 1 log (NameKey name))) ≡ bound_value name (bound_name item (first_cover 1 log (NameKey (name_of item))) ++ names_of log)
+    → value_of (later_of (sets 1 item (NameKey name)) (last_setting 1 log (NameKey name))) ≡ bound_value name
+    (bound_name item (first_cover 1 log (NameKey (name_of item))) ++ names_of log)
 name_before (Bind n to) log name h =
     bound_before n name to (first_cover 1 log (NameKey n)) (last_setting 1 log (NameKey name)) (names_of log)
     (λ e. rw e (set_where_covered 1 log (NameKey name))) h
@@ -93,20 +100,24 @@ value_by_one : (log : List Entry) (name : List ℕ) → value_now 1 log (NameKey
 value_by_one [] name = refl
 value_by_one (e ∷ log) name = name_before e.item log name (value_by_one log name)
 
-pub name_value : (block : ℕ) (log : List Entry) (name : List ℕ) → value_now block log (NameKey name) ≡ option_map datum.Node (bound_to name (names_of log))
+pub name_value : (block : ℕ) (log : List Entry) (name : List ℕ)
+    → value_now block log (NameKey name) ≡ option_map datum.Node (bound_to name (names_of log))
 name_value block log name = ap value_of (last_setting-name block log name) ∙ value_by_one log name
 
 -- a name that no later entry covers is bound by none of them
-unbound_after : (name : List ℕ) (last : Setting) (o : Option Handle) → touches last ≡ false → value_of last ≡ option_map datum.Node o → o ≡ None
+unbound_after : (name : List ℕ) (last : Setting) (o : Option Handle) → touches last ≡ false → value_of last ≡ option_map datum.Node o
+    → o ≡ None
 unbound_after name Untouched None t h = refl
 unbound_after name Untouched (Some to) t h = cc
 unbound_after name Absent o t h = cc
 unbound_after name (Present value) o t h = cc
 
-differ_before : (item : Item) (log : List Entry) → NamesDiffer (names_of log) → NamesDiffer (bound_name item (first_cover 1 log (NameKey (name_of item))) ++ names_of log)
+differ_before : (item : Item) (log : List Entry) → NamesDiffer (names_of log)
+    → NamesDiffer (bound_name item (first_cover 1 log (NameKey (name_of item))) ++ names_of log)
 differ_before (Bind n to) log h = go (first_cover 1 log (NameKey n)) refl where
   go : (death : Option ℕ) → first_cover 1 log (NameKey n) ≡ death → NamesDiffer (bound_name (Bind n to) death ++ names_of log)
-  go None q = (unbound_after n (last_setting 1 log (NameKey n)) (bound_to n (names_of log)) (set_where_covered 1 log (NameKey n) ∙ ap is_some q) (value_by_one log n), h)
+  go None q = (unbound_after n (last_setting 1 log (NameKey n)) (bound_to n (names_of log))
+      (set_where_covered 1 log (NameKey n) ∙ ap is_some q) (value_by_one log n), h)
   go (Some death) q = h
 differ_before (Unbind n) log h = h
 differ_before Gone log h = h

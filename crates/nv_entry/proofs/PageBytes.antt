@@ -34,7 +34,8 @@ length-front_text offset text bytes = omega (arith, length-front offset bytes, l
 pub length-written : (offset : ℕ) (text bytes : List ℕ) → length (written offset text bytes) ≡ max (length bytes) (offset + length text)
 length-written offset text bytes =
     let rest = drop (offset + length text) bytes in
-    omega (arith, length-front_text offset text bytes, length-append (front offset bytes ++ text) rest, length-drop (offset + length text) bytes)
+    omega (arith, length-front_text offset text bytes, length-append (front offset bytes ++ text) rest, length-drop
+    (offset + length text) bytes)
 
 zeros_only : (n k : ℕ) → slice_index (replicate n 0) k ≡ 0
 zeros_only zero k = refl
@@ -47,7 +48,8 @@ padded n [] k = zeros_only n k
 padded n (b ∷ bytes) zero = refl
 padded n (b ∷ bytes) (suc k) = padded n bytes k
 
-pub written-before : (offset : ℕ) (text bytes : List ℕ) (k : ℕ) → k < offset → slice_index_or (written offset text bytes) k 0 ≡ slice_index_or bytes k 0
+pub written-before : (offset : ℕ) (text bytes : List ℕ) (k : ℕ) → k < offset
+    → slice_index_or (written offset text bytes) k 0 ≡ slice_index_or bytes k 0
 written-before offset text bytes k lt =
     let n = length-front offset bytes in
     let m = length-front_text offset text bytes in
@@ -56,7 +58,8 @@ written-before offset text bytes k lt =
     ∙ get_or-take offset (bytes ++ replicate (offset - length bytes) 0) k 0 lt
     ∙ padded (offset - length bytes) bytes k
 
-pub written-behind : (offset : ℕ) (text bytes : List ℕ) (k : ℕ) → offset + length text ≤ k → slice_index_or (written offset text bytes) k 0 ≡ slice_index_or bytes k 0
+pub written-behind : (offset : ℕ) (text bytes : List ℕ) (k : ℕ) → offset + length text ≤ k
+    → slice_index_or (written offset text bytes) k 0 ≡ slice_index_or bytes k 0
 written-behind offset text bytes k le =
     let end = offset + length text in
     get_or-append_right (front offset bytes ++ text) (drop end bytes) end k 0 (length-front_text offset text bytes) le
@@ -66,15 +69,20 @@ written-behind offset text bytes k le =
 -- ---- pages
 
 -- a function of the numbers of a range goes by its values there
-map-range_same : (f g : ℕ → ℕ) (a n : ℕ) → ((k : ℕ) → a ≤ k → k < a + n → f k ≡ g k) → map f (range_with_len a n) ≡ map g (range_with_len a n)
+map-range_same : (f g : ℕ → ℕ) (a n : ℕ) → ((k : ℕ) → a ≤ k → k < a + n → f k ≡ g k)
+    → map f (range_with_len a n) ≡ map g (range_with_len a n)
 map-range_same f g a zero same = refl
 map-range_same f g a (suc n) same =
     let first : f a ≡ g a = same a (omega arith) (omega arith) in
-    let rest : map f (range_with_len (a + 1) n) ≡ map g (range_with_len (a + 1) n) = map-range_same f g (a + 1) n (λ k le lt. same k (omega arith) (omega arith)) in
+    let rest : map f (range_with_len (a + 1) n) ≡ map g (range_with_len (a + 1) n) = map-range_same f g (a + 1) n
+    (λ k le lt. same k (omega arith) (omega arith)) in
     ap (λ (x : ℕ). x ∷ map f (range_with_len (a + 1) n)) first ∙ ap (λ (xs : List ℕ). g a ∷ xs) rest
 
-pub page_of-same : (block page : ℕ) (xs ys : List ℕ) → ((k : ℕ) → page * block ≤ k → k < page * block + block → slice_index_or xs k 0 ≡ slice_index_or ys k 0) → page_of block page xs ≡ page_of block page ys
-page_of-same block page xs ys same = map-range_same (λ (k : ℕ). slice_index_or xs k 0) (λ (k : ℕ). slice_index_or ys k 0) (page * block) block same
+pub page_of-same : (block page : ℕ) (xs ys : List ℕ)
+    → ((k : ℕ) → page * block ≤ k → k < page * block + block → slice_index_or xs k 0 ≡ slice_index_or ys k 0)
+    → page_of block page xs ≡ page_of block page ys
+page_of-same block page xs ys same = map-range_same (λ (k : ℕ). slice_index_or xs k 0) (λ (k : ℕ). slice_index_or ys k 0)
+    (page * block) block same
 
 zeros_in : (a n : ℕ) → replicate {A = ℕ} n 0 ≡ map (λ (k : ℕ). let none : List ℕ = [] in slice_index_or none k 0) (range_with_len a n)
 zeros_in a zero = refl
@@ -82,35 +90,42 @@ zeros_in a (suc n) = ap (λ (xs : List ℕ). 0 ∷ xs) (zeros_in (a + 1) n)
 
 -- a page past the end has zeros
 pub page_of-past : (block page : ℕ) (bytes : List ℕ) → length bytes ≤ page * block → replicate block 0 ≡ page_of block page bytes
-page_of-past block page bytes past = zeros_in (page * block) block ∙ page_of-same block page [] bytes (λ k le lt. sym (get_or_past bytes k 0 (omega arith)))
+page_of-past block page bytes past = zeros_in (page * block) block ∙ page_of-same block page [] bytes
+    (λ k le lt. sym (get_or_past bytes k 0 (omega arith)))
 
 -- two ranges, one behind the other
 map-range_more : (f : ℕ → ℕ) (a m n : ℕ) → map f (range_with_len a m) ++ map f (range_with_len (a + m) n) ≡ map f (range_with_len a (m + n))
-map-range_more f a zero n = ap (λ (b : ℕ). map f (range_with_len b n)) (omega arith) ∙ ap (λ (k : ℕ). map f (range_with_len a k)) (omega arith)
+map-range_more f a zero n = ap (λ (b : ℕ). map f (range_with_len b n)) (omega arith) ∙ ap (λ (k : ℕ). map f (range_with_len a k))
+    (omega arith)
 map-range_more f a (suc m) n =
-    let moved : map f (range_with_len (a + suc m) n) ≡ map f (range_with_len (a + 1 + m) n) = ap (λ (b : ℕ). map f (range_with_len b n)) (omega arith) in
+    let moved : map f (range_with_len (a + suc m) n) ≡ map f (range_with_len (a + 1 + m) n) = ap (λ (b : ℕ). map f (range_with_len b n))
+    (omega arith) in
     let shown : suc (m + n) ≡ suc m + n = omega arith in
     ap (λ (xs : List ℕ). f a ∷ (map f (range_with_len (a + 1) m) ++ xs)) moved
     ∙ ap (λ (xs : List ℕ). f a ∷ xs) (map-range_more f (a + 1) m n)
     ∙ ap (λ (k : ℕ). map f (range_with_len a k)) shown
 
 -- pages that follow each other are one range
-pages-range : (f : ℕ → ℕ) (block a n : ℕ) → flat_map (λ page. map f (range_with_len (page * block) block)) (range_with_len a n) ≡ map f (range_with_len (a * block) (n * block))
+pages-range : (f : ℕ → ℕ) (block a n : ℕ)
+    → flat_map (λ page. map f (range_with_len (page * block) block)) (range_with_len a n) ≡ map f (range_with_len (a * block) (n * block))
 pages-range f block a zero = let none : zero ≡ zero * block = omega arith in ap (λ (k : ℕ). map f (range_with_len (a * block) k)) none
 pages-range f block a (suc n) =
     let place : (a + 1) * block ≡ a * block + block = omega arith in
     let count : block + n * block ≡ suc n * block = omega arith in
-    ap (λ (xs : List ℕ). map f (range_with_len (a * block) block) ++ xs) (pages-range f block (a + 1) n ∙ ap (λ (b : ℕ). map f (range_with_len b (n * block))) place)
+    ap (λ (xs : List ℕ). map f (range_with_len (a * block) block) ++ xs)
+    (pages-range f block (a + 1) n ∙ ap (λ (b : ℕ). map f (range_with_len b (n * block))) place)
     ∙ map-range_more f (a * block) block (n * block)
     ∙ ap (λ (k : ℕ). map f (range_with_len (a * block) k)) count
 
 -- a file is its pages, cut to its length
-pub joined_pages : (block : ℕ) (bytes : List ℕ) → 0 < block → take (length bytes) (flat_map (λ page. page_of block page bytes) (range_with_len 0 (div_ceil (length bytes) block))) ≡ bytes
+pub joined_pages : (block : ℕ) (bytes : List ℕ) → 0 < block
+    → take (length bytes) (flat_map (λ page. page_of block page bytes) (range_with_len 0 (div_ceil (length bytes) block))) ≡ bytes
 joined_pages block bytes some =
     let byte = λ (k : ℕ). slice_index_or bytes k 0 in
     let count : ℕ = div_ceil (length bytes) block in
     let start : 0 * block ≡ 0 = omega arith in
-    ap (λ (xs : List ℕ). take (length bytes) xs) (pages-range byte block 0 count ∙ ap (λ (b : ℕ). map byte (range_with_len b (count * block))) start)
+    ap (λ (xs : List ℕ). take (length bytes) xs) (pages-range byte block 0 count ∙ ap
+    (λ (b : ℕ). map byte (range_with_len b (count * block))) start)
     ∙ take-map-range_with_len byte 0 (count * block) (length bytes) (div_ceil_times (length bytes) block some).0
     ∙ sym (fill_by_all byte bytes (length bytes) 0 refl (λ k lt. refl))
 
@@ -122,11 +137,13 @@ pub touched_end : (block offset count most : ℕ) → 0 < block → 0 < count �
 touched_end block offset count most some any fits =
     let last : (offset + count - 1) / block < most = div_below (offset + count - 1) block most some (omega arith) in
     let first : offset / block < most = div_below offset block most some (omega arith) in
-    let rises : offset / block ≤ (offset + count - 1) / block = le-div (offset / block) (offset + count - 1) block some (omega (arith, div-mul-le_self offset block)) in
+    let rises : offset / block ≤ (offset + count - 1) / block = le-div (offset / block) (offset + count - 1) block some
+    (omega (arith, div-mul-le_self offset block)) in
     (first, omega arith)
 
 -- a page before them ends by the offset, and one behind them begins where the text has ended
-touches_not : (block offset count page : ℕ) → 0 < block → 0 < count → (page < offset / block) ⊎ (offset / block + pages_touched block offset count ≤ page)
+touches_not : (block offset count page : ℕ) → 0 < block → 0 < count
+    → (page < offset / block) ⊎ (offset / block + pages_touched block offset count ≤ page)
     → (page * block + block ≤ offset) ⊎ (offset + count ≤ page * block)
 touches_not block offset count page some any (inl before) =
     let whole : (page + 1) * block ≤ offset / block * block = mul-le-mul_right block (omega arith) in
@@ -138,15 +155,21 @@ touches_not block offset count page some any (inr behind) =
     let below : last < last / block * block + block = lt-div-mul-add some in
     inr (omega arith)
 
-page_of-apart : (block page offset : ℕ) (text bytes : List ℕ) → (page * block + block ≤ offset) ⊎ (offset + length text ≤ page * block) → page_of block page (written offset text bytes) ≡ page_of block page bytes
-page_of-apart block page offset text bytes (inl before) = page_of-same block page (written offset text bytes) bytes (λ k le lt. written-before offset text bytes k (omega arith))
-page_of-apart block page offset text bytes (inr behind) = page_of-same block page (written offset text bytes) bytes (λ k le lt. written-behind offset text bytes k (omega arith))
+page_of-apart : (block page offset : ℕ) (text bytes : List ℕ) → (page * block + block ≤ offset) ⊎ (offset + length text ≤ page * block)
+    → page_of block page (written offset text bytes) ≡ page_of block page bytes
+page_of-apart block page offset text bytes (inl before) = page_of-same block page (written offset text bytes) bytes
+    (λ k le lt. written-before offset text bytes k (omega arith))
+page_of-apart block page offset text bytes (inr behind) = page_of-same block page (written offset text bytes) bytes
+    (λ k le lt. written-behind offset text bytes k (omega arith))
 
 -- each page after a write is the one that the run has, or was there before
-written_page : (bytes : ℕ → List ℕ) (block offset : ℕ) (text old : List ℕ) (run : Run) (page : ℕ) → 0 < block → 0 < length text → offset + length text ≤ 65536 * block → HasText bytes block offset text old run
-    → page_of block page (written offset text old) ≡ cond (in_run (offset / block) run page) (bytes (run.start + (page - offset / block))) (page_of block page old)
+written_page : (bytes : ℕ → List ℕ) (block offset : ℕ) (text old : List ℕ) (run : Run) (page : ℕ) → 0 < block → 0 < length text
+    → offset + length text ≤ 65536 * block → HasText bytes block offset text old run
+    → page_of block page (written offset text old) ≡ cond (in_run (offset / block) run page) (bytes (run.start + (page - offset / block)))
+    (page_of block page old)
 written_page bytes block offset text old run page some any fits has = go (in_run (offset / block) run page) refl where
-  apart : in_run (offset / block) run page ≡ false → (page < offset / block) ⊎ (offset / block ≤ page) → (page < offset / block + run.len) ⊎ (offset / block + run.len ≤ page)
+  apart : in_run (offset / block) run page ≡ false → (page < offset / block) ⊎ (offset / block ≤ page)
+      → (page < offset / block + run.len) ⊎ (offset / block + run.len ≤ page)
       → (page < offset / block) ⊎ (offset / block + pages_touched block offset (length text) ≤ page)
   apart q (inl lt) _ = inl lt
   apart q (inr le) (inl lt) =
@@ -155,17 +178,22 @@ written_page bytes block offset text old run page some any fits has = go (in_run
       cc
   apart q (inr le) (inr past) = inr (omega (arith, has.count))
 
-  go : (b : Bool) → in_run (offset / block) run page ≡ b → page_of block page (written offset text old) ≡ cond b (bytes (run.start + (page - offset / block))) (page_of block page old)
+  go : (b : Bool) → in_run (offset / block) run page ≡ b
+      → page_of block page (written offset text old) ≡ cond b (bytes (run.start + (page - offset / block))) (page_of block page old)
   go true q =
       let p = run_parts (offset / block) run page q in
       let place : offset / block + (page - offset / block) ≡ page = omega (arith, p) in
       sym (has.filled (page - offset / block) (omega (arith, p)) ∙ ap (λ (n : ℕ). page_of block n (written offset text old)) place)
   go false q =
       page_of-apart block page offset text old
-      (touches_not block offset (length text) page some any (apart q (cases_lt page (offset / block)) (cases_lt page (offset / block + run.len))))
+      (touches_not block offset (length text) page some any (apart q (cases_lt page (offset / block))
+      (cases_lt page (offset / block + run.len))))
 
-pub written_makes : (bytes : ℕ → List ℕ) (block offset : ℕ) (text : List ℕ) (run : Run) (node : NodeCopy) → 0 < block → 0 < length text → offset + length text ≤ 65536 * block → length node.bytes ≤ 65536 * block
-    → HasText bytes block offset text node.bytes run → Makes bytes block (Write (offset / block) run (length (written offset text node.bytes))) (Some node) (Some (rewritten offset text node))
+pub written_makes : (bytes : ℕ → List ℕ) (block offset : ℕ) (text : List ℕ) (run : Run) (node : NodeCopy) → 0 < block → 0 < length text
+    → offset + length text ≤ 65536 * block → length node.bytes ≤ 65536 * block
+    → HasText bytes block offset text node.bytes run
+    → Makes bytes block (Write (offset / block) run (length (written offset text node.bytes))) (Some node)
+    (Some (rewritten offset text node))
 written_makes bytes block offset text run node some any fits old has = record {
   same = refl;
   length = refl;

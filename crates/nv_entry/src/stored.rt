@@ -27,34 +27,38 @@ pub fn names_are_values()
 /// One more entry changes what a log has stored as its item says, whatever the log.
 pub fn one_more_item()
     ensures { (bytes : ℕ → List ℕ) (block : ℕ) (log : List Entry) (e : Entry)
-        → stored bytes block (log ++ e ∷ []) ≡ stored_after bytes block e.item (stored bytes block log) }
+        → stored bytes block (log ++ e ∷ [])
+        ≡ stored_after bytes block e.item (stored bytes block log) }
 {}
 
 /// Several more entries change it as their items say, one after another.
 pub fn several_items()
-    ensures { (bytes : ℕ → List ℕ) (block : ℕ) (log more : List Entry) → stored bytes block (log ++ more)
+    ensures { (bytes : ℕ → List ℕ) (block : ℕ) (log more : List Entry)
+        → stored bytes block (log ++ more)
         ≡ stored_after_all bytes block (map (λ (e : Entry). e.item) more) (stored bytes block log) }
 {}
 
 /// A log gives the node that is stored in it, and is sound.
 pub fn stored_node_is_given()
-    ensures { (bytes : ℕ → List ℕ) (block : ℕ) (log : List Entry) (node : Option NodeCopy) → 0 < block
-        → Tied block (stored bytes block log) node → Gives bytes block log node }
+    ensures { (bytes : ℕ → List ℕ) (block : ℕ) (log : List Entry) (node : Option NodeCopy)
+        → 0 < block → Tied block (stored bytes block log) node → Gives bytes block log node }
 {}
 
 /// An empty log is sound, and stays so with each lawful item.
 pub fn lawful_items_keep_logs_sound()
     ensures none { (bytes : ℕ → List ℕ) (block : ℕ) → IsSound bytes block [] }
-    ensures more { (bytes : ℕ → List ℕ) (block : ℕ) (log : List Entry) (e : Entry) (after : Option NodeCopy)
-        → 0 < block → IsSound bytes block log → Makes bytes block e.item (node_now bytes block log) after
+    ensures more { (bytes : ℕ → List ℕ) (block : ℕ) (log : List Entry) (e : Entry)
+        (after : Option NodeCopy) → 0 < block → IsSound bytes block log
+        → Makes bytes block e.item (node_now bytes block log) after
         → Gives bytes block (log ++ e ∷ []) after }
 {}
 
 /// The item of a write whose run has the pages that the text touches makes of a node what the write makes
 /// of it.
 pub fn written_pages_are_lawful()
-    ensures { (bytes : ℕ → List ℕ) (block offset : ℕ) (text : List ℕ) (run : Run) (node : NodeCopy) → 0 < block
-        → 0 < length text → offset + length text ≤ 65536 * block → length node.bytes ≤ 65536 * block
+    ensures { (bytes : ℕ → List ℕ) (block offset : ℕ) (text : List ℕ) (run : Run) (node : NodeCopy)
+        → 0 < block → 0 < length text → offset + length text ≤ 65536 * block
+        → length node.bytes ≤ 65536 * block
         → HasText bytes block offset text node.bytes run
         → Makes bytes block (Write (offset / block) run (length (written offset text node.bytes)))
         (Some node) (Some (rewritten offset text node)) }
@@ -63,9 +67,11 @@ pub fn written_pages_are_lawful()
 /// A log gives the same node where the blocks that it uses have the same bytes, and with one more entry it
 /// uses no others but those of the entry's run.
 pub fn logs_use_their_blocks()
-    ensures same { (bytes other : ℕ → List ℕ) (block : ℕ) (log : List Entry) → 0 < block → IsSound bytes block log
+    ensures same { (bytes other : ℕ → List ℕ) (block : ℕ) (log : List Entry)
+        → 0 < block → IsSound bytes block log
         → ((number : ℕ) → Uses block log number → other number ≡ bytes number)
         → Gives other block log (node_now bytes block log) }
-    ensures more { (block : ℕ) (log : List Entry) (e : Entry) (number : ℕ) → Uses block (log ++ e ∷ []) number
+    ensures more { (block : ℕ) (log : List Entry) (e : Entry) (number : ℕ)
+        → Uses block (log ++ e ∷ []) number
         → Uses block log number ⊎ IsItemBlock e.item number }
 {}

@@ -7,3 +7,4 @@ mod logs;
 mod nodes;
 mod refs;
 mod rows;
+mod stored;

@@ -9,4 +9,5 @@ abbrev pub decreases-tree_from : goal.decreases-tree_from
 decreases-tree_from l = l.depth
 
 abbrev pub invariant-loop-bound : goal.invariant-loop-bound
-invariant-loop-bound l = l.below.items ≡ flat_map (tree_below (node_in (plain_of l.self)) (l.depth - 1) l.fn.path) (take l.bound-index l.bound-items)
+invariant-loop-bound l = l.below.items ≡ flat_map (tree_below (node_in (plain_of l.self)) (l.depth - 1) l.fn.path)
+    (take l.bound-index l.bound-items)

@@ -9,14 +9,15 @@ use Rattle.nv_entry.specs.declared.item.Item.TheVariants.{Write}
 use Rattle.nv_core.specs.Changed.{new_entry, new_pages, wrote}
 use Rattle.nv_core.specs.Logs.{logs_of}
 use Rattle.nv_core.specs.World.{IsWorld, bytes_in, log_at, value_of}
-use Rattle.nv_core.proofs.LogLists.{entries-at}
+use Rattle.nv_core.proofs.LogLists.{log_here}
 use Rattle.nv_core.proofs.Changes.{write_passed, wrote_stands}
 use Rattle.nv_core.proofs.world.World.write.Goals as goal
 
 pub cut_pages-requires-clause-end : goal.cut_pages-requires-clause-end
 cut_pages-requires-clause-end c =
     let fits = rw (← c.self.view_is) at c.in_ok-check_write.ensures.fits in
-    let end = touched_end c.self.inside.geometry.block c.args.offset (length c.args.text.now) 65536 c.self.invariant.0.some_bytes c.requires fits in
+    let end = touched_end c.self.inside.geometry.block c.args.offset
+    (length c.args.text.now) 65536 c.self.invariant.0.some_bytes c.requires fits in
     let count = c.pages_touched-count.ensures in
     omega (arith, end.1, count)
 
@@ -24,41 +25,53 @@ cut_pages-requires-clause-end c =
 start_of : (c : goal.After-drop-bytes-2) → c.next_run-run.result.start ≡ length c.args.self.now.data_blocks
 start_of c = c.next_run-run.ensures.start ∙ ap (λ w. length w.data_blocks) c.self.view_is
 
-count_of : (c : goal.After-drop-bytes-2) → c.next_run-run.result.len ≡ pages_touched c.args.self.now.block c.args.offset (length c.args.text.now)
-count_of c = c.next_run-run.ensures.len ∙ c.pages_touched-count.ensures ∙ ap (λ w. pages_touched w.block c.args.offset (length c.args.text.now)) c.self.view_is
+count_of : (c : goal.After-drop-bytes-2) → c.next_run-run.result.len ≡ pages_touched c.args.self.now.block c.args.offset
+    (length c.args.text.now)
+count_of c = c.next_run-run.ensures.len ∙ c.pages_touched-count.ensures ∙ ap
+    (λ w. pages_touched w.block c.args.offset (length c.args.text.now)) c.self.view_is
 
 -- the bytes after the write
-bytes_of : (c : goal.After-drop-bytes-2) → c.in_ok-bytes.bytes.items ≡ written c.args.offset c.args.text.now (file_bytes (bytes_in c.self.inside.blocks) c.self.inside.geometry.block (log_at (logs_of c.self.inside.logs) c.args.file.ino))
+bytes_of : (c : goal.After-drop-bytes-2) → c.in_ok-bytes.bytes.items ≡ written c.args.offset c.args.text.now
+    (file_bytes (bytes_in c.self.inside.blocks) c.self.inside.geometry.block (log_at (logs_of c.self.inside.logs) c.args.file.ino))
 bytes_of c =
     let w = c.self.inside in
     let within : c.slot_of-ino.result < length w.logs.items = grind (arith, common_steps) in
-    let log : c.deref.result.now ≡ log_at (logs_of w.logs) c.args.file.ino = c.deref.ensures.value ∙ ap (λ l. l.items) c.index.ensures ∙ sym (entries-at w.logs.items c.slot_of-ino.result c.index.result.now within) ∙ ap (log_at (logs_of w.logs)) c.slot_of-ino.ensures in
+    let log = log_here w.logs.items c.index.result.now c.deref.result.now c.slot_of-ino.result c.args.file.ino
+    within c.deref.ensures.value c.index.ensures c.slot_of-ino.ensures in
     c.in_ok-bytes.ensures ∙ ap (λ l. written c.args.offset c.args.text.now (file_bytes (bytes_in w.blocks) w.geometry.block l)) log
 
 -- the log after the write
-log_of : (c : goal.After-drop-bytes-2) → logs_of c.add_pages.new.logs ≡ slice_set (logs_of c.self.inside.logs) c.args.file.ino (log_at (logs_of c.self.inside.logs) c.args.file.ino ++ new_entry (c.self.inside.commit + 1) 0 (Write (c.args.offset / c.self.inside.geometry.block) c.next_run-run.result (length c.in_ok-bytes.bytes.items)) ∷ [])
+log_of : (c : goal.After-drop-bytes-2) → logs_of c.add_pages.new.logs ≡ slice_set (logs_of c.self.inside.logs) c.args.file.ino
+    (log_at (logs_of c.self.inside.logs) c.args.file.ino ++ new_entry (c.self.inside.commit + 1) 0
+    (Write (c.args.offset / c.self.inside.geometry.block) c.next_run-run.result (length c.in_ok-bytes.bytes.items)) ∷ [])
 log_of c =
     let w = c.self.inside in
     let slot = c.slot_of-ino.ensures in
     let commit : c.in_ok-commit.commit ≡ w.commit + 1 = c.in_ok-commit.ensures.ok.0 ∙ sym (ap (λ v. v.commit + 1) c.self.view_is) in
     let len : c.len.result ≡ length c.in_ok-bytes.bytes.items = search rules in
-    let made : c.write_entry-entry.result ≡ new_entry (w.commit + 1) 0 (Write (c.args.offset / w.geometry.block) c.next_run-run.result (length c.in_ok-bytes.bytes.items)) = cc in
+    let made : c.write_entry-entry.result ≡ new_entry (w.commit + 1) 0
+    (Write (c.args.offset / w.geometry.block) c.next_run-run.result (length c.in_ok-bytes.bytes.items)) = cc in
     c.in_ok-add_pages.ensures.log
     ∙ ap (λ n. slice_set (logs_of w.logs) n (log_at (logs_of w.logs) n ++ c.write_entry-entry.result ∷ [])) slot
     ∙ ap (λ e. slice_set (logs_of w.logs) c.args.file.ino (log_at (logs_of w.logs) c.args.file.ino ++ e ∷ [])) made
 
 -- the blocks after the write
-blocks_of : (c : goal.After-drop-bytes-2) → c.add_pages.new.blocks ≡ c.self.inside.blocks ++ new_pages c.self.inside.geometry.block c.args.offset c.args.text.now c.in_ok-bytes.bytes.items
+blocks_of : (c : goal.After-drop-bytes-2) → c.add_pages.new.blocks
+    ≡ c.self.inside.blocks ++ new_pages c.self.inside.geometry.block c.args.offset c.args.text.now c.in_ok-bytes.bytes.items
 blocks_of c =
     let w = c.self.inside in
-    let pages : c.in_ok-pages.pages.items ≡ map (λ page. page_of w.geometry.block page c.in_ok-bytes.bytes.items) (range_with_len (c.args.offset / w.geometry.block) c.pages_touched-count.result) =
-    c.in_ok-pages.ensures ∙ ap (λ bytes. map (λ page. page_of w.geometry.block page bytes) (range_with_len (c.args.offset / w.geometry.block) c.pages_touched-count.result)) c.deref-2.ensures.value in
+    let pages : c.in_ok-pages.pages.items ≡ map (λ page. page_of w.geometry.block page c.in_ok-bytes.bytes.items)
+    (range_with_len (c.args.offset / w.geometry.block) c.pages_touched-count.result) =
+    c.in_ok-pages.ensures ∙ ap (λ bytes. map (λ page. page_of w.geometry.block page bytes)
+    (range_with_len (c.args.offset / w.geometry.block) c.pages_touched-count.result)) c.deref-2.ensures.value in
     c.in_ok-add_pages.ensures.blocks
-    ∙ ap (λ pages. w.blocks ++ pages) (pages ∙ ap (λ n. map (λ page. page_of w.geometry.block page c.in_ok-bytes.bytes.items) (range_with_len (c.args.offset / w.geometry.block) n)) c.pages_touched-count.ensures)
+    ∙ ap (λ pages. w.blocks ++ pages) (pages ∙ ap (λ n. map (λ page. page_of w.geometry.block page c.in_ok-bytes.bytes.items)
+    (range_with_len (c.args.offset / w.geometry.block) n)) c.pages_touched-count.ensures)
 
 -- the world after the write
 world_of : (c : goal.After-drop-bytes-2) → wrote c.args.self.now c.args.file c.args.offset c.args.text.now c.next_run-run.result
-    ≡ value_of c.self.inside.geometry.block c.self.inside.geometry.blocks c.self.inside.geometry.inodes (logs_of c.add_pages.new.logs) c.add_pages.new.blocks c.in_ok-commit.commit c.self.inside.calls.items
+    ≡ value_of c.self.inside.geometry.block c.self.inside.geometry.blocks c.self.inside.geometry.inodes
+    (logs_of c.add_pages.new.logs) c.add_pages.new.blocks c.in_ok-commit.commit c.self.inside.calls.items
 world_of c =
     let w = c.self.inside in
     let bytes = sym (bytes_of c) in
@@ -68,8 +81,10 @@ world_of c =
 pub invariant_of-self-2 : goal.invariant_of-self-2
 invariant_of-self-2 c =
     let old : IsWorld c.args.self.now = rw (← c.self.view_is) c.self.invariant.0 in
-    let passed = write_passed c.args.self.now c.args.file c.args.offset c.args.text.now (sym c.check_write.ensures.check ∙ c.in_ok-check_write.was) in
-    let law = wrote_stands c.args.self.now c.args.file c.args.offset c.args.text.now c.next_run-run.result old c.requires passed (start_of c) (count_of c) c.in_ok-commit.ensures.ok.1 in
+    let passed = write_passed c.args.self.now c.args.file c.args.offset c.args.text.now
+    (sym c.check_write.ensures.check ∙ c.in_ok-check_write.was) in
+    let law = wrote_stands c.args.self.now c.args.file c.args.offset c.args.text.now c.next_run-run.result old c.requires passed
+    (start_of c) (count_of c) c.in_ok-commit.ensures.ok.1 in
     (subst IsWorld (world_of c) law.lawful, c.self.invariant.1)
 
 pub returns-clause-ok : goal.returns-clause-ok
