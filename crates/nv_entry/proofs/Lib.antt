@@ -1,3 +1,4 @@
+pub mod BlockSize
 pub mod Dying
 pub mod Flags
 pub mod Hiding

@@ -18,8 +18,9 @@ use Rattle.nv_entry.specs.Index.{last_cover, source_of, page_source, bound_name,
 use Rattle.nv_entry.specs.Keys.{Key, KindKey, ModeKey, SizeKey, NameKey, PageKey, sets, touches, covers, name_of, pages_for}
 use Rattle.nv_entry.specs.Laws.{ReadsSame}
 use Rattle.nv_entry.specs.Log.{later_of, last_setting, value_of, value_now, first_cover}
-use Rattle.nv_entry.specs.Node.{page_bytes, mode_now, file_bytes, node_of_kind, node_now}
+use Rattle.nv_entry.specs.Node.{page_bytes, mode_now, size_now, file_bytes, node_of_kind, node_now}
 use Rattle.nv_entry.proofs.Hiding.{same_name-self}
+use Rattle.nv_entry.proofs.BlockSize.{sets_by}
 use Rattle.nv_entry.proofs.Values.{last_cover-append, last_setting-append, later_of-untouched}
 
 -- an entry of a log covers the key
@@ -65,8 +66,8 @@ value_same : (block : ℕ) (before : List Entry) (e : Entry) (later : List Entry
 value_same block before e later h key =
     ap value_of (last_setting-append block before later key)
     ∙ middle (last_setting block before key) (sets block e.item key) (last_setting block later key)
-      (λ a. touches-last_setting block before key ∙ h.hides_nothing key a)
-      (λ d p. touches-last_setting block later key ∙ h.dead key d p)
+    (λ a. touches-last_setting block before key ∙ h.hides_nothing key a)
+    (λ d p. touches-last_setting block later key ∙ h.dead key d p)
     ∙ ap value_of (sym (last_setting-append block before (e ∷ later) key))
 
 -- ---- sources
@@ -121,13 +122,7 @@ source_same block before e later h page = last_stays block (λ x. source_of x (s
 
 -- the size of blocks says nothing of names
 name_cover : (block : ℕ) (item : Item) (name : List ℕ) → covers block item (NameKey name) ≡ covers 1 item (NameKey name)
-name_cover block (Init kind mode) name = refl
-name_cover block (Write first run size) name = refl
-name_cover block (SetSize size) name = refl
-name_cover block (SetMode mode) name = refl
-name_cover block (Bind n to) name = refl
-name_cover block (Unbind n) name = refl
-name_cover block Gone name = refl
+name_cover block item name = ap touches (sets_by block 1 item (NameKey name) refl)
 
 names_cover : (block : ℕ) (log : List Entry) (name : List ℕ) → covered block log (NameKey name) ≡ covered 1 log (NameKey name)
 names_cover block [] name = refl
@@ -199,7 +194,7 @@ bound_stays block front x mid e later h = go x.item refl where
   go (Bind name to) q =
       let c : covers block x.item (NameKey name) ≡ true = rw (q, same_name-self name) refl in
       bound_by (Bind name to) (first_cover 1 (mid ++ later) (NameKey name)) (first_cover 1 (mid ++ e ∷ later) (NameKey name))
-        (dead_name block (mid ++ later) name ∙ rest_covered block front x mid e later (NameKey name) h c ∙ sym (dead_name block (mid ++ e ∷ later) name))
+      (dead_name block (mid ++ later) name ∙ rest_covered block front x mid e later (NameKey name) h c ∙ sym (dead_name block (mid ++ e ∷ later) name))
   go (Init kind mode) q = refl
   go (Write first run size) q = refl
   go (SetSize size) q = refl
@@ -225,22 +220,25 @@ bytes_by bytes block value =
 bytes_same : (bytes : ℕ → List ℕ) (block : ℕ) (old new : List Entry) → ((key : Key) → value_now block new key ≡ value_now block old key) → file_bytes bytes block new ≡ file_bytes bytes block old
 bytes_same bytes block old new h = ap (bytes_by bytes block) (fun_ext h)
 
-node_by : (v : Option Datum) (bytes : ℕ → List ℕ) (block : ℕ) (old new : List Entry) → mode_now block new ≡ mode_now block old → file_bytes bytes block new ≡ file_bytes bytes block old → names_of new ≡ names_of old
+node_by : (v : Option Datum) (bytes : ℕ → List ℕ) (block : ℕ) (old new : List Entry) → mode_now block new ≡ mode_now block old → size_now block new ≡ size_now block old → file_bytes bytes block new ≡ file_bytes bytes block old → names_of new ≡ names_of old
     → node_of_kind v bytes block new ≡ node_of_kind v bytes block old
-node_by None bytes block old new p q r = refl
-node_by (Some (datum.Kind kind)) bytes block old new p q r = cc
-node_by (Some (datum.Mode mode)) bytes block old new p q r = refl
-node_by (Some (datum.Size size)) bytes block old new p q r = refl
-node_by (Some (datum.Node to)) bytes block old new p q r = refl
-node_by (Some (datum.Block number)) bytes block old new p q r = refl
+node_by None bytes block old new p s q r = refl
+node_by (Some (datum.Kind kind)) bytes block old new p s q r = cc
+node_by (Some (datum.Mode mode)) bytes block old new p s q r = refl
+node_by (Some (datum.Size size)) bytes block old new p s q r = refl
+node_by (Some (datum.Node to)) bytes block old new p s q r = refl
+node_by (Some (datum.Block number)) bytes block old new p s q r = refl
 
 mode_same : (block : ℕ) (old new : List Entry) → value_now block new ModeKey ≡ value_now block old ModeKey → mode_now block new ≡ mode_now block old
 mode_same block old new h = ap (λ (v : Option Datum). unwrap_or (option_and_then mode_in v) 0) h
 
+size_same : (block : ℕ) (old new : List Entry) → value_now block new SizeKey ≡ value_now block old SizeKey → size_now block new ≡ size_now block old
+size_same block old new h = ap (λ (v : Option Datum). unwrap_or (option_and_then size_in v) 0) h
+
 node_same : (bytes : ℕ → List ℕ) (block : ℕ) (old new : List Entry) → ((key : Key) → value_now block new key ≡ value_now block old key) → names_of new ≡ names_of old → node_now bytes block new ≡ node_now bytes block old
 node_same bytes block old new values names =
     ap (λ (v : Option Datum). node_of_kind v bytes block new) (values KindKey)
-    ∙ node_by (value_now block old KindKey) bytes block old new (mode_same block old new (values ModeKey)) (bytes_same bytes block old new values) names
+    ∙ node_by (value_now block old KindKey) bytes block old new (mode_same block old new (values ModeKey)) (size_same block old new (values SizeKey)) (bytes_same bytes block old new values) names
 
 -- ---- all of it
 
