@@ -58,6 +58,7 @@ entry_step r flags log i e b len lt is test =
     ∙ ap (λ ys. flags ++ ys) (go b test ∙ ap (entries_stay r (select flags log)) (sym (rest_is log i e lt is))) where
       one : select flags log ++ take 1 (drop (length flags) log) ≡ select flags log ++ e ∷ []
       one = ap (λ n. select flags log ++ take 1 (drop n log)) len ∙ ap (λ xs. select flags log ++ take 1 xs) (rest_is log i e lt is)
+
       go : (b : Bool) → b ≡ is_droppable r (select flags log) e (drop (i + 1) log) → not b ∷ entries_stay r (select (flags ++ not b ∷ []) log) (drop (i + 1) log) ≡ entries_stay r (select flags log) (e ∷ drop (i + 1) log)
       go true q = rw (← q) (ap (λ kept. false ∷ entries_stay r kept (drop (i + 1) log)) (select-gone flags 1 log))
       go false q = rw (← q) (ap (λ kept. true ∷ entries_stay r kept (drop (i + 1) log)) (select-stays flags 1 log ∙ one))
@@ -105,7 +106,7 @@ pub page_step : (r : Retention) (flags shown : List Bool) (log : List Entry) (co
     → length flags + sum (drop i counts) ≡ length log
     → b ≡ page_goes r (select flags log) (take (get_or counts i 0) (drop (length flags) log)) (drop (get_or counts i 0) (drop (length flags) log))
     → (shown ++ not b ∷ []) ++ pages_stay r (select (flags ++ replicate (get_or counts i 0) (not b)) log) (pages_by (drop (i + 1) counts) (drop (length (flags ++ replicate (get_or counts i 0) (not b))) log))
-      ≡ shown ++ pages_stay r (select flags log) (pages_by (drop i counts) (drop (length flags) log))
+    ≡ shown ++ pages_stay r (select flags log) (pages_by (drop i counts) (drop (length flags) log))
 page_step r flags shown log counts i b lt total test =
     let count = get_or counts i 0 in
     let rest : List Entry = drop (length flags) log in
@@ -116,10 +117,10 @@ page_step r flags shown log counts i b lt total test =
     let later : entries_of (pages_by (drop (i + 1) counts) (drop count rest)) ≡ drop count rest = entries_of-pages_by (drop (i + 1) counts) (drop count rest) (omega (arith, total, more, length-drop count rest, length-drop (length flags) log)) in
     append_assoc shown (not b ∷ []) (pages_stay r (select (flags ++ replicate count (not b)) log) (pages_by (drop (i + 1) counts) (drop (length (flags ++ replicate count (not b))) log)))
     ∙ ap (λ ys. shown ++ ys) (ap (λ xs. not b ∷ pages_stay r (select (flags ++ replicate count (not b)) log) (pages_by (drop (i + 1) counts) xs)) left
-      ∙ go count b (test ∙ ap (page_goes r (select flags log) (take count rest)) (sym later))
-      ∙ ap (λ xs. pages_stay r (select flags log) (pages_by xs rest)) (sym split)) where
-        go : (count : ℕ) (b : Bool) → b ≡ page_goes r (select flags log) (take count (drop (length flags) log)) (entries_of (pages_by (drop (i + 1) counts) (drop count (drop (length flags) log))))
-            → not b ∷ pages_stay r (select (flags ++ replicate count (not b)) log) (pages_by (drop (i + 1) counts) (drop count (drop (length flags) log)))
-              ≡ pages_stay r (select flags log) (pages_by (count ∷ drop (i + 1) counts) (drop (length flags) log))
-        go count true q = rw (← q) (ap (λ kept. false ∷ pages_stay r kept (pages_by (drop (i + 1) counts) (drop count (drop (length flags) log)))) (select-gone flags count log))
-        go count false q = rw (← q) (ap (λ kept. true ∷ pages_stay r kept (pages_by (drop (i + 1) counts) (drop count (drop (length flags) log)))) (select-stays flags count log))
+    ∙ go count b (test ∙ ap (page_goes r (select flags log) (take count rest)) (sym later))
+    ∙ ap (λ xs. pages_stay r (select flags log) (pages_by xs rest)) (sym split)) where
+      go : (count : ℕ) (b : Bool) → b ≡ page_goes r (select flags log) (take count (drop (length flags) log)) (entries_of (pages_by (drop (i + 1) counts) (drop count (drop (length flags) log))))
+          → not b ∷ pages_stay r (select (flags ++ replicate count (not b)) log) (pages_by (drop (i + 1) counts) (drop count (drop (length flags) log)))
+          ≡ pages_stay r (select flags log) (pages_by (count ∷ drop (i + 1) counts) (drop (length flags) log))
+      go count true q = rw (← q) (ap (λ kept. false ∷ pages_stay r kept (pages_by (drop (i + 1) counts) (drop count (drop (length flags) log)))) (select-gone flags count log))
+      go count false q = rw (← q) (ap (λ kept. true ∷ pages_stay r kept (pages_by (drop (i + 1) counts) (drop count (drop (length flags) log)))) (select-stays flags count log))

@@ -141,8 +141,8 @@ all_living r (s ∷ snapshots) f g = (
     out = λ from to h. (or_false (nat_le from s && nat_lt s to) (is_held_between snapshots from to) (g from to h)).0;
   },
   all_living r snapshots
-    (λ pair h. (or_false (holds s pair) (is_held snapshots pair) (f pair h)).1)
-    (λ from to h. (or_false (nat_le from s && nat_lt s to) (is_held_between snapshots from to) (g from to h)).1),
+      (λ pair h. (or_false (holds s pair) (is_held snapshots pair) (f pair h)).1)
+      (λ from to h. (or_false (nat_le from s && nat_lt s to) (is_held_between snapshots from to) (g from to h)).1),
 )
 
 pub living : (r : Retention) → AllByRecursion (Living r) r.snapshots
@@ -180,7 +180,7 @@ parts_stay : (r : Retention) (test : Pair → Bool) → Steady r test → (front
 parts_stay r test steady front x mid e later h follow [] set = tt
 parts_stay r test steady front x mid e later h follow (p ∷ parts) set = (
   steady.stays x p (first_cover r.block (mid ++ e ∷ later) (key_of x.item p)) (first_cover r.block (mid ++ later) (key_of x.item p))
-    (moved r front x mid e later (key_of x.item p) h follow (present_covers r.block x (key_of x.item p) set.0)),
+      (moved r front x mid e later (key_of x.item p) h follow (present_covers r.block x (key_of x.item p) set.0)),
   parts_stay r test steady front x mid e later h follow parts set.1,
 )
 

@@ -20,6 +20,7 @@ use Rattle.nv_entry.specs.Laws.{ReadsSame}
 use Rattle.nv_entry.specs.Log.{later_of, last_setting, value_of, value_now, first_cover}
 use Rattle.nv_entry.specs.Node.{page_bytes, mode_now, size_now, file_bytes, node_of_kind, node_now}
 use Rattle.nv_entry.proofs.Hiding.{same_name-self}
+use Rattle.nv_entry.proofs.BlockSize.{sets_by}
 use Rattle.nv_entry.proofs.Values.{last_cover-append, last_setting-append, later_of-untouched}
 
 -- an entry of a log covers the key
@@ -65,8 +66,8 @@ value_same : (block : ℕ) (before : List Entry) (e : Entry) (later : List Entry
 value_same block before e later h key =
     ap value_of (last_setting-append block before later key)
     ∙ middle (last_setting block before key) (sets block e.item key) (last_setting block later key)
-      (λ a. touches-last_setting block before key ∙ h.hides_nothing key a)
-      (λ d p. touches-last_setting block later key ∙ h.dead key d p)
+    (λ a. touches-last_setting block before key ∙ h.hides_nothing key a)
+    (λ d p. touches-last_setting block later key ∙ h.dead key d p)
     ∙ ap value_of (sym (last_setting-append block before (e ∷ later) key))
 
 -- ---- sources
@@ -121,13 +122,7 @@ source_same block before e later h page = last_stays block (λ x. source_of x (s
 
 -- the size of blocks says nothing of names
 name_cover : (block : ℕ) (item : Item) (name : List ℕ) → covers block item (NameKey name) ≡ covers 1 item (NameKey name)
-name_cover block (Init kind mode) name = refl
-name_cover block (Write first run size) name = refl
-name_cover block (SetSize size) name = refl
-name_cover block (SetMode mode) name = refl
-name_cover block (Bind n to) name = refl
-name_cover block (Unbind n) name = refl
-name_cover block Gone name = refl
+name_cover block item name = ap touches (sets_by block 1 item (NameKey name) refl)
 
 names_cover : (block : ℕ) (log : List Entry) (name : List ℕ) → covered block log (NameKey name) ≡ covered 1 log (NameKey name)
 names_cover block [] name = refl
@@ -199,7 +194,7 @@ bound_stays block front x mid e later h = go x.item refl where
   go (Bind name to) q =
       let c : covers block x.item (NameKey name) ≡ true = rw (q, same_name-self name) refl in
       bound_by (Bind name to) (first_cover 1 (mid ++ later) (NameKey name)) (first_cover 1 (mid ++ e ∷ later) (NameKey name))
-        (dead_name block (mid ++ later) name ∙ rest_covered block front x mid e later (NameKey name) h c ∙ sym (dead_name block (mid ++ e ∷ later) name))
+      (dead_name block (mid ++ later) name ∙ rest_covered block front x mid e later (NameKey name) h c ∙ sym (dead_name block (mid ++ e ∷ later) name))
   go (Init kind mode) q = refl
   go (Write first run size) q = refl
   go (SetSize size) q = refl

@@ -161,7 +161,7 @@ keeps_reads : (r : Retention) (old new : List Entry) → Outlasts r old new → 
 keeps_reads r old new out l =
     let at : (epoch : ℕ) → SpansAreKept r epoch old → ReadsSameAt r.block epoch old new = λ epoch all. out (ReadsSameAt r.block epoch) (SpansKept r epoch) (lasts_at r epoch) (along_spans r epoch old all) in
     let same : (test : Pair → Bool) → Steady r test → pairs_where test r.block new ≡ pairs_where test r.block old =
-        λ test steady. out (λ a b. pairs_where test r.block b ≡ pairs_where test r.block a) (λ e later. AllByRecursion (MayFollow e) later) (lasts_pairs r test steady) (along_log old l) in
+    λ test steady. out (λ a b. pairs_where test r.block b ≡ pairs_where test r.block a) (λ e later. AllByRecursion (MayFollow e) later) (lasts_pairs r test steady) (along_log old l) in
     record {
       now = out (ReadsSame r.block) (λ e later. Unit {0}) (lasts_now r) (along_nothing old);
       kept = at;

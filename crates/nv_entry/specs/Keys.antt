@@ -31,6 +31,14 @@ key_named code.Size = SizeKey
 key_named (code.Name name) = NameKey name.now
 key_named (code.Page page) = PageKey page
 
+-- the key is a page: to others the size of blocks says nothing
+abbrev pub is_page_key : Key → Bool
+is_page_key KindKey = false
+is_page_key ModeKey = false
+is_page_key SizeKey = false
+is_page_key (NameKey name) = false
+is_page_key (PageKey page) = true
+
 -- a file has pages below 65,536 alone
 abbrev pub is_page : ℕ → Bool
 is_page page = nat_lt page FILE_PAGES

@@ -25,12 +25,7 @@ pub fn is_droppable(
     passes_test(retention, before, entry, later)
 }
 
-fn passes_test(
-    retention: &Retention<'_>,
-    before: &[Entry],
-    entry: &Entry,
-    later: &[Entry],
-) -> bool
+fn passes_test(retention: &Retention<'_>, before: &[Entry], entry: &Entry, later: &[Entry]) -> bool
     ensures { result ≡ is_droppable (retention_of retention.now) before.now entry.now later.now }
 {
     !later.is_empty()

@@ -1,11 +1,11 @@
 //! Laws of logs, each the contract of a function that does nothing.
 
-ghost use Rattle.std.specs.Prelude.{◌≡◌, ◌↔◌, ℕ, List, [], ◌∷◌, ◌++◌, true};
+ghost use Rattle.std.specs.Prelude.{◌≡◌, ◌↔◌, ℕ, List, [], ◌∷◌, ◌++◌, false, true};
 ghost use Rattle.nv_entry.specs.Clean.{IsDroppable, entries_of, is_droppable};
 ghost use Rattle.nv_entry.specs.Held.{Retention};
-ghost use Rattle.nv_entry.specs.Keys.{parts_of};
+ghost use Rattle.nv_entry.specs.Keys.{Key, is_page_key, parts_of};
 ghost use Rattle.nv_entry.specs.Laws.{IsFast, IsThorough, KeepsReads, OneMore, PartsAreSet, PartsRise, SetsAreParts};
-ghost use Rattle.nv_entry.specs.Log.{IsLog};
+ghost use Rattle.nv_entry.specs.Log.{IsLog, value_now};
 ghost use Rattle.nv_entry.specs.declared.item.Entry.{Entry};
 ghost use Rattle.nv_entry.specs.declared.item.Item.{Item};
 
@@ -22,6 +22,12 @@ pub fn sets_are_parts()
 /// The parts of an item go by kind, mode, size, bound name, and then pages rising.
 pub fn parts_are_in_order()
     ensures { (item : Item) → PartsRise (parts_of item) }
+{}
+
+/// The size of blocks matters to pages alone: every other key has the same value with any.
+pub fn block_size_matters_to_pages_alone()
+    ensures { (a b : ℕ) (log : List Entry) (key : Key) → is_page_key key ≡ false
+        → value_now a log key ≡ value_now b log key }
 {}
 
 /// One more entry changes each value, the deaths of pairs, the index and the names exactly as that entry

@@ -3,6 +3,7 @@
 mod cleaning;
 mod files;
 mod items;
+mod laws;
 mod logs;
 mod nodes;
 mod refs;

@@ -3,8 +3,12 @@
 ghost use Rattle.std.specs.Prelude.{◌≡◌, IfSome, sum};
 
 use super::logs::{BLOCK, Line, epochs, id, log_of, retention};
-use super::rows::{KILLER, KILLER_GONE, MODES, MODES_LEFT, RUNS, SHORT_LIVED, SIZES, TOMBSTONE, UNBOUND_TWICE};
-use crate::{Entry, Part, PartId, Retention, fast_keeps, is_droppable, is_kept, live, thorough_keeps, valid};
+use super::rows::{
+    KILLER, KILLER_GONE, MODES, MODES_LEFT, RUNS, SHORT_LIVED, SIZES, TOMBSTONE, UNBOUND_TWICE,
+};
+use crate::{
+    Entry, Part, PartId, Retention, fast_keeps, is_droppable, is_kept, live, thorough_keeps, valid,
+};
 use std::alloc::Global;
 use std::process::Abort;
 use std::test::Fail;
@@ -43,32 +47,84 @@ fn counts_of_pages(rt: HostRuntime) -> Result<(), Fail> {
 /// The binding that a name had before its tombstone.
 const BINDING: (u64, u32, Part) = (1, 0, Part::Bound);
 
-/// A log, its living snapshots and pending pairs, and which entries may go while all others stay.
-const MAY_GO: &[(&[Line], &[u64], &[(u64, u32, Part)], &[bool])] = &[
+/// A log, its living snapshots and pending pairs, which entries are kept for a pair, and which may go while all
+/// others stay.
+type Judged = (
+    &'static [Line],
+    &'static [u64],
+    &'static [(u64, u32, Part)],
+    [bool; 4],
+    [bool; 4],
+);
+
+const MAY_GO: &[Judged] = &[
     // the snapshot holds the old binding, and so the tombstone stays too
-    (TOMBSTONE, &[1], &[], &[false, false, false, false]),
+    (
+        TOMBSTONE,
+        &[1],
+        &[],
+        [true, true, false, true],
+        [false, false, false, false],
+    ),
     // the snapshot is dropped, and its record isn't released yet
-    (TOMBSTONE, &[], &[BINDING], &[false, false, false, false]),
+    (
+        TOMBSTONE,
+        &[],
+        &[BINDING],
+        [true, true, false, true],
+        [false, false, false, false],
+    ),
     // released: the old binding may go, and the tombstone once that has gone
-    (TOMBSTONE, &[], &[], &[false, true, false, false]),
+    (
+        TOMBSTONE,
+        &[],
+        &[],
+        [true, false, false, true],
+        [false, true, false, false],
+    ),
     // the second writing killed the first, and may go; while snapshot 2 lived it had to stay
-    (KILLER, &[1], &[], &[false, false, true, false]),
-    (KILLER, &[1, 2], &[], &[false, false, false, false]),
+    (
+        KILLER,
+        &[1],
+        &[],
+        [true, true, false, true],
+        [false, false, true, false],
+    ),
+    (
+        KILLER,
+        &[1, 2],
+        &[],
+        [true, true, true, true],
+        [false, false, false, false],
+    ),
 ];
 
 #[test]
 fn droppable_entries(rt: HostRuntime) -> Result<(), Fail> {
-    for (lines, snapshots, pending, wanted) in MAY_GO {
+    for (lines, snapshots, pending, kept, goes) in MAY_GO {
         let log = log_of(rt.alloc(), lines)?;
         let snapshots = epochs(rt.alloc(), snapshots)?;
         let pending = names(rt.alloc(), pending)?;
-        let retention = retention(&snapshots, &pending);
-        for place in 0..log.len() {
-            let goes = is_droppable(&retention, &log[..place], &log[place], &log[place + 1..]);
-            assert_eq!(rt; Some(&goes), wanted.get(place), "{lines:?} at {place}");
-        }
+        are_judged(&rt, &retention(&snapshots, &pending), &log, kept, goes);
     }
     Ok(())
+}
+
+fn are_judged(
+    rt: &impl Abort,
+    retention: &Retention<'_>,
+    log: &[Entry],
+    kept: &[bool],
+    goes: &[bool],
+) {
+    for place in 0..log.len() {
+        let entry = &log[place];
+        let later = &log[place + 1..];
+        let is_kept = is_kept(retention, entry, later);
+        assert_eq!(rt; Some(is_kept), kept.get(place).copied(), "at {place}");
+        let may_go = is_droppable(retention, &log[..place], entry, later);
+        assert_eq!(rt; Some(may_go), goes.get(place).copied(), "at {place}");
+    }
 }
 
 /// A log, its living snapshots and pending pairs, which entries thorough cleaning keeps, how many entries each
@@ -84,29 +140,134 @@ type Walked = (
 
 const WALKS: &[Walked] = &[
     // the tombstone stays with the binding that the snapshot holds, or that is pending, and goes after it
-    (TOMBSTONE, &[1], &[], &[true, true, true, true], &[2, 2], &[true, true]),
-    (TOMBSTONE, &[], &[BINDING], &[true, true, true, true], &[2, 2], &[true, true]),
-    (TOMBSTONE, &[], &[], &[true, false, false, true], &[1, 2, 1], &[true, false, true]),
+    (
+        TOMBSTONE,
+        &[1],
+        &[],
+        &[true, true, true, true],
+        &[2, 2],
+        &[true, true],
+    ),
+    (
+        TOMBSTONE,
+        &[],
+        &[BINDING],
+        &[true, true, true, true],
+        &[2, 2],
+        &[true, true],
+    ),
+    (
+        TOMBSTONE,
+        &[],
+        &[],
+        &[true, false, false, true],
+        &[1, 2, 1],
+        &[true, false, true],
+    ),
     // a page stays with the binding in it, though that may go, and so does the tombstone on the next page
-    (TOMBSTONE, &[], &[], &[true, false, false, true], &[2, 1, 1], &[true, true, true]),
+    (
+        TOMBSTONE,
+        &[],
+        &[],
+        &[true, false, false, true],
+        &[2, 1, 1],
+        &[true, true, true],
+    ),
     // a killer is cleaned away, and what is left then stays
-    (KILLER, &[1], &[], &[true, true, false, true], &[2, 1, 1], &[true, false, true]),
-    (KILLER, &[1, 2], &[], &[true, true, true, true], &[1, 1, 1, 1], &[true, true, true, true]),
+    (
+        KILLER,
+        &[1],
+        &[],
+        &[true, true, false, true],
+        &[2, 1, 1],
+        &[true, false, true],
+    ),
+    (
+        KILLER,
+        &[1, 2],
+        &[],
+        &[true, true, true, true],
+        &[1, 1, 1, 1],
+        &[true, true, true, true],
+    ),
     (KILLER_GONE, &[1], &[], &[true, true, true], &[3], &[true]),
     // fast cleaning, repeated: a page in part droppable stays, also when the others are gone
-    (MODES, &[], &[], MODES_KEPT, &[2, 2, 2, 2, 1], &[true, false, false, false, true]),
-    (MODES_LEFT, &[], &[], &[true, false, true], &[2, 1], &[true, true]),
+    (
+        MODES,
+        &[],
+        &[],
+        MODES_KEPT,
+        &[2, 2, 2, 2, 1],
+        &[true, false, false, false, true],
+    ),
+    (
+        MODES_LEFT,
+        &[],
+        &[],
+        &[true, false, true],
+        &[2, 1],
+        &[true, true],
+    ),
     // an earlier size that the snapshot holds keeps a later one that cuts the same pages, unless it goes first
-    (SIZES, &[1], &[], &[true, true, true, true], &[2, 1, 1], &[true, true, true]),
-    (SIZES, &[], &[], &[true, false, false, true], &[1, 1, 1, 1], &[true, false, false, true]),
+    (
+        SIZES,
+        &[1],
+        &[],
+        &[true, true, true, true],
+        &[2, 1, 1],
+        &[true, true, true],
+    ),
+    (
+        SIZES,
+        &[],
+        &[],
+        &[true, false, false, true],
+        &[1, 1, 1, 1],
+        &[true, false, false, true],
+    ),
     // an earlier unbinding keeps a later one of the name, unless it goes first
-    (UNBOUND_TWICE, &[1], &[], &[true, true, true, false, true, true], &[4, 1, 1], &[true, true, true]),
-    (UNBOUND_TWICE, &[], &[], &[true, false, false, false, false, true], &[1, 2, 2, 1], &[true, false, false, true]),
+    (
+        UNBOUND_TWICE,
+        &[1],
+        &[],
+        &[true, true, true, false, true, true],
+        &[4, 1, 1],
+        &[true, true, true],
+    ),
+    (
+        UNBOUND_TWICE,
+        &[],
+        &[],
+        &[true, false, false, false, false, true],
+        &[1, 2, 2, 1],
+        &[true, false, false, true],
+    ),
     // entries of one page are tried one after another; what a page that stays has tried does not count for the next
-    (UNBOUND_TWICE, &[], &[], &[true, false, false, false, false, true], &[1, 4, 1], &[true, false, true]),
-    (UNBOUND_TWICE, &[], &[], &[true, false, false, false, false, true], &[2, 2, 2], &[true, true, true]),
+    (
+        UNBOUND_TWICE,
+        &[],
+        &[],
+        &[true, false, false, false, false, true],
+        &[1, 4, 1],
+        &[true, false, true],
+    ),
+    (
+        UNBOUND_TWICE,
+        &[],
+        &[],
+        &[true, false, false, false, false, true],
+        &[2, 2, 2],
+        &[true, true, true],
+    ),
     // a page without entries stays
-    (KILLER, &[1], &[], &[true, true, false, true], &[2, 0, 1, 1, 0], &[true, true, false, true, true]),
+    (
+        KILLER,
+        &[1],
+        &[],
+        &[true, true, false, true],
+        &[2, 0, 1, 1, 0],
+        &[true, true, false, true, true],
+    ),
 ];
 
 /// Of nine modes the first entry has a kind as well, and the last mode is current.
@@ -121,12 +282,22 @@ fn walks_of_cleaners(rt: HostRuntime) -> Result<(), Fail> {
         let retention = retention(&snapshots, &pending);
         let kept = thorough_keeps(rt.alloc(), &retention, &log)?;
         assert_eq!(rt; kept.as_slice(), *entries, "{lines:?}");
-        assert_eq!(rt; fast_cleaned(&rt, rt.alloc(), &retention, &log, counts)?.as_slice(), *pages, "{lines:?}");
+        assert_eq!(rt;
+            fast_cleaned(&rt, rt.alloc(), &retention, &log, counts)?.as_slice(),
+            *pages,
+            "{lines:?}"
+        );
     }
     Ok(())
 }
 
-fn fast_cleaned(rt: &impl Abort, alloc: Global, retention: &Retention<'_>, log: &[Entry], counts: &[usize]) -> Result<Vec<bool>, Fail> {
+fn fast_cleaned(
+    rt: &impl Abort,
+    alloc: Global,
+    retention: &Retention<'_>,
+    log: &[Entry],
+    counts: &[usize],
+) -> Result<Vec<bool>, Fail> {
     assert_eq!(rt; sum_of(counts), Some(log.len()));
     Ok(fast_keeps(alloc, retention, log, counts)?)
 }
@@ -134,7 +305,10 @@ fn fast_cleaned(rt: &impl Abort, alloc: Global, retention: &Retention<'_>, log: 
 fn names(alloc: Global, names: &[(u64, u32, Part)]) -> Result<Vec<PartId>, Fail> {
     let mut list = Vec::new(alloc);
     for (commit, place, part) in names {
-        list.push(PartId { entry: id(*commit, *place), part: *part })?;
+        list.push(PartId {
+            entry: id(*commit, *place),
+            part: *part,
+        })?;
     }
     Ok(list)
 }

@@ -2,7 +2,10 @@
 
 use super::logs::{BLOCK, Line, epochs, handle, id, log_of, when};
 use super::rows::{CUT, KILLER, KILLER_GONE, NAMES, OVERWRITTEN, RUNS, SHORT_LIVED};
-use crate::{Datum, Entry, Key, PageSource, Pair, PartId, first_cover, page_source, value_at, value_now, value_when};
+use crate::{
+    Datum, Entry, Key, PageSource, Pair, PartId, first_cover, page_source, value_at, value_now,
+    value_when,
+};
 use nv_base::{BlockNo, Epoch};
 use std::process::Abort;
 use std::test::Fail;
@@ -28,7 +31,11 @@ fn values(rt: HostRuntime) -> Result<(), Fail> {
     for (lines, epoch, key, number) in VALUES {
         let log = log_of(rt.alloc(), lines)?;
         let wanted = number.map(|number| datum(*key, number));
-        assert_eq!(rt; value_when(BLOCK, when(*epoch), &log, *key), wanted, "{lines:?}");
+        assert_eq!(rt;
+            value_when(BLOCK, when(*epoch), &log, *key),
+            wanted,
+            "{lines:?}"
+        );
         let value = match epoch {
             Some(number) => value_at(BLOCK, Epoch::new(*number), &log, *key),
             None => value_now(BLOCK, &log, *key),
@@ -51,12 +58,23 @@ fn first_covers(rt: HostRuntime) -> Result<(), Fail> {
     let later = log.get(2..).ok_or("entries")?;
     let covered = first_cover(BLOCK, when(None), &log, Key::Page(0));
     assert_eq!(rt; covered, Some(Epoch::new(1)));
-    assert_eq!(rt; first_cover(BLOCK, when(Some(1)), later, Key::Page(0)), None);
+    assert_eq!(rt;
+        first_cover(BLOCK, when(Some(1)), later, Key::Page(0)),
+        None
+    );
     Ok(())
 }
 
 /// A log, an entry's place, its part's place, birth and death of their pair, and epochs that hold it and do not.
-type Lives = (&'static [Line], usize, u32, u64, Option<u64>, &'static [u64], &'static [u64]);
+type Lives = (
+    &'static [Line],
+    usize,
+    u32,
+    u64,
+    Option<u64>,
+    &'static [u64],
+    &'static [u64],
+);
 
 const PAIRS: &[Lives] = &[
     (OVERWRITTEN, 1, 1, 1, Some(2), &[1], &[2]),
@@ -78,10 +96,22 @@ fn pairs(rt: HostRuntime) -> Result<(), Fail> {
         let entry = log.get(*place).ok_or("an entry")?;
         let later = log.get(*place + 1..).ok_or("entries")?;
         let pair = Pair::at(BLOCK, entry, later, *part).ok_or("a part")?;
-        assert_eq!(rt; (pair.birth, pair.death), (Epoch::new(*birth), death.map(Epoch::new)), "{lines:?}");
+        assert_eq!(rt;
+            (pair.birth, pair.death),
+            (Epoch::new(*birth), death.map(Epoch::new)),
+            "{lines:?}"
+        );
         assert_eq!(rt; pair.is_current(), death.is_none(), "{lines:?}");
-        is_held(&rt, &pair, &epochs(rt.alloc(), holders)?, &epochs(rt.alloc(), others)?);
-        let name = PartId { entry: pair.entry, part: pair.part };
+        is_held(
+            &rt,
+            &pair,
+            &epochs(rt.alloc(), holders)?,
+            &epochs(rt.alloc(), others)?,
+        );
+        let name = PartId {
+            entry: pair.entry,
+            part: pair.part,
+        };
         assert!(rt; pair.is_named(&[name]) && !pair.is_named(&[]), "{lines:?}");
     }
     Ok(())
@@ -89,7 +119,10 @@ fn pairs(rt: HostRuntime) -> Result<(), Fail> {
 
 fn is_held(rt: &impl Abort, pair: &Pair, holders: &[Epoch], others: &[Epoch]) {
     for holder in holders {
-        assert!(rt; pair.is_held(&[*holder]) && pair.is_needed(&[*holder]), "{pair:?}");
+        assert!(rt;
+            pair.is_held(&[*holder]) && pair.is_needed(&[*holder]),
+            "{pair:?}"
+        );
     }
     assert!(rt; !pair.is_held(others), "{pair:?}");
     assert_eq!(rt; pair.is_needed(others), pair.is_current(), "{pair:?}");
@@ -118,7 +151,11 @@ fn sources_of_pages(rt: HostRuntime) -> Result<(), Fail> {
             entry: id(commit, place),
             block: BlockNo::new(block),
         });
-        assert_eq!(rt; page_source(BLOCK, when(*epoch), &log, *page), wanted, "page {page} of {lines:?}");
+        assert_eq!(rt;
+            page_source(BLOCK, when(*epoch), &log, *page),
+            wanted,
+            "page {page} of {lines:?}"
+        );
     }
     Ok(())
 }

@@ -1,18 +1,25 @@
 //! What each item sets, and its parts.
 
-use super::logs::{BLOCK, handle, id, item, mode, Says};
+use super::logs::{BLOCK, Says, handle, id, item, mode};
+use crate::{Datum, Entry, Item, Key, Part, Setting, When};
 use Says::{Bind, Directory, File, Gone, Mode, Size, Unbind, Write};
-use crate::{Datum, Entry, Key, Part, Setting, When};
 use nv_base::{BlockNo, Epoch, Kind};
+use std::process::Abort;
 use std::test::Fail;
 
 /// An item, and its parts in order.
 const PARTS: &[(Says, &[Part])] = &[
     (File, &[Part::Kind, Part::Mode, Part::Size]),
-    (Write(5, 9, 2, 28), &[Part::Size, Part::Page(5), Part::Page(6)]),
+    (
+        Write(5, 9, 2, 28),
+        &[Part::Size, Part::Page(5), Part::Page(6)],
+    ),
     (Write(5, 9, 0, 28), &[Part::Size]),
     // a file has no page from 65,536 on
-    (Write(65_534, 9, 3, 262_144), &[Part::Size, Part::Page(65_534), Part::Page(65_535)]),
+    (
+        Write(65_534, 9, 3, 262_144),
+        &[Part::Size, Part::Page(65_534), Part::Page(65_535)],
+    ),
     (Size(0), &[Part::Size]),
     (Mode(7), &[Part::Mode]),
     (Bind("a", 1), &[Part::Bound]),
@@ -32,10 +39,16 @@ fn parts_in_order(rt: HostRuntime) -> Result<(), Fail> {
         assert_eq!(rt; parts.as_slice(), *wanted);
         assert_eq!(rt; entry.item.part_count() as usize, wanted.len());
         for place in 0..4 {
-            assert_eq!(rt; entry.item.part_at(place), wanted.get(place as usize).copied());
+            assert_eq!(rt;
+                entry.item.part_at(place),
+                wanted.get(place as usize).copied()
+            );
         }
         for part in &parts {
-            assert!(rt; entry.item.covers(BLOCK, entry.item.part_key(*part)), "{part:?} of {says:?}");
+            assert!(rt;
+                entry.item.covers(BLOCK, entry.item.part_key(*part)),
+                "{part:?} of {says:?}"
+            );
         }
     }
     Ok(())
@@ -89,11 +102,17 @@ const SETTINGS: &[(Says, Key<'static>, Sets)] = &[
 #[test]
 fn settings(rt: HostRuntime) -> Result<(), Fail> {
     for (says, key, wanted) in SETTINGS {
-        let wanted = setting(*wanted)?;
         let item = item(rt.alloc(), *says)?;
-        assert_eq!(rt; item.setting(BLOCK, *key), wanted, "{key:?} by {says:?}");
-        assert_eq!(rt; item.covers(BLOCK, *key), wanted != Setting::Untouched, "{key:?} by {says:?}");
+        sets_key(&rt, &item, *key, *wanted)?;
     }
+    Ok(())
+}
+
+fn sets_key(rt: &impl Abort, item: &Item, key: Key<'_>, wanted: Sets) -> Result<(), Fail> {
+    let wanted = setting(wanted)?;
+    assert_eq!(rt; item.setting(BLOCK, key), wanted, "{key:?} by {item:?}");
+    let covers = wanted != Setting::Untouched;
+    assert_eq!(rt; item.covers(BLOCK, key), covers, "{key:?} by {item:?}");
     Ok(())
 }
 
@@ -120,18 +139,19 @@ fn names_of_items(rt: HostRuntime) -> Result<(), Fail> {
     Ok(())
 }
 
-/// A setting, a later one, and the value that both leave.
-const VALUES: &[(Setting, Setting, Option<Datum>)] = &[
-    (Setting::Untouched, Setting::Present(Datum::Size(3)), Some(Datum::Size(3))),
-    (Setting::Present(Datum::Size(3)), Setting::Untouched, Some(Datum::Size(3))),
-    (Setting::Present(Datum::Size(3)), Setting::Absent, None),
-    (Setting::Absent, Setting::Present(Datum::Size(3)), Some(Datum::Size(3))),
+/// What an item does to a key, what a later one does, and the size that both leave.
+const LATER: &[(Sets, Sets, Option<u64>)] = &[
+    (Sets::Nothing, Sets::Size(3), Some(3)),
+    (Sets::Size(3), Sets::Nothing, Some(3)),
+    (Sets::Size(3), Sets::Absent, None),
+    (Sets::Absent, Sets::Size(3), Some(3)),
 ];
 
 #[test]
 fn values_of_settings(rt: HostRuntime) -> Result<(), Fail> {
-    for (first, later, value) in VALUES {
-        assert_eq!(rt; first.then(*later).value(), *value);
+    for (first, later, size) in LATER {
+        let value = setting(*first)?.then(setting(*later)?).value();
+        assert_eq!(rt; value, size.map(Datum::Size));
     }
     Ok(())
 }

@@ -34,8 +34,12 @@ const READS: &[(&[Line], Option<u64>, &[[u8; 4]], Reads)] = &[
 ];
 
 const LETTERS: &[[u8; 4]] = &[[0; 4], [0; 4], *b"aaaa", *b"bbbb", *b"cccc"];
+
 const ALPHABET: &[[u8; 4]] = &[[0; 4], [0; 4], *b"abcd", *b"efgh", *b"ij\0\0", *b"e\0\0\0"];
-const SCATTERED: &[[u8; 4]] = &[[0; 4], [0; 4], *b"aaaa", *b"dddd", *b"cccc", *b"BBBB", *b"eeee"];
+
+const SCATTERED: &[[u8; 4]] = &[
+    [0; 4], [0; 4], *b"aaaa", *b"dddd", *b"cccc", *b"BBBB", *b"eeee",
+];
 
 #[test]
 fn nodes(rt: HostRuntime) -> Result<(), Fail> {
@@ -46,7 +50,11 @@ fn nodes(rt: HostRuntime) -> Result<(), Fail> {
         is_read(&rt, &node, *wanted);
         let names = names_when(rt.alloc(), when(*epoch), &log)?;
         same_names(&rt, names.as_slice(), names_of(*wanted));
-        assert_eq!(rt; size_when(BLOCK, when(*epoch), &log), bytes_of(*wanted).len() as u64, "{lines:?}");
+        assert_eq!(rt;
+            size_when(BLOCK, when(*epoch), &log),
+            bytes_of(*wanted).len() as u64,
+            "{lines:?}"
+        );
     }
     Ok(())
 }
