@@ -1,6 +1,6 @@
 -- The entries of the current bindings of names.
-use Rattle.std.proofs.Common.{◌≡◌, ℕ, ◌⊎◌, inl, inr, ◌&&◌, Bool, true, false, not, cond, List, [], ◌∷◌, ◌++◌, Option, Some, None, refl, ap, sym, ◌∙◌}
-use Rattle.std.specs.Prelude.{find}
+use Rattle.std.proofs.Common.{◌≡◌, ℕ, ◌⊎◌, inl, inr, ◌&&◌, ◌||◌, Bool, true, false, not, cond, List, [], ◌∷◌, ◌++◌, Option, Some, None, refl, ap, sym, ◌∙◌}
+use Rattle.std.specs.Prelude.{filter, find}
 use Rattle.std.specs.List.{AllByRecursion, flat_map}
 use Rattle.std.specs.Option.{option_map, is_some}
 use Rattle.std.proofs.lemmas.Bool.{false_from_ne_true}
@@ -17,9 +17,10 @@ use Rattle.nv_entry.specs.Index.{bound_name, names_of}
 use Rattle.nv_entry.specs.Keys.{NameKey, covers, name_of, sets}
 use Rattle.nv_entry.specs.Laws.{is_present}
 use Rattle.nv_entry.specs.Log.{IsLog, MayFollow, first_cover}
-use Rattle.nv_entry.specs.Refs.{NamesByIds, binders_of, is_bind, left_by, part_ref, place_in, scan_ref}
+use Rattle.nv_entry.specs.Refs.{NamesByIds, OneMoreRef, binders_after, binders_of, is_bind, left_by, part_ref, place_in, scan_ref}
 use Rattle.nv_entry.proofs.Covering.{any_cover-first}
-use Rattle.nv_entry.proofs.Refs.{scan_ref-cons, scan_ref-skip}
+use Rattle.nv_entry.proofs.Refs.{scan_ref-cons, scan_ref-push, scan_ref-skip}
+use Rattle.nv_entry.proofs.Currents.{any_cover-push}
 use Rattle.nv_entry.proofs.Hiding.{same_name-self, same_name-equal}
 
 -- ---- the size of blocks says nothing of names
@@ -155,6 +156,34 @@ part_of_name block name (x ∷ xs) =
       go true false true p t q ih = scan_ref-skip block x xs (NameKey name) (no_ref block x.item name _ (rw (p, t) refl)) ∙ ih
       go true false false p t q ih = scan_ref-skip block x xs (NameKey name) (no_ref block x.item name _ (rw (p, t) refl)) ∙ rw t ih
       go false t c p s q ih = scan_ref-skip block x xs (NameKey name) (no_ref block x.item name _ (rw p refl)) ∙ ih
+
+-- ---- one more entry
+
+abbrev stays_bound : Entry → Entry → Bool
+stays_bound e x = not (covers 1 e.item (NameKey (name_of x.item)))
+
+abbrev new_binder : Entry → List Entry
+new_binder e = cond (is_bind e.item) (e ∷ []) []
+
+binders_of-push : (log : List Entry) (e : Entry) → binders_of (log ++ e ∷ []) ≡ binders_after e (binders_of log)
+binders_of-push [] e = go (is_bind e.item) where
+  go : (b : Bool) → cond (b && true) (e ∷ []) [] ≡ [] ++ cond b (e ∷ []) []
+  go true = refl
+  go false = refl
+binders_of-push (x ∷ xs) e =
+    ap (λ (c : Bool). cond (is_bind x.item && not c) (x ∷ binders_of (xs ++ e ∷ [])) (binders_of (xs ++ e ∷ [])))
+      (any_cover-push 1 xs e (NameKey (name_of x.item)))
+    ∙ go (is_bind x.item) (any_cover 1 xs (NameKey (name_of x.item))) (covers 1 e.item (NameKey (name_of x.item))) refl (binders_of-push xs e) where
+      go : (b c d : Bool) → covers 1 e.item (NameKey (name_of x.item)) ≡ d → binders_of (xs ++ e ∷ []) ≡ binders_after e (binders_of xs)
+          → cond (b && not (c || d)) (x ∷ binders_of (xs ++ e ∷ [])) (binders_of (xs ++ e ∷ []))
+          ≡ filter (stays_bound e) (cond (b && not c) (x ∷ binders_of xs) (binders_of xs)) ++ new_binder e
+      go true false false p ih = rw p (ap (λ ys. x ∷ ys) ih)
+      go true false true p ih = rw p ih
+      go true true d p ih = ih
+      go false c d p ih = ih
+
+pub one_more_ref : (block : ℕ) (log : List Entry) (e : Entry) → OneMoreRef block log e
+one_more_ref block log e = record { part = scan_ref-push block log e; binders = binders_of-push log e }
 
 -- ---- the order
 

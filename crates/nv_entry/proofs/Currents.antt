@@ -99,7 +99,7 @@ uncovered_are_current block log = record {
 
 -- ---- one more entry, by number
 
-any_cover-push : (block : ℕ) (log : List Entry) (e : Entry) (key : Key)
+pub any_cover-push : (block : ℕ) (log : List Entry) (e : Entry) (key : Key)
     → any_cover block (log ++ e ∷ []) key ≡ (any_cover block log key || covers block e.item key)
 any_cover-push block log e key =
     list_any-append (λ (x : Entry). covers block x.item key) log (e ∷ [])

@@ -1,5 +1,5 @@
 -- The index by key: which part of which entry holds each key's value.
-use Rattle.std.specs.Prelude.{◌≡◌, ℕ, ◌+◌, ◌-◌, ◌<◌, ◌↔◌, ◌&&◌, Bool, true, false, not, if◌then◌else◌, nat_lt, List, [], ◌∷◌, ◌++◌, find, Option, Some, None, option_and_then, slice_get}
+use Rattle.std.specs.Prelude.{◌≡◌, ℕ, ◌+◌, ◌-◌, ◌<◌, ◌↔◌, ◌&&◌, Bool, true, false, not, if◌then◌else◌, nat_lt, List, [], ◌∷◌, ◌++◌, filter, find, Option, Some, None, option_and_then, slice_get}
 use Rattle.std.specs.List.{flat_map}
 use Rattle.std.specs.Option.{option_map}
 use Rattle.nv_base.specs.Ids.{is_same_id}
@@ -16,7 +16,7 @@ use Rattle.nv_entry.specs.declared.part.Part.{Part}
 use Rattle.nv_entry.specs.declared.part_ref.PartRef.{PartRef}
 use Rattle.nv_entry.specs.Covered.{any_cover, is_covered, key_at, part_count, part_total}
 use Rattle.nv_entry.specs.Index.{bound_name, last_cover, names_of, page_source, source_of}
-use Rattle.nv_entry.specs.Keys.{Key, ModeKey, NameKey, PageKey, SizeKey, key_of, name_of, parts_of, sets}
+use Rattle.nv_entry.specs.Keys.{Key, ModeKey, NameKey, PageKey, SizeKey, covers, key_of, name_of, parts_of, sets}
 use Rattle.nv_entry.specs.Laws.{is_present}
 use Rattle.nv_entry.specs.Log.{IsLog, value_now, value_of}
 
@@ -97,6 +97,15 @@ abbrev pub binders_of : List Entry → List Entry
 binders_of [] = []
 binders_of (e ∷ later) =
     if is_bind e.item && not (any_cover 1 later (NameKey (name_of e.item))) then e ∷ binders_of later else binders_of later
+
+-- the current bindings after one more entry: a new one goes last
+abbrev pub binders_after : Entry → List Entry → List Entry
+binders_after e binders = filter (λ x. not (covers 1 e.item (NameKey (name_of x.item)))) binders ++ (if is_bind e.item then e ∷ [] else [])
+
+-- one more entry takes over the keys that it sets to a value, and frees those that it sets to absent
+pub record OneMoreRef (block : ℕ) (log : List Entry) (e : Entry) : Type 0 where
+  pub part : (key : Key) → scan_ref block (log ++ e ∷ []) key ≡ ref_after block e key (scan_ref block log key)
+  pub binders : binders_of (log ++ e ∷ []) ≡ binders_after e (binders_of log)
 
 -- the names are those of the current bindings in the order of their ids, and a name's part is that of its binding
 pub record NamesByIds (log : List Entry) : Type 0 where

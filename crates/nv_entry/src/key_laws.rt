@@ -12,7 +12,7 @@ ghost use Rattle.nv_entry.specs.Keys.{Key};
 ghost use Rattle.nv_entry.specs.Later.{AreAfter, SameAtEpoch};
 ghost use Rattle.nv_entry.specs.Leaving.{MayAllLeave, MayLeave, KeepsTheRest};
 ghost use Rattle.nv_entry.specs.Log.{IsLog};
-ghost use Rattle.nv_entry.specs.Refs.{IsCurrentPart, IsPlaced, NamesByIds, RefsGive, UncoveredIsHeld, ref_after, scan_ref};
+ghost use Rattle.nv_entry.specs.Refs.{IsCurrentPart, IsPlaced, NamesByIds, OneMoreRef, RefsGive, UncoveredIsHeld, scan_ref};
 ghost use Rattle.nv_entry.specs.declared.item.Entry.{Entry};
 ghost use Rattle.nv_entry.specs.declared.item.Item.{Item};
 ghost use Rattle.nv_entry.specs.declared.part.PartId.{PartId};
@@ -46,10 +46,10 @@ pub fn uncovered_part_holds_its_key()
     ensures { (block : ℕ) (log : List Entry) → IsLog log → UncoveredIsHeld block log }
 {}
 
-/// One more entry takes over the keys that it sets to a value, and frees those that it sets to absent.
+/// One more entry takes over the keys that it sets to a value and frees those that it sets to absent. The binding of
+/// a name goes behind the others.
 pub fn index_after_one_more()
-    ensures { (block : ℕ) (log : List Entry) (e : Entry) (key : Key)
-        → scan_ref block (log ++ e ∷ []) key ≡ ref_after block e key (scan_ref block log key) }
+    ensures { (block : ℕ) (log : List Entry) (e : Entry) → OneMoreRef block log e }
 {}
 
 /// The entry of the part that holds a key gives the key's value, and the source of a page.
