@@ -43,17 +43,22 @@ impl FreeList {
     /// The list of a CPU with all blocks of its home range, whose bytes are 0: `OutOfMemory` where there is
     /// no room for them.
     pub fn new(alloc: Global, geometry: &Geometry, cpu: u64) -> Result<FreeList, Fault>
-        requires { cpu < geometry.now.cpus }
-        ensures start { IfOk result (λ list. list.start ≡ home_start geometry.now.blocks geometry.now.cpus cpu) }
-        ensures end { IfOk result (λ list. list.end ≡ home_start geometry.now.blocks geometry.now.cpus (cpu + 1)) }
+        requires { cpu < geometry.now.numbers.cpus }
+        ensures start { IfOk result (λ list. list.start ≡ home_start geometry.now.numbers.blocks geometry.now.numbers.cpus cpu) }
+        ensures end { IfOk result (λ list. list.end ≡ home_start geometry.now.numbers.blocks geometry.now.numbers.cpus (cpu + 1)) }
         ensures blocks { IfOk result (λ list.
-            list.blocks ≡ zero_blocks geometry.now.block list.start (list.end - list.start)) }
+            list.blocks ≡ zero_blocks geometry.now.numbers.block list.start (list.end - list.start)) }
         ensures err { IfErr result (λ fault. fault ≡ Fault.OutOfMemory) }
     {
         let start = geometry.home_start(cpu);
         let count = geometry.home_start(cpu + 1) - start;
         let free = PlaceSet::full(alloc, count as usize)?;
-        let slots = full_slots(alloc, start, count as usize, geometry.block as usize)?;
+        let slots = full_slots(
+            alloc,
+            start,
+            count as usize,
+            geometry.numbers.block as usize,
+        )?;
         Ok(FreeList {
             slots,
             free,

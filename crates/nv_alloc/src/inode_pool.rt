@@ -33,11 +33,11 @@ impl Model for InodePool {
 impl InodePool {
     /// The pool with all numbers of a geometry's inodes: `OutOfMemory` where there is no room for them.
     pub fn new(alloc: Global, geometry: &Geometry) -> Result<InodePool, Fault>
-        ensures inodes { IfOk result (λ pool. pool.inodes ≡ geometry.now.inodes) }
-        ensures numbers { IfOk result (λ pool. pool.numbers ≡ range_with_len 0 geometry.now.inodes) }
+        ensures inodes { IfOk result (λ pool. pool.inodes ≡ geometry.now.numbers.inodes) }
+        ensures numbers { IfOk result (λ pool. pool.numbers ≡ range_with_len 0 geometry.now.numbers.inodes) }
         ensures err { IfErr result (λ fault. fault ≡ Fault.OutOfMemory) }
     {
-        let inodes = geometry.inodes;
+        let inodes = geometry.numbers.inodes;
         let free = PlaceSet::full(alloc, inodes as usize)?;
         Ok(InodePool {
             free,

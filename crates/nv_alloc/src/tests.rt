@@ -1,17 +1,26 @@
 use super::*;
-use nv_base::{BlockNo, Fault, Geometry, Ino};
+use nv_base::{BlockNo, Fault, Geometry, GeometryNumbers, Ino};
 use std::alloc::Global;
 use std::process::Abort;
 
 // A device of 16 blocks of 4 bytes, two CPUs and 3 inodes.
 fn device(rt: &impl Abort) -> Geometry {
-    Geometry::checked(16, 2, 4, 3, 3, 2, 2).expect(rt, "a geometry")
+    let numbers = GeometryNumbers {
+        blocks: 16,
+        cpus: 2,
+        block: 4,
+        page: 3,
+        inodes: 3,
+        snaps: 2,
+        actors: 2,
+    };
+    Geometry::checked(numbers).expect(rt, "a geometry")
 }
 
 // A free list. Where a growth is refused, the call is made once more.
 fn list_of(rt: &impl Abort, alloc: Global, cpu: u64) -> FreeList {
     let device = device(rt);
-    assert!(rt; cpu < device.cpus);
+    assert!(rt; cpu < device.numbers.cpus);
     match FreeList::new(alloc, &device, cpu) {
         Ok(list) => list,
         Err(fault) => {
