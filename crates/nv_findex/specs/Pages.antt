@@ -1,5 +1,6 @@
 -- The present pages of a file, and where each lies.
 use Rattle.std.specs.Prelude.{◌≡◌, ℕ, ◌+◌, ◌-◌, ◌<◌, ◌≤◌, ◌==◌, ◌&&◌, Bool, false, nat_le, nat_lt, if◌then◌else◌, List, [], ◌∷◌, Option, Some, None}
+use Rattle.nv_base.specs.Ids.{is_same_id}
 use Rattle.nv_base.specs.declared.numbers.EntryId.{EntryId}
 use Rattle.nv_findex.specs.declared.page_ref.PageRef.{PageRef}
 
@@ -29,13 +30,10 @@ IsNextFrom from pages None = (page : ℕ) → from ≤ page → pages page ≡ N
 IsNextFrom from pages (Some found) =
     (from ≤ found.0) × (pages found.0 ≡ Some found.1) × ((page : ℕ) → from ≤ page → page < found.0 → pages page ≡ None)
 
-abbrev pub is_same_entry : EntryId → EntryId → Bool
-is_same_entry a b = (a.commit == b.commit) && (a.place == b.place)
-
 -- the first of the pages follows the page p, and so does where it lies
 abbrev pub is_followed : ℕ × PageRef → List (ℕ × PageRef) → Bool
 is_followed p [] = false
-is_followed p (q ∷ qs) = (p.0 + 1 == q.0) && (is_same_entry p.1.entry q.1.entry && (p.1.place + 1 == q.1.place))
+is_followed p (q ∷ qs) = (p.0 + 1 == q.0) && (is_same_id p.1.entry q.1.entry && (p.1.place + 1 == q.1.place))
 
 -- how many runs the pages make: each page that isn't followed ends one
 abbrev pub run_count_of : List (ℕ × PageRef) → ℕ

@@ -1,14 +1,15 @@
 -- Sorted runs of pages.
 use Rattle.std.specs.Prelude.{◌≡◌, ℕ, zero, suc, ◌+◌, ◌-◌, ◌<◌, ◌≤◌, ◌==◌, ◌&&◌, Bool, false, nat_le, nat_lt, if◌then◌else◌, List, [], ◌∷◌, ◌++◌, Option, Some, None}
+use Rattle.nv_base.specs.Ids.{is_same_id}
+use Rattle.nv_base.specs.declared.limits.TheConstants.{FILE_PAGES}
 use Rattle.nv_findex.specs.declared.page_ref.PageRef.{PageRef}
 use Rattle.nv_findex.specs.declared.runs.Run.{Run}
-use Rattle.nv_findex.specs.Pages.{is_same_entry}
 
 -- a run has a page, ends with the greatest file's end, and its places are those of such a file
 pub record IsRun (r : Run) : Type 0 where
   pub some : r.first < r.end
-  pub within : r.end ≤ 65536
-  pub places : r.start.place + (r.end - r.first) ≤ 65536
+  pub within : r.end ≤ FILE_PAGES
+  pub places : r.start.place + (r.end - r.first) ≤ FILE_PAGES
 
 -- where a page of the run lies
 abbrev pub run_ref : Run → ℕ → PageRef
@@ -16,7 +17,7 @@ run_ref r page = record { entry = r.start.entry; place = r.start.place + (page -
 
 -- the two runs are one
 abbrev pub goes_on : Run → Run → Bool
-goes_on r s = (r.end == s.first) && (is_same_entry r.start.entry s.start.entry && (r.start.place + (r.end - r.first) == s.start.place))
+goes_on r s = (r.end == s.first) && (is_same_id r.start.entry s.start.entry && (r.start.place + (r.end - r.first) == s.start.place))
 
 -- the runs begin at p or later
 unfoldable pub BeginFrom : ℕ → List Run → Type 0

@@ -17,13 +17,14 @@ pub struct SlotIndex {
 
 impl Model for SlotIndex {
     ghost use Rattle.std.specs.Prelude.{◌≡◌, List, Option, length};
+    ghost use Rattle.nv_base.specs.declared.limits.TheConstants.{FILE_PAGES};
     ghost use Rattle.nv_findex.specs.declared.page_ref.PageRef.{PageRef};
 
     ghost Value = { List (Option PageRef) };
 
     ghost view = { λ i. i.slots.items };
 
-    ghost invariant = { λ i. length i.slots.items ≡ 65536 };
+    ghost invariant = { λ i. length i.slots.items ≡ FILE_PAGES };
 }
 
 impl SlotIndex {
