@@ -331,25 +331,25 @@ tested world dir name mode node =
     (on_fresh (numbers_of world).fresh (numbered world dir name mode node)))
 
 abbrev dir_node : WorldValue → Handle → Option PlainNode
-dir_node world dir = node_under world.block world.logs world.data_blocks dir
+dir_node world dir = node_under world.numbers.block world.logs world.data_blocks dir
 
 follow_create : (world : WorldValue) (dir : Handle) (name : List ℕ) (mode : ℕ)
-    → FollowsNode (dir_node world dir) (create_check world dir name) (create_outcome (numbers_of world) (plain_of world) dir name mode) (λ node. numbered world dir name mode node (next_handle world)) (nat_lt (length world.logs) world.inodes ≡ true)
+    → FollowsNode (dir_node world dir) (create_check world dir name) (create_outcome (numbers_of world) (plain_of world) dir name mode) (λ node. numbered world dir name mode node (next_handle world)) (nat_lt (length world.logs) world.numbers.inodes ≡ true)
 follow_create world dir name mode =
-    let fresh : Result (Unit {0}) Fault = unless (not (nat_lt (length world.logs) world.inodes)) fault.NoInode (Ok tt) in
+    let fresh : Result (Unit {0}) Fault = unless (not (nat_lt (length world.logs) world.numbers.inodes)) fault.NoInode (Ok tt) in
     let listed : Bool = is_some_handle (bound_to name (names_of (log_at world.logs dir.ino))) in
     follow_directory (dir_node world dir)
     (unless (not (is_lawful_name name)) fault.BadName (unless listed fault.Exists fresh))
-    (tested world dir name mode) (λ node. numbered world dir name mode node (next_handle world)) (nat_lt (length world.logs) world.inodes ≡ true)
+    (tested world dir name mode) (λ node. numbered world dir name mode node (next_handle world)) (nat_lt (length world.logs) world.numbers.inodes ≡ true)
     (λ node found.
     let ok : Outcome = numbered world dir name mode node (next_handle world) in
     let bound : Bool = is_some (bound_to name node.node.names) in
-    let names : node.node.names ≡ names_of (log_at world.logs dir.ino) = plain-names world.block world.data_blocks (log_at world.logs dir.ino) node (under_parts (dir.generation == 1) (plain_node world.block world.data_blocks (log_at world.logs dir.ino)) node found).1 in
+    let names : node.node.names ≡ names_of (log_at world.logs dir.ino) = plain-names world.numbers.block world.data_blocks (log_at world.logs dir.ino) node (under_parts (dir.generation == 1) (plain_node world.numbers.block world.data_blocks (log_at world.logs dir.ino)) node found).1 in
     let same : listed ≡ bound = is_some_same (bound_to name (names_of (log_at world.logs dir.ino))) ∙ ap (λ (list : List BoundName). is_some (bound_to name list)) (sym names) in
     let last : Outcome = on_fresh (numbers_of world).fresh (numbered world dir name mode node) in
-    follow_unless (not (is_lawful_name name)) (not (is_lawful_name name)) fault.BadName (unless listed fault.Exists fresh) (refuse_if bound fault.Exists last) ok (nat_lt (length world.logs) world.inodes ≡ true) refl
-    (follow_unless listed bound fault.Exists fresh last ok (nat_lt (length world.logs) world.inodes ≡ true) same
-    (follow_fresh (nat_lt (length world.logs) world.inodes) (next_handle world) (numbered world dir name mode node))))
+    follow_unless (not (is_lawful_name name)) (not (is_lawful_name name)) fault.BadName (unless listed fault.Exists fresh) (refuse_if bound fault.Exists last) ok (nat_lt (length world.logs) world.numbers.inodes ≡ true) refl
+    (follow_unless listed bound fault.Exists fresh last ok (nat_lt (length world.logs) world.numbers.inodes ≡ true) same
+    (follow_fresh (nat_lt (length world.logs) world.numbers.inodes) (next_handle world) (numbered world dir name mode node))))
 
 commit-limit : (plain : Plain) (go : ℕ → Outcome) → 2 ^ 62 ≤ plain.commit → on_commit plain go ≡ Refuses fault.CommitLimit
 commit-limit plain go h = ap (λ (t : Bool). refuse_if t fault.CommitLimit (go (plain.commit + 1))) (le-leb (2 ^ 62) plain.commit h)
@@ -358,19 +358,19 @@ commit-next : (plain : Plain) (go : ℕ → Outcome) → plain.commit < 2 ^ 62 �
 commit-next plain go h = ap (λ (t : Bool). refuse_if t fault.CommitLimit (go (plain.commit + 1))) (lt-leb (2 ^ 62) plain.commit h)
 
 created_stands : (world : WorldValue) (dir : Handle) (name : List ℕ) (mode : ℕ) → IsWorld world → world.commit < 2 ^ 62
-    → Goes (dir_node world dir) (create_outcome (numbers_of world) (plain_of world) dir name mode) (λ node. numbered world dir name mode node (next_handle world)) (nat_lt (length world.logs) world.inodes ≡ true)
+    → Goes (dir_node world dir) (create_outcome (numbers_of world) (plain_of world) dir name mode) (λ node. numbered world dir name mode node (next_handle world)) (nat_lt (length world.logs) world.numbers.inodes ≡ true)
     → Stands (create_outcome (numbers_of world) (plain_of world) dir name mode) (answer.Made (next_handle world)) (created world dir name mode)
 created_stands world dir name mode w lt g =
     let c : ℕ = world.commit + 1 in
-    let under = under_parts (dir.generation == 1) (plain_node world.block world.data_blocks (log_at world.logs dir.ino)) g.node g.found in
-    let free : length world.logs < world.inodes = ltb-true (length world.logs) world.inodes g.holds in
+    let under = under_parts (dir.generation == 1) (plain_node world.numbers.block world.data_blocks (log_at world.logs dir.ino)) g.node g.found in
+    let free : length world.logs < world.numbers.inodes = ltb-true (length world.logs) world.numbers.inodes g.holds in
     let long = length-logs_after world.logs dir.ino (bind_entry c name (next_handle world)) (init_entry c mode) in
-    let in_use : dir.ino < length world.logs = in_logs world.block world.data_blocks world.logs dir.ino g.node under.1 in
+    let in_use : dir.ino < length world.logs = in_logs world.numbers.block world.data_blocks world.logs dir.ino g.node under.1 in
     record {
       after = made (plain_of world) dir g.node name (next_handle world) mode c;
       answers = g.goes ∙ commit-next (plain_of world) (λ commit. Answers (answer.Made (next_handle world)) (made (plain_of world) dir g.node name (next_handle world) mode commit)) lt;
       same = record {
-        nodes = nodes_same world.block world.data_blocks world.logs dir name c mode g.node under.0 under.1;
+        nodes = nodes_same world.numbers.block world.data_blocks world.logs dir name c mode g.node under.0 under.1;
         snapshots = refl;
         epoch = refl;
         commit = refl;
@@ -381,7 +381,7 @@ created_stands world dir name mode w lt g =
         slots_fit = omega (arith, long, free);
         blocks_fit = w.blocks_fit;
         commits_fit = omega (arith, lt);
-        files = files_after world.block world.data_blocks world.logs dir name c mode in_use w.files;
+        files = files_after world.numbers.block world.data_blocks world.logs dir name c mode in_use w.files;
       };
     }
 

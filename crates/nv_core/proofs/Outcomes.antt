@@ -92,11 +92,11 @@ bytes_by (Some (datum.Node to)) bytes block commit log node h = cc
 bytes_by (Some (datum.Block number)) bytes block commit log node h = cc
 bytes_by None bytes block commit log node h = cc
 
-node_bytes : (world : WorldValue) (file : Handle) (node : PlainNode) → node_under world.block world.logs world.data_blocks file ≡ Some node → node.node.bytes ≡ bytes_under world file
+node_bytes : (world : WorldValue) (file : Handle) (node : PlainNode) → node_under world.numbers.block world.logs world.data_blocks file ≡ Some node → node.node.bytes ≡ bytes_under world file
 node_bytes world file node h =
     let log = log_at world.logs file.ino in
-    bytes_by (value_now world.block log KindKey) (bytes_in world.data_blocks) world.block (last_commit log) log node
-    (under (file.generation == 1) (plain_node world.block world.data_blocks log) node h).1
+    bytes_by (value_now world.numbers.block log KindKey) (bytes_in world.data_blocks) world.numbers.block (last_commit log) log node
+    (under (file.generation == 1) (plain_node world.numbers.block world.data_blocks log) node h).1
 
 same_plain : (world : WorldValue) → SamePlain (plain_of world) (plain_of world)
 same_plain world = record { nodes = λ handle. refl; snapshots = refl; epoch = refl; commit = refl }
@@ -108,14 +108,14 @@ pub read_is_outcome : (world : WorldValue) (file : Handle) (offset count : ℕ) 
     → IsOutcome (read_outcome (plain_of world) file offset count) world result world
 read_is_outcome world file offset count (Ok a) ok err =
     let go = λ (node : PlainNode). Answers (answer.Bytes (read_at offset count node.node.bytes)) (plain_of world) in
-    let x = on_file_passed (node_under world.block world.logs world.data_blocks file) go ok.0 in
+    let x = on_file_passed (node_under world.numbers.block world.logs world.data_blocks file) go ok.0 in
     answers (read_outcome (plain_of world) file offset count) (answer.Bytes (read_at offset count x.node.node.bytes)) (plain_of world) world (Ok a) world x.goes
     (ap Ok (ok.1 ∙ ap (λ bytes. answer.Bytes (read_at offset count bytes)) (sym (node_bytes world file x.node x.is_some)))) (same_plain world)
 read_is_outcome world file offset count (Err why) ok (inl h) =
-    refuses (read_outcome (plain_of world) file offset count) why world (Err why) world (on_file_refused (node_under world.block world.logs world.data_blocks file) (λ (node : PlainNode). Answers (answer.Bytes (read_at offset count node.node.bytes)) (plain_of world)) why h) refl refl
+    refuses (read_outcome (plain_of world) file offset count) why world (Err why) world (on_file_refused (node_under world.numbers.block world.logs world.data_blocks file) (λ (node : PlainNode). Answers (answer.Bytes (read_at offset count node.node.bytes)) (plain_of world)) why h) refl refl
 read_is_outcome world file offset count (Err why) ok (inr h) =
     let go = λ (node : PlainNode). Answers (answer.Bytes (read_at offset count node.node.bytes)) (plain_of world) in
-    let x = on_file_passed (node_under world.block world.logs world.data_blocks file) go h.0 in
+    let x = on_file_passed (node_under world.numbers.block world.logs world.data_blocks file) go h.0 in
     no_memory_answer (read_outcome (plain_of world) file offset count) (answer.Bytes (read_at offset count x.node.node.bytes)) (plain_of world) world (Err why) world x.goes (ap Err h.1) refl
 
 -- a write of no bytes
@@ -124,10 +124,10 @@ pub empty_is_outcome : (world : WorldValue) (file : Handle) (offset : ℕ) (resu
     → IfErr result (λ why. want_file (kind_under world file) (Ok tt) ≡ Err why)
     → IsOutcome (write_outcome (numbers_of world) (plain_of world) file offset []) world result world
 empty_is_outcome world file offset (Ok a) ok err =
-    let x = on_file_passed (node_under world.block world.logs world.data_blocks file) (λ (node : PlainNode). Answers (answer.Count 0) (plain_of world)) ok.0 in
+    let x = on_file_passed (node_under world.numbers.block world.logs world.data_blocks file) (λ (node : PlainNode). Answers (answer.Count 0) (plain_of world)) ok.0 in
     answers (write_outcome (numbers_of world) (plain_of world) file offset []) (answer.Count 0) (plain_of world) world (Ok a) world x.goes (ap Ok ok.1) (same_plain world)
 empty_is_outcome world file offset (Err why) ok err =
-    refuses (write_outcome (numbers_of world) (plain_of world) file offset []) why world (Err why) world (on_file_refused (node_under world.block world.logs world.data_blocks file) (λ (node : PlainNode). Answers (answer.Count 0) (plain_of world)) why err) refl refl
+    refuses (write_outcome (numbers_of world) (plain_of world) file offset []) why world (Err why) world (on_file_refused (node_under world.numbers.block world.logs world.data_blocks file) (λ (node : PlainNode). Answers (answer.Count 0) (plain_of world)) why err) refl refl
 
 -- what a check that lets pass says
 unless_passed : (b : Bool) (why : Fault) (next : Result (Unit {0}) Fault) → unless b why next ≡ Ok tt → b ≡ false
@@ -139,14 +139,14 @@ file_passed None next h = cc
 file_passed (Some File) next h = h
 file_passed (Some Dir) next h = cc
 
-few_pages : (old : WorldValue) (file : Handle) (offset : ℕ) (text : List ℕ) → write_check old file offset text ≡ Ok tt → pages_touched old.block offset text ≤ 1024
-few_pages old file offset text h = ltb-false 1024 (pages_touched old.block offset text) (unless_passed (nat_lt 1024 (pages_touched old.block offset text)) fault.WriteTooBig _ (file_passed (kind_under old file) _ h))
+few_pages : (old : WorldValue) (file : Handle) (offset : ℕ) (text : List ℕ) → write_check old file offset text ≡ Ok tt → pages_touched old.numbers.block offset text ≤ 1024
+few_pages old file offset text h = ltb-false 1024 (pages_touched old.numbers.block offset text) (unless_passed (nat_lt 1024 (pages_touched old.numbers.block offset text)) fault.WriteTooBig _ (file_passed (kind_under old file) _ h))
 
 -- the run of the next blocks
 next_run : (old : WorldValue) (file : Handle) (offset : ℕ) (text : List ℕ) → IsWorld old → write_check old file offset text ≡ Ok tt → (run : Run) × IsNextRun old offset text run
 next_run old file offset text w h =
     let few = few_pages old file offset text h in (
-      record { start = length old.data_blocks; len = pages_touched old.block offset text; in_range = omega (arith, few, w.blocks_fit, w.few_blocks) },
+      record { start = length old.data_blocks; len = pages_touched old.numbers.block offset text; in_range = omega (arith, few, w.blocks_fit, w.few_blocks) },
       record { start = refl; len = refl },
     )
 

@@ -86,13 +86,13 @@ files_written block old logs ino offset text run commit files w used slot = go (
       (sym (other_log logs ino slot (slot_after block old logs ino offset text run commit) apart))
       (has_pages-grown block old (new_pages block offset text (written offset text (file_bytes (bytes_in old) block (log_at logs ino)))) (log_at logs slot) (files slot))
 
-lawful_after : (world : WorldValue) (file : Handle) (offset : ℕ) (text : List ℕ) (run : Run) → IsWorld world → Writing world.block world.data_blocks (log_at world.logs file.ino) offset text run
-    → file.ino < length world.logs → pages_touched world.block offset text ≤ world.blocks - length world.data_blocks → world.commit < 2 ^ 62 → IsWorld (wrote world file offset text run)
+lawful_after : (world : WorldValue) (file : Handle) (offset : ℕ) (text : List ℕ) (run : Run) → IsWorld world → Writing world.numbers.block world.data_blocks (log_at world.logs file.ino) offset text run
+    → file.ino < length world.logs → pages_touched world.numbers.block offset text ≤ world.numbers.blocks - length world.data_blocks → world.commit < 2 ^ 62 → IsWorld (wrote world file offset text run)
 lawful_after world file offset text run lawful w used room below =
-    let logs : List (List Entry) = logs_after world.block world.data_blocks world.logs file.ino offset text run (world.commit + 1) in
-    let after : List Entry = slot_after world.block world.data_blocks world.logs file.ino offset text run (world.commit + 1) in
+    let logs : List (List Entry) = logs_after world.numbers.block world.data_blocks world.logs file.ino offset text run (world.commit + 1) in
+    let after : List Entry = slot_after world.numbers.block world.data_blocks world.logs file.ino offset text run (world.commit + 1) in
     let slots : length logs ≡ length world.logs = length-set world.logs file.ino after in
-    let blocks = length-blocks_after world.block world.data_blocks (log_at world.logs file.ino) offset text in
+    let blocks = length-blocks_after world.numbers.block world.data_blocks (log_at world.logs file.ino) offset text in
     let old = lawful.blocks_fit in
     record {
       some_bytes = lawful.some_bytes;
@@ -100,7 +100,7 @@ lawful_after world file offset text run lawful w used room below =
       slots_fit = rw slots lawful.slots_fit;
       blocks_fit = rw blocks (omega arith);
       commits_fit = omega arith;
-      files = files_written world.block world.data_blocks world.logs file.ino offset text run (world.commit + 1) lawful.files w used;
+      files = files_written world.numbers.block world.data_blocks world.logs file.ino offset text run (world.commit + 1) lawful.files w used;
     }
 
 -- what a write goes on with behind the tests
@@ -108,32 +108,32 @@ abbrev go_on : WorldValue → Handle → ℕ → List ℕ → PlainNode → Outc
 go_on world file offset text node = on_commit (plain_of world) (λ commit. Answers (answer.Count (length text)) (file_written (plain_of world) file node offset text commit))
 
 abbrev PassesWrite : WorldValue → Handle → ℕ → List ℕ → Type 0
-PassesWrite world file offset text = Passes (node_under world.block world.logs world.data_blocks file) (nat_lt 1024 (pages_touched world.block offset text)) (nat_lt (65536 * world.block) (offset + length text)) (nat_lt (world.blocks - length world.data_blocks) (pages_touched world.block offset text))
+PassesWrite world file offset text = Passes (node_under world.numbers.block world.logs world.data_blocks file) (nat_lt 1024 (pages_touched world.numbers.block offset text)) (nat_lt (65536 * world.numbers.block) (offset + length text)) (nat_lt (world.numbers.blocks - length world.data_blocks) (pages_touched world.numbers.block offset text))
 
 -- a node that passes is written to
 writing : (world : WorldValue) (file : Handle) (offset : ℕ) (text : List ℕ) (run : Run) → IsWorld world → 0 < length text → PassesWrite world file offset text → IsNextRun world offset text run
-    → Writing world.block world.data_blocks (log_at world.logs file.ino) offset text run
+    → Writing world.numbers.block world.data_blocks (log_at world.logs file.ino) offset text run
 writing world file offset text run lawful any p next = record {
   some = lawful.some_bytes;
   any = any;
-  fits = ltb-false (65536 * world.block) (offset + length text) p.small;
+  fits = ltb-false (65536 * world.numbers.block) (offset + length text) p.small;
   start = next.start;
   len = next.len;
   has = lawful.files file.ino;
 }
 
-stands_after : (world : WorldValue) (file : Handle) (offset : ℕ) (text : List ℕ) (run : Run) (outcome : Outcome) (node : PlainNode) → IsWorld world → Writing world.block world.data_blocks (log_at world.logs file.ino) offset text run
-    → node_under world.block world.logs world.data_blocks file ≡ Some node → pages_touched world.block offset text ≤ world.blocks - length world.data_blocks → world.commit < 2 ^ 62 → outcome ≡ go_on world file offset text node
+stands_after : (world : WorldValue) (file : Handle) (offset : ℕ) (text : List ℕ) (run : Run) (outcome : Outcome) (node : PlainNode) → IsWorld world → Writing world.numbers.block world.data_blocks (log_at world.logs file.ino) offset text run
+    → node_under world.numbers.block world.logs world.data_blocks file ≡ Some node → pages_touched world.numbers.block offset text ≤ world.numbers.blocks - length world.data_blocks → world.commit < 2 ^ 62 → outcome ≡ go_on world file offset text node
     → Stands outcome (answer.Count (length text)) (wrote world file offset text run)
 stands_after world file offset text run outcome node lawful w is room below goes =
-    let found = under (file.generation == 1) (plain_node world.block world.data_blocks (log_at world.logs file.ino)) node is in
-    let used : file.ino < length world.logs = slot_used world.block world.data_blocks world.logs file.ino node found.1 in
+    let found = under (file.generation == 1) (plain_node world.numbers.block world.data_blocks (log_at world.logs file.ino)) node is in
+    let used : file.ino < length world.logs = slot_used world.numbers.block world.data_blocks world.logs file.ino node found.1 in
     let after : Plain = file_written (plain_of world) file node offset text (world.commit + 1) in
     record {
       after = after;
       answers = goes ∙ ap (λ (t : Bool). refuse_if t fault.CommitLimit (Answers (answer.Count (length text)) after)) (lt-leb (2 ^ 62) world.commit below);
       same = record {
-        nodes = nodes_written world.block world.data_blocks world.logs file offset text run (world.commit + 1) node lawful.files w is;
+        nodes = nodes_written world.numbers.block world.data_blocks world.logs file offset text run (world.commit + 1) node lawful.files w is;
         snapshots = refl;
         epoch = refl;
         commit = refl;
@@ -149,22 +149,22 @@ write_meets world file offset byte rest lawful = record {
       ∙ ap (λ (t : Bool). refuse_if t fault.CommitLimit (Answers (answer.Count (length text)) (file_written (plain_of world) file p.node offset text (world.commit + 1)))) (le-leb (2 ^ 62) world.commit full);
   done = λ h below run next. let p = passes at a b c h in
       stands_after world file offset text run (write_outcome (numbers_of world) (plain_of world) file offset text) p.node lawful (writing world file offset text run lawful (omega arith) p next) p.is
-      (ltb-false (world.blocks - length world.data_blocks) (pages_touched world.block offset text) p.room) below (p.goes_on (go_on world file offset text));
+      (ltb-false (world.numbers.blocks - length world.data_blocks) (pages_touched world.numbers.block offset text) p.room) below (p.goes_on (go_on world file offset text));
 } where
   text : List ℕ
   text = byte ∷ rest
 
   at : Option PlainNode
-  at = node_under world.block world.logs world.data_blocks file
+  at = node_under world.numbers.block world.logs world.data_blocks file
 
   a : Bool
-  a = nat_lt 1024 (pages_touched world.block offset text)
+  a = nat_lt 1024 (pages_touched world.numbers.block offset text)
 
   b : Bool
-  b = nat_lt (65536 * world.block) (offset + length text)
+  b = nat_lt (65536 * world.numbers.block) (offset + length text)
 
   c : Bool
-  c = nat_lt (world.blocks - length world.data_blocks) (pages_touched world.block offset text)
+  c = nat_lt (world.numbers.blocks - length world.data_blocks) (pages_touched world.numbers.block offset text)
 
 pub write_meets_some : (world : WorldValue) (file : Handle) (offset : ℕ) (text : List ℕ) → IsWorld world → 0 < length text → WriteMeets world file offset text
 write_meets_some world file offset [] h some = absurd (omega arith)

@@ -4,6 +4,7 @@ use Rattle.std.specs.List.{range_with_len}
 use Rattle.nv_base.specs.Names.{is_lawful_name}
 use Rattle.nv_base.specs.declared.fault.Fault.{Fault}
 use Rattle.nv_base.specs.declared.fault.Fault.TheVariants as fault
+use Rattle.nv_base.specs.declared.limits.TheConstants.{FILE_PAGES, WRITE_PAGES}
 use Rattle.nv_base.specs.declared.node.Kind.{Kind}
 use Rattle.nv_base.specs.declared.node.Kind.TheVariants.{File, Dir}
 use Rattle.nv_base.specs.declared.numbers.Handle.{Handle}
@@ -18,7 +19,7 @@ use Rattle.nv_core.specs.World.{WorldValue, log_at, bytes_in, node_under}
 
 -- the kind of the node under a handle
 abbrev pub kind_under : WorldValue → Handle → Option Kind
-kind_under world handle = option_map (λ plain. plain.node.kind) (node_under world.block world.logs world.data_blocks handle)
+kind_under world handle = option_map (λ plain. plain.node.kind) (node_under world.numbers.block world.logs world.data_blocks handle)
 
 -- the first of these tests that holds refuses
 abbrev pub unless : Bool → Fault → Result (Unit {0}) Fault → Result (Unit {0}) Fault
@@ -49,7 +50,7 @@ create_check world dir name =
     want_directory (kind_under world dir)
     (unless (not (is_lawful_name name)) fault.BadName
     (unless (is_bound world dir.ino name) fault.Exists
-    (unless (not (nat_lt (length world.logs) world.inodes)) fault.NoInode (Ok tt))))
+    (unless (not (nat_lt (length world.logs) world.numbers.inodes)) fault.NoInode (Ok tt))))
 
 -- the handle of the next new inode
 abbrev pub next_handle : WorldValue → Handle
@@ -75,13 +76,13 @@ created world dir name mode = record world {
 abbrev pub write_check : WorldValue → Handle → ℕ → List ℕ → Result (Unit {0}) Fault
 write_check world file offset text =
     want_file (kind_under world file)
-    (unless (nat_lt 1024 (pages_touched world.block offset text)) fault.WriteTooBig
-    (unless (nat_lt (65536 * world.block) (offset + length text)) fault.FileTooBig
-    (unless (nat_lt (world.blocks - length world.data_blocks) (pages_touched world.block offset text)) fault.NoSpace (Ok tt))))
+    (unless (nat_lt WRITE_PAGES (pages_touched world.numbers.block offset text)) fault.WriteTooBig
+    (unless (nat_lt (FILE_PAGES * world.numbers.block) (offset + length text)) fault.FileTooBig
+    (unless (nat_lt (world.numbers.blocks - length world.data_blocks) (pages_touched world.numbers.block offset text)) fault.NoSpace (Ok tt))))
 
 -- the bytes of the file under a handle
 abbrev pub bytes_under : WorldValue → Handle → List ℕ
-bytes_under world file = file_bytes (bytes_in world.data_blocks) world.block (log_at world.logs file.ino)
+bytes_under world file = file_bytes (bytes_in world.data_blocks) world.numbers.block (log_at world.logs file.ino)
 
 abbrev pub write_entry : ℕ → ℕ → Run → ℕ → Entry
 write_entry commit first run size = record { id = record { commit = commit; place = 0 }; epoch = 1; item = Write first run size }
@@ -95,12 +96,12 @@ abbrev pub wrote : WorldValue → Handle → ℕ → List ℕ → Run → WorldV
 wrote world file offset text run =
     let bytes = written offset text (bytes_under world file) in
     record world {
-      logs = one_more world file.ino (write_entry (world.commit + 1) (offset / world.block) run (length bytes));
-      data_blocks = world.data_blocks ++ new_pages world.block offset text bytes;
+      logs = one_more world file.ino (write_entry (world.commit + 1) (offset / world.numbers.block) run (length bytes));
+      data_blocks = world.data_blocks ++ new_pages world.numbers.block offset text bytes;
       commit = world.commit + 1;
     }
 
 -- the run has the next blocks, one for each page
 pub record IsNextRun (world : WorldValue) (offset : ℕ) (text : List ℕ) (run : Run) : Type 0 where
   pub start : run.start ≡ length world.data_blocks
-  pub len : run.len ≡ pages_touched world.block offset text
+  pub len : run.len ≡ pages_touched world.numbers.block offset text

@@ -1,8 +1,9 @@
 -- The plain world: nodes by handle, and what calls do to them.
-use Rattle.std.specs.Prelude.{◌≡◌, ℕ, ◌+◌, ◌-◌, ◌*◌, ◌/◌, ◌^◌, ◌==◌, ◌&&◌, Bool, true, false, not, if◌then◌else◌, nat_lt, nat_le, is_some, List, [], ◌∷◌, length, Option, Some, None}
+use Rattle.std.specs.Prelude.{◌≡◌, ℕ, ◌+◌, ◌-◌, ◌*◌, ◌/◌, ◌==◌, ◌&&◌, Bool, true, false, not, if◌then◌else◌, nat_lt, nat_le, is_some, List, [], ◌∷◌, length, Option, Some, None}
 use Rattle.nv_base.specs.Names.{is_lawful_name}
 use Rattle.nv_base.specs.declared.fault.Fault.{Fault}
 use Rattle.nv_base.specs.declared.fault.Fault.TheVariants as fault
+use Rattle.nv_base.specs.declared.limits.TheConstants.{FILE_PAGES, NUMBER, WRITE_PAGES}
 use Rattle.nv_base.specs.declared.node.Kind.{Kind}
 use Rattle.nv_base.specs.declared.node.Kind.TheVariants.{File, Dir}
 use Rattle.nv_base.specs.declared.numbers.Handle.{Handle}
@@ -73,7 +74,7 @@ refuse_if false fault outcome = outcome
 
 -- goes on with the next commit number
 abbrev pub on_commit : Plain → (ℕ → Outcome) → Outcome
-on_commit plain go = refuse_if (nat_le (2 ^ 62) plain.commit) fault.CommitLimit (go (plain.commit + 1))
+on_commit plain go = refuse_if (nat_le NUMBER plain.commit) fault.CommitLimit (go (plain.commit + 1))
 
 abbrev pub empty_file : ℕ → NodeCopy
 empty_file mode = record { kind = File; mode = mode; bytes = []; names = [] }
@@ -111,8 +112,8 @@ abbrev pub text_outcome : Numbers → Plain → Handle → ℕ → List ℕ → 
 text_outcome numbers plain file offset [] node = Answers (answer.Count 0) plain
 text_outcome numbers plain file offset (byte ∷ rest) node =
     let text = byte ∷ rest in
-    refuse_if (nat_lt 1024 (pages_touched numbers.block offset text)) fault.WriteTooBig
-    (refuse_if (nat_lt (65536 * numbers.block) (offset + length text)) fault.FileTooBig
+    refuse_if (nat_lt WRITE_PAGES (pages_touched numbers.block offset text)) fault.WriteTooBig
+    (refuse_if (nat_lt (FILE_PAGES * numbers.block) (offset + length text)) fault.FileTooBig
     (refuse_if (nat_lt numbers.space (pages_touched numbers.block offset text)) fault.NoSpace
     (on_commit plain (λ commit. Answers (answer.Count (length text)) (file_written plain file node offset text commit)))))
 

@@ -1,7 +1,8 @@
 //! Making files.
 
-ghost use Rattle.std.specs.Prelude.{◌≡◌, ◌+◌, ◌<◌, ◌≤◌, ◌^◌, ◌⊎◌, Ok, Err, IfErr, IfOk};
+ghost use Rattle.std.specs.Prelude.{◌≡◌, ◌+◌, ◌<◌, ◌≤◌, ◌⊎◌, Ok, Err, IfErr, IfOk};
 ghost use Rattle.std.specs.Prelude.{◌∷◌, ◌++◌, [], OnErr, OnOk, slice_index_or, slice_set, vec_capacity, vec_len};
+ghost use Rattle.nv_base.specs.declared.limits.TheConstants.{NUMBER};
 ghost use Rattle.nv_core.specs.Checks.{create_check, created, init_entry, next_handle};
 ghost use Rattle.nv_core.specs.Logs.{logs_of};
 
@@ -14,12 +15,12 @@ impl World {
     /// Makes an empty file in a directory, and binds a name to it.
     pub(crate) fn create(&mut self, dir: Handle, name: &[u8], mode: Mode) -> Result<Answer, Fault>
         ensures ok { IfOk result (λ answer. (answer ≡ Answer.Made (next_handle self.old))
-            × (create_check self.old dir name.now ≡ Ok tt) × (self.old.commit < 2 ^ 62)
+            × (create_check self.old dir name.now ≡ Ok tt) × (self.old.commit < NUMBER)
             × (self.new ≡ created self.old dir name.now mode)) }
         ensures same { IfErr result (λ _. self.new ≡ self.old) }
         ensures err { IfErr result (λ fault. (create_check self.old dir name.now ≡ Err fault)
             ⊎ ((create_check self.old dir name.now ≡ Ok tt) × (fault ≡ Fault.OutOfMemory))
-            ⊎ ((create_check self.old dir name.now ≡ Ok tt) × (fault ≡ Fault.CommitLimit) × (2 ^ 62 ≤ self.old.commit))) }
+            ⊎ ((create_check self.old dir name.now ≡ Ok tt) × (fault ≡ Fault.CommitLimit) × (NUMBER ≤ self.old.commit))) }
     {
         self.check_create(&dir, name)?;
         let ino = slot_of(&dir);
@@ -57,7 +58,7 @@ impl World {
         if self.is_bound(slot_of(dir), name) {
             return Err(Fault::Exists);
         }
-        if self.logs.len() as u64 >= self.geometry.inodes {
+        if self.logs.len() as u64 >= self.geometry.numbers.inodes {
             return Err(Fault::NoInode);
         }
         Ok(())
@@ -65,8 +66,8 @@ impl World {
 
     /// The number of the next commit.
     pub(crate) fn next_commit(&self) -> Result<CommitNo, Fault>
-        ensures ok { IfOk result (λ commit. (commit ≡ self.now.commit + 1) × (self.now.commit < 2 ^ 62)) }
-        ensures err { IfErr result (λ fault. (fault ≡ Fault.CommitLimit) × (2 ^ 62 ≤ self.now.commit)) }
+        ensures ok { IfOk result (λ commit. (commit ≡ self.now.commit + 1) × (self.now.commit < NUMBER)) }
+        ensures err { IfErr result (λ fault. (fault ≡ Fault.CommitLimit) × (NUMBER ≤ self.now.commit)) }
     {
         if self.commit.number() >= limits::NUMBER {
             return Err(Fault::CommitLimit);

@@ -19,7 +19,7 @@ impl World {
             return None;
         }
         let log = &self.logs[handle.ino.number() as usize];
-        match value_now(self.geometry.block, log, Key::Kind) {
+        match value_now(self.geometry.numbers.block, log, Key::Kind) {
             Some(Datum::Kind(kind)) => Some(kind),
             _ => None,
         }
@@ -35,7 +35,7 @@ impl World {
         let log = &self.logs[handle.ino.number() as usize];
         node_when(
             self.alloc,
-            self.geometry.block,
+            self.geometry.numbers.block,
             When::Now,
             log,
             &self.blocks,
@@ -47,6 +47,11 @@ impl World {
         requires { ino < length self.now.logs }
         ensures { result ≡ is_bound self.now ino name.now }
     {
-        value_now(self.geometry.block, &self.logs[ino], Key::Name(name)).is_some()
+        value_now(
+            self.geometry.numbers.block,
+            &self.logs[ino],
+            Key::Name(name),
+        )
+        .is_some()
     }
 }

@@ -1,7 +1,7 @@
 //! A first path through a world, by events and replies.
 
 use crate::{Answer, Call, Event, Reply, World};
-use nv_base::{Bytes, CommitNo, Fault, Gen, Geometry, Handle, Ino, Mode, limits};
+use nv_base::{Bytes, CommitNo, Fault, Gen, Geometry, GeometryNumbers, Handle, Ino, Mode, limits};
 use std::alloc::Global;
 use std::process::Abort;
 use std::test::Fail;
@@ -67,7 +67,15 @@ fn is_made(reply: &Reply, ino: u64) -> bool {
 }
 
 fn geometry() -> Result<Geometry, Fault> {
-    Geometry::checked(16, 2, 4, 4, 8, 4, 3)
+    Geometry::checked(GeometryNumbers {
+        blocks: 16,
+        cpus: 2,
+        block: 4,
+        page: 4,
+        inodes: 8,
+        snaps: 4,
+        actors: 3,
+    })
 }
 
 #[test]
@@ -137,7 +145,16 @@ fn writes_over_and_past_the_end(rt: HostRuntime) -> Result<(), Fail> {
 
 #[test]
 fn limits_of_files_and_slots(rt: HostRuntime) -> Result<(), Fail> {
-    let mut world = World::format(rt.alloc(), Geometry::checked(8, 1, 1, 2, 2, 1, 1)?)?;
+    let geometry = Geometry::checked(GeometryNumbers {
+        blocks: 8,
+        cpus: 1,
+        block: 1,
+        page: 2,
+        inodes: 2,
+        snaps: 1,
+        actors: 1,
+    })?;
+    let mut world = World::format(rt.alloc(), geometry)?;
     let reply = made(&rt, &mut world, create(rt.alloc(), handle(0, 1), b"a")?);
     assert!(rt; is_made(&reply, 1));
     let reply = made(&rt, &mut world, create(rt.alloc(), handle(0, 1), b"b")?);

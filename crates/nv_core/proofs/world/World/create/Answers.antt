@@ -10,5 +10,5 @@ invariant_of-self-2 c =
     let law = create_meets c.args.self.now c.args.dir c.args.name.now c.args.mode (rw (← c.self.view_is) c.self.invariant.0) in
     let lawful = (law.done (sym c.check_create.ensures ∙ c.in_ok-check_create.was) c.in_ok-commit.ensures.ok.1).lawful in
     let w = c.self.inside in
-    let same : created c.args.self.now c.args.dir c.args.name.now c.args.mode ≡ value_of w.geometry.block w.geometry.blocks w.geometry.inodes (logs_of c.add_file.new.logs) w.blocks c.in_ok-commit.commit w.calls.items = search rules in
+    let same : created c.args.self.now c.args.dir c.args.name.now c.args.mode ≡ value_of w.geometry.numbers (logs_of c.add_file.new.logs) w.blocks c.in_ok-commit.commit w.calls.items = search rules in
     (subst IsWorld same lawful, c.self.invariant.1)

@@ -11,7 +11,7 @@ use Rattle.nv_core.proofs.world.World.is_bound.Goals as goal
 
 pub returns : goal.returns
 returns c =
-    let block = c.self.inside.geometry.block in
+    let block = c.self.inside.geometry.numbers.block in
     let log = log_at (logs_of c.self.inside.logs) c.args.ino in
     let within = rw (← c.self.view_is) at c.requires in
     let lt : c.args.ino < length c.self.inside.logs.items = omega (arith, within, length-map c.self.inside.logs.items (λ l. l.items)) in

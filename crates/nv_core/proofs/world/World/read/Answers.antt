@@ -15,7 +15,7 @@ returns-clause-ok c =
     let within : c.slot_of.result < length w.logs.items = grind (arith, common_steps) in
     let log : c.deref.result.now ≡ log_at (logs_of w.logs) c.args.file.ino = c.deref.ensures.value ∙ ap (λ l. l.items) c.index-log.ensures ∙ sym (entries-at w.logs.items c.slot_of.result c.index-log.result.now within) ∙ ap (log_at (logs_of w.logs)) c.slot_of.ensures in
     let bytes : c.as_slice.result.now ≡ bytes_under c.args.self.now c.args.file =
-    c.as_slice.ensures ∙ c.in_ok-bytes.ensures ∙ ap (λ l. file_bytes (bytes_in w.blocks) w.geometry.block l) log ∙ ap (λ v. bytes_under v c.args.file) c.self.view_is in (
+    c.as_slice.ensures ∙ c.in_ok-bytes.ensures ∙ ap (λ l. file_bytes (bytes_in w.blocks) w.geometry.numbers.block l) log ∙ ap (λ v. bytes_under v c.args.file) c.self.view_is in (
       sym c.check_file.ensures ∙ c.in_ok-check_file.was,
       ap Bytes (c.in_ok-part_of.ensures ∙ ap (read_at c.args.offset c.args.count) bytes),
     )
