@@ -53,7 +53,12 @@ impl FreeList {
         let start = geometry.home_start(cpu);
         let count = geometry.home_start(cpu + 1) - start;
         let free = PlaceSet::full(alloc, count as usize)?;
-        let slots = full_slots(alloc, start, count as usize, geometry.numbers.block as usize)?;
+        let slots = full_slots(
+            alloc,
+            start,
+            count as usize,
+            geometry.numbers.block as usize,
+        )?;
         Ok(FreeList {
             slots,
             free,

@@ -51,18 +51,18 @@ file_passed (Some Dir) next h = cc
 
 -- the node that a world has under a handle
 abbrev FoundIn : WorldValue → Handle → Type 0
-FoundIn world handle = Found world.block world.logs world.data_blocks handle
+FoundIn world handle = Found world.numbers.block world.logs world.data_blocks handle
 
 pub found_in : (world : WorldValue) (handle : Handle) (kind : Kind) → kind_in (plain_of world) handle ≡ Some kind → FoundIn world handle
-found_in world handle kind h = found world.block world.logs world.data_blocks handle kind h
+found_in world handle kind h = found world.numbers.block world.logs world.data_blocks handle kind h
 
 -- its bytes are those that its log gives
 pub bytes_found : (world : WorldValue) (handle : Handle) (f : FoundIn world handle) → IsWorld world
     → bytes_at world handle.ino ≡ f.node.bytes
 bytes_found world handle f w =
     let log : List Entry = log_at world.logs handle.ino in
-    stands-bytes (bytes_in world.data_blocks) world.block log f.node w.some_bytes
-    (subst (Tied world.block (stored (bytes_in world.data_blocks) world.block log)) f.is (w.files handle.ino).sound)
+    stands-bytes (bytes_in world.data_blocks) world.numbers.block log f.node w.some_bytes
+    (subst (Tied world.numbers.block (stored (bytes_in world.data_blocks) world.numbers.block log)) f.is (w.files handle.ino).sound)
 
 -- the plain world after a commit that changes nodes alone
 abbrev at_nodes : ℕ → (Handle → Option PlainNode) → Plain
@@ -75,16 +75,16 @@ numbered world = record (plain_of world) { commit = world.commit + 1 }
 -- ---- create
 
 create_passed : (world : WorldValue) (dir : Handle) (name : List ℕ) → create_check (numbers_of world) (plain_of world) dir name ≡ Ok tt
-    → FoundIn world dir × (length world.logs < world.inodes)
+    → FoundIn world dir × (length world.logs < world.numbers.inodes)
 create_passed world dir name ok =
-    let room : Bool = world.inodes - length world.logs == 0 in
+    let room : Bool = world.numbers.inodes - length world.logs == 0 in
     let last : Result (Unit {0}) Fault = refuse_if room fault.NoInode (Ok tt) in
     let bound : Bool = is_some (bound_to name (names_of_node (node_in (plain_of world) dir))) in
     let a = directory_passed (kind_in (plain_of world) dir) (refuse_if (not (is_lawful_name name)) fault.BadName
     (refuse_if bound fault.Exists last)) ok in
     let b = if_passed (not (is_lawful_name name)) fault.BadName (refuse_if bound fault.Exists last) a.1 in
     let d = if_passed bound fault.Exists last b.1 in
-    let e = eqb-false (world.inodes - length world.logs) 0 (if_passed room fault.NoInode (Ok tt) d.1).0 in
+    let e = eqb-false (world.numbers.inodes - length world.logs) 0 (if_passed room fault.NoInode (Ok tt) d.1).0 in
     (found_in world dir Dir a.0, omega (arith, e))
 
 module _ (world : WorldValue) (dir : Handle) (name : List ℕ) (mode : ℕ) (w : IsWorld world) (f : FoundIn world dir) where
@@ -106,7 +106,7 @@ module _ (world : WorldValue) (dir : Handle) (name : List ℕ) (mode : ℕ) (w :
   long : length middle ≡ length world.logs
   long = length-set world.logs dir.ino (log_at world.logs dir.ino ++ bind ∷ [])
 
-  names : ChangesSlot world.block world.logs middle world.data_blocks world.data_blocks dir bind named
+  names : ChangesSlot world.numbers.block world.logs middle world.data_blocks world.data_blocks dir bind named
   names = record {
     some = w.some_bytes;
     grown = omega arith;
@@ -115,41 +115,41 @@ module _ (world : WorldValue) (dir : Handle) (name : List ℕ) (mode : ℕ) (w :
     first = f.first;
     here = get_or-set_same world.logs dir.ino (log_at world.logs dir.ino ++ bind ∷ []) [] f.in_use;
     others = λ ino apart. get_or-set_other world.logs dir.ino ino (log_at world.logs dir.ino ++ bind ∷ []) [] apart;
-    gives = lawful_gives bytes world.block (log_at world.logs dir.ino) bind
-        (named (node_now bytes world.block (log_at world.logs dir.ino))) w.some_bytes (w.files dir.ino).sound
-        (subst (λ (o : Option NodeCopy). Makes bytes world.block (Bind name (next_handle world)) o (named o)) (sym f.is) refl);
+    gives = lawful_gives bytes world.numbers.block (log_at world.logs dir.ino) bind
+        (named (node_now bytes world.numbers.block (log_at world.logs dir.ino))) w.some_bytes (w.files dir.ino).sound
+        (subst (λ (o : Option NodeCopy). Makes bytes world.numbers.block (Bind name (next_handle world)) o (named o)) (sym f.is) refl);
     blocks = λ n none. absurd none;
   }
 
   none_yet : log_at middle (length world.logs) ≡ []
   none_yet = get_or_past middle (length world.logs) [] (omega (arith, long))
 
-  makes : ChangesSlot world.block middle (middle ++ (init ∷ []) ∷ []) world.data_blocks world.data_blocks (next_handle world) init
+  makes : ChangesSlot world.numbers.block middle (middle ++ (init ∷ []) ∷ []) world.data_blocks world.data_blocks (next_handle world) init
       (λ old. Some (empty_node File mode))
   makes = record {
     some = w.some_bytes;
     grown = omega arith;
     kept = λ n lt. refl;
-    files = files_after world.block world.logs middle world.data_blocks world.data_blocks dir bind named names;
+    files = files_after world.numbers.block world.logs middle world.data_blocks world.data_blocks dir bind named names;
     first = refl;
     here = get_or_push middle (init ∷ []) [] (length world.logs) long ∙ ap (λ (l : List Entry). l ++ init ∷ []) (sym none_yet);
     others = λ ino apart. log_before middle (init ∷ []) ino (λ same. apart (same ∙ long));
-    gives = subst (λ (l : List Entry). Gives bytes world.block (l ++ init ∷ []) (Some (empty_node File mode))) (sym none_yet)
-        (lawful_gives bytes world.block [] init (Some (empty_node File mode)) w.some_bytes refl refl);
+    gives = subst (λ (l : List Entry). Gives bytes world.numbers.block (l ++ init ∷ []) (Some (empty_node File mode))) (sym none_yet)
+        (lawful_gives bytes world.numbers.block [] init (Some (empty_node File mode)) w.some_bytes refl refl);
     blocks = λ n none. absurd none;
   }
 
   nodes_made : (other : Handle)
-      → node_under world.block (middle ++ (init ∷ []) ∷ []) world.data_blocks other ≡
+      → node_under world.numbers.block (middle ++ (init ∷ []) ∷ []) world.data_blocks other ≡
       (file_made dir name mode (next_handle world) (world.commit + 1) (numbered world)).nodes other
   nodes_made other =
-      nodes_after world.block middle (middle ++ (init ∷ []) ∷ []) world.data_blocks world.data_blocks (next_handle world) init
+      nodes_after world.numbers.block middle (middle ++ (init ∷ []) ∷ []) world.data_blocks world.data_blocks (next_handle world) init
       (λ old. Some (empty_node File mode)) makes other
       ∙ ap (λ (node : Option PlainNode). cond (same_handle (next_handle world) other)
       (stamped (world.commit + 1) (Some (empty_node File mode))) node)
-      (nodes_after world.block world.logs middle world.data_blocks world.data_blocks dir bind named names other)
+      (nodes_after world.numbers.block world.logs middle world.data_blocks world.data_blocks dir bind named names other)
 
-  made_stands : length world.logs < world.inodes → world.commit < 2 ^ 62
+  made_stands : length world.logs < world.numbers.inodes → world.commit < 2 ^ 62
       → StandsFor (created world dir name mode) (file_made dir name mode (next_handle world) (world.commit + 1) (numbered world))
   made_stands room below = record {
     same = ap (at_nodes (world.commit + 1)) (fun_ext nodes_made);
@@ -159,7 +159,7 @@ module _ (world : WorldValue) (dir : Handle) (name : List ℕ) (mode : ℕ) (w :
       slots_fit = omega (arith, length-append middle ((init ∷ []) ∷ []), long);
       blocks_fit = w.blocks_fit;
       commits_fit = omega arith;
-      files = files_after world.block middle (middle ++ (init ∷ []) ∷ []) world.data_blocks world.data_blocks (next_handle world) init
+      files = files_after world.numbers.block middle (middle ++ (init ∷ []) ∷ []) world.data_blocks world.data_blocks (next_handle world) init
           (λ old. Some (empty_node File mode)) makes;
     };
   }
@@ -174,25 +174,25 @@ created_stands world dir name mode w ok below = let p = create_passed world dir 
 -- what the tests before a write say
 pub record WritePassed (world : WorldValue) (file : Handle) (offset : ℕ) (text : List ℕ) : Type 0 where
   pub node : FoundIn world file
-  pub few : pages_touched world.block offset (length text) ≤ 1024
-  pub fits : offset + length text ≤ 65536 * world.block
-  pub room : pages_touched world.block offset (length text) ≤ world.blocks - length world.data_blocks
+  pub few : pages_touched world.numbers.block offset (length text) ≤ 1024
+  pub fits : offset + length text ≤ 65536 * world.numbers.block
+  pub room : pages_touched world.numbers.block offset (length text) ≤ world.numbers.blocks - length world.data_blocks
 
 pub write_passed : (world : WorldValue) (file : Handle) (offset : ℕ) (text : List ℕ)
     → write_check (numbers_of world) (plain_of world) file offset text ≡ Ok tt → WritePassed world file offset text
 write_passed world file offset text ok =
-    let pages : ℕ = pages_touched world.block offset (length text) in
-    let left : ℕ = world.blocks - length world.data_blocks in
+    let pages : ℕ = pages_touched world.numbers.block offset (length text) in
+    let left : ℕ = world.numbers.blocks - length world.data_blocks in
     let last : Result (Unit {0}) Fault = refuse_if (nat_lt left pages) fault.NoSpace (Ok tt) in
-    let rest : Result (Unit {0}) Fault = refuse_if (nat_lt (65536 * world.block) (offset + length text)) fault.FileTooBig last in
+    let rest : Result (Unit {0}) Fault = refuse_if (nat_lt (65536 * world.numbers.block) (offset + length text)) fault.FileTooBig last in
     let a = file_passed (kind_in (plain_of world) file) (refuse_if (nat_lt 1024 pages) fault.WriteTooBig rest) ok in
     let b = if_passed (nat_lt 1024 pages) fault.WriteTooBig rest a.1 in
-    let d = if_passed (nat_lt (65536 * world.block) (offset + length text)) fault.FileTooBig last b.1 in
+    let d = if_passed (nat_lt (65536 * world.numbers.block) (offset + length text)) fault.FileTooBig last b.1 in
     let e = if_passed (nat_lt left pages) fault.NoSpace (Ok tt) d.1 in
     record {
       node = found_in world file File a.0;
       few = ltb-false 1024 pages b.0;
-      fits = ltb-false (65536 * world.block) (offset + length text) d.0;
+      fits = ltb-false (65536 * world.numbers.block) (offset + length text) d.0;
       room = ltb-false left pages e.0;
     }
 
@@ -243,31 +243,31 @@ write_gives block data_blocks log offset text run commit node old some kept is s
 
 module _ (world : WorldValue) (file : Handle) (offset : ℕ) (text : List ℕ) (run : Run)
     (w : IsWorld world) (any : 0 < length text) (p : WritePassed world file offset text)
-    (start : run.start ≡ length world.data_blocks) (count : run.len ≡ pages_touched world.block offset (length text)) where
+    (start : run.start ≡ length world.data_blocks) (count : run.len ≡ pages_touched world.numbers.block offset (length text)) where
   abbrev new_bytes : List ℕ
   new_bytes = written offset text (bytes_at world file.ino)
 
   abbrev e : Entry
-  e = new_entry (world.commit + 1) 0 (Write (offset / world.block) run (length new_bytes))
+  e = new_entry (world.commit + 1) 0 (Write (offset / world.numbers.block) run (length new_bytes))
 
   abbrev after_blocks : List (List ℕ)
-  after_blocks = world.data_blocks ++ new_pages world.block offset text new_bytes
+  after_blocks = world.data_blocks ++ new_pages world.numbers.block offset text new_bytes
 
-  more_blocks : length after_blocks ≡ length world.data_blocks + pages_touched world.block offset (length text)
-  more_blocks = length-append world.data_blocks (new_pages world.block offset text new_bytes) ∙ ap
-      (λ (n : ℕ). length world.data_blocks + n) (length-new_pages world.block offset text new_bytes)
+  more_blocks : length after_blocks ≡ length world.data_blocks + pages_touched world.numbers.block offset (length text)
+  more_blocks = length-append world.data_blocks (new_pages world.numbers.block offset text new_bytes) ∙ ap
+      (λ (n : ℕ). length world.data_blocks + n) (length-new_pages world.numbers.block offset text new_bytes)
 
-  writes : ChangesSlot world.block world.logs (one_more world file.ino e) world.data_blocks after_blocks file e
+  writes : ChangesSlot world.numbers.block world.logs (one_more world file.ino e) world.data_blocks after_blocks file e
       (option_map (rewritten offset text))
   writes = record {
     some = w.some_bytes;
     grown = omega (arith, more_blocks);
-    kept = λ n lt. get_or_append_left world.data_blocks (new_pages world.block offset text new_bytes) [] n lt;
+    kept = λ n lt. get_or_append_left world.data_blocks (new_pages world.numbers.block offset text new_bytes) [] n lt;
     files = w.files;
     first = p.node.first;
     here = get_or-set_same world.logs file.ino (log_at world.logs file.ino ++ e ∷ []) [] p.node.in_use;
     others = λ ino apart. get_or-set_other world.logs file.ino ino (log_at world.logs file.ino ++ e ∷ []) [] apart;
-    gives = write_gives world.block world.data_blocks (log_at world.logs file.ino) offset text run (world.commit + 1) p.node.node
+    gives = write_gives world.numbers.block world.data_blocks (log_at world.logs file.ino) offset text run (world.commit + 1) p.node.node
         (bytes_at world file.ino) w.some_bytes (w.files file.ino) p.node.is
         (bytes_found world file p.node w) any p.fits start count;
     blocks = λ n h. omega (arith, more_blocks, h.1, start, count);
@@ -277,7 +277,7 @@ module _ (world : WorldValue) (file : Handle) (offset : ℕ) (text : List ℕ) (
       → StandsFor (wrote world file offset text run) (file_written file offset text (world.commit + 1) (numbered world))
   wrote_stands below = record {
     same = ap (at_nodes (world.commit + 1))
-        (fun_ext (nodes_after world.block world.logs (one_more world file.ino e) world.data_blocks after_blocks file e
+        (fun_ext (nodes_after world.numbers.block world.logs (one_more world file.ino e) world.data_blocks after_blocks file e
         (option_map (rewritten offset text)) writes));
     lawful = record {
       some_bytes = w.some_bytes;
@@ -285,7 +285,7 @@ module _ (world : WorldValue) (file : Handle) (offset : ℕ) (text : List ℕ) (
       slots_fit = rw (length-set world.logs file.ino (log_at world.logs file.ino ++ e ∷ [])) w.slots_fit;
       blocks_fit = omega (arith, more_blocks, p.room, w.blocks_fit);
       commits_fit = omega arith;
-      files = files_after world.block world.logs (one_more world file.ino e) world.data_blocks after_blocks file e
+      files = files_after world.numbers.block world.logs (one_more world file.ino e) world.data_blocks after_blocks file e
           (option_map (rewritten offset text)) writes;
     };
   }
@@ -298,13 +298,13 @@ some_mapped f (Some x) = refl
 
 -- a directory binds a name where its log has a value for it
 pub bound_found : (world : WorldValue) (dir : Handle) (name : List ℕ) → IsWorld world → kind_in (plain_of world) dir ≡ Some Dir
-    → is_some (value_now world.block (log_at world.logs dir.ino) (NameKey name)) ≡ is_some
+    → is_some (value_now world.numbers.block (log_at world.logs dir.ino) (NameKey name)) ≡ is_some
     (bound_to name (names_of_node (node_in (plain_of world) dir)))
 bound_found world dir name w h =
     let log : List Entry = log_at world.logs dir.ino in
     let f = found_in world dir Dir h in
-    let st = subst (Tied world.block (stored (bytes_in world.data_blocks) world.block log)) f.is (w.files dir.ino).sound in
-    ap is_some (name_value world.block log name)
+    let st = subst (Tied world.numbers.block (stored (bytes_in world.data_blocks) world.numbers.block log)) f.is (w.files dir.ino).sound in
+    ap is_some (name_value world.numbers.block log name)
     ∙ some_mapped Node (bound_to name (names_of log))
     ∙ ap (λ (names : List BoundName). is_some (bound_to name names))
-    (st.names ∙ ap names_of_node (sym (node_found world.block world.logs world.data_blocks dir f.first ∙ f.is)))
+    (st.names ∙ ap names_of_node (sym (node_found world.numbers.block world.logs world.data_blocks dir f.first ∙ f.is)))

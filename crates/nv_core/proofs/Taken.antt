@@ -27,11 +27,11 @@ slots_one_more world ino e = length-set world.logs ino _
 
 -- one block for each page that a text touches
 wrote_blocks : (old : WorldValue) (file : Handle) (offset : ℕ) (text : List ℕ) (run : Run)
-    → length (wrote old file offset text run).data_blocks ≡ length old.data_blocks + pages_touched old.block offset (length text)
+    → length (wrote old file offset text run).data_blocks ≡ length old.data_blocks + pages_touched old.numbers.block offset (length text)
 wrote_blocks old file offset text run =
     let bytes = written offset text (bytes_at old file.ino) in
-    length-append old.data_blocks (new_pages old.block offset text bytes)
-    ∙ ap (λ n. length old.data_blocks + n) (length-new_pages old.block offset text bytes)
+    length-append old.data_blocks (new_pages old.numbers.block offset text bytes)
+    ∙ ap (λ n. length old.data_blocks + n) (length-new_pages old.numbers.block offset text bytes)
 
 some_takes : (block offset : ℕ) (text : List ℕ) → 0 < length text → text_takes block offset text ≡ pages_touched block offset (length text)
 some_takes block offset [] some = absurd (omega arith)
@@ -45,7 +45,7 @@ pub write_takes : (old : WorldValue) (file : Handle) (offset : ℕ) (text : List
     → Takes (call.Write file offset text) old result new
 write_takes old file offset text (Ok a) new some ok same = record {
   blocks = ap (λ w. length w.data_blocks) ok.3.world ∙ wrote_blocks old file offset text ok.3.run ∙ ap (λ n. length old.data_blocks + n)
-      (sym (some_takes old.block offset text some));
+      (sym (some_takes old.numbers.block offset text some));
   inodes = ap (λ w. length w.logs) ok.3.world ∙ slots_one_more old file.ino _ ∙ omega arith;
 }
 write_takes old file offset text (Err why) new some ok same = refused_takes_none (call.Write file offset text) old why new same

@@ -33,7 +33,7 @@ created world dir name mode = record world {
 
 -- the bytes of the file in a slot
 abbrev pub bytes_at : WorldValue → ℕ → List ℕ
-bytes_at world ino = file_bytes (bytes_in world.data_blocks) world.block (log_at world.logs ino)
+bytes_at world ino = file_bytes (bytes_in world.data_blocks) world.numbers.block (log_at world.logs ino)
 
 -- the pages that a text touches, cut from the bytes after the write
 abbrev pub new_pages : ℕ → ℕ → List ℕ → List ℕ → List (List ℕ)
@@ -44,8 +44,8 @@ abbrev pub wrote : WorldValue → Handle → ℕ → List ℕ → Run → WorldV
 wrote world file offset text run =
     let bytes = written offset text (bytes_at world file.ino) in
     record world {
-      logs = one_more world file.ino (new_entry (world.commit + 1) 0 (Write (offset / world.block) run (length bytes)));
-      data_blocks = world.data_blocks ++ new_pages world.block offset text bytes;
+      logs = one_more world file.ino (new_entry (world.commit + 1) 0 (Write (offset / world.numbers.block) run (length bytes)));
+      data_blocks = world.data_blocks ++ new_pages world.numbers.block offset text bytes;
       commit = world.commit + 1;
     }
 
@@ -53,5 +53,5 @@ wrote world file offset text run =
 pub record IsWritten (old : WorldValue) (file : Handle) (offset : ℕ) (text : List ℕ) (new : WorldValue) : Type 0 where
   pub run : Run
   pub start : run.start ≡ length old.data_blocks
-  pub count : run.len ≡ pages_touched old.block offset (length text)
+  pub count : run.len ≡ pages_touched old.numbers.block offset (length text)
   pub world : new ≡ wrote old file offset text run

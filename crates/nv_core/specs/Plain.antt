@@ -3,6 +3,7 @@ use Rattle.std.specs.Prelude.{ℕ, ◌+◌, ◌*◌, ◌^◌, ◌==◌, ◌&&◌
 use Rattle.nv_base.specs.Names.{is_lawful_name}
 use Rattle.nv_base.specs.declared.fault.Fault.{Fault}
 use Rattle.nv_base.specs.declared.fault.Fault.TheVariants as fault
+use Rattle.nv_base.specs.declared.limits.TheConstants.{FILE_PAGES, NUMBER, WRITE_PAGES}
 use Rattle.nv_base.specs.declared.node.Kind.{Kind}
 use Rattle.nv_base.specs.declared.node.Kind.TheVariants.{File, Dir}
 use Rattle.nv_base.specs.declared.numbers.Handle.{Handle}
@@ -102,7 +103,7 @@ passed (Ok nothing) outcome = outcome
 -- an answer with the next commit number, and what that commit does
 abbrev pub committed : Answer → (ℕ → Plain → Plain) → Plain → Outcome
 committed answer change plain =
-    passed (refuse_if (nat_le (2 ^ 62) plain.commit) fault.CommitLimit (Ok tt))
+    passed (refuse_if (nat_le NUMBER plain.commit) fault.CommitLimit (Ok tt))
     (Answers answer (change (plain.commit + 1) (record plain { commit = plain.commit + 1 })))
 
 -- ---- calls
@@ -131,8 +132,8 @@ create_outcome numbers plain dir name mode =
 abbrev pub write_check : Numbers → Plain → Handle → ℕ → List ℕ → Result (Unit {0}) Fault
 write_check numbers plain file offset text =
     want_file (kind_in plain file)
-    (refuse_if (nat_lt 1024 (pages_touched numbers.block offset (length text))) fault.WriteTooBig
-    (refuse_if (nat_lt (65536 * numbers.block) (offset + length text)) fault.FileTooBig
+    (refuse_if (nat_lt WRITE_PAGES (pages_touched numbers.block offset (length text))) fault.WriteTooBig
+    (refuse_if (nat_lt (FILE_PAGES * numbers.block) (offset + length text)) fault.FileTooBig
     (refuse_if (nat_lt numbers.blocks (pages_touched numbers.block offset (length text))) fault.NoSpace (Ok tt))))
 
 abbrev pub file_written : Handle → ℕ → List ℕ → ℕ → Plain → Plain

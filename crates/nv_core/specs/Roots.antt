@@ -1,5 +1,6 @@
 -- The log of a new root.
 use Rattle.std.specs.Prelude.{ℕ, List, [], ◌∷◌, None, replicate}
+use Rattle.nv_base.specs.declared.geometry.GeometryNumbers.{GeometryNumbers}
 use Rattle.nv_base.specs.declared.node.Kind.TheVariants.{Dir}
 use Rattle.nv_entry.specs.declared.item.Entry.{Entry}
 use Rattle.nv_entry.specs.declared.item.Item.TheVariants.{Init}
@@ -12,5 +13,5 @@ abbrev pub root_log : ℕ → List Entry
 root_log commit = root_entry commit ∷ []
 
 -- an empty world: a root without names, no blocks in use, no calls
-abbrev pub formatted : ℕ → ℕ → ℕ → ℕ → ℕ → WorldValue
-formatted block blocks inodes actors commit = value_of block blocks inodes (root_log commit ∷ []) [] commit (replicate actors None)
+abbrev pub formatted : GeometryNumbers → ℕ → WorldValue
+formatted numbers commit = value_of numbers (root_log commit ∷ []) [] commit (replicate numbers.actors None)

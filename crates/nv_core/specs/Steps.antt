@@ -33,9 +33,7 @@ with_call world actor call = record world { calls = slice_set world.calls actor 
 
 -- what stays over a call
 pub record KeepsNumbers (old new : WorldValue) : Type 0 where
-  pub block : new.block ≡ old.block
-  pub blocks : new.blocks ≡ old.blocks
-  pub inodes : new.inodes ≡ old.inodes
+  pub numbers : new.numbers ≡ old.numbers
   pub calls : new.calls ≡ old.calls
 
 -- how many blocks a text takes: one for each page that it touches, none where it has no bytes
@@ -60,7 +58,7 @@ if_answered (Err fault) taken = 0
 
 -- how many data blocks and inode slots are in use after a call
 pub record Takes (call : Call) (old : WorldValue) (result : Result Answer Fault) (new : WorldValue) : Type 0 where
-  pub blocks : length new.data_blocks ≡ length old.data_blocks + if_answered result (blocks_taken old.block call)
+  pub blocks : length new.data_blocks ≡ length old.data_blocks + if_answered result (blocks_taken old.numbers.block call)
   pub inodes : length new.logs ≡ length old.logs + if_answered result (inodes_taken call)
 
 -- a call of an actor that has gone idle: it replies and leaves what its outcome says, keeps the numbers that

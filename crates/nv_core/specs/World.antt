@@ -1,5 +1,7 @@
 -- What a world is to its callers, and the plain world that its logs give.
-use Rattle.std.specs.Prelude.{ℕ, ◌-◌, ◌<◌, ◌≤◌, ◌^◌, ◌==◌, if◌then◌else◌, List, [], ◌∷◌, length, Option, None, slice_index_or}
+use Rattle.std.specs.Prelude.{ℕ, ◌-◌, ◌<◌, ◌≤◌, ◌==◌, if◌then◌else◌, List, [], ◌∷◌, length, Option, None, slice_index_or}
+use Rattle.nv_base.specs.declared.geometry.GeometryNumbers.{GeometryNumbers}
+use Rattle.nv_base.specs.declared.limits.TheConstants.{BLOCKS, NUMBER}
 use Rattle.nv_base.specs.declared.numbers.Handle.{Handle}
 use Rattle.nv_entry.specs.declared.item.Entry.{Entry}
 use Rattle.nv_entry.specs.Blocks.{Uses}
@@ -11,9 +13,7 @@ use Rattle.nv_core.specs.Plain.{Numbers, Plain, PlainNode, stamped}
 -- the numbers that a world was made with, the log of each slot in use, the bytes of each data block in use
 -- by its number, the last commit number, and each actor's call
 pub record WorldValue : Type 0 where
-  pub block : ℕ
-  pub blocks : ℕ
-  pub inodes : ℕ
+  pub numbers : GeometryNumbers
   pub logs : List (List Entry)
   pub data_blocks : List (List ℕ)
   pub commit : ℕ
@@ -39,7 +39,7 @@ node_under block logs data_blocks handle =
 
 -- the plain world that a world's logs give
 abbrev pub plain_of : WorldValue → Plain
-plain_of world = record { nodes = node_under world.block world.logs world.data_blocks; snapshots = []; epoch = 1; commit = world.commit }
+plain_of world = record { nodes = node_under world.numbers.block world.logs world.data_blocks; snapshots = []; epoch = 1; commit = world.commit }
 
 -- the handle of the next new inode
 abbrev pub next_handle : WorldValue → Handle
@@ -48,10 +48,10 @@ next_handle world = record { ino = length world.logs; generation = 1 }
 -- the numbers that its next call may take
 abbrev pub numbers_of : WorldValue → Numbers
 numbers_of world = record {
-  block = world.block;
+  block = world.numbers.block;
   fresh = next_handle world;
-  inodes = world.inodes - length world.logs;
-  blocks = world.blocks - length world.data_blocks;
+  inodes = world.numbers.inodes - length world.logs;
+  blocks = world.numbers.blocks - length world.data_blocks;
 }
 
 -- a log is sound, and its pages stand in blocks in use
@@ -59,15 +59,15 @@ pub record IsKept (block : ℕ) (data_blocks : List (List ℕ)) (log : List Entr
   pub sound : IsSound (bytes_in data_blocks) block log
   pub in_use : (number : ℕ) → Uses block log number → number < length data_blocks
 
-abbrev pub value_of : ℕ → ℕ → ℕ → List (List Entry) → List (List ℕ) → ℕ → List (Option Call) → WorldValue
-value_of block blocks inodes logs data_blocks commit calls =
-    record { block = block; blocks = blocks; inodes = inodes; logs = logs; data_blocks = data_blocks; commit = commit; calls = calls }
+abbrev pub value_of : GeometryNumbers → List (List Entry) → List (List ℕ) → ℕ → List (Option Call) → WorldValue
+value_of numbers logs data_blocks commit calls =
+    record { numbers = numbers; logs = logs; data_blocks = data_blocks; commit = commit; calls = calls }
 
 -- what holds of each world
 pub record IsWorld (world : WorldValue) : Type 0 where
-  pub some_bytes : 0 < world.block
-  pub few_blocks : world.blocks ≤ 1048576
-  pub slots_fit : length world.logs ≤ world.inodes
-  pub blocks_fit : length world.data_blocks ≤ world.blocks
-  pub commits_fit : world.commit ≤ 2 ^ 62
-  pub files : (ino : ℕ) → IsKept world.block world.data_blocks (log_at world.logs ino)
+  pub some_bytes : 0 < world.numbers.block
+  pub few_blocks : world.numbers.blocks ≤ BLOCKS
+  pub slots_fit : length world.logs ≤ world.numbers.inodes
+  pub blocks_fit : length world.data_blocks ≤ world.numbers.blocks
+  pub commits_fit : world.commit ≤ NUMBER
+  pub files : (ino : ℕ) → IsKept world.numbers.block world.data_blocks (log_at world.logs ino)

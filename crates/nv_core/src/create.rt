@@ -1,7 +1,8 @@
 //! Making files.
 
-ghost use Rattle.std.specs.Prelude.{◌≡◌, ◌+◌, ◌<◌, ◌≤◌, ◌^◌, ◌⊎◌, Ok, Err, IfErr, IfOk};
+ghost use Rattle.std.specs.Prelude.{◌≡◌, ◌+◌, ◌<◌, ◌≤◌, ◌⊎◌, Ok, Err, IfErr, IfOk};
 ghost use Rattle.std.specs.Prelude.{◌∷◌, ◌++◌, [], OnErr, OnOk, slice_index_or, slice_set, vec_capacity, vec_len};
+ghost use Rattle.nv_base.specs.declared.limits.TheConstants.{NUMBER};
 ghost use Rattle.nv_core.specs.Changed.{created, new_entry};
 ghost use Rattle.nv_core.specs.Logs.{logs_of};
 ghost use Rattle.nv_core.specs.Plain.{create_check};
@@ -17,7 +18,7 @@ impl World {
     pub(crate) fn create(&mut self, dir: Handle, name: &[u8], mode: Mode) -> Result<Answer, Fault>
         ensures ok { IfOk result (λ answer. (answer ≡ Answer.Made (next_handle self.old))
             × (create_check (numbers_of self.old) (plain_of self.old) dir name.now ≡ Ok tt)
-            × (self.old.commit < 2 ^ 62)
+            × (self.old.commit < NUMBER)
             × (self.new ≡ created self.old dir name.now mode)) }
         ensures same { IfErr result (λ _. self.new ≡ self.old) }
         ensures err { IfErr result (λ fault.
@@ -25,7 +26,7 @@ impl World {
             ⊎ ((create_check (numbers_of self.old) (plain_of self.old) dir name.now ≡ Ok tt)
             × (fault ≡ Fault.OutOfMemory))
             ⊎ ((create_check (numbers_of self.old) (plain_of self.old) dir name.now ≡ Ok tt)
-            × (fault ≡ Fault.CommitLimit) × (2 ^ 62 ≤ self.old.commit))) }
+            × (fault ≡ Fault.CommitLimit) × (NUMBER ≤ self.old.commit))) }
     {
         self.check_create(&dir, name)?;
         let ino = slot_of(&dir);
@@ -63,7 +64,7 @@ impl World {
         if self.is_bound(dir, name) {
             return Err(Fault::Exists);
         }
-        if self.geometry.inodes - self.logs.len() as u64 == 0 {
+        if self.geometry.numbers.inodes - self.logs.len() as u64 == 0 {
             return Err(Fault::NoInode);
         }
         Ok(())
@@ -72,9 +73,9 @@ impl World {
     /// The number of the next commit.
     pub(crate) fn next_commit(&self) -> Result<CommitNo, Fault>
         ensures ok { IfOk result (λ commit.
-            (commit ≡ self.now.commit + 1) × (self.now.commit < 2 ^ 62)) }
+            (commit ≡ self.now.commit + 1) × (self.now.commit < NUMBER)) }
         ensures err { IfErr result (λ fault.
-            (fault ≡ Fault.CommitLimit) × (2 ^ 62 ≤ self.now.commit)) }
+            (fault ≡ Fault.CommitLimit) × (NUMBER ≤ self.now.commit)) }
     {
         if self.commit.number() >= limits::NUMBER {
             return Err(Fault::CommitLimit);

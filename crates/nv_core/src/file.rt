@@ -2,6 +2,7 @@
 
 ghost use Rattle.std.specs.Prelude.{◌≡◌, ◌+◌, ◌-◌, ◌*◌, ◌/◌, ◌<◌, ◌≤◌, ◌^◌, ◌⊎◌, ◌∷◌, ◌++◌, [], Ok, Err, IfErr, IfOk, OnErr, OnOk, length, map, slice_index_or, slice_set, vec_len};
 ghost use Rattle.std.specs.List.{range_with_len};
+ghost use Rattle.nv_base.specs.declared.limits.TheConstants.{BLOCKS, BLOCK_BYTES, FILE_PAGES, NUMBER};
 ghost use Rattle.nv_entry.specs.Node.{file_bytes};
 ghost use Rattle.nv_entry.specs.Bytes.{page_of, pages_touched, read_at, written};
 ghost use Rattle.nv_core.specs.Changed.{IsWritten, bytes_at, new_entry};
@@ -22,19 +23,19 @@ impl World {
         requires { 0 < length text.now }
         ensures ok { IfOk result (λ answer. (answer ≡ Answer.Count (length text.now))
             × (write_check (numbers_of self.old) (plain_of self.old) file offset text.now ≡ Ok tt)
-            × (self.old.commit < 2 ^ 62) × IsWritten self.old file offset text.now self.new) }
+            × (self.old.commit < NUMBER) × IsWritten self.old file offset text.now self.new) }
         ensures same { IfErr result (λ _. self.new ≡ self.old) }
         ensures err { IfErr result (λ fault.
             (write_check (numbers_of self.old) (plain_of self.old) file offset text.now ≡ Err fault)
             ⊎ ((write_check (numbers_of self.old) (plain_of self.old) file offset text.now ≡ Ok tt)
             × (fault ≡ Fault.OutOfMemory))
             ⊎ ((write_check (numbers_of self.old) (plain_of self.old) file offset text.now ≡ Ok tt)
-            × (fault ≡ Fault.CommitLimit) × (2 ^ 62 ≤ self.old.commit))) }
+            × (fault ≡ Fault.CommitLimit) × (NUMBER ≤ self.old.commit))) }
     {
         self.check_write(&file, offset, text)?;
         let commit = self.next_commit()?;
         let ino = slot_of(&file);
-        let block = self.geometry.block;
+        let block = self.geometry.numbers.block;
         let bytes = bytes_written(
             self.alloc,
             block,
@@ -67,7 +68,7 @@ impl World {
         let log = &self.logs[slot_of(&file)];
         let bytes = file_bytes_when(
             self.alloc,
-            self.geometry.block,
+            self.geometry.numbers.block,
             When::Now,
             log,
             &self.blocks,
@@ -91,7 +92,7 @@ impl World {
         requires { 0 < length text.now }
         ensures check { result
             ≡ write_check (numbers_of self.now) (plain_of self.now) file.now offset text.now }
-        ensures fits { OnOk result (offset + length text.now ≤ 65536 * self.now.block) }
+        ensures fits { OnOk result (offset + length text.now ≤ FILE_PAGES * self.now.numbers.block) }
     {
         match self.kind_under(file) {
             None => return Err(Fault::Stale),
@@ -99,15 +100,15 @@ impl World {
             Some(Kind::File) => {}
         }
         let count = text.len() as u64;
-        let pages = pages_touched(self.geometry.block, offset, count);
+        let pages = pages_touched(self.geometry.numbers.block, offset, count);
         if pages > limits::WRITE_PAGES {
             return Err(Fault::WriteTooBig);
         }
-        let most = u64::from(limits::FILE_PAGES) * self.geometry.block;
+        let most = u64::from(limits::FILE_PAGES) * self.geometry.numbers.block;
         if offset > most || count > most - offset {
             return Err(Fault::FileTooBig);
         }
-        if pages > self.geometry.blocks - self.blocks.len() as u64 {
+        if pages > self.geometry.numbers.blocks - self.blocks.len() as u64 {
             return Err(Fault::NoSpace);
         }
         Ok(())
@@ -125,8 +126,8 @@ fn part_of(alloc: Global, bytes: &[u8], offset: u64, count: u64) -> Result<Bytes
 
 /// The next blocks, as a run.
 fn next_run(blocks: &DataBlocks, count: u64) -> Run
-    requires few_blocks { length blocks.now ≤ 1048576 }
-    requires few_pages { count ≤ 1048576 }
+    requires few_blocks { length blocks.now ≤ BLOCKS }
+    requires few_pages { count ≤ BLOCKS }
     ensures start { result.start ≡ length blocks.now }
     ensures len { result.len ≡ count }
 {
@@ -138,7 +139,7 @@ fn next_run(blocks: &DataBlocks, count: u64) -> Run
 
 /// The entry of a write.
 fn write_entry(commit: CommitNo, first: u64, run: Run, size: u64) -> Entry
-    requires { first < 65536 }
+    requires { first < FILE_PAGES }
     ensures { result ≡ new_entry commit 0 (Item.Write first run size) }
 {
     let first = first as u32;
@@ -148,7 +149,7 @@ fn write_entry(commit: CommitNo, first: u64, run: Run, size: u64) -> Entry
 /// How many pages a text of `count` bytes touches that is written at `offset`.
 fn pages_touched(block: u64, offset: u64, count: u64) -> u64
     requires some_bytes { 0 < block }
-    requires few_bytes { block ≤ 4096 }
+    requires few_bytes { block ≤ BLOCK_BYTES }
     requires some_text { 0 < count }
     requires text_fits { count < 2 ^ 63 }
     ensures { result ≡ pages_touched block offset count }
@@ -189,8 +190,8 @@ fn cut_pages(
     count: u64,
     bytes: &[u8],
 ) -> Result<Vec<Bytes>, AllocError>
-    requires end { first + count ≤ 65536 }
-    requires few_bytes { block ≤ 4096 }
+    requires end { first + count ≤ FILE_PAGES }
+    requires few_bytes { block ≤ BLOCK_BYTES }
     ensures { IfOk result (λ pages. pages.items
         ≡ map (λ page. page_of block page bytes.now) (range_with_len first count)) }
 {
@@ -203,8 +204,8 @@ fn cut_pages(
 
 /// The bytes of one page, with zeros past the end.
 fn cut_page(alloc: Global, block: u64, page: u64, bytes: &[u8]) -> Result<Bytes, AllocError>
-    requires page { page < 65536 }
-    requires few_bytes { block ≤ 4096 }
+    requires page { page < FILE_PAGES }
+    requires few_bytes { block ≤ BLOCK_BYTES }
     ensures { IfOk result (λ cut. cut ≡ page_of block page bytes.now) }
 {
     let mut cut = Vec::new(alloc);

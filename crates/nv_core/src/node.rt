@@ -19,7 +19,7 @@ impl World {
             return None;
         }
         let log = &self.logs[handle.ino.number() as usize];
-        match value_now(self.geometry.block, log, Key::Kind) {
+        match value_now(self.geometry.numbers.block, log, Key::Kind) {
             Some(Datum::Kind(kind)) => Some(kind),
             _ => None,
         }
@@ -35,7 +35,7 @@ impl World {
         let log = &self.logs[handle.ino.number() as usize];
         node_when(
             self.alloc,
-            self.geometry.block,
+            self.geometry.numbers.block,
             When::Now,
             log,
             &self.blocks,
@@ -49,6 +49,6 @@ impl World {
             (names_of_node (node_in (plain_of self.now) dir.now))) }
     {
         let log = &self.logs[dir.ino.number() as usize];
-        value_now(self.geometry.block, log, Key::Name(name)).is_some()
+        value_now(self.geometry.numbers.block, log, Key::Name(name)).is_some()
     }
 }

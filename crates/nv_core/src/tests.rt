@@ -1,7 +1,7 @@
 //! A first path through a world, by events and replies.
 
 use crate::{Answer, Call, Event, Reply, World};
-use nv_base::{Bytes, CommitNo, Fault, Gen, Geometry, Handle, Ino, Mode, limits};
+use nv_base::{Bytes, CommitNo, Fault, Gen, Geometry, GeometryNumbers, Handle, Ino, Mode, limits};
 use std::alloc::Global;
 use std::process::Abort;
 use std::test::Fail;
@@ -100,7 +100,15 @@ fn plays(
 }
 
 fn geometry() -> Result<Geometry, Fault> {
-    Geometry::checked(16, 2, 4, 4, 8, 4, 3)
+    Geometry::checked(GeometryNumbers {
+        blocks: 16,
+        cpus: 2,
+        block: 4,
+        page: 4,
+        inodes: 8,
+        snaps: 4,
+        actors: 3,
+    })
 }
 
 #[test]

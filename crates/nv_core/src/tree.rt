@@ -6,58 +6,12 @@ ghost use Rattle.nv_core.specs.Plain.{node_in};
 ghost use Rattle.nv_core.specs.World.{plain_of};
 
 use crate::World;
-use nv_base::{Fault, Gen, Handle, Ino, Name};
+use nv_base::{Fault, Gen, Handle, Ino, Items, Name};
 use nv_entry::NodeCopy;
 use std::alloc::{AllocError, Global};
-use std::marker::Model;
 
-/// The names on the way from the root to a node; the root's path has none. Contracts see it as a list. It is
-/// made from a `Vec` and gives it back without memory.
-#[derive(Debug, Drop)]
-pub struct Path {
-    names: Vec<Name>,
-}
-
-impl Model for Path {
-    ghost use Rattle.std.specs.Prelude.{List, ℕ};
-
-    ghost Value = { List (List ℕ) };
-
-    ghost view = { λ p. p.names.items };
-}
-
-impl Path {
-    pub fn from_vec(names: Vec<Name>) -> Path
-        ensures { result ≡ names.items }
-    {
-        Path { names }
-    }
-
-    pub fn into_vec(self) -> Vec<Name>
-        ensures { result.items ≡ self }
-    {
-        self.names
-    }
-
-    pub fn as_slice(&self) -> &[Name]
-        ensures { result.now ≡ self.now }
-    {
-        &self.names
-    }
-
-    /// The path of a name in the directory at this path.
-    fn below(&self, alloc: Global, name: &Name) -> Result<Path, AllocError>
-        ensures { IfOk result (λ below. below ≡ path_below self.now name.now) }
-    {
-        let above = self.as_slice();
-        let mut names = Vec::with_capacity(alloc, above.len() + 1)?;
-        for parent in above {
-            names.push(parent.copied(alloc)?)?;
-        }
-        names.push(name.copied(alloc)?)?;
-        Ok(Path { names })
-    }
-}
+/// The names on the way from the root to a node; the root's path has none.
+pub type Path = Items<Name>;
 
 /// A node of a tree.
 #[derive(Debug, Drop)]
@@ -66,41 +20,8 @@ pub struct TreeNode {
     pub node: NodeCopy,
 }
 
-/// Nodes with their paths, depth first: a parent before its names, and these in their order. Contracts see
-/// them as a list. They are made from a `Vec` and give it back without memory.
-#[derive(Debug, Drop)]
-pub struct Tree {
-    nodes: Vec<TreeNode>,
-}
-
-impl Model for Tree {
-    ghost use Rattle.std.specs.Prelude.{List};
-    ghost use Rattle.nv_core.specs.declared.tree.TreeNode.{TreeNode};
-
-    ghost Value = { List TreeNode };
-
-    ghost view = { λ t. t.nodes.items };
-}
-
-impl Tree {
-    pub fn from_vec(nodes: Vec<TreeNode>) -> Tree
-        ensures { result ≡ nodes.items }
-    {
-        Tree { nodes }
-    }
-
-    pub fn into_vec(self) -> Vec<TreeNode>
-        ensures { result.items ≡ self }
-    {
-        self.nodes
-    }
-
-    pub fn as_slice(&self) -> &[TreeNode]
-        ensures { result.now ≡ self.now }
-    {
-        &self.nodes
-    }
-}
+/// Nodes with their paths, depth first: a parent before its names, and these in their order.
+pub type Tree = Items<TreeNode>;
 
 impl World {
     /// The tree now: the nodes that are reached from the root through names. A name that leads to no node
@@ -110,13 +31,13 @@ impl World {
             ≡ tree_of (length self.now.logs) (plain_of self.now)) }
         ensures err { IfErr result (λ fault. fault ≡ Fault.OutOfMemory) }
     {
-        let path = Path::from_vec(Vec::new(self.alloc));
+        let path = Path::empty(self.alloc);
         let root = Handle {
             ino: Ino::new(0),
             generation: Gen::new(1),
         };
         let nodes = self.tree_from(self.logs.len(), path, &root)?;
-        Ok(Tree { nodes })
+        Ok(Tree::from_vec(nodes))
     }
 
     /// The tree from a handle on, at most `depth` nodes deep.
@@ -139,7 +60,7 @@ impl World {
         };
         let mut below = Vec::new(alloc);
         for bound in node.names.as_slice() {
-            let path = path.below(alloc, &bound.name)?;
+            let path = path_below(alloc, &path, &bound.name)?;
             let mut part = self.tree_from(depth - 1, path, &bound.to)?;
             below.append(&mut part)?;
         }
@@ -147,4 +68,17 @@ impl World {
         tree.append(&mut below)?;
         Ok(tree)
     }
+}
+
+/// The path of a name in the directory at a path.
+fn path_below(alloc: Global, above: &Path, name: &Name) -> Result<Path, AllocError>
+    ensures { IfOk result (λ below. below ≡ path_below above.now name.now) }
+{
+    let parents = above.as_slice();
+    let mut names = Vec::with_capacity(alloc, parents.len() + 1)?;
+    for parent in parents {
+        names.push(parent.copied(alloc)?)?;
+    }
+    names.push(name.copied(alloc)?)?;
+    Ok(Path::from_vec(names))
 }

@@ -1,6 +1,7 @@
 //! A world: the logs of its inodes, its data blocks, and its actors.
 
-ghost use Rattle.std.specs.Prelude.{◌≡◌, ◌≤◌, ◌^◌, IfOk, IfErr, None, replicate};
+ghost use Rattle.std.specs.Prelude.{◌≡◌, ◌≤◌, IfOk, IfErr, None, replicate};
+ghost use Rattle.nv_base.specs.declared.limits.TheConstants.{NUMBER};
 ghost use Rattle.nv_core.specs.Roots.{formatted, root_log};
 
 use crate::Call;
@@ -29,19 +30,17 @@ impl Model for World {
     ghost use Rattle.std.specs.Prelude.{◌≡◌, length, map};
     ghost use Rattle.nv_core.specs.World.{IsWorld, value_of};
 
-    ghost view = { λ w. value_of w.geometry.block w.geometry.blocks w.geometry.inodes
-        (map (λ log. log.items) w.logs.items) w.blocks w.commit w.calls.items };
+    ghost view = { λ w. value_of w.geometry.numbers (map (λ log. log.items) w.logs.items)
+        w.blocks w.commit w.calls.items };
 
-    ghost invariant = { λ w. IsWorld (value_of w.geometry.block w.geometry.blocks w.geometry.inodes
-        (map (λ log. log.items) w.logs.items) w.blocks w.commit w.calls.items)
-        × (length w.calls.items ≡ w.geometry.actors) };
+    ghost invariant = { λ w. IsWorld (value_of w.geometry.numbers (map (λ log. log.items) w.logs.items)
+        w.blocks w.commit w.calls.items) × (length w.calls.items ≡ w.geometry.numbers.actors) };
 }
 
 impl World {
     /// An empty world: the root alone, a directory of mode 493 (octal 755).
     pub fn format(alloc: Global, geometry: Geometry) -> Result<World, Fault>
-        ensures ok { IfOk result (λ world. world
-            ≡ formatted geometry.block geometry.blocks geometry.inodes geometry.actors 0) }
+        ensures ok { IfOk result (λ world. world ≡ formatted geometry.numbers 0) }
         ensures err { IfErr result (λ fault. fault ≡ Fault.OutOfMemory) }
     {
         World::format_at(alloc, geometry, CommitNo::new(0))
@@ -49,15 +48,14 @@ impl World {
 
     /// The same with another first commit number.
     pub fn format_at(alloc: Global, geometry: Geometry, commit: CommitNo) -> Result<World, Fault>
-        requires { commit ≤ 2 ^ 62 }
-        ensures ok { IfOk result (λ world. world
-            ≡ formatted geometry.block geometry.blocks geometry.inodes geometry.actors commit) }
+        requires { commit ≤ NUMBER }
+        ensures ok { IfOk result (λ world. world ≡ formatted geometry.numbers commit) }
         ensures err { IfErr result (λ fault. fault ≡ Fault.OutOfMemory) }
     {
         let root = root_log(alloc, commit)?;
         let mut logs = Vec::with_capacity(alloc, 1)?;
         logs.push(root)?;
-        let calls = no_calls(alloc, geometry.actors)?;
+        let calls = no_calls(alloc, geometry.numbers.actors)?;
         Ok(World {
             alloc,
             geometry,

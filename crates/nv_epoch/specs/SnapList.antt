@@ -1,5 +1,6 @@
 -- What a snapshot list is: the living snapshots with their pins, the epoch, and how many may live.
-use Rattle.std.specs.Prelude.{ℕ, ◌+◌, ◌-◌, ◌<◌, ◌≤◌, ◌^◌, ◌==◌, not, List, [], ◌∷◌, ◌++◌, All, length, map, filter, Option, Some, None, if◌then◌else◌}
+use Rattle.std.specs.Prelude.{ℕ, ◌+◌, ◌-◌, ◌<◌, ◌≤◌, ◌==◌, not, List, [], ◌∷◌, ◌++◌, All, length, map, filter, Option, Some, None, if◌then◌else◌}
+use Rattle.nv_base.specs.declared.limits.TheConstants.{NUMBER, PINS}
 use Rattle.nv_epoch.specs.declared.snapshot.Snapshot.{Snapshot}
 use Rattle.nv_epoch.specs.Holders.{IsRising}
 
@@ -23,14 +24,14 @@ pins_at (t ∷ ts) s = if t.number == s then Some t.pins else pins_at ts s
 abbrev pub pins_of : Snapshots → ℕ → Option ℕ
 pins_of list s = pins_at list.living s
 
--- numbers rise and lie below the epoch, pins and snapshots are no more than allowed, epochs are 1 to 2 ^ 62
+-- numbers rise and lie below the epoch, pins and snapshots are no more than allowed, epochs are 1 to the greatest number
 pub record IsSound (list : Snapshots) : Type 0 where
   pub rising : IsRising (ids list)
   pub below_epoch : All (λ s. s < list.epoch) (ids list)
-  pub pins_fit : All (λ (s : Snapshot). s.pins ≤ 64) list.living
+  pub pins_fit : All (λ (s : Snapshot). s.pins ≤ PINS) list.living
   pub fits : length list.living ≤ list.most
   pub some_epoch : 1 ≤ list.epoch
-  pub epoch_fits : list.epoch ≤ 2 ^ 62
+  pub epoch_fits : list.epoch ≤ NUMBER
 
 -- the current epoch becomes a snapshot without pins, and the next one begins
 abbrev pub after_making : Snapshots → Snapshots

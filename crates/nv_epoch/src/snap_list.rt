@@ -1,7 +1,8 @@
 //! The list of the living snapshots.
 
-ghost use Rattle.std.specs.Prelude.{◌≡◌, ◌≢◌, ℕ, ◌+◌, ◌-◌, ◌<◌, ◌≤◌, ◌^◌, ◌==◌, ◌↔◌, [], length, IsTrue, IsOk, IsSome, IfOk, IfErr, OnOk, OnErr, IfSome, IfNone, Some, None, Contains};
+ghost use Rattle.std.specs.Prelude.{◌≡◌, ◌≢◌, ℕ, ◌+◌, ◌-◌, ◌<◌, ◌≤◌, ◌==◌, ◌↔◌, [], length, IsTrue, IsOk, IsSome, IfOk, IfErr, OnOk, OnErr, IfSome, IfNone, Some, None, Contains};
 ghost use Rattle.std.specs.Option.{ForSome, IsSomeAnd};
+ghost use Rattle.nv_base.specs.declared.limits.TheConstants.{NUMBER, PINS};
 ghost use Rattle.nv_epoch.specs.Holders.{youngest_holder, next_older, without};
 ghost use Rattle.nv_epoch.specs.SnapList.{Snapshots, ids, pins_of, IsSound, after_making, after_removal, after_pin, after_unpin};
 
@@ -34,15 +35,12 @@ impl Model for SnapList {
 }
 
 impl SnapList {
-    /// The most pins of a snapshot.
-    pub const PINS: u32 = 64;
-
     /// A list without snapshots, with room for `snaps`. The epoch is `first_epoch`: 1 in a new world.
     ///
     /// The only error is `OutOfMemory`.
     pub fn new(alloc: Global, snaps: u64, first_epoch: Epoch) -> Result<SnapList, Fault>
         requires some_epoch { 1 ≤ first_epoch }
-        requires epoch_fits { first_epoch ≤ 2 ^ 62 }
+        requires epoch_fits { first_epoch ≤ NUMBER }
         ensures ok { IfOk result (λ list. list ≡ record { living = []; epoch = first_epoch; most = snaps }) }
         ensures err { IfErr result (λ fault. fault ≡ Fault.OutOfMemory) }
     {
@@ -57,10 +55,10 @@ impl SnapList {
     ///
     /// `EpochLimit` where the epoch is 2^62, before `TooManySnapshots` where there is no room.
     pub fn make(&mut self) -> Result<Epoch, Fault>
-        ensures made { IsOk result ↔ ((self.old.epoch < 2 ^ 62) × (length self.old.living < self.old.most)) }
-        ensures epoch_limit { (result ≡ Err Fault.EpochLimit) ↔ (self.old.epoch ≡ 2 ^ 62) }
+        ensures made { IsOk result ↔ ((self.old.epoch < NUMBER) × (length self.old.living < self.old.most)) }
+        ensures epoch_limit { (result ≡ Err Fault.EpochLimit) ↔ (self.old.epoch ≡ NUMBER) }
         ensures too_many { (result ≡ Err Fault.TooManySnapshots) ↔
-            ((self.old.epoch < 2 ^ 62) × (length self.old.living ≡ self.old.most)) }
+            ((self.old.epoch < NUMBER) × (length self.old.living ≡ self.old.most)) }
 
         ensures number { IfOk result (λ s. s ≡ self.old.epoch) }
         ensures ok { OnOk result (self.new ≡ after_making self.old) }
@@ -102,7 +100,7 @@ impl SnapList {
 
     /// Adds a pin to the snapshot `s`, or answers `NoSnapshot` where it doesn't live.
     pub fn pin(&mut self, s: Epoch) -> Result<(), Fault>
-        requires { ForSome (pins_of self.old s) (λ pins. pins < 64) }
+        requires { ForSome (pins_of self.old s) (λ pins. pins < PINS) }
         ensures pinned { IsOk result ↔ IsSome (pins_of self.old s) }
         ensures no_snapshot { IfErr result (λ fault. fault ≡ Fault.NoSnapshot) }
 
@@ -161,7 +159,7 @@ impl SnapList {
     /// The pins of the snapshot `s`, if it lives.
     pub fn pins(&self, s: Epoch) -> Option<u32>
         ensures value { result ≡ pins_of self.now s }
-        ensures most { IfSome result (λ pins. pins ≤ 64) }
+        ensures most { IfSome result (λ pins. pins ≤ PINS) }
     {
         let place = place_of(&self.living, s)?;
         Some(self.living[place].pins)

@@ -10,7 +10,8 @@ use Rattle.std.specs.Option.{ForSome, option_map}
 use Rattle.nv_base.specs.declared.numbers.EntryId.{EntryId}
 use Rattle.nv_alloc.specs.Block.{BlockValue}
 use Rattle.nv_entry.specs.declared.item.Entry.{Entry}
-use Rattle.nv_entry.specs.Log.{IsIdBefore, MayFollow}
+use Rattle.nv_base.specs.Ids.{IsIdBefore}
+use Rattle.nv_entry.specs.Log.{MayFollow}
 use Rattle.nv_log.specs.Chain.{AddsPage, AppendsEntry, ChainState, IsChain, UnlinksPage, appended, count_of, last_entry, last_epoch, last_id, open_page, open_of, room_of, start_of, with_page, without_page}
 use Rattle.nv_log.proofs.Logs.{IsLog-push, IsLog-cut}
 use Rattle.nv_log.proofs.Counts.{count-page, end-last, end_le, ends_before, open_either, sum_le, sum-take-page, sum-take-remove, take-remove}

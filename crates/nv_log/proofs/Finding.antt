@@ -14,8 +14,9 @@ use Rattle.std.specs.declared.cmp.Ordering.TheVariants.{Less, Equal, Greater}
 use Rattle.std.specs.Result.{result_ok}
 use Rattle.nv_base.specs.declared.numbers.EntryId.{EntryId}
 use Rattle.nv_entry.specs.declared.item.Entry.{Entry}
-use Rattle.nv_entry.specs.Log.{IsIdBefore, IsLog}
-use Rattle.nv_log.specs.Chain.{is_same_id, place_of}
+use Rattle.nv_base.specs.Ids.{IsIdBefore, is_same_id}
+use Rattle.nv_entry.specs.Log.{IsLog}
+use Rattle.nv_log.specs.Chain.{place_of}
 use Rattle.nv_log.proofs.Logs.{ordered_at}
 
 -- how two ids compare

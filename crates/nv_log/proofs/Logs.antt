@@ -1,9 +1,9 @@
 -- Logs: any two entries of one, one more entry, and a log without some of its entries.
-use Rattle.std.proofs.Common.{◌≡◌, ℕ, zero, suc, ◌-◌, ◌<◌, ◌≤◌, inl, inr, List, [], ◌∷◌, ◌++◌, length, take, drop, get_or, arith}
+use Rattle.std.proofs.Common.{◌≡◌, ℕ, zero, suc, ◌-◌, ◌<◌, ◌≤◌, List, [], ◌∷◌, ◌++◌, length, take, drop, get_or, arith}
 use Rattle.std.specs.List.{AllByRecursion}
-use Rattle.nv_base.specs.declared.numbers.EntryId.{EntryId}
+use Rattle.nv_base.proofs.Ids.{before-trans}
 use Rattle.nv_entry.specs.declared.item.Entry.{Entry}
-use Rattle.nv_entry.specs.Log.{IsIdBefore, IsLog, MayFollow}
+use Rattle.nv_entry.specs.Log.{IsLog, MayFollow}
 
 -- what holds of each item holds of the one at a place
 pub all_at : {X : Type 0} (P : X → Type 0) (xs : List X) (k : ℕ) (d : X) → AllByRecursion P xs → k < length xs → P (get_or xs k d)
@@ -35,12 +35,6 @@ ordered_at [] i j d is lt within = absurd (omega arith)
 ordered_at (e ∷ es) i zero d is lt within = absurd (omega arith)
 ordered_at (e ∷ es) zero (suc j) d is lt within = all_at (MayFollow e) es j d is.0 (omega arith)
 ordered_at (e ∷ es) (suc i) (suc j) d is lt within = ordered_at es i j d is.1 (omega arith) (omega arith)
-
-before-trans : (a b c : EntryId) → IsIdBefore a b → IsIdBefore b c → IsIdBefore a c
-before-trans a b c (inl p) (inl q) = inl (omega arith)
-before-trans a b c (inl p) (inr q) = inl (omega arith)
-before-trans a b c (inr p) (inl q) = inl (omega arith)
-before-trans a b c (inr p) (inr q) = inr (omega arith, omega arith)
 
 follow-trans : (a b c : Entry) → MayFollow a b → MayFollow b c → MayFollow a c
 follow-trans a b c p q = record { id_rises = before-trans a.id b.id c.id p.id_rises q.id_rises; epoch_stays = omega arith }

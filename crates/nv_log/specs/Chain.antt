@@ -1,7 +1,8 @@
 -- Chains: the pages of a log, its entries in append order, and how many of them count.
-use Rattle.std.specs.Prelude.{◌≡◌, ◌≢◌, ℕ, ◌+◌, ◌-◌, ◌*◌, ◌<◌, ◌≤◌, ◌==◌, ◌&&◌, Bool, if◌then◌else◌, nat_lt, min, List, [], ◌∷◌, ◌++◌, length, take, drop, remove, sum, find, position, Option, Some, slice_get, slice_index, slice_set}
+use Rattle.std.specs.Prelude.{◌≡◌, ◌≢◌, ℕ, ◌+◌, ◌-◌, ◌*◌, ◌<◌, ◌≤◌, ◌&&◌, if◌then◌else◌, nat_lt, min, List, [], ◌∷◌, ◌++◌, length, take, drop, remove, sum, find, position, Option, Some, slice_get, slice_index, slice_set}
 use Rattle.std.specs.Int.{div_ceil}
 use Rattle.std.specs.Option.{option_map}
+use Rattle.nv_base.specs.Ids.{is_same_id}
 use Rattle.nv_base.specs.declared.limits.TheConstants.{LEAST_PAGE_ENTRIES, PAGE_ENTRIES}
 use Rattle.nv_base.specs.declared.numbers.EntryId.{EntryId}
 use Rattle.nv_alloc.specs.Block.{BlockValue}
@@ -39,9 +40,6 @@ last_id chain = option_map (λ e. e.id) (last_entry chain)
 
 abbrev pub last_epoch : ChainState → Option ℕ
 last_epoch chain = option_map (λ e. e.epoch) (last_entry chain)
-
-abbrev pub is_same_id : EntryId → EntryId → Bool
-is_same_id a b = (a.commit == b.commit) && (a.place == b.place)
 
 -- the entry of that id
 abbrev pub entry_of : ChainState → EntryId → Option Entry

@@ -2,7 +2,7 @@
 
 ghost use Rattle.std.specs.Prelude.{◌≡◌, ◌+◌, ◌*◌, ◌<◌, ◌≤◌, ◌↔◌, ◌==◌, IsTrue, IfErr, OnOk, Some, length, max, slice_get};
 ghost use Rattle.std.specs.Option.{ForSome, option_copied};
-ghost use Rattle.nv_entry.specs.Log.{IsIdBefore};
+ghost use Rattle.nv_base.specs.Ids.{IsIdBefore};
 ghost use Rattle.nv_log.specs.Chain.{AddsPage, AppendsEntry, IsChain, UnlinksPage, appended, count_of, empty_chain, entry_of, last_epoch, last_id, log, page_entries, pages_for, place_of, room_of, start_of, with_page, without_page};
 
 use crate::reads::ReadCount;

@@ -1,7 +1,8 @@
 //! The search for an entry by its id.
 
 ghost use Rattle.std.specs.Prelude.{◌≡◌, ◌≤◌, ◌↔◌, IsTrue};
-ghost use Rattle.nv_entry.specs.Log.{IsIdBefore, IsLog};
+ghost use Rattle.nv_base.specs.Ids.{IsIdBefore};
+ghost use Rattle.nv_entry.specs.Log.{IsLog};
 ghost use Rattle.nv_log.specs.Chain.{place_of};
 
 use nv_base::{EntryId, Epoch};
@@ -11,7 +12,7 @@ use nv_entry::Entry;
 pub fn may_follow(earlier: &Entry, id: EntryId, epoch: Epoch) -> bool
     ensures { IsTrue result ↔ (IsIdBefore earlier.now.id id × (earlier.now.epoch ≤ epoch)) }
 {
-    earlier.id < id && earlier.epoch <= epoch
+    earlier.id.is_before(id) && earlier.epoch <= epoch
 }
 
 /// The place of the entry of that id, found by halving.

@@ -1,14 +1,23 @@
 use super::*;
 use crate::reads::ReadCount;
 use nv_alloc::{Block, FreeList, Hand};
-use nv_base::{BlockNo, CommitNo, EntryId, Epoch, Fault, Geometry};
+use nv_base::{BlockNo, CommitNo, EntryId, Epoch, Fault, Geometry, GeometryNumbers};
 use nv_entry::{Entry, Item};
 use std::alloc::Global;
 use std::process::Abort;
 
 // The free blocks 0 to 15. Where a growth is refused, the call is made once more.
 fn free_blocks(rt: &impl Abort, alloc: Global) -> FreeList {
-    let device = Geometry::checked(16, 1, 4, 2, 2, 2, 2).expect(rt, "a geometry");
+    let numbers = GeometryNumbers {
+        blocks: 16,
+        cpus: 1,
+        block: 4,
+        page: 2,
+        inodes: 2,
+        snaps: 2,
+        actors: 2,
+    };
+    let device = Geometry::checked(numbers).expect(rt, "a geometry");
     match FreeList::new(alloc, &device, 0) {
         Ok(list) => list,
         Err(fault) => {

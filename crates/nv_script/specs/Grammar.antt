@@ -4,12 +4,13 @@ use Rattle.std.specs.List.{list_all}
 use denote.Ref.{Bor}
 use Rattle.nv_base.specs.declared.fault.ScriptFaultKind.{ScriptFaultKind}
 use Rattle.nv_base.specs.declared.fault.ScriptFaultKind.TheVariants as kind
+use Rattle.nv_base.specs.declared.geometry.GeometryNumbers.{GeometryNumbers}
+use Rattle.nv_base.specs.declared.limits.TheConstants.{MODE}
 use Rattle.nv_base.specs.declared.numbers.Handle.{Handle}
 use Rattle.nv_core.specs.declared.call.Call.{Call}
 use Rattle.nv_core.specs.declared.call.Call.TheVariants as call
 use Rattle.nv_script.specs.declared.command.Command.{Command}
 use Rattle.nv_script.specs.declared.command.Command.TheVariants as command
-use Rattle.nv_script.specs.declared.command.FormatNumbers.{FormatNumbers}
 use Rattle.nv_script.specs.declared.fault.LineFault.{LineFault}
 use Rattle.nv_script.specs.declared.fault.LineFault.TheVariants as line
 use Rattle.nv_script.specs.declared.call.CallWord.{CallWord}
@@ -43,7 +44,7 @@ abbrev pub handle_at : List (List ℕ) → ℕ → Parsed Handle
 handle_at words place = ok_or (handle_of (word_at words place)) kind.Number
 
 abbrev pub mode_at : List (List ℕ) → ℕ → Parsed ℕ
-mode_at words place = ok_or (number_up_to 4095 (word_at words place)) kind.Number
+mode_at words place = ok_or (number_up_to MODE (word_at words place)) kind.Number
 
 abbrev pub text_at : List (List ℕ) → ℕ → Parsed (List ℕ)
 text_at words place = ok_or (text_of (word_at words place)) kind.Text
@@ -103,7 +104,7 @@ abbrev pub setting_at : List (List ℕ) → ℕ → List ℕ → Parsed ℕ
 setting_at words place name = ok_or (setting_of name (word_at words place)) kind.Number
 
 -- the seven numbers of a `format`, in this order
-abbrev pub format_with : List (List ℕ) → Parsed FormatNumbers
+abbrev pub format_with : List (List ℕ) → Parsed GeometryNumbers
 format_with words =
     setting_at words 1 (codes "blocks=") >>= λ blocks.
     setting_at words 2 (codes "cpus=") >>= λ cpus.

@@ -7,6 +7,7 @@ use Rattle.nv_base.specs.declared.fault.Fault.TheVariants as fault
 use Rattle.nv_base.specs.declared.fault.GeometryField.{GeometryField}
 use Rattle.nv_base.specs.declared.fault.ScriptFaultKind.{ScriptFaultKind}
 use Rattle.nv_base.specs.declared.fault.ScriptFaultKind.TheVariants as kind
+use Rattle.nv_base.specs.declared.geometry.GeometryNumbers.{GeometryNumbers}
 use Rattle.nv_core.specs.declared.call.Call.{Call}
 use Rattle.nv_core.specs.declared.event.Event.TheVariants.{Start, Go}
 use Rattle.nv_core.specs.declared.event.Reply.{Reply}
@@ -17,23 +18,15 @@ use Rattle.nv_core.specs.Tree.{tree_of}
 use Rattle.nv_core.specs.World.{WorldValue, plain_of}
 use Rattle.nv_script.specs.declared.command.Command.{Command}
 use Rattle.nv_script.specs.declared.command.Command.TheVariants as command
-use Rattle.nv_script.specs.declared.command.FormatNumbers.{FormatNumbers}
 use Rattle.nv_script.specs.Grammar.{is_skipped, line_command}
 use Rattle.nv_script.specs.Lines.{IsCutOff, IsLine, ended}
 use Rattle.nv_script.specs.Texts.{line_of, refused_line, reply_line, tree_lines}
 
--- the first of seven numbers that is out of a geometry's limits
-abbrev pub bad_field : FormatNumbers → Option GeometryField
-bad_field n = first_bad_field n.blocks n.cpus n.block n.page n.inodes n.snaps n.actors
-
-abbrev pub new_world : FormatNumbers → WorldValue
-new_world n = formatted n.block n.blocks n.inodes n.actors 0
-
 -- a `format` makes an empty world; or it is refused, for a number or for want of memory, and there is still none
-abbrev pub Formats : Option GeometryField → FormatNumbers → List ℕ → Option WorldValue → Type 0
+abbrev pub Formats : Option GeometryField → GeometryNumbers → List ℕ → Option WorldValue → Type 0
 Formats (Some field) numbers text new = (text ≡ refused_line (fault.BadGeometry field)) × (new ≡ None)
 Formats None numbers text new =
-    ((text ≡ line_of (codes "formatted")) × (new ≡ Some (new_world numbers)))
+    ((text ≡ line_of (codes "formatted")) × (new ≡ Some (formatted numbers 0)))
     ⊎ ((text ≡ refused_line fault.OutOfMemory) × (new ≡ None))
 
 -- a call that was started goes on, and a Go makes the whole of it; one that was refused does not
@@ -61,7 +54,7 @@ ActsOn old command.Tree text new = ShowsTree old text new
 
 -- what a command writes and leaves: `format` where there is no world, any other on the world
 abbrev pub Acts : Option WorldValue → Command → List ℕ → Option WorldValue → Type 0
-Acts None (command.Format numbers) text new = Formats (bad_field numbers) numbers text new
+Acts None (command.Format numbers) text new = Formats (first_bad_field numbers) numbers text new
 Acts None command text new = ⊥
 Acts (Some old) command text new = (world : WorldValue) × ActsOn old command text world × (new ≡ Some world)
 

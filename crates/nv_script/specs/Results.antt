@@ -3,14 +3,15 @@ use Rattle.std.specs.Prelude.{◌≡◌, ◌⊎◌, ℕ, Bool, true, false, not,
 use Rattle.nv_base.specs.declared.fault.Fault.{Fault}
 use Rattle.nv_base.specs.declared.fault.Fault.TheVariants as fault
 use Rattle.nv_base.specs.declared.fault.GeometryField.{GeometryField}
+use Rattle.nv_base.specs.declared.geometry.GeometryNumbers.{GeometryNumbers}
+use Rattle.nv_core.specs.Roots.{formatted}
 use Rattle.nv_core.specs.World.{WorldValue}
 use Rattle.nv_script.specs.declared.command.Command.{Command}
 use Rattle.nv_script.specs.declared.command.Command.TheVariants as command
-use Rattle.nv_script.specs.declared.command.FormatNumbers.{FormatNumbers}
 use Rattle.nv_script.specs.declared.fault.LineFault.{LineFault}
 use Rattle.nv_script.specs.declared.fault.LineFault.TheVariants as line_fault
 use Rattle.nv_script.specs.Grammar.{is_skipped, line_command}
-use Rattle.nv_script.specs.Play.{Plays, new_world}
+use Rattle.nv_script.specs.Play.{Plays}
 
 -- what became of one line: its text; or its fault, and then the world has not changed; or memory was
 -- refused at a command
@@ -31,9 +32,9 @@ abbrev pub fits : Bool → Command → Bool
 fits made command = if is_format command then not made else made
 
 -- a new world, the first number that is out of a geometry's limits, or want of memory
-abbrev pub IsNewWorld : Option GeometryField → FormatNumbers → Result WorldValue Fault → Type 0
+abbrev pub IsNewWorld : Option GeometryField → GeometryNumbers → Result WorldValue Fault → Type 0
 IsNewWorld (Some field) numbers result = result ≡ Err (fault.BadGeometry field)
-IsNewWorld None numbers result = (result ≡ Ok (new_world numbers)) ⊎ (result ≡ Err fault.OutOfMemory)
+IsNewWorld None numbers result = (result ≡ Ok (formatted numbers 0)) ⊎ (result ≡ Err fault.OutOfMemory)
 
 -- how a line's fault ends the script
 abbrev pub ending_of : ℕ → LineFault → Fault

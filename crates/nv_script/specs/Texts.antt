@@ -1,9 +1,8 @@
 -- The texts of replies and reports.
 use Rattle.std.specs.Prelude.{ℕ, List, [], ◌∷◌, ◌++◌, length, codes, decimal}
 use Rattle.std.specs.List.{flat_map}
-use Rattle.nv_base.specs.Texts.{field_name, image_fault_name, part_name, script_fault_name}
+use Rattle.nv_base.specs.Texts.{fault_text}
 use Rattle.nv_base.specs.declared.fault.Fault.{Fault}
-use Rattle.nv_base.specs.declared.fault.Fault.TheVariants as fault
 use Rattle.nv_base.specs.declared.node.Kind.{Kind}
 use Rattle.nv_base.specs.declared.node.Kind.TheVariants.{File, Dir}
 use Rattle.nv_base.specs.declared.numbers.Handle.{Handle}
@@ -13,52 +12,6 @@ use Rattle.nv_core.specs.declared.event.Reply.{Reply}
 use Rattle.nv_core.specs.declared.event.Reply.TheVariants as reply
 use Rattle.nv_core.specs.declared.tree.TreeNode.{TreeNode}
 use Rattle.nv_script.specs.Words.{escaped}
-
--- the number and the name of a fault
-abbrev pub fault_name : Fault → List ℕ
-fault_name fault.OutOfMemory = codes "E1 OutOfMemory"
-fault_name (fault.BadGeometry field) = codes "E2 BadGeometry"
-fault_name fault.Stale = codes "E3 Stale"
-fault_name fault.NotFile = codes "E4 NotFile"
-fault_name fault.NotDirectory = codes "E5 NotDirectory"
-fault_name fault.BadName = codes "E6 BadName"
-fault_name fault.Missing = codes "E7 Missing"
-fault_name fault.Exists = codes "E8 Exists"
-fault_name fault.NotEmpty = codes "E9 NotEmpty"
-fault_name fault.FileTooBig = codes "E10 FileTooBig"
-fault_name fault.WriteTooBig = codes "E11 WriteTooBig"
-fault_name fault.NoInode = codes "E12 NoInode"
-fault_name fault.NoSpace = codes "E13 NoSpace"
-fault_name fault.CommitLimit = codes "E14 CommitLimit"
-fault_name fault.EpochLimit = codes "E15 EpochLimit"
-fault_name fault.TooManySnapshots = codes "E16 TooManySnapshots"
-fault_name fault.NoSnapshot = codes "E17 NoSnapshot"
-fault_name fault.Pinned = codes "E18 Pinned"
-fault_name fault.MoveDirectory = codes "E19 MoveDirectory"
-fault_name fault.Contended = codes "E20 Contended"
-fault_name fault.ActorBusy = codes "E21 ActorBusy"
-fault_name fault.ActorIdle = codes "E22 ActorIdle"
-fault_name fault.NoActor = codes "E23 NoActor"
-fault_name (fault.Mismatch part) = codes "E24 Mismatch"
-fault_name fault.SeatsOut = codes "E25 SeatsOut"
-fault_name (fault.BadImage image) = codes "E26 BadImage"
-fault_name (fault.ScriptFault line kind) = codes "E27 ScriptFault"
-fault_name fault.Read = codes "E28 Read"
-fault_name fault.Write = codes "E29 Write"
-
-abbrev pub bracketed : List ℕ → List ℕ
-bracketed text = codes "(" ++ text ++ codes ")"
-
--- the fields of a fault, in brackets
-abbrev pub fault_fields : Fault → List ℕ
-fault_fields (fault.BadGeometry field) = bracketed (field_name field)
-fault_fields (fault.Mismatch part) = bracketed (part_name part)
-fault_fields (fault.BadImage image) = bracketed (image_fault_name image)
-fault_fields (fault.ScriptFault line kind) = bracketed (decimal line ++ codes ", " ++ script_fault_name kind)
-fault_fields _ = []
-
-abbrev pub fault_text : Fault → List ℕ
-fault_text fault = fault_name fault ++ fault_fields fault
 
 -- a text and its line end
 abbrev pub line_of : List ℕ → List ℕ

@@ -1,13 +1,14 @@
 //! What commands do to a world, and what they write.
 
 ghost use Rattle.std.specs.Prelude.{◌≡◌, IfOk, IsTrue, None, is_some, true, string_bytes};
-ghost use Rattle.nv_script.specs.Play.{Acts, ActsOn, Formats, Makes, ShowsTree, bad_field};
+ghost use Rattle.nv_base.specs.Limits.{first_bad_field};
+ghost use Rattle.nv_script.specs.Play.{Acts, ActsOn, Formats, Makes, ShowsTree};
 ghost use Rattle.nv_script.specs.Results.{IsNewWorld, LineIs, fits};
 
-use crate::command::{Command, FormatNumbers, line_command};
+use crate::command::{Command, line_command};
 use crate::fault::LineFault;
 use crate::text::{refused_line, reply_line, tree_lines};
-use nv_base::{Fault, Geometry};
+use nv_base::{Fault, Geometry, GeometryNumbers};
 use nv_core::{Call, Event, Reply, World};
 use std::alloc::{AllocError, Global};
 
@@ -43,10 +44,10 @@ fn act(alloc: Global, world: &mut Option<World>, command: Command) -> Result<Str
 fn format(
     alloc: Global,
     world: &mut Option<World>,
-    numbers: &FormatNumbers,
+    numbers: &GeometryNumbers,
 ) -> Result<String, AllocError>
     requires { world.old ≡ None }
-    ensures { IfOk result (λ text. Formats (bad_field numbers.now) numbers.now (string_bytes text) world.new) }
+    ensures { IfOk result (λ text. Formats (first_bad_field numbers.now) numbers.now (string_bytes text) world.new) }
 {
     match new_world(alloc, numbers) {
         Ok(made) => {
@@ -58,18 +59,10 @@ fn format(
 }
 
 /// An empty world of these numbers.
-fn new_world(alloc: Global, numbers: &FormatNumbers) -> Result<World, Fault>
-    ensures { IsNewWorld (bad_field numbers.now) numbers.now result }
+fn new_world(alloc: Global, numbers: &GeometryNumbers) -> Result<World, Fault>
+    ensures { IsNewWorld (first_bad_field numbers.now) numbers.now result }
 {
-    let geometry = Geometry::checked(
-        numbers.blocks,
-        numbers.cpus,
-        numbers.block,
-        numbers.page,
-        numbers.inodes,
-        numbers.snaps,
-        numbers.actors,
-    )?;
+    let geometry = Geometry::checked(*numbers)?;
     World::format(alloc, geometry)
 }
 

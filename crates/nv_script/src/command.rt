@@ -8,27 +8,15 @@ use crate::call::CallWord;
 use crate::fault::LineFault;
 use crate::field::{number_at, setting_at, word_at};
 use crate::word::words;
-use nv_base::ScriptFaultKind;
+use nv_base::{GeometryNumbers, ScriptFaultKind};
 use nv_core::Call;
 use std::alloc::Global;
-
-/// The numbers of a `format`, which may be out of a geometry's limits.
-#[derive(Clone, Copy, Debug, PartialEq, Eq, Drop)]
-pub(crate) struct FormatNumbers {
-    pub(crate) blocks: u64,
-    pub(crate) cpus: u64,
-    pub(crate) block: u64,
-    pub(crate) page: u64,
-    pub(crate) inodes: u64,
-    pub(crate) snaps: u64,
-    pub(crate) actors: u64,
-}
 
 /// A command of a script.
 #[derive(Debug, Drop)]
 pub(crate) enum Command {
     /// Makes the world.
-    Format(FormatNumbers),
+    Format(GeometryNumbers),
     /// An actor makes a call.
     Do(u64, Call),
     /// The tree now.
@@ -141,10 +129,10 @@ impl CommandWord {
 }
 
 /// The seven numbers of a `format`, in this order.
-fn format_with(words: &[&[u8]]) -> Result<FormatNumbers, ScriptFaultKind>
+fn format_with(words: &[&[u8]]) -> Result<GeometryNumbers, ScriptFaultKind>
     ensures { result ≡ format_with (texts words.now) }
 {
-    Ok(FormatNumbers {
+    Ok(GeometryNumbers {
         blocks: setting_at(words, 1, b"blocks=")?,
         cpus: setting_at(words, 2, b"cpus=")?,
         block: setting_at(words, 3, b"block=")?,

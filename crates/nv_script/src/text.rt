@@ -1,7 +1,8 @@
 //! The texts of replies and reports. Each line ends with LF; numbers are plain decimal.
 
 ghost use Rattle.std.specs.Prelude.{◌≡◌, ◌++◌, IfOk, OnOk, string_bytes};
-ghost use Rattle.nv_script.specs.Texts.{answer_text, counted_bytes, fault_fields, fault_name, fault_text, kind_text, names_text, node_line, path_text, refused_line, reply_line, tree_lines};
+ghost use Rattle.nv_base.specs.Texts.{fault_text};
+ghost use Rattle.nv_script.specs.Texts.{answer_text, counted_bytes, kind_text, names_text, node_line, path_text, refused_line, reply_line, tree_lines};
 ghost use Rattle.std.specs.List.{flat_map};
 
 use crate::word::push_escaped;
@@ -10,83 +11,18 @@ use nv_core::{Answer, Path, Reply, TreeNode};
 use nv_entry::NodeCopy;
 use std::alloc::{AllocError, Global};
 
-/// The number and the name of a fault.
-fn fault_name(fault: &Fault) -> &'static str
-    ensures { result.now ≡ fault_name fault.now }
-{
-    match fault {
-        Fault::OutOfMemory => "E1 OutOfMemory",
-        Fault::BadGeometry(_) => "E2 BadGeometry",
-        Fault::Stale => "E3 Stale",
-        Fault::NotFile => "E4 NotFile",
-        Fault::NotDirectory => "E5 NotDirectory",
-        Fault::BadName => "E6 BadName",
-        Fault::Missing => "E7 Missing",
-        Fault::Exists => "E8 Exists",
-        Fault::NotEmpty => "E9 NotEmpty",
-        Fault::FileTooBig => "E10 FileTooBig",
-        Fault::WriteTooBig => "E11 WriteTooBig",
-        Fault::NoInode => "E12 NoInode",
-        Fault::NoSpace => "E13 NoSpace",
-        Fault::CommitLimit => "E14 CommitLimit",
-        Fault::EpochLimit => "E15 EpochLimit",
-        Fault::TooManySnapshots => "E16 TooManySnapshots",
-        Fault::NoSnapshot => "E17 NoSnapshot",
-        Fault::Pinned => "E18 Pinned",
-        Fault::MoveDirectory => "E19 MoveDirectory",
-        Fault::Contended => "E20 Contended",
-        Fault::ActorBusy => "E21 ActorBusy",
-        Fault::ActorIdle => "E22 ActorIdle",
-        Fault::NoActor => "E23 NoActor",
-        Fault::Mismatch(_) => "E24 Mismatch",
-        Fault::SeatsOut => "E25 SeatsOut",
-        Fault::BadImage(_) => "E26 BadImage",
-        Fault::ScriptFault(_, _) => "E27 ScriptFault",
-        Fault::Read => "E28 Read",
-        Fault::Write => "E29 Write",
-    }
-}
-
-/// Adds the fields of a fault in brackets, if it has any.
-fn push_fields(out: &mut String, fault: &Fault) -> Result<(), AllocError>
-    ensures { OnOk result (string_bytes out.new ≡ string_bytes out.old ++ fault_fields fault.now) }
-{
-    match fault {
-        Fault::BadGeometry(field) => {
-            let name = field.name();
-            write!(out, "({name})")
-        }
-        Fault::Mismatch(part) => {
-            let name = part.name();
-            write!(out, "({name})")
-        }
-        Fault::BadImage(image) => {
-            let name = image.name();
-            write!(out, "({name})")
-        }
-        Fault::ScriptFault(line, kind) => {
-            let name = kind.name();
-            write!(out, "({line}, {name})")
-        }
-        _ => Ok(()),
-    }
-}
-
 /// The text of a fault: its number, its name and, in brackets, its fields.
 pub fn fault_text(alloc: Global, fault: &Fault) -> Result<String, AllocError>
     ensures { IfOk result (λ text. string_bytes text ≡ fault_text fault.now) }
 {
-    let mut out = String::from_str(alloc, fault_name(fault))?;
-    push_fields(&mut out, fault)?;
-    Ok(out)
+    format!(in alloc; "{fault}")
 }
 
 /// The line of a refusal.
 pub(crate) fn refused_line(alloc: Global, fault: &Fault) -> Result<String, AllocError>
     ensures { IfOk result (λ text. string_bytes text ≡ refused_line fault.now) }
 {
-    let text = fault_text(alloc, fault)?;
-    format!(in alloc; "refused {text}\n")
+    format!(in alloc; "refused {fault}\n")
 }
 
 /// Adds how many bytes there are, and the bytes, if there are any.

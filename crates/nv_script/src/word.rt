@@ -2,6 +2,7 @@
 
 ghost use Rattle.std.specs.Prelude.{◌≡◌, ◌<◌, ◌≤◌, ◌++◌, ◌∷◌, ℕ, List, length, map, IfOk, IfSome, OnOk, MatchOption, string_bytes};
 ghost use Rattle.std.specs.List.{All};
+ghost use Rattle.nv_base.specs.declared.limits.TheConstants.{MODE};
 ghost use Rattle.nv_script.specs.Words.{number_of, number_up_to, words_of, handle_from, handle_of, is_plain, hex_value, before, unescaped, text_of, escaped_byte, escaped};
 
 use nv_base::{Bytes, Gen, Handle, Ino, Mode, limits};
@@ -44,7 +45,7 @@ pub(crate) fn number_up_to(most: u64, word: &[u8]) -> Option<u64>
 
 /// The mode that a word spells in decimal digits.
 pub(crate) fn mode(word: &[u8]) -> Option<Mode>
-    ensures { result ≡ number_up_to 4095 word.now }
+    ensures { result ≡ number_up_to MODE word.now }
 {
     let bits = number_up_to(u64::from(limits::MODE), word)?;
     Mode::checked(bits as u16)

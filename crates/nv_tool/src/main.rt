@@ -4,7 +4,8 @@
 ghost use Rattle.std.specs.Prelude.{◌≡◌, ◌≢◌, ◌⊎◌, ◌++◌, Err, IfOk, codes, string_bytes};
 ghost use Rattle.std.specs.Process.{exit_status};
 ghost use Rattle.clap.specs.Words.{kind_of};
-ghost use Rattle.nv_script.specs.Texts.{fault_text, line_of};
+ghost use Rattle.nv_base.specs.Texts.{fault_text};
+ghost use Rattle.nv_script.specs.Texts.{line_of};
 
 mod command_line;
 #[cfg(test)]

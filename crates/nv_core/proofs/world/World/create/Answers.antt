@@ -12,6 +12,6 @@ invariant_of-self-2 c =
     let law = created_stands c.args.self.now c.args.dir c.args.name.now c.args.mode old
     (sym c.check_create.ensures ∙ c.in_ok-check_create.was) c.in_ok-commit.ensures.ok.1 in
     let same : created c.args.self.now c.args.dir c.args.name.now c.args.mode
-    ≡ value_of w.geometry.block w.geometry.blocks w.geometry.inodes
+    ≡ value_of w.geometry.numbers
     (logs_of c.add_file.new.logs) w.blocks c.in_ok-commit.commit w.calls.items = search rules in
     (subst IsWorld same law.lawful, c.self.invariant.1)

@@ -8,8 +8,8 @@ use Rattle.nv_core.proofs.world.World.format_at.Goals as goal
 pub invariant_of-result : goal.invariant_of-result
 invariant_of-result c =
     let g = c.args.geometry in
-    let same : formatted g.block g.blocks g.inodes g.actors c.args.commit ≡ value_of g.block g.blocks g.inodes
+    let same : formatted g.numbers c.args.commit ≡ value_of g.numbers
     (map (λ l. l.items) c.push.new.self.items) c.new.result c.args.commit c.in_ok-calls.calls.items = search rules in (
-      subst IsWorld same (format_is_world g.block g.blocks g.inodes g.actors c.args.commit g.limits.some_bytes g.limits.blocks_fit g.limits.some_inodes c.requires),
-      ap length c.in_ok-calls.ensures ∙ length-replicate g.actors None,
+      subst IsWorld same (format_is_world g.numbers c.args.commit g.limits.some_bytes g.limits.blocks_fit g.limits.some_inodes c.requires),
+      ap length c.in_ok-calls.ensures ∙ length-replicate g.numbers.actors None,
     )
