@@ -34,8 +34,13 @@ length-front_text offset text bytes = omega (arith, length-front offset bytes, l
 pub length-written : (offset : ℕ) (text bytes : List ℕ) → length (written offset text bytes) ≡ max (length bytes) (offset + length text)
 length-written offset text bytes =
     let rest = drop (offset + length text) bytes in
-    omega (arith, length-front_text offset text bytes, length-append (front offset bytes ++ text) rest, length-drop
-    (offset + length text) bytes)
+    omega (
+      arith,
+      length-front_text offset text bytes,
+      length-append (front offset bytes ++ text) rest,
+      length-drop
+          (offset + length text) bytes,
+    )
 
 zeros_only : (n k : ℕ) → slice_index (replicate n 0) k ≡ 0
 zeros_only zero k = refl
