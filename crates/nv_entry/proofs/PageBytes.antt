@@ -129,8 +129,8 @@ joined_pages block bytes some =
     let byte = λ (k : ℕ). slice_index_or bytes k 0 in
     let count : ℕ = div_ceil (length bytes) block in
     let start : 0 * block ≡ 0 = omega arith in
-    ap (λ (xs : List ℕ). take (length bytes) xs) (pages-range byte block 0 count ∙ ap
-    (λ (b : ℕ). map byte (range_with_len b (count * block))) start)
+    ap (λ (xs : List ℕ). take (length bytes) xs) (pages-range byte block 0 count
+    ∙ ap (λ (b : ℕ). map byte (range_with_len b (count * block))) start)
     ∙ take-map-range_with_len byte 0 (count * block) (length bytes) (div_ceil_times (length bytes) block some).0
     ∙ sym (fill_by_all byte bytes (length bytes) 0 refl (λ k lt. refl))
 
