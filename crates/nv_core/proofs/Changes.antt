@@ -254,8 +254,8 @@ module _ (world : WorldValue) (file : Handle) (offset : ℕ) (text : List ℕ) (
   after_blocks = world.data_blocks ++ new_pages world.numbers.block offset text new_bytes
 
   more_blocks : length after_blocks ≡ length world.data_blocks + pages_touched world.numbers.block offset (length text)
-  more_blocks = length-append world.data_blocks (new_pages world.numbers.block offset text new_bytes) ∙ ap
-      (λ (n : ℕ). length world.data_blocks + n) (length-new_pages world.numbers.block offset text new_bytes)
+  more_blocks = length-append world.data_blocks (new_pages world.numbers.block offset text new_bytes)
+      ∙ ap (λ (n : ℕ). length world.data_blocks + n) (length-new_pages world.numbers.block offset text new_bytes)
 
   writes : ChangesSlot world.numbers.block world.logs (one_more world file.ino e) world.data_blocks after_blocks file e
       (option_map (rewritten offset text))

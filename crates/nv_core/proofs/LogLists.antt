@@ -35,5 +35,5 @@ on_err (Err e) p = p
 pub log_here : (logs : List (Vec Entry Global)) (found : Vec Entry Global) (log : List Entry) (i ino : ℕ) → i < length logs
     → log ≡ found.items → found ≡ slice_index_or logs i found → i ≡ ino
     → log ≡ slice_index_or (map entries logs) ino []
-log_here logs found log i ino lt shown is same = shown ∙ ap entries is ∙ sym (entries-at logs i found lt) ∙ ap
-    (λ (k : ℕ). slice_index_or (map entries logs) k []) same
+log_here logs found log i ino lt shown is same = shown ∙ ap entries is ∙ sym (entries-at logs i found lt)
+    ∙ ap (λ (k : ℕ). slice_index_or (map entries logs) k []) same

@@ -18,8 +18,10 @@ use Rattle.nv_core.proofs.Changes.{length-new_pages}
 
 -- a refused call takes nothing
 refused_takes_none : (c : Call) (old : WorldValue) (why : Fault) (new : WorldValue) → new ≡ old → Takes c old (Err why) new
-refused_takes_none c old why new same = record { blocks = omega (arith, ap (λ w. length w.data_blocks) same); inodes = omega
-    (arith, ap (λ w. length w.logs) same) }
+refused_takes_none c old why new same = record {
+  blocks = omega (arith, ap (λ w. length w.data_blocks) same);
+  inodes = omega (arith, ap (λ w. length w.logs) same);
+}
 
 -- one more entry in a log makes no more logs
 slots_one_more : (world : WorldValue) (ino : ℕ) (e : Entry) → length (one_more world ino e) ≡ length world.logs

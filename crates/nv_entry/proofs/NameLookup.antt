@@ -116,8 +116,11 @@ differ_before : (item : Item) (log : List Entry) → NamesDiffer (names_of log)
     → NamesDiffer (bound_name item (first_cover 1 log (NameKey (name_of item))) ++ names_of log)
 differ_before (Bind n to) log h = go (first_cover 1 log (NameKey n)) refl where
   go : (death : Option ℕ) → first_cover 1 log (NameKey n) ≡ death → NamesDiffer (bound_name (Bind n to) death ++ names_of log)
-  go None q = (unbound_after n (last_setting 1 log (NameKey n)) (bound_to n (names_of log))
-      (set_where_covered 1 log (NameKey n) ∙ ap is_some q) (value_by_one log n), h)
+  go None q = (
+    unbound_after n (last_setting 1 log (NameKey n)) (bound_to n (names_of log))
+        (set_where_covered 1 log (NameKey n) ∙ ap is_some q) (value_by_one log n),
+    h,
+  )
   go (Some death) q = h
 differ_before (Unbind n) log h = h
 differ_before Gone log h = h

@@ -34,8 +34,13 @@ length-front_text offset text bytes = omega (arith, length-front offset bytes, l
 pub length-written : (offset : ℕ) (text bytes : List ℕ) → length (written offset text bytes) ≡ max (length bytes) (offset + length text)
 length-written offset text bytes =
     let rest = drop (offset + length text) bytes in
-    omega (arith, length-front_text offset text bytes, length-append (front offset bytes ++ text) rest, length-drop
-    (offset + length text) bytes)
+    omega (
+      arith,
+      length-front_text offset text bytes,
+      length-append (front offset bytes ++ text) rest,
+      length-drop
+          (offset + length text) bytes,
+    )
 
 zeros_only : (n k : ℕ) → slice_index (replicate n 0) k ≡ 0
 zeros_only zero k = refl
@@ -124,8 +129,8 @@ joined_pages block bytes some =
     let byte = λ (k : ℕ). slice_index_or bytes k 0 in
     let count : ℕ = div_ceil (length bytes) block in
     let start : 0 * block ≡ 0 = omega arith in
-    ap (λ (xs : List ℕ). take (length bytes) xs) (pages-range byte block 0 count ∙ ap
-    (λ (b : ℕ). map byte (range_with_len b (count * block))) start)
+    ap (λ (xs : List ℕ). take (length bytes) xs) (pages-range byte block 0 count
+    ∙ ap (λ (b : ℕ). map byte (range_with_len b (count * block))) start)
     ∙ take-map-range_with_len byte 0 (count * block) (length bytes) (div_ceil_times (length bytes) block some).0
     ∙ sym (fill_by_all byte bytes (length bytes) 0 refl (λ k lt. refl))
 

@@ -117,8 +117,16 @@ tied_after : (bytes : ℕ → List ℕ) (block : ℕ) (item : Item) (s : Stored)
 tied_after bytes block (Init kind mode) s None (Some after) t m =
     made_stands bytes block (Init kind mode) s (empty_node kind mode) after m
     (subst (λ (x : Stored). Stands block (stored_after bytes block (Init kind mode) x) (empty_node kind mode)) (sym t)
-    (record { kind = refl; mode = refl; size = refl; length = refl; fits = omega arith; pages = λ page. page_of-past block page []
-    (omega arith); names = refl }))
+    (record {
+      kind = refl;
+      mode = refl;
+      size = refl;
+      length = refl;
+      fits = omega arith;
+      pages = λ page. page_of-past block page []
+          (omega arith);
+      names = refl;
+    }))
 tied_after bytes block (Write first run size) s (Some node) (Some after) t m = rewrites_stand bytes block
     (Write first run size) size s node after t m
 tied_after bytes block (SetSize size) s (Some node) (Some after) t m = rewrites_stand bytes block (SetSize size) size s node after t m
@@ -133,7 +141,7 @@ tied_after bytes block (Unbind name) s (Some node) (Some after) t m =
     (record { kind = t.kind; mode = t.mode; size = t.size; length = t.length; fits = t.fits; pages = t.pages; names = rw t.names refl })
 tied_after bytes block Gone s (Some node) None t m =
     ap (λ (pages : ℕ → List ℕ). let x : Stored = record (nothing block) { pages = pages } in x)
-        (fun_ext (λ (page : ℕ). gone_page block s node page t))
+    (fun_ext (λ (page : ℕ). gone_page block s node page t))
 tied_after bytes block item s before after t m = absurd m
 
 pub lawful_gives : (bytes : ℕ → List ℕ) (block : ℕ) (log : List Entry) (e : Entry) (after : Option NodeCopy) → 0 < block
@@ -191,6 +199,6 @@ pub uses-push : (block : ℕ) (log : List Entry) (e : Entry) (number : ℕ) → 
     → Uses block log number ⊎ IsItemBlock e.item number
 uses-push block log e number u = go (used_after block e.item (value_now block log (PageKey u.0)) u.0 number
     (sym (ap (option_and_then block_in) (value_now-push block log e (PageKey u.0))) ∙ u.1)) where
-  go : (block_now block log u.0 ≡ Some number) ⊎ IsItemBlock e.item number → Uses block log number ⊎ IsItemBlock e.item number
-  go (inl h) = inl (u.0, h)
-  go (inr h) = inr h
+      go : (block_now block log u.0 ≡ Some number) ⊎ IsItemBlock e.item number → Uses block log number ⊎ IsItemBlock e.item number
+      go (inl h) = inl (u.0, h)
+      go (inr h) = inr h

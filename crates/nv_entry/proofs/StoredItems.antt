@@ -40,10 +40,10 @@ after_by : (bytes : ℕ → List ℕ) (block : ℕ) (item : Item) (value : Key �
     (stored_by bytes block value names)
 after_by bytes block (Write first run size) value names =
     ap (with_pages (record (stored_by bytes block value names) { size = size }))
-        (fun_ext (λ (page : ℕ). page_set bytes block (run.start + (page - first)) (in_run first run page) (value (PageKey page))))
+    (fun_ext (λ (page : ℕ). page_set bytes block (run.start + (page - first)) (in_run first run page) (value (PageKey page))))
 after_by bytes block (SetSize size) value names =
     ap (with_pages (record (stored_by bytes block value names) { size = size }))
-        (fun_ext (λ (page : ℕ). page_cut bytes block (is_past block size page) (value (PageKey page))))
+    (fun_ext (λ (page : ℕ). page_cut bytes block (is_past block size page) (value (PageKey page))))
 after_by bytes block Gone value names =
     ap (with_pages (stored_after bytes block Gone (stored_by bytes block value names)))
     (fun_ext (λ (page : ℕ). page_cut bytes block (is_page page) (value (PageKey page))))

@@ -23,8 +23,11 @@ fn two_more_entries()
 
 fn a_new_node_is_sound()
     ensures { (bytes : ℕ → List ℕ) (block commit place epoch : ℕ) (kind : Kind) (mode : ℕ)
-        → 0 < block → Gives bytes block (record { id = record { commit = commit; place = place };
-            epoch = epoch; item = Init kind mode } ∷ [])
+        → 0 < block → Gives bytes block (record {
+          id = record { commit = commit; place = place };
+          epoch = epoch;
+          item = Init kind mode;
+        } ∷ [])
         (Some (empty_node kind mode)) }
 {
     lawful_items_keep_logs_sound();

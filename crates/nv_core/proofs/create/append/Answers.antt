@@ -13,7 +13,7 @@ returns-in_err-push-clause-err c =
 pub returns-clause-ok : goal.returns-clause-ok
 returns-clause-ok c =
     let lt : c.args.ino < length c.args.logs.now.items = search rules in
-    let old = ap (λ log. log.items) c.index_mut.ensures.value ∙ sym
-    (entries-at c.args.logs.now.items c.args.ino c.index_mut.result.now lt) in
+    let old = ap (λ log. log.items) c.index_mut.ensures.value
+    ∙ sym (entries-at c.args.logs.now.items c.args.ino c.index_mut.result.now lt) in
     entries-set c.args.logs.now.items c.args.ino c.push.new.self
     ∙ ap (slice_set (logs_of c.args.logs.now) c.args.ino) (c.in_ok-push.ensures.items ∙ ap (λ log. log ++ c.args.entry ∷ []) old)

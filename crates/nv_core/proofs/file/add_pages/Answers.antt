@@ -22,8 +22,8 @@ returns-clause-log c =
     let within : c.args.ino < length c.args.logs.now.items = search rules in
     let second : c.index_mut-2.result.now ≡ c.reserve.new.self = c.index_mut-2.ensures.value
     ∙ get_or-set_same c.args.logs.now.items c.args.ino c.reserve.new.self c.index_mut-2.result.now within in
-    let old = c.reserve.ensures.items ∙ ap (λ l. l.items) c.index_mut.ensures.value ∙ sym
-    (entries-at c.args.logs.now.items c.args.ino c.index_mut.result.now within) in
+    let old = c.reserve.ensures.items ∙ ap (λ l. l.items) c.index_mut.ensures.value
+    ∙ sym (entries-at c.args.logs.now.items c.args.ino c.index_mut.result.now within) in
     entries-twice c.args.logs.now.items c.args.ino c.reserve.new.self c.push_reserved.new.self
     ∙ ap (slice_set (logs_of c.args.logs.now) c.args.ino)
     (c.push_reserved.ensures.items ∙ ap (λ l. l.items ++ c.args.entry ∷ []) second ∙ ap (λ l. l ++ c.args.entry ∷ []) old)

@@ -19,6 +19,6 @@ returns c =
     let log = log_here w.logs.items c.index-log.result.now c.deref.result.now c.number.result c.args.dir.now.ino
     lt c.deref.ensures.value c.index-log.ensures c.number.ensures in
     c.is_some.ensures
-    ∙ ap is_some (c.value_now.ensures ∙ ap (λ l. value_now w.geometry.numbers.block l key) log ∙ ap
-    (λ v. value_now v.numbers.block (log_at v.logs c.args.dir.now.ino) key) c.self.view_is)
+    ∙ ap is_some (c.value_now.ensures ∙ ap (λ l. value_now w.geometry.numbers.block l key) log
+    ∙ ap (λ v. value_now v.numbers.block (log_at v.logs c.args.dir.now.ino) key) c.self.view_is)
     ∙ bound_found c.args.self.now c.args.dir.now c.args.name.now lawful c.requires

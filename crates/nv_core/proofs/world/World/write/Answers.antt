@@ -27,8 +27,8 @@ start_of c = c.next_run-run.ensures.start ∙ ap (λ w. length w.data_blocks) c.
 
 count_of : (c : goal.After-drop-bytes-2) → c.next_run-run.result.len ≡ pages_touched c.args.self.now.numbers.block c.args.offset
     (length c.args.text.now)
-count_of c = c.next_run-run.ensures.len ∙ c.pages_touched-count.ensures ∙ ap
-    (λ w. pages_touched w.numbers.block c.args.offset (length c.args.text.now)) c.self.view_is
+count_of c = c.next_run-run.ensures.len ∙ c.pages_touched-count.ensures
+    ∙ ap (λ w. pages_touched w.numbers.block c.args.offset (length c.args.text.now)) c.self.view_is
 
 -- the bytes after the write
 bytes_of : (c : goal.After-drop-bytes-2) → c.in_ok-bytes.bytes.items ≡ written c.args.offset c.args.text.now
