@@ -14,5 +14,5 @@ mod snapshot;
 mod tests;
 
 pub use ids::Ids;
-pub use snap_list::SnapList;
+pub use snap_list::{PINS, SnapList};
 pub use snapshot::Snapshot;

@@ -1,5 +1,5 @@
 //! Each call once with ample memory, and the limits.
-use crate::{SnapList, Snapshot};
+use crate::{PINS, SnapList, Snapshot};
 use nv_base::{Epoch, Fault, limits};
 use std::test::Fail;
 
@@ -100,11 +100,11 @@ fn ends_at_the_last_epoch(rt: HostRuntime) -> Result<(), Fail> {
 fn takes_sixty_four_pins(rt: HostRuntime) -> Result<(), Fail> {
     let mut list = SnapList::new(rt.alloc(), 1, Epoch::new(1))?;
     let first = list.make()?;
-    for pins in 0..SnapList::PINS {
+    for pins in 0..PINS {
         assert_eq!(rt; list.pins(first), Some(pins));
         list.pin(first)?;
     }
-    for left in (0..SnapList::PINS).rev() {
+    for left in (0..PINS).rev() {
         assert_eq!(rt; list.pins(first), Some(left + 1));
         list.unpin(first);
     }
