@@ -1,43 +1,31 @@
 -- A rising list with the right members is the free list from scratch.
 use Rattle.std.proofs.Common.{◌≡◌, ◌≢◌, ℕ, zero, suc, ◌+◌, ◌<◌, ◌≤◌, ◌==◌, ◌&&◌, Bool, true, false, not, nat_lt, nat_le, List, [], ◌∷◌, arith, refl, ap, sym, ◌∙◌, subst}
 use Rattle.std.specs.List.{AllByRecursion}
-use Rattle.std.proofs.lemmas.Bool.{eqb-true, eqb-false, leb-true, leb-false, ltb-true, ltb-false}
+use Rattle.std.proofs.lemmas.Bool.{eqb-true, eqb-false, leb-true, leb-false, ltb-true, ltb-false, lt-ltb, le-ltb, le-leb, lt-leb}
 use Rattle.nv_alloc.specs.Numbers.{IsRising, has, unused}
-use Rattle.nv_alloc.proofs.Lists.{lt-yes, lt-no, has-below, has-first, has-other}
-
-le-yes : (m n : ℕ) → m ≤ n → nat_le m n ≡ true
-le-yes m n h = go (nat_le m n) refl where
-  go : (b : Bool) → nat_le m n ≡ b → nat_le m n ≡ true
-  go true q = q
-  go false q = absurd (omega (arith, leb-false m n q))
-
-le-no : (m n : ℕ) → n < m → nat_le m n ≡ false
-le-no m n h = go (nat_le m n) refl where
-  go : (b : Bool) → nat_le m n ≡ b → nat_le m n ≡ false
-  go true q = absurd (omega (arith, leb-true m n q))
-  go false q = q
+use Rattle.nv_alloc.proofs.Lists.{has-below, has-first, has-other}
 
 -- whether the number is in the range and unused
 abbrev is_wanted : (ℕ → Bool) → ℕ → ℕ → ℕ → Bool
 is_wanted is_used low end n = nat_le low n && nat_lt n end && not (is_used n)
 
 wanted-first : (is_used : ℕ → Bool) (low end : ℕ) → low < end → is_wanted is_used low end low ≡ not (is_used low)
-wanted-first is_used low end h = rw (le-yes low low (omega arith), lt-yes low end h) refl
+wanted-first is_used low end h = rw (le-leb low low (omega arith), lt-ltb low end h) refl
 
 wanted-below : (is_used : ℕ → Bool) (low end n : ℕ) → n < low → is_wanted is_used low end n ≡ false
-wanted-below is_used low end n h = rw (le-no low n h) refl
+wanted-below is_used low end n h = rw (lt-leb low n h) refl
 
 wanted-above : (is_used : ℕ → Bool) (low end n : ℕ) → end ≤ n → is_wanted is_used low end n ≡ false
 wanted-above is_used low end n h = go (nat_le low n) refl where
   go : (b : Bool) → nat_le low n ≡ b → is_wanted is_used low end n ≡ false
-  go true q = rw (q, lt-no n end h) refl
+  go true q = rw (q, le-ltb n end h) refl
   go false q = rw q refl
 
 wanted-later : (is_used : ℕ → Bool) (low end n : ℕ) → n ≢ low → is_wanted is_used low end n ≡ is_wanted is_used (low + 1) end n
 wanted-later is_used low end n ne = ap (λ b. b && nat_lt n end && not (is_used n)) (go (nat_le low n) refl) where
   go : (b : Bool) → nat_le low n ≡ b → nat_le low n ≡ nat_le (low + 1) n
-  go true q = q ∙ sym (le-yes (low + 1) n (omega (arith, ne, leb-true low n q)))
-  go false q = q ∙ sym (le-no (low + 1) n (omega (arith, leb-false low n q)))
+  go true q = q ∙ sym (le-leb (low + 1) n (omega (arith, ne, leb-true low n q)))
+  go false q = q ∙ sym (lt-leb (low + 1) n (omega (arith, leb-false low n q)))
 
 all_above : (n k : ℕ) (ms : List ℕ) → n ≤ k → AllByRecursion (λ m. k < m) ms → AllByRecursion (λ m. n < m) ms
 all_above n k [] le h = tt

@@ -1,7 +1,9 @@
-pub mod Trees
-pub mod RunLemmas
 pub mod Lists
 pub mod Slots
 pub mod Shelves
-pub mod Counts
+pub mod GivingLemmas
+pub mod Trees
+pub mod RunLemmas
 pub mod FromScratch
+pub mod Lowest
+pub mod Written

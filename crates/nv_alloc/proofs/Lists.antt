@@ -1,35 +1,14 @@
 -- Lists of numbers.
 use Rattle.std.proofs.Common.{◌≡◌, ◌≢◌, ℕ, ◌+◌, ◌<◌, ◌≤◌, ◌==◌, ◌++◌, Bool, true, false, cond, nat_lt, List, [], ◌∷◌, length, map, arith, refl, zero-add, ap, ◌∙◌, subst}
-use Rattle.std.proofs.lemmas.Bool.{eqb-true, eq-eqb, ltb-true, ltb-false}
+use Rattle.std.proofs.lemmas.Bool.{eqb-true, eq-eqb, ne_eqb, lt-ltb}
 use Rattle.std.proofs.lemmas.List.Sums.{sum_by-append, sum_by-cons}
 use Rattle.std.specs.List.{AllByRecursion}
 use Rattle.nv_alloc.specs.Numbers.{IsRising, has, times, put_by}
 
-pub lt-yes : (m n : ℕ) → m < n → nat_lt m n ≡ true
-lt-yes m n h = go (nat_lt m n) refl where
-  go : (b : Bool) → nat_lt m n ≡ b → nat_lt m n ≡ true
-  go true q = q
-  go false q = absurd (omega (arith, ltb-false m n q))
-
-pub lt-no : (m n : ℕ) → n ≤ m → nat_lt m n ≡ false
-lt-no m n h = go (nat_lt m n) refl where
-  go : (b : Bool) → nat_lt m n ≡ b → nat_lt m n ≡ false
-  go true q = absurd (omega (arith, ltb-true m n q))
-  go false q = q
-
-pub eq-yes : (m n : ℕ) → m ≡ n → (m == n) ≡ true
-eq-yes m n e = eq-eqb m n e
-
-pub eq-no : (m n : ℕ) → m ≢ n → (m == n) ≡ false
-eq-no m n ne = go (m == n) refl where
-  go : (b : Bool) → (m == n) ≡ b → (m == n) ≡ false
-  go true q = absurd (ne (eqb-true m n q))
-  go false q = q
-
 -- what is below all of a list isn't in it
 pub has-below : (n : ℕ) (ms : List ℕ) → AllByRecursion (λ m. n < m) ms → has ms n ≡ false
 has-below n [] h = refl
-has-below n (m ∷ ms) h = let k : m ≢ n = omega (arith, h.0) in rw (eq-no m n k) (has-below n ms h.1)
+has-below n (m ∷ ms) h = let k : m ≢ n = omega (arith, h.0) in rw (ne_eqb m n k) (has-below n ms h.1)
 
 pub times-yes : (n m : ℕ) (ms : List ℕ) → (m == n) ≡ true → times n (m ∷ ms) ≡ 1 + times n ms
 times-yes n m ms q = sum_by-cons (λ k. cond (k == n) 1 0) m ms ∙ ap (λ b. cond b 1 0 + times n ms) q
@@ -41,10 +20,10 @@ pub times-cons : (n m : ℕ) (ms : List ℕ) → times n (m ∷ ms) ≡ times n 
 times-cons n m ms = sum_by-append (λ k. cond (k == n) 1 0) (m ∷ []) ms
 
 pub has-first : (n : ℕ) (ns : List ℕ) → has (n ∷ ns) n ≡ true
-has-first n ns = rw (eq-yes n n refl) refl
+has-first n ns = rw (eq-eqb n n refl) refl
 
 pub has-other : (m n : ℕ) (ms : List ℕ) → m ≢ n → has (m ∷ ms) n ≡ has ms n
-has-other m n ms ne = rw (eq-no m n ne) refl
+has-other m n ms ne = rw (ne_eqb m n ne) refl
 
 -- what is not counted isn't in the list
 pub has-times : (n : ℕ) (ns : List ℕ) → times n ns ≡ 0 → has ns n ≡ false
@@ -83,7 +62,7 @@ length-put_by number x (y ∷ ys) = go (nat_lt (number x) (number y)) refl (leng
 -- an item below all others goes first
 pub put_by-first : {X : Type 0} (number : X → ℕ) (x : X) (xs : List X) → AllByRecursion (λ m. number x < m) (map number xs) → put_by number x xs ≡ x ∷ xs
 put_by-first number x [] h = refl
-put_by-first number x (y ∷ ys) h = rw (lt-yes (number x) (number y) h.0) refl
+put_by-first number x (y ∷ ys) h = rw (lt-ltb (number x) (number y) h.0) refl
 
 -- ---- a free list from scratch
 
@@ -97,7 +76,7 @@ times-rising n [] r = omega arith
 times-rising n (m ∷ ms) r = go (m == n) refl (times-rising n ms r.1) where
   none : (ms : List ℕ) → AllByRecursion (λ k. n < k) ms → times n ms ≡ 0
   none [] a = refl
-  none (k ∷ ms) a = let ne : k ≢ n = omega (arith, a.0) in times-no n k ms (eq-no k n ne) ∙ none ms a.1
+  none (k ∷ ms) a = let ne : k ≢ n = omega (arith, a.0) in times-no n k ms (ne_eqb k n ne) ∙ none ms a.1
 
   go : (b : Bool) → (m == n) ≡ b → times n ms ≤ 1 → times n (m ∷ ms) ≤ 1
   go true q ih = let e : m ≡ n = eqb-true m n q in omega (arith, times-yes n m ms q, none ms (subst (λ k. AllByRecursion (λ j. k < j) ms) e r.0))

@@ -10,6 +10,7 @@ use Rattle.nv_alloc.specs.FreeList.{ArePlaced}
 use Rattle.nv_alloc.specs.Numbers.{IsRising}
 use Rattle.nv_alloc.specs.Places.{present}
 use Rattle.nv_alloc.specs.Runs.{join, runs_of, numbers_in, HaveGaps, IsCutInto}
+use Rattle.nv_alloc.proofs.Slots.{placed_above}
 
 -- the first run, if there is one, begins above the number
 abbrev StartAbove : ℕ → List FreeRun → Type 0
@@ -37,12 +38,6 @@ join_apart n (run ∷ runs) h = go (run.first == n + 1) refl where
 
 join_next : (n last : ℕ) (runs : List FreeRun) → join n (record { first = n + 1; last = last } ∷ runs) ≡ record { first = n; last = last } ∷ runs
 join_next n last runs = rw (eq-eqb (n + 1) (n + 1) refl) refl
-
--- blocks in their slots have no lower numbers
-pub placed_above : (s n : ℕ) (slots : List (Option BlockValue)) → n < s → ArePlaced s slots → AllByRecursion (λ m. n < m) (numbers_of (present slots))
-placed_above s n [] h p = tt
-placed_above s n (None ∷ slots) h p = placed_above (s + 1) n slots (omega arith) p
-placed_above s n (Some b ∷ slots) h p = (omega (arith, p.0), placed_above (s + 1) n slots (omega arith) p.1)
 
 pub ArePlaced-drop : (k s : ℕ) (slots : List (Option BlockValue)) → ArePlaced s slots → ArePlaced (s + k) (drop k slots)
 ArePlaced-drop zero s slots p = let e : s ≡ s + 0 = omega arith in subst (λ n. ArePlaced n slots) e p

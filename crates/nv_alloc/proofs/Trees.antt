@@ -1,6 +1,6 @@
 -- The tree over a set of places.
 use Rattle.std.proofs.Common.{◌≡◌, ℕ, zero, suc, ◌+◌, ◌-◌, ◌*◌, ◌/◌, ◌%◌, ◌<◌, ◌≤◌, ◌⊎◌, inl, inr, Bool, true, false, nat_lt, min, List, Some, None, length, map, drop, take, ◌++◌, set, get_or, replicate, arith, refl, ap, ◌∙◌, subst, length-drop}
-use Rattle.std.proofs.lemmas.Bool.{cases_lt, ltb-true, ltb-false}
+use Rattle.std.proofs.lemmas.Bool.{cases_lt, ltb-true, lt-ltb, le-ltb}
 use Rattle.std.proofs.lemmas.List.{map-set, get_or-map, get_or-drop, get_or_past, ext_get_or}
 use Rattle.std.proofs.lemmas.Grind.{common_steps}
 use Rattle.nv_alloc.specs.Places.{IsNode, IsTree, IsLowest, flags_of}
@@ -17,18 +17,6 @@ pub get_or-flags_of : (len : ℕ) (tree : List ℕ) (k : ℕ) → length tree �
 get_or-flags_of len tree k e h =
     let within : k < length (drop len tree) = rw length-drop (omega arith) in
     get_or-map (λ p. nat_lt p len) (drop len tree) k 0 false within ∙ ap (λ p. nat_lt p len) (get_or-drop len tree k 0)
-
-pub lt-yes : (m n : ℕ) → m < n → nat_lt m n ≡ true
-lt-yes m n h = go (nat_lt m n) refl where
-  go : (b : Bool) → nat_lt m n ≡ b → nat_lt m n ≡ true
-  go true q = q
-  go false q = absurd (omega (arith, ltb-false m n q))
-
-pub lt-no : (m n : ℕ) → n ≤ m → nat_lt m n ≡ false
-lt-no m n h = go (nat_lt m n) refl where
-  go : (b : Bool) → nat_lt m n ≡ b → nat_lt m n ≡ false
-  go true q = absurd (omega (arith, ltb-true m n q))
-  go false q = q
 
 -- one step down from a node to a child
 child_least : (len : ℕ) (tree : List ℕ) → IsTree len tree → (i : ℕ) → 2 ≤ i → i < 2 * len → get_or tree 1 0 ≤ get_or tree (i / 2) 0 → get_or tree 1 0 ≤ get_or tree i 0
@@ -77,7 +65,7 @@ attained (suc fuel) len tree t i f h lt = go (cases_lt i len)
 
 -- no flag below the root's place is set
 before : (len : ℕ) (tree : List ℕ) → IsTree len tree → (k : ℕ) → k < len → k < get_or tree 1 0 → get_or (flags_of len tree) k false ≡ false
-before len tree t k h low = get_or-flags_of len tree k t.size h ∙ lt-no (get_or tree (len + k) 0) len (go (t.leaf k h)) where
+before len tree t k h low = get_or-flags_of len tree k t.size h ∙ le-ltb (get_or tree (len + k) 0) len (go (t.leaf k h)) where
   least : get_or tree 1 0 ≤ get_or tree (len + k) 0
   least = root_least (len + k) len tree t (len + k) (omega arith) (omega arith) (omega arith)
 
@@ -87,7 +75,7 @@ before len tree t k h low = get_or-flags_of len tree k t.size h ∙ lt-no (get_o
 
 pub root_found : (len : ℕ) (tree : List ℕ) → IsTree len tree → get_or tree 1 0 < len → IsLowest (flags_of len tree) (Some (get_or tree 1 0))
 root_found len tree t h = (
-  get_or-flags_of len tree (get_or tree 1 0) t.size h ∙ lt-yes (get_or tree (len + get_or tree 1 0) 0) len (go (attained (2 * len) len tree t 1 (omega arith) (omega arith) (omega arith))),
+  get_or-flags_of len tree (get_or tree 1 0) t.size h ∙ lt-ltb (get_or tree (len + get_or tree 1 0) 0) len (go (attained (2 * len) len tree t 1 (omega arith) (omega arith) (omega arith))),
   λ k low. before len tree t k (omega (arith, low)) low,
 ) where
   go : IsAttained len tree (get_or tree 1 0) → get_or tree (len + get_or tree 1 0) 0 < len
@@ -106,7 +94,7 @@ none_empty len tree t e = nothing (flags_of len tree) (λ k low. absurd (omega (
 pub flags_of-full : (len : ℕ) (tree : List ℕ) → length tree ≡ 2 * len → ((k : ℕ) → k < len → get_or tree (len + k) 0 ≡ k) → flags_of len tree ≡ replicate len true
 flags_of-full len tree size own = ext_get_or false (flags_of len tree) (replicate len true) (grind (arith, common_steps, length-flags_of len tree size))
     (λ k h. let lt : k < len = omega (arith, length-flags_of len tree size, h) in
-    get_or-flags_of len tree k size lt ∙ rw (own k lt, lt-yes k len lt) (grind (arith, common_steps)))
+    get_or-flags_of len tree k size lt ∙ rw (own k lt, lt-ltb k len lt) (grind (arith, common_steps)))
 
 -- a list that is written over whole
 pub whole : {X : Type 0} (n : ℕ) (xs ys : List X) → length xs ≡ n → length ys ≡ n → take n (xs ++ drop (length xs) ys) ≡ xs

@@ -1,6 +1,6 @@
 -- Blocks: their numbers, and lists of them.
-use Rattle.std.specs.Prelude.{ℕ, List, [], ◌∷◌, map, replicate}
-use Rattle.std.specs.List.{range_with_len}
+use Rattle.std.specs.Prelude.{◌≡◌, ℕ, List, [], ◌∷◌, length, map, replicate}
+use Rattle.std.specs.List.{AllByRecursion, range_with_len}
 use Rattle.nv_alloc.specs.Numbers.{put_by}
 
 -- what clauses see of a block
@@ -13,6 +13,10 @@ number_of block = block.number
 
 abbrev pub numbers_of : List BlockValue → List ℕ
 numbers_of blocks = map number_of blocks
+
+-- each block has this many bytes
+abbrev pub AreSized : ℕ → List BlockValue → Type 0
+AreSized size blocks = AllByRecursion (λ block. length block.bytes ≡ size) blocks
 
 -- a block of this number, all of whose bytes are 0
 abbrev pub zero_block : ℕ → ℕ → BlockValue

@@ -1,5 +1,5 @@
 -- Lists of numbers.
-use Rattle.std.specs.Prelude.{ℕ, ◌<◌, ◌==◌, Bool, not, nat_lt, List, [], ◌∷◌, filter, count_by, if◌then◌else◌}
+use Rattle.std.specs.Prelude.{ℕ, ◌<◌, ◌==◌, Bool, not, nat_le, nat_lt, List, [], ◌∷◌, Option, Some, None, filter, fold, count_by, if◌then◌else◌}
 use Rattle.std.specs.List.{AllByRecursion, list_any, range_with_len}
 
 -- how often the number stands in the list
@@ -23,3 +23,12 @@ unused is_used low len = filter (λ n. not (is_used n)) (range_with_len low len)
 abbrev pub put_by : {X : Type 0} → (X → ℕ) → X → List X → List X
 put_by number x [] = x ∷ []
 put_by number x (y ∷ ys) = if nat_lt (number x) (number y) then x ∷ y ∷ ys else y ∷ put_by number x ys
+
+-- the lower of a number that may be known and of another
+abbrev pub lower : Option ℕ → ℕ → Option ℕ
+lower None n = Some n
+lower (Some low) n = Some (if nat_le low n then low else n)
+
+-- the lowest number, if there is one
+abbrev pub lowest : List ℕ → Option ℕ
+lowest numbers = fold lower None numbers

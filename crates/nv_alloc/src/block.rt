@@ -1,13 +1,16 @@
 //! A block of the device.
 
-ghost use Rattle.std.specs.Prelude.{◌≡◌, IfOk, length, replicate};
+ghost use Rattle.std.specs.Prelude.{◌≡◌, IfOk, length};
+ghost use Rattle.std.specs.Borrow.{sem};
 ghost use Rattle.nv_alloc.specs.Block.{zero_block};
+ghost use Rattle.nv_alloc.specs.Lends.{LendsBytes};
 
 use nv_base::BlockNo;
 use std::alloc::{AllocError, Global};
 use std::marker::Model;
 
-/// A block: its number, and bytes of its own. It is no `Drop`, so that a block which is lost doesn't compile.
+/// A block: its number, and bytes of its own. It is no `Drop`, so that one that is forgotten doesn't compile; it
+/// ends in [`Block::into_bytes`] alone.
 pub struct Block {
     number: BlockNo,
     bytes: Vec<u8>,
@@ -40,6 +43,14 @@ impl Block {
         ensures { result.now ≡ self.now.bytes }
     {
         self.bytes.as_slice()
+    }
+
+    /// The bytes, to be written in place. They stay as many as they are.
+    pub fn bytes_mut(&mut self) -> &mut [u8]
+        ensures* writes_back { sem 𝓛 (LendsBytes self.entry result) }
+        ensures value { result.now ≡ self.old.bytes }
+    {
+        self.bytes.as_mut_slice()
     }
 
     /// Writes all bytes of the block.

@@ -1,30 +1,31 @@
 //! The free blocks of one CPU.
 
-ghost use Rattle.std.specs.Prelude.{◌≡◌, ℕ, ◌+◌, ◌-◌, ◌<◌, ◌≤◌, ◌++◌, ◌∷◌, IfOk, IfErr, OnOk, Some, None, List, length, map, min, take, drop, true, false, ◌==◌, ◌^◌, vec_len, vec_capacity};
+ghost use Rattle.std.specs.Prelude.{◌≡◌, ℕ, ◌+◌, ◌-◌, ◌<◌, ◌≤◌, ◌++◌, ◌==◌, ◌^◌, IfOk, IfErr, OnOk, Some, length, map, min, take, drop, ◌∷◌, true, vec_len, vec_capacity};
 ghost use Rattle.nv_base.specs.Homes.{home_start};
-ghost use Rattle.nv_alloc.specs.Block.{numbers_of, put_block, zero_block, zero_blocks};
-ghost use Rattle.nv_alloc.specs.Numbers.{has, times};
+ghost use Rattle.nv_alloc.specs.Block.{AreSized, numbers_of, put_block, zero_block, zero_blocks};
+ghost use Rattle.nv_alloc.specs.Numbers.{has};
 ghost use Rattle.nv_alloc.specs.FreeList.{is_home, IsFreeList};
-ghost use Rattle.nv_alloc.specs.Hand.{held_numbers};
+ghost use Rattle.nv_alloc.specs.Giving.{takes};
 ghost use Rattle.nv_alloc.specs.Runs.{runs_of};
 ghost use Rattle.std.specs.List.{range_with_len};
 
 use crate::places::PlaceSet;
-use crate::{Block, Hand, Runs};
+use crate::{Block, BlockQueue, Runs};
 use nv_base::{BlockNo, Fault, Geometry};
 use std::alloc::{AllocError, Global};
 use std::marker::Model;
 use std::mem;
 
-/// The free blocks of one CPU. Contracts see the home range, from `start` to before `end`, and the blocks
-/// by rising number. Its memory is all taken when it is made, and taking or giving a block costs the
-/// logarithm of the number of blocks of the home range.
+/// The free blocks of one CPU. Contracts see the home range, from `start` to before `end`, the bytes of each
+/// block, and the blocks by rising number. Its memory is all taken when it is made, and taking or giving a
+/// block costs the logarithm of the number of blocks of the home range.
 pub struct FreeList {
     // Slot `k` has the block of number `start + k` while it is free.
     slots: Vec<Option<Block>>,
     free: PlaceSet,
     count: u64,
     start: u64,
+    size: usize,
 }
 
 impl Model for FreeList {
@@ -34,9 +35,14 @@ impl Model for FreeList {
 
     ghost Value = { FreeBlocks };
 
-    ghost view = { λ l. record { start = l.start; end = l.start + length l.slots.items; blocks = present l.slots.items } };
+    ghost view = { λ l. record {
+      start = l.start;
+      end = l.start + length l.slots.items;
+      size = l.size;
+      blocks = present l.slots.items;
+    } };
 
-    ghost invariant = { λ l. IsShelf l.start l.slots.items l.free l.count };
+    ghost invariant = { λ l. IsShelf l.start l.size l.slots.items l.free l.count };
 }
 
 impl FreeList {
@@ -44,8 +50,11 @@ impl FreeList {
     /// no room for them.
     pub fn new(alloc: Global, geometry: &Geometry, cpu: u64) -> Result<FreeList, Fault>
         requires { cpu < geometry.now.numbers.cpus }
-        ensures start { IfOk result (λ list. list.start ≡ home_start geometry.now.numbers.blocks geometry.now.numbers.cpus cpu) }
-        ensures end { IfOk result (λ list. list.end ≡ home_start geometry.now.numbers.blocks geometry.now.numbers.cpus (cpu + 1)) }
+        ensures start { IfOk result (λ list.
+            list.start ≡ home_start geometry.now.numbers.blocks geometry.now.numbers.cpus cpu) }
+        ensures end { IfOk result (λ list.
+            list.end ≡ home_start geometry.now.numbers.blocks geometry.now.numbers.cpus (cpu + 1)) }
+        ensures size { IfOk result (λ list. list.size ≡ geometry.now.numbers.block) }
         ensures blocks { IfOk result (λ list.
             list.blocks ≡ zero_blocks geometry.now.numbers.block list.start (list.end - list.start)) }
         ensures err { IfErr result (λ fault. fault ≡ Fault.OutOfMemory) }
@@ -53,17 +62,14 @@ impl FreeList {
         let start = geometry.home_start(cpu);
         let count = geometry.home_start(cpu + 1) - start;
         let free = PlaceSet::full(alloc, count as usize)?;
-        let slots = full_slots(
-            alloc,
-            start,
-            count as usize,
-            geometry.numbers.block as usize,
-        )?;
+        let size = geometry.numbers.block as usize;
+        let slots = full_slots(alloc, start, count as usize, size)?;
         Ok(FreeList {
             slots,
             free,
             count,
             start,
+            size,
         })
     }
 
@@ -79,6 +85,14 @@ impl FreeList {
         ensures { result ≡ (length self.now.blocks == 0) }
     {
         self.count == 0
+    }
+
+    /// The bytes of each block.
+    pub fn block_bytes(&self) -> usize
+        ensures size { result ≡ self.now.size }
+        ensures sized { AreSized self.now.size self.now.blocks }
+    {
+        self.size
     }
 
     /// Whether the number is in the home range.
@@ -99,6 +113,15 @@ impl FreeList {
         slots[(number.number() - self.start) as usize].is_some()
     }
 
+    /// Whether the list takes this block: it is at home here, not free, and has as many bytes as the list's
+    /// blocks.
+    pub fn takes(&self, block: &Block) -> bool
+        ensures { result ≡ takes self.now block.now }
+    {
+        let number = block.number();
+        self.is_home(number) && !self.has(number) && block.bytes().len() == self.size
+    }
+
     /// The maximal runs of free numbers, in rising order.
     pub fn runs(&self) -> Runs<'_>
         ensures { result ≡ runs_of (numbers_of self.now.blocks) }
@@ -106,21 +129,22 @@ impl FreeList {
         Runs::new(&self.slots, self.start)
     }
 
-    /// Moves the blocks of the `n` lowest numbers, or all where there are fewer, to the end of the hand in
+    /// Moves the blocks of the `n` lowest numbers, or all where there are fewer, to the end of the queue in
     /// rising order, and says how many they are.
-    pub fn take(&mut self, n: u64, hand: &mut Hand) -> u64
-        requires room { n ≤ hand.old.room }
+    pub fn take(&mut self, n: u64, queue: &mut BlockQueue) -> u64
+        requires room { n ≤ queue.old.room }
+        requires size { queue.old.size ≡ self.old.size }
         ensures taken { result ≡ min n (length self.old.blocks) }
         ensures list { self.new ≡ record self.old { blocks = drop n self.old.blocks } }
-        ensures hand { hand.new.held ≡ record hand.old.held { blocks = hand.old.held.blocks ++ take n self.old.blocks } }
-        ensures room { hand.new.room + result ≡ hand.old.room }
-        ensures same { (n : ℕ) → times n (held_numbers hand.new.held) + times n (numbers_of self.new.blocks)
-            ≡ times n (held_numbers hand.old.held) + times n (numbers_of self.old.blocks) }
+        ensures queue { queue.new ≡ record queue.old {
+          blocks = queue.old.blocks ++ take n self.old.blocks;
+          room = queue.old.room - result;
+        } }
     {
         let taken = n.min(self.count);
         for _ in 0..taken {
             let block = self.take_lowest();
-            hand.put(block);
+            queue.put(block);
         }
         taken
     }
@@ -130,6 +154,7 @@ impl FreeList {
         requires { 0 < length self.old.blocks }
         ensures lowest { self.old.blocks ≡ result ∷ self.new.blocks }
         ensures rest { self.new ≡ record self.old { blocks = self.new.blocks } }
+        ensures sized { length result.bytes ≡ self.old.size }
     {
         let Some(place) = self.free.lowest() else {
             unreachable!()
@@ -142,13 +167,10 @@ impl FreeList {
         }
     }
 
-    /// Takes a block back.
+    /// Takes a block back. [`FreeList::takes`] tests whether it may.
     pub fn give(&mut self, block: Block)
-        requires home { is_home self.old block.number ≡ true }
-        requires absent { has (numbers_of self.old.blocks) block.number ≡ false }
-        ensures list { self.new ≡ record self.old { blocks = put_block block self.old.blocks } }
-        ensures same { (n : ℕ) → times n (numbers_of self.new.blocks)
-            ≡ times n (block.number ∷ numbers_of self.old.blocks) }
+        requires { takes self.old block ≡ true }
+        ensures { self.new ≡ record self.old { blocks = put_block block self.old.blocks } }
     {
         let place = (block.number().number() - self.start) as usize;
         self.free.insert(place);
@@ -166,6 +188,7 @@ impl FreeList {
             free: _,
             count: _,
             start: _,
+            size: _,
         } = self;
         dismantle(slots);
     }

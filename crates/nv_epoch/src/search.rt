@@ -1,6 +1,6 @@
 //! Searches by halving among living snapshots.
 
-ghost use Rattle.std.specs.Prelude.{◌≡◌, ℕ, ◌<◌, ◌≤◌, length, slice_index, slice_index_or, Some, None, IfSome, IfNone};
+ghost use Rattle.std.specs.Prelude.{◌≡◌, ℕ, ◌-◌, ◌<◌, ◌≤◌, length, slice_index, slice_index_or, Some, None, IfSome, IfNone};
 ghost use Rattle.nv_epoch.specs.Holders.{IsRising, next_older};
 ghost use Rattle.nv_epoch.specs.SnapList.{numbers, pins_at};
 ghost use Rattle.nv_epoch.specs.declared.snapshot.Snapshot.{Snapshot};
@@ -37,6 +37,9 @@ pub fn place_of(living: &[Snapshot], s: Epoch) -> Option<usize>
     ensures found { IfSome result (λ place. slice_index (numbers living.now) place ≡ s) }
     ensures pins { IfSome result (λ place. (d : Snapshot) →
         pins_at living.now s ≡ Some (slice_index_or living.now place d).pins) }
+    ensures oldest { IfSome result (λ place. place ≡ 0 → next_older (numbers living.now) s ≡ None) }
+    ensures older { IfSome result (λ place. 0 < place →
+        next_older (numbers living.now) s ≡ Some (slice_index (numbers living.now) (place - 1))) }
     ensures absent { IfNone result (pins_at living.now s ≡ None) }
 {
     let place = count_below(living, s);

@@ -1,6 +1,6 @@
 //! The list of the living snapshots.
 
-ghost use Rattle.std.specs.Prelude.{◌≡◌, ◌≢◌, ℕ, ◌+◌, ◌-◌, ◌<◌, ◌≤◌, ◌==◌, ◌↔◌, [], length, IsTrue, IsOk, IsSome, IfOk, IfErr, OnOk, OnErr, IfSome, IfNone, Some, None, Contains};
+ghost use Rattle.std.specs.Prelude.{◌≡◌, ◌≢◌, ℕ, ◌+◌, ◌-◌, ◌<◌, ◌≤◌, ◌==◌, ◌↔◌, [], length, slice_index, IsTrue, IsOk, IsSome, IfOk, IfErr, OnOk, OnErr, IfSome, IfNone, Some, None, Contains};
 ghost use Rattle.std.specs.Option.{ForSome, IsSomeAnd};
 ghost use Rattle.nv_base.specs.declared.limits.TheConstants.{NUMBER, PINS};
 ghost use Rattle.nv_epoch.specs.Holders.{youngest_holder, next_older, without};
@@ -98,7 +98,8 @@ impl SnapList {
         Ok(())
     }
 
-    /// Adds a pin to the snapshot `s`, or answers `NoSnapshot` where it doesn't live.
+    /// Adds a pin to the snapshot `s`, or answers `NoSnapshot` where it doesn't live. [`SnapList::can_pin`]
+    /// tests whether one more is allowed.
     pub fn pin(&mut self, s: Epoch) -> Result<(), Fault>
         requires { ForSome (pins_of self.old s) (λ pins. pins < PINS) }
         ensures pinned { IsOk result ↔ IsSome (pins_of self.old s) }
@@ -148,6 +149,19 @@ impl SnapList {
         youngest_below(&self.living, s)
     }
 
+    /// The place of the snapshot `s` among the living ones, oldest first and counted from 0, if it lives. The
+    /// snapshot at the place before it is the next older one. Costs the logarithm of the number of snapshots.
+    pub fn place(&self, s: Epoch) -> Option<usize>
+        ensures in_range { IfSome result (λ place. place < length (ids self.now)) }
+        ensures found { IfSome result (λ place. slice_index (ids self.now) place ≡ s) }
+        ensures oldest { IfSome result (λ place. place ≡ 0 → next_older (ids self.now) s ≡ None) }
+        ensures older { IfSome result (λ place. 0 < place →
+            next_older (ids self.now) s ≡ Some (slice_index (ids self.now) (place - 1))) }
+        ensures absent { IfNone result (pins_of self.now s ≡ None) }
+    {
+        place_of(&self.living, s)
+    }
+
     /// Whether the snapshot `s` lives.
     pub fn has(&self, s: Epoch) -> bool
         ensures lives { IsTrue result ↔ Contains (ids self.now) s }
@@ -163,6 +177,13 @@ impl SnapList {
     {
         let place = place_of(&self.living, s)?;
         Some(self.living[place].pins)
+    }
+
+    /// Whether the snapshot `s` lives and has fewer than [`limits::PINS`] pins.
+    pub fn can_pin(&self, s: Epoch) -> bool
+        ensures { IsTrue result ↔ IsSomeAnd (pins_of self.now s) (λ pins. pins < PINS) }
+    {
+        self.pins(s).is_some_and(|pins| pins < limits::PINS)
     }
 
     /// The numbers of the living snapshots, oldest first.

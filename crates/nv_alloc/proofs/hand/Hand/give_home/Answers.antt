@@ -1,22 +1,18 @@
-use Rattle.std.proofs.Common.{ap}
-use Rattle.nv_alloc.specs.FreeList.{is_home}
-use Rattle.nv_alloc.proofs.Counts.{home_same, once_first, once_more, put_both}
+use Rattle.std.proofs.Common.{◌++◌, sym, ap, ◌∙◌}
+use Rattle.nv_alloc.specs.FreeList.{FreeBlocks}
+use Rattle.nv_alloc.specs.Giving.{after_giving, kept_of}
+use Rattle.nv_alloc.proofs.GivingLemmas.{after_giving-append}
 use Rattle.nv_alloc.proofs.hand.Hand.give_home.Goals as goal
 
-pub give_home-requires : goal.give_home-requires
-give_home-requires c =
-    let once = rw (← c.self.view_is) at c.requires.once in
-    record { once = once_first c.self.inside.blocks.items c.self.inside.chain.items c.args.list.now.blocks once }
+pub returns-clause-chain : goal.returns-clause-chain
+returns-clause-chain c =
+    let both = c.give_home-2.ensures.given ∙ ap (λ (list : FreeBlocks). after_giving list c.args.self.now.pages.blocks) c.give_home.ensures.given
+    ∙ sym (after_giving-append c.args.list.now c.args.self.now.data.blocks c.args.self.now.pages.blocks) in
+    c.give_home-3.ensures.kept ∙ ap (λ (list : FreeBlocks). kept_of list c.args.self.now.chain) both
 
-pub give_home-requires-2 : goal.give_home-requires-2
-give_home-requires-2 c =
-    let once = rw (← c.self.view_is) at c.requires.once in
-    record { once = rw c.give_home.ensures.given (once_more (λ b. is_home c.args.list.now b.number) c.self.inside.blocks.items c.self.inside.chain.items c.args.list.now.blocks once) }
-
-pub returns-clause-list : goal.returns-clause-list
-returns-clause-list c = rw (c.give_home-2.ensures.given, c.give_home.ensures.given, ← c.self.view_is)
-    (ap (λ bs. record c.args.list.now { blocks = bs }) (put_both (λ b. is_home c.args.list.now b.number) c.self.inside.blocks.items c.self.inside.chain.items c.args.list.now.blocks))
-
-pub returns-clause-same : goal.returns-clause-same
-returns-clause-same c n = rw (c.give_home-2.ensures.kept, c.give_home.ensures.kept, returns-clause-list c, c.give_home.ensures.given, ← c.self.view_is)
-    (home_same (λ b. is_home c.args.list.now b.number) n c.self.inside.blocks.items c.self.inside.chain.items c.args.list.now.blocks)
+pub returns-clause-given : goal.returns-clause-given
+returns-clause-given c =
+    let both = c.give_home-2.ensures.given ∙ ap (λ (list : FreeBlocks). after_giving list c.args.self.now.pages.blocks) c.give_home.ensures.given
+    ∙ sym (after_giving-append c.args.list.now c.args.self.now.data.blocks c.args.self.now.pages.blocks) in
+    c.give_home-3.ensures.given ∙ ap (λ (list : FreeBlocks). after_giving list c.args.self.now.chain) both
+    ∙ sym (after_giving-append c.args.list.now (c.args.self.now.data.blocks ++ c.args.self.now.pages.blocks) c.args.self.now.chain)

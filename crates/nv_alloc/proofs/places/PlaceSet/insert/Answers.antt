@@ -1,5 +1,6 @@
 use Rattle.std.proofs.Common.{true, arith, ap, ◌∙◌, drop, set}
-use Rattle.nv_alloc.proofs.Trees.{flags_of-whole, lt-yes, length-flags_of}
+use Rattle.std.proofs.lemmas.Bool.{lt-ltb}
+use Rattle.nv_alloc.proofs.Trees.{flags_of-whole, length-flags_of}
 use Rattle.nv_alloc.proofs.places.PlaceSet.insert.Goals as goal
 
 pub returns : goal.returns
@@ -8,4 +9,4 @@ returns c =
     let count = length-flags_of c.self.inside.len c.self.inside.tree.items c.self.invariant.size in
     rw (← c.self.view_is) (flags_of-whole c.self.inside.len c.self.inside.tree.len c.self.inside.tree.items c.write_leaf.new.tree c.args.place c.args.place true (omega arith) (omega arith)
     (c.write_leaf.ensures.leaves ∙ ap (λ tree. set (drop c.self.inside.len tree) c.args.place c.args.place) c.deref_mut.ensures.value)
-    (lt-yes c.args.place c.self.inside.len (omega (arith, within, count))))
+    (lt-ltb c.args.place c.self.inside.len (omega (arith, within, count))))

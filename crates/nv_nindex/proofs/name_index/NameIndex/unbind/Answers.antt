@@ -1,25 +1,13 @@
-use Rattle.std.proofs.Common.{◌≡◌, ◌∙◌, ◌<◌, List, None, ap, arith, map, subst, sym}
-use Rattle.indexmap.specs.IndexMap.{spare}
-use Rattle.nv_entry.specs.declared.names.BoundName.{BoundName}
-use Rattle.nv_entry.specs.Index.{bound_to, without}
-use Rattle.nv_nindex.specs.NameIndex.{Names, shown}
-use Rattle.nv_nindex.proofs.Shown.{absent_without, taken_out}
+use Rattle.std.proofs.Common.{None, map, subst}
+use Rattle.nv_nindex.specs.NameIndex.{Names, Rebinds, shown}
+use Rattle.nv_nindex.proofs.Kept.{rebound}
+use Rattle.nv_nindex.proofs.Shown.{rebinds}
 use Rattle.nv_nindex.proofs.name_index.NameIndex.unbind.Goals as goal
 
 pub invariant_of-self : goal.invariant_of-self
-invariant_of-self c =
-    let name = c.args.name.now in
-    let es = c.self.inside.bindings.entries in
-    let left : map shown c.shift_remove.new.self.entries ≡ without name (map shown es) =
-    taken_out name es _ c.shift_remove.ensures.entries c.shift_remove.ensures.updates.1 in (
-      λ s. let room : 0 < spare c.self.inside.bindings = c.self.invariant.0 s in omega (arith, c.shift_remove.ensures.room.0),
-      λ key is. subst (λ (bs : List BoundName). bound_to key.items bs ≡ None) (sym left) (absent_without key.items name (map shown es) (c.self.invariant.1 key is)),
-    )
+invariant_of-self c = rebound _ _ c.args.name.now None _ _ c.self.invariant c.swap_remove.ensures.room.0
+    (rebinds c.args.name.now c.self.inside.bindings.entries c.swap_remove.new.self.entries None c.swap_remove.ensures.updates.1 c.swap_remove.ensures.updates.3) (λ some. cc) (λ some. cc)
 
-pub returns : goal.returns
-returns c =
-    let name = c.args.name.now in
-    let names_are = taken_out name c.self.inside.bindings.entries _ c.shift_remove.ensures.entries c.shift_remove.ensures.updates.1
-    ∙ ap (λ (v : Names). without name v.names) c.self.view_is in
-    let reserved_is = ap (λ (v : Names). v.reserved) c.self.view_is in
-    λ i. record { names = names_are i; reserved = reserved_is i }
+pub returns-clause-names : goal.returns-clause-names
+returns-clause-names c = subst (λ (v : Names). Rebinds v.names (map shown c.swap_remove.new.self.entries) c.args.name.now None) c.self.view_is
+    (rebinds c.args.name.now c.self.inside.bindings.entries c.swap_remove.new.self.entries None c.swap_remove.ensures.updates.1 c.swap_remove.ensures.updates.3)
