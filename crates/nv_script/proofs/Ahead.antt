@@ -1,6 +1,8 @@
 -- The bytes of a chunk that are read ahead, and what is left of them once a front of them is taken.
 use Rattle.std.proofs.Common.{◌≡◌, ℕ, ◌+◌, ◌-◌, ◌<◌, ◌≤◌, List, [], ◌∷◌, ◌++◌, length, get_or, take, drop, sym, subst, arith}
+use Rattle.std.specs.List.{Contains}
 use Rattle.std.proofs.lemmas.List.{drop-take}
+use Rattle.nv_script.specs.Lines.{EndsLine}
 use Rattle.std.proofs.lemmas.Grind.{common_steps}
 
 -- a slice of the chunk is the bytes from `at` up to `end`
@@ -29,3 +31,13 @@ takes_front chunk line at end count byte more within same =
     let parts = split_at ahead count byte long here in
     let left : drop (count + 1) ahead ≡ drop (at + count + 1) (take end chunk) = grind (arith, common_steps) in
     grind (arith, common_steps)
+
+-- a line end that stands past `at` is read ahead
+pub line_ahead : (chunk : List ℕ) (at end place : ℕ) → at < place → EndsLine (take end chunk) place → Contains (drop at (take end chunk)) 10
+line_ahead chunk at end place more ends =
+    let behind = ends (omega arith) in
+    let bytes : List ℕ = take end chunk in
+    let within : place ≤ length bytes = behind.0 in
+    let is : get_or bytes (place - 1) 0 ≡ 10 = behind.1 in
+    let sum : at + (place - 1 - at) ≡ place - 1 = omega arith in
+    (place - 1 - at, grind (arith, common_steps), grind (arith, common_steps))

@@ -1,4 +1,5 @@
 pub mod Ahead
+pub mod Breaks
 pub mod Commands
 pub mod Endings
 pub mod Escapes

@@ -1,5 +1,6 @@
--- The grammar of a line: the command that its words spell, or the first fault that applies.
-use Rattle.std.specs.Prelude.{◌≡◌, ℕ, ◌+◌, ◌==◌, ◌&&◌, Bool, true, false, not, if◌then◌else◌, nat_lt, nat_le, List, [], ◌∷◌, length, take, drop, codes, bytes_eq, Option, Some, None, Result, Ok, Err, ok_or, map, slice_index_or}
+-- The grammar of a line: what its words spell, or the first fault that applies. The calls are a table, from which
+-- their counts of words and their reading follow; so are the words of the commands.
+use Rattle.std.specs.Prelude.{◌≡◌, ℕ, ◌+◌, ◌==◌, ◌&&◌, Bool, true, false, if◌then◌else◌, nat_lt, nat_le, List, [], ◌∷◌, length, take, drop, codes, bytes_eq, Option, Some, None, Result, Ok, Err, ok_or, map, slice_index_or}
 use Rattle.std.specs.List.{list_all}
 use denote.Ref.{Bor}
 use Rattle.nv_base.specs.declared.fault.ScriptFaultKind.{ScriptFaultKind}
@@ -9,17 +10,21 @@ use Rattle.nv_base.specs.declared.limits.TheConstants.{MODE}
 use Rattle.nv_base.specs.declared.numbers.Handle.{Handle}
 use Rattle.nv_core.specs.declared.call.Call.{Call}
 use Rattle.nv_core.specs.declared.call.Call.TheVariants as call
-use Rattle.nv_script.specs.declared.command.Command.{Command}
-use Rattle.nv_script.specs.declared.command.Command.TheVariants as command
-use Rattle.nv_script.specs.declared.fault.LineFault.{LineFault}
-use Rattle.nv_script.specs.declared.fault.LineFault.TheVariants as line
 use Rattle.nv_script.specs.declared.call.CallWord.{CallWord}
 use Rattle.nv_script.specs.declared.call.CallWord.TheVariants as calls
+use Rattle.nv_script.specs.declared.command.Command.{Command}
+use Rattle.nv_script.specs.declared.command.Command.TheVariants as command
 use Rattle.nv_script.specs.declared.command.CommandWord.{CommandWord}
 use Rattle.nv_script.specs.declared.command.CommandWord.TheVariants as word
-use Rattle.nv_script.specs.Words.{number_of, number_up_to, handle_of, text_of, words_of}
+use Rattle.nv_script.specs.declared.command.Head.{Head}
+use Rattle.nv_script.specs.declared.command.Head.TheVariants as head
+use Rattle.nv_script.specs.declared.fault.LineFault.{LineFault}
+use Rattle.nv_script.specs.declared.fault.LineFault.TheVariants as line
+use Rattle.nv_script.specs.declared.field.Field.{Field}
+use Rattle.nv_script.specs.declared.field.Field.TheVariants as field
+use Rattle.nv_script.specs.Words.{number_of, number_up_to, handle_of, text_of}
 
--- what was read, or the fault of a line
+-- what was read, or the fault of the line
 abbrev pub Parsed : Type 0 → Type 0
 Parsed T = Result T ScriptFaultKind
 
@@ -34,67 +39,101 @@ abbrev pub if_so : {A : Type 0} → Bool → ScriptFaultKind → Parsed A → Pa
 if_so true fault next = next
 if_so false fault next = Err fault
 
+-- the word at a place, which has no bytes where there is none
 abbrev pub word_at : List (List ℕ) → ℕ → List ℕ
 word_at words place = slice_index_or words place []
 
-abbrev pub number_at : List (List ℕ) → ℕ → Parsed ℕ
-number_at words place = ok_or (number_of (word_at words place)) kind.Number
+-- what a word of this kind stands for
+abbrev pub Value : Field → Type 0
+Value field.Handle = Handle
+Value field.Number = ℕ
+Value field.Mode = ℕ
+Value field.Text = List ℕ
 
-abbrev pub handle_at : List (List ℕ) → ℕ → Parsed Handle
-handle_at words place = ok_or (handle_of (word_at words place)) kind.Number
+-- the word at a place, read as its kind says
+abbrev pub value_at : (f : Field) → List (List ℕ) → ℕ → Parsed (Value f)
+value_at field.Handle words place = ok_or (handle_of (word_at words place)) kind.Number
+value_at field.Number words place = ok_or (number_of (word_at words place)) kind.Number
+value_at field.Mode words place = ok_or (number_up_to MODE (word_at words place)) kind.Number
+value_at field.Text words place = ok_or (text_of (word_at words place)) kind.Text
 
-abbrev pub mode_at : List (List ℕ) → ℕ → Parsed ℕ
-mode_at words place = ok_or (number_up_to MODE (word_at words place)) kind.Number
+-- what makes an A of one value for each field
+abbrev pub Maker : List Field → Type 0 → Type 0
+Maker [] A = A
+Maker (f ∷ fields) A = Value f → Maker fields A
 
-abbrev pub text_at : List (List ℕ) → ℕ → Parsed (List ℕ)
-text_at words place = ok_or (text_of (word_at words place)) kind.Text
+-- what is made of the words from a place on, read from left to right as the fields say
+abbrev pub made_of : {A : Type 0} → (fields : List Field) → Maker fields A → List (List ℕ) → ℕ → Parsed A
+made_of [] made words place = Ok made
+made_of {A = A} (f ∷ fields) make words place = value_at f words place >>= λ value. made_of {A = A} fields (make value) words (place + 1)
 
--- the call of this name
-abbrev pub call_named : List ℕ → Option CallWord
-call_named name =
-    if bytes_eq name (codes "create") then Some calls.Create
-    else if bytes_eq name (codes "write") then Some calls.Write
-    else if bytes_eq name (codes "read") then Some calls.Read
-    else None
+-- a row of the table of calls: the name, what the words after it are, and the call that their values make
+pub data Row : Type 0 where
+  entry : (name : List ℕ) (fields : List Field) → Maker fields Call → Row
 
--- how many words follow the name of a call
-abbrev pub call_words : CallWord → ℕ
-call_words calls.Create = 3
-call_words calls.Write = 3
-call_words calls.Read = 3
+-- the table of calls
+abbrev pub row : CallWord → Row
+row calls.Create = entry (codes "create") (field.Handle ∷ field.Text ∷ field.Mode ∷ []) (λ dir name mode. call.Create dir name mode)
+row calls.Write = entry (codes "write") (field.Handle ∷ field.Number ∷ field.Text ∷ []) (λ file offset text. call.Write file offset text)
+row calls.Read = entry (codes "read") (field.Handle ∷ field.Number ∷ field.Number ∷ []) (λ file offset count. call.Read file offset count)
 
--- the call of a line, whose own words stand from place 3 on: `create H NAME MODE`, `write H OFFSET TEXT`,
--- `read H OFFSET LEN`
+abbrev pub all_calls : List CallWord
+all_calls = calls.Create ∷ calls.Write ∷ calls.Read ∷ []
+
+abbrev pub name_in : Row → List ℕ
+name_in (entry name fields make) = name
+
+abbrev pub fields_in : Row → List Field
+fields_in (entry name fields make) = fields
+
+-- the call of a line, whose own words stand from place 3 on
+abbrev pub call_in : Row → List (List ℕ) → Parsed Call
+call_in (entry name fields make) words = made_of {A = Call} fields make words 3
+
 abbrev pub call_with : CallWord → List (List ℕ) → Parsed Call
-call_with calls.Create words = handle_at words 3 >>= λ dir. text_at words 4 >>= λ name. mode_at words 5 >>= λ mode. Ok (call.Create dir name mode)
-call_with calls.Write words = handle_at words 3 >>= λ file. number_at words 4 >>= λ offset. text_at words 5 >>= λ text. Ok (call.Write file offset text)
-call_with calls.Read words = handle_at words 3 >>= λ file. number_at words 4 >>= λ offset. number_at words 5 >>= λ count. Ok (call.Read file offset count)
+call_with c words = call_in (row c) words
+
+-- the first of some calls that has this name
+abbrev pub named_among : List CallWord → List ℕ → Option CallWord
+named_among [] name = None
+named_among (c ∷ cs) name = if bytes_eq name (name_in (row c)) then Some c else named_among cs name
 
 -- the call that the third word names
 abbrev pub third_call : List (List ℕ) → Parsed CallWord
-third_call words = if_so (nat_le 3 (length words)) kind.Count (ok_or (call_named (word_at words 2)) kind.Word)
+third_call words = if_so (nat_le 3 (length words)) kind.Count (ok_or (named_among all_calls (word_at words 2)) kind.Word)
 
--- the command that the first words name
-abbrev pub command_named : List (List ℕ) → Parsed CommandWord
-command_named words =
-    if bytes_eq (word_at words 0) (codes "format") then Ok word.Format
-    else if bytes_eq (word_at words 0) (codes "do") then (third_call words >>= λ c. Ok (word.Do c))
-    else if bytes_eq (word_at words 0) (codes "tree") then Ok word.Tree
+-- what a line is by its first words: a `format`, or a command on a made world
+abbrev pub head_of : List (List ℕ) → Parsed Head
+head_of words =
+    if bytes_eq (word_at words 0) (codes "format") then Ok head.Format
+    else if bytes_eq (word_at words 0) (codes "do") then (third_call words >>= λ c. Ok (head.Command (word.Do c)))
+    else if bytes_eq (word_at words 0) (codes "tree") then Ok (head.Command word.Tree)
     else Err kind.Word
 
--- `format` comes first, and once
-abbrev pub is_due : Bool → CommandWord → Bool
-is_due made word.Format = not made
-is_due made _ = made
+-- the words of a command after its name, before those of its call
+abbrev pub own_fields : CommandWord → List Field
+own_fields (word.Do c) = field.Number ∷ []
+own_fields word.Tree = []
 
--- whether a line of this command may have so many words
-abbrev pub takes_words : CommandWord → ℕ → Bool
-takes_words word.Format count = count == 8
-takes_words (word.Do c) count = count == 3 + call_words c
-takes_words word.Tree count = count == 1
+-- how many words the name of a call and its own words are
+abbrev pub called_count : CommandWord → ℕ
+called_count (word.Do c) = 1 + length (fields_in (row c))
+called_count _ = 0
+
+abbrev pub word_count : CommandWord → ℕ
+word_count w = 1 + length (own_fields w) + called_count w
 
 abbrev pub none_empty : List (List ℕ) → Bool
 none_empty words = list_all (λ w. nat_lt 0 (length w)) words
+
+-- the words are so many, and each has a byte
+abbrev pub are_counted : ℕ → List (List ℕ) → Bool
+are_counted count words = (length words == count) && none_empty words
+
+-- the command with all words of its line, read from left to right
+abbrev pub command_with : CommandWord → List (List ℕ) → Parsed Command
+command_with (word.Do c) words = value_at field.Number words 1 >>= λ actor. call_with c words >>= λ call. Ok (command.Do actor call)
+command_with word.Tree words = Ok command.Tree
 
 -- a name, `=` and a number; the name comes with its `=`
 abbrev pub setting_of : List ℕ → List ℕ → Option ℕ
@@ -104,8 +143,8 @@ abbrev pub setting_at : List (List ℕ) → ℕ → List ℕ → Parsed ℕ
 setting_at words place name = ok_or (setting_of name (word_at words place)) kind.Number
 
 -- the seven numbers of a `format`, in this order
-abbrev pub format_with : List (List ℕ) → Parsed GeometryNumbers
-format_with words =
+abbrev pub numbers_with : List (List ℕ) → Parsed GeometryNumbers
+numbers_with words =
     setting_at words 1 (codes "blocks=") >>= λ blocks.
     setting_at words 2 (codes "cpus=") >>= λ cpus.
     setting_at words 3 (codes "block=") >>= λ block.
@@ -115,29 +154,28 @@ format_with words =
     setting_at words 7 (codes "actors=") >>= λ actors.
     Ok (record { blocks = blocks; cpus = cpus; block = block; page = page; inodes = inodes; snaps = snaps; actors = actors })
 
--- the command with all words of its line, read from left to right
-abbrev pub command_with : CommandWord → List (List ℕ) → Parsed Command
-command_with word.Format words = format_with words >>= λ numbers. Ok (command.Format numbers)
-command_with (word.Do c) words = number_at words 1 >>= λ actor. call_with c words >>= λ call. Ok (command.Do actor call)
-command_with word.Tree words = Ok command.Tree
+-- where no world is made: the numbers of a `format`, and any other command is out of order
+abbrev pub format_with : Head → List (List ℕ) → Parsed GeometryNumbers
+format_with head.Format words = if_so (are_counted 8 words) kind.Count (numbers_with words)
+format_with (head.Command w) words = Err kind.Order
 
--- the command of some words, or the first fault: of the first words, of the order of lines, of the number of
--- words, and then of the words from left to right
-abbrev pub command_of : Bool → List (List ℕ) → Parsed Command
-command_of made words =
-    command_named words >>= λ w.
-    if_so (is_due made w) kind.Order
-    (if_so (takes_words w (length words) && none_empty words) kind.Count
-    (command_with w words))
+-- on a made world: a command, and a `format` is out of order
+abbrev pub command_due : Head → List (List ℕ) → Parsed Command
+command_due head.Format words = Err kind.Order
+command_due (head.Command w) words = if_so (are_counted (word_count w) words) kind.Count (command_with w words)
+
+-- what some words spell, or the first fault: of the first words, of the order of lines, of the number of words, and
+-- then of the words from left to right
+abbrev pub format_of : List (List ℕ) → Parsed GeometryNumbers
+format_of words = head_of words >>= λ h. format_with h words
+
+abbrev pub command_of : List (List ℕ) → Parsed Command
+command_of words = head_of words >>= λ h. command_due h words
 
 -- an empty line, or one that begins with `#`
 abbrev pub is_skipped : List ℕ → Bool
 is_skipped [] = true
 is_skipped (byte ∷ bytes) = byte == 35
-
--- the command of a line, which has no line end; none where it is skipped
-abbrev pub line_command : Bool → List ℕ → Parsed (Option Command)
-line_command made line = if is_skipped line then Ok None else (command_of made (words_of line) >>= λ c. Ok (Some c))
 
 -- the bytes of borrowed words
 abbrev pub texts : List (Bor (List ℕ)) → List (List ℕ)

@@ -1,5 +1,5 @@
 -- What a whole script writes.
-use Rattle.std.specs.Prelude.{◌≡◌, ◌≢◌, ◌⊎◌, ◌≤◌, ℕ, ◌+◌, Bool, false, nat_lt, List, [], ◌∷◌, ◌++◌, length, codes, Option, Some, None, IfSome, is_some, Result, Ok, Err, MatchBool}
+use Rattle.std.specs.Prelude.{◌≡◌, ◌≢◌, ◌⊎◌, ◌≤◌, ℕ, ◌+◌, Bool, true, false, nat_lt, List, [], ◌∷◌, ◌++◌, length, codes, Option, Some, None, IfSome, is_some, Result, Ok, Err, MatchBool}
 use Rattle.std.specs.Io.KnownBytes.{Appends, Consumes, IsAtEnd}
 use Rattle.nv_base.specs.Limits.{first_bad_field}
 use Rattle.nv_base.specs.declared.fault.Fault.{Fault}
@@ -18,9 +18,10 @@ use Rattle.nv_core.specs.Tree.{tree_of}
 use Rattle.nv_core.specs.World.{WorldValue, plain_of}
 use Rattle.nv_script.specs.declared.command.Command.{Command}
 use Rattle.nv_script.specs.declared.command.Command.TheVariants as command
-use Rattle.nv_script.specs.Grammar.{is_skipped, line_command}
+use Rattle.nv_script.specs.Grammar.{command_of, format_of, is_skipped}
 use Rattle.nv_script.specs.Lines.{IsCutOff, IsLine, ended}
 use Rattle.nv_script.specs.Texts.{line_of, refused_line, reply_line, tree_lines}
+use Rattle.nv_script.specs.Words.{words_of}
 
 -- a `format` makes an empty world; or it is refused, for a number or for want of memory, and there is still none
 abbrev pub Formats : Option GeometryField → GeometryNumbers → List ℕ → Option WorldValue → Type 0
@@ -46,26 +47,20 @@ abbrev pub ShowsTree : WorldValue → List ℕ → WorldValue → Type 0
 ShowsTree old text new =
     ((text ≡ tree_lines (tree_of (length old.logs) (plain_of old))) ⊎ (text ≡ refused_line fault.OutOfMemory)) × (new ≡ old)
 
--- what a command on a world writes and leaves
-abbrev pub ActsOn : WorldValue → Command → List ℕ → WorldValue → Type 0
-ActsOn old (command.Format numbers) text new = ⊥
-ActsOn old (command.Do actor call) text new = Answers (Makes old actor call) text new
-ActsOn old command.Tree text new = ShowsTree old text new
+-- what a command writes and leaves
+abbrev pub Acts : WorldValue → Command → List ℕ → WorldValue → Type 0
+Acts old (command.Do actor call) text new = Answers (Makes old actor call) text new
+Acts old command.Tree text new = ShowsTree old text new
 
--- what a command writes and leaves: `format` where there is no world, any other on the world
-abbrev pub Acts : Option WorldValue → Command → List ℕ → Option WorldValue → Type 0
-Acts None (command.Format numbers) text new = Formats (first_bad_field numbers) numbers text new
-Acts None command text new = ⊥
-Acts (Some old) command text new = (world : WorldValue) × ActsOn old command text world × (new ≡ Some world)
+-- the words of a line without a fault: a `format` where no world is made, and else a command on the world
+abbrev pub PlaysWords : Option WorldValue → List (List ℕ) → List ℕ → Option WorldValue → Type 0
+PlaysWords None words text new = (numbers : GeometryNumbers) × (format_of words ≡ Ok numbers) × Formats (first_bad_field numbers) numbers text new
+PlaysWords (Some old) words text new =
+    (command : Command) × (world : WorldValue) × (command_of words ≡ Ok command) × Acts old command text world × (new ≡ Some world)
 
--- a line that is skipped writes and changes nothing
-abbrev pub ActsIfAny : Option WorldValue → Option Command → List ℕ → Option WorldValue → Type 0
-ActsIfAny old None text new = (text ≡ []) × (new ≡ old)
-ActsIfAny old (Some command) text new = Acts old command text new
-
--- one line without a fault
+-- one line without a fault; one that is skipped writes and changes nothing
 abbrev pub Plays : Option WorldValue → List ℕ → List ℕ → Option WorldValue → Type 0
-Plays old line text new = (c : Option Command) × (line_command (is_some old) line ≡ Ok c) × ActsIfAny old c text new
+Plays old line text new = MatchBool (is_skipped line) ((text ≡ []) × (new ≡ old)) (PlaysWords old (words_of line) text new)
 
 -- some lines, one after another
 abbrev pub PlaysAll : Option WorldValue → List (List ℕ) → List ℕ → Option WorldValue → Type 0
@@ -91,9 +86,17 @@ IsLong bytes = (line rest : List ℕ) × (byte : ℕ) × IsLine line × (length 
 abbrev pub IsUnended : List ℕ → Type 0
 IsUnended bytes = IsLine bytes × (bytes ≢ [])
 
+-- words have this fault: where no world is made as a `format`, and else as a command
+abbrev pub WordsFail : Bool → List (List ℕ) → ScriptFaultKind → Type 0
+WordsFail false words fault = format_of words ≡ Err fault
+WordsFail true words fault = command_of words ≡ Err fault
+
+abbrev pub LineFails : Bool → List ℕ → ScriptFaultKind → Type 0
+LineFails made line fault = (is_skipped line ≡ false) × WordsFail made (words_of line) fault
+
 -- the next line has a fault of its words
 abbrev pub IsFaulty : Bool → List ℕ → ScriptFaultKind → Type 0
-IsFaulty made bytes fault = (line rest : List ℕ) × IsLine line × (bytes ≡ (line ++ 10 ∷ []) ++ rest) × (line_command made line ≡ Err fault)
+IsFaulty made bytes fault = (line rest : List ℕ) × IsLine line × (bytes ≡ (line ++ 10 ∷ []) ++ rest) × LineFails made line fault
 
 -- the fault of the line with this number, which the bytes begin: past the last allowed line any byte is a fault
 abbrev pub IsFault : ℕ → Bool → List ℕ → ScriptFaultKind → Type 0
@@ -110,24 +113,28 @@ abbrev pub BreaksOff : List ℕ → Option WorldValue → List ℕ → Type 0
 BreaksOff bytes world sent = (line rest text : List ℕ) × (new : Option WorldValue) × IsLine line × (bytes ≡ (line ++ 10 ∷ []) ++ rest) × Plays world line text new × IsCutOff sent text
 
 -- all lines were played and their text was written, and nothing is left
-abbrev pub EndsWell : (input left old new : Option (List ℕ)) → Type 0
-EndsWell input left old new = (lines : List (List ℕ)) × (text : List ℕ) × (world : Option WorldValue) × Played input lines [] text world × IsAtEnd left × Appends old new text
+abbrev pub EndsWell : (input left : Option (List ℕ)) → (List ℕ → Type 0) → Type 0
+EndsWell input left Writes = (lines : List (List ℕ)) × (text : List ℕ) × (world : Option WorldValue) × Played input lines [] text world × IsAtEnd left × Writes text
 
 -- the first lines were played and their text was written
-abbrev pub EndsAfter : (input old new : Option (List ℕ)) → (List (List ℕ) → List ℕ → Option WorldValue → Type 0) → Type 0
-EndsAfter input old new Also = (lines : List (List ℕ)) × (rest text : List ℕ) × (world : Option WorldValue) × Played input lines rest text world × Also lines rest world × Appends old new text
+abbrev pub EndsAfter : (input : Option (List ℕ)) → (List ℕ → Type 0) → (List (List ℕ) → List ℕ → Option WorldValue → Type 0) → Type 0
+EndsAfter input Writes Also = (lines : List (List ℕ)) × (rest text : List ℕ) × (world : Option WorldValue) × Played input lines rest text world × Also lines rest world × Writes text
 
 -- how a script ends early: by a fault of the next line, with the number of that line; by a failed read, of whose
 -- reader no more than a piece of the next line is gone; for want of memory, before the first line or at a command;
 -- by a failed write, which leaves a front of the text of the line after them
-abbrev pub EndsBy : Fault → (input left old new : Option (List ℕ)) → Type 0
-EndsBy (fault.ScriptFault number why) input left old new = EndsAfter input old new (λ lines rest world. (number ≡ length lines + 1) × IsFault number (is_some world) rest why)
-EndsBy fault.Read input left old new = EndsAfter input old new (λ lines rest world. (piece : List ℕ) × IsLine piece × Consumes input left (ended lines ++ piece))
-EndsBy fault.OutOfMemory input left old new = EndsAfter input old new (λ lines rest world. (lines ≡ []) ⊎ HasCommand rest)
-EndsBy fault.Write input left old new = (lines : List (List ℕ)) × (rest text sent : List ℕ) × (world : Option WorldValue) × Played input lines rest text world × BreaksOff rest world sent × Appends old new (text ++ sent)
-EndsBy _ input left old new = ⊥
+abbrev pub EndsBy : Fault → (input left : Option (List ℕ)) → (List ℕ → Type 0) → Type 0
+EndsBy (fault.ScriptFault number why) input left Writes = EndsAfter input Writes (λ lines rest world. (number ≡ length lines + 1) × IsFault number (is_some world) rest why)
+EndsBy fault.Read input left Writes = EndsAfter input Writes (λ lines rest world. (piece : List ℕ) × IsLine piece × Consumes input left (ended lines ++ piece))
+EndsBy fault.OutOfMemory input left Writes = EndsAfter input Writes (λ lines rest world. (lines ≡ []) ⊎ HasCommand rest)
+EndsBy fault.Write input left Writes = (lines : List (List ℕ)) × (rest text sent : List ℕ) × (world : Option WorldValue) × Played input lines rest text world × BreaksOff rest world sent × Writes (text ++ sent)
+EndsBy _ input left Writes = ⊥
 
--- what the reader has at first and is left with, and what the writer has at first and is left with
+-- how a script ends: what the reader has at first and is left with, and what is written
+abbrev pub Ends : Result (Unit {0}) Fault → (input left : Option (List ℕ)) → (List ℕ → Type 0) → Type 0
+Ends (Ok done) input left Writes = EndsWell input left Writes
+Ends (Err why) input left Writes = EndsBy why input left Writes
+
+-- the same, where the writer has this at first and is left with that
 abbrev pub PlaysScript : Result (Unit {0}) Fault → (input left old new : Option (List ℕ)) → Type 0
-PlaysScript (Ok done) input left old new = EndsWell input left old new
-PlaysScript (Err why) input left old new = EndsBy why input left old new
+PlaysScript result input left old new = Ends result input left (λ text. Appends old new text)

@@ -1,42 +1,41 @@
-//! What commands do to a world, and what they write.
+//! What lines do to a world, and what they write.
 
-ghost use Rattle.std.specs.Prelude.{◌≡◌, IfOk, IsTrue, None, is_some, true, string_bytes};
+ghost use Rattle.std.specs.Prelude.{◌≡◌, [], None, OnOk, string_bytes};
 ghost use Rattle.nv_base.specs.Limits.{first_bad_field};
-ghost use Rattle.nv_script.specs.Play.{Acts, ActsOn, Formats, Makes, ShowsTree};
-ghost use Rattle.nv_script.specs.Results.{IsNewWorld, LineIs, fits};
+ghost use Rattle.nv_script.specs.Play.{Acts, Formats, Makes, ShowsTree};
+ghost use Rattle.nv_script.specs.Results.{IsNewWorld, LineIs};
 
-use crate::command::{Command, line_command};
+use crate::command::{Command, is_skipped, read_command, read_format};
 use crate::fault::LineFault;
-use crate::text::{refused_line, reply_line, tree_lines};
+use crate::text::{push_refused, push_reply, push_tree};
+use crate::word::words;
 use nv_base::{Fault, Geometry, GeometryNumbers};
 use nv_core::{Call, Event, Reply, World};
 use std::alloc::{AllocError, Global};
 
-/// Plays one line, which has no line end: the text that it writes.
+/// Plays one line, which has no line end. The text that it writes is in `out` then, in place of what that held.
 pub(crate) fn play_line(
     alloc: Global,
     world: &mut Option<World>,
     line: &[u8],
-) -> Result<String, LineFault>
-    ensures { LineIs string_bytes result world.old line.now world.new }
+    out: &mut String,
+) -> Result<(), LineFault>
+    ensures { LineIs result world.old line.now (string_bytes out.new) world.new }
 {
-    match line_command(alloc, world.is_some(), line)? {
-        None => Ok(String::new(alloc)),
-        Some(command) => Ok(act(alloc, world, command)?),
+    out.clear();
+    if is_skipped(line) {
+        return Ok(());
     }
-}
-
-/// Acts on a command: `format` where there is no world, any other where there is one.
-fn act(alloc: Global, world: &mut Option<World>, command: Command) -> Result<String, AllocError>
-    requires { IsTrue (fits (is_some world.old) command) }
-    ensures { IfOk result (λ text. Acts world.old command (string_bytes text) world.new) }
-{
+    let words = words(alloc, line)?;
     match world {
-        None => match command {
-            Command::Format(numbers) => format(alloc, world, &numbers),
-            _ => unreachable!(),
-        },
-        Some(world) => act_on(alloc, world, command),
+        None => {
+            let numbers = read_format(words.as_slice())?;
+            Ok(format(alloc, world, &numbers, out)?)
+        }
+        Some(world) => {
+            let command = read_command(alloc, words.as_slice())?;
+            Ok(act(world, command, out)?)
+        }
     }
 }
 
@@ -45,16 +44,18 @@ fn format(
     alloc: Global,
     world: &mut Option<World>,
     numbers: &GeometryNumbers,
-) -> Result<String, AllocError>
-    requires { world.old ≡ None }
-    ensures { IfOk result (λ text. Formats (first_bad_field numbers.now) numbers.now (string_bytes text) world.new) }
+    out: &mut String,
+) -> Result<(), AllocError>
+    requires none { world.old ≡ None }
+    requires empty { string_bytes out.old ≡ [] }
+    ensures { OnOk result (Formats (first_bad_field numbers.now) numbers.now (string_bytes out.new) world.new) }
 {
     match new_world(alloc, numbers) {
         Ok(made) => {
             *world = Some(made);
-            String::from_str(alloc, "formatted\n")
+            out.push_str("formatted\n")
         }
-        Err(fault) => refused_line(alloc, &fault),
+        Err(fault) => push_refused(out, &fault),
     }
 }
 
@@ -66,15 +67,14 @@ fn new_world(alloc: Global, numbers: &GeometryNumbers) -> Result<World, Fault>
     World::format(alloc, geometry)
 }
 
-/// Acts on a command on the world.
-fn act_on(alloc: Global, world: &mut World, command: Command) -> Result<String, AllocError>
-    requires { IsTrue (fits true command) }
-    ensures { IfOk result (λ text. ActsOn world.old command (string_bytes text) world.new) }
+/// Acts on a command.
+fn act(world: &mut World, command: Command, out: &mut String) -> Result<(), AllocError>
+    requires { string_bytes out.old ≡ [] }
+    ensures { OnOk result (Acts world.old command (string_bytes out.new) world.new) }
 {
     match command {
-        Command::Format(_) => unreachable!(),
-        Command::Do(actor, call) => reply_line(alloc, &make(world, actor, call)),
-        Command::Tree => tree(alloc, world),
+        Command::Do(actor, call) => push_reply(out, &make(world, actor, call)),
+        Command::Tree => show_tree(world, out),
     }
 }
 
@@ -89,11 +89,12 @@ fn make(world: &mut World, actor: u64, call: Call) -> Reply
 }
 
 /// The tree now, or a refusal for want of memory.
-fn tree(alloc: Global, world: &World) -> Result<String, AllocError>
-    ensures { IfOk result (λ text. ShowsTree world.now (string_bytes text) world.now) }
+fn show_tree(world: &World, out: &mut String) -> Result<(), AllocError>
+    requires { string_bytes out.old ≡ [] }
+    ensures { OnOk result (ShowsTree world.now (string_bytes out.new) world.now) }
 {
     match world.tree() {
-        Ok(tree) => tree_lines(alloc, tree.as_slice()),
-        Err(fault) => refused_line(alloc, &fault),
+        Ok(tree) => push_tree(out, tree.as_slice()),
+        Err(fault) => push_refused(out, &fault),
     }
 }

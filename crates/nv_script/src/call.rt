@@ -1,11 +1,11 @@
-//! The calls of a script: their names, how many words follow, and what these are. A new call is added here, beside
-//! the definitions of `call_named`, `call_words` and `call_with`.
+//! The calls of a script. A new call is a variant of `CallWord` with its row, and an arm of `read`, each beside the
+//! definition of the same name.
 
 ghost use Rattle.std.specs.Prelude.{◌≡◌};
-ghost use Rattle.nv_script.specs.Grammar.{Reads, call_named, call_with, call_words, texts, third_call};
+ghost use Rattle.nv_script.specs.Grammar.{Reads, all_calls, call_with, fields_in, name_in, named_among, row, texts, third_call};
 
 use crate::fault::LineFault;
-use crate::field::{handle_at, mode_at, number_at, text_at, word_at};
+use crate::field::{Field, handle_at, mode_at, number_at, text_at, word_at};
 use nv_base::ScriptFaultKind;
 use nv_core::Call;
 use std::alloc::Global;
@@ -18,19 +18,45 @@ pub(crate) enum CallWord {
     Read,
 }
 
+/// A row of the table of calls: the name, and what the words after it are.
+#[derive(Clone, Copy, Drop)]
+pub(crate) struct CallRow {
+    pub(crate) name: &'static [u8],
+    pub(crate) fields: &'static [Field],
+}
+
 impl CallWord {
+    const ALL: [CallWord; 3] = [CallWord::Create, CallWord::Write, CallWord::Read];
+
+    /// The table of calls.
+    pub(crate) fn row(self) -> CallRow
+        ensures name { result.name.now ≡ name_in (row self) }
+        ensures fields { result.fields.now ≡ fields_in (row self) }
+    {
+        match self {
+            CallWord::Create => CallRow {
+                name: b"create",
+                fields: &[Field::Handle, Field::Text, Field::Mode],
+            },
+            CallWord::Write => CallRow {
+                name: b"write",
+                fields: &[Field::Handle, Field::Number, Field::Text],
+            },
+            CallWord::Read => CallRow {
+                name: b"read",
+                fields: &[Field::Handle, Field::Number, Field::Number],
+            },
+        }
+    }
+
     /// The call of this name.
     fn named(name: &[u8]) -> Option<CallWord>
-        ensures { result ≡ call_named name.now }
+        ensures { result ≡ named_among all_calls name.now }
     {
-        if name == b"create".as_slice() {
-            return Some(CallWord::Create);
-        }
-        if name == b"write".as_slice() {
-            return Some(CallWord::Write);
-        }
-        if name == b"read".as_slice() {
-            return Some(CallWord::Read);
+        for call in CallWord::ALL {
+            if name == call.row().name {
+                return Some(call);
+            }
         }
         None
     }
@@ -43,17 +69,6 @@ impl CallWord {
             return Err(ScriptFaultKind::Count);
         }
         CallWord::named(word_at(words, 2)).ok_or(ScriptFaultKind::Word)
-    }
-
-    /// How many words follow the call's name.
-    pub(crate) fn words(self) -> usize
-        ensures { result ≡ call_words self }
-    {
-        match self {
-            CallWord::Create => 3,
-            CallWord::Write => 3,
-            CallWord::Read => 3,
-        }
     }
 
     /// The call of a line, whose own words stand from place 3 on.

@@ -1,22 +1,22 @@
-//! The commands of a script, read from the words of a line. A new command is added here, beside the definitions of
-//! `command_named`, `takes_words` and `command_with`, and acted on in `act`.
+//! What a line is, by its words: a `format`, or a command on a made world. A new command is a variant of
+//! `CommandWord` with its name and its words, and an arm of `read`, each beside the definition of the same name; it
+//! is acted on in `act`.
 
-ghost use Rattle.std.specs.Prelude.{◌≡◌, IsErr, false};
-ghost use Rattle.nv_script.specs.Grammar.{Reads, command_named, command_of, command_with, format_with, is_due, is_skipped, line_command, none_empty, takes_words, texts};
+ghost use Rattle.std.specs.Prelude.{◌≡◌, OnOk, true};
+ghost use Rattle.nv_script.specs.Grammar.{Reads, are_counted, called_count, command_of, command_with, format_of, head_of, is_skipped, none_empty, own_fields, texts, word_count};
+ghost use Rattle.nv_script.specs.Results.{Counts};
 
 use crate::call::CallWord;
 use crate::fault::LineFault;
-use crate::field::{number_at, setting_at, word_at};
-use crate::word::words;
+use crate::field::{Field, number_at, word_at};
+use crate::format::{FORMAT_WORDS, read_numbers};
 use nv_base::{GeometryNumbers, ScriptFaultKind};
 use nv_core::Call;
 use std::alloc::Global;
 
-/// A command of a script.
+/// A command on a made world.
 #[derive(Debug, Drop)]
 pub(crate) enum Command {
-    /// Makes the world.
-    Format(GeometryNumbers),
     /// An actor makes a call.
     Do(u64, Call),
     /// The tree now.
@@ -26,40 +26,59 @@ pub(crate) enum Command {
 /// A command by its name, with the call that it names.
 #[derive(Clone, Copy, Debug, PartialEq, Eq, Drop)]
 pub(crate) enum CommandWord {
-    Format,
     Do(CallWord),
     Tree,
 }
 
-/// The command of a line, which has no line end; none of an empty line or a comment. `made` says whether a
-/// world is made.
-pub(crate) fn line_command(
-    alloc: Global,
-    made: bool,
-    line: &[u8],
-) -> Result<Option<Command>, LineFault>
-    ensures command { Reads result (line_command made line.now) }
-    ensures some { IsErr result → is_skipped line.now ≡ false }
-{
-    if line.is_empty() || line[0] == b'#' {
-        return Ok(None);
-    }
-    let words = words(alloc, line)?;
-    Ok(Some(command_of(alloc, made, words.as_slice())?))
+/// What a line is by its first words.
+#[derive(Clone, Copy, Debug, PartialEq, Eq, Drop)]
+pub(crate) enum Head {
+    /// Makes the world.
+    Format,
+    Command(CommandWord),
 }
 
-/// The command of some words.
-fn command_of(alloc: Global, made: bool, words: &[&[u8]]) -> Result<Command, LineFault>
-    ensures { Reads result (command_of made (texts words.now)) }
+/// Whether a line is empty or a comment.
+pub(crate) fn is_skipped(line: &[u8]) -> bool
+    ensures { result ≡ is_skipped line.now }
 {
-    let word = CommandWord::named(words)?;
-    if !word.is_due(made) {
-        return Err(LineFault::Faulty(ScriptFaultKind::Order));
+    line.is_empty() || line[0] == b'#'
+}
+
+/// The numbers of a `format`, which alone is due while no world is made.
+pub(crate) fn read_format(words: &[&[u8]]) -> Result<GeometryNumbers, ScriptFaultKind>
+    ensures { result ≡ format_of (texts words.now) }
+{
+    match Head::named(words)? {
+        Head::Format => {
+            check_count(words, FORMAT_WORDS)?;
+            read_numbers(words)
+        }
+        Head::Command(_) => Err(ScriptFaultKind::Order),
     }
-    if !word.takes_words(words.len()) || !none_empty(words) {
-        return Err(LineFault::Faulty(ScriptFaultKind::Count));
+}
+
+/// The command of some words, where a world is made.
+pub(crate) fn read_command(alloc: Global, words: &[&[u8]]) -> Result<Command, LineFault>
+    ensures { Reads result (command_of (texts words.now)) }
+{
+    match Head::named(words)? {
+        Head::Format => Err(LineFault::Faulty(ScriptFaultKind::Order)),
+        Head::Command(command) => {
+            check_count(words, command.word_count())?;
+            command.read(alloc, words)
+        }
     }
-    word.read(alloc, words)
+}
+
+/// Whether there are so many words, and each has a byte.
+fn check_count(words: &[&[u8]], count: usize) -> Result<(), ScriptFaultKind>
+    ensures { Counts result (are_counted count (texts words.now)) }
+{
+    if words.len() != count || !none_empty(words) {
+        return Err(ScriptFaultKind::Count);
+    }
+    Ok(())
 }
 
 /// Whether each word has a byte.
@@ -74,43 +93,51 @@ fn none_empty(words: &[&[u8]]) -> bool
     true
 }
 
-impl CommandWord {
-    /// The command that the first words name.
-    fn named(words: &[&[u8]]) -> Result<CommandWord, ScriptFaultKind>
-        ensures { result ≡ command_named (texts words.now) }
+impl Head {
+    /// What the first words name.
+    fn named(words: &[&[u8]]) -> Result<Head, ScriptFaultKind>
+        ensures { result ≡ head_of (texts words.now) }
     {
         let name = word_at(words, 0);
         if name == b"format".as_slice() {
-            return Ok(CommandWord::Format);
+            return Ok(Head::Format);
         }
         if name == b"do".as_slice() {
-            return Ok(CommandWord::Do(CallWord::third(words)?));
+            return Ok(Head::Command(CommandWord::Do(CallWord::third(words)?)));
         }
         if name == b"tree".as_slice() {
-            return Ok(CommandWord::Tree);
+            return Ok(Head::Command(CommandWord::Tree));
         }
         Err(ScriptFaultKind::Word)
     }
+}
 
-    /// Whether the command may come next: `format` where no world is made, and any other where one is.
-    fn is_due(self, made: bool) -> bool
-        ensures { result ≡ is_due made self }
+impl CommandWord {
+    /// The words after the command's name, before those of its call.
+    fn own_fields(self) -> &'static [Field]
+        ensures { result.now ≡ own_fields self }
     {
         match self {
-            CommandWord::Format => !made,
-            _ => made,
+            CommandWord::Do(_) => &[Field::Number],
+            CommandWord::Tree => &[],
         }
     }
 
-    /// Whether a line of this command may have so many words.
-    fn takes_words(self, count: usize) -> bool
-        ensures { result ≡ takes_words self count }
+    /// How many words the name of a call and its own words are.
+    fn called_count(self) -> usize
+        ensures { result ≡ called_count self }
     {
         match self {
-            CommandWord::Format => count == 8,
-            CommandWord::Do(call) => count == 3 + call.words(),
-            CommandWord::Tree => count == 1,
+            CommandWord::Do(call) => 1 + call.row().fields.len(),
+            CommandWord::Tree => 0,
         }
+    }
+
+    /// How many words a line of this command has.
+    fn word_count(self) -> usize
+        ensures { result ≡ word_count self }
+    {
+        1 + self.own_fields().len() + self.called_count()
     }
 
     /// The command with all words of its line, read from left to right.
@@ -118,7 +145,6 @@ impl CommandWord {
         ensures { Reads result (command_with self (texts words.now)) }
     {
         match self {
-            CommandWord::Format => Ok(Command::Format(format_with(words)?)),
             CommandWord::Do(call) => Ok(Command::Do(
                 number_at(words, 1)?,
                 call.read(alloc, words)?,
@@ -126,19 +152,4 @@ impl CommandWord {
             CommandWord::Tree => Ok(Command::Tree),
         }
     }
-}
-
-/// The seven numbers of a `format`, in this order.
-fn format_with(words: &[&[u8]]) -> Result<GeometryNumbers, ScriptFaultKind>
-    ensures { result ≡ format_with (texts words.now) }
-{
-    Ok(GeometryNumbers {
-        blocks: setting_at(words, 1, b"blocks=")?,
-        cpus: setting_at(words, 2, b"cpus=")?,
-        block: setting_at(words, 3, b"block=")?,
-        page: setting_at(words, 4, b"page=")?,
-        inodes: setting_at(words, 5, b"inodes=")?,
-        snaps: setting_at(words, 6, b"snaps=")?,
-        actors: setting_at(words, 7, b"actors=")?,
-    })
 }

@@ -1,7 +1,10 @@
 //! The lines of a reader, taken one at a time through a chunk of fixed size.
-ghost use Rattle.std.specs.Prelude.{◌≡◌, ◌≢◌, ℕ, ◌+◌, ◌≤◌, ◌<◌, [], ◌∷◌, ◌++◌, length, take, slice_index, IfOk, IsErr, MatchResult, MatchOption, MatchBool};
+ghost use Rattle.std.specs.List.{Contains};
+ghost use Rattle.std.specs.Prelude.{◌≡◌, ◌≢◌, IsTrue, ℕ, ◌+◌, ◌≤◌, ◌<◌, [], ◌∷◌, ◌++◌, length, take, slice_index, IfOk, IsErr, MatchResult, MatchOption, MatchBool};
 ghost use Rattle.std.specs.Vec.{vec_capacity};
 ghost use Rattle.std.specs.Io.KnownBytes.{prepend_known, Consumes, Keeps, IsAtEnd};
+
+ghost use Rattle.nv_script.specs.Lines.{EndsLine};
 
 use std::alloc::{AllocError, Global};
 use std::io::Read;
@@ -33,22 +36,26 @@ pub(crate) enum Taken {
 #[derive(Clone, Copy, Debug, PartialEq, Eq, Drop)]
 pub(crate) struct ReadFailed;
 
-/// Bytes that were read ahead: those of `chunk` from `at` up to `end`.
+/// Bytes that were read ahead: those of `chunk` from `at` up to `end`. The last line end among them stands
+/// before `lines_end`, which is 0 where none was read.
 #[derive(Drop)]
 pub(crate) struct Feed {
     chunk: Vec<u8>,
     at: usize,
     end: usize,
+    lines_end: usize,
 }
 
 impl Model for Feed {
-    ghost use Rattle.std.specs.Prelude.{ℕ, List, ◌≤◌, ◌<◌, take, drop, length};
+    ghost use Rattle.std.specs.Prelude.{◌≡◌, ℕ, ◌+◌, List, ◌≤◌, ◌<◌, take, drop, length};
+    ghost use Rattle.nv_script.specs.Lines.{EndsLine};
 
     ghost Value = { List ℕ };
 
     ghost view = { λ feed. drop feed.at (take feed.end feed.chunk.items) };
 
-    ghost invariant = { λ feed. (feed.at ≤ feed.end) × (feed.end ≤ length feed.chunk.items) × (0 < length feed.chunk.items) };
+    ghost invariant = { λ feed. (feed.at ≤ feed.end) × (feed.end ≤ length feed.chunk.items) × (0 < length feed.chunk.items)
+        × EndsLine (take feed.end feed.chunk.items) feed.lines_end };
 }
 
 impl Feed {
@@ -63,7 +70,15 @@ impl Feed {
             chunk,
             at: 0,
             end: 0,
+            lines_end: 0,
         })
+    }
+
+    /// Whether the end of the next line is read ahead: to take that line needs no read then.
+    pub(crate) fn has_line(&self) -> bool
+        ensures { IsTrue result → Contains self.now LINE_END }
+    {
+        self.at < self.lines_end
     }
 
     /// Takes the next line into `line`, in place of what it held.
@@ -112,11 +127,14 @@ impl Feed {
         if self.at < self.end {
             return Ok(true);
         }
+        self.at = 0;
+        self.end = 0;
+        self.lines_end = 0;
         let Ok(count) = reader.read(self.chunk.as_mut_slice()) else {
             return Err(ReadFailed);
         };
-        self.at = 0;
         self.end = count;
+        self.lines_end = past_last_end(&self.chunk[..count]);
         Ok(count > 0)
     }
 
@@ -162,4 +180,14 @@ impl Feed {
         }
         bytes.len()
     }
+}
+
+/// The place behind the last line end of some bytes, or 0 where there is none.
+fn past_last_end(bytes: &[u8]) -> usize
+    ensures { EndsLine bytes.now result }
+{
+    bytes
+        .iter()
+        .rposition(|byte| *byte == LINE_END)
+        .map_or(0, |last| last + 1)
 }

@@ -10,6 +10,8 @@ mod command;
 mod fault;
 mod feed;
 mod field;
+mod format;
+mod outbox;
 mod script;
 mod send;
 #[cfg(test)]

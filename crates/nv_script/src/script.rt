@@ -1,30 +1,27 @@
 //! A whole script: bytes in, bytes out.
 
-ghost use Rattle.std.specs.Prelude.{◌≡◌};
-ghost use Rattle.nv_script.specs.Play.{PlaysScript};
-ghost use Rattle.nv_script.specs.Results.{ending_of};
+ghost use Rattle.std.specs.Prelude.{◌≡◌, ℕ, ◌+◌, ◌≤◌, List, [], Option, IfOk, MatchResult, None};
+ghost use Rattle.std.specs.Io.KnownBytes.{prepend_known};
+ghost use Rattle.std.specs.Vec.{vec_capacity};
+ghost use Rattle.nv_script.specs.Lines.{WritesFront, WritesSome};
+ghost use Rattle.nv_script.specs.Play.{Ends, PlaysScript};
+ghost use Rattle.nv_script.specs.Results.{AtLine, TurnIs, ending_of, is_line};
 
 use crate::act::play_line;
 use crate::fault::LineFault;
 use crate::feed::{Feed, MAX_LINE_BYTES, Taken};
-use crate::send::send;
+use crate::outbox::Outbox;
+use crate::send::WriteFailed;
 use nv_base::{Fault, ScriptFaultKind};
 use nv_core::World;
-use std::alloc::Global;
+use std::alloc::{AllocError, Global};
 use std::io::{Read, Write};
 
 /// The most lines of a script.
 const MAX_LINES: u64 = 1_048_576;
 
-/// How a line's fault ends the script.
-fn ending_of(number: u64, fault: LineFault) -> Fault
-    ensures { result ≡ ending_of number fault }
-{
-    match fault {
-        LineFault::OutOfMemory => Fault::OutOfMemory,
-        LineFault::Faulty(kind) => Fault::ScriptFault(number, kind),
-    }
-}
+/// The room for a line's text that is made at first. A longer text makes more.
+const TEXT_BYTES: usize = 4096;
 
 /// Plays a script: its lines are read, acted on and answered one after another, in bounded memory.
 ///
@@ -34,42 +31,144 @@ fn ending_of(number: u64, fault: LineFault) -> Fault
 /// words or their texts is refused. A format, call or tree whose own growth is refused is printed as refused and
 /// changes nothing, and the script goes on.
 ///
-/// Bytes are read ahead, so some of those past a fault may be gone from the reader. The writer is not flushed.
+/// Answers are gathered, and written before the reader is asked for more bytes, at the end, and where there is no
+/// room for more: so each answer is written before the next line is waited for, and a chunk of 64 KiB that is
+/// read takes one write. Bytes are read ahead, so some of those past a fault may be gone from the reader. The
+/// writer is not flushed.
 pub fn play<R: Read, W: Write>(alloc: Global, reader: &mut R, writer: &mut W) -> Result<(), Fault>
     ensures { PlaysScript result (R.remaining reader.old) (R.remaining reader.new)
         (W.contents writer.old) (W.contents writer.new) }
 {
-    let Ok(mut feed) = Feed::new(alloc) else {
+    let Ok(mut player) = Player::new(alloc) else {
         return Err(Fault::OutOfMemory);
     };
-    let Ok(mut line) = Vec::with_capacity(alloc, MAX_LINE_BYTES) else {
-        return Err(Fault::OutOfMemory);
+    let outcome = player.play_lines(alloc, reader, writer);
+    let Ok(()) = player.outbox.flush(writer) else {
+        return Err(Fault::Write);
     };
-    let mut world: Option<World> = None;
-    for number in 1..=MAX_LINES + 1 {
-        let Ok(taken) = feed.next_line(reader, &mut line) else {
-            return Err(Fault::Read);
-        };
-        if taken == Taken::End {
-            return Ok(());
+    outcome
+}
+
+/// A script while it is played: what is read ahead, the line that was taken last and its text, what is to be
+/// written, and the world.
+#[derive(Drop)]
+struct Player {
+    feed: Feed,
+    line: Vec<u8>,
+    text: String,
+    outbox: Outbox,
+    world: Option<World>,
+    ghost room: { 4096 ≤ vec_capacity line },
+}
+
+impl Player {
+    /// Nothing is read ahead, and no world is made.
+    fn new(alloc: Global) -> Result<Player, AllocError>
+        ensures ahead { IfOk result (λ player. player.feed ≡ []) }
+        ensures gathered { IfOk result (λ player. player.outbox ≡ []) }
+        ensures world { IfOk result (λ player. player.world ≡ None) }
+    {
+        Ok(Player {
+            feed: Feed::new(alloc)?,
+            line: Vec::with_capacity(alloc, MAX_LINE_BYTES)?,
+            text: String::with_capacity(alloc, TEXT_BYTES)?,
+            outbox: Outbox::new(alloc)?,
+            world: None,
+        })
+    }
+
+    /// Plays all lines. Of their text, the last may still be gathered.
+    fn play_lines<R: Read, W: Write>(
+        &mut self,
+        alloc: Global,
+        reader: &mut R,
+        writer: &mut W,
+    ) -> Result<(), Fault>
+        requires ahead { self.old.feed ≡ [] }
+        requires gathered { self.old.outbox ≡ [] }
+        requires world { self.old.world ≡ None }
+        ensures { Ends result (R.remaining reader.old) (R.remaining reader.new)
+            (λ text. WritesFront (W.contents writer.old) (W.contents writer.new) text self.new.outbox) }
+    {
+        for number in 1..=MAX_LINES + 1 {
+            if !self.turn(alloc, number, reader, writer)? {
+                return Ok(());
+            }
         }
-        if number > MAX_LINES {
-            return Err(Fault::ScriptFault(number, ScriptFaultKind::Lines));
-        }
-        if taken == Taken::Long {
-            return Err(Fault::ScriptFault(number, ScriptFaultKind::Long));
-        }
-        if taken == Taken::Unended {
-            return Err(Fault::ScriptFault(number, ScriptFaultKind::Unended));
-        }
-        let text = match play_line(alloc, &mut world, line.as_slice()) {
-            Ok(text) => text,
-            Err(fault) => return Err(ending_of(number, fault)),
-        };
-        let Ok(()) = send(writer, text.as_bytes()) else {
+        // The turn past the last line always returns.
+        unreachable!()
+    }
+
+    /// Plays the line of this number, and says whether there is one.
+    fn turn<R: Read, W: Write>(
+        &mut self,
+        alloc: Global,
+        number: u64,
+        reader: &mut R,
+        writer: &mut W,
+    ) -> Result<bool, Fault>
+        requires { number ≤ MAX_LINES + 1 }
+        ensures { (input old : Option (List ℕ))
+            → AtLine input (prepend_known self.old.feed (R.remaining reader.old))
+                old (W.contents writer.old) self.old.outbox number self.old.world
+            → TurnIs result input (R.remaining reader.new) (prepend_known self.new.feed (R.remaining reader.new))
+                old (W.contents writer.new) self.new.outbox number self.new.world }
+    {
+        let Ok(()) = write_before_read(&self.feed, &mut self.outbox, writer) else {
             return Err(Fault::Write);
         };
+        let Ok(taken) = self.feed.next_line(reader, &mut self.line) else {
+            return Err(Fault::Read);
+        };
+        if !is_line(number, taken)? {
+            return Ok(false);
+        }
+        let played = play_line(alloc, &mut self.world, self.line.as_slice(), &mut self.text);
+        if let Err(fault) = played {
+            return Err(ending_of(number, fault));
+        }
+        let Ok(()) = self.outbox.add(writer, self.text.as_bytes()) else {
+            return Err(Fault::Write);
+        };
+        Ok(true)
     }
-    // The turn past the last line always returns.
-    unreachable!()
+}
+
+/// Writes what is gathered, where the reader is to be asked for the next line.
+fn write_before_read<W: Write>(
+    feed: &Feed,
+    outbox: &mut Outbox,
+    writer: &mut W,
+) -> Result<(), WriteFailed>
+    ensures { MatchResult result
+        (λ _. WritesFront (W.contents writer.old) (W.contents writer.new) outbox.old outbox.new)
+        (λ _. WritesSome (W.contents writer.old) (W.contents writer.new) outbox.old × (outbox.new ≡ [])) }
+{
+    if feed.has_line() {
+        return Ok(());
+    }
+    outbox.flush(writer)
+}
+
+/// Whether what was taken is a line to play. It is none at the end of the bytes; else it ends the script by a fault.
+fn is_line(number: u64, taken: Taken) -> Result<bool, Fault>
+    ensures { result ≡ is_line number taken }
+{
+    match taken {
+        Taken::End => Ok(false),
+        _ if number > MAX_LINES => Err(Fault::ScriptFault(number, ScriptFaultKind::Lines)),
+        Taken::Line => Ok(true),
+        Taken::Long => Err(Fault::ScriptFault(number, ScriptFaultKind::Long)),
+        Taken::Unended => Err(Fault::ScriptFault(number, ScriptFaultKind::Unended)),
+    }
+}
+
+/// How a line's fault ends the script.
+fn ending_of(number: u64, fault: LineFault) -> Fault
+    ensures { result ≡ ending_of number fault }
+{
+    match fault {
+        LineFault::OutOfMemory => Fault::OutOfMemory,
+        LineFault::Faulty(kind) => Fault::ScriptFault(number, kind),
+    }
 }

@@ -1,7 +1,7 @@
 //! Writes that stop at the first failure.
-ghost use Rattle.std.specs.Prelude.{◌≡◌, ℕ, List, MatchResult};
+ghost use Rattle.std.specs.Prelude.{MatchResult};
 ghost use Rattle.std.specs.Io.KnownBytes.{Appends};
-ghost use Rattle.nv_script.specs.Lines.{IsCutOff};
+ghost use Rattle.nv_script.specs.Lines.{WritesSome};
 
 use std::io::Write;
 
@@ -13,7 +13,7 @@ pub(crate) struct WriteFailed;
 pub(crate) fn send<W: Write>(writer: &mut W, bytes: &[u8]) -> Result<(), WriteFailed>
     ensures { MatchResult result
         (λ _. Appends (W.contents writer.old) (W.contents writer.new) bytes.now)
-        (λ _. (sent : List ℕ) × IsCutOff sent bytes.now × Appends (W.contents writer.old) (W.contents writer.new) sent) }
+        (λ _. WritesSome (W.contents writer.old) (W.contents writer.new) bytes.now) }
 {
     let mut rest = bytes;
     while !rest.is_empty() {

@@ -18,11 +18,11 @@ pub fn fault_text(alloc: Global, fault: &Fault) -> Result<String, AllocError>
     format!(in alloc; "{fault}")
 }
 
-/// The line of a refusal.
-pub(crate) fn refused_line(alloc: Global, fault: &Fault) -> Result<String, AllocError>
-    ensures { IfOk result (λ text. string_bytes text ≡ refused_line fault.now) }
+/// Adds the line of a refusal.
+pub(crate) fn push_refused(out: &mut String, fault: &Fault) -> Result<(), AllocError>
+    ensures { OnOk result (string_bytes out.new ≡ string_bytes out.old ++ refused_line fault.now) }
 {
-    format!(in alloc; "refused {fault}\n")
+    write!(out, "refused {fault}\n")
 }
 
 /// Adds how many bytes there are, and the bytes, if there are any.
@@ -52,24 +52,23 @@ fn push_answer(out: &mut String, answer: &Answer) -> Result<(), AllocError>
     }
 }
 
-/// The line of an answer.
-fn done_line(alloc: Global, answer: &Answer) -> Result<String, AllocError>
-    ensures { IfOk result (λ text. string_bytes text ≡ reply_line (Reply.Done answer.now)) }
+/// Adds the line of an answer.
+fn push_done(out: &mut String, answer: &Answer) -> Result<(), AllocError>
+    ensures { OnOk result (string_bytes out.new ≡ string_bytes out.old ++ reply_line (Reply.Done answer.now)) }
 {
-    let mut out = String::from_str(alloc, "done ")?;
-    push_answer(&mut out, answer)?;
-    out.push_str("\n")?;
-    Ok(out)
+    out.push_str("done ")?;
+    push_answer(out, answer)?;
+    out.push_str("\n")
 }
 
-/// The line of a reply.
-pub(crate) fn reply_line(alloc: Global, reply: &Reply) -> Result<String, AllocError>
-    ensures { IfOk result (λ text. string_bytes text ≡ reply_line reply.now) }
+/// Adds the line of a reply.
+pub(crate) fn push_reply(out: &mut String, reply: &Reply) -> Result<(), AllocError>
+    ensures { OnOk result (string_bytes out.new ≡ string_bytes out.old ++ reply_line reply.now) }
 {
     match reply {
-        Reply::Started => String::from_str(alloc, "started\n"),
-        Reply::Done(answer) => done_line(alloc, answer),
-        Reply::Refused(fault) => refused_line(alloc, fault),
+        Reply::Started => out.push_str("started\n"),
+        Reply::Done(answer) => push_done(out, answer),
+        Reply::Refused(fault) => push_refused(out, fault),
     }
 }
 
@@ -130,12 +129,10 @@ fn push_nodes(out: &mut String, nodes: &[TreeNode]) -> Result<(), AllocError>
     Ok(())
 }
 
-/// The lines of a tree.
-pub(crate) fn tree_lines(alloc: Global, nodes: &[TreeNode]) -> Result<String, AllocError>
-    ensures { IfOk result (λ text. string_bytes text ≡ tree_lines nodes.now) }
+/// Adds the lines of a tree.
+pub(crate) fn push_tree(out: &mut String, nodes: &[TreeNode]) -> Result<(), AllocError>
+    ensures { OnOk result (string_bytes out.new ≡ string_bytes out.old ++ tree_lines nodes.now) }
 {
-    let mut out = String::new(alloc);
-    push_nodes(&mut out, nodes)?;
-    out.push_str("end\n")?;
-    Ok(out)
+    push_nodes(out, nodes)?;
+    out.push_str("end\n")
 }
