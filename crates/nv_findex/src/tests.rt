@@ -1,79 +1,104 @@
 //! What no clause of the index says.
 
-use crate::slot_index::SlotIndex;
-use crate::{FileIndex, PageRef};
+use crate::{FileIndex, PageRef, PageRun};
+use nv_base::limits::FILE_PAGES;
 use nv_base::{CommitNo, EntryId, Fault};
+use std::alloc::Global;
 use std::process::Abort;
 use std::test::Fail;
 
-fn entry(commit: u64, place: u32) -> EntryId {
-    EntryId {
-        commit: CommitNo::new(commit),
+fn place_of(commit: u64, number: u32, place: u32) -> PageRef {
+    PageRef {
+        entry: EntryId {
+            commit: CommitNo::new(commit),
+            place: number,
+        },
         place,
     }
 }
 
-fn place_of(entry: EntryId, place: u32) -> Option<PageRef> {
-    Some(PageRef { entry, place })
+/// What an index says of itself and its pages.
+fn sizes(index: &FileIndex) -> (usize, usize, u32) {
+    (index.run_count(), index.room(), index.present_from(0))
+}
+
+/// A write to pages of an entry. A refused growth changes nothing and is asked for again.
+fn write(rt: &impl Abort, index: &mut FileIndex, first: u32, len: u32, entry: EntryId) -> Result<(), Fault> {
+    assert!(rt; 0 < len && len <= FILE_PAGES && first <= FILE_PAGES - len);
+    let before = sizes(index);
+    if let Err(fault) = index.reserve_for(1) {
+        assert_eq!(rt; fault, Fault::OutOfMemory);
+        assert_eq!(rt; sizes(index), before);
+        index.reserve_for(1)?;
+    }
+    index.set_run(first, len, entry);
+    Ok(())
+}
+
+/// Writes, each with the runs that the index has after it.
+fn write_all(rt: &impl Abort, index: &mut FileIndex, writes: &[(u32, u32, PageRef, usize)]) -> Result<(), Fault> {
+    for (first, len, start, runs) in writes {
+        write(rt, index, *first, *len, start.entry)?;
+        assert_eq!(rt; index.run_count(), *runs);
+    }
+    Ok(())
 }
 
 #[test]
 fn three_writes_make_one_three_and_five_runs(rt: HostRuntime) -> Result<(), Fail> {
     let mut index = FileIndex::new(rt.alloc());
-    assert_eq!(rt; index.run_count(), 0);
-    index.reserve_for(1)?;
-    index.set_run(0, 3, entry(2, 0));
-    assert_eq!(rt; index.run_count(), 1);
-    index.reserve_for(1)?;
-    index.set_run(1, 1, entry(3, 0));
-    assert_eq!(rt; index.run_count(), 3);
-    index.reserve_for(2)?;
-    index.set_run(3, 1, entry(4, 0));
-    index.set_run(4, 1, entry(4, 1));
-    assert_eq!(rt; index.run_count(), 5);
-    assert_eq!(rt; index.at(0), place_of(entry(2, 0), 0));
-    assert_eq!(rt; index.at(1), place_of(entry(3, 0), 0));
-    assert_eq!(rt; index.at(2), place_of(entry(2, 0), 2));
-    assert_eq!(rt; index.at(3), place_of(entry(4, 0), 0));
-    assert_eq!(rt; index.at(4), place_of(entry(4, 1), 0));
-    assert_eq!(rt; index.at(5), None);
+    assert_eq!(rt; sizes(&index), (0, 0, 0));
+    let [first, second] = [place_of(2, 0, 0), place_of(3, 0, 0)];
+    let third = [place_of(4, 0, 0), place_of(4, 1, 0)];
+    write_all(&rt, &mut index, &[(0, 3, first, 1), (1, 1, second, 3), (3, 1, third[0], 4), (4, 1, third[1], 5)])?;
+    let rows = [
+        (0, 1, first, 5),
+        (1, 2, second, 4),
+        (2, 3, place_of(2, 0, 2), 3),
+        (3, 4, third[0], 2),
+        (4, 5, third[1], 1),
+    ];
+    for (page, end, start, left) in rows {
+        assert_eq!(rt; index.at(page), Some(start));
+        assert_eq!(rt; index.next_from(page), Some((page, start)));
+        let run = PageRun {
+            first: page,
+            end,
+            start,
+        };
+        assert_eq!(rt; index.run_from(page), Some(run));
+        assert_eq!(rt; index.present_from(page), left);
+    }
+    for page in [5, 65_535, 65_536, u32::MAX] {
+        assert_eq!(rt; index.at(page), None);
+        assert_eq!(rt; index.next_from(page), None);
+        assert_eq!(rt; index.run_from(page), None);
+        assert_eq!(rt; index.present_from(page), 0);
+    }
     Ok(())
 }
 
 #[test]
 fn the_last_page_of_an_empty_file_is_one_run(rt: HostRuntime) -> Result<(), Fail> {
     let mut index = FileIndex::new(rt.alloc());
-    assert_eq!(rt; index.room(), 0);
-    index.reserve_for(1)?;
-    index.set_run(65_535, 1, entry(7, 2));
-    assert_eq!(rt; index.run_count(), 1);
+    let start = place_of(7, 2, 0);
+    write_all(&rt, &mut index, &[(65_535, 1, start, 1)])?;
     assert_eq!(rt; index.at(65_534), None);
-    assert_eq!(rt; index.at(65_535), place_of(entry(7, 2), 0));
-    assert_eq!(rt;
-        index.next_from(0),
-        Some((
-            65_535,
-            PageRef {
-                entry: entry(7, 2),
-                place: 0
-            }
-        ))
-    );
-    assert_eq!(rt; index.next_from(65_536), None);
+    assert_eq!(rt; index.at(65_535), Some(start));
+    assert_eq!(rt; index.next_from(0), Some((65_535, start)));
+    assert_eq!(rt; index.run_from(0).map(|run| run.page_count()), Some(1));
     index.cut_from(65_535);
-    assert_eq!(rt; index.run_count(), 0);
     assert_eq!(rt; index.next_from(0), None);
+    assert_eq!(rt; index.run_count(), 0);
     Ok(())
 }
 
 #[test]
 fn a_run_written_again_joins_what_is_left_of_it(rt: HostRuntime) -> Result<(), Fail> {
     let mut index = FileIndex::new(rt.alloc());
-    index.reserve_for(2)?;
-    index.set_run(10, 6, entry(2, 0));
-    index.set_run(10, 2, entry(2, 0));
-    assert_eq!(rt; index.run_count(), 1);
-    assert_eq!(rt; index.at(12), place_of(entry(2, 0), 2));
+    let start = place_of(2, 0, 0);
+    write_all(&rt, &mut index, &[(10, 6, start, 1), (10, 2, start, 1)])?;
+    assert_eq!(rt; index.at(12), Some(place_of(2, 0, 2)));
     Ok(())
 }
 
@@ -81,10 +106,10 @@ fn a_run_written_again_joins_what_is_left_of_it(rt: HostRuntime) -> Result<(), F
 fn room_for_three_writes_lasts_for_three(rt: HostRuntime) -> Result<(), Fail> {
     let mut index = FileIndex::new(rt.alloc());
     index.reserve_for(3)?;
-    index.set_run(0, 30, entry(2, 0));
-    index.set_run(10, 10, entry(3, 0));
+    index.set_run(0, 30, place_of(2, 0, 0).entry);
+    index.set_run(10, 10, place_of(3, 0, 0).entry);
     index.cut_from(25);
-    index.set_run(12, 2, entry(4, 0));
+    index.set_run(12, 2, place_of(4, 0, 0).entry);
     assert_eq!(rt; index.run_count(), 5);
     Ok(())
 }
@@ -92,84 +117,118 @@ fn room_for_three_writes_lasts_for_three(rt: HostRuntime) -> Result<(), Fail> {
 #[test]
 fn a_refused_growth_changes_nothing(rt: HostRuntime) -> Result<(), Fail> {
     let mut index = FileIndex::new(rt.alloc());
-    index.reserve_for(1)?;
-    index.set_run(4, 2, entry(2, 0));
-    let room = index.room();
+    write_all(&rt, &mut index, &[(4, 2, place_of(2, 0, 0), 1)])?;
+    let before = sizes(&index);
     for runs in [usize::MAX, usize::MAX / 2, 1 << 62] {
         assert_eq!(rt; index.reserve_for(runs), Err(Fault::OutOfMemory));
-        assert_eq!(rt; index.room(), room);
+        assert_eq!(rt; sizes(&index), before);
     }
-    if let Err(fault) = index.reserve_for(room + 1) {
-        assert_eq!(rt; fault, Fault::OutOfMemory);
-        assert_eq!(rt; index.room(), room);
-    }
-    assert_eq!(rt; index.run_count(), 1);
     assert_eq!(rt; index.at(3), None);
-    assert_eq!(rt; index.at(5), place_of(entry(2, 0), 1));
+    assert_eq!(rt; index.at(5), Some(place_of(2, 0, 1)));
     Ok(())
 }
 
-/// Whether a page begins a run, behind another.
-fn begins_run(before: Option<PageRef>, page: Option<PageRef>) -> bool {
-    match (before, page) {
-        (_, None) => false,
-        (None, Some(_)) => true,
-        (Some(before), Some(page)) => {
-            before.entry != page.entry || page.place.checked_sub(1) != Some(before.place)
+/// A slot for each page that a file may have: the plain form of an index.
+fn no_pages(alloc: Global) -> Result<Vec<Option<PageRef>>, Fault> {
+    let mut slots = Vec::new(alloc);
+    slots.resize(FILE_PAGES as usize, None)?;
+    Ok(slots)
+}
+
+fn fill(slots: &mut [Option<PageRef>], first: u32, len: u32, entry: EntryId) {
+    for place in 0..len {
+        if let Some(slot) = slots.get_mut(first.saturating_add(place) as usize) {
+            *slot = Some(PageRef { entry, place });
         }
     }
 }
 
-/// How many runs the pages make, by a look at each.
-fn runs_of(slots: &SlotIndex) -> usize {
-    let first = usize::from(slots.at(0).is_some());
-    first
-        + (1..65_536u32)
-            .filter(|page| begins_run(slots.at(*page - 1), slots.at(*page)))
-            .count()
+fn clear(slots: &mut [Option<PageRef>], from: u32) {
+    for page in from..FILE_PAGES {
+        if let Some(slot) = slots.get_mut(page as usize) {
+            *slot = None;
+        }
+    }
 }
 
-fn assert_same(rt: &impl Abort, index: &FileIndex, slots: &SlotIndex) {
-    for page in 0..100 {
-        assert_eq!(rt; index.at(page), slots.at(page), "page {page}");
+fn slot(slots: &[Option<PageRef>], page: u32) -> Option<PageRef> {
+    slots.get(page as usize).copied().flatten()
+}
+
+/// Whether a page and the one behind it are of one run.
+fn is_joined(slots: &[Option<PageRef>], page: u32) -> bool {
+    match (slot(slots, page), slot(slots, page.saturating_add(1))) {
+        (Some(page), Some(next)) => {
+            page.entry == next.entry && page.place.checked_add(1) == Some(next.place)
+        }
+        _ => false,
     }
-    let mut from = 0;
-    for _step in 0..110 {
-        let next = index.next_from(from);
-        assert_eq!(rt; next, slots.next_from(from), "from page {from}");
-        let Some((page, _place)) = next else {
-            break;
-        };
-        from = page + 1;
+}
+
+/// The runs of all pages, by a look at each slot.
+fn runs_of(alloc: Global, slots: &[Option<PageRef>]) -> Result<Vec<PageRun>, Fault> {
+    let mut runs: Vec<PageRun> = Vec::new(alloc);
+    for first in 0..FILE_PAGES {
+        let end = first + 1;
+        if let Some(start) = slot(slots, first) {
+            match runs.last_mut() {
+                Some(run) if is_joined(slots, first.saturating_sub(1)) => run.end = end,
+                _ => runs.push(PageRun { first, end, start })?,
+            }
+        }
     }
-    assert_eq!(rt; index.run_count(), runs_of(slots));
+    Ok(runs)
+}
+
+fn assert_same(rt: &impl Abort, alloc: Global, index: &FileIndex, slots: &[Option<PageRef>]) -> Result<(), Fault> {
+    let runs = runs_of(alloc, slots)?;
+    assert_eq!(rt; index.run_count(), runs.len());
+    for page in (0..100).chain(65_530..65_540) {
+        let run = runs.iter().find(|run| page < run.end).copied();
+        assert_eq!(rt; index.run_from(page), run, "from page {page}");
+        assert_eq!(rt; index.at(page), slot(slots, page), "page {page}");
+        let found = run.map(|run| run.first.max(page));
+        let next = found.and_then(|page| slot(slots, page).map(|at| (page, at)));
+        assert_eq!(rt; index.next_from(page), next, "from page {page}");
+    }
+    for page in [0, 1, 20, 50, 90, 65_530, 65_536] {
+        let present = (page..FILE_PAGES).filter(|page| slot(slots, *page).is_some());
+        assert_eq!(rt; index.present_from(page) as usize, present.count(), "from page {page}");
+    }
+    Ok(())
 }
 
 #[test]
 fn runs_and_slots_answer_alike(rt: HostRuntime) -> Result<(), Fail> {
     let mut index = FileIndex::new(rt.alloc());
-    let mut slots = SlotIndex::new(rt.alloc())?;
+    let mut slots = no_pages(rt.alloc())?;
     let mut state: u32 = 1;
     for call in 0..160u64 {
         state = state.wrapping_mul(1_103_515_245).wrapping_add(12_345);
-        let first = (state >> 8) % 90;
         let len = 1 + (state >> 20) % 9;
+        let first = if state >> 12 & 15 == 0 {
+            65_536 - len
+        } else {
+            (state >> 8) % 90
+        };
+        let entry = place_of(call / 5, 0, 0).entry;
         if state >> 16 & 15 == 0 {
             index.cut_from(first);
-            slots.cut_from(first);
+            clear(&mut slots, first);
         } else {
-            let from = if state >> 12 & 15 == 0 {
-                65_536 - len
-            } else {
-                first
-            };
-            index.reserve_for(1)?;
-            index.set_run(from, len, entry(call / 5, 0));
-            slots.set_run(from, len, entry(call / 5, 0));
+            write(&rt, &mut index, first, len, entry)?;
+            fill(&mut slots, first, len, entry);
         }
         if call % 10 == 9 {
-            assert_same(&rt, &index, &slots);
+            assert_same(&rt, rt.alloc(), &index, &slots)?;
         }
     }
     Ok(())
+}
+
+fn crosses_threads<T: Send + Sync>(_: &T) {}
+
+#[test]
+fn an_index_crosses_threads(rt: HostRuntime) {
+    crosses_threads(&FileIndex::new(rt.alloc()));
 }

@@ -1,61 +1,120 @@
-use Rattle.std.proofs.Common.{◌∙◌, ◌++◌, ap, arith, drop, List}
-use Rattle.nv_findex.specs.declared.runs.Run.{Run}
-use Rattle.nv_findex.specs.Runs.{put_run, pages_below}
-use Rattle.nv_findex.proofs.Kept.{apart_split, length_split, parted, Parted, removed, Removed}
+use Rattle.std.proofs.Common.{◌≡◌, ◌∙◌, ℕ, ◌+◌, ◌<◌, ◌≤◌, ap, sym, subst, arith, refl, List, [], ◌∷◌, ◌++◌, length, take, drop, slice_get, Some, None}
+use Rattle.std.proofs.lemmas.List.{drop_all, length-drop, length-take}
+use Rattle.std.proofs.lemmas.Option.{slice_get_within}
+use Rattle.nv_findex.specs.declared.page_run.PageRun.{PageRun}
+use Rattle.nv_findex.specs.Pages.{IsRun}
+use Rattle.nv_findex.specs.Runs.{AreRuns, BeginFrom, IsBorder, goes_on_in, rest_from}
+use Rattle.nv_findex.proofs.Refs.{past_read}
+use Rattle.nv_findex.proofs.Whole.{run_from, some_from}
+use Rattle.nv_findex.proofs.Put.{IsFrom, IsTop, border_order, from_none, from_some, top_apart, top_joined, spliced}
 use Rattle.nv_findex.proofs.runs.put.Goals as goal
 
-pub split-to-requires-clause-apart : goal.split-to-requires-clause-apart
-split-to-requires-clause-apart c = apart_split c.args.run.first c.split-at.result c.args.runs.now.items c.split-at.new.runs.items c.requires.apart c.split-at.ensures.below c.split-at.ensures.from
+-- the borders of a run, and the run at the second one
+record Follows (r : PageRun) (rs : List PageRun) (at to : ℕ) (next : PageRun) : Type 0 where
+  order : at ≤ to
+  within : to < length rs
+  whole : IsRun next
+  past : r.end < next.end
+  from : IsFrom r.end rs (rest_from r.end next ∷ drop (to + 1) rs)
 
-pub split-to-requires-clause-room : goal.split-to-requires-clause-room
-split-to-requires-clause-room c =
-    let before = c.args.runs.now.ok.0 in
-    let after = c.split-at.new.runs.ok.0 in
-    omega (arith, before, after, length_split c.args.run.first c.split-at.result c.args.runs.now.items c.split-at.new.runs.items c.split-at.ensures.below c.split-at.ensures.from)
+follows : (r : PageRun) (rs xs ys zs : List PageRun) (at to : ℕ) (next : PageRun) → AreRuns rs → IsRun r → xs ≡ rs → ys ≡ rs → zs ≡ rs
+    → IsBorder r.first xs at → IsBorder r.end ys to → slice_get zs to ≡ Some next → Follows r rs at to next
+follows r rs xs ys zs at to next h k x y z first last read =
+    let low : IsBorder r.first rs at = subst (λ (l : List PageRun). IsBorder r.first l at) x first in
+    let high : IsBorder r.end rs to = subst (λ (l : List PageRun). IsBorder r.end l to) y last in
+    let some : slice_get rs to ≡ Some next = ap (λ (l : List PageRun). slice_get l to) (sym z) ∙ read in
+    record {
+      order = border_order r.first r.end rs at to (omega (arith, k.some)) low.within low.ended high.behind;
+      within = slice_get_within rs to next some;
+      whole = (run_from r.end rs to (Some next) h high some).1;
+      past = some_from r.end rs to next high some;
+      from = from_some r.end rs to next h high some;
+    }
 
-pub remove_range-requires-clause-order : goal.remove_range-requires-clause-order
-remove_range-requires-clause-order c =
-    let once = c.split-at.new.runs.ok.0 in
-    let twice = c.split-to.new.runs.ok.0 in
-    let h : Parted c.args.run.first c.args.run.end c.split-at.result c.split-to.result c.args.runs.now.items c.split-to.new.runs.items =
-    parted c.args.run.first c.args.run.end c.split-at.result c.split-to.result c.args.runs.now.items c.split-at.new.runs.items c.split-to.new.runs.items
-    (omega (arith, c.requires.run)) (omega (arith, once)) (omega (arith, twice)) c.split-at.ensures.below c.split-at.ensures.from c.split-to.ensures.below c.split-to.ensures.from in
-    h.order
+pub rest_from-next-requires-clause-run : goal.rest_from-next-requires-clause-run
+rest_from-next-requires-clause-run c =
+    let f = follows c.args.run c.args.runs.now.items _ _ _ c.ended_by-at.result c.ended_by-to.result c.in-Some.next c.requires.runs c.requires.run
+    c.deref.ensures.value c.deref-2.ensures.value c.deref-3.ensures.value c.ended_by-at.ensures c.ended_by-to.ensures (sym c.get-next.ensures ∙ c.in-Some.is) in
+    f.whole
 
-pub join_at-requires-clause-within : goal.join_at-requires-clause-within
-join_at-requires-clause-within c =
-    let once = c.split-at.new.runs.ok.0 in
-    let twice = c.split-to.new.runs.ok.0 in
-    let h : Parted c.args.run.first c.args.run.end c.split-at.result c.split-to.result c.args.runs.now.items c.split-to.new.runs.items =
-    parted c.args.run.first c.args.run.end c.split-at.result c.split-to.result c.args.runs.now.items c.split-at.new.runs.items c.split-to.new.runs.items
-    (omega (arith, c.requires.run)) (omega (arith, once)) (omega (arith, twice)) c.split-at.ensures.below c.split-at.ensures.from c.split-to.ensures.below c.split-to.ensures.from in
-    let r : Removed c.args.run.first c.args.run.end c.split-at.result c.args.runs.now.items c.remove_range.new.runs.items =
-    removed c.args.run.first c.args.run.end c.split-at.result c.split-to.result c.args.runs.now.items c.split-to.new.runs.items c.remove_range.new.runs.items h (omega (arith, twice)) c.remove_range.ensures.items in
-    let left = c.remove_range.new.runs.ok.0 in
-    omega (arith, left, r.within)
+pub rest_from-next-requires-clause-end : goal.rest_from-next-requires-clause-end
+rest_from-next-requires-clause-end c =
+    let f = follows c.args.run c.args.runs.now.items _ _ _ c.ended_by-at.result c.ended_by-to.result c.in-Some.next c.requires.runs c.requires.run
+    c.deref.ensures.value c.deref-2.ensures.value c.deref-3.ensures.value c.ended_by-at.ensures c.ended_by-to.ensures (sym c.get-next.ensures ∙ c.in-Some.is) in
+    f.past
 
-pub join_at-requires-clause-room : goal.join_at-requires-clause-room
-join_at-requires-clause-room c =
-    let once = c.split-at.new.runs.ok.0 in
-    let twice = c.split-to.new.runs.ok.0 in
-    let h : Parted c.args.run.first c.args.run.end c.split-at.result c.split-to.result c.args.runs.now.items c.split-to.new.runs.items =
-    parted c.args.run.first c.args.run.end c.split-at.result c.split-to.result c.args.runs.now.items c.split-at.new.runs.items c.split-to.new.runs.items
-    (omega (arith, c.requires.run)) (omega (arith, once)) (omega (arith, twice)) c.split-at.ensures.below c.split-at.ensures.from c.split-to.ensures.below c.split-to.ensures.from in
-    let r : Removed c.args.run.first c.args.run.end c.split-at.result c.args.runs.now.items c.remove_range.new.runs.items =
-    removed c.args.run.first c.args.run.end c.split-at.result c.split-to.result c.args.runs.now.items c.split-to.new.runs.items c.remove_range.new.runs.items h (omega (arith, twice)) c.remove_range.ensures.items in
-    let before = c.args.runs.now.ok.0 in
-    let left = c.remove_range.new.runs.ok.0 in
-    omega (arith, before, left, r.room)
+pub splice-requires-then-goes_on-clause-order : goal.splice-requires-then-goes_on-clause-order
+splice-requires-then-goes_on-clause-order c =
+    let f = follows c.args.run c.args.runs.now.items _ _ _ c.ended_by-at.result c.ended_by-to.result c.in-Some.next c.requires.runs c.requires.run
+    c.deref.ensures.value c.deref-2.ensures.value c.deref-3.ensures.value c.ended_by-at.ensures c.ended_by-to.ensures (sym c.get-next.ensures ∙ c.in-Some.is) in
+    omega (arith, f.order, c.keep_below-at.ensures.one)
 
-pub returns-clause-pages : goal.returns-clause-pages
-returns-clause-pages c =
-    let once = c.split-at.new.runs.ok.0 in
-    let twice = c.split-to.new.runs.ok.0 in
-    let h : Parted c.args.run.first c.args.run.end c.split-at.result c.split-to.result c.args.runs.now.items c.split-to.new.runs.items =
-    parted c.args.run.first c.args.run.end c.split-at.result c.split-to.result c.args.runs.now.items c.split-at.new.runs.items c.split-to.new.runs.items
-    (omega (arith, c.requires.run)) (omega (arith, once)) (omega (arith, twice)) c.split-at.ensures.below c.split-at.ensures.from c.split-to.ensures.below c.split-to.ensures.from in
-    let r : Removed c.args.run.first c.args.run.end c.split-at.result c.args.runs.now.items c.remove_range.new.runs.items =
-    removed c.args.run.first c.args.run.end c.split-at.result c.split-to.result c.args.runs.now.items c.split-to.new.runs.items c.remove_range.new.runs.items h (omega (arith, twice)) c.remove_range.ensures.items in
-    c.join_at.ensures.items
-    ∙ ap (λ (l : List Run). l ++ put_run c.args.run (drop c.split-at.result c.remove_range.new.runs.items)) r.below
-    ∙ ap (λ (l : List Run). pages_below c.args.run.first c.args.runs.now.items ++ put_run c.args.run l) r.behind
+pub splice-requires-then-goes_on-clause-within : goal.splice-requires-then-goes_on-clause-within
+splice-requires-then-goes_on-clause-within c =
+    let f = follows c.args.run c.args.runs.now.items _ _ _ c.ended_by-at.result c.ended_by-to.result c.in-Some.next c.requires.runs c.requires.run
+    c.deref.ensures.value c.deref-2.ensures.value c.deref-3.ensures.value c.ended_by-at.ensures c.ended_by-to.ensures (sym c.get-next.ensures ∙ c.in-Some.is) in
+    omega (arith, f.within, c.keep_below-at.ensures.len, c.args.runs.now.ok.0)
+
+pub splice-requires-2-clause-order : goal.splice-requires-2-clause-order
+splice-requires-2-clause-order c =
+    let f = follows c.args.run c.args.runs.now.items _ _ _ c.ended_by-at.result c.ended_by-to.result c.in-Some.next c.requires.runs c.requires.run
+    c.deref.ensures.value c.deref-2.ensures.value c.deref-3.ensures.value c.ended_by-at.ensures c.ended_by-to.ensures (sym c.get-next.ensures ∙ c.in-Some.is) in
+    omega (arith, f.order, c.keep_below-at.ensures.one)
+
+pub splice-requires-2-clause-within : goal.splice-requires-2-clause-within
+splice-requires-2-clause-within c =
+    let f = follows c.args.run c.args.runs.now.items _ _ _ c.ended_by-at.result c.ended_by-to.result c.in-Some.next c.requires.runs c.requires.run
+    c.deref.ensures.value c.deref-2.ensures.value c.deref-3.ensures.value c.ended_by-at.ensures c.ended_by-to.ensures (sym c.get-next.ensures ∙ c.in-Some.is) in
+    omega (arith, f.within, c.keep_below-at.ensures.len, c.args.runs.now.ok.0)
+
+pub returns-in_default-clause-put : goal.returns-in_default-clause-put
+unfolding AreRuns BeginFrom goes_on_in
+returns-in_default-clause-put c =
+    let run = c.args.run in
+    let old = c.args.runs.now.items in
+    let cut = c.keep_below-at.new.runs.items in
+    let kept = take c.keep_below-at.result cut in
+    let to = c.ended_by-to.result in
+    let none : slice_get old to ≡ None = ap (λ (l : List PageRun). slice_get l to) (sym c.deref-3.ensures.value) ∙ sym c.get-next.ensures ∙ c.in_default.is in
+    let past : length cut ≤ to = omega (arith, past_read old to none, c.keep_below-at.ensures.len, c.args.runs.now.ok.0, c.keep_below-at.new.runs.ok.0) in
+    let last : IsBorder run.end old to = subst (λ (l : List PageRun). IsBorder run.end l to) c.deref-2.ensures.value c.ended_by-to.ensures in
+    spliced run old kept [] run [] c.splice.new.runs.items c.requires.run c.keep_below-at.ensures.below (from_none run.end old to last none)
+    (top_apart run [] c.requires.run c.requires.place tt tt refl)
+    (c.splice.ensures.items ∙ ap (λ (l : List PageRun). kept ++ run ∷ l) (drop_all to cut past))
+    (omega (arith, length-take c.keep_below-at.result cut, c.keep_below-at.ensures.len, c.args.runs.now.ok.0, c.keep_below-at.new.runs.ok.0))
+
+pub returns-then-goes_on-clause-put : goal.returns-then-goes_on-clause-put
+returns-then-goes_on-clause-put c =
+    let f = follows c.args.run c.args.runs.now.items _ _ _ c.ended_by-at.result c.ended_by-to.result c.in-Some.next c.requires.runs c.requires.run
+    c.deref.ensures.value c.deref-2.ensures.value c.deref-3.ensures.value c.ended_by-at.ensures c.ended_by-to.ensures (sym c.get-next.ensures ∙ c.in-Some.is) in
+    let run = c.args.run in
+    let old = c.args.runs.now.items in
+    let cut = c.keep_below-at.new.runs.items in
+    let kept = take c.keep_below-at.result cut in
+    let rest = drop (c.ended_by-to.result + 1) old in
+    let next = c.rest_from-next.result in
+    let behind = c.keep_below-at.ensures.behind (c.ended_by-to.result + 1) (omega (arith, f.order)) in
+    let from : IsFrom run.end old (next ∷ rest) = subst (λ (x : PageRun). IsFrom run.end old (x ∷ rest)) (sym c.rest_from-next.ensures) f.from in
+    spliced run old kept (next ∷ rest) (record run { end = next.end }) rest c.splice-then-goes_on.new.runs.items c.requires.run c.keep_below-at.ensures.below from
+    (top_joined run next rest c.requires.run c.requires.place from.runs (sym c.goes_on.ensures ∙ c.if-goes_on.true))
+    (c.splice-then-goes_on.ensures.items ∙ ap (λ (l : List PageRun). kept ++ (record run { end = next.end }) ∷ l) behind)
+    (omega (arith, length-take c.keep_below-at.result cut, length-drop (c.ended_by-to.result + 1) old, f.order, f.within, c.keep_below-at.ensures.one))
+
+pub returns-clause-put : goal.returns-clause-put
+unfolding goes_on_in
+returns-clause-put c =
+    let f = follows c.args.run c.args.runs.now.items _ _ _ c.ended_by-at.result c.ended_by-to.result c.in-Some.next c.requires.runs c.requires.run
+    c.deref.ensures.value c.deref-2.ensures.value c.deref-3.ensures.value c.ended_by-at.ensures c.ended_by-to.ensures (sym c.get-next.ensures ∙ c.in-Some.is) in
+    let run = c.args.run in
+    let old = c.args.runs.now.items in
+    let cut = c.keep_below-at.new.runs.items in
+    let kept = take c.keep_below-at.result cut in
+    let rest = drop (c.ended_by-to.result + 1) old in
+    let next = c.rest_from-next.result in
+    let behind = c.keep_below-at.ensures.behind (c.ended_by-to.result + 1) (omega (arith, f.order)) in
+    let from : IsFrom run.end old (next ∷ rest) = subst (λ (x : PageRun). IsFrom run.end old (x ∷ rest)) (sym c.rest_from-next.ensures) f.from in
+    spliced run old kept (next ∷ rest) run (next ∷ rest) c.splice-2.new.runs.items c.requires.run c.keep_below-at.ensures.below from
+    (top_apart run (next ∷ rest) c.requires.run c.requires.place from.runs from.begin (sym c.goes_on.ensures ∙ c.if-goes_on.false))
+    (c.splice-2.ensures.items ∙ ap (λ (l : List PageRun). kept ++ run ∷ next ∷ l) behind)
+    (omega (arith, length-take c.keep_below-at.result cut, length-drop (c.ended_by-to.result + 1) old, f.order, f.within, c.keep_below-at.ensures.one))
+
