@@ -73,15 +73,15 @@ run_count [] from n h b e = how_many-none (ends_run (ref_at [])) from n (λ q lo
 run_count (r ∷ rs) from n h b e =
     steps (r.end - 1) (from + n - r.end) (omega (arith, h.0.some)) (omega (arith, h.0.some, b, e.0))
     (run_count rs r.end (from + n - r.end) h.3 h.1 (end_later (from + n) (r.end + (from + n - r.end)) rs (omega arith) e.1)) where
-  steps : (last rest : ℕ) → last + 1 ≡ r.end → n ≡ (last - from) + suc rest → how_many (ends_run (ref_at rs)) r.end rest ≡ length rs
-      → how_many (ends_run (ref_at (r ∷ rs))) from n ≡ suc (length rs)
-  steps last rest end split others =
-      let reach : from + (last - from) ≡ last = omega (arith, h.0.some, b) in
-      let before = how_many-none (ends_run (ref_at (r ∷ rs))) from (last - from) (λ q low high. before_last r rs q h (omega arith)) in
-      let behind = how_many-same (ends_run (ref_at (r ∷ rs))) (ends_run (ref_at rs)) r.end rest (λ q low high. behind_run r rs q low) in
-      ap (how_many (ends_run (ref_at (r ∷ rs))) from) split
-      ∙ how_many-add (ends_run (ref_at (r ∷ rs))) from (last - from) (suc rest)
-      ∙ rw (before, reach, at_last r rs last h end, end, behind, others) (omega arith)
+      steps : (last rest : ℕ) → last + 1 ≡ r.end → n ≡ (last - from) + suc rest → how_many (ends_run (ref_at rs)) r.end rest ≡ length rs
+          → how_many (ends_run (ref_at (r ∷ rs))) from n ≡ suc (length rs)
+      steps last rest end split others =
+          let reach : from + (last - from) ≡ last = omega (arith, h.0.some, b) in
+          let before = how_many-none (ends_run (ref_at (r ∷ rs))) from (last - from) (λ q low high. before_last r rs q h (omega arith)) in
+          let behind = how_many-same (ends_run (ref_at (r ∷ rs))) (ends_run (ref_at rs)) r.end rest (λ q low high. behind_run r rs q low) in
+          ap (how_many (ends_run (ref_at (r ∷ rs))) from) split
+          ∙ how_many-add (ends_run (ref_at (r ∷ rs))) from (last - from) (suc rest)
+          ∙ rw (before, reach, at_last r rs last h end, end, behind, others) (omega arith)
 
 pub run_count_is : (rs : List PageRun) → AreRuns rs → run_count_of rs ≡ length rs
 unfolding BeginFrom
@@ -100,16 +100,16 @@ present [] from n h b e = how_many-none (λ q. is_some (ref_at [] q)) from n (λ
 present (r ∷ rs) from n h b e =
     steps (r.first - from) (r.end - r.first) (from + n - r.end) (omega (arith, b)) (omega (arith, h.0.some)) (omega (arith, h.0.some, b, e.0))
     (present rs r.end (from + n - r.end) h.3 h.1 (end_later (from + n) (r.end + (from + n - r.end)) rs (omega arith) e.1)) where
-  steps : (gap len rest : ℕ) → from + gap ≡ r.first → r.first + len ≡ r.end → n ≡ gap + (len + rest) → how_many (λ q. is_some (ref_at rs q)) r.end rest ≡ pages_in rs
-      → how_many (λ q. is_some (ref_at (r ∷ rs) q)) from n ≡ pages_in (r ∷ rs)
-  steps gap len rest begin end split others =
-      let none = how_many-none (λ q. is_some (ref_at (r ∷ rs) q)) from gap (λ q low high. ap is_some (ref_at-before r.first q (r ∷ rs) h (omega arith) (omega arith))) in
-      let all = how_many-all (λ q. is_some (ref_at (r ∷ rs) q)) r.first len (λ q low high. ap is_some (ref_at-in r rs q low (omega arith))) in
-      let behind = how_many-same (λ q. is_some (ref_at (r ∷ rs) q)) (λ q. is_some (ref_at rs q)) r.end rest (λ q low high. ap is_some (ref_at-behind r rs q low)) in
-      let sum = sum_by-cons (λ (x : PageRun). x.end - x.first) r rs in
-      ap (how_many (λ q. is_some (ref_at (r ∷ rs) q)) from) split
-      ∙ how_many-add (λ q. is_some (ref_at (r ∷ rs) q)) from gap (len + rest)
-      ∙ rw (begin, how_many-add (λ q. is_some (ref_at (r ∷ rs) q)) r.first len rest, end) (omega (arith, none, all, behind, others, sum))
+      steps : (gap len rest : ℕ) → from + gap ≡ r.first → r.first + len ≡ r.end → n ≡ gap + (len + rest) → how_many (λ q. is_some (ref_at rs q)) r.end rest ≡ pages_in rs
+          → how_many (λ q. is_some (ref_at (r ∷ rs) q)) from n ≡ pages_in (r ∷ rs)
+      steps gap len rest begin end split others =
+          let none = how_many-none (λ q. is_some (ref_at (r ∷ rs) q)) from gap (λ q low high. ap is_some (ref_at-before r.first q (r ∷ rs) h (omega arith) (omega arith))) in
+          let all = how_many-all (λ q. is_some (ref_at (r ∷ rs) q)) r.first len (λ q low high. ap is_some (ref_at-in r rs q low (omega arith))) in
+          let behind = how_many-same (λ q. is_some (ref_at (r ∷ rs) q)) (λ q. is_some (ref_at rs q)) r.end rest (λ q low high. ap is_some (ref_at-behind r rs q low)) in
+          let sum = sum_by-cons (λ (x : PageRun). x.end - x.first) r rs in
+          ap (how_many (λ q. is_some (ref_at (r ∷ rs) q)) from) split
+          ∙ how_many-add (λ q. is_some (ref_at (r ∷ rs) q)) from gap (len + rest)
+          ∙ rw (begin, how_many-add (λ q. is_some (ref_at (r ∷ rs) q)) r.first len rest, end) (omega (arith, none, all, behind, others, sum))
 
 pub past_all : (p : ℕ) (rs : List PageRun) → AreRuns rs → BeginFrom p rs → pages_past p rs ≡ pages_in rs
 unfolding AreRuns BeginFrom

@@ -68,27 +68,27 @@ below_parted p rs at r h b some low =
       ended = ends;
       pages = λ q. go q (nat_lt q p) refl;
     }) where
-  high : p < r.end
-  high = some_from p rs at r b some
+      high : p < r.end
+      high = some_from p rs at r b some
 
-  parts : AreRuns (take at rs ++ r ∷ drop (at + 1) rs)
-  parts = subst AreRuns (split_read rs at r some) h
+      parts : AreRuns (take at rs ++ r ∷ drop (at + 1) rs)
+      parts = subst AreRuns (split_read rs at r some) h
 
-  ends : EndBy p (take at rs ++ (record r { end = p }) ∷ [])
-  ends = front_ends (take at rs) (record r { end = p }) p b.ended (omega arith)
+      ends : EndBy p (take at rs ++ (record r { end = p }) ∷ [])
+      ends = front_ends (take at rs) (record r { end = p }) p b.ended (omega arith)
 
-  same : (q : ℕ) → q < p → ref_at ((record r { end = p }) ∷ []) q ≡ ref_at (r ∷ drop (at + 1) rs) q
-  same q lt =
-      let back = runs-back (take at rs) (r ∷ drop (at + 1) rs) parts in
-      let past : p < r.end = high in
-      let none : ref_at (drop (at + 1) rs) q ≡ None = ref_at-before r.end q (drop (at + 1) rs) back.3 back.1 (omega arith) in
-      grind (arith, nat_tests)
+      same : (q : ℕ) → q < p → ref_at ((record r { end = p }) ∷ []) q ≡ ref_at (r ∷ drop (at + 1) rs) q
+      same q lt =
+          let back = runs-back (take at rs) (r ∷ drop (at + 1) rs) parts in
+          let past : p < r.end = high in
+          let none : ref_at (drop (at + 1) rs) q ≡ None = ref_at-before r.end q (drop (at + 1) rs) back.3 back.1 (omega arith) in
+          grind (arith, nat_tests)
 
-  go : (q : ℕ) (t : Bool) → nat_lt q p ≡ t → ref_at (take at rs ++ (record r { end = p }) ∷ []) q ≡ cond t (ref_at rs q) None
-  go q true t =
-      ref_at-same_back q (take at rs) ((record r { end = p }) ∷ []) (r ∷ drop (at + 1) rs) (same q (ltb-true q p t))
-      ∙ ap (λ (l : List PageRun). ref_at l q) (sym (split_read rs at r some))
-  go q false t = ref_at-end_by p q (take at rs ++ (record r { end = p }) ∷ []) ends (ltb-false q p t)
+      go : (q : ℕ) (t : Bool) → nat_lt q p ≡ t → ref_at (take at rs ++ (record r { end = p }) ∷ []) q ≡ cond t (ref_at rs q) None
+      go q true t =
+          ref_at-same_back q (take at rs) ((record r { end = p }) ∷ []) (r ∷ drop (at + 1) rs) (same q (ltb-true q p t))
+          ∙ ap (λ (l : List PageRun). ref_at l q) (sym (split_read rs at r some))
+      go q false t = ref_at-end_by p q (take at rs ++ (record r { end = p }) ∷ []) ends (ltb-false q p t)
 
 -- runs of the pages that lie from p on
 pub record IsFrom (p : ℕ) (old rest : List PageRun) : Type 0 where
@@ -111,8 +111,12 @@ rest_stops p r (s ∷ rs) h high off =
 pub from_some : (p : ℕ) (rs : List PageRun) (at : ℕ) (r : PageRun) → AreRuns rs → IsBorder p rs at → slice_get rs at ≡ Some r → IsFrom p rs (rest_from p r ∷ drop (at + 1) rs)
 unfolding AreRuns BeginFrom
 from_some p rs at r h b some = record {
-  runs = (record { some = omega (arith, high, back.0.some); within = back.0.within; places = omega (arith, high, back.0.some, back.0.places) },
-    back.1, rest_stops p r (drop (at + 1) rs) back.0 high back.2, back.3);
+  runs = (
+    record { some = omega (arith, high, back.0.some); within = back.0.within; places = omega (arith, high, back.0.some, back.0.places) },
+    back.1,
+    rest_stops p r (drop (at + 1) rs) back.0 high back.2,
+    back.3,
+  );
   begin = omega arith;
   pages = λ q le. ap (λ (l : List PageRun). ref_at l q) (split_read rs at r some) ∙ ref_at-back p q (take at rs) (r ∷ drop (at + 1) rs) b.ended le ∙ same q le;
 } where
@@ -184,20 +188,20 @@ pub put_between : (r : PageRun) (old kept rest : List PageRun) (s : PageRun) (ss
 unfolding BeginFrom
 put_between r old kept rest s ss h below from top =
     (append_new r.first kept s ss below.runs below.ended top.runs top.first top.place, λ q. go q (nat_lt q r.first) refl (nat_lt q r.end) refl) where
-  behind : (q : ℕ) → r.first ≤ q → ref_at (kept ++ s ∷ ss) q ≡ ref_at (r ∷ rest) q
-  behind q le = ref_at-back r.first q kept (s ∷ ss) below.ended le ∙ top.pages q
+      behind : (q : ℕ) → r.first ≤ q → ref_at (kept ++ s ∷ ss) q ≡ ref_at (r ∷ rest) q
+      behind q le = ref_at-back r.first q kept (s ∷ ss) below.ended le ∙ top.pages q
 
-  go : (q : ℕ) (b : Bool) → nat_lt q r.first ≡ b → (c : Bool) → nat_lt q r.end ≡ c
-      → ref_at (kept ++ s ∷ ss) q ≡ cond (nat_le r.first q && nat_lt q r.end) (Some (run_ref r q)) (ref_at old q)
-  go q true b c t =
-      let low = ltb-true q r.first b in
-      rw (lt-leb r.first q low)
-      (ref_at-front r.first q kept (s ∷ ss) top.runs (omega (arith, top.first)) low ∙ below.pages q ∙ ap (λ (v : Bool). cond v (ref_at old q) None) b)
-  go q false b true t =
-      rw (le-leb r.first q (ltb-false q r.first b), t) (behind q (ltb-false q r.first b) ∙ ref_at-in r rest q (ltb-false q r.first b) (ltb-true q r.end t))
-  go q false b false t =
-      rw (le-leb r.first q (ltb-false q r.first b), t)
-      (behind q (ltb-false q r.first b) ∙ ref_at-behind r rest q (ltb-false q r.end t) ∙ sym (from.pages q (ltb-false q r.end t)))
+      go : (q : ℕ) (b : Bool) → nat_lt q r.first ≡ b → (c : Bool) → nat_lt q r.end ≡ c
+          → ref_at (kept ++ s ∷ ss) q ≡ cond (nat_le r.first q && nat_lt q r.end) (Some (run_ref r q)) (ref_at old q)
+      go q true b c t =
+          let low = ltb-true q r.first b in
+          rw (lt-leb r.first q low)
+          (ref_at-front r.first q kept (s ∷ ss) top.runs (omega (arith, top.first)) low ∙ below.pages q ∙ ap (λ (v : Bool). cond v (ref_at old q) None) b)
+      go q false b true t =
+          rw (le-leb r.first q (ltb-false q r.first b), t) (behind q (ltb-false q r.first b) ∙ ref_at-in r rest q (ltb-false q r.first b) (ltb-true q r.end t))
+      go q false b false t =
+          rw (le-leb r.first q (ltb-false q r.first b), t)
+          (behind q (ltb-false q r.first b) ∙ ref_at-behind r rest q (ltb-false q r.end t) ∙ sym (from.pages q (ltb-false q r.end t)))
 
 pub top_apart : (r : PageRun) (rest : List PageRun) → IsRun r → r.start.place ≡ 0 → AreRuns rest → BeginFrom r.end rest → goes_on_in r rest ≡ false → IsTop r rest r rest
 unfolding AreRuns
@@ -229,8 +233,12 @@ joined_ref r s q h on le =
 pub top_joined : (r s : PageRun) (ss : List PageRun) → IsRun r → r.start.place ≡ 0 → AreRuns (s ∷ ss) → goes_on r s ≡ true → IsTop r (s ∷ ss) (record r { end = s.end }) ss
 unfolding AreRuns BeginFrom ref_at
 top_joined r s ss h z k is_on = record {
-  runs = (record { some = omega (arith, h.some, k.0.some, on); within = k.0.within; places = omega (arith, k.0.within) },
-    k.1, joined_stops r s ss h k.0 on k.2, k.3);
+  runs = (
+    record { some = omega (arith, h.some, k.0.some, on); within = k.0.within; places = omega (arith, k.0.within) },
+    k.1,
+    joined_stops r s ss h k.0 on k.2,
+    k.3,
+  );
   first = refl;
   place = z;
   pages = λ q. go q (nat_lt q s.first) refl;

@@ -21,14 +21,14 @@ pub stop-first : (r : PageRun) (rs : List PageRun) (q : ℕ) → AreRuns (r ∷ 
 unfolding AreRuns BeginFrom goes_on_in ref_at
 stop-first r rs q h e =
     rw (ref_at-in r rs q (omega (arith, h.0.some)) (omega arith), ref_at-behind r rs r.end (omega arith)) (next rs h) where
-  next : (ss : List PageRun) → AreRuns (r ∷ ss) → is_followed (Some (run_ref r q)) (ref_at ss r.end) ≡ false
-  next [] k = refl
-  next (s ∷ ss) k = go (nat_lt r.end s.first) refl where
-    go : (b : Bool) → nat_lt r.end s.first ≡ b → is_followed (Some (run_ref r q)) (ref_at (s ∷ ss) r.end) ≡ false
-    go true t = rw (ref_at-before s.first r.end (s ∷ ss) k.3 (omega arith) (ltb-true r.end s.first t)) refl
-    go false t =
-        let border : r.end ≡ s.first = omega (arith, k.1, ltb-false r.end s.first t) in
-        rw (ref_at-in s ss r.end (omega arith) (omega (arith, k.3.0.some))) (stop_at r s q k.2 k.0.some border e)
+      next : (ss : List PageRun) → AreRuns (r ∷ ss) → is_followed (Some (run_ref r q)) (ref_at ss r.end) ≡ false
+      next [] k = refl
+      next (s ∷ ss) k = go (nat_lt r.end s.first) refl where
+        go : (b : Bool) → nat_lt r.end s.first ≡ b → is_followed (Some (run_ref r q)) (ref_at (s ∷ ss) r.end) ≡ false
+        go true t = rw (ref_at-before s.first r.end (s ∷ ss) k.3 (omega arith) (ltb-true r.end s.first t)) refl
+        go false t =
+            let border : r.end ≡ s.first = omega (arith, k.1, ltb-false r.end s.first t) in
+            rw (ref_at-in s ss r.end (omega arith) (omega (arith, k.3.0.some))) (stop_at r s q k.2 k.0.some border e)
 
 -- nor does any run follow on the one before it
 pub begin_whole : (xs : List PageRun) (r : PageRun) (ys : List PageRun) (q : ℕ) → AreRuns (xs ++ r ∷ ys) → q + 1 ≡ r.first
@@ -76,9 +76,14 @@ run_from p rs at (Some r) h b e =
     let split = split_read rs at r e in
     let parted : AreRuns (take at rs ++ r ∷ drop (at + 1) rs) = subst AreRuns split h in
     let back : AreRuns (r ∷ drop (at + 1) rs) = runs-back (take at rs) (r ∷ drop (at + 1) rs) parted in
-    let whole : IsRunOf (ref_at rs) r = subst (λ (l : List PageRun). IsRunOf (ref_at l) r) (sym split) (run_whole (take at rs) r (drop (at + 1) rs) parted) in
-    ((whole, some_from p rs at r b e, λ q low high.
-        ap (λ (l : List PageRun). ref_at l q) split
-        ∙ ref_at-back p q (take at rs) (r ∷ drop (at + 1) rs) b.ended low
-        ∙ ref_at-before r.first q (r ∷ drop (at + 1) rs) back (omega arith) high),
-    back.0)
+    let whole : IsRunOf (ref_at rs) r = subst (λ (l : List PageRun). IsRunOf (ref_at l) r) (sym split) (run_whole (take at rs) r (drop (at + 1) rs) parted) in (
+      (
+        whole,
+        some_from p rs at r b e,
+        λ q low high.
+            ap (λ (l : List PageRun). ref_at l q) split
+            ∙ ref_at-back p q (take at rs) (r ∷ drop (at + 1) rs) b.ended low
+            ∙ ref_at-before r.first q (r ∷ drop (at + 1) rs) back (omega arith) high,
+      ),
+      back.0,
+    )

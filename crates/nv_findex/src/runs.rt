@@ -56,7 +56,9 @@ fn pages_past(runs: &[PageRun], page: u32) -> u32
     requires { pages_past page runs.now < 2 ^ 32 }
     ensures { result ≡ pages_past page runs.now }
 {
-    runs.iter().map(|run| run.end.saturating_sub(run.first.max(page))).sum()
+    runs.iter()
+        .map(|run| run.end.saturating_sub(run.first.max(page)))
+        .sum()
 }
 
 /// How many pages are present from `page` on.

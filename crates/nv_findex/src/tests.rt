@@ -7,12 +7,16 @@ use std::alloc::Global;
 use std::process::Abort;
 use std::test::Fail;
 
-fn place_of(commit: u64, number: u32, place: u32) -> PageRef {
+fn entry(commit: u64, number: u32) -> EntryId {
+    EntryId {
+        commit: CommitNo::new(commit),
+        place: number,
+    }
+}
+
+fn lies(commit: u64, number: u32, place: u32) -> PageRef {
     PageRef {
-        entry: EntryId {
-            commit: CommitNo::new(commit),
-            place: number,
-        },
+        entry: entry(commit, number),
         place,
     }
 }
@@ -23,7 +27,13 @@ fn sizes(index: &FileIndex) -> (usize, usize, u32) {
 }
 
 /// A write to pages of an entry. A refused growth changes nothing and is asked for again.
-fn write(rt: &impl Abort, index: &mut FileIndex, first: u32, len: u32, entry: EntryId) -> Result<(), Fault> {
+fn write(
+    rt: &impl Abort,
+    index: &mut FileIndex,
+    first: u32,
+    len: u32,
+    entry: EntryId,
+) -> Result<(), Fault> {
     assert!(rt; 0 < len && len <= FILE_PAGES && first <= FILE_PAGES - len);
     let before = sizes(index);
     if let Err(fault) = index.reserve_for(1) {
@@ -35,10 +45,14 @@ fn write(rt: &impl Abort, index: &mut FileIndex, first: u32, len: u32, entry: En
     Ok(())
 }
 
-/// Writes, each with the runs that the index has after it.
-fn write_all(rt: &impl Abort, index: &mut FileIndex, writes: &[(u32, u32, PageRef, usize)]) -> Result<(), Fault> {
-    for (first, len, start, runs) in writes {
-        write(rt, index, *first, *len, start.entry)?;
+/// Writes `(first page, pages, commit, entry of the commit)`, each with the runs that the index has after it.
+fn write_all(
+    rt: &impl Abort,
+    index: &mut FileIndex,
+    writes: &[(u32, u32, u64, u32, usize)],
+) -> Result<(), Fault> {
+    for (first, len, commit, number, runs) in writes {
+        write(rt, index, *first, *len, entry(*commit, *number))?;
         assert_eq!(rt; index.run_count(), *runs);
     }
     Ok(())
@@ -48,32 +62,48 @@ fn write_all(rt: &impl Abort, index: &mut FileIndex, writes: &[(u32, u32, PageRe
 fn three_writes_make_one_three_and_five_runs(rt: HostRuntime) -> Result<(), Fail> {
     let mut index = FileIndex::new(rt.alloc());
     assert_eq!(rt; sizes(&index), (0, 0, 0));
-    let [first, second] = [place_of(2, 0, 0), place_of(3, 0, 0)];
-    let third = [place_of(4, 0, 0), place_of(4, 1, 0)];
-    write_all(&rt, &mut index, &[(0, 3, first, 1), (1, 1, second, 3), (3, 1, third[0], 4), (4, 1, third[1], 5)])?;
-    let rows = [
-        (0, 1, first, 5),
-        (1, 2, second, 4),
-        (2, 3, place_of(2, 0, 2), 3),
-        (3, 4, third[0], 2),
-        (4, 5, third[1], 1),
-    ];
-    for (page, end, start, left) in rows {
-        assert_eq!(rt; index.at(page), Some(start));
-        assert_eq!(rt; index.next_from(page), Some((page, start)));
+    write_all(
+        &rt,
+        &mut index,
+        &[
+            (0, 3, 2, 0, 1),
+            (1, 1, 3, 0, 3),
+            (3, 1, 4, 0, 4),
+            (4, 1, 4, 1, 5),
+        ],
+    )?;
+    for (page, end, commit, number, place) in [
+        (0, 1, 2, 0, 0),
+        (1, 2, 3, 0, 0),
+        (2, 3, 2, 0, 2),
+        (3, 4, 4, 0, 0),
+        (4, 5, 4, 1, 0),
+    ] {
+        assert_eq!(rt; index.at(page), Some(lies(commit, number, place)));
+        assert_eq!(rt;
+            index.next_from(page),
+            Some((page, lies(commit, number, place)))
+        );
         let run = PageRun {
             first: page,
             end,
-            start,
+            start: lies(commit, number, place),
         };
         assert_eq!(rt; index.run_from(page), Some(run));
-        assert_eq!(rt; index.present_from(page), left);
     }
-    for page in [5, 65_535, 65_536, u32::MAX] {
-        assert_eq!(rt; index.at(page), None);
-        assert_eq!(rt; index.next_from(page), None);
-        assert_eq!(rt; index.run_from(page), None);
-        assert_eq!(rt; index.present_from(page), 0);
+    for (page, present) in [
+        (0, 5),
+        (1, 4),
+        (4, 1),
+        (5, 0),
+        (65_535, 0),
+        (65_536, 0),
+        (u32::MAX, 0),
+    ] {
+        assert_eq!(rt; index.present_from(page), present);
+        assert_eq!(rt; index.at(page).is_some(), present > 0);
+        assert_eq!(rt; index.next_from(page).is_some(), present > 0);
+        assert_eq!(rt; index.run_from(page).is_some(), present > 0);
     }
     Ok(())
 }
@@ -81,11 +111,10 @@ fn three_writes_make_one_three_and_five_runs(rt: HostRuntime) -> Result<(), Fail
 #[test]
 fn the_last_page_of_an_empty_file_is_one_run(rt: HostRuntime) -> Result<(), Fail> {
     let mut index = FileIndex::new(rt.alloc());
-    let start = place_of(7, 2, 0);
-    write_all(&rt, &mut index, &[(65_535, 1, start, 1)])?;
+    write_all(&rt, &mut index, &[(65_535, 1, 7, 2, 1)])?;
     assert_eq!(rt; index.at(65_534), None);
-    assert_eq!(rt; index.at(65_535), Some(start));
-    assert_eq!(rt; index.next_from(0), Some((65_535, start)));
+    assert_eq!(rt; index.at(65_535), Some(lies(7, 2, 0)));
+    assert_eq!(rt; index.next_from(0), Some((65_535, lies(7, 2, 0))));
     assert_eq!(rt; index.run_from(0).map(|run| run.page_count()), Some(1));
     index.cut_from(65_535);
     assert_eq!(rt; index.next_from(0), None);
@@ -96,9 +125,8 @@ fn the_last_page_of_an_empty_file_is_one_run(rt: HostRuntime) -> Result<(), Fail
 #[test]
 fn a_run_written_again_joins_what_is_left_of_it(rt: HostRuntime) -> Result<(), Fail> {
     let mut index = FileIndex::new(rt.alloc());
-    let start = place_of(2, 0, 0);
-    write_all(&rt, &mut index, &[(10, 6, start, 1), (10, 2, start, 1)])?;
-    assert_eq!(rt; index.at(12), Some(place_of(2, 0, 2)));
+    write_all(&rt, &mut index, &[(10, 6, 2, 0, 1), (10, 2, 2, 0, 1)])?;
+    assert_eq!(rt; index.at(12), Some(lies(2, 0, 2)));
     Ok(())
 }
 
@@ -106,10 +134,10 @@ fn a_run_written_again_joins_what_is_left_of_it(rt: HostRuntime) -> Result<(), F
 fn room_for_three_writes_lasts_for_three(rt: HostRuntime) -> Result<(), Fail> {
     let mut index = FileIndex::new(rt.alloc());
     index.reserve_for(3)?;
-    index.set_run(0, 30, place_of(2, 0, 0).entry);
-    index.set_run(10, 10, place_of(3, 0, 0).entry);
+    index.set_run(0, 30, entry(2, 0));
+    index.set_run(10, 10, entry(3, 0));
     index.cut_from(25);
-    index.set_run(12, 2, place_of(4, 0, 0).entry);
+    index.set_run(12, 2, entry(4, 0));
     assert_eq!(rt; index.run_count(), 5);
     Ok(())
 }
@@ -117,14 +145,14 @@ fn room_for_three_writes_lasts_for_three(rt: HostRuntime) -> Result<(), Fail> {
 #[test]
 fn a_refused_growth_changes_nothing(rt: HostRuntime) -> Result<(), Fail> {
     let mut index = FileIndex::new(rt.alloc());
-    write_all(&rt, &mut index, &[(4, 2, place_of(2, 0, 0), 1)])?;
+    write_all(&rt, &mut index, &[(4, 2, 2, 0, 1)])?;
     let before = sizes(&index);
     for runs in [usize::MAX, usize::MAX / 2, 1 << 62] {
         assert_eq!(rt; index.reserve_for(runs), Err(Fault::OutOfMemory));
         assert_eq!(rt; sizes(&index), before);
     }
     assert_eq!(rt; index.at(3), None);
-    assert_eq!(rt; index.at(5), Some(place_of(2, 0, 1)));
+    assert_eq!(rt; index.at(5), Some(lies(2, 0, 1)));
     Ok(())
 }
 
@@ -135,10 +163,13 @@ fn no_pages(alloc: Global) -> Result<Vec<Option<PageRef>>, Fault> {
     Ok(slots)
 }
 
-fn fill(slots: &mut [Option<PageRef>], first: u32, len: u32, entry: EntryId) {
+fn fill(slots: &mut [Option<PageRef>], first: u32, len: u32, entry: &EntryId) {
     for place in 0..len {
         if let Some(slot) = slots.get_mut(first.saturating_add(place) as usize) {
-            *slot = Some(PageRef { entry, place });
+            *slot = Some(PageRef {
+                entry: *entry,
+                place,
+            });
         }
     }
 }
@@ -180,7 +211,12 @@ fn runs_of(alloc: Global, slots: &[Option<PageRef>]) -> Result<Vec<PageRun>, Fau
     Ok(runs)
 }
 
-fn assert_same(rt: &impl Abort, alloc: Global, index: &FileIndex, slots: &[Option<PageRef>]) -> Result<(), Fault> {
+fn assert_same(
+    rt: &impl Abort,
+    alloc: Global,
+    index: &FileIndex,
+    slots: &[Option<PageRef>],
+) -> Result<(), Fault> {
     let runs = runs_of(alloc, slots)?;
     assert_eq!(rt; index.run_count(), runs.len());
     for page in (0..100).chain(65_530..65_540) {
@@ -193,7 +229,11 @@ fn assert_same(rt: &impl Abort, alloc: Global, index: &FileIndex, slots: &[Optio
     }
     for page in [0, 1, 20, 50, 90, 65_530, 65_536] {
         let present = (page..FILE_PAGES).filter(|page| slot(slots, *page).is_some());
-        assert_eq!(rt; index.present_from(page) as usize, present.count(), "from page {page}");
+        assert_eq!(rt;
+            index.present_from(page) as usize,
+            present.count(),
+            "from page {page}"
+        );
     }
     Ok(())
 }
@@ -211,13 +251,12 @@ fn runs_and_slots_answer_alike(rt: HostRuntime) -> Result<(), Fail> {
         } else {
             (state >> 8) % 90
         };
-        let entry = place_of(call / 5, 0, 0).entry;
         if state >> 16 & 15 == 0 {
             index.cut_from(first);
             clear(&mut slots, first);
         } else {
-            write(&rt, &mut index, first, len, entry)?;
-            fill(&mut slots, first, len, entry);
+            write(&rt, &mut index, first, len, entry(call / 5, 0))?;
+            fill(&mut slots, first, len, &entry(call / 5, 0));
         }
         if call % 10 == 9 {
             assert_same(&rt, rt.alloc(), &index, &slots)?;

@@ -117,4 +117,3 @@ returns-clause-put c =
     (top_apart run (next ∷ rest) c.requires.run c.requires.place from.runs from.begin (sym c.goes_on.ensures ∙ c.if-goes_on.false))
     (c.splice-2.ensures.items ∙ ap (λ (l : List PageRun). kept ++ run ∷ next ∷ l) behind)
     (omega (arith, length-take c.keep_below-at.result cut, length-drop (c.ended_by-to.result + 1) old, f.order, f.within, c.keep_below-at.ensures.one))
-
