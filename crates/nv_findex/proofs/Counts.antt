@@ -1,13 +1,12 @@
 -- How many pages end a run, and how many are present.
-use Rattle.std.proofs.Common.{◌≡◌, ℕ, zero, suc, ◌+◌, ◌-◌, ◌<◌, ◌≤◌, ◌==◌, ◌&&◌, nat_lt, Bool, true, false, cond, not, List, [], ◌∷◌, length, max, Option, Some, None, is_some, refl, ap, sym, ◌∙◌, arith, zero-add, add-zero}
+use Rattle.std.proofs.Common.{◌≡◌, ℕ, zero, suc, ◌+◌, ◌-◌, ◌<◌, ◌≤◌, ◌==◌, nat_lt, Bool, true, false, cond, List, [], ◌∷◌, length, max, Some, is_some, refl, ap, ◌∙◌, arith, zero-add, add-zero}
 use Rattle.std.specs.List.{sum_by}
 use Rattle.std.proofs.lemmas.List.Sums.{sum_by-cons}
 use Rattle.nv_findex.specs.declared.page_run.PageRun.{PageRun}
-use Rattle.nv_findex.specs.declared.page_ref.PageRef.{PageRef}
-use Rattle.nv_findex.specs.Pages.{IsRun, ref_at, run_ref, is_followed, ends_run, how_many, run_count_of}
+use Rattle.nv_findex.specs.Pages.{ref_at, run_ref, is_followed, ends_run, how_many, run_count_of}
 use Rattle.nv_findex.specs.Runs.{AreRuns, BeginFrom, EndBy, pages_past}
 use Rattle.std.proofs.lemmas.Bool.{eq-eqb, ltb-true, ltb-false}
-use Rattle.nv_findex.proofs.Refs.{ref_at-in, ref_at-below, ref_at-behind, ref_at-before, begin_earlier, end_later, end_within}
+use Rattle.nv_findex.proofs.Refs.{ref_at-in, ref_at-behind, ref_at-before, begin_earlier, end_later, end_within}
 use Rattle.nv_findex.proofs.Whole.{stop-first}
 
 pub how_many-add : (test : ℕ → Bool) (from m n : ℕ) → how_many test from (m + n) ≡ how_many test from m + how_many test (from + m) n
@@ -119,10 +118,10 @@ past_all p (r ∷ rs) h b =
     sum_by-cons (λ (x : PageRun). x.end - max x.first p) r rs
     ∙ omega (arith, clipped, past_all p rs h.3 (begin_earlier p r.end rs (omega (arith, b, h.0.some)) h.1), sum_by-cons (λ (x : PageRun). x.end - x.first) r rs)
 
-pub how_many-le : (test : ℕ → Bool) (from n : ℕ) → how_many test from n ≤ n
+pub how_many_le : (test : ℕ → Bool) (from n : ℕ) → how_many test from n ≤ n
 unfolding how_many
-how_many-le test from zero = omega arith
-how_many-le test from (suc n) = go (test from) (how_many-le test (from + 1) n) where
+how_many_le test from zero = omega arith
+how_many_le test from (suc n) = go (test from) (how_many_le test (from + 1) n) where
   go : (b : Bool) → how_many test (from + 1) n ≤ n → cond b 1 0 + how_many test (from + 1) n ≤ suc n
   go true le = omega arith
   go false le = omega arith

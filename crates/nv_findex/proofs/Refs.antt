@@ -6,8 +6,8 @@ use Rattle.std.proofs.lemmas.List.{append-nil, drop_more, take-append-drop}
 use Rattle.std.proofs.lemmas.Option.{none-some, same_Some, slice_get_within, get_or_from_slice_get}
 use Rattle.nv_findex.specs.declared.page_ref.PageRef.{PageRef}
 use Rattle.nv_findex.specs.declared.page_run.PageRun.{PageRun}
-use Rattle.nv_findex.specs.Pages.{IsRun, ref_at, run_ref}
-use Rattle.nv_findex.specs.Runs.{AreRuns, BeginFrom, EndBy, EndBehind, goes_on_in}
+use Rattle.nv_findex.specs.Pages.{ref_at, run_ref}
+use Rattle.nv_findex.specs.Runs.{AreRuns, BeginFrom, EndBy, goes_on_in}
 
 -- the runs behind what was read at a place
 pub drop_read : (rs : List PageRun) (at : ℕ) (r : PageRun) → slice_get rs at ≡ Some r → drop at rs ≡ r ∷ drop (at + 1) rs

@@ -1,10 +1,9 @@
 -- The run that has a page, or else the first one behind it, goes no further than it says.
-use Rattle.std.proofs.Common.{◌≡◌, ℕ, suc, ◌+◌, ◌-◌, ◌<◌, ◌≤◌, ◌==◌, ◌&&◌, Bool, true, false, List, [], ◌∷◌, ◌++◌, length, take, drop, nat_lt, slice_get, Option, Some, None, IfSome, refl, ap, sym, ◌∙◌, arith, subst}
+use Rattle.std.proofs.Common.{◌≡◌, ℕ, ◌+◌, ◌-◌, ◌<◌, ◌==◌, Bool, true, false, List, [], ◌∷◌, ◌++◌, take, drop, nat_lt, slice_get, Option, Some, None, IfSome, refl, ap, sym, ◌∙◌, arith, subst}
 use Rattle.std.proofs.lemmas.Bool.{eq-eqb, ltb-true, ltb-false}
 use Rattle.std.proofs.lemmas.List.{take_all}
-use Rattle.nv_findex.specs.declared.page_ref.PageRef.{PageRef}
 use Rattle.nv_findex.specs.declared.page_run.PageRun.{PageRun}
-use Rattle.nv_findex.specs.Pages.{IsRun, IsRunOf, IsRunFrom, is_same_entry, is_followed, ref_at, run_ref}
+use Rattle.nv_findex.specs.Pages.{IsRun, IsRunOf, IsRunFrom, is_followed, ref_at, run_ref}
 use Rattle.nv_findex.specs.Runs.{AreRuns, BeginFrom, EndBy, EndBehind, IsBorder, goes_on, goes_on_in}
 use Rattle.nv_findex.proofs.Refs.{drop_read, split_read, past_read, ref_at-in, ref_at-behind, ref_at-end_by, ref_at-back, ref_at-before, runs-back, end-front}
 

@@ -1,7 +1,6 @@
 -- Sorted runs of pages.
-use Rattle.std.specs.Prelude.{◌≡◌, ℕ, ◌+◌, ◌-◌, ◌<◌, ◌≤◌, ◌==◌, ◌&&◌, Bool, false, nat_le, nat_lt, max, if◌then◌else◌, List, [], ◌∷◌, length, take, drop, Option, Some, None}
+use Rattle.std.specs.Prelude.{◌≡◌, ℕ, ◌+◌, ◌-◌, ◌<◌, ◌≤◌, ◌==◌, ◌&&◌, Bool, false, nat_le, nat_lt, max, if◌then◌else◌, List, [], ◌∷◌, length, take, drop, Some}
 use Rattle.std.specs.List.{sum_by}
-use Rattle.nv_findex.specs.declared.page_ref.PageRef.{PageRef}
 use Rattle.nv_findex.specs.declared.page_run.PageRun.{PageRun}
 use Rattle.nv_findex.specs.Pages.{CutsFrom, IsRun, is_same_entry, ref_at, run_ref}
 

@@ -34,6 +34,7 @@ impl Model for FileIndex {
 
 impl FileIndex {
     /// An index without pages. It takes no memory yet.
+    #[tactic(auto, unfolding(crate::specs::Runs::AreRuns))]
     pub fn new(alloc: Global) -> Self
         ensures { result ≡ record { pages = []; room = 0 } }
     {
@@ -43,6 +44,7 @@ impl FileIndex {
     }
 
     /// Where a page lies, or `None` if it isn't present. No page from 65,536 on is. Costs one look-up.
+    #[tactic(auto, using(crate::proofs::Refs::refs_within))]
     pub fn at(&self, page: u32) -> Option<PageRef>
         ensures found { result ≡ ref_at self.now.pages page }
         ensures within { IfSome result (λ at. (page < FILE_PAGES) × (at.place < FILE_PAGES)) }
@@ -53,6 +55,7 @@ impl FileIndex {
 
     /// All of the run that has a page, or else the first run behind the page. Costs one look-up: a walk over
     /// pages that goes on from each run's end costs one a run.
+    #[tactic(auto, using(crate::proofs::Refs::refs_within))]
     pub fn run_from(&self, page: u32) -> Option<PageRun>
         ensures run { IsRunFrom page (ref_at self.now.pages) result }
         ensures within { IfSome result (λ run. IsRun run) }
@@ -62,6 +65,7 @@ impl FileIndex {
     }
 
     /// The least present page that isn't below `page`, and where it lies. Costs one look-up.
+    #[tactic(auto, using(crate::proofs::Refs::refs_within))]
     pub fn next_from(&self, page: u32) -> Option<(u32, PageRef)>
         ensures next { IsNextFrom page (ref_at self.now.pages) result }
         ensures within { IfSome result (λ found. (found.0 < FILE_PAGES) × (found.1.place < FILE_PAGES)) }
@@ -72,6 +76,7 @@ impl FileIndex {
 
     /// How many pages are present from `page` on: those that a cut there takes out. Costs one look-up and a
     /// step for each run from there on.
+    #[tactic(auto, using(crate::proofs::Counts::how_many_le))]
     pub fn present_from(&self, page: u32) -> u32
         ensures count { result ≡ present_from page self.now.pages }
         ensures within { result ≤ FILE_PAGES }
@@ -81,6 +86,7 @@ impl FileIndex {
 
     /// How many runs the pages make: of two neighbours that lie one after the other in one entry, both are of
     /// one run. Costs one read.
+    #[tactic(auto, using(crate::proofs::Counts::run_count_is))]
     pub fn run_count(&self) -> usize
         ensures { result ≡ run_count_of self.now.pages }
     {
@@ -119,6 +125,7 @@ impl FileIndex {
     ///
     /// Costs two look-ups, and one move of the runs behind where there are more or fewer runs than before: an
     /// overwrite of just one run moves nothing.
+    #[tactic(auto, using(crate::proofs::Counts::run_count_is))]
     pub fn set_run(&mut self, first: u32, len: u32, entry: EntryId)
         requires some { 0 < len }
         requires within { first + len ≤ FILE_PAGES }
@@ -137,6 +144,7 @@ impl FileIndex {
 
     /// Makes every page from `page` on absent. It takes no memory, and gives back the room of the runs that
     /// go. Costs one look-up.
+    #[tactic(auto, using(crate::proofs::Counts::run_count_is))]
     pub fn cut_from(&mut self, page: u32)
         ensures pages { CutsFrom page (ref_at self.old.pages) (ref_at self.new.pages) }
         ensures runs { run_count_of self.new.pages ≤ run_count_of self.old.pages }

@@ -159,9 +159,10 @@ pub fn put(runs: &mut Vec<PageRun>, run: PageRun)
     ensures put { IsPut run runs.old.items runs.new.items }
     ensures capacity { vec_capacity runs.new ≡ vec_capacity runs.old }
 {
-    let at = ended_by(runs, run.first);
-    let to = ended_by(runs, run.end);
-    let next = get(runs, to);
+    let old = runs.as_slice();
+    let at = ended_by(old, run.first);
+    let to = ended_by(old, run.end);
+    let next = get(old, to);
     let at = keep_below(runs, at, run.first);
     let Some(next) = next else {
         splice(runs, at, to, &[run]);

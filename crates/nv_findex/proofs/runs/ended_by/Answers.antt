@@ -2,7 +2,7 @@ use Rattle.std.proofs.Common.{ℕ, ◌≡◌, ◌<◌, ◌≤◌, nat_le, zero, 
 use Rattle.std.proofs.lemmas.Bool.{leb-true, leb-false, le-leb}
 use Rattle.std.proofs.lemmas.List.Sorted.{IsPartitionPoint-from_clause}
 use Rattle.nv_findex.specs.declared.page_run.PageRun.{PageRun}
-use Rattle.nv_findex.specs.Runs.{AreRuns, BeginFrom, EndBy, EndBehind, IsBorder}
+use Rattle.nv_findex.specs.Runs.{AreRuns, BeginFrom, EndBy, EndBehind}
 use Rattle.nv_findex.proofs.runs.ended_by.Goals as goal
 
 -- a run ends behind the end before it

@@ -1,4 +1,4 @@
-use Rattle.std.proofs.Common.{◌≡◌, ◌∙◌, ap, sym, arith, slice_get, Option, Some, List}
+use Rattle.std.proofs.Common.{◌∙◌, ap, sym, arith, slice_get, List}
 use Rattle.std.proofs.lemmas.Option.{slice_get_within}
 use Rattle.nv_findex.specs.declared.page_run.PageRun.{PageRun}
 use Rattle.nv_findex.proofs.Put.{below_whole, below_parted, begin_none, begin_some}
