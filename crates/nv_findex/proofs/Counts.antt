@@ -17,7 +17,8 @@ how_many-add test from (suc m) n =
     let next : from + suc m ≡ from + 1 + m = omega arith in
     rw (steps, next) (omega (arith, how_many-add test (from + 1) m n))
 
-pub how_many-same : (test other : ℕ → Bool) (from n : ℕ) → ((q : ℕ) → from ≤ q → q < from + n → test q ≡ other q) → how_many test from n ≡ how_many other from n
+pub how_many-same : (test other : ℕ → Bool) (from n : ℕ) → ((q : ℕ) → from ≤ q → q < from + n → test q ≡ other q)
+    → how_many test from n ≡ how_many other from n
 unfolding how_many
 how_many-same test other from zero h = refl
 how_many-same test other from (suc n) h =
@@ -66,7 +67,8 @@ at_last r rs q h e =
 behind_run : (r : PageRun) (rs : List PageRun) (q : ℕ) → r.end ≤ q → ends_run (ref_at (r ∷ rs)) q ≡ ends_run (ref_at rs) q
 behind_run r rs q le = rw (ref_at-behind r rs q le, ref_at-behind r rs (q + 1) (omega arith)) refl
 
-pub run_count : (rs : List PageRun) (from n : ℕ) → AreRuns rs → BeginFrom from rs → EndBy (from + n) rs → how_many (ends_run (ref_at rs)) from n ≡ length rs
+pub run_count : (rs : List PageRun) (from n : ℕ) → AreRuns rs → BeginFrom from rs → EndBy (from + n) rs
+    → how_many (ends_run (ref_at rs)) from n ≡ length rs
 unfolding AreRuns BeginFrom EndBy ref_at how_many
 run_count [] from n h b e = how_many-none (ends_run (ref_at [])) from n (λ q low high. refl)
 run_count (r ∷ rs) from n h b e =
@@ -93,22 +95,29 @@ run_count_is rs h = run_count rs 0 65536 h (from_start rs) (end_within rs h) whe
 abbrev pub pages_in : List PageRun → ℕ
 pages_in rs = sum_by (λ (r : PageRun). r.end - r.first) rs
 
-pub present : (rs : List PageRun) (from n : ℕ) → AreRuns rs → BeginFrom from rs → EndBy (from + n) rs → how_many (λ q. is_some (ref_at rs q)) from n ≡ pages_in rs
+pub present : (rs : List PageRun) (from n : ℕ) → AreRuns rs → BeginFrom from rs → EndBy (from + n) rs
+    → how_many (λ q. is_some (ref_at rs q)) from n ≡ pages_in rs
 unfolding AreRuns BeginFrom EndBy ref_at
 present [] from n h b e = how_many-none (λ q. is_some (ref_at [] q)) from n (λ q low high. refl)
 present (r ∷ rs) from n h b e =
-    steps (r.first - from) (r.end - r.first) (from + n - r.end) (omega (arith, b)) (omega (arith, h.0.some)) (omega (arith, h.0.some, b, e.0))
+    steps (r.first - from) (r.end - r.first) (from + n - r.end) (omega (arith, b)) (omega (arith, h.0.some))
+    (omega (arith, h.0.some, b, e.0))
     (present rs r.end (from + n - r.end) h.3 h.1 (end_later (from + n) (r.end + (from + n - r.end)) rs (omega arith) e.1)) where
-      steps : (gap len rest : ℕ) → from + gap ≡ r.first → r.first + len ≡ r.end → n ≡ gap + (len + rest) → how_many (λ q. is_some (ref_at rs q)) r.end rest ≡ pages_in rs
+      steps : (gap len rest : ℕ) → from + gap ≡ r.first → r.first + len ≡ r.end → n ≡ gap + (len + rest)
+          → how_many (λ q. is_some (ref_at rs q)) r.end rest ≡ pages_in rs
           → how_many (λ q. is_some (ref_at (r ∷ rs) q)) from n ≡ pages_in (r ∷ rs)
       steps gap len rest begin end split others =
-          let none = how_many-none (λ q. is_some (ref_at (r ∷ rs) q)) from gap (λ q low high. ap is_some (ref_at-before r.first q (r ∷ rs) h (omega arith) (omega arith))) in
-          let all = how_many-all (λ q. is_some (ref_at (r ∷ rs) q)) r.first len (λ q low high. ap is_some (ref_at-in r rs q low (omega arith))) in
-          let behind = how_many-same (λ q. is_some (ref_at (r ∷ rs) q)) (λ q. is_some (ref_at rs q)) r.end rest (λ q low high. ap is_some (ref_at-behind r rs q low)) in
+          let none = how_many-none (λ q. is_some (ref_at (r ∷ rs) q)) from gap (λ q low high. ap is_some
+          (ref_at-before r.first q (r ∷ rs) h (omega arith) (omega arith))) in
+          let all = how_many-all (λ q. is_some (ref_at (r ∷ rs) q)) r.first len
+          (λ q low high. ap is_some (ref_at-in r rs q low (omega arith))) in
+          let behind = how_many-same (λ q. is_some (ref_at (r ∷ rs) q)) (λ q. is_some (ref_at rs q)) r.end rest
+          (λ q low high. ap is_some (ref_at-behind r rs q low)) in
           let sum = sum_by-cons (λ (x : PageRun). x.end - x.first) r rs in
           ap (how_many (λ q. is_some (ref_at (r ∷ rs) q)) from) split
           ∙ how_many-add (λ q. is_some (ref_at (r ∷ rs) q)) from gap (len + rest)
-          ∙ rw (begin, how_many-add (λ q. is_some (ref_at (r ∷ rs) q)) r.first len rest, end) (omega (arith, none, all, behind, others, sum))
+          ∙ rw (begin, how_many-add (λ q. is_some (ref_at (r ∷ rs) q)) r.first len rest, end)
+          (omega (arith, none, all, behind, others, sum))
 
 pub past_all : (p : ℕ) (rs : List PageRun) → AreRuns rs → BeginFrom p rs → pages_past p rs ≡ pages_in rs
 unfolding AreRuns BeginFrom
@@ -116,7 +125,13 @@ past_all p [] h b = refl
 past_all p (r ∷ rs) h b =
     let clipped : r.end - max r.first p ≡ r.end - r.first = omega (arith, b) in
     sum_by-cons (λ (x : PageRun). x.end - max x.first p) r rs
-    ∙ omega (arith, clipped, past_all p rs h.3 (begin_earlier p r.end rs (omega (arith, b, h.0.some)) h.1), sum_by-cons (λ (x : PageRun). x.end - x.first) r rs)
+    ∙ omega (
+      arith,
+      clipped,
+      past_all p rs h.3 (begin_earlier p r.end rs (omega (arith, b, h.0.some)) h.1),
+      sum_by-cons
+          (λ (x : PageRun). x.end - x.first) r rs,
+    )
 
 pub how_many_le : (test : ℕ → Bool) (from n : ℕ) → how_many test from n ≤ n
 unfolding how_many

@@ -11,7 +11,8 @@ use Rattle.nv_findex.specs.Runs.{AreRuns, BeginFrom, EndBy, goes_on_in}
 
 -- the runs behind what was read at a place
 pub drop_read : (rs : List PageRun) (at : ℕ) (r : PageRun) → slice_get rs at ≡ Some r → drop at rs ≡ r ∷ drop (at + 1) rs
-drop_read rs at r h = drop_more rs at r (slice_get_within rs at r h) ∙ ap (λ (x : PageRun). x ∷ drop (at + 1) rs) (get_or_from_slice_get rs at r r h)
+drop_read rs at r h = drop_more rs at r (slice_get_within rs at r h)
+    ∙ ap (λ (x : PageRun). x ∷ drop (at + 1) rs) (get_or_from_slice_get rs at r r h)
 
 pub split_read : (rs : List PageRun) (at : ℕ) (r : PageRun) → slice_get rs at ≡ Some r → rs ≡ take at rs ++ r ∷ drop (at + 1) rs
 split_read rs at r h = sym (take-append-drop at rs) ∙ ap (λ (l : List PageRun). take at rs ++ l) (drop_read rs at r h)
@@ -102,7 +103,8 @@ pub refs_within : (rs : List PageRun) → AreRuns rs → (q : ℕ) (at : PageRef
 unfolding AreRuns ref_at
 refs_within [] h q at e = absurd (none-some at e)
 refs_within (r ∷ rs) h q at e = go (nat_le r.first q && nat_lt q r.end) refl e (refs_within rs h.3 q at) where
-  go : (b : Bool) → (nat_le r.first q && nat_lt q r.end) ≡ b → cond b (Some (run_ref r q)) (ref_at rs q) ≡ Some at → (ref_at rs q ≡ Some at → (q < 65536) × (at.place < 65536)) → (q < 65536) × (at.place < 65536)
+  go : (b : Bool) → (nat_le r.first q && nat_lt q r.end) ≡ b → cond b (Some (run_ref r q)) (ref_at rs q) ≡ Some at
+      → (ref_at rs q ≡ Some at → (q < 65536) × (at.place < 65536)) → (q < 65536) × (at.place < 65536)
   go true t s rest =
       let both = and_parts (nat_le r.first q) (nat_lt q r.end) t in
       let low = leb-true r.first q both.0 in

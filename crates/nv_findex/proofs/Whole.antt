@@ -8,7 +8,8 @@ use Rattle.nv_findex.specs.Runs.{AreRuns, BeginFrom, EndBy, EndBehind, IsBorder,
 use Rattle.nv_findex.proofs.Refs.{drop_read, split_read, past_read, ref_at-in, ref_at-behind, ref_at-end_by, ref_at-back, ref_at-before, runs-back, end-front}
 
 -- two neighbours that aren't one run
-pub stop_at : (r s : PageRun) (q : ℕ) → goes_on r s ≡ false → r.first < r.end → r.end ≡ s.first → q + 1 ≡ r.end → is_followed (Some (run_ref r q)) (Some (run_ref s r.end)) ≡ false
+pub stop_at : (r s : PageRun) (q : ℕ) → goes_on r s ≡ false → r.first < r.end → r.end ≡ s.first → q + 1 ≡ r.end
+    → is_followed (Some (run_ref r q)) (Some (run_ref s r.end)) ≡ false
 stop_at r s q off some border e =
     let on : (r.end == s.first) ≡ true = eq-eqb r.end s.first border in
     let place : r.start.place + (q - r.first) + 1 ≡ r.start.place + (r.end - r.first) = omega arith in
@@ -16,7 +17,8 @@ stop_at r s q off some border e =
     rw (place, start) (rw on at off)
 
 -- nothing follows on the first run
-pub stop-first : (r : PageRun) (rs : List PageRun) (q : ℕ) → AreRuns (r ∷ rs) → q + 1 ≡ r.end → is_followed (ref_at (r ∷ rs) q) (ref_at (r ∷ rs) r.end) ≡ false
+pub stop-first : (r : PageRun) (rs : List PageRun) (q : ℕ) → AreRuns (r ∷ rs) → q + 1 ≡ r.end
+    → is_followed (ref_at (r ∷ rs) q) (ref_at (r ∷ rs) r.end) ≡ false
 unfolding AreRuns BeginFrom goes_on_in ref_at
 stop-first r rs q h e =
     rw (ref_at-in r rs q (omega (arith, h.0.some)) (omega arith), ref_at-behind r rs r.end (omega arith)) (next rs h) where
@@ -42,7 +44,8 @@ begin_whole (x ∷ xs) r ys q h e = go (nat_lt q x.end) refl (begin_whole xs r y
       → is_followed (ref_at (x ∷ (xs ++ r ∷ ys)) q) (ref_at (x ∷ (xs ++ r ∷ ys)) r.first) ≡ false
   go true t rest =
       let border : x.end ≡ r.first = omega (arith, ends.0, ltb-true q x.end t) in
-      subst (λ (n : ℕ). is_followed (ref_at (x ∷ (xs ++ r ∷ ys)) q) (ref_at (x ∷ (xs ++ r ∷ ys)) n) ≡ false) border (stop-first x (xs ++ r ∷ ys) q h (omega arith))
+      subst (λ (n : ℕ). is_followed (ref_at (x ∷ (xs ++ r ∷ ys)) q) (ref_at (x ∷ (xs ++ r ∷ ys)) n) ≡ false) border
+      (stop-first x (xs ++ r ∷ ys) q h (omega arith))
   go false t rest =
       rw (ref_at-behind x (xs ++ r ∷ ys) q (ltb-false q x.end t), ref_at-behind x (xs ++ r ∷ ys) r.first (omega (arith, ends.0))) rest
 
@@ -56,7 +59,11 @@ run_whole xs r ys h =
       pages = λ q low high. ref_at-back r.first q xs (r ∷ ys) ends low ∙ ref_at-in r ys q low high;
       begins = λ q e. begin_whole xs r ys q h e;
       ends = λ q e.
-          rw (ref_at-back r.first q xs (r ∷ ys) ends (omega (arith, here.0.some)), ref_at-back r.first r.end xs (r ∷ ys) ends (omega (arith, here.0.some)))
+          rw (
+            ref_at-back r.first q xs (r ∷ ys) ends (omega (arith, here.0.some)),
+            ref_at-back r.first r.end xs (r ∷ ys) ends
+                (omega (arith, here.0.some)),
+          )
           (stop-first r ys q here e);
     }
 
@@ -75,7 +82,8 @@ run_from p rs at (Some r) h b e =
     let split = split_read rs at r e in
     let parted : AreRuns (take at rs ++ r ∷ drop (at + 1) rs) = subst AreRuns split h in
     let back : AreRuns (r ∷ drop (at + 1) rs) = runs-back (take at rs) (r ∷ drop (at + 1) rs) parted in
-    let whole : IsRunOf (ref_at rs) r = subst (λ (l : List PageRun). IsRunOf (ref_at l) r) (sym split) (run_whole (take at rs) r (drop (at + 1) rs) parted) in (
+    let whole : IsRunOf (ref_at rs) r = subst (λ (l : List PageRun). IsRunOf (ref_at l) r) (sym split)
+    (run_whole (take at rs) r (drop (at + 1) rs) parted) in (
       (
         whole,
         some_from p rs at r b e,

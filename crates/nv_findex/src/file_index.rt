@@ -143,7 +143,7 @@ impl FileIndex {
     }
 
     /// Makes every page from `page` on absent. It takes no memory, and gives back the room of the runs that
-    /// go. Costs one look-up.
+    /// go. Costs one look-up and what it takes out.
     #[tactic(auto, using(crate::proofs::Counts::run_count_is))]
     pub fn cut_from(&mut self, page: u32)
         ensures pages { CutsFrom page (ref_at self.old.pages) (ref_at self.new.pages) }

@@ -79,17 +79,20 @@ fn three_writes_make_one_three_and_five_runs(rt: HostRuntime) -> Result<(), Fail
         (3, 4, 4, 0, 0),
         (4, 5, 4, 1, 0),
     ] {
-        assert_eq!(rt; index.at(page), Some(lies(commit, number, place)));
-        assert_eq!(rt;
-            index.next_from(page),
-            Some((page, lies(commit, number, place)))
-        );
         let run = PageRun {
             first: page,
             end,
             start: lies(commit, number, place),
         };
         assert_eq!(rt; index.run_from(page), Some(run));
+        let found = (index.at(page), index.next_from(page));
+        assert_eq!(rt;
+            found,
+            (
+                Some(lies(commit, number, place)),
+                Some((page, lies(commit, number, place)))
+            )
+        );
     }
     for (page, present) in [
         (0, 5),
@@ -100,10 +103,16 @@ fn three_writes_make_one_three_and_five_runs(rt: HostRuntime) -> Result<(), Fail
         (65_536, 0),
         (u32::MAX, 0),
     ] {
-        assert_eq!(rt; index.present_from(page), present);
-        assert_eq!(rt; index.at(page).is_some(), present > 0);
-        assert_eq!(rt; index.next_from(page).is_some(), present > 0);
-        assert_eq!(rt; index.run_from(page).is_some(), present > 0);
+        let some = (
+            index.at(page).is_some(),
+            index.next_from(page).is_some(),
+            index.run_from(page).is_some(),
+        );
+        let is_present = present > 0;
+        assert_eq!(rt;
+            (some, index.present_from(page)),
+            ((is_present, is_present, is_present), present)
+        );
     }
     Ok(())
 }
@@ -112,13 +121,13 @@ fn three_writes_make_one_three_and_five_runs(rt: HostRuntime) -> Result<(), Fail
 fn the_last_page_of_an_empty_file_is_one_run(rt: HostRuntime) -> Result<(), Fail> {
     let mut index = FileIndex::new(rt.alloc());
     write_all(&rt, &mut index, &[(65_535, 1, 7, 2, 1)])?;
-    assert_eq!(rt; index.at(65_534), None);
-    assert_eq!(rt; index.at(65_535), Some(lies(7, 2, 0)));
-    assert_eq!(rt; index.next_from(0), Some((65_535, lies(7, 2, 0))));
+    assert_eq!(rt;
+        (index.at(65_534), index.next_from(0)),
+        (None, Some((65_535, lies(7, 2, 0))))
+    );
     assert_eq!(rt; index.run_from(0).map(|run| run.page_count()), Some(1));
     index.cut_from(65_535);
-    assert_eq!(rt; index.next_from(0), None);
-    assert_eq!(rt; index.run_count(), 0);
+    assert_eq!(rt; (index.next_from(0), index.run_count()), (None, 0));
     Ok(())
 }
 
@@ -211,6 +220,42 @@ fn runs_of(alloc: Global, slots: &[Option<PageRef>]) -> Result<Vec<PageRun>, Fau
     Ok(runs)
 }
 
+fn first_behind(runs: &[PageRun], page: u32) -> Option<PageRun> {
+    for run in runs {
+        if page < run.end {
+            return Some(*run);
+        }
+    }
+    None
+}
+
+fn present_from(slots: &[Option<PageRef>], from: u32) -> u32 {
+    let mut present = 0u32;
+    for page in from..FILE_PAGES {
+        if slot(slots, page).is_some() {
+            present = present.saturating_add(1);
+        }
+    }
+    present
+}
+
+fn assert_same_at(
+    rt: &impl Abort,
+    index: &FileIndex,
+    runs: &[PageRun],
+    slots: &[Option<PageRef>],
+    page: u32,
+) {
+    let run = first_behind(runs, page);
+    assert_eq!(rt; index.at(page), slot(slots, page));
+    if let Some((next, at)) = index.next_from(page) {
+        assert_eq!(rt; slot(slots, next), Some(at));
+    }
+    let next = run.map(|run| run.first.max(page));
+    assert_eq!(rt; index.next_from(page).map(|found| found.0), next);
+    assert_eq!(rt; index.run_from(page), run);
+}
+
 fn assert_same(
     rt: &impl Abort,
     alloc: Global,
@@ -219,21 +264,14 @@ fn assert_same(
 ) -> Result<(), Fault> {
     let runs = runs_of(alloc, slots)?;
     assert_eq!(rt; index.run_count(), runs.len());
-    for page in (0..100).chain(65_530..65_540) {
-        let run = runs.iter().find(|run| page < run.end).copied();
-        assert_eq!(rt; index.run_from(page), run, "from page {page}");
-        assert_eq!(rt; index.at(page), slot(slots, page), "page {page}");
-        let found = run.map(|run| run.first.max(page));
-        let next = found.and_then(|page| slot(slots, page).map(|at| (page, at)));
-        assert_eq!(rt; index.next_from(page), next, "from page {page}");
+    for page in 0..100 {
+        assert_same_at(rt, index, &runs, slots, page);
+    }
+    for page in 65_530..65_540 {
+        assert_same_at(rt, index, &runs, slots, page);
     }
     for page in [0, 1, 20, 50, 90, 65_530, 65_536] {
-        let present = (page..FILE_PAGES).filter(|page| slot(slots, *page).is_some());
-        assert_eq!(rt;
-            index.present_from(page) as usize,
-            present.count(),
-            "from page {page}"
-        );
+        assert_eq!(rt; index.present_from(page), present_from(slots, page));
     }
     Ok(())
 }

@@ -20,14 +20,19 @@ ends_rise (r ∷ rs) zero (suc j) d h le lt = end_behind r rs j d h (omega arith
 ends_rise (r ∷ rs) (suc i) zero d h le lt = absurd (omega arith)
 ends_rise (r ∷ rs) (suc i) (suc j) d h le lt = ends_rise rs i j d h.3 (omega arith) (omega arith)
 
-all_end : (p : ℕ) (rs : List PageRun) (n : ℕ) → n ≤ length rs → ((k : ℕ) (d : PageRun) → 0 ≤ k → k < n → nat_le (get_or rs k d).end p ≡ true) → EndBy p (take n rs)
+all_end : (p : ℕ) (rs : List PageRun) (n : ℕ) → n ≤ length rs
+    → ((k : ℕ) (d : PageRun) → 0 ≤ k → k < n → nat_le (get_or rs k d).end p ≡ true) → EndBy p (take n rs)
 unfolding EndBy
 all_end p rs zero le h = tt
 all_end p [] (suc n) le h = tt
-all_end p (r ∷ rs) (suc n) le h =
-    (leb-true r.end p (h 0 r (omega arith) (omega arith)), all_end p rs n (omega arith) (λ k d low lt. h (suc k) d (omega arith) (omega arith)))
+all_end p (r ∷ rs) (suc n) le h = (
+  leb-true r.end p (h 0 r (omega arith) (omega arith)),
+  all_end p rs n (omega arith)
+      (λ k d low lt. h (suc k) d (omega arith) (omega arith)),
+)
 
-next_ends : (p : ℕ) (rs : List PageRun) (n : ℕ) → ((k : ℕ) (d : PageRun) → n ≤ k → k < length rs → nat_le (get_or rs k d).end p ≡ false) → EndBehind p (drop n rs)
+next_ends : (p : ℕ) (rs : List PageRun) (n : ℕ) → ((k : ℕ) (d : PageRun) → n ≤ k → k < length rs → nat_le (get_or rs k d).end p ≡ false)
+    → EndBehind p (drop n rs)
 unfolding EndBehind
 next_ends p [] zero h = tt
 next_ends p [] (suc n) h = tt
@@ -36,7 +41,8 @@ next_ends p (r ∷ rs) (suc n) h = next_ends p rs n (λ k d low lt. h (suc k) d 
 
 pub returns : goal.returns
 returns c =
-    let point = IsPartitionPoint-from_clause (λ (r : PageRun). nat_le r.end c.args.page) c.args.runs.now c.partition_point.result c.partition_point.ensures.partitioned
+    let point = IsPartitionPoint-from_clause
+    (λ (r : PageRun). nat_le r.end c.args.page) c.args.runs.now c.partition_point.result c.partition_point.ensures.partitioned
     (λ i j d le lt h. le-leb _ _ (omega (arith, ends_rise c.args.runs.now i j d c.requires le lt, leb-true _ _ h)))
     (λ a r f called. search rules) in
     record {

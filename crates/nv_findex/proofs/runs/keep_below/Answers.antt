@@ -7,12 +7,14 @@ use Rattle.nv_findex.proofs.runs.keep_below.Goals as goal
 pub returns-in_default-clause-below : goal.returns-in_default-clause-below
 returns-in_default-clause-below c =
     let none = ap (λ (l : List PageRun). slice_get l c.args.at) (sym c.deref.ensures.value) ∙ sym c.get.ensures ∙ c.in_default.is in
-    below_whole c.args.page c.args.runs.now.items c.args.at c.requires.runs c.requires.border (begin_none c.args.page c.args.runs.now.items c.args.at none)
+    below_whole c.args.page c.args.runs.now.items c.args.at c.requires.runs c.requires.border
+    (begin_none c.args.page c.args.runs.now.items c.args.at none)
 
 pub returns-then-page-run-clause-below : goal.returns-then-page-run-clause-below
 returns-then-page-run-clause-below c =
     let some = ap (λ (l : List PageRun). slice_get l c.args.at) (sym c.deref.ensures.value) ∙ sym c.get.ensures ∙ c.in-Some.is in
-    below_whole c.args.page c.args.runs.now.items c.args.at c.requires.runs c.requires.border (begin_some c.args.page c.args.runs.now.items c.args.at c.in-Some.run' some c.if-page-run.true)
+    below_whole c.args.page c.args.runs.now.items c.args.at c.requires.runs c.requires.border
+    (begin_some c.args.page c.args.runs.now.items c.args.at c.in-Some.run' some c.if-page-run.true)
 
 pub index_mut-requires : goal.index_mut-requires
 index_mut-requires c =

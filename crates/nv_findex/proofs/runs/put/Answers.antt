@@ -32,8 +32,10 @@ follows r rs xs at to next h k same first last read =
     }
 
 -- a run put before what that one has behind it
-put_before : (r : PageRun) (old cut : List PageRun) (at kept to : ℕ) (next s : PageRun) (ss new : List PageRun) → IsRun r → Follows r old at to next → IsBelow r.first old (take kept cut)
-    → kept ≤ at + 1 → ((n : ℕ) → at < n → drop n cut ≡ drop n old) → IsTop r (rest_from r.end next ∷ drop (to + 1) old) s (ss ++ drop (to + 1) old) → length ss ≤ 1
+put_before : (r : PageRun) (old cut : List PageRun) (at kept to : ℕ) (next s : PageRun) (ss new : List PageRun) → IsRun r
+    → Follows r old at to next → IsBelow r.first old (take kept cut)
+    → kept ≤ at + 1 → ((n : ℕ) → at < n → drop n cut ≡ drop n old)
+    → IsTop r (rest_from r.end next ∷ drop (to + 1) old) s (ss ++ drop (to + 1) old) → length ss ≤ 1
     → new ≡ take kept cut ++ s ∷ (ss ++ drop (to + 1) cut) → IsPut r old new
 put_before r old cut at kept to next s ss new h f below one same top small is =
     spliced r old (take kept cut) (rest_from r.end next ∷ drop (to + 1) old) s (ss ++ drop (to + 1) old) new h below f.from top
@@ -84,13 +86,27 @@ returns-in_default-clause-put c =
     let cut = c.keep_below-at.new.runs.items in
     let kept = take c.keep_below-at.result cut in
     let to = c.ended_by-to.result in
-    let none : slice_get old to ≡ None = ap (λ (l : List PageRun). slice_get l to) (sym c.as_slice-old.ensures.value) ∙ sym c.get-next.ensures ∙ c.in_default.is in
-    let past : length cut ≤ to = omega (arith, past_read old to none, c.keep_below-at.ensures.len, c.args.runs.now.ok.0, c.keep_below-at.new.runs.ok.0) in
-    let last : IsBorder run.end old to = subst (λ (l : List PageRun). IsBorder run.end l to) c.as_slice-old.ensures.value c.ended_by-to.ensures in
+    let none : slice_get old to ≡ None = ap (λ (l : List PageRun). slice_get l to) (sym c.as_slice-old.ensures.value)
+    ∙ sym c.get-next.ensures ∙ c.in_default.is in
+    let past : length cut ≤ to = omega (
+      arith,
+      past_read old to none,
+      c.keep_below-at.ensures.len,
+      c.args.runs.now.ok.0,
+      c.keep_below-at.new.runs.ok.0,
+    ) in
+    let last : IsBorder run.end old to = subst
+    (λ (l : List PageRun). IsBorder run.end l to) c.as_slice-old.ensures.value c.ended_by-to.ensures in
     spliced run old kept [] run [] c.splice.new.runs.items c.requires.run c.keep_below-at.ensures.below (from_none run.end old to last none)
     (top_apart run [] c.requires.run c.requires.place tt tt refl)
     (c.splice.ensures.items ∙ ap (λ (l : List PageRun). kept ++ run ∷ l) (drop_all to cut past))
-    (omega (arith, length-take c.keep_below-at.result cut, c.keep_below-at.ensures.len, c.args.runs.now.ok.0, c.keep_below-at.new.runs.ok.0))
+    (omega (
+      arith,
+      length-take c.keep_below-at.result cut,
+      c.keep_below-at.ensures.len,
+      c.args.runs.now.ok.0,
+      c.keep_below-at.new.runs.ok.0,
+    ))
 
 pub returns-then-goes_on-clause-put : goal.returns-then-goes_on-clause-put
 returns-then-goes_on-clause-put c =
@@ -99,9 +115,12 @@ returns-then-goes_on-clause-put c =
     let rest = rest_from c.args.run.end c.in-Some.next in
     let is = c.rest_from-next.ensures in
     let on : goes_on c.args.run rest ≡ true = ap (goes_on c.args.run) (sym is) ∙ sym c.goes_on.ensures ∙ c.if-goes_on.true in
-    put_before c.args.run c.args.runs.now.items c.keep_below-at.new.runs.items c.ended_by-at.result c.keep_below-at.result c.ended_by-to.result c.in-Some.next
-    (record c.args.run { end = rest.end }) [] c.splice-then-goes_on.new.runs.items c.requires.run f c.keep_below-at.ensures.below c.keep_below-at.ensures.one c.keep_below-at.ensures.behind
-    (top_joined c.args.run rest (drop (c.ended_by-to.result + 1) c.args.runs.now.items) c.requires.run c.requires.place f.from.runs on) (omega arith) (rw is at c.splice-then-goes_on.ensures.items)
+    put_before c.args.run c.args.runs.now.items c.keep_below-at.new.runs.items
+    c.ended_by-at.result c.keep_below-at.result c.ended_by-to.result c.in-Some.next
+    (record c.args.run { end = rest.end }) [] c.splice-then-goes_on.new.runs.items c.requires.run f
+    c.keep_below-at.ensures.below c.keep_below-at.ensures.one c.keep_below-at.ensures.behind
+    (top_joined c.args.run rest (drop (c.ended_by-to.result + 1) c.args.runs.now.items) c.requires.run c.requires.place f.from.runs on)
+    (omega arith) (rw is at c.splice-then-goes_on.ensures.items)
 
 pub returns-clause-put : goal.returns-clause-put
 unfolding goes_on_in
@@ -111,7 +130,10 @@ returns-clause-put c =
     let rest = rest_from c.args.run.end c.in-Some.next in
     let is = c.rest_from-next.ensures in
     let off : goes_on c.args.run rest ≡ false = ap (goes_on c.args.run) (sym is) ∙ sym c.goes_on.ensures ∙ c.if-goes_on.false in
-    put_before c.args.run c.args.runs.now.items c.keep_below-at.new.runs.items c.ended_by-at.result c.keep_below-at.result c.ended_by-to.result c.in-Some.next
-    c.args.run (rest ∷ []) c.splice-2.new.runs.items c.requires.run f c.keep_below-at.ensures.below c.keep_below-at.ensures.one c.keep_below-at.ensures.behind
-    (top_apart c.args.run (rest ∷ drop (c.ended_by-to.result + 1) c.args.runs.now.items) c.requires.run c.requires.place f.from.runs f.from.begin off) (omega arith)
-    (rw is at c.splice-2.ensures.items)
+    put_before c.args.run c.args.runs.now.items c.keep_below-at.new.runs.items
+    c.ended_by-at.result c.keep_below-at.result c.ended_by-to.result c.in-Some.next
+    c.args.run (rest ∷ []) c.splice-2.new.runs.items c.requires.run f
+    c.keep_below-at.ensures.below c.keep_below-at.ensures.one c.keep_below-at.ensures.behind
+    (top_apart c.args.run (rest ∷ drop (c.ended_by-to.result + 1) c.args.runs.now.items)
+    c.requires.run c.requires.place f.from.runs f.from.begin off)
+    (omega arith) (rw is at c.splice-2.ensures.items)
