@@ -1,6 +1,4 @@
-pub mod Search
-pub mod Borders
-pub mod Parts
-pub mod Kept
-pub mod Found
-pub mod Shown
+pub mod Refs
+pub mod Whole
+pub mod Counts
+pub mod Put

@@ -3,11 +3,11 @@
 
 mod file_index;
 mod page_ref;
+mod page_run;
 mod runs;
-#[cfg(test)]
-mod slot_index;
 #[cfg(test)]
 mod tests;
 
 pub use file_index::FileIndex;
 pub use page_ref::PageRef;
+pub use page_run::PageRun;

@@ -1,169 +1,181 @@
 //! Sorted runs of pages.
 
-ghost use Rattle.std.specs.Prelude.{◌≡◌, ◌+◌, ◌-◌, ◌<◌, ◌≤◌, ◌++◌, Some, None, if◌then◌else◌, length, take, drop, insert, vec_len, vec_capacity};
-ghost use Rattle.nv_findex.specs.Runs.{IsRun, AreApart, run_ref, goes_on, ended, IsFirstBehind, ref_in, pages_below, pages_from, put_run};
-ghost use Rattle.nv_findex.specs.Pages.{IsNextFrom};
+ghost use Rattle.std.specs.Prelude.{◌≡◌, ℕ, ◌+◌, ◌-◌, ◌^◌, ◌<◌, ◌≤◌, ◌++◌, length, take, drop, replicate, slice_get, vec_len, vec_capacity, IfSome};
+ghost use Rattle.nv_findex.specs.Pages.{IsRun, IsRunFrom, IsNextFrom, CutsFrom, ref_at, present_from};
+ghost use Rattle.nv_findex.specs.Runs.{AreRuns, IsBorder, IsBelow, IsPut, pages_past};
 
-use crate::PageRef;
-
-/// Consecutive pages that lie one after another in one entry's run, from `first` on and before `end`.
-#[derive(Clone, Copy, Debug)]
-pub struct Run {
-    pub first: u32,
-    pub end: u32,
-    /// Where the page `first` lies.
-    pub start: PageRef,
-}
-
-impl Run {
-    /// Where a page of the run lies.
-    fn page_ref(&self, page: u32) -> PageRef
-        requires run { IsRun self.now }
-        requires first { self.now.first ≤ page }
-        requires end { page < self.now.end }
-        ensures { result ≡ run_ref self.now page }
-    {
-        PageRef {
-            entry: self.start.entry,
-            place: self.start.place + (page - self.first),
-        }
-    }
-
-    /// Whether the run and `next` are one run.
-    fn goes_on(&self, next: &Run) -> bool
-        requires { IsRun self.now }
-        ensures { result ≡ goes_on self.now next.now }
-    {
-        self.end == next.first
-            && self.start.entry == next.start.entry
-            && self.start.place + (self.end - self.first) == next.start.place
-    }
-}
+use crate::{PageRef, PageRun};
 
 /// How many of the runs end at or before a page.
-fn ended_by(runs: &[Run], page: u32) -> usize
-    requires { AreApart runs.now }
-    ensures { result ≡ ended page runs.now }
+fn ended_by(runs: &[PageRun], page: u32) -> usize
+    requires { AreRuns runs.now }
+    ensures { IsBorder page runs.now result }
 {
     runs.partition_point(|run| run.end <= page)
 }
 
-/// The first run that ends behind a page.
-fn first_behind(runs: &[Run], page: u32) -> Option<Run>
-    requires { AreApart runs.now }
-    ensures { IsFirstBehind page runs.now result }
+fn get(runs: &[PageRun], at: usize) -> Option<PageRun>
+    ensures { result ≡ slice_get runs.now at }
 {
-    runs.get(ended_by(runs, page)).copied()
+    runs.get(at).copied()
+}
+
+/// The run that holds a page, or else the first one behind it.
+pub fn run_from(runs: &[PageRun], page: u32) -> Option<PageRun>
+    requires { AreRuns runs.now }
+    ensures run { IsRunFrom page (ref_at runs.now) result }
+    ensures within { IfSome result (λ run. IsRun run) }
+{
+    get(runs, ended_by(runs, page))
 }
 
 /// Where a page lies.
-pub fn find(runs: &[Run], page: u32) -> Option<PageRef>
-    requires { AreApart runs.now }
-    ensures { result ≡ ref_in runs.now page }
+pub fn find(runs: &[PageRun], page: u32) -> Option<PageRef>
+    requires { AreRuns runs.now }
+    ensures { result ≡ ref_at runs.now page }
 {
-    match first_behind(runs, page) {
-        Some(run) if run.first <= page => Some(run.page_ref(page)),
-        _ => None,
+    let run = run_from(runs, page)?;
+    if page < run.first {
+        return None;
     }
+    Some(run.page_ref(page))
 }
 
 /// The least present page that isn't below `page`, and where it lies.
-pub fn find_next(runs: &[Run], page: u32) -> Option<(u32, PageRef)>
-    requires { AreApart runs.now }
-    ensures { IsNextFrom page (ref_in runs.now) result }
+pub fn find_next(runs: &[PageRun], page: u32) -> Option<(u32, PageRef)>
+    requires { AreRuns runs.now }
+    ensures { IsNextFrom page (ref_at runs.now) result }
 {
-    let run = first_behind(runs, page)?;
+    let run = run_from(runs, page)?;
     let found = run.first.max(page);
     Some((found, run.page_ref(found)))
 }
 
-/// Takes all pages from `page` on out of the runs.
-pub fn cut(runs: &mut Vec<Run>, page: u32)
-    requires { AreApart runs.old.items }
-    ensures pages { runs.new.items ≡ pages_below page runs.old.items }
-    ensures capacity { vec_capacity runs.new ≡ vec_capacity runs.old }
+/// How many pages of the runs aren't below `page`.
+fn pages_past(runs: &[PageRun], page: u32) -> u32
+    requires { pages_past page runs.now < 2 ^ 32 }
+    ensures { result ≡ pages_past page runs.now }
 {
-    let at = ended_by(runs, page);
-    if at < runs.len() && runs[at].first < page {
-        runs[at].end = page;
-        runs.truncate(at + 1);
-        return;
-    }
-    runs.truncate(at);
+    runs.iter()
+        .map(|run| run.end.saturating_sub(run.first.max(page)))
+        .sum()
 }
 
-/// Makes a border at `page`: a run that goes over it becomes two. Returns how many runs lie below it.
-fn split(runs: &mut Vec<Run>, page: u32) -> usize
-    requires apart { AreApart runs.old.items }
-    requires room { vec_len runs.old < vec_capacity runs.old }
-    ensures below { take result runs.new.items ≡ pages_below page runs.old.items }
-    ensures from { drop result runs.new.items ≡ pages_from page runs.old.items }
+/// How many pages are present from `page` on.
+pub fn count_from(runs: &[PageRun], page: u32) -> u32
+    requires { AreRuns runs.now }
+    ensures { result ≡ present_from page runs.now }
+{
+    pages_past(&runs[ended_by(runs, page)..], page)
+}
+
+/// Takes the pages from `page` on out of the run at `at` where it begins below. Returns how many runs lie
+/// below `page` then.
+fn keep_below(runs: &mut Vec<PageRun>, at: usize, page: u32) -> usize
+    requires runs { AreRuns runs.old.items }
+    requires border { IsBorder page runs.old.items at }
+    ensures below { IsBelow page runs.old.items (take result runs.new.items) }
+    ensures behind { (n : ℕ) → at < n → drop n runs.new.items ≡ drop n runs.old.items }
+    ensures len { vec_len runs.new ≡ vec_len runs.old }
     ensures within { result ≤ vec_len runs.new }
+    ensures one { result ≤ at + 1 }
+    ensures capacity { vec_capacity runs.new ≡ vec_capacity runs.old }
+{
+    let Some(run) = get(runs, at) else {
+        return at;
+    };
+    if page <= run.first {
+        return at;
+    }
+    runs[at] = PageRun { end: page, ..run };
+    at + 1
+}
+
+/// Takes all pages from `page` on out of the runs.
+pub fn cut(runs: &mut Vec<PageRun>, page: u32)
+    requires { AreRuns runs.old.items }
+    ensures runs { AreRuns runs.new.items }
+    ensures pages { CutsFrom page (ref_at runs.old.items) (ref_at runs.new.items) }
+    ensures count { vec_len runs.new ≤ vec_len runs.old }
     ensures capacity { vec_capacity runs.new ≡ vec_capacity runs.old }
 {
     let at = ended_by(runs, page);
-    if at < runs.len() && runs[at].first < page {
-        let run = runs[at];
-        let rest = Run {
-            first: page,
-            end: run.end,
-            start: run.page_ref(page),
-        };
-        runs[at].end = page;
-        insert_reserved(runs, at + 1, rest);
-        return at + 1;
-    }
-    at
+    let kept = keep_below(runs, at, page);
+    runs.truncate(kept);
 }
 
-/// Puts a run before the one at `at`.
-fn insert_reserved(runs: &mut Vec<Run>, at: usize, run: Run)
-    requires within { at ≤ vec_len runs.old }
-    requires room { vec_len runs.old < vec_capacity runs.old }
-    ensures items { runs.new.items ≡ insert runs.old.items at run }
+/// Puts copies of a run at the end.
+fn push_copies(runs: &mut Vec<PageRun>, count: usize, run: &PageRun)
+    requires room { vec_len runs.old + count ≤ vec_capacity runs.old }
+    ensures items { runs.new.items ≡ runs.old.items ++ replicate count run.now }
     ensures capacity { vec_capacity runs.new ≡ vec_capacity runs.old }
 {
-    let _ok = runs.insert(at, run);
+    for _copy in 0..count {
+        runs.push_reserved(*run);
+    }
 }
 
-/// Puts a run before the one at `at`, as one with it if it goes on there.
-fn join_at(runs: &mut Vec<Run>, at: usize, run: Run)
-    requires within { at ≤ vec_len runs.old }
-    requires run { IsRun run }
-    requires room { vec_len runs.old < vec_capacity runs.old }
-    ensures items { runs.new.items ≡ take at runs.old.items ++ put_run run (drop at runs.old.items) }
+/// Moves the runs from the place `from` on, so that they begin at the place `to`. Moves none if the two are
+/// the same.
+fn move_tail(runs: &mut Vec<PageRun>, from: usize, to: usize, filler: &PageRun)
+    requires within { from ≤ vec_len runs.old }
+    requires room { vec_len runs.old + to ≤ vec_capacity runs.old + from }
+    ensures front { (n : ℕ) → n ≤ from → n ≤ to → take n runs.new.items ≡ take n runs.old.items }
+    ensures tail { drop to runs.new.items ≡ drop from runs.old.items }
+    ensures len { vec_len runs.new + from ≡ vec_len runs.old + to }
     ensures capacity { vec_capacity runs.new ≡ vec_capacity runs.old }
 {
-    if at < runs.len() && run.goes_on(&runs[at]) {
-        runs[at] = Run {
-            end: runs[at].end,
-            ..run
-        };
-        return;
+    let len = runs.len();
+    if from < to {
+        push_copies(runs, to - from, filler);
+        runs.copy_within(from..len, to);
+    } else if to < from {
+        runs.copy_within(from..len, to);
+        runs.truncate(len - (from - to));
     }
-    insert_reserved(runs, at, run);
 }
 
-/// Takes the runs from `at` on and before `to` out.
-fn remove_range(runs: &mut Vec<Run>, at: usize, to: usize)
-    requires order { at ≤ to }
+/// Puts runs in place of those from `from` on and before `to`. What lies behind moves once, and only where
+/// there are more or fewer than before.
+fn splice(runs: &mut Vec<PageRun>, from: usize, to: usize, put: &[PageRun])
+    requires some { 0 < length put.now }
+    requires order { from ≤ to }
     requires within { to ≤ vec_len runs.old }
-    ensures items { runs.new.items ≡ take at runs.old.items ++ drop to runs.old.items }
+    requires room { vec_len runs.old + length put.now ≤ vec_capacity runs.old + (to - from) }
+    ensures items { runs.new.items ≡ take from runs.old.items ++ (put.now ++ drop to runs.old.items) }
     ensures capacity { vec_capacity runs.new ≡ vec_capacity runs.old }
 {
-    drop(runs.drain(at..to));
+    let end = from + put.len();
+    move_tail(runs, to, end, &put[0]);
+    runs[from..end].copy_from_slice(put);
 }
 
 /// Puts a run in place of what the runs have of its pages.
-pub fn put(runs: &mut Vec<Run>, run: Run)
-    requires apart { AreApart runs.old.items }
+pub fn put(runs: &mut Vec<PageRun>, run: PageRun)
+    requires runs { AreRuns runs.old.items }
     requires run { IsRun run }
+    requires place { run.start.place ≡ 0 }
     requires room { vec_len runs.old + 2 ≤ vec_capacity runs.old }
-    ensures pages { runs.new.items ≡ pages_below run.first runs.old.items ++ put_run run (pages_from run.end runs.old.items) }
+    ensures put { IsPut run runs.old.items runs.new.items }
     ensures capacity { vec_capacity runs.new ≡ vec_capacity runs.old }
 {
-    let at = split(runs, run.first);
-    let to = split(runs, run.end);
-    remove_range(runs, at, to);
-    join_at(runs, at, run);
+    let old = runs.as_slice();
+    let at = ended_by(old, run.first);
+    let to = ended_by(old, run.end);
+    let next = get(old, to);
+    let at = keep_below(runs, at, run.first);
+    let Some(next) = next else {
+        splice(runs, at, to, &[run]);
+        return;
+    };
+    let next = next.rest_from(run.end);
+    if run.goes_on(&next) {
+        let joined = PageRun {
+            end: next.end,
+            ..run
+        };
+        splice(runs, at, to + 1, &[joined]);
+        return;
+    }
+    splice(runs, at, to + 1, &[run, next]);
 }
