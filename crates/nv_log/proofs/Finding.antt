@@ -1,12 +1,11 @@
 -- What a search by halving finds in a log.
-use Rattle.std.proofs.Common.{◌≡◌, ℕ, ◌<◌, ◌≤◌, inl, inr, Bool, true, false, cond, nat_lt, List, [], ◌∷◌, length, get_or, Option, Some, None, Result, Ok, Err, arith, refl, ap, sym, ◌∙◌, Ordering, Bor}
+use Rattle.std.proofs.Common.{◌≡◌, ℕ, ◌<◌, ◌≤◌, inl, inr, Bool, true, false, cond, nat_lt, List, [], ◌∷◌, length, get_or, Option, Some, None, Result, Ok, Err, arith, refl, ap, sym, ◌∙◌, Ordering}
 use Rattle.std.proofs.lemmas.Bool.{cases_lt, lt-ltb, le-ltb}
 use Rattle.std.proofs.lemmas.Bool.Decides.{nat_tests}
 use Rattle.std.proofs.lemmas.List.Sums.{position_or_len_is}
 use Rattle.std.proofs.lemmas.List.Folds.{find_at}
-use Rattle.std.proofs.lemmas.Option.{slice_get_past, slice_get_read}
-use Rattle.std.specs.Option.{option_copied}
-use Rattle.std.specs.Slice.{IsItemAt}
+use Rattle.std.proofs.lemmas.Option.{slice_get_past}
+use Rattle.std.specs.Option.{IfSome}
 use Rattle.std.specs.List.{position_or_len, find, slice_get}
 use Rattle.std.specs.List.Sorted.{IsBinarySearchResult, IsNonDecreasingBy, IsSearchInRange}
 use Rattle.std.specs.Ordering.{nat_cmp, ordering_then, ordering_index}
@@ -90,7 +89,11 @@ entry_none es id e =
     let beyond : length es ≤ position_or_len (has_id id) es = grind (arith, nat_tests) in
     find_at (has_id id) es ∙ slice_get_past es (position_or_len (has_id id) es) beyond
 
--- what `get` lends is the entry at the place
-pub item_at : (xs : List Entry) (k : ℕ) (r : Option (Bor Entry)) → IsItemAt xs k r → option_copied r ≡ slice_get xs k
-item_at xs k None h = sym (slice_get_past xs k h.3)
-item_at xs k (Some x) h = sym (slice_get_read xs (length xs) k x.now refl h.3.0 (h.3.1 x.now))
+-- the place of an id is within
+pub found_within : (es : List Entry) (id : EntryId) (place : Option ℕ) → place ≡ place_of es id → IfSome place (λ k. k < length es)
+found_within es id None e = tt
+found_within es id (Some k) e = small (nat_lt (position_or_len (has_id id) es) (length es)) refl (sym e)
+  where
+    small : (b : Bool) → nat_lt (position_or_len (has_id id) es) (length es) ≡ b → cond b (Some (position_or_len (has_id id) es)) None ≡ Some k → k < length es
+    small true lt is = let same : position_or_len (has_id id) es ≡ k = cc in rw (← same) (grind (arith, nat_tests))
+    small false lt is = cc
