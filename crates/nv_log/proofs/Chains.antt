@@ -17,7 +17,9 @@ use Rattle.nv_log.proofs.Parts.{AreEnds-full, AreEnds-joined, AreEnds-push, AreE
 use Rattle.nv_log.proofs.Removals.{all_left, joined-left_of, length-left_of, length-left_of-le, spread, take-joined_left, take-left_of}
 
 -- the next entry goes to the last page with entries while that has a free place, and else to the page after it
-open_either : (page : ℕ) (ends : List ℕ) (len : ℕ) → ((len - start_in ends len (length ends - 1) < page) × (open_page page ends len ≡ length ends - 1)) ⊎ ((page ≤ len - start_in ends len (length ends - 1)) × (open_page page ends len ≡ length ends))
+open_either : (page : ℕ) (ends : List ℕ) (len : ℕ)
+    → ((len - start_in ends len (length ends - 1) < page) × (open_page page ends len ≡ length ends - 1)) ⊎
+    ((page ≤ len - start_in ends len (length ends - 1)) × (open_page page ends len ≡ length ends))
 open_either page ends len =
     let held = len - start_in ends len (length ends - 1) in
     elim (cases_lt held page) [ inl lt ↦ inl (lt, rw (lt-ltb held page lt) refl) | inr ge ↦ inr (ge, rw (le-ltb held page ge) refl) ]
@@ -37,7 +39,15 @@ is_open page ends len some are =
           rw last.1 (record { at_most = omega arith; begins = omega (arith, begins.0, begins.1); stops = stops ends are; free = last.0 })
       | inr next ↦
           let past = start_past page 0 ends len (length ends) are (omega arith) in
-          rw next.1 (record { at_most = omega arith; begins = omega (arith, past); stops = get_or_past ends (length ends) len (omega arith); free = omega (arith, past) })
+          rw next.1 (record {
+            at_most = omega arith;
+            begins = omega (
+              arith,
+              past,
+            );
+            stops = get_or_past ends (length ends) len (omega arith);
+            free = omega (arith, past);
+          })
     ]
   where
     stops : (ends : List ℕ) → AreEnds page 0 ends len → end_in ends len (length ends - 1) ≡ len
@@ -49,16 +59,22 @@ is_open page ends len some are =
 -- the page that gets the next entry, where there is room
 is_within : (page held len at : ℕ) → 0 < page * (len - at) - held → at < len
 is_within page held len at room =
-    elim (cases_lt at len) [ inl lt ↦ lt | inr ge ↦ let none : len - at ≡ 0 = omega arith in let nothing : 0 < page * 0 - held = rw none at room in absurd (omega arith) ]
+    elim (cases_lt at len) [
+      | inl lt ↦ lt
+      | inr ge ↦ let none : len - at ≡ 0 = omega arith in let nothing : 0 < page * 0 - held = rw none
+          at room in absurd (omega arith)
+    ]
 
 pub opens : (chain : ChainState) → IsChain chain → IsOpen chain.page chain.ends (length chain.entries) (open_of chain)
 opens chain is = is_open chain.page chain.ends (length chain.entries) (omega (arith, is.least)) is.parted
 
 pub open_within : (chain : ChainState) → 0 < room_of chain → open_of chain < length chain.blocks
-open_within chain room = is_within chain.page (length chain.entries - start_of chain (open_of chain)) (length chain.blocks) (open_of chain) room
+open_within chain room =
+    is_within chain.page (length chain.entries - start_of chain (open_of chain)) (length chain.blocks) (open_of chain) room
 
 -- a chain with one more entry is a chain
-pub IsChain-appended : (chain : ChainState) (e : Entry) → IsChain chain → 0 < room_of chain → (0 < length chain.entries → MayFollow (get_or chain.entries (length chain.entries - 1) e) e) → IsChain (appended e chain)
+pub IsChain-appended : (chain : ChainState) (e : Entry) → IsChain chain → 0 < room_of chain → (0 < length chain.entries
+    → MayFollow (get_or chain.entries (length chain.entries - 1) e) e) → IsChain (appended e chain)
 IsChain-appended chain e is room last =
     let opened = opens chain is in
     let len = length chain.entries in
@@ -68,23 +84,37 @@ IsChain-appended chain e is room last =
       least = is.least;
       most = is.most;
       paged = omega (arith, length_push front (len + 1), length-take-le (open_of chain) chain.ends opened.at_most, open_within chain room);
-      parted = rw size (AreEnds-push chain.page 0 front (start_of chain (open_of chain)) (len + 1) (AreEnds-take chain.page 0 chain.ends len (open_of chain) is.parted opened.at_most) (omega (arith, opened.begins)) (omega (arith, opened.free, opened.begins)));
+      parted =
+          rw size (AreEnds-push chain.page 0 front (start_of chain (open_of chain)) (len + 1) (AreEnds-take chain.page 0 chain.ends len
+          (open_of chain) is.parted opened.at_most) (omega (arith, opened.begins)) (omega (arith, opened.free, opened.begins)));
       rising = IsLog-push chain.entries e is.rising last;
       within = omega (arith, is.within, size);
     }
 
 -- an entry that may follow the last id and epoch may follow the last entry
-pub follows_last : (chain : ChainState) (e : Entry) → ForSome (last_id chain) (λ last. IsIdBefore last e.id) → ForSome (last_epoch chain) (λ last. last ≤ e.epoch) → 0 < length chain.entries → MayFollow (get_or chain.entries (length chain.entries - 1) e) e
+pub follows_last : (chain : ChainState) (e : Entry) → ForSome (last_id chain) (λ last. IsIdBefore last e.id)
+    → ForSome (last_epoch chain) (λ last. last ≤ e.epoch) → 0 < length chain.entries
+    → MayFollow (get_or chain.entries (length chain.entries - 1) e) e
 follows_last chain e id epoch some =
     let last = slice_get-get_or chain.entries (length chain.entries - 1) e (omega arith) in
-    record { id_rises = id _ (ap (option_map (λ (x : Entry). x.id)) last); epoch_stays = epoch _ (ap (option_map (λ (x : Entry). x.epoch)) last) }
+    record {
+      id_rises = id _ (ap (option_map (λ (x : Entry). x.id)) last);
+      epoch_stays = epoch _ (ap (option_map (λ (x : Entry). x.epoch)) last);
+    }
 
 -- what the ids and epochs of a chain's end ask, by its last entry
-pub by_last : (chain : ChainState) (last : Entry) (id : EntryId) (epoch : ℕ) → last_entry chain ≡ Some last → (IsIdBefore last.id id → last.epoch ≤ epoch → ForSome (last_id chain) (λ x. IsIdBefore x id) × ForSome (last_epoch chain) (λ x. x ≤ epoch)) × (ForSome (last_id chain) (λ x. IsIdBefore x id) × ForSome (last_epoch chain) (λ x. x ≤ epoch) → IsIdBefore last.id id × (last.epoch ≤ epoch))
+pub by_last : (chain : ChainState) (last : Entry) (id : EntryId) (epoch : ℕ) → last_entry chain ≡ Some last → (IsIdBefore last.id id
+    → last.epoch ≤ epoch
+    → ForSome (last_id chain) (λ x. IsIdBefore x id) × ForSome (last_epoch chain) (λ x. x ≤ epoch)) × (ForSome (last_id chain)
+    (λ x. IsIdBefore x id) × ForSome (last_epoch chain) (λ x. x ≤ epoch) → IsIdBefore last.id id × (last.epoch ≤ epoch))
 by_last chain last id epoch is =
     let ids = ap (option_map (λ (x : Entry). x.id)) is in
     let epochs = ap (option_map (λ (x : Entry). x.epoch)) is in (
-      λ before le. (λ x e. subst (λ y. IsIdBefore y id) (same last.id x (sym ids ∙ e)) before, λ x e. subst (λ y. y ≤ epoch) (same last.epoch x (sym epochs ∙ e)) le),
+      λ before le. (
+        λ x e. subst (λ y. IsIdBefore y id) (same last.id x (sym ids
+            ∙ e)) before,
+        λ x e. subst (λ y. y ≤ epoch) (same last.epoch x (sym epochs ∙ e)) le,
+      ),
       λ both. (both.0 last.id ids, both.1 last.epoch epochs),
     )
   where
@@ -92,7 +122,8 @@ by_last chain last id epoch is =
     same x y e = cc
 
 -- where pages have room, their entries' places have it too
-pub has_place : (chain : ChainState) (e : Entry) (pages places : ℕ) → IsChain (appended e chain) → length chain.blocks ≤ pages → pages * chain.page ≤ places → length chain.entries < places
+pub has_place : (chain : ChainState) (e : Entry) (pages places : ℕ) → IsChain (appended e chain) → length chain.blocks ≤ pages
+    → pages * chain.page ≤ places → length chain.entries < places
 has_place chain e pages places next few most =
     let ends = (appended e chain).ends in
     let all = len_le chain.page 0 ends (length (chain.entries ++ e ∷ [])) next.parted in
@@ -111,7 +142,8 @@ held_le page held len at lt le =
     omega (arith, le, mul-le-mul_left page one)
 
 -- the ends up to the open page, and one more behind them
-start_pushed : (from : ℕ) (ends : List ℕ) (k x d e : ℕ) → k ≤ length ends → get_or (from ∷ (take k ends ++ x ∷ [])) k d ≡ get_or (from ∷ ends) k e
+start_pushed : (from : ℕ) (ends : List ℕ) (k x d e : ℕ) → k ≤ length ends
+    → get_or (from ∷ (take k ends ++ x ∷ [])) k d ≡ get_or (from ∷ ends) k e
 start_pushed from ends zero x d e le = refl
 start_pushed from [] (suc k) x d e le = absurd (omega arith)
 start_pushed from (y ∷ ends) (suc k) x d e le = start_pushed y ends k x d e (omega arith)
@@ -130,7 +162,9 @@ room-appended chain e is room =
     let pages : length ends ≡ at + 1 = omega (arith, length_push front (len + 1), length-take-le at chain.ends opened.at_most) in
     let last : length ends - 1 ≡ at = omega (arith, pages) in
     let begins : start_in ends (len + 1) at ≡ start_of chain at = start_pushed 0 chain.ends at (len + 1) (len + 1) len opened.at_most in
-    let past : start_in ends (len + 1) (at + 1) ≡ len + 1 = let step : at + 1 ≡ suc at = omega arith in rw step (get_or_push front (len + 1) (len + 1) at (length-take-le at chain.ends opened.at_most)) in
+    let past : start_in ends (len + 1) (at + 1) ≡ len + 1 =
+    let step : at + 1 ≡ suc at = omega arith in rw step (get_or_push front (len + 1) (len + 1) at
+    (length-take-le at chain.ends opened.at_most)) in
     let most = held_le page (len + 1 - start_of chain at) (length chain.blocks) at within (omega (arith, opened.free, opened.begins)) in
     let split = product-split page (length chain.blocks) at within in
     elim (open_either page ends (len + 1)) [
@@ -153,18 +187,29 @@ appends_entry chain e is room =
     let start = start_of chain at in
     let begun : start - 0 ≡ start = omega arith in
     let held : page_entries chain at ≡ drop start es =
-    part_any chain.page chain.ends at es is.parted ∙ ap (λ n. take (n - start) (drop start es)) opened.stops ∙ take_all (len - start) (drop start es) (omega (arith, length-drop start es)) in
+    part_any chain.page chain.ends at es is.parted ∙ ap (λ n. take (n - start) (drop start es)) opened.stops
+    ∙ take_all (len - start) (drop start es) (omega (arith, length-drop start es)) in
     let last : take (len + 1 - start) (drop (start - 0) (es ++ e ∷ [])) ≡ page_entries chain at ++ e ∷ [] =
     ap (λ n. take (len + 1 - start) (drop n (es ++ e ∷ []))) begun
     ∙ ap (take (len + 1 - start)) (drop-append-le start es (e ∷ []) opened.begins)
-    ∙ take_all (len + 1 - start) (drop start es ++ e ∷ []) (omega (arith, length_push (drop start es) e, length-drop start es, opened.begins))
+    ∙ take_all (len + 1 - start) (drop start es ++ e ∷ []) (omega (
+      arith,
+      length_push (drop start es) e,
+      length-drop start es,
+      opened.begins,
+    ))
     ∙ ap (λ xs. xs ++ e ∷ []) (sym held) in
     record {
       room_falls = room-appended chain e is room;
       last_is =
           let place : length (es ++ e ∷ []) - 1 ≡ len = omega (arith, length_push es e) in
-          rw place (slice_get_read (es ++ e ∷ []) (length (es ++ e ∷ [])) len e refl (omega (arith, length_push es e)) (sym (get_or_push es e e len refl)));
-      pages_are = parts-push chain.page 0 chain.ends len at (len + 1) es (e ∷ []) is.parted (omega arith) opened.at_most ∙ ap (λ xs. take at (pages_of chain) ++ xs ∷ []) last;
+          rw place (slice_get_read (es ++ e ∷ []) (length (es ++ e ∷ [])) len e refl (omega (
+            arith,
+            length_push es e,
+          )) (sym (get_or_push es e e len refl)));
+      pages_are =
+          parts-push chain.page 0 chain.ends len at (len + 1) es (e ∷ []) is.parted (omega arith) opened.at_most
+          ∙ ap (λ xs. take at (pages_of chain) ++ xs ∷ []) last;
       log_stays = take-append-le chain.tail es (e ∷ []) is.within;
     }
 
@@ -203,11 +248,24 @@ IsChain-without_entries gone chain is =
     record {
       least = is.least;
       most = is.most;
-      paged = omega (arith, is.paged, length-ends_from 0 (left_of gone (pages_of chain)), length-left_of gone (pages_of chain), length-parts 0 chain.ends chain.entries);
+      paged =
+          omega (
+            arith,
+            is.paged,
+            length-ends_from 0 (left_of gone (pages_of chain)),
+            length-left_of gone (pages_of chain),
+            length-parts 0 chain.ends chain.entries,
+          );
       parted = AreEnds-joined chain.page 0 (left_of gone (pages_of chain)) (length (joined (left_of gone (pages_of chain))))
-          (all_left (λ part. (0 < length part) × (length part ≤ chain.page)) gone (pages_of chain) (AreSized-parts chain.page 0 chain.ends len chain.entries is.parted (omega arith))) (omega arith);
+          (all_left (λ part. (0 < length part) × (length part ≤ chain.page)) gone (pages_of chain)
+          (AreSized-parts chain.page 0 chain.ends len chain.entries is.parted (omega arith))) (omega arith);
       rising = rw all (IsLog-left_of (spread 0 gone chain.ends) chain.entries is.rising);
-      within = omega (arith, ap length law, length-take (length (joined (left_of gone (log_pages chain)))) (joined (left_of gone (pages_of chain))));
+      within =
+          omega (
+            arith,
+            ap length law,
+            length-take (length (joined (left_of gone (log_pages chain)))) (joined (left_of gone (pages_of chain))),
+          );
     }
 
 -- nor is it another without these pages
@@ -217,7 +275,12 @@ IsChain-without_pages gone chain is =
     record {
       least = is.least;
       most = is.most;
-      paged = omega (arith, length-ends_from 0 (left_of gone (pages_of chain)), length-left_of-le gone (pages_of chain) chain.blocks (omega (arith, is.paged, length-parts 0 chain.ends chain.entries)));
+      paged =
+          omega (
+            arith,
+            length-ends_from 0 (left_of gone (pages_of chain)),
+            length-left_of-le gone (pages_of chain) chain.blocks (omega (arith, is.paged, length-parts 0 chain.ends chain.entries)),
+          );
       parted = rest.parted;
       rising = rest.rising;
       within = rest.within;
@@ -231,7 +294,8 @@ unlinks_pages gone chain is = record {
 }
 
 -- a chain with what is left of its entries on fresh pages is a chain
-pub IsChain-compacted : (gone : List Bool) (pages : List BlockValue) (chain : ChainState) → IsChain chain → length pages ≡ div_ceil (length (left_of gone chain.entries)) chain.page → IsChain (compacted gone pages chain)
+pub IsChain-compacted : (gone : List Bool) (pages : List BlockValue) (chain : ChainState) → IsChain chain
+    → length pages ≡ div_ceil (length (left_of gone chain.entries)) chain.page → IsChain (compacted gone pages chain)
 IsChain-compacted gone pages chain is count =
     let n = length (left_of gone chain.entries) in
     let some : 0 < chain.page = omega (arith, is.least) in
@@ -246,7 +310,13 @@ IsChain-compacted gone pages chain is count =
     }
 
 -- what is left needs no more pages than there were
-pub compacted_few : (gone : List Bool) (chain : ChainState) → IsChain chain → div_ceil (length (left_of gone chain.entries)) chain.page ≤ length chain.blocks
+pub compacted_few : (gone : List Bool) (chain : ChainState) → IsChain chain
+    → div_ceil (length (left_of gone chain.entries)) chain.page ≤ length chain.blocks
 compacted_few gone chain is =
     let all = len_le chain.page 0 chain.ends (length chain.entries) is.parted in
-    div_ceil-le (length (left_of gone chain.entries)) chain.page (length chain.blocks) (omega (arith, is.least)) (omega (arith, all, length-left_of gone chain.entries, mul-le-mul_right chain.page is.paged))
+    div_ceil-le (length (left_of gone chain.entries)) chain.page (length chain.blocks) (omega (arith, is.least)) (omega (
+      arith,
+      all,
+      length-left_of gone chain.entries,
+      mul-le-mul_right chain.page is.paged,
+    ))

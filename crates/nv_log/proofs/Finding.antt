@@ -42,31 +42,45 @@ before-other a b id (inr h) e = grind (arith, nat_tests)
 
 rises : (es : List Entry) (id : EntryId) → IsLog es → IsNonDecreasingBy (λ e. ordering_index (id_cmp e.id id)) es
 rises es id is i j d le within =
-    elim (cases_lt i j) [ inl lt ↦ cmp-rises (get_or es i d).id (get_or es j d).id id (ordered_at es i j d is lt within).id_rises | inr ge ↦ let e : i ≡ j = omega arith in rw e (omega arith) ]
+    elim (cases_lt i j) [
+      | inl lt ↦ cmp-rises (get_or es i d).id (get_or es j d).id id
+          (ordered_at es i j d is lt within).id_rises
+      | inr ge ↦ let e : i ≡ j = omega arith in rw e (omega arith)
+    ]
 
 abbrev has_id : EntryId → Entry → Bool
 has_id id e = is_same_id e.id id
 
-place_at : (es : List Entry) (id : EntryId) (k : ℕ) (d : Entry) → k < length es → ((j : ℕ) → j < k → has_id id (get_or es j d) ≡ false) → has_id id (get_or es k d) ≡ true → place_of es id ≡ Some k
+place_at : (es : List Entry) (id : EntryId) (k : ℕ) (d : Entry) → k < length es → ((j : ℕ) → j < k → has_id id (get_or es j d) ≡ false)
+    → has_id id (get_or es k d) ≡ true → place_of es id ≡ Some k
 place_at es id k d within others here =
     let is : position_or_len (has_id id) es ≡ k = position_or_len_is (has_id id) es k d (omega arith) others (λ _. here) in
     rw is (rw (lt-ltb k (length es) within) refl)
 
-place_none : (es : List Entry) (id : EntryId) (d : Entry) → ((j : ℕ) → j < length es → has_id id (get_or es j d) ≡ false) → place_of es id ≡ None
+place_none : (es : List Entry) (id : EntryId) (d : Entry) → ((j : ℕ) → j < length es → has_id id (get_or es j d) ≡ false)
+    → place_of es id ≡ None
 place_none es id d others =
-    let is : position_or_len (has_id id) es ≡ length es = position_or_len_is (has_id id) es (length es) d (omega arith) others (λ lt. absurd (omega arith)) in
+    let is : position_or_len (has_id id) es ≡ length es =
+    position_or_len_is (has_id id) es (length es) d (omega arith) others (λ lt. absurd (omega arith)) in
     rw is (rw (le-ltb (length es) (length es) (omega arith)) refl)
 
-found_by : (es : List Entry) (id : EntryId) (d : Entry) (r : Result ℕ ℕ) → IsLog es → IsSearchInRange r (length es) → IsBinarySearchResult (λ e. id_cmp e.id id) es r → result_ok r ≡ place_of es id
+found_by : (es : List Entry) (id : EntryId) (d : Entry) (r : Result ℕ ℕ) → IsLog es → IsSearchInRange r (length es)
+    → IsBinarySearchResult (λ e. id_cmp e.id id) es r → result_ok r ≡ place_of es id
 found_by es id d (Ok k) is within at =
     let here = same-equal (get_or es k d).id id (at d) in
-    sym (place_at es id k d within (λ j lt. before-other (get_or es j d).id (get_or es k d).id id (ordered_at es j k d is lt within).id_rises here) here)
+    sym (place_at es id k d within (λ j lt. before-other (get_or es j d).id (get_or es k d).id id
+    (ordered_at es j k d is lt within).id_rises here) here)
 found_by es id d (Err k) is within split =
     let parts = split (rises es id is) in
-    sym (place_none es id d (λ j lt. elim (cases_lt j k) [ inl less ↦ same-less (get_or es j d).id id (parts.0 j d (omega arith) less) | inr more ↦ same-greater (get_or es j d).id id (parts.1 j d more lt) ]))
+    sym (place_none es id d (λ j lt. elim (cases_lt j k) [
+      | inl less ↦ same-less (get_or es j d).id id (parts.0 j d
+          (omega arith) less)
+      | inr more ↦ same-greater (get_or es j d).id id (parts.1 j d more lt)
+    ]))
 
 -- the place that a search by halving finds is that of the entry
-pub found : (es : List Entry) (id : EntryId) (r : Result ℕ ℕ) → IsLog es → IsSearchInRange r (length es) → IsBinarySearchResult (λ e. id_cmp e.id id) es r → result_ok r ≡ place_of es id
+pub found : (es : List Entry) (id : EntryId) (r : Result ℕ ℕ) → IsLog es → IsSearchInRange r (length es)
+    → IsBinarySearchResult (λ e. id_cmp e.id id) es r → result_ok r ≡ place_of es id
 found [] id (Ok k) is within at = absurd (omega arith)
 found [] id (Err k) is within split = refl
 found (e ∷ es) id r is within at = found_by (e ∷ es) id e r is within at
@@ -81,7 +95,9 @@ none_is false m e = refl
 
 -- the entry at the place of an id is the entry of that id
 pub entry_at : (es : List Entry) (id : EntryId) (k : ℕ) → place_of es id ≡ Some k → find (has_id id) es ≡ slice_get es k
-entry_at es id k e = find_at (has_id id) es ∙ ap (slice_get es) (some_is (nat_lt (position_or_len (has_id id) es) (length es)) (position_or_len (has_id id) es) k e)
+entry_at es id k e =
+    find_at (has_id id) es
+    ∙ ap (slice_get es) (some_is (nat_lt (position_or_len (has_id id) es) (length es)) (position_or_len (has_id id) es) k e)
 
 pub entry_none : (es : List Entry) (id : EntryId) → place_of es id ≡ None → find (has_id id) es ≡ None
 entry_none es id e =
@@ -94,6 +110,7 @@ pub found_within : (es : List Entry) (id : EntryId) (place : Option ℕ) → pla
 found_within es id None e = tt
 found_within es id (Some k) e = small (nat_lt (position_or_len (has_id id) es) (length es)) refl (sym e)
   where
-    small : (b : Bool) → nat_lt (position_or_len (has_id id) es) (length es) ≡ b → cond b (Some (position_or_len (has_id id) es)) None ≡ Some k → k < length es
+    small : (b : Bool) → nat_lt (position_or_len (has_id id) es) (length es) ≡ b
+        → cond b (Some (position_or_len (has_id id) es)) None ≡ Some k → k < length es
     small true lt is = let same : position_or_len (has_id id) es ≡ k = cc in rw (← same) (grind (arith, nat_tests))
     small false lt is = cc

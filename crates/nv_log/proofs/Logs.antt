@@ -34,7 +34,8 @@ follow-trans : (a b c : Entry) → MayFollow a b → MayFollow b c → MayFollow
 follow-trans a b c p q = record { id_rises = before-trans a.id b.id c.id p.id_rises q.id_rises; epoch_stays = omega arith }
 
 -- an entry that may follow the last may follow each
-follows_each : (es : List Entry) (e : Entry) → IsLog es → (0 < length es → MayFollow (get_or es (length es - 1) e) e) → AllByRecursion (λ x. MayFollow x e) es
+follows_each : (es : List Entry) (e : Entry) → IsLog es → (0 < length es → MayFollow (get_or es (length es - 1) e) e)
+    → AllByRecursion (λ x. MayFollow x e) es
 follows_each [] e is last = tt
 follows_each (x ∷ []) e is last = (last (omega arith), tt)
 follows_each (x ∷ y ∷ es) e is last =
@@ -48,7 +49,8 @@ push [] e is all = (tt, tt)
 push (x ∷ es) e is all = (all_append (MayFollow x) es (e ∷ []) is.0 (all.0, tt), push es e is.1 all.1)
 
 -- a log with one more entry that may follow its last
-pub IsLog-push : (es : List Entry) (e : Entry) → IsLog es → (0 < length es → MayFollow (get_or es (length es - 1) e) e) → IsLog (es ++ e ∷ [])
+pub IsLog-push : (es : List Entry) (e : Entry) → IsLog es → (0 < length es → MayFollow (get_or es (length es - 1) e) e)
+    → IsLog (es ++ e ∷ [])
 IsLog-push es e is last = push es e is (follows_each es e is last)
 
 -- what is left of a log is one

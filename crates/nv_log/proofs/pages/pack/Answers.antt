@@ -14,6 +14,9 @@ loop-k-preserved c =
     let f : ℕ → ℕ = λ k. min ((k + 1) * c.args.page) c.args.entries in
     let value : c.min.result ≡ f c.loop-k.k = omega (arith, c.min.ensures, c.saturating_mul.ensures, c.ranges.entries.fits) in
     record {
-      ends = c.push_reserved.ensures.items ∙ ap (λ xs. xs ++ c.min.result ∷ []) c.loop-k.invariant.ends ∙ ap (λ n. map f (range_with_len 0 c.loop-k.k) ++ n ∷ []) value ∙ sym (map-range_with_len_more f 0 c.loop-k.k c.loop-k.k (omega arith));
+      ends =
+          c.push_reserved.ensures.items ∙ ap (λ xs. xs ++ c.min.result ∷ []) c.loop-k.invariant.ends
+          ∙ ap (λ n. map f (range_with_len 0 c.loop-k.k) ++ n ∷ []) value
+          ∙ sym (map-range_with_len_more f 0 c.loop-k.k c.loop-k.k (omega arith));
       capacity = omega (arith, c.loop-k.invariant.capacity, c.push_reserved.ensures.capacity);
     }

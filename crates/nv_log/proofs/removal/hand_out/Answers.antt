@@ -23,9 +23,20 @@ put-requires c =
     let gone = c.args.gone.now in
     let old = c.from_vec-queue.result.items in
     let lt : c.loop-k.k < length old = omega (arith, c.from_vec-queue.result.ok) in
-    let first = queue_first old c.loop-k.queue.items c.pop_front.new.self.items (left_of gone (take c.loop-k.k old)) c.loop-k.k c.in-Some.block lt c.loop-k.invariant.queue c.in-Some.ensures.items in
+    let first =
+    queue_first old c.loop-k.queue.items c.pop_front.new.self.items (left_of gone
+    (take c.loop-k.k old)) c.loop-k.k c.in-Some.block lt c.loop-k.invariant.queue c.in-Some.ensures.items in
     let more = items_where_true-goes gone old c.loop-k.k c.in-Some.block lt (sym c.goes.ensures ∙ c.if-goes.true) first.0 in
-    record { room = omega (arith, c.loop-k.invariant.room, ap length more, length_push (items_where_true gone (take c.loop-k.k old)) c.in-Some.block, items_where_true-le-flags gone (take (c.loop-k.k + 1) old), c.requires.room) }
+    record {
+      room = omega (
+        arith,
+        c.loop-k.invariant.room,
+        ap length more,
+        length_push (items_where_true gone (take c.loop-k.k old)) c.in-Some.block,
+        items_where_true-le-flags gone (take (c.loop-k.k + 1) old),
+        c.requires.room,
+      );
+    }
 
 pub loop-k-preserved : goal.loop-k-preserved
 loop-k-preserved c =
@@ -45,7 +56,8 @@ loop-k-preserved c =
           rw (w.queue-is, w.hand-is) (record {
             queue = queue_goes gone old rest k block lt flag first.1;
             held = w.put.ensures.held ∙ ap (λ (h : Held). record h { blocks = h.blocks ++ block ∷ [] }) is.held
-                ∙ ap (λ bs. record c.args.hand.now.held { blocks = bs }) (append_assoc c.args.hand.now.held.blocks out (block ∷ []) ∙ ap (λ xs. c.args.hand.now.held.blocks ++ xs) (sym more));
+                ∙ ap (λ bs. record c.args.hand.now.held { blocks = bs }) (append_assoc c.args.hand.now.held.blocks out (block ∷ [])
+                ∙ ap (λ xs. c.args.hand.now.held.blocks ++ xs) (sym more));
             room = omega (arith, is.room, ap length more, length_push out block, w.put.ensures.room);
             capacity = omega (arith, is.capacity, c.in-Some.ensures.capacity);
           })

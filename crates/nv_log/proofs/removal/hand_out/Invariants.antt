@@ -7,7 +7,10 @@ use Rattle.nv_log.proofs.removal.hand_out.Given as goal
 abbrev pub invariant-loop-k : goal.invariant-loop-k
 invariant-loop-k l = record {
   queue : l.queue.items ≡ drop l.k l.initial.queue.items ++ left_of l.gone (take l.k l.initial.queue.items);
-  held : l.hand.held ≡ record l.initial.hand.held { blocks = l.initial.hand.held.blocks ++ items_where_true l.gone (take l.k l.initial.queue.items) };
+  held : l.hand.held ≡ record l.initial.hand.held {
+    blocks = l.initial.hand.held.blocks ++ items_where_true l.gone
+        (take l.k l.initial.queue.items);
+  };
   room : l.hand.room + length (items_where_true l.gone (take l.k l.initial.queue.items)) ≡ l.initial.hand.room;
   capacity : deque_capacity l.queue ≡ deque_capacity l.initial.queue;
 }

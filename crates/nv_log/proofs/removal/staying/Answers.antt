@@ -7,5 +7,6 @@ pub returns : goal.returns
 returns c =
     let gone = c.args.gone.now in
     let entries = c.args.entries.now in
-    let flags : take c.min-flags.result gone ≡ take (length entries) gone = ap (λ n. take n gone) c.min-flags.ensures ∙ take_short (length entries) gone in
+    let flags : take c.min-flags.result gone ≡ take (length entries) gone =
+    ap (λ n. take n gone) c.min-flags.ensures ∙ take_short (length entries) gone in
     omega (arith, c.flagged.ensures.value, ap (count_by (λ goes. goes)) flags, length-left_of-flags gone entries)

@@ -10,11 +10,15 @@ loop-place-preserved c =
     let lt : c.loop-place.place < length old = omega (arith, c.args.entries.now.ok) in
     elim c.if-not-goes.branch [
       | then-not-goes w ↦ rw (w.entries-is, w.to-is) (record {
-        sifted = sifts_down gone old c.loop-place.entries.items w.swap.new.self.items c.loop-place.to c.loop-place.place c.loop-place.invariant.sifted lt (sym c.goes.ensures ∙ w.if-not-goes.true) w.swap.ensures.by_index;
+        sifted =
+            sifts_down gone old c.loop-place.entries.items w.swap.new.self.items c.loop-place.to c.loop-place.place
+            c.loop-place.invariant.sifted lt (sym c.goes.ensures ∙ w.if-not-goes.true) w.swap.ensures.by_index;
         capacity = omega (arith, c.loop-place.invariant.capacity, w.swap.ensures.capacity);
       })
       | else-not-goes w ↦ rw (w.entries-is, w.to-is) (record {
-        sifted = sifts_out gone old c.loop-place.entries.items c.loop-place.to c.loop-place.place c.loop-place.invariant.sifted lt (sym c.goes.ensures ∙ w.if-not-goes.false);
+        sifted =
+            sifts_out gone old c.loop-place.entries.items c.loop-place.to c.loop-place.place c.loop-place.invariant.sifted lt
+            (sym c.goes.ensures ∙ w.if-not-goes.false);
         capacity = c.loop-place.invariant.capacity;
       })
     ]

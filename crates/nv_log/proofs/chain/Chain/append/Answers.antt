@@ -21,7 +21,16 @@ push_reserved-requires-2 c =
     let room = rw (← c.self.view_is) at c.requires.room in
     let size : vec_len c.self.inside.entries ≡ length chain.entries = omega (arith, c.self.inside.entries.ok) in
     let at : c.open_page-open.result ≡ open_of chain = c.open_page-open.ensures ∙ rw (c.deref.ensures.value, c.len.ensures, size) refl in
-    omega (arith, at, open_within chain room, c.truncate.ensures.len, c.truncate.ensures.capacity, c.self.invariant.there, c.self.invariant.ends_room, c.self.inside.blocks.ok)
+    omega (
+      arith,
+      at,
+      open_within chain room,
+      c.truncate.ensures.len,
+      c.truncate.ensures.capacity,
+      c.self.invariant.there,
+      c.self.invariant.ends_room,
+      c.self.inside.blocks.ok,
+    )
 
 room : (c : goal.After-push_reserved-2) → 0 < room_of (state_in c.self.inside)
 room c = rw (← c.self.view_is) at c.requires.room
@@ -61,4 +70,5 @@ pub returns-clause-state : goal.returns-clause-state
 returns-clause-state c = rw (← c.self.view_is) (whole c)
 
 pub returns-clause-pages : goal.returns-clause-pages
-returns-clause-pages c = rw (← c.self.view_is, whole c) (appends_entry (state_in c.self.inside) c.args.entry c.self.invariant.chain (room c))
+returns-clause-pages c =
+    rw (← c.self.view_is, whole c) (appends_entry (state_in c.self.inside) c.args.entry c.self.invariant.chain (room c))

@@ -4,7 +4,8 @@ use Rattle.nv_log.proofs.chain.Chain.entry.Goals as goal
 
 pub returns-in_err-place : goal.returns-in_err-place
 returns-in_err-place c =
-    rw c.from_residual.ensures (sym (entry_none c.args.self.now.state.entries c.args.id (sym c.place_of.ensures.value ∙ c.in_err-place.was)))
+    rw c.from_residual.ensures (sym (entry_none c.args.self.now.state.entries c.args.id (sym c.place_of.ensures.value
+    ∙ c.in_err-place.was)))
 
 pub returns : goal.returns
 returns c =

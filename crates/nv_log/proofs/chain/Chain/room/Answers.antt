@@ -9,7 +9,8 @@ overflow_sub-held c =
     let chain = state_in c.self.inside in
     let size : vec_len c.self.inside.entries ≡ length chain.entries = omega (arith, c.self.inside.entries.ok) in
     let at : c.open_page-open.result ≡ open_of chain = c.open_page-open.ensures ∙ rw (c.deref.ensures.value, c.len.ensures, size) refl in
-    let start : c.page_start.result ≡ start_of chain (open_of chain) = c.page_start.ensures.value ∙ rw (← c.self.view_is) (ap (start_of chain) at) in
+    let start : c.page_start.result ≡ start_of chain (open_of chain) =
+    c.page_start.ensures.value ∙ rw (← c.self.view_is) (ap (start_of chain) at) in
     omega (arith, start, size, c.len-2.ensures, (is_held chain c.self.invariant.chain).begins)
 
 pub overflow_sub-result-2 : goal.overflow_sub-result-2
@@ -18,5 +19,6 @@ overflow_sub-result-2 c =
     let size : vec_len c.self.inside.entries ≡ length chain.entries = omega (arith, c.self.inside.entries.ok) in
     let blocks : vec_len c.self.inside.blocks ≡ length chain.blocks = omega (arith, c.self.inside.blocks.ok) in
     let at : c.open_page-open.result ≡ open_of chain = c.open_page-open.ensures ∙ rw (c.deref.ensures.value, c.len.ensures, size) refl in
-    let start : c.page_start.result ≡ start_of chain (open_of chain) = c.page_start.ensures.value ∙ rw (← c.self.view_is) (ap (start_of chain) at) in
+    let start : c.page_start.result ≡ start_of chain (open_of chain) =
+    c.page_start.ensures.value ∙ rw (← c.self.view_is) (ap (start_of chain) at) in
     rw (start, at, c.len-2.ensures, c.len-3.ensures, size, blocks) (is_held chain c.self.invariant.chain).fits

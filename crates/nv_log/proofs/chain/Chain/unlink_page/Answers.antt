@@ -25,8 +25,11 @@ whole : (c : goal.After-remove) → state_in (record {
 }) ≡ without_pages (only c.args.k) c.args.self.now.state
 whole c =
     let gone = only c.args.k in
-    let left = c.remove.ensures.items ∙ sym (left_of-only c.args.k c.self.inside.blocks.items (there c)) ∙ ap (λ (s : ChainState). left_of gone s.blocks) (taken c) in
-    ap (λ (s : ChainState). record s { blocks = c.remove.new.self.items }) (taken c) ∙ ap (λ bs. record (without_entries gone c.args.self.now.state) { blocks = bs }) left
+    let left =
+    c.remove.ensures.items ∙ sym (left_of-only c.args.k c.self.inside.blocks.items (there c))
+    ∙ ap (λ (s : ChainState). left_of gone s.blocks) (taken c) in
+    ap (λ (s : ChainState). record s { blocks = c.remove.new.self.items }) (taken c)
+    ∙ ap (λ bs. record (without_entries gone c.args.self.now.state) { blocks = bs }) left
 
 pub invariant_of-self : goal.invariant_of-self
 invariant_of-self c = record {
@@ -40,11 +43,13 @@ invariant_of-self c = record {
 pub returns-clause-block : goal.returns-clause-block
 returns-clause-block c =
     let blocks = c.self.inside.blocks.items in
-    sym (ap (λ (s : ChainState). slice_get s.blocks c.args.k) (taken c)) ∙ slice_get_read blocks (length blocks) c.args.k c.remove.result refl (there c) c.remove.ensures.value
+    sym (ap (λ (s : ChainState). slice_get s.blocks c.args.k) (taken c))
+    ∙ slice_get_read blocks (length blocks) c.args.k c.remove.result refl (there c) c.remove.ensures.value
 
 pub returns-clause-state : goal.returns-clause-state
 returns-clause-state c = whole c
 
 pub returns-clause-pages : goal.returns-clause-pages
 returns-clause-pages c =
-    subst (UnlinksPages (only c.args.k) c.args.self.now.state) (sym (whole c)) (unlinks_pages (only c.args.k) c.args.self.now.state c.take_pages.ensures.was)
+    subst (UnlinksPages (only c.args.k) c.args.self.now.state) (sym (whole c)) (unlinks_pages
+    (only c.args.k) c.args.self.now.state c.take_pages.ensures.was)

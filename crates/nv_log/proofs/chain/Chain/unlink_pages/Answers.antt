@@ -22,7 +22,8 @@ whole : (c : goal.After-hand_out) → state_in (record {
 whole c =
     let gone = c.args.gone.now in
     let left = c.hand_out.ensures.blocks ∙ ap (λ (s : ChainState). left_of gone s.blocks) (taken c) in
-    ap (λ (s : ChainState). record s { blocks = c.hand_out.new.blocks.items }) (taken c) ∙ ap (λ bs. record (without_entries gone c.args.self.now.state) { blocks = bs }) left
+    ap (λ (s : ChainState). record s { blocks = c.hand_out.new.blocks.items }) (taken c)
+    ∙ ap (λ bs. record (without_entries gone c.args.self.now.state) { blocks = bs }) left
 
 pub invariant_of-self : goal.invariant_of-self
 invariant_of-self c =
@@ -30,7 +31,15 @@ invariant_of-self c =
     let fewer = length-left_of gone c.self.inside.blocks.items in
     record {
       chain = subst IsChain (sym (whole c)) (IsChain-without_pages gone c.args.self.now.state c.take_pages.ensures.was);
-      there = omega (arith, c.self.invariant.there, fewer, ap length c.hand_out.ensures.blocks, c.self.inside.blocks.ok, c.hand_out.new.blocks.ok);
+      there =
+          omega (
+            arith,
+            c.self.invariant.there,
+            fewer,
+            ap length c.hand_out.ensures.blocks,
+            c.self.inside.blocks.ok,
+            c.hand_out.new.blocks.ok,
+          );
       blocks_room = rw c.hand_out.ensures.capacity c.self.invariant.blocks_room;
       ends_room = c.self.invariant.ends_room;
       entries_room = c.self.invariant.entries_room;
@@ -38,11 +47,22 @@ invariant_of-self c =
 
 pub returns-clause-pages : goal.returns-clause-pages
 returns-clause-pages c =
-    subst (UnlinksPages c.args.gone.now c.args.self.now.state) (sym (whole c)) (unlinks_pages c.args.gone.now c.args.self.now.state c.take_pages.ensures.was)
+    subst (UnlinksPages c.args.gone.now c.args.self.now.state) (sym (whole c))
+    (unlinks_pages c.args.gone.now c.args.self.now.state c.take_pages.ensures.was)
 
 pub returns-clause-spare : goal.returns-clause-spare
 returns-clause-spare c =
     let gone = c.args.gone.now in
     let old = c.args.self.now.state.blocks in
     let left = ap length c.hand_out.ensures.blocks ∙ ap (λ (s : ChainState). length (left_of gone s.blocks)) (taken c) in
-    omega (arith, ap (λ (v : ChainValue). v.spare) c.self.view_is, c.take_pages.ensures.spare, left, length-left_of gone old, ap (λ (s : ChainState). length s.blocks) (taken c), c.self.inside.blocks.ok, c.hand_out.new.blocks.ok, c.self.invariant.there)
+    omega (
+      arith,
+      ap (λ (v : ChainValue). v.spare) c.self.view_is,
+      c.take_pages.ensures.spare,
+      left,
+      length-left_of gone old,
+      ap (λ (s : ChainState). length s.blocks) (taken c),
+      c.self.inside.blocks.ok,
+      c.hand_out.new.blocks.ok,
+      c.self.invariant.there,
+    )
