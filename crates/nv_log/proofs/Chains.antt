@@ -1,150 +1,121 @@
--- What holds of a chain still holds once it has one more entry or one page less.
-use Rattle.std.proofs.Common.{◌≡◌, ◌≢◌, ℕ, ◌+◌, ◌-◌, ◌*◌, ◌<◌, ◌≤◌, ◌⊎◌, inl, inr, cond, nat_lt, List, [], ◌∷◌, ◌++◌, length, take, drop, get_or, set, sum, remove, length-append, length-drop, take_all, length-set, get_or-set_same, get_or-set_other, arith, refl, ap, sym, ◌∙◌, add-one, subst, Some}
+-- What holds of a chain still holds once it has one more entry, one more page, or some of them less.
+use Rattle.std.proofs.Common.{◌≡◌, ℕ, zero, suc, ◌+◌, ◌-◌, ◌*◌, ◌<◌, ◌≤◌, ◌⊎◌, inl, inr, Bool, List, [], ◌∷◌, ◌++◌, length, take, drop, get_or, min, length-drop, take_all, arith, refl, ap, sym, ◌∙◌, subst, Some}
 use Rattle.std.proofs.lemmas.Bool.{cases_lt, lt-ltb, le-ltb}
-use Rattle.std.proofs.lemmas.List.{drop-append-le, get_or_at, get_or_past, take-append-le, take-set-le}
-use Rattle.std.proofs.lemmas.List.Edits.{length-remove, get_or-remove_below, get_or-remove_above}
-use Rattle.std.proofs.lemmas.List.Sums.{sum_by-set, sum_by-remove}
+use Rattle.std.proofs.lemmas.List.{drop-append-le, get_or_past, get_or_push, length_push, length-take, length-take-le, take-append-le}
 use Rattle.std.proofs.lemmas.Option.{slice_get-get_or, slice_get_read}
 use Rattle.std.proofs.Math.Nat.{mul-le-mul_left, mul-le-mul_right}
+use Rattle.std.proofs.lemmas.List.FromFn.{length-map-range_with_len}
+use Rattle.std.specs.Int.{div_ceil}
 use Rattle.std.specs.Option.{ForSome, option_map}
+use Rattle.nv_base.specs.Ids.{IsIdBefore}
 use Rattle.nv_base.specs.declared.numbers.EntryId.{EntryId}
 use Rattle.nv_alloc.specs.Block.{BlockValue}
 use Rattle.nv_entry.specs.declared.item.Entry.{Entry}
-use Rattle.nv_base.specs.Ids.{IsIdBefore}
 use Rattle.nv_entry.specs.Log.{MayFollow}
-use Rattle.nv_log.specs.Chain.{AddsPage, AppendsEntry, ChainState, IsChain, UnlinksPage, appended, count_of, last_entry, last_epoch, last_id, open_page, open_of, room_of, start_of, with_page, without_page}
-use Rattle.nv_log.proofs.Logs.{IsLog-push, IsLog-cut}
-use Rattle.nv_log.proofs.Counts.{count-page, end-last, end_le, ends_before, open_either, sum_le, sum-take-page, sum-take-remove, take-remove}
-use Rattle.nv_log.proofs.Cuts.{front, length-cut_out, part-after, part-before}
+use Rattle.nv_log.specs.Chain.{AppendsEntry, AreEnds, ChainState, IsChain, UnlinksPages, appended, compacted, end_in, joined, last_entry, last_epoch, last_id, left_of, log, log_pages, open_page, open_of, page_entries, pages_of, room_of, start_in, start_of, with_page, without_entries, without_pages}
+use Rattle.nv_log.proofs.Logs.{IsLog-push, IsLog-left_of}
+use Rattle.nv_log.proofs.Parts.{AreEnds-full, AreEnds-joined, AreEnds-push, AreEnds-take, AreSized-parts, div_ceil-le, in_order, len_le, length-ends_from, length-parts, part_any, parts-joined, parts-push, start_past}
+use Rattle.nv_log.proofs.Removals.{all_left, joined-left_of, length-left_of, length-left_of-le, spread, take-joined_left, take-left_of}
+
+-- the next entry goes to the last page with entries while that has a free place, and else to the page after it
+open_either : (page : ℕ) (ends : List ℕ) (len : ℕ)
+    → ((len - start_in ends len (length ends - 1) < page) × (open_page page ends len ≡ length ends - 1)) ⊎
+    ((page ≤ len - start_in ends len (length ends - 1)) × (open_page page ends len ≡ length ends))
+open_either page ends len =
+    let held = len - start_in ends len (length ends - 1) in
+    elim (cases_lt held page) [ inl lt ↦ inl (lt, rw (lt-ltb held page lt) refl) | inr ge ↦ inr (ge, rw (le-ltb held page ge) refl) ]
+
+-- the page that gets the next entry ends where all entries end, and has a free place if it is there
+pub record IsOpen (page : ℕ) (ends : List ℕ) (len k : ℕ) : Type 0 where
+  pub at_most : k ≤ length ends
+  pub begins : start_in ends len k ≤ len
+  pub stops : end_in ends len k ≡ len
+  pub free : len - start_in ends len k < page
+
+pub is_open : (page : ℕ) (ends : List ℕ) (len : ℕ) → 0 < page → AreEnds page 0 ends len → IsOpen page ends len (open_page page ends len)
+is_open page ends len some are =
+    elim (open_either page ends len) [
+      | inl last ↦
+          let begins = in_order page ends len (length ends - 1) are in
+          rw last.1 (record { at_most = omega arith; begins = omega (arith, begins.0, begins.1); stops = stops ends are; free = last.0 })
+      | inr next ↦
+          let past = start_past page 0 ends len (length ends) are (omega arith) in
+          rw next.1 (record {
+            at_most = omega arith;
+            begins = omega (
+              arith,
+              past,
+            );
+            stops = get_or_past ends (length ends) len (omega arith);
+            free = omega (arith, past);
+          })
+    ]
+  where
+    stops : (ends : List ℕ) → AreEnds page 0 ends len → end_in ends len (length ends - 1) ≡ len
+    stops [] are = refl
+    stops (e ∷ ends) are =
+        let last : length (e ∷ ends) - 1 ≡ length ends = omega arith in
+        rw last (start_past page e ends len (length ends) are.2 (omega arith))
 
 -- the page that gets the next entry, where there is room
-pub record IsOpen (chain : ChainState) : Type 0 where
-  pub within : open_of chain < length chain.counts
-  pub free : count_of chain (open_of chain) < chain.page
-  pub before : (k : ℕ) → k < open_of chain → k < chain.filled
-  pub after : (k : ℕ) → open_of chain + 1 ≤ k → chain.filled ≤ k
-
 is_within : (page held len at : ℕ) → 0 < page * (len - at) - held → at < len
 is_within page held len at room =
-    elim (cases_lt at len) [ inl lt ↦ lt | inr ge ↦ let none : len - at ≡ 0 = omega arith in let nothing : 0 < page * 0 - held = rw none at room in absurd (omega arith) ]
-
-pub is_open : (chain : ChainState) → IsChain chain → 0 < room_of chain → IsOpen chain
-is_open chain is room =
-    let within = is_within chain.page (count_of chain (open_of chain)) (length chain.counts) (open_of chain) room in
-    elim (open_either chain.page chain.filled chain.counts) [
-      | inl last ↦ record {
-        within = within;
-        free = rw last.2 last.1;
-        before = λ k lt. omega (arith, last.0, last.2);
-        after = λ k le. omega (arith, last.0, last.2);
-      }
-      | inr next ↦ record {
-        within = within;
-        free = rw next.0 (omega (arith, is.none chain.filled (omega arith), is.least));
-        before = λ k lt. omega (arith, next.0);
-        after = λ k le. omega (arith, next.0);
-      }
+    elim (cases_lt at len) [
+      | inl lt ↦ lt
+      | inr ge ↦ let none : len - at ≡ 0 = omega arith in let nothing : 0 < page * 0 - held = rw none
+          at room in absurd (omega arith)
     ]
 
-same_or_other : (k i : ℕ) → (k ≡ i) ⊎ (k ≢ i)
-same_or_other k i = elim (cases_lt k i) [ inl lt ↦ inr (omega arith) | inr ge ↦ elim (cases_lt i k) [ inl gt ↦ inr (omega arith) | inr le ↦ inl (omega arith) ] ]
+pub opens : (chain : ChainState) → IsChain chain → IsOpen chain.page chain.ends (length chain.entries) (open_of chain)
+opens chain is = is_open chain.page chain.ends (length chain.entries) (omega (arith, is.least)) is.parted
+
+pub open_within : (chain : ChainState) → 0 < room_of chain → open_of chain < length chain.blocks
+open_within chain room =
+    is_within chain.page (length chain.entries - start_of chain (open_of chain)) (length chain.blocks) (open_of chain) room
 
 -- a chain with one more entry is a chain
-pub IsChain-appended : (chain : ChainState) (e : Entry) → IsChain chain → 0 < room_of chain → (0 < length chain.entries → MayFollow (get_or chain.entries (length chain.entries - 1) e) e) → IsChain (appended e chain)
+pub IsChain-appended : (chain : ChainState) (e : Entry) → IsChain chain → 0 < room_of chain → (0 < length chain.entries
+    → MayFollow (get_or chain.entries (length chain.entries - 1) e) e) → IsChain (appended e chain)
 IsChain-appended chain e is room last =
-    let next = is_open chain is room in
-    let within = next.within in
-    let at = open_of chain in
+    let opened = opens chain is in
+    let len = length chain.entries in
+    let front = take (open_of chain) chain.ends in
+    let size = length_push chain.entries e in
     record {
       least = is.least;
       most = is.most;
-      paired = length-set chain.counts at (count_of chain at + 1) ∙ is.paired;
-      counted = omega (arith, sum_by-set (λ x. x) chain.counts at (count_of chain at + 1) 0 within, is.counted, length-append chain.entries (e ∷ []));
-      fits = λ k. elim (same_or_other k at) [
-        | inl same ↦ rw (same, get_or-set_same chain.counts at (count_of chain at + 1) 0 within) (omega (arith, next.free))
-        | inr other ↦ rw (get_or-set_other chain.counts at k (count_of chain at + 1) 0 other) (is.fits k)
-      ];
-      filled_in = omega (arith, within, length-set chain.counts at (count_of chain at + 1));
-      some = λ k lt. elim (same_or_other k at) [
-        | inl same ↦ rw (same, get_or-set_same chain.counts at (count_of chain at + 1) 0 within) (omega arith)
-        | inr other ↦ rw (get_or-set_other chain.counts at k (count_of chain at + 1) 0 other) (is.some k (next.before k (omega arith)))
-      ];
-      none = λ k le. rw (get_or-set_other chain.counts at k (count_of chain at + 1) 0 (omega arith)) (is.none k (next.after k le));
+      paged = omega (arith, length_push front (len + 1), length-take-le (open_of chain) chain.ends opened.at_most, open_within chain room);
+      parted =
+          rw size (AreEnds-push chain.page 0 front (start_of chain (open_of chain)) (len + 1) (AreEnds-take chain.page 0 chain.ends len
+          (open_of chain) is.parted opened.at_most) (omega (arith, opened.begins)) (omega (arith, opened.free, opened.begins)));
       rising = IsLog-push chain.entries e is.rising last;
-      within = omega (arith, is.within, length-append chain.entries (e ∷ []));
-    }
-
--- how many pages with an entry are left
-abbrev left : ℕ → ℕ → ℕ
-left k filled = cond (nat_lt k filled) (filled - 1) filled
-
-left_either : (k filled : ℕ) → ((k < filled) × (left k filled ≡ filled - 1)) ⊎ ((filled ≤ k) × (left k filled ≡ filled))
-left_either k filled = elim (cases_lt k filled) [ inl lt ↦ inl (lt, rw (lt-ltb k filled lt) refl) | inr ge ↦ inr (ge, rw (le-ltb k filled ge) refl) ]
-
--- a page before the one that is removed keeps its place, and one behind it moves up
-behind : (P : ℕ → Type 0) (counts : List ℕ) (k j : ℕ) → k < length counts → (j < k → P (get_or counts j 0)) → (k ≤ j → P (get_or counts (j + 1) 0)) → P (get_or (remove counts k) j 0)
-behind P counts k j within before after =
-    elim (cases_lt j k) [
-      | inl lt ↦ subst P (sym (get_or-remove_below counts k 0 j lt within)) (before lt)
-      | inr ge ↦ subst P (sym (get_or-remove_above counts k 0 j ge within)) (after ge)
-    ]
-
--- a chain without one of its pages is a chain
-pub IsChain-without_page : (k : ℕ) (chain : ChainState) → IsChain chain → k < length chain.counts → IsChain (without_page k chain)
-IsChain-without_page k chain is within =
-    let end : start_of chain k + count_of chain k ≤ length chain.entries = omega (arith, end_le chain.counts k within, is.counted) in
-    let rest = left_either k chain.filled in
-    record {
-      least = is.least;
-      most = is.most;
-      paired = omega (arith, length-remove chain.counts k within, length-remove chain.blocks k (omega (arith, is.paired)), is.paired);
-      counted = omega (arith, sum_by-remove (λ x. x) chain.counts k 0 within, length-cut_out (start_of chain k) (count_of chain k) chain.entries end, is.counted);
-      fits = λ j. behind (λ n. n ≤ chain.page) chain.counts k j within (λ lt. is.fits j) (λ le. is.fits (j + 1));
-      filled_in = elim rest [
-        | inl cut ↦ omega (arith, cut.0, cut.1, length-remove chain.counts k within, is.filled_in)
-        | inr whole ↦ omega (arith, whole.0, whole.1, length-remove chain.counts k within, is.filled_in)
-      ];
-      some = λ j lt. behind (λ n. 0 < n) chain.counts k j within
-          (λ less. is.some j (elim rest [ inl cut ↦ omega (arith, cut.0, cut.1) | inr whole ↦ omega (arith, whole.0, whole.1) ]))
-          (λ more. is.some (j + 1) (elim rest [ inl cut ↦ omega (arith, cut.0, cut.1) | inr whole ↦ omega (arith, whole.0, whole.1) ]));
-      none = λ j le. behind (λ n. n ≡ 0) chain.counts k j within
-          (λ less. is.none j (elim rest [ inl cut ↦ omega (arith, cut.0, cut.1) | inr whole ↦ omega (arith, whole.0, whole.1) ]))
-          (λ more. is.none (j + 1) (elim rest [ inl cut ↦ omega (arith, cut.0, cut.1) | inr whole ↦ omega (arith, whole.0, whole.1) ]));
-      rising = IsLog-cut (start_of chain k) (start_of chain k + count_of chain k) chain.entries (omega arith) is.rising;
-      within = omega (arith, length-cut_out (start_of chain k) (count_of chain k) chain.entries end, is.within);
-    }
-
--- every other page keeps its entries, and the log loses only the page's
-pub unlinks_page : (k : ℕ) (chain : ChainState) → IsChain chain → k < length chain.counts → UnlinksPage k chain (without_page k chain)
-unlinks_page k chain is within =
-    let start = start_of chain k in
-    let n = count_of chain k in
-    let end : start + n ≤ length chain.entries = omega (arith, end_le chain.counts k within, is.counted) in
-    record {
-      before = λ j lt.
-          rw (get_or-remove_below chain.counts k 0 j lt within, take-remove chain.counts k j (omega arith))
-          (part-before start n (start_of chain j) (count_of chain j) chain.entries (omega arith) (ends_before chain.counts j k lt (omega arith)));
-      after = λ j le.
-          let moved : sum (take j (remove chain.counts k)) + n ≡ start_of chain (j + 1) = sum-take-remove chain.counts k j le within ∙ ap (λ i. sum (take i chain.counts)) (sym (add-one j)) in
-          let later = ends_before chain.counts k (j + 1) (omega arith) within in
-          rw (get_or-remove_above chain.counts k 0 j le within)
-          (part-after start n (sum (take j (remove chain.counts k))) (count_of chain (j + 1)) chain.entries (omega arith) (omega (arith, moved, later))
-          ∙ ap (λ i. take (count_of chain (j + 1)) (drop i chain.entries)) moved);
-      log_is = front start n chain.tail chain.entries end is.within;
+      within = omega (arith, is.within, size);
     }
 
 -- an entry that may follow the last id and epoch may follow the last entry
-pub follows_last : (chain : ChainState) (e : Entry) → ForSome (last_id chain) (λ last. IsIdBefore last e.id) → ForSome (last_epoch chain) (λ last. last ≤ e.epoch) → 0 < length chain.entries → MayFollow (get_or chain.entries (length chain.entries - 1) e) e
+pub follows_last : (chain : ChainState) (e : Entry) → ForSome (last_id chain) (λ last. IsIdBefore last e.id)
+    → ForSome (last_epoch chain) (λ last. last ≤ e.epoch) → 0 < length chain.entries
+    → MayFollow (get_or chain.entries (length chain.entries - 1) e) e
 follows_last chain e id epoch some =
     let last = slice_get-get_or chain.entries (length chain.entries - 1) e (omega arith) in
-    record { id_rises = id _ (ap (option_map (λ (x : Entry). x.id)) last); epoch_stays = epoch _ (ap (option_map (λ (x : Entry). x.epoch)) last) }
+    record {
+      id_rises = id _ (ap (option_map (λ (x : Entry). x.id)) last);
+      epoch_stays = epoch _ (ap (option_map (λ (x : Entry). x.epoch)) last);
+    }
 
 -- what the ids and epochs of a chain's end ask, by its last entry
-pub by_last : (chain : ChainState) (last : Entry) (id : EntryId) (epoch : ℕ) → last_entry chain ≡ Some last → (IsIdBefore last.id id → last.epoch ≤ epoch → ForSome (last_id chain) (λ x. IsIdBefore x id) × ForSome (last_epoch chain) (λ x. x ≤ epoch)) × (ForSome (last_id chain) (λ x. IsIdBefore x id) × ForSome (last_epoch chain) (λ x. x ≤ epoch) → IsIdBefore last.id id × (last.epoch ≤ epoch))
+pub by_last : (chain : ChainState) (last : Entry) (id : EntryId) (epoch : ℕ) → last_entry chain ≡ Some last → (IsIdBefore last.id id
+    → last.epoch ≤ epoch
+    → ForSome (last_id chain) (λ x. IsIdBefore x id) × ForSome (last_epoch chain) (λ x. x ≤ epoch)) × (ForSome (last_id chain)
+    (λ x. IsIdBefore x id) × ForSome (last_epoch chain) (λ x. x ≤ epoch) → IsIdBefore last.id id × (last.epoch ≤ epoch))
 by_last chain last id epoch is =
     let ids = ap (option_map (λ (x : Entry). x.id)) is in
     let epochs = ap (option_map (λ (x : Entry). x.epoch)) is in (
-      λ before le. (λ x e. subst (λ y. IsIdBefore y id) (same last.id x (sym ids ∙ e)) before, λ x e. subst (λ y. y ≤ epoch) (same last.epoch x (sym epochs ∙ e)) le),
+      λ before le. (
+        λ x e. subst (λ y. IsIdBefore y id) (same last.id x (sym ids
+            ∙ e)) before,
+        λ x e. subst (λ y. y ≤ epoch) (same last.epoch x (sym epochs ∙ e)) le,
+      ),
       λ both. (both.0 last.id ids, both.1 last.epoch epochs),
     )
   where
@@ -152,10 +123,18 @@ by_last chain last id epoch is =
     same x y e = cc
 
 -- where pages have room, their entries' places have it too
-pub has_place : (chain : ChainState) (e : Entry) (blocks places : ℕ) → IsChain chain → IsChain (appended e chain) → length chain.blocks ≤ blocks → blocks * chain.page ≤ places → length chain.entries < places
-has_place chain e blocks places is next few most =
-    let all = subst (λ n. sum (appended e chain).counts ≤ n * chain.page) next.paired (sum_le (appended e chain).counts chain.page next.fits) in
-    omega (arith, all, next.counted, length-append chain.entries (e ∷ []), mul-le-mul_right chain.page few)
+pub has_place : (chain : ChainState) (e : Entry) (pages places : ℕ) → IsChain (appended e chain) → length chain.blocks ≤ pages
+    → pages * chain.page ≤ places → length chain.entries < places
+has_place chain e pages places next few most =
+    let ends = (appended e chain).ends in
+    let all = len_le chain.page 0 ends (length (chain.entries ++ e ∷ [])) next.parted in
+    let paged : length ends ≤ pages = omega (arith, next.paged, few) in
+    omega (arith, all, length_push chain.entries e, mul-le-mul_right chain.page paged, most)
+
+product-split : (page len at : ℕ) → at < len → page * (len - at) ≡ page * (len - (at + 1)) + page
+product-split page len at lt =
+    let step : len - at ≡ (len - (at + 1)) + 1 = omega arith in
+    ap (λ n. page * n) step ∙ omega arith
 
 -- a page's count is at most the places from it on
 held_le : (page held len at : ℕ) → at < len → held ≤ page → held ≤ page * (len - at)
@@ -163,93 +142,182 @@ held_le page held len at lt le =
     let one : 1 ≤ len - at = omega arith in
     omega (arith, le, mul-le-mul_left page one)
 
-product-split : (page len at : ℕ) → at < len → page * (len - at) ≡ page * (len - (at + 1)) + page
-product-split page len at lt =
-    let step : len - at ≡ (len - (at + 1)) + 1 = omega arith in
-    ap (λ n. page * n) step ∙ omega arith
+-- the ends up to the open page, and one more behind them
+start_pushed : (from : ℕ) (ends : List ℕ) (k x d e : ℕ) → k ≤ length ends
+    → get_or (from ∷ (take k ends ++ x ∷ [])) k d ≡ get_or (from ∷ ends) k e
+start_pushed from ends zero x d e le = refl
+start_pushed from [] (suc k) x d e le = absurd (omega arith)
+start_pushed from (y ∷ ends) (suc k) x d e le = start_pushed y ends k x d e (omega arith)
 
 -- one more entry leaves room for one less
 room-appended : (chain : ChainState) (e : Entry) → IsChain chain → 0 < room_of chain → room_of (appended e chain) + 1 ≡ room_of chain
 room-appended chain e is room =
-    let next = is_open chain is room in
+    let opened = opens chain is in
+    let within = open_within chain room in
     let at = open_of chain in
-    let had = count_of chain at in
     let page = chain.page in
-    let len = length chain.counts in
-    let counts = set chain.counts at (had + 1) in
-    let len_is : length counts ≡ len = length-set chain.counts at (had + 1) in
-    let last : at + 1 - 1 ≡ at = omega arith in
-    let here : get_or counts (at + 1 - 1) 0 ≡ had + 1 = rw last (get_or-set_same chain.counts at (had + 1) 0 next.within) in
-    let most = held_le page (had + 1) len at next.within (omega (arith, next.free)) in
-    let split = product-split page len at next.within in
-    elim (open_either page (at + 1) counts) [
+    let len = length chain.entries in
+    let front = take at chain.ends in
+    let ends = front ++ (len + 1) ∷ [] in
+    let size : length (chain.entries ++ e ∷ []) ≡ len + 1 = length_push chain.entries e in
+    let pages : length ends ≡ at + 1 = omega (arith, length_push front (len + 1), length-take-le at chain.ends opened.at_most) in
+    let last : length ends - 1 ≡ at = omega (arith, pages) in
+    let begins : start_in ends (len + 1) at ≡ start_of chain at = start_pushed 0 chain.ends at (len + 1) (len + 1) len opened.at_most in
+    let past : start_in ends (len + 1) (at + 1) ≡ len + 1 =
+    let step : at + 1 ≡ suc at = omega arith in rw step (get_or_push front (len + 1) (len + 1) at
+    (length-take-le at chain.ends opened.at_most)) in
+    let most = held_le page (len + 1 - start_of chain at) (length chain.blocks) at within (omega (arith, opened.free, opened.begins)) in
+    let split = product-split page (length chain.blocks) at within in
+    elim (open_either page ends (len + 1)) [
       | inl more ↦
-          let opens : open_of (appended e chain) ≡ at = more.2 ∙ last in
-          let held : count_of (appended e chain) at ≡ had + 1 = get_or-set_same chain.counts at (had + 1) 0 next.within in
-          rw (opens, held, len_is) (omega (arith, most))
+          let same : open_page page ends (len + 1) ≡ at = more.1 ∙ last in
+          rw (size, same, begins) (omega (arith, most, opened.begins, room))
       | inr full ↦
-          let opens : open_of (appended e chain) ≡ at + 1 = full.0 in
-          let held : count_of (appended e chain) (at + 1) ≡ 0 = get_or-set_other chain.counts at (at + 1) (had + 1) 0 (omega arith) ∙ is.none (at + 1) (next.after (at + 1) (omega arith)) in
-          let whole : page ≤ had + 1 = rw here at (full.1 (omega arith)) in
-          rw (opens, held, len_is) (omega (arith, whole, next.free, split))
+          let next : open_page page ends (len + 1) ≡ at + 1 = full.1 ∙ pages in
+          let whole : page ≤ len + 1 - start_of chain at = rw (last, begins) at full.0 in
+          rw (size, next, past) (omega (arith, whole, opened.free, opened.begins, split))
     ]
 
 -- what an append does to pages, room and log
 pub appends_entry : (chain : ChainState) (e : Entry) → IsChain chain → 0 < room_of chain → AppendsEntry e chain (appended e chain)
 appends_entry chain e is room =
-    let next = is_open chain is room in
+    let opened = opens chain is in
     let at = open_of chain in
-    let had = count_of chain at in
     let es = chain.entries in
+    let len = length es in
     let start = start_of chain at in
-    let end : start + had ≡ length es = end-last chain.counts at next.within (λ j le. is.none j (next.after j le)) ∙ is.counted in
-    let size : length (drop start es) ≡ had = omega (arith, length-drop start es, end) in
+    let begun : start - 0 ≡ start = omega arith in
+    let held : page_entries chain at ≡ drop start es =
+    part_any chain.page chain.ends at es is.parted ∙ ap (λ n. take (n - start) (drop start es)) opened.stops
+    ∙ take_all (len - start) (drop start es) (omega (arith, length-drop start es)) in
+    let last : take (len + 1 - start) (drop (start - 0) (es ++ e ∷ [])) ≡ page_entries chain at ++ e ∷ [] =
+    ap (λ n. take (len + 1 - start) (drop n (es ++ e ∷ []))) begun
+    ∙ ap (take (len + 1 - start)) (drop-append-le start es (e ∷ []) opened.begins)
+    ∙ take_all (len + 1 - start) (drop start es ++ e ∷ []) (omega (
+      arith,
+      length_push (drop start es) e,
+      length-drop start es,
+      opened.begins,
+    ))
+    ∙ ap (λ xs. xs ++ e ∷ []) (sym held) in
     record {
       room_falls = room-appended chain e is room;
       last_is =
-          let size_all = length-append es (e ∷ []) in
-          let place : length (es ++ e ∷ []) - 1 ≡ length es = omega arith in
-          rw place (slice_get_read (es ++ e ∷ []) (length (es ++ e ∷ [])) (length es) e refl (omega arith) (sym (get_or_at es e [] e (length es) refl)));
-      page_gains =
-          rw (take-set-le at chain.counts at (had + 1) (omega arith), get_or-set_same chain.counts at (had + 1) 0 next.within, drop-append-le start es (e ∷ []) (omega (arith, end)))
-          (take_all (had + 1) (drop start es ++ e ∷ []) (omega (arith, length-append (drop start es) (e ∷ []), size))
-          ∙ ap (λ xs. xs ++ e ∷ []) (sym (take_all had (drop start es) (omega (arith, size)))));
-      others_stay = λ k other. elim (cases_lt k at) [
-        | inl before ↦
-            let ends = ends_before chain.counts k at before (omega (arith, next.within)) in
-            rw (take-set-le k chain.counts at (had + 1) (omega arith), get_or-set_other chain.counts at k (had + 1) 0 other, drop-append-le (start_of chain k) es (e ∷ []) (omega (arith, ends, end)))
-            (take-append-le (count_of chain k) (drop (start_of chain k) es) (e ∷ []) (omega (arith, length-drop (start_of chain k) es, ends, end)))
-        | inr after ↦
-            let none : count_of chain k ≡ 0 = is.none k (next.after k (omega arith)) in
-            rw (get_or-set_other chain.counts at k (had + 1) 0 other) (rw none refl)
-      ];
+          let place : length (es ++ e ∷ []) - 1 ≡ len = omega (arith, length_push es e) in
+          rw place (slice_get_read (es ++ e ∷ []) (length (es ++ e ∷ [])) len e refl (omega (
+            arith,
+            length_push es e,
+          )) (sym (get_or_push es e e len refl)));
+      pages_are =
+          parts-push chain.page 0 chain.ends len at (len + 1) es (e ∷ []) is.parted (omega arith) opened.at_most
+          ∙ ap (λ xs. take at (pages_of chain) ++ xs ∷ []) last;
       log_stays = take-append-le chain.tail es (e ∷ []) is.within;
     }
 
-open-page : (chain : ChainState) → open_page chain.page (chain.counts ++ 0 ∷ []) chain.filled ≡ open_of chain
-open-page chain = rw (count-page chain.counts (chain.filled - 1)) refl
+-- what the page that gets the next entry holds is within the room of the pages from there on
+pub record IsHeld (chain : ChainState) : Type 0 where
+  pub there : open_of chain ≤ length chain.blocks
+  pub begins : start_of chain (open_of chain) ≤ length chain.entries
+  pub fits : length chain.entries - start_of chain (open_of chain) ≤ chain.page * (length chain.blocks - open_of chain)
 
--- the page that gets the next entry is there and has at most a page's entries, or it is the next one to come
-held_at : (chain : ChainState) → IsChain chain → (open_of chain ≤ length chain.counts) × (count_of chain (open_of chain) ≤ chain.page * (length chain.counts - open_of chain))
-held_at chain is =
-    let within : open_of chain ≤ length chain.counts = elim (open_either chain.page chain.filled chain.counts) [ inl last ↦ omega (arith, last.2, is.filled_in) | inr next ↦ omega (arith, next.0, is.filled_in) ] in (
-      within,
-      elim (cases_lt (open_of chain) (length chain.counts)) [
-        | inl lt ↦ held_le chain.page (count_of chain (open_of chain)) (length chain.counts) (open_of chain) lt (is.fits (open_of chain))
-        | inr ge ↦ rw (get_or_past chain.counts (open_of chain) 0 ge) (omega arith)
-      ],
-    )
-
-room-page : (page held len at : ℕ) → (at ≤ len) × (held ≤ page * (len - at)) → page * (len + 1 - at) - held ≡ page * (len - at) - held + page
-room-page page held len at h =
-    let step : len + 1 - at ≡ len - at + 1 = omega (arith, h.0) in
-    rw step (omega (arith, h.1))
-
--- what one more page does to pages and room
-pub adds_page : (chain : ChainState) (block : BlockValue) → IsChain chain → AddsPage chain (with_page block chain)
-adds_page chain block is =
+pub is_held : (chain : ChainState) → IsChain chain → IsHeld chain
+is_held chain is =
+    let opened = opens chain is in
+    let at = open_of chain in
     record {
-      room_grows = rw (open-page chain, count-page chain.counts (open_of chain), length-append chain.counts (0 ∷ []))
-          (room-page chain.page (count_of chain (open_of chain)) (length chain.counts) (open_of chain) (held_at chain is));
-      pages_stay = λ k. rw (count-page chain.counts k, sum-take-page chain.counts k) refl;
+      there = omega (arith, opened.at_most, is.paged);
+      begins = opened.begins;
+      fits = elim (cases_lt at (length chain.blocks)) [
+        | inl lt ↦ held_le chain.page (length chain.entries - start_of chain at) (length chain.blocks) at lt (omega (arith, opened.free))
+        | inr ge ↦ omega (arith, start_past chain.page 0 chain.ends (length chain.entries) at is.parted (omega (arith, is.paged, ge)))
+      ];
     }
+
+-- one more page gives that much more room
+pub room-page : (chain : ChainState) (block : BlockValue) → IsChain chain → room_of (with_page block chain) ≡ room_of chain + chain.page
+room-page chain block is =
+    let held = is_held chain is in
+    let step : length chain.blocks + 1 - open_of chain ≡ length chain.blocks - open_of chain + 1 = omega (arith, held.there) in
+    rw (length_push chain.blocks block, step) (omega (arith, held.fits))
+
+-- a chain without the entries of some pages is a chain
+pub IsChain-without_entries : (gone : List Bool) (chain : ChainState) → IsChain chain → IsChain (without_entries gone chain)
+IsChain-without_entries gone chain is =
+    let len = length chain.entries in
+    let all = joined-left_of chain.page 0 gone chain.ends len chain.entries is.parted (omega arith) in
+    let law = take-joined_left chain.page gone chain.ends chain.tail chain.entries is.parted in
+    record {
+      least = is.least;
+      most = is.most;
+      paged =
+          omega (
+            arith,
+            is.paged,
+            length-ends_from 0 (left_of gone (pages_of chain)),
+            length-left_of gone (pages_of chain),
+            length-parts 0 chain.ends chain.entries,
+          );
+      parted = AreEnds-joined chain.page 0 (left_of gone (pages_of chain)) (length (joined (left_of gone (pages_of chain))))
+          (all_left (λ part. (0 < length part) × (length part ≤ chain.page)) gone (pages_of chain)
+          (AreSized-parts chain.page 0 chain.ends len chain.entries is.parted (omega arith))) (omega arith);
+      rising = rw all (IsLog-left_of (spread 0 gone chain.ends) chain.entries is.rising);
+      within =
+          omega (
+            arith,
+            ap length law,
+            length-take (length (joined (left_of gone (log_pages chain)))) (joined (left_of gone (pages_of chain))),
+          );
+    }
+
+-- nor is it another without these pages
+pub IsChain-without_pages : (gone : List Bool) (chain : ChainState) → IsChain chain → IsChain (without_pages gone chain)
+IsChain-without_pages gone chain is =
+    let rest = IsChain-without_entries gone chain is in
+    record {
+      least = is.least;
+      most = is.most;
+      paged =
+          omega (
+            arith,
+            length-ends_from 0 (left_of gone (pages_of chain)),
+            length-left_of-le gone (pages_of chain) chain.blocks (omega (arith, is.paged, length-parts 0 chain.ends chain.entries)),
+          );
+      parted = rest.parted;
+      rising = rest.rising;
+      within = rest.within;
+    }
+
+-- each page that is left keeps its entries, and the log keeps what such a page had of it
+pub unlinks_pages : (gone : List Bool) (chain : ChainState) → IsChain chain → UnlinksPages gone chain (without_pages gone chain)
+unlinks_pages gone chain is = record {
+  pages_are = parts-joined 0 (left_of gone (pages_of chain));
+  log_is = take-joined_left chain.page gone chain.ends chain.tail chain.entries is.parted;
+}
+
+-- a chain with what is left of its entries on fresh pages is a chain
+pub IsChain-compacted : (gone : List Bool) (pages : List BlockValue) (chain : ChainState) → IsChain chain
+    → length pages ≡ div_ceil (length (left_of gone chain.entries)) chain.page → IsChain (compacted gone pages chain)
+IsChain-compacted gone pages chain is count =
+    let n = length (left_of gone chain.entries) in
+    let some : 0 < chain.page = omega (arith, is.least) in
+    let law = take-left_of gone chain.tail chain.entries in
+    record {
+      least = is.least;
+      most = is.most;
+      paged = omega (arith, count, length-map-range_with_len (λ k. min ((k + 1) * chain.page) n) 0 (div_ceil n chain.page));
+      parted = AreEnds-full chain.page n some;
+      rising = IsLog-left_of gone chain.entries is.rising;
+      within = omega (arith, ap length law, length-take (length (left_of gone (log chain))) (left_of gone chain.entries));
+    }
+
+-- what is left needs no more pages than there were
+pub compacted_few : (gone : List Bool) (chain : ChainState) → IsChain chain
+    → div_ceil (length (left_of gone chain.entries)) chain.page ≤ length chain.blocks
+compacted_few gone chain is =
+    let all = len_le chain.page 0 chain.ends (length chain.entries) is.parted in
+    div_ceil-le (length (left_of gone chain.entries)) chain.page (length chain.blocks) (omega (arith, is.least)) (omega (
+      arith,
+      all,
+      length-left_of gone chain.entries,
+      mul-le-mul_right chain.page is.paged,
+    ))

@@ -1,12 +1,11 @@
 -- What a search by halving finds in a log.
-use Rattle.std.proofs.Common.{◌≡◌, ℕ, ◌<◌, ◌≤◌, inl, inr, Bool, true, false, cond, nat_lt, List, [], ◌∷◌, length, get_or, Option, Some, None, Result, Ok, Err, arith, refl, ap, sym, ◌∙◌, Ordering, Bor}
+use Rattle.std.proofs.Common.{◌≡◌, ℕ, ◌<◌, ◌≤◌, inl, inr, Bool, true, false, cond, nat_lt, List, [], ◌∷◌, length, get_or, Option, Some, None, Result, Ok, Err, arith, refl, ap, sym, ◌∙◌, Ordering}
 use Rattle.std.proofs.lemmas.Bool.{cases_lt, lt-ltb, le-ltb}
 use Rattle.std.proofs.lemmas.Bool.Decides.{nat_tests}
 use Rattle.std.proofs.lemmas.List.Sums.{position_or_len_is}
 use Rattle.std.proofs.lemmas.List.Folds.{find_at}
-use Rattle.std.proofs.lemmas.Option.{slice_get_past, slice_get_read}
-use Rattle.std.specs.Option.{option_copied}
-use Rattle.std.specs.Slice.{IsItemAt}
+use Rattle.std.proofs.lemmas.Option.{slice_get_past}
+use Rattle.std.specs.Option.{IfSome}
 use Rattle.std.specs.List.{position_or_len, find, slice_get}
 use Rattle.std.specs.List.Sorted.{IsBinarySearchResult, IsNonDecreasingBy, IsSearchInRange}
 use Rattle.std.specs.Ordering.{nat_cmp, ordering_then, ordering_index}
@@ -44,31 +43,45 @@ before-other a b id (inr h) e = grind (arith, nat_tests)
 
 rises : (es : List Entry) (id : EntryId) → IsLog es → IsNonDecreasingBy (λ e. ordering_index (id_cmp e.id id)) es
 rises es id is i j d le within =
-    elim (cases_lt i j) [ inl lt ↦ cmp-rises (get_or es i d).id (get_or es j d).id id (ordered_at es i j d is lt within).id_rises | inr ge ↦ let e : i ≡ j = omega arith in rw e (omega arith) ]
+    elim (cases_lt i j) [
+      | inl lt ↦ cmp-rises (get_or es i d).id (get_or es j d).id id
+          (ordered_at es i j d is lt within).id_rises
+      | inr ge ↦ let e : i ≡ j = omega arith in rw e (omega arith)
+    ]
 
 abbrev has_id : EntryId → Entry → Bool
 has_id id e = is_same_id e.id id
 
-place_at : (es : List Entry) (id : EntryId) (k : ℕ) (d : Entry) → k < length es → ((j : ℕ) → j < k → has_id id (get_or es j d) ≡ false) → has_id id (get_or es k d) ≡ true → place_of es id ≡ Some k
+place_at : (es : List Entry) (id : EntryId) (k : ℕ) (d : Entry) → k < length es → ((j : ℕ) → j < k → has_id id (get_or es j d) ≡ false)
+    → has_id id (get_or es k d) ≡ true → place_of es id ≡ Some k
 place_at es id k d within others here =
     let is : position_or_len (has_id id) es ≡ k = position_or_len_is (has_id id) es k d (omega arith) others (λ _. here) in
     rw is (rw (lt-ltb k (length es) within) refl)
 
-place_none : (es : List Entry) (id : EntryId) (d : Entry) → ((j : ℕ) → j < length es → has_id id (get_or es j d) ≡ false) → place_of es id ≡ None
+place_none : (es : List Entry) (id : EntryId) (d : Entry) → ((j : ℕ) → j < length es → has_id id (get_or es j d) ≡ false)
+    → place_of es id ≡ None
 place_none es id d others =
-    let is : position_or_len (has_id id) es ≡ length es = position_or_len_is (has_id id) es (length es) d (omega arith) others (λ lt. absurd (omega arith)) in
+    let is : position_or_len (has_id id) es ≡ length es =
+    position_or_len_is (has_id id) es (length es) d (omega arith) others (λ lt. absurd (omega arith)) in
     rw is (rw (le-ltb (length es) (length es) (omega arith)) refl)
 
-found_by : (es : List Entry) (id : EntryId) (d : Entry) (r : Result ℕ ℕ) → IsLog es → IsSearchInRange r (length es) → IsBinarySearchResult (λ e. id_cmp e.id id) es r → result_ok r ≡ place_of es id
+found_by : (es : List Entry) (id : EntryId) (d : Entry) (r : Result ℕ ℕ) → IsLog es → IsSearchInRange r (length es)
+    → IsBinarySearchResult (λ e. id_cmp e.id id) es r → result_ok r ≡ place_of es id
 found_by es id d (Ok k) is within at =
     let here = same-equal (get_or es k d).id id (at d) in
-    sym (place_at es id k d within (λ j lt. before-other (get_or es j d).id (get_or es k d).id id (ordered_at es j k d is lt within).id_rises here) here)
+    sym (place_at es id k d within (λ j lt. before-other (get_or es j d).id (get_or es k d).id id
+    (ordered_at es j k d is lt within).id_rises here) here)
 found_by es id d (Err k) is within split =
     let parts = split (rises es id is) in
-    sym (place_none es id d (λ j lt. elim (cases_lt j k) [ inl less ↦ same-less (get_or es j d).id id (parts.0 j d (omega arith) less) | inr more ↦ same-greater (get_or es j d).id id (parts.1 j d more lt) ]))
+    sym (place_none es id d (λ j lt. elim (cases_lt j k) [
+      | inl less ↦ same-less (get_or es j d).id id (parts.0 j d
+          (omega arith) less)
+      | inr more ↦ same-greater (get_or es j d).id id (parts.1 j d more lt)
+    ]))
 
 -- the place that a search by halving finds is that of the entry
-pub found : (es : List Entry) (id : EntryId) (r : Result ℕ ℕ) → IsLog es → IsSearchInRange r (length es) → IsBinarySearchResult (λ e. id_cmp e.id id) es r → result_ok r ≡ place_of es id
+pub found : (es : List Entry) (id : EntryId) (r : Result ℕ ℕ) → IsLog es → IsSearchInRange r (length es)
+    → IsBinarySearchResult (λ e. id_cmp e.id id) es r → result_ok r ≡ place_of es id
 found [] id (Ok k) is within at = absurd (omega arith)
 found [] id (Err k) is within split = refl
 found (e ∷ es) id r is within at = found_by (e ∷ es) id e r is within at
@@ -83,7 +96,9 @@ none_is false m e = refl
 
 -- the entry at the place of an id is the entry of that id
 pub entry_at : (es : List Entry) (id : EntryId) (k : ℕ) → place_of es id ≡ Some k → find (has_id id) es ≡ slice_get es k
-entry_at es id k e = find_at (has_id id) es ∙ ap (slice_get es) (some_is (nat_lt (position_or_len (has_id id) es) (length es)) (position_or_len (has_id id) es) k e)
+entry_at es id k e =
+    find_at (has_id id) es
+    ∙ ap (slice_get es) (some_is (nat_lt (position_or_len (has_id id) es) (length es)) (position_or_len (has_id id) es) k e)
 
 pub entry_none : (es : List Entry) (id : EntryId) → place_of es id ≡ None → find (has_id id) es ≡ None
 entry_none es id e =
@@ -91,7 +106,12 @@ entry_none es id e =
     let beyond : length es ≤ position_or_len (has_id id) es = grind (arith, nat_tests) in
     find_at (has_id id) es ∙ slice_get_past es (position_or_len (has_id id) es) beyond
 
--- what `get` lends is the entry at the place
-pub item_at : (xs : List Entry) (k : ℕ) (r : Option (Bor Entry)) → IsItemAt xs k r → option_copied r ≡ slice_get xs k
-item_at xs k None h = sym (slice_get_past xs k h.3)
-item_at xs k (Some x) h = sym (slice_get_read xs (length xs) k x.now refl h.3.0 (h.3.1 x.now))
+-- the place of an id is within
+pub found_within : (es : List Entry) (id : EntryId) (place : Option ℕ) → place ≡ place_of es id → IfSome place (λ k. k < length es)
+found_within es id None e = tt
+found_within es id (Some k) e = small (nat_lt (position_or_len (has_id id) es) (length es)) refl (sym e)
+  where
+    small : (b : Bool) → nat_lt (position_or_len (has_id id) es) (length es) ≡ b
+        → cond b (Some (position_or_len (has_id id) es)) None ≡ Some k → k < length es
+    small true lt is = let same : position_or_len (has_id id) es ≡ k = cc in rw (← same) (grind (arith, nat_tests))
+    small false lt is = cc

@@ -1,5 +1,5 @@
 pub mod Logs
 pub mod Finding
-pub mod Counts
-pub mod Cuts
+pub mod Parts
+pub mod Removals
 pub mod Chains

@@ -1,6 +1,7 @@
 -- Chains: the pages of a log, its entries in append order, and how many of them count.
-use Rattle.std.specs.Prelude.{◌≡◌, ◌≢◌, ℕ, ◌+◌, ◌-◌, ◌*◌, ◌<◌, ◌≤◌, ◌&&◌, if◌then◌else◌, nat_lt, min, List, [], ◌∷◌, ◌++◌, length, take, drop, remove, sum, find, position, Option, Some, slice_get, slice_index, slice_set}
+use Rattle.std.specs.Prelude.{◌≡◌, ℕ, ◌+◌, ◌-◌, ◌*◌, ◌<◌, ◌≤◌, ◌==◌, ◌&&◌, Bool, true, false, if◌then◌else◌, nat_lt, min, List, [], ◌∷◌, ◌++◌, length, take, drop, map, replicate, find, position, Option, Some, slice_get, slice_index_or}
 use Rattle.std.specs.Int.{div_ceil}
+use Rattle.std.specs.List.{flat_map, range_with_len}
 use Rattle.std.specs.Option.{option_map}
 use Rattle.nv_base.specs.Ids.{is_same_id}
 use Rattle.nv_base.specs.declared.limits.TheConstants.{LEAST_PAGE_ENTRIES, PAGE_ENTRIES}
@@ -9,13 +10,12 @@ use Rattle.nv_alloc.specs.Block.{BlockValue}
 use Rattle.nv_entry.specs.declared.item.Entry.{Entry}
 use Rattle.nv_entry.specs.Log.{IsLog}
 
--- how many entries a page holds, the block and the number of entries of each page, how many pages have an
--- entry (they stand first), all entries in append order, and how many of them count
+-- how many entries a page holds, the block of each page, where each page with entries ends (they stand first), all
+-- entries in append order, and how many of them count
 pub record ChainState : Type 0 where
   pub page : ℕ
   pub blocks : List BlockValue
-  pub counts : List ℕ
-  pub filled : ℕ
+  pub ends : List ℕ
   pub entries : List Entry
   pub tail : ℕ
 
@@ -26,14 +26,17 @@ pub record ChainValue : Type 0 where
 
 -- a chain without a page, of pages that hold so many entries
 abbrev pub empty_chain : ℕ → ChainState
-empty_chain page = record { page = page; blocks = []; counts = []; filled = 0; entries = []; tail = 0 }
+empty_chain page = record { page = page; blocks = []; ends = []; entries = []; tail = 0 }
 
 -- the entries that count
 abbrev pub log : ChainState → List Entry
 log chain = take chain.tail chain.entries
 
+abbrev pub last_of : {X : Type 0} → List X → Option X
+last_of xs = slice_get xs (length xs - 1)
+
 abbrev pub last_entry : ChainState → Option Entry
-last_entry chain = slice_get chain.entries (length chain.entries - 1)
+last_entry chain = last_of chain.entries
 
 abbrev pub last_id : ChainState → Option EntryId
 last_id chain = option_map (λ e. e.id) (last_entry chain)
@@ -49,26 +52,45 @@ entry_of chain id = find (λ e. is_same_id e.id id) chain.entries
 abbrev pub place_of : List Entry → EntryId → Option ℕ
 place_of entries id = position (λ e. is_same_id e.id id) entries
 
--- how many entries a page has, how many stand in the pages before it, and the page's entries
-abbrev pub count_of : ChainState → ℕ → ℕ
-count_of chain k = slice_index chain.counts k
+-- where page `k` begins and ends among `len` items; one past those that have items, where all items end
+abbrev pub start_in : List ℕ → ℕ → ℕ → ℕ
+start_in ends len k = slice_index_or (0 ∷ ends) k len
+
+abbrev pub end_in : List ℕ → ℕ → ℕ → ℕ
+end_in ends len k = slice_index_or ends k len
 
 abbrev pub start_of : ChainState → ℕ → ℕ
-start_of chain k = sum (take k chain.counts)
+start_of chain k = start_in chain.ends (length chain.entries) k
 
+abbrev pub end_of : ChainState → ℕ → ℕ
+end_of chain k = end_in chain.ends (length chain.entries) k
+
+-- a list that begins at place `start`, cut at each of the ends
+abbrev pub parts_from : {X : Type 0} → ℕ → List ℕ → List X → List (List X)
+parts_from start [] xs = []
+parts_from start (end ∷ ends) xs = take (end - start) xs ∷ parts_from end ends (drop (end - start) xs)
+
+-- the entries of each page that has any, and those of them that count
+abbrev pub pages_of : ChainState → List (List Entry)
+pages_of chain = parts_from 0 chain.ends chain.entries
+
+abbrev pub log_pages : ChainState → List (List Entry)
+log_pages chain = parts_from 0 chain.ends (log chain)
+
+-- the entries of page `k`
 abbrev pub page_entries : ChainState → ℕ → List Entry
-page_entries chain k = take (count_of chain k) (drop (start_of chain k) chain.entries)
+page_entries chain k = slice_index_or (pages_of chain) k []
 
 -- the page that gets the next entry: that of the last entry while it has a free place, and then the one after it
 abbrev pub open_page : ℕ → List ℕ → ℕ → ℕ
-open_page page counts filled = if nat_lt 0 filled && nat_lt (slice_index counts (filled - 1)) page then filled - 1 else filled
+open_page page ends len = if nat_lt (len - start_in ends len (length ends - 1)) page then length ends - 1 else length ends
 
 abbrev pub open_of : ChainState → ℕ
-open_of chain = open_page chain.page chain.counts chain.filled
+open_of chain = open_page chain.page chain.ends (length chain.entries)
 
 -- how many more entries the pages that are there take
 abbrev pub room_of : ChainState → ℕ
-room_of chain = chain.page * (length chain.counts - open_of chain) - count_of chain (open_of chain)
+room_of chain = chain.page * (length chain.blocks - open_of chain) - (length chain.entries - start_of chain (open_of chain))
 
 -- how many more pages it takes to append so many entries
 abbrev pub pages_for : ChainState → ℕ → ℕ
@@ -76,54 +98,83 @@ pages_for chain n = div_ceil (n - room_of chain) chain.page
 
 -- the chain with one more page, which has no entry
 abbrev pub with_page : BlockValue → ChainState → ChainState
-with_page block chain = record chain { blocks = chain.blocks ++ block ∷ []; counts = chain.counts ++ 0 ∷ [] }
+with_page block chain = record chain { blocks = chain.blocks ++ block ∷ [] }
 
--- the chain with one more entry
+-- the chain with one more entry: the page that gets it is the last with entries, and ends behind it
 abbrev pub appended : Entry → ChainState → ChainState
-appended e chain = record chain { counts = slice_set chain.counts (open_of chain) (count_of chain (open_of chain) + 1); filled = open_of chain + 1; entries = chain.entries ++ e ∷ [] }
-
--- a list without `n` of its items, from place `start` on
-abbrev pub cut_out : {X : Type 0} → ℕ → ℕ → List X → List X
-cut_out start n xs = take start xs ++ drop (start + n) xs
-
--- the chain without a page and that page's entries
-abbrev pub without_page : ℕ → ChainState → ChainState
-without_page k chain = record chain {
-  blocks = remove chain.blocks k;
-  counts = remove chain.counts k;
-  filled = if nat_lt k chain.filled then chain.filled - 1 else chain.filled;
-  entries = cut_out (start_of chain k) (count_of chain k) chain.entries;
-  tail = chain.tail - min (chain.tail - start_of chain k) (count_of chain k);
+appended e chain = record chain {
+  ends = take (open_of chain) chain.ends ++ (length chain.entries + 1) ∷ [];
+  entries = chain.entries ++ e ∷ [];
 }
 
--- a page more gives that much more room, and all pages keep their entries
-pub record AddsPage (old new : ChainState) : Type 0 where
-  pub room_grows : room_of new ≡ room_of old + old.page
-  pub pages_stay : (k : ℕ) → page_entries new k ≡ page_entries old k
+-- what is left of a list: an item whose flag is set goes, and one without a flag stays
+abbrev pub left_of : {X : Type 0} → List Bool → List X → List X
+left_of gone [] = []
+left_of [] (x ∷ xs) = x ∷ xs
+left_of (true ∷ gone) (x ∷ xs) = left_of gone xs
+left_of (false ∷ gone) (x ∷ xs) = x ∷ left_of gone xs
 
--- the entry is the last, on one page behind that page's others, and the log stays
+-- flags that begin at place `first`; and the flag of one place alone
+abbrev pub flags_from : ℕ → List Bool → List Bool
+flags_from first gone = replicate first false ++ gone
+
+abbrev pub only : ℕ → List Bool
+only k = flags_from k (true ∷ [])
+
+-- lists one behind the other, and where each of them ends, from place `start` on
+abbrev pub joined : {X : Type 0} → List (List X) → List X
+joined parts = flat_map (λ part. part) parts
+
+abbrev pub ends_from : {X : Type 0} → ℕ → List (List X) → List ℕ
+ends_from start [] = []
+ends_from start (part ∷ parts) = (start + length part) ∷ ends_from (start + length part) parts
+
+-- the chain without the entries of the pages that are flagged, and without these pages
+abbrev pub without_entries : List Bool → ChainState → ChainState
+without_entries gone chain = record chain {
+  ends = ends_from 0 (left_of gone (pages_of chain));
+  entries = joined (left_of gone (pages_of chain));
+  tail = length (joined (left_of gone (log_pages chain)));
+}
+
+abbrev pub without_pages : List Bool → ChainState → ChainState
+without_pages gone chain = record (without_entries gone chain) { blocks = left_of gone chain.blocks }
+
+-- where the pages end that `n` entries fill one after the other
+abbrev pub packed : ℕ → ℕ → List ℕ
+packed page n = map (λ k. min ((k + 1) * page) n) (range_with_len 0 (div_ceil n page))
+
+-- the chain with what is left of its entries on fresh pages
+abbrev pub compacted : List Bool → List BlockValue → ChainState → ChainState
+compacted gone pages chain = record chain {
+  blocks = pages;
+  ends = packed chain.page (length (left_of gone chain.entries));
+  entries = left_of gone chain.entries;
+  tail = length (left_of gone (log chain));
+}
+
+-- the entry is the last, behind the others of its page, all else stays where it was, and the log stays
 pub record AppendsEntry (e : Entry) (old new : ChainState) : Type 0 where
   pub room_falls : room_of new + 1 ≡ room_of old
   pub last_is : last_entry new ≡ Some e
-  pub page_gains : page_entries new (open_of old) ≡ page_entries old (open_of old) ++ e ∷ []
-  pub others_stay : (k : ℕ) → k ≢ open_of old → page_entries new k ≡ page_entries old k
+  pub pages_are : pages_of new ≡ take (open_of old) (pages_of old) ++ (page_entries old (open_of old) ++ e ∷ []) ∷ []
   pub log_stays : log new ≡ log old
 
--- what goes with a page, and what stays: every other page has its entries, and the log loses only the page's
-pub record UnlinksPage (k : ℕ) (old new : ChainState) : Type 0 where
-  pub before : (j : ℕ) → j < k → page_entries new j ≡ page_entries old j
-  pub after : (j : ℕ) → k ≤ j → page_entries new j ≡ page_entries old (j + 1)
-  pub log_is : log new ≡ cut_out (start_of old k) (count_of old k) (log old)
+-- each page that stays keeps its entries, and the log keeps what such a page had of it
+pub record UnlinksPages (gone : List Bool) (old new : ChainState) : Type 0 where
+  pub pages_are : pages_of new ≡ left_of gone (pages_of old)
+  pub log_is : log new ≡ joined (left_of gone (log_pages old))
+
+-- parts of one to `most` items, of which the first begins at `start` and the last ends at `len`
+abbrev pub AreEnds : ℕ → ℕ → List ℕ → ℕ → Type 0
+AreEnds most start [] len = start ≡ len
+AreEnds most start (end ∷ ends) len = (start < end) × (end ≤ start + most) × AreEnds most end ends len
 
 -- what holds of each chain
 pub record IsChain (chain : ChainState) : Type 0 where
   pub least : LEAST_PAGE_ENTRIES ≤ chain.page
   pub most : chain.page ≤ PAGE_ENTRIES
-  pub paired : length chain.counts ≡ length chain.blocks
-  pub counted : sum chain.counts ≡ length chain.entries
-  pub fits : (k : ℕ) → slice_index chain.counts k ≤ chain.page
-  pub filled_in : chain.filled ≤ length chain.counts
-  pub some : (k : ℕ) → k < chain.filled → 0 < slice_index chain.counts k
-  pub none : (k : ℕ) → chain.filled ≤ k → slice_index chain.counts k ≡ 0
+  pub paged : length chain.ends ≤ length chain.blocks
+  pub parted : AreEnds chain.page 0 chain.ends (length chain.entries)
   pub rising : IsLog chain.entries
   pub within : chain.tail ≤ length chain.entries

@@ -1,13 +1,17 @@
 //! A chain of log pages.
 
-ghost use Rattle.std.specs.Prelude.{◌≡◌, ◌+◌, ◌*◌, ◌<◌, ◌≤◌, ◌↔◌, ◌==◌, IsTrue, IfErr, OnOk, Some, length, max, slice_get};
+ghost use Rattle.std.specs.Prelude.{◌≡◌, ◌+◌, ◌-◌, ◌*◌, ◌<◌, ◌≤◌, ◌↔◌, ◌++◌, ◌==◌, IsTrue, IfErr, IfSome, OnOk, Some, length, max, take, slice_get, slice_index, vec_len};
+ghost use Rattle.std.specs.Int.{div_ceil};
+ghost use Rattle.std.specs.List.{count_by, items_where_true};
+ghost use Rattle.std.specs.List.Sorted.{IsStrictlyIncreasing};
 ghost use Rattle.std.specs.Option.{ForSome, option_copied};
+ghost use Rattle.nv_alloc.specs.Block.{AreSized};
 ghost use Rattle.nv_base.specs.Ids.{IsIdBefore};
-ghost use Rattle.nv_log.specs.Chain.{AddsPage, AppendsEntry, IsChain, UnlinksPage, appended, count_of, empty_chain, entry_of, last_epoch, last_id, log, page_entries, pages_for, place_of, room_of, start_of, with_page, without_page};
+ghost use Rattle.nv_log.specs.Chain.{AppendsEntry, IsChain, UnlinksPages, appended, compacted, empty_chain, end_of, entry_of, last_epoch, last_id, last_of, left_of, log, only, page_entries, pages_for, place_of, room_of, start_of, with_page, without_entries, without_pages, flags_from};
 
 use crate::reads::ReadCount;
-use crate::{pages, search};
-use nv_alloc::Block;
+use crate::{pages, removal, search};
+use nv_alloc::{Block, BlockQueue};
 use nv_base::limits::{LEAST_PAGE_ENTRIES, PAGE_ENTRIES};
 use nv_base::{EntryId, Epoch, Fault};
 use nv_entry::Entry;
@@ -15,18 +19,23 @@ use std::alloc::Global;
 use std::marker::Model;
 use std::mem;
 
-/// The log of an inode: its pages, each one block with at most `page` entries, and the entries in append
+/// The log of an inode: its pages, each one block with at most so many entries, and the entries in append
 /// order. The pages with entries stand first. Entries up to the tail count; those past it were appended and
 /// not yet published.
 ///
+/// A reader takes constant time where its doc comment says no more.
+///
 /// A chain owns its blocks, so it is no `Drop`: [`Chain::into_blocks`] takes it apart.
 pub struct Chain {
+    // How many entries a page holds.
     page: usize,
     blocks: Vec<Block>,
-    counts: Vec<usize>,
-    filled: usize,
+    // Where each page with entries ends.
+    ends: Vec<usize>,
     entries: Vec<Entry>,
     tail: usize,
+    // How many pages there is room for, those that are there included.
+    reserved: usize,
     reads: ReadCount,
 }
 
@@ -53,17 +62,18 @@ impl Chain {
         Chain {
             page,
             blocks: Vec::new(alloc),
-            counts: Vec::new(alloc),
-            filled: 0,
+            ends: Vec::new(alloc),
             entries: Vec::new(alloc),
             tail: 0,
+            reserved: 0,
             reads: ReadCount::new(),
         }
     }
 
     /// How many entries a page holds.
-    pub fn page(&self) -> usize
-        ensures { result ≡ self.now.state.page }
+    pub fn entries_per_page(&self) -> usize
+        ensures value { result ≡ self.now.state.page }
+        ensures least { LEAST_PAGE_ENTRIES ≤ result }
     {
         self.page
     }
@@ -75,12 +85,16 @@ impl Chain {
         self.blocks.as_slice()
     }
 
-    /// How many pages have an entry. They stand first.
-    pub fn filled(&self) -> usize
-        ensures value { result ≡ self.now.state.filled }
+    /// Where each page with entries ends, as a number of entries. These pages stand first, each has an entry,
+    /// and the last ends where all entries end.
+    pub fn ends(&self) -> &[usize]
+        ensures value { result.now ≡ self.now.state.ends }
+        ensures rising { IsStrictlyIncreasing result.now }
+        ensures last { 0 < length result.now
+            → slice_index result.now (length result.now - 1) ≡ length self.now.state.entries }
         ensures chain { IsChain self.now.state }
     {
-        self.filled
+        self.ends.as_slice()
     }
 
     /// How many entries there are, those past the tail too.
@@ -122,45 +136,76 @@ impl Chain {
 
     /// The entries of page `k`.
     pub fn page_entries(&self, k: usize) -> &[Entry]
-        requires { k < length self.now.state.blocks }
         ensures { result.now ≡ page_entries self.now.state k }
     {
-        let start = pages::start_of(&self.counts, k);
-        self.read(&self.entries[start..start + self.counts[k]])
+        self.read(&self.entries[self.page_start(k)..self.page_end(k)])
+    }
+
+    /// The place of the first entry of page `k`: of one that has none, where all entries end.
+    pub fn page_start(&self, k: usize) -> usize
+        ensures value { result ≡ start_of self.now.state k }
+        ensures within { result ≤ end_of self.now.state k }
+    {
+        pages::start_of(&self.ends, self.entries.len(), k)
+    }
+
+    /// The place behind the last entry of page `k`.
+    pub fn page_end(&self, k: usize) -> usize
+        ensures value { result ≡ end_of self.now.state k }
+        ensures within { result ≤ length self.now.state.entries }
+    {
+        pages::end_of(&self.ends, self.entries.len(), k)
     }
 
     /// How many entries page `k` has.
     pub fn page_len(&self, k: usize) -> usize
-        requires { k < length self.now.state.blocks }
-        ensures { result ≡ count_of self.now.state k }
+        ensures { result ≡ end_of self.now.state k - start_of self.now.state k }
     {
-        self.counts[k]
+        self.page_end(k) - self.page_start(k)
     }
 
-    /// The page in which the entry at a place stands.
+    /// The page in which the entry at a place stands. The time grows with the logarithm of the pages.
     pub fn page_of(&self, place: usize) -> usize
         requires { place < length self.now.state.entries }
-        ensures within { result < length self.now.state.blocks }
+        ensures within { result < length self.now.state.ends }
         ensures start { start_of self.now.state result ≤ place }
-        ensures end { place < start_of self.now.state result + count_of self.now.state result }
+        ensures end { place < end_of self.now.state result }
     {
-        pages::page_of(&self.counts, place)
+        pages::page_of(&self.ends, self.entries.len(), place)
     }
 
-    /// The place of the entry of that id, in append order, found by halving.
+    /// The place of the entry of that id, in append order. The time grows with the logarithm of the entries.
     pub fn place_of(&self, id: EntryId) -> Option<usize>
-        ensures { result ≡ place_of self.now.state.entries id }
+        ensures value { result ≡ place_of self.now.state.entries id }
+        ensures within { IfSome result (λ place. place < length self.now.state.entries) }
     {
         search::place_of(&self.entries, id)
     }
 
-    /// The entry of that id, found by halving.
+    /// The entry of that id. The time grows with the logarithm of the entries.
     pub fn entry(&self, id: EntryId) -> Option<&Entry>
         ensures { option_copied result ≡ entry_of self.now.state id }
     {
         let place = self.place_of(id)?;
+        Some(self.entry_at(place))
+    }
+
+    /// The entry at a place, also past the tail.
+    pub fn entry_at(&self, place: usize) -> &Entry
+        requires { place < length self.now.state.entries }
+        ensures { slice_get self.now.state.entries place ≡ Some result.now }
+    {
         self.reads.raise(1);
-        self.entries.get(place)
+        &self.entries[place]
+    }
+
+    /// The last of the entries that count.
+    pub fn last_published(&self) -> Option<&Entry>
+        ensures { option_copied result ≡ last_of (log self.now.state) }
+    {
+        let last = self.entries[..self.tail].last();
+        self.reads.raise(usize::from(last.is_some()));
+        last
     }
 
     /// The id of the last entry, also past the tail. Ids rise: the next entry's is above it.
@@ -192,9 +237,9 @@ impl Chain {
     pub fn room(&self) -> usize
         ensures { result ≡ room_of self.now.state }
     {
-        let open = pages::open_page(self.page, &self.counts, self.filled);
-        let held = self.counts.get(open).copied().unwrap_or(0);
-        self.page * (self.counts.len() - open) - held
+        let open = pages::open_page(self.page, &self.ends, self.entries.len());
+        let held = self.entries.len() - self.page_start(open);
+        self.page * (self.blocks.len() - open) - held
     }
 
     /// How many more pages it takes to append so many entries.
@@ -209,23 +254,28 @@ impl Chain {
     pub fn spare(&self) -> usize
         ensures { result ≡ self.now.spare }
     {
-        self.blocks.capacity() - self.blocks.len()
+        self.reserved - self.blocks.len()
     }
 
     /// Makes room for so many more pages, and for all entries that they and the pages that are there hold:
-    /// `OutOfMemory` where there is none.
+    /// `OutOfMemory` where there is none. It may take room for more than that, so that the time of many calls
+    /// is linear in the pages that they make room for.
     pub fn reserve(&mut self, pages: usize) -> Result<(), Fault>
         ensures state { self.new.state ≡ self.old.state }
         ensures ok { OnOk result (self.new.spare ≡ max self.old.spare pages) }
         ensures err { IfErr result (λ fault. (fault ≡ Fault.OutOfMemory) × (self.old.spare < pages)
             × (self.new.spare ≡ self.old.spare)) }
     {
+        if pages <= self.reserved - self.blocks.len() {
+            return Ok(());
+        }
         let all = self.blocks.len().saturating_add(pages);
         let places = all.saturating_mul(self.page);
         self.entries
-            .reserve_exact(places.saturating_sub(self.entries.len()))?;
-        self.counts.reserve_exact(pages)?;
-        self.blocks.reserve_exact(pages)?;
+            .reserve(places.saturating_sub(self.entries.len()))?;
+        self.ends.reserve(all.saturating_sub(self.ends.len()))?;
+        self.blocks.reserve(pages)?;
+        self.reserved = all;
         Ok(())
     }
 
@@ -233,11 +283,10 @@ impl Chain {
     pub fn add_page(&mut self, block: Block)
         requires reserved { 0 < self.old.spare }
         ensures state { self.new.state ≡ with_page block self.old.state }
-        ensures pages { AddsPage self.old.state self.new.state }
+        ensures room { room_of self.new.state ≡ room_of self.old.state + self.old.state.page }
         ensures spare { self.new.spare + 1 ≡ self.old.spare }
     {
         self.blocks.push_reserved(block);
-        self.counts.push_reserved(0);
     }
 
     /// Appends an entry, past the tail. It goes to the page of the last entry, and where that is full to the
@@ -250,10 +299,10 @@ impl Chain {
         ensures pages { AppendsEntry entry self.old.state self.new.state }
         ensures spare { self.new.spare ≡ self.old.spare }
     {
-        let open = pages::open_page(self.page, &self.counts, self.filled);
-        self.counts[open] += 1;
-        self.filled = open + 1;
+        let open = pages::open_page(self.page, &self.ends, self.entries.len());
         self.entries.push_reserved(entry);
+        self.ends.truncate(open);
+        self.ends.push_reserved(self.entries.len());
     }
 
     /// Moves the tail: the entries before it count.
@@ -267,20 +316,70 @@ impl Chain {
     }
 
     /// Takes page `k` and its entries out, and hands out its block. All other entries stay, in their order
-    /// and on their pages, and those of them that count still do.
+    /// and on their pages, and those of them that count still do. The time is linear in the entries and pages.
     pub fn unlink_page(&mut self, k: usize) -> Block
         requires { k < length self.old.state.blocks }
         ensures block { slice_get self.old.state.blocks k ≡ Some result }
-        ensures state { self.new.state ≡ without_page k self.old.state }
-        ensures others { UnlinksPage k self.old.state self.new.state }
+        ensures state { self.new.state ≡ without_pages (only k) self.old.state }
+        ensures pages { UnlinksPages (only k) self.old.state self.new.state }
         ensures spare { self.new.spare ≡ self.old.spare + 1 }
     {
-        let start = pages::start_of(&self.counts, k);
-        let count = self.counts.remove(k);
-        pages::cut_out(&mut self.entries, start, count);
-        self.tail -= self.tail.saturating_sub(start).min(count);
-        self.filled = pages::filled_without(k, self.filled);
+        self.take_pages(k, &[true]);
         self.blocks.remove(k)
+    }
+
+    /// Takes the pages that are flagged out, with their entries, and puts their blocks into the queue, in order. A page
+    /// without a flag stays. All other entries stay, in their order and on their pages, and those of them that
+    /// count still do. The time is linear in the entries and pages, and no memory is taken.
+    pub fn unlink_pages(&mut self, gone: &[bool], queue: &mut BlockQueue)
+        requires room { count_by (λ goes. goes) gone.now ≤ queue.old.room }
+        requires sized { AreSized queue.old.size self.old.state.blocks }
+        ensures state { self.new.state ≡ without_pages gone.now self.old.state }
+        ensures pages { UnlinksPages gone.now self.old.state self.new.state }
+        ensures spare { self.new.spare
+            ≡ self.old.spare + length (items_where_true gone.now self.old.state.blocks) }
+        ensures queue { queue.new ≡ record queue.old {
+          blocks = queue.old.blocks ++ items_where_true gone.now self.old.state.blocks;
+          room = queue.old.room - length (items_where_true gone.now self.old.state.blocks);
+        } }
+    {
+        self.take_pages(0, gone);
+        removal::hand_out(&mut self.blocks, gone, queue);
+    }
+
+    /// Takes the entries of pages out, by flags that begin at page `first`. All blocks stay, so that those
+    /// behind the pages that have entries left are without.
+    fn take_pages(&mut self, first: usize, gone: &[bool])
+        ensures state { self.new.state ≡ without_entries (flags_from first gone.now) self.old.state }
+        ensures spare { self.new.spare ≡ self.old.spare }
+        ensures was { IsChain self.old.state }
+    {
+        self.tail = removal::take_pages(&mut self.entries, &mut self.ends, self.tail, first, gone);
+    }
+
+    /// How many entries stay where those that are flagged go. The time is linear in the flags.
+    pub fn staying(&self, gone: &[bool]) -> usize
+        ensures { result ≡ length (left_of gone.now self.now.state.entries) }
+    {
+        removal::staying(&self.entries, gone)
+    }
+
+    /// Takes the entries that are flagged out and moves the others in their order to fresh pages, which take
+    /// the place of the old ones, and hands out the blocks of these. An entry without a flag stays, and those
+    /// that stay and counted still do. The time is linear in the entries, and no memory is taken.
+    pub fn compact(&mut self, gone: &[bool], pages: Vec<Block>) -> Vec<Block>
+        requires { vec_len pages
+            ≡ div_ceil (length (left_of gone.now self.old.state.entries)) self.old.state.page }
+        ensures blocks { result.items ≡ self.old.state.blocks }
+        ensures state { self.new.state ≡ compacted gone.now pages.items self.old.state }
+        ensures log { log self.new.state ≡ left_of gone.now (log self.old.state) }
+        ensures spare { self.new.spare ≡ 0 }
+    {
+        self.tail = removal::staying(&self.entries[..self.tail], gone);
+        removal::take_entries(&mut self.entries, gone);
+        pages::pack(&mut self.ends, self.page, self.entries.len());
+        self.reserved = pages.len();
+        mem::replace(&mut self.blocks, pages)
     }
 
     /// Puts another chain in the place of this one, and hands out the blocks of all old pages. The old
@@ -292,17 +391,17 @@ impl Chain {
         let Chain {
             page,
             blocks,
-            counts,
-            filled,
+            ends,
             entries,
             tail: published,
+            reserved,
             reads: _,
         } = chain;
         self.page = page;
-        self.counts = counts;
-        self.filled = filled;
+        self.ends = ends;
         self.entries = entries;
         self.tail = published;
+        self.reserved = reserved;
         mem::replace(&mut self.blocks, blocks)
     }
 
@@ -313,17 +412,18 @@ impl Chain {
         let Chain {
             page: _,
             blocks,
-            counts: _,
-            filled: _,
+            ends: _,
             entries: _,
             tail: _,
+            reserved: _,
             reads: _,
         } = self;
         blocks
     }
 
     /// How many entries were handed out to be read so far, up to the greatest number: each one of
-    /// [`Chain::entry`], and those of [`Chain::entries`], [`Chain::log`] and [`Chain::page_entries`].
+    /// [`Chain::entry`], [`Chain::entry_at`] and [`Chain::last_published`], and those of [`Chain::entries`],
+    /// [`Chain::log`] and [`Chain::page_entries`].
     pub fn reads(&self) -> u64 {
         self.reads.get()
     }

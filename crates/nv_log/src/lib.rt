@@ -7,6 +7,7 @@
 mod chain;
 mod pages;
 mod reads;
+mod removal;
 mod search;
 #[cfg(test)]
 mod tests;

@@ -1,70 +1,58 @@
-//! The counts of a chain's pages.
+//! Where the pages of a chain begin and end among its entries.
 
-ghost use Rattle.std.specs.Prelude.{◌≡◌, ◌+◌, ◌-◌, ◌*◌, ◌^◌, ◌<◌, ◌≤◌, if◌then◌else◌, nat_lt, length, sum, take, slice_index, vec_len, vec_capacity};
-ghost use Rattle.nv_log.specs.Chain.{cut_out, open_page};
+ghost use Rattle.std.specs.Prelude.{◌≡◌, ℕ, ◌<◌, ◌≤◌, length, vec_capacity};
+ghost use Rattle.std.specs.Int.{div_ceil};
+ghost use Rattle.nv_log.specs.Chain.{AreEnds, end_in, open_page, packed, start_in};
+
+/// Where page `k` begins among `len` entries: one that has none begins where all end.
+pub fn start_of(ends: &[usize], len: usize, k: usize) -> usize
+    ensures { result ≡ start_in ends.now len k }
+{
+    if k == 0 {
+        return 0;
+    }
+    end_of(ends, len, k - 1)
+}
+
+/// Where page `k` ends among `len` entries.
+pub fn end_of(ends: &[usize], len: usize, k: usize) -> usize
+    ensures { result ≡ end_in ends.now len k }
+{
+    ends.get(k).copied().unwrap_or(len)
+}
 
 /// The page that gets the next entry: that of the last entry while it has a free place, and then the one
 /// after it.
-pub fn open_page(page: usize, counts: &[usize], filled: usize) -> usize
-    requires { filled ≤ length counts.now }
-    ensures { result ≡ open_page page counts.now filled }
+pub fn open_page(page: usize, ends: &[usize], len: usize) -> usize
+    ensures { result ≡ open_page page ends.now len }
 {
-    if filled > 0 && counts[filled - 1] < page {
-        return filled - 1;
+    let last = ends.len().saturating_sub(1);
+    if len.saturating_sub(start_of(ends, len, last)) < page {
+        return last;
     }
-    filled
+    ends.len()
 }
 
-/// How many entries stand in the first `k` pages.
-pub fn start_of(counts: &[usize], k: usize) -> usize
-    requires within { k ≤ length counts.now }
-    requires small { sum counts.now < 2 ^ 63 }
-    ensures { result ≡ sum (take k counts.now) }
+/// The page of the entry at a place, found by halving.
+pub fn page_of(ends: &[usize], len: usize, place: usize) -> usize
+    requires parted { (page : ℕ) × AreEnds page 0 ends.now len }
+    requires place { place < len }
+    ensures within { result < length ends.now }
+    ensures start { start_in ends.now len result ≤ place }
+    ensures end { place < end_in ends.now len result }
 {
-    total(&counts[..k])
+    ends.partition_point(|end| *end <= place)
 }
 
-fn total(counts: &[usize]) -> usize
-    requires { sum counts.now < 2 ^ 63 }
-    ensures { result ≡ sum counts.now }
+/// Sets the ends to those of full pages, of which the last may be short.
+pub fn pack(ends: &mut Vec<usize>, page: usize, entries: usize)
+    requires some { 0 < page }
+    requires room { div_ceil entries page ≤ vec_capacity ends.old }
+    ensures ends { ends.new.items ≡ packed page entries }
+    ensures capacity { vec_capacity ends.new ≡ vec_capacity ends.old }
 {
-    counts.iter().sum()
-}
-
-/// How many pages have an entry once page `k` is gone.
-pub fn filled_without(k: usize, filled: usize) -> usize
-    ensures { result ≡ (if nat_lt k filled then filled - 1 else filled) }
-{
-    if k < filled {
-        return filled - 1;
+    ends.clear();
+    for k in 0..entries.div_ceil(page) {
+        ends.push_reserved((k + 1).saturating_mul(page).min(entries));
     }
-    filled
-}
-
-/// The page of the entry at a place.
-pub fn page_of(counts: &[usize], place: usize) -> usize
-    requires { place < sum counts.now }
-    ensures within { result < length counts.now }
-    ensures start { sum (take result counts.now) ≤ place }
-    ensures end { place < sum (take result counts.now) + slice_index counts.now result }
-{
-    let mut left = place;
-    for (k, count) in counts.iter().enumerate() {
-        if left < *count {
-            return k;
-        }
-        left -= *count;
-    }
-    unreachable!()
-}
-
-/// Takes out `count` items from place `start` on.
-pub fn cut_out<T: Drop>(items: &mut Vec<T>, start: usize, count: usize)
-    requires { start + count ≤ vec_len items.old }
-    ensures items { items.new.items ≡ cut_out start count items.old.items }
-    ensures capacity { vec_capacity items.new ≡ vec_capacity items.old }
-{
-    let kept = items.len() - count;
-    items[start..].rotate_left(count);
-    items.truncate(kept);
 }

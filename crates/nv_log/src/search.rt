@@ -1,6 +1,6 @@
 //! The search for an entry by its id.
 
-ghost use Rattle.std.specs.Prelude.{◌≡◌, ◌≤◌, ◌↔◌, IsTrue};
+ghost use Rattle.std.specs.Prelude.{◌≡◌, ◌<◌, ◌≤◌, ◌↔◌, IfSome, IsTrue, length};
 ghost use Rattle.nv_base.specs.Ids.{IsIdBefore};
 ghost use Rattle.nv_entry.specs.Log.{IsLog};
 ghost use Rattle.nv_log.specs.Chain.{place_of};
@@ -18,7 +18,8 @@ pub fn may_follow(earlier: &Entry, id: EntryId, epoch: Epoch) -> bool
 /// The place of the entry of that id, found by halving.
 pub fn place_of(entries: &[Entry], id: EntryId) -> Option<usize>
     requires { IsLog entries.now }
-    ensures { result ≡ place_of entries.now id }
+    ensures value { result ≡ place_of entries.now id }
+    ensures within { IfSome result (λ place. place < length entries.now) }
 {
     entries.binary_search_by(|entry| entry.id.cmp(&id)).ok()
 }

@@ -78,6 +78,18 @@ fn chain_of(rt: &impl Abort, alloc: Global, hand: &mut Hand) -> Chain {
     chain
 }
 
+// A chain with the five lowest blocks and the commits 1 to 9, of which 1 to 7 count.
+fn nine_entries(rt: &impl Abort, alloc: Global, list: &mut FreeList) -> Chain {
+    let mut hand = hand_with(rt, alloc, list, 5);
+    let mut chain = chain_of(rt, alloc, &mut hand);
+    for commit in 1..10 {
+        append(rt, &mut chain, commit);
+    }
+    publish(rt, &mut chain, 7);
+    hand.dismantle();
+    chain
+}
+
 fn id(commit: u64) -> EntryId {
     EntryId {
         commit: CommitNo::new(commit),
@@ -109,11 +121,26 @@ fn assert_commits(rt: &impl Abort, entries: &[Entry], want: &[u64]) {
     }
 }
 
-fn assert_page(rt: &impl Abort, chain: &Chain, k: usize, number: u64, commits: &[u64]) {
-    assert!(rt; k < chain.blocks().len());
-    assert_eq!(rt; chain.blocks()[k].number(), BlockNo::new(number));
-    assert_eq!(rt; chain.page_len(k), commits.len());
-    assert_commits(rt, chain.page_entries(k), commits);
+// The number of a page's block, and the commits of its entries.
+type Page = (u64, &'static [u64]);
+
+fn assert_pages(rt: &impl Abort, chain: &Chain, pages: &[Page], log: &[u64]) {
+    let mut end = 0;
+    for (k, (number, commits)) in pages.iter().enumerate() {
+        assert_eq!(rt;
+            chain.blocks().get(k).map(|block| block.number()),
+            Some(BlockNo::new(*number))
+        );
+        assert_commits(rt, chain.page_entries(k), commits);
+        assert_eq!(rt;
+            (chain.page_start(k), chain.page_len(k)),
+            (end, commits.len())
+        );
+        end = chain.page_end(k);
+        assert!(rt; k >= chain.ends().len() || chain.ends()[k] == end);
+    }
+    assert_eq!(rt; (chain.blocks().len(), chain.len()), (pages.len(), end));
+    assert_commits(rt, chain.log(), log);
 }
 
 // Gives the blocks to the hand of a call, as one chain's pages, and lets the hand go.
@@ -135,10 +162,10 @@ fn appends_and_publishes(rt: HostRuntime) {
     let mut list = free_blocks(&rt, rt.alloc());
     let mut hand = hand_with(&rt, rt.alloc(), &mut list, 3);
     let mut chain = chain_of(&rt, rt.alloc(), &mut hand);
-    assert_eq!(rt; chain.page(), 2);
-    assert_eq!(rt; chain.last_id(), None);
-    assert_eq!(rt; chain.last_epoch(), None);
+    assert_eq!(rt; chain.entries_per_page(), 2);
+    assert_eq!(rt; (chain.last_id(), chain.last_epoch()), (None, None));
     assert!(rt; chain.is_empty());
+    assert!(rt; chain.last_published().is_none());
     assert_eq!(rt; chain.room(), 6);
     assert_eq!(rt;
         (chain.pages_for(6), chain.pages_for(7), chain.pages_for(9)),
@@ -149,18 +176,16 @@ fn appends_and_publishes(rt: HostRuntime) {
         append(&rt, &mut chain, commit);
     }
     assert_eq!(rt; shape(&chain), [3, 3, 0, 3, 0]);
-    assert_eq!(rt; chain.filled(), 2);
-    assert_commits(&rt, chain.log(), &[]);
+    assert_eq!(rt; chain.ends(), [2, 3].as_slice());
     assert_commits(&rt, chain.entries(), &[1, 2, 3]);
-    assert_page(&rt, &chain, 0, 0, &[1, 2]);
-    assert_page(&rt, &chain, 1, 1, &[3]);
-    assert_page(&rt, &chain, 2, 2, &[]);
+    assert_pages(&rt, &chain, &[(0, &[1, 2]), (1, &[3]), (2, &[])], &[]);
 
     publish(&rt, &mut chain, 2);
     assert_commits(&rt, chain.log(), &[1, 2]);
+    assert_eq!(rt; chain.last_published().map(|entry| entry.id), Some(id(2)));
+    assert_eq!(rt; chain.last_id(), Some(id(3)));
     publish(&rt, &mut chain, 3);
     assert_commits(&rt, chain.log(), &[1, 2, 3]);
-    assert_eq!(rt; chain.last_id(), Some(id(3)));
     assert_eq!(rt; chain.last_epoch(), Some(Epoch::new(1)));
     assert!(rt; !chain.may_append(id(3), Epoch::new(1)));
     assert!(rt; !chain.may_append(id(4), Epoch::new(0)));
@@ -186,24 +211,101 @@ fn finds_entries_by_id(rt: HostRuntime) {
 
     let place = chain.place_of(id(15)).expect(&rt, "the fifth entry");
     assert_eq!(rt; place, 4);
-    assert!(rt; place < chain.len());
-    assert_eq!(rt; chain.page_of(place), 2);
+    assert_eq!(rt; chain.entry_at(place).id, id(15));
+    assert!(rt; chain.last_published().is_none());
+    assert_eq!(rt; chain.reads(), 15);
+    for place in 0..chain.len() {
+        assert_eq!(rt; chain.page_of(place), place / 2);
+    }
     let_go(&rt, chain.into_blocks(), hand, list);
 }
 
-// Nine entries on five pages, of which the middle three go: three entries are left on two pages.
+// What goes, by flags, of the nine entries, and the pages and the log that are left.
+struct Removal {
+    gone: &'static [bool],
+    out: &'static [u64],
+    pages: &'static [Page],
+    log: &'static [u64],
+}
+
+const UNLINKS: [Removal; 6] = [
+    Removal {
+        gone: &[],
+        out: &[],
+        pages: &[
+            (0, &[1, 2]),
+            (1, &[3, 4]),
+            (2, &[5, 6]),
+            (3, &[7, 8]),
+            (4, &[9]),
+        ],
+        log: &[1, 2, 3, 4, 5, 6, 7],
+    },
+    Removal {
+        gone: &[true],
+        out: &[0],
+        pages: &[(1, &[3, 4]), (2, &[5, 6]), (3, &[7, 8]), (4, &[9])],
+        log: &[3, 4, 5, 6, 7],
+    },
+    Removal {
+        gone: &[false, true, true, true, false],
+        out: &[1, 2, 3],
+        pages: &[(0, &[1, 2]), (4, &[9])],
+        log: &[1, 2],
+    },
+    Removal {
+        gone: &[true, false, false, true, false],
+        out: &[0, 3],
+        pages: &[(1, &[3, 4]), (2, &[5, 6]), (4, &[9])],
+        log: &[3, 4, 5, 6],
+    },
+    Removal {
+        gone: &[false, false, false, false, true, true],
+        out: &[4],
+        pages: &[(0, &[1, 2]), (1, &[3, 4]), (2, &[5, 6]), (3, &[7, 8])],
+        log: &[1, 2, 3, 4, 5, 6, 7],
+    },
+    Removal {
+        gone: &[true, true, true, true, true],
+        out: &[0, 1, 2, 3, 4],
+        pages: &[],
+        log: &[],
+    },
+];
+
+fn assert_numbers(rt: &impl Abort, hand: &Hand, want: &[u64]) {
+    assert_eq!(rt; hand.len(), want.len() as u64);
+    for (block, number) in hand.blocks().zip(want) {
+        assert_eq!(rt; block.number(), BlockNo::new(*number));
+    }
+}
+
 #[test]
 fn unlinks_pages(rt: HostRuntime) {
-    let mut list = free_blocks(&rt, rt.alloc());
-    let mut hand = hand_with(&rt, rt.alloc(), &mut list, 5);
-    let mut chain = chain_of(&rt, rt.alloc(), &mut hand);
-    for commit in 1..10 {
-        append(&rt, &mut chain, commit);
+    for row in &UNLINKS {
+        let mut list = free_blocks(&rt, rt.alloc());
+        let mut chain = nine_entries(&rt, rt.alloc(), &mut list);
+        let mut taken = hand_with(&rt, rt.alloc(), &mut list, 0);
+        if taken.reserve(5).is_err() {
+            taken.reserve(5).expect(&rt, "memory for a hand");
+        }
+        assert!(rt; row.gone.iter().filter(|goes| **goes).count() as u64 <= taken.room());
+        chain.unlink_pages(row.gone, &mut taken);
+        assert_numbers(&rt, &taken, row.out);
+        assert_pages(&rt, &chain, row.pages, row.log);
+        assert_eq!(rt; chain.spare(), row.out.len());
+        let_go(&rt, chain.into_blocks(), taken, list);
     }
-    publish(&rt, &mut chain, 9);
-    let mut taken = Hand::new(rt.alloc());
-    if taken.reserve(3).is_err() {
-        taken.reserve(3).expect(&rt, "memory for a hand");
+}
+
+// The middle three pages go one by one, and then one without entries.
+#[test]
+fn unlinks_single_pages(rt: HostRuntime) {
+    let mut list = free_blocks(&rt, rt.alloc());
+    let mut chain = nine_entries(&rt, rt.alloc(), &mut list);
+    let mut taken = hand_with(&rt, rt.alloc(), &mut list, 1);
+    if taken.reserve(4).is_err() {
+        taken.reserve(4).expect(&rt, "memory for a hand");
     }
     for number in 1..4 {
         assert!(rt; chain.blocks().len() > 1 && taken.room() > 0);
@@ -211,33 +313,108 @@ fn unlinks_pages(rt: HostRuntime) {
         assert_eq!(rt; block.number(), BlockNo::new(number));
         taken.put(block);
     }
-    assert_eq!(rt; shape(&chain), [2, 3, 3, 1, 3]);
-    assert_commits(&rt, chain.log(), &[1, 2, 9]);
-    assert_page(&rt, &chain, 0, 0, &[1, 2]);
-    assert_page(&rt, &chain, 1, 4, &[9]);
-    taken.dismantle();
-    let_go(&rt, chain.into_blocks(), hand, list);
+    assert_eq!(rt; shape(&chain), [2, 3, 2, 1, 3]);
+    assert_pages(&rt, &chain, &[(0, &[1, 2]), (4, &[9])], &[1, 2]);
+
+    let Some(block) = taken.take_next() else {
+        panic!(rt; "the hand has a block")
+    };
+    assert!(rt; chain.spare() > 0);
+    chain.add_page(block);
+    assert!(rt; chain.blocks().len() > 2 && taken.room() > 0);
+    taken.put(chain.unlink_page(2));
+    assert_pages(&rt, &chain, &[(0, &[1, 2]), (4, &[9])], &[1, 2]);
+    let_go(&rt, chain.into_blocks(), taken, list);
+}
+
+const COMPACTIONS: [Removal; 4] = [
+    Removal {
+        gone: &[],
+        out: &[0, 1, 2, 3, 4],
+        pages: &[
+            (5, &[1, 2]),
+            (6, &[3, 4]),
+            (7, &[5, 6]),
+            (8, &[7, 8]),
+            (9, &[9]),
+        ],
+        log: &[1, 2, 3, 4, 5, 6, 7],
+    },
+    Removal {
+        gone: &[true, false, true, false, true, false, true, false, true],
+        out: &[0, 1, 2, 3, 4],
+        pages: &[(5, &[2, 4]), (6, &[6, 8])],
+        log: &[2, 4, 6],
+    },
+    Removal {
+        gone: &[true, true, true, true, true, true, true],
+        out: &[0, 1, 2, 3, 4],
+        pages: &[(5, &[8, 9])],
+        log: &[],
+    },
+    Removal {
+        gone: &[true, true, true, true, true, true, true, true, true],
+        out: &[0, 1, 2, 3, 4],
+        pages: &[],
+        log: &[],
+    },
+];
+
+// The blocks of a hand, one behind the other.
+fn blocks_of(rt: &impl Abort, alloc: Global, hand: &mut Hand) -> Vec<Block> {
+    let mut blocks = Vec::new(alloc);
+    let count = hand.len() as usize;
+    if blocks.reserve_exact(count).is_err() {
+        blocks.reserve_exact(count).expect(rt, "memory for blocks");
+    }
+    for _ in 0..count {
+        let Some(block) = hand.take_next() else {
+            panic!(rt; "the hand has a block")
+        };
+        assert!(rt; blocks.len() < blocks.capacity());
+        blocks.push_reserved(block);
+    }
+    blocks
+}
+
+#[test]
+fn compacts(rt: HostRuntime) {
+    for row in &COMPACTIONS {
+        let mut list = free_blocks(&rt, rt.alloc());
+        let mut chain = nine_entries(&rt, rt.alloc(), &mut list);
+        let mut hand = hand_with(&rt, rt.alloc(), &mut list, row.pages.len() as u64);
+        let fresh = blocks_of(&rt, rt.alloc(), &mut hand);
+        let staying = chain.staying(row.gone);
+        assert_eq!(rt; fresh.len(), staying.div_ceil(chain.entries_per_page()));
+        let old = chain.compact(row.gone, fresh);
+        assert_pages(&rt, &chain, row.pages, row.log);
+        assert_eq!(rt; chain.spare(), 0);
+        reserve(&rt, &mut chain, 3);
+        give_pages(&rt, old, hand);
+        let_go(&rt, chain.into_blocks(), Hand::new(rt.alloc()), list);
+    }
 }
 
 #[test]
 fn replaces_a_chain(rt: HostRuntime) {
     let mut list = free_blocks(&rt, rt.alloc());
-    let mut hand = hand_with(&rt, rt.alloc(), &mut list, 3);
-    let mut chain = chain_of(&rt, rt.alloc(), &mut hand);
-    append(&rt, &mut chain, 1);
+    let mut chain = nine_entries(&rt, rt.alloc(), &mut list);
     let mut fresh_hand = hand_with(&rt, rt.alloc(), &mut list, 1);
     let mut fresh = chain_of(&rt, rt.alloc(), &mut fresh_hand);
     append(&rt, &mut fresh, 7);
     publish(&rt, &mut fresh, 1);
 
     let old = chain.replace(fresh);
-    let numbers: [Option<BlockNo>; 3] = [0, 1, 2].map(|k| old.get(k).map(|block| block.number()));
-    assert_eq!(rt; numbers, [0, 1, 2].map(|number| Some(BlockNo::new(number))));
-    assert_eq!(rt; old.len(), 3);
+    for k in 0..5 {
+        assert_eq!(rt;
+            old.get(k).map(|block| block.number()),
+            Some(BlockNo::new(k as u64))
+        );
+    }
+    assert_eq!(rt; old.len(), 5);
     assert_eq!(rt; shape(&chain), [1, 1, 1, 1, 0]);
-    assert_page(&rt, &chain, 0, 3, &[7]);
-    fresh_hand.dismantle();
-    give_pages(&rt, old, hand);
+    assert_pages(&rt, &chain, &[(5, &[7])], &[7]);
+    give_pages(&rt, old, fresh_hand);
     let_go(&rt, chain.into_blocks(), Hand::new(rt.alloc()), list);
 }
 

@@ -7,7 +7,9 @@ pub returns-in-Some : goal.returns-in-Some
 returns-in-Some c =
     let chain = c.args.self.now.state in
     let last = c.in-Some.last.now in
-    let is : last_entry chain ≡ Some last = ap (λ v. last_entry v.state) (sym c.self.view_is) ∙ ap (λ es. slice_get es (length es - 1)) (sym c.deref.ensures.value) ∙ sym c.in-Some.ensures.value in
+    let is : last_entry chain ≡ Some last =
+    ap (λ v. last_entry v.state) (sym c.self.view_is) ∙ ap (λ es. slice_get es (length es - 1)) (sym c.deref.ensures.value)
+    ∙ sym c.in-Some.ensures.value in
     let by = by_last chain last c.args.id c.args.epoch is in
     let told = c.may_follow.ensures in
     (λ yes. by.0 (told.0 yes).0 (told.0 yes).1, λ both. told.1 (by.1 both))
