@@ -11,8 +11,8 @@ use Rattle.nv_entry.specs.Blocks.{IsItemBlock, Uses}
 use Rattle.nv_entry.specs.Node.{node_now}
 use Rattle.nv_entry.specs.Sound.{Gives}
 use Rattle.nv_entry.proofs.SoundLogs.{same_blocks_give, uses-push}
-use Rattle.nv_core.specs.Plain.{PlainNode, same_handle, stamped}
-use Rattle.nv_core.specs.World.{IsKept, bytes_in, last_commit, log_at, node_under}
+use Rattle.nv_core.specs.Plain.{PlainNode, changed_at, kind_in, node_in, same_handle, stamped}
+use Rattle.nv_core.specs.World.{IsKept, WorldValue, bytes_in, last_commit, log_at, node_under, plain_of}
 
 -- ---- the logs
 
@@ -31,68 +31,61 @@ log_before logs log ino apart = go (cases_lt ino (length logs)) where
 
 -- ---- the node under a handle
 
+-- the node that a slot's log gives
+abbrev pub slot_node : WorldValue → ℕ → Option NodeCopy
+slot_node world ino = node_now (bytes_in world.data_blocks) world.numbers.block (log_at world.logs ino)
+
 node_stamped : (commit : ℕ) (node : Option NodeCopy) → option_map (λ (p : PlainNode). p.node) (stamped commit node) ≡ node
 node_stamped commit None = refl
 node_stamped commit (Some node) = refl
 
+pub node_found : (world : WorldValue) (handle : Handle) → (handle.generation == 1) ≡ true → node_in (plain_of world) handle ≡ slot_node world handle.ino
+node_found world handle first =
+    let commit : ℕ = last_commit (log_at world.logs handle.ino) in
+    ap (λ (b : Bool). option_map (λ (p : PlainNode). p.node) (cond b (stamped commit (slot_node world handle.ino)) None)) first
+    ∙ node_stamped commit (slot_node world handle.ino)
+
 -- the node that a handle leads to is the one of its slot, which is in use
-pub record Found (block : ℕ) (logs : List (List Entry)) (data_blocks : List (List ℕ)) (handle : Handle) : Type 0 where
+pub record Found (world : WorldValue) (handle : Handle) : Type 0 where
   pub node : NodeCopy
   pub first : (handle.generation == 1) ≡ true
-  pub is : node_now (bytes_in data_blocks) block (log_at logs handle.ino) ≡ Some node
-  pub in_use : handle.ino < length logs
+  pub is : slot_node world handle.ino ≡ Some node
+  pub in_use : handle.ino < length world.logs
 
-pub found : (block : ℕ) (logs : List (List Entry)) (data_blocks : List (List ℕ)) (handle : Handle) (kind : Kind)
-    → option_map (λ (n : NodeCopy). n.kind) (option_map (λ (p : PlainNode). p.node) (node_under block logs data_blocks handle)) ≡ Some kind
-    → Found block logs data_blocks handle
-found block logs data_blocks handle kind h = by_generation (handle.generation == 1) refl h where
-  used : (node : NodeCopy) → node_now (bytes_in data_blocks) block (log_at logs handle.ino) ≡ Some node
-      → (handle.ino < length logs) ⊎ (length logs ≤ handle.ino) → handle.ino < length logs
+pub found : (world : WorldValue) (handle : Handle) (kind : Kind) → kind_in (plain_of world) handle ≡ Some kind → Found world handle
+found world handle kind h = by_generation (handle.generation == 1) refl where
+  used : (node : NodeCopy) → slot_node world handle.ino ≡ Some node → (handle.ino < length world.logs) ⊎ (length world.logs ≤ handle.ino)
+      → handle.ino < length world.logs
   used node e (inl lt) = lt
-  used node e (inr past) = let none : None ≡ Some node = sym (ap (node_now (bytes_in data_blocks) block)
-      (get_or_past logs handle.ino [] past)) ∙ e in cc
+  used node e (inr past) =
+      let none : None ≡ Some node = sym (ap (node_now (bytes_in world.data_blocks) world.numbers.block) (get_or_past world.logs handle.ino [] past)) ∙ e in
+      cc
 
-  by_node : (node : Option NodeCopy) → node_now (bytes_in data_blocks) block (log_at logs handle.ino) ≡ node
-      → (handle.generation == 1) ≡ true
-      → option_map (λ (n : NodeCopy). n.kind) node ≡ Some kind → Found block logs data_blocks handle
+  by_node : (node : Option NodeCopy) → slot_node world handle.ino ≡ node → (handle.generation == 1) ≡ true
+      → option_map (λ (n : NodeCopy). n.kind) node ≡ Some kind → Found world handle
   by_node None e q k = cc
-  by_node (Some node) e q k = record { node = node; first = q; is = e; in_use = used node e (cases_lt handle.ino (length logs)) }
+  by_node (Some node) e q k = record { node = node; first = q; is = e; in_use = used node e (cases_lt handle.ino (length world.logs)) }
 
-  by_generation : (b : Bool) → (handle.generation == 1) ≡ b
-      → option_map (λ (n : NodeCopy). n.kind) (option_map (λ (p : PlainNode). p.node)
-      (cond b (stamped (last_commit (log_at logs handle.ino))
-      (node_now (bytes_in data_blocks) block (log_at logs handle.ino))) None)) ≡ Some kind
-      → Found block logs data_blocks handle
-  by_generation false q k = cc
-  by_generation true q k =
-      by_node (node_now (bytes_in data_blocks) block (log_at logs handle.ino)) refl q
-      (sym (ap (option_map (λ (n : NodeCopy). n.kind))
-      (node_stamped (last_commit (log_at logs handle.ino)) (node_now (bytes_in data_blocks) block (log_at logs handle.ino)))) ∙ k)
-
-pub node_found : (block : ℕ) (logs : List (List Entry)) (data_blocks : List (List ℕ)) (handle : Handle) → (handle.generation == 1) ≡ true
-    → option_map (λ (p : PlainNode). p.node) (node_under block logs data_blocks handle) ≡ node_now (bytes_in data_blocks) block
-    (log_at logs handle.ino)
-node_found block logs data_blocks handle first =
-    let log : List Entry = log_at logs handle.ino in
-    ap (λ (b : Bool). option_map (λ (p : PlainNode). p.node) (cond b
-    (stamped (last_commit log) (node_now (bytes_in data_blocks) block log)) None)) first
-    ∙ node_stamped (last_commit log) (node_now (bytes_in data_blocks) block log)
+  by_generation : (b : Bool) → (handle.generation == 1) ≡ b → Found world handle
+  by_generation false q =
+      let under : Bool → Option PlainNode = λ b. cond b (stamped (last_commit (log_at world.logs handle.ino)) (slot_node world handle.ino)) None in
+      let none : None ≡ Some kind = sym (ap (λ (b : Bool). option_map (λ (n : NodeCopy). n.kind) (option_map (λ (p : PlainNode). p.node) (under b))) q) ∙ h in
+      cc
+  by_generation true q = by_node (slot_node world handle.ino) refl q (sym (ap (option_map (λ (n : NodeCopy). n.kind)) (node_found world handle q)) ∙ h)
 
 -- ---- a change of one slot
 
 -- one more entry changes the log of one slot, whose node it changes so, and blocks may stand behind those in use
-pub record ChangesSlot (block : ℕ) (old new : List (List Entry)) (data_blocks after : List (List ℕ)) (handle : Handle) (e : Entry)
-    (change : Option NodeCopy → Option NodeCopy) : Type 0 where
-  pub some : 0 < block
-  pub grown : length data_blocks ≤ length after
-  pub kept : (number : ℕ) → number < length data_blocks → bytes_in after number ≡ bytes_in data_blocks number
-  pub files : (ino : ℕ) → IsKept block data_blocks (log_at old ino)
+pub record ChangesSlot (old new : WorldValue) (handle : Handle) (e : Entry) (change : Option NodeCopy → Option NodeCopy) : Type 0 where
+  pub some : 0 < old.numbers.block
+  pub grown : length old.data_blocks ≤ length new.data_blocks
+  pub kept : (number : ℕ) → number < length old.data_blocks → bytes_in new.data_blocks number ≡ bytes_in old.data_blocks number
+  pub files : (ino : ℕ) → IsKept old.numbers.block old.data_blocks (log_at old.logs ino)
   pub first : (handle.generation == 1) ≡ true
-  pub here : log_at new handle.ino ≡ log_at old handle.ino ++ e ∷ []
-  pub others : (ino : ℕ) → ino ≢ handle.ino → log_at new ino ≡ log_at old ino
-  pub gives : Gives (bytes_in after) block (log_at old handle.ino ++ e ∷ [])
-      (change (node_now (bytes_in data_blocks) block (log_at old handle.ino)))
-  pub blocks : (number : ℕ) → IsItemBlock e.item number → number < length after
+  pub here : log_at new.logs handle.ino ≡ log_at old.logs handle.ino ++ e ∷ []
+  pub others : (ino : ℕ) → ino ≢ handle.ino → log_at new.logs ino ≡ log_at old.logs ino
+  pub gives : Gives (bytes_in new.data_blocks) old.numbers.block (log_at old.logs handle.ino ++ e ∷ []) (change (slot_node old handle.ino))
+  pub blocks : (number : ℕ) → IsItemBlock e.item number → number < length new.data_blocks
 
 -- with this slot, the handle is the changed one's where the generation is 1
 same_generation : (a b : ℕ) → a ≡ 1 → (b == 1) ≡ (a == b)
@@ -105,57 +98,49 @@ in_slot : (a : Bool) (new now old : Option PlainNode) → new ≡ now → cond a
 in_slot true new now old e = e
 in_slot false new now old e = refl
 
-module _ (block : ℕ) (old new : List (List Entry)) (data_blocks after : List (List ℕ)) (handle : Handle) (e : Entry)
-    (change : Option NodeCopy → Option NodeCopy) (c : ChangesSlot block old new data_blocks after handle e change) where
+module _ (old new : WorldValue) (handle : Handle) (e : Entry) (change : Option NodeCopy → Option NodeCopy) (c : ChangesSlot old new handle e change) where
   -- the other slots' logs give the same nodes
-  other_gives : (ino : ℕ) → ino ≢ handle.ino
-      → Gives (bytes_in after) block (log_at new ino) (node_now (bytes_in data_blocks) block (log_at old ino))
+  other_gives : (ino : ℕ) → ino ≢ handle.ino → Gives (bytes_in new.data_blocks) old.numbers.block (log_at new.logs ino) (slot_node old ino)
   other_gives ino apart =
-      subst (λ (log : List Entry). Gives (bytes_in after) block log (node_now (bytes_in data_blocks) block (log_at old ino)))
-      (sym (c.others ino apart))
-      (same_blocks_give (bytes_in data_blocks) (bytes_in after) block (log_at old ino) c.some (c.files ino).sound
+      subst (λ (log : List Entry). Gives (bytes_in new.data_blocks) old.numbers.block log (slot_node old ino)) (sym (c.others ino apart))
+      (same_blocks_give (bytes_in old.data_blocks) (bytes_in new.data_blocks) old.numbers.block (log_at old.logs ino) c.some (c.files ino).sound
       (λ number u. c.kept number ((c.files ino).in_use number u)))
 
-  in_either : (number : ℕ) → Uses block (log_at old handle.ino) number ⊎ IsItemBlock e.item number → number < length after
+  in_either : (number : ℕ) → Uses old.numbers.block (log_at old.logs handle.ino) number ⊎ IsItemBlock e.item number → number < length new.data_blocks
   in_either number (inl u) = let below = (c.files handle.ino).in_use number u in omega (arith, c.grown)
   in_either number (inr h) = c.blocks number h
 
-  pub files_after : (ino : ℕ) → IsKept block after (log_at new ino)
+  pub files_after : (ino : ℕ) → IsKept old.numbers.block new.data_blocks (log_at new.logs ino)
   files_after ino = go (cases_eq ino handle.ino) where
-    go : (ino ≡ handle.ino) ⊎ (ino ≡ handle.ino → ⊥) → IsKept block after (log_at new ino)
+    go : (ino ≡ handle.ino) ⊎ (ino ≡ handle.ino → ⊥) → IsKept old.numbers.block new.data_blocks (log_at new.logs ino)
     go (inl same) =
-        subst (IsKept block after) (sym (ap (log_at new) same ∙ c.here))
-        (record { sound = c.gives.sound; in_use = λ number u. in_either number (uses-push block (log_at old handle.ino) e number u) })
+        subst (IsKept old.numbers.block new.data_blocks) (sym (ap (log_at new.logs) same ∙ c.here))
+        (record { sound = c.gives.sound; in_use = λ number u. in_either number (uses-push old.numbers.block (log_at old.logs handle.ino) e number u) })
     go (inr apart) = record {
       sound = (other_gives ino apart).sound;
       in_use = λ number u.
-          let below = (c.files ino).in_use number (subst (λ (log : List Entry). Uses block log number) (c.others ino apart) u) in
+          let below = (c.files ino).in_use number (subst (λ (log : List Entry). Uses old.numbers.block log number) (c.others ino apart) u) in
           omega (arith, c.grown);
     }
 
   abbrev changed : Option PlainNode
-  changed = stamped e.id.commit (change (option_map (λ (p : PlainNode). p.node) (node_under block old data_blocks handle)))
+  changed = stamped e.id.commit (change (node_in (plain_of old) handle))
 
-  pub nodes_after : (other : Handle)
-      → node_under block new after other ≡ cond (same_handle handle other)
-      (stamped e.id.commit (change (option_map (λ (p : PlainNode). p.node) (node_under block old data_blocks handle))))
-      (node_under block old data_blocks other)
+  pub nodes_after : (other : Handle) → node_under old.numbers.block new.logs new.data_blocks other ≡ (changed_at handle e.id.commit change (plain_of old)).nodes other
   nodes_after other = go (cases_eq other.ino handle.ino) where
-    go : (other.ino ≡ handle.ino) ⊎ (other.ino ≡ handle.ino → ⊥)
-        → node_under block new after other ≡ cond (same_handle handle other) changed (node_under block old data_blocks other)
+    go : (other.ino ≡ handle.ino) ⊎ (other.ino ≡ handle.ino → ⊥) → node_under old.numbers.block new.logs new.data_blocks other ≡ cond (same_handle handle other) changed ((plain_of old).nodes other)
     go (inl same) =
-        let now : stamped (last_commit (log_at new other.ino)) (node_now (bytes_in after) block (log_at new other.ino)) ≡ changed =
-        ap (λ (log : List Entry). stamped (last_commit log) (node_now (bytes_in after) block log)) (ap (log_at new) same ∙ c.here)
-        ∙ ap₂ (λ (n : ℕ) (node : Option NodeCopy). stamped n node) (last_commit-push (log_at old handle.ino) e)
-        (c.gives.is ∙ ap change (sym (node_found block old data_blocks handle c.first))) in
+        let now : stamped (last_commit (log_at new.logs other.ino)) (node_now (bytes_in new.data_blocks) old.numbers.block (log_at new.logs other.ino)) ≡ changed =
+        ap (λ (log : List Entry). stamped (last_commit log) (node_now (bytes_in new.data_blocks) old.numbers.block log)) (ap (log_at new.logs) same ∙ c.here)
+        ∙ ap₂ (λ (n : ℕ) (node : Option NodeCopy). stamped n node) (last_commit-push (log_at old.logs handle.ino) e)
+        (c.gives.is ∙ ap change (sym (node_found old handle c.first))) in
         let test : (other.generation == 1) ≡ same_handle handle other =
         same_generation handle.generation other.generation (eqb-true handle.generation 1 c.first)
         ∙ ap (λ (b : Bool). b && (handle.generation == other.generation)) (sym (eq-eqb handle.ino other.ino (sym same))) in
-        in_slot (other.generation == 1) _ _ (stamped (last_commit (log_at old other.ino))
-        (node_now (bytes_in data_blocks) block (log_at old other.ino))) now
-        ∙ ap (λ (b : Bool). cond b changed (node_under block old data_blocks other)) test
+        in_slot (other.generation == 1) _ _ (stamped (last_commit (log_at old.logs other.ino)) (slot_node old other.ino)) now
+        ∙ ap (λ (b : Bool). cond b changed ((plain_of old).nodes other)) test
     go (inr apart) =
         ap₂ (λ (n : ℕ) (node : Option NodeCopy). cond (other.generation == 1) (stamped n node) None)
         (ap last_commit (c.others other.ino apart)) (other_gives other.ino apart).is
-        ∙ ap (λ (b : Bool). cond (b && (handle.generation == other.generation)) changed (node_under block old data_blocks other))
+        ∙ ap (λ (b : Bool). cond (b && (handle.generation == other.generation)) changed ((plain_of old).nodes other))
         (sym (ne_eqb handle.ino other.ino (λ same. apart (sym same))))

@@ -5,8 +5,9 @@ use Rattle.nv_base.specs.declared.node.Kind.TheVariants.{Dir}
 use Rattle.nv_entry.specs.Keys.{NameKey}
 use Rattle.nv_entry.specs.Log.{value_now}
 use Rattle.nv_core.specs.World.{IsWorld, log_at}
-use Rattle.nv_core.proofs.Changes.{bound_found, found_in}
+use Rattle.nv_core.proofs.Changes.{bound_found}
 use Rattle.nv_core.proofs.LogLists.{log_here}
+use Rattle.nv_core.proofs.Slots.{found}
 use Rattle.nv_core.proofs.world.World.is_bound.Goals as goal
 
 pub returns : goal.returns
@@ -14,7 +15,7 @@ returns c =
     let w = c.self.inside in
     let key = NameKey c.args.name.now in
     let lawful : IsWorld c.args.self.now = rw (← c.self.view_is) c.self.invariant.0 in
-    let within = rw (← c.self.view_is) at (found_in c.args.self.now c.args.dir.now Dir c.requires).in_use in
+    let within = rw (← c.self.view_is) at (found c.args.self.now c.args.dir.now Dir c.requires).in_use in
     let lt : c.number.result < length w.logs.items = omega (arith, within, length-map w.logs.items (λ l. l.items), c.number.ensures) in
     let log = log_here w.logs.items c.index-log.result.now c.deref.result.now c.number.result c.args.dir.now.ino
     lt c.deref.ensures.value c.index-log.ensures c.number.ensures in
