@@ -283,119 +283,105 @@ pub record IsSwept {X : Type 0} (gone : List Bool) (tail : ℕ) (ends_old : List
 started_next : (ends : List ℕ) (k d : ℕ) → k < length ends → get_or ends k d ≡ get_or (0 ∷ ends) (k + 1) d
 started_next ends k d lt = rw add-one refl
 
--- where the page that comes next stands
-pub page_next : {X : Type 0} {gone : List Bool} {tail : ℕ} {ends_old : List ℕ} {old : List X} {ends : List ℕ} {new : List X}
-    {k start pages places counted : ℕ} (most end : ℕ) → AreEnds most 0 ends_old (length old) → k < length ends_old → end ≡ get_or ends k end
-    → IsSwept gone tail ends_old old ends new k start pages places counted
-    → (end ≡ get_or ends_old k (length old)) × (start < end) × (end ≤ length old)
-page_next {ends_old = ends_old} {old = old} {ends = ends} {k = k} most end are lt read is =
-    let at = part_at most 0 ends_old (length old) k (length old) are lt in
-    let end_is : end ≡ get_or ends_old k (length old) =
-    read ∙ same_at ends ends_old k end is.ends_rest ∙ get_or_default ends_old k end (length old) lt in
-    (end_is, omega (arith, is.started, end_is, at.some), omega (arith, end_is, at.within))
+module _ {X : Type 0} {gone : List Bool} {tail : ℕ} {ends_old : List ℕ} {old : List X} {ends : List ℕ} {new : List X}
+    {k start pages places counted : ℕ} where
+  -- where the page that comes next stands
+  pub page_next : (most end : ℕ) → AreEnds most 0 ends_old (length old) → k < length ends_old → end ≡ get_or ends k end
+      → IsSwept gone tail ends_old old ends new k start pages places counted
+      → (end ≡ get_or ends_old k (length old)) × (start < end) × (end ≤ length old)
+  page_next most end are lt read is =
+      let at = part_at most 0 ends_old (length old) k (length old) are lt in
+      let moved = same_at ends ends_old k end is.ends_rest ∙ get_or_default ends_old k end (length old) lt in
+      (read ∙ moved, omega (arith, is.started, read, moved, at.some), omega (arith, read, moved, at.within))
 
-pub sweeps_out : {X : Type 0} (most : ℕ) (gone : List Bool) (tail : ℕ) (ends_old : List ℕ) (old : List X) (ends : List ℕ) (new : List X)
-    (k start pages places counted end : ℕ) → AreEnds most 0 ends_old (length old) → k < length ends_old → get_or gone k false ≡ true
-    → end ≡ get_or ends k end
-    → IsSwept gone tail ends_old old ends new k start pages places counted
-    → IsSwept gone tail ends_old old ends new (k + 1) end pages places counted
-sweeps_out most gone tail ends_old old ends new k start pages places counted end are lt goes read is =
-    let parts = parts_from 0 ends_old old in
-    let log_parts = parts_from 0 ends_old (take tail old) in
-    let at = page_next most end are lt read is in
-    let there : k < length parts = omega (arith, length-parts 0 ends_old old) in
-    let log_there : k < length log_parts = omega (arith, length-parts 0 ends_old (take tail old)) in
-    let stays = left_of-goes gone parts k [] there goes in
-    record {
-      started = at.0 ∙ started_next ends_old k (length old) lt;
-      front = is.front ∙ sym (ap joined stays);
-      rest = later new old start end (omega (arith, at)) is.rest;
-      behind = omega (arith, is.behind, at);
-      len = is.len;
-      ends_front = is.ends_front ∙ sym (ap (ends_from 0) stays);
-      ends_rest = later ends ends_old k (k + 1) (omega arith) is.ends_rest;
-      ends_behind = omega (arith, is.ends_behind);
-      ends_len = is.ends_len;
-      counts_behind = omega (arith, is.counts_behind, at);
-      counts = is.counts ∙ sym (ap (λ ps. length (joined ps)) (left_of-goes gone log_parts k [] log_there goes));
-    }
+  pub sweeps_out : (most end : ℕ) → AreEnds most 0 ends_old (length old) → k < length ends_old → end ≡ get_or ends k end
+      → get_or gone k false ≡ true → IsSwept gone tail ends_old old ends new k start pages places counted
+      → IsSwept gone tail ends_old old ends new (k + 1) end pages places counted
+  sweeps_out most end are lt read goes is =
+      let at = page_next most end are lt read is in
+      let same = λ (xs : List X). left_of-goes gone (parts_from 0 ends_old xs) k [] (omega (arith, length-parts 0 ends_old xs)) goes in
+      record {
+        started = at.0 ∙ started_next ends_old k (length old) lt;
+        front = is.front ∙ sym (ap joined (same old));
+        rest = later new old start end (omega (arith, at)) is.rest;
+        behind = omega (arith, is.behind, at);
+        len = is.len;
+        ends_front = is.ends_front ∙ sym (ap (ends_from 0) (same old));
+        ends_rest = later ends ends_old k (k + 1) (omega arith) is.ends_rest;
+        ends_behind = omega (arith, is.ends_behind);
+        ends_len = is.ends_len;
+        counts_behind = omega (arith, is.counts_behind, at);
+        counts = is.counts ∙ sym (ap (λ ps. length (joined ps)) (same (take tail old)));
+      }
 
-pub sweeps_down : {X : Type 0} (most : ℕ) (gone : List Bool) (tail : ℕ) (ends_old : List ℕ) (old : List X) (ends : List ℕ)
-    (new next : List X) (k start pages places counted end : ℕ) → AreEnds most 0 ends_old (length old) → k < length ends_old
-    → get_or gone k false ≡ false → end ≡ get_or ends k end
-    → IsSwept gone tail ends_old old ends new k start pages places counted
-    → take (places + (end - start)) next ≡ take places new ++ slice_range new start end → drop end next ≡ drop end new
-    → length next ≡ length new
-    → IsSwept gone tail ends_old old (set ends pages (places + (end - start))) next (k + 1) end (pages + 1) (places + (end - start))
-    (counted + (min end tail - min start tail))
-sweeps_down most gone tail ends_old old ends new next k start pages places counted end are lt stays read is moved kept same =
-    let parts = parts_from 0 ends_old old in
-    let log_parts = parts_from 0 ends_old (take tail old) in
-    let at = page_next most end are lt read is in
-    let n = end - start in
-    let begun : get_or (0 ∷ ends_old) k (length old) - 0 ≡ start = omega (arith, is.started) in
-    let size : get_or ends_old k (length old) - get_or (0 ∷ ends_old) k (length old) ≡ n = omega (arith, is.started, at) in
-    let part : get_or parts k [] ≡ take n (drop start old) =
-    part_is most 0 ends_old (length old) k (length old) old are lt
-    ∙ ap (λ m. take m (drop (get_or (0 ∷ ends_old) k (length old) - 0) old)) size ∙ ap (λ m. take n (drop m old)) begun in
-    let log_part : get_or log_parts k [] ≡ take n (drop start (take tail old)) =
-    part_is most 0 ends_old (length old) k (length old) (take tail old) are lt
-    ∙ ap (λ m. take m (drop (get_or (0 ∷ ends_old) k (length old) - 0) (take tail old))) size
-    ∙ ap (λ m. take n (drop m (take tail old))) begun in
-    let there : k < length parts = omega (arith, length-parts 0 ends_old old) in
-    let log_there : k < length log_parts = omega (arith, length-parts 0 ends_old (take tail old)) in
-    let left = left_of gone (take k parts) in
-    let log_left = left_of gone (take k log_parts) in
-    let more : left_of gone (take (k + 1) parts) ≡ left ++ take n (drop start old) ∷ [] =
-    left_of-stays gone parts k [] there stays ∙ ap (λ p. left ++ p ∷ []) part in
-    let log_more : left_of gone (take (k + 1) log_parts) ≡ log_left ++ take n (drop start (take tail old)) ∷ [] =
-    left_of-stays gone log_parts k [] log_there stays ∙ ap (λ p. log_left ++ p ∷ []) log_part in
-    let fits : start + n ≤ length old = omega (arith, at) in
-    let part_len : length (take n (drop start old)) ≡ n = length-take-le n (drop start old) (omega (arith, length-drop start old, fits)) in
-    let log_len : length (take n (drop start (take tail old))) ≡ min end tail - min start tail =
-    omega (arith, length-take n (drop start (take tail old)), length-drop start (take tail old), length-take tail old, fits, at) in
-    let places_are : places ≡ length (joined left) =
-    sym (length-take-le places new (omega (arith, is.behind, is.len, fits))) ∙ ap length is.front in
-    let pages_in : pages < length ends = omega (arith, is.ends_behind, is.ends_len, lt) in
-    record {
-      started = at.0 ∙ started_next ends_old k (length old) lt;
-      front =
-          moved ∙ ap (λ xs. xs ++ take n (drop start new)) is.front ∙ ap (λ xs. joined left ++ take n xs) is.rest
-          ∙ sym (joined-push left (take n (drop start old))) ∙ sym (ap joined more);
-      rest = kept ∙ later new old start end (omega (arith, at)) is.rest;
-      behind = omega (arith, is.behind, at);
-      len = same ∙ is.len;
-      ends_front = take_more_set ends pages (places + n) pages_in ∙ ap (λ xs. xs ++ (places + n) ∷ []) is.ends_front
-          ∙ ap (λ m. ends_from 0 left ++ m ∷ []) (let e : places + n ≡ 0 + length (joined left) + length (take n
-          (drop start old)) = omega (arith, places_are, part_len) in e)
-          ∙ sym (ends_from-push 0 left (take n (drop start old))) ∙ sym (ap (ends_from 0) more);
-      ends_rest =
-          drop-set-lt (k + 1) ends pages (places + n) (omega (arith, is.ends_behind))
-          ∙ later ends ends_old k (k + 1) (omega arith) is.ends_rest;
-      ends_behind = omega (arith, is.ends_behind);
-      ends_len = length-set ends pages (places + n) ∙ is.ends_len;
-      counts_behind = omega (arith, is.counts_behind, at);
-      counts =
-          let e : counted + (min end tail - min start tail) ≡ length (joined log_left ++ take n (drop start (take tail old))) = omega
-          (arith, is.counts, log_len, length-append (joined log_left) (take n (drop start (take tail old)))) in
-          e ∙ sym (ap length (joined-push log_left (take n (drop start (take tail old))))) ∙ sym (ap (λ ps. length (joined ps)) log_more);
-    }
+  -- what the page that comes next adds to those that stay
+  page_stays : (most end : ℕ) (xs : List X) → AreEnds most 0 ends_old (length old) → k < length ends_old → end ≡ get_or ends k end
+      → get_or gone k false ≡ false → IsSwept gone tail ends_old old ends new k start pages places counted
+      → left_of gone (take (k + 1) (parts_from 0 ends_old xs)) ≡ left_of gone (take k (parts_from 0 ends_old xs)) ++ take (end - start)
+          (drop start xs) ∷ []
+  page_stays most end xs are lt read stays is =
+      let parts = parts_from 0 ends_old xs in
+      let at = page_next most end are lt read is in
+      let begun : get_or (0 ∷ ends_old) k (length old) - 0 ≡ start = omega (arith, is.started) in
+      let size : get_or ends_old k (length old) - get_or (0 ∷ ends_old) k (length old) ≡ end - start = omega (arith, is.started, at) in
+      let part = part_is most 0 ends_old (length old) k (length old) xs are lt in
+      left_of-stays gone parts k [] (omega (arith, length-parts 0 ends_old xs)) stays
+      ∙ ap (λ p. left_of gone (take k parts) ++ p ∷ []) (part
+          ∙ ap (λ m. take m (drop (get_or (0 ∷ ends_old) k (length old) - 0) xs)) size ∙ ap (λ m. take (end - start) (drop m xs)) begun)
 
--- once all pages are walked over
-pub swept_all : {X : Type 0} (gone : List Bool) (tail : ℕ) (ends_old : List ℕ) (old : List X) (ends : List ℕ) (new : List X)
-    (k start pages places counted : ℕ) → length ends_old ≤ k → IsSwept gone tail ends_old old ends new k start pages places counted
-    → (take places new ≡ joined (left_of gone (parts_from 0 ends_old old))) × (take pages ends ≡ ends_from 0 (left_of gone
-    (parts_from 0 ends_old old))) × (counted ≡ length (joined (left_of gone (parts_from 0 ends_old (take tail old)))))
-swept_all gone tail ends_old old ends new k start pages places counted le is =
-    let parts = parts_from 0 ends_old old in
-    let log_parts = parts_from 0 ends_old (take tail old) in
-    let all : take k parts ≡ parts = take_all k parts (omega (arith, length-parts 0 ends_old old)) in
-    let log_all : take k log_parts ≡ log_parts = take_all k log_parts (omega (arith, length-parts 0 ends_old (take tail old))) in (
-      is.front ∙ ap (λ ps. joined (left_of gone ps)) all,
-      is.ends_front ∙ ap (λ ps. ends_from 0 (left_of gone ps)) all,
-      is.counts
-          ∙ ap (λ ps. length (joined (left_of gone ps))) log_all,
-    )
+  pub sweeps_down : (most end : ℕ) (next : List X) → AreEnds most 0 ends_old (length old) → k < length ends_old → end ≡ get_or ends k end
+      → get_or gone k false ≡ false → IsSwept gone tail ends_old old ends new k start pages places counted
+      → take (places + (end - start)) next ≡ take places new ++ slice_range new start end → drop end next ≡ drop end new
+          → length next ≡ length new
+      → IsSwept gone tail ends_old old (set ends pages (places + (end - start))) next (k + 1) end (pages + 1) (places + (end - start))
+          (counted + (min end tail - min start tail))
+  sweeps_down most end next are lt read stays is moved kept same =
+      let at = page_next most end are lt read is in
+      let n = end - start in
+      let left = left_of gone (take k (parts_from 0 ends_old old)) in
+      let log_left = left_of gone (take k (parts_from 0 ends_old (take tail old))) in
+      let page = take n (drop start old) in
+      let log_page = take n (drop start (take tail old)) in
+      let more = page_stays most end old are lt read stays is in
+      let log_more = page_stays most end (take tail old) are lt read stays is in
+      let page_len : length page ≡ n = length-take-le n (drop start old) (omega (arith, length-drop start old, at)) in
+      let log_len = length-take n (drop start (take tail old)) in
+      let places_are = sym (length-take-le places new (omega (arith, is.behind, is.len, at))) ∙ ap length is.front in
+      let end_is : places + n ≡ 0 + length (joined left) + length page = omega (arith, places_are, page_len) in
+      let count_is : counted + (min end tail - min start tail) ≡ length (joined log_left ++ log_page) =
+          omega (arith, is.counts, log_len, length-drop start (take tail old), length-take tail old, at,
+              length-append (joined log_left) log_page) in
+      record {
+        started = at.0 ∙ started_next ends_old k (length old) lt;
+        front =
+            moved ∙ ap (λ xs. xs ++ take n (drop start new)) is.front ∙ ap (λ xs. joined left ++ take n xs) is.rest
+            ∙ sym (joined-push left page) ∙ sym (ap joined more);
+        rest = kept ∙ later new old start end (omega (arith, at)) is.rest;
+        behind = omega (arith, is.behind, at);
+        len = same ∙ is.len;
+        ends_front =
+            take_more_set ends pages (places + n) (omega (arith, is.ends_behind, is.ends_len, lt))
+            ∙ ap (λ xs. xs ++ (places + n) ∷ []) is.ends_front
+            ∙ ap (λ m. ends_from 0 left ++ m ∷ []) end_is ∙ sym (ends_from-push 0 left page) ∙ sym (ap (ends_from 0) more);
+        ends_rest =
+            drop-set-lt (k + 1) ends pages (places + n) (omega (arith, is.ends_behind))
+            ∙ later ends ends_old k (k + 1) (omega arith) is.ends_rest;
+        ends_behind = omega (arith, is.ends_behind);
+        ends_len = length-set ends pages (places + n) ∙ is.ends_len;
+        counts_behind = omega (arith, is.counts_behind, at);
+        counts = count_is ∙ sym (ap length (joined-push log_left log_page)) ∙ sym (ap (λ ps. length (joined ps)) log_more);
+      }
+
+  -- once all pages are walked over
+  pub swept_all : length ends_old ≤ k → IsSwept gone tail ends_old old ends new k start pages places counted
+      → (take places new ≡ joined (left_of gone (parts_from 0 ends_old old))) × (take pages ends ≡ ends_from 0 (left_of gone
+          (parts_from 0 ends_old old)))
+      × (counted ≡ length (joined (left_of gone (parts_from 0 ends_old (take tail old)))))
+  swept_all le is =
+      let all = λ (xs : List X). take_all k (parts_from 0 ends_old xs) (omega (arith, length-parts 0 ends_old xs)) in
+      let left = ap (left_of gone) (all old) in
+      (is.front ∙ ap joined left, is.ends_front ∙ ap (ends_from 0) left, is.counts
+          ∙ ap (λ ps. length (joined (left_of gone ps))) (all (take tail old)))
 
 -- the first item of a queue that has what the walk did not meet yet, and behind it what is left of the rest
 pub queue_first : {X : Type 0} (old queue rest left : List X) (k : ℕ) (x : X) → k < length old → queue ≡ drop k old ++ left

@@ -23,7 +23,7 @@ use std::mem;
 /// order. The pages with entries stand first. Entries up to the tail count; those past it were appended and
 /// not yet published.
 ///
-/// A reader takes constant time where its doc comment says no more.
+/// A call takes constant time where its doc comment says no more.
 ///
 /// A chain owns its blocks, so it is no `Drop`: [`Chain::into_blocks`] takes it apart.
 pub struct Chain {
