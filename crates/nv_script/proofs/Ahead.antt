@@ -12,7 +12,8 @@ slice_is chunk at end ordered =
     subst (λ (n : ℕ). take (end - at) (drop at chunk) ≡ drop at (take n chunk)) sum (sym (drop-take at (end - at) chunk))
 
 -- a front, the byte behind it and the rest
-split_at : (bytes : List ℕ) (count byte : ℕ) → count < length bytes → byte ≡ get_or bytes count byte → bytes ≡ (take count bytes ++ byte ∷ []) ++ drop (count + 1) bytes
+split_at : (bytes : List ℕ) (count byte : ℕ) → count < length bytes → byte ≡ get_or bytes count byte
+    → bytes ≡ (take count bytes ++ byte ∷ []) ++ drop (count + 1) bytes
 split_at bytes count byte within same = grind (arith, common_steps)
 
 pub takes_all : (chunk line : List ℕ) (at end count : ℕ) → at + count ≡ end
@@ -21,7 +22,8 @@ takes_all chunk line at end count whole =
     let same = slice_is chunk at end (omega arith) in
     (grind (arith, common_steps), grind (arith, common_steps))
 
-pub takes_front : (chunk line : List ℕ) (at end count byte : ℕ) → at + count < end → end ≤ length chunk → byte ≡ get_or chunk (at + count) byte
+pub takes_front : (chunk line : List ℕ) (at end count byte : ℕ) → at + count < end → end ≤ length chunk
+    → byte ≡ get_or chunk (at + count) byte
     → line ++ drop at (take end chunk) ≡ ((line ++ take count (take (end - at) (drop at chunk))) ++ byte ∷ []) ++ drop (at + count + 1) (take end chunk)
 takes_front chunk line at end count byte more within same =
     let slice = slice_is chunk at end (omega arith) in

@@ -45,7 +45,8 @@ none_of : (front : List ℕ) → IsCutOff front [] → ⊥
 none_of [] cut = let same = cut.1 in let some = cut.2 in omega (arith, ap length same)
 none_of (byte ∷ front) cut = let same = cut.1 in cc
 
-pub breaks_at : (old : Option WorldValue) (lines : List (List ℕ)) (text front : List ℕ) (new : Option WorldValue) → PlaysAll old lines text new → IsCutOff front text → BreaksAt old lines front
+pub breaks_at : (old : Option WorldValue) (lines : List (List ℕ)) (text front : List ℕ) (new : Option WorldValue)
+    → PlaysAll old lines text new → IsCutOff front text → BreaksAt old lines front
 breaks_at old [] text front new all cut = absurd (none_of front (cut.0, sym all.0 ∙ cut.1, cut.2))
 breaks_at old (line ∷ lines) text front new all cut =
     let same : all.0 ++ all.1 ≡ front ++ cut.0 = sym all.6 ∙ cut.1 in
@@ -67,22 +68,22 @@ breaks_at old (line ∷ lines) text front new all cut =
         cut_off = shorter all.0 all.1 front cut.0 same less;
       }
       | inr most ↦
-        let more = longer all.0 all.1 front cut.0 same most in
-        let at = breaks_at all.2 lines all.1 more.0 new all.5 (cut.0, more.2, cut.2) in
-        record {
-          before = line ∷ at.before;
-          line = at.line;
-          after = at.after;
-          text = all.0 ++ at.text;
-          sent = at.sent;
-          own = at.own;
-          world = at.world;
-          new = at.new;
-          split = ap (λ (ls : List (List ℕ)). line ∷ ls) at.split;
-          front_is = more.1 ∙ ap (λ t. all.0 ++ t) at.front_is ∙ sym (append_assoc all.0 at.text at.sent);
-          played = (all.0, at.text, all.2, all.3, all.4, at.played, refl);
-          lawful = at.lawful;
-          plays = at.plays;
-          cut_off = at.cut_off;
-        }
+          let more = longer all.0 all.1 front cut.0 same most in
+          let at = breaks_at all.2 lines all.1 more.0 new all.5 (cut.0, more.2, cut.2) in
+          record {
+            before = line ∷ at.before;
+            line = at.line;
+            after = at.after;
+            text = all.0 ++ at.text;
+            sent = at.sent;
+            own = at.own;
+            world = at.world;
+            new = at.new;
+            split = ap (λ (ls : List (List ℕ)). line ∷ ls) at.split;
+            front_is = more.1 ∙ ap (λ t. all.0 ++ t) at.front_is ∙ sym (append_assoc all.0 at.text at.sent);
+            played = (all.0, at.text, all.2, all.3, all.4, at.played, refl);
+            lawful = at.lawful;
+            plays = at.plays;
+            cut_off = at.cut_off;
+          }
     ]

@@ -20,7 +20,8 @@ use Rattle.nv_script.proofs.Known.{writes_all, writes_grown, writes_none, writes
 use Rattle.nv_script.proofs.Lines.{ended-append, ended-push}
 
 -- before the first line
-pub at_first : (input ahead old : Option (List ℕ)) (gathered : List ℕ) (world : Option WorldValue) → Consumes input ahead [] → gathered ≡ [] → world ≡ None
+pub at_first : (input ahead old : Option (List ℕ)) (gathered : List ℕ) (world : Option WorldValue) → Consumes input ahead []
+    → gathered ≡ [] → world ≡ None
     → AtLine input ahead old old gathered 1 world
 at_first input ahead old gathered world none empty first = record {
   lines = [];
@@ -37,7 +38,8 @@ none_ahead None ahead is = tt
 none_ahead (Some bytes) ahead is = sym (ap (λ front. front ++ bytes) is)
 
 -- where no byte is read ahead, what is left is with the reader
-all_left : (input left : Option (List ℕ)) (ahead bytes : List ℕ) → ahead ≡ [] → Consumes input (prepend_known ahead left) bytes → Consumes input left bytes
+all_left : (input left : Option (List ℕ)) (ahead bytes : List ℕ) → ahead ≡ [] → Consumes input (prepend_known ahead left) bytes
+    → Consumes input left bytes
 all_left input None ahead bytes none is = is
 all_left input (Some rest) ahead bytes none is = subst (λ (front : List ℕ). Consumes input (Some (front ++ rest)) bytes) none is
 
@@ -68,7 +70,8 @@ if_same None u v same is = tt
 if_same (Some bytes) u v same is = is ∙ same
 
 -- the input begins with the lines and goes on with a piece
-cut : (input known after : Option (List ℕ)) (lines : List (List ℕ)) (piece : List ℕ) → Consumes input known (ended lines) → Consumes known after piece
+cut : (input known after : Option (List ℕ)) (lines : List (List ℕ)) (piece : List ℕ) → Consumes input known (ended lines)
+    → Consumes known after piece
     → (rest : List ℕ) × IfSome input (λ bytes. bytes ≡ ended lines ++ (piece ++ rest))
 cut None known after lines piece first then_ = ([], tt)
 cut (Some u) None after lines piece first then_ = absurd first
@@ -76,7 +79,8 @@ cut (Some u) (Some v) None lines piece first then_ = absurd then_
 cut (Some u) (Some v) (Some w) lines piece first then_ = (w, first ∙ ap (λ bytes. ended lines ++ bytes) then_)
 
 -- the input is the lines and a last piece
-cut_end : (input known after : Option (List ℕ)) (lines : List (List ℕ)) (piece : List ℕ) → Consumes input known (ended lines) → Consumes known after piece → IsAtEnd after
+cut_end : (input known after : Option (List ℕ)) (lines : List (List ℕ)) (piece : List ℕ) → Consumes input known (ended lines)
+    → Consumes known after piece → IsAtEnd after
     → IfSome input (λ bytes. bytes ≡ ended lines ++ piece)
 cut_end None known after lines piece first then_ end = tt
 cut_end (Some u) None after lines piece first then_ end = absurd first
@@ -85,14 +89,16 @@ cut_end (Some u) (Some v) (Some w) lines piece first then_ end =
     first ∙ ap (λ bytes. ended lines ++ bytes) (then_ ∙ ap (λ bytes. piece ++ bytes) end ∙ append-nil piece)
 
 -- a line behind the first lines is one of them
-split-push : (input : Option (List ℕ)) (lines : List (List ℕ)) (line rest : List ℕ) → IfSome input (λ bytes. bytes ≡ ended lines ++ ((line ++ 10 ∷ []) ++ rest))
+split-push : (input : Option (List ℕ)) (lines : List (List ℕ)) (line rest : List ℕ)
+    → IfSome input (λ bytes. bytes ≡ ended lines ++ ((line ++ 10 ∷ []) ++ rest))
     → IfSome input (λ bytes. bytes ≡ ended (lines ++ line ∷ []) ++ rest)
 split-push input lines line rest is =
     let same = sym (append_assoc (ended lines) (line ++ 10 ∷ []) rest) ∙ ap (λ front. front ++ rest) (sym (ended-push lines line)) in
     if_same input _ _ same is
 
 -- the fault of the next line where not all of the text of some lines was written
-broken : (input left old new : Option (List ℕ)) (lines : List (List ℕ)) (rest text : List ℕ) (world : Option WorldValue) → IfSome input (λ bytes. bytes ≡ ended lines ++ rest) → length lines ≤ most_lines + 1
+broken : (input left old new : Option (List ℕ)) (lines : List (List ℕ)) (rest text : List ℕ) (world : Option WorldValue)
+    → IfSome input (λ bytes. bytes ≡ ended lines ++ rest) → length lines ≤ most_lines + 1
     → PlaysAll None lines text world → WritesSome old new text → EndsBy fault.Write input left (λ text. Appends old new text)
 broken input left old new lines rest text world split few all some =
     let at = breaks_at None lines text some.0 world all some.1 in
@@ -100,8 +106,7 @@ broken input left old new lines rest text world split few all some =
     let whole : ended lines ++ rest ≡ ended at.before ++ ((at.line ++ 10 ∷ []) ++ (ended at.after ++ rest)) =
     ap (λ front. front ++ rest) ending ∙ append_assoc (ended at.before) ((at.line ++ 10 ∷ []) ++ ended at.after) rest ∙ ap (λ bytes. ended at.before ++ bytes) (append_assoc (at.line ++ 10 ∷ []) (ended at.after) rest) in
     let count : length lines ≡ length (at.before ++ at.line ∷ at.after) = ap length at.split in
-    let fewer : length at.before ≤ most_lines = omega (arith, count, few, length-append at.before (at.line ∷ at.after)) in
-    (
+    let fewer : length at.before ≤ most_lines = omega (arith, count, few, length-append at.before (at.line ∷ at.after)) in (
       at.before,
       (at.line ++ 10 ∷ []) ++ (ended at.after ++ rest),
       at.text,
@@ -113,7 +118,8 @@ broken input left old new lines rest text world split few all some =
     )
 
 -- the same end, where what is said of the text was turned into something else
-pub ends_on : (result : Result (Unit {0}) Fault) (input left : Option (List ℕ)) (Old New : List ℕ → Type 0) → ((text : List ℕ) → Old text → New text) → Ends result input left Old → Ends result input left New
+pub ends_on : (result : Result (Unit {0}) Fault) (input left : Option (List ℕ)) (Old New : List ℕ → Type 0)
+    → ((text : List ℕ) → Old text → New text) → Ends result input left Old → Ends result input left New
 ends_on (Ok done) input left Old New turn e = (e.0, e.1, e.2, e.3, e.4, turn e.1 e.5)
 ends_on (Err (fault.ScriptFault number why)) input left Old New turn e = (e.0, e.1, e.2, e.3, e.4, e.5, turn e.2 e.6)
 ends_on (Err fault.Read) input left Old New turn e = (e.0, e.1, e.2, e.3, e.4, e.5, turn e.2 e.6)
@@ -129,7 +135,8 @@ broken_played input left old mid new gathered lines rest text world played front
     broken input left old new lines rest text world played.split (omega (arith, few)) played.plays (writes_some old mid new text gathered front some)
 
 -- not all of what was gathered at the end was written
-pub broken_off : (result : Result (Unit {0}) Fault) (input left old mid new : Option (List ℕ)) (gathered : List ℕ) → Ends result input left (λ text. WritesFront old mid text gathered) → WritesSome mid new gathered
+pub broken_off : (result : Result (Unit {0}) Fault) (input left old mid new : Option (List ℕ)) (gathered : List ℕ)
+    → Ends result input left (λ text. WritesFront old mid text gathered) → WritesSome mid new gathered
     → EndsBy fault.Write input left (λ text. Appends old new text)
 broken_off (Ok done) input left old mid new gathered e some = broken_played input left old mid new gathered e.0 [] e.1 e.2 e.3 e.5 some
 broken_off (Err (fault.ScriptFault number why)) input left old mid new gathered e some = broken_played input left old mid new gathered e.0 e.1 e.2 e.3 e.4 e.6 some
@@ -152,7 +159,8 @@ broken_off (Err _) input left old mid new gathered e some = absurd e
 past : (number : ℕ) (made : Bool) (bytes : List ℕ) → most_lines < number → bytes ≢ [] → IsFault number made bytes kind.Lines
 past number made bytes many some = rw (lt-ltb most_lines number many) (refl, some)
 
-within : (number : ℕ) (made : Bool) (bytes : List ℕ) (why : ScriptFaultKind) → number ≤ most_lines → IsFault 0 made bytes why → IsFault number made bytes why
+within : (number : ℕ) (made : Bool) (bytes : List ℕ) (why : ScriptFaultKind) → number ≤ most_lines → IsFault 0 made bytes why
+    → IsFault number made bytes why
 within number made bytes why few is = rw (le-ltb most_lines number few) is
 
 -- what past the last line is answered, and what before it
@@ -165,14 +173,16 @@ answered number answer told is =
     ]
 
 -- a line to play was taken, within the last
-pub line_taken : (number : ℕ) (t : Taken) (known after : Option (List ℕ)) (line : List ℕ) → is_line number t ≡ Ok true → TakenIs t known after line → TakenIs taken.Line known after line × (number ≤ most_lines)
+pub line_taken : (number : ℕ) (t : Taken) (known after : Option (List ℕ)) (line : List ℕ) → is_line number t ≡ Ok true
+    → TakenIs t known after line → TakenIs taken.Line known after line × (number ≤ most_lines)
 line_taken number taken.End known after line is took = cc
 line_taken number taken.Line known after line is took = elim (answered number _ _ is) [ inl many ↦ (let e = many.1 in cc) | inr few ↦ (took, few.0) ]
 line_taken number taken.Long known after line is took = elim (answered number _ _ is) [ inl many ↦ (let e = many.1 in cc) | inr few ↦ (let e = few.1 in cc) ]
 line_taken number taken.Unended known after line is took = elim (answered number _ _ is) [ inl many ↦ (let e = many.1 in cc) | inr few ↦ (let e = few.1 in cc) ]
 
 -- nothing was taken at the end
-end_taken : (number : ℕ) (t : Taken) (known after : Option (List ℕ)) (line : List ℕ) → is_line number t ≡ Ok false → TakenIs t known after line → TakenIs taken.End known after line
+end_taken : (number : ℕ) (t : Taken) (known after : Option (List ℕ)) (line : List ℕ) → is_line number t ≡ Ok false
+    → TakenIs t known after line → TakenIs taken.End known after line
 end_taken number taken.End known after line is took = took
 end_taken number taken.Line known after line is took = elim (answered number _ _ is) [ inl many ↦ (let e = many.1 in cc) | inr few ↦ (let e = few.1 in cc) ]
 end_taken number taken.Long known after line is took = elim (answered number _ _ is) [ inl many ↦ (let e = many.1 in cc) | inr few ↦ (let e = few.1 in cc) ]
@@ -193,31 +203,35 @@ module _ (input known old new : Option (List ℕ)) (gathered : List ℕ) (number
   lines_fit : length at.lines ≤ most_lines
   lines_fit = let count = at.count in omega (arith, few, count)
 
-  played : (after : Option (List ℕ)) (piece : List ℕ) → Consumes known after piece → (rest : List ℕ) × Played input at.lines (piece ++ rest) at.text world
+  played : (after : Option (List ℕ)) (piece : List ℕ) → Consumes known after piece
+      → (rest : List ℕ) × Played input at.lines (piece ++ rest) at.text world
   played after piece more = let c = cut input known after at.lines piece at.taken more in (c.0, record { split = c.1; few = lines_fit; plays = at.plays })
 
   -- what was gathered was written, or some of it
-  pub written_on : (new' : Option (List ℕ)) (gathered' : List ℕ) → WritesFront new new' gathered gathered' → AtLine input known old new' gathered' number world
+  pub written_on : (new' : Option (List ℕ)) (gathered' : List ℕ) → WritesFront new new' gathered gathered'
+      → AtLine input known old new' gathered' number world
   written_on new' gathered' more =
       record { lines = at.lines; text = at.text; count = at.count; taken = at.taken; plays = at.plays; written = writes_rest old new new' at.text gathered gathered' at.written more }
 
-  pub written_some : (left new' : Option (List ℕ)) → WritesSome new new' gathered → EndsBy fault.Write input left (λ text. Appends old new' text)
+  pub written_some : (left new' : Option (List ℕ)) → WritesSome new new' gathered
+      → EndsBy fault.Write input left (λ text. Appends old new' text)
   written_some left new' some =
       let p = played known [] (Consumes-nil known) in
       broken_played input left old new new' gathered at.lines p.0 at.text world p.1 at.written some
 
   -- a failed read
-  pub reads_fail : (left : Option (List ℕ)) (ahead piece : List ℕ) → Consumes known (prepend_known ahead left) piece → IsLine piece → ahead ≡ [] → EndsBy fault.Read input left Written
+  pub reads_fail : (left : Option (List ℕ)) (ahead piece : List ℕ) → Consumes known (prepend_known ahead left) piece → IsLine piece
+      → ahead ≡ [] → EndsBy fault.Read input left Written
   reads_fail left ahead piece more lawful none =
       let p = played (prepend_known ahead left) piece more in
       let gone = Consumes-trans input known (prepend_known ahead left) (ended at.lines) piece at.taken more in
       (at.lines, piece ++ p.0, at.text, world, p.1, (piece, lawful, all_left input left ahead (ended at.lines ++ piece) none gone), at.written)
 
   -- the end of the input
-  pub ends : (t : Taken) (left : Option (List ℕ)) (ahead line : List ℕ) → is_line number t ≡ Ok false → TakenIs t known (prepend_known ahead left) line → EndsWell input left Written
+  pub ends : (t : Taken) (left : Option (List ℕ)) (ahead line : List ℕ) → is_line number t ≡ Ok false
+      → TakenIs t known (prepend_known ahead left) line → EndsWell input left Written
   ends t left ahead line is took =
-      let end = end_taken number t known (prepend_known ahead left) line is took in
-      (
+      let end = end_taken number t known (prepend_known ahead left) line is took in (
         at.lines,
         at.text,
         world,
@@ -226,17 +240,21 @@ module _ (input known old new : Option (List ℕ)) (gathered : List ℕ) (number
         at.written,
       )
 
-  faulty : (after left : Option (List ℕ)) (piece : List ℕ) (why : ScriptFaultKind) → Consumes known after piece → ((rest : List ℕ) → IsFault number (is_some world) (piece ++ rest) why)
+  faulty : (after left : Option (List ℕ)) (piece : List ℕ) (why : ScriptFaultKind) → Consumes known after piece
+      → ((rest : List ℕ) → IsFault number (is_some world) (piece ++ rest) why)
       → EndsBy (fault.ScriptFault number why) input left Written
   faulty after left piece why more is = let p = played after piece more in (at.lines, piece ++ p.0, at.text, world, p.1, (sym at.count, is p.0), at.written)
 
-  too_many : (after left : Option (List ℕ)) (piece : List ℕ) → most_lines < number → piece ≢ [] → Consumes known after piece → EndsBy (fault.ScriptFault number kind.Lines) input left Written
+  too_many : (after left : Option (List ℕ)) (piece : List ℕ) → most_lines < number → piece ≢ [] → Consumes known after piece
+      → EndsBy (fault.ScriptFault number kind.Lines) input left Written
   too_many after left piece many some more = faulty after left piece kind.Lines more (λ rest. past number (is_some world) (piece ++ rest) many (some_after piece rest some))
 
-  too_long : (after left : Option (List ℕ)) (line : List ℕ) → number ≤ most_lines → IsLine line → TakenIs taken.Long known after line → EndsBy (fault.ScriptFault number kind.Long) input left Written
+  too_long : (after left : Option (List ℕ)) (line : List ℕ) → number ≤ most_lines → IsLine line → TakenIs taken.Long known after line
+      → EndsBy (fault.ScriptFault number kind.Long) input left Written
   too_long after left line inside lawful is = faulty after left (line ++ is.0 ∷ []) kind.Long is.1 (λ rest. within number (is_some world) _ kind.Long inside (inl (refl, (line, rest, is.0, lawful, is.3, is.2, refl))))
 
-  unended : (after left : Option (List ℕ)) (line : List ℕ) → number ≤ most_lines → IsLine line → TakenIs taken.Unended known after line → EndsBy (fault.ScriptFault number kind.Unended) input left Written
+  unended : (after left : Option (List ℕ)) (line : List ℕ) → number ≤ most_lines → IsLine line → TakenIs taken.Unended known after line
+      → EndsBy (fault.ScriptFault number kind.Unended) input left Written
   unended after left line inside lawful is = (
     at.lines,
     line,
@@ -247,11 +265,13 @@ module _ (input known old new : Option (List ℕ)) (gathered : List ℕ) (number
     at.written,
   )
 
-  ends_as : (told why : Fault) (left : Option (List ℕ)) → ◌≡◌ {A = Result Bool Fault} (Err told) (Err why) → EndsBy why input left Written → EndsBy told input left Written
+  ends_as : (told why : Fault) (left : Option (List ℕ)) → ◌≡◌ {A = Result Bool Fault} (Err told) (Err why) → EndsBy why input left Written
+      → EndsBy told input left Written
   ends_as told why left same is = let e : told ≡ why = cc in subst (λ (f : Fault). EndsBy f input left Written) (sym e) is
 
   -- no line to play was taken
-  pub not_line : (t : Taken) (why : Fault) (after left : Option (List ℕ)) (line : List ℕ) → is_line number t ≡ Err why → IsLine line → TakenIs t known after line → EndsBy why input left Written
+  pub not_line : (t : Taken) (why : Fault) (after left : Option (List ℕ)) (line : List ℕ) → is_line number t ≡ Err why → IsLine line
+      → TakenIs t known after line → EndsBy why input left Written
   not_line taken.End why after left line is lawful took = cc
   not_line taken.Line why after left line is lawful took =
       elim (answered number _ _ is) [
@@ -277,7 +297,8 @@ module _ (input known old new : Option (List ℕ)) (gathered : List ℕ) (number
     within_last = (line_taken number t known after line is took).1
 
     -- a line that is not played
-    pub not_played : (left : Option (List ℕ)) (why : LineFault) (world' : Option WorldValue) → LineFaultIs why world line world' → EndsBy (ending_of number why) input left Written
+    pub not_played : (left : Option (List ℕ)) (why : LineFault) (world' : Option WorldValue) → LineFaultIs why world line world'
+        → EndsBy (ending_of number why) input left Written
     not_played left line_fault.OutOfMemory world' why =
         let p = played after (line ++ 10 ∷ []) here in
         (at.lines, (line ++ 10 ∷ []) ++ p.0, at.text, world, p.1, inr (line, p.0, lawful, refl, why), at.written)
@@ -285,7 +306,8 @@ module _ (input known old new : Option (List ℕ)) (gathered : List ℕ) (number
         faulty after left (line ++ 10 ∷ []) fault here (λ rest. within number (is_some world) _ fault within_last (inr (inr (line, rest, lawful, refl, why.0))))
 
     -- a line that was played, and its text gathered, or written in part
-    pub next : (new' : Option (List ℕ)) (more gathered' : List ℕ) (world' : Option WorldValue) → Plays world line more world' → WritesFront new new' (gathered ++ more) gathered' → AtLine input after old new' gathered' (number + 1) world'
+    pub next : (new' : Option (List ℕ)) (more gathered' : List ℕ) (world' : Option WorldValue) → Plays world line more world'
+        → WritesFront new new' (gathered ++ more) gathered' → AtLine input after old new' gathered' (number + 1) world'
     next new' more gathered' world' plays wrote = record {
       lines = at.lines ++ line ∷ [];
       text = at.text ++ more;
@@ -295,7 +317,8 @@ module _ (input known old new : Option (List ℕ)) (gathered : List ℕ) (number
       written = writes_rest old new new' (at.text ++ more) (gathered ++ more) gathered' (writes_grown old new at.text gathered more at.written) wrote;
     }
 
-    pub breaks_off : (left new' : Option (List ℕ)) (more : List ℕ) (world' : Option WorldValue) → Plays world line more world' → WritesSome new new' (gathered ++ more) → EndsBy fault.Write input left (λ text. Appends old new' text)
+    pub breaks_off : (left new' : Option (List ℕ)) (more : List ℕ) (world' : Option WorldValue) → Plays world line more world'
+        → WritesSome new new' (gathered ++ more) → EndsBy fault.Write input left (λ text. Appends old new' text)
     breaks_off left new' more world' plays wrote =
         let p = played after (line ++ 10 ∷ []) here in
         let part = writes_some old new new' (at.text ++ more) (gathered ++ more) (writes_grown old new at.text gathered more at.written) wrote in
@@ -304,16 +327,21 @@ module _ (input known old new : Option (List ℕ)) (gathered : List ℕ) (number
         (plays-push None at.lines at.text world line more world' at.plays lawful plays) part
 
 -- after a failed write nothing is gathered
-pub none_gathered : (input left old new : Option (List ℕ)) (gathered : List ℕ) → gathered ≡ [] → EndsBy fault.Write input left (λ text. Appends old new text) → EndsBy fault.Write input left (λ text. WritesFront old new text gathered)
+pub none_gathered : (input left old new : Option (List ℕ)) (gathered : List ℕ) → gathered ≡ []
+    → EndsBy fault.Write input left (λ text. Appends old new text)
+    → EndsBy fault.Write input left (λ text. WritesFront old new text gathered)
 none_gathered input left old new gathered none e =
     ends_on (Err fault.Write) input left (λ text. Appends old new text) (λ text. WritesFront old new text gathered) (λ text all. subst (λ (rest : List ℕ). WritesFront old new text rest) (sym none) (writes_all old new text all)) e
 
 -- the same end, told by an equation
-pub ends_told : (told why : Fault) (input left : Option (List ℕ)) (Writes : List ℕ → Type 0) → told ≡ why → EndsBy why input left Writes → EndsBy told input left Writes
+pub ends_told : (told why : Fault) (input left : Option (List ℕ)) (Writes : List ℕ → Type 0) → told ≡ why → EndsBy why input left Writes
+    → EndsBy told input left Writes
 ends_told told why input left Writes same e = subst (λ (f : Fault). EndsBy f input left Writes) (sym same) e
 
-pub why_at : (why : LineFault) (world : Option WorldValue) (slice line : List ℕ) (world' : Option WorldValue) → slice ≡ line → LineFaultIs why world slice world' → LineFaultIs why world line world'
+pub why_at : (why : LineFault) (world : Option WorldValue) (slice line : List ℕ) (world' : Option WorldValue) → slice ≡ line
+    → LineFaultIs why world slice world' → LineFaultIs why world line world'
 why_at why world slice line world' same is = subst (λ (bytes : List ℕ). LineFaultIs why world bytes world') same is
 
-pub plays_at : (world : Option WorldValue) (slice line text : List ℕ) (world' : Option WorldValue) → slice ≡ line → Plays world slice text world' → Plays world line text world'
+pub plays_at : (world : Option WorldValue) (slice line text : List ℕ) (world' : Option WorldValue) → slice ≡ line
+    → Plays world slice text world' → Plays world line text world'
 plays_at world slice line text world' same is = subst (λ (bytes : List ℕ). Plays world bytes text world') same is

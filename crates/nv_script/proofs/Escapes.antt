@@ -7,7 +7,8 @@ use Rattle.std.proofs.lemmas.Bool.Decides.{nat_tests}
 use Rattle.nv_script.specs.Words.{is_plain, plain_byte, hex_value, before, unescaped, text_of, escaped_byte, escaped}
 
 -- one byte more is read
-unescaped-push : (bytes : List ℕ) (byte : ℕ) (more : Option (List ℕ)) → option_map (λ rest. bytes ++ rest) (before (Some byte) more) ≡ option_map (λ rest. (bytes ++ byte ∷ []) ++ rest) more
+unescaped-push : (bytes : List ℕ) (byte : ℕ) (more : Option (List ℕ))
+    → option_map (λ rest. bytes ++ rest) (before (Some byte) more) ≡ option_map (λ rest. (bytes ++ byte ∷ []) ++ rest) more
 unescaped-push bytes byte None = refl
 unescaped-push bytes byte (Some rest) = ap (λ (text : List ℕ). Some text) (sym (append_assoc bytes (byte ∷ []) rest))
 
@@ -16,12 +17,16 @@ text_of-unescaped [] b e f = absurd (cc)
 text_of-unescaped (byte ∷ bytes) b e f = refl
 
 -- the rest begins with what stands for no byte
-pub text_of-None : (word rest text bytes : List ℕ) (b : Bool) → b ≡ (length word == 0) → b ≡ false → unescaped word ≡ option_map (λ more. bytes ++ more) (unescaped rest) → rest ≡ text → unescaped text ≡ None → text_of word ≡ None
+pub text_of-None : (word rest text bytes : List ℕ) (b : Bool) → b ≡ (length word == 0) → b ≡ false
+    → unescaped word ≡ option_map (λ more. bytes ++ more) (unescaped rest) → rest ≡ text → unescaped text ≡ None → text_of word ≡ None
 text_of-None word rest text bytes b e f so_far same none =
     text_of-unescaped word b e f ∙ so_far ∙ ap (λ (more : Option (List ℕ)). option_map (λ m. bytes ++ m) more) (ap unescaped same ∙ none)
 
 -- the rest begins with what stands for a byte
-pub unescaped-more : (word rest text left bytes added : List ℕ) (byte : ℕ) → unescaped word ≡ option_map (λ more. bytes ++ more) (unescaped rest) → rest ≡ text → unescaped text ≡ before (Some byte) (unescaped left) → added ≡ bytes ++ byte ∷ [] → unescaped word ≡ option_map (λ more. added ++ more) (unescaped left)
+pub unescaped-more : (word rest text left bytes added : List ℕ) (byte : ℕ)
+    → unescaped word ≡ option_map (λ more. bytes ++ more) (unescaped rest) → rest ≡ text
+    → unescaped text ≡ before (Some byte) (unescaped left) → added ≡ bytes ++ byte ∷ []
+    → unescaped word ≡ option_map (λ more. added ++ more) (unescaped left)
 unescaped-more word rest text left bytes added byte so_far same next pushed =
     so_far ∙ ap (λ (more : Option (List ℕ)). option_map (λ m. bytes ++ m) more) (ap unescaped same ∙ next)
     ∙ unescaped-push bytes byte (unescaped left)
@@ -48,14 +53,16 @@ unescaped-plain byte (a ∷ b ∷ rest) plain =
 hex_value-glyph : (digit : ℕ) → digit < 16 → hex_value (digit_glyph false digit) ≡ Some digit
 hex_value-glyph digit small = grind (arith, nat_tests)
 
-unescaped-digits : (byte : ℕ) (rest : List ℕ) → byte < 256 → unescaped (37 ∷ digit_glyph false (byte / 16) ∷ digit_glyph false (byte % 16) ∷ rest) ≡ before (Some byte) (unescaped rest)
+unescaped-digits : (byte : ℕ) (rest : List ℕ) → byte < 256
+    → unescaped (37 ∷ digit_glyph false (byte / 16) ∷ digit_glyph false (byte % 16) ∷ rest) ≡ before (Some byte) (unescaped rest)
 unescaped-digits byte rest small =
     let high : hex_value (digit_glyph false (byte / 16)) ≡ Some (byte / 16) = hex_value-glyph (byte / 16) (omega arith) in
     let low : hex_value (digit_glyph false (byte % 16)) ≡ Some (byte % 16) = hex_value-glyph (byte % 16) (omega arith) in
     let whole : 16 * (byte / 16) + byte % 16 ≡ byte = omega arith in
     rw (high, low) (ap (λ (n : ℕ). before (Some n) (unescaped rest)) whole)
 
-escaped_byte-back : (byte : ℕ) (rest : List ℕ) (b : Bool) → is_plain byte ≡ b → byte < 256 → unescaped (escaped_byte byte ++ rest) ≡ before (Some byte) (unescaped rest)
+escaped_byte-back : (byte : ℕ) (rest : List ℕ) (b : Bool) → is_plain byte ≡ b → byte < 256
+    → unescaped (escaped_byte byte ++ rest) ≡ before (Some byte) (unescaped rest)
 escaped_byte-back byte rest true plain small = rw plain (unescaped-plain byte rest plain)
 escaped_byte-back byte rest false hidden small = rw hidden (unescaped-digits byte rest small)
 

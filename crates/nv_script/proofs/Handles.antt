@@ -50,12 +50,14 @@ handle_from-None : (ino : Option ℕ) → handle_from ino None ≡ None
 handle_from-None None = refl
 handle_from-None (Some ino) = refl
 
-handle_of_parts-more : (ino generation : List ℕ) (parts : List (List ℕ)) → 0 < length parts → handle_of_parts (ino ∷ generation ∷ parts) ≡ None
+handle_of_parts-more : (ino generation : List ℕ) (parts : List (List ℕ)) → 0 < length parts
+    → handle_of_parts (ino ∷ generation ∷ parts) ≡ None
 handle_of_parts-more ino generation [] more = absurd (omega arith)
 handle_of_parts-more ino generation (part ∷ parts) more = refl
 
 -- a second point leaves no number after the first
-second_point : (ino word : List ℕ) → position_or_len is_point word < length word → handle_of_parts (ino ∷ parts_of word) ≡ handle_from (number_of ino) (number_of word)
+second_point : (ino word : List ℕ) → position_or_len is_point word < length word
+    → handle_of_parts (ino ∷ parts_of word) ≡ handle_from (number_of ino) (number_of word)
 second_point ino word more =
     let parts = slice_split is_point (after_first is_point word) in
     let some : 0 < length parts = omega (arith, length-slice_split is_point (after_first is_point word)) in
@@ -65,7 +67,8 @@ second_point ino word more =
     ∙ sym (ap (handle_from (number_of ino)) (number_of-other word other) ∙ handle_from-None (number_of ino))
 
 -- after one point, a number is the whole rest
-handle_of_parts-rest : (ino word : List ℕ) (b : Bool) → nat_lt (position_or_len is_point word) (length word) ≡ b → handle_of_parts (ino ∷ parts_of word) ≡ handle_from (number_of ino) (number_of word)
+handle_of_parts-rest : (ino word : List ℕ) (b : Bool) → nat_lt (position_or_len is_point word) (length word) ≡ b
+    → handle_of_parts (ino ∷ parts_of word) ≡ handle_from (number_of ino) (number_of word)
 handle_of_parts-rest ino word true more = second_point ino word (lt_from_true _ _ more)
 handle_of_parts-rest ino word false none = ap (λ (rest : List (List ℕ)). handle_of_parts (ino ∷ rest)) (parts_of-whole word (le_from_false _ _ none))
 
@@ -78,7 +81,8 @@ rest_of : (word : List ℕ) (k : ℕ) → drop k word ≡ take (length word - k)
 rest_of word k = grind (arith, common_steps)
 
 -- the first point
-pub handle_of-Some : (word : List ℕ) (point : ℕ) → position is_point word ≡ Some point → handle_of word ≡ handle_from (number_of (take point word)) (number_of (take (length word - (point + 1)) (drop (point + 1) word)))
+pub handle_of-Some : (word : List ℕ) (point : ℕ) → position is_point word ≡ Some point
+    → handle_of word ≡ handle_from (number_of (take point word)) (number_of (take (length word - (point + 1)) (drop (point + 1) word)))
 handle_of-Some word point some =
     let at = present (position_or_len is_point word) (length word) point some in
     ap handle_of_parts (slice_split_first is_point word 0 at.0)

@@ -26,11 +26,13 @@ pub writes_all : (a b : Option (List ℕ)) (text : List ℕ) → Appends a b tex
 writes_all a b text all = (text, sym (append-nil text), all)
 
 -- the text grew, and so what is left of it
-pub writes_grown : (a b : Option (List ℕ)) (text left more : List ℕ) → WritesFront a b text left → WritesFront a b (text ++ more) (left ++ more)
+pub writes_grown : (a b : Option (List ℕ)) (text left more : List ℕ) → WritesFront a b text left
+    → WritesFront a b (text ++ more) (left ++ more)
 writes_grown a b text left more first = (first.0, ap (λ t. t ++ more) first.1 ∙ append_assoc first.0 left more, first.2)
 
 -- more of what was left was written
-pub writes_rest : (a b c : Option (List ℕ)) (text left left' : List ℕ) → WritesFront a b text left → WritesFront b c left left' → WritesFront a c text left'
+pub writes_rest : (a b c : Option (List ℕ)) (text left left' : List ℕ) → WritesFront a b text left → WritesFront b c left left'
+    → WritesFront a c text left'
 writes_rest a b c text left left' first then_ =
     let same : text ≡ (first.0 ++ then_.0) ++ left' = first.1 ∙ ap (λ t. first.0 ++ t) then_.1 ∙ sym (append_assoc first.0 then_.0 left') in
     (first.0 ++ then_.0, same, Appends-trans a b c first.0 then_.0 first.2 then_.2)
@@ -57,7 +59,8 @@ writes_some_of a b text more some =
     longer rest more some = grind (arith, common_steps)
 
 -- the first text was written, and some of the second
-pub writes_all_and_some : (a b c : Option (List ℕ)) (text more : List ℕ) → Appends a b text → WritesSome b c more → WritesSome a c (text ++ more)
+pub writes_all_and_some : (a b c : Option (List ℕ)) (text more : List ℕ) → Appends a b text → WritesSome b c more
+    → WritesSome a c (text ++ more)
 writes_all_and_some a b c text more first then_ =
     let cut = then_.1 in
     let same : text ++ more ≡ (text ++ then_.0) ++ cut.0 = ap (λ t. text ++ t) cut.1 ∙ sym (append_assoc text then_.0 cut.0) in

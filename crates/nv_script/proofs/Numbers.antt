@@ -21,7 +21,8 @@ number_of-great : (word : List ℕ) → 2 ^ 64 ≤ value_from 0 word → number_
 number_of-great word h = rw (lt_false (value_from 0 word) (2 ^ 64) h, and_false) refl
 
 -- with the next digit, the digits so far spell a number past 64 bits
-pub number_of-overflow : (word : List ℕ) (i value : ℕ) → i < length word → value_from 0 word ≡ value_from value (drop i word) → 2 ^ 64 ≤ 10 * value + (get_or word i 0 - 48) → number_of word ≡ None
+pub number_of-overflow : (word : List ℕ) (i value : ℕ) → i < length word → value_from 0 word ≡ value_from value (drop i word)
+    → 2 ^ 64 ≤ 10 * value + (get_or word i 0 - 48) → number_of word ≡ None
 number_of-overflow word i value within same past =
     let next = 10 * value + (get_or word i 0 - 48) in
     let opened : value_from 0 word ≡ value_from next (drop (suc i) word) = same ∙ ap (value_from value) (drop-cons word i 0 within) in

@@ -48,7 +48,8 @@ fn format(
 ) -> Result<(), AllocError>
     requires none { world.old ≡ None }
     requires empty { string_bytes out.old ≡ [] }
-    ensures { OnOk result (Formats (first_bad_field numbers.now) numbers.now (string_bytes out.new) world.new) }
+    ensures { OnOk result
+        (Formats (first_bad_field numbers.now) numbers.now (string_bytes out.new) world.new) }
 {
     match new_world(alloc, numbers) {
         Ok(made) => {

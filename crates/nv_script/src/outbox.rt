@@ -50,12 +50,14 @@ impl Outbox {
         sent
     }
 
-    /// Gathers a text. Where there is no room for it what was gathered is written first, and a text that is
-    /// longer than all room is written at once. After a failed write nothing is gathered.
+    /// Gathers a text. Where there is no room for it what was gathered is written first, and a text
+    /// that is longer than all room is written at once. After a failed write nothing is gathered.
     pub(crate) fn add<W: Write>(&mut self, writer: &mut W, text: &[u8]) -> Result<(), WriteFailed>
         ensures { MatchResult result
-            (λ _. WritesFront (W.contents writer.old) (W.contents writer.new) (self.old ++ text.now) self.new)
-            (λ _. WritesSome (W.contents writer.old) (W.contents writer.new) (self.old ++ text.now) × (self.new ≡ [])) }
+            (λ _. WritesFront (W.contents writer.old) (W.contents writer.new)
+            (self.old ++ text.now) self.new)
+            (λ _. WritesSome (W.contents writer.old) (W.contents writer.new)
+            (self.old ++ text.now) × (self.new ≡ [])) }
     {
         if self.gather(text) {
             return Ok(());

@@ -1,6 +1,7 @@
 //! A whole script: bytes in, bytes out.
 
-ghost use Rattle.std.specs.Prelude.{◌≡◌, ℕ, ◌+◌, ◌≤◌, List, [], Option, IfOk, MatchResult, None};
+ghost use Rattle.std.specs.Prelude.{◌≡◌, ℕ, ◌+◌, ◌≤◌, ◌⊎◌, List, [], Option, IfOk, OnOk, MatchResult, None};
+ghost use Rattle.std.specs.List.{Contains};
 ghost use Rattle.std.specs.Io.KnownBytes.{prepend_known};
 ghost use Rattle.std.specs.Vec.{vec_capacity};
 ghost use Rattle.nv_script.specs.Lines.{WritesFront, WritesSome};
@@ -88,7 +89,8 @@ impl Player {
         requires gathered { self.old.outbox ≡ [] }
         requires world { self.old.world ≡ None }
         ensures { Ends result (R.remaining reader.old) (R.remaining reader.new)
-            (λ text. WritesFront (W.contents writer.old) (W.contents writer.new) text self.new.outbox) }
+            (λ text. WritesFront (W.contents writer.old) (W.contents writer.new)
+            text self.new.outbox) }
     {
         for number in 1..=MAX_LINES + 1 {
             if !self.turn(alloc, number, reader, writer)? {
@@ -110,9 +112,10 @@ impl Player {
         requires { number ≤ MAX_LINES + 1 }
         ensures { (input old : Option (List ℕ))
             → AtLine input (prepend_known self.old.feed (R.remaining reader.old))
-                old (W.contents writer.old) self.old.outbox number self.old.world
-            → TurnIs result input (R.remaining reader.new) (prepend_known self.new.feed (R.remaining reader.new))
-                old (W.contents writer.new) self.new.outbox number self.new.world }
+            old (W.contents writer.old) self.old.outbox number self.old.world
+            → TurnIs result input (R.remaining reader.new)
+            (prepend_known self.new.feed (R.remaining reader.new))
+            old (W.contents writer.new) self.new.outbox number self.new.world }
     {
         let Ok(()) = write_before_read(&self.feed, &mut self.outbox, writer) else {
             return Err(Fault::Write);
@@ -134,15 +137,17 @@ impl Player {
     }
 }
 
-/// Writes what is gathered, where the reader is to be asked for the next line.
+/// Writes what is gathered, where the reader is to be asked for the next line: nothing is held back then.
 fn write_before_read<W: Write>(
     feed: &Feed,
     outbox: &mut Outbox,
     writer: &mut W,
 ) -> Result<(), WriteFailed>
-    ensures { MatchResult result
+    ensures unheld { OnOk result (Contains feed.now 10 ⊎ (outbox.new ≡ [])) }
+    ensures sent { MatchResult result
         (λ _. WritesFront (W.contents writer.old) (W.contents writer.new) outbox.old outbox.new)
-        (λ _. WritesSome (W.contents writer.old) (W.contents writer.new) outbox.old × (outbox.new ≡ [])) }
+        (λ _. WritesSome (W.contents writer.old) (W.contents writer.new) outbox.old
+        × (outbox.new ≡ [])) }
 {
     if feed.has_line() {
         return Ok(());

@@ -3,5 +3,6 @@
 mod ends;
 mod faults;
 mod lines;
+mod rows;
 mod scripts;
 mod words;

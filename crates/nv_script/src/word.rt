@@ -122,7 +122,7 @@ pub(crate) fn text(alloc: Global, word: &[u8]) -> Result<Option<Bytes>, AllocErr
     if word.is_empty() {
         return Ok(None);
     }
-    let mut bytes = Vec::new(alloc);
+    let mut bytes = Vec::with_capacity(alloc, word.len())?;
     let mut rest = word;
     while let Some((first, after)) = rest.split_first() {
         let Some((byte, left)) = taken(*first, after) else {

@@ -40,16 +40,23 @@ directory 0.1 with mode 420 (octal 644), and list all. 'novacore play first.nova
   /notes f 420 0
   end
 
+Commands: format, do, tree.
+Calls, which follow 'do' and the number of an actor: create, write, read.
+
 Answers go to standard output. A call that cannot be made is answered with the reason, as
 'refused E8 Exists', and the script goes on. A fault ends it: a line that is no command, or a read
 or a write that fails. What was answered stands, and the fault goes to standard error, as
-'novacore: E27 ScriptFault(2, word)' for a word in line 2 that is unknown.
+'novacore: E27 ScriptFault(2, word)' for a word in line 2 that is unknown. A FILE that can't be
+opened is the fault 'E28 Read'.
 
 Exit status: 0 if the whole script was played, 1 after a fault, 2 for a command line that is refused.";
 
 const FILE: &str = "FILE";
 
-const FILE_HELP: &str = "The script; without FILE it is read from standard input";
+const FILE_HELP: &str = "The script; without FILE, or where it is -, from standard input";
+
+/// What stands for standard input in place of a file.
+const STANDARD_INPUT: &str = "-";
 
 /// What a command line asks for.
 #[derive(Clone, Copy, Debug, PartialEq, Eq, Drop)]
@@ -67,7 +74,7 @@ impl<'a> Task<'a> {
         let matches = command.try_get_matches_from_mut(words)?;
         match matches.subcommand() {
             Some((PLAY, play)) => Ok(Task::Play {
-                file: play.get_str(FILE),
+                file: play.get_str(FILE).filter(|file| *file != STANDARD_INPUT),
             }),
             _ => Err(command.error(ErrorKind::MissingSubcommand, "a subcommand is missing")?),
         }

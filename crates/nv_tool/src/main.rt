@@ -1,13 +1,13 @@
 //! The program `novacore`: plays scripts on a file system that is kept in memory.
 #![tactic(auto)]
 
-ghost use Rattle.std.specs.Prelude.{◌≡◌, ◌≢◌, ◌⊎◌, ◌++◌, Err, IfOk, codes, string_bytes};
-ghost use Rattle.std.specs.Process.{exit_status};
+ghost use Rattle.std.specs.Prelude.{◌≡◌, ◌≢◌, ◌⊎◌, ◌++◌, IfOk, codes, string_bytes};
 ghost use Rattle.clap.specs.Words.{kind_of};
 ghost use Rattle.nv_base.specs.Texts.{fault_text};
 ghost use Rattle.nv_script.specs.Texts.{line_of};
 
 mod command_line;
+mod outcome;
 #[cfg(test)]
 mod tests;
 
@@ -15,6 +15,7 @@ use clap::error::ErrorKind;
 use command_line::Task;
 use nv_base::Fault;
 use nv_script::{fault_text, play};
+use outcome::{Outcome, exit_code};
 use std::alloc::{AllocError, Global};
 use std::env::Env;
 use std::process::ExitCode;
@@ -23,45 +24,49 @@ use std::{env, fs, io};
 
 /// The line that tells of a fault.
 fn fault_line(alloc: Global, fault: &Fault) -> Result<String, AllocError>
-    ensures { IfOk result (λ line. string_bytes line ≡ line_of (codes "novacore: " ++ fault_text fault.now)) }
+    ensures { IfOk result (λ line. string_bytes line
+        ≡ line_of (codes "novacore: " ++ fault_text fault.now)) }
 {
     let text = fault_text(alloc, fault)?;
     format!(in alloc; "novacore: {text}\n")
 }
 
-/// Tells of a fault on standard error, and returns the exit status. If no text can be written, that stands alone.
-fn failed<R: AllocGlobal + Eprint>(rt: &R, fault: &Fault) -> ExitCode
-    ensures { exit_status result ≡ 1 }
-{
+/// Tells of a fault on standard error. If no text can be written, the exit status alone tells of it.
+fn tell<R: AllocGlobal + Eprint>(rt: &R, fault: &Fault) {
     let _told = match fault_line(rt.alloc(), fault) {
         Ok(line) => rt.eprint(line),
         Err(_) => rt.eprint("novacore: E1 OutOfMemory\n"),
     };
-    ExitCode::FAILURE
 }
 
-/// Prints what a command line without a task is answered, and returns the exit status that goes with it.
+/// Prints what a command line without a task is answered.
 ///
 /// Help and the version go to standard output, and why a command line is refused to standard error.
-fn answered<R: Print + Eprint>(rt: &R, error: &clap::Error) -> Result<ExitCode, Fault>
-    ensures shown { IfOk result (λ status. (kind_of error.now ≡ ErrorKind.DisplayHelp)
-        ⊎ (kind_of error.now ≡ ErrorKind.DisplayVersion) → exit_status status ≡ 0) }
-    ensures refused { IfOk result (λ status. kind_of error.now ≢ ErrorKind.DisplayHelp
-        → kind_of error.now ≢ ErrorKind.DisplayVersion → exit_status status ≡ 2) }
-    ensures memory { kind_of error.now ≡ ErrorKind.OutOfMemory → result ≡ Err Fault.OutOfMemory }
+fn answered<R: Print + Eprint>(rt: &R, error: &clap::Error) -> Outcome
+    ensures memory { kind_of error.now ≡ ErrorKind.OutOfMemory
+        → result ≡ Outcome.Failed Fault.OutOfMemory }
+    ensures shown { (kind_of error.now ≡ ErrorKind.DisplayHelp)
+        ⊎ (kind_of error.now ≡ ErrorKind.DisplayVersion)
+        → (result ≡ Outcome.Shown) ⊎ (result ≡ Outcome.Failed Fault.Write) }
+    ensures refused { kind_of error.now ≢ ErrorKind.OutOfMemory
+        → kind_of error.now ≢ ErrorKind.DisplayHelp → kind_of error.now ≢ ErrorKind.DisplayVersion → result ≡ Outcome.Refused }
 {
     if error.kind() == ErrorKind::OutOfMemory {
-        return Err(Fault::OutOfMemory);
+        return Outcome::Failed(Fault::OutOfMemory);
     }
-    if error.print(rt).is_err() && !error.use_stderr() {
-        return Err(Fault::Write);
+    let printed = error.print(rt);
+    if error.use_stderr() {
+        return Outcome::Refused;
     }
-    Ok(ExitCode::from(error.exit_code() as u8))
+    match printed {
+        Ok(()) => Outcome::Shown,
+        Err(_) => Outcome::Failed(Fault::Write),
+    }
 }
 
 /// Plays a script from a file, or from standard input where none is named.
 ///
-/// Nothing is held back: each line's answer is written before the next line is acted on.
+/// An answer is held back only while the script's next line is there already.
 fn play_script<R: AllocGlobal + Files + Input + Print>(
     rt: &R,
     file: Option<&str>,
@@ -78,28 +83,39 @@ fn play_script<R: AllocGlobal + Files + Input + Print>(
     }
 }
 
-/// Does what the command line asks for, and returns the exit status if no fault ends it.
-fn run<R: AllocGlobal + Env + Files + Input + Print + Eprint>(rt: &R) -> Result<ExitCode, Fault> {
+/// Does what the command line asks for.
+fn perform<R: AllocGlobal + Env + Files + Input + Print + Eprint>(
+    rt: &R,
+) -> Result<Outcome, Fault> {
     let alloc = rt.alloc();
     let words: Vec<String> = match env::args(rt) {
         Ok(words) => words.collect(alloc)?,
         Err(error) if error.kind() == io::ErrorKind::InvalidData => {
-            return answered(rt, &command_line::not_text(alloc)?);
+            return Ok(answered(rt, &command_line::not_text(alloc)?));
         }
         Err(_) => return Err(Fault::OutOfMemory),
     };
     match Task::read(alloc, words.as_slice()) {
         Ok(Task::Play { file }) => {
             play_script(rt, file)?;
-            Ok(ExitCode::SUCCESS)
+            Ok(Outcome::Played)
         }
-        Err(error) => answered(rt, &error),
+        Err(error) => Ok(answered(rt, &error)),
     }
 }
 
-fn main(rt: HostRuntime) -> ExitCode {
-    match run(&rt) {
-        Ok(status) => status,
-        Err(fault) => failed(&rt, &fault),
+/// Does what the command line asks for, and tells of a fault.
+fn run<R: AllocGlobal + Env + Files + Input + Print + Eprint>(rt: &R) -> Outcome {
+    let outcome = match perform(rt) {
+        Ok(outcome) => outcome,
+        Err(fault) => Outcome::Failed(fault),
+    };
+    if let Outcome::Failed(fault) = outcome {
+        tell(rt, &fault);
     }
+    outcome
+}
+
+fn main(rt: HostRuntime) -> ExitCode {
+    exit_code(run(&rt))
 }

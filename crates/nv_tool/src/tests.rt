@@ -30,7 +30,7 @@ Play a script, and print what each of its lines is answered
 Usage: novacore play [FILE]
 
 Arguments:
-  [FILE]  The script; without FILE it is read from standard input
+  [FILE]  The script; without FILE, or where it is -, from standard input
 
 Options:
   -h, --help  Print help
@@ -82,8 +82,9 @@ fn answered(alloc: Global, words: &'static [&'static str]) -> Option<(i32, Strin
 
 #[test]
 fn play_takes_one_file_or_none(rt: HostRuntime) {
-    let cases: [(&[&str], Option<&str>); 3] = [
+    let cases: [(&[&str], Option<&str>); 4] = [
         (&["novacore", "play"], None),
+        (&["novacore", "play", "-"], None),
         (&["novacore", "play", "first.nova"], Some("first.nova")),
         (&["novacore", "play", "--", "-x"], Some("-x")),
     ];

@@ -1,6 +1,6 @@
 //! Scripts that end early: a read or a write that fails, or memory that is refused.
 
-use super::scripts::SCRIPTS;
+use super::rows::{FORMAT, SCRIPTS};
 use crate::play;
 use nv_base::Fault;
 use std::alloc::{AllocError, Global};
@@ -75,7 +75,7 @@ fn failed_reads(rt: HostRuntime) -> Result<(), Fail> {
 #[test]
 fn failed_writes(rt: HostRuntime) -> Result<(), Fail> {
     let (script, want) = SCRIPTS[2];
-    for calls in 0..17 {
+    for calls in 0..want.len().div_ceil(7) {
         let mut reader = script.as_bytes();
         let mut writer = Failing {
             inner: Vec::new(rt.alloc()),
@@ -138,10 +138,7 @@ fn past_twice<'a>(text: &'a [u8], first: &[u8], then: &[u8]) -> Option<&'a [u8]>
 /// allocation one call is refused and the rest goes on, or the script ends there.
 #[test]
 fn one_refused_growth(rt: HostRuntime) -> Result<(), Fail> {
-    let mut script = String::from_str(
-        rt.alloc(),
-        "format blocks=16 cpus=2 block=4 page=4 inodes=8 snaps=4 actors=3\n",
-    )?;
+    let mut script = String::from_str(rt.alloc(), FORMAT)?;
     for (line, _, _) in TWICE {
         script.push_str(line)?;
         script.push_str(line)?;
