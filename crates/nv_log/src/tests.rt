@@ -1,6 +1,9 @@
+ghost use Rattle.std.specs.Prelude.{◌↔◌, IsTrue};
+ghost use Rattle.nv_alloc.specs.Block.{AreSized};
+
 use super::*;
 use crate::reads::ReadCount;
-use nv_alloc::{Block, FreeList, Hand};
+use nv_alloc::{Block, BlockQueue, ChainPages, FreeList};
 use nv_base::{BlockNo, CommitNo, EntryId, Epoch, Fault, Geometry, GeometryNumbers};
 use nv_entry::{Entry, Item};
 use std::alloc::Global;
@@ -27,15 +30,30 @@ fn free_blocks(rt: &impl Abort, alloc: Global) -> FreeList {
     }
 }
 
-// A hand with the `n` lowest free blocks.
-fn hand_with(rt: &impl Abort, alloc: Global, list: &mut FreeList, n: u64) -> Hand {
-    let mut hand = Hand::new(alloc);
-    if hand.reserve(n).is_err() {
-        hand.reserve(n).expect(rt, "memory for a hand");
+// A queue with room for `n` blocks.
+fn queue_for(rt: &impl Abort, alloc: Global, n: u64) -> BlockQueue {
+    let mut queue = BlockQueue::new(alloc, 4);
+    if queue.reserve(n).is_err() {
+        queue.reserve(n).expect(rt, "memory for a queue");
     }
-    assert!(rt; n <= hand.room());
-    assert_eq!(rt; list.take(n, &mut hand), n);
-    hand
+    assert!(rt; n <= queue.room());
+    queue
+}
+
+fn put(rt: &impl Abort, queue: &mut BlockQueue, block: Block) {
+    if queue.room() == 0 || block.bytes().len() != queue.block_bytes() {
+        panic!(rt; "the queue takes the block")
+    }
+    queue.put(block);
+}
+
+// A queue with the `n` lowest free blocks.
+fn queue_with(rt: &impl Abort, alloc: Global, list: &mut FreeList, n: u64) -> BlockQueue {
+    let mut queue = queue_for(rt, alloc, n);
+    assert!(rt; n <= queue.room());
+    assert_eq!(rt; queue.block_bytes(), list.block_bytes());
+    assert_eq!(rt; list.take(n, &mut queue), n);
+    queue
 }
 
 // Makes room for pages. Where a growth is refused, nothing has changed, and it is made once more.
@@ -64,13 +82,13 @@ fn shape(chain: &Chain) -> [usize; 5] {
     ]
 }
 
-// A chain of pages of two entries, to which the blocks of the hand are added.
-fn chain_of(rt: &impl Abort, alloc: Global, hand: &mut Hand) -> Chain {
+// A chain of pages of two entries, to which the blocks of the queue are added.
+fn chain_of(rt: &impl Abort, alloc: Global, queue: &mut BlockQueue) -> Chain {
     let mut chain = Chain::new(alloc, 2);
-    reserve(rt, &mut chain, hand.len() as usize);
-    for _ in 0..hand.len() {
-        let Some(block) = hand.take_next() else {
-            panic!(rt; "the hand has a block")
+    reserve(rt, &mut chain, queue.len() as usize);
+    for _ in 0..queue.len() {
+        let Some(block) = queue.take_next() else {
+            panic!(rt; "the queue has a block")
         };
         assert!(rt; chain.spare() > 0);
         chain.add_page(block);
@@ -80,13 +98,13 @@ fn chain_of(rt: &impl Abort, alloc: Global, hand: &mut Hand) -> Chain {
 
 // A chain with the five lowest blocks and the commits 1 to 9, of which 1 to 7 count.
 fn nine_entries(rt: &impl Abort, alloc: Global, list: &mut FreeList) -> Chain {
-    let mut hand = hand_with(rt, alloc, list, 5);
-    let mut chain = chain_of(rt, alloc, &mut hand);
+    let mut queue = queue_with(rt, alloc, list, 5);
+    let mut chain = chain_of(rt, alloc, &mut queue);
     for commit in 1..10 {
         append(rt, &mut chain, commit);
     }
     publish(rt, &mut chain, 7);
-    hand.dismantle();
+    queue.dismantle();
     chain
 }
 
@@ -143,25 +161,24 @@ fn assert_pages(rt: &impl Abort, chain: &Chain, pages: &[Page], log: &[u64]) {
     assert_commits(rt, chain.log(), log);
 }
 
-// Gives the blocks to the hand of a call, as one chain's pages, and lets the hand go.
-fn give_pages(rt: &impl Abort, blocks: Vec<Block>, mut hand: Hand) {
-    if hand.chain_len() != 0 {
-        panic!(rt; "the hand has no chain")
-    }
-    hand.put_chain(blocks);
-    hand.dismantle();
+// Lets the pages of a whole chain go.
+fn give_pages(alloc: Global, blocks: Vec<Block>) {
+    let mut pages = ChainPages::new(alloc);
+    pages.put(blocks);
+    pages.dismantle();
 }
 
-fn let_go(rt: &impl Abort, blocks: Vec<Block>, hand: Hand, list: FreeList) {
-    give_pages(rt, blocks, hand);
+fn let_go(alloc: Global, chain: Chain, queue: BlockQueue, list: FreeList) {
+    give_pages(alloc, chain.into_blocks());
+    queue.dismantle();
     list.dismantle();
 }
 
 #[test]
 fn appends_and_publishes(rt: HostRuntime) {
     let mut list = free_blocks(&rt, rt.alloc());
-    let mut hand = hand_with(&rt, rt.alloc(), &mut list, 3);
-    let mut chain = chain_of(&rt, rt.alloc(), &mut hand);
+    let mut queue = queue_with(&rt, rt.alloc(), &mut list, 3);
+    let mut chain = chain_of(&rt, rt.alloc(), &mut queue);
     assert_eq!(rt; chain.entries_per_page(), 2);
     assert_eq!(rt; (chain.last_id(), chain.last_epoch()), (None, None));
     assert!(rt; chain.is_empty());
@@ -189,14 +206,14 @@ fn appends_and_publishes(rt: HostRuntime) {
     assert_eq!(rt; chain.last_epoch(), Some(Epoch::new(1)));
     assert!(rt; !chain.may_append(id(3), Epoch::new(1)));
     assert!(rt; !chain.may_append(id(4), Epoch::new(0)));
-    let_go(&rt, chain.into_blocks(), hand, list);
+    let_go(rt.alloc(), chain, queue, list);
 }
 
 #[test]
 fn finds_entries_by_id(rt: HostRuntime) {
     let mut list = free_blocks(&rt, rt.alloc());
-    let mut hand = hand_with(&rt, rt.alloc(), &mut list, 4);
-    let mut chain = chain_of(&rt, rt.alloc(), &mut hand);
+    let mut queue = queue_with(&rt, rt.alloc(), &mut list, 4);
+    let mut chain = chain_of(&rt, rt.alloc(), &mut queue);
     for n in 1..8 {
         append(&rt, &mut chain, 3 * n);
     }
@@ -217,7 +234,7 @@ fn finds_entries_by_id(rt: HostRuntime) {
     for place in 0..chain.len() {
         assert_eq!(rt; chain.page_of(place), place / 2);
     }
-    let_go(&rt, chain.into_blocks(), hand, list);
+    let_go(rt.alloc(), chain, queue, list);
 }
 
 // What goes, by flags, of the nine entries, and the pages and the log that are left.
@@ -273,11 +290,23 @@ const UNLINKS: [Removal; 6] = [
     },
 ];
 
-fn assert_numbers(rt: &impl Abort, hand: &Hand, want: &[u64]) {
-    assert_eq!(rt; hand.len(), want.len() as u64);
-    for (block, number) in hand.blocks().zip(want) {
+fn assert_numbers(rt: &impl Abort, queue: &BlockQueue, want: &[u64]) {
+    assert_eq!(rt; queue.len(), want.len() as u64);
+    for (block, number) in queue.iter().zip(want) {
         assert_eq!(rt; block.number(), BlockNo::new(*number));
     }
+}
+
+fn are_sized(blocks: &[Block], size: usize) -> bool
+    ensures { IsTrue result ↔ AreSized size blocks.now }
+{
+    blocks.iter().all(|block| block.bytes().len() == size)
+}
+
+fn unlink(rt: &impl Abort, chain: &mut Chain, gone: &[bool], queue: &mut BlockQueue) {
+    assert!(rt; gone.iter().filter(|goes| **goes).count() as u64 <= queue.room());
+    assert!(rt; are_sized(chain.blocks(), queue.block_bytes()));
+    chain.unlink_pages(gone, queue);
 }
 
 #[test]
@@ -285,16 +314,12 @@ fn unlinks_pages(rt: HostRuntime) {
     for row in &UNLINKS {
         let mut list = free_blocks(&rt, rt.alloc());
         let mut chain = nine_entries(&rt, rt.alloc(), &mut list);
-        let mut taken = hand_with(&rt, rt.alloc(), &mut list, 0);
-        if taken.reserve(5).is_err() {
-            taken.reserve(5).expect(&rt, "memory for a hand");
-        }
-        assert!(rt; row.gone.iter().filter(|goes| **goes).count() as u64 <= taken.room());
-        chain.unlink_pages(row.gone, &mut taken);
+        let mut taken = queue_for(&rt, rt.alloc(), 5);
+        unlink(&rt, &mut chain, row.gone, &mut taken);
         assert_numbers(&rt, &taken, row.out);
         assert_pages(&rt, &chain, row.pages, row.log);
         assert_eq!(rt; chain.spare(), row.out.len());
-        let_go(&rt, chain.into_blocks(), taken, list);
+        let_go(rt.alloc(), chain, taken, list);
     }
 }
 
@@ -303,28 +328,25 @@ fn unlinks_pages(rt: HostRuntime) {
 fn unlinks_single_pages(rt: HostRuntime) {
     let mut list = free_blocks(&rt, rt.alloc());
     let mut chain = nine_entries(&rt, rt.alloc(), &mut list);
-    let mut taken = hand_with(&rt, rt.alloc(), &mut list, 1);
-    if taken.reserve(4).is_err() {
-        taken.reserve(4).expect(&rt, "memory for a hand");
-    }
+    let mut taken = queue_for(&rt, rt.alloc(), 4);
     for number in 1..4 {
-        assert!(rt; chain.blocks().len() > 1 && taken.room() > 0);
+        assert!(rt; chain.blocks().len() > 1);
         let block = chain.unlink_page(1);
         assert_eq!(rt; block.number(), BlockNo::new(number));
-        taken.put(block);
+        put(&rt, &mut taken, block);
     }
     assert_eq!(rt; shape(&chain), [2, 3, 2, 1, 3]);
     assert_pages(&rt, &chain, &[(0, &[1, 2]), (4, &[9])], &[1, 2]);
 
     let Some(block) = taken.take_next() else {
-        panic!(rt; "the hand has a block")
+        panic!(rt; "the queue has a block")
     };
     assert!(rt; chain.spare() > 0);
     chain.add_page(block);
-    assert!(rt; chain.blocks().len() > 2 && taken.room() > 0);
-    taken.put(chain.unlink_page(2));
+    assert!(rt; chain.blocks().len() > 2);
+    put(&rt, &mut taken, chain.unlink_page(2));
     assert_pages(&rt, &chain, &[(0, &[1, 2]), (4, &[9])], &[1, 2]);
-    let_go(&rt, chain.into_blocks(), taken, list);
+    let_go(rt.alloc(), chain, taken, list);
 }
 
 const COMPACTIONS: [Removal; 4] = [
@@ -360,16 +382,16 @@ const COMPACTIONS: [Removal; 4] = [
     },
 ];
 
-// The blocks of a hand, one behind the other.
-fn blocks_of(rt: &impl Abort, alloc: Global, hand: &mut Hand) -> Vec<Block> {
+// The blocks of a queue, one behind the other.
+fn blocks_of(rt: &impl Abort, alloc: Global, queue: &mut BlockQueue) -> Vec<Block> {
     let mut blocks = Vec::new(alloc);
-    let count = hand.len() as usize;
+    let count = queue.len() as usize;
     if blocks.reserve_exact(count).is_err() {
         blocks.reserve_exact(count).expect(rt, "memory for blocks");
     }
     for _ in 0..count {
-        let Some(block) = hand.take_next() else {
-            panic!(rt; "the hand has a block")
+        let Some(block) = queue.take_next() else {
+            panic!(rt; "the queue has a block")
         };
         assert!(rt; blocks.len() < blocks.capacity());
         blocks.push_reserved(block);
@@ -382,16 +404,16 @@ fn compacts(rt: HostRuntime) {
     for row in &COMPACTIONS {
         let mut list = free_blocks(&rt, rt.alloc());
         let mut chain = nine_entries(&rt, rt.alloc(), &mut list);
-        let mut hand = hand_with(&rt, rt.alloc(), &mut list, row.pages.len() as u64);
-        let fresh = blocks_of(&rt, rt.alloc(), &mut hand);
+        let mut queue = queue_with(&rt, rt.alloc(), &mut list, row.pages.len() as u64);
+        let fresh = blocks_of(&rt, rt.alloc(), &mut queue);
         let staying = chain.staying(row.gone);
         assert_eq!(rt; fresh.len(), staying.div_ceil(chain.entries_per_page()));
         let old = chain.compact(row.gone, fresh);
         assert_pages(&rt, &chain, row.pages, row.log);
         assert_eq!(rt; chain.spare(), 0);
         reserve(&rt, &mut chain, 3);
-        give_pages(&rt, old, hand);
-        let_go(&rt, chain.into_blocks(), Hand::new(rt.alloc()), list);
+        give_pages(rt.alloc(), old);
+        let_go(rt.alloc(), chain, queue, list);
     }
 }
 
@@ -399,8 +421,8 @@ fn compacts(rt: HostRuntime) {
 fn replaces_a_chain(rt: HostRuntime) {
     let mut list = free_blocks(&rt, rt.alloc());
     let mut chain = nine_entries(&rt, rt.alloc(), &mut list);
-    let mut fresh_hand = hand_with(&rt, rt.alloc(), &mut list, 1);
-    let mut fresh = chain_of(&rt, rt.alloc(), &mut fresh_hand);
+    let mut fresh_queue = queue_with(&rt, rt.alloc(), &mut list, 1);
+    let mut fresh = chain_of(&rt, rt.alloc(), &mut fresh_queue);
     append(&rt, &mut fresh, 7);
     publish(&rt, &mut fresh, 1);
 
@@ -414,8 +436,8 @@ fn replaces_a_chain(rt: HostRuntime) {
     assert_eq!(rt; old.len(), 5);
     assert_eq!(rt; shape(&chain), [1, 1, 1, 1, 0]);
     assert_pages(&rt, &chain, &[(5, &[7])], &[7]);
-    give_pages(&rt, old, fresh_hand);
-    let_go(&rt, chain.into_blocks(), Hand::new(rt.alloc()), list);
+    give_pages(rt.alloc(), old);
+    let_go(rt.alloc(), chain, fresh_queue, list);
 }
 
 #[test]
