@@ -1,43 +1,22 @@
 //! The exact texts of faults and of the words in them.
 
-use crate::{Fault, GeometryField, ImageFault, MismatchPart, ScriptFaultKind};
+use crate::{
+    Fault, GeometryField as Field, ImageFault as Image, MismatchPart as Part,
+    ScriptFaultKind as Kind,
+};
 use std::test::Fail;
 
 /// Each fault with its text, those with fields once for each word.
 const TEXTS: [(Fault, &str); 54] = [
     (Fault::OutOfMemory, "E1 OutOfMemory"),
-    (
-        Fault::BadGeometry(GeometryField::Blocks),
-        "E2 BadGeometry(blocks)",
-    ),
-    (
-        Fault::BadGeometry(GeometryField::Cpus),
-        "E2 BadGeometry(cpus)",
-    ),
-    (
-        Fault::BadGeometry(GeometryField::Block),
-        "E2 BadGeometry(block)",
-    ),
-    (
-        Fault::BadGeometry(GeometryField::Page),
-        "E2 BadGeometry(page)",
-    ),
-    (
-        Fault::BadGeometry(GeometryField::Inodes),
-        "E2 BadGeometry(inodes)",
-    ),
-    (
-        Fault::BadGeometry(GeometryField::Snaps),
-        "E2 BadGeometry(snaps)",
-    ),
-    (
-        Fault::BadGeometry(GeometryField::Actors),
-        "E2 BadGeometry(actors)",
-    ),
-    (
-        Fault::BadGeometry(GeometryField::Seats),
-        "E2 BadGeometry(seats)",
-    ),
+    (Fault::BadGeometry(Field::Blocks), "E2 BadGeometry(blocks)"),
+    (Fault::BadGeometry(Field::Cpus), "E2 BadGeometry(cpus)"),
+    (Fault::BadGeometry(Field::Block), "E2 BadGeometry(block)"),
+    (Fault::BadGeometry(Field::Page), "E2 BadGeometry(page)"),
+    (Fault::BadGeometry(Field::Inodes), "E2 BadGeometry(inodes)"),
+    (Fault::BadGeometry(Field::Snaps), "E2 BadGeometry(snaps)"),
+    (Fault::BadGeometry(Field::Actors), "E2 BadGeometry(actors)"),
+    (Fault::BadGeometry(Field::Seats), "E2 BadGeometry(seats)"),
     (Fault::Stale, "E3 Stale"),
     (Fault::NotFile, "E4 NotFile"),
     (Fault::NotDirectory, "E5 NotDirectory"),
@@ -59,62 +38,50 @@ const TEXTS: [(Fault, &str); 54] = [
     (Fault::ActorBusy, "E21 ActorBusy"),
     (Fault::ActorIdle, "E22 ActorIdle"),
     (Fault::NoActor, "E23 NoActor"),
-    (Fault::Mismatch(MismatchPart::Index), "E24 Mismatch(index)"),
-    (Fault::Mismatch(MismatchPart::Names), "E24 Mismatch(names)"),
-    (
-        Fault::Mismatch(MismatchPart::Counts),
-        "E24 Mismatch(counts)",
-    ),
-    (
-        Fault::Mismatch(MismatchPart::Records),
-        "E24 Mismatch(records)",
-    ),
-    (Fault::Mismatch(MismatchPart::Lists), "E24 Mismatch(lists)"),
+    (Fault::Mismatch(Part::Index), "E24 Mismatch(index)"),
+    (Fault::Mismatch(Part::Names), "E24 Mismatch(names)"),
+    (Fault::Mismatch(Part::Counts), "E24 Mismatch(counts)"),
+    (Fault::Mismatch(Part::Records), "E24 Mismatch(records)"),
+    (Fault::Mismatch(Part::Lists), "E24 Mismatch(lists)"),
     (Fault::SeatsOut, "E25 SeatsOut"),
+    (Fault::BadImage(Image::Geometry), "E26 BadImage(geometry)"),
+    (Fault::BadImage(Image::Block), "E26 BadImage(block)"),
+    (Fault::BadImage(Image::Chain), "E26 BadImage(chain)"),
+    (Fault::BadImage(Image::Entry), "E26 BadImage(entry)"),
+    (Fault::BadImage(Image::Item), "E26 BadImage(item)"),
+    (Fault::BadImage(Image::Run), "E26 BadImage(run)"),
+    (Fault::BadImage(Image::Journal), "E26 BadImage(journal)"),
+    (Fault::BadImage(Image::Snaps), "E26 BadImage(snaps)"),
     (
-        Fault::BadImage(ImageFault::Geometry),
-        "E26 BadImage(geometry)",
-    ),
-    (Fault::BadImage(ImageFault::Block), "E26 BadImage(block)"),
-    (Fault::BadImage(ImageFault::Chain), "E26 BadImage(chain)"),
-    (Fault::BadImage(ImageFault::Entry), "E26 BadImage(entry)"),
-    (Fault::BadImage(ImageFault::Item), "E26 BadImage(item)"),
-    (Fault::BadImage(ImageFault::Run), "E26 BadImage(run)"),
-    (
-        Fault::BadImage(ImageFault::Journal),
-        "E26 BadImage(journal)",
-    ),
-    (Fault::BadImage(ImageFault::Snaps), "E26 BadImage(snaps)"),
-    (
-        Fault::ScriptFault(1, ScriptFaultKind::Lines),
+        Fault::ScriptFault(1, Kind::Lines),
         "E27 ScriptFault(1, lines)",
     ),
     (
-        Fault::ScriptFault(2, ScriptFaultKind::Long),
+        Fault::ScriptFault(2, Kind::Long),
         "E27 ScriptFault(2, long)",
     ),
     (
-        Fault::ScriptFault(3, ScriptFaultKind::Unended),
+        Fault::ScriptFault(3, Kind::Unended),
         "E27 ScriptFault(3, unended)",
     ),
     (
-        Fault::ScriptFault(12, ScriptFaultKind::Word),
+        Fault::ScriptFault(12, Kind::Word),
         "E27 ScriptFault(12, word)",
     ),
     (
-        Fault::ScriptFault(20, ScriptFaultKind::Order),
+        Fault::ScriptFault(20, Kind::Order),
         "E27 ScriptFault(20, order)",
     ),
     (
-        Fault::ScriptFault(99, ScriptFaultKind::Count),
+        Fault::ScriptFault(99, Kind::Count),
         "E27 ScriptFault(99, count)",
     ),
     (
-        Fault::ScriptFault(100, ScriptFaultKind::Number),
+        Fault::ScriptFault(100, Kind::Number),
         "E27 ScriptFault(100, number)",
     ),
     (
-        Fault::ScriptFault(101, ScriptFaultKind::Text),
+        Fault::ScriptFault(101, Kind::Text),
         "E27 ScriptFault(101, text)",
     ),
     (Fault::Read, "E28 Read"),
