@@ -107,7 +107,8 @@ module _ (world : WorldValue) (dir : Handle) (name : List ℕ) (mode : ℕ) (w :
     first = f.first;
     here = get_or-set_same world.logs dir.ino (log_at world.logs dir.ino ++ bind ∷ []) [] f.in_use;
     others = λ ino apart. get_or-set_other world.logs dir.ino ino (log_at world.logs dir.ino ++ bind ∷ []) [] apart;
-    gives = lawful_gives bytes world.numbers.block (log_at world.logs dir.ino) bind (named (slot_node world dir.ino)) w.some_bytes (w.files dir.ino).sound
+    gives = lawful_gives bytes world.numbers.block (log_at world.logs dir.ino) bind (named (slot_node world dir.ino)) w.some_bytes
+        (w.files dir.ino).sound
         (subst (λ (o : Option NodeCopy). Makes bytes world.numbers.block (Bind name (next_handle world)) o (named o)) (sym f.is) refl);
     blocks = λ n none. absurd none;
   }
@@ -133,10 +134,12 @@ module _ (world : WorldValue) (dir : Handle) (name : List ℕ) (mode : ℕ) (w :
   }
 
   nodes_made : (other : Handle)
-      → (plain_of (created world dir name mode)).nodes other ≡ (file_made dir name mode (next_handle world) (world.commit + 1) (numbered world)).nodes other
+      → (plain_of (created world dir name mode)).nodes other ≡
+      (file_made dir name mode (next_handle world) (world.commit + 1) (numbered world)).nodes other
   nodes_made other =
       nodes_after middle (created world dir name mode) (next_handle world) init begins makes other
-      ∙ ap (λ (node : Option PlainNode). cond (same_handle (next_handle world) other) (stamped (world.commit + 1) (Some (empty_node File mode))) node)
+      ∙ ap (λ (node : Option PlainNode). cond (same_handle (next_handle world) other)
+      (stamped (world.commit + 1) (Some (empty_node File mode))) node)
       (nodes_after world middle dir bind named names other)
 
   made_stands : length world.logs < world.numbers.inodes → world.commit < 2 ^ 62
@@ -207,11 +210,13 @@ module _ (world : WorldValue) (file : Handle) (offset : ℕ) (text : List ℕ) (
   change = option_map (rewritten offset text)
 
   abbrev GivesFrom : List ℕ → Type 0
-  GivesFrom old = Gives (bytes_in (world.data_blocks ++ pages_of old)) world.numbers.block (log ++ entry_of old ∷ []) (change (slot_node world file.ino))
+  GivesFrom old = Gives (bytes_in (world.data_blocks ++ pages_of old)) world.numbers.block (log ++ entry_of old ∷ [])
+      (change (slot_node world file.ino))
 
   -- each page of the run has its block behind those in use
   filled : (old : List ℕ) (place : ℕ) → place < run.len
-      → bytes_in (world.data_blocks ++ pages_of old) (run.start + place) ≡ page_of world.numbers.block (offset / world.numbers.block + place) (written offset text old)
+      → bytes_in (world.data_blocks ++ pages_of old) (run.start + place) ≡ page_of world.numbers.block (offset / world.numbers.block + place)
+      (written offset text old)
   filled old place lt =
       ap (λ (n : ℕ). bytes_in (world.data_blocks ++ pages_of old) (n + place)) start
       ∙ get_or-append-add world.data_blocks (pages_of old) place []
@@ -228,13 +233,15 @@ module _ (world : WorldValue) (file : Handle) (offset : ℕ) (text : List ℕ) (
       let makes = written_makes after world.numbers.block offset text run node w.some_bytes any p.fits (omega (arith, st.length, st.fits))
       (record { count = count; filled = filled node.bytes }) in
       lawful_gives after world.numbers.block log (entry_of node.bytes) (change (slot_node world file.ino)) w.some_bytes before.sound
-      (subst (λ (o : Option NodeCopy). Makes after world.numbers.block (entry_of node.bytes).item o (change (slot_node world file.ino))) (sym (before.is ∙ p.node.is))
+      (subst (λ (o : Option NodeCopy). Makes after world.numbers.block (entry_of node.bytes).item o (change (slot_node world file.ino)))
+      (sym (before.is ∙ p.node.is))
       (subst (λ (o : Option NodeCopy). Makes after world.numbers.block (entry_of node.bytes).item (Some node) (change o)) (sym p.node.is) makes))
 
   abbrev old_bytes : List ℕ
   old_bytes = bytes_at world file.ino
 
-  more_blocks : length (wrote world file offset text run).data_blocks ≡ length world.data_blocks + pages_touched world.numbers.block offset (length text)
+  more_blocks : length (wrote world file offset text run).data_blocks ≡ length world.data_blocks + pages_touched world.numbers.block offset
+      (length text)
   more_blocks = length-append world.data_blocks (pages_of old_bytes)
       ∙ ap (λ (n : ℕ). length world.data_blocks + n) (length-new_pages world.numbers.block offset text (written offset text old_bytes))
 
@@ -254,7 +261,8 @@ module _ (world : WorldValue) (file : Handle) (offset : ℕ) (text : List ℕ) (
   pub wrote_stands : world.commit < 2 ^ 62
       → StandsFor (wrote world file offset text run) (file_written file offset text (world.commit + 1) (numbered world))
   wrote_stands below = record {
-    same = ap (at_nodes (world.commit + 1)) (fun_ext (nodes_after world (wrote world file offset text run) file (entry_of old_bytes) change writes));
+    same = ap (at_nodes (world.commit + 1)) (fun_ext (nodes_after world (wrote world file offset text run) file
+        (entry_of old_bytes) change writes));
     lawful = record {
       some_bytes = w.some_bytes;
       few_blocks = w.few_blocks;

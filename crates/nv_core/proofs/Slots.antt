@@ -39,7 +39,8 @@ node_stamped : (commit : ℕ) (node : Option NodeCopy) → option_map (λ (p : P
 node_stamped commit None = refl
 node_stamped commit (Some node) = refl
 
-pub node_found : (world : WorldValue) (handle : Handle) → (handle.generation == 1) ≡ true → node_in (plain_of world) handle ≡ slot_node world handle.ino
+pub node_found : (world : WorldValue) (handle : Handle) → (handle.generation == 1) ≡ true
+    → node_in (plain_of world) handle ≡ slot_node world handle.ino
 node_found world handle first =
     let commit : ℕ = last_commit (log_at world.logs handle.ino) in
     ap (λ (b : Bool). option_map (λ (p : PlainNode). p.node) (cond b (stamped commit (slot_node world handle.ino)) None)) first
@@ -58,7 +59,8 @@ found world handle kind h = by_generation (handle.generation == 1) refl where
       → handle.ino < length world.logs
   used node e (inl lt) = lt
   used node e (inr past) =
-      let none : None ≡ Some node = sym (ap (node_now (bytes_in world.data_blocks) world.numbers.block) (get_or_past world.logs handle.ino [] past)) ∙ e in
+      let none : None ≡ Some node = sym (ap (node_now (bytes_in world.data_blocks) world.numbers.block)
+      (get_or_past world.logs handle.ino [] past)) ∙ e in
       cc
 
   by_node : (node : Option NodeCopy) → slot_node world handle.ino ≡ node → (handle.generation == 1) ≡ true
@@ -68,10 +70,13 @@ found world handle kind h = by_generation (handle.generation == 1) refl where
 
   by_generation : (b : Bool) → (handle.generation == 1) ≡ b → Found world handle
   by_generation false q =
-      let under : Bool → Option PlainNode = λ b. cond b (stamped (last_commit (log_at world.logs handle.ino)) (slot_node world handle.ino)) None in
-      let none : None ≡ Some kind = sym (ap (λ (b : Bool). option_map (λ (n : NodeCopy). n.kind) (option_map (λ (p : PlainNode). p.node) (under b))) q) ∙ h in
+      let under : Bool → Option PlainNode = λ b. cond b (stamped (last_commit (log_at world.logs handle.ino))
+      (slot_node world handle.ino)) None in
+      let none : None ≡ Some kind = sym (ap (λ (b : Bool). option_map (λ (n : NodeCopy). n.kind)
+      (option_map (λ (p : PlainNode). p.node) (under b))) q) ∙ h in
       cc
-  by_generation true q = by_node (slot_node world handle.ino) refl q (sym (ap (option_map (λ (n : NodeCopy). n.kind)) (node_found world handle q)) ∙ h)
+  by_generation true q = by_node (slot_node world handle.ino) refl q
+      (sym (ap (option_map (λ (n : NodeCopy). n.kind)) (node_found world handle q)) ∙ h)
 
 -- ---- a change of one slot
 
@@ -106,7 +111,8 @@ module _ (old new : WorldValue) (handle : Handle) (e : Entry) (change : Option N
       (same_blocks_give (bytes_in old.data_blocks) (bytes_in new.data_blocks) old.numbers.block (log_at old.logs ino) c.some (c.files ino).sound
       (λ number u. c.kept number ((c.files ino).in_use number u)))
 
-  in_either : (number : ℕ) → Uses old.numbers.block (log_at old.logs handle.ino) number ⊎ IsItemBlock e.item number → number < length new.data_blocks
+  in_either : (number : ℕ) → Uses old.numbers.block (log_at old.logs handle.ino) number ⊎ IsItemBlock e.item number
+      → number < length new.data_blocks
   in_either number (inl u) = let below = (c.files handle.ino).in_use number u in omega (arith, c.grown)
   in_either number (inr h) = c.blocks number h
 
@@ -115,7 +121,11 @@ module _ (old new : WorldValue) (handle : Handle) (e : Entry) (change : Option N
     go : (ino ≡ handle.ino) ⊎ (ino ≡ handle.ino → ⊥) → IsKept old.numbers.block new.data_blocks (log_at new.logs ino)
     go (inl same) =
         subst (IsKept old.numbers.block new.data_blocks) (sym (ap (log_at new.logs) same ∙ c.here))
-        (record { sound = c.gives.sound; in_use = λ number u. in_either number (uses-push old.numbers.block (log_at old.logs handle.ino) e number u) })
+        (record {
+          sound = c.gives.sound;
+          in_use = λ number u. in_either number
+              (uses-push old.numbers.block (log_at old.logs handle.ino) e number u);
+        })
     go (inr apart) = record {
       sound = (other_gives ino apart).sound;
       in_use = λ number u.
@@ -126,12 +136,16 @@ module _ (old new : WorldValue) (handle : Handle) (e : Entry) (change : Option N
   abbrev changed : Option PlainNode
   changed = stamped e.id.commit (change (node_in (plain_of old) handle))
 
-  pub nodes_after : (other : Handle) → node_under old.numbers.block new.logs new.data_blocks other ≡ (changed_at handle e.id.commit change (plain_of old)).nodes other
+  pub nodes_after : (other : Handle)
+      → node_under old.numbers.block new.logs new.data_blocks other ≡ (changed_at handle e.id.commit change (plain_of old)).nodes other
   nodes_after other = go (cases_eq other.ino handle.ino) where
-    go : (other.ino ≡ handle.ino) ⊎ (other.ino ≡ handle.ino → ⊥) → node_under old.numbers.block new.logs new.data_blocks other ≡ cond (same_handle handle other) changed ((plain_of old).nodes other)
+    go : (other.ino ≡ handle.ino) ⊎ (other.ino ≡ handle.ino → ⊥)
+        → node_under old.numbers.block new.logs new.data_blocks other ≡ cond (same_handle handle other) changed ((plain_of old).nodes other)
     go (inl same) =
-        let now : stamped (last_commit (log_at new.logs other.ino)) (node_now (bytes_in new.data_blocks) old.numbers.block (log_at new.logs other.ino)) ≡ changed =
-        ap (λ (log : List Entry). stamped (last_commit log) (node_now (bytes_in new.data_blocks) old.numbers.block log)) (ap (log_at new.logs) same ∙ c.here)
+        let now : stamped (last_commit (log_at new.logs other.ino))
+        (node_now (bytes_in new.data_blocks) old.numbers.block (log_at new.logs other.ino)) ≡ changed =
+        ap (λ (log : List Entry). stamped (last_commit log) (node_now (bytes_in new.data_blocks) old.numbers.block log))
+        (ap (log_at new.logs) same ∙ c.here)
         ∙ ap₂ (λ (n : ℕ) (node : Option NodeCopy). stamped n node) (last_commit-push (log_at old.logs handle.ino) e)
         (c.gives.is ∙ ap change (sym (node_found old handle c.first))) in
         let test : (other.generation == 1) ≡ same_handle handle other =
