@@ -9,9 +9,9 @@ use Rattle.nv_entry.specs.declared.item.Entry.{Entry}
 use Rattle.nv_entry.specs.declared.part.Part.{Part}
 use Rattle.nv_entry.specs.declared.part.PartId.{PartId}
 use Rattle.nv_entry.specs.Counts.{is_kept, is_live, live_of, valid_of}
-use Rattle.nv_entry.specs.Held.{Retention, is_current, is_held, is_named, keeps, with_pending}
+use Rattle.nv_entry.specs.Held.{Retention, is_current, is_held, is_named, keeps}
 use Rattle.nv_entry.specs.Keys.{covers, key_of, parts_of}
-use Rattle.nv_entry.specs.Killing.{NamesKilled, OneMorePairs, dead_at, died_of, kills, pair_after, pairs_after, stays_live}
+use Rattle.nv_entry.specs.Killing.{NamesKilled, OneMorePairs, dead_at, died_of, kills, pair_after, pairs_after, stays_live, with_pending}
 use Rattle.nv_entry.specs.Log.{first_cover, pair_of, pairs, pairs_of}
 use Rattle.nv_entry.proofs.Currents.{any_map, any_same}
 use Rattle.nv_entry.proofs.Values.{first_cover-append}
@@ -105,15 +105,14 @@ one_more_pairs block log e = record {
 
 -- ---- valid, where the killed pairs are named
 
-kept_after : (x : Entry) (p : Part) (r : Retention) (more : List PartId) (epoch : ℕ) (o : Option ℕ) (b : Bool)
-    → is_named more (made x p o) ≡ (is_named r.pending (made x p o) || (is_current (made x p o) && b))
-    → keeps (with_pending more r) (cond (is_current (made x p o) && b) (dead_at epoch (made x p o)) (made x p o))
-    ≡ keeps r (made x p o)
-kept_after x p r more epoch None true h =
-    or_right (is_held r.snapshots (made x p (Some epoch))) (is_named more (made x p None))
+kept_after : (r : Retention) (names : List PartId) (x : Entry) (p : Part) (epoch : ℕ) (o : Option ℕ) (b : Bool)
+    → is_named names (made x p o) ≡ (is_named r.pending (made x p o) || (is_current (made x p o) && b))
+    → keeps (with_pending r names) (cond (is_current (made x p o) && b) (dead_at epoch (made x p o)) (made x p o)) ≡ keeps r (made x p o)
+kept_after r names x p epoch None true h =
+    or_right (is_held r.snapshots (made x p (Some epoch))) (is_named names (made x p None))
     (h ∙ or_right (is_named r.pending (made x p None)) true refl)
-kept_after x p r more epoch None false h = refl
-kept_after x p r more epoch (Some death) b h =
+kept_after r names x p epoch None false h = refl
+kept_after r names x p epoch (Some death) b h =
     ap (λ (k : Bool). is_held r.snapshots (made x p (Some death)) || k) (h ∙ last (is_named r.pending (made x p (Some death)))) where
       last : (k : Bool) → (k || false) ≡ k
       last true = refl
@@ -124,25 +123,24 @@ any_by : {X : Type 0} (P : X → Type 0) (f g : X → Bool) (xs : List X) → Al
 any_by P f g [] h same = refl
 any_by P f g (x ∷ xs) h same = ap (λ b. b || list_any f xs) (same x h.0) ∙ ap (λ b. g x || b) (any_by P f g xs h.1 same)
 
-kept-push : (r : Retention) (more : List PartId) (x : Entry) (later : List Entry) (e : Entry)
-    → AllByRecursion (λ p. is_named more (pair_of r.block x later p) ≡
-    (is_named r.pending (pair_of r.block x later p) || kills r.block e x later p)) (parts_of x.item)
-    → is_kept (with_pending more r) x (later ++ e ∷ []) ≡ is_kept r x later
-kept-push r more x later e h =
-    any_map (pair_of r.block x (later ++ e ∷ [])) (keeps (with_pending more r)) (parts_of x.item)
-    ∙ any_by (λ p. is_named more (pair_of r.block x later p) ≡
-    (is_named r.pending (pair_of r.block x later p) || kills r.block e x later p))
-    (λ p. keeps (with_pending more r) (pair_of r.block x (later ++ e ∷ []) p)) (λ p. keeps r (pair_of r.block x later p))
-    (parts_of x.item) h
-    (λ p k. ap (keeps (with_pending more r)) (pair_of-push r.block x later e p)
-    ∙ kept_after x p r more e.epoch (first_cover r.block later (key_of x.item p)) (covers r.block e.item (key_of x.item p)) k)
+abbrev names_it : Retention → List PartId → Entry → Entry → List Entry → Part → Type 0
+names_it r names e x later p =
+    is_named names (pair_of r.block x later p) ≡ (is_named r.pending (pair_of r.block x later p) || kills r.block e x later p)
+
+kept-push : (r : Retention) (names : List PartId) (x : Entry) (later : List Entry) (e : Entry)
+    → AllByRecursion (names_it r names e x later) (parts_of x.item) → is_kept (with_pending r names) x (later ++ e ∷ []) ≡ is_kept r x later
+kept-push r names x later e h =
+    any_map (pair_of r.block x (later ++ e ∷ [])) (keeps (with_pending r names)) (parts_of x.item)
+    ∙ any_by (names_it r names e x later)
+    (λ p. keeps (with_pending r names) (pair_of r.block x (later ++ e ∷ []) p)) (λ p. keeps r (pair_of r.block x later p)) (parts_of x.item) h
+    (λ p k. ap (keeps (with_pending r names)) (pair_of-push r.block x later e p)
+    ∙ kept_after r names x p e.epoch (first_cover r.block later (key_of x.item p)) (covers r.block e.item (key_of x.item p)) k)
     ∙ sym (any_map (pair_of r.block x later) (keeps r) (parts_of x.item))
 
-pub valid_of-push : (r : Retention) (more : List PartId) (e : Entry) (count : ℕ) (log : List Entry)
-    → NamesKilled r.block r.pending more e log → count ≤ length log
-    → valid_of (with_pending more r) count (log ++ e ∷ []) ≡ valid_of r count log
-valid_of-push r more e zero log h le = refl
-valid_of-push r more e (suc count) [] h le = absurd (omega arith)
-valid_of-push r more e (suc count) (x ∷ later) h le =
-    ap (λ (b : Bool). cond b 1 0 + valid_of (with_pending more r) count (later ++ e ∷ [])) (kept-push r more x later e h.0)
-    ∙ ap (λ n. cond (is_kept r x later) 1 0 + n) (valid_of-push r more e count later h.1 (omega (arith, le)))
+pub valid_of-push : (r : Retention) (names : List PartId) (e : Entry) (count : ℕ) (log : List Entry) → NamesKilled r names e log
+    → count ≤ length log → valid_of (with_pending r names) count (log ++ e ∷ []) ≡ valid_of r count log
+valid_of-push r names e zero log h le = refl
+valid_of-push r names e (suc count) [] h le = absurd (omega arith)
+valid_of-push r names e (suc count) (x ∷ later) h le =
+    ap (λ (b : Bool). cond b 1 0 + valid_of (with_pending r names) count (later ++ e ∷ [])) (kept-push r names x later e h.0)
+    ∙ ap (λ n. cond (is_kept r x later) 1 0 + n) (valid_of-push r names e count later h.1 (omega (arith, le)))

@@ -17,64 +17,7 @@ use Rattle.nv_entry.specs.Laws.{is_present}
 use Rattle.nv_entry.specs.Refs.{IsPlaced, place_in}
 use Rattle.nv_entry.proofs.Hiding.{run_parts, same_name-equal}
 use Rattle.nv_entry.proofs.PartLists.{length-written, page_at}
-
-never_present : (b : Bool) → is_present (cond b Absent Untouched) ≡ true → ⊥
-never_present true h = cc
-never_present false h = cc
-
-if_present : (b : Bool) (value : Datum) → is_present (cond b (Present value) Untouched) ≡ true → b ≡ true
-if_present true value h = refl
-if_present false value h = cc
-
--- the part at the place of a key
-abbrev AtPlace : Item → Key → Type 0
-AtPlace item key = option_map (key_of item) (slice_get (parts_of item) (place_in item key)) ≡ Some key
-
-page_placed : (first : ℕ) (run : Run) (size page : ℕ) → in_run first run page ≡ true → AtPlace (Write first run size) (PageKey page)
-page_placed first run size page h =
-    let p = run_parts first run page h in
-    let same : first + (page - first + 1 - 1) ≡ page = omega (arith, p) in
-    ap (option_map (key_of (Write first run size))) (page_at first run (page - first + 1) (omega arith) (omega (arith, p)))
-    ∙ ap (λ (n : ℕ). Some (PageKey n)) same
-
-at_place : (block : ℕ) (item : Item) (key : Key) → is_present (sets block item key) ≡ true → AtPlace item key
-at_place block (Init kind mode) KindKey h = refl
-at_place block (Init kind mode) ModeKey h = refl
-at_place block (Init kind mode) SizeKey h = refl
-at_place block (Init kind mode) (NameKey name) h = cc
-at_place block (Init kind mode) (PageKey page) h = cc
-at_place block (Write first run size) KindKey h = cc
-at_place block (Write first run size) ModeKey h = cc
-at_place block (Write first run size) SizeKey h = refl
-at_place block (Write first run size) (NameKey name) h = cc
-at_place block (Write first run size) (PageKey page) h =
-    page_placed first run size page (if_present (in_run first run page) (datum.Block (run.start + (page - first))) h)
-at_place block (SetSize size) KindKey h = cc
-at_place block (SetSize size) ModeKey h = cc
-at_place block (SetSize size) SizeKey h = refl
-at_place block (SetSize size) (NameKey name) h = cc
-at_place block (SetSize size) (PageKey page) h = absurd (never_present (is_past block size page) h)
-at_place block (SetMode mode) KindKey h = cc
-at_place block (SetMode mode) ModeKey h = refl
-at_place block (SetMode mode) SizeKey h = cc
-at_place block (SetMode mode) (NameKey name) h = cc
-at_place block (SetMode mode) (PageKey page) h = cc
-at_place block (Bind name to) KindKey h = cc
-at_place block (Bind name to) ModeKey h = cc
-at_place block (Bind name to) SizeKey h = cc
-at_place block (Bind name to) (NameKey other) h =
-    ap (λ (n : List ℕ). Some (NameKey n)) (same_name-equal name other (if_present (same_name name other) (datum.Node to) h))
-at_place block (Bind name to) (PageKey page) h = cc
-at_place block (Unbind name) KindKey h = cc
-at_place block (Unbind name) ModeKey h = cc
-at_place block (Unbind name) SizeKey h = cc
-at_place block (Unbind name) (NameKey other) h = absurd (never_present (same_name name other) h)
-at_place block (Unbind name) (PageKey page) h = cc
-at_place block Gone KindKey h = cc
-at_place block Gone ModeKey h = cc
-at_place block Gone SizeKey h = cc
-at_place block Gone (NameKey name) h = cc
-at_place block Gone (PageKey page) h = absurd (never_present (is_page page) h)
+use Rattle.nv_entry.proofs.PartsSet.{sets_are_parts}
 
 -- the key of a part of a list is at the part's place
 abbrev KeyPlace : Item → ℕ → Part → Type 0
@@ -105,9 +48,6 @@ key_place (Bind name to) (suc n) p h = cc
 key_place (Unbind name) n p h = cc
 key_place Gone n p h = cc
 
-pub placed : (block : ℕ) (item : Item) → IsPlaced block item
-placed block item = record { at = at_place block item; place = key_place item }
-
 -- the part at the place of a key that an item sets to a value
 pub record PartOf (item : Item) (key : Key) : Type 0 where
   pub part : Part
@@ -115,10 +55,17 @@ pub record PartOf (item : Item) (key : Key) : Type 0 where
   pub is_key : key_of item part ≡ key
 
 pub part_of : (block : ℕ) (item : Item) (key : Key) → is_present (sets block item key) ≡ true → PartOf item key
-part_of block item key h = go (slice_get (parts_of item) (place_in item key)) refl (at_place block item key h) where
-  go : (o : Option Part) → slice_get (parts_of item) (place_in item key) ≡ o → option_map (key_of item) o ≡ Some key → PartOf item key
-  go None q h = cc
-  go (Some p) q h = record { part = p; at = q; is_key = same_Some (key_of item p) key h }
+part_of block item key h =
+    let k = sets_are_parts block item key h in
+    let same : place_in item key ≡ k.place = ap (place_in item) (sym k.key_is) ∙ key_place item k.place k.part k.at in
+    record { part = k.part; at = ap (slice_get (parts_of item)) same ∙ k.at; is_key = k.key_is }
+
+at_place : (block : ℕ) (item : Item) (key : Key) → is_present (sets block item key) ≡ true
+    → option_map (key_of item) (slice_get (parts_of item) (place_in item key)) ≡ Some key
+at_place block item key h = let p = part_of block item key h in ap (option_map (key_of item)) p.at ∙ ap (λ k. Some k) p.is_key
+
+pub placed : (block : ℕ) (item : Item) → IsPlaced block item
+placed block item = record { at = at_place block item; place = key_place item }
 
 few_parts : (item : Item) → length (parts_of item) ≤ 65537
 few_parts (Init kind mode) = omega arith

@@ -15,10 +15,6 @@ pub record Retention : Type 0 where
   pub snapshots : List ℕ
   pub pending : List PartId
 
--- the same with other pairs pending
-abbrev pub with_pending : List PartId → Retention → Retention
-with_pending pending r = record { block = r.block; snapshots = r.snapshots; pending = pending }
-
 -- the retention that the code names so
 abbrev pub retention_of : CodeRetention → Retention
 retention_of r = record { block = r.block; snapshots = r.snapshots.now; pending = r.pending.now }

@@ -6,7 +6,7 @@ use Rattle.nv_entry.specs.declared.item.Entry.{Entry}
 use Rattle.nv_entry.specs.declared.part.Part.{Part}
 use Rattle.nv_entry.specs.declared.part.PartId.{PartId}
 use Rattle.nv_entry.specs.Counts.{is_live, live_of}
-use Rattle.nv_entry.specs.Held.{is_current, is_named}
+use Rattle.nv_entry.specs.Held.{Retention, is_current, is_named}
 use Rattle.nv_entry.specs.Keys.{covers, key_of, parts_of}
 use Rattle.nv_entry.specs.Log.{pair_of, pairs, pairs_of}
 
@@ -45,10 +45,14 @@ pub record OneMorePairs (block : ℕ) (log : List Entry) (e : Entry) : Type 0 wh
   pub born : AllByRecursion (λ pair. is_current pair ≡ true) (pairs_of block e [])
   pub live : (count : ℕ) → count ≤ length log → live_of block count (log ++ e ∷ []) + died_of block e count log ≡ live_of block count log
 
--- the names of one list and of the pairs that one more entry kills
-abbrev pub NamesKilled : ℕ → List PartId → List PartId → Entry → List Entry → Type 0
-NamesKilled block named more e [] = Unit {0}
-NamesKilled block named more e (x ∷ later) =
-    AllByRecursion (λ part. is_named more (pair_of block x later part) ≡
-    (is_named named (pair_of block x later part) || kills block e x later part)) (parts_of x.item)
-    × NamesKilled block named more e later
+-- the names of those that are pending and of the pairs that one more entry kills
+abbrev pub NamesKilled : Retention → List PartId → Entry → List Entry → Type 0
+NamesKilled r names e [] = Unit {0}
+NamesKilled r names e (x ∷ later) =
+    AllByRecursion (λ part. is_named names (pair_of r.block x later part)
+    ≡ (is_named r.pending (pair_of r.block x later part) || kills r.block e x later part)) (parts_of x.item)
+    × NamesKilled r names e later
+
+-- the same with other pairs pending
+abbrev pub with_pending : Retention → List PartId → Retention
+with_pending r names = record r { pending = names }

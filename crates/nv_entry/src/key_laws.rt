@@ -6,8 +6,8 @@ ghost use Rattle.std.specs.List.{list_any};
 ghost use Rattle.nv_entry.specs.Clean.{IsDroppable, hides};
 ghost use Rattle.nv_entry.specs.Counts.{is_kept, is_live, valid_of};
 ghost use Rattle.nv_entry.specs.Covered.{OneMoreCovers, UncoveredAreCurrent, any_cover, covered_of, has_uncovered};
-ghost use Rattle.nv_entry.specs.Held.{Retention, with_pending};
-ghost use Rattle.nv_entry.specs.Killing.{NamesKilled, OneMorePairs};
+ghost use Rattle.nv_entry.specs.Killing.{NamesKilled, OneMorePairs, with_pending};
+ghost use Rattle.nv_entry.specs.Held.{Retention};
 ghost use Rattle.nv_entry.specs.Keys.{Key};
 ghost use Rattle.nv_entry.specs.Later.{AreAfter, SameAtEpoch};
 ghost use Rattle.nv_entry.specs.Leaving.{MayAllLeave, MayLeave, KeepsTheRest};
@@ -87,9 +87,9 @@ pub fn pairs_after_one_more()
 
 /// Where the pairs that one more entry kills are named as killed, the entries before it are valid as they were.
 pub fn naming_the_killed_keeps_valid()
-    ensures { (r : Retention) (more : List PartId) (e : Entry) (count : ℕ) (log : List Entry)
-        → NamesKilled r.block r.pending more e log → count ≤ length log
-        → valid_of (with_pending more r) count (log ++ e ∷ []) ≡ valid_of r count log }
+    ensures { (r : Retention) (names : List PartId) (e : Entry) (count : ℕ) (log : List Entry)
+        → NamesKilled r names e log → count ≤ length log
+        → valid_of (with_pending r names) count (log ++ e ∷ []) ≡ valid_of r count log }
 {}
 
 /// Where each entry that goes may leave, what stays of a log has its index, its page sources and its names in
