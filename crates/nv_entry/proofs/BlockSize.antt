@@ -21,7 +21,8 @@ sets_by a b Gone key h = refl
 
 setting_by : (a b : ℕ) (log : List Entry) (key : Key) → is_page_key key ≡ false → last_setting a log key ≡ last_setting b log key
 setting_by a b [] key h = refl
-setting_by a b (e ∷ log) key h = ap (λ s. later_of s (last_setting a log key)) (sets_by a b e.item key h) ∙ ap (later_of (sets b e.item key)) (setting_by a b log key h)
+setting_by a b (e ∷ log) key h =
+    ap (λ s. later_of s (last_setting a log key)) (sets_by a b e.item key h) ∙ ap (later_of (sets b e.item key)) (setting_by a b log key h)
 
 pub value_by : (a b : ℕ) (log : List Entry) (key : Key) → is_page_key key ≡ false → value_now a log key ≡ value_now b log key
 value_by a b log key h = ap value_of (setting_by a b log key h)

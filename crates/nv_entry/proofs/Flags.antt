@@ -33,24 +33,29 @@ select-all (suc n) (x ∷ xs) = ap (λ ys. x ∷ ys) (select-all n xs)
 pub select-gone : (flags : List Bool) (n : ℕ) (log : List Entry) → select (flags ++ replicate n false) log ≡ select flags log
 select-gone flags n log = select-append flags (replicate n false) log ∙ ap (λ ys. select flags log ++ ys) (select-none n (drop (length flags) log)) ∙ append-nil (select flags log)
 
-pub select-stays : (flags : List Bool) (n : ℕ) (log : List Entry) → select (flags ++ replicate n true) log ≡ select flags log ++ take n (drop (length flags) log)
-select-stays flags n log = select-append flags (replicate n true) log ∙ ap (λ ys. select flags log ++ ys) (select-all n (drop (length flags) log))
+pub select-stays : (flags : List Bool) (n : ℕ) (log : List Entry)
+    → select (flags ++ replicate n true) log ≡ select flags log ++ take n (drop (length flags) log)
+select-stays flags n log =
+    select-append flags (replicate n true) log ∙ ap (λ ys. select flags log ++ ys) (select-all n (drop (length flags) log))
 
 -- the head of what is left
 pub rest_is : {A : Type 0} (xs : List A) (i : ℕ) (x : A) → i < length xs → x ≡ get_or xs i x → drop i xs ≡ x ∷ drop (i + 1) xs
 rest_is xs i x lt is = rw add-one (drop-cons xs i x lt ∙ ap (λ y. y ∷ drop (suc i) xs) (sym is))
 
 -- a step over the entries that stay
-pub any-step : (test : Entry → Bool) (flags : List Bool) (log : List Entry) (i : ℕ) (b : Bool) (e : Entry) → i < length flags → i < length log → get_or flags i false ≡ b → e ≡ get_or log i e → (b && test e) ≡ false
+pub any-step : (test : Entry → Bool) (flags : List Bool) (log : List Entry) (i : ℕ) (b : Bool) (e : Entry) → i < length flags
+    → i < length log → get_or flags i false ≡ b → e ≡ get_or log i e → (b && test e) ≡ false
     → list_any test (select (drop (i + 1) flags) (drop (i + 1) log)) ≡ list_any test (select (drop i flags) (drop i log))
 any-step test flags log i b e lt short is at h =
     go b h ∙ sym (ap (λ xs. list_any test (select xs (drop i log))) (rest_is flags i b lt (sym (get_or_default flags i b false lt ∙ is))) ∙ ap (λ xs. list_any test (select (b ∷ drop (i + 1) flags) xs)) (rest_is log i e short at)) where
-      go : (b : Bool) → (b && test e) ≡ false → list_any test (select (drop (i + 1) flags) (drop (i + 1) log)) ≡ list_any test (select (b ∷ drop (i + 1) flags) (e ∷ drop (i + 1) log))
+      go : (b : Bool) → (b && test e) ≡ false
+          → list_any test (select (drop (i + 1) flags) (drop (i + 1) log)) ≡ list_any test (select (b ∷ drop (i + 1) flags) (e ∷ drop (i + 1) log))
       go true q = ap (λ t. t || list_any test (select (drop (i + 1) flags) (drop (i + 1) log))) (sym q)
       go false q = refl
 
 -- a step of the walk by entries
-pub entry_step : (r : Retention) (flags : List Bool) (log : List Entry) (i : ℕ) (e : Entry) (b : Bool) → length flags ≡ i → i < length log → e ≡ get_or log i e
+pub entry_step : (r : Retention) (flags : List Bool) (log : List Entry) (i : ℕ) (e : Entry) (b : Bool) → length flags ≡ i → i < length log
+    → e ≡ get_or log i e
     → b ≡ is_droppable r (select flags log) e (drop (i + 1) log)
     → (flags ++ not b ∷ []) ++ entries_stay r (select (flags ++ not b ∷ []) log) (drop (i + 1) log) ≡ flags ++ entries_stay r (select flags log) (drop i log)
 entry_step r flags log i e b len lt is test =
@@ -59,7 +64,8 @@ entry_step r flags log i e b len lt is test =
       one : select flags log ++ take 1 (drop (length flags) log) ≡ select flags log ++ e ∷ []
       one = ap (λ n. select flags log ++ take 1 (drop n log)) len ∙ ap (λ xs. select flags log ++ take 1 xs) (rest_is log i e lt is)
 
-      go : (b : Bool) → b ≡ is_droppable r (select flags log) e (drop (i + 1) log) → not b ∷ entries_stay r (select (flags ++ not b ∷ []) log) (drop (i + 1) log) ≡ entries_stay r (select flags log) (e ∷ drop (i + 1) log)
+      go : (b : Bool) → b ≡ is_droppable r (select flags log) e (drop (i + 1) log)
+          → not b ∷ entries_stay r (select (flags ++ not b ∷ []) log) (drop (i + 1) log) ≡ entries_stay r (select flags log) (e ∷ drop (i + 1) log)
       go true q = rw (← q) (ap (λ kept. false ∷ entries_stay r kept (drop (i + 1) log)) (select-gone flags 1 log))
       go false q = rw (← q) (ap (λ kept. true ∷ entries_stay r kept (drop (i + 1) log)) (select-stays flags 1 log ∙ one))
 
@@ -99,7 +105,8 @@ count_split : (counts : List ℕ) (i : ℕ) → i < length counts → drop i cou
 count_split counts i lt = rw add-one (drop-cons counts i 0 lt)
 
 pub counts_left : (counts : List ℕ) (i : ℕ) → i < length counts → sum (drop i counts) ≡ get_or counts i 0 + sum (drop (i + 1) counts)
-counts_left counts i lt = ap (λ (xs : List ℕ). sum xs) (count_split counts i lt) ∙ sum_by-cons (λ (x : ℕ). x) (get_or counts i 0) (drop (i + 1) counts)
+counts_left counts i lt =
+    ap (λ (xs : List ℕ). sum xs) (count_split counts i lt) ∙ sum_by-cons (λ (x : ℕ). x) (get_or counts i 0) (drop (i + 1) counts)
 
 -- a step of the walk by pages
 pub page_step : (r : Retention) (flags shown : List Bool) (log : List Entry) (counts : List ℕ) (i : ℕ) (b : Bool) → i < length counts
@@ -119,7 +126,8 @@ page_step r flags shown log counts i b lt total test =
     ∙ ap (λ ys. shown ++ ys) (ap (λ xs. not b ∷ pages_stay r (select (flags ++ replicate count (not b)) log) (pages_by (drop (i + 1) counts) xs)) left
     ∙ go count b (test ∙ ap (page_goes r (select flags log) (take count rest)) (sym later))
     ∙ ap (λ xs. pages_stay r (select flags log) (pages_by xs rest)) (sym split)) where
-      go : (count : ℕ) (b : Bool) → b ≡ page_goes r (select flags log) (take count (drop (length flags) log)) (entries_of (pages_by (drop (i + 1) counts) (drop count (drop (length flags) log))))
+      go : (count : ℕ) (b : Bool)
+          → b ≡ page_goes r (select flags log) (take count (drop (length flags) log)) (entries_of (pages_by (drop (i + 1) counts) (drop count (drop (length flags) log))))
           → not b ∷ pages_stay r (select (flags ++ replicate count (not b)) log) (pages_by (drop (i + 1) counts) (drop count (drop (length flags) log)))
           ≡ pages_stay r (select flags log) (pages_by (count ∷ drop (i + 1) counts) (drop (length flags) log))
       go count true q = rw (← q) (ap (λ kept. false ∷ pages_stay r kept (pages_by (drop (i + 1) counts) (drop count (drop (length flags) log)))) (select-gone flags count log))

@@ -16,7 +16,8 @@ use Rattle.nv_entry.specs.Laws.{IsKeyOfPart, PartsAreSet, PartsRise, SetsArePart
 use Rattle.nv_entry.proofs.Hiding.{run_from, run_parts, same_name-equal, same_name-self}
 use Rattle.nv_entry.proofs.PartLists.{page_at}
 
-pages_set : (block first : ℕ) (run : Run) (size a n : ℕ) → first ≤ a → a + n ≤ min (first + run.len) 65536 → AllByRecursion (λ p. is_present (sets block (Write first run size) (key_of (Write first run size) p)) ≡ true) (map part.Page (range_with_len a n))
+pages_set : (block first : ℕ) (run : Run) (size a n : ℕ) → first ≤ a → a + n ≤ min (first + run.len) 65536
+    → AllByRecursion (λ p. is_present (sets block (Write first run size) (key_of (Write first run size) p)) ≡ true) (map part.Page (range_with_len a n))
 pages_set block first run size a zero low high = tt
 pages_set block first run size a (suc n) low high =
     let inside : in_run first run a ≡ true = run_from first run a low (omega arith) (omega arith) in
@@ -25,7 +26,8 @@ pages_set block first run size a (suc n) low high =
 pub parts_are_set : (block : ℕ) (item : Item) → PartsAreSet block item
 parts_are_set block (Init kind mode) = (refl, (refl, (refl, tt)))
 parts_are_set block (Write first run size) = (refl, go (cases_lt first 65536)) where
-  go : (first < 65536) ⊎ (65536 ≤ first) → AllByRecursion (λ p. is_present (sets block (Write first run size) (key_of (Write first run size) p)) ≡ true) (map part.Page (range_with_len first (min run.len (65536 - first))))
+  go : (first < 65536) ⊎ (65536 ≤ first)
+      → AllByRecursion (λ p. is_present (sets block (Write first run size) (key_of (Write first run size) p)) ≡ true) (map part.Page (range_with_len first (min run.len (65536 - first))))
   go (inl lt) = pages_set block first run size first (min run.len (65536 - first)) (omega arith) (omega arith)
   go (inr le) = let none : min run.len (65536 - first) ≡ 0 = omega arith in rw none tt
 parts_are_set block (SetSize size) = (refl, tt)

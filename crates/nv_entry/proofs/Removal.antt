@@ -25,7 +25,8 @@ pub length-empty : (log : List Entry) → 0 < length log → is_empty log ≡ fa
 length-empty [] h = absurd (omega arith)
 length-empty (e ∷ log) h = refl
 
-pub droppable : (r : Retention) (before : List Entry) (e : Entry) (later : List Entry) → is_droppable r before e later ≡ true → IsDroppable r before e later
+pub droppable : (r : Retention) (before : List Entry) (e : Entry) (later : List Entry) → is_droppable r before e later ≡ true
+    → IsDroppable r before e later
 droppable r before e later h =
     let hidden = list_any (λ (f : Entry). hides r.block e.item f.item) before in
     let p = and_parts (not (is_empty later) && not (is_kept r e later)) (not hidden) h in
@@ -36,19 +37,22 @@ droppable r before e later h =
       hides_nothing = hides_nothing_before r.block e.item before (not-true hidden p.1);
     }
 
-pub droppable_test : (r : Retention) (before : List Entry) (e : Entry) (later : List Entry) → IsDroppable r before e later → is_droppable r before e later ≡ true
+pub droppable_test : (r : Retention) (before : List Entry) (e : Entry) (later : List Entry) → IsDroppable r before e later
+    → is_droppable r before e later ≡ true
 droppable_test r before e later h =
     rw (length-empty later h.not_last) (rw h.unneeded (rw (hides-false_before r.block e.item before h.hides_nothing) refl))
 
 -- ---- now
 
-pub spare_now : (r : Retention) (before : List Entry) (e : Entry) (later : List Entry) → IsDroppable r before e later → Spare r.block before e later
+pub spare_now : (r : Retention) (before : List Entry) (e : Entry) (later : List Entry) → IsDroppable r before e later
+    → Spare r.block before e later
 spare_now r before e later h = record {
   dead = λ key d s. let x = dies r e later h.unneeded key d s in sym (dead_cover r.block later key) ∙ ap (λ (o : Option ℕ). is_some o) x.covered;
   hides_nothing = h.hides_nothing;
 }
 
-pub reads_now : (r : Retention) (before : List Entry) (e : Entry) (later : List Entry) → IsDroppable r before e later → ReadsSame r.block (before ++ e ∷ later) (before ++ later)
+pub reads_now : (r : Retention) (before : List Entry) (e : Entry) (later : List Entry) → IsDroppable r before e later
+    → ReadsSame r.block (before ++ e ∷ later) (before ++ later)
 reads_now r before e later h = spare_reads r.block before e later (spare_now r before e later h)
 
 -- ---- at an epoch
@@ -58,37 +62,48 @@ none_up_to test epoch [] h = refl
 none_up_to test epoch (e ∷ log) h =
     let p = or_false (test e) (list_any test log) h in
     go (nat_le e.epoch epoch) p.0 (none_up_to test epoch log p.1) refl where
-      go : (t : Bool) → test e ≡ false → list_any test (up_to epoch log) ≡ false → nat_le e.epoch epoch ≡ t → list_any test (up_to epoch (e ∷ log)) ≡ false
+      go : (t : Bool) → test e ≡ false → list_any test (up_to epoch log) ≡ false → nat_le e.epoch epoch ≡ t
+          → list_any test (up_to epoch (e ∷ log)) ≡ false
       go true p ih q = rw q (rw p ih)
       go false p ih q = rw q ih
 
 -- a key with a death is covered at the death's epoch too
-covered_at : (block epoch : ℕ) (later : List Entry) (key : Key) (death : ℕ) → first_cover block later key ≡ Some death → death ≤ epoch → covered block (up_to epoch later) key ≡ true
+covered_at : (block epoch : ℕ) (later : List Entry) (key : Key) (death : ℕ) → first_cover block later key ≡ Some death → death ≤ epoch
+    → covered block (up_to epoch later) key ≡ true
 covered_at block epoch [] key death h le = cc
-covered_at block epoch (e ∷ later) key death h le = go (covers block e.item key) (nat_le e.epoch epoch) refl refl (λ k. covered_at block epoch later key death k le) where
-  go : (b t : Bool) → covers block e.item key ≡ b → nat_le e.epoch epoch ≡ t → (first_cover block later key ≡ Some death → covered block (up_to epoch later) key ≡ true) → covered block (up_to epoch (e ∷ later)) key ≡ true
-  go true true q r ih = rw r (rw q refl)
-  go true false q r ih = let k : Some e.epoch ≡ Some death = rw q at h in let same : e.epoch ≡ death = cc in absurd (omega (arith, leb-false e.epoch epoch r))
-  go false true q r ih = let k : first_cover block later key ≡ Some death = rw q at h in rw r (rw q (ih k))
-  go false false q r ih = let k : first_cover block later key ≡ Some death = rw q at h in rw r (ih k)
+covered_at block epoch (e ∷ later) key death h le =
+    go (covers block e.item key) (nat_le e.epoch epoch) refl refl (λ k. covered_at block epoch later key death k le) where
+      go : (b t : Bool) → covers block e.item key ≡ b → nat_le e.epoch epoch ≡ t
+          → (first_cover block later key ≡ Some death → covered block (up_to epoch later) key ≡ true)
+          → covered block (up_to epoch (e ∷ later)) key ≡ true
+      go true true q r ih = rw r (rw q refl)
+      go true false q r ih =
+          let k : Some e.epoch ≡ Some death = rw q at h in let same : e.epoch ≡ death = cc in absurd (omega (arith, leb-false e.epoch epoch r))
+      go false true q r ih = let k : first_cover block later key ≡ Some death = rw q at h in rw r (rw q (ih k))
+      go false false q r ih = let k : first_cover block later key ≡ Some death = rw q at h in rw r (ih k)
 
-spare_at : (r : Retention) (epoch : ℕ) (before : List Entry) (e : Entry) (later : List Entry) → list_any (holds epoch) (pairs_of r.block e later) ≡ false → nat_le e.epoch epoch ≡ true → IsDroppable r before e later
+spare_at : (r : Retention) (epoch : ℕ) (before : List Entry) (e : Entry) (later : List Entry)
+    → list_any (holds epoch) (pairs_of r.block e later) ≡ false → nat_le e.epoch epoch ≡ true → IsDroppable r before e later
     → Spare r.block (up_to epoch before) e (up_to epoch later)
 spare_at r epoch before e later unspanned born h = record {
-  dead = λ key d s. let x = dies_by r.block epoch e later unspanned born key d s in covered_at r.block epoch later key x.death x.covered x.by;
+  dead =
+      λ key d s. let x = dies_by r.block epoch e later unspanned born key d s in covered_at r.block epoch later key x.death x.covered x.by;
   hides_nothing = λ key a. none_up_to (λ (f : Entry). covers r.block f.item key) epoch before (h.hides_nothing key a);
 }
 
 same_logs : (block : ℕ) (a b c d : List Entry) → a ≡ b → c ≡ d → ReadsSame block b d → ReadsSame block a c
-same_logs block a b c d p q h = subst (λ (xs : List Entry). ReadsSame block xs c) (sym p) (subst (λ (xs : List Entry). ReadsSame block b xs) (sym q) h)
+same_logs block a b c d p q h =
+    subst (λ (xs : List Entry). ReadsSame block xs c) (sym p) (subst (λ (xs : List Entry). ReadsSame block b xs) (sym q) h)
 
-pub reads_at : (r : Retention) (epoch : ℕ) (before : List Entry) (e : Entry) (later : List Entry) → list_any (holds epoch) (pairs_of r.block e later) ≡ false → IsDroppable r before e later
+pub reads_at : (r : Retention) (epoch : ℕ) (before : List Entry) (e : Entry) (later : List Entry)
+    → list_any (holds epoch) (pairs_of r.block e later) ≡ false → IsDroppable r before e later
     → ReadsSameAt r.block epoch (before ++ e ∷ later) (before ++ later)
 reads_at r epoch before e later unspanned h =
     same_logs r.block (up_to epoch (before ++ e ∷ later)) (up_to epoch before ++ up_to epoch (e ∷ later)) (up_to epoch (before ++ later)) (up_to epoch before ++ up_to epoch later)
     (filter-append (λ (x : Entry). nat_le x.epoch epoch) before (e ∷ later))
     (filter-append (λ (x : Entry). nat_le x.epoch epoch) before later)
     (go (nat_le e.epoch epoch) refl) where
-      go : (t : Bool) → nat_le e.epoch epoch ≡ t → ReadsSame r.block (up_to epoch before ++ up_to epoch (e ∷ later)) (up_to epoch before ++ up_to epoch later)
+      go : (t : Bool) → nat_le e.epoch epoch ≡ t
+          → ReadsSame r.block (up_to epoch before ++ up_to epoch (e ∷ later)) (up_to epoch before ++ up_to epoch later)
       go true q = rw q (spare_reads r.block (up_to epoch before) e (up_to epoch later) (spare_at r epoch before e later unspanned q h))
       go false q = rw q (reads_refl r.block (up_to epoch before ++ up_to epoch later))

@@ -39,19 +39,22 @@ abbrev pub Moved : List ℕ → Option ℕ → Option ℕ → Type 0
 Moved snapshots old new = (new ≡ old) ⊎ Later snapshots old new
 
 -- a death among entries is no earlier than the epoch that all of them have reached
-pub no_earlier : (block epoch : ℕ) (later : List Entry) (key : Key) (death : ℕ) → AllByRecursion (λ (f : Entry). epoch ≤ f.epoch) later → first_cover block later key ≡ Some death → epoch ≤ death
+pub no_earlier : (block epoch : ℕ) (later : List Entry) (key : Key) (death : ℕ) → AllByRecursion (λ (f : Entry). epoch ≤ f.epoch) later
+    → first_cover block later key ≡ Some death → epoch ≤ death
 no_earlier block epoch [] key death all h = cc
 no_earlier block epoch (e ∷ later) key death all h = go (covers block e.item key) refl (no_earlier block epoch later key death all.1) where
   go : (b : Bool) → covers block e.item key ≡ b → (first_cover block later key ≡ Some death → epoch ≤ death) → epoch ≤ death
   go true q ih = let k : Some e.epoch ≡ Some death = rw q at h in let same : e.epoch ≡ death = cc in omega (arith, all.0)
   go false q ih = let k : first_cover block later key ≡ Some death = rw q at h in ih k
 
-pub epochs_of : (e : Entry) (later : List Entry) → AllByRecursion (MayFollow e) later → AllByRecursion (λ (f : Entry). e.epoch ≤ f.epoch) later
+pub epochs_of : (e : Entry) (later : List Entry) → AllByRecursion (MayFollow e) later
+    → AllByRecursion (λ (f : Entry). e.epoch ≤ f.epoch) later
 epochs_of e [] h = tt
 epochs_of e (f ∷ later) h = (h.0.epoch_stays, epochs_of e later h.1)
 
 -- the death of a key behind the entry that goes, where no entry between covers it
-moved_behind : (r : Retention) (front : List Entry) (x : Entry) (mid : List Entry) (e : Entry) (later : List Entry) (key : Key) → IsDroppable r (front ++ x ∷ mid) e later → AllByRecursion (MayFollow e) later → covers r.block x.item key ≡ true
+moved_behind : (r : Retention) (front : List Entry) (x : Entry) (mid : List Entry) (e : Entry) (later : List Entry) (key : Key)
+    → IsDroppable r (front ++ x ∷ mid) e later → AllByRecursion (MayFollow e) later → covers r.block x.item key ≡ true
     → Moved r.snapshots (first_cover r.block (e ∷ later) key) (first_cover r.block later key)
 moved_behind r front x mid e later key h follow own = go (sets r.block e.item key) refl where
   go : (s : Setting) → sets r.block e.item key ≡ s → Moved r.snapshots (first_cover r.block (e ∷ later) key) (first_cover r.block later key)
@@ -75,11 +78,13 @@ moved_behind r front x mid e later key h follow own = go (sets r.block e.item ke
         unheld = x.unheld;
       })
 
-moved : (r : Retention) (front : List Entry) (x : Entry) (mid : List Entry) (e : Entry) (later : List Entry) (key : Key) → IsDroppable r (front ++ x ∷ mid) e later → AllByRecursion (MayFollow e) later → covers r.block x.item key ≡ true
+moved : (r : Retention) (front : List Entry) (x : Entry) (mid : List Entry) (e : Entry) (later : List Entry) (key : Key)
+    → IsDroppable r (front ++ x ∷ mid) e later → AllByRecursion (MayFollow e) later → covers r.block x.item key ≡ true
     → Moved r.snapshots (first_cover r.block (mid ++ e ∷ later) key) (first_cover r.block (mid ++ later) key)
 moved r front x mid e later key h follow own =
     rw (first_cover-append r.block mid (e ∷ later) key, first_cover-append r.block mid later key) (go (first_cover r.block mid key) (moved_behind r front x mid e later key h follow own)) where
-      go : (o : Option ℕ) → Moved r.snapshots (first_cover r.block (e ∷ later) key) (first_cover r.block later key) → Moved r.snapshots (option_or o (first_cover r.block (e ∷ later) key)) (option_or o (first_cover r.block later key))
+      go : (o : Option ℕ) → Moved r.snapshots (first_cover r.block (e ∷ later) key) (first_cover r.block later key)
+          → Moved r.snapshots (option_or o (first_cover r.block (e ∷ later) key)) (option_or o (first_cover r.block later key))
       go None m = m
       go (Some d) m = inl refl
 
@@ -91,7 +96,8 @@ pub record Steady (r : Retention) (test : Pair → Bool) : Type 0 where
   pub stays : (x : Entry) (p : Part) (old new : Option ℕ) → Moved r.snapshots old new
       → test (record { entry = x.id; part = p; birth = x.epoch; death = new }) ≡ test (record { entry = x.id; part = p; birth = x.epoch; death = old })
 
-needed_false : (r : Retention) (pair : Pair) → keeps r pair ≡ false → (is_current pair ≡ false) × (is_held r.snapshots pair ≡ false) × (is_named r.pending pair ≡ false)
+needed_false : (r : Retention) (pair : Pair) → keeps r pair ≡ false
+    → (is_current pair ≡ false) × (is_held r.snapshots pair ≡ false) × (is_named r.pending pair ≡ false)
 needed_false r pair h =
     let p = or_false (is_needed r.snapshots pair) (is_named r.pending pair) h in
     let q = or_false (is_current pair) (is_held r.snapshots pair) p.0 in
@@ -108,15 +114,18 @@ pub steady_pending : (r : Retention) → Steady r (is_named r.pending)
 steady_pending r = record { fails = λ pair h. (needed_false r pair h).2; stays = λ x p old new m. refl }
 
 -- of a snapshot that is not between two deaths
-same_side : (birth s from to : ℕ) → from ≤ to → (nat_le from s && nat_lt s to) ≡ false → (nat_le birth s && nat_lt s to) ≡ (nat_le birth s && nat_lt s from)
+same_side : (birth s from to : ℕ) → from ≤ to → (nat_le from s && nat_lt s to) ≡ false
+    → (nat_le birth s && nat_lt s to) ≡ (nat_le birth s && nat_lt s from)
 same_side birth s from to rises out = ap (λ b. nat_le birth s && b) (go (nat_lt s from) (nat_lt s to) refl refl) where
   go : (a b : Bool) → nat_lt s from ≡ a → nat_lt s to ≡ b → nat_lt s to ≡ nat_lt s from
   go true true p q = q ∙ sym p
   go false false p q = q ∙ sym p
   go true false p q = absurd (omega (arith, ltb-true s from p, ltb-false s to q, rises))
-  go false true p q = clash (nat_le from s && nat_lt s to) (and_from (nat_le from s) (nat_lt s to) (le-leb from s (ltb-false s from p)) q) out
+  go false true p q =
+      clash (nat_le from s && nat_lt s to) (and_from (nat_le from s) (nat_lt s to) (le-leb from s (ltb-false s from p)) q) out
 
-pub holds_stays : (snapshots : List ℕ) (s : ℕ) (x : Entry) (p : Part) (old new : Option ℕ) → ((from to : ℕ) → is_held_between snapshots from to ≡ false → (nat_le from s && nat_lt s to) ≡ false) → Moved snapshots old new
+pub holds_stays : (snapshots : List ℕ) (s : ℕ) (x : Entry) (p : Part) (old new : Option ℕ)
+    → ((from to : ℕ) → is_held_between snapshots from to ≡ false → (nat_le from s && nat_lt s to) ≡ false) → Moved snapshots old new
     → holds s (record { entry = x.id; part = p; birth = x.epoch; death = new }) ≡ holds s (record { entry = x.id; part = p; birth = x.epoch; death = old })
 holds_stays snapshots s x p old new out (inl same) = rw same refl
 holds_stays snapshots s x p old new out (inr m) = rw (m.was, m.is) (same_side x.epoch s m.from m.to m.rises (out m.from m.to m.unheld))
@@ -132,7 +141,8 @@ steady_held r s l = record {
   stays = λ x p old new m. holds_stays r.snapshots s x p old new l.out m;
 }
 
-all_living : (r : Retention) (snapshots : List ℕ) → ((pair : Pair) → is_held r.snapshots pair ≡ false → is_held snapshots pair ≡ false) → ((from to : ℕ) → is_held_between r.snapshots from to ≡ false → is_held_between snapshots from to ≡ false)
+all_living : (r : Retention) (snapshots : List ℕ) → ((pair : Pair) → is_held r.snapshots pair ≡ false → is_held snapshots pair ≡ false)
+    → ((from to : ℕ) → is_held_between r.snapshots from to ≡ false → is_held_between snapshots from to ≡ false)
     → AllByRecursion (Living r) snapshots
 all_living r [] f g = tt
 all_living r (s ∷ snapshots) f g = (
@@ -157,15 +167,17 @@ none_pass r test steady (x ∷ xs) h =
     rw (steady.fails x p.0) (none_pass r test steady xs p.1)
 
 -- the pairs of an entry, where those behind it change and the test does not see it
-same_pairs : (test : Pair → Bool) (block : ℕ) (x : Entry) (olds news : List Entry) (parts : List Part) → AllByRecursion (λ p. test (pair_of block x news p) ≡ test (pair_of block x olds p)) parts
+same_pairs : (test : Pair → Bool) (block : ℕ) (x : Entry) (olds news : List Entry) (parts : List Part)
+    → AllByRecursion (λ p. test (pair_of block x news p) ≡ test (pair_of block x olds p)) parts
     → map pair_name (filter test (map (pair_of block x news) parts)) ≡ map pair_name (filter test (map (pair_of block x olds) parts))
 same_pairs test block x olds news [] h = refl
-same_pairs test block x olds news (p ∷ parts) h = go (test (pair_of block x olds p)) refl (same_pairs test block x olds news parts h.1) where
-  go : (b : Bool) → test (pair_of block x olds p) ≡ b
-      → map pair_name (filter test (map (pair_of block x news) parts)) ≡ map pair_name (filter test (map (pair_of block x olds) parts))
-      → map pair_name (filter test (map (pair_of block x news) (p ∷ parts))) ≡ map pair_name (filter test (map (pair_of block x olds) (p ∷ parts)))
-  go true q ih = rw (h.0 ∙ q, q) (ap (λ (names : List PartId). (record { entry = x.id; part = p }) ∷ names) ih)
-  go false q ih = rw (h.0 ∙ q, q) ih
+same_pairs test block x olds news (p ∷ parts) h =
+    go (test (pair_of block x olds p)) refl (same_pairs test block x olds news parts h.1) where
+      go : (b : Bool) → test (pair_of block x olds p) ≡ b
+          → map pair_name (filter test (map (pair_of block x news) parts)) ≡ map pair_name (filter test (map (pair_of block x olds) parts))
+          → map pair_name (filter test (map (pair_of block x news) (p ∷ parts))) ≡ map pair_name (filter test (map (pair_of block x olds) (p ∷ parts)))
+      go true q ih = rw (h.0 ∙ q, q) (ap (λ (names : List PartId). (record { entry = x.id; part = p }) ∷ names) ih)
+      go false q ih = rw (h.0 ∙ q, q) ih
 
 present_covers : (block : ℕ) (x : Entry) (key : Key) → is_present (sets block x.item key) ≡ true → covers block x.item key ≡ true
 present_covers block x key h = go (sets block x.item key) refl where
@@ -174,7 +186,9 @@ present_covers block x key h = go (sets block x.item key) refl where
   go Absent q = rw q refl
   go (Present d) q = rw q refl
 
-parts_stay : (r : Retention) (test : Pair → Bool) → Steady r test → (front : List Entry) (x : Entry) (mid : List Entry) (e : Entry) (later : List Entry) → IsDroppable r (front ++ x ∷ mid) e later → AllByRecursion (MayFollow e) later
+parts_stay : (r : Retention) (test : Pair → Bool) → Steady r test
+    → (front : List Entry) (x : Entry) (mid : List Entry) (e : Entry) (later : List Entry) → IsDroppable r (front ++ x ∷ mid) e later
+    → AllByRecursion (MayFollow e) later
     → (parts : List Part) → AllByRecursion (λ p. is_present (sets r.block x.item (key_of x.item p)) ≡ true) parts
     → AllByRecursion (λ p. test (pair_of r.block x (mid ++ later) p) ≡ test (pair_of r.block x (mid ++ e ∷ later) p)) parts
 parts_stay r test steady front x mid e later h follow [] set = tt
@@ -184,12 +198,14 @@ parts_stay r test steady front x mid e later h follow (p ∷ parts) set = (
   parts_stay r test steady front x mid e later h follow parts set.1,
 )
 
-where-cons : (test : Pair → Bool) (block : ℕ) (x : Entry) (log : List Entry) → pairs_where test block (x ∷ log) ≡ map pair_name (filter test (pairs_of block x log)) ++ pairs_where test block log
+where-cons : (test : Pair → Bool) (block : ℕ) (x : Entry) (log : List Entry)
+    → pairs_where test block (x ∷ log) ≡ map pair_name (filter test (pairs_of block x log)) ++ pairs_where test block log
 where-cons test block x log =
     ap (map pair_name) (filter-append test (pairs_of block x log) (pairs block log))
     ∙ map-append pair_name (filter test (pairs_of block x log)) (filter test (pairs block log))
 
-where_along : (r : Retention) (test : Pair → Bool) → Steady r test → (front rest before : List Entry) (e : Entry) (later : List Entry) → before ≡ front ++ rest → AllByRecursion (MayFollow e) later → IsDroppable r before e later
+where_along : (r : Retention) (test : Pair → Bool) → Steady r test → (front rest before : List Entry) (e : Entry) (later : List Entry)
+    → before ≡ front ++ rest → AllByRecursion (MayFollow e) later → IsDroppable r before e later
     → pairs_where test r.block (rest ++ later) ≡ pairs_where test r.block (rest ++ e ∷ later)
 where_along r test steady front [] before e later q follow h =
     sym (where-cons test r.block e later ∙ ap (λ xs. map pair_name xs ++ pairs_where test r.block later) (none_pass r test steady (pairs_of r.block e later) h.unneeded))
@@ -202,6 +218,7 @@ where_along r test steady front (x ∷ mid) before e later q follow h =
     ∙ ap (λ xs. map pair_name (filter test (pairs_of r.block x (mid ++ e ∷ later))) ++ xs) ih
     ∙ sym (where-cons test r.block x (mid ++ e ∷ later))
 
-pub pairs_stay : (r : Retention) (test : Pair → Bool) → Steady r test → (before : List Entry) (e : Entry) (later : List Entry) → AllByRecursion (MayFollow e) later → IsDroppable r before e later
+pub pairs_stay : (r : Retention) (test : Pair → Bool) → Steady r test → (before : List Entry) (e : Entry) (later : List Entry)
+    → AllByRecursion (MayFollow e) later → IsDroppable r before e later
     → pairs_where test r.block (before ++ later) ≡ pairs_where test r.block (before ++ e ∷ later)
 pairs_stay r test steady before e later follow h = where_along r test steady [] before before e later refl follow h

@@ -33,9 +33,11 @@ Along fact (e ∷ later) = fact e later × Along fact later
 record Lasts (r : Retention) (R : List Entry → List Entry → Type 0) (fact : Entry → List Entry → Type 0) : Type 0 where
   none : (log : List Entry) → R log log
   chain : (a b c : List Entry) → R a b → R b c → R a c
-  step : (before : List Entry) (e : Entry) (later : List Entry) → fact e later → IsDroppable r before e later → R (before ++ e ∷ later) (before ++ later)
+  step : (before : List Entry) (e : Entry) (later : List Entry) → fact e later → IsDroppable r before e later
+      → R (before ++ e ∷ later) (before ++ later)
 
-walk_lasts : (r : Retention) (R : List Entry → List Entry → Type 0) (fact : Entry → List Entry → Type 0) → Lasts r R fact → (kept log : List Entry) → Along fact log → R (kept ++ log) (kept ++ walk r kept log)
+walk_lasts : (r : Retention) (R : List Entry → List Entry → Type 0) (fact : Entry → List Entry → Type 0) → Lasts r R fact
+    → (kept log : List Entry) → Along fact log → R (kept ++ log) (kept ++ walk r kept log)
 walk_lasts r R fact l kept [] known = l.none (kept ++ [])
 walk_lasts r R fact l kept (e ∷ later) known =
     go (is_droppable r kept e later) refl (walk_lasts r R fact l kept later known.1) (walk_lasts r R fact l (kept ++ e ∷ []) later known.1) where
@@ -48,7 +50,9 @@ walk_lasts r R fact l kept (e ∷ later) known =
           subst (λ (xs : List Entry). R xs (kept ++ e ∷ walk r (kept ++ e ∷ []) later)) (append_assoc kept (e ∷ []) later)
           (subst (λ (xs : List Entry). R ((kept ++ e ∷ []) ++ later) xs) (append_assoc kept (e ∷ []) (walk r (kept ++ e ∷ []) later)) keeps))
 
-page_lasts : (r : Retention) (R : List Entry → List Entry → Type 0) (fact : Entry → List Entry → Type 0) → Lasts r R fact → (kept page later : List Entry) → Along fact (page ++ later) → all_go r kept page later ≡ true → R (kept ++ (page ++ later)) (kept ++ later)
+page_lasts : (r : Retention) (R : List Entry → List Entry → Type 0) (fact : Entry → List Entry → Type 0) → Lasts r R fact
+    → (kept page later : List Entry) → Along fact (page ++ later) → all_go r kept page later ≡ true
+    → R (kept ++ (page ++ later)) (kept ++ later)
 page_lasts r R fact l kept [] later known h = l.none (kept ++ later)
 page_lasts r R fact l kept (e ∷ page) later known h =
     let p = and_parts (is_droppable r kept e (page ++ later)) (all_go r kept page later) h in
@@ -60,7 +64,9 @@ along_behind : (fact : Entry → List Entry → Type 0) (page later : List Entry
 along_behind fact [] later known = known
 along_behind fact (e ∷ page) later known = along_behind fact page later known.1
 
-pages_last : (r : Retention) (R : List Entry → List Entry → Type 0) (fact : Entry → List Entry → Type 0) → Lasts r R fact → (kept : List Entry) (pages : List (List Entry)) → Along fact (entries_of pages) → R (kept ++ entries_of pages) (kept ++ entries_of (page_walk r kept pages))
+pages_last : (r : Retention) (R : List Entry → List Entry → Type 0) (fact : Entry → List Entry → Type 0) → Lasts r R fact
+    → (kept : List Entry) (pages : List (List Entry)) → Along fact (entries_of pages)
+    → R (kept ++ entries_of pages) (kept ++ entries_of (page_walk r kept pages))
 pages_last r R fact l kept [] known = l.none (kept ++ [])
 pages_last r R fact l kept (page ∷ pages) known =
     let behind = along_behind fact page (entries_of pages) known in
@@ -86,7 +92,8 @@ lasts_now r = record { none = reads_refl r.block; chain = reads_chain r.block; s
 abbrev SpansKept : Retention → ℕ → Entry → List Entry → Type 0
 SpansKept r epoch e later = AllByRecursion (λ pair. holds epoch pair ≡ true → keeps r pair ≡ true) (pairs_of r.block e later)
 
-unspanned : (r : Retention) (epoch : ℕ) (xs : List Pair) → AllByRecursion (λ pair. holds epoch pair ≡ true → keeps r pair ≡ true) xs → list_any (keeps r) xs ≡ false → list_any (holds epoch) xs ≡ false
+unspanned : (r : Retention) (epoch : ℕ) (xs : List Pair) → AllByRecursion (λ pair. holds epoch pair ≡ true → keeps r pair ≡ true) xs
+    → list_any (keeps r) xs ≡ false → list_any (holds epoch) xs ≡ false
 unspanned r epoch [] all h = refl
 unspanned r epoch (x ∷ xs) all h =
     let p = or_false (keeps r x) (list_any (keeps r) xs) h in
@@ -102,7 +109,8 @@ lasts_at r epoch = record {
   step = λ before e later known h. reads_at r epoch before e later (unspanned r epoch (pairs_of r.block e later) known h.unneeded) h;
 }
 
-lasts_pairs : (r : Retention) (test : Pair → Bool) → Steady r test → Lasts r (λ old new. pairs_where test r.block new ≡ pairs_where test r.block old) (λ e later. AllByRecursion (MayFollow e) later)
+lasts_pairs : (r : Retention) (test : Pair → Bool) → Steady r test
+    → Lasts r (λ old new. pairs_where test r.block new ≡ pairs_where test r.block old) (λ e later. AllByRecursion (MayFollow e) later)
 lasts_pairs r test steady = record {
   none = λ log. refl;
   chain = λ a b c p q. q ∙ p;
@@ -147,7 +155,8 @@ all_pairs : (P : Pair → Type 0) → ((pair : Pair) → P pair) → (xs : List 
 all_pairs P f [] = tt
 all_pairs P f (x ∷ xs) = (f x, all_pairs P f xs)
 
-each_living : (r : Retention) (P : ℕ → Type 0) → ((s : ℕ) → Living r s → P s) → (snapshots : List ℕ) → AllByRecursion (Living r) snapshots → AllByRecursion P snapshots
+each_living : (r : Retention) (P : ℕ → Type 0) → ((s : ℕ) → Living r s → P s) → (snapshots : List ℕ) → AllByRecursion (Living r) snapshots
+    → AllByRecursion P snapshots
 each_living r P f [] all = tt
 each_living r P f (s ∷ snapshots) all = (f s all.0, each_living r P f snapshots all.1)
 
@@ -174,11 +183,14 @@ keeps_reads r old new out l =
 pub thorough_keeps : (r : Retention) (log : List Entry) → IsLog log → KeepsReads r log (kept_of r log)
 thorough_keeps r log l = keeps_reads r log (kept_of r log) (λ R fact lasts known. walk_lasts r R fact lasts [] log known) l
 
-pub fast_keeps : (r : Retention) (pages : List (List Entry)) → IsLog (entries_of pages) → KeepsReads r (entries_of pages) (entries_of (pages_left r pages))
-fast_keeps r pages l = keeps_reads r (entries_of pages) (entries_of (pages_left r pages)) (λ R fact lasts known. pages_last r R fact lasts [] pages known) l
+pub fast_keeps : (r : Retention) (pages : List (List Entry)) → IsLog (entries_of pages)
+    → KeepsReads r (entries_of pages) (entries_of (pages_left r pages))
+fast_keeps r pages l =
+    keeps_reads r (entries_of pages) (entries_of (pages_left r pages)) (λ R fact lasts known. pages_last r R fact lasts [] pages known) l
 
 -- one removal
-pub removal_keeps : (r : Retention) (before : List Entry) (e : Entry) (later : List Entry) → IsLog (before ++ e ∷ later) → IsDroppable r before e later → KeepsReads r (before ++ e ∷ later) (before ++ later)
+pub removal_keeps : (r : Retention) (before : List Entry) (e : Entry) (later : List Entry) → IsLog (before ++ e ∷ later)
+    → IsDroppable r before e later → KeepsReads r (before ++ e ∷ later) (before ++ later)
 removal_keeps r before e later l h =
     keeps_reads r (before ++ e ∷ later) (before ++ later)
     (λ R fact lasts known. lasts.step before e later (along_behind fact before (e ∷ later) known).0 h) l
@@ -188,7 +200,8 @@ removal_keeps r before e later l h =
 pub goes : (r : Retention) (kept log : List Entry) → GoIfDroppable r kept log (entries_stay r kept log)
 goes r kept [] = tt
 goes r kept (e ∷ later) = go (is_droppable r kept e later) refl (goes r kept later) (goes r (kept ++ e ∷ []) later) where
-  go : (b : Bool) → is_droppable r kept e later ≡ b → GoIfDroppable r kept later (entries_stay r kept later) → GoIfDroppable r (kept ++ e ∷ []) later (entries_stay r (kept ++ e ∷ []) later)
+  go : (b : Bool) → is_droppable r kept e later ≡ b → GoIfDroppable r kept later (entries_stay r kept later)
+      → GoIfDroppable r (kept ++ e ∷ []) later (entries_stay r (kept ++ e ∷ []) later)
       → GoIfDroppable r kept (e ∷ later) (entries_stay r kept (e ∷ later))
   go true q drops keeps = rw q (droppable r kept e later q, drops)
   go false q drops keeps = rw q ((λ h. clash (is_droppable r kept e later) (droppable_test r kept e later h) q), keeps)
@@ -216,11 +229,14 @@ page_goes-test r kept page later h = and_from (not (is_empty page)) (all_go r ke
 
 pub pages_go : (r : Retention) (kept : List Entry) (pages : List (List Entry)) → GoIfPageDroppable r kept pages (pages_stay r kept pages)
 pages_go r kept [] = tt
-pages_go r kept (page ∷ pages) = go (page_goes r kept page (entries_of pages)) refl (pages_go r kept pages) (pages_go r (kept ++ page) pages) where
-  go : (b : Bool) → page_goes r kept page (entries_of pages) ≡ b → GoIfPageDroppable r kept pages (pages_stay r kept pages) → GoIfPageDroppable r (kept ++ page) pages (pages_stay r (kept ++ page) pages)
-      → GoIfPageDroppable r kept (page ∷ pages) (pages_stay r kept (page ∷ pages))
-  go true q drops keeps = rw q (page_droppable r kept page (entries_of pages) q, drops)
-  go false q drops keeps = rw q ((λ h. clash (page_goes r kept page (entries_of pages)) (page_goes-test r kept page (entries_of pages) h) q), keeps)
+pages_go r kept (page ∷ pages) =
+    go (page_goes r kept page (entries_of pages)) refl (pages_go r kept pages) (pages_go r (kept ++ page) pages) where
+      go : (b : Bool) → page_goes r kept page (entries_of pages) ≡ b → GoIfPageDroppable r kept pages (pages_stay r kept pages)
+          → GoIfPageDroppable r (kept ++ page) pages (pages_stay r (kept ++ page) pages)
+          → GoIfPageDroppable r kept (page ∷ pages) (pages_stay r kept (page ∷ pages))
+      go true q drops keeps = rw q (page_droppable r kept page (entries_of pages) q, drops)
+      go false q drops keeps =
+          rw q ((λ h. clash (page_goes r kept page (entries_of pages)) (page_goes-test r kept page (entries_of pages) h) q), keeps)
 
 -- ---- nothing droppable is left
 
@@ -230,7 +246,8 @@ walk-length r kept [] h = absurd (omega arith)
 walk-length r kept (e ∷ later) h = omega arith
 
 -- a death among the entries that a walk leaves is no earlier than the epochs of all entries
-walk_no_earlier : (r : Retention) (kept log : List Entry) (epoch : ℕ) (key : Key) (death : ℕ) → AllByRecursion (λ (f : Entry). epoch ≤ f.epoch) log → first_cover r.block (walk r kept log) key ≡ Some death → epoch ≤ death
+walk_no_earlier : (r : Retention) (kept log : List Entry) (epoch : ℕ) (key : Key) (death : ℕ)
+    → AllByRecursion (λ (f : Entry). epoch ≤ f.epoch) log → first_cover r.block (walk r kept log) key ≡ Some death → epoch ≤ death
 walk_no_earlier r kept [] epoch key death all h = cc
 walk_no_earlier r kept (e ∷ later) epoch key death all h =
     go (is_droppable r kept e later) (covers r.block e.item key) refl refl
@@ -252,13 +269,15 @@ walk_no_earlier r kept (e ∷ later) epoch key death all h =
 abbrev DiedBy : ℕ → List Entry → Key → ℕ → Type 0
 DiedBy block log key death = (d : ℕ) × (first_cover block log key ≡ Some d) × (d ≤ death)
 
-died_more : (block : ℕ) (e : Entry) (later : List Entry) (key : Key) (death : ℕ) → (covers block e.item key ≡ true → e.epoch ≤ death) → DiedBy block later key death → DiedBy block (e ∷ later) key death
+died_more : (block : ℕ) (e : Entry) (later : List Entry) (key : Key) (death : ℕ) → (covers block e.item key ≡ true → e.epoch ≤ death)
+    → DiedBy block later key death → DiedBy block (e ∷ later) key death
 died_more block e later key death first x = go (covers block e.item key) refl where
   go : (c : Bool) → covers block e.item key ≡ c → DiedBy block (e ∷ later) key death
   go true w = (e.epoch, rw w refl, first w)
   go false w = (x.0, rw w x.1, x.2)
 
-walk_died : (r : Retention) (kept log : List Entry) → IsLog log → (key : Key) (death : ℕ) → first_cover r.block (walk r kept log) key ≡ Some death → DiedBy r.block log key death
+walk_died : (r : Retention) (kept log : List Entry) → IsLog log → (key : Key) (death : ℕ)
+    → first_cover r.block (walk r kept log) key ≡ Some death → DiedBy r.block log key death
 walk_died r kept [] l key death h = cc
 walk_died r kept (e ∷ later) l key death h =
     go (is_droppable r kept e later) (covers r.block e.item key) refl refl
@@ -266,7 +285,8 @@ walk_died r kept (e ∷ later) l key death h =
     (λ k. walk_died r (kept ++ e ∷ []) later l.1 key death k) where
       go : (b c : Bool) → is_droppable r kept e later ≡ b → covers r.block e.item key ≡ c
           → (first_cover r.block (walk r kept later) key ≡ Some death → DiedBy r.block later key death)
-          → (first_cover r.block (walk r (kept ++ e ∷ []) later) key ≡ Some death → DiedBy r.block later key death) → DiedBy r.block (e ∷ later) key death
+          → (first_cover r.block (walk r (kept ++ e ∷ []) later) key ≡ Some death → DiedBy r.block later key death)
+          → DiedBy r.block (e ∷ later) key death
       go true c q w drops keeps =
           let k : first_cover r.block (walk r kept later) key ≡ Some death = rw q at h in
           died_more r.block e later key death (λ t. walk_no_earlier r kept later e.epoch key death (epochs_of e later l.0) k) (drops k)
@@ -280,7 +300,8 @@ walk_died r kept (e ∷ later) l key death h =
           let x = keeps m in (x.0, rw w x.1, x.2)
 
 -- what stays is not droppable behind the walk either
-still_needed : (r : Retention) (kept : List Entry) (e : Entry) (later : List Entry) → IsLog later → is_droppable r kept e later ≡ false → IsDroppable r kept e (walk r (kept ++ e ∷ []) later) → ⊥
+still_needed : (r : Retention) (kept : List Entry) (e : Entry) (later : List Entry) → IsLog later → is_droppable r kept e later ≡ false
+    → IsDroppable r kept e (walk r (kept ++ e ∷ []) later) → ⊥
 still_needed r kept e later l q h =
     clash (is_droppable r kept e later)
     (droppable_test r kept e later (record {

@@ -18,7 +18,8 @@ pub fn is_droppable(
     entry: &Entry,
     later: &[Entry],
 ) -> bool
-    ensures value { result ≡ is_droppable (retention_of retention.now) before.now entry.now later.now }
+    ensures value { result
+        ≡ is_droppable (retention_of retention.now) before.now entry.now later.now }
     ensures meaning { IsTrue result
         ↔ IsDroppable (retention_of retention.now) before.now entry.now later.now }
 {

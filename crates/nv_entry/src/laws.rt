@@ -59,5 +59,6 @@ pub fn thorough_takes_what_is_droppable()
 /// Fast cleaning takes out of a log the pages that are droppable throughout, with the earlier pages gone, and
 /// no others, and keeps what is read.
 pub fn fast_takes_what_is_droppable()
-    ensures { (r : Retention) (pages : List (List Entry)) → IsLog (entries_of pages) → IsFast r pages }
+    ensures { (r : Retention) (pages : List (List Entry)) → IsLog (entries_of pages)
+        → IsFast r pages }
 {}

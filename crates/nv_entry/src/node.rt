@@ -9,6 +9,9 @@ use nv_base::limits::FILE_PAGES;
 use nv_base::{BlockNo, Bytes, Kind, Mode};
 use std::alloc::{AllocError, Global};
 
+/// The size of blocks says nothing of keys that are no pages.
+const ANY_SIZE: u64 = 1;
+
 /// What a node is at one time: a file has bytes, and a directory has names. The size is that of a file in
 /// bytes, and 0 for a directory.
 #[derive(Debug, Drop)]
@@ -44,8 +47,8 @@ pub fn node_when<B: BlockBytes>(
     match value_when(block, when, log, Key::Kind) {
         Some(Datum::Kind(kind)) => Ok(Some(NodeCopy {
             kind,
-            mode: mode_when(block, when, log),
-            size: size_when(block, when, log),
+            mode: mode_when(when, log),
+            size: size_when(when, log),
             bytes: file_bytes_when(alloc, block, when, log, blocks)?,
             names: names_when(alloc, when, log)?,
         })),
@@ -54,20 +57,18 @@ pub fn node_when<B: BlockBytes>(
 }
 
 /// The size of a file in bytes, now or at an epoch; 0 where it has none.
-pub fn size_when(block: u64, when: When, log: &[Entry]) -> u64
-    requires { 0 < block }
-    ensures { result ≡ size_now block (seen when log.now) }
+pub fn size_when(when: When, log: &[Entry]) -> u64
+    ensures { (block : ℕ) → result ≡ size_now block (seen when log.now) }
 {
-    value_when(block, when, log, Key::Size)
+    value_when(ANY_SIZE, when, log, Key::Size)
         .and_then(Datum::size)
         .unwrap_or(0)
 }
 
-fn mode_when(block: u64, when: When, log: &[Entry]) -> Mode
-    requires { 0 < block }
-    ensures { result ≡ mode_now block (seen when log.now) }
+fn mode_when(when: When, log: &[Entry]) -> Mode
+    ensures { (block : ℕ) → result ≡ mode_now block (seen when log.now) }
 {
-    match value_when(block, when, log, Key::Mode).and_then(Datum::mode) {
+    match value_when(ANY_SIZE, when, log, Key::Mode).and_then(Datum::mode) {
         Some(mode) => mode,
         None => Mode::checked(0).unwrap(),
     }
@@ -84,7 +85,7 @@ pub fn file_bytes_when<B: BlockBytes>(
     requires { 0 < block }
     ensures { IfOk result (λ bytes. bytes ≡ file_bytes (B.bytes_of blocks.now) block (seen when log.now)) }
 {
-    let size = size_when(block, when, log);
+    let size = size_when(when, log);
     let mut bytes = Vec::new(alloc);
     for page in 0..size.div_ceil(block) {
         push_page(&mut bytes, block, &when, log, blocks, page)?;

@@ -17,7 +17,8 @@ pub fn thorough_keeps(
     retention: &Retention<'_>,
     log: &[Entry],
 ) -> Result<Vec<bool>, AllocError>
-    ensures { IfOk result (λ kept. kept.items ≡ entries_stay (retention_of retention.now) [] log.now) }
+    ensures { IfOk result (λ kept. kept.items
+        ≡ entries_stay (retention_of retention.now) [] log.now) }
 {
     let mut kept = Vec::new(alloc);
     for i in 0..log.len() {
@@ -54,7 +55,8 @@ pub fn fast_keeps(
 fn page_goes(retention: &Retention<'_>, kept: &[bool], log: &[Entry], count: usize) -> bool
     requires { length kept.now + count ≤ length log.now }
     ensures { result ≡ page_goes (retention_of retention.now) (select kept.now log.now)
-        (take count (drop (length kept.now) log.now)) (drop count (drop (length kept.now) log.now)) }
+        (take count (drop (length kept.now) log.now))
+        (drop count (drop (length kept.now) log.now)) }
 {
     let rest = &log[kept.len()..];
     for i in 0..count {
@@ -84,7 +86,8 @@ fn may_go(
     later: &[Entry],
 ) -> bool
     requires { length kept.now ≤ length log.now }
-    ensures { result ≡ is_droppable (retention_of retention.now) (select kept.now log.now) entry.now later.now }
+    ensures { result ≡ is_droppable (retention_of retention.now) (select kept.now log.now)
+        entry.now later.now }
 {
     !later.is_empty()
         && !is_kept(retention, entry, later)

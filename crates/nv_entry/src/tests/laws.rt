@@ -20,7 +20,8 @@ fn a_thoroughly_cleaned_node_is_the_same()
     ensures now { (bytes : ℕ → List ℕ) (r : Retention) (log : List Entry) → IsLog log
         → node_now bytes r.block (kept_of r log) ≡ node_now bytes r.block log }
     ensures snapshots { (r : Retention) (log : List Entry) → IsLog log
-        → AllByRecursion (λ snapshot. ReadsSameAt r.block snapshot log (kept_of r log)) r.snapshots }
+        → AllByRecursion (λ snapshot. ReadsSameAt r.block snapshot log (kept_of r log))
+        r.snapshots }
 {
     thorough_takes_what_is_droppable();
 }
@@ -33,7 +34,8 @@ fn names_keep_their_order_in_fast_cleaning()
 }
 
 fn a_mode_is_read_with_any_block_size()
-    ensures { (block : ℕ) (log : List Entry) → value_now block log ModeKey ≡ value_now 1 log ModeKey }
+    ensures { (block : ℕ) (log : List Entry)
+        → value_now block log ModeKey ≡ value_now 1 log ModeKey }
 {
     block_size_matters_to_pages_alone();
 }

@@ -51,7 +51,7 @@ fn nodes(rt: HostRuntime) -> Result<(), Fail> {
         let names = names_when(rt.alloc(), when(*epoch), &log)?;
         same_names(&rt, names.as_slice(), names_of(*wanted));
         assert_eq!(rt;
-            size_when(BLOCK, when(*epoch), &log),
+            size_when(when(*epoch), &log),
             bytes_of(*wanted).len() as u64,
             "{lines:?}"
         );
