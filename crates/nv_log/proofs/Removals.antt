@@ -318,7 +318,7 @@ module _ {X : Type 0} {gone : List Bool} {tail : ℕ} {ends_old : List ℕ} {old
   page_stays : (most end : ℕ) (xs : List X) → AreEnds most 0 ends_old (length old) → k < length ends_old → end ≡ get_or ends k end
       → get_or gone k false ≡ false → IsSwept gone tail ends_old old ends new k start pages places counted
       → left_of gone (take (k + 1) (parts_from 0 ends_old xs)) ≡ left_of gone (take k (parts_from 0 ends_old xs)) ++ take (end - start)
-          (drop start xs) ∷ []
+      (drop start xs) ∷ []
   page_stays most end xs are lt read stays is =
       let parts = parts_from 0 ends_old xs in
       let at = page_next most end are lt read is in
@@ -327,14 +327,14 @@ module _ {X : Type 0} {gone : List Bool} {tail : ℕ} {ends_old : List ℕ} {old
       let part = part_is most 0 ends_old (length old) k (length old) xs are lt in
       left_of-stays gone parts k [] (omega (arith, length-parts 0 ends_old xs)) stays
       ∙ ap (λ p. left_of gone (take k parts) ++ p ∷ []) (part
-          ∙ ap (λ m. take m (drop (get_or (0 ∷ ends_old) k (length old) - 0) xs)) size ∙ ap (λ m. take (end - start) (drop m xs)) begun)
+      ∙ ap (λ m. take m (drop (get_or (0 ∷ ends_old) k (length old) - 0) xs)) size ∙ ap (λ m. take (end - start) (drop m xs)) begun)
 
   pub sweeps_down : (most end : ℕ) (next : List X) → AreEnds most 0 ends_old (length old) → k < length ends_old → end ≡ get_or ends k end
       → get_or gone k false ≡ false → IsSwept gone tail ends_old old ends new k start pages places counted
       → take (places + (end - start)) next ≡ take places new ++ slice_range new start end → drop end next ≡ drop end new
-          → length next ≡ length new
+      → length next ≡ length new
       → IsSwept gone tail ends_old old (set ends pages (places + (end - start))) next (k + 1) end (pages + 1) (places + (end - start))
-          (counted + (min end tail - min start tail))
+      (counted + (min end tail - min start tail))
   sweeps_down most end next are lt read stays is moved kept same =
       let at = page_next most end are lt read is in
       let n = end - start in
@@ -349,8 +349,15 @@ module _ {X : Type 0} {gone : List Bool} {tail : ℕ} {ends_old : List ℕ} {old
       let places_are = sym (length-take-le places new (omega (arith, is.behind, is.len, at))) ∙ ap length is.front in
       let end_is : places + n ≡ 0 + length (joined left) + length page = omega (arith, places_are, page_len) in
       let count_is : counted + (min end tail - min start tail) ≡ length (joined log_left ++ log_page) =
-          omega (arith, is.counts, log_len, length-drop start (take tail old), length-take tail old, at,
-              length-append (joined log_left) log_page) in
+      omega (
+        arith,
+        is.counts,
+        log_len,
+        length-drop start (take tail old),
+        length-take tail old,
+        at,
+        length-append (joined log_left) log_page,
+      ) in
       record {
         started = at.0 ∙ started_next ends_old k (length old) lt;
         front =
@@ -375,13 +382,16 @@ module _ {X : Type 0} {gone : List Bool} {tail : ℕ} {ends_old : List ℕ} {old
   -- once all pages are walked over
   pub swept_all : length ends_old ≤ k → IsSwept gone tail ends_old old ends new k start pages places counted
       → (take places new ≡ joined (left_of gone (parts_from 0 ends_old old))) × (take pages ends ≡ ends_from 0 (left_of gone
-          (parts_from 0 ends_old old)))
+      (parts_from 0 ends_old old)))
       × (counted ≡ length (joined (left_of gone (parts_from 0 ends_old (take tail old)))))
   swept_all le is =
       let all = λ (xs : List X). take_all k (parts_from 0 ends_old xs) (omega (arith, length-parts 0 ends_old xs)) in
-      let left = ap (left_of gone) (all old) in
-      (is.front ∙ ap joined left, is.ends_front ∙ ap (ends_from 0) left, is.counts
-          ∙ ap (λ ps. length (joined (left_of gone ps))) (all (take tail old)))
+      let left = ap (left_of gone) (all old) in (
+        is.front ∙ ap joined left,
+        is.ends_front ∙ ap (ends_from 0) left,
+        is.counts
+            ∙ ap (λ ps. length (joined (left_of gone ps))) (all (take tail old)),
+      )
 
 -- the first item of a queue that has what the walk did not meet yet, and behind it what is left of the rest
 pub queue_first : {X : Type 0} (old queue rest left : List X) (k : ℕ) (x : X) → k < length old → queue ≡ drop k old ++ left

@@ -38,7 +38,7 @@ loop-k-preserved c =
       | then-not-goes w ↦
           let down = w.move_down.ensures in
           let len : length w.move_down.new.entries.items ≡ length c.loop-k.entries.items =
-              omega (arith, down.len, w.move_down.new.entries.ok, c.loop-k.entries.ok) in
+          omega (arith, down.len, w.move_down.new.entries.ok, c.loop-k.entries.ok) in
           rw (w.entries-is, w.ends-is, w.pages-is, w.places-is, w.counted-is, w.min.ensures, w.min-then-not-goes.ensures) (record {
             swept =
                 sweeps_down _ _ _ c.requires.parted.1 lt c.index-end.ensures (sym c.goes.ensures
