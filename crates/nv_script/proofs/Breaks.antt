@@ -1,5 +1,5 @@
 -- The line in whose text a front of the text of some lines ends.
-use Rattle.std.proofs.Common.{◌≡◌, ℕ, ◌<◌, ◌≤◌, inl, inr, List, [], ◌∷◌, ◌++◌, length, length-append, Option, refl, ap, ◌∙◌, append_assoc, sym, suc, arith}
+use Rattle.std.proofs.Common.{◌≡◌, ℕ, ◌<◌, ◌≤◌, inl, inr, List, [], ◌∷◌, ◌++◌, length, Option, refl, ap, ◌∙◌, append_assoc, sym, arith}
 use Rattle.std.proofs.lemmas.Bool.{cases_lt}
 use Rattle.nv_core.specs.World.{WorldValue}
 use Rattle.nv_script.specs.Lines.{IsCutOff, IsLine}

@@ -1,5 +1,5 @@
 -- The words of a line.
-use Rattle.std.proofs.Common.{◌≡◌, ℕ, ◌+◌, ◌<◌, false, true, List, [], ◌∷◌, length, drop, Some, Option, ◌∙◌, ap, sym, get_or, nat_lt, bytes_eq, add-one, refl}
+use Rattle.std.proofs.Common.{◌≡◌, ℕ, ◌+◌, ◌<◌, false, true, List, length, drop, Some, ◌∙◌, ap, get_or, nat_lt, bytes_eq, add-one, refl}
 use denote.Ref.{Bor}
 use Rattle.std.proofs.Math.Seq.{drop-cons}
 use Rattle.std.proofs.lemmas.List.Folds.{list_all-map, list_all_at}

@@ -4,7 +4,7 @@ use Rattle.std.proofs.KnownBytes.{Appends-nil, Appends-trans}
 use Rattle.std.proofs.lemmas.List.{take-append-drop}
 use Rattle.std.proofs.lemmas.Grind.{common_steps}
 use Rattle.std.specs.Io.KnownBytes.{Appends}
-use Rattle.nv_script.specs.Lines.{IsCutOff, WritesFront, WritesSome}
+use Rattle.nv_script.specs.Lines.{WritesFront, WritesSome}
 
 -- what is left after the first bytes, as a slice spells it
 left_of : (rest : List ℕ) (count : ℕ) → take (length rest - count) (drop count rest) ≡ drop count rest

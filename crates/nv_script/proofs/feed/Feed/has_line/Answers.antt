@@ -1,4 +1,3 @@
-use Rattle.std.proofs.Common.{◌<◌}
 use Rattle.std.proofs.lemmas.Bool.{ltb-true}
 use Rattle.nv_script.proofs.Ahead.{line_ahead}
 use Rattle.nv_script.proofs.feed.Feed.has_line.Goals as goal

@@ -1,4 +1,4 @@
-use Rattle.std.proofs.Common.{◌≡◌, [], ◌++◌, List, ℕ, ◌∙◌, sym, subst}
+use Rattle.std.proofs.Common.{◌++◌, List, ℕ, ◌∙◌, sym, subst}
 use Rattle.std.proofs.KnownBytes.{Appends-trans}
 use Rattle.std.proofs.lemmas.Result.{MatchResult-from_err}
 use Rattle.std.specs.Io.KnownBytes.{Appends}

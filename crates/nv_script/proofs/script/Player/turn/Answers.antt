@@ -1,4 +1,4 @@
-use Rattle.std.proofs.Common.{◌≡◌, ◌∙◌, ◌++◌, List, ℕ, Ok, refl, sym, ap, subst}
+use Rattle.std.proofs.Common.{◌∙◌, ◌++◌, List, ℕ, Ok, refl, sym, ap, subst}
 use Rattle.std.proofs.lemmas.Result.{err_from_is_err_and}
 use Rattle.nv_script.specs.Lines.{WritesFront, WritesSome}
 use Rattle.nv_script.proofs.Endings.{breaks_off, ends, ends_told, next, none_gathered, not_line, not_played, plays_at, reads_fail, why_at, within_last, written_on, written_some}
