@@ -1,6 +1,6 @@
 use super::*;
 use crate::reads::ReadCount;
-use nv_alloc::{Block, FreeList, Hand};
+use nv_alloc::{Block, BlockQueue, ChainPages, FreeList};
 use nv_base::{BlockNo, CommitNo, EntryId, Epoch, Fault, Geometry};
 use nv_entry::{Entry, Item};
 use std::alloc::Global;
@@ -18,15 +18,16 @@ fn free_blocks(rt: &impl Abort, alloc: Global) -> FreeList {
     }
 }
 
-// A hand with the `n` lowest free blocks.
-fn hand_with(rt: &impl Abort, alloc: Global, list: &mut FreeList, n: u64) -> Hand {
-    let mut hand = Hand::new(alloc);
-    if hand.reserve(n).is_err() {
-        hand.reserve(n).expect(rt, "memory for a hand");
+// A queue with the `n` lowest free blocks.
+fn queue_with(rt: &impl Abort, alloc: Global, list: &mut FreeList, n: u64) -> BlockQueue {
+    let mut queue = BlockQueue::new(alloc, list.block_bytes());
+    if queue.reserve(n).is_err() {
+        queue.reserve(n).expect(rt, "memory for a queue");
     }
-    assert!(rt; n <= hand.room());
-    assert_eq!(rt; list.take(n, &mut hand), n);
-    hand
+    assert!(rt; n <= queue.room());
+    assert!(rt; queue.block_bytes() == list.block_bytes());
+    assert_eq!(rt; list.take(n, &mut queue), n);
+    queue
 }
 
 // Makes room for pages. Where a growth is refused, nothing has changed, and it is made once more.
@@ -55,13 +56,13 @@ fn shape(chain: &Chain) -> [usize; 5] {
     ]
 }
 
-// A chain of pages of two entries, to which the blocks of the hand are added.
-fn chain_of(rt: &impl Abort, alloc: Global, hand: &mut Hand) -> Chain {
+// A chain of pages of two entries, to which the blocks of the queue are added.
+fn chain_of(rt: &impl Abort, alloc: Global, queue: &mut BlockQueue) -> Chain {
     let mut chain = Chain::new(alloc, 2);
-    reserve(rt, &mut chain, hand.len() as usize);
-    for _ in 0..hand.len() {
-        let Some(block) = hand.take_next() else {
-            panic!(rt; "the hand has a block")
+    reserve(rt, &mut chain, queue.len() as usize);
+    for _ in 0..queue.len() {
+        let Some(block) = queue.take_next() else {
+            panic!(rt; "the queue has a block")
         };
         assert!(rt; chain.spare() > 0);
         chain.add_page(block);
@@ -107,25 +108,24 @@ fn assert_page(rt: &impl Abort, chain: &Chain, k: usize, number: u64, commits: &
     assert_commits(rt, chain.page_entries(k), commits);
 }
 
-// Gives the blocks to the hand of a call, as one chain's pages, and lets the hand go.
-fn give_pages(rt: &impl Abort, blocks: Vec<Block>, mut hand: Hand) {
-    if hand.chain_len() != 0 {
-        panic!(rt; "the hand has no chain")
-    }
-    hand.put_chain(blocks);
-    hand.dismantle();
+// Lets go blocks, as the pages of a whole chain, a queue and a list.
+fn let_go(alloc: Global, blocks: Vec<Block>, queue: BlockQueue, list: FreeList) {
+    let_pages_go(alloc, blocks);
+    queue.dismantle();
+    list.dismantle();
 }
 
-fn let_go(rt: &impl Abort, blocks: Vec<Block>, hand: Hand, list: FreeList) {
-    give_pages(rt, blocks, hand);
-    list.dismantle();
+fn let_pages_go(alloc: Global, blocks: Vec<Block>) {
+    let mut pages = ChainPages::new(alloc);
+    pages.put(blocks);
+    pages.dismantle();
 }
 
 #[test]
 fn appends_and_publishes(rt: HostRuntime) {
     let mut list = free_blocks(&rt, rt.alloc());
-    let mut hand = hand_with(&rt, rt.alloc(), &mut list, 3);
-    let mut chain = chain_of(&rt, rt.alloc(), &mut hand);
+    let mut queue = queue_with(&rt, rt.alloc(), &mut list, 3);
+    let mut chain = chain_of(&rt, rt.alloc(), &mut queue);
     assert_eq!(rt; chain.page(), 2);
     assert_eq!(rt; chain.last_id(), None);
     assert_eq!(rt; chain.last_epoch(), None);
@@ -155,14 +155,14 @@ fn appends_and_publishes(rt: HostRuntime) {
     assert_eq!(rt; chain.last_epoch(), Some(Epoch::new(1)));
     assert!(rt; !chain.may_append(id(3), Epoch::new(1)));
     assert!(rt; !chain.may_append(id(4), Epoch::new(0)));
-    let_go(&rt, chain.into_blocks(), hand, list);
+    let_go(rt.alloc(), chain.into_blocks(), queue, list);
 }
 
 #[test]
 fn finds_entries_by_id(rt: HostRuntime) {
     let mut list = free_blocks(&rt, rt.alloc());
-    let mut hand = hand_with(&rt, rt.alloc(), &mut list, 4);
-    let mut chain = chain_of(&rt, rt.alloc(), &mut hand);
+    let mut queue = queue_with(&rt, rt.alloc(), &mut list, 4);
+    let mut chain = chain_of(&rt, rt.alloc(), &mut queue);
     for n in 1..8 {
         append(&rt, &mut chain, 3 * n);
     }
@@ -179,27 +179,28 @@ fn finds_entries_by_id(rt: HostRuntime) {
     assert_eq!(rt; place, 4);
     assert!(rt; place < chain.len());
     assert_eq!(rt; chain.page_of(place), 2);
-    let_go(&rt, chain.into_blocks(), hand, list);
+    let_go(rt.alloc(), chain.into_blocks(), queue, list);
 }
 
 // Nine entries on five pages, of which the middle three go: three entries are left on two pages.
 #[test]
 fn unlinks_pages(rt: HostRuntime) {
     let mut list = free_blocks(&rt, rt.alloc());
-    let mut hand = hand_with(&rt, rt.alloc(), &mut list, 5);
-    let mut chain = chain_of(&rt, rt.alloc(), &mut hand);
+    let mut queue = queue_with(&rt, rt.alloc(), &mut list, 5);
+    let mut chain = chain_of(&rt, rt.alloc(), &mut queue);
     for commit in 1..10 {
         append(&rt, &mut chain, commit);
     }
     publish(&rt, &mut chain, 9);
-    let mut taken = Hand::new(rt.alloc());
+    let mut taken = BlockQueue::new(rt.alloc(), list.block_bytes());
     if taken.reserve(3).is_err() {
-        taken.reserve(3).expect(&rt, "memory for a hand");
+        taken.reserve(3).expect(&rt, "memory for a queue");
     }
     for number in 1..4 {
         assert!(rt; chain.blocks().len() > 1 && taken.room() > 0);
         let block = chain.unlink_page(1);
         assert_eq!(rt; block.number(), BlockNo::new(number));
+        assert!(rt; block.bytes().len() == taken.block_bytes());
         taken.put(block);
     }
     assert_eq!(rt; shape(&chain), [2, 3, 3, 1, 3]);
@@ -207,17 +208,17 @@ fn unlinks_pages(rt: HostRuntime) {
     assert_page(&rt, &chain, 0, 0, &[1, 2]);
     assert_page(&rt, &chain, 1, 4, &[9]);
     taken.dismantle();
-    let_go(&rt, chain.into_blocks(), hand, list);
+    let_go(rt.alloc(), chain.into_blocks(), queue, list);
 }
 
 #[test]
 fn replaces_a_chain(rt: HostRuntime) {
     let mut list = free_blocks(&rt, rt.alloc());
-    let mut hand = hand_with(&rt, rt.alloc(), &mut list, 3);
-    let mut chain = chain_of(&rt, rt.alloc(), &mut hand);
+    let mut queue = queue_with(&rt, rt.alloc(), &mut list, 3);
+    let mut chain = chain_of(&rt, rt.alloc(), &mut queue);
     append(&rt, &mut chain, 1);
-    let mut fresh_hand = hand_with(&rt, rt.alloc(), &mut list, 1);
-    let mut fresh = chain_of(&rt, rt.alloc(), &mut fresh_hand);
+    let mut fresh_queue = queue_with(&rt, rt.alloc(), &mut list, 1);
+    let mut fresh = chain_of(&rt, rt.alloc(), &mut fresh_queue);
     append(&rt, &mut fresh, 7);
     publish(&rt, &mut fresh, 1);
 
@@ -227,9 +228,10 @@ fn replaces_a_chain(rt: HostRuntime) {
     assert_eq!(rt; old.len(), 3);
     assert_eq!(rt; shape(&chain), [1, 1, 1, 1, 0]);
     assert_page(&rt, &chain, 0, 3, &[7]);
-    fresh_hand.dismantle();
-    give_pages(&rt, old, hand);
-    let_go(&rt, chain.into_blocks(), Hand::new(rt.alloc()), list);
+    fresh_queue.dismantle();
+    let_pages_go(rt.alloc(), old);
+    queue.dismantle();
+    let_go(rt.alloc(), chain.into_blocks(), BlockQueue::new(rt.alloc(), list.block_bytes()), list);
 }
 
 #[test]
