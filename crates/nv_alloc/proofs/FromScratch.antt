@@ -32,7 +32,8 @@ all_above n k [] le h = tt
 all_above n k (m ∷ ms) le h = (omega (arith, h.0, le), all_above n k ms le h.1)
 
 -- a rising list of wanted numbers begins with the lowest of them
-first_wanted : (is_used : ℕ → Bool) (low end : ℕ) (n : ℕ) (ns : List ℕ) → IsRising (n ∷ ns) → ((k : ℕ) → has (n ∷ ns) k ≡ is_wanted is_used low end k) → is_used low ≡ false → low < end → n ≡ low
+first_wanted : (is_used : ℕ → Bool) (low end : ℕ) (n : ℕ) (ns : List ℕ) → IsRising (n ∷ ns)
+    → ((k : ℕ) → has (n ∷ ns) k ≡ is_wanted is_used low end k) → is_used low ≡ false → low < end → n ≡ low
 first_wanted is_used low end n ns rising members free lt = go (n == low) refl where
   own : is_wanted is_used low end n ≡ true
   own = sym (members n) ∙ has-first n ns
@@ -51,7 +52,8 @@ first_wanted is_used low end n ns rising members free lt = go (n == low) refl wh
   go false q = let ne = eqb-false n low q in absurd (omega (arith, ne, not_below, not_above))
 
 -- the rest of such a list has the wanted numbers after the first
-rest_members : (is_used : ℕ → Bool) (low end : ℕ) (ns : List ℕ) → IsRising (low ∷ ns) → ((k : ℕ) → has (low ∷ ns) k ≡ is_wanted is_used low end k) → (k : ℕ) → has ns k ≡ is_wanted is_used (low + 1) end k
+rest_members : (is_used : ℕ → Bool) (low end : ℕ) (ns : List ℕ) → IsRising (low ∷ ns)
+    → ((k : ℕ) → has (low ∷ ns) k ≡ is_wanted is_used low end k) → (k : ℕ) → has ns k ≡ is_wanted is_used (low + 1) end k
 rest_members is_used low end ns rising members k = go (k == low) refl where
   go : (b : Bool) → (k == low) ≡ b → has ns k ≡ is_wanted is_used (low + 1) end k
   go true q =
@@ -63,7 +65,8 @@ rest_members is_used low end ns rising members k = go (k == low) refl where
       sym (has-other low k ns en) ∙ members k ∙ wanted-later is_used low end k ne
 
 -- where the lowest number is used, the wanted numbers are those after it
-skip_members : (is_used : ℕ → Bool) (low end : ℕ) (ns : List ℕ) → is_used low ≡ true → low < end → ((k : ℕ) → has ns k ≡ is_wanted is_used low end k) → (k : ℕ) → has ns k ≡ is_wanted is_used (low + 1) end k
+skip_members : (is_used : ℕ → Bool) (low end : ℕ) (ns : List ℕ) → is_used low ≡ true → low < end
+    → ((k : ℕ) → has ns k ≡ is_wanted is_used low end k) → (k : ℕ) → has ns k ≡ is_wanted is_used (low + 1) end k
 skip_members is_used low end ns used lt members k = go (k == low) refl where
   go : (b : Bool) → (k == low) ≡ b → has ns k ≡ is_wanted is_used (low + 1) end k
   go true q =
@@ -84,10 +87,12 @@ none_wanted is_used low (n ∷ ns) members = go (nat_lt n low) refl where
   go true q = no (wanted-below is_used low (low + 0) n (ltb-true n low q))
   go false q = no (wanted-above is_used low (low + 0) n (omega (arith, ltb-false n low q)))
 
-pub from_scratch : (is_used : ℕ → Bool) (low len : ℕ) (ns : List ℕ) → IsRising ns → ((k : ℕ) → has ns k ≡ is_wanted is_used low (low + len) k) → ns ≡ unused is_used low len
+pub from_scratch : (is_used : ℕ → Bool) (low len : ℕ) (ns : List ℕ) → IsRising ns
+    → ((k : ℕ) → has ns k ≡ is_wanted is_used low (low + len) k) → ns ≡ unused is_used low len
 from_scratch is_used low zero ns rising members = none_wanted is_used low ns members
 from_scratch is_used low (suc len) ns rising members = step ns rising members (is_used low) refl (λ ms r m. from_scratch is_used (low + 1) len ms r m) where
-  shift : (ms : List ℕ) → ((k : ℕ) → has ms k ≡ is_wanted is_used (low + 1) (low + suc len) k) → (k : ℕ) → has ms k ≡ is_wanted is_used (low + 1) (low + 1 + len) k
+  shift : (ms : List ℕ) → ((k : ℕ) → has ms k ≡ is_wanted is_used (low + 1) (low + suc len) k) → (k : ℕ)
+      → has ms k ≡ is_wanted is_used (low + 1) (low + 1 + len) k
   shift ms h k = let e : low + suc len ≡ low + 1 + len = omega arith in h k ∙ ap (λ end. is_wanted is_used (low + 1) end k) e
 
   step : (ns : List ℕ) → IsRising ns → ((k : ℕ) → has ns k ≡ is_wanted is_used low (low + suc len) k) → (b : Bool) → is_used low ≡ b

@@ -12,19 +12,23 @@ pub times-blocks : (n : ℕ) (xs ys : List BlockValue) → times n (numbers_of (
 times-blocks n xs ys = ap (times n) (map-append number_of xs ys) ∙ times-append n (numbers_of xs) (numbers_of ys)
 
 -- blocks that move from a list to the end of a queue
-pub times-taken : (n k : ℕ) (queue list : List BlockValue) → times n (numbers_of (queue ++ take k list)) + times n (numbers_of (drop k list)) ≡ times n (numbers_of queue) + times n (numbers_of list)
+pub times-taken : (n k : ℕ) (queue list : List BlockValue)
+    → times n (numbers_of (queue ++ take k list)) + times n (numbers_of (drop k list)) ≡ times n (numbers_of queue) + times n (numbers_of list)
 times-taken n k queue list =
     let both = sym (times-blocks n (take k list) (drop k list)) ∙ ap (λ ys. times n (numbers_of ys)) (take-append-drop k list) in
     omega (arith, times-blocks n queue (take k list), both)
 
 -- a block that is offered to a list
-times-offered : (n : ℕ) (list : FreeBlocks) (b : BlockValue) (rest : List BlockValue) → times n (numbers_of ((cond (takes list b) [] (b ∷ [])) ++ rest)) + times n (numbers_of (after_offer list b).blocks) ≡ times n (numbers_of rest) + times n (b.number ∷ numbers_of list.blocks)
+times-offered : (n : ℕ) (list : FreeBlocks) (b : BlockValue) (rest : List BlockValue)
+    → times n (numbers_of ((cond (takes list b) [] (b ∷ [])) ++ rest)) + times n (numbers_of (after_offer list b).blocks) ≡ times n (numbers_of rest) + times n (b.number ∷ numbers_of list.blocks)
 times-offered n list b rest = go (takes list b) where
-  go : (t : Bool) → times n (numbers_of ((cond t [] (b ∷ [])) ++ rest)) + times n (numbers_of (cond t (record list { blocks = put_block b list.blocks }) list).blocks) ≡ times n (numbers_of rest) + times n (b.number ∷ numbers_of list.blocks)
+  go : (t : Bool)
+      → times n (numbers_of ((cond t [] (b ∷ [])) ++ rest)) + times n (numbers_of (cond t (record list { blocks = put_block b list.blocks }) list).blocks) ≡ times n (numbers_of rest) + times n (b.number ∷ numbers_of list.blocks)
   go true = let put : times n (numbers_of (put_block b list.blocks)) ≡ times n (b.number ∷ numbers_of list.blocks) = times-put_by number_of n b list.blocks in omega (arith, put)
   go false = omega (arith, times-cons n b.number (numbers_of rest), times-cons n b.number (numbers_of list.blocks))
 
-pub times-given : (n : ℕ) (list : FreeBlocks) (bs : List BlockValue) → times n (numbers_of (kept_of list bs)) + times n (numbers_of (after_giving list bs).blocks) ≡ times n (numbers_of bs) + times n (numbers_of list.blocks)
+pub times-given : (n : ℕ) (list : FreeBlocks) (bs : List BlockValue)
+    → times n (numbers_of (kept_of list bs)) + times n (numbers_of (after_giving list bs).blocks) ≡ times n (numbers_of bs) + times n (numbers_of list.blocks)
 times-given n list [] = refl
 times-given n list (b ∷ bs) =
     let rest = times-given n (after_offer list b) bs in
@@ -33,18 +37,21 @@ times-given n list (b ∷ bs) =
 
 -- ---- one more block of those that are offered
 
-pub after_giving-append : (list : FreeBlocks) (bs cs : List BlockValue) → after_giving list (bs ++ cs) ≡ after_giving (after_giving list bs) cs
+pub after_giving-append : (list : FreeBlocks) (bs cs : List BlockValue)
+    → after_giving list (bs ++ cs) ≡ after_giving (after_giving list bs) cs
 after_giving-append list [] cs = refl
 after_giving-append list (b ∷ bs) cs = after_giving-append (after_offer list b) bs cs
 
-pub kept_of-append : (list : FreeBlocks) (bs cs : List BlockValue) → kept_of list (bs ++ cs) ≡ kept_of list bs ++ kept_of (after_giving list bs) cs
+pub kept_of-append : (list : FreeBlocks) (bs cs : List BlockValue)
+    → kept_of list (bs ++ cs) ≡ kept_of list bs ++ kept_of (after_giving list bs) cs
 kept_of-append list [] cs = refl
 kept_of-append list (b ∷ bs) cs =
     let first = cond (takes list b) [] (b ∷ []) in
     ap (λ xs. first ++ xs) (kept_of-append (after_offer list b) bs cs) ∙ sym (append_assoc first (kept_of (after_offer list b) bs) (kept_of (after_giving (after_offer list b) bs) cs))
 
 -- one more item of a list
-pub cut_more : {X : Type 0} (k : ℕ) (xs : List X) (b : X) (rest : List X) → drop k xs ≡ b ∷ rest → (drop (k + 1) xs ≡ rest) × (take (k + 1) xs ≡ take k xs ++ b ∷ [])
+pub cut_more : {X : Type 0} (k : ℕ) (xs : List X) (b : X) (rest : List X) → drop k xs ≡ b ∷ rest
+    → (drop (k + 1) xs ≡ rest) × (take (k + 1) xs ≡ take k xs ++ b ∷ [])
 cut_more zero [] b rest e = cc
 cut_more zero (x ∷ xs) b rest e = (cc, cc)
 cut_more (suc k) [] b rest e = cc
@@ -59,7 +66,8 @@ pub record IsUnderway (all : List BlockValue) (old now : FreeBlocks) (left : Lis
   pub given : now ≡ after_giving old (take at all)
 
 -- what is left after one more was offered
-pub underway : (all : List BlockValue) (old now : FreeBlocks) (left rest : List BlockValue) (at : ℕ) (b : BlockValue) → at < length all → IsUnderway all old now left at → left ≡ b ∷ rest
+pub underway : (all : List BlockValue) (old now : FreeBlocks) (left rest : List BlockValue) (at : ℕ) (b : BlockValue) → at < length all
+    → IsUnderway all old now left at → left ≡ b ∷ rest
     → IsUnderway all old (after_offer now b) (rest ++ cond (takes now b) [] (b ∷ [])) (at + 1)
 underway all old now left rest at b lt u e = go (drop at all) refl where
   go : (xs : List BlockValue) → drop at all ≡ xs → IsUnderway all old (after_offer now b) (rest ++ cond (takes now b) [] (b ∷ [])) (at + 1)
@@ -82,7 +90,8 @@ pub record GoesHome (list : FreeBlocks) (bs : List BlockValue) : Type 0 where
   pub kept : kept_of list bs ≡ filter (λ b. not (is_home list b.number)) bs
   pub given : after_giving list bs ≡ record list { blocks = put_blocks (filter (λ b. is_home list b.number) bs) list.blocks }
 
-pub goes_home : (list : FreeBlocks) (bs : List BlockValue) → AreSized list.size bs → ((n : ℕ) → times n (numbers_of bs) + times n (numbers_of list.blocks) ≤ 1) → GoesHome list bs
+pub goes_home : (list : FreeBlocks) (bs : List BlockValue) → AreSized list.size bs
+    → ((n : ℕ) → times n (numbers_of bs) + times n (numbers_of list.blocks) ≤ 1) → GoesHome list bs
 goes_home list [] sized once = record { kept = refl; given = refl }
 goes_home list (b ∷ bs) sized once = go (is_home list b.number) refl (λ l s o. goes_home l bs s o) where
   one : (n : ℕ) → times n (b.number ∷ []) + times n (numbers_of bs) + times n (numbers_of list.blocks) ≤ 1

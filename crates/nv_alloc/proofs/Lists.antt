@@ -37,10 +37,12 @@ pub times-append : (n : ℕ) (xs ys : List ℕ) → times n (xs ++ ys) ≡ times
 times-append n xs ys = sum_by-append (λ m. cond (m == n) 1 0) xs ys
 
 -- an item that is put in is counted as one at the front
-pub times-put_by : {X : Type 0} (number : X → ℕ) (n : ℕ) (x : X) (xs : List X) → times n (map number (put_by number x xs)) ≡ times n (number x ∷ map number xs)
+pub times-put_by : {X : Type 0} (number : X → ℕ) (n : ℕ) (x : X) (xs : List X)
+    → times n (map number (put_by number x xs)) ≡ times n (number x ∷ map number xs)
 times-put_by number n x [] = refl
 times-put_by {X} number n x (y ∷ ys) = go (nat_lt (number x) (number y)) refl (times-put_by number n x ys) where
-  swapped : times n (map number (put_by number x ys)) ≡ times n (number x ∷ map number ys) → times n (number y ∷ map number (put_by number x ys)) ≡ times n (number x ∷ number y ∷ map number ys)
+  swapped : times n (map number (put_by number x ys)) ≡ times n (number x ∷ map number ys)
+      → times n (number y ∷ map number (put_by number x ys)) ≡ times n (number x ∷ number y ∷ map number ys)
   swapped ih =
       let a = times-cons n (number y) (map number (put_by number x ys)) in
       let b = times-cons n (number x) (number y ∷ map number ys) in
@@ -48,19 +50,22 @@ times-put_by {X} number n x (y ∷ ys) = go (nat_lt (number x) (number y)) refl 
       let e = times-cons n (number x) (map number ys) in
       omega (arith, a, b, d, e, ih)
 
-  go : (b : Bool) → nat_lt (number x) (number y) ≡ b → times n (map number (put_by number x ys)) ≡ times n (number x ∷ map number ys) → times n (map number (put_by number x (y ∷ ys))) ≡ times n (number x ∷ map number (y ∷ ys))
+  go : (b : Bool) → nat_lt (number x) (number y) ≡ b → times n (map number (put_by number x ys)) ≡ times n (number x ∷ map number ys)
+      → times n (map number (put_by number x (y ∷ ys))) ≡ times n (number x ∷ map number (y ∷ ys))
   go true q ih = rw q refl
   go false q ih = rw q (swapped ih)
 
 pub length-put_by : {X : Type 0} (number : X → ℕ) (x : X) (xs : List X) → length (put_by number x xs) ≡ length xs + 1
 length-put_by number x [] = refl
 length-put_by number x (y ∷ ys) = go (nat_lt (number x) (number y)) refl (length-put_by number x ys) where
-  go : (b : Bool) → nat_lt (number x) (number y) ≡ b → length (put_by number x ys) ≡ length ys + 1 → length (put_by number x (y ∷ ys)) ≡ length (y ∷ ys) + 1
+  go : (b : Bool) → nat_lt (number x) (number y) ≡ b → length (put_by number x ys) ≡ length ys + 1
+      → length (put_by number x (y ∷ ys)) ≡ length (y ∷ ys) + 1
   go true q ih = rw q (omega arith)
   go false q ih = rw q (omega arith)
 
 -- an item below all others goes first
-pub put_by-first : {X : Type 0} (number : X → ℕ) (x : X) (xs : List X) → AllByRecursion (λ m. number x < m) (map number xs) → put_by number x xs ≡ x ∷ xs
+pub put_by-first : {X : Type 0} (number : X → ℕ) (x : X) (xs : List X) → AllByRecursion (λ m. number x < m) (map number xs)
+    → put_by number x xs ≡ x ∷ xs
 put_by-first number x [] h = refl
 put_by-first number x (y ∷ ys) h = rw (lt-ltb (number x) (number y) h.0) refl
 

@@ -64,7 +64,8 @@ some_lowest (n ∷ ns) low h =
 abbrev pub lowest_with : Option ℕ → List BlockValue → Option ℕ
 lowest_with known blocks = fold (λ low block. lower low block.number) known blocks
 
-pub lowest_of_three : (xs ys zs : List BlockValue) (x y z : Option ℕ) → x ≡ lowest_with None xs → y ≡ lowest_with x ys → z ≡ lowest_with y zs → z ≡ lowest (numbers_of (xs ++ ys ++ zs))
+pub lowest_of_three : (xs ys zs : List BlockValue) (x y z : Option ℕ) → x ≡ lowest_with None xs → y ≡ lowest_with x ys
+    → z ≡ lowest_with y zs → z ≡ lowest (numbers_of (xs ++ ys ++ zs))
 lowest_of_three xs ys zs x y z first second third =
     let step : Option ℕ → BlockValue → Option ℕ = λ low block. lower low block.number in
     third ∙ ap (λ k. lowest_with k zs) (second ∙ ap (λ k. lowest_with k ys) first ∙ sym (fold-append step None xs ys))

@@ -36,7 +36,8 @@ join_apart n (run ∷ runs) h = go (run.first == n + 1) refl where
   go true e = absurd (omega (arith, eqb-true run.first (n + 1) e, h))
   go false e = rw e refl
 
-join_next : (n last : ℕ) (runs : List FreeRun) → join n (record { first = n + 1; last = last } ∷ runs) ≡ record { first = n; last = last } ∷ runs
+join_next : (n last : ℕ) (runs : List FreeRun)
+    → join n (record { first = n + 1; last = last } ∷ runs) ≡ record { first = n; last = last } ∷ runs
 join_next n last runs = rw (eq-eqb (n + 1) (n + 1) refl) refl
 
 pub ArePlaced-drop : (k s : ℕ) (slots : List (Option BlockValue)) → ArePlaced s slots → ArePlaced (s + k) (drop k slots)
@@ -46,21 +47,24 @@ ArePlaced-drop (suc k) s (None ∷ slots) p = let e : s + 1 + k ≡ s + suc k = 
 ArePlaced-drop (suc k) s (Some b ∷ slots) p = let e : s + 1 + k ≡ s + suc k = omega arith in subst (λ n. ArePlaced n (drop k slots)) e (ArePlaced-drop k (s + 1) slots p.1)
 
 -- slots without a block at the front add nothing
-pub skip_gap : (gap : ℕ) (slots : List (Option BlockValue)) → ((k : ℕ) → k < gap → is_some (get_or slots k None) ≡ false) → present slots ≡ present (drop gap slots)
+pub skip_gap : (gap : ℕ) (slots : List (Option BlockValue)) → ((k : ℕ) → k < gap → is_some (get_or slots k None) ≡ false)
+    → present slots ≡ present (drop gap slots)
 skip_gap zero slots h = refl
 skip_gap (suc gap) [] h = refl
 skip_gap (suc gap) (None ∷ slots) h = skip_gap gap slots (λ k lt. h (suc k) (omega arith))
 skip_gap (suc gap) (Some b ∷ slots) h = let e : true ≡ false = h 0 (omega arith) in cc
 
 -- what begins with an empty slot has no block of the first number
-ends : (s : ℕ) (slots : List (Option BlockValue)) → ArePlaced s slots → (0 < length slots → is_some (get_or slots 0 None) ≢ true) → StartAbove s (runs_of (numbers_of (present slots)))
+ends : (s : ℕ) (slots : List (Option BlockValue)) → ArePlaced s slots → (0 < length slots → is_some (get_or slots 0 None) ≢ true)
+    → StartAbove s (runs_of (numbers_of (present slots)))
 ends s [] p at = tt
 ends s (None ∷ slots) p at = runs_start s (numbers_of (present slots)) (placed_above (s + 1) s slots (omega arith) p)
 ends s (Some b ∷ slots) p at = absurd (at (omega arith) refl)
 
 -- slots with a block at the front are one run
 pub take_run : (len s : ℕ) (slots : List (Option BlockValue)) → ArePlaced s slots
-    → ((k : ℕ) → k < suc len → is_some (get_or slots k None) ≡ true) → (suc len < length slots → is_some (get_or slots (suc len) None) ≢ true)
+    → ((k : ℕ) → k < suc len → is_some (get_or slots k None) ≡ true)
+    → (suc len < length slots → is_some (get_or slots (suc len) None) ≢ true)
     → runs_of (numbers_of (present slots)) ≡ record { first = s; last = s + len } ∷ runs_of (numbers_of (present (drop (suc len) slots)))
 take_run len s [] p some at = let e : false ≡ true = some 0 (omega arith) in cc
 take_run len s (None ∷ slots) p some at = let e : false ≡ true = some 0 (omega arith) in cc
@@ -74,14 +78,17 @@ take_run (suc len) s (Some b ∷ slots) p some at =
     rw (p.0, rest) (join_next s (s + 1 + len) (runs_of (numbers_of (present (drop (suc len) slots)))) ∙ ap (λ n. record { first = s; last = n } ∷ runs_of (numbers_of (present (drop (suc len) slots)))) last)
 
 -- no block is left where neither a gap nor a run is
-pub no_run : (slots : List (Option BlockValue)) → (0 < length slots → is_some (get_or slots 0 None) ≢ false) → (0 < length slots → is_some (get_or slots 0 None) ≢ true) → slots ≡ []
+pub no_run : (slots : List (Option BlockValue)) → (0 < length slots → is_some (get_or slots 0 None) ≢ false)
+    → (0 < length slots → is_some (get_or slots 0 None) ≢ true) → slots ≡ []
 no_run [] a b = refl
 no_run (None ∷ slots) a b = absurd (a (omega arith) refl)
 no_run (Some x ∷ slots) a b = absurd (b (omega arith) refl)
 
 -- what is after a gap and a run is placed too
-pub moved : (start gap len : ℕ) (slots rest after : List (Option BlockValue)) → rest ≡ drop gap slots → after ≡ drop len rest → gap ≤ length slots → len ≤ length rest
-    → ArePlaced start slots → start + length slots < 2 ^ 62 → ArePlaced (start + gap + len) after × (start + gap + len + length after < 2 ^ 62)
+pub moved : (start gap len : ℕ) (slots rest after : List (Option BlockValue)) → rest ≡ drop gap slots → after ≡ drop len rest
+    → gap ≤ length slots → len ≤ length rest
+    → ArePlaced start slots → start + length slots < 2 ^ 62
+    → ArePlaced (start + gap + len) after × (start + gap + len + length after < 2 ^ 62)
 moved start gap len slots rest after e f within inside placed small =
     let cut : ArePlaced (start + gap) rest = subst (λ xs. ArePlaced (start + gap) xs) (sym e) (ArePlaced-drop gap start slots placed) in (
       subst (λ xs. ArePlaced (start + gap + len) xs) (sym f) (ArePlaced-drop len (start + gap) rest cut),
@@ -89,7 +96,8 @@ moved start gap len slots rest after e f within inside placed small =
     )
 
 -- the first item of what is left
-first_left : (gap : ℕ) (slots rest : List (Option BlockValue)) → rest ≡ drop gap slots → (gap < length slots → is_some (get_or slots gap None) ≢ false) → 0 < length rest → is_some (get_or rest 0 None) ≢ false
+first_left : (gap : ℕ) (slots rest : List (Option BlockValue)) → rest ≡ drop gap slots
+    → (gap < length slots → is_some (get_or slots gap None) ≢ false) → 0 < length rest → is_some (get_or rest 0 None) ≢ false
 first_left gap slots rest e at lt h =
     at (omega (arith, ap length e, length-drop gap slots)) (ap is_some (sym (ap (λ xs. get_or xs 0 None) e ∙ get_or-drop gap slots 0 None ∙ ap (λ i. get_or slots i None) (add-zero gap))) ∙ h)
 
@@ -103,7 +111,8 @@ none_left gap len slots rest after e f before at run zero_len =
     let gone : after ≡ [] = f ∙ ap (λ n. drop n rest) zero_len ∙ empty in
     (rw (skipped, empty) refl, rw gone refl)
 
-pub one_run : (start gap len : ℕ) (slots rest after : List (Option BlockValue)) → rest ≡ drop gap slots → after ≡ drop len rest → ArePlaced start slots
+pub one_run : (start gap len : ℕ) (slots rest after : List (Option BlockValue)) → rest ≡ drop gap slots → after ≡ drop len rest
+    → ArePlaced start slots
     → ((k : ℕ) → k < gap → is_some (get_or slots k None) ≡ false)
     → ((k : ℕ) → k < len → is_some (get_or rest k None) ≡ true) → (len < length rest → is_some (get_or rest len None) ≢ true) → len ≢ 0
     → runs_of (numbers_of (present slots)) ≡ record { first = start + gap; last = start + gap + len - 1 } ∷ runs_of (numbers_of (present after))

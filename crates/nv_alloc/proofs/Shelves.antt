@@ -42,13 +42,15 @@ pub record IsTaken (list : FreeBlocks) (b : BlockValue) : Type 0 where
 
 pub taken : (list : FreeBlocks) (b : BlockValue) → takes list b ≡ true → IsTaken list b
 taken list b h = go (is_home list b.number) refl (has (numbers_of list.blocks) b.number) refl (length b.bytes == list.size) refl h where
-  go : (x : Bool) → is_home list b.number ≡ x → (y : Bool) → has (numbers_of list.blocks) b.number ≡ y → (z : Bool) → (length b.bytes == list.size) ≡ z → (x && not y && z) ≡ true → IsTaken list b
+  go : (x : Bool) → is_home list b.number ≡ x → (y : Bool) → has (numbers_of list.blocks) b.number ≡ y → (z : Bool)
+      → (length b.bytes == list.size) ≡ z → (x && not y && z) ≡ true → IsTaken list b
   go true p false q true r h = record { home = p; absent = q; sized = eqb-true (length b.bytes) list.size r }
   go true p false q false r h = cc
   go true p true q z r h = cc
   go false p y q z r h = cc
 
-AreSized-put : (size : ℕ) (b : BlockValue) (bs : List BlockValue) → length b.bytes ≡ size → AreSized size bs → AreSized size (put_block b bs)
+AreSized-put : (size : ℕ) (b : BlockValue) (bs : List BlockValue) → length b.bytes ≡ size → AreSized size bs
+    → AreSized size (put_block b bs)
 AreSized-put size b [] e h = (e, tt)
 AreSized-put size b (x ∷ bs) e h = go (nat_lt b.number x.number) (AreSized-put size b bs e h.1) where
   go : (t : Bool) → AreSized size (put_block b bs) → AreSized size (cond t (b ∷ x ∷ bs) (x ∷ put_block b bs))
@@ -83,7 +85,8 @@ module _ {start size count : ℕ} {slots : List (Option BlockValue)} {free : Lis
       }
 
   -- whether the slot of a number at home has a block
-  pub shelf_has : (k n : ℕ) (x : Option BlockValue) → k < length slots → n ≡ start + k → x ≡ get_or slots k x → is_some x ≡ has (numbers_of (present slots)) n
+  pub shelf_has : (k n : ℕ) (x : Option BlockValue) → k < length slots → n ≡ start + k → x ≡ get_or slots k x
+      → is_some x ≡ has (numbers_of (present slots)) n
   shelf_has k n x h e r = ap is_some (r ∙ get_or_default slots k x None h) ∙ sym (has-present k start n slots shelf.placed e)
 
   pub shelf_strange : (n : ℕ) → (n < start) ⊎ (start + length slots ≤ n) → has (numbers_of (present slots)) n ≡ false
@@ -151,7 +154,8 @@ module _ {start size count : ℕ} {slots : List (Option BlockValue)} {free : Lis
         none None q = refl
         none (Some b) q = cc
 
-pub shelf_full : (size start count : ℕ) (slots : List (Option BlockValue)) (free : List Bool) → slots ≡ full_slots size start count → free ≡ replicate count true → start + count < 2 ^ 62
+pub shelf_full : (size start count : ℕ) (slots : List (Option BlockValue)) (free : List Bool) → slots ≡ full_slots size start count
+    → free ≡ replicate count true → start + count < 2 ^ 62
     → IsShelf start size slots free count
 shelf_full size start count slots free e f small = rw (e, f) (record {
   placed = ArePlaced-full size start count;
@@ -175,7 +179,8 @@ pool_within flags place low = within_flags flags place low.0
 pub pool_has : (flags : List Bool) (n : ℕ) → has (places 0 flags) n ≡ get_or flags n false
 pool_has flags n = has-places n 0 n flags (omega arith)
 
-pub pool_given : (flags : List Bool) (n : ℕ) → n < length flags → has (places 0 flags) n ≡ false → places 0 (set flags n true) ≡ put_by (λ m. m) n (places 0 flags)
+pub pool_given : (flags : List Bool) (n : ℕ) → n < length flags → has (places 0 flags) n ≡ false
+    → places 0 (set flags n true) ≡ put_by (λ m. m) n (places 0 flags)
 pool_given flags n h absent = places-put n 0 n flags h (sym (pool_has flags n) ∙ absent) (omega arith)
 
 pub pool_lawful : (inodes : ℕ) (flags : List Bool) → length flags ≡ inodes → IsPool (record { inodes = inodes; numbers = places 0 flags })

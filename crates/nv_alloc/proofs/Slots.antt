@@ -37,7 +37,8 @@ all_same : (n : ℕ) (ms : List ℕ) → AllByRecursion (λ m. n < m) ms → All
 all_same n [] a = tt
 all_same n (m ∷ ms) a = (a.0, all_same n ms a.1)
 
-pub places-put : (k low n : ℕ) (flags : List Bool) → k < length flags → get_or flags k false ≡ false → n ≡ low + k → places low (set flags k true) ≡ put_by (λ m. m) n (places low flags)
+pub places-put : (k low n : ℕ) (flags : List Bool) → k < length flags → get_or flags k false ≡ false → n ≡ low + k
+    → places low (set flags k true) ≡ put_by (λ m. m) n (places low flags)
 places-put k low n [] h free e = absurd (omega (arith, h))
 places-put zero low n (false ∷ flags) h free e =
     let q : low ≡ n = omega (arith, e) in
@@ -61,7 +62,8 @@ places-rising low [] = tt
 places-rising low (false ∷ flags) = places-rising (low + 1) flags
 places-rising low (true ∷ flags) = (places_above (low + 1) low flags (omega arith), places-rising (low + 1) flags)
 
-pub places-within : (start end low : ℕ) (flags : List Bool) → start ≤ low → low + length flags ≤ end → AllByRecursion (λ n. start ≤ n) (places low flags) × AllByRecursion (λ n. n < end) (places low flags)
+pub places-within : (start end low : ℕ) (flags : List Bool) → start ≤ low → low + length flags ≤ end
+    → AllByRecursion (λ n. start ≤ n) (places low flags) × AllByRecursion (λ n. n < end) (places low flags)
 places-within start end low [] g h = (tt, tt)
 places-within start end low (false ∷ flags) g h = places-within start end (low + 1) flags (omega (arith, g)) (omega (arith, h))
 places-within start end low (true ∷ flags) g h =
@@ -79,12 +81,14 @@ places-full low (suc count) = ap (λ ns. low ∷ ns) (places-full (low + 1) coun
 
 -- ---- slots, whose blocks have the numbers of the places with a block
 
-pub numbers-present : (s : ℕ) (slots : List (Option BlockValue)) → ArePlaced s slots → numbers_of (present slots) ≡ places s (map is_some slots)
+pub numbers-present : (s : ℕ) (slots : List (Option BlockValue)) → ArePlaced s slots
+    → numbers_of (present slots) ≡ places s (map is_some slots)
 numbers-present s [] p = refl
 numbers-present s (None ∷ slots) p = numbers-present (s + 1) slots p
 numbers-present s (Some x ∷ slots) p = λ i. p.0 i ∷ numbers-present (s + 1) slots p.1 i
 
-pub placed_above : (s n : ℕ) (slots : List (Option BlockValue)) → n < s → ArePlaced s slots → AllByRecursion (λ m. n < m) (numbers_of (present slots))
+pub placed_above : (s n : ℕ) (slots : List (Option BlockValue)) → n < s → ArePlaced s slots
+    → AllByRecursion (λ m. n < m) (numbers_of (present slots))
 placed_above s n slots h p = subst (AllByRecursion (λ m. n < m)) (sym (numbers-present s slots p)) (places_above s n (map is_some slots) h)
 
 pub some_there : (slots : List (Option BlockValue)) (k : ℕ) → get_or (map is_some slots) k false ≡ is_some (get_or slots k None)
@@ -92,7 +96,8 @@ some_there [] k = refl
 some_there (s ∷ slots) zero = refl
 some_there (s ∷ slots) (suc k) = some_there slots k
 
-pub has-present : (k s n : ℕ) (slots : List (Option BlockValue)) → ArePlaced s slots → n ≡ s + k → has (numbers_of (present slots)) n ≡ is_some (get_or slots k None)
+pub has-present : (k s n : ℕ) (slots : List (Option BlockValue)) → ArePlaced s slots → n ≡ s + k
+    → has (numbers_of (present slots)) n ≡ is_some (get_or slots k None)
 has-present k s n slots p e = ap (λ ns. has ns n) (numbers-present s slots p) ∙ has-places k s n (map is_some slots) e ∙ some_there slots k
 
 pub length-present : (slots : List (Option BlockValue)) → length (present slots) ≤ length slots
@@ -106,7 +111,8 @@ present-empty (None ∷ slots) h = present-empty slots (λ k. h (suc k))
 present-empty (Some b ∷ slots) h = let e : true ≡ false = h 0 in cc
 
 -- the lowest block leaves its slot
-pub present-take : (k : ℕ) (slots : List (Option BlockValue)) (b : BlockValue) → get_or slots k None ≡ Some b → ((j : ℕ) → j < k → get_or (map is_some slots) j false ≡ false)
+pub present-take : (k : ℕ) (slots : List (Option BlockValue)) (b : BlockValue) → get_or slots k None ≡ Some b
+    → ((j : ℕ) → j < k → get_or (map is_some slots) j false ≡ false)
     → present slots ≡ b ∷ present (set slots k None)
 present-take k [] b e h = cc
 present-take zero (None ∷ slots) b e h = cc
@@ -121,14 +127,16 @@ ArePlaced-take zero s (Some x ∷ slots) p = p.1
 ArePlaced-take (suc k) s (None ∷ slots) p = ArePlaced-take k (s + 1) slots p
 ArePlaced-take (suc k) s (Some x ∷ slots) p = (p.0, ArePlaced-take k (s + 1) slots p.1)
 
-pub ArePlaced-put : (k s : ℕ) (slots : List (Option BlockValue)) (b : BlockValue) → ArePlaced s slots → b.number ≡ s + k → ArePlaced s (set slots k (Some b))
+pub ArePlaced-put : (k s : ℕ) (slots : List (Option BlockValue)) (b : BlockValue) → ArePlaced s slots → b.number ≡ s + k
+    → ArePlaced s (set slots k (Some b))
 ArePlaced-put k s [] b p e = tt
 ArePlaced-put zero s (None ∷ slots) b p e = (omega (arith, e), p)
 ArePlaced-put zero s (Some x ∷ slots) b p e = (omega (arith, e), p.1)
 ArePlaced-put (suc k) s (None ∷ slots) b p e = ArePlaced-put k (s + 1) slots b p (omega (arith, e))
 ArePlaced-put (suc k) s (Some x ∷ slots) b p e = (p.0, ArePlaced-put k (s + 1) slots b p.1 (omega (arith, e)))
 
-pub present-put : (k s : ℕ) (slots : List (Option BlockValue)) (b : BlockValue) → ArePlaced s slots → k < length slots → get_or slots k None ≡ None → b.number ≡ s + k
+pub present-put : (k s : ℕ) (slots : List (Option BlockValue)) (b : BlockValue) → ArePlaced s slots → k < length slots
+    → get_or slots k None ≡ None → b.number ≡ s + k
     → present (set slots k (Some b)) ≡ put_block b (present slots)
 present-put k s [] b p h free e = absurd (omega (arith, h))
 present-put zero s (None ∷ slots) b p h free e = sym (put_by-first number_of b (present slots) (placed_above (s + 1) b.number slots (omega (arith, e)) p))

@@ -6,20 +6,23 @@ use Rattle.std.proofs.lemmas.Grind.{common_steps}
 use Rattle.nv_alloc.specs.Places.{IsNode, IsTree, IsLowest, flags_of}
 
 -- a leaf that is written is a flag that is written
-pub flags_of-written : (len : ℕ) (tree new : List ℕ) (place lowest : ℕ) (b : Bool) → drop len new ≡ set (drop len tree) place lowest → nat_lt lowest len ≡ b → flags_of len new ≡ set (flags_of len tree) place b
+pub flags_of-written : (len : ℕ) (tree new : List ℕ) (place lowest : ℕ) (b : Bool) → drop len new ≡ set (drop len tree) place lowest
+    → nat_lt lowest len ≡ b → flags_of len new ≡ set (flags_of len tree) place b
 flags_of-written len tree new place lowest b e t =
     ap (map (λ p. nat_lt p len)) e ∙ map-set (λ p. nat_lt p len) (drop len tree) place lowest ∙ ap (set (flags_of len tree) place) t
 
 pub length-flags_of : (len : ℕ) (tree : List ℕ) → length tree ≡ 2 * len → length (flags_of len tree) ≡ len
 length-flags_of len tree e = grind (arith, common_steps)
 
-pub get_or-flags_of : (len : ℕ) (tree : List ℕ) (k : ℕ) → length tree ≡ 2 * len → k < len → get_or (flags_of len tree) k false ≡ nat_lt (get_or tree (len + k) 0) len
+pub get_or-flags_of : (len : ℕ) (tree : List ℕ) (k : ℕ) → length tree ≡ 2 * len → k < len
+    → get_or (flags_of len tree) k false ≡ nat_lt (get_or tree (len + k) 0) len
 get_or-flags_of len tree k e h =
     let within : k < length (drop len tree) = rw length-drop (omega arith) in
     get_or-map (λ p. nat_lt p len) (drop len tree) k 0 false within ∙ ap (λ p. nat_lt p len) (get_or-drop len tree k 0)
 
 -- one step down from a node to a child
-child_least : (len : ℕ) (tree : List ℕ) → IsTree len tree → (i : ℕ) → 2 ≤ i → i < 2 * len → get_or tree 1 0 ≤ get_or tree (i / 2) 0 → get_or tree 1 0 ≤ get_or tree i 0
+child_least : (len : ℕ) (tree : List ℕ) → IsTree len tree → (i : ℕ) → 2 ≤ i → i < 2 * len → get_or tree 1 0 ≤ get_or tree (i / 2) 0
+    → get_or tree 1 0 ≤ get_or tree i 0
 child_least len tree t i more lt up = side (elim (cases_lt (i % 2) 1) [ inl a ↦ inl (omega arith) | inr a ↦ inr (omega arith) ]) where
   parent : get_or tree (i / 2) 0 ≡ min (get_or tree (2 * (i / 2)) 0) (get_or tree (2 * (i / 2) + 1) 0)
   parent = t.node (i / 2) (omega arith) (omega arith)
@@ -40,11 +43,13 @@ root_least (suc fuel) len tree t i f h lt = go (cases_lt i 2) (λ more. root_lea
 abbrev IsAttained : ℕ → List ℕ → ℕ → Type 0
 IsAttained len tree v = (v ≡ len) ⊎ ((v < len) × (get_or tree (len + v) 0 ≡ v))
 
-leaf_attained : (len : ℕ) (tree : List ℕ) (k i : ℕ) → i ≡ len + k → k < len → (get_or tree (len + k) 0 ≡ k) ⊎ (get_or tree (len + k) 0 ≡ len) → IsAttained len tree (get_or tree i 0)
+leaf_attained : (len : ℕ) (tree : List ℕ) (k i : ℕ) → i ≡ len + k → k < len
+    → (get_or tree (len + k) 0 ≡ k) ⊎ (get_or tree (len + k) 0 ≡ len) → IsAttained len tree (get_or tree i 0)
 leaf_attained len tree k i e h (inl a) = rw (e, a) (inr (h, a))
 leaf_attained len tree k i e h (inr a) = rw (e, a) (inl refl)
 
-node_attained : (len : ℕ) (tree : List ℕ) (i : ℕ) → IsNode tree i → IsAttained len tree (get_or tree (2 * i) 0) → IsAttained len tree (get_or tree (2 * i + 1) 0) → IsAttained len tree (get_or tree i 0)
+node_attained : (len : ℕ) (tree : List ℕ) (i : ℕ) → IsNode tree i → IsAttained len tree (get_or tree (2 * i) 0)
+    → IsAttained len tree (get_or tree (2 * i + 1) 0) → IsAttained len tree (get_or tree i 0)
 node_attained len tree i n left right = go lower where
   lower : (get_or tree (2 * i) 0 ≡ get_or tree i 0) ⊎ (get_or tree (2 * i + 1) 0 ≡ get_or tree i 0)
   lower = elim (cases_lt (get_or tree (2 * i) 0) (get_or tree (2 * i + 1) 0)) [ inl a ↦ inl (omega arith) | inr a ↦ inr (omega arith) ]
@@ -54,12 +59,14 @@ node_attained len tree i n left right = go lower where
   go (inr e) = subst (λ v. IsAttained len tree v) e right
 
 -- each node has no place or that of a leaf
-attained : (fuel len : ℕ) (tree : List ℕ) → IsTree len tree → (i : ℕ) → 2 * len ≤ i + fuel → 1 ≤ i → i < 2 * len → IsAttained len tree (get_or tree i 0)
+attained : (fuel len : ℕ) (tree : List ℕ) → IsTree len tree → (i : ℕ) → 2 * len ≤ i + fuel → 1 ≤ i → i < 2 * len
+    → IsAttained len tree (get_or tree i 0)
 attained zero len tree t i f h lt = absurd (omega arith)
 attained (suc fuel) len tree t i f h lt = go (cases_lt i len)
     (λ low. attained fuel len tree t (2 * i) (omega (arith, low)) (omega (arith, low)) (omega (arith, low)))
     (λ low. attained fuel len tree t (2 * i + 1) (omega (arith, low)) (omega (arith, low)) (omega (arith, low))) where
-      go : (i < len) ⊎ (len ≤ i) → (i < len → IsAttained len tree (get_or tree (2 * i) 0)) → (i < len → IsAttained len tree (get_or tree (2 * i + 1) 0)) → IsAttained len tree (get_or tree i 0)
+      go : (i < len) ⊎ (len ≤ i) → (i < len → IsAttained len tree (get_or tree (2 * i) 0))
+          → (i < len → IsAttained len tree (get_or tree (2 * i + 1) 0)) → IsAttained len tree (get_or tree i 0)
       go (inl low) left right = node_attained len tree i (t.node i h low) (left low) (right low)
       go (inr high) left right = leaf_attained len tree (i - len) i (omega arith) (omega arith) (t.leaf (i - len) (omega arith))
 
@@ -91,7 +98,8 @@ root_empty len tree t h = nothing (flags_of len tree) (λ k low. before len tree
 pub none_empty : (len : ℕ) (tree : List ℕ) → IsTree len tree → len ≡ 0 → IsLowest (flags_of len tree) None
 none_empty len tree t e = nothing (flags_of len tree) (λ k low. absurd (omega (arith, length-flags_of len tree t.size, low)))
 
-pub flags_of-full : (len : ℕ) (tree : List ℕ) → length tree ≡ 2 * len → ((k : ℕ) → k < len → get_or tree (len + k) 0 ≡ k) → flags_of len tree ≡ replicate len true
+pub flags_of-full : (len : ℕ) (tree : List ℕ) → length tree ≡ 2 * len → ((k : ℕ) → k < len → get_or tree (len + k) 0 ≡ k)
+    → flags_of len tree ≡ replicate len true
 flags_of-full len tree size own = ext_get_or false (flags_of len tree) (replicate len true) (grind (arith, common_steps, length-flags_of len tree size))
     (λ k h. let lt : k < len = omega (arith, length-flags_of len tree size, h) in
     get_or-flags_of len tree k size lt ∙ rw (own k lt, lt-ltb k len lt) (grind (arith, common_steps)))
@@ -101,6 +109,7 @@ pub whole : {X : Type 0} (n : ℕ) (xs ys : List X) → length xs ≡ n → leng
 whole n xs ys e f = grind (arith, common_steps)
 
 -- the flags after a leaf is written over the whole tree
-pub flags_of-whole : (len n : ℕ) (tree new : List ℕ) (place lowest : ℕ) (b : Bool) → length new ≡ n → length tree ≡ n → drop len new ≡ set (drop len tree) place lowest → nat_lt lowest len ≡ b
+pub flags_of-whole : (len n : ℕ) (tree new : List ℕ) (place lowest : ℕ) (b : Bool) → length new ≡ n → length tree ≡ n
+    → drop len new ≡ set (drop len tree) place lowest → nat_lt lowest len ≡ b
     → flags_of len (take n (new ++ drop (length new) tree)) ≡ set (flags_of len tree) place b
 flags_of-whole len n tree new place lowest b f g e t = rw (whole n new tree f g) (flags_of-written len tree new place lowest b e t)

@@ -202,7 +202,8 @@ fn full_slots(
     size: usize,
 ) -> Result<Vec<Option<Block>>, AllocError>
     requires { start + count < 2 ^ 62 }
-    ensures { IfOk result (λ slots. slots.items ≡ map (λ number. Some (zero_block size number)) (range_with_len start count)) }
+    ensures { IfOk result (λ slots.
+        slots.items ≡ map (λ number. Some (zero_block size number)) (range_with_len start count)) }
 {
     let mut slots = Vec::with_capacity(alloc, count)?;
     match fill(alloc, &mut slots, start, count, size) {
@@ -225,7 +226,8 @@ fn fill(
     requires empty { vec_len slots.old ≡ 0 }
     requires room { count ≤ vec_capacity slots.old }
     requires small { start + count < 2 ^ 62 }
-    ensures { OnOk result (slots.new.items ≡ map (λ number. Some (zero_block size number)) (range_with_len start count)) }
+    ensures { OnOk result (slots.new.items
+        ≡ map (λ number. Some (zero_block size number)) (range_with_len start count)) }
 {
     for i in 0..count {
         let block = Block::zeroed(alloc, BlockNo::new(start + i as u64), size)?;

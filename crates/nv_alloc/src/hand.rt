@@ -42,8 +42,8 @@ impl Hand {
 
     /// Whether the hand holds no block and no inode number.
     pub fn is_empty(&self) -> bool
-        ensures { result ≡ ((length self.now.data.blocks == 0) && (length self.now.pages.blocks == 0)
-            && (length self.now.chain == 0) && is_none self.now.ino) }
+        ensures { result ≡ ((length self.now.data.blocks == 0)
+            && (length self.now.pages.blocks == 0) && (length self.now.chain == 0) && is_none self.now.ino) }
     {
         self.data.is_empty() && self.pages.is_empty() && self.chain.is_empty() && self.ino.is_none()
     }
@@ -73,7 +73,8 @@ impl Hand {
 
     /// The first CPU that is home of a block held, by the numbers of the CPUs. Costs the number of blocks held.
     pub fn lowest_home(&self, geometry: &Geometry) -> Option<u64>
-        ensures { IsLowestHome geometry.now.numbers.blocks geometry.now.numbers.cpus (numbers_of (blocks_of self.now)) result }
+        ensures { IsLowestHome geometry.now.numbers.blocks geometry.now.numbers.cpus
+            (numbers_of (blocks_of self.now)) result }
     {
         let lowest = self.lowest_number()?;
         if lowest.number() < geometry.numbers.blocks {
@@ -97,7 +98,8 @@ impl Hand {
         ensures pages { self.new.pages
             ≡ after_home (after_giving list.old self.old.data.blocks) self.old.pages }
         ensures chain { self.new.chain
-            ≡ kept_of (after_giving list.old (self.old.data.blocks ++ self.old.pages.blocks)) self.old.chain }
+            ≡ kept_of (after_giving list.old (self.old.data.blocks ++ self.old.pages.blocks))
+                self.old.chain }
         ensures given { list.new ≡ after_giving list.old (blocks_of self.old) }
         ensures ino { self.new.ino ≡ self.old.ino }
     {
@@ -122,7 +124,8 @@ impl Hand {
 
 /// The lowest of these blocks' numbers and of one that is known.
 fn lowest_of(blocks: vec_deque::Iter<'_, Block>, known: Option<BlockNo>) -> Option<BlockNo>
-    ensures { result ≡ fold (λ low block. lower low block.number) known (deque_iter_rest blocks.entry) }
+    ensures { result ≡ fold (λ low block. lower low block.number) known
+        (deque_iter_rest blocks.entry) }
 {
     blocks.fold(known, |low, block| lower(low, block.number()))
 }

@@ -27,7 +27,8 @@ same_itself : (name : List ℕ) → same_name name name ≡ true
 same_itself name = nat_list_eq_equiv.refl name
 
 -- what holds of all bindings holds of the one that is looked up
-all_bound : (P : Binding → Type 0) (name : List ℕ) (names : List Bound) (to : Binding) → AllByRecursion (λ bound. P bound.1) names → binding_of name names ≡ Some to → P to
+all_bound : (P : Binding → Type 0) (name : List ℕ) (names : List Bound) (to : Binding) → AllByRecursion (λ bound. P bound.1) names
+    → binding_of name names ≡ Some to → P to
 all_bound P name [] to all e = cc
 all_bound P name (b ∷ bs) to all e = go (same_name name b.0) refl (all_bound P name bs to all.1) where
   go : (t : Bool) → same_name name b.0 ≡ t → (binding_of name bs ≡ Some to → P to) → P to
@@ -35,7 +36,8 @@ all_bound P name (b ∷ bs) to all e = go (same_name name b.0) refl (all_bound P
   go false q ih = let k : binding_of name bs ≡ Some to = rw q at e in ih k
 
 -- a name that no later one is isn't bound there
-absent_later : (name : List ℕ) (later : List Bound) → AllByRecursion (λ other. same_name name other ≡ false) (keys_of later) → binding_of name later ≡ None
+absent_later : (name : List ℕ) (later : List Bound) → AllByRecursion (λ other. same_name name other ≡ false) (keys_of later)
+    → binding_of name later ≡ None
 absent_later name [] h = refl
 absent_later name (b ∷ bs) h = rw h.0 (absent_later name bs h.1)
 
@@ -65,7 +67,8 @@ first_same x y xs ys same in_order rising = go (same_name x.0 y.0) refl where
       absurd (all_bound (λ to. IsIdBefore to.entry x.1.entry → ⊥) y.0 xs y.1 in_order.0 later_y before)
 
 -- the others are the same
-others_same : (b : Bound) (xs ys : List Bound) → HaveSameBindings (b ∷ xs) (b ∷ ys) → AreDistinct (b ∷ xs) → AreDistinct (b ∷ ys) → HaveSameBindings xs ys
+others_same : (b : Bound) (xs ys : List Bound) → HaveSameBindings (b ∷ xs) (b ∷ ys) → AreDistinct (b ∷ xs) → AreDistinct (b ∷ ys)
+    → HaveSameBindings xs ys
 unfolding IsDistinct
 others_same b xs ys same dx dy name = go (same_name name b.0) refl where
   go : (t : Bool) → same_name name b.0 ≡ t → binding_of name ys ≡ binding_of name xs
@@ -74,7 +77,8 @@ others_same b xs ys same dx dy name = go (same_name name b.0) refl where
       rw is (absent_later b.0 ys dy.0 ∙ sym (absent_later b.0 xs dx.0))
   go false q = let k : binding_of name ys ≡ binding_of name xs = rw q at (same name) in k
 
-pub told : (listed scratch : List Bound) → HaveSameBindings listed scratch → AreDistinct listed → AreInOrder listed → AreDistinct scratch → AreRising scratch → listed ≡ scratch
+pub told : (listed scratch : List Bound) → HaveSameBindings listed scratch → AreDistinct listed → AreInOrder listed
+    → AreDistinct scratch → AreRising scratch → listed ≡ scratch
 unfolding IsDistinct
 told [] [] same dx ox dy ry = refl
 told [] (y ∷ ys) same dx ox dy ry = let k : None ≡ Some y.1 = sym (same y.0) ∙ first_bound y ys in cc
@@ -86,7 +90,8 @@ told (x ∷ xs) (y ∷ ys) same dx ox dy ry =
     let rest = told xs ys (others_same x xs ys same' dx dy') dx.1 ox.1 dy.1 ry.1 in
     λ i. first i ∷ rest i
 
-pub counted : (names scratch : List Bound) → HaveSameBindings names scratch → AreDistinct names → AreDistinct scratch → length names ≡ length scratch
+pub counted : (names scratch : List Bound) → HaveSameBindings names scratch → AreDistinct names → AreDistinct scratch
+    → length names ≡ length scratch
 counted names scratch same dn ds = hash_map_len_from_get nat_list_eq_equiv {S = ℕ} {T = ℕ} (hash_map names 0 0) (hash_map scratch 0 0) dn ds (λ name. sym (same name))
 
 -- ---- the order of ids
@@ -106,13 +111,16 @@ abbrev Given : Type 0
 Given = Bor (List ℕ) × Binding
 
 -- names that were given in an order by place stand in that order
-in_order_from : (given : List Given) → ((i j : ℕ) (d : Given) → i ≤ j → j < length given → IsIdBefore (get_or given j d).1.entry (get_or given i d).1.entry → ⊥) → AreInOrder (map lent given)
+in_order_from : (given : List Given)
+    → ((i j : ℕ) (d : Given) → i ≤ j → j < length given → IsIdBefore (get_or given j d).1.entry (get_or given i d).1.entry → ⊥)
+    → AreInOrder (map lent given)
 in_order_from [] h = tt
 in_order_from (b ∷ bs) h = (
   all bs (λ j d lt. h 0 (suc j) d (omega arith) (omega (arith, lt))),
   in_order_from bs (λ i j d le lt. h (suc i) (suc j) d (omega (arith, le)) (omega (arith, lt))),
 ) where
-  all : (xs : List Given) → ((j : ℕ) (d : Given) → j < length xs → IsIdBefore (get_or xs j d).1.entry b.1.entry → ⊥) → AllByRecursion (λ next. IsIdBefore next.1.entry b.1.entry → ⊥) (map lent xs)
+  all : (xs : List Given) → ((j : ℕ) (d : Given) → j < length xs → IsIdBefore (get_or xs j d).1.entry b.1.entry → ⊥)
+      → AllByRecursion (λ next. IsIdBefore next.1.entry b.1.entry → ⊥) (map lent xs)
   all [] f = tt
   all (x ∷ xs) f = (f 0 x (omega arith), all xs (λ j d lt. f (suc j) d (omega (arith, lt))))
 
@@ -127,7 +135,8 @@ name_test : (name : List ℕ) → IsKeyTest same_name (same_name name)
 name_test name x y h = nat_list_eq_equiv.congr name x y h
 
 -- the names in another order, sorted, are a list of them
-pub listed : (names : List Bound) (given sorted : List Given) → AreDistinct names → map lent given ≡ names → IsPermutation given sorted → IsSortedById sorted → IsListOf names (map lent sorted)
+pub listed : (names : List Bound) (given sorted : List Given) → AreDistinct names → map lent given ≡ names → IsPermutation given sorted
+    → IsSortedById sorted → IsListOf names (map lent sorted)
 listed names given sorted distinct all moved up =
     let moves : IsPermutation names (map lent sorted) = subst (λ l. IsPermutation l (map lent sorted)) all (IsPermutation-map lent given sorted moved) in
     let distinct' : AreDistinct (map lent sorted) = distinct_permutation nat_list_eq_equiv (keys_of names) (keys_of (map lent sorted)) (IsPermutation-map (λ (b : Bound). b.0) names (map lent sorted) moves) distinct in
@@ -147,5 +156,6 @@ lawful_all (b ∷ bs) h = (h b.0 (rw (same_itself b.0) refl), lawful_all bs (λ 
   later true name some = refl
   later false name some = some
 
-pub lawful_listed : (names sorted : List Bound) → ((name : List ℕ) → IsSome (binding_of name names) → IsTrue (is_lawful_name name)) → IsListOf names sorted → AreLawful sorted
+pub lawful_listed : (names sorted : List Bound) → ((name : List ℕ) → IsSome (binding_of name names) → IsTrue (is_lawful_name name))
+    → IsListOf names sorted → AreLawful sorted
 lawful_listed names sorted lawful list = lawful_all sorted (λ name some. lawful name (subst IsSome (list.same name) some))

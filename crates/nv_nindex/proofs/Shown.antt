@@ -40,10 +40,12 @@ apart name other h key is =
     nat_list_eq_equiv.symm other key.items ∙ ap (λ bytes. pointwise nat_eq bytes other) (sym (same_text name key.items (sym is))) ∙ h
 
 -- what a change of the map at one name shows
-pub rebinds : (name : List ℕ) (old new : List (Vec ℕ × Binding)) (to : Option Binding) → lookup (is_key name) new ≡ to → KeepsOthers same_key (is_key name) old new
+pub rebinds : (name : List ℕ) (old new : List (Vec ℕ × Binding)) (to : Option Binding) → lookup (is_key name) new ≡ to
+    → KeepsOthers same_key (is_key name) old new
     → Rebinds (map shown old) (map shown new) name to
 unfolding KeepsOthers
 rebinds name old new to at others other = go (same_name name other) refl where
-  go : (b : Bool) → same_name name other ≡ b → binding_of other (map shown new) ≡ cond (same_name name other) to (binding_of other (map shown old))
+  go : (b : Bool) → same_name name other ≡ b
+      → binding_of other (map shown new) ≡ cond (same_name name other) to (binding_of other (map shown old))
   go true q = rw q (ap (λ bytes. binding_of bytes (map shown new)) (sym (same_text name other (sym q))) ∙ sym (lookup_shown name new) ∙ at)
   go false q = rw q (sym (lookup_shown other new) ∙ others (is_key other) (key_test other) (apart name other q) ∙ lookup_shown other old)

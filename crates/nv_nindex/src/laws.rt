@@ -8,7 +8,8 @@ ghost use Rattle.nv_nindex.specs.declared.binding.Binding.{Binding};
 /// in an index, the list of that index is the names from scratch, and there are as many.
 pub fn names_in_order_are_told_by_look_ups()
     ensures listed { (listed scratch : List (List ℕ × Binding)) → HaveSameBindings listed scratch
-        → AreDistinct listed → AreInOrder listed → AreDistinct scratch → AreRising scratch → listed ≡ scratch }
+        → AreDistinct listed → AreInOrder listed → AreDistinct scratch → AreRising scratch
+        → listed ≡ scratch }
     ensures counted { (names scratch : List (List ℕ × Binding)) → HaveSameBindings names scratch
         → AreDistinct names → AreDistinct scratch → length names ≡ length scratch }
 {}
