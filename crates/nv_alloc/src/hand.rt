@@ -99,7 +99,7 @@ impl Hand {
             ≡ after_home (after_giving list.old self.old.data.blocks) self.old.pages }
         ensures chain { self.new.chain
             ≡ kept_of (after_giving list.old (self.old.data.blocks ++ self.old.pages.blocks))
-                self.old.chain }
+            self.old.chain }
         ensures given { list.new ≡ after_giving list.old (blocks_of self.old) }
         ensures ino { self.new.ino ≡ self.old.ino }
     {

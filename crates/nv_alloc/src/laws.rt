@@ -24,7 +24,7 @@ pub fn no_move_loses_a_number()
         times n (numbers_of (put_block block list)) ≡ times n (block.number ∷ numbers_of list) }
     ensures home { (n : ℕ) (list : FreeBlocks) (queue : List BlockValue) →
         times n (numbers_of (kept_of list queue))
-            + times n (numbers_of (after_giving list queue).blocks)
+        + times n (numbers_of (after_giving list queue).blocks)
         ≡ times n (numbers_of queue) + times n (numbers_of list.blocks) }
 {}
 
@@ -38,8 +38,8 @@ pub fn each_number_once_goes_home()
         → ((n : ℕ) → times n (numbers_of queue) + times n (numbers_of list.blocks) ≤ 1)
         → after_giving list queue
         ≡ record list {
-              blocks = put_blocks (filter (λ block. is_home list block.number) queue) list.blocks;
-            } }
+          blocks = put_blocks (filter (λ block. is_home list block.number) queue) list.blocks;
+        } }
 {}
 
 /// A law: the runs of a rising list have its numbers, in order, and none of them could be longer.

@@ -111,6 +111,18 @@ fn geometry() -> Result<Geometry, Fault> {
     })
 }
 
+fn tiny() -> Result<Geometry, Fault> {
+    Geometry::checked(GeometryNumbers {
+        blocks: 8,
+        cpus: 1,
+        block: 1,
+        page: 2,
+        inodes: 2,
+        snaps: 1,
+        actors: 1,
+    })
+}
+
 #[test]
 fn files(rt: HostRuntime) -> Result<(), Fail> {
     let mut world = World::format(rt.alloc(), geometry()?)?;
@@ -175,7 +187,7 @@ fn refusals_in_order(rt: HostRuntime) -> Result<(), Fail> {
 
 #[test]
 fn limits_of_a_world(rt: HostRuntime) -> Result<(), Fail> {
-    let mut world = World::format(rt.alloc(), Geometry::checked(8, 1, 1, 2, 2, 1, 1)?)?;
+    let mut world = World::format(rt.alloc(), tiny()?)?;
     let long = vec![in rt.alloc(); b'a'; 1025]?;
     plays(
         &rt,

@@ -33,7 +33,12 @@ fn binding(ino: u64, commit: u64) -> Binding {
 }
 
 /// Reserves a name. Where a growth is refused nothing has changed, and it asks again.
-fn reserve(rt: &impl Abort, alloc: Global, index: &mut NameIndex, bytes: &[u8]) -> Result<(), Fail> {
+fn reserve(
+    rt: &impl Abort,
+    alloc: Global,
+    index: &mut NameIndex,
+    bytes: &[u8],
+) -> Result<(), Fail> {
     let name = Name::read(alloc, bytes)?;
     let len = index.len();
     let was_reserved = index.is_reserved(bytes);
