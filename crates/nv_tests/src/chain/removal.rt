@@ -178,7 +178,7 @@ fn compacts(rt: HostRuntime) {
         let mut queue = queue_with(&rt, rt.alloc(), &mut list, row.pages.len() as u64);
         let fresh = blocks_of(&rt, rt.alloc(), &mut queue);
         let staying = chain.staying(row.gone);
-        same(&rt, fresh.len(), staying.div_ceil(chain.entries_per_page()));
+        assert!(rt; fresh.len() == staying.div_ceil(chain.entries_per_page()));
         let old = chain.compact(row.gone, fresh);
         assert_pages(&rt, &chain, row.pages, row.log);
         same(&rt, chain.spare(), 0);
