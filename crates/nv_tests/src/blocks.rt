@@ -172,35 +172,50 @@ fn writes_in_place(rt: HostRuntime) {
     list.dismantle();
 }
 
+fn one_page(rt: &impl Abort, alloc: Global, block: Block) -> Vec<Block> {
+    let mut pages = Vec::new(alloc);
+    match pages.push(block) {
+        Ok(()) => {}
+        Err(failed) => pages.push(failed.value).expect(rt, "memory for a page"),
+    }
+    pages
+}
+
+/// Puts the page of block 0 into the hand as a chain.
+fn put_chain(rt: &impl Abort, hand: &mut Hand, pages: Vec<Block>) {
+    assert!(rt; hand.chain.len() == 0);
+    hand.chain.put(pages);
+    same(rt, (hand.chain.len(), hand.is_empty()), (1, false));
+    let first = hand.chain.iter().next().map(|block| block.number());
+    same(rt, first, Some(BlockNo::new(0)));
+}
+
+/// Puts a number into the hand, and takes it again.
+fn hold_number(rt: &impl Abort, hand: &mut Hand) {
+    assert!(rt; hand.ino() == None);
+    hand.put_ino(Ino::new(2));
+    same(
+        rt,
+        (hand.is_empty(), hand.ino()),
+        (false, Some(Ino::new(2))),
+    );
+    same(rt, hand.take_ino(), Some(Ino::new(2)));
+}
+
 #[test]
 fn holds_a_chain_and_a_number(rt: HostRuntime) {
     let mut list = list_of(&rt, rt.alloc(), 0);
     let mut hand = hand_for(&rt, rt.alloc(), 1, 0);
     same(&rt, take(&rt, &mut list, &mut hand.data, 1), 1);
-    let mut pages = Vec::new(rt.alloc());
-    match pages.push(next(&rt, &mut hand.data)) {
-        Ok(()) => {}
-        Err(failed) => pages.push(failed.value).expect(&rt, "memory for a page"),
-    }
-    assert!(rt; hand.chain.len() == 0);
-    hand.chain.put(pages);
-    same(&rt, hand.chain.len(), 1);
-    assert!(rt; !hand.is_empty());
-    let mut numbers = hand.chain.iter().map(|block| block.number());
-    same(&rt, numbers.next(), Some(BlockNo::new(0)));
+    let pages = one_page(&rt, rt.alloc(), next(&rt, &mut hand.data));
+    put_chain(&rt, &mut hand, pages);
     let pages = hand.chain.take();
-    assert!(rt; hand.is_empty());
-    same(&rt, pages.len(), 1);
-    assert!(rt; hand.chain.len() == 0);
-    hand.chain.put(pages);
+    same(&rt, (hand.is_empty(), pages.len()), (true, 1));
+    put_chain(&rt, &mut hand, pages);
     hand.give_home(&mut list);
     assert!(rt; hand.chain.is_empty());
     assert_runs(&rt, &list, &[(0, 7)]);
-    assert!(rt; hand.ino() == None);
-    hand.put_ino(Ino::new(2));
-    assert!(rt; !hand.is_empty());
-    same(&rt, hand.ino(), Some(Ino::new(2)));
-    same(&rt, hand.take_ino(), Some(Ino::new(2)));
+    hold_number(&rt, &mut hand);
     hand.dismantle();
     list.dismantle();
 }

@@ -1,6 +1,6 @@
 //! What no clause of the index says.
 
-use crate::compare::{crosses_threads, same};
+use crate::compare::{crosses_threads, same, same_for};
 use crate::scenes::id;
 use nv_base::limits::FILE_PAGES;
 use nv_base::{EntryId, Fault};
@@ -53,6 +53,52 @@ fn write_all(
     Ok(())
 }
 
+/// A page, the end of its run, and what it is: commit, entry of the commit, place.
+const FIVE_RUNS: &[(u32, u32, u64, u32, u32)] = &[
+    (0, 1, 2, 0, 0),
+    (1, 2, 3, 0, 0),
+    (2, 3, 2, 0, 2),
+    (3, 4, 4, 0, 0),
+    (4, 5, 4, 1, 0),
+];
+
+fn has_five_runs(rt: &impl Abort, index: &FileIndex) {
+    for row in FIVE_RUNS {
+        let (first, end, commit, number, place) = *row;
+        let run = PageRun {
+            first,
+            end,
+            start: lies(commit, number, place),
+        };
+        same_for(rt, row, index.run_from(first), Some(run));
+        let start = Some(lies(commit, number, place));
+        same_for(rt, row, index.at(first), start);
+        let next = Some((first, lies(commit, number, place)));
+        same_for(rt, row, index.next_from(first), next);
+    }
+}
+
+/// A page, and how many are present from there on.
+const FIVE_PAGES: &[(u32, u32)] = &[
+    (0, 5),
+    (1, 4),
+    (4, 1),
+    (5, 0),
+    (65_535, 0),
+    (65_536, 0),
+    (u32::MAX, 0),
+];
+
+fn has_five_pages(rt: &impl Abort, index: &FileIndex) {
+    for (page, present) in FIVE_PAGES {
+        let some = *present > 0;
+        same_for(rt, page, index.present_from(*page), *present);
+        same_for(rt, page, index.at(*page).is_some(), some);
+        same_for(rt, page, index.next_from(*page).is_some(), some);
+        same_for(rt, page, index.run_from(*page).is_some(), some);
+    }
+}
+
 #[test]
 fn three_writes_make_one_three_and_five_runs(rt: HostRuntime) -> Result<(), Fail> {
     let mut index = FileIndex::new(rt.alloc());
@@ -67,50 +113,8 @@ fn three_writes_make_one_three_and_five_runs(rt: HostRuntime) -> Result<(), Fail
             (4, 1, 4, 1, 5),
         ],
     )?;
-    for (page, end, commit, number, place) in [
-        (0, 1, 2, 0, 0),
-        (1, 2, 3, 0, 0),
-        (2, 3, 2, 0, 2),
-        (3, 4, 4, 0, 0),
-        (4, 5, 4, 1, 0),
-    ] {
-        let run = PageRun {
-            first: page,
-            end,
-            start: lies(commit, number, place),
-        };
-        same(&rt, index.run_from(page), Some(run));
-        let found = (index.at(page), index.next_from(page));
-        same(
-            &rt,
-            found,
-            (
-                Some(lies(commit, number, place)),
-                Some((page, lies(commit, number, place))),
-            ),
-        );
-    }
-    for (page, present) in [
-        (0, 5),
-        (1, 4),
-        (4, 1),
-        (5, 0),
-        (65_535, 0),
-        (65_536, 0),
-        (u32::MAX, 0),
-    ] {
-        let some = (
-            index.at(page).is_some(),
-            index.next_from(page).is_some(),
-            index.run_from(page).is_some(),
-        );
-        let is_present = present > 0;
-        same(
-            &rt,
-            (some, index.present_from(page)),
-            ((is_present, is_present, is_present), present),
-        );
-    }
+    has_five_runs(&rt, &index);
+    has_five_pages(&rt, &index);
     Ok(())
 }
 

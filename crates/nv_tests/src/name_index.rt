@@ -49,6 +49,11 @@ fn reserve(
     Ok(())
 }
 
+fn bind(rt: &impl Abort, index: &mut NameIndex, name: &[u8], binding: Binding) {
+    assert!(rt; index.is_bound(name) || index.is_reserved(name));
+    index.bind(name, binding);
+}
+
 /// Makes the changes one after another.
 fn changed(rt: &impl Abort, alloc: Global, changes: &[Change]) -> Result<NameIndex, Fail> {
     let mut index = NameIndex::new(alloc);
@@ -57,8 +62,7 @@ fn changed(rt: &impl Abort, alloc: Global, changes: &[Change]) -> Result<NameInd
             Reserve(name) => reserve(rt, alloc, &mut index, name)?,
             Bind(name, ino) => {
                 reserve(rt, alloc, &mut index, name)?;
-                assert!(rt; index.is_bound(name) || index.is_reserved(name));
-                index.bind(name, binding(*ino, commit as u64));
+                bind(rt, &mut index, name, binding(*ino, commit as u64));
             }
             Unbind(name) => index.unbind(name),
             Clear => index.clear(),

@@ -2,7 +2,7 @@
 
 use crate::compare::same_for;
 use crate::scenes::{Row, geometry, numbers};
-use nv_base::{BlockNo, Fault, Geometry, GeometryField};
+use nv_base::{BlockNo, Fault, Geometry, GeometryField, GeometryNumbers};
 use std::process::Abort;
 use std::test::Fail;
 
@@ -38,6 +38,10 @@ const CHECKS: [(Row, Option<GeometryField>); 27] = [
     ([16, 2, 4, 4, 8, 0, 0], Some(GeometryField::Snaps)),
 ];
 
+fn checked(row: Row) -> Result<GeometryNumbers, Fault> {
+    Ok(geometry(row)?.numbers)
+}
+
 #[test]
 fn takes_the_limits_and_names_the_first_bad_field(rt: HostRuntime) {
     for (row, bad) in CHECKS {
@@ -45,8 +49,7 @@ fn takes_the_limits_and_names_the_first_bad_field(rt: HostRuntime) {
             None => Ok(numbers(row)),
             Some(field) => Err(Fault::BadGeometry(field)),
         };
-        let checked = geometry(row).map(|geometry| geometry.numbers);
-        same_for(&rt, &row, checked, want);
+        same_for(&rt, &row, checked(row), want);
     }
 }
 

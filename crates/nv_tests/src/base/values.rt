@@ -4,6 +4,8 @@ use crate::compare::{same, same_for};
 use crate::scenes::id;
 use nv_base::limits::{is_contended, most_drained};
 use nv_base::{BlockNo, Bytes, CommitNo, Epoch, Fault, Gen, Ino, Kind, Mode, Name};
+use std::alloc::Global;
+use std::process::Abort;
 use std::test::Fail;
 
 /// Bytes, and whether they are a lawful name.
@@ -31,17 +33,26 @@ const CHECKED: [(&[u8], bool); 17] = [
 fn names(rt: HostRuntime) -> Result<(), Fail> {
     for (bytes, lawful) in CHECKED {
         if lawful {
-            same_for(&rt, &bytes, Name::check(bytes), Ok(()));
-            let name = Name::read(rt.alloc(), bytes)?;
-            same(&rt, name.bytes(), bytes);
-            same(&rt, name.copied(rt.alloc())?.bytes(), bytes);
+            is_name(&rt, rt.alloc(), bytes)?;
         } else {
-            same_for(&rt, &bytes, Name::check(bytes), Err(Fault::BadName));
-            let read = Name::read(rt.alloc(), bytes).err();
-            same_for(&rt, &bytes, read, Some(Fault::BadName));
+            is_no_name(&rt, rt.alloc(), bytes);
         }
     }
     Ok(())
+}
+
+fn is_name(rt: &impl Abort, alloc: Global, bytes: &[u8]) -> Result<(), Fault> {
+    same_for(rt, &bytes, Name::check(bytes), Ok(()));
+    let name = Name::read(alloc, bytes)?;
+    let copy = name.copied(alloc)?;
+    assert!(rt; name.bytes() == bytes && copy.bytes() == bytes, "{bytes:?}");
+    Ok(())
+}
+
+fn is_no_name(rt: &impl Abort, alloc: Global, bytes: &[u8]) {
+    same_for(rt, &bytes, Name::check(bytes), Err(Fault::BadName));
+    let read = Name::read(alloc, bytes).err();
+    same_for(rt, &bytes, read, Some(Fault::BadName));
 }
 
 #[test]

@@ -170,6 +170,13 @@ fn are_numbered(rt: &impl Abort, blocks: &[Block], want: &[u64]) {
     }
 }
 
+/// Lays the chain anew in fresh pages, and gives the old ones.
+fn compact(rt: &impl Abort, chain: &mut Chain, gone: &[bool], fresh: Vec<Block>) -> Vec<Block> {
+    let staying = chain.staying(gone);
+    assert!(rt; fresh.len() == staying.div_ceil(chain.entries_per_page()));
+    chain.compact(gone, fresh)
+}
+
 #[test]
 fn compacts(rt: HostRuntime) {
     for row in &COMPACTIONS {
@@ -177,12 +184,10 @@ fn compacts(rt: HostRuntime) {
         let mut chain = nine_entries(&rt, rt.alloc(), &mut list);
         let mut queue = queue_with(&rt, rt.alloc(), &mut list, row.pages.len() as u64);
         let fresh = blocks_of(&rt, rt.alloc(), &mut queue);
-        let staying = chain.staying(row.gone);
-        assert!(rt; fresh.len() == staying.div_ceil(chain.entries_per_page()));
-        let old = chain.compact(row.gone, fresh);
+        let old = compact(&rt, &mut chain, row.gone, fresh);
+        are_numbered(&rt, &old, row.out);
         assert_pages(&rt, &chain, row.pages, row.log);
         same(&rt, chain.spare(), 0);
-        are_numbered(&rt, &old, row.out);
         reserve(&rt, &mut chain, 3);
         give_pages(rt.alloc(), old);
         let_go(rt.alloc(), chain, queue, list);

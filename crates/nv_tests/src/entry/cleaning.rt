@@ -6,14 +6,42 @@ use super::logs::{BLOCK, Line, epochs, log_of, retention};
 use super::rows::{
     KILLER, KILLER_GONE, MODES, MODES_LEFT, RUNS, SHORT_LIVED, SIZES, TOMBSTONE, UNBOUND_TWICE,
 };
-use crate::compare::{same, same_for};
+use crate::compare::same_for;
 use crate::scenes::id;
+use nv_base::Epoch;
 use nv_entry::{
     Entry, Part, PartId, Retention, fast_keeps, is_droppable, is_kept, live, thorough_keeps, valid,
 };
 use std::alloc::Global;
 use std::process::Abort;
 use std::test::Fail;
+
+/// A log, its living snapshots, and the pairs that are pending.
+#[derive(Drop)]
+struct Scene {
+    log: Vec<Entry>,
+    snapshots: Vec<Epoch>,
+    pending: Vec<PartId>,
+}
+
+impl Scene {
+    fn of(
+        alloc: Global,
+        lines: &[Line],
+        snapshots: &[u64],
+        pending: &[(u64, u32, Part)],
+    ) -> Result<Scene, Fail> {
+        Ok(Scene {
+            log: log_of(alloc, lines)?,
+            snapshots: epochs(alloc, snapshots)?,
+            pending: names(alloc, pending)?,
+        })
+    }
+
+    fn retention(&self) -> Retention<'_> {
+        retention(&self.snapshots, &self.pending)
+    }
+}
 
 /// A log, its living snapshots, and how many entries of it from a place on have a current pair, or one that is
 /// kept.
@@ -35,12 +63,11 @@ const COUNTS: &[(&[Line], &[u64], usize, usize, usize, usize)] = &[
 #[test]
 fn counts_of_pages(rt: HostRuntime) -> Result<(), Fail> {
     for (lines, snapshots, from, count, current, kept) in COUNTS {
-        let log = log_of(rt.alloc(), lines)?;
-        let snapshots = epochs(rt.alloc(), snapshots)?;
-        let page = log.get(*from..).ok_or("a page")?;
+        let scene = Scene::of(rt.alloc(), lines, snapshots, &[])?;
+        let page = scene.log.get(*from..).ok_or("a page")?;
         assert!(rt; *count <= page.len());
         same_for(&rt, &lines, live(BLOCK, page, *count), *current);
-        let retention = retention(&snapshots, &[]);
+        let retention = scene.retention();
         same_for(&rt, &lines, valid(&retention, page, *count), *kept);
     }
     Ok(())
@@ -104,10 +131,8 @@ const MAY_GO: &[Judged] = &[
 #[test]
 fn droppable_entries(rt: HostRuntime) -> Result<(), Fail> {
     for (lines, snapshots, pending, kept, goes) in MAY_GO {
-        let log = log_of(rt.alloc(), lines)?;
-        let snapshots = epochs(rt.alloc(), snapshots)?;
-        let pending = names(rt.alloc(), pending)?;
-        are_judged(&rt, &retention(&snapshots, &pending), &log, kept, goes);
+        let scene = Scene::of(rt.alloc(), lines, snapshots, pending)?;
+        are_judged(&rt, &scene.retention(), &scene.log, kept, goes);
     }
     Ok(())
 }
@@ -278,16 +303,14 @@ const MODES_KEPT: &[bool] = &[true, false, false, false, false, false, false, fa
 #[test]
 fn walks_of_cleaners(rt: HostRuntime) -> Result<(), Fail> {
     for (lines, snapshots, pending, entries, counts, pages) in WALKS {
-        let log = log_of(rt.alloc(), lines)?;
-        let snapshots = epochs(rt.alloc(), snapshots)?;
-        let pending = names(rt.alloc(), pending)?;
-        let retention = retention(&snapshots, &pending);
-        let kept = thorough_keeps(rt.alloc(), &retention, &log)?;
+        let scene = Scene::of(rt.alloc(), lines, snapshots, pending)?;
+        let retention = scene.retention();
+        let kept = thorough_keeps(rt.alloc(), &retention, &scene.log)?;
         same_for(&rt, &lines, kept.as_slice(), *entries);
         same_for(
             &rt,
             &lines,
-            fast_cleaned(&rt, rt.alloc(), &retention, &log, counts)?.as_slice(),
+            fast_cleaned(&rt, rt.alloc(), &retention, &scene.log, counts)?.as_slice(),
             *pages,
         );
     }

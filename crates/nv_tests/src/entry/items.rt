@@ -38,23 +38,28 @@ fn parts_in_order(rt: HostRuntime) -> Result<(), Fail> {
             item: item(rt.alloc(), *says)?,
         };
         let parts: Vec<Part> = entry.parts().collect(rt.alloc())?;
-        same(&rt, parts.as_slice(), *wanted);
-        same(&rt, entry.item.part_count() as usize, wanted.len());
-        for place in 0..4 {
-            same(
-                &rt,
-                entry.item.part_at(place),
-                wanted.get(place as usize).copied(),
-            );
-        }
-        for part in &parts {
-            assert!(rt;
-                entry.item.covers(BLOCK, entry.item.part_key(*part)),
-                "{part:?} of {says:?}"
-            );
-        }
+        same_for(&rt, says, parts.as_slice(), *wanted);
+        has_parts(&rt, &entry.item, wanted);
+        covers_parts(&rt, &entry.item, &parts);
     }
     Ok(())
+}
+
+fn has_parts(rt: &impl Abort, item: &Item, wanted: &[Part]) {
+    same_for(rt, item, item.part_count() as usize, wanted.len());
+    for place in 0..4 {
+        let part = wanted.get(place as usize).copied();
+        same_for(rt, item, item.part_at(place), part);
+    }
+}
+
+fn covers_parts(rt: &impl Abort, item: &Item, parts: &[Part]) {
+    for part in parts {
+        assert!(rt;
+            item.covers(BLOCK, item.part_key(*part)),
+            "{part:?} of {item:?}"
+        );
+    }
 }
 
 /// What an item does to a key.

@@ -2,7 +2,8 @@
 
 use super::pieces::Pieces;
 use super::rows::{FORMAT, SCRIPTS};
-use nv_base::Fault;
+use crate::compare::same_for;
+use nv_base::{Fault, ScriptFaultKind};
 use nv_script::play;
 use std::alloc::{AllocError, Global};
 use std::test::Fail;
@@ -16,40 +17,57 @@ fn written_by_front(alloc: Global, front: &[u8]) -> Result<Vec<u8>, AllocError> 
     Ok(written)
 }
 
+/// Plays a script whose reader fails after so many calls of seven bytes.
+fn play_to_failed_read(alloc: Global, script: &[u8], calls: usize) -> (Result<(), Fault>, Vec<u8>) {
+    let mut reader = Pieces {
+        inner: script,
+        most: 7,
+        calls,
+    };
+    let mut written = Vec::new(alloc);
+    let outcome = play(alloc, &mut reader, &mut written);
+    (outcome, written)
+}
+
 #[test]
 fn failed_reads(rt: HostRuntime) -> Result<(), Fail> {
     let (script, want) = SCRIPTS[2];
     let bytes = script.as_bytes();
     for calls in 0..=bytes.len() / 7 + 1 {
-        let mut reader = Pieces {
-            inner: bytes,
-            most: 7,
-            calls,
-        };
-        let mut written = Vec::new(rt.alloc());
-        let outcome = play(rt.alloc(), &mut reader, &mut written);
+        let (outcome, written) = play_to_failed_read(rt.alloc(), bytes, calls);
         let front = &bytes[..bytes.len().min(7 * calls)];
-        assert!(rt; outcome == Err(Fault::Read), "{calls}");
-        assert!(rt; written == written_by_front(rt.alloc(), front)?, "{calls}");
+        let by_front = written_by_front(rt.alloc(), front)?;
+        same_for(&rt, &calls, outcome, Err(Fault::Read));
+        same_for(&rt, &calls, written.as_slice(), by_front.as_slice());
         assert!(rt; want.as_bytes().starts_with(&written), "{calls}");
     }
     Ok(())
+}
+
+/// Plays a script whose writer fails after so many calls of seven bytes.
+fn play_to_failed_write(
+    alloc: Global,
+    script: &[u8],
+    calls: usize,
+) -> (Result<(), Fault>, Vec<u8>) {
+    let mut reader = script;
+    let mut writer = Pieces {
+        inner: Vec::new(alloc),
+        most: 7,
+        calls,
+    };
+    let outcome = play(alloc, &mut reader, &mut writer);
+    (outcome, writer.inner)
 }
 
 #[test]
 fn failed_writes(rt: HostRuntime) -> Result<(), Fail> {
     let (script, want) = SCRIPTS[2];
     for calls in 0..want.len().div_ceil(7) {
-        let mut reader = script.as_bytes();
-        let mut writer = Pieces {
-            inner: Vec::new(rt.alloc()),
-            most: 7,
-            calls,
-        };
-        let outcome = play(rt.alloc(), &mut reader, &mut writer);
-        assert!(rt; outcome == Err(Fault::Write), "{calls}");
-        assert!(rt; want.as_bytes().starts_with(&writer.inner), "{calls}");
-        assert!(rt; writer.inner.len() >= calls, "{calls}");
+        let (outcome, written) = play_to_failed_write(rt.alloc(), script.as_bytes(), calls);
+        same_for(&rt, &calls, outcome, Err(Fault::Write));
+        assert!(rt; want.as_bytes().starts_with(&written), "{calls}");
+        assert!(rt; written.len() >= calls, "{calls}");
     }
     Ok(())
 }
@@ -99,32 +117,53 @@ fn past_twice<'a>(text: &'a [u8], first: &[u8], then: &[u8]) -> Option<&'a [u8]>
     }
 }
 
-/// Plays each line twice. With ample memory all are answered; with the runner's choice of one refused
-/// allocation one call is refused and the rest goes on, or the script ends there.
-#[test]
-fn one_refused_growth(rt: HostRuntime) -> Result<(), Fail> {
-    let mut script = String::from_str(rt.alloc(), FORMAT)?;
+/// Whether this is the text of a format and of all lines, each played twice.
+fn is_text_of_all(written: &[u8]) -> bool {
+    let Some(mut rest) = written.strip_prefix(b"formatted\n") else {
+        return false;
+    };
+    for (_, first, then) in TWICE {
+        match past_twice(rest, first, then) {
+            Some(past) => rest = past,
+            None => return false,
+        }
+    }
+    rest.is_empty()
+}
+
+/// Whether a run that may be refused memory once ends as it may: all lines are answered, or the format is refused and
+/// the next line stands before one, or the script ends behind a line.
+fn may_end(outcome: &Result<(), Fault>, written: &[u8]) -> bool {
+    if outcome.is_ok() {
+        is_text_of_all(written)
+    } else if written == REFUSED {
+        *outcome == Err(Fault::ScriptFault(2, ScriptFaultKind::Order))
+    } else {
+        *outcome == Err(Fault::OutOfMemory) && written.last().is_none_or(|byte| *byte == b'\n')
+    }
+}
+
+/// A format, and each line twice.
+fn each_twice(alloc: Global) -> Result<String, AllocError> {
+    let mut script = String::from_str(alloc, FORMAT)?;
     for (line, _, _) in TWICE {
         script.push_str(line)?;
         script.push_str(line)?;
     }
+    Ok(script)
+}
+
+/// Plays each line twice. With ample memory all are answered; with the runner's choice of one refused
+/// allocation one call is refused and the rest goes on, or the script ends there.
+#[test]
+fn one_refused_growth(rt: HostRuntime) -> Result<(), Fail> {
+    let script = each_twice(rt.alloc())?;
     let mut reader = script.as_bytes();
     let mut room = [0u8; 1024];
     let mut writer = room.as_mut_slice();
     let outcome = play(rt.alloc(), &mut reader, &mut writer);
     let left = writer.len();
     let written = &room[..1024 - left.min(1024)];
-    if outcome.is_ok() {
-        let mut rest = written.strip_prefix(b"formatted\n").ok_or("format")?;
-        for (_, first, then) in TWICE {
-            rest = past_twice(rest, first, then).ok_or("a line")?;
-        }
-        assert!(rt; rest.is_empty());
-    } else if written == REFUSED {
-        assert!(rt; outcome == Err(Fault::ScriptFault(2, nv_base::ScriptFaultKind::Order)));
-    } else {
-        assert!(rt; outcome == Err(Fault::OutOfMemory));
-        assert!(rt; written.last().is_none_or(|byte| *byte == b'\n'));
-    }
+    assert!(rt; may_end(&outcome, written));
     Ok(())
 }

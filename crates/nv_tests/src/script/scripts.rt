@@ -148,10 +148,35 @@ fn answers_are_one_write_where_no_line_is_waited_for(rt: HostRuntime) -> Result<
     Ok(())
 }
 
+/// Fronts of texts, how many zeros follow, and their ends.
+const LONG: &[(&str, usize, &str)] = &[
+    ("formatted\ndone 1.1\ndone 1\n", 0, ""),
+    ("done 20000 ", 20_000, "\n"),
+    ("done 20000 ", 20_000, "\n"),
+    ("done 40001 ", 40_000, "a\n"),
+    ("done 1 a\n", 0, ""),
+];
+
+fn long_text(alloc: Global) -> Result<Vec<u8>, AllocError> {
+    let mut text = Vec::new(alloc);
+    for (front, zeros, end) in LONG {
+        text.extend_from_slice(front.as_bytes())?;
+        push_zeros(&mut text, *zeros)?;
+        text.extend_from_slice(end.as_bytes())?;
+    }
+    Ok(text)
+}
+
+fn push_zeros(text: &mut Vec<u8>, count: usize) -> Result<(), AllocError> {
+    for _ in 0..count {
+        text.extend_from_slice(b"%00")?;
+    }
+    Ok(())
+}
+
 /// Texts that have no room together, and one that has none alone.
 #[test]
 fn long_texts(rt: HostRuntime) -> Result<(), Fail> {
-    let alloc = rt.alloc();
     let script = "format blocks=64 cpus=1 block=4096 page=2 inodes=2 snaps=1 actors=1\n\
                   do 0 create 0.1 a 420\n\
                   do 0 write 1.1 40000 a\n\
@@ -159,20 +184,7 @@ fn long_texts(rt: HostRuntime) -> Result<(), Fail> {
                   do 0 read 1.1 0 20000\n\
                   do 0 read 1.1 0 50000\n\
                   do 0 read 1.1 40000 1\n";
-    let mut text = Vec::from_slice(alloc, b"formatted\ndone 1.1\ndone 1\n")?;
-    for (front, zeros, end) in [
-        ("done 20000 ", 20_000, "\n"),
-        ("done 20000 ", 20_000, "\n"),
-        ("done 40001 ", 40_000, "a\n"),
-    ] {
-        text.extend_from_slice(front.as_bytes())?;
-        for _ in 0..zeros {
-            text.extend_from_slice(b"%00")?;
-        }
-        text.extend_from_slice(end.as_bytes())?;
-    }
-    text.extend_from_slice(b"done 1 a\n")?;
-    check(&rt, script.as_bytes(), Ok(()), &text);
+    check(&rt, script.as_bytes(), Ok(()), &long_text(rt.alloc())?);
     Ok(())
 }
 
