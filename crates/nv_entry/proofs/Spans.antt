@@ -167,7 +167,7 @@ none_pass r test steady (x ∷ xs) h =
     rw (steady.fails x p.0) (none_pass r test steady xs p.1)
 
 -- the pairs of an entry, where those behind it change and the test does not see it
-same_pairs : (test : Pair → Bool) (block : ℕ) (x : Entry) (olds news : List Entry) (parts : List Part)
+pub same_pairs : (test : Pair → Bool) (block : ℕ) (x : Entry) (olds news : List Entry) (parts : List Part)
     → AllByRecursion (λ p. test (pair_of block x news p) ≡ test (pair_of block x olds p)) parts
     → map pair_name (filter test (map (pair_of block x news) parts)) ≡ map pair_name (filter test (map (pair_of block x olds) parts))
 same_pairs test block x olds news [] h = refl
@@ -198,7 +198,7 @@ parts_stay r test steady front x mid e later h follow (p ∷ parts) set = (
   parts_stay r test steady front x mid e later h follow parts set.1,
 )
 
-where-cons : (test : Pair → Bool) (block : ℕ) (x : Entry) (log : List Entry)
+pub where-cons : (test : Pair → Bool) (block : ℕ) (x : Entry) (log : List Entry)
     → pairs_where test block (x ∷ log) ≡ map pair_name (filter test (pairs_of block x log)) ++ pairs_where test block log
 where-cons test block x log =
     ap (map pair_name) (filter-append test (pairs_of block x log) (pairs block log))

@@ -1,7 +1,7 @@
 //! Which part of which entry holds a key, from scratch.
 
 ghost use Rattle.std.specs.Prelude.{◌≡◌, ◌<◌};
-ghost use Rattle.nv_entry.specs.Keys.{key_named};
+ghost use Rattle.nv_entry.specs.Keys.{IsFileKey, key_named};
 ghost use Rattle.nv_entry.specs.Refs.{place_in, ref_after, scan_ref};
 
 use crate::{Entry, Item, Key, Setting};
@@ -45,7 +45,7 @@ fn ref_after(block: u64, entry: &Entry, key: Key<'_>, before: Option<PartRef>) -
 impl Item {
     /// The place of a key among the parts of an entry that sets it to a value, from 0.
     pub fn place_of(&self, key: Key<'_>) -> u32
-        requires { place_in self.now (key_named key) < 65537 }
+        requires { IsFileKey (key_named key) }
         ensures { result ≡ place_in self.now (key_named key.entry) }
     {
         match self {
