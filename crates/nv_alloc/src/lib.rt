@@ -15,8 +15,6 @@ mod laws;
 mod places;
 mod queue;
 mod runs;
-#[cfg(test)]
-mod tests;
 
 pub use block::Block;
 pub use chain_pages::ChainPages;

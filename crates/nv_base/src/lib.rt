@@ -12,8 +12,6 @@ pub mod limits;
 mod name;
 mod node;
 mod numbers;
-#[cfg(test)]
-mod tests;
 
 pub use fault::{Fault, GeometryField, ImageFault, MismatchPart, ScriptFaultKind};
 pub use geometry::{Geometry, GeometryNumbers, home_ranges_cut_the_blocks};

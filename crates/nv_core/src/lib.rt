@@ -13,8 +13,6 @@ mod file;
 mod node;
 mod run;
 mod step;
-#[cfg(test)]
-mod tests;
 mod tree;
 mod world;
 

@@ -21,8 +21,6 @@ mod part;
 mod part_ref;
 mod retention;
 pub mod stored;
-#[cfg(test)]
-mod tests;
 mod value;
 mod walk;
 

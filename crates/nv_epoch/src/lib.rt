@@ -10,8 +10,6 @@ pub mod laws;
 mod search;
 mod snap_list;
 mod snapshot;
-#[cfg(test)]
-mod tests;
 
 pub use ids::Ids;
 pub use snap_list::SnapList;

@@ -5,8 +5,6 @@ mod file_index;
 mod page_ref;
 mod page_run;
 mod runs;
-#[cfg(test)]
-mod tests;
 
 pub use file_index::FileIndex;
 pub use page_ref::PageRef;

@@ -6,8 +6,6 @@
 
 mod journal;
 mod old_tail;
-#[cfg(test)]
-mod tests;
 
 pub use journal::Journal;
 pub use old_tail::{OldTail, are_distinct};

@@ -9,7 +9,6 @@ mod pages;
 mod reads;
 mod removal;
 mod search;
-#[cfg(test)]
-mod tests;
 
 pub use chain::Chain;
+pub use reads::ReadCount;

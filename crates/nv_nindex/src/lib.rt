@@ -9,8 +9,6 @@ mod binding;
 mod bindings;
 mod laws;
 mod name_index;
-#[cfg(test)]
-mod tests;
 
 pub use binding::Binding;
 pub use bindings::Bindings;

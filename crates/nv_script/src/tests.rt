@@ -1,8 +1,4 @@
-//! Lines, words and whole scripts. What scripts write comes from worked examples.
+//! Lines and words.
 
-mod ends;
-mod faults;
 mod lines;
-mod rows;
-mod scripts;
 mod words;

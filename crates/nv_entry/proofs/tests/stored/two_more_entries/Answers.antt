@@ -1,5 +1,0 @@
-use Rattle.std.proofs.Common.{[], ◌∷◌}
-use Rattle.nv_entry.proofs.tests.stored.two_more_entries.Goals as goal
-
-pub returns : goal.returns
-returns c bytes block log e f = c.several_items.ensures bytes block log (e ∷ f ∷ [])

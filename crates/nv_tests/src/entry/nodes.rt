@@ -1,0 +1,116 @@
+//! The nodes that logs give, now and at a snapshot.
+
+use super::logs::{BLOCK, Device, Line, handle, log_of, when};
+use super::rows::{CUT, NAMES, OVERWRITTEN, REMOVED, RUNS, SHORT_LIVED};
+use nv_base::{BlockNo, Kind};
+use nv_entry::{BlockBytes, BoundName, NameList, NodeCopy, names_when, node_when, size_when};
+use std::process::Abort;
+use std::test::Fail;
+
+/// What is read.
+#[derive(Clone, Copy)]
+enum Reads {
+    File(&'static [u8]),
+    /// Names in order, each with the inode that it leads to.
+    Directory(&'static [(&'static str, u64)]),
+    Nothing,
+}
+
+/// A log, a time, the blocks of the device, and what is read there.
+const READS: &[(&[Line], Option<u64>, &[[u8; 4]], Reads)] = &[
+    (OVERWRITTEN, Some(1), LETTERS, Reads::File(b"aaaa")),
+    (OVERWRITTEN, None, LETTERS, Reads::File(b"bbbb")),
+    (SHORT_LIVED, Some(1), LETTERS, Reads::File(b"aaaa")),
+    (SHORT_LIVED, None, LETTERS, Reads::File(b"cccc")),
+    (CUT, Some(1), ALPHABET, Reads::File(b"abcdefghij")),
+    (CUT, None, ALPHABET, Reads::File(b"abcde\0\0\0\0\0\0\0")),
+    (RUNS, None, SCATTERED, Reads::File(b"aaaaBBBBccccddddeeee")),
+    (NAMES, Some(1), &[], Reads::Directory(&[("a", 1), ("b", 2)])),
+    (NAMES, Some(2), &[], Reads::Directory(&[("b", 2), ("a", 3)])),
+    (NAMES, None, &[], Reads::Directory(&[("a", 3)])),
+    (REMOVED, Some(1), &[], Reads::Directory(&[("a", 1)])),
+    (REMOVED, None, &[], Reads::Nothing),
+    (&[], None, &[], Reads::Nothing),
+];
+
+const LETTERS: &[[u8; 4]] = &[[0; 4], [0; 4], *b"aaaa", *b"bbbb", *b"cccc"];
+
+const ALPHABET: &[[u8; 4]] = &[[0; 4], [0; 4], *b"abcd", *b"efgh", *b"ij\0\0", *b"e\0\0\0"];
+
+const SCATTERED: &[[u8; 4]] = &[
+    [0; 4], [0; 4], *b"aaaa", *b"dddd", *b"cccc", *b"BBBB", *b"eeee",
+];
+
+#[test]
+fn nodes(rt: HostRuntime) -> Result<(), Fail> {
+    for (lines, epoch, blocks, wanted) in READS {
+        let log = log_of(rt.alloc(), lines)?;
+        let device = Device { blocks };
+        let node = node_when(rt.alloc(), BLOCK, when(*epoch), &log, &device)?;
+        is_read(&rt, &node, *wanted);
+        let names = names_when(rt.alloc(), when(*epoch), &log)?;
+        same_names(&rt, names.as_slice(), names_of(*wanted));
+        assert_eq!(rt;
+            size_when(when(*epoch), &log),
+            bytes_of(*wanted).len() as u64,
+            "{lines:?}"
+        );
+    }
+    Ok(())
+}
+
+fn bytes_of(wanted: Reads) -> &'static [u8] {
+    match wanted {
+        Reads::File(bytes) => bytes,
+        Reads::Directory(_) | Reads::Nothing => &[],
+    }
+}
+
+fn names_of(wanted: Reads) -> &'static [(&'static str, u64)] {
+    match wanted {
+        Reads::Directory(names) => names,
+        Reads::File(_) | Reads::Nothing => &[],
+    }
+}
+
+fn is_read(rt: &impl Abort, node: &Option<NodeCopy>, wanted: Reads) {
+    let begun = match wanted {
+        Reads::File(_) => Some((Kind::File, 420)),
+        Reads::Directory(_) => Some((Kind::Dir, 493)),
+        Reads::Nothing => None,
+    };
+    match node {
+        None => assert!(rt; begun.is_none()),
+        Some(node) => {
+            assert_eq!(rt; Some((node.kind, node.mode.bits())), begun);
+            assert_eq!(rt; node.bytes.as_slice(), bytes_of(wanted));
+            same_names(rt, node.names.as_slice(), names_of(wanted));
+        }
+    }
+}
+
+fn same_names(rt: &impl Abort, names: &[BoundName], wanted: &[(&str, u64)]) {
+    assert_eq!(rt; names.len(), wanted.len());
+    for (bound, (name, ino)) in names.iter().zip(wanted) {
+        assert_eq!(rt; bound.name.bytes(), name.as_bytes());
+        assert_eq!(rt; bound.to, handle(*ino));
+    }
+}
+
+#[test]
+fn a_list_from_a_vec(rt: HostRuntime) -> Result<(), Fail> {
+    let list = NameList::from_vec(Vec::new(rt.alloc()));
+    assert!(rt; list.is_empty());
+    assert_eq!(rt; list.len(), 0);
+    assert!(rt; list.into_vec().is_empty());
+    Ok(())
+}
+
+#[test]
+fn a_device_has_no_further_blocks(rt: HostRuntime) {
+    let device = Device {
+        blocks: &[*b"aaaa"],
+    };
+    assert_eq!(rt; device.bytes(BlockNo::new(0)), b"aaaa".as_slice());
+    assert!(rt; device.bytes(BlockNo::new(1)).is_empty());
+}

@@ -1,0 +1,6 @@
+//! Whole scripts and their ends. What scripts write comes from worked examples.
+
+mod ends;
+mod faults;
+mod rows;
+mod scripts;

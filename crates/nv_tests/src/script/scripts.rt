@@ -1,0 +1,224 @@
+//! Whole scripts, and what they write.
+
+use super::rows::{FAULTS, FORMAT, SCRIPTS};
+use nv_base::Fault;
+use nv_script::{fault_text, play};
+use std::alloc::{AllocError, Global};
+use std::cell::Cell;
+use std::io;
+use std::io::{Read, Write};
+use std::process::Abort;
+use std::test::Fail;
+
+/// Plays a script, and asserts how it ends and what it writes.
+pub(super) fn check<R: AllocGlobal + Abort>(
+    rt: &R,
+    script: &[u8],
+    outcome: Result<(), Fault>,
+    text: &[u8],
+) {
+    let mut reader = script;
+    let mut written = Vec::new(rt.alloc());
+    let ended = play(rt.alloc(), &mut reader, &mut written);
+    assert!(rt; ended == outcome, "{script:?}");
+    assert!(rt; written.as_slice() == text, "{script:?}");
+}
+
+/// A front, so many bytes, and an end.
+pub(super) fn filled(
+    alloc: Global,
+    front: &str,
+    byte: u8,
+    count: usize,
+    end: &[u8],
+) -> Result<Vec<u8>, AllocError> {
+    let mut bytes = Vec::from_slice(alloc, front.as_bytes())?;
+    bytes.extend_from_slice(&vec![in alloc; byte; count]?)?;
+    bytes.extend_from_slice(end)?;
+    Ok(bytes)
+}
+
+#[test]
+fn scripts_write_their_texts(rt: HostRuntime) -> Result<(), Fail> {
+    for (script, text) in SCRIPTS {
+        check(&rt, script.as_bytes(), Ok(()), text.as_bytes());
+    }
+    let one_page = "format blocks=2000 cpus=1 block=1 page=2 inodes=2 snaps=1 actors=1\n\
+                    do 0 create 0.1 a 420\n\
+                    do 0 write 1.1 0 ";
+    for (letters, text) in [
+        (1_024, "formatted\ndone 1.1\ndone 1024\n"),
+        (1_025, "formatted\ndone 1.1\nrefused E11 WriteTooBig\n"),
+    ] {
+        let script = filled(rt.alloc(), one_page, b'a', letters, b"\n")?;
+        check(&rt, &script, Ok(()), text.as_bytes());
+    }
+    Ok(())
+}
+
+/// Gives one line at a time, or takes any bytes. Each line's text must have been taken before the next line
+/// is asked for.
+#[derive(Drop)]
+struct Terminal<'a> {
+    lines: &'a [(&'a str, &'a str)],
+    given: usize,
+    taken: &'a Cell<usize>,
+    texts: usize,
+    is_answered: bool,
+}
+
+impl<'a> Read for Terminal<'a> {
+    fn read(&mut self, buf: &mut [u8]) -> io::Result<usize> {
+        self.is_answered = self.is_answered && self.taken.get() == self.texts;
+        if self.given >= self.lines.len() {
+            return Ok(0);
+        }
+        let (line, text) = self.lines[self.given];
+        let count = line.len().min(buf.len());
+        buf[..count].copy_from_slice(&line.as_bytes()[..count]);
+        self.texts = self.texts.saturating_add(text.len());
+        self.given += 1;
+        Ok(count)
+    }
+}
+
+/// Counts the bytes that it takes, and the calls.
+#[derive(Drop)]
+struct Screen<'a> {
+    taken: &'a Cell<usize>,
+    calls: usize,
+}
+
+impl<'a> Write for Screen<'a> {
+    fn write(&mut self, buf: &[u8]) -> io::Result<usize> {
+        self.taken.set(self.taken.get().saturating_add(buf.len()));
+        self.calls = self.calls.saturating_add(1);
+        Ok(buf.len())
+    }
+
+    fn flush(&mut self) -> io::Result<()> {
+        Ok(())
+    }
+}
+
+#[test]
+fn each_line_is_answered_before_the_next_is_asked_for(rt: HostRuntime) -> Result<(), Fail> {
+    let taken = Cell::new(0);
+    let mut reader = Terminal {
+        lines: &[
+            (FORMAT, "formatted\n"),
+            ("# a comment\n", ""),
+            ("do 0 create 0.1 a 420\n", "done 1.1\n"),
+            ("do 0 create 0.1 a 420\n", "refused E8 Exists\n"),
+            ("tree\n", "/ d 493\n/a f 420 0\nend\n"),
+        ],
+        given: 0,
+        taken: &taken,
+        texts: 0,
+        is_answered: true,
+    };
+    let mut writer = Screen {
+        taken: &taken,
+        calls: 0,
+    };
+    let outcome = play(rt.alloc(), &mut reader, &mut writer);
+    assert!(rt; outcome.is_ok() && reader.is_answered && reader.given == 5);
+    assert!(rt; writer.calls == 4);
+    Ok(())
+}
+
+#[test]
+fn answers_are_one_write_where_no_line_is_waited_for(rt: HostRuntime) -> Result<(), Fail> {
+    let taken = Cell::new(0);
+    for (script, text) in SCRIPTS {
+        let mut reader = script.as_bytes();
+        let mut writer = Screen {
+            taken: &taken,
+            calls: 0,
+        };
+        taken.set(0);
+        let outcome = play(rt.alloc(), &mut reader, &mut writer);
+        assert!(rt; outcome.is_ok() && taken.get() == text.len(), "{script}");
+        assert!(rt; writer.calls == text.len().min(1), "{script}");
+    }
+    Ok(())
+}
+
+/// Texts that have no room together, and one that has none alone.
+#[test]
+fn long_texts(rt: HostRuntime) -> Result<(), Fail> {
+    let alloc = rt.alloc();
+    let script = "format blocks=64 cpus=1 block=4096 page=2 inodes=2 snaps=1 actors=1\n\
+                  do 0 create 0.1 a 420\n\
+                  do 0 write 1.1 40000 a\n\
+                  do 0 read 1.1 0 20000\n\
+                  do 0 read 1.1 0 20000\n\
+                  do 0 read 1.1 0 50000\n\
+                  do 0 read 1.1 40000 1\n";
+    let mut text = Vec::from_slice(alloc, b"formatted\ndone 1.1\ndone 1\n")?;
+    for (front, zeros, end) in [
+        ("done 20000 ", 20_000, "\n"),
+        ("done 20000 ", 20_000, "\n"),
+        ("done 40001 ", 40_000, "a\n"),
+    ] {
+        text.extend_from_slice(front.as_bytes())?;
+        for _ in 0..zeros {
+            text.extend_from_slice(b"%00")?;
+        }
+        text.extend_from_slice(end.as_bytes())?;
+    }
+    text.extend_from_slice(b"done 1 a\n")?;
+    check(&rt, script.as_bytes(), Ok(()), &text);
+    Ok(())
+}
+
+/// Gives and takes one byte at a time.
+#[derive(Drop)]
+struct OneByOne<T> {
+    inner: T,
+}
+
+impl<T: Read> Read for OneByOne<T> {
+    fn read(&mut self, buf: &mut [u8]) -> io::Result<usize> {
+        let count = buf.len().min(1);
+        self.inner.read(&mut buf[..count])
+    }
+}
+
+impl<T: Write> Write for OneByOne<T> {
+    fn write(&mut self, buf: &[u8]) -> io::Result<usize> {
+        let count = buf.len().min(1);
+        self.inner.write(&buf[..count])
+    }
+
+    fn flush(&mut self) -> io::Result<()> {
+        Ok(())
+    }
+}
+
+#[test]
+fn scripts_come_and_go_byte_by_byte(rt: HostRuntime) -> Result<(), Fail> {
+    for (script, want) in SCRIPTS {
+        let mut reader = OneByOne {
+            inner: script.as_bytes(),
+        };
+        let mut writer = OneByOne {
+            inner: Vec::new(rt.alloc()),
+        };
+        let outcome = play(rt.alloc(), &mut reader, &mut writer);
+        assert!(rt;
+            outcome.is_ok() && writer.inner.as_slice() == want.as_bytes(),
+            "{script}"
+        );
+    }
+    Ok(())
+}
+
+#[test]
+fn faults_have_their_texts(rt: HostRuntime) -> Result<(), Fail> {
+    for (fault, want) in FAULTS {
+        let text = fault_text(rt.alloc(), &fault)?;
+        assert!(rt; text.as_str() == want, "{want}");
+    }
+    Ok(())
+}
