@@ -251,6 +251,40 @@ several_give bytes block log more after some sound m =
 pub empty_sound : (bytes : ℕ → List ℕ) (block : ℕ) → IsSound bytes block []
 empty_sound bytes block = refl
 
+-- ---- what suits the kind
+
+tied_to : (bytes : ℕ → List ℕ) (block : ℕ) (log : List Entry) (given : Option NodeCopy) → IsSound bytes block log
+    → node_now bytes block log ≡ given → Tied bytes block (stored block log) given
+tied_to bytes block log given sound is = subst (Tied bytes block (stored block log)) is sound
+
+size_of_dir : (kind : Kind) (size : ℕ) (names : List BoundName) → kind ≡ Dir → SuitsKind kind size names → size ≡ 0
+size_of_dir File size names is h = cc
+size_of_dir Dir size names is h = h
+
+names_of_file : (kind : Kind) (size : ℕ) (names : List BoundName) → kind ≡ File → SuitsKind kind size names → names ≡ []
+names_of_file File size names is h = h
+names_of_file Dir size names is h = cc
+
+pub no_bytes_in_directories : (bytes : ℕ → List ℕ) (block : ℕ) (log : List Entry) (node : NodeCopy) → 0 < block → IsSound bytes block log
+    → node_now bytes block log ≡ Some node → node.kind ≡ Dir → (node.size ≡ 0) × ((number : ℕ) → Uses block log number → ⊥)
+no_bytes_in_directories bytes block log node some sound is dir =
+    let st = tied_to bytes block log (Some node) sound is in
+    let empty = size_of_dir node.kind node.size node.names dir st.suits in
+    let none = pages_for-most block node.size 0 some (omega (arith, empty)) in
+    (empty, λ number used. let below = st.within used.0 number used.1 in absurd (omega (arith, none, below)))
+
+pub no_names_in_files : (bytes : ℕ → List ℕ) (block : ℕ) (log : List Entry) (node : NodeCopy) → IsSound bytes block log
+    → node_now bytes block log ≡ Some node → node.kind ≡ File → names_of log ≡ []
+no_names_in_files bytes block log node sound is file =
+    let st = tied_to bytes block log (Some node) sound is in
+    st.names ∙ names_of_file node.kind node.size node.names file st.suits
+
+pub no_blocks_without_node : (bytes : ℕ → List ℕ) (block : ℕ) (log : List Entry) (number : ℕ) → IsSound bytes block log
+    → node_now bytes block log ≡ None → Uses block log number → ⊥
+no_blocks_without_node bytes block log number sound is used =
+    let none : block_now block log used.0 ≡ None = ap (λ (s : Stored). s.blocks used.0) (tied_to bytes block log None sound is) in
+    let z : None ≡ Some number = sym none ∙ used.1 in cc
+
 -- ---- blocks
 
 page-same : (bytes other : ℕ → List ℕ) (block : ℕ) (o : Option ℕ) → ((number : ℕ) → o ≡ Some number → other number ≡ bytes number)

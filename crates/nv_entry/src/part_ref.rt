@@ -7,7 +7,8 @@ ghost use Rattle.nv_entry.specs.Refs.{place_in, ref_after, scan_ref};
 use crate::{Entry, Item, Key, Setting};
 use nv_base::EntryId;
 
-/// A part of an entry of a log, by its place among the entry's parts, from 0.
+/// A part of an entry of a log, by its place among the entry's parts, from 0. The size of a `Write` is its part 0,
+/// so that the first page of its run is part 1.
 #[derive(Clone, Copy, Debug, PartialEq, Eq)]
 pub struct PartRef {
     pub entry: EntryId,

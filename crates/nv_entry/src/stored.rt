@@ -1,7 +1,7 @@
 //! Laws of what a log has stored, and of the names that it binds, each the contract of a function that does
 //! nothing.
 
-ghost use Rattle.std.specs.Prelude.{◌≡◌, ℕ, ◌+◌, ◌*◌, ◌/◌, ◌<◌, ◌≤◌, ◌⊎◌, List, [], ◌∷◌, ◌++◌, Option, Some, length, map, option_map};
+ghost use Rattle.std.specs.Prelude.{◌≡◌, ℕ, ◌+◌, ◌*◌, ◌/◌, ◌<◌, ◌≤◌, ◌⊎◌, List, [], ◌∷◌, ◌++◌, Option, None, Some, length, map, option_map};
 ghost use Rattle.nv_entry.specs.Bindings.{NamesDiffer};
 ghost use Rattle.nv_entry.specs.Blocks.{IsItemBlock, Uses};
 ghost use Rattle.nv_entry.specs.Bytes.{written};
@@ -12,7 +12,7 @@ ghost use Rattle.nv_entry.specs.Node.{node_now};
 ghost use Rattle.nv_entry.specs.Sound.{Gives, HasText, HaveText, IsSound, Makes, MakesAll, Tied, blocks_of, rewritten, write_items};
 ghost use Rattle.nv_entry.specs.Stored.{stored, stored_after, stored_after_all};
 ghost use Rattle.nv_base.specs.declared.limits.TheConstants.{FILE_PAGES};
-ghost use Rattle.nv_base.specs.declared.node.Kind.TheVariants.{File};
+ghost use Rattle.nv_base.specs.declared.node.Kind.TheVariants.{Dir, File};
 ghost use Rattle.nv_entry.specs.declared.item.Entry.{Entry};
 ghost use Rattle.nv_entry.specs.declared.item.Item.{Item};
 ghost use Rattle.nv_entry.specs.declared.item.Item.TheVariants.{Write};
@@ -57,6 +57,21 @@ pub fn lawful_items_keep_logs_sound()
         (after : Option NodeCopy) → 0 < block → IsSound bytes block log
         → MakesAll bytes block (map (λ (e : Entry). e.item) more) (node_now bytes block log) after
         → Gives bytes block (log ++ more) after }
+{}
+
+/// A sound log has the bytes and the names that suit its kind: a directory has the size 0 and uses no block, a file
+/// has no names, and a log that gives no node uses no block.
+pub fn sound_logs_suit_their_kind()
+    ensures directory { (bytes : ℕ → List ℕ) (block : ℕ) (log : List Entry) (node : NodeCopy)
+        → 0 < block → IsSound bytes block log → node_now bytes block log ≡ Some node
+        → node.kind ≡ Dir
+        → (node.size ≡ 0) × ((number : ℕ) → Uses block log number → ⊥) }
+    ensures file { (bytes : ℕ → List ℕ) (block : ℕ) (log : List Entry) (node : NodeCopy)
+        → IsSound bytes block log → node_now bytes block log ≡ Some node → node.kind ≡ File
+        → names_of log ≡ [] }
+    ensures none { (bytes : ℕ → List ℕ) (block : ℕ) (log : List Entry) (number : ℕ)
+        → IsSound bytes block log → node_now bytes block log ≡ None
+        → Uses block log number → ⊥ }
 {}
 
 /// One lawful item is lawful among several.
