@@ -240,8 +240,8 @@ pub written_makes : (bytes : ℕ → List ℕ) (block offset : ℕ) (text : List
     → Makes bytes block (Write (offset / block) run (length (written offset text node.bytes))) (Some node)
     (Some (rewritten offset text node))
 written_makes bytes block offset text run node some any fits file long old has = (
-  omega (arith, length-written offset text node.bytes),
   omega (arith, has.count, touched_within block offset text node.bytes some any),
+  pages_for-rises block node.size (length (written offset text node.bytes)) some (omega (arith, length-written offset text node.bytes)),
   record {
     file = file;
     same = refl;

@@ -26,7 +26,7 @@ use Rattle.nv_entry.specs.Node.{block_now, file_bytes, mode_now, node_now, node_
 use Rattle.nv_entry.specs.Sound.{Gives, IsSound, Makes, MakesAll, Rewrites, Stands, SuitsKind, Tied, empty_node, page_after}
 use Rattle.nv_entry.specs.Stored.{Stored, block_after, kind_in, nothing, stored, stored_after}
 use Rattle.nv_entry.proofs.Hiding.{run_parts}
-use Rattle.nv_entry.proofs.PageBytes.{joined_pages, page_of-past, pages_for-most, pages_for-rises}
+use Rattle.nv_entry.proofs.PageBytes.{joined_pages, page_of-past, pages_for-most}
 use Rattle.nv_entry.proofs.StoredItems.{stored-append, stored-push}
 use Rattle.nv_entry.proofs.Values.{value_now-push}
 
@@ -104,13 +104,13 @@ is_present_page bytes block s node page number some st h =
     lt-ltb page 65536 (omega arith)
 
 write_within : (bytes : ℕ → List ℕ) (block first : ℕ) (run : Run) (size : ℕ) (s : Stored) (node : NodeCopy) (page number : ℕ) → 0 < block
-    → Stands bytes block s node → node.size ≤ size → first + run.len ≤ pages_for block size
+    → Stands bytes block s node → first + run.len ≤ pages_for block size → pages_for block node.size ≤ pages_for block size
     → block_after block (Write first run size) page (s.blocks page) ≡ Some number → page < pages_for block size
-write_within bytes block first run size s node page number some st grows below h = go (in_run first run page) refl h where
+write_within bytes block first run size s node page number some st below old h = go (in_run first run page) refl h where
   go : (b : Bool) → in_run first run page ≡ b → cond b (Some (run.start + (page - first))) (s.blocks page) ≡ Some number
       → page < pages_for block size
   go true q h = omega (arith, run_parts first run page q)
-  go false q h = let old = st.within page number h in let more = pages_for-rises block node.size size some grows in omega arith
+  go false q h = let was = st.within page number h in omega (arith, was, old)
 
 cut_within : (bytes : ℕ → List ℕ) (block size : ℕ) (s : Stored) (node : NodeCopy) (page number : ℕ) → 0 < block
     → Stands bytes block s node → block_after block (SetSize size) page (s.blocks page) ≡ Some number → page < pages_for block size
@@ -197,10 +197,10 @@ tied_after bytes block (Init kind mode) s None (Some after) some t m =
       names = refl;
       suits = suits_empty kind;
     }))
-tied_after bytes block (Write first run size) s (Some node) (Some after) some t (grows, below, r) =
+tied_after bytes block (Write first run size) s (Some node) (Some after) some t (below, old, r) =
     rewrites_stand bytes block (Write first run size) size s node after t r
     (λ page. set_page bytes block (run.start + (page - first)) (in_run first run page) (s.blocks page))
-    (λ page number h. write_within bytes block first run size s node page number some t grows below h)
+    (λ page number h. write_within bytes block first run size s node page number some t below old h)
 tied_after bytes block (SetSize size) s (Some node) (Some after) some t r =
     rewrites_stand bytes block (SetSize size) size s node after t r
     (λ page. cut_page bytes block (is_past block size page) (s.blocks page))

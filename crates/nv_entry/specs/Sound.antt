@@ -67,12 +67,13 @@ pub record Rewrites (bytes : ℕ → List ℕ) (block : ℕ) (item : Item) (size
   pub fits : size ≤ FILE_PAGES * block
   pub pages : (page : ℕ) → page_of block page after.bytes ≡ page_after bytes block item page (page_of block page before.bytes)
 
--- one more item that is lawful, and what it makes of a node: bytes are a file's and names a directory's, and the
--- pages of a write lie below the size, which it makes no smaller
+-- one more item that is lawful, and what it makes of a node: bytes are a file's and names a directory's, and after
+-- a write both its pages and those before it lie below the size
 abbrev pub Makes : (ℕ → List ℕ) → ℕ → Item → Option NodeCopy → Option NodeCopy → Type 0
 Makes bytes block (Init kind mode) None (Some after) = after ≡ empty_node kind mode
 Makes bytes block (Write first run size) (Some node) (Some after) =
-    (node.size ≤ size) × (first + run.len ≤ pages_for block size) × Rewrites bytes block (Write first run size) size node after
+    (first + run.len ≤ pages_for block size) × (pages_for block node.size ≤ pages_for block size)
+    × Rewrites bytes block (Write first run size) size node after
 Makes bytes block (SetSize size) (Some node) (Some after) = Rewrites bytes block (SetSize size) size node after
 Makes bytes block (SetMode mode) (Some node) (Some after) = after ≡ record node { mode = mode }
 Makes bytes block (Bind name to) (Some node) (Some after) = (node.kind ≡ Dir) × (after ≡ record node { names = with_last name to node.names })
