@@ -1,7 +1,7 @@
 use Rattle.std.proofs.Common.{◌≡◌, length, rules}
 use Rattle.nv_alloc.specs.Block.{AreSized, BlockValue}
 use Rattle.nv_log.proofs.Flags.{all_gone}
-use Rattle.nv_tests.proofs.chain.unlink.Goals as goal
+use Rattle.nv_tests.proofs.chain.removal.unlink.Goals as goal
 
 -- each block has the queue's size, so each that goes has it
 pub unlink_pages-requires-clause-sized : goal.unlink_pages-requires-clause-sized
