@@ -173,7 +173,8 @@ binders_of-push [] e = go (is_bind e.item) where
 binders_of-push (x ∷ xs) e =
     ap (λ (c : Bool). cond (is_bind x.item && not c) (x ∷ binders_of (xs ++ e ∷ [])) (binders_of (xs ++ e ∷ [])))
     (any_cover-push 1 xs e (NameKey (name_of x.item)))
-    ∙ go (is_bind x.item) (any_cover 1 xs (NameKey (name_of x.item))) (covers 1 e.item (NameKey (name_of x.item))) refl (binders_of-push xs e) where
+    ∙ go (is_bind x.item) (any_cover 1 xs (NameKey (name_of x.item))) (covers 1 e.item (NameKey (name_of x.item))) refl
+    (binders_of-push xs e) where
       go : (b c d : Bool) → covers 1 e.item (NameKey (name_of x.item)) ≡ d → binders_of (xs ++ e ∷ []) ≡ binders_after e (binders_of xs)
           → cond (b && not (c || d)) (x ∷ binders_of (xs ++ e ∷ [])) (binders_of (xs ++ e ∷ []))
           ≡ filter (stays_bound e) (cond (b && not c) (x ∷ binders_of xs) (binders_of xs)) ++ new_binder e

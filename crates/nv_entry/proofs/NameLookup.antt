@@ -21,7 +21,8 @@ use Rattle.nv_entry.proofs.Values.{later_of-untouched}
 
 same_name-sym : (a b : List ℕ) (t : Bool) → same_name a b ≡ t → same_name b a ≡ t
 same_name-sym a b true h = let e : a ≡ b = same_name-equal a b h in rw e (same_name-self b)
-same_name-sym a b false h = false_from_ne_true (same_name b a) (λ t. let e : b ≡ a = same_name-equal b a t in let s : same_name a b ≡ true = rw e
+same_name-sym a b false h =
+    false_from_ne_true (same_name b a) (λ t. let e : b ≡ a = same_name-equal b a t in let s : same_name a b ≡ true = rw e
     (same_name-self a) in cc)
 
 -- a key is set where it is covered

@@ -47,7 +47,8 @@ droppable_test r before e later h =
 pub spare_now : (r : Retention) (before : List Entry) (e : Entry) (later : List Entry) → IsDroppable r before e later
     → Spare r.block before e later
 spare_now r before e later h = record {
-  dead = λ key d s. let x = dies r e later h.unneeded key d s in sym (dead_cover r.block later key) ∙ ap (λ (o : Option ℕ). is_some o) x.covered;
+  dead = λ key d s. let x = dies r e later h.unneeded key d s in sym (dead_cover r.block later key)
+      ∙ ap (λ (o : Option ℕ). is_some o) x.covered;
   hides_nothing = h.hides_nothing;
 }
 
@@ -78,7 +79,8 @@ covered_at block epoch (e ∷ later) key death h le =
           → covered block (up_to epoch (e ∷ later)) key ≡ true
       go true true q r ih = rw r (rw q refl)
       go true false q r ih =
-          let k : Some e.epoch ≡ Some death = rw q at h in let same : e.epoch ≡ death = cc in absurd (omega (arith, leb-false e.epoch epoch r))
+          let k : Some e.epoch ≡ Some death = rw q at h in let same : e.epoch ≡ death = cc in absurd
+          (omega (arith, leb-false e.epoch epoch r))
       go false true q r ih = let k : first_cover block later key ≡ Some death = rw q at h in rw r (rw q (ih k))
       go false false q r ih = let k : first_cover block later key ≡ Some death = rw q at h in rw r (ih k)
 
@@ -99,7 +101,8 @@ pub reads_at : (r : Retention) (epoch : ℕ) (before : List Entry) (e : Entry) (
     → list_any (holds epoch) (pairs_of r.block e later) ≡ false → IsDroppable r before e later
     → ReadsSameAt r.block epoch (before ++ e ∷ later) (before ++ later)
 reads_at r epoch before e later unspanned h =
-    same_logs r.block (up_to epoch (before ++ e ∷ later)) (up_to epoch before ++ up_to epoch (e ∷ later)) (up_to epoch (before ++ later)) (up_to epoch before ++ up_to epoch later)
+    same_logs r.block (up_to epoch (before ++ e ∷ later)) (up_to epoch before ++ up_to epoch (e ∷ later)) (up_to epoch (before ++ later))
+    (up_to epoch before ++ up_to epoch later)
     (filter-append (λ (x : Entry). nat_le x.epoch epoch) before (e ∷ later))
     (filter-append (λ (x : Entry). nat_le x.epoch epoch) before later)
     (go (nat_le e.epoch epoch) refl) where

@@ -61,7 +61,9 @@ touches-later_of (Present e) (Present d) = refl
 -- a log touches a key where one of its entries covers it
 touches-last_setting : (block : ℕ) (log : List Entry) (key : Key) → touches (last_setting block log key) ≡ covered block log key
 touches-last_setting block [] key = refl
-touches-last_setting block (e ∷ log) key = touches-later_of (sets block e.item key) (last_setting block log key) ∙ ap (λ b. covers block e.item key || b) (touches-last_setting block log key)
+touches-last_setting block (e ∷ log) key =
+    touches-later_of (sets block e.item key) (last_setting block log key)
+    ∙ ap (λ b. covers block e.item key || b) (touches-last_setting block log key)
 
 value_same : (block : ℕ) (before : List Entry) (e : Entry) (later : List Entry) → Spare block before e later → (key : Key)
     → value_now block (before ++ later) key ≡ value_now block (before ++ e ∷ later) key
@@ -112,14 +114,17 @@ has_cover block (x ∷ xs) key h = go (λ p. has_cover block xs key p) (covered 
 last_stays : {T : Type 0} (block : ℕ) (f : Entry → Option T) (before : List Entry) (e : Entry) (later : List Entry) (key : Key)
     → (sets block e.item key ≡ Absent → f e ≡ None) → Spare block before e later
     → option_and_then f (last_cover block (before ++ later) key) ≡ option_and_then f (last_cover block (before ++ e ∷ later) key)
-last_stays block f before e later key gone h = rw (last_cover-append block before later key, last_cover-append block before (e ∷ later) key) (go (covered block later key) refl (covers block e.item key) refl) where
-  go : (a : Bool) → covered block later key ≡ a → (b : Bool) → covers block e.item key ≡ b
-      → option_and_then f (option_or (last_cover block later key) (last_cover block before key)) ≡ option_and_then f (option_or (option_or (last_cover block later key) (cond (covers block e.item key) (Some e) None)) (last_cover block before key))
-  go true p b q = let l = has_cover block later key p in rw l.is refl
-  go false p false q = rw (no_cover block later key p, q) refl
-  go false p true q =
-      let s = alone block before e later key h q p in
-      rw (no_cover block later key p, q, no_cover block before key s.first) (sym (gone s.absent))
+last_stays block f before e later key gone h =
+    rw (last_cover-append block before later key, last_cover-append block before (e ∷ later) key)
+    (go (covered block later key) refl (covers block e.item key) refl) where
+      go : (a : Bool) → covered block later key ≡ a → (b : Bool) → covers block e.item key ≡ b
+          → option_and_then f (option_or (last_cover block later key) (last_cover block before key)) ≡ option_and_then f
+          (option_or (option_or (last_cover block later key) (cond (covers block e.item key) (Some e) None)) (last_cover block before key))
+      go true p b q = let l = has_cover block later key p in rw l.is refl
+      go false p false q = rw (no_cover block later key p, q) refl
+      go false p true q =
+          let s = alone block before e later key h q p in
+          rw (no_cover block later key p, q, no_cover block before key s.first) (sym (gone s.absent))
 
 source_same : (block : ℕ) (before : List Entry) (e : Entry) (later : List Entry) → Spare block before e later → (page : ℕ)
     → page_source block (before ++ later) page ≡ page_source block (before ++ e ∷ later) page
@@ -157,13 +162,15 @@ rest_covered block front x mid e later key h c =
     ∙ go (covers block e.item key) (covered block later key) refl refl
     ∙ sym (list_any-append (λ (y : Entry). covers block y.item key) mid (e ∷ later)) where
       go : (a b : Bool) → covers block e.item key ≡ a → covered block later key ≡ b
-          → (covered block mid key || covered block later key) ≡ (covered block mid key || (covers block e.item key || covered block later key))
+          → (covered block mid key || covered block later key) ≡
+          (covered block mid key || (covers block e.item key || covered block later key))
       go false b p q = rw p refl
       go true true p q = rw (p, q) refl
       go true false p q =
           let s = alone block (front ++ x ∷ mid) e later key h p q in
           let m = list_any-append (λ (y : Entry). covers block y.item key) front (x ∷ mid) in
-          let z : (covered block front key || (covers block x.item key || covered block mid key)) ≡ true = rw c (or_true (covered block front key)) in
+          let z : (covered block front key || (covers block x.item key || covered block mid key)) ≡ true = rw c
+          (or_true (covered block front key)) in
           let w : true ≡ false = sym z ∙ sym m ∙ s.first in cc where
             or_true : (t : Bool) → (t || true) ≡ true
             or_true true = refl
@@ -201,14 +208,17 @@ bound_none block before e later h = go e.item refl where
 
 bound_stays : (block : ℕ) (front : List Entry) (x : Entry) (mid : List Entry) (e : Entry) (later : List Entry)
     → Spare block (front ++ x ∷ mid) e later
-    → bound_name x.item (first_cover 1 (mid ++ later) (NameKey (name_of x.item))) ≡ bound_name x.item (first_cover 1 (mid ++ e ∷ later) (NameKey (name_of x.item)))
+    → bound_name x.item (first_cover 1 (mid ++ later) (NameKey (name_of x.item))) ≡ bound_name x.item
+    (first_cover 1 (mid ++ e ∷ later) (NameKey (name_of x.item)))
 bound_stays block front x mid e later h = go x.item refl where
   go : (item : Item) → x.item ≡ item
-      → bound_name item (first_cover 1 (mid ++ later) (NameKey (name_of item))) ≡ bound_name item (first_cover 1 (mid ++ e ∷ later) (NameKey (name_of item)))
+      → bound_name item (first_cover 1 (mid ++ later) (NameKey (name_of item))) ≡ bound_name item
+      (first_cover 1 (mid ++ e ∷ later) (NameKey (name_of item)))
   go (Bind name to) q =
       let c : covers block x.item (NameKey name) ≡ true = rw (q, same_name-self name) refl in
       bound_by (Bind name to) (first_cover 1 (mid ++ later) (NameKey name)) (first_cover 1 (mid ++ e ∷ later) (NameKey name))
-      (dead_name block (mid ++ later) name ∙ rest_covered block front x mid e later (NameKey name) h c ∙ sym (dead_name block (mid ++ e ∷ later) name))
+      (dead_name block (mid ++ later) name ∙ rest_covered block front x mid e later (NameKey name) h c
+      ∙ sym (dead_name block (mid ++ e ∷ later) name))
   go (Init kind mode) q = refl
   go (Write first run size) q = refl
   go (SetSize size) q = refl
@@ -230,7 +240,8 @@ names_along block front (x ∷ mid) before e later q h =
 abbrev bytes_by : (ℕ → List ℕ) → ℕ → (Key → Option Datum) → List ℕ
 bytes_by bytes block value =
     take (unwrap_or (option_and_then size_in (value SizeKey)) 0)
-    (flat_map (λ page. page_bytes bytes block (option_and_then block_in (value (PageKey page)))) (range_with_len 0 (pages_for block (unwrap_or (option_and_then size_in (value SizeKey)) 0))))
+    (flat_map (λ page. page_bytes bytes block (option_and_then block_in (value (PageKey page))))
+    (range_with_len 0 (pages_for block (unwrap_or (option_and_then size_in (value SizeKey)) 0))))
 
 bytes_same : (bytes : ℕ → List ℕ) (block : ℕ) (old new : List Entry) → ((key : Key) → value_now block new key ≡ value_now block old key)
     → file_bytes bytes block new ≡ file_bytes bytes block old
@@ -258,7 +269,8 @@ node_same : (bytes : ℕ → List ℕ) (block : ℕ) (old new : List Entry) → 
     → names_of new ≡ names_of old → node_now bytes block new ≡ node_now bytes block old
 node_same bytes block old new values names =
     ap (λ (v : Option Datum). node_of_kind v bytes block new) (values KindKey)
-    ∙ node_by (value_now block old KindKey) bytes block old new (mode_same block old new (values ModeKey)) (size_same block old new (values SizeKey))
+    ∙ node_by (value_now block old KindKey) bytes block old new (mode_same block old new (values ModeKey))
+    (size_same block old new (values SizeKey))
     (bytes_same bytes block old new values) names
 
 -- ---- all of it
