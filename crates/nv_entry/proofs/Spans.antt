@@ -12,6 +12,7 @@ use Rattle.nv_entry.specs.declared.key.Setting.{Setting}
 use Rattle.nv_entry.specs.declared.key.Setting.TheVariants.{Untouched, Absent, Present}
 use Rattle.nv_entry.specs.declared.part.Part.{Part}
 use Rattle.nv_entry.specs.declared.part.PartId.{PartId}
+use Rattle.nv_entry.specs.Covered.{any_cover}
 use Rattle.nv_entry.specs.Clean.{IsDroppable}
 use Rattle.nv_entry.specs.Held.{Retention, holds, is_current, is_held, is_named, is_needed, keeps, pair_name}
 use Rattle.nv_entry.specs.Keys.{Key, covers, key_of, parts_of, sets, touches}
@@ -20,7 +21,6 @@ use Rattle.nv_entry.specs.Log.{MayFollow, first_cover, pair_of, pairs, pairs_of}
 use Rattle.nv_entry.proofs.Dying.{dies, is_held_between}
 use Rattle.nv_entry.proofs.Hiding.{clash}
 use Rattle.nv_entry.proofs.PartsSet.{parts_are_set}
-use Rattle.nv_entry.proofs.Spared.{covered}
 use Rattle.nv_entry.proofs.Values.{first_cover-append}
 
 -- ---- how a death moves
@@ -62,8 +62,8 @@ moved_behind r front x mid e later key h follow own = go (sets r.block e.item ke
   go Absent q =
       let none = h.hides_nothing key q in
       let m = list_any-append (λ (y : Entry). covers r.block y.item key) front (x ∷ mid) in
-      let z : (covered r.block front key || (covers r.block x.item key || covered r.block mid key)) ≡ true = rw own
-      (or_true (covered r.block front key)) in
+      let z : (any_cover r.block front key || (covers r.block x.item key || any_cover r.block mid key)) ≡ true = rw own
+      (or_true (any_cover r.block front key)) in
       let w : true ≡ false = sym z ∙ sym m ∙ none in cc where
         or_true : (t : Bool) → (t || true) ≡ true
         or_true true = refl

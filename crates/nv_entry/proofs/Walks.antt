@@ -11,7 +11,7 @@ use Rattle.nv_entry.specs.Laws.{AllDroppable, GoIfDroppable, GoIfPageDroppable, 
 use Rattle.nv_entry.specs.Log.{IsLog, MayFollow, first_cover, pairs, pairs_of, up_to}
 use Rattle.nv_entry.proofs.Dying.{unkept_earlier}
 use Rattle.nv_entry.proofs.Hiding.{clash}
-use Rattle.nv_entry.proofs.Spared.{reads_chain, reads_refl}
+use Rattle.nv_entry.proofs.SameReads.{reads_chain, reads_refl}
 use Rattle.nv_entry.proofs.Removal.{droppable, droppable_test, empty-length, length-empty, reads_at, reads_now}
 use Rattle.nv_entry.proofs.Spans.{Living, Steady, epochs_of, living, pairs_stay, steady_current, steady_held, steady_pending}
 

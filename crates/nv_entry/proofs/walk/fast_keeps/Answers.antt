@@ -25,5 +25,6 @@ loop-count-preserved c =
         length-replicate count (not goes),
       ));
       walk = rw (pushed, c.in_ok-push.ensures.items)
-          (page_step r c.loop-count.kept.items c.loop-count.kept_pages.items log counts i goes c.loop-count-test.true c.loop-count.invariant.flags test ∙ c.loop-count.invariant.walk);
+          (page_step r c.loop-count.kept.items c.loop-count.kept_pages.items log counts i goes c.loop-count-test.true
+          c.loop-count.invariant.flags test ∙ c.loop-count.invariant.walk);
     }
