@@ -1,5 +1,5 @@
 -- Which absent keys of an item an earlier item covers.
-use Rattle.std.proofs.Common.{◌≡◌, ℕ, ◌+◌, ◌-◌, ◌<◌, ◌≤◌, Bool, true, false, cond, ◌&&◌, nat_lt, nat_le, min, max, List, [], ◌∷◌, arith, refl, sym, ◌∙◌, subst}
+use Rattle.std.proofs.Common.{◌≡◌, ℕ, ◌+◌, ◌-◌, ◌<◌, ◌≤◌, Bool, true, false, cond, ◌&&◌, nat_lt, nat_le, min, max, List, [], ◌∷◌, arith, refl, ap, sym, ◌∙◌, subst}
 use Rattle.std.specs.List.{list_any}
 use Rattle.std.proofs.lemmas.Bool.{ltb-true, ltb-false, leb-true, lt-ltb, le-leb, and_parts, and_from, false_from_ne_true, or_from, or_parts}
 use Rattle.std.proofs.lemmas.Slice.Eq.{bytes_eq-Decides}
@@ -19,6 +19,12 @@ same_name-self name = (bytes_eq-Decides name name).1 refl
 
 pub same_name-equal : (a b : List ℕ) → same_name a b ≡ true → a ≡ b
 same_name-equal a b h = (bytes_eq-Decides a b).0 h
+
+pub same_name-sym : (a b : List ℕ) (t : Bool) → same_name a b ≡ t → same_name b a ≡ t
+same_name-sym a b true h = let e : a ≡ b = same_name-equal a b h in rw e (same_name-self b)
+same_name-sym a b false h =
+    false_from_ne_true (same_name b a)
+    (λ t. let z : true ≡ false = sym (same_name-self a) ∙ ap (same_name a) (sym (same_name-equal b a t)) ∙ h in cc)
 
 absent_choice : (b : Bool) → cond b Absent Untouched ≡ Absent → b ≡ true
 absent_choice true h = refl
