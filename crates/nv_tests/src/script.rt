@@ -2,5 +2,6 @@
 
 mod ends;
 mod faults;
+mod pieces;
 mod rows;
 mod scripts;
