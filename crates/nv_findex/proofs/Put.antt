@@ -14,16 +14,6 @@ use Rattle.nv_findex.proofs.Refs.{drop_read, split_read, past_read, ref_at-in, r
 use Rattle.nv_findex.proofs.Whole.{none_from, some_from}
 use Rattle.nv_findex.proofs.Counts.{how_many-same, pages_in, present, past_all}
 
--- borders come in the order of their pages
-pub border_order : (p q : ℕ) (rs : List PageRun) (at to : ℕ) → p ≤ q → at ≤ length rs → EndBy p (take at rs) → EndBehind q (drop to rs)
-    → at ≤ to
-unfolding EndBy EndBehind
-border_order p q rs zero to le within ended behind = omega arith
-border_order p q [] (suc at) to le within ended behind = absurd (omega arith)
-border_order p q (r ∷ rs) (suc at) zero le within ended behind = absurd (omega (arith, ended.0, behind))
-border_order p q (r ∷ rs) (suc at) (suc to) le within ended behind =
-    omega (arith, border_order p q rs at to le (omega arith) ended.1 behind)
-
 -- what ends before p, where the next run begins at p or later
 pub below_whole : (p : ℕ) (rs : List PageRun) (at : ℕ) → AreRuns rs → IsBorder p rs at → BeginFrom p (drop at rs)
     → IsBelow p rs (take at rs)

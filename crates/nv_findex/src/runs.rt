@@ -3,16 +3,79 @@
 ghost use Rattle.std.specs.Prelude.{◌≡◌, ℕ, ◌+◌, ◌-◌, ◌^◌, ◌<◌, ◌≤◌, ◌++◌, nat_lt, length, take, drop, replicate, slice_get, vec_len, vec_capacity, IfSome};
 ghost use Rattle.std.specs.List.{position};
 ghost use Rattle.nv_findex.specs.Pages.{IsRun, IsRunFrom, IsNextFrom, CutsFrom, ref_at, present_from};
-ghost use Rattle.nv_findex.specs.Runs.{AreRuns, EndBy, IsBorder, IsBelow, IsPut, pages_past};
+ghost use Rattle.nv_findex.specs.Runs.{AreRuns, EndBehind, EndBy, IsBorder, IsBelow, IsPut, pages_past};
 
 use crate::{PageRef, PageRun};
 
-/// How many of the runs end at or before a page.
-fn ended_by(runs: &[PageRun], page: u32) -> usize
+/// How many runs before and behind a guess are looked at first.
+const NEAR: usize = 16;
+
+fn get(runs: &[PageRun], at: usize) -> Option<PageRun>
+    ensures { result ≡ slice_get runs.now at }
+{
+    runs.get(at).copied()
+}
+
+/// How many of the runs end at or before a page. Costs the logarithm of the runs.
+fn ended_in(runs: &[PageRun], page: u32) -> usize
     requires { AreRuns runs.now }
     ensures { IsBorder page runs.now result }
 {
     runs.partition_point(|run| run.end <= page)
+}
+
+/// Where the border of a page would be if the runs lay evenly.
+fn guess(runs: &[PageRun], page: u32) -> usize {
+    let end = runs.last().map_or(1, |run| run.end.max(1));
+    let pages = (page as u64).saturating_mul(runs.len() as u64);
+    (pages / (end as u64)) as usize
+}
+
+/// A place near the guess that the border of a page isn't below, or else 0.
+fn low_near(runs: &[PageRun], guess: usize, page: u32) -> usize
+    requires { AreRuns runs.now }
+    ensures within { result ≤ length runs.now }
+    ensures ended { EndBy page (take result runs.now) }
+{
+    let low = guess.saturating_sub(NEAR);
+    match get(runs, low) {
+        Some(run) => {
+            if run.end <= page {
+                return low;
+            }
+            0
+        }
+        None => 0,
+    }
+}
+
+/// A place near the guess that the border of a page isn't above, or else the end.
+fn high_near(runs: &[PageRun], guess: usize, page: u32) -> usize
+    ensures within { result ≤ length runs.now }
+    ensures behind { EndBehind page (drop result runs.now) }
+{
+    let high = guess.saturating_add(NEAR);
+    match get(runs, high) {
+        Some(run) => {
+            if page < run.end {
+                return high;
+            }
+            runs.len()
+        }
+        None => runs.len(),
+    }
+}
+
+/// How many of the runs end at or before a page. Looks near the guess first, so that it costs the same at any
+/// number of runs that lie about evenly, and the logarithm of the runs at most.
+fn ended_by(runs: &[PageRun], page: u32) -> usize
+    requires { AreRuns runs.now }
+    ensures { IsBorder page runs.now result }
+{
+    let guess = guess(runs, page);
+    let low = low_near(runs, guess, page);
+    let high = high_near(runs, guess, page);
+    low + ended_in(&runs[low..high], page)
 }
 
 /// The place of the first run that ends behind a page. Costs a step for each run before it.
@@ -34,12 +97,6 @@ fn ended_by_past(runs: &[PageRun], from: usize, page: u32) -> usize
         Some(more) => from + more,
         None => count,
     }
-}
-
-fn get(runs: &[PageRun], at: usize) -> Option<PageRun>
-    ensures { result ≡ slice_get runs.now at }
-{
-    runs.get(at).copied()
 }
 
 /// The run that holds a page, or else the first one behind it.

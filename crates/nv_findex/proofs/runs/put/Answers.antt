@@ -4,9 +4,10 @@ use Rattle.std.proofs.lemmas.Option.{slice_get_within}
 use Rattle.nv_findex.specs.declared.page_run.PageRun.{PageRun}
 use Rattle.nv_findex.specs.Pages.{IsRun}
 use Rattle.nv_findex.specs.Runs.{AreRuns, BeginFrom, IsBelow, IsBorder, IsPut, goes_on, goes_on_in, rest_from}
+use Rattle.nv_findex.proofs.Borders.{border_order}
 use Rattle.nv_findex.proofs.Refs.{end_later, past_read}
 use Rattle.nv_findex.proofs.Whole.{run_from, some_from}
-use Rattle.nv_findex.proofs.Put.{IsFrom, IsTop, border_order, from_none, from_some, top_apart, top_joined, spliced}
+use Rattle.nv_findex.proofs.Put.{IsFrom, IsTop, from_none, from_some, top_apart, top_joined, spliced}
 use Rattle.nv_findex.proofs.runs.put.Goals as goal
 
 -- the borders of a run, and the run at the second one
