@@ -1,7 +1,5 @@
 -- The border of a page in runs, from borders in parts of them.
-use Rattle.std.proofs.Common.{ℕ, ◌≡◌, ◌+◌, ◌-◌, ◌<◌, ◌≤◌, zero, suc, List, [], ◌∷◌, ◌++◌, length, take, drop, slice_get, Some, nat_lt, Bool, true, false, cond, not, refl, ap, sym, ◌∙◌, subst, arith, zero-add}
-use Rattle.std.specs.List.{position_or_len}
-use Rattle.std.proofs.lemmas.Bool.{ltb-true, ltb-false}
+use Rattle.std.proofs.Common.{ℕ, ◌≡◌, ◌+◌, ◌-◌, ◌<◌, ◌≤◌, zero, suc, List, [], ◌∷◌, ◌++◌, length, take, drop, slice_get, Some, refl, ap, sym, ◌∙◌, subst, arith, zero-add}
 use Rattle.std.proofs.lemmas.List.{drop-drop, drop_all, take-append-drop}
 use Rattle.nv_findex.specs.declared.page_run.PageRun.{PageRun}
 use Rattle.nv_findex.specs.Runs.{AreRuns, EndBy, EndBehind, IsBorder}
@@ -53,16 +51,6 @@ runs_between rs low n h =
     runs-front (take n (drop low rs)) (drop n (drop low rs))
     (subst AreRuns (sym (take-append-drop n (drop low rs)))
     (runs-back (take low rs) (drop low rs) (subst AreRuns (sym (take-append-drop low rs)) h)))
-
--- the first run that ends behind p
-pub border_first : (p : ℕ) (rs : List PageRun) → IsBorder p rs (position_or_len (λ r. nat_lt p r.end) rs)
-unfolding EndBy EndBehind
-border_first p [] = record { within = omega arith; ended = tt; behind = tt }
-border_first p (r ∷ rs) = go (nat_lt p r.end) refl (border_first p rs) where
-  go : (b : Bool) → nat_lt p r.end ≡ b → IsBorder p rs (position_or_len (λ r. nat_lt p r.end) rs)
-      → IsBorder p (r ∷ rs) (cond (not b) (1 + position_or_len (λ r. nat_lt p r.end) rs) 0)
-  go true e h = record { within = omega arith; ended = tt; behind = ltb-true p r.end e }
-  go false e h = border_cons p r rs _ _ (omega arith) (ltb-false p r.end e) h
 
 pub ended_at : (p : ℕ) (rs : List PageRun) (at : ℕ) (r : PageRun) → AreRuns rs → slice_get rs at ≡ Some r → r.end ≤ p → EndBy p (take at rs)
 unfolding AreRuns

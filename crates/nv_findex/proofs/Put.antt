@@ -1,5 +1,5 @@
 -- What lies below a page and what lies from one on, and a run put between.
-use Rattle.std.proofs.Common.{◌≡◌, ◌≢◌, ℕ, zero, suc, ◌+◌, ◌-◌, ◌<◌, ◌≤◌, ◌&&◌, Bool, true, false, cond, List, [], ◌∷◌, ◌++◌, length, take, drop, max, nat_le, nat_lt, set, slice_get, Option, Some, None, is_some, refl, ap, sym, ◌∙◌, arith, subst}
+use Rattle.std.proofs.Common.{◌≡◌, ◌≢◌, ℕ, ◌+◌, ◌-◌, ◌<◌, ◌≤◌, ◌&&◌, Bool, true, false, cond, List, [], ◌∷◌, ◌++◌, length, take, drop, max, nat_le, nat_lt, set, slice_get, Option, Some, None, is_some, refl, ap, sym, ◌∙◌, arith, subst}
 use Rattle.std.proofs.lemmas.Bool.{le-leb, lt-leb, ltb-true, ltb-false}
 use Rattle.std.proofs.lemmas.Bool.Decides.{nat_tests}
 use Rattle.std.proofs.lemmas.Grind.{common_steps}
@@ -9,7 +9,7 @@ use Rattle.std.proofs.lemmas.Option.{slice_get_within}
 use Rattle.nv_findex.specs.declared.page_ref.PageRef.{PageRef}
 use Rattle.nv_findex.specs.declared.page_run.PageRun.{PageRun}
 use Rattle.nv_findex.specs.Pages.{IsRun, ref_at, run_ref, present_from}
-use Rattle.nv_findex.specs.Runs.{AreRuns, BeginFrom, EndBy, EndBehind, IsBorder, IsBelow, IsPut, goes_on, goes_on_in, rest_from, pages_past}
+use Rattle.nv_findex.specs.Runs.{AreRuns, BeginFrom, EndBy, IsBorder, IsBelow, IsPut, goes_on, goes_on_in, rest_from, pages_past}
 use Rattle.nv_findex.proofs.Refs.{drop_read, split_read, past_read, ref_at-in, ref_at-below, ref_at-behind, ref_at-end_by, ref_at-back, ref_at-same_back, ref_at-before, ref_at-front, runs-front, runs-back, begin_earlier, end_later, end_within}
 use Rattle.nv_findex.proofs.Whole.{none_from, some_from}
 use Rattle.nv_findex.proofs.Counts.{how_many-same, pages_in, present, past_all}

@@ -6,8 +6,8 @@ pub returns-then-page-run-clause-behind : goal.returns-then-page-run-clause-behi
 returns-then-page-run-clause-behind c =
     behind_at c.args.page c.args.runs.now _ c.in-Some.run' (sym c.get.ensures ∙ c.in-Some.is) c.if-page-run.true
 
-pub returns-else-page-run-clause-behind : goal.returns-else-page-run-clause-behind
-returns-else-page-run-clause-behind c = behind_all c.args.page c.args.runs.now
+pub returns-clause-behind : goal.returns-clause-behind
+returns-clause-behind c = behind_all c.args.page c.args.runs.now
 
-pub returns-in-None-clause-behind : goal.returns-in-None-clause-behind
-returns-in-None-clause-behind c = behind_all c.args.page c.args.runs.now
+pub returns-in_default-clause-behind : goal.returns-in_default-clause-behind
+returns-in_default-clause-behind c = behind_all c.args.page c.args.runs.now

@@ -7,10 +7,10 @@ pub returns-then-run-page-clause-ended : goal.returns-then-run-page-clause-ended
 returns-then-run-page-clause-ended c =
     ended_at c.args.page c.args.runs.now _ c.in-Some.run' c.requires (sym c.get.ensures ∙ c.in-Some.is) c.if-run-page.true
 
-pub returns-else-run-page-clause-ended : goal.returns-else-run-page-clause-ended
+pub returns-clause-ended : goal.returns-clause-ended
 unfolding EndBy
-returns-else-run-page-clause-ended c = tt
+returns-clause-ended c = tt
 
-pub returns-in-None-clause-ended : goal.returns-in-None-clause-ended
+pub returns-in_default-clause-ended : goal.returns-in_default-clause-ended
 unfolding EndBy
-returns-in-None-clause-ended c = tt
+returns-in_default-clause-ended c = tt

@@ -1,6 +1,6 @@
-use Rattle.std.proofs.Common.{◌≤◌, arith, rules}
+use Rattle.std.proofs.Common.{arith, rules}
 use Rattle.nv_findex.proofs.Borders.{border_between, border_order, runs_between}
-use Rattle.nv_findex.proofs.runs.ended_by.Goals as goal
+use Rattle.nv_findex.proofs.runs.ended_near.Goals as goal
 
 pub slice_bounds-ended_in-count : goal.slice_bounds-ended_in-count
 slice_bounds-ended_in-count c =
@@ -8,11 +8,7 @@ slice_bounds-ended_in-count c =
     border_order c.args.page c.args.page c.args.runs.now _ _ (omega arith) low.within low.ended c.high_near-high.ensures.behind
 
 pub slice_bounds-ended_in-start : goal.slice_bounds-ended_in-start
-slice_bounds-ended_in-start c =
-    let low = c.low_near-low.ensures in
-    let order : c.low_near-low.result ≤ c.high_near-high.result =
-    border_order c.args.page c.args.page c.args.runs.now _ _ (omega arith) low.within low.ended c.high_near-high.ensures.behind in
-    search (rules, order)
+slice_bounds-ended_in-start c = let order = slice_bounds-ended_in-count c in search (rules, order)
 
 pub ended_in-requires : goal.ended_in-requires
 ended_in-requires c = runs_between c.args.runs.now _ _ c.requires
