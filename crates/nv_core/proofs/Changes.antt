@@ -231,7 +231,8 @@ module _ (world : WorldValue) (file : Handle) (offset : ℕ) (text : List ℕ) (
 
   -- each page of the run has its block behind those in use
   filled : (old : List ℕ) (place : ℕ) → place < run.len
-      → bytes_in (world.data_blocks ++ pages_of old) (run.start + place) ≡ page_of world.numbers.block (offset / world.numbers.block + place)
+      → bytes_in (world.data_blocks ++ pages_of old) (run.start + place) ≡ page_of world.numbers.block
+      (offset / world.numbers.block + place)
       (written offset text old)
   filled old place lt =
       ap (λ (n : ℕ). bytes_in (world.data_blocks ++ pages_of old) (n + place)) start
@@ -243,7 +244,8 @@ module _ (world : WorldValue) (file : Handle) (offset : ℕ) (text : List ℕ) (
   gives_from =
       let node : NodeCopy = p.node.node in
       let after : ℕ → List ℕ = bytes_in (world.data_blocks ++ pages_of node.bytes) in
-      let st = subst (Tied world.numbers.block (stored (bytes_in world.data_blocks) world.numbers.block log)) p.node.is (w.files file.ino).sound in
+      let st = subst (Tied world.numbers.block (stored (bytes_in world.data_blocks) world.numbers.block log)) p.node.is
+      (w.files file.ino).sound in
       let before = same_blocks_give (bytes_in world.data_blocks) after world.numbers.block log w.some_bytes (w.files file.ino).sound
       (λ number u. get_or_append_left world.data_blocks (pages_of node.bytes) [] number ((w.files file.ino).in_use number u)) in
       let makes = written_makes after world.numbers.block offset text run node w.some_bytes any p.fits (omega (arith, st.length, st.fits))
@@ -251,7 +253,8 @@ module _ (world : WorldValue) (file : Handle) (offset : ℕ) (text : List ℕ) (
       lawful_gives after world.numbers.block log (entry_of node.bytes) (change (slot_node world file.ino)) w.some_bytes before.sound
       (subst (λ (o : Option NodeCopy). Makes after world.numbers.block (entry_of node.bytes).item o (change (slot_node world file.ino)))
       (sym (before.is ∙ p.node.is))
-      (subst (λ (o : Option NodeCopy). Makes after world.numbers.block (entry_of node.bytes).item (Some node) (change o)) (sym p.node.is) makes))
+      (subst (λ (o : Option NodeCopy). Makes after world.numbers.block (entry_of node.bytes).item (Some node) (change o))
+      (sym p.node.is) makes))
 
   abbrev old_bytes : List ℕ
   old_bytes = bytes_at world file.ino

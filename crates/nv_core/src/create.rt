@@ -1,6 +1,6 @@
 //! Making files.
 
-ghost use Rattle.std.specs.Prelude.{◌≡◌, ◌<◌, ◌∷◌, ◌++◌, [], Ok, IfOk, OnErr, OnOk, slice_index_or, slice_set, vec_capacity, vec_len};
+ghost use Rattle.std.specs.Prelude.{◌≡◌, ◌<◌, ◌∷◌, ◌++◌, [], Ok, IfOk, OnOk, slice_index_or, slice_set, vec_capacity, vec_len};
 ghost use Rattle.nv_base.specs.Refusals.{FailsAsChecked, KeepsOnErr};
 ghost use Rattle.nv_core.specs.Changed.{IsChecked, created, new_entry};
 ghost use Rattle.nv_core.specs.Logs.{logs_of};
@@ -108,7 +108,7 @@ fn add_file(
     ensures ok { OnOk result (logs_of logs.new
         ≡ slice_set (logs_of logs.old) ino
         (slice_index_or (logs_of logs.old) ino [] ++ bind ∷ []) ++ log.items ∷ []) }
-    ensures err { OnErr result (logs_of logs.new ≡ logs_of logs.old) }
+    ensures err { KeepsOnErr result (logs_of logs.old) (logs_of logs.new) }
 {
     logs.reserve(1)?;
     append(logs, ino, bind)?;
@@ -122,7 +122,7 @@ pub(crate) fn append(logs: &mut Vec<Vec<Entry>>, ino: usize, entry: Entry) -> Re
     ensures ok { OnOk result (logs_of logs.new
         ≡ slice_set (logs_of logs.old) ino
         (slice_index_or (logs_of logs.old) ino [] ++ entry ∷ [])) }
-    ensures err { OnErr result (logs_of logs.new ≡ logs_of logs.old) }
+    ensures err { KeepsOnErr result (logs_of logs.old) (logs_of logs.new) }
     ensures len { vec_len logs.new ≡ vec_len logs.old }
     ensures capacity { vec_capacity logs.new ≡ vec_capacity logs.old }
 {

@@ -1,6 +1,6 @@
 //! Writing and reading files.
 
-ghost use Rattle.std.specs.Prelude.{◌≡◌, ◌+◌, ◌-◌, ◌*◌, ◌/◌, ◌<◌, ◌≤◌, ◌^◌, ◌∷◌, ◌++◌, [], Ok, IfOk, OnErr, OnOk, length, map, slice_index_or, slice_set, vec_len};
+ghost use Rattle.std.specs.Prelude.{◌≡◌, ◌+◌, ◌-◌, ◌*◌, ◌/◌, ◌<◌, ◌≤◌, ◌^◌, ◌∷◌, ◌++◌, [], Ok, IfOk, OnOk, length, map, slice_index_or, slice_set, vec_len};
 ghost use Rattle.std.specs.List.{range_with_len};
 ghost use Rattle.nv_base.specs.Refusals.{FailsAsChecked, KeepsOnErr};
 ghost use Rattle.nv_base.specs.declared.limits.TheConstants.{BLOCKS, BLOCK_BYTES, FILE_PAGES};
@@ -217,8 +217,8 @@ fn add_pages(
     ensures log { OnOk result (logs_of logs.new ≡ slice_set (logs_of logs.old) ino
         (slice_index_or (logs_of logs.old) ino [] ++ entry ∷ [])) }
     ensures blocks { OnOk result (blocks.new ≡ blocks.old ++ pages.items) }
-    ensures same_log { OnErr result (logs_of logs.new ≡ logs_of logs.old) }
-    ensures same_blocks { OnErr result (blocks.new ≡ blocks.old) }
+    ensures same_log { KeepsOnErr result (logs_of logs.old) (logs_of logs.new) }
+    ensures same_blocks { KeepsOnErr result blocks.old blocks.new }
 {
     logs[ino].reserve(1)?;
     blocks.add(pages)?;

@@ -1,4 +1,4 @@
-use Rattle.std.proofs.Common.{◌≡◌, sym, ◌∙◌, subst, rules}
+use Rattle.std.proofs.Common.{◌≡◌, subst, rules}
 use Rattle.nv_core.specs.Changed.{created}
 use Rattle.nv_core.specs.Logs.{logs_of}
 use Rattle.nv_core.specs.World.{IsWorld, value_of}

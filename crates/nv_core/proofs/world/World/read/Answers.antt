@@ -1,5 +1,4 @@
-use Rattle.std.proofs.Common.{◌≡◌, ◌<◌, length, ap, sym, ◌∙◌, arith}
-use Rattle.std.proofs.lemmas.Grind.{common_steps}
+use Rattle.std.proofs.Common.{◌≡◌, ap, sym, ◌∙◌}
 use Rattle.nv_entry.specs.Node.{file_bytes}
 use Rattle.nv_entry.specs.Bytes.{read_at}
 use Rattle.nv_core.specs.Changed.{bytes_at}
