@@ -61,12 +61,24 @@ no_room input left old =
 plays-push : (old : Option WorldValue) (lines : List (List ℕ)) (text : List ℕ) (mid : Option WorldValue) (line more : List ℕ)
     (new : Option WorldValue)
     → PlaysAll old lines text mid → IsLine line → Plays mid line more new → PlaysAll old (lines ++ line ∷ []) (text ++ more) new
-plays-push old [] text mid line more new all lawful one =
-    (more, [], new, lawful, subst (λ (world : Option WorldValue). Plays world line more new) all.1 one, (refl, refl),
-        ap (λ front. front ++ more) all.0 ∙ sym (append-nil more))
-plays-push old (first ∷ lines) text mid line more new all lawful one =
-    (all.0, all.1 ++ more, all.2, all.3, all.4, plays-push all.2 lines all.1 mid line more new all.5 lawful one,
-        ap (λ front. front ++ more) all.6 ∙ append_assoc all.0 all.1 more)
+plays-push old [] text mid line more new all lawful one = (
+  more,
+  [],
+  new,
+  lawful,
+  subst (λ (world : Option WorldValue). Plays world line more new) all.1 one,
+  (refl, refl),
+  ap (λ front. front ++ more) all.0 ∙ sym (append-nil more),
+)
+plays-push old (first ∷ lines) text mid line more new all lawful one = (
+  all.0,
+  all.1 ++ more,
+  all.2,
+  all.3,
+  all.4,
+  plays-push all.2 lines all.1 mid line more new all.5 lawful one,
+  ap (λ front. front ++ more) all.6 ∙ append_assoc all.0 all.1 more,
+)
 
 if_same : (input : Option (List ℕ)) (u v : List ℕ) → u ≡ v → IfSome input (λ bytes. bytes ≡ u) → IfSome input (λ bytes. bytes ≡ v)
 if_same None u v same is = tt
@@ -106,10 +118,10 @@ broken : (input left old new : Option (List ℕ)) (lines : List (List ℕ)) (res
 broken input left old new lines rest text world split few all some =
     let at = breaks_at None lines text some.0 world all some.1 in
     let ending : ended lines ≡ ended at.before ++ ((at.line ++ 10 ∷ []) ++ ended at.after) = ap ended at.split
-        ∙ ended-append at.before (at.line ∷ at.after) in
+    ∙ ended-append at.before (at.line ∷ at.after) in
     let whole : ended lines ++ rest ≡ ended at.before ++ ((at.line ++ 10 ∷ []) ++ (ended at.after ++ rest)) =
     ap (λ front. front ++ rest) ending ∙ append_assoc (ended at.before) ((at.line ++ 10 ∷ []) ++ ended at.after) rest
-        ∙ ap (λ bytes. ended at.before ++ bytes) (append_assoc (at.line ++ 10 ∷ []) (ended at.after) rest) in
+    ∙ ap (λ bytes. ended at.before ++ bytes) (append_assoc (at.line ++ 10 ∷ []) (ended at.after) rest) in
     let count : length lines ≡ length (at.before ++ at.line ∷ at.after) = ap length at.split in
     let fewer : length at.before ≤ most_lines = omega (arith, count, few, length-append at.before (at.line ∷ at.after)) in (
       at.before,
@@ -139,7 +151,7 @@ broken_played : (input left old mid new : Option (List ℕ)) (gathered : List �
 broken_played input left old mid new gathered lines rest text world played front some =
     let few = played.few in
     broken input left old new lines rest text world played.split (omega (arith, few)) played.plays
-        (writes_some old mid new text gathered front some)
+    (writes_some old mid new text gathered front some)
 
 -- not all of what was gathered at the end was written
 pub broken_off : (result : Result (Unit {0}) Fault) (input left old mid new : Option (List ℕ)) (gathered : List ℕ)
@@ -229,8 +241,14 @@ module _ (input known old new : Option (List ℕ)) (gathered : List ℕ) (number
   pub written_on : (new' : Option (List ℕ)) (gathered' : List ℕ) → WritesFront new new' gathered gathered'
       → AtLine input known old new' gathered' number world
   written_on new' gathered' more =
-      record { lines = at.lines; text = at.text; count = at.count; taken = at.taken; plays = at.plays;
-          written = writes_rest old new new' at.text gathered gathered' at.written more }
+      record {
+        lines = at.lines;
+        text = at.text;
+        count = at.count;
+        taken = at.taken;
+        plays = at.plays;
+        written = writes_rest old new new' at.text gathered gathered' at.written more;
+      }
 
   pub written_some : (left new' : Option (List ℕ)) → WritesSome new new' gathered
       → EndsBy fault.Write input left (λ text. Appends old new' text)
@@ -243,9 +261,15 @@ module _ (input known old new : Option (List ℕ)) (gathered : List ℕ) (number
       → ahead ≡ [] → EndsBy fault.Read input left Written
   reads_fail left ahead piece more lawful none =
       let p = played (prepend_known ahead left) piece more in
-      let gone = Consumes-trans input known (prepend_known ahead left) (ended at.lines) piece at.taken more in
-      (at.lines, piece ++ p.0, at.text, world, p.1,
-          (piece, lawful, all_left input left ahead (ended at.lines ++ piece) none gone), at.written)
+      let gone = Consumes-trans input known (prepend_known ahead left) (ended at.lines) piece at.taken more in (
+        at.lines,
+        piece ++ p.0,
+        at.text,
+        world,
+        p.1,
+        (piece, lawful, all_left input left ahead (ended at.lines ++ piece) none gone),
+        at.written,
+      )
 
   -- the end of the input
   pub ends : (t : Taken) (left : Option (List ℕ)) (ahead line : List ℕ) → is_line number t ≡ Ok false
@@ -255,8 +279,11 @@ module _ (input known old new : Option (List ℕ)) (gathered : List ℕ) (number
         at.lines,
         at.text,
         world,
-        record { split = cut_end input known (prepend_known ahead left) at.lines [] at.taken end.0 end.1; few = lines_fit;
-            plays = at.plays },
+        record {
+          split = cut_end input known (prepend_known ahead left) at.lines [] at.taken end.0 end.1;
+          few = lines_fit;
+          plays = at.plays;
+        },
         none_left left ahead end.1,
         at.written,
       )
@@ -329,7 +356,7 @@ module _ (input known old new : Option (List ℕ)) (gathered : List ℕ) (number
         (at.lines, (line ++ 10 ∷ []) ++ p.0, at.text, world, p.1, inr (line, p.0, lawful, refl, why), at.written)
     not_played left (line_fault.Faulty fault) world' why =
         faulty after left (line ++ 10 ∷ []) fault here
-            (λ rest. within number (is_some world) _ fault within_last (inr (inr (line, rest, lawful, refl, why.0))))
+        (λ rest. within number (is_some world) _ fault within_last (inr (inr (line, rest, lawful, refl, why.0))))
 
     -- a line that was played, and its text gathered, or written in part
     pub next : (new' : Option (List ℕ)) (more gathered' : List ℕ) (world' : Option WorldValue) → Plays world line more world'
@@ -350,7 +377,7 @@ module _ (input known old new : Option (List ℕ)) (gathered : List ℕ) (number
     breaks_off left new' more world' plays wrote =
         let p = played after (line ++ 10 ∷ []) here in
         let part = writes_some old new new' (at.text ++ more) (gathered ++ more)
-            (writes_grown old new at.text gathered more at.written) wrote in
+        (writes_grown old new at.text gathered more at.written) wrote in
         broken input left old new' (at.lines ++ line ∷ []) p.0 (at.text ++ more) world' (split-push input at.lines line p.0 p.1.split)
         (let count = at.count in omega (arith, few, count, length-append at.lines (line ∷ [])))
         (plays-push None at.lines at.text world line more world' at.plays lawful plays) part
@@ -361,7 +388,7 @@ pub none_gathered : (input left old new : Option (List ℕ)) (gathered : List �
     → EndsBy fault.Write input left (λ text. WritesFront old new text gathered)
 none_gathered input left old new gathered none e =
     ends_on (Err fault.Write) input left (λ text. Appends old new text) (λ text. WritesFront old new text gathered)
-        (λ text all. subst (λ (rest : List ℕ). WritesFront old new text rest) (sym none) (writes_all old new text all)) e
+    (λ text all. subst (λ (rest : List ℕ). WritesFront old new text rest) (sym none) (writes_all old new text all)) e
 
 -- the same end, told by an equation
 pub ends_told : (told why : Fault) (input left : Option (List ℕ)) (Writes : List ℕ → Type 0) → told ≡ why → EndsBy why input left Writes

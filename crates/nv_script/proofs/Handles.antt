@@ -39,7 +39,7 @@ parts_of-whole : (word : List ℕ) → length word ≤ position_or_len is_point 
 parts_of-whole [] none = refl
 parts_of-whole (byte ∷ bytes) none =
     elim (byte == 46) as (λ b. suc (length bytes) ≤ cond (not b) (1 + position_or_len is_point bytes) 0
-        → cond b ([] ∷ parts_of bytes) (onto_first byte (parts_of bytes)) ≡ (byte ∷ bytes) ∷ []) [
+    → cond b ([] ∷ parts_of bytes) (onto_first byte (parts_of bytes)) ≡ (byte ∷ bytes) ∷ []) [
       | true ↦ λ h. absurd (omega arith)
       | false ↦ λ h. ap (onto_first byte) (parts_of-whole bytes (omega arith))
     ] none
@@ -63,7 +63,7 @@ second_point ino word more =
     let parts = slice_split is_point (after_first is_point word) in
     let some : 0 < length parts = omega (arith, length-slice_split is_point (after_first is_point word)) in
     let other : list_all is_digit word ≡ false = list_all_at is_digit word (position_or_len is_point word) 0 more
-        (point_is_no_digit _ (passes_at_first is_point word 0 more)) in
+    (point_is_no_digit _ (passes_at_first is_point word 0 more)) in
     ap (λ (rest : List (List ℕ)). handle_of_parts (ino ∷ rest)) (slice_split_first is_point word 0 more)
     ∙ handle_of_parts-more ino (before_first is_point word) parts some
     ∙ sym (ap (handle_from (number_of ino)) (number_of-other word other) ∙ handle_from-None (number_of ino))

@@ -11,8 +11,8 @@ pub writes_more : (a b c : Option (List ℕ)) (text rest : List ℕ) (count : �
     → WritesFront a c text (take (length rest - count) (drop count rest))
 writes_more a b c text rest count front more =
     let same : text ≡ (front.0 ++ take count rest) ++ drop count rest = front.1
-        ∙ ap (λ tail. front.0 ++ tail) (sym (take-append-drop count rest))
-        ∙ sym (append_assoc front.0 (take count rest) (drop count rest)) in
+    ∙ ap (λ tail. front.0 ++ tail) (sym (take-append-drop count rest))
+    ∙ sym (append_assoc front.0 (take count rest) (drop count rest)) in
     rw take_rest (front.0 ++ take count rest, same, Appends-trans a b c front.0 (take count rest) front.2 more)
 
 -- nothing was written, all is left

@@ -6,4 +6,4 @@ pub returns : goal.returns
 returns c = λ more.
     let ahead = c.self.inside in
     rw (← c.self.view_is)
-        (line_ahead ahead.chunk.items ahead.at ahead.end ahead.lines_end (ltb-true ahead.at ahead.lines_end more) c.self.invariant.3)
+    (line_ahead ahead.chunk.items ahead.at ahead.end ahead.lines_end (ltb-true ahead.at ahead.lines_end more) c.self.invariant.3)

@@ -16,4 +16,4 @@ returns-clause-taken c =
     let more : ahead.at + c.push_front.result < ahead.end = grind (arith, common_steps) in
     rw (c.push_front.ensures.pushed, c.deref.ensures.value, ← c.self.view_is)
     (takes_front ahead.chunk.items c.args.line.now.items ahead.at ahead.end c.push_front.result c.index-byte.result.now more here.1
-        c.index-byte.ensures)
+    c.index-byte.ensures)
