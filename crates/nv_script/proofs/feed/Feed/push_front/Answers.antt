@@ -1,4 +1,4 @@
-use Rattle.std.proofs.Common.{◌≡◌, ◌++◌, take, subst, arith}
+use Rattle.std.proofs.Common.{subst, arith}
 use Rattle.std.proofs.lemmas.Grind.{common_steps}
 use Rattle.nv_script.proofs.Lines.{HasNoEnd-append}
 use Rattle.nv_script.specs.Lines.{HasNoEnd}
