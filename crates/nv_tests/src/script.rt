@@ -2,8 +2,8 @@
 
 mod ends;
 mod faults;
-mod pieces;
 mod lines;
+mod pieces;
 mod rows;
 mod scripts;
 mod words;
