@@ -15,9 +15,9 @@ use nv_log::Chain;
 use std::alloc::Global;
 use std::process::Abort;
 
-/// What goes, by flags, of the nine entries, and the pages and the log that are left.
+/// What stays, by flags, of the nine entries, which blocks are handed out, and the pages and the log that are left.
 struct Removal {
-    gone: &'static [bool],
+    stays: &'static [bool],
     out: &'static [u64],
     pages: &'static [Page],
     log: &'static [u64],
@@ -25,7 +25,7 @@ struct Removal {
 
 const UNLINKS: [Removal; 6] = [
     Removal {
-        gone: &[],
+        stays: &[true, true, true, true, true],
         out: &[],
         pages: &[
             (0, &[1, 2]),
@@ -37,31 +37,31 @@ const UNLINKS: [Removal; 6] = [
         log: &[1, 2, 3, 4, 5, 6, 7],
     },
     Removal {
-        gone: &[true],
+        stays: &[false, true, true, true, true],
         out: &[0],
         pages: &[(1, &[3, 4]), (2, &[5, 6]), (3, &[7, 8]), (4, &[9])],
         log: &[3, 4, 5, 6, 7],
     },
     Removal {
-        gone: &[false, true, true, true, false],
+        stays: &[true, false, false, false, true],
         out: &[1, 2, 3],
         pages: &[(0, &[1, 2]), (4, &[9])],
         log: &[1, 2],
     },
     Removal {
-        gone: &[true, false, false, true, false],
+        stays: &[false, true, true, false, true],
         out: &[0, 3],
         pages: &[(1, &[3, 4]), (2, &[5, 6]), (4, &[9])],
         log: &[3, 4, 5, 6],
     },
     Removal {
-        gone: &[false, false, false, false, true, true],
+        stays: &[true, true, true, true, false],
         out: &[4],
         pages: &[(0, &[1, 2]), (1, &[3, 4]), (2, &[5, 6]), (3, &[7, 8])],
         log: &[1, 2, 3, 4, 5, 6, 7],
     },
     Removal {
-        gone: &[true, true, true, true, true],
+        stays: &[false, false, false, false, false],
         out: &[0, 1, 2, 3, 4],
         pages: &[],
         log: &[],
@@ -74,10 +74,11 @@ fn are_sized(blocks: &[Block], size: usize) -> bool
     blocks.iter().all(|block| block.bytes().len() == size)
 }
 
-fn unlink(rt: &impl Abort, chain: &mut Chain, gone: &[bool], queue: &mut BlockQueue) {
-    assert!(rt; gone.iter().filter(|goes| **goes).count() as u64 <= queue.room());
+fn unlink(rt: &impl Abort, chain: &mut Chain, stays: &[bool], queue: &mut BlockQueue) {
+    assert!(rt; stays.len() == chain.ends().len());
+    assert!(rt; stays.iter().filter(|stays| !**stays).count() as u64 <= queue.room());
     assert!(rt; are_sized(chain.blocks(), queue.block_bytes()));
-    chain.unlink_pages(gone, queue);
+    chain.unlink_pages(stays, queue);
 }
 
 #[test]
@@ -86,7 +87,7 @@ fn unlinks_pages(rt: HostRuntime) {
         let mut list = free_blocks(&rt, rt.alloc());
         let mut chain = nine_entries(&rt, rt.alloc(), &mut list);
         let mut taken = queue_for(&rt, rt.alloc(), 5);
-        unlink(&rt, &mut chain, row.gone, &mut taken);
+        unlink(&rt, &mut chain, row.stays, &mut taken);
         has_numbers(&rt, &taken, row.out);
         assert_pages(&rt, &chain, row.pages, row.log);
         same(&rt, chain.spare(), row.out.len());
@@ -116,9 +117,9 @@ fn unlinks_single_pages(rt: HostRuntime) {
     let_go(rt.alloc(), chain, taken, list);
 }
 
-const COMPACTIONS: [Removal; 4] = [
+const COMPACTIONS: [Removal; 3] = [
     Removal {
-        gone: &[],
+        stays: &[true, true, true, true, true, true, true],
         out: &[0, 1, 2, 3, 4],
         pages: &[
             (5, &[1, 2]),
@@ -130,21 +131,15 @@ const COMPACTIONS: [Removal; 4] = [
         log: &[1, 2, 3, 4, 5, 6, 7],
     },
     Removal {
-        gone: &[true, false, true, false, true, false, true, false, true],
+        stays: &[false, true, false, true, false, true, false],
         out: &[0, 1, 2, 3, 4],
-        pages: &[(5, &[2, 4]), (6, &[6, 8])],
+        pages: &[(5, &[2, 4]), (6, &[6, 8]), (7, &[9])],
         log: &[2, 4, 6],
     },
     Removal {
-        gone: &[true, true, true, true, true, true, true],
+        stays: &[false, false, false, false, false, false, false],
         out: &[0, 1, 2, 3, 4],
         pages: &[(5, &[8, 9])],
-        log: &[],
-    },
-    Removal {
-        gone: &[true, true, true, true, true, true, true, true, true],
-        out: &[0, 1, 2, 3, 4],
-        pages: &[],
         log: &[],
     },
 ];
@@ -171,10 +166,11 @@ fn are_numbered(rt: &impl Abort, blocks: &[Block], want: &[u64]) {
 }
 
 /// Lays the chain anew in fresh pages, and gives the old ones.
-fn compact(rt: &impl Abort, chain: &mut Chain, gone: &[bool], fresh: Vec<Block>) -> Vec<Block> {
-    let staying = chain.staying(gone);
+fn compact(rt: &impl Abort, chain: &mut Chain, stays: &[bool], fresh: Vec<Block>) -> Vec<Block> {
+    assert!(rt; stays.len() == chain.tail());
+    let staying = chain.staying(stays);
     assert!(rt; fresh.len() == staying.div_ceil(chain.entries_per_page()));
-    chain.compact(gone, fresh)
+    chain.compact(stays, fresh)
 }
 
 #[test]
@@ -184,7 +180,7 @@ fn compacts(rt: HostRuntime) {
         let mut chain = nine_entries(&rt, rt.alloc(), &mut list);
         let mut queue = queue_with(&rt, rt.alloc(), &mut list, row.pages.len() as u64);
         let fresh = blocks_of(&rt, rt.alloc(), &mut queue);
-        let old = compact(&rt, &mut chain, row.gone, fresh);
+        let old = compact(&rt, &mut chain, row.stays, fresh);
         are_numbered(&rt, &old, row.out);
         assert_pages(&rt, &chain, row.pages, row.log);
         same(&rt, chain.spare(), 0);
