@@ -1,7 +1,8 @@
 //! The tests of all library crates, a module for each: worked examples, each call that takes memory once with
 //! ample memory, and what no contract says.
 //!
-//! They stand in a crate of their own since a crate with tests is proved twice.
+//! They stand in a crate of their own since a crate with tests is proved twice. How they compare is in `compare`, and what
+//! several start from in `scenes`.
 #![tactic(auto)]
 
 #[cfg(test)]
