@@ -1,20 +1,23 @@
 -- What holds of a chain still holds once it has one more entry, one more page, or some of them less.
-use Rattle.std.proofs.Common.{◌≡◌, ℕ, zero, suc, ◌+◌, ◌-◌, ◌*◌, ◌<◌, ◌≤◌, ◌⊎◌, inl, inr, Bool, List, [], ◌∷◌, ◌++◌, length, take, drop, get_or, min, length-drop, take_all, arith, refl, ap, sym, ◌∙◌, subst, Some}
+use Rattle.std.proofs.Common.{◌≡◌, ℕ, zero, suc, ◌+◌, ◌-◌, ◌*◌, ◌<◌, ◌≤◌, ◌⊎◌, inl, inr, Bool, List, [], ◌∷◌, ◌++◌, length, take, drop, get_or, min, length-drop, take_all, arith, refl, ap, sym, ◌∙◌, subst, Some, map, sum}
 use Rattle.std.proofs.lemmas.Bool.{cases_lt, lt-ltb, le-ltb}
-use Rattle.std.proofs.lemmas.List.{drop-append-le, get_or_past, get_or_push, length_push, length-take, length-take-le, take-append-le}
+use Rattle.std.proofs.lemmas.List.{drop-append-le, get_or_past, get_or_push, length_push, length-take, length-take-le, take-append-le, take_more, map_push, length-map}
 use Rattle.std.proofs.lemmas.Option.{slice_get-get_or, slice_get_read}
 use Rattle.std.proofs.Math.Nat.{mul-le-mul_left, mul-le-mul_right}
 use Rattle.std.proofs.lemmas.List.FromFn.{length-map-range_with_len}
 use Rattle.std.specs.Int.{div_ceil}
 use Rattle.std.specs.Option.{ForSome, option_map}
+use Rattle.std.proofs.lemmas.List.Concat.{length-flat_map}
+use Rattle.std.proofs.lemmas.List.Sums.{sum-map}
+use Rattle.nv_entry.specs.Clean.{pages_by}
 use Rattle.nv_base.specs.Ids.{IsIdBefore}
 use Rattle.nv_base.specs.declared.numbers.EntryId.{EntryId}
 use Rattle.nv_alloc.specs.Block.{BlockValue}
 use Rattle.nv_entry.specs.declared.item.Entry.{Entry}
 use Rattle.nv_entry.specs.Log.{MayFollow}
-use Rattle.nv_log.specs.Chain.{AppendsEntry, AreEnds, ChainState, IsChain, KeepsPages, appended, compacted, end_in, joined, last_entry, last_epoch, last_id, left_of, log, log_pages, open_page, open_of, page_entries, pages_of, room_of, start_in, start_of, with_page, with_entries_left, with_pages_left}
+use Rattle.nv_log.specs.Chain.{AppendsEntry, AreEnds, ChainState, IsChain, KeepsPages, appended, compacted, end_in, joined, last_entry, last_epoch, last_id, left_of, log, log_pages, open_page, open_of, page_entries, pages_of, room_of, start_in, start_of, with_page, with_entries_left, with_pages_left, end_of}
 use Rattle.nv_log.proofs.Logs.{IsLog-push, IsLog-left_of}
-use Rattle.nv_log.proofs.Parts.{AreEnds-full, AreEnds-joined, AreEnds-push, AreEnds-take, AreSized-parts, div_ceil-le, in_order, len_le, length-ends_from, length-parts, part_any, parts-joined, parts-push, start_past}
+use Rattle.nv_log.proofs.Parts.{AreEnds-full, AreEnds-joined, AreEnds-push, AreEnds-take, AreSized-parts, div_ceil-le, in_order, len_le, length-ends_from, length-parts, part_any, parts-joined, parts-push, start_past, joined-parts, length-part, pages_by-parts}
 use Rattle.nv_log.proofs.Flags.{all_left, joined-left_of, length-left_of, length-left_of-le, spread, take-joined_left, take-left_of}
 
 -- the next entry goes to the last page with entries while that has a free place, and else to the page after it
@@ -321,3 +324,38 @@ compacted_few stays chain is =
       length-left_of stays chain.entries,
       mul-le-mul_right chain.page is.paged,
     ))
+
+-- the pages of a log joined are the log
+pub joined-log_pages : (chain : ChainState) → IsChain chain → joined (log_pages chain) ≡ log chain
+joined-log_pages chain is =
+    joined-parts chain.page 0 chain.ends (length chain.entries) (log chain) is.parted (omega (arith, length-take chain.tail chain.entries))
+
+-- how many entries of the log each page has: one more page, and all
+pub counts_more : (chain : ChainState) (k : ℕ) → IsChain chain → k < length chain.ends
+    → map length (take (k + 1) (log_pages chain))
+    ≡ map length (take k (log_pages chain)) ++ (min (end_of chain k) chain.tail - min (start_of chain k) chain.tail) ∷ []
+counts_more chain k is lt =
+    let pages = log_pages chain in
+    ap (map length) (take_more pages k [] (omega (arith, lt, length-parts 0 chain.ends (log chain))))
+    ∙ map_push length (take k pages) (get_or pages k [])
+    ∙ ap (λ n. map length (take k pages) ++ n ∷ []) (length-part chain.page chain.ends chain.tail k chain.entries is.parted lt)
+
+pub record AreCounts (chain : ChainState) (counts : List ℕ) : Type 0 where
+  pub value : counts ≡ map length (log_pages chain)
+  pub total : sum counts ≡ length (log chain)
+  pub each : length counts ≡ length chain.ends
+  pub pages : pages_by counts (log chain) ≡ log_pages chain
+
+pub are_counts : (chain : ChainState) (counts : List ℕ) (k : ℕ) → IsChain chain → length chain.ends ≤ k
+    → counts ≡ map length (take k (log_pages chain)) → AreCounts chain counts
+are_counts chain counts k is le e =
+    let size = length-parts 0 chain.ends (log chain) in
+    let value : counts ≡ map length (log_pages chain) = e ∙ ap (map length) (take_all k (log_pages chain) (omega (arith, le, size))) in
+    record {
+      value = value;
+      total =
+          ap sum value ∙ sum-map length (log_pages chain) ∙ sym (length-flat_map (λ page. page) (log_pages chain))
+          ∙ ap length (joined-log_pages chain is);
+      each = ap length value ∙ length-map (log_pages chain) length ∙ size;
+      pages = ap (λ ns. pages_by ns (log chain)) value ∙ pages_by-parts 0 chain.ends (log chain);
+    }

@@ -1,5 +1,5 @@
 -- Logs: any two entries of one, one more entry, and what is left of one.
-use Rattle.std.proofs.Common.{◌≡◌, ℕ, zero, suc, ◌-◌, ◌<◌, inl, inr, Bool, true, false, List, [], ◌∷◌, ◌++◌, length, get_or, arith}
+use Rattle.std.proofs.Common.{◌≡◌, ℕ, zero, suc, ◌-◌, ◌<◌, Bool, true, false, List, [], ◌∷◌, ◌++◌, length, get_or, arith}
 use Rattle.std.specs.List.{AllByRecursion}
 use Rattle.nv_base.proofs.Ids.{before-trans}
 use Rattle.nv_entry.specs.declared.item.Entry.{Entry}

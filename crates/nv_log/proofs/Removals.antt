@@ -1,5 +1,5 @@
 -- What the walks that take items out of a list have done so far.
-use Rattle.std.proofs.Common.{◌≡◌, ℕ, zero, suc, ◌+◌, ◌-◌, ◌<◌, ◌≤◌, inl, inr, Bool, true, false, cond, min, List, [], ◌∷◌, ◌++◌, length, take, drop, get_or, set, slice_range, take_all, length-drop, length-append, length-set, arith, refl, ap, sym, ◌∙◌, add-one}
+use Rattle.std.proofs.Common.{◌≡◌, ℕ, ◌+◌, ◌-◌, ◌<◌, ◌≤◌, Bool, true, false, min, List, [], ◌∷◌, ◌++◌, length, take, drop, get_or, set, slice_range, take_all, length-drop, length-append, length-set, arith, refl, ap, sym, ◌∙◌, add-one}
 use Rattle.std.proofs.lemmas.List.{append-nil, append_assoc, drop_more, take_more, take_more_set, take-set-le, drop-set-lt, drop-drop, length-take, length-take-le, get_or-drop, get_or_default}
 use Rattle.std.proofs.lemmas.List.Concat.{flat_map-append}
 use Rattle.std.specs.List.{SwappedAt}
