@@ -302,10 +302,3 @@ fn runs_and_slots_answer_alike(rt: HostRuntime) -> Result<(), Fail> {
     }
     Ok(())
 }
-
-fn crosses_threads<T: Send + Sync>(_: &T) {}
-
-#[test]
-fn an_index_crosses_threads(rt: HostRuntime) {
-    crosses_threads(&FileIndex::new(rt.alloc()));
-}

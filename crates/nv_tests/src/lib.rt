@@ -23,4 +23,6 @@ mod script;
 #[cfg(test)]
 mod snapshots;
 #[cfg(test)]
+mod threads;
+#[cfg(test)]
 mod world;

@@ -188,10 +188,3 @@ fn at_most_one_name_stands_reserved(rt: HostRuntime) -> Result<(), Fail> {
     }
     Ok(())
 }
-
-fn crosses_threads<T: Send + Sync>(_: &T) {}
-
-#[test]
-fn an_index_crosses_threads(rt: HostRuntime) {
-    crosses_threads(&NameIndex::new(rt.alloc()));
-}
