@@ -11,6 +11,8 @@ mod blocks;
 #[cfg(test)]
 mod chain;
 #[cfg(test)]
+mod compare;
+#[cfg(test)]
 mod entry;
 #[cfg(test)]
 mod file_index;
@@ -19,10 +21,10 @@ mod journal;
 #[cfg(test)]
 mod name_index;
 #[cfg(test)]
+mod scenes;
+#[cfg(test)]
 mod script;
 #[cfg(test)]
 mod snapshots;
-#[cfg(test)]
-mod threads;
 #[cfg(test)]
 mod world;
