@@ -1,5 +1,5 @@
 //! Snapshots: each call in a scene, and the limits.
-use crate::compare::{crosses_threads, same, same_for};
+use crate::compare::crosses_threads;
 use nv_base::{Epoch, Fault, limits};
 use nv_epoch::{SnapList, Snapshot};
 use std::alloc::Global;
@@ -48,8 +48,8 @@ fn scene(
     assert!(rt; list.is_empty());
     for (call, wanted, pins, room) in calls {
         let did = answer(rt, &mut list, *call).map(|s| s.number());
-        same(rt, did, *wanted);
-        same(rt, (list.pins(Epoch::new(2)), list.room()), (*pins, *room));
+        assert_eq!(rt; did, *wanted);
+        assert_eq!(rt; (list.pins(Epoch::new(2)), list.room()), (*pins, *room));
     }
     Ok(list)
 }
@@ -76,7 +76,7 @@ fn refuses_in_order(rt: HostRuntime) -> Result<(), Fail> {
             (Call::Remove(2), Err(Fault::NoSnapshot), None, 1),
         ],
     )?;
-    same(&rt, (list.len(), list.epoch()), (3, Epoch::new(5)));
+    assert_eq!(rt; (list.len(), list.epoch()), (3, Epoch::new(5)));
     Ok(())
 }
 
@@ -89,7 +89,7 @@ fn ends_at_the_last_epoch(rt: HostRuntime) -> Result<(), Fail> {
 
     let made = (Call::Make, Ok(last - 1), None, 0);
     let list = scene(&rt, rt.alloc(), 1, last - 1, &[made, refused])?;
-    same(&rt, list.epoch(), Epoch::new(last));
+    assert_eq!(rt; list.epoch(), Epoch::new(last));
     let only = Snapshot {
         number: Epoch::new(last - 1),
         pins: 0,
@@ -134,7 +134,7 @@ fn finds_holders(rt: HostRuntime) -> Result<(), Fail> {
         (8, 8, None),
     ] {
         let found = list.youngest_in(Epoch::new(birth), Epoch::new(death));
-        same_for(&rt, &(birth, death), found, holder.map(Epoch::new));
+        assert_eq!(rt; found, holder.map(Epoch::new), "from {birth} to {death}");
     }
     Ok(())
 }
@@ -151,10 +151,14 @@ fn tells_places_pins_and_the_next_older(rt: HostRuntime) -> Result<(), Fail> {
         (9, None, None, Some(7)),
     ] {
         let s = Epoch::new(number);
-        same_for(&rt, &number, (list.place(s), list.pins(s)), (place, pins));
+        assert_eq!(rt; (list.place(s), list.pins(s)), (place, pins), "of {number}");
         let lives = place.is_some();
-        same_for(&rt, &number, (list.has(s), list.can_pin(s)), (lives, lives));
-        same_for(&rt, &number, list.older(s), older.map(Epoch::new));
+        assert_eq!(rt;
+            (list.has(s), list.can_pin(s)),
+            (lives, lives),
+            "of {number}"
+        );
+        assert_eq!(rt; list.older(s), older.map(Epoch::new), "below {number}");
     }
     Ok(())
 }
@@ -181,12 +185,12 @@ fn takes_sixty_four_pins(rt: HostRuntime) -> Result<(), Fail> {
 fn makes_as_many_as_there_is_room_for(rt: HostRuntime) -> Result<(), Fail> {
     let mut list = SnapList::new(rt.alloc(), limits::SNAPS, Epoch::new(1))?;
     for number in 1..limits::SNAPS + 1 {
-        same(&rt, list.make(), Ok(Epoch::new(number)));
+        assert_eq!(rt; list.make(), Ok(Epoch::new(number)));
     }
-    same(&rt, list.make(), Err(Fault::TooManySnapshots));
+    assert_eq!(rt; list.make(), Err(Fault::TooManySnapshots));
     list.remove(Epoch::new(500))?;
-    same(&rt, list.make(), Ok(Epoch::new(limits::SNAPS + 1)));
-    same(&rt, list.older(Epoch::new(501)), Some(Epoch::new(499)));
+    assert_eq!(rt; list.make(), Ok(Epoch::new(limits::SNAPS + 1)));
+    assert_eq!(rt; list.older(Epoch::new(501)), Some(Epoch::new(499)));
     Ok(())
 }
 
