@@ -52,7 +52,8 @@ pub record IsLast (p : ℕ → Bool) (xs : List ℕ) (s : ℕ) : Type 0 where
 pub none_passes : (p : ℕ → Bool) (xs : List ℕ) → last_that p xs ≡ None → NonePasses p xs
 none_passes p [] e = record { fails = λ t h. absurd (omega (arith, h.1)) }
 none_passes p (x ∷ xs) e = go (last_that p xs) (p x) refl refl (none_passes p xs) (sym (last_that-cons p x xs) ∙ e) where
-  go : (o : Option ℕ) (b : Bool) → last_that p xs ≡ o → p x ≡ b → (last_that p xs ≡ None → NonePasses p xs) → option_or o (cond b (Some x) None) ≡ None → NonePasses p (x ∷ xs)
+  go : (o : Option ℕ) (b : Bool) → last_that p xs ≡ o → p x ≡ b → (last_that p xs ≡ None → NonePasses p xs)
+      → option_or o (cond b (Some x) None) ≡ None → NonePasses p (x ∷ xs)
   go (Some y) b q w ih f = cc
   go None true q w ih f = cc
   go None false q w ih f = record { fails = λ t h. at t (contains_cases x xs t h) } where
@@ -64,7 +65,8 @@ none_passes p (x ∷ xs) e = go (last_that p xs) (p x) refl refl (none_passes p 
 pub last_passes : (p : ℕ → Bool) (xs : List ℕ) (s : ℕ) → last_that p xs ≡ Some s → Contains xs s × (p s ≡ true)
 last_passes p [] s e = cc
 last_passes p (x ∷ xs) s e = go (last_that p xs) (p x) refl refl (last_passes p xs s) (sym (last_that-cons p x xs) ∙ e) where
-  go : (o : Option ℕ) (b : Bool) → last_that p xs ≡ o → p x ≡ b → (last_that p xs ≡ Some s → Contains xs s × (p s ≡ true)) → option_or o (cond b (Some x) None) ≡ Some s → Contains (x ∷ xs) s × (p s ≡ true)
+  go : (o : Option ℕ) (b : Bool) → last_that p xs ≡ o → p x ≡ b → (last_that p xs ≡ Some s → Contains xs s × (p s ≡ true))
+      → option_or o (cond b (Some x) None) ≡ Some s → Contains (x ∷ xs) s × (p s ≡ true)
   go (Some y) b q w ih f = let k = ih (q ∙ f) in (contains_later x xs s k.0, k.1)
   go None true q w ih f = let k : x ≡ s = cc in subst (λ t. Contains (x ∷ xs) t × (p t ≡ true)) k (contains_first x xs, w)
   go None false q w ih f = cc
@@ -73,7 +75,8 @@ last_passes p (x ∷ xs) s e = go (last_that p xs) (p x) refl refl (last_passes 
 pub is_last : (p : ℕ → Bool) (xs : List ℕ) (s : ℕ) → IsRising xs → last_that p xs ≡ Some s → IsLast p xs s
 is_last p [] s rising e = cc
 is_last p (x ∷ xs) s rising e = go (last_that p xs) (p x) refl refl (is_last p xs s rising.1) (sym (last_that-cons p x xs) ∙ e) where
-  go : (o : Option ℕ) (b : Bool) → last_that p xs ≡ o → p x ≡ b → (last_that p xs ≡ Some s → IsLast p xs s) → option_or o (cond b (Some x) None) ≡ Some s → IsLast p (x ∷ xs) s
+  go : (o : Option ℕ) (b : Bool) → last_that p xs ≡ o → p x ≡ b → (last_that p xs ≡ Some s → IsLast p xs s)
+      → option_or o (cond b (Some x) None) ≡ Some s → IsLast p (x ∷ xs) s
   go (Some y) b q w ih f = let k = ih (q ∙ f) in record {
     stands = contains_later x xs s k.stands;
     passes = k.passes;
@@ -124,18 +127,21 @@ IsRising-filter p (x ∷ xs) rising = go (p x) (IsRising-filter p xs rising.1) w
 pub contains_filter : (p : ℕ → Bool) (xs : List ℕ) (s : ℕ) → Contains (filter p xs) s → Contains xs s × (p s ≡ true)
 contains_filter p [] s h = absurd (omega (arith, h.1))
 contains_filter p (x ∷ xs) s h = go (p x) refl h (λ k. contains_filter p xs s k) where
-  at : p x ≡ true → (s ≡ x) ⊎ Contains (filter p xs) s → (Contains (filter p xs) s → Contains xs s × (p s ≡ true)) → Contains (x ∷ xs) s × (p s ≡ true)
+  at : p x ≡ true → (s ≡ x) ⊎ Contains (filter p xs) s → (Contains (filter p xs) s → Contains xs s × (p s ≡ true))
+      → Contains (x ∷ xs) s × (p s ≡ true)
   at w (inl same) ih = subst (λ t. Contains (x ∷ xs) t × (p t ≡ true)) (sym same) (contains_first x xs, w)
   at w (inr k) ih = (contains_later x xs s (ih k).0, (ih k).1)
 
-  go : (b : Bool) → p x ≡ b → Contains (cond b (x ∷ filter p xs) (filter p xs)) s → (Contains (filter p xs) s → Contains xs s × (p s ≡ true)) → Contains (x ∷ xs) s × (p s ≡ true)
+  go : (b : Bool) → p x ≡ b → Contains (cond b (x ∷ filter p xs) (filter p xs)) s
+      → (Contains (filter p xs) s → Contains xs s × (p s ≡ true)) → Contains (x ∷ xs) s × (p s ≡ true)
   go true w h ih = at w (contains_cases x (filter p xs) s h) ih
   go false w h ih = (contains_later x xs s (ih h).0, (ih h).1)
 
 pub filter_contains : (p : ℕ → Bool) (xs : List ℕ) (s : ℕ) → Contains xs s → p s ≡ true → Contains (filter p xs) s
 filter_contains p [] s h passes = absurd (omega (arith, h.1))
 filter_contains p (x ∷ xs) s h passes = go (p x) refl (contains_cases x xs s h) (λ later. filter_contains p xs s later passes) where
-  go : (b : Bool) → p x ≡ b → (s ≡ x) ⊎ Contains xs s → (Contains xs s → Contains (filter p xs) s) → Contains (cond b (x ∷ filter p xs) (filter p xs)) s
+  go : (b : Bool) → p x ≡ b → (s ≡ x) ⊎ Contains xs s → (Contains xs s → Contains (filter p xs) s)
+      → Contains (cond b (x ∷ filter p xs) (filter p xs)) s
   go true w (inl same) ih = subst (λ t. Contains (x ∷ filter p xs) t) (sym same) (contains_first x (filter p xs))
   go true w (inr later) ih = contains_later x (filter p xs) s (ih later)
   go false w (inl same) ih = let f : true ≡ false = sym passes ∙ ap p same ∙ w in cc
@@ -144,7 +150,8 @@ filter_contains p (x ∷ xs) s h passes = go (p x) refl (contains_cases x xs s h
 pub filter_comm : (p q : ℕ → Bool) (xs : List ℕ) → filter p (filter q xs) ≡ filter q (filter p xs)
 filter_comm p q [] = refl
 filter_comm p q (x ∷ xs) = go (p x) (q x) refl refl (filter_comm p q xs) where
-  go : (a b : Bool) → p x ≡ a → q x ≡ b → filter p (filter q xs) ≡ filter q (filter p xs) → filter p (cond b (x ∷ filter q xs) (filter q xs)) ≡ filter q (cond a (x ∷ filter p xs) (filter p xs))
+  go : (a b : Bool) → p x ≡ a → q x ≡ b → filter p (filter q xs) ≡ filter q (filter p xs)
+      → filter p (cond b (x ∷ filter q xs) (filter q xs)) ≡ filter q (cond a (x ∷ filter p xs) (filter p xs))
   go true true w v ih = rw (w, v) (ap (λ ys. x ∷ ys) ih)
   go true false w v ih = rw v ih
   go false true w v ih = rw w ih
@@ -164,12 +171,17 @@ last_or-none (x ∷ xs) e = go (last_or None xs) (sym (last_or-default (Some x) 
 
 -- a filter that keeps the last number, or any filter where there is none, changes nothing of it
 pub last_that-filter_none : (p q : ℕ → Bool) (xs : List ℕ) → last_that p xs ≡ None → last_that p (filter q xs) ≡ None
-last_that-filter_none p q xs e = last_that-none p (filter q xs) (record { fails = λ t h. (none_passes p xs e).fails t (contains_filter q xs t h).0 })
+last_that-filter_none p q xs e = last_that-none p (filter q xs)
+    (record { fails = λ t h. (none_passes p xs e).fails t (contains_filter q xs t h).0 })
 
-pub last_that-filter_some : (p q : ℕ → Bool) (xs : List ℕ) (s : ℕ) → q s ≡ true → last_that p xs ≡ Some s → last_that p (filter q xs) ≡ Some s
+pub last_that-filter_some : (p q : ℕ → Bool) (xs : List ℕ) (s : ℕ) → q s ≡ true → last_that p xs ≡ Some s
+    → last_that p (filter q xs) ≡ Some s
 last_that-filter_some p q [] s keeps e = cc
-last_that-filter_some p q (x ∷ xs) s keeps e = go (last_that p xs) (p x) (q x) refl refl refl (last_that-filter_some p q xs s keeps) (sym (last_that-cons p x xs) ∙ e) where
-  go : (o : Option ℕ) (a b : Bool) → last_that p xs ≡ o → p x ≡ a → q x ≡ b → (last_that p xs ≡ Some s → last_that p (filter q xs) ≡ Some s) → option_or o (cond a (Some x) None) ≡ Some s → last_that p (cond b (x ∷ filter q xs) (filter q xs)) ≡ Some s
+last_that-filter_some p q (x ∷ xs) s keeps e =
+    go (last_that p xs) (p x) (q x) refl refl refl (last_that-filter_some p q xs s keeps) (sym (last_that-cons p x xs) ∙ e) where
+  go : (o : Option ℕ) (a b : Bool) → last_that p xs ≡ o → p x ≡ a → q x ≡ b
+      → (last_that p xs ≡ Some s → last_that p (filter q xs) ≡ Some s) → option_or o (cond a (Some x) None) ≡ Some s
+      → last_that p (cond b (x ∷ filter q xs) (filter q xs)) ≡ Some s
   go (Some y) a true w v u ih f = last_that-cons p x (filter q xs) ∙ ap (λ o. option_or o (cond (p x) (Some x) None)) (ih (w ∙ f))
   go (Some y) a false w v u ih f = ih (w ∙ f)
   go None true true w v u ih f =

@@ -25,13 +25,15 @@ length-numbers living = length-map living (λ s. s.number)
 pub in_numbers : (living : List Snapshot) (k : ℕ) → k < length living → k < length (numbers living)
 in_numbers living k in' = omega (arith, length-numbers living)
 
-pub number-at : (living : List Snapshot) (k : ℕ) (d : Snapshot) → k < length living → get_or (numbers living) k 0 ≡ (get_or living k d).number
+pub number-at : (living : List Snapshot) (k : ℕ) (d : Snapshot) → k < length living
+    → get_or (numbers living) k 0 ≡ (get_or living k d).number
 number-at living k d in' = get_or-map (λ (s : Snapshot). s.number) living k d 0 in'
 
 pub numbers_rise : (living : List Snapshot) → IsRising (numbers living) → IsNonDecreasingBy (λ (s : Snapshot). s.number) living
 numbers_rise living rising i j d le in' = go (cases_order i j) where
   go : (i ≡ j) ⊎ ((i < j) ⊎ (j < i)) → (get_or living i d).number ≤ (get_or living j d).number
-  go (inl same) = let k : (get_or living i d).number ≡ (get_or living j d).number = ap (λ n. (get_or living n d).number) same in omega (arith, k)
+  go (inl same) = let k : (get_or living i d).number ≡ (get_or living j d).number =
+      ap (λ n. (get_or living n d).number) same in omega (arith, k)
   go (inr (inl lt)) =
       let a : get_or (numbers living) i 0 ≡ (get_or living i d).number = number-at living i d (omega arith) in
       let b : get_or (numbers living) j 0 ≡ (get_or living j d).number = number-at living j d in' in
@@ -45,7 +47,9 @@ pub record Below (xs : List ℕ) (bound count : ℕ) : Type 0 where
   pub older : (k : ℕ) → k < count → get_or xs k 0 < bound
   pub others : (k : ℕ) → count ≤ k → k < length xs → bound ≤ get_or xs k 0
 
-pub below_from : (living : List Snapshot) (bound count : ℕ) → count ≤ length living → ((k : ℕ) → k < count → get_or (numbers living) k 0 < bound) → ((k : ℕ) → count ≤ k → k < length living → bound ≤ get_or (numbers living) k 0) → Below (numbers living) bound count
+pub below_from : (living : List Snapshot) (bound count : ℕ) → count ≤ length living
+    → ((k : ℕ) → k < count → get_or (numbers living) k 0 < bound)
+    → ((k : ℕ) → count ≤ k → k < length living → bound ≤ get_or (numbers living) k 0) → Below (numbers living) bound count
 below_from living bound count in' older others = record {
   in_range = omega (arith, in', length-numbers living);
   older = older;
@@ -63,7 +67,8 @@ next_older-none_below xs bound count below empty = last_that-none (λ t. nat_lt 
       le-ltb t bound (omega (arith, k, same));
 })
 
-pub next_older-last_below : (xs : List ℕ) (bound count : ℕ) → IsRising xs → Below xs bound count → 0 < count → next_older xs bound ≡ Some (get_or xs (count - 1) 0)
+pub next_older-last_below : (xs : List ℕ) (bound count : ℕ) → IsRising xs → Below xs bound count → 0 < count
+    → next_older xs bound ≡ Some (get_or xs (count - 1) 0)
 next_older-last_below xs bound count rising below some =
     let last : ℕ = get_or xs (count - 1) 0 in
     let range = below.in_range in
@@ -79,17 +84,20 @@ next_older-last_below xs bound count rising below some =
       le_last t k in' same under = go (cases_order k (count - 1)) where
         go : (k ≡ count - 1) ⊎ ((k < count - 1) ⊎ (count - 1 < k)) → t ≤ get_or xs (count - 1) 0
         go (inl e) = let f : get_or xs k 0 ≡ get_or xs (count - 1) 0 = ap (λ n. get_or xs n 0) e in omega (arith, f, same)
-        go (inr (inl lt)) = let range = below.in_range in let f = rises xs k (count - 1) rising lt (omega (arith, range, some)) in omega (arith, f, same)
+        go (inr (inl lt)) = let range = below.in_range in let f =
+            rises xs k (count - 1) rising lt (omega (arith, range, some)) in omega (arith, f, same)
         go (inr (inr gt)) = let f = below.others k (omega arith) in' in absurd (omega (arith, f, same))
 
 -- a number that stands at no place has no pins
-pub pins_at-none : (living : List Snapshot) (s : ℕ) → ((k : ℕ) → k < length living → get_or (numbers living) k 0 ≢ s) → pins_at living s ≡ None
+pub pins_at-none : (living : List Snapshot) (s : ℕ) → ((k : ℕ) → k < length living → get_or (numbers living) k 0 ≢ s)
+    → pins_at living s ≡ None
 pins_at-none [] s absent = refl
 pins_at-none (t ∷ ts) s absent =
     let ne : t.number ≢ s = absent 0 (omega arith) in
     rw (ne_eqb t.number s ne) (pins_at-none ts s (λ k in'. absent (suc k) (omega arith)))
 
-pub not_below : (xs : List ℕ) (s count : ℕ) → IsRising xs → Below xs s count → (count < length xs → get_or xs count 0 ≢ s) → (k : ℕ) → k < length xs → get_or xs k 0 ≢ s
+pub not_below : (xs : List ℕ) (s count : ℕ) → IsRising xs → Below xs s count → (count < length xs → get_or xs count 0 ≢ s) → (k : ℕ)
+    → k < length xs → get_or xs k 0 ≢ s
 not_below xs s count rising below ne k in' same = go (cases_order k count) where
   go : (k ≡ count) ⊎ ((k < count) ⊎ (count < k)) → ⊥
   go (inl e) = let f : get_or xs k 0 ≡ get_or xs count 0 = ap (λ n. get_or xs n 0) e in ne (omega (arith, e)) (sym f ∙ same)
@@ -99,7 +107,8 @@ not_below xs s count rising below ne k in' same = go (cases_order k count) where
       let g = below.others count (omega arith) (omega (arith, in')) in
       omega (arith, f, g, same)
 
-pub pins_at-place : (living : List Snapshot) (s place : ℕ) (d : Snapshot) → IsRising (numbers living) → place < length living → get_or (numbers living) place 0 ≡ s → pins_at living s ≡ Some (get_or living place d).pins
+pub pins_at-place : (living : List Snapshot) (s place : ℕ) (d : Snapshot) → IsRising (numbers living) → place < length living
+    → get_or (numbers living) place 0 ≡ s → pins_at living s ≡ Some (get_or living place d).pins
 pins_at-place [] s place d rising in' at = absurd (omega arith)
 pins_at-place (t ∷ ts) s zero d rising in' at = rw (eq-eqb t.number s at) refl
 pins_at-place (t ∷ ts) s (suc place) d rising in' at =
@@ -107,13 +116,15 @@ pins_at-place (t ∷ ts) s (suc place) d rising in' at =
     rw (ne_eqb t.number s (omega (arith, above, at))) (pins_at-place ts s place d rising.1 (omega arith) at)
 
 -- what is no snapshot's number takes none away
-filter_all : (living : List Snapshot) (s : ℕ) → All (λ t. s < t) (numbers living) → filter (λ (t : Snapshot). not (t.number == s)) living ≡ living
+filter_all : (living : List Snapshot) (s : ℕ) → All (λ t. s < t) (numbers living)
+    → filter (λ (t : Snapshot). not (t.number == s)) living ≡ living
 filter_all [] s above = refl
 filter_all (t ∷ ts) s above =
     let gt : s < t.number = above 0 0 (omega arith) in
     rw (ne_eqb t.number s (omega (arith, gt))) (ap (λ us. t ∷ us) (filter_all ts s (λ k d in'. above (suc k) d (omega arith))))
 
-pub removal-place : (living : List Snapshot) (s place : ℕ) → IsRising (numbers living) → place < length living → get_or (numbers living) place 0 ≡ s → remove living place ≡ filter (λ (t : Snapshot). not (t.number == s)) living
+pub removal-place : (living : List Snapshot) (s place : ℕ) → IsRising (numbers living) → place < length living
+    → get_or (numbers living) place 0 ≡ s → remove living place ≡ filter (λ (t : Snapshot). not (t.number == s)) living
 removal-place [] s place rising in' at = absurd (omega arith)
 removal-place (t ∷ ts) s zero rising in' at =
     rw (eq-eqb t.number s at) (sym (filter_all ts s (λ k d in'. let gt = rising.0 k d in' in omega (arith, gt, at))))
@@ -121,10 +132,13 @@ removal-place (t ∷ ts) s (suc place) rising in' at =
     let above : t.number < get_or (numbers ts) place 0 = rising.0 place 0 (in_numbers ts place (omega arith)) in
     rw (ne_eqb t.number s (omega (arith, above, at))) (ap (λ us. t ∷ us) (removal-place ts s place rising.1 (omega arith) at))
 
-pub numbers-removal : (living : List Snapshot) (s : ℕ) → numbers (filter (λ (t : Snapshot). not (t.number == s)) living) ≡ without s (numbers living)
+pub numbers-removal : (living : List Snapshot) (s : ℕ)
+    → numbers (filter (λ (t : Snapshot). not (t.number == s)) living) ≡ without s (numbers living)
 numbers-removal [] s = refl
 numbers-removal (t ∷ ts) s = go (t.number == s) (numbers-removal ts s) where
-  go : (b : Bool) → numbers (filter (λ (u : Snapshot). not (u.number == s)) ts) ≡ without s (numbers ts) → numbers (cond (not b) (t ∷ filter (λ (u : Snapshot). not (u.number == s)) ts) (filter (λ (u : Snapshot). not (u.number == s)) ts)) ≡ cond (not b) (t.number ∷ without s (numbers ts)) (without s (numbers ts))
+  go : (b : Bool) → numbers (filter (λ (u : Snapshot). not (u.number == s)) ts) ≡ without s (numbers ts)
+      → numbers (cond (not b) (t ∷ filter (λ (u : Snapshot). not (u.number == s)) ts)
+      (filter (λ (u : Snapshot). not (u.number == s)) ts)) ≡ cond (not b) (t.number ∷ without s (numbers ts)) (without s (numbers ts))
   go true ih = ih
   go false ih = ap (λ ns. t.number ∷ ns) ih
 
@@ -135,10 +149,13 @@ repinned-other (t ∷ ts) s change above =
     let gt : s < t.number = above 0 0 (omega arith) in
     rw (ne_eqb t.number s (omega (arith, gt))) (ap (λ us. t ∷ us) (repinned-other ts s change (λ k d in'. above (suc k) d (omega arith))))
 
-pub with_pins-place : (living : List Snapshot) (s place : ℕ) (change : ℕ → ℕ) (d : Snapshot) → IsRising (numbers living) → place < length living → get_or (numbers living) place 0 ≡ s → set living place (record (get_or living place d) { pins = change (get_or living place d).pins }) ≡ with_pins living s change
+pub with_pins-place : (living : List Snapshot) (s place : ℕ) (change : ℕ → ℕ) (d : Snapshot) → IsRising (numbers living)
+    → place < length living → get_or (numbers living) place 0 ≡ s
+    → set living place (record (get_or living place d) { pins = change (get_or living place d).pins }) ≡ with_pins living s change
 with_pins-place [] s place change d rising in' at = absurd (omega arith)
 with_pins-place (t ∷ ts) s zero change d rising in' at =
-    rw (eq-eqb t.number s at) (ap (λ us. (record t { pins = change t.pins }) ∷ us) (sym (repinned-other ts s change (λ k d in'. let gt = rising.0 k d in' in omega (arith, gt, at)))))
+    rw (eq-eqb t.number s at) (ap (λ us. (record t { pins = change t.pins }) ∷ us)
+        (sym (repinned-other ts s change (λ k d in'. let gt = rising.0 k d in' in omega (arith, gt, at)))))
 with_pins-place (t ∷ ts) s (suc place) change d rising in' at =
     let above : t.number < get_or (numbers ts) place 0 = rising.0 place 0 (in_numbers ts place (omega arith)) in
     rw (ne_eqb t.number s (omega (arith, above, at))) (ap (λ us. t ∷ us) (with_pins-place ts s place change d rising.1 (omega arith) at))
@@ -146,6 +163,7 @@ with_pins-place (t ∷ ts) s (suc place) change d rising in' at =
 pub numbers-with_pins : (living : List Snapshot) (s : ℕ) (change : ℕ → ℕ) → numbers (with_pins living s change) ≡ numbers living
 numbers-with_pins [] s change = refl
 numbers-with_pins (t ∷ ts) s change = go (t.number == s) (numbers-with_pins ts s change) where
-  go : (b : Bool) → numbers (with_pins ts s change) ≡ numbers ts → (cond b (record t { pins = change t.pins }) t).number ∷ numbers (with_pins ts s change) ≡ t.number ∷ numbers ts
+  go : (b : Bool) → numbers (with_pins ts s change) ≡ numbers ts
+      → (cond b (record t { pins = change t.pins }) t).number ∷ numbers (with_pins ts s change) ≡ t.number ∷ numbers ts
   go true ih = ap (λ ns. t.number ∷ ns) ih
   go false ih = ap (λ ns. t.number ∷ ns) ih

@@ -51,7 +51,9 @@ length-with_pins : (living : List Snapshot) (s : ℕ) (change : ℕ → ℕ) →
 length-with_pins [] s change = refl
 length-with_pins (t ∷ ts) s change = omega (arith, length-with_pins ts s change)
 
-pub sound_repinned : (list : Snapshots) (s place : ℕ) (change : ℕ → ℕ) (d : Snapshot) → IsSound list → place < length list.living → get_or (numbers list.living) place 0 ≡ s → change (get_or list.living place d).pins ≤ 64 → IsSound (record list { living = with_pins list.living s change })
+pub sound_repinned : (list : Snapshots) (s place : ℕ) (change : ℕ → ℕ) (d : Snapshot) → IsSound list → place < length list.living
+    → get_or (numbers list.living) place 0 ≡ s → change (get_or list.living place d).pins ≤ 64
+    → IsSound (record list { living = with_pins list.living s change })
 sound_repinned list s place change d sound in' at few =
     let e = sym (numbers-with_pins list.living s change) in
     let fits = sound.fits in

@@ -14,7 +14,8 @@ use std::marker::Model;
 
 /// The living snapshots with their pins, and the current epoch.
 ///
-/// Room for all snapshots is made by `new`; nothing after it takes memory.
+/// Room for all snapshots is made by `new`; nothing after it takes memory. A snapshot is found by halving: where a
+/// call costs one look-up, that is the logarithm of the number of snapshots.
 #[derive(Debug, Drop)]
 pub struct SnapList {
     living: Vec<Snapshot>,
@@ -37,7 +38,7 @@ impl Model for SnapList {
 impl SnapList {
     /// A list without snapshots, with room for `snaps`. The epoch is `first_epoch`: 1 in a new world.
     ///
-    /// The only error is `OutOfMemory`.
+    /// Costs the memory of `snaps` snapshots. The only error is `OutOfMemory`.
     pub fn new(alloc: Global, snaps: u64, first_epoch: Epoch) -> Result<SnapList, Fault>
         requires some_epoch { 1 ≤ first_epoch }
         requires epoch_fits { first_epoch ≤ NUMBER }
@@ -53,7 +54,7 @@ impl SnapList {
 
     /// Makes a snapshot of the current epoch, which is its number, and begins the next epoch.
     ///
-    /// `EpochLimit` where the epoch is 2^62, before `TooManySnapshots` where there is no room.
+    /// Costs one write. `EpochLimit` where the epoch is 2^62, before `TooManySnapshots` where there is no room.
     pub fn make(&mut self) -> Result<Epoch, Fault>
         ensures made { IsOk result ↔ ((self.old.epoch < NUMBER) × (length self.old.living < self.old.most)) }
         ensures epoch_limit { (result ≡ Err Fault.EpochLimit) ↔ (self.old.epoch ≡ NUMBER) }
@@ -78,7 +79,8 @@ impl SnapList {
 
     /// Removes the snapshot `s`.
     ///
-    /// `NoSnapshot` where it doesn't live, before `Pinned` where it has pins.
+    /// Costs one look-up and a move of the younger snapshots. `NoSnapshot` where it doesn't live, before `Pinned`
+    /// where it has pins.
     pub fn remove(&mut self, s: Epoch) -> Result<(), Fault>
         ensures removed { IsOk result ↔ (pins_of self.old s ≡ Some 0) }
         ensures no_snapshot { (result ≡ Err Fault.NoSnapshot) ↔ (pins_of self.old s ≡ None) }
@@ -99,7 +101,7 @@ impl SnapList {
     }
 
     /// Adds a pin to the snapshot `s`, or answers `NoSnapshot` where it doesn't live. [`SnapList::can_pin`]
-    /// tests whether one more is allowed.
+    /// tests whether one more is allowed. Costs one look-up.
     pub fn pin(&mut self, s: Epoch) -> Result<(), Fault>
         requires { ForSome (pins_of self.old s) (λ pins. pins < PINS) }
         ensures pinned { IsOk result ↔ IsSome (pins_of self.old s) }
@@ -118,7 +120,7 @@ impl SnapList {
         }
     }
 
-    /// Takes a pin from the snapshot `s`.
+    /// Takes a pin from the snapshot `s`. Costs one look-up.
     pub fn unpin(&mut self, s: Epoch)
         requires { IsSomeAnd (pins_of self.old s) (λ pins. 0 < pins) }
         ensures unpinned { self.new ≡ after_unpin self.old s }
@@ -131,7 +133,7 @@ impl SnapList {
     }
 
     /// The youngest living snapshot that holds what lived from `birth` to `death`: the greatest `s` with
-    /// `birth <= s < death`.
+    /// `birth <= s < death`. Costs one look-up.
     pub fn youngest_in(&self, birth: Epoch, death: Epoch) -> Option<Epoch>
         ensures { result ≡ youngest_holder (ids self.now) birth death }
     {
@@ -142,7 +144,7 @@ impl SnapList {
         Some(youngest)
     }
 
-    /// The youngest living snapshot below `s`.
+    /// The youngest living snapshot below `s`. Costs one look-up.
     pub fn older(&self, s: Epoch) -> Option<Epoch>
         ensures { result ≡ next_older (ids self.now) s }
     {
@@ -150,7 +152,7 @@ impl SnapList {
     }
 
     /// The place of the snapshot `s` among the living ones, oldest first and counted from 0, if it lives. The
-    /// snapshot at the place before it is the next older one. Costs the logarithm of the number of snapshots.
+    /// snapshot at the place before it is the next older one. Costs one look-up.
     pub fn place(&self, s: Epoch) -> Option<usize>
         ensures in_range { IfSome result (λ place. place < length (ids self.now)) }
         ensures found { IfSome result (λ place. slice_index (ids self.now) place ≡ s) }
@@ -162,7 +164,7 @@ impl SnapList {
         place_of(&self.living, s)
     }
 
-    /// Whether the snapshot `s` lives.
+    /// Whether the snapshot `s` lives. Costs one look-up.
     pub fn has(&self, s: Epoch) -> bool
         ensures lives { IsTrue result ↔ Contains (ids self.now) s }
         ensures pins { IsTrue result ↔ IsSome (pins_of self.now s) }
@@ -170,7 +172,7 @@ impl SnapList {
         self.pins(s).is_some()
     }
 
-    /// The pins of the snapshot `s`, if it lives.
+    /// The pins of the snapshot `s`, if it lives. Costs one look-up.
     pub fn pins(&self, s: Epoch) -> Option<u32>
         ensures value { result ≡ pins_of self.now s }
         ensures most { IfSome result (λ pins. pins ≤ PINS) }
@@ -179,21 +181,21 @@ impl SnapList {
         Some(self.living[place].pins)
     }
 
-    /// Whether the snapshot `s` lives and has fewer than [`limits::PINS`] pins.
+    /// Whether the snapshot `s` lives and has fewer than [`limits::PINS`] pins. Costs one look-up.
     pub fn can_pin(&self, s: Epoch) -> bool
         ensures { IsTrue result ↔ IsSomeAnd (pins_of self.now s) (λ pins. pins < PINS) }
     {
         self.pins(s).is_some_and(|pins| pins < limits::PINS)
     }
 
-    /// The numbers of the living snapshots, oldest first.
+    /// The numbers of the living snapshots, oldest first. Costs one read each.
     pub fn ids(&self) -> Ids<'_>
         ensures { result ≡ ids self.now }
     {
         Ids::new(&self.living)
     }
 
-    /// The living snapshots, oldest first.
+    /// The living snapshots, oldest first. Costs one read.
     pub fn snapshots(&self) -> &[Snapshot]
         ensures all { result.now ≡ self.now.living }
         ensures sound { IsSound self.now }
@@ -201,7 +203,7 @@ impl SnapList {
         self.living.as_slice()
     }
 
-    /// The current epoch, which the next snapshot will close.
+    /// The current epoch, which the next snapshot will close. Costs one read.
     pub fn epoch(&self) -> Epoch
         ensures value { result ≡ self.now.epoch }
         ensures sound { IsSound self.now }
@@ -209,7 +211,7 @@ impl SnapList {
         self.epoch
     }
 
-    /// How many snapshots live.
+    /// How many snapshots live. Costs one read.
     pub fn len(&self) -> u64
         ensures value { result ≡ length self.now.living }
         ensures fits { result ≤ self.now.most }
@@ -217,14 +219,14 @@ impl SnapList {
         self.living.len() as u64
     }
 
-    /// Whether no snapshot lives.
+    /// Whether no snapshot lives. Costs one read.
     pub fn is_empty(&self) -> bool
         ensures { IsTrue result ↔ (self.now.living ≡ []) }
     {
         self.living.is_empty()
     }
 
-    /// How many more snapshots may live.
+    /// How many more snapshots may live. Costs one read.
     pub fn room(&self) -> u64
         ensures { result + length self.now.living ≡ self.now.most }
     {

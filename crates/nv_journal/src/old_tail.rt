@@ -25,7 +25,7 @@ impl Default for OldTail {
     }
 }
 
-/// Whether no two of the tails are of one inode.
+/// Whether no two of the tails are of one inode. Costs the square of their number at most.
 pub fn are_distinct(tails: &[OldTail]) -> bool
     ensures { IsTrue result ↔ AreDistinct tails.now }
 {

@@ -15,7 +15,8 @@ use std::marker::Model;
 /// Distinct lawful names, each with its binding. Beside them one more name may stand reserved: there is room
 /// for it, and it is not bound. Contracts see the names by look-up; [`NameIndex::list`] puts them in order.
 ///
-/// All calls cost the length of a name or less, but for `list`, `iter` and `clear`.
+/// A call for one name costs the name's length and a look-up in a map of hashes, which on average doesn't grow
+/// with the names; `reserve_one` costs a move of all names besides where the map grows.
 #[derive(Debug, Drop)]
 pub struct NameIndex {
     alloc: Global,
@@ -43,7 +44,7 @@ impl Model for NameIndex {
 }
 
 impl NameIndex {
-    /// An index without names. What it grows later comes from this allocator.
+    /// An index without names. What it grows later comes from this allocator; it takes no memory yet.
     pub fn new(alloc: Global) -> NameIndex
         ensures { result ≡ record { names = []; reserved = None } }
     {
@@ -54,7 +55,7 @@ impl NameIndex {
         }
     }
 
-    /// How many names are bound.
+    /// How many names are bound. Costs one read.
     pub fn len(&self) -> usize
         ensures value { result ≡ length self.now.names }
         ensures small { result < 2 ^ 63 }
@@ -63,28 +64,28 @@ impl NameIndex {
         self.bindings.len()
     }
 
-    /// Whether no name is bound.
+    /// Whether no name is bound. Costs one read.
     pub fn is_empty(&self) -> bool
         ensures { IsTrue result ↔ (self.now.names ≡ []) }
     {
         self.bindings.is_empty()
     }
 
-    /// What this name is bound to, and by which entry.
+    /// What this name is bound to, and by which entry. Costs one look-up.
     pub fn get(&self, name: &[u8]) -> Option<Binding>
         ensures { result ≡ binding_of name.now self.now.names }
     {
         self.bindings.get(name).copied()
     }
 
-    /// Whether this name is bound.
+    /// Whether this name is bound. Costs one look-up.
     pub fn is_bound(&self, name: &[u8]) -> bool
         ensures { result ≡ is_some (binding_of name.now self.now.names) }
     {
         self.bindings.contains_key(name)
     }
 
-    /// Whether this name stands reserved. A reserved name is not bound.
+    /// Whether this name stands reserved. A reserved name is not bound. Costs one comparison.
     pub fn is_reserved(&self, name: &[u8]) -> bool
         ensures value { IsTrue result ↔ (self.now.reserved ≡ Some name.now) }
         ensures unseen { IsTrue result → binding_of name.now self.now.names ≡ None }
@@ -97,7 +98,8 @@ impl NameIndex {
 
     /// The names in the order of the entries that bound them, each as its bytes and its binding.
     ///
-    /// Costs `n` times the logarithm of `n` for `n` names. `OutOfMemory` where room for the list was refused.
+    /// Costs memory for `n` names and `n` times the logarithm of `n` comparisons. `OutOfMemory` where room for
+    /// the list was refused.
     pub fn list(&self) -> Result<Vec<(&[u8], Binding)>, Fault>
         ensures names { IfOk result (λ list. IsListOf self.now.names (map lent list.items)) }
         ensures lawful { IfOk result (λ list. AreLawful (map lent list.items)) }
@@ -108,8 +110,8 @@ impl NameIndex {
         Ok(list)
     }
 
-    /// The name at this place, counted from 0, and its binding. Which name stands where is not told, and a name
-    /// keeps its place until a name is taken out.
+    /// The name at this place, counted from 0, and its binding. Which name stands where is not told, and after a
+    /// change of the names it may be another. Costs one read.
     pub fn at(&self, place: usize) -> Option<(&[u8], Binding)>
         ensures { option_map lent result ≡ slice_get self.now.names place }
     {
@@ -117,7 +119,7 @@ impl NameIndex {
         Some((name.as_slice(), *binding))
     }
 
-    /// The names, each as its bytes and its binding, in the order of their places.
+    /// The names, each as its bytes and its binding, in the order of their places. Costs one read a name.
     pub fn iter(&self) -> Bindings<'_>
         ensures names { result ≡ self.now.names }
         ensures runs { ShowsInOrder lent }
@@ -130,7 +132,8 @@ impl NameIndex {
     /// Makes room for one more name, which then stands reserved and is not bound. It takes the place of the
     /// name that stood reserved before. For a bound name nothing changes.
     ///
-    /// `OutOfMemory` where the room was refused: nothing has changed.
+    /// Costs one look-up and a copy of the name, and a move of all names where the map grows, by steps that
+    /// double. `OutOfMemory` where the room was refused: nothing has changed.
     pub fn reserve_one(&mut self, name: &Name) -> Result<(), Fault>
         ensures names { self.new.names ≡ self.old.names }
         ensures reserved { binding_of name.now self.old.names ≡ None
@@ -151,7 +154,7 @@ impl NameIndex {
     }
 
     /// Binds a name that is reserved or bound, and takes no memory. The reserved name, once it is bound, is
-    /// no longer reserved; another stays.
+    /// no longer reserved; another stays. Costs two look-ups.
     pub fn bind(&mut self, name: &[u8], to: Binding)
         requires { IsSome (binding_of name.now self.old.names)
             ⊎ (self.old.reserved ≡ Some name.now) }
@@ -168,7 +171,8 @@ impl NameIndex {
         let _none = self.bindings.insert(key, to).unwrap();
     }
 
-    /// Takes a name out. An absent name changes nothing, and the reserved name stays.
+    /// Takes a name out. An absent name changes nothing, and the reserved name stays. Costs two look-ups: the
+    /// last name moves to the place of the one taken out.
     pub fn unbind(&mut self, name: &[u8])
         ensures names { Rebinds self.old.names self.new.names name.now None }
         ensures kept { self.new.reserved ≡ self.old.reserved }
@@ -176,7 +180,7 @@ impl NameIndex {
         self.bindings.swap_remove(name);
     }
 
-    /// Takes all names out. The reserved name stays.
+    /// Takes all names out. The reserved name stays, and so does the room. Costs a step for each name.
     pub fn clear(&mut self)
         ensures { self.new ≡ record self.old { names = [] } }
     {

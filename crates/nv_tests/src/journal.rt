@@ -1,4 +1,5 @@
 //! Each call once.
+use crate::compare::crosses_threads;
 use nv_base::Ino;
 use nv_journal::{Journal, OldTail, are_distinct};
 use smallvec::{SmallVec, smallvec};
@@ -38,4 +39,9 @@ fn tells_inodes_apart(rt: HostRuntime) {
     assert!(rt; are_distinct(&[]));
     assert!(rt; are_distinct(&[old_tail(1, 5), old_tail(2, 5)]));
     assert!(rt; !are_distinct(&[old_tail(1, 5), old_tail(2, 6), old_tail(1, 7)]));
+}
+
+#[test]
+fn a_journal_crosses_threads() {
+    crosses_threads(&Journal::new());
 }

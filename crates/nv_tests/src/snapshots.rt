@@ -1,50 +1,129 @@
-//! Each call once with ample memory, and the limits.
+//! Snapshots: each call in a scene, and the limits.
+use crate::compare::crosses_threads;
 use nv_base::{Epoch, Fault, limits};
 use nv_epoch::{SnapList, Snapshot};
+use std::alloc::Global;
+use std::process::Abort;
 use std::test::Fail;
+
+#[derive(Clone, Copy)]
+enum Call {
+    Make,
+    Remove(u64),
+    Pin(u64),
+    Unpin(u64),
+}
+
+/// The snapshot that a call made or names, or why the call is refused.
+fn answer(rt: &impl Abort, list: &mut SnapList, call: Call) -> Result<Epoch, Fault> {
+    let (Call::Remove(s) | Call::Pin(s) | Call::Unpin(s)) = call else {
+        return list.make();
+    };
+    let s = Epoch::new(s);
+    match call {
+        Call::Pin(_) => {
+            assert!(rt; list.can_pin(s) || list.pins(s).is_none());
+            list.pin(s)?;
+        }
+        Call::Unpin(_) => {
+            assert!(rt; list.pins(s).is_some_and(|pins| pins > 0));
+            list.unpin(s);
+        }
+        _ => list.remove(s)?,
+    }
+    Ok(s)
+}
+
+/// A list with room for `snaps` after calls, each with its answer, and then the pins of the snapshot 2 and the
+/// room.
+fn scene(
+    rt: &impl Abort,
+    alloc: Global,
+    snaps: u64,
+    first: u64,
+    calls: &[(Call, Result<u64, Fault>, Option<u32>, u64)],
+) -> Result<SnapList, Fault> {
+    assert!(rt; 1 <= first && first <= limits::NUMBER);
+    let mut list = SnapList::new(alloc, snaps, Epoch::new(first))?;
+    assert!(rt; list.is_empty());
+    for (call, wanted, pins, room) in calls {
+        let did = answer(rt, &mut list, *call).map(|s| s.number());
+        assert_eq!(rt; did, *wanted);
+        assert_eq!(rt; (list.pins(Epoch::new(2)), list.room()), (*pins, *room));
+    }
+    Ok(list)
+}
 
 #[test]
 fn refuses_in_order(rt: HostRuntime) -> Result<(), Fail> {
-    let mut list = SnapList::new(rt.alloc(), 4, Epoch::new(1))?;
-    assert!(rt; list.is_empty());
-    assert_eq!(rt; list.remove(Epoch::new(7)), Err(Fault::NoSnapshot));
-    for number in 1..5 {
-        assert_eq!(rt; list.make(), Ok(Epoch::new(number)));
-    }
-    assert_eq!(rt; list.room(), 0);
-    assert_eq!(rt; list.make(), Err(Fault::TooManySnapshots));
-
-    let second = Epoch::new(2);
-    assert_eq!(rt; list.pins(second), Some(0));
-    list.pin(second)?;
-    assert_eq!(rt; list.remove(second), Err(Fault::Pinned));
-    assert_eq!(rt; list.pins(second), Some(1));
-    list.unpin(second);
-    list.remove(second)?;
-
-    assert!(rt; !list.has(second));
-    assert_eq!(rt; list.pins(second), None);
-    assert_eq!(rt; list.pin(second), Err(Fault::NoSnapshot));
-    assert_eq!(rt; list.remove(second), Err(Fault::NoSnapshot));
-    assert_eq!(rt;
-        (list.len(), list.room(), list.epoch()),
-        (3, 1, Epoch::new(5))
-    );
+    let list = scene(
+        &rt,
+        rt.alloc(),
+        4,
+        1,
+        &[
+            (Call::Remove(7), Err(Fault::NoSnapshot), None, 4),
+            (Call::Make, Ok(1), None, 3),
+            (Call::Make, Ok(2), Some(0), 2),
+            (Call::Make, Ok(3), Some(0), 1),
+            (Call::Make, Ok(4), Some(0), 0),
+            (Call::Make, Err(Fault::TooManySnapshots), Some(0), 0),
+            (Call::Pin(2), Ok(2), Some(1), 0),
+            (Call::Remove(2), Err(Fault::Pinned), Some(1), 0),
+            (Call::Unpin(2), Ok(2), Some(0), 0),
+            (Call::Remove(2), Ok(2), None, 1),
+            (Call::Pin(2), Err(Fault::NoSnapshot), None, 1),
+            (Call::Remove(2), Err(Fault::NoSnapshot), None, 1),
+        ],
+    )?;
+    assert_eq!(rt; (list.len(), list.epoch()), (3, Epoch::new(5)));
     Ok(())
 }
 
 #[test]
-fn finds_holders(rt: HostRuntime) -> Result<(), Fail> {
-    let mut list = SnapList::new(rt.alloc(), 9, Epoch::new(3))?;
-    for _ in 0..5 {
-        let _made = list.make()?;
-    }
-    list.remove(Epoch::new(5))?;
-    list.remove(Epoch::new(6))?;
+fn ends_at_the_last_epoch(rt: HostRuntime) -> Result<(), Fail> {
+    let last = limits::NUMBER;
+    let refused = (Call::Make, Err(Fault::EpochLimit), None, 0);
+    let full = scene(&rt, rt.alloc(), 0, last, &[refused])?;
+    assert!(rt; full.is_empty());
 
+    let made = (Call::Make, Ok(last - 1), None, 0);
+    let list = scene(&rt, rt.alloc(), 1, last - 1, &[made, refused])?;
+    assert_eq!(rt; list.epoch(), Epoch::new(last));
+    let only = Snapshot {
+        number: Epoch::new(last - 1),
+        pins: 0,
+    };
+    assert_eq!(rt; list.snapshots(), [only].as_slice());
+    Ok(())
+}
+
+/// The snapshots 3, 4 and 7, of which 4 has a pin.
+fn three_living(rt: &impl Abort, alloc: Global) -> Result<SnapList, Fault> {
+    scene(
+        rt,
+        alloc,
+        9,
+        3,
+        &[
+            (Call::Make, Ok(3), None, 8),
+            (Call::Make, Ok(4), None, 7),
+            (Call::Make, Ok(5), None, 6),
+            (Call::Make, Ok(6), None, 5),
+            (Call::Make, Ok(7), None, 4),
+            (Call::Remove(5), Ok(5), None, 5),
+            (Call::Remove(6), Ok(6), None, 6),
+            (Call::Pin(4), Ok(4), None, 6),
+        ],
+    )
+}
+
+#[test]
+fn finds_holders(rt: HostRuntime) -> Result<(), Fail> {
+    let list = three_living(&rt, rt.alloc())?;
     let ids: Vec<Epoch> = list.ids().collect(rt.alloc())?;
     assert_eq!(rt; ids.as_slice(), [3, 4, 7].map(Epoch::new).as_slice());
-    let pairs = [
+    for (birth, death, holder) in [
         (1, 3, None),
         (1, 4, Some(3)),
         (3, 7, Some(4)),
@@ -53,46 +132,34 @@ fn finds_holders(rt: HostRuntime) -> Result<(), Fail> {
         (5, 8, Some(7)),
         (7, 7, None),
         (8, 8, None),
-    ];
-    for (birth, death, holder) in pairs {
+    ] {
         let found = list.youngest_in(Epoch::new(birth), Epoch::new(death));
         assert_eq!(rt; found, holder.map(Epoch::new), "from {birth} to {death}");
-    }
-    for (number, older) in [
-        (3, None),
-        (4, Some(3)),
-        (6, Some(4)),
-        (7, Some(4)),
-        (9, Some(7)),
-    ] {
-        assert_eq!(rt;
-            list.older(Epoch::new(number)),
-            older.map(Epoch::new),
-            "below {number}"
-        );
     }
     Ok(())
 }
 
 #[test]
-fn ends_at_the_last_epoch(rt: HostRuntime) -> Result<(), Fail> {
-    let last = Epoch::new(limits::NUMBER);
-    let mut full = SnapList::new(rt.alloc(), 0, last)?;
-    assert_eq!(rt; full.make(), Err(Fault::EpochLimit));
-
-    let before = Epoch::new(limits::NUMBER - 1);
-    let mut list = SnapList::new(rt.alloc(), 2, before)?;
-    assert_eq!(rt; list.make(), Ok(before));
-    assert_eq!(rt; list.epoch(), last);
-    assert_eq!(rt; list.make(), Err(Fault::EpochLimit));
-    assert_eq!(rt;
-        list.snapshots(),
-        [Snapshot {
-            number: before,
-            pins: 0
-        }]
-        .as_slice()
-    );
+fn tells_places_pins_and_the_next_older(rt: HostRuntime) -> Result<(), Fail> {
+    let list = three_living(&rt, rt.alloc())?;
+    for (number, place, pins, older) in [
+        (2, None, None, None),
+        (3, Some(0), Some(0), None),
+        (4, Some(1), Some(1), Some(3)),
+        (6, None, None, Some(4)),
+        (7, Some(2), Some(0), Some(4)),
+        (9, None, None, Some(7)),
+    ] {
+        let s = Epoch::new(number);
+        assert_eq!(rt; (list.place(s), list.pins(s)), (place, pins), "of {number}");
+        let lives = place.is_some();
+        assert_eq!(rt;
+            (list.has(s), list.can_pin(s)),
+            (lives, lives),
+            "of {number}"
+        );
+        assert_eq!(rt; list.older(s), older.map(Epoch::new), "below {number}");
+    }
     Ok(())
 }
 
@@ -101,13 +168,15 @@ fn takes_sixty_four_pins(rt: HostRuntime) -> Result<(), Fail> {
     let mut list = SnapList::new(rt.alloc(), 1, Epoch::new(1))?;
     let first = list.make()?;
     for pins in 0..limits::PINS {
-        assert_eq!(rt; list.pins(first), Some(pins));
+        assert_eq!(rt; (list.pins(first), list.can_pin(first)), (Some(pins), true));
         list.pin(first)?;
     }
+    assert_eq!(rt; (list.pins(first), list.can_pin(first)), (Some(64), false));
     for left in (0..limits::PINS).rev() {
         assert_eq!(rt; list.pins(first), Some(left + 1));
         list.unpin(first);
     }
+    assert!(rt; list.can_pin(first));
     list.remove(first)?;
     Ok(())
 }
@@ -122,5 +191,11 @@ fn makes_as_many_as_there_is_room_for(rt: HostRuntime) -> Result<(), Fail> {
     list.remove(Epoch::new(500))?;
     assert_eq!(rt; list.make(), Ok(Epoch::new(limits::SNAPS + 1)));
     assert_eq!(rt; list.older(Epoch::new(501)), Some(Epoch::new(499)));
+    Ok(())
+}
+
+#[test]
+fn a_snapshot_list_crosses_threads(rt: HostRuntime) -> Result<(), Fail> {
+    crosses_threads(&SnapList::new(rt.alloc(), 1, Epoch::new(1))?);
     Ok(())
 }
