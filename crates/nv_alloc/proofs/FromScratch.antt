@@ -3,7 +3,7 @@ use Rattle.std.proofs.Common.{◌≡◌, ◌≢◌, ℕ, zero, suc, ◌+◌, ◌
 use Rattle.std.specs.List.{AllByRecursion}
 use Rattle.std.proofs.lemmas.Bool.{eqb-true, eqb-false, leb-true, leb-false, ltb-true, ltb-false, lt-ltb, le-ltb, le-leb, lt-leb}
 use Rattle.nv_alloc.specs.Numbers.{IsRising, has, unused}
-use Rattle.nv_alloc.proofs.Lists.{has-below, has-first, has-other}
+use Rattle.nv_alloc.proofs.Lists.{all_above, has-below, has-first, has-other}
 
 -- whether the number is in the range and unused
 abbrev is_wanted : (ℕ → Bool) → ℕ → ℕ → ℕ → Bool
@@ -26,10 +26,6 @@ wanted-later is_used low end n ne = ap (λ b. b && nat_lt n end && not (is_used 
   go : (b : Bool) → nat_le low n ≡ b → nat_le low n ≡ nat_le (low + 1) n
   go true q = q ∙ sym (le-leb (low + 1) n (omega (arith, ne, leb-true low n q)))
   go false q = q ∙ sym (lt-leb (low + 1) n (omega (arith, leb-false low n q)))
-
-all_above : (n k : ℕ) (ms : List ℕ) → n ≤ k → AllByRecursion (λ m. k < m) ms → AllByRecursion (λ m. n < m) ms
-all_above n k [] le h = tt
-all_above n k (m ∷ ms) le h = (omega (arith, h.0, le), all_above n k ms le h.1)
 
 -- a rising list of wanted numbers begins with the lowest of them
 first_wanted : (is_used : ℕ → Bool) (low end : ℕ) (n : ℕ) (ns : List ℕ) → IsRising (n ∷ ns)
