@@ -85,5 +85,6 @@ times-rising n (m ∷ ms) r = go (m == n) refl (times-rising n ms r.1) where
   none (k ∷ ms) a = let ne : k ≢ n = omega (arith, a.0) in times-no n k ms (ne_eqb k n ne) ∙ none ms a.1
 
   go : (b : Bool) → (m == n) ≡ b → times n ms ≤ 1 → times n (m ∷ ms) ≤ 1
-  go true q ih = let e : m ≡ n = eqb-true m n q in omega (arith, times-yes n m ms q, none ms (subst (λ k. AllByRecursion (λ j. k < j) ms) e r.0))
+  go true q ih = let e : m ≡ n = eqb-true m n q in
+      omega (arith, times-yes n m ms q, none ms (subst (λ k. AllByRecursion (λ j. k < j) ms) e r.0))
   go false q ih = omega (arith, times-no n m ms q, ih)
