@@ -106,12 +106,14 @@ in_slot : (a : Bool) (new now old : Option PlainNode) → new ≡ now → cond a
 in_slot true new now old e = e
 in_slot false new now old e = refl
 
-module _ (old new : WorldValue) (handle : Handle) (e : Entry) (change : Option NodeCopy → Option NodeCopy) (c : ChangesSlot old new handle e change) where
+module _ (old new : WorldValue) (handle : Handle) (e : Entry) (change : Option NodeCopy → Option NodeCopy)
+    (c : ChangesSlot old new handle e change) where
   -- the other slots' logs give the same nodes
   other_gives : (ino : ℕ) → ino ≢ handle.ino → Gives (bytes_in new.data_blocks) old.numbers.block (log_at new.logs ino) (slot_node old ino)
   other_gives ino apart =
       subst (λ (log : List Entry). Gives (bytes_in new.data_blocks) old.numbers.block log (slot_node old ino)) (sym (c.others ino apart))
-      (same_blocks_give (bytes_in old.data_blocks) (bytes_in new.data_blocks) old.numbers.block (log_at old.logs ino) c.some (c.files ino).sound
+      (same_blocks_give (bytes_in old.data_blocks) (bytes_in new.data_blocks) old.numbers.block (log_at old.logs ino) c.some
+      (c.files ino).sound
       (λ number u. c.kept number ((c.files ino).in_use number u)))
 
   in_either : (number : ℕ) → Uses old.numbers.block (log_at old.logs handle.ino) number ⊎ IsItemBlock e.item number
@@ -132,7 +134,8 @@ module _ (old new : WorldValue) (handle : Handle) (e : Entry) (change : Option N
     go (inr apart) = record {
       sound = (other_gives ino apart).sound;
       in_use = λ number u.
-          let below = (c.files ino).in_use number (subst (λ (log : List Entry). Uses old.numbers.block log number) (c.others ino apart) u) in
+          let below = (c.files ino).in_use number
+          (subst (λ (log : List Entry). Uses old.numbers.block log number) (c.others ino apart) u) in
           omega (arith, c.grown);
     }
 

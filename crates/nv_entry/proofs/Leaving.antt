@@ -80,7 +80,7 @@ last_stays block f before e later key gone h =
           let s = spare block before e later key h q n in
           rw (no_last block before key s.1) (sym (gone s.0))
 
-value_step : (block : ℕ) (before : List Entry) (e : Entry) (later : List Entry) (key : Key) → MayLeave block before e later
+pub value_step : (block : ℕ) (before : List Entry) (e : Entry) (later : List Entry) (key : Key) → MayLeave block before e later
     → value_now block (before ++ later) key ≡ value_now block (before ++ e ∷ later) key
 value_step block before e later key h =
     value_now-last block (before ++ later) key
@@ -91,7 +91,7 @@ scan_step : (block : ℕ) (before : List Entry) (e : Entry) (later : List Entry)
     → scan_ref block (before ++ later) key ≡ scan_ref block (before ++ e ∷ later) key
 scan_step block before e later key h = last_stays block (λ x. ref_after block x key None) before e later key (λ q. rw q refl) h
 
-source_step : (block : ℕ) (before : List Entry) (e : Entry) (later : List Entry) (page : ℕ) → MayLeave block before e later
+pub source_step : (block : ℕ) (before : List Entry) (e : Entry) (later : List Entry) (page : ℕ) → MayLeave block before e later
     → page_source block (before ++ later) page ≡ page_source block (before ++ e ∷ later) page
 source_step block before e later page h =
     last_stays block (λ x. source_of x (sets block x.item (PageKey page))) before e later (PageKey page) (λ q. rw q refl) h
@@ -129,6 +129,10 @@ names_along block front (x ∷ mid) before e later is h =
           ∙ covered_behind block front x mid e later (NameKey (name_of x.item)) behind
           (touches-present (sets block x.item (NameKey (name_of x.item))) set)
           ∙ any_cover-name block (mid ++ e ∷ later) (name_of x.item))
+
+pub names_step : (block : ℕ) (before : List Entry) (e : Entry) (later : List Entry) → MayLeave block before e later
+    → names_of (before ++ later) ≡ names_of (before ++ e ∷ later)
+names_step block before e later h = names_along block [] before before e later refl h
 
 -- ---- what is covered
 
@@ -204,7 +208,7 @@ walk block before (e ∷ later) (false ∷ flags) r =
       values = λ key. ih.values key ∙ value_step block before e later key r.0;
       index = λ key. ih.index key ∙ scan_step block before e later key r.0;
       sources = λ page. ih.sources page ∙ source_step block before e later page r.0;
-      names = ih.names ∙ names_along block [] before before e later refl r.0;
+      names = ih.names ∙ names_step block before e later r.0;
     }
 
 pub keeps_the_rest : (block : ℕ) (log : List Entry) (flags : List Bool) → MayAllLeave block [] log flags → KeepsTheRest block log flags

@@ -19,8 +19,10 @@ choice_false false x y h = refl
 
 -- a file has no page from 65,536 on
 untouched_past : (block page : ℕ) (item : Item) → is_page page ≡ false → sets block item (PageKey page) ≡ Untouched
-untouched_past block page (Write first run size) h = choice_false (in_run first run page) _ Untouched (and_right (nat_le first page && nat_lt page (first + run.len)) (is_page page) h)
-untouched_past block page (SetSize size) h = choice_false (is_past block size page) Absent Untouched (and_right (nat_le (pages_for block size) page) (is_page page) h)
+untouched_past block page (Write first run size) h =
+    choice_false (in_run first run page) _ Untouched (and_right (nat_le first page && nat_lt page (first + run.len)) (is_page page) h)
+untouched_past block page (SetSize size) h =
+    choice_false (is_past block size page) Absent Untouched (and_right (nat_le (pages_for block size) page) (is_page page) h)
 untouched_past block page Gone h = choice_false (is_page page) Absent Untouched h
 untouched_past block page (Init kind mode) h = refl
 untouched_past block page (SetMode mode) h = refl
@@ -50,7 +52,8 @@ range-suc a zero = ap (λ x. x ∷ []) (sym (add-zero a))
 range-suc a (suc n) = ap (λ xs. a ∷ xs) (range-suc (a + 1) n ∙ ap (λ x. range_with_len (a + 1) n ++ x ∷ []) (omega arith))
 
 -- the bytes of one more page
-pub pages_bytes-more : (bytes : ℕ → List ℕ) (block : ℕ) (log : List Entry) (count : ℕ) → pages_bytes bytes block log (count + 1) ≡ pages_bytes bytes block log count ++ page_bytes bytes block (block_now block log count)
+pub pages_bytes-more : (bytes : ℕ → List ℕ) (block : ℕ) (log : List Entry) (count : ℕ)
+    → pages_bytes bytes block log (count + 1) ≡ pages_bytes bytes block log count ++ page_bytes bytes block (block_now block log count)
 pages_bytes-more bytes block log count =
     let page = λ (n : ℕ). page_bytes bytes block (block_now block log n) in
     rw add-one (ap (flat_map page) (range-suc 0 count)

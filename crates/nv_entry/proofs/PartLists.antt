@@ -13,11 +13,14 @@ pub length-written : (first : ℕ) (run : Run) → length (part.Size ∷ map par
 length-written first run = omega (arith, length-map-range_with_len part.Page first (min run.len (65536 - first)))
 
 -- the pages among them
-pub page_at : (first : ℕ) (run : Run) (place : ℕ) → 0 < place → place < 1 + min run.len (65536 - first) → slice_get (part.Size ∷ map part.Page (run_pages first run)) place ≡ Some (part.Page (first + (place - 1)))
+pub page_at : (first : ℕ) (run : Run) (place : ℕ) → 0 < place → place < 1 + min run.len (65536 - first)
+    → slice_get (part.Size ∷ map part.Page (run_pages first run)) place ≡ Some (part.Page (first + (place - 1)))
 page_at first run zero some lt = absurd (omega arith)
 page_at first run (suc k) some lt =
-    slice_get-get_or (map part.Page (run_pages first run)) k part.Size (omega (arith, length-map-range_with_len part.Page first (min run.len (65536 - first))))
-    ∙ ap Some (get_or-map-range_with_len part.Page first (min run.len (65536 - first)) k (first + (suc k - 1)) part.Size (omega arith) (omega arith))
+    slice_get-get_or (map part.Page (run_pages first run)) k part.Size
+    (omega (arith, length-map-range_with_len part.Page first (min run.len (65536 - first))))
+    ∙ ap Some (get_or-map-range_with_len part.Page first (min run.len (65536 - first)) k (first + (suc k - 1)) part.Size (omega arith)
+    (omega arith))
 
 -- what is left of a list from a place on
 pub drop-some : {A : Type 0} (xs : List A) (i : ℕ) (x : A) → slice_get xs i ≡ Some x → drop i xs ≡ x ∷ drop (i + 1) xs

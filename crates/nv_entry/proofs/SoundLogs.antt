@@ -125,7 +125,8 @@ cut_within bytes block size s node page number some st h = go (nat_le (pages_for
 
 -- ---- lawful items
 
-pub suits_file : (kind : Kind) (size other : ℕ) (names : List BoundName) → kind ≡ File → SuitsKind kind size names → SuitsKind kind other names
+pub suits_file : (kind : Kind) (size other : ℕ) (names : List BoundName) → kind ≡ File → SuitsKind kind size names
+    → SuitsKind kind other names
 suits_file File size other names is h = h
 suits_file Dir size other names is h = cc
 

@@ -37,7 +37,8 @@ keeps_others block first (run ∷ runs) size s =
 
 size_stays : (block first : ℕ) (runs : List Run) (size : ℕ) (s : Stored) → s.size ≡ size → (after_write block first runs size s).size ≡ size
 size_stays block first [] size s is = is
-size_stays block first (run ∷ runs) size s is = size_stays block (first + run.len) runs size (stored_after block (Write first run size) s) refl
+size_stays block first (run ∷ runs) size s is =
+    size_stays block (first + run.len) runs size (stored_after block (Write first run size) s) refl
 
 size_after : (block first : ℕ) (runs : List Run) (size : ℕ) (s : Stored) → 0 < length (blocks_of runs)
     → (after_write block first runs size s).size ≡ size
@@ -79,7 +80,8 @@ block_set : (block first : ℕ) (runs : List Run) (size : ℕ) (s : Stored) (pag
     → (after_write block first runs size s).blocks page ≡ Some (slice_index_or (blocks_of runs) (page - first) 0)
 block_set block first [] size s page le lt fits = absurd (omega arith)
 block_set block first (run ∷ runs) size s page le lt fits =
-    go (cases_lt page (first + run.len)) (block_set block (first + run.len) runs size (stored_after block (Write first run size) s) page) where
+    go (cases_lt page (first + run.len))
+    (block_set block (first + run.len) runs size (stored_after block (Write first run size) s) page) where
       own : ℕ
       own = length (range_with_len run.start run.len)
 
@@ -184,4 +186,5 @@ pub runs_make : (bytes : ℕ → List ℕ) (block offset : ℕ) (text : List ℕ
     → HaveText bytes block offset text node.bytes (blocks_of runs)
     → MakesAll bytes block (write_items (offset / block) runs (length (written offset text node.bytes))) (Some node)
     (Some (rewritten offset text node))
-runs_make bytes block offset text runs node some any fits file has s st = runs_stand bytes block offset text runs node some any fits file has s st
+runs_make bytes block offset text runs node some any fits file has s st =
+    runs_stand bytes block offset text runs node some any fits file has s st

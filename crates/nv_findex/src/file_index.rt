@@ -14,7 +14,8 @@ use std::marker::Model;
 /// [`FILE_PAGES`].
 ///
 /// Pages that follow one another in the file and in one entry are kept as one run, so that an index takes
-/// memory by its runs and not by the file's length. A look-up costs the logarithm of the runs.
+/// memory by its runs and not by the file's length. A look-up costs the same at any number of runs where they lie
+/// about evenly, and the logarithm of the runs at most.
 #[derive(Debug, Drop)]
 pub struct FileIndex {
     runs: Vec<PageRun>,
@@ -123,8 +124,8 @@ impl FileIndex {
     /// Sets the pages `first` to `first + len - 1` to places 0 to `len - 1` of an entry, whether or not they
     /// were present. It takes no memory, and as much room as the index has more runs after it.
     ///
-    /// Costs one look-up, a step for each run that has a page of them, and one move of the runs behind where
-    /// there are more or fewer runs than before: an overwrite of just one run moves nothing.
+    /// Costs two look-ups, of which the second begins where the first one ended, and one move of the runs behind
+    /// where there are more or fewer runs than before: an overwrite of just one run moves nothing.
     #[tactic(auto, using(crate::proofs::Counts::run_count_is))]
     pub fn set_run(&mut self, first: u32, len: u32, entry: EntryId)
         requires some { 0 < len }

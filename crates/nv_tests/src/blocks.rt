@@ -3,7 +3,7 @@
 
 use crate::compare::{crosses_threads, same};
 use crate::scenes::{Row, free_list, geometry, has_numbers, next, put, reserve, take};
-use nv_alloc::{BlockQueue, FreeList, FreeRun, Hand, InodePool};
+use nv_alloc::{Block, BlockQueue, FreeList, FreeRun, Hand, InodePool};
 use nv_base::{BlockNo, Fault, Geometry, Ino};
 use std::alloc::Global;
 use std::process::Abort;
@@ -141,26 +141,33 @@ fn keeps_what_a_list_has_already(rt: HostRuntime) {
     again.dismantle();
 }
 
+/// Writes to the second block of a queue.
+fn write_second(rt: &impl Abort, queue: &mut BlockQueue) {
+    assert!(rt; queue.len() > 1);
+    let bytes = queue.bytes_mut(1);
+    assert!(rt; bytes.len() == 4);
+    bytes[1] = b'b';
+}
+
+/// Writes all of a block, and then its second half.
+fn write_twice(rt: &impl Abort, block: &mut Block) {
+    assert!(rt; block.bytes() == [0, 0, 0, 0].as_slice());
+    block.write(b"abcd");
+    assert!(rt; block.bytes_mut().len() == 4);
+    block.bytes_mut()[2..].copy_from_slice(b"yz");
+}
+
 #[test]
 fn writes_in_place(rt: HostRuntime) {
     let mut list = list_of(&rt, rt.alloc(), 0);
     let mut hand = hand_for(&rt, rt.alloc(), 2, 0);
     same(&rt, take(&rt, &mut list, &mut hand.data, 2), 2);
-    assert!(rt; hand.data.len() > 1);
-    let bytes = hand.data.bytes_mut(1);
-    same(&rt, bytes.len(), 4);
-    bytes[1] = b'b';
+    write_second(&rt, &mut hand.data);
     let mut block = next(&rt, &mut hand.data);
-    same(&rt, block.bytes(), [0, 0, 0, 0].as_slice());
-    block.write(b"abcd");
-    same(&rt, block.bytes_mut().len(), 4);
-    block.bytes_mut()[2..].copy_from_slice(b"yz");
+    write_twice(&rt, &mut block);
     same(&rt, block.into_bytes().as_slice(), b"abyz".as_slice());
-    same(
-        &rt,
-        next(&rt, &mut hand.data).into_bytes().as_slice(),
-        b"\0b\0\0".as_slice(),
-    );
+    let second = next(&rt, &mut hand.data);
+    same(&rt, second.into_bytes().as_slice(), b"\0b\0\0".as_slice());
     hand.dismantle();
     list.dismantle();
 }

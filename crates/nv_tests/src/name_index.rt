@@ -87,68 +87,70 @@ fn check(rt: &impl Abort, index: &NameIndex, want: &[Row]) -> Result<(), Fail> {
     }
     let mut place = 0;
     for found in index.iter() {
-        same(rt, index.at(place), Some(found));
+        assert!(rt; index.at(place) == Some(found), "at {place}");
         place += 1;
     }
     same(rt, place, want.len());
-    same(rt, index.at(place), None);
+    assert!(rt; index.at(place).is_none());
     Ok(())
 }
 
+/// Changes, and the names that they leave, in order.
+const ORDERS: [(&[Change], &[Row]); 7] = [
+    (&[], &[]),
+    // A renamed directory goes last.
+    (
+        &[Bind(b"d", 1), Bind(b"f", 3), Unbind(b"d"), Bind(b"e", 1)],
+        &[(b"f", 3, 1), (b"e", 1, 3)],
+    ),
+    // A removed name leaves the others in order; a front of a name is another name.
+    (
+        &[
+            Bind(b"a", 1),
+            Bind(b"ab", 2),
+            Bind(b"c", 3),
+            Bind(b"d", 4),
+            Unbind(b"a"),
+            Unbind(b"a"),
+        ],
+        &[(b"ab", 2, 1), (b"c", 3, 2), (b"d", 4, 3)],
+    ),
+    // A present name that is bound anew goes last.
+    (
+        &[Bind(b"ab", 2), Bind(b"c", 3), Bind(b"d", 4), Bind(b"c", 5)],
+        &[(b"ab", 2, 0), (b"d", 4, 2), (b"c", 5, 3)],
+    ),
+    // What stands reserved shows nowhere, and stays through the changes of others.
+    (
+        &[
+            Bind(b"a", 1),
+            Bind(b"b", 2),
+            Reserve(b"x"),
+            Reserve(b"y"),
+            Reserve(b"a"),
+        ],
+        &[(b"a", 1, 0), (b"b", 2, 1)],
+    ),
+    (
+        &[
+            Bind(b"a", 1),
+            Bind(b"b", 2),
+            Reserve(b"y"),
+            Bind(b"a", 3),
+            Unbind(b"b"),
+            Unbind(b"y"),
+        ],
+        &[(b"a", 3, 3)],
+    ),
+    (
+        &[Bind(b"a", 1), Reserve(b"y"), Clear, Bind(b"y", 4)],
+        &[(b"y", 4, 3)],
+    ),
+];
+
 #[test]
 fn names_stand_in_the_order_of_their_entries(rt: HostRuntime) -> Result<(), Fail> {
-    let tables: [(&[Change], &[Row]); 7] = [
-        (&[], &[]),
-        // A renamed directory goes last.
-        (
-            &[Bind(b"d", 1), Bind(b"f", 3), Unbind(b"d"), Bind(b"e", 1)],
-            &[(b"f", 3, 1), (b"e", 1, 3)],
-        ),
-        // A removed name leaves the others in order; a front of a name is another name.
-        (
-            &[
-                Bind(b"a", 1),
-                Bind(b"ab", 2),
-                Bind(b"c", 3),
-                Bind(b"d", 4),
-                Unbind(b"a"),
-                Unbind(b"a"),
-            ],
-            &[(b"ab", 2, 1), (b"c", 3, 2), (b"d", 4, 3)],
-        ),
-        // A present name that is bound anew goes last.
-        (
-            &[Bind(b"ab", 2), Bind(b"c", 3), Bind(b"d", 4), Bind(b"c", 5)],
-            &[(b"ab", 2, 0), (b"d", 4, 2), (b"c", 5, 3)],
-        ),
-        // What stands reserved shows nowhere, and stays through the changes of others.
-        (
-            &[
-                Bind(b"a", 1),
-                Bind(b"b", 2),
-                Reserve(b"x"),
-                Reserve(b"y"),
-                Reserve(b"a"),
-            ],
-            &[(b"a", 1, 0), (b"b", 2, 1)],
-        ),
-        (
-            &[
-                Bind(b"a", 1),
-                Bind(b"b", 2),
-                Reserve(b"y"),
-                Bind(b"a", 3),
-                Unbind(b"b"),
-                Unbind(b"y"),
-            ],
-            &[(b"a", 3, 3)],
-        ),
-        (
-            &[Bind(b"a", 1), Reserve(b"y"), Clear, Bind(b"y", 4)],
-            &[(b"y", 4, 3)],
-        ),
-    ];
-    for (changes, want) in tables {
+    for (changes, want) in &ORDERS {
         let index = changed(&rt, rt.alloc(), changes)?;
         check(&rt, &index, want)?;
         same(&rt, index.get(b"unbound"), None);
@@ -156,31 +158,33 @@ fn names_stand_in_the_order_of_their_entries(rt: HostRuntime) -> Result<(), Fail
     Ok(())
 }
 
+/// Changes, and the name that stands reserved after them.
+const RESERVED: [(&[Change], Option<&[u8]>); 5] = [
+    (&[Reserve(b"x")], Some(b"x")),
+    (
+        &[Bind(b"a", 1), Reserve(b"x"), Reserve(b"y"), Reserve(b"a")],
+        Some(b"y"),
+    ),
+    (
+        &[
+            Bind(b"a", 1),
+            Reserve(b"y"),
+            Bind(b"a", 3),
+            Unbind(b"a"),
+            Unbind(b"y"),
+        ],
+        Some(b"y"),
+    ),
+    (&[Reserve(b"y"), Clear], Some(b"y")),
+    (&[Reserve(b"y"), Bind(b"y", 4)], None),
+];
+
 #[test]
 fn at_most_one_name_stands_reserved(rt: HostRuntime) -> Result<(), Fail> {
-    let tables: [(&[Change], Option<&[u8]>); 5] = [
-        (&[Reserve(b"x")], Some(b"x")),
-        (
-            &[Bind(b"a", 1), Reserve(b"x"), Reserve(b"y"), Reserve(b"a")],
-            Some(b"y"),
-        ),
-        (
-            &[
-                Bind(b"a", 1),
-                Reserve(b"y"),
-                Bind(b"a", 3),
-                Unbind(b"a"),
-                Unbind(b"y"),
-            ],
-            Some(b"y"),
-        ),
-        (&[Reserve(b"y"), Clear], Some(b"y")),
-        (&[Reserve(b"y"), Bind(b"y", 4)], None),
-    ];
-    for (changes, want) in tables {
+    for (changes, want) in &RESERVED {
         let index = changed(&rt, rt.alloc(), changes)?;
         for name in [b"x".as_slice(), b"y", b"a"] {
-            same(&rt, index.is_reserved(name), Some(name) == want);
+            same(&rt, index.is_reserved(name), Some(name) == *want);
         }
     }
     Ok(())

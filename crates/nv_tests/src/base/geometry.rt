@@ -1,6 +1,6 @@
 //! Which numbers make a geometry, and the home ranges of two of them.
 
-use crate::compare::{same, same_for};
+use crate::compare::same_for;
 use crate::scenes::{Row, geometry, numbers};
 use nv_base::{BlockNo, Fault, Geometry, GeometryField};
 use std::process::Abort;
@@ -65,16 +65,17 @@ const HOMES: [(Row, &[u64], &[u64]); 2] = [
     ),
 ];
 
-fn homes_start(g: &Geometry, rt: &impl Abort, starts: &[u64]) {
+fn homes_start(rt: &impl Abort, g: &Geometry, starts: &[u64]) {
     for cpu in 0..g.numbers.cpus + 1 {
-        same(rt, Some(&g.home_start(cpu)), starts.get(cpu as usize));
+        let start = starts.get(cpu as usize).copied();
+        same_for(rt, &cpu, Some(g.home_start(cpu)), start);
     }
 }
 
-fn homes_are(g: &Geometry, rt: &impl Abort, homes: &[u64]) {
+fn homes_are(rt: &impl Abort, g: &Geometry, homes: &[u64]) {
     for number in 0..g.numbers.blocks {
-        let home = g.home_of(BlockNo::new(number));
-        same_for(rt, &number, Some(&home), homes.get(number as usize));
+        let home = homes.get(number as usize).copied();
+        same_for(rt, &number, Some(g.home_of(BlockNo::new(number))), home);
     }
 }
 
@@ -82,8 +83,8 @@ fn homes_are(g: &Geometry, rt: &impl Abort, homes: &[u64]) {
 fn cuts_blocks_into_home_ranges(rt: HostRuntime) -> Result<(), Fail> {
     for (row, starts, homes) in HOMES {
         let device = geometry(row)?;
-        homes_start(&device, &rt, starts);
-        homes_are(&device, &rt, homes);
+        homes_start(&rt, &device, starts);
+        homes_are(&rt, &device, homes);
     }
     Ok(())
 }

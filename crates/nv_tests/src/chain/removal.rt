@@ -174,7 +174,7 @@ fn compacts(rt: HostRuntime) {
         let fresh = blocks_of(&rt, rt.alloc(), &mut queue);
         assert!(rt; row.stays.len() == chain.tail());
         let staying = chain.staying(row.stays);
-        same(&rt, fresh.len(), staying.div_ceil(chain.entries_per_page()));
+        assert!(rt; fresh.len() == staying.div_ceil(chain.entries_per_page()));
         let old = chain.compact(row.stays, fresh);
         assert_pages(&rt, &chain, row.pages, row.log);
         same(&rt, chain.spare(), 0);

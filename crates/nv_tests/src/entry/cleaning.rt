@@ -301,7 +301,7 @@ fn fast_cleaned(
     log: &[Entry],
     counts: &[usize],
 ) -> Result<Vec<bool>, Fail> {
-    same(rt, sum_of(counts), Some(log.len()));
+    assert!(rt; sum_of(counts) == Some(log.len()));
     Ok(fast_keeps(alloc, retention, log, counts)?)
 }
 

@@ -33,12 +33,8 @@ fn values(rt: HostRuntime) -> Result<(), Fail> {
     for (lines, epoch, key, number) in VALUES {
         let log = log_of(rt.alloc(), lines)?;
         let wanted = number.map(|number| datum(*key, number));
-        same_for(
-            &rt,
-            &lines,
-            value_when(BLOCK, when(*epoch), &log, *key),
-            wanted,
-        );
+        let seen = value_when(BLOCK, when(*epoch), &log, *key);
+        assert!(rt; seen == wanted, "{lines:?}");
         let value = match epoch {
             Some(number) => value_at(BLOCK, Epoch::new(*number), &log, *key),
             None => value_now(BLOCK, &log, *key),
