@@ -3,7 +3,7 @@ use Rattle.std.proofs.Common.{◌≡◌, ◌≢◌, ℕ, zero, suc, ◌+◌, ◌
 use Rattle.std.specs.List.{AllByRecursion}
 use Rattle.std.proofs.lemmas.Bool.{eqb-true, eqb-false, leb-true, leb-false, ltb-true, ltb-false, lt-ltb, le-ltb, le-leb, lt-leb}
 use Rattle.nv_alloc.specs.Numbers.{IsRising, has, unused}
-use Rattle.nv_alloc.proofs.Lists.{has-below, has-first, has-other}
+use Rattle.nv_alloc.proofs.Lists.{all_above, has-below, has-first, has-other}
 
 -- whether the number is in the range and unused
 abbrev is_wanted : (ℕ → Bool) → ℕ → ℕ → ℕ → Bool
@@ -26,10 +26,6 @@ wanted-later is_used low end n ne = ap (λ b. b && nat_lt n end && not (is_used 
   go : (b : Bool) → nat_le low n ≡ b → nat_le low n ≡ nat_le (low + 1) n
   go true q = q ∙ sym (le-leb (low + 1) n (omega (arith, ne, leb-true low n q)))
   go false q = q ∙ sym (lt-leb (low + 1) n (omega (arith, leb-false low n q)))
-
-all_above : (n k : ℕ) (ms : List ℕ) → n ≤ k → AllByRecursion (λ m. k < m) ms → AllByRecursion (λ m. n < m) ms
-all_above n k [] le h = tt
-all_above n k (m ∷ ms) le h = (omega (arith, h.0, le), all_above n k ms le h.1)
 
 -- a rising list of wanted numbers begins with the lowest of them
 first_wanted : (is_used : ℕ → Bool) (low end : ℕ) (n : ℕ) (ns : List ℕ) → IsRising (n ∷ ns)
@@ -90,17 +86,20 @@ none_wanted is_used low (n ∷ ns) members = go (nat_lt n low) refl where
 pub from_scratch : (is_used : ℕ → Bool) (low len : ℕ) (ns : List ℕ) → IsRising ns
     → ((k : ℕ) → has ns k ≡ is_wanted is_used low (low + len) k) → ns ≡ unused is_used low len
 from_scratch is_used low zero ns rising members = none_wanted is_used low ns members
-from_scratch is_used low (suc len) ns rising members = step ns rising members (is_used low) refl (λ ms r m. from_scratch is_used (low + 1) len ms r m) where
-  shift : (ms : List ℕ) → ((k : ℕ) → has ms k ≡ is_wanted is_used (low + 1) (low + suc len) k) → (k : ℕ)
-      → has ms k ≡ is_wanted is_used (low + 1) (low + 1 + len) k
-  shift ms h k = let e : low + suc len ≡ low + 1 + len = omega arith in h k ∙ ap (λ end. is_wanted is_used (low + 1) end k) e
+from_scratch is_used low (suc len) ns rising members = step ns rising members (is_used low) refl (λ ms r m. from_scratch is_used
+    (low + 1) len ms r m) where
+      shift : (ms : List ℕ) → ((k : ℕ) → has ms k ≡ is_wanted is_used (low + 1) (low + suc len) k) → (k : ℕ)
+          → has ms k ≡ is_wanted is_used (low + 1) (low + 1 + len) k
+      shift ms h k = let e : low + suc len ≡ low + 1 + len = omega arith in h k ∙ ap (λ end. is_wanted is_used (low + 1) end k) e
 
-  step : (ns : List ℕ) → IsRising ns → ((k : ℕ) → has ns k ≡ is_wanted is_used low (low + suc len) k) → (b : Bool) → is_used low ≡ b
-      → ((ms : List ℕ) → IsRising ms → ((k : ℕ) → has ms k ≡ is_wanted is_used (low + 1) (low + 1 + len) k) → ms ≡ unused is_used (low + 1) len) → ns ≡ unused is_used low (suc len)
-  step ns r m true q ih = rw q (ih ns r (shift ns (skip_members is_used low (low + suc len) ns q (omega arith) m)))
-  step [] r m false q ih = let z : false ≡ true = m low ∙ wanted-first is_used low (low + suc len) (omega arith) ∙ ap not q in cc
-  step (n ∷ ns) r m false q ih =
-      let e : n ≡ low = first_wanted is_used low (low + suc len) n ns r m q (omega arith) in
-      let r' : IsRising (low ∷ ns) = subst (λ k. IsRising (k ∷ ns)) e r in
-      let m' : (k : ℕ) → has (low ∷ ns) k ≡ is_wanted is_used low (low + suc len) k = subst (λ j. (k : ℕ) → has (j ∷ ns) k ≡ is_wanted is_used low (low + suc len) k) e m in
-      rw (q, e) (ap (λ ms. low ∷ ms) (ih ns r'.1 (shift ns (rest_members is_used low (low + suc len) ns r' m'))))
+      step : (ns : List ℕ) → IsRising ns → ((k : ℕ) → has ns k ≡ is_wanted is_used low (low + suc len) k) → (b : Bool) → is_used low ≡ b
+          → ((ms : List ℕ) → IsRising ms → ((k : ℕ) → has ms k ≡ is_wanted is_used (low + 1) (low + 1 + len) k)
+          → ms ≡ unused is_used (low + 1) len) → ns ≡ unused is_used low (suc len)
+      step ns r m true q ih = rw q (ih ns r (shift ns (skip_members is_used low (low + suc len) ns q (omega arith) m)))
+      step [] r m false q ih = let z : false ≡ true = m low ∙ wanted-first is_used low (low + suc len) (omega arith) ∙ ap not q in cc
+      step (n ∷ ns) r m false q ih =
+          let e : n ≡ low = first_wanted is_used low (low + suc len) n ns r m q (omega arith) in
+          let r' : IsRising (low ∷ ns) = subst (λ k. IsRising (k ∷ ns)) e r in
+          let m' : (k : ℕ) → has (low ∷ ns) k ≡ is_wanted is_used low (low + suc len) k = subst (λ j. (k : ℕ)
+          → has (j ∷ ns) k ≡ is_wanted is_used low (low + suc len) k) e m in
+          rw (q, e) (ap (λ ms. low ∷ ms) (ih ns r'.1 (shift ns (rest_members is_used low (low + suc len) ns r' m'))))

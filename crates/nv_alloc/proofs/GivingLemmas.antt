@@ -13,22 +13,28 @@ times-blocks n xs ys = ap (times n) (map-append number_of xs ys) ∙ times-appen
 
 -- blocks that move from a list to the end of a queue
 pub times-taken : (n k : ℕ) (queue list : List BlockValue)
-    → times n (numbers_of (queue ++ take k list)) + times n (numbers_of (drop k list)) ≡ times n (numbers_of queue) + times n (numbers_of list)
+    → times n (numbers_of (queue ++ take k list)) + times n (numbers_of (drop k list)) ≡ times n (numbers_of queue) + times n
+    (numbers_of list)
 times-taken n k queue list =
     let both = sym (times-blocks n (take k list) (drop k list)) ∙ ap (λ ys. times n (numbers_of ys)) (take-append-drop k list) in
     omega (arith, times-blocks n queue (take k list), both)
 
 -- a block that is offered to a list
 times-offered : (n : ℕ) (list : FreeBlocks) (b : BlockValue) (rest : List BlockValue)
-    → times n (numbers_of ((cond (takes list b) [] (b ∷ [])) ++ rest)) + times n (numbers_of (after_offer list b).blocks) ≡ times n (numbers_of rest) + times n (b.number ∷ numbers_of list.blocks)
+    → times n (numbers_of ((cond (takes list b) [] (b ∷ [])) ++ rest)) + times n (numbers_of (after_offer list b).blocks) ≡ times n
+    (numbers_of rest) + times n (b.number ∷ numbers_of list.blocks)
 times-offered n list b rest = go (takes list b) where
   go : (t : Bool)
-      → times n (numbers_of ((cond t [] (b ∷ [])) ++ rest)) + times n (numbers_of (cond t (record list { blocks = put_block b list.blocks }) list).blocks) ≡ times n (numbers_of rest) + times n (b.number ∷ numbers_of list.blocks)
-  go true = let put : times n (numbers_of (put_block b list.blocks)) ≡ times n (b.number ∷ numbers_of list.blocks) = times-put_by number_of n b list.blocks in omega (arith, put)
+      → times n (numbers_of ((cond t [] (b ∷ [])) ++ rest)) + times n (numbers_of (cond t
+      (record list { blocks = put_block b list.blocks }) list).blocks) ≡ times n (numbers_of rest) + times n
+      (b.number ∷ numbers_of list.blocks)
+  go true = let put : times n (numbers_of (put_block b list.blocks)) ≡ times n
+      (b.number ∷ numbers_of list.blocks) = times-put_by number_of n b list.blocks in omega (arith, put)
   go false = omega (arith, times-cons n b.number (numbers_of rest), times-cons n b.number (numbers_of list.blocks))
 
 pub times-given : (n : ℕ) (list : FreeBlocks) (bs : List BlockValue)
-    → times n (numbers_of (kept_of list bs)) + times n (numbers_of (after_giving list bs).blocks) ≡ times n (numbers_of bs) + times n (numbers_of list.blocks)
+    → times n (numbers_of (kept_of list bs)) + times n (numbers_of (after_giving list bs).blocks) ≡ times n (numbers_of bs) + times n
+    (numbers_of list.blocks)
 times-given n list [] = refl
 times-given n list (b ∷ bs) =
     let rest = times-given n (after_offer list b) bs in
@@ -47,7 +53,8 @@ pub kept_of-append : (list : FreeBlocks) (bs cs : List BlockValue)
 kept_of-append list [] cs = refl
 kept_of-append list (b ∷ bs) cs =
     let first = cond (takes list b) [] (b ∷ []) in
-    ap (λ xs. first ++ xs) (kept_of-append (after_offer list b) bs cs) ∙ sym (append_assoc first (kept_of (after_offer list b) bs) (kept_of (after_giving (after_offer list b) bs) cs))
+    ap (λ xs. first ++ xs) (kept_of-append (after_offer list b) bs cs)
+    ∙ sym (append_assoc first (kept_of (after_offer list b) bs) (kept_of (after_giving (after_offer list b) bs) cs))
 
 -- one more item of a list
 pub cut_more : {X : Type 0} (k : ℕ) (xs : List X) (b : X) (rest : List X) → drop k xs ≡ b ∷ rest
@@ -77,9 +84,11 @@ underway all old now left rest at b lt u e = go (drop at all) refl where
       let first : x ≡ b = cc in
       let behind : rest ≡ xs ++ kept_of old (take at all) = cc in
       let cut = cut_more at all b xs (q ∙ ap (λ y. y ∷ xs) first) in
-      let last : kept_of (after_giving old (take at all)) (b ∷ []) ≡ cond (takes now b) [] (b ∷ []) = ap (λ l. kept_of l (b ∷ [])) (sym u.given) ∙ append-nil (cond (takes now b) [] (b ∷ [])) in
+      let last : kept_of (after_giving old (take at all)) (b ∷ []) ≡ cond (takes now b) [] (b ∷ []) = ap (λ l. kept_of l (b ∷ []))
+      (sym u.given) ∙ append-nil (cond (takes now b) [] (b ∷ [])) in
       record {
-        items = rw (cut.0, cut.1, kept_of-append old (take at all) (b ∷ []), last, behind) (append_assoc xs (kept_of old (take at all)) (cond (takes now b) [] (b ∷ [])));
+        items = rw (cut.0, cut.1, kept_of-append old (take at all) (b ∷ []), last, behind) (append_assoc xs (kept_of old (take at all))
+            (cond (takes now b) [] (b ∷ [])));
         given = rw (cut.1, after_giving-append old (take at all) (b ∷ [])) (ap (λ l. after_offer l b) u.given);
       }
 
@@ -104,11 +113,19 @@ goes_home list (b ∷ bs) sized once = go (is_home list b.number) refl (λ l s o
   absent = has-times b.number (numbers_of list.blocks) (omega (arith, one b.number, own))
 
   go : (t : Bool) → is_home list b.number ≡ t
-      → ((l : FreeBlocks) → AreSized l.size bs → ((n : ℕ) → times n (numbers_of bs) + times n (numbers_of l.blocks) ≤ 1) → GoesHome l bs) → GoesHome list (b ∷ bs)
+      → ((l : FreeBlocks) → AreSized l.size bs → ((n : ℕ) → times n (numbers_of bs) + times n (numbers_of l.blocks) ≤ 1)
+      → GoesHome l bs) → GoesHome list (b ∷ bs)
   go true q ih =
       let test : takes list b ≡ true = rw (q, absent, eq-eqb (length b.bytes) list.size sized.0) refl in
-      let put : (n : ℕ) → times n (numbers_of (put_block b list.blocks)) ≡ times n (b.number ∷ numbers_of list.blocks) = λ n. times-put_by number_of n b list.blocks in
-      let rest = ih (record list { blocks = put_block b list.blocks }) sized.1 (λ n. omega (arith, one n, put n, times-cons n b.number (numbers_of list.blocks))) in
+      let put : (n : ℕ) → times n (numbers_of (put_block b list.blocks)) ≡ times n
+      (b.number ∷ numbers_of list.blocks) = λ n. times-put_by number_of n b list.blocks in
+      let rest = ih (record list { blocks = put_block b list.blocks }) sized.1 (λ n. omega (
+        arith,
+        one n,
+        put n,
+        times-cons n b.number
+            (numbers_of list.blocks),
+      )) in
       record { kept = rw (test, q) rest.kept; given = rw (test, q) rest.given }
   go false q ih =
       let test : takes list b ≡ false = rw q refl in

@@ -71,9 +71,10 @@ put_by-first number x (y ∷ ys) h = rw (lt-ltb (number x) (number y) h.0) refl
 
 -- ---- a free list from scratch
 
-above : (n k : ℕ) (ms : List ℕ) → n ≤ k → AllByRecursion (λ m. k < m) ms → AllByRecursion (λ m. n < m) ms
-above n k [] le h = tt
-above n k (m ∷ ms) le h = (omega (arith, h.0, le), above n k ms le h.1)
+-- numbers above one are above each that is no higher
+pub all_above : (n k : ℕ) (ms : List ℕ) → n ≤ k → AllByRecursion (λ m. k < m) ms → AllByRecursion (λ m. n < m) ms
+all_above n k [] le h = tt
+all_above n k (m ∷ ms) le h = (omega (arith, h.0, le), all_above n k ms le h.1)
 
 -- a rising list has no number twice
 pub times-rising : (n : ℕ) (ns : List ℕ) → IsRising ns → times n ns ≤ 1
@@ -84,5 +85,6 @@ times-rising n (m ∷ ms) r = go (m == n) refl (times-rising n ms r.1) where
   none (k ∷ ms) a = let ne : k ≢ n = omega (arith, a.0) in times-no n k ms (ne_eqb k n ne) ∙ none ms a.1
 
   go : (b : Bool) → (m == n) ≡ b → times n ms ≤ 1 → times n (m ∷ ms) ≤ 1
-  go true q ih = let e : m ≡ n = eqb-true m n q in omega (arith, times-yes n m ms q, none ms (subst (λ k. AllByRecursion (λ j. k < j) ms) e r.0))
+  go true q ih = let e : m ≡ n = eqb-true m n q in
+      omega (arith, times-yes n m ms q, none ms (subst (λ k. AllByRecursion (λ j. k < j) ms) e r.0))
   go false q ih = omega (arith, times-no n m ms q, ih)

@@ -43,8 +43,10 @@ join_next n last runs = rw (eq-eqb (n + 1) (n + 1) refl) refl
 pub ArePlaced-drop : (k s : ℕ) (slots : List (Option BlockValue)) → ArePlaced s slots → ArePlaced (s + k) (drop k slots)
 ArePlaced-drop zero s slots p = let e : s ≡ s + 0 = omega arith in subst (λ n. ArePlaced n slots) e p
 ArePlaced-drop (suc k) s [] p = tt
-ArePlaced-drop (suc k) s (None ∷ slots) p = let e : s + 1 + k ≡ s + suc k = omega arith in subst (λ n. ArePlaced n (drop k slots)) e (ArePlaced-drop k (s + 1) slots p)
-ArePlaced-drop (suc k) s (Some b ∷ slots) p = let e : s + 1 + k ≡ s + suc k = omega arith in subst (λ n. ArePlaced n (drop k slots)) e (ArePlaced-drop k (s + 1) slots p.1)
+ArePlaced-drop (suc k) s (None ∷ slots) p = let e : s + 1 + k ≡ s + suc k = omega arith in
+    subst (λ n. ArePlaced n (drop k slots)) e (ArePlaced-drop k (s + 1) slots p)
+ArePlaced-drop (suc k) s (Some b ∷ slots) p = let e : s + 1 + k ≡ s + suc k = omega arith in
+    subst (λ n. ArePlaced n (drop k slots)) e (ArePlaced-drop k (s + 1) slots p.1)
 
 -- slots without a block at the front add nothing
 pub skip_gap : (gap : ℕ) (slots : List (Option BlockValue)) → ((k : ℕ) → k < gap → is_some (get_or slots k None) ≡ false)
@@ -75,7 +77,8 @@ take_run zero s (Some b ∷ slots) p some at =
 take_run (suc len) s (Some b ∷ slots) p some at =
     let rest = take_run len (s + 1) slots p.1 (λ k lt. some (suc k) (omega arith)) (λ lt. at (omega arith)) in
     let last : s + 1 + len ≡ s + suc len = omega arith in
-    rw (p.0, rest) (join_next s (s + 1 + len) (runs_of (numbers_of (present (drop (suc len) slots)))) ∙ ap (λ n. record { first = s; last = n } ∷ runs_of (numbers_of (present (drop (suc len) slots)))) last)
+    rw (p.0, rest) (join_next s (s + 1 + len) (runs_of (numbers_of (present (drop (suc len) slots))))
+    ∙ ap (λ n. record { first = s; last = n } ∷ runs_of (numbers_of (present (drop (suc len) slots)))) last)
 
 -- no block is left where neither a gap nor a run is
 pub no_run : (slots : List (Option BlockValue)) → (0 < length slots → is_some (get_or slots 0 None) ≢ false)
@@ -99,7 +102,8 @@ moved start gap len slots rest after e f within inside placed small =
 first_left : (gap : ℕ) (slots rest : List (Option BlockValue)) → rest ≡ drop gap slots
     → (gap < length slots → is_some (get_or slots gap None) ≢ false) → 0 < length rest → is_some (get_or rest 0 None) ≢ false
 first_left gap slots rest e at lt h =
-    at (omega (arith, ap length e, length-drop gap slots)) (ap is_some (sym (ap (λ xs. get_or xs 0 None) e ∙ get_or-drop gap slots 0 None ∙ ap (λ i. get_or slots i None) (add-zero gap))) ∙ h)
+    at (omega (arith, ap length e, length-drop gap slots)) (ap is_some (sym (ap (λ xs. get_or xs 0 None) e
+    ∙ get_or-drop gap slots 0 None ∙ ap (λ i. get_or slots i None) (add-zero gap))) ∙ h)
 
 pub none_left : (gap len : ℕ) (slots rest after : List (Option BlockValue)) → rest ≡ drop gap slots → after ≡ drop len rest
     → ((k : ℕ) → k < gap → is_some (get_or slots k None) ≡ false) → (gap < length slots → is_some (get_or slots gap None) ≢ false)
@@ -115,13 +119,15 @@ pub one_run : (start gap len : ℕ) (slots rest after : List (Option BlockValue)
     → ArePlaced start slots
     → ((k : ℕ) → k < gap → is_some (get_or slots k None) ≡ false)
     → ((k : ℕ) → k < len → is_some (get_or rest k None) ≡ true) → (len < length rest → is_some (get_or rest len None) ≢ true) → len ≢ 0
-    → runs_of (numbers_of (present slots)) ≡ record { first = start + gap; last = start + gap + len - 1 } ∷ runs_of (numbers_of (present after))
+    → runs_of (numbers_of (present slots)) ≡ record { first = start + gap; last = start + gap + len - 1 } ∷ runs_of (numbers_of
+    (present after))
 one_run start gap zero slots rest after e f placed before some at more = absurd (more refl)
 one_run start gap (suc len) slots rest after e f placed before some at more =
     let cut : ArePlaced (start + gap) rest = subst (λ xs. ArePlaced (start + gap) xs) (sym e) (ArePlaced-drop gap start slots placed) in
     let skipped : present slots ≡ present rest = skip_gap gap slots before ∙ ap present (sym e) in
     let last : start + gap + len ≡ start + gap + suc len - 1 = omega arith in
-    rw (skipped, f) (take_run len (start + gap) rest cut some at ∙ ap (λ n. record { first = start + gap; last = n } ∷ runs_of (numbers_of (present (drop (suc len) rest)))) last)
+    rw (skipped, f) (take_run len (start + gap) rest cut some at
+    ∙ ap (λ n. record { first = start + gap; last = n } ∷ runs_of (numbers_of (present (drop (suc len) rest)))) last)
 
 -- ---- the runs of a rising list
 
@@ -157,4 +163,8 @@ pub cut : (numbers : List ℕ) → IsRising numbers → IsCutInto numbers (runs_
 cut [] r = record { all = refl; maximal = tt }
 cut (n ∷ numbers) r =
     let rest = cut numbers r.1 in
-    record { all = numbers_in-join n (runs_of numbers) rest.maximal ∙ ap (λ ms. n ∷ ms) rest.all; maximal = HaveGaps-join n (runs_of numbers) rest.maximal (runs_start n numbers r.0) }
+    record {
+      all = numbers_in-join n (runs_of numbers) rest.maximal
+          ∙ ap (λ ms. n ∷ ms) rest.all;
+      maximal = HaveGaps-join n (runs_of numbers) rest.maximal (runs_start n numbers r.0);
+    }

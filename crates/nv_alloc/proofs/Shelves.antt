@@ -76,7 +76,8 @@ module _ {start size count : ℕ} {slots : List (Option BlockValue)} {free : Lis
   pub shelf_lawful : IsFreeList list_of
   shelf_lawful =
       let e = sym (numbers-present start slots shelf.placed) in
-      let all = places-within start (start + length slots) start (map is_some slots) (omega arith) (omega (arith, length-map slots is_some)) in
+      let all = places-within start (start + length slots) start (map is_some slots) (omega arith) (omega
+      (arith, length-map slots is_some)) in
       record {
         rising = subst IsRising e (places-rising start (map is_some slots));
         from_start = subst (AllByRecursion (λ n. start ≤ n)) e all.0;
@@ -91,7 +92,8 @@ module _ {start size count : ℕ} {slots : List (Option BlockValue)} {free : Lis
 
   pub shelf_strange : (n : ℕ) → (n < start) ⊎ (start + length slots ≤ n) → has (numbers_of (present slots)) n ≡ false
   shelf_strange n (inl h) = has-below n (numbers_of (present slots)) (placed_above start n slots h shelf.placed)
-  shelf_strange n (inr h) = has-present (n - start) start n slots shelf.placed (omega (arith, h)) ∙ ap is_some (get_or_past slots (n - start) None (omega (arith, h)))
+  shelf_strange n (inr h) = has-present (n - start) start n slots shelf.placed (omega (arith, h))
+      ∙ ap is_some (get_or_past slots (n - start) None (omega (arith, h)))
 
   pub shelf_none : IsLowest free None → present slots ≡ []
   shelf_none low = present-empty slots (λ k. ap (λ fs. get_or fs k false) (sym shelf.flags) ∙ low k)
@@ -106,7 +108,8 @@ module _ {start size count : ℕ} {slots : List (Option BlockValue)} {free : Lis
 
     pub shelf_some : None ≡ x → ⊥
     shelf_some n =
-        let q : true ≡ is_some (get_or slots place None) = sym low.0 ∙ ap (λ fs. get_or fs place false) shelf.flags ∙ some_there slots place in
+        let q : true ≡ is_some (get_or slots place None) = sym low.0 ∙ ap (λ fs. get_or fs place false) shelf.flags
+        ∙ some_there slots place in
         let f : true ≡ false = q ∙ ap is_some (sym (n ∙ here)) in cc
 
     pub shelf_taken : (b : BlockValue) → Some b ≡ x → present slots ≡ b ∷ present (set slots place None)
@@ -136,7 +139,8 @@ module _ {start size count : ℕ} {slots : List (Option BlockValue)} {free : Lis
       let range = home_is start (start + length slots) b.number t.home in
       let within : k < length slots = omega (arith, range.0, range.1, e) in
       let number : b.number ≡ start + k = omega (arith, range.0, e) in
-      let is_free : get_or slots k None ≡ None = none (get_or slots k None) (sym (has-present k start b.number slots shelf.placed number) ∙ t.absent) in
+      let is_free : get_or slots k None ≡ None = none (get_or slots k None) (sym
+      (has-present k start b.number slots shelf.placed number) ∙ t.absent) in
       let put = present-put k start slots b shelf.placed within is_free number in
       record {
         is_free = is_free;
@@ -168,7 +172,8 @@ shelf_full size start count slots free e f small = rw (e, f) (record {
 -- ---- pools
 
 pub pool_taken : (flags : List Bool) (place : ℕ) → IsLowest flags (Some place) → places 0 flags ≡ place ∷ places 0 (set flags place false)
-pool_taken flags place low = let e : 0 + place ≡ place = omega arith in places-take place 0 flags low.0 low.1 ∙ ap (λ n. n ∷ places 0 (set flags place false)) e
+pool_taken flags place low = let e : 0 + place ≡ place = omega arith in
+    places-take place 0 flags low.0 low.1 ∙ ap (λ n. n ∷ places 0 (set flags place false)) e
 
 pub pool_empty : (flags : List Bool) → IsLowest flags None → places 0 flags ≡ []
 pool_empty flags low = places-empty 0 flags low
@@ -184,7 +189,11 @@ pub pool_given : (flags : List Bool) (n : ℕ) → n < length flags → has (pla
 pool_given flags n h absent = places-put n 0 n flags h (sym (pool_has flags n) ∙ absent) (omega arith)
 
 pub pool_lawful : (inodes : ℕ) (flags : List Bool) → length flags ≡ inodes → IsPool (record { inodes = inodes; numbers = places 0 flags })
-pool_lawful inodes flags e = record { rising = places-rising 0 flags; below = (places-within 0 inodes 0 flags (omega arith) (omega (arith, e))).1 }
+pool_lawful inodes flags e = record {
+  rising = places-rising 0 flags;
+  below = (places-within 0 inodes 0 flags (omega arith) (omega
+      (arith, e))).1;
+}
 
 pub pool_count : (flags : List Bool) → length (places 0 flags) ≤ length flags
 pool_count flags = length-places 0 flags

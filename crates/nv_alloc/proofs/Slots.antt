@@ -42,7 +42,8 @@ pub places-put : (k low n : ℕ) (flags : List Bool) → k < length flags → ge
 places-put k low n [] h free e = absurd (omega (arith, h))
 places-put zero low n (false ∷ flags) h free e =
     let q : low ≡ n = omega (arith, e) in
-    rw q (sym (put_by-first (λ m. m) n (places (n + 1) flags) (all_same n (places (n + 1) flags) (places_above (n + 1) n flags (omega arith)))))
+    rw q (sym (put_by-first (λ m. m) n (places (n + 1) flags) (all_same n (places (n + 1) flags) (places_above (n + 1) n flags
+    (omega arith)))))
 places-put zero low n (true ∷ flags) h free e = cc
 places-put (suc k) low n (false ∷ flags) h free e = places-put k (low + 1) n flags (omega (arith, h)) free (omega (arith, e))
 places-put (suc k) low n (true ∷ flags) h free e =
@@ -139,11 +140,13 @@ pub present-put : (k s : ℕ) (slots : List (Option BlockValue)) (b : BlockValue
     → get_or slots k None ≡ None → b.number ≡ s + k
     → present (set slots k (Some b)) ≡ put_block b (present slots)
 present-put k s [] b p h free e = absurd (omega (arith, h))
-present-put zero s (None ∷ slots) b p h free e = sym (put_by-first number_of b (present slots) (placed_above (s + 1) b.number slots (omega (arith, e)) p))
+present-put zero s (None ∷ slots) b p h free e = sym (put_by-first number_of b (present slots) (placed_above (s + 1) b.number slots
+    (omega (arith, e)) p))
 present-put zero s (Some x ∷ slots) b p h free e = cc
 present-put (suc k) s (None ∷ slots) b p h free e = present-put k (s + 1) slots b p (omega (arith, h)) free (omega (arith, e))
 present-put (suc k) s (Some x ∷ slots) b p h free e =
-    rw (le-ltb b.number x.number (omega (arith, e, p.0))) (ap (λ bs. x ∷ bs) (present-put k (s + 1) slots b p.1 (omega (arith, h)) free (omega (arith, e))))
+    rw (le-ltb b.number x.number (omega (arith, e, p.0))) (ap (λ bs. x ∷ bs) (present-put k (s + 1) slots b p.1 (omega (arith, h)) free
+    (omega (arith, e))))
 
 -- ---- slots that are all full
 
@@ -166,4 +169,5 @@ pub length-full : (size s count : ℕ) → length (full_slots size s count) ≡ 
 length-full size s count = length-map (range_with_len s count) (λ number. Some (zero_block size number)) ∙ length-range_with_len s count
 
 pub length-present-full : (size s count : ℕ) → length (present (full_slots size s count)) ≡ count
-length-present-full size s count = ap length (present-full size s count) ∙ length-map (range_with_len s count) (zero_block size) ∙ length-range_with_len s count
+length-present-full size s count = ap length (present-full size s count) ∙ length-map (range_with_len s count) (zero_block size)
+    ∙ length-range_with_len s count

@@ -28,16 +28,19 @@ child_least len tree t i more lt up = side (elim (cases_lt (i % 2) 1) [ inl a �
   parent = t.node (i / 2) (omega arith) (omega arith)
 
   side : (i ≡ 2 * (i / 2)) ⊎ (i ≡ 2 * (i / 2) + 1) → get_or tree 1 0 ≤ get_or tree i 0
-  side (inl e) = let p = parent in let k : get_or tree i 0 ≡ get_or tree (2 * (i / 2)) 0 = ap (λ j. get_or tree j 0) e in omega (arith, p, up, k)
-  side (inr e) = let p = parent in let k : get_or tree i 0 ≡ get_or tree (2 * (i / 2) + 1) 0 = ap (λ j. get_or tree j 0) e in omega (arith, p, up, k)
+  side (inl e) = let p = parent in let k : get_or tree i 0 ≡ get_or tree (2 * (i / 2)) 0 = ap (λ j. get_or tree j 0) e in
+      omega (arith, p, up, k)
+  side (inr e) = let p = parent in let k : get_or tree i 0 ≡ get_or tree (2 * (i / 2) + 1) 0 = ap (λ j. get_or tree j 0) e in
+      omega (arith, p, up, k)
 
 -- the root is no higher than any node or leaf
 root_least : (fuel len : ℕ) (tree : List ℕ) → IsTree len tree → (i : ℕ) → i ≤ fuel → 1 ≤ i → i < 2 * len → get_or tree 1 0 ≤ get_or tree i 0
 root_least zero len tree t i f h lt = absurd (omega arith)
-root_least (suc fuel) len tree t i f h lt = go (cases_lt i 2) (λ more. root_least fuel len tree t (i / 2) (omega (arith, more)) (omega (arith, more)) (omega (arith, more))) where
-  go : (i < 2) ⊎ (2 ≤ i) → (2 ≤ i → get_or tree 1 0 ≤ get_or tree (i / 2) 0) → get_or tree 1 0 ≤ get_or tree i 0
-  go (inl few) up = let e : i ≡ 1 = omega arith in rw e (omega arith)
-  go (inr more) up = child_least len tree t i more lt (up more)
+root_least (suc fuel) len tree t i f h lt = go (cases_lt i 2) (λ more. root_least fuel len tree t (i / 2) (omega (arith, more)) (omega
+    (arith, more)) (omega (arith, more))) where
+      go : (i < 2) ⊎ (2 ≤ i) → (2 ≤ i → get_or tree 1 0 ≤ get_or tree (i / 2) 0) → get_or tree 1 0 ≤ get_or tree i 0
+      go (inl few) up = let e : i ≡ 1 = omega arith in rw e (omega arith)
+      go (inr more) up = child_least len tree t i more lt (up more)
 
 -- no place, or the place of a leaf that has it
 abbrev IsAttained : ℕ → List ℕ → ℕ → Type 0
@@ -82,7 +85,9 @@ before len tree t k h low = get_or-flags_of len tree k t.size h ∙ le-ltb (get_
 
 pub root_found : (len : ℕ) (tree : List ℕ) → IsTree len tree → get_or tree 1 0 < len → IsLowest (flags_of len tree) (Some (get_or tree 1 0))
 root_found len tree t h = (
-  get_or-flags_of len tree (get_or tree 1 0) t.size h ∙ lt-ltb (get_or tree (len + get_or tree 1 0) 0) len (go (attained (2 * len) len tree t 1 (omega arith) (omega arith) (omega arith))),
+  get_or-flags_of len tree (get_or tree 1 0) t.size h
+      ∙ lt-ltb (get_or tree (len + get_or tree 1 0) 0) len (go (attained (2 * len) len tree t 1 (omega arith) (omega arith)
+      (omega arith))),
   λ k low. before len tree t k (omega (arith, low)) low,
 ) where
   go : IsAttained len tree (get_or tree 1 0) → get_or tree (len + get_or tree 1 0) 0 < len
@@ -93,14 +98,16 @@ nothing : (flags : List Bool) → ((k : ℕ) → k < length flags → get_or fla
 nothing flags low k = elim (cases_lt k (length flags)) [ inl a ↦ low k a | inr a ↦ get_or_past flags k false a ]
 
 pub root_empty : (len : ℕ) (tree : List ℕ) → IsTree len tree → len ≤ get_or tree 1 0 → IsLowest (flags_of len tree) None
-root_empty len tree t h = nothing (flags_of len tree) (λ k low. before len tree t k (omega (arith, length-flags_of len tree t.size, low)) (omega (arith, length-flags_of len tree t.size, low)))
+root_empty len tree t h = nothing (flags_of len tree) (λ k low. before len tree t k (omega
+    (arith, length-flags_of len tree t.size, low)) (omega (arith, length-flags_of len tree t.size, low)))
 
 pub none_empty : (len : ℕ) (tree : List ℕ) → IsTree len tree → len ≡ 0 → IsLowest (flags_of len tree) None
 none_empty len tree t e = nothing (flags_of len tree) (λ k low. absurd (omega (arith, length-flags_of len tree t.size, low)))
 
 pub flags_of-full : (len : ℕ) (tree : List ℕ) → length tree ≡ 2 * len → ((k : ℕ) → k < len → get_or tree (len + k) 0 ≡ k)
     → flags_of len tree ≡ replicate len true
-flags_of-full len tree size own = ext_get_or false (flags_of len tree) (replicate len true) (grind (arith, common_steps, length-flags_of len tree size))
+flags_of-full len tree size own = ext_get_or false (flags_of len tree) (replicate len true) (grind
+    (arith, common_steps, length-flags_of len tree size))
     (λ k h. let lt : k < len = omega (arith, length-flags_of len tree size, h) in
     get_or-flags_of len tree k size lt ∙ rw (own k lt, lt-ltb k len lt) (grind (arith, common_steps)))
 

@@ -1,4 +1,4 @@
-//! The pages of a whole log chain.
+//! The pages of a log chain on their way home.
 
 ghost use Rattle.std.specs.Prelude.{◌≡◌, [], ◌==◌, length};
 ghost use Rattle.std.specs.VecDeque.Iter.{deque_iter_rest};
@@ -11,7 +11,8 @@ use std::collections::{VecDeque, vec_deque};
 use std::marker::Model;
 use std::mem;
 
-/// The pages of one whole chain that has left its log, or none. Contracts see the list of them.
+/// Pages of a chain that has left its log: all of them once they are put in, fewer once some are given home,
+/// or none. Contracts see the list of them.
 pub struct ChainPages {
     blocks: VecDeque<Block>,
     alloc: Global,

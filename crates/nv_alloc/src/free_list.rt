@@ -1,7 +1,8 @@
 //! The free blocks of one CPU.
 
-ghost use Rattle.std.specs.Prelude.{◌≡◌, ℕ, ◌+◌, ◌-◌, ◌<◌, ◌≤◌, ◌++◌, ◌==◌, ◌^◌, IfOk, IfErr, OnOk, Some, length, map, min, take, drop, ◌∷◌, true, vec_len, vec_capacity};
+ghost use Rattle.std.specs.Prelude.{◌≡◌, ℕ, ◌+◌, ◌-◌, ◌<◌, ◌≤◌, ◌++◌, ◌==◌, ◌^◌, IfOk, OnOk, Some, length, map, min, take, drop, ◌∷◌, true, vec_len, vec_capacity};
 ghost use Rattle.nv_base.specs.Homes.{home_start};
+ghost use Rattle.nv_base.specs.Refusals.{FailsOnly};
 ghost use Rattle.nv_alloc.specs.Block.{AreSized, numbers_of, put_block, zero_block, zero_blocks};
 ghost use Rattle.nv_alloc.specs.Numbers.{has};
 ghost use Rattle.nv_alloc.specs.FreeList.{is_home, IsFreeList};
@@ -57,7 +58,7 @@ impl FreeList {
         ensures size { IfOk result (λ list. list.size ≡ geometry.now.numbers.block) }
         ensures blocks { IfOk result (λ list.
             list.blocks ≡ zero_blocks geometry.now.numbers.block list.start (list.end - list.start)) }
-        ensures err { IfErr result (λ fault. fault ≡ Fault.OutOfMemory) }
+        ensures err { FailsOnly Fault.OutOfMemory result }
     {
         let start = geometry.home_start(cpu);
         let count = geometry.home_start(cpu + 1) - start;

@@ -1,7 +1,8 @@
 //! The free inode numbers.
 
-ghost use Rattle.std.specs.Prelude.{◌≡◌, ℕ, ◌<◌, ◌==◌, IfOk, IfErr, length, false, nat_lt, drop, slice_get};
+ghost use Rattle.std.specs.Prelude.{◌≡◌, ℕ, ◌<◌, ◌==◌, IfOk, length, false, nat_lt, drop, slice_get};
 ghost use Rattle.std.specs.List.{range_with_len};
+ghost use Rattle.nv_base.specs.Refusals.{FailsOnly};
 ghost use Rattle.nv_alloc.specs.InodePool.{IsPool};
 ghost use Rattle.nv_alloc.specs.Numbers.{has, put_by};
 
@@ -35,7 +36,7 @@ impl InodePool {
     pub fn new(alloc: Global, geometry: &Geometry) -> Result<InodePool, Fault>
         ensures inodes { IfOk result (λ pool. pool.inodes ≡ geometry.now.numbers.inodes) }
         ensures numbers { IfOk result (λ pool. pool.numbers ≡ range_with_len 0 geometry.now.numbers.inodes) }
-        ensures err { IfErr result (λ fault. fault ≡ Fault.OutOfMemory) }
+        ensures err { FailsOnly Fault.OutOfMemory result }
     {
         let inodes = geometry.numbers.inodes;
         let free = PlaceSet::full(alloc, inodes as usize)?;

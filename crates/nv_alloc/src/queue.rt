@@ -1,8 +1,9 @@
 //! Blocks in the order taken.
 
-ghost use Rattle.std.specs.Prelude.{◌≡◌, ℕ, ◌+◌, ◌-◌, ◌<◌, ◌≤◌, ◌++◌, ◌∷◌, [], ◌==◌, IfErr, OnOk, length, max, drop, slice_get, slice_index_or, option_to_list};
+ghost use Rattle.std.specs.Prelude.{◌≡◌, ℕ, ◌+◌, ◌-◌, ◌<◌, ◌≤◌, ◌++◌, ◌∷◌, [], ◌==◌, OnOk, length, max, drop, slice_get, slice_index_or, option_to_list};
 ghost use Rattle.std.specs.VecDeque.Iter.{deque_iter_rest};
 ghost use Rattle.std.specs.Borrow.{sem};
+ghost use Rattle.nv_base.specs.Refusals.{FailsOnlyWhere, KeepsOnErr};
 ghost use Rattle.nv_alloc.specs.Block.{AreSized, BlockValue};
 ghost use Rattle.nv_alloc.specs.Giving.{after_giving};
 ghost use Rattle.nv_alloc.specs.Queue.{after_home};
@@ -54,8 +55,8 @@ impl BlockQueue {
     /// Makes room for `n` more blocks: `OutOfMemory` where there is none, and nothing has changed.
     pub fn reserve(&mut self, n: u64) -> Result<(), Fault>
         ensures ok { OnOk result (self.new ≡ record self.old { room = max self.old.room n }) }
-        ensures err { IfErr result (λ fault. (fault ≡ Fault.OutOfMemory) × (self.old.room < n)
-            × (self.new ≡ self.old)) }
+        ensures err { FailsOnlyWhere Fault.OutOfMemory (self.old.room < n) result }
+        ensures same { KeepsOnErr result self.old self.new }
     {
         self.blocks.reserve_exact(n as usize)?;
         Ok(())

@@ -63,7 +63,7 @@ run_count_of pages = how_many (ends_run (ref_at pages)) 0 FILE_PAGES
 abbrev pub present_from : ℕ → List PageRun → ℕ
 present_from from pages = how_many (λ page. is_some (ref_at pages page)) from (FILE_PAGES - from)
 
--- a run has a page, and ends with the greatest file's end; and so do its places
+-- a run has a page, and neither it nor its places go past the end of the greatest file
 pub record IsRun (r : PageRun) : Type 0 where
   pub some : r.first < r.end
   pub within : r.end ≤ FILE_PAGES

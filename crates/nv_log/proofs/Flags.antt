@@ -143,7 +143,8 @@ spread from stays [] = []
 spread from [] (e ∷ ends) = []
 spread from (b ∷ stays) (e ∷ ends) = replicate (e - from) b ++ spread e stays ends
 
-left_of-all_go : {X : Type 0} (n : ℕ) (stays : List Bool) (xs : List X) → left_of (replicate n false ++ stays) xs ≡ left_of stays (drop n xs)
+left_of-all_go : {X : Type 0} (n : ℕ) (stays : List Bool) (xs : List X)
+    → left_of (replicate n false ++ stays) xs ≡ left_of stays (drop n xs)
 left_of-all_go zero stays xs = refl
 left_of-all_go (suc n) [] [] = refl
 left_of-all_go (suc n) (b ∷ stays) [] = refl

@@ -192,7 +192,8 @@ joined-parts most from (e ∷ ends) len xs are le =
     ))) ∙ take-append-drop n xs
 
 -- and they are what the list is cut into by how many items each has
-pub pages_by-parts : (from : ℕ) (ends : List ℕ) (es : List Entry) → pages_by (map length (parts_from from ends es)) es ≡ parts_from from ends es
+pub pages_by-parts : (from : ℕ) (ends : List ℕ) (es : List Entry)
+    → pages_by (map length (parts_from from ends es)) es ≡ parts_from from ends es
 pages_by-parts from [] es = refl
 pages_by-parts from (e ∷ ends) es =
     let n = e - from in
@@ -207,8 +208,10 @@ length-part most ends tail k xs are lt =
     let start = get_or (0 ∷ ends) k len in
     let n = get_or ends k len - start in
     let at = part_at most 0 ends len k len are lt in
+    let whole = length-take tail xs in
+    let rest = length-drop (start - 0) (take tail xs) in
     ap length (part_is most 0 ends len k len (take tail xs) are lt)
-    ∙ omega (arith, at.some, at.within, length-take n (drop (start - 0) (take tail xs)), length-drop (start - 0) (take tail xs), length-take tail xs)
+    ∙ omega (arith, at.some, at.within, length-take n (drop (start - 0) (take tail xs)), rest, whole)
 
 -- parts joined and cut again are those parts
 pub parts-joined : {X : Type 0} (from : ℕ) (parts : List (List X)) → parts_from from (ends_from from parts) (joined parts) ≡ parts

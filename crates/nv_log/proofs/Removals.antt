@@ -131,7 +131,8 @@ pub record IsSwept {X : Type 0} (stays : List Bool) (tail : ℕ) (ends_old : Lis
   pub counts_behind : counted ≤ start
   pub counts : counted ≡ length (joined (left_of stays (take k (parts_from 0 ends_old (take tail old)))))
 
-pub sweeps_none : {X : Type 0} (stays : List Bool) (tail : ℕ) (ends : List ℕ) (old : List X) → IsSwept stays tail ends old ends old 0 0 0 0 0
+pub sweeps_none : {X : Type 0} (stays : List Bool) (tail : ℕ) (ends : List ℕ) (old : List X)
+    → IsSwept stays tail ends old ends old 0 0 0 0 0
 sweeps_none {X = X} stays tail ends old =
     let none = sym (left_of-none (List X) stays) in
     record {

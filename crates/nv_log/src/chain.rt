@@ -1,9 +1,10 @@
 //! A chain of log pages.
 
-ghost use Rattle.std.specs.Prelude.{◌≡◌, ◌+◌, ◌-◌, ◌*◌, ◌<◌, ◌≤◌, ◌↔◌, ◌++◌, ◌==◌, IsTrue, IfErr, IfSome, OnOk, Some, length, max, not, take, slice_get, slice_index};
+ghost use Rattle.std.specs.Prelude.{◌≡◌, ◌+◌, ◌-◌, ◌*◌, ◌<◌, ◌≤◌, ◌↔◌, ◌++◌, ◌==◌, IsTrue, IfSome, OnOk, Some, length, max, slice_get, slice_index};
 ghost use Rattle.std.specs.List.Sorted.{IsStrictlyIncreasing};
 ghost use Rattle.std.specs.Option.{ForSome, option_copied};
 ghost use Rattle.nv_base.specs.Ids.{IsIdBefore};
+ghost use Rattle.nv_base.specs.Refusals.{FailsOnlyWhere, KeepsOnErr};
 ghost use Rattle.nv_log.specs.Chain.{AppendsEntry, IsChain, appended, empty_chain, end_of, entry_of, joined, last_epoch, last_id, last_of, log, log_pages, page_entries, pages_for, place_of, room_of, start_of, with_page};
 
 mod clean;
@@ -22,7 +23,7 @@ use std::mem;
 /// order. The pages with entries stand first. Entries up to the tail count; those past it were appended and
 /// not yet published.
 ///
-/// A call takes constant time where its doc comment says no more.
+/// A call takes constant time where its doc comment says no more: one that shows entries hands out a slice.
 ///
 /// A chain owns its blocks, so it is no `Drop`: [`Chain::into_blocks`] takes it apart.
 pub struct Chain {
@@ -259,12 +260,12 @@ impl Chain {
 
     /// Makes room for so many more pages, and for all entries that they and the pages that are there hold:
     /// `OutOfMemory` where there is none. It may take room for more than that, so that the time of many calls
-    /// is linear in the pages that they make room for.
+    /// is linear in the pages that they make room for. What it changes is room alone.
     pub fn reserve(&mut self, pages: usize) -> Result<(), Fault>
         ensures state { self.new.state ≡ self.old.state }
         ensures ok { OnOk result (self.new.spare ≡ max self.old.spare pages) }
-        ensures err { IfErr result (λ fault. (fault ≡ Fault.OutOfMemory) × (self.old.spare < pages)
-            × (self.new.spare ≡ self.old.spare)) }
+        ensures err { FailsOnlyWhere Fault.OutOfMemory (self.old.spare < pages) result }
+        ensures same { KeepsOnErr result self.old self.new }
     {
         if pages <= self.reserved - self.blocks.len() {
             return Ok(());
@@ -315,8 +316,8 @@ impl Chain {
         self.tail = tail;
     }
 
-    /// Puts another chain in the place of this one, and hands out the blocks of all old pages. The old
-    /// entries are stays.
+    /// Puts another chain in the place of this one, and hands out the blocks of all old pages. The time is
+    /// linear in the old entries, which are let go.
     pub fn replace(&mut self, chain: Chain) -> Vec<Block>
         ensures chain { self.new ≡ chain }
         ensures blocks { result.items ≡ self.old.state.blocks }
@@ -338,7 +339,8 @@ impl Chain {
         mem::replace(&mut self.blocks, blocks)
     }
 
-    /// Takes the chain apart, and hands out the blocks of all pages.
+    /// Takes the chain apart, and hands out the blocks of all pages. The time is linear in the entries, which
+    /// are let go.
     pub fn into_blocks(self) -> Vec<Block>
         ensures { result.items ≡ self.state.blocks }
     {

@@ -190,6 +190,21 @@ fn compacts(rt: HostRuntime) {
     }
 }
 
+// The fifth page has an entry, but none that counts.
+#[test]
+fn counts_the_log_by_pages(rt: HostRuntime) {
+    let mut list = free_blocks(&rt, rt.alloc());
+    let chain = nine_entries(&rt, rt.alloc(), &mut list);
+    let counts = match chain.log_counts(rt.alloc()) {
+        Ok(counts) => counts,
+        Err(_) => chain
+            .log_counts(rt.alloc())
+            .expect(&rt, "memory for counts"),
+    };
+    same(&rt, counts.as_slice(), [2, 2, 2, 1, 0].as_slice());
+    let_go(rt.alloc(), chain, queue_for(&rt, rt.alloc(), 0), list);
+}
+
 #[test]
 fn replaces_a_chain(rt: HostRuntime) {
     let mut list = free_blocks(&rt, rt.alloc());

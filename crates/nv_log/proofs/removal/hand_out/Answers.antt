@@ -45,7 +45,8 @@ put-requires c =
     let first =
     queue_first old c.loop-k.queue.items c.pop_front.new.self.items (left_of stays
     (take c.loop-k.k old)) c.loop-k.k c.in-Some.block lt c.loop-k.invariant.queue c.in-Some.ensures.items in
-    let more = gone_of-goes stays old c.loop-k.k c.in-Some.block lt (sym c.is_left.ensures ∙ c.if-is_left.false) first.0 in
+    let flag = sym c.is_left.ensures ∙ c.if-is_left.false in
+    let more = gone_of-goes stays old c.loop-k.k c.in-Some.block lt flag first.0 in
     let is = c.loop-k.invariant.out in
     let sized : AreSized c.args.out.now.size (gone_of stays old) = search rules in
     record {
@@ -58,7 +59,7 @@ put-requires c =
         c.requires.room,
       );
       sized = ap (λ (b : BlockValue). length b.bytes) first.0
-          ∙ gone_at (λ (b : BlockValue). length b.bytes ≡ c.args.out.now.size) stays old c.loop-k.k c.in-Some.block sized lt (sym c.is_left.ensures ∙ c.if-is_left.false)
+          ∙ gone_at (λ (b : BlockValue). length b.bytes ≡ c.args.out.now.size) stays old c.loop-k.k c.in-Some.block sized lt flag
           ∙ sym (ap (λ (q : QueueValue). q.size) is);
     }
 

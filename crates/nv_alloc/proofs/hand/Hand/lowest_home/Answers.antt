@@ -12,8 +12,11 @@ returns-in_err-lowest c =
 
 pub returns-then-number-geometry : goal.returns-then-number-geometry
 returns-then-number-geometry c =
-    let low = some_lowest (numbers_of (blocks_of c.args.self.now)) c.in_ok-lowest.lowest (sym c.in_ok-lowest.ensures) in
-    (c.home_of.ensures.cpu, (c.in_ok-lowest.lowest, low.0, c.home_of.ensures.home), all_from _ c.in_ok-lowest.lowest _ c.home_of.ensures.home.from low.1)
+    let low = some_lowest (numbers_of (blocks_of c.args.self.now)) c.in_ok-lowest.lowest (sym c.in_ok-lowest.ensures) in (
+      c.home_of.ensures.cpu,
+      (c.in_ok-lowest.lowest, low.0, c.home_of.ensures.home),
+      all_from _ c.in_ok-lowest.lowest _ c.home_of.ensures.home.from low.1,
+    )
 
 pub returns : goal.returns
 returns c =

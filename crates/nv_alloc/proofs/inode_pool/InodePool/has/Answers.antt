@@ -10,4 +10,6 @@ returns-then-is_inode c = rw (c.has.ensures, ← c.self.view_is, c.number.ensure
 pub returns-else-is_inode : goal.returns-else-is_inode
 returns-else-is_inode c =
     let strange = rw (← c.self.view_is) at (sym c.if-is_inode.ensures) in
-    rw (← c.self.view_is) (c.if-is_inode.false ∙ sym (pool_has c.self.inside.free c.args.ino ∙ get_or_past c.self.inside.free c.args.ino false (omega (arith, ltb-false c.args.ino c.self.inside.inodes strange, c.self.invariant.sized))))
+    rw (← c.self.view_is) (c.if-is_inode.false ∙ sym (pool_has c.self.inside.free c.args.ino
+    ∙ get_or_past c.self.inside.free c.args.ino false (omega
+    (arith, ltb-false c.args.ino c.self.inside.inodes strange, c.self.invariant.sized))))

@@ -8,7 +8,13 @@ pub invariant_of-result : goal.invariant_of-result
 invariant_of-result c =
     let full : c.in_ok-free.free ≡ replicate c.args.geometry.now.numbers.inodes true = c.in_ok-free.ensures in
     let fits : c.args.geometry.now.numbers.inodes ≤ 65536 = c.args.geometry.now.limits.inodes_fit in
-    rw full (record { sized = length-replicate c.args.geometry.now.numbers.inodes true; counted = sym (ap length (places-full 0 c.args.geometry.now.numbers.inodes) ∙ length-range_with_len 0 c.args.geometry.now.numbers.inodes); small = omega (arith, fits) })
+    rw full (record {
+      sized = length-replicate c.args.geometry.now.numbers.inodes true;
+      counted = sym (ap length
+          (places-full 0 c.args.geometry.now.numbers.inodes)
+          ∙ length-range_with_len 0 c.args.geometry.now.numbers.inodes);
+      small = omega (arith, fits);
+    })
 
 pub returns-clause-numbers : goal.returns-clause-numbers
 returns-clause-numbers c =

@@ -19,8 +19,9 @@ loop-k-preserved c =
 
 counted : (c : goal.After-loop-k) → AreCounts c.args.self.now.state c.loop-k.counts.items
 counted c =
-    let le : length c.self.inside.ends.items ≤ c.loop-k.k = omega (arith, c.loop-k-test.false, c.len-k-end.ensures, c.self.inside.ends.ok) in
-    rw (← c.self.view_is) (are_counts (state_in c.self.inside) c.loop-k.counts.items c.loop-k.k c.self.invariant.chain le c.loop-k.invariant)
+    let chain = state_in c.self.inside in
+    let le : length chain.ends ≤ c.loop-k.k = omega (arith, c.loop-k-test.false, c.len-k-end.ensures, c.self.inside.ends.ok) in
+    rw (← c.self.view_is) (are_counts chain c.loop-k.counts.items c.loop-k.k c.self.invariant.chain le c.loop-k.invariant)
 
 pub returns-clause-value : goal.returns-clause-value
 returns-clause-value c = (counted c).value

@@ -46,7 +46,8 @@ invariant_of-self c =
       entries_room = c.self.invariant.entries_room;
     }
 
-kept : (c : goal.After-hand_out) → KeepsPages c.args.stays.now c.args.self.now.state (with_pages_left c.args.stays.now c.args.self.now.state)
+kept : (c : goal.After-hand_out)
+    → KeepsPages c.args.stays.now c.args.self.now.state (with_pages_left c.args.stays.now c.args.self.now.state)
 kept c = keeps_pages c.args.stays.now c.args.self.now.state c.leave_pages.ensures.was
 
 pub returns-clause-pages : goal.returns-clause-pages
