@@ -53,8 +53,8 @@ impl Model for Feed {
 
     ghost view = { λ feed. drop feed.at (take feed.end feed.chunk.items) };
 
-    ghost invariant = { λ feed. (feed.at ≤ feed.end) × (feed.end ≤ length feed.chunk.items) × (0 < length feed.chunk.items)
-        × EndsLine (take feed.end feed.chunk.items) feed.lines_end };
+    ghost invariant = { λ feed. (feed.at ≤ feed.end) × (feed.end ≤ length feed.chunk.items)
+        × (0 < length feed.chunk.items) × EndsLine (take feed.end feed.chunk.items) feed.lines_end };
 }
 
 impl Feed {
@@ -117,7 +117,8 @@ impl Feed {
 
     /// Reads ahead where no byte is read ahead, and says whether one is then: none is at the reader's end.
     fn fill<R: Read>(&mut self, reader: &mut R) -> Result<bool, ReadFailed>
-        ensures kept { Keeps (prepend_known self.old (R.remaining reader.old)) (prepend_known self.new (R.remaining reader.new)) }
+        ensures kept { Keeps (prepend_known self.old (R.remaining reader.old))
+            (prepend_known self.new (R.remaining reader.new)) }
         ensures filled { IfOk result (λ filled. MatchBool filled
             (0 < length self.new)
             (IsAtEnd (prepend_known self.new (R.remaining reader.new)))) }
@@ -169,7 +170,8 @@ impl Feed {
         ensures line { IsLine line.new.items }
         ensures within { result ≤ length bytes.now }
         ensures pushed { line.new.items ≡ line.old.items ++ take result bytes.now }
-        ensures stopped { result < length bytes.now → slice_index bytes.now result ≢ LINE_END → length line.new.items ≡ MAX_LINE_BYTES }
+        ensures stopped { result < length bytes.now → slice_index bytes.now result ≢ LINE_END
+            → length line.new.items ≡ MAX_LINE_BYTES }
     {
         let room = bytes.len().min(MAX_LINE_BYTES - line.len());
         let count = before_end(&bytes[..room]);
