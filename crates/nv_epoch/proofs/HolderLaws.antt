@@ -63,8 +63,10 @@ pub youngest-by_next : (living : List ℕ) (birth death : ℕ) → IsRising livi
 youngest-by_next living birth death rising = go (next_older living death) refl where
   go : (o : Option ℕ) → next_older living death ≡ o → youngest_holder living birth death ≡ if_born_by birth o
   go None q = last_that-none (holds birth death) living
-      (record { fails = λ t lives. holds-false birth death t
-      (λ held. let k = none_older living death q t lives in omega (arith, k, held.not_dead)) })
+      (record {
+        fails = λ t lives. holds-false birth death t
+            (λ held. let k = none_older living death q t lives in omega (arith, k, held.not_dead));
+      })
   go (Some s) q = at (nat_le birth s) refl where
     at : (b : Bool) → nat_le birth s ≡ b → youngest_holder living birth death ≡ cond b (Some s) None
     at true w = let k = next_is living death s rising q in youngest_from living birth death s rising (record {
@@ -112,13 +114,13 @@ youngest-own living s birth death rising e = go (next_older living s) refl (youn
     at : (b : Bool) → nat_le birth t ≡ b → youngest_holder (without s living) birth death ≡ cond b (Some t) None
     at true w = let k = next_is living s t rising q in youngest_from (without s living) birth death t
         (IsRising-filter (λ u. not (u == s)) living rising) (record {
-      lives = contains_without s living t k.lives (λ same. absurd (omega (arith, same, k.older)));
-      holds_it = record { born = leb-true birth t w; not_dead = omega (arith, k.older, own.holds_it.not_dead) };
-      youngest = λ u lives held. let there = without_contains s living u lives in
-          let up : u ≤ s = own.youngest u there.0 held in
-          let ne = there.1 in
-          k.next u there.0 (omega (arith, up, ne));
-    })
+          lives = contains_without s living t k.lives (λ same. absurd (omega (arith, same, k.older)));
+          holds_it = record { born = leb-true birth t w; not_dead = omega (arith, k.older, own.holds_it.not_dead) };
+          youngest = λ u lives held. let there = without_contains s living u lives in
+              let up : u ≤ s = own.youngest u there.0 held in
+              let ne = there.1 in
+              k.next u there.0 (omega (arith, up, ne));
+        })
     at false w = let k = next_is living s t rising q in last_that-none (holds birth death) (without s living) (record {
       fails = λ u lives. holds-false birth death u (λ held.
           let there = without_contains s living u lives in

@@ -179,12 +179,12 @@ pub last_that-filter_some : (p q : ℕ → Bool) (xs : List ℕ) (s : ℕ) → q
 last_that-filter_some p q [] s keeps e = cc
 last_that-filter_some p q (x ∷ xs) s keeps e =
     go (last_that p xs) (p x) (q x) refl refl refl (last_that-filter_some p q xs s keeps) (sym (last_that-cons p x xs) ∙ e) where
-  go : (o : Option ℕ) (a b : Bool) → last_that p xs ≡ o → p x ≡ a → q x ≡ b
-      → (last_that p xs ≡ Some s → last_that p (filter q xs) ≡ Some s) → option_or o (cond a (Some x) None) ≡ Some s
-      → last_that p (cond b (x ∷ filter q xs) (filter q xs)) ≡ Some s
-  go (Some y) a true w v u ih f = last_that-cons p x (filter q xs) ∙ ap (λ o. option_or o (cond (p x) (Some x) None)) (ih (w ∙ f))
-  go (Some y) a false w v u ih f = ih (w ∙ f)
-  go None true true w v u ih f =
-      last_that-cons p x (filter q xs) ∙ ap (λ o. option_or o (cond (p x) (Some x) None)) (last_that-filter_none p q xs w) ∙ rw v f
-  go None true false w v u ih f = let k : x ≡ s = cc in let g : true ≡ false = sym keeps ∙ ap q (sym k) ∙ u in cc
-  go None false b w v u ih f = cc
+      go : (o : Option ℕ) (a b : Bool) → last_that p xs ≡ o → p x ≡ a → q x ≡ b
+          → (last_that p xs ≡ Some s → last_that p (filter q xs) ≡ Some s) → option_or o (cond a (Some x) None) ≡ Some s
+          → last_that p (cond b (x ∷ filter q xs) (filter q xs)) ≡ Some s
+      go (Some y) a true w v u ih f = last_that-cons p x (filter q xs) ∙ ap (λ o. option_or o (cond (p x) (Some x) None)) (ih (w ∙ f))
+      go (Some y) a false w v u ih f = ih (w ∙ f)
+      go None true true w v u ih f =
+          last_that-cons p x (filter q xs) ∙ ap (λ o. option_or o (cond (p x) (Some x) None)) (last_that-filter_none p q xs w) ∙ rw v f
+      go None true false w v u ih f = let k : x ≡ s = cc in let g : true ≡ false = sym keeps ∙ ap q (sym k) ∙ u in cc
+      go None false b w v u ih f = cc

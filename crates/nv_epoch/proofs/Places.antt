@@ -155,7 +155,7 @@ pub with_pins-place : (living : List Snapshot) (s place : ℕ) (change : ℕ →
 with_pins-place [] s place change d rising in' at = absurd (omega arith)
 with_pins-place (t ∷ ts) s zero change d rising in' at =
     rw (eq-eqb t.number s at) (ap (λ us. (record t { pins = change t.pins }) ∷ us)
-        (sym (repinned-other ts s change (λ k d in'. let gt = rising.0 k d in' in omega (arith, gt, at)))))
+    (sym (repinned-other ts s change (λ k d in'. let gt = rising.0 k d in' in omega (arith, gt, at)))))
 with_pins-place (t ∷ ts) s (suc place) change d rising in' at =
     let above : t.number < get_or (numbers ts) place 0 = rising.0 place 0 (in_numbers ts place (omega arith)) in
     rw (ne_eqb t.number s (omega (arith, above, at))) (ap (λ us. t ∷ us) (with_pins-place ts s place change d rising.1 (omega arith) at))

@@ -16,7 +16,7 @@ module _ (tails later : List OldTail) (i : ℕ) (x : OldTail) (in' : i < length 
         let first : get_or tails i t ≡ get_or tails i x = get_or_default tails i t x in' in
         let second : get_or tails (i + 1 + k) t ≡ t = sym (get_or-drop (i + 1) tails k t) ∙ ap (λ ts. get_or ts k t) (sym later_is) ∙ at in
         distinct i (i + 1 + k) t (omega arith) inside
-            (ap (λ (u : OldTail). u.ino) first ∙ sym same ∙ sym (ap (λ (u : OldTail). u.ino) second))
+        (ap (λ (u : OldTail). u.ino) first ∙ sym same ∙ sym (ap (λ (u : OldTail). u.ino) second))
 
   -- it stands nowhere later, so it differs from each later one
   pub differs_later : (Any (λ t. t.ino ≡ (get_or tails i x).ino) later → ⊥) → (b : ℕ) (d : OldTail) → i < b → b < length tails
@@ -26,6 +26,6 @@ module _ (tails later : List OldTail) (i : ℕ) (x : OldTail) (in' : i < length 
       let k : ℕ = b - (i + 1) in
       let place : i + 1 + k ≡ b = omega arith in
       let at : get_or later k t ≡ t = ap (λ ts. get_or ts k t) later_is ∙ get_or-drop (i + 1) tails k t ∙ ap (λ n. get_or tails n t) place
-          ∙ get_or_default tails b t d inside in
+      ∙ get_or_default tails b t d inside in
       let first : get_or tails i d ≡ get_or tails i x = get_or_default tails i d x in' in
       never (k, t, omega (arith, ap length later_is, length-drop (i + 1) tails), at, sym same ∙ ap (λ (u : OldTail). u.ino) first)

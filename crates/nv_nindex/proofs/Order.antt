@@ -106,8 +106,12 @@ id_total = then_total (on_total (λ (id : EntryId). id.commit) nat_cmp_total) (o
 -- an id that stands before another is less
 id_less : (a b : EntryId) → IsIdBefore a b → is_lt (id_cmp a b) ≡ true
 id_less a b (inl before) = rw (lt-ltb a.commit b.commit before) refl
-id_less a b (inr (same, before)) = rw (le-ltb a.commit b.commit
-    (omega (arith, same)), eq-eqb a.commit b.commit same, lt-ltb a.place b.place before) refl
+id_less a b (inr (same, before)) = rw (
+  le-ltb a.commit b.commit
+      (omega (arith, same)),
+  eq-eqb a.commit b.commit same,
+  lt-ltb a.place b.place before,
+) refl
 
 abbrev Given : Type 0
 Given = Bor (List ℕ) × Binding
@@ -132,7 +136,7 @@ IsSortedById given = IsSortedBy (λ a b. is_lt (id_cmp a.1.entry b.1.entry)) giv
 sorted_in_order : (given : List Given) → IsSortedById given → AreInOrder (map lent given)
 sorted_in_order given sorted = in_order_from given (λ i j d le lt before.
     false≢true (sym (sorted_far (λ a b. is_lt (id_cmp a.1.entry b.1.entry))
-        (ranks_by id_total (λ (b : Given). b.1.entry)) given sorted i j d le lt) ∙ id_less _ _ before))
+    (ranks_by id_total (λ (b : Given). b.1.entry)) given sorted i j d le lt) ∙ id_less _ _ before))
 
 name_test : (name : List ℕ) → IsKeyTest same_name (same_name name)
 name_test name x y h = nat_list_eq_equiv.congr name x y h
@@ -142,9 +146,9 @@ pub listed : (names : List Bound) (given sorted : List Given) → AreDistinct na
     → IsSortedById sorted → IsListOf names (map lent sorted)
 listed names given sorted distinct all moved up =
     let moves : IsPermutation names (map lent sorted) =
-        subst (λ l. IsPermutation l (map lent sorted)) all (IsPermutation-map lent given sorted moved) in
+    subst (λ l. IsPermutation l (map lent sorted)) all (IsPermutation-map lent given sorted moved) in
     let distinct' : AreDistinct (map lent sorted) = distinct_permutation nat_list_eq_equiv (keys_of names) (keys_of (map lent sorted))
-        (IsPermutation-map (λ (b : Bound). b.0) names (map lent sorted) moves) distinct in
+    (IsPermutation-map (λ (b : Bound). b.0) names (map lent sorted) moves) distinct in
     record {
       same = λ name. lookup_permutation nat_list_eq_equiv names (map lent sorted) moves distinct' (same_name name) (name_test name);
       distinct = distinct';
@@ -156,8 +160,11 @@ listed names given sorted distinct all moved up =
 -- what is lawful wherever it is bound is lawful all along
 pub lawful_all : (names : List Bound) → ((name : List ℕ) → IsSome (binding_of name names) → IsTrue (is_lawful_name name)) → AreLawful names
 lawful_all [] h = tt
-lawful_all (b ∷ bs) h = (h b.0 (rw (same_itself b.0) refl), lawful_all bs
-    (λ name some. h name (later (same_name name b.0) name some))) where
+lawful_all (b ∷ bs) h = (
+  h b.0 (rw (same_itself b.0) refl),
+  lawful_all bs
+      (λ name some. h name (later (same_name name b.0) name some)),
+) where
   later : (t : Bool) (name : List ℕ) → IsSome (binding_of name bs) → IsSome (cond t (Some b.1) (binding_of name bs))
   later true name some = refl
   later false name some = some

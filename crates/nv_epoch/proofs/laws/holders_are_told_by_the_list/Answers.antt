@@ -6,9 +6,11 @@ use Rattle.nv_epoch.proofs.HolderLaws.{holds-from_is_held, holders-iff, youngest
 use Rattle.nv_epoch.proofs.laws.holders_are_told_by_the_list.Goals as goal
 
 pub returns-clause-holders : goal.returns-clause-holders
-returns-clause-holders c living birth death s =
-    (holders-iff living birth death s, λ both. filter_contains (holds birth death) living s both.0
-        (holds-from_is_held birth death s both.1))
+returns-clause-holders c living birth death s = (
+  holders-iff living birth death s,
+  λ both. filter_contains (holds birth death) living s both.0
+      (holds-from_is_held birth death s both.1),
+)
 
 pub returns-clause-youngest : goal.returns-clause-youngest
 returns-clause-youngest c living birth death s rising =

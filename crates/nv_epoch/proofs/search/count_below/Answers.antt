@@ -8,7 +8,7 @@ pub returns : goal.returns
 returns c =
     let parted = IsPartitionedBy-ltb (λ (s : Snapshot). s.number) _ c.args.bound (numbers_rise _ c.requires) in
     let point = IsPartitionPoint-from_clause
-        (λ (s : Snapshot). ltb s.number c.args.bound) _ _ c.partition_point.ensures.partitioned parted (λ a r q called. search rules) in
+    (λ (s : Snapshot). ltb s.number c.args.bound) _ _ c.partition_point.ensures.partitioned parted (λ a r q called. search rules) in
     let in_range = c.partition_point.ensures.bound in
     record {
       in_range = in_range;

@@ -15,11 +15,11 @@ returns-clause-absent c =
           let at = number-at c.args.living.now _ w.index-living-place.result w.if-place-living.true in
           pins_at-none c.args.living.now c.args.s (λ k in'.
           not_below (numbers c.args.living.now) c.args.s c.count_below-place.result c.requires below
-              (λ lt same. differs (sym at ∙ same)) k (omega (arith, in', length-numbers c.args.living.now)))
+          (λ lt same. differs (sym at ∙ same)) k (omega (arith, in', length-numbers c.args.living.now)))
       | else-place-living-via-else-place-living w ↦ pins_at-none c.args.living.now c.args.s (λ k in'.
           not_below (numbers c.args.living.now) c.args.s c.count_below-place.result c.requires below
-              (λ lt. absurd (omega (arith, lt, length-numbers c.args.living.now))) k
-              (omega (arith, in', length-numbers c.args.living.now)))
+          (λ lt. absurd (omega (arith, lt, length-numbers c.args.living.now))) k
+          (omega (arith, in', length-numbers c.args.living.now)))
     ]
 
 pub returns-then-eq-clause-pins : goal.returns-then-eq-clause-pins
@@ -37,4 +37,4 @@ pub returns-then-eq-clause-older : goal.returns-then-eq-clause-older
 returns-then-eq-clause-older c some =
     let e = c.count_below-place.ensures in
     next_older-last_below (numbers c.args.living.now) c.args.s c.count_below-place.result c.requires
-        (below_from c.args.living.now c.args.s c.count_below-place.result e.in_range e.older e.others) some
+    (below_from c.args.living.now c.args.s c.count_below-place.result e.in_range e.older e.others) some

@@ -7,7 +7,7 @@ pub returns-then-count-eq0 : goal.returns-then-count-eq0
 returns-then-count-eq0 c =
     let e = c.count_below-count.ensures in
     sym (next_older-none_below _ c.args.bound _
-        (below_from c.args.living.now c.args.bound _ e.in_range e.older e.others) c.if-count-eq0.true)
+    (below_from c.args.living.now c.args.bound _ e.in_range e.older e.others) c.if-count-eq0.true)
 
 pub returns : goal.returns
 returns c =

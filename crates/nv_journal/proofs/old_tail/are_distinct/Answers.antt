@@ -7,7 +7,7 @@ use Rattle.nv_journal.proofs.old_tail.are_distinct.Goals as goal
 pub returns-then-names_inode : goal.returns-then-names_inode
 returns-then-names_inode c =
     let twice = not_distinct c.args.tails.now _ c.loop-i.i c.index-tails-i.result c.loop-i-test.true
-        (take_rest c.args.tails.now (c.loop-i.i + 1)) (c.names_inode.ensures.0 c.if-names_inode.true) in
+    (take_rest c.args.tails.now (c.loop-i.i + 1)) (c.names_inode.ensures.0 c.if-names_inode.true) in
     (λ no. absurd (false≢true no), λ distinct. absurd (twice distinct))
 
 pub loop-i-preserved : goal.loop-i-preserved
@@ -17,7 +17,7 @@ loop-i-preserved c a b d lt between inside =
       | inr from ↦
           let here : c.loop-i.i ≡ a = omega arith in
           let differs = differs_later c.args.tails.now _ c.loop-i.i c.index-tails-i.result c.loop-i-test.true
-              (take_rest c.args.tails.now (c.loop-i.i + 1))
+          (take_rest c.args.tails.now (c.loop-i.i + 1))
           (λ later. false≢true (sym c.if-names_inode.false ∙ c.names_inode.ensures.1 later)) b d (omega (arith, here, between)) inside in
           subst (λ n. (get_or c.args.tails.now n d).ino ≢ (get_or c.args.tails.now b d).ino) here differs
     ]

@@ -5,6 +5,8 @@ use Rattle.nv_epoch.proofs.snap_list.SnapList.has.Goals as goal
 
 pub returns-clause-lives : goal.returns-clause-lives
 returns-clause-lives c =
-    let same = c.is_some.ensures ∙ ap is_some c.pins.ensures.value in
-    (λ yes. lives-from_pins c.args.self.now.living c.args.s (sym same ∙ yes), λ lives. same
-        ∙ pins_at-lives c.args.self.now.living c.args.s lives)
+    let same = c.is_some.ensures ∙ ap is_some c.pins.ensures.value in (
+      λ yes. lives-from_pins c.args.self.now.living c.args.s (sym same ∙ yes),
+      λ lives. same
+          ∙ pins_at-lives c.args.self.now.living c.args.s lives,
+    )

@@ -9,4 +9,4 @@ invariant_of-self c =
     let free : length c.self.inside.living.items < c.self.inside.most = omega (arith, room, c.if-room-eq0.false) in
     let early : c.self.inside.epoch < 2 ^ 62 = omega (arith, sound.epoch_fits, c.number.ensures, c.if-number-eq-NUMBER.false) in
     rw (c.push_reserved.ensures.items, c.next-self-inside.ensures, c.push_reserved.ensures.capacity)
-        (sound_made _ sound early free, c.self.invariant.1)
+    (sound_made _ sound early free, c.self.invariant.1)

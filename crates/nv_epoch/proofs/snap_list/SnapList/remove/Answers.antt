@@ -10,7 +10,7 @@ invariant_of-self c =
     let sound = c.self.invariant.0 in
     let place = rw c.deref.ensures.value at c.in-Some.ensures in
     let left = c.remove-removed.ensures.items
-        ∙ removal-place c.self.inside.living.items c.args.s c.in-Some.place sound.rising place.in_range place.found in
+    ∙ removal-place c.self.inside.living.items c.args.s c.in-Some.place sound.rising place.in_range place.found in
     rw (left, c.remove-removed.ensures.capacity) (sound_removed _ c.args.s sound, c.self.invariant.1)
 
 pub returns-clause-ok : goal.returns-clause-ok
@@ -18,7 +18,7 @@ returns-clause-ok c =
     let sound = c.self.invariant.0 in
     let place = rw c.deref.ensures.value at c.in-Some.ensures in
     let left = c.remove-removed.ensures.items
-        ∙ removal-place c.self.inside.living.items c.args.s c.in-Some.place sound.rising place.in_range place.found in
+    ∙ removal-place c.self.inside.living.items c.args.s c.in-Some.place sound.rising place.in_range place.found in
     let list : List Snapshot → Snapshots = λ living. record { living = living; epoch = c.self.inside.epoch; most = c.self.inside.most } in
     rw (← c.self.view_is) (ap list left)
 
@@ -27,5 +27,5 @@ returns-clause-numbers c =
     let sound = c.self.invariant.0 in
     let place = rw c.deref.ensures.value at c.in-Some.ensures in
     let left = c.remove-removed.ensures.items
-        ∙ removal-place c.self.inside.living.items c.args.s c.in-Some.place sound.rising place.in_range place.found in
+    ∙ removal-place c.self.inside.living.items c.args.s c.in-Some.place sound.rising place.in_range place.found in
     rw (← c.self.view_is) (ap numbers left ∙ numbers-removal c.self.inside.living.items c.args.s)
