@@ -12,10 +12,9 @@ impl World {
     /// One event. A `Go` makes the actor's whole call.
     ///
     /// The reply is the plain world's answer, or its refusal, and the world then stands for the plain world
-    /// after it. A refused event changes nothing but that the actor goes idle. Want of memory refuses a call
-    /// that the plain world does not refuse, or refuses for its commit number alone. An answered write takes
-    /// one data block for each page that its text touches, an answered create one inode slot, and no other
-    /// call takes any.
+    /// after it. A refused event changes nothing but that the actor goes idle. Want of memory refuses only
+    /// a call that the plain world does not refuse. An answered write takes one data block for each page that
+    /// its text touches, an answered create one inode slot, and no other call takes any.
     pub fn step(&mut self, event: Event) -> Reply
         ensures { IsStep self.old event result self.new }
     {

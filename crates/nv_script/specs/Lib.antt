@@ -4,3 +4,4 @@ pub mod Play
 pub mod Results
 pub mod Texts
 pub mod Words
+pub mod Outcomes

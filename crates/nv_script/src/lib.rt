@@ -12,10 +12,12 @@ pub mod feed;
 mod field;
 mod format;
 mod outbox;
+mod outcome;
 mod script;
 mod send;
 mod text;
 pub mod word;
 
+pub use outcome::{Outcome, exit_code, fault_line};
 pub use script::play;
 pub use text::fault_text;

@@ -1,35 +1,21 @@
 //! The program `novacore`: plays scripts on a file system that is kept in memory.
 #![tactic(auto)]
 
-ghost use Rattle.std.specs.Prelude.{◌≡◌, ◌≢◌, ◌⊎◌, ◌++◌, IfOk, codes, string_bytes};
+ghost use Rattle.std.specs.Prelude.{◌≡◌, ◌≢◌, ◌⊎◌};
 ghost use Rattle.clap.specs.Words.{kind_of};
-ghost use Rattle.nv_base.specs.Texts.{fault_text};
-ghost use Rattle.nv_script.specs.Texts.{line_of};
 
 mod command_line;
-mod outcome;
 #[cfg(test)]
 mod tests;
 
 use clap::error::ErrorKind;
 use command_line::Task;
 use nv_base::Fault;
-use nv_script::{fault_text, play};
-use outcome::{Outcome, exit_code};
-use std::alloc::{AllocError, Global};
+use nv_script::{Outcome, exit_code, fault_line, play};
 use std::env::Env;
 use std::process::ExitCode;
 use std::rt::Files;
 use std::{env, fs, io};
-
-/// The line that tells of a fault.
-fn fault_line(alloc: Global, fault: &Fault) -> Result<String, AllocError>
-    ensures { IfOk result (λ line. string_bytes line
-        ≡ line_of (codes "novacore: " ++ fault_text fault.now)) }
-{
-    let text = fault_text(alloc, fault)?;
-    format!(in alloc; "novacore: {text}\n")
-}
 
 /// Tells of a fault on standard error. If no text can be written, the exit status alone tells of it.
 fn tell<R: AllocGlobal + Eprint>(rt: &R, fault: &Fault) {

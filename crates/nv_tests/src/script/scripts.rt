@@ -2,8 +2,8 @@
 
 use super::pieces::Pieces;
 use super::rows::{FAULTS, FORMAT, SCRIPTS};
-use nv_base::Fault;
-use nv_script::{fault_text, play};
+use nv_base::{Fault, ScriptFaultKind};
+use nv_script::{fault_line, fault_text, play};
 use std::alloc::{AllocError, Global};
 use std::cell::Cell;
 use std::io;
@@ -215,6 +215,21 @@ fn faults_have_their_texts(rt: HostRuntime) -> Result<(), Fail> {
     for (fault, want) in FAULTS {
         let text = fault_text(rt.alloc(), &fault)?;
         assert!(rt; text.as_str() == want, "{want}");
+    }
+    Ok(())
+}
+
+#[test]
+fn a_fault_is_told_in_one_line(rt: HostRuntime) -> Result<(), Fail> {
+    for (fault, want) in [
+        (Fault::Read, "novacore: E28 Read\n"),
+        (
+            Fault::ScriptFault(2, ScriptFaultKind::Word),
+            "novacore: E27 ScriptFault(2, word)\n",
+        ),
+    ] {
+        let line = fault_line(rt.alloc(), &fault)?;
+        assert!(rt; line.as_str() == want, "{want}");
     }
     Ok(())
 }

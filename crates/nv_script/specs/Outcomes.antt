@@ -1,7 +1,7 @@
 -- How the program ends.
 use Rattle.std.specs.Prelude.{ℕ}
-use Rattle.nv_tool.specs.declared.outcome.Outcome.{Outcome}
-use Rattle.nv_tool.specs.declared.outcome.Outcome.TheVariants.{Played, Shown, Refused, Failed}
+use Rattle.nv_script.specs.declared.outcome.Outcome.{Outcome}
+use Rattle.nv_script.specs.declared.outcome.Outcome.TheVariants.{Played, Shown, Refused, Failed}
 
 -- the exit status
 abbrev pub status_of : Outcome → ℕ
