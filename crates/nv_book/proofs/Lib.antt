@@ -1,0 +1,6 @@
+pub mod Ends
+pub mod Filing
+pub mod Noting
+pub mod Places
+pub mod Series
+pub mod SortedOut

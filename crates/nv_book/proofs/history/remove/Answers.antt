@@ -1,0 +1,7 @@
+use Rattle.std.proofs.Common.{rules, ◌≡◌, refl, ap, sym, ◌∙◌, not, ◌==◌}
+use Rattle.std.proofs.lemmas.List.Elements.{filter_from_retain}
+use Rattle.std.proofs.lemmas.Fn.{filter_same}
+use Rattle.nv_book.proofs.history.remove.Goals as goal
+
+pub returns-clause-items : goal.returns-clause-items
+returns-clause-items c = filter_same _ (λ t. not (t == c.args.s)) _ (λ x b f' h. search rules) _ _ c.retain.ensures.filtered

@@ -1,0 +1,5 @@
+pub mod Records
+pub mod Runs
+pub mod Manifests
+pub mod History
+pub mod Base
