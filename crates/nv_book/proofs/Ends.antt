@@ -1,5 +1,5 @@
 -- The last run of a list.
-use Rattle.std.proofs.Common.{◌≡◌, ℕ, zero, suc, ◌+◌, ◌-◌, ◌<◌, ◌≤◌, Bool, true, false, cond, List, [], ◌∷◌, ◌++◌, length, get_or, set, take, drop, arith, refl, ap, sym, ◌∙◌, subst}
+use Rattle.std.proofs.Common.{◌≡◌, ℕ, zero, suc, ◌-◌, ◌<◌, true, false, List, [], ◌∷◌, ◌++◌, length, get_or, set, take, drop, arith, refl, ap, sym, subst}
 use Rattle.nv_book.specs.declared.run.Run.{Run}
 use Rattle.nv_book.specs.Runs.{IsRun, AreRuns, put, joins, joined, joins_last}
 

@@ -1,12 +1,12 @@
 -- How manifests are kept.
-use Rattle.std.proofs.Common.{◌≡◌, ◌≢◌, ℕ, ◌+◌, ◌<◌, ◌≤◌, ◌==◌, Bool, true, false, not, cond, nat_le, List, [], ◌∷◌, ◌++◌, map, filter, length, Option, Some, None, arith, refl, ap, sym, ◌∙◌, subst}
+use Rattle.std.proofs.Common.{◌≡◌, ◌≢◌, ℕ, ◌+◌, ◌≤◌, ◌==◌, Bool, true, false, not, cond, nat_le, List, [], ◌∷◌, ◌++◌, filter, Option, Some, None, arith, refl, ap, sym, ◌∙◌, subst}
 use Rattle.std.specs.List.{AllByRecursion}
 use Rattle.std.proofs.lemmas.Bool.{eqb-true, eqb-false}
 use Rattle.nv_book.specs.declared.record.Record.{Record}
-use Rattle.nv_book.specs.Records.{is_born_by, holder_of}
-use Rattle.nv_epoch.specs.Holders.{IsRising, youngest_holder, next_older, if_born_by, without}
+use Rattle.nv_book.specs.Records.{is_born_by, holder_of, moved_down, let_go}
+use Rattle.nv_epoch.specs.Holders.{youngest_holder, next_older, if_born_by, without}
 use Rattle.nv_book.specs.declared.manifest.Manifest.{Manifest}
-use Rattle.nv_book.specs.Manifests.{snapshots, IsFiled, AreFiled, AreDead, records_at, longer, put_to, manifests_without, moved_down, let_go, after_drop, after_make}
+use Rattle.nv_book.specs.Manifests.{snapshots, IsFiled, AreFiled, AreDead, records_at, put_to, manifests_without, after_drop, after_make}
 
 all-append : {X : Type 0} (P : X → Type 0) (xs ys : List X) → AllByRecursion P xs → AllByRecursion P ys → AllByRecursion P (xs ++ ys)
 all-append P [] ys h k = k
@@ -147,3 +147,18 @@ dead-dropped epoch s older ms ds h = record {
   others = all-append (λ (r : Record). r.death ≤ epoch) ds (let_go older (records_at s ms)) h.others
       (all-filter (λ (r : Record). r.death ≤ epoch) (λ (r : Record). r.death ≤ epoch) (λ r. not (is_born_by older r)) (λ r k e. k) (records_at s ms) (records-all (λ (r : Record). r.death ≤ epoch) s ms h.filed));
 }
+
+pub dead-retired : (epoch : ℕ) (s : Option ℕ) (r : Record) (ms : List Manifest) (ds : List Record) → AreDead epoch ms ds → r.death ≤ epoch → AreDead epoch (put_to s (r ∷ []) ms) ds
+dead-retired epoch s r ms ds h d = record {
+  filed = put-all (λ (r : Record). r.death ≤ epoch) s (r ∷ []) ms h.filed (d, tt);
+  others = h.others;
+}
+
+pub dead-made : (epoch : ℕ) (ms : List Manifest) (ds : List Record) → AreDead epoch ms ds → AreDead (epoch + 1) (after_make epoch ms) ds
+dead-made epoch ms ds h = record {
+  filed = all-append (λ (m : Manifest). AllByRecursion (λ (r : Record). r.death ≤ epoch + 1) m.records) ms ((record { snapshot = epoch; records = [] }) ∷ [])
+      (all-change (λ (m : Manifest). AllByRecursion (λ (r : Record). r.death ≤ epoch) m.records) (λ (m : Manifest). AllByRecursion (λ (r : Record). r.death ≤ epoch + 1) m.records) (λ m k. later m.records k) ms h.filed) (tt, tt);
+  others = later ds h.others;
+} where
+  later : (rs : List Record) → AllByRecursion (λ (r : Record). r.death ≤ epoch) rs → AllByRecursion (λ (r : Record). r.death ≤ epoch + 1) rs
+  later rs k = all-change (λ (r : Record). r.death ≤ epoch) (λ (r : Record). r.death ≤ epoch + 1) (λ r le. omega (arith, le)) rs k

@@ -1,3 +1,5 @@
+pub mod Books
+pub mod Counts
 pub mod Ends
 pub mod Filing
 pub mod Noting

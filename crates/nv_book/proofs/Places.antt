@@ -1,26 +1,28 @@
 -- Manifests by their places.
-use Rattle.std.proofs.Common.{◌≡◌, ◌≢◌, ℕ, zero, suc, ◌+◌, ◌-◌, ◌<◌, ◌≤◌, ◌==◌, Bool, true, false, not, cond, List, [], ◌∷◌, ◌++◌, length, get_or, set, map, filter, Option, Some, None, arith, refl, ap, sym, ◌∙◌, subst}
+use Rattle.std.proofs.Common.{◌≡◌, ℕ, zero, suc, ◌+◌, ◌-◌, ◌<◌, ◌≤◌, List, [], ◌∷◌, ◌++◌, length, get_or, set, Option, Some, None, arith, refl, ap, sym, ◌∙◌, subst}
 use Rattle.std.specs.List.{All, remove}
 use Rattle.std.proofs.lemmas.Bool.{eq-eqb, ne_eqb}
 use Rattle.std.proofs.lemmas.List.{length-map}
+use Rattle.std.proofs.lemmas.List.Sums.{get_or-le-sum_by, sum_by-set, sum_by-remove}
 use Rattle.nv_book.specs.declared.record.Record.{Record}
 use Rattle.nv_epoch.specs.Holders.{IsRising, without}
 use Rattle.nv_book.specs.declared.manifest.Manifest.{Manifest}
-use Rattle.nv_book.specs.Manifests.{snapshots, records_at, put_to, manifests_without, moved_down, after_drop, total}
+use Rattle.nv_book.specs.Records.{moved_down}
+use Rattle.nv_book.specs.Manifests.{snapshots, records_at, put_to, manifests_without, after_drop, total}
 use Rattle.nv_book.proofs.Filing.{snapshots-without}
 
 in-snapshots : (ms : List Manifest) (k : ℕ) → k < length ms → k < length (snapshots ms)
 in-snapshots ms k h = omega (arith, h, length-map ms (λ (m : Manifest). m.snapshot))
 
 pub total-at : (f : List Record → ℕ) (ms : List Manifest) (k : ℕ) (m : Manifest) → k < length ms → m ≡ get_or ms k m → f m.records ≤ total f ms
-total-at f [] k m h e = absurd (omega (arith, h))
-total-at f (n ∷ ms) zero m h e = let q : f m.records ≡ f n.records = ap (λ (u : Manifest). f u.records) e in omega (arith, q)
-total-at f (n ∷ ms) (suc k) m h e = let q = total-at f ms k m (omega (arith, h)) e in omega (arith, q)
+total-at f ms k m h e =
+    let q : f m.records ≡ f (get_or ms k m).records = ap (λ (u : Manifest). f u.records) e in
+    omega (arith, q, get_or-le-sum_by (λ (u : Manifest). f u.records) ms k m h)
 
 pub total-set : (f : List Record → ℕ) (ms : List Manifest) (k : ℕ) (m : Manifest) (rs : List Record) → k < length ms → m ≡ get_or ms k m → total f (set ms k (record m { records = rs })) + f m.records ≡ total f ms + f rs
-total-set f [] k m rs h e = absurd (omega (arith, h))
-total-set f (n ∷ ms) zero m rs h e = let q : f m.records ≡ f n.records = ap (λ (u : Manifest). f u.records) e in omega (arith, q)
-total-set f (n ∷ ms) (suc k) m rs h e = let q = total-set f ms k m rs (omega (arith, h)) e in omega (arith, q)
+total-set f ms k m rs h e =
+    let q : f m.records ≡ f (get_or ms k m).records = ap (λ (u : Manifest). f u.records) e in
+    omega (arith, q, sum_by-set (λ (u : Manifest). f u.records) ms k (record m { records = rs }) m h)
 
 put-other : (s : ℕ) (rs : List Record) (ms : List Manifest) → All (λ t. s < t) (snapshots ms) → put_to (Some s) rs ms ≡ ms
 put-other s rs [] above = refl
@@ -73,9 +75,9 @@ length-removed (m ∷ ms) zero h = omega arith
 length-removed (m ∷ ms) (suc k) h = let f = length-removed ms k (omega (arith, h)) in omega (arith, f)
 
 pub total-removed : (f : List Record → ℕ) (ms : List Manifest) (k : ℕ) (m : Manifest) → k < length ms → m ≡ get_or ms k m → total f (remove ms k) + f m.records ≡ total f ms
-total-removed f [] k m h e = absurd (omega (arith, h))
-total-removed f (n ∷ ms) zero m h e = let q : f m.records ≡ f n.records = ap (λ (u : Manifest). f u.records) e in omega (arith, q)
-total-removed f (n ∷ ms) (suc k) m h e = let q = total-removed f ms k m (omega (arith, h)) e in omega (arith, q)
+total-removed f ms k m h e =
+    let q : f m.records ≡ f (get_or ms k m).records = ap (λ (u : Manifest). f u.records) e in
+    omega (arith, q, sum_by-remove (λ (u : Manifest). f u.records) ms k m h)
 
 -- the manifest of s stands at k, and is not the first
 module _ (ms : List Manifest) (k s : ℕ) (rising : IsRising (snapshots ms)) (left : IsRising (without s (snapshots ms))) (h : k < length ms) (at : get_or (snapshots ms) k 0 ≡ s) (pos : 0 < k) where
@@ -95,3 +97,11 @@ module _ (ms : List Manifest) (k s : ℕ) (rising : IsRising (snapshots ms)) (le
       (put-place (remove ms k) (k - 1) t (moved_down (Some t) g.records) next rest-rising rest-in rest-at en
       ∙ (ap (put_to (Some t) (moved_down (Some t) g.records)) (remove-place ms k s rising h at)
       ∙ ap (λ rs. put_to (Some t) (moved_down (Some t) rs) (manifests_without s ms)) (sym (records-place ms k s g rising h at eg))))
+
+  -- the two manifests among the others, and what more records in the one before make of a sum once the other is gone
+  module _ (f : List Record → ℕ) (g next : Manifest) (eg : g ≡ get_or ms k g) (en : next ≡ get_or (remove ms k) (k - 1) next) where
+    pub total-both : f g.records + f next.records ≤ total f ms
+    total-both = omega (arith, total-removed f ms k g h eg, total-at f (remove ms k) (k - 1) next rest-in en)
+
+    pub total-dropped : (rs : List Record) → total f (set (remove ms k) (k - 1) (record next { records = rs })) + f next.records + f g.records ≡ total f ms + f rs
+    total-dropped rs = omega (arith, total-removed f ms k g h eg, total-set f (remove ms k) (k - 1) next rs rest-in en)

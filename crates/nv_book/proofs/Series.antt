@@ -1,5 +1,5 @@
 -- The records that runs stand for.
-use Rattle.std.proofs.Common.{◌≡◌, ℕ, zero, suc, ◌+◌, ◌-◌, ◌<◌, ◌≤◌, ◌^◌, ◌==◌, ◌&&◌, Bool, true, false, cond, List, [], ◌∷◌, ◌++◌, length, get_or, set, drop, filter, not, Option, Some, None, arith, refl, ap, sym, ◌∙◌, subst, append_assoc}
+use Rattle.std.proofs.Common.{◌≡◌, ℕ, zero, suc, ◌+◌, ◌-◌, ◌<◌, ◌≤◌, ◌==◌, ◌&&◌, Bool, true, false, cond, List, [], ◌∷◌, ◌++◌, length, get_or, set, drop, filter, not, Option, Some, None, arith, refl, ap, sym, ◌∙◌, subst, append_assoc}
 use Rattle.std.proofs.lemmas.List.{append-nil}
 use Rattle.std.proofs.lemmas.Bool.{eqb-true, eq-eqb}
 use Rattle.nv_base.specs.declared.numbers.EntryId.{EntryId}
@@ -8,7 +8,7 @@ use Rattle.nv_entry.specs.declared.part.Part.TheVariants.{Kind, Mode, Size, Boun
 use Rattle.nv_book.specs.declared.record.Record.{Record}
 use Rattle.nv_book.specs.declared.run.Run.{Run}
 use Rattle.nv_book.specs.Records.{goes_on, goes_on_in, is_next_page, is_same_entry, run_count_of, is_born_by}
-use Rattle.nv_book.specs.Runs.{IsRun, AreRuns, PageRun, put, joins, joins_in, joined, joins_last, part_on, record_on, series, records_of, run_records, last_of, rest_of}
+use Rattle.nv_book.specs.Runs.{IsRun, AreRuns, PageRun, put, joins, joins_in, joined, part_on, record_on, series, records_of, run_records, last_of, rest_of}
 
 and-left : (a b : Bool) → (a && b) ≡ true → a ≡ true
 and-left true b h = refl

@@ -1,5 +1,6 @@
 -- What happened: commits, makings and drops of snapshots, after a base.
-use Rattle.std.specs.Prelude.{◌≡◌, ℕ, ◌+◌, ◌<◌, ◌≤◌, ◌^◌, nat_lt, if◌then◌else◌, List, [], ◌∷◌, ◌++◌, length, Contains}
+use Rattle.std.specs.Prelude.{◌≡◌, ℕ, ◌+◌, ◌<◌, nat_lt, if◌then◌else◌, List, [], ◌∷◌, ◌++◌, length, Contains}
+use Rattle.nv_base.specs.declared.limits.TheConstants.{NUMBER}
 use Rattle.nv_book.specs.declared.event.Event.{Event}
 use Rattle.nv_book.specs.declared.event.Event.TheVariants.{Committed, Made, Dropped}
 use Rattle.nv_epoch.specs.Holders.{without}
@@ -10,11 +11,11 @@ pub record State : Type 0 where
   pub commit : ℕ
   pub living : List ℕ
 
--- the event may come next: a commit has the next number and this epoch, a making closes this epoch where there is
--- room for a snapshot, and a drop is of a living snapshot
+-- the event may come next: a commit has the next number and this epoch; a making closes this epoch, within the limit of
+-- epochs and of living snapshots; a drop is of a living snapshot
 abbrev pub IsNext : ℕ → State → Event → Type 0
 IsNext most now (Committed seat number epoch) = (number ≡ now.commit + 1) × (epoch ≡ now.epoch)
-IsNext most now (Made s) = (s ≡ now.epoch) × (s < 2 ^ 62) × (length now.living < most)
+IsNext most now (Made s) = (s ≡ now.epoch) × (s < NUMBER) × (length now.living < most)
 IsNext most now (Dropped s) = Contains now.living s
 
 abbrev pub after : State → Event → State
@@ -22,11 +23,12 @@ after now (Committed seat number epoch) = record now { commit = number }
 after now (Made s) = record now { epoch = s + 1; living = now.living ++ s ∷ [] }
 after now (Dropped s) = record now { living = without s now.living }
 
--- each event may come after those before it
+-- a legal history: each event may come after those before it
 unfoldable pub IsLegal : ℕ → State → List Event → Type 0
 IsLegal most base [] = Unit {0}
 IsLegal most base (e ∷ es) = IsNext most base e × IsLegal most (after base e) es
 
+-- what the events lead to
 unfoldable pub replay : State → List Event → State
 replay base [] = base
 replay base (e ∷ es) = replay (after base e) es

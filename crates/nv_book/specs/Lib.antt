@@ -1,5 +1,7 @@
 pub mod Records
 pub mod Runs
 pub mod Manifests
+pub mod Store
 pub mod History
 pub mod Base
+pub mod Book

@@ -1,8 +1,8 @@
 -- The manifests of the living snapshots, and the deferred list.
-use Rattle.std.specs.Prelude.{◌≡◌, ℕ, ◌+◌, ◌≤◌, ◌==◌, not, if◌then◌else◌, List, [], ◌∷◌, ◌++◌, map, filter, length, Option, Some, None}
+use Rattle.std.specs.Prelude.{◌≡◌, ℕ, ◌≤◌, ◌==◌, not, if◌then◌else◌, List, [], ◌∷◌, ◌++◌, map, filter, length, sum_by, Option, Some, None}
 use Rattle.std.specs.List.{AllByRecursion}
 use Rattle.nv_book.specs.declared.record.Record.{Record}
-use Rattle.nv_book.specs.Records.{is_born_by, is_held_by, holder_of, block_count, run_count_of}
+use Rattle.nv_book.specs.Records.{is_held_by, holder_of, moved_down, let_go, block_count, run_count_of}
 use Rattle.nv_book.specs.declared.manifest.Manifest.{Manifest}
 
 abbrev pub snapshots : List Manifest → List ℕ
@@ -38,14 +38,6 @@ put_to s rs manifests = map (longer s rs) manifests
 abbrev pub manifests_without : ℕ → List Manifest → List Manifest
 manifests_without s manifests = filter (λ (m : Manifest). not (m.snapshot == s)) manifests
 
--- of the records of a dropped snapshot, those that the next older one holds, which move down to it, and the others,
--- which are let go
-abbrev pub moved_down : Option ℕ → List Record → List Record
-moved_down older rs = filter (λ r. is_born_by older r) rs
-
-abbrev pub let_go : Option ℕ → List Record → List Record
-let_go older rs = filter (λ r. not (is_born_by older r)) rs
-
 abbrev pub after_drop : ℕ → Option ℕ → List Manifest → List Manifest
 after_drop s older manifests = put_to older (moved_down older (records_at s manifests)) (manifests_without s manifests)
 
@@ -58,8 +50,7 @@ gain_of s older manifests = block_count (let_go older (records_at s manifests))
 
 -- the sum of what f says of each manifest's records
 abbrev pub total : (List Record → ℕ) → List Manifest → ℕ
-total f [] = 0
-total f (m ∷ ms) = f m.records + total f ms
+total f manifests = sum_by (λ (m : Manifest). f m.records) manifests
 
 -- how many runs the manifests are stored as
 abbrev pub runs_of : List Manifest → ℕ

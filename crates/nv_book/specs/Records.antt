@@ -1,5 +1,5 @@
 -- Records of killed parts: what holds them, and the runs that they make one after another.
-use Rattle.std.specs.Prelude.{ℕ, ◌+◌, ◌==◌, ◌&&◌, Bool, true, false, if◌then◌else◌, List, [], ◌∷◌, length, filter, Option, Some, None, nat_le}
+use Rattle.std.specs.Prelude.{ℕ, ◌+◌, ◌==◌, ◌&&◌, Bool, true, false, not, if◌then◌else◌, List, [], ◌∷◌, filter, count_by, Option, Some, None, nat_le}
 use Rattle.nv_epoch.specs.Holders.{holds, youngest_holder}
 use Rattle.nv_base.specs.declared.numbers.EntryId.{EntryId}
 use Rattle.nv_entry.specs.declared.part.Part.{Part}
@@ -39,6 +39,14 @@ abbrev pub is_born_by : Option ℕ → Record → Bool
 is_born_by None r = false
 is_born_by (Some s) r = nat_le r.birth s
 
+-- of the records of a dropped snapshot, those that the next older one holds, which move down to it, and the others,
+-- which are let go
+abbrev pub moved_down : Option ℕ → List Record → List Record
+moved_down older rs = filter (λ r. is_born_by older r) rs
+
+abbrev pub let_go : Option ℕ → List Record → List Record
+let_go older rs = filter (λ r. not (is_born_by older r)) rs
+
 -- the snapshot s holds the record's part
 abbrev pub is_held_by : ℕ → Record → Bool
 is_held_by s r = holds r.birth r.death s
@@ -56,4 +64,4 @@ is_page Bound = false
 
 -- how many blocks the records have: one each page
 abbrev pub block_count : List Record → ℕ
-block_count rs = length (filter (λ (r : Record). is_page r.part) rs)
+block_count rs = count_by (λ (r : Record). is_page r.part) rs

@@ -1,10 +1,10 @@
 -- Stored runs, and the records that they stand for.
-use Rattle.std.specs.Prelude.{◌≡◌, ℕ, zero, suc, ◌+◌, ◌-◌, ◌<◌, ◌^◌, Bool, true, false, if◌then◌else◌, List, [], ◌∷◌, ◌++◌}
+use Rattle.std.specs.Prelude.{◌≡◌, ℕ, zero, suc, ◌+◌, ◌-◌, ◌<◌, ◌^◌, Bool, false, if◌then◌else◌, List, [], ◌∷◌, ◌++◌}
 use Rattle.nv_entry.specs.declared.part.Part.{Part}
 use Rattle.nv_entry.specs.declared.part.Part.TheVariants.{Kind, Mode, Size, Bound, Page}
 use Rattle.nv_book.specs.declared.record.Record.{Record}
 use Rattle.nv_book.specs.declared.run.Run.{Run}
-use Rattle.nv_book.specs.Records.{goes_on, goes_on_in}
+use Rattle.nv_book.specs.Records.{goes_on, is_page}
 
 -- the part so many pages on
 abbrev pub part_on : ℕ → Part → Part
@@ -74,3 +74,7 @@ joins_last (r ∷ q ∷ rs) s = joins_last (q ∷ rs) s
 -- a run without its first record
 abbrev pub rest_of : Run → Run
 rest_of r = record { first = record_on 1 r.first; more = r.more - 1 }
+
+-- how many blocks a run has
+abbrev pub pages_of : Run → ℕ
+pages_of r = if is_page r.first.part then r.more + 1 else 0

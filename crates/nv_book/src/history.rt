@@ -1,6 +1,6 @@
 //! The latest events, and what came before them in sum.
 
-ghost use Rattle.std.specs.Prelude.{◌≡◌, ◌+◌, ◌<◌, ◌≤◌, ◌^◌, [], ◌∷◌, length, vec_capacity, vec_len, IfOk, IfErr};
+ghost use Rattle.std.specs.Prelude.{◌≡◌, ◌+◌, ◌<◌, ◌≤◌, ◌^◌, [], ◌∷◌, length, slice_get, vec_capacity, vec_len, IfOk, IfErr, IsTrue, ◌↔◌};
 ghost use Rattle.nv_book.specs.History.{State, Account, IsNext, IsLegal, after, now_of, noted};
 ghost use Rattle.nv_epoch.specs.Holders.{without};
 ghost use Rattle.nv_book.specs.Base.{state_of};
@@ -11,10 +11,11 @@ use nv_base::{CommitNo, Epoch, Fault};
 use std::alloc::Global;
 use std::marker::Model;
 
-/// How many events are kept one by one.
+/// How many events a history keeps one by one.
 pub const KEPT: usize = 256;
 
-/// The epoch, the last commit and the living snapshots before the events that are kept.
+/// What the events before those that are kept led to: the epoch, the number of the last commit, and the living
+/// snapshots, oldest first.
 #[derive(Drop)]
 pub struct Base {
     pub epoch: Epoch,
@@ -22,7 +23,7 @@ pub struct Base {
     pub living: Vec<Epoch>,
 }
 
-/// The latest events, after a base.
+/// What happened to a book since format: the latest events one by one, after a base that stands for those before.
 #[derive(Drop)]
 pub struct History {
     base: Base,
@@ -33,12 +34,13 @@ pub struct History {
 impl Model for History {
     ghost use Rattle.nv_book.specs.History.{Account};
     ghost use Rattle.nv_book.specs.Base.{state_of, IsHistory};
+    ghost use Rattle.nv_book.specs.declared.history.TheConstants.{KEPT};
 
     ghost Value = { Account };
 
     ghost view = { λ h. record { base = state_of h.base; latest = h.latest.items; most = h.most } };
 
-    ghost invariant = { λ h. IsHistory 256 h.base h.latest h.most };
+    ghost invariant = { λ h. IsHistory KEPT h.base h.latest h.most };
 }
 
 /// Removes a snapshot.
@@ -84,10 +86,10 @@ impl History {
         })
     }
 
-    /// Notes an event. The oldest goes into the base where 256 stand after it.
+    /// Notes an event. Where [`KEPT`] stand after the base already, the oldest of them goes into it.
     pub fn note(&mut self, event: Event)
         requires { IsNext self.old.most (now_of self.old) event }
-        ensures account { self.new ≡ noted 256 self.old event }
+        ensures account { self.new ≡ noted KEPT self.old event }
         ensures now { now_of self.new ≡ after (now_of self.old) event }
         ensures legal { IsLegal self.new.most self.new.base self.new.latest }
     {
@@ -95,5 +97,35 @@ impl History {
             None => {}
             Some(oldest) => take(&mut self.base, oldest),
         }
+    }
+
+    /// What the events before the latest led to.
+    pub fn base(&self) -> &Base
+        ensures { state_of result.now ≡ self.now.base }
+    {
+        &self.base
+    }
+
+    /// How many events stand after the base.
+    pub fn len(&self) -> usize
+        ensures value { result ≡ length self.now.latest }
+        ensures fits { result ≤ KEPT }
+        ensures legal { IsLegal self.now.most self.now.base self.now.latest }
+    {
+        self.latest.len()
+    }
+
+    /// Whether no event stands after the base.
+    pub fn is_empty(&self) -> bool
+        ensures { IsTrue result ↔ (self.now.latest ≡ []) }
+    {
+        self.len() == 0
+    }
+
+    /// The event at this place after the base, the oldest at 0.
+    pub fn event(&self, place: usize) -> Option<Event>
+        ensures { result ≡ slice_get self.now.latest place }
+    {
+        self.latest.get(place).copied()
     }
 }

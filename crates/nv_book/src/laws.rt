@@ -7,8 +7,8 @@ ghost use Rattle.std.specs.Prelude.{◌≡◌, ℕ, ◌+◌, List, [], ◌∷◌
 ghost use Rattle.nv_epoch.specs.Holders.{IsRising, next_older, without};
 ghost use Rattle.nv_book.specs.declared.manifest.Manifest.{Manifest};
 ghost use Rattle.nv_book.specs.declared.record.Record.{Record};
-ghost use Rattle.nv_book.specs.Records.{block_count, holder_of};
-ghost use Rattle.nv_book.specs.Manifests.{AreFiled, AreDead, put_to, records_at, after_drop, after_make, let_go, gain_of};
+ghost use Rattle.nv_book.specs.Records.{block_count, holder_of, let_go};
+ghost use Rattle.nv_book.specs.Manifests.{AreFiled, AreDead, put_to, records_at, after_drop, after_make, gain_of};
 
 use nv_epoch::laws;
 

@@ -5,17 +5,23 @@
 //! or to the deferred list, from which they are picked for release.
 #![tactic(auto)]
 
+mod book;
 mod event;
 mod history;
 pub mod laws;
 mod manifest;
 mod record;
 mod record_list;
+mod record_store;
+mod retired;
 mod run;
 mod runs;
 mod spare_nodes;
 
+pub use book::Book;
 pub use event::Event;
 pub use history::{Base, History, KEPT};
 pub use manifest::Manifest;
 pub use record::Record;
+pub use record_list::RecordList;
+pub use retired::Retired;

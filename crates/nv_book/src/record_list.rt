@@ -1,8 +1,8 @@
 //! A list of records, kept as runs.
 
-ghost use Rattle.std.specs.Prelude.{◌≡◌, ◌+◌, ◌<◌, ◌≤◌, ◌^◌, [], ◌∷◌, ◌++◌, filter, not};
-ghost use Rattle.std.specs.Option.{option_to_list};
-ghost use Rattle.nv_book.specs.Records.{is_born_by, run_count_of};
+ghost use Rattle.std.specs.Prelude.{◌≡◌, ◌+◌, ◌<◌, ◌≤◌, ◌^◌, [], ◌∷◌, ◌++◌, drop, filter, length, slice_get};
+ghost use Rattle.nv_book.specs.Records.{let_go, moved_down};
+ghost use Rattle.nv_book.specs.Records.{block_count, is_held_by, run_count_of};
 
 use crate::run::Run;
 use crate::spare_nodes::SpareNodes;
@@ -64,18 +64,35 @@ impl RecordList {
 
     /// Takes the first record out, in constant time.
     pub fn pick(&mut self) -> Option<Record>
-        ensures records { self.old ≡ option_to_list result ++ self.new }
+        ensures first { result ≡ slice_get self.old 0 }
+        ensures rest { self.new ≡ drop 1 self.old }
         ensures runs { run_count_of self.new ≤ run_count_of self.old }
     {
         runs::pick(&mut self.runs)
+    }
+
+    /// How many blocks of the records the snapshot `s` holds. It takes time by the runs.
+    pub fn held(&self, s: Epoch) -> u64
+        requires { length self.now < 2 ^ 63 }
+        ensures { result ≡ block_count (filter (is_held_by s) self.now) }
+    {
+        runs::held(&self.runs, s)
+    }
+
+    /// How many blocks of the records were not born by the snapshot `older`. It takes time by the runs.
+    pub fn let_go(&self, older: &Option<Epoch>) -> u64
+        requires { length self.now < 2 ^ 63 }
+        ensures { result ≡ block_count (let_go older.now self.now) }
+    {
+        runs::let_go(&self.runs, older)
     }
 
     /// Moves the records in order: those born by the snapshot `older` to the end of `kept`, all others to the end of
     /// `deferred`. It takes no memory, and time by this list's runs alone.
     pub fn sort_out(self, older: &Option<Epoch>, kept: &mut RecordList, deferred: &mut RecordList)
         requires fits { run_count_of self + run_count_of kept.old + run_count_of deferred.old < 2 ^ 63 }
-        ensures kept { kept.new ≡ kept.old ++ filter (λ r. is_born_by older.now r) self }
-        ensures deferred { deferred.new ≡ deferred.old ++ filter (λ r. not (is_born_by older.now r)) self }
+        ensures kept { kept.new ≡ kept.old ++ moved_down older.now self }
+        ensures deferred { deferred.new ≡ deferred.old ++ let_go older.now self }
         ensures runs { run_count_of kept.new + run_count_of deferred.new ≤
             run_count_of self + run_count_of kept.old + run_count_of deferred.old }
     {

@@ -1,7 +1,7 @@
 //! Records that are kept as one.
 
 ghost use Rattle.std.specs.Prelude.{◌≡◌, ◌<◌};
-ghost use Rattle.nv_book.specs.Runs.{IsRun, last_of, joins, rest_of};
+ghost use Rattle.nv_book.specs.Runs.{IsRun, last_of, joins, pages_of, rest_of};
 
 use crate::Record;
 use nv_entry::Part;
@@ -44,5 +44,15 @@ impl Run {
             self.first.part = Part::Page(page + 1);
         }
         self.more -= 1;
+    }
+
+    /// How many blocks the run has.
+    pub fn pages(&self) -> u64
+        ensures { result ≡ pages_of self.now }
+    {
+        if !self.first.is_page() {
+            return 0;
+        }
+        u64::from(self.more) + 1
     }
 }

@@ -1,9 +1,9 @@
 //! Lists of runs, whose nodes go from one to another.
 
-ghost use Rattle.std.specs.Prelude.{◌≡◌, ◌+◌, ◌<◌, ◌≤◌, ◌^◌, [], ◌∷◌, ◌++◌, if◌then◌else◌, length, filter, not};
-ghost use Rattle.std.specs.Option.{option_to_list};
-ghost use Rattle.nv_book.specs.Records.{is_born_by};
-ghost use Rattle.nv_book.specs.Runs.{IsRun, AreRuns, put, joins_last, records_of};
+ghost use Rattle.std.specs.Prelude.{◌≡◌, ◌+◌, ◌<◌, ◌≤◌, ◌^◌, [], ◌∷◌, ◌++◌, if◌then◌else◌, drop, length, filter, not, slice_get, sum_by};
+ghost use Rattle.nv_book.specs.Records.{is_born_by, is_held_by};
+ghost use Rattle.nv_book.specs.Runs.{IsRun, AreRuns, joins_last, pages_of, put, records_of};
+ghost use Rattle.nv_book.specs.declared.run.Run.{Run};
 
 use crate::Record;
 use crate::run::Run;
@@ -114,7 +114,8 @@ pub fn put_node(list: &mut LinkedList<Run>, run: Run, mut node: LinkedList<Run>)
 /// Takes the first record out of a list. A run of several keeps its node.
 pub fn pick(list: &mut LinkedList<Run>) -> Option<Record>
     requires { AreRuns list.old }
-    ensures records { records_of list.old ≡ option_to_list result ++ records_of list.new }
+    ensures first { result ≡ slice_get (records_of list.old) 0 }
+    ensures rest { records_of list.new ≡ drop 1 (records_of list.old) }
     ensures runs { AreRuns list.new }
     ensures room { length list.new ≤ length list.old }
 {
@@ -155,4 +156,22 @@ pub fn sort_out(
             put_node(deferred, run, node);
         }
     }
+}
+
+/// How many blocks the runs have that the snapshot `s` holds.
+pub fn held(list: &LinkedList<Run>, s: Epoch) -> u64
+    requires { sum_by pages_of (filter (λ (run : Run). is_held_by s run.first) list.now) < 2 ^ 64 }
+    ensures { result ≡ sum_by pages_of (filter (λ (run : Run). is_held_by s run.first) list.now) }
+{
+    let held = list.iter().filter(|run| run.first.is_held_by(s));
+    held.map(|run| run.pages()).sum()
+}
+
+/// How many blocks the runs have that were not born by the snapshot `older`.
+pub fn let_go(list: &LinkedList<Run>, older: &Option<Epoch>) -> u64
+    requires { sum_by pages_of (filter (λ (run : Run). not (is_born_by older.now run.first)) list.now) < 2 ^ 64 }
+    ensures { result ≡ sum_by pages_of (filter (λ (run : Run). not (is_born_by older.now run.first)) list.now) }
+{
+    let others = list.iter().filter(|run| !run.first.is_born_by(older));
+    others.map(|run| run.pages()).sum()
 }

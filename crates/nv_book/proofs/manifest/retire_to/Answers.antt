@@ -1,4 +1,4 @@
-use Rattle.std.proofs.Common.{◌≡◌, ◌≤◌, ◌+◌, ◌++◌, ◌∷◌, [], set, arith, refl, sym, ap, ◌∙◌}
+use Rattle.std.proofs.Common.{◌≤◌, arith}
 use Rattle.nv_book.specs.Records.{run_count_of}
 use Rattle.nv_book.specs.Manifests.{runs_of}
 use Rattle.nv_book.proofs.Places.{total-at, total-set, put-place}

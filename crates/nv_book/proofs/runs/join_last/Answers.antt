@@ -1,4 +1,4 @@
-use Rattle.std.proofs.Common.{◌<◌, ◌≡◌, ℕ, zero, suc, Bool, true, false, length, arith, refl, sym, ◌∙◌}
+use Rattle.std.proofs.Common.{◌<◌, ◌≡◌, ℕ, zero, suc, true, false, arith, refl, sym, ◌∙◌}
 use Rattle.nv_book.proofs.Ends.{last-put, last-joins, last-run, none-joins}
 use Rattle.nv_book.proofs.runs.join_last.Goals as goal
 

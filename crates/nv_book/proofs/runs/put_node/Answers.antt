@@ -1,5 +1,5 @@
-use Rattle.std.proofs.Common.{◌≡◌, ◌≤◌, ◌++◌, [], ◌∷◌, true, false, length, arith, refl, subst, sym, ap, ◌∙◌}
-use Rattle.nv_book.specs.Runs.{AreRuns, put, joins_last}
+use Rattle.std.proofs.Common.{◌≡◌, length, arith, subst, sym}
+use Rattle.nv_book.specs.Runs.{AreRuns, put}
 use Rattle.nv_book.proofs.Series.{put-runs}
 use Rattle.nv_book.proofs.Ends.{put-apart, put-length}
 use Rattle.nv_book.proofs.runs.put_node.Goals as goal

@@ -1,6 +1,5 @@
-use Rattle.std.proofs.Common.{◌≡◌, ◌≤◌, ◌++◌, ◌+◌, ℕ, List, [], ◌∷◌, true, false, length, arith, refl, subst, sym, ap, ◌∙◌}
+use Rattle.std.proofs.Common.{◌≤◌, ◌+◌, length, subst, sym, ◌∙◌}
 use Rattle.std.proofs.lemmas.Bool.{eqb-true}
-use Rattle.nv_book.specs.Runs.{AreRuns, put, records_of}
 use Rattle.nv_book.proofs.SortedOut.{IsMoving, keeps, defers, done}
 use Rattle.nv_book.proofs.runs.sort_out.Goals as goal
 

@@ -1,5 +1,3 @@
-use Rattle.std.proofs.Common.{◌≡◌, ◌≤◌, true, false, length, arith, refl, sym, ap, ◌∙◌}
-use Rattle.nv_book.specs.Runs.{AreRuns}
 use Rattle.nv_book.proofs.Ends.{first-run}
 use Rattle.nv_book.proofs.runs.take_first.Goals as goal
 

@@ -1,4 +1,4 @@
-use Rattle.std.proofs.Common.{◌≡◌, ◌≤◌, [], refl, sym, ap, ◌∙◌, arith, length, vec_capacity}
+use Rattle.std.proofs.Common.{◌≡◌, [], ap, arith}
 use Rattle.nv_book.specs.History.{IsLegal}
 use Rattle.nv_book.proofs.history.History.new.Goals as goal
 

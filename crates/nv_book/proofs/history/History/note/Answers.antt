@@ -1,4 +1,4 @@
-use Rattle.std.proofs.Common.{◌≡◌, ◌≤◌, ◌++◌, ◌∷◌, [], List, ℕ, Some, refl, subst, sym, ap, ◌∙◌, arith, length, vec_capacity}
+use Rattle.std.proofs.Common.{◌≡◌, ◌≤◌, ◌++◌, ◌∷◌, [], List, ℕ, Some, subst, sym, ap, ◌∙◌, length}
 use Rattle.circular_buffer.specs.Buffer.{keep_last}
 use Rattle.nv_book.specs.declared.event.Event.{Event}
 use Rattle.nv_book.specs.History.{State, IsNext, IsLegal, after, replay, now_of}

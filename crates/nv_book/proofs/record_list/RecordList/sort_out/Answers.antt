@@ -1,4 +1,4 @@
-use Rattle.std.proofs.Common.{◌≡◌, length, arith, refl, sym, ap, ◌∙◌}
+use Rattle.std.proofs.Common.{◌≡◌, length, arith, sym, ap, ◌∙◌}
 use Rattle.nv_book.specs.Records.{run_count_of}
 use Rattle.nv_book.specs.Runs.{records_of}
 use Rattle.nv_book.proofs.Series.{count-runs}

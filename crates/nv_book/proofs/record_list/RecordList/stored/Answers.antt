@@ -1,4 +1,4 @@
-use Rattle.std.proofs.Common.{refl, sym, ap, ◌∙◌}
+use Rattle.std.proofs.Common.{sym, ap, ◌∙◌}
 use Rattle.nv_book.specs.Records.{run_count_of}
 use Rattle.nv_book.proofs.Series.{count-runs}
 use Rattle.nv_book.proofs.record_list.RecordList.stored.Goals as goal

@@ -1,0 +1,8 @@
+//! What became of a killed part.
+
+/// Whether a living snapshot holds a part that was retired: its record is kept, or its block is free.
+#[derive(Clone, Copy, Debug, PartialEq, Eq)]
+pub enum Retired {
+    Kept,
+    Free,
+}
