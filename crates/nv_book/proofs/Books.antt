@@ -33,11 +33,13 @@ pub record IsNoted (old : Account) (event : Event) (new : Account) : Type 0 wher
   pub now : now_of new ≡ after (now_of old) event
   pub most : new.most ≡ old.most
 
-pub noted-event : (n : ℕ) (old new : Account) (event : Event) → new ≡ noted n old event → now_of new ≡ after (now_of old) event → IsNoted old event new
+pub noted-event : (n : ℕ) (old new : Account) (event : Event) → new ≡ noted n old event → now_of new ≡ after (now_of old) event →
+    IsNoted old event new
 noted-event n old new event e now = record { now = now; most = ap (λ a. a.most) e ∙ noted-most n old event }
 
 module _ (snaps : Snapshots) (commit : ℕ) (store : Store) (history : Account) (book : IsBook snaps commit store history) where
-  pub book-retired : (s room : ℕ) (r : Record) → holder_of (ids snaps) r ≡ Some s → r.death ≤ snaps.epoch → IsBook snaps commit (record store { manifests = put_to (Some s) (r ∷ []) store.manifests; room = room }) history
+  pub book-retired : (s room : ℕ) (r : Record) → holder_of (ids snaps) r ≡ Some s → r.death ≤ snaps.epoch →
+      IsBook snaps commit (record store { manifests = put_to (Some s) (r ∷ []) store.manifests; room = room }) history
   book-retired s room r e d = record {
     filed = retired _ _ _ s r book.filed e;
     dead = dead-retired snaps.epoch (Some s) r store.manifests store.deferred book.dead d;
@@ -47,10 +49,13 @@ module _ (snaps : Snapshots) (commit : ℕ) (store : Store) (history : Account) 
     history_fits = book.history_fits;
   }
 
-  pub book-made : (new : Account) → AreFiled (ids snaps ++ snaps.epoch ∷ []) (after_make snaps.epoch store.manifests) store.deferred → IsNoted history (Made snaps.epoch) new → IsBook (after_making snaps) commit (record store { manifests = after_make snaps.epoch store.manifests }) new
+  pub book-made : (new : Account) → AreFiled (ids snaps ++ snaps.epoch ∷ []) (after_make snaps.epoch store.manifests) store.deferred →
+      IsNoted history (Made snaps.epoch) new →
+      IsBook (after_making snaps) commit (record store { manifests = after_make snaps.epoch store.manifests }) new
   book-made new filed n =
       let made : Snapshot = record { number = snaps.epoch; pins = 0 } in
-      let same : ids (after_making snaps) ≡ ids snaps ++ snaps.epoch ∷ [] = map-append (λ (s : Snapshot). s.number) snaps.living (made ∷ []) in
+      let same : ids (after_making snaps) ≡ ids snaps ++ snaps.epoch ∷ [] =
+      map-append (λ (s : Snapshot). s.number) snaps.living (made ∷ []) in
       let most = n.most in
       let fits = book.history_fits in
       let living : List ℕ → State = λ l. record { epoch = snaps.epoch + 1; commit = commit; living = l } in
@@ -63,14 +68,23 @@ module _ (snaps : Snapshots) (commit : ℕ) (store : Store) (history : Account) 
         history_fits = omega (arith, most, fits);
       }
 
-  pub book-dropped : (s : ℕ) (new : Account) → ids (after_removal snaps s) ≡ without s (ids snaps) → AreFiled (without s (ids snaps)) (after_drop s (next_older (ids snaps) s) store.manifests) (store.deferred ++ let_go (next_older (ids snaps) s) (records_at s store.manifests)) → IsNoted history (Dropped s) new → IsBook (after_removal snaps s) commit (record store { manifests = after_drop s (next_older (ids snaps) s) store.manifests; deferred = store.deferred ++ let_go (next_older (ids snaps) s) (records_at s store.manifests) }) new
+  pub book-dropped : (s : ℕ) (new : Account) → ids (after_removal snaps s) ≡ without s (ids snaps) →
+      AreFiled (without s (ids snaps)) (after_drop s (next_older (ids snaps) s) store.manifests)
+      (store.deferred ++ let_go (next_older (ids snaps) s) (records_at s store.manifests)) → IsNoted history (Dropped s) new →
+      IsBook (after_removal snaps s) commit
+      (record store {
+        manifests = after_drop s (next_older (ids snaps) s) store.manifests;
+        deferred =
+            store.deferred ++ let_go (next_older (ids snaps) s) (records_at s store.manifests);
+      }) new
   book-dropped s new same filed n =
       let older = next_older (ids snaps) s in
       let most = n.most in
       let fits = book.history_fits in
       let living : List ℕ → State = λ l. record { epoch = snaps.epoch; commit = commit; living = l } in
       record {
-        filed = subst (λ l. AreFiled l (after_drop s older store.manifests) (store.deferred ++ let_go older (records_at s store.manifests))) (sym same) filed;
+        filed = subst (λ l. AreFiled l (after_drop s older store.manifests)
+            (store.deferred ++ let_go older (records_at s store.manifests))) (sym same) filed;
         dead = dead-dropped snaps.epoch s older store.manifests store.deferred book.dead;
         replayed = n.now ∙ (ap (λ a. after a (Dropped s)) book.replayed ∙ ap living (sym same));
         commit_fits = book.commit_fits;
@@ -86,7 +100,9 @@ records-absent (m ∷ ms) s out = go (m.snapshot == s) refl (records-absent ms s
   go true e h = absurd (out (0, omega arith, eqb-true m.snapshot s e))
   go false e h = h
 
-pub book-empty : (snaps epoch commit : ℕ) → commit ≤ NUMBER → IsBook (record { living = []; epoch = epoch; most = snaps }) commit (record { manifests = []; most = snaps; deferred = []; room = 0 }) (record { base = record { epoch = epoch; commit = commit; living = [] }; latest = []; most = snaps })
+pub book-empty : (snaps epoch commit : ℕ) → commit ≤ NUMBER →
+    IsBook (record { living = []; epoch = epoch; most = snaps }) commit (record { manifests = []; most = snaps; deferred = []; room = 0 })
+    (record { base = record { epoch = epoch; commit = commit; living = [] }; latest = []; most = snaps })
 unfolding replay
 book-empty snaps epoch commit fits = record {
   filed = record { all = refl; filed = tt; unheld = tt };

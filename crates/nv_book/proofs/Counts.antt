@@ -23,7 +23,8 @@ runs-le-records (r ∷ rs) = go (goes_on_in r rs) (runs-le-records rs) where
   go false h = omega (arith, h)
 
 pub all-runs-le-records : (ms : List Manifest) → runs_of ms ≤ record_count ms
-all-runs-le-records ms = sum_by-le-sum_by (λ (m : Manifest). run_count_of m.records) (λ (m : Manifest). length m.records) ms (λ m. runs-le-records m.records)
+all-runs-le-records ms = sum_by-le-sum_by (λ (m : Manifest). run_count_of m.records) (λ (m : Manifest). length m.records) ms
+    (λ m. runs-le-records m.records)
 
 -- what moves down and what is let go are all there is
 
@@ -31,7 +32,8 @@ pub moved-and-let_go : (older : Option ℕ) (rs : List Record) → length (moved
 moved-and-let_go older rs = length-filter_both (λ r. is_born_by older r) (λ r. not (is_born_by older r)) (λ r. refl) rs
 
 pub blocks-le-records : (p : Record → Bool) (rs : List Record) → block_count (filter p rs) ≤ length rs
-blocks-le-records p rs = omega (arith, count_by-le-length (λ (r : Record). is_page r.part) (filter p rs), length-filter_both p (λ r. not (p r)) (λ r. refl) rs)
+blocks-le-records p rs =
+    omega (arith, count_by-le-length (λ (r : Record). is_page r.part) (filter p rs), length-filter_both p (λ r. not (p r)) (λ r. refl) rs)
 
 -- the blocks of runs that pass a test, where the records of one run pass it together
 
@@ -44,10 +46,12 @@ module _ (p : Record → Bool) (together : (r : Record) → p (record_on 1 r) �
   same-kind Bound = refl
 
   -- one record more in front
-  one-more : (n : ℕ) (r : Record) (rest : List Record) (a b : Bool) → is_page r.part ≡ b → block_count rest ≡ cond a (cond b (n + 1) 0) 0 → block_count (cond a (r ∷ rest) rest) ≡ cond a (cond b (suc n + 1) 0) 0
+  one-more : (n : ℕ) (r : Record) (rest : List Record) (a b : Bool) → is_page r.part ≡ b →
+      block_count rest ≡ cond a (cond b (n + 1) 0) 0 → block_count (cond a (r ∷ rest) rest) ≡ cond a (cond b (suc n + 1) 0) 0
   one-more n r rest false b e h = h
   one-more n r rest true b e h = sum_by-cons (λ (u : Record). cond (is_page u.part) 1 0) r rest ∙ go b e h where
-    go : (b : Bool) → is_page r.part ≡ b → block_count rest ≡ cond b (n + 1) 0 → cond (is_page r.part) 1 0 + block_count rest ≡ cond b (suc n + 1) 0
+    go : (b : Bool) → is_page r.part ≡ b → block_count rest ≡ cond b (n + 1) 0 →
+        cond (is_page r.part) 1 0 + block_count rest ≡ cond b (suc n + 1) 0
     go true e h = rw e (omega (arith, h))
     go false e h = rw e (omega (arith, h))
 
@@ -60,20 +64,25 @@ module _ (p : Record → Bool) (together : (r : Record) → p (record_on 1 r) �
     go true false e = rw e refl
   of-series (suc n) r =
       let h : block_count (filter p (series n (record_on 1 r))) ≡ cond (p r) (cond (is_page r.part) (n + 1) 0) 0
-      = of-series n (record_on 1 r) ∙ (ap (λ a. cond a (cond (is_page (part_on 1 r.part)) (n + 1) 0) 0) (together r) ∙ ap (λ b. cond (p r) (cond b (n + 1) 0) 0) (same-kind r.part)) in
+      = of-series n (record_on 1 r)
+      ∙ (ap (λ a. cond a (cond (is_page (part_on 1 r.part)) (n + 1) 0) 0) (together r)
+      ∙ ap (λ b. cond (p r) (cond b (n + 1) 0) 0) (same-kind r.part)) in
       one-more n r (filter p (series n (record_on 1 r))) (p r) (is_page r.part) refl h
 
   pub of-runs : (rs : List Run) → sum_by pages_of (filter (λ (run : Run). p run.first) rs) ≡ block_count (filter p (records_of rs))
   unfolding records_of
   of-runs [] = refl
   of-runs (r ∷ rs) =
-      let e : block_count (filter p (run_records r ++ records_of rs)) ≡ block_count (filter p (run_records r)) + block_count (filter p (records_of rs))
-      = ap block_count (filter-append p (run_records r) (records_of rs)) ∙ sum_by-append (λ (u : Record). cond (is_page u.part) 1 0) (filter p (run_records r)) (filter p (records_of rs)) in
+      let e : block_count (filter p (run_records r ++ records_of rs))
+      ≡ block_count (filter p (run_records r)) + block_count (filter p (records_of rs))
+      = ap block_count (filter-append p (run_records r) (records_of rs))
+      ∙ sum_by-append (λ (u : Record). cond (is_page u.part) 1 0) (filter p (run_records r)) (filter p (records_of rs)) in
       let k = of-series r.more r.first in
       let h = of-runs rs in
       go (p r.first) (filter (λ (run : Run). p run.first) rs) ∙ omega (arith, e, k, h)
     where
-      go : (a : Bool) (rest : List Run) → sum_by pages_of (cond a (r ∷ rest) rest) ≡ cond a (cond (is_page r.first.part) (r.more + 1) 0) 0 + sum_by pages_of rest
+      go : (a : Bool) (rest : List Run) →
+          sum_by pages_of (cond a (r ∷ rest) rest) ≡ cond a (cond (is_page r.first.part) (r.more + 1) 0) 0 + sum_by pages_of rest
       go true rest = sum_by-cons pages_of r rest
       go false rest = omega arith
 
@@ -93,8 +102,15 @@ pub total-made : (f : List Record → ℕ) (ms : List Manifest) (m : Manifest) �
 total-made f ms m = sum_by_push (λ (u : Manifest). f u.records) ms m
 
 -- what s holds of some manifests and of the next is at most all records
-pub held-more : (s : ℕ) (ms : List Manifest) (i : ℕ) (m : Manifest) → i < length ms → m ≡ get_or ms i m → held_of s (take i ms) + block_count (filter (is_held_by s) m.records) ≤ record_count ms
+pub held-more : (s : ℕ) (ms : List Manifest) (i : ℕ) (m : Manifest) → i < length ms → m ≡ get_or ms i m →
+    held_of s (take i ms) + block_count (filter (is_held_by s) m.records) ≤ record_count ms
 held-more s ms i m h e =
     let held : Manifest → ℕ = λ u. block_count (filter (is_held_by s) u.records) in
     let q : held m ≡ held (get_or ms i m) = ap held e in
-    omega (arith, q, sum_by_more_le held ms i m h, sum_by-le-sum_by held (λ (u : Manifest). length u.records) ms (λ u. blocks-le-records (is_held_by s) u.records))
+    omega (
+      arith,
+      q,
+      sum_by_more_le held ms i m h,
+      sum_by-le-sum_by held (λ (u : Manifest). length u.records) ms
+          (λ u. blocks-le-records (is_held_by s) u.records),
+    )

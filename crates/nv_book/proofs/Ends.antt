@@ -3,7 +3,8 @@ use Rattle.std.proofs.Common.{◌≡◌, ℕ, zero, suc, ◌-◌, ◌<◌, true,
 use Rattle.nv_book.specs.declared.run.Run.{Run}
 use Rattle.nv_book.specs.Runs.{IsRun, AreRuns, put, joins, joined, joins_last}
 
-last-put-at : (rs : List Run) (k : ℕ) (x s : Run) → length rs ≡ suc k → x ≡ get_or rs k x → joins x s ≡ true → set rs k (joined x s) ≡ put rs s
+last-put-at : (rs : List Run) (k : ℕ) (x s : Run) → length rs ≡ suc k → x ≡ get_or rs k x → joins x s ≡ true →
+    set rs k (joined x s) ≡ put rs s
 unfolding put
 last-put-at [] k x s n e j = cc
 last-put-at (r ∷ []) zero x s n e j = rw (← e, j) refl
@@ -27,7 +28,8 @@ last-run-at (r ∷ []) (suc k) x n e h = absurd (omega (arith, n))
 last-run-at (r ∷ q ∷ rs) zero x n e h = absurd (omega (arith, n))
 last-run-at (r ∷ q ∷ rs) (suc k) x n e h = last-run-at (q ∷ rs) k x (omega (arith, n)) e h.2
 
-pub last-put : (rs : List Run) (x s : Run) → 0 < length rs → x ≡ get_or rs (length rs - 1) x → joins x s ≡ true → set rs (length rs - 1) (joined x s) ≡ put rs s
+pub last-put : (rs : List Run) (x s : Run) → 0 < length rs → x ≡ get_or rs (length rs - 1) x → joins x s ≡ true →
+    set rs (length rs - 1) (joined x s) ≡ put rs s
 last-put rs x s n e j = last-put-at rs (length rs - 1) x s (omega (arith, n)) e j
 
 pub last-joins : (rs : List Run) (x s : Run) → 0 < length rs → x ≡ get_or rs (length rs - 1) x → joins_last rs s ≡ joins x s
@@ -54,7 +56,8 @@ put-length (r ∷ []) s j = rw j refl
 put-length (r ∷ q ∷ rs) s j = ap suc (put-length (q ∷ rs) s j)
 
 -- the first of some runs, and the others
-pub first-run : (rs : List Run) (x : Run) → 0 < length rs → x ≡ get_or rs 0 x → AreRuns rs → (rs ≡ x ∷ drop 1 rs) × (take 1 rs ≡ x ∷ []) × IsRun x × AreRuns (drop 1 rs)
+pub first-run : (rs : List Run) (x : Run) → 0 < length rs → x ≡ get_or rs 0 x → AreRuns rs →
+    (rs ≡ x ∷ drop 1 rs) × (take 1 rs ≡ x ∷ []) × IsRun x × AreRuns (drop 1 rs)
 unfolding AreRuns
 first-run [] x n e h = absurd (omega (arith, n))
 first-run (r ∷ rs) x n e h = (ap (λ u. u ∷ rs) (sym e), ap (λ u. u ∷ []) (sym e), subst IsRun (sym e) h.0, h.2)

@@ -4,5 +4,6 @@ pub mod Ends
 pub mod Filing
 pub mod Noting
 pub mod Places
+pub mod RecordLists
 pub mod Series
 pub mod SortedOut

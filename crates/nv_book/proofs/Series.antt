@@ -38,8 +38,10 @@ same-entry a b h =
 -- what goes on is the record of the next page
 pub next-record : (a b : Record) → goes_on a b ≡ true → b ≡ record_on 1 a
 next-record a b h =
-    let h1 : (is_same_entry a.entry b.entry && ((a.birth == b.birth) && ((a.death == b.death) && is_next_page a.part b.part))) ≡ true = and-right (a.ino == b.ino) _ h in
-    let h2 : ((a.birth == b.birth) && ((a.death == b.death) && is_next_page a.part b.part)) ≡ true = and-right (is_same_entry a.entry b.entry) _ h1 in
+    let h1 : (is_same_entry a.entry b.entry && ((a.birth == b.birth) && ((a.death == b.death) && is_next_page a.part b.part)))
+    ≡ true = and-right (a.ino == b.ino) _ h in
+    let h2 : ((a.birth == b.birth) && ((a.death == b.death) && is_next_page a.part b.part))
+    ≡ true = and-right (is_same_entry a.entry b.entry) _ h1 in
     let h3 : ((a.death == b.death) && is_next_page a.part b.part) ≡ true = and-right (a.birth == b.birth) _ h2 in
     let i : a.ino ≡ b.ino = eqb-true a.ino b.ino (and-left _ _ h) in
     let e : a.entry ≡ b.entry = same-entry a.entry b.entry (and-left _ _ h1) in
@@ -87,9 +89,12 @@ unfolding put records_of
 put-records [] s = append-nil (run_records s)
 put-records (r ∷ []) s = go (joins r s) refl where
   go : (b : Bool) → joins r s ≡ b → records_of (cond b (joined r s ∷ []) (r ∷ s ∷ [])) ≡ run_records r ++ [] ++ run_records s
-  go true j = append-nil (run_records (joined r s)) ∙ (joined-records r s j ∙ ap (λ us. us ++ run_records s) (sym (append-nil (run_records r))))
-  go false j = ap (λ us. run_records r ++ us) (append-nil (run_records s)) ∙ ap (λ us. us ++ run_records s) (sym (append-nil (run_records r)))
-put-records (r ∷ q ∷ rs) s = ap (λ us. run_records r ++ us) (put-records (q ∷ rs) s) ∙ sym (append_assoc (run_records r) (records_of (q ∷ rs)) (run_records s))
+  go true j = append-nil (run_records (joined r s))
+      ∙ (joined-records r s j ∙ ap (λ us. us ++ run_records s) (sym (append-nil (run_records r))))
+  go false j = ap (λ us. run_records r ++ us) (append-nil (run_records s))
+      ∙ ap (λ us. us ++ run_records s) (sym (append-nil (run_records r)))
+put-records (r ∷ q ∷ rs) s = ap (λ us. run_records r ++ us) (put-records (q ∷ rs) s)
+    ∙ sym (append_assoc (run_records r) (records_of (q ∷ rs)) (run_records s))
 
 joined-part : (m n : ℕ) (a b : Part) → PageRun n b → is_next_page (part_on m a) b ≡ true → PageRun (m + (1 + n)) a
 joined-part m n (Page p) (Page q) k h = let e : p + m + 1 ≡ q = eqb-true (p + m + 1) q h in omega (arith, e, k)
@@ -105,7 +110,9 @@ joined-part m n Bound b k h = cc
 pub joined-run : (r s : Run) → IsRun s → joins r s ≡ true → IsRun (joined r s)
 joined-run r s k h = record {
   pages = joined-part r.more s.more r.first.part s.first.part k.pages
-      (and-right (r.first.death == s.first.death) _ (and-right (r.first.birth == s.first.birth) _ (and-right (is_same_entry r.first.entry s.first.entry) _ (and-right (r.first.ino == s.first.ino) _ h))));
+      (and-right (r.first.death == s.first.death) _
+      (and-right (r.first.birth == s.first.birth) _
+      (and-right (is_same_entry r.first.entry s.first.entry) _ (and-right (r.first.ino == s.first.ino) _ h))));
 }
 
 put-first : (r q s : Run) (rs : List Run) → joins_in r (put (q ∷ rs) s) ≡ joins r q
@@ -130,35 +137,48 @@ born-on None r = refl
 born-on (Some s) r = refl
 
 -- the records of a run were born together
-filter-series : (older : Option ℕ) (n : ℕ) (r : Record) → filter (λ t. is_born_by older t) (series n r) ≡ cond (is_born_by older r) (series n r) []
+filter-series : (older : Option ℕ) (n : ℕ) (r : Record) →
+    filter (λ t. is_born_by older t) (series n r) ≡ cond (is_born_by older r) (series n r) []
 unfolding series
 filter-series older zero r = refl
-filter-series older (suc n) r = go (is_born_by older r) (filter-series older n (record_on 1 r) ∙ ap (λ b. cond b (series n (record_on 1 r)) []) (born-on older r)) where
-  go : (b : Bool) → filter (λ t. is_born_by older t) (series n (record_on 1 r)) ≡ cond b (series n (record_on 1 r)) [] → cond b (r ∷ filter (λ t. is_born_by older t) (series n (record_on 1 r))) (filter (λ t. is_born_by older t) (series n (record_on 1 r))) ≡ cond b (r ∷ series n (record_on 1 r)) []
-  go true e = ap (λ us. r ∷ us) e
-  go false e = e
+filter-series older (suc n) r =
+    go (is_born_by older r) (filter-series older n (record_on 1 r) ∙ ap (λ b. cond b (series n (record_on 1 r)) []) (born-on older r))
+  where
+    go : (b : Bool) → filter (λ t. is_born_by older t) (series n (record_on 1 r)) ≡ cond b (series n (record_on 1 r)) [] →
+        cond b (r ∷ filter (λ t. is_born_by older t) (series n (record_on 1 r)))
+        (filter (λ t. is_born_by older t) (series n (record_on 1 r))) ≡ cond b (r ∷ series n (record_on 1 r)) []
+    go true e = ap (λ us. r ∷ us) e
+    go false e = e
 
-not-filter-series : (older : Option ℕ) (n : ℕ) (r : Record) → filter (λ t. not (is_born_by older t)) (series n r) ≡ cond (is_born_by older r) [] (series n r)
+not-filter-series : (older : Option ℕ) (n : ℕ) (r : Record) →
+    filter (λ t. not (is_born_by older t)) (series n r) ≡ cond (is_born_by older r) [] (series n r)
 unfolding series
 not-filter-series older zero r = go (is_born_by older r) where
   go : (b : Bool) → cond (not b) (r ∷ []) [] ≡ cond b [] (r ∷ [])
   go true = refl
   go false = refl
-not-filter-series older (suc n) r = go (is_born_by older r) (not-filter-series older n (record_on 1 r) ∙ ap (λ b. cond b [] (series n (record_on 1 r))) (born-on older r)) where
-  go : (b : Bool) → filter (λ t. not (is_born_by older t)) (series n (record_on 1 r)) ≡ cond b [] (series n (record_on 1 r)) → cond (not b) (r ∷ filter (λ t. not (is_born_by older t)) (series n (record_on 1 r))) (filter (λ t. not (is_born_by older t)) (series n (record_on 1 r))) ≡ cond b [] (r ∷ series n (record_on 1 r))
-  go true e = e
-  go false e = ap (λ us. r ∷ us) e
+not-filter-series older (suc n) r =
+    go (is_born_by older r) (not-filter-series older n (record_on 1 r) ∙ ap (λ b. cond b [] (series n (record_on 1 r))) (born-on older r))
+  where
+    go : (b : Bool) → filter (λ t. not (is_born_by older t)) (series n (record_on 1 r)) ≡ cond b [] (series n (record_on 1 r)) →
+        cond (not b) (r ∷ filter (λ t. not (is_born_by older t)) (series n (record_on 1 r)))
+        (filter (λ t. not (is_born_by older t)) (series n (record_on 1 r))) ≡ cond b [] (r ∷ series n (record_on 1 r))
+    go true e = e
+    go false e = ap (λ us. r ∷ us) e
 
-pub filter-run : (older : Option ℕ) (r : Run) → filter (λ t. is_born_by older t) (run_records r) ≡ cond (is_born_by older r.first) (run_records r) []
+pub filter-run : (older : Option ℕ) (r : Run) →
+    filter (λ t. is_born_by older t) (run_records r) ≡ cond (is_born_by older r.first) (run_records r) []
 filter-run older r = filter-series older r.more r.first
 
-pub not-filter-run : (older : Option ℕ) (r : Run) → filter (λ t. not (is_born_by older t)) (run_records r) ≡ cond (is_born_by older r.first) [] (run_records r)
+pub not-filter-run : (older : Option ℕ) (r : Run) →
+    filter (λ t. not (is_born_by older t)) (run_records r) ≡ cond (is_born_by older r.first) [] (run_records r)
 not-filter-run older r = not-filter-series older r.more r.first
 
 pub filter-append : (p : Record → Bool) (xs ys : List Record) → filter p (xs ++ ys) ≡ filter p xs ++ filter p ys
 filter-append p [] ys = refl
 filter-append p (x ∷ xs) ys = go (p x) (filter-append p xs ys) where
-  go : (b : Bool) → filter p (xs ++ ys) ≡ filter p xs ++ filter p ys → cond b (x ∷ filter p (xs ++ ys)) (filter p (xs ++ ys)) ≡ cond b (x ∷ filter p xs) (filter p xs) ++ filter p ys
+  go : (b : Bool) → filter p (xs ++ ys) ≡ filter p xs ++ filter p ys →
+      cond b (x ∷ filter p (xs ++ ys)) (filter p (xs ++ ys)) ≡ cond b (x ∷ filter p xs) (filter p xs) ++ filter p ys
   go true e = ap (λ us. x ∷ us) e
   go false e = e
 
@@ -189,14 +209,17 @@ last-cut r k = record-on-on (r.more - 1) 1 r.first ∙ ap (λ n. record_on n r.f
 pub cut-runs : (r : Run) (rs : List Run) → 0 < r.more → AreRuns (r ∷ rs) → AreRuns (rest_of r ∷ rs)
 unfolding AreRuns
 cut-runs r [] k h = (record { pages = part-cut r.more r.first.part h.0.pages k }, refl, tt)
-cut-runs r (q ∷ rs) k h = (record { pages = part-cut r.more r.first.part h.0.pages k }, ap (λ t. goes_on t q.first) (last-cut r k) ∙ h.1, h.2)
+cut-runs r (q ∷ rs) k h =
+    (record { pages = part-cut r.more r.first.part h.0.pages k }, ap (λ t. goes_on t q.first) (last-cut r k) ∙ h.1, h.2)
 
-pub cut-list : (rs : List Run) (x : Run) → 0 < length rs → x ≡ get_or rs 0 x → AreRuns rs → 0 < x.more → (records_of rs ≡ x.first ∷ records_of (set rs 0 (rest_of x))) × AreRuns (set rs 0 (rest_of x))
+pub cut-list : (rs : List Run) (x : Run) → 0 < length rs → x ≡ get_or rs 0 x → AreRuns rs → 0 < x.more →
+    (records_of rs ≡ x.first ∷ records_of (set rs 0 (rest_of x))) × AreRuns (set rs 0 (rest_of x))
 cut-list [] x n e h k = absurd (omega (arith, n))
 cut-list (r ∷ rs) x n e h k =
     (ap (λ u. records_of (u ∷ rs)) (sym e) ∙ cut-first x rs k, cut-runs x rs k (subst (λ u. AreRuns (u ∷ rs)) (sym e) h))
 
-pub drop-list : (rs : List Run) (x : Run) → 0 < length rs → x ≡ get_or rs 0 x → AreRuns rs → x.more ≤ 0 → (records_of rs ≡ x.first ∷ records_of (drop 1 (set rs 0 x))) × AreRuns (drop 1 (set rs 0 x))
+pub drop-list : (rs : List Run) (x : Run) → 0 < length rs → x ≡ get_or rs 0 x → AreRuns rs → x.more ≤ 0 →
+    (records_of rs ≡ x.first ∷ records_of (drop 1 (set rs 0 x))) × AreRuns (drop 1 (set rs 0 x))
 unfolding AreRuns
 drop-list [] x n e h k = absurd (omega (arith, n))
 drop-list (r ∷ rs) x n e h k = (ap (λ u. records_of (u ∷ rs)) (sym e) ∙ single-first x rs k, h.2)
@@ -229,7 +252,8 @@ part-next n Mode h = absurd (omega (arith, h))
 part-next n Size h = absurd (omega (arith, h))
 part-next n Bound h = absurd (omega (arith, h))
 
-count-series : (n : ℕ) (r : Record) (rest : List Record) → PageRun n r.part → goes_on_in (record_on n r) rest ≡ false → run_count_of (series n r ++ rest) ≡ 1 + run_count_of rest
+count-series : (n : ℕ) (r : Record) (rest : List Record) → PageRun n r.part → goes_on_in (record_on n r) rest ≡ false →
+    run_count_of (series n r ++ rest) ≡ 1 + run_count_of rest
 unfolding series
 count-series zero r rest h e =
     let f : goes_on_in r rest ≡ false = subst (λ u. goes_on_in u rest ≡ false) (record-on-zero r) e in
@@ -237,7 +261,8 @@ count-series zero r rest h e =
 count-series (suc n) r rest h e =
     let f : goes_on_in r (series n (record_on 1 r) ++ rest) ≡ true = first-of r n (record_on 1 r) rest ∙ goes-next n r h in
     let g : record_on n (record_on 1 r) ≡ record_on (suc n) r = record-on-on n 1 r ∙ ap (λ k. record_on k r) (omega arith) in
-    let k : run_count_of (series n (record_on 1 r) ++ rest) ≡ 1 + run_count_of rest = count-series n (record_on 1 r) rest (part-next n r.part h) (subst (λ u. goes_on_in u rest ≡ false) (sym g) e) in
+    let k : run_count_of (series n (record_on 1 r) ++ rest) ≡ 1 + run_count_of rest =
+    count-series n (record_on 1 r) rest (part-next n r.part h) (subst (λ u. goes_on_in u rest ≡ false) (sym g) e) in
     rw f (omega (arith, k))
 
 ends-in : (r : Run) (rs : List Run) → joins_in r rs ≡ false → goes_on_in (last_of r) (records_of rs) ≡ false
@@ -249,6 +274,7 @@ pub count-runs : (rs : List Run) → AreRuns rs → run_count_of (records_of rs)
 unfolding records_of AreRuns
 count-runs [] h = refl
 count-runs (r ∷ rs) h =
-    let k : run_count_of (series r.more r.first ++ records_of rs) ≡ 1 + run_count_of (records_of rs) = count-series r.more r.first (records_of rs) h.0.pages (ends-in r rs h.1) in
+    let k : run_count_of (series r.more r.first ++ records_of rs) ≡ 1 + run_count_of (records_of rs) =
+    count-series r.more r.first (records_of rs) h.0.pages (ends-in r rs h.1) in
     let n : run_count_of (records_of rs) ≡ length rs = count-runs rs h.2 in
     omega (arith, k, n)

@@ -1,5 +1,6 @@
 -- A book: the value behind the commit lock, and how each call changes it.
 use Rattle.std.specs.Prelude.{◌≡◌, ℕ, ◌+◌, ◌≤◌, List, [], ◌∷◌, ◌++◌, drop, replicate, slice_set, Option, Some, None}
+use Rattle.nv_base.specs.declared.geometry.GeometryNumbers.{GeometryNumbers}
 use Rattle.nv_base.specs.declared.limits.TheConstants.{NUMBER}
 use Rattle.nv_epoch.specs.Holders.{next_older}
 use Rattle.nv_epoch.specs.SnapList.{Snapshots, ids, after_making, after_removal, after_pin, after_unpin}
@@ -31,15 +32,15 @@ pub record BookValue : Type 0 where
   pub state : BookState
   pub room : ℕ
 
--- no snapshots and no records, with so many CPUs and at most so many snapshots
-abbrev pub empty_book : ℕ → ℕ → ℕ → ℕ → BookState
-empty_book cpus snaps epoch commit = record {
-  snaps = record { living = []; epoch = epoch; most = snaps };
+-- no snapshots and no records, on such a device, in this epoch and after this commit
+abbrev pub empty_book : GeometryNumbers → ℕ → ℕ → BookState
+empty_book numbers epoch commit = record {
+  snaps = record { living = []; epoch = epoch; most = numbers.snaps };
   commit = commit;
   manifests = [];
   deferred = [];
-  journals = replicate cpus [];
-  history = record { base = record { epoch = epoch; commit = commit; living = [] }; latest = []; most = snaps };
+  journals = replicate numbers.cpus [];
+  history = record { base = record { epoch = epoch; commit = commit; living = [] }; latest = []; most = numbers.snaps };
 }
 
 abbrev pub with_event : Event → BookState → BookState

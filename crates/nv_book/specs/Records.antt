@@ -23,7 +23,8 @@ is_next_page (Page p) Bound = false
 
 -- two records of one inode, entry, birth and death, of one page and the next
 abbrev pub goes_on : Record → Record → Bool
-goes_on a b = (a.ino == b.ino) && (is_same_entry a.entry b.entry && ((a.birth == b.birth) && ((a.death == b.death) && is_next_page a.part b.part)))
+goes_on a b = (a.ino == b.ino) &&
+    (is_same_entry a.entry b.entry && ((a.birth == b.birth) && ((a.death == b.death) && is_next_page a.part b.part)))
 
 abbrev pub goes_on_in : Record → List Record → Bool
 goes_on_in a [] = false

@@ -1,5 +1,5 @@
 -- Stored runs, and the records that they stand for.
-use Rattle.std.specs.Prelude.{◌≡◌, ℕ, zero, suc, ◌+◌, ◌-◌, ◌<◌, ◌^◌, Bool, false, if◌then◌else◌, List, [], ◌∷◌, ◌++◌}
+use Rattle.std.specs.Prelude.{◌≡◌, ℕ, zero, suc, ◌+◌, ◌-◌, ◌<◌, ◌^◌, Bool, false, if◌then◌else◌, List, [], ◌∷◌, ◌++◌, filter, sum_by}
 use Rattle.nv_entry.specs.declared.part.Part.{Part}
 use Rattle.nv_entry.specs.declared.part.Part.TheVariants.{Kind, Mode, Size, Bound, Page}
 use Rattle.nv_book.specs.declared.record.Record.{Record}
@@ -78,3 +78,7 @@ rest_of r = record { first = record_on 1 r.first; more = r.more - 1 }
 -- how many blocks a run has
 abbrev pub pages_of : Run → ℕ
 pages_of r = if is_page r.first.part then r.more + 1 else 0
+
+-- how many blocks the runs have whose first record passes the test
+abbrev pub pages_where : (Record → Bool) → List Run → ℕ
+pages_where passes runs = sum_by pages_of (filter (λ (run : Run). passes run.first) runs)

@@ -77,7 +77,7 @@ impl Book {
     /// The only error is `OutOfMemory`.
     pub fn new(alloc: Global, geometry: &Geometry) -> Result<Book, Fault>
         ensures ok { IfOk result (λ book. book ≡
-            record { state = empty_book geometry.now.numbers.cpus geometry.now.numbers.snaps 1 0; room = 0 }) }
+            record { state = empty_book geometry.now.numbers 1 0; room = 0 }) }
         ensures err { FailsOnly Fault.OutOfMemory result }
     {
         Book::starting_at(alloc, geometry, Epoch::new(1), CommitNo::new(0))
@@ -96,7 +96,7 @@ impl Book {
         requires epoch_fits { epoch ≤ NUMBER }
         requires commit_fits { commit ≤ NUMBER }
         ensures ok { IfOk result (λ book. book ≡
-            record { state = empty_book geometry.now.numbers.cpus geometry.now.numbers.snaps epoch commit; room = 0 }) }
+            record { state = empty_book geometry.now.numbers epoch commit; room = 0 }) }
         ensures err { FailsOnly Fault.OutOfMemory result }
     {
         let snaps = geometry.numbers.snaps;
@@ -114,7 +114,8 @@ impl Book {
     ///
     /// `CommitLimit` where the last number is 2^62, before `OutOfMemory`.
     pub fn enter(&mut self, seat: u64, need: u64) -> Result<(Epoch, CommitNo), Fault>
-        ensures ok { OnOk result (self.new ≡ record { state = entered seat self.old.state; room = need }) }
+        ensures ok { OnOk result (self.new ≡
+            record { state = entered seat self.old.state; room = need }) }
         ensures epoch { IfOk result (λ fixed. fixed.0 ≡ self.old.state.snaps.epoch) }
         ensures number { IfOk result (λ fixed. fixed.1 ≡ self.new.state.commit) }
         ensures limit { IsRefusedBy result Fault.CommitLimit ↔ (self.old.state.commit ≡ NUMBER) }
@@ -163,12 +164,16 @@ impl Book {
     /// `EpochLimit` where the epoch is 2^62, before `TooManySnapshots`.
     pub fn make_snapshot(&mut self) -> Result<Epoch, Fault>
         ensures made { IsOk result ↔
-            ((self.old.state.snaps.epoch < NUMBER) × (length self.old.state.snaps.living < self.old.state.snaps.most)) }
-        ensures epoch_limit { IsRefusedBy result Fault.EpochLimit ↔ (self.old.state.snaps.epoch ≡ NUMBER) }
+            ((self.old.state.snaps.epoch < NUMBER) ×
+            (length self.old.state.snaps.living < self.old.state.snaps.most)) }
+        ensures epoch_limit { IsRefusedBy result Fault.EpochLimit ↔
+            (self.old.state.snaps.epoch ≡ NUMBER) }
         ensures too_many { IsRefusedBy result Fault.TooManySnapshots ↔
-            ((self.old.state.snaps.epoch < NUMBER) × (length self.old.state.snaps.living ≡ self.old.state.snaps.most)) }
+            ((self.old.state.snaps.epoch < NUMBER) ×
+            (length self.old.state.snaps.living ≡ self.old.state.snaps.most)) }
         ensures number { IfOk result (λ s. s ≡ self.old.state.snaps.epoch) }
-        ensures ok { OnOk result (self.new ≡ record self.old { state = snapshot_made self.old.state }) }
+        ensures ok { OnOk result (self.new ≡
+            record self.old { state = snapshot_made self.old.state }) }
         ensures same { KeepsOnErr result self.old self.new }
     {
         laws::making_keeps_holders();
@@ -186,10 +191,14 @@ impl Book {
     /// `NoSnapshot` where it doesn't live, before `Pinned`.
     pub fn drop_snapshot(&mut self, s: Epoch) -> Result<(), Fault>
         ensures dropped { IsOk result ↔ (pins_of self.old.state.snaps s ≡ Some 0) }
-        ensures no_snapshot { IsRefusedBy result Fault.NoSnapshot ↔ (pins_of self.old.state.snaps s ≡ None) }
-        ensures pinned { IsRefusedBy result Fault.Pinned ↔ IsSomeAnd (pins_of self.old.state.snaps s) (λ pins. 0 < pins) }
-        ensures ok { OnOk result (self.new ≡ record self.old { state = snapshot_dropped s self.old.state }) }
-        ensures gain { OnOk result (block_count self.new.state.deferred ≡ block_count self.old.state.deferred
+        ensures no_snapshot { IsRefusedBy result Fault.NoSnapshot ↔
+            (pins_of self.old.state.snaps s ≡ None) }
+        ensures pinned { IsRefusedBy result Fault.Pinned ↔
+            IsSomeAnd (pins_of self.old.state.snaps s) (λ pins. 0 < pins) }
+        ensures ok { OnOk result (self.new ≡
+            record self.old { state = snapshot_dropped s self.old.state }) }
+        ensures gain { OnOk result (block_count self.new.state.deferred ≡
+            block_count self.old.state.deferred
             + gain_of s (next_older (ids self.old.state.snaps) s) self.old.state.manifests) }
         ensures same { KeepsOnErr result self.old self.new }
     {
@@ -214,7 +223,8 @@ impl Book {
         requires { ForSome (pins_of self.old.state.snaps s) (λ pins. pins < PINS) }
         ensures pinned { IsOk result ↔ IsSome (pins_of self.old.state.snaps s) }
         ensures err { FailsOnly Fault.NoSnapshot result }
-        ensures ok { OnOk result (self.new ≡ record self.old { state = snapshot_pinned s self.old.state }) }
+        ensures ok { OnOk result (self.new ≡
+            record self.old { state = snapshot_pinned s self.old.state }) }
         ensures same { KeepsOnErr result self.old self.new }
     {
         self.snaps.pin(s)
@@ -243,7 +253,8 @@ impl Book {
         requires two { 2 ≤ small_vec_len tails.now }
         requires four { small_vec_len tails.now ≤ 4 }
         requires distinct { AreDistinct tails.now.items }
-        ensures { self.new ≡ record self.old { state = with_journal cpu tails.now.items self.old.state } }
+        ensures { self.new ≡
+            record self.old { state = with_journal cpu tails.now.items self.old.state } }
     {
         let journal = &mut self.journals[cpu as usize];
         journal.open(tails);
@@ -282,7 +293,8 @@ impl Book {
 
     /// How many blocks a drop of the snapshot `s` puts on the deferred list. It takes time by the runs of its manifest.
     pub fn gain(&self, s: Epoch) -> u64
-        ensures { result ≡ gain_of s (next_older (ids self.now.state.snaps) s) self.now.state.manifests }
+        ensures { result ≡
+            gain_of s (next_older (ids self.now.state.snaps) s) self.now.state.manifests }
     {
         laws::pins_stay_with_their_snapshot();
         let _epoch = self.snaps.epoch();
@@ -303,8 +315,8 @@ impl Book {
     /// The living snapshots.
     pub fn snaps(&self) -> &SnapList
         ensures snaps { result.now ≡ self.now.state.snaps }
-        ensures filed { AreFiled (ids self.now.state.snaps) self.now.state.manifests self.now.state.deferred }
-        ensures dead { AreDead self.now.state.snaps.epoch self.now.state.manifests self.now.state.deferred }
+        ensures filed { let now = self.now.state in AreFiled (ids now.snaps) now.manifests now.deferred }
+        ensures dead { let now = self.now.state in AreDead now.snaps.epoch now.manifests now.deferred }
     {
         &self.snaps
     }
@@ -326,8 +338,9 @@ impl Book {
     /// What happened since format: a base, and the latest events after it.
     pub fn history(&self) -> &History
         ensures history { result.now ≡ self.now.state.history }
-        ensures legal { IsLegal self.now.state.history.most self.now.state.history.base self.now.state.history.latest }
-        ensures replayed { now_of self.now.state.history ≡ state_now self.now.state.snaps self.now.state.commit }
+        ensures legal { let all = self.now.state.history in IsLegal all.most all.base all.latest }
+        ensures replayed { now_of self.now.state.history ≡
+            state_now self.now.state.snaps self.now.state.commit }
     {
         let _legal = self.history.len();
         &self.history

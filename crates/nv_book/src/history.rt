@@ -72,7 +72,12 @@ impl History {
     ///
     /// The only error is `OutOfMemory`.
     pub fn new(alloc: Global, snaps: u64, epoch: Epoch, commit: CommitNo) -> Result<History, Fault>
-        ensures ok { IfOk result (λ h. h ≡ record { base = record { epoch = epoch; commit = commit; living = [] }; latest = []; most = snaps }) }
+        ensures ok { IfOk result (λ h. h ≡
+            record {
+              base = record { epoch = epoch; commit = commit; living = [] };
+              latest = [];
+              most = snaps;
+            }) }
         ensures err { IfErr result (λ fault. fault ≡ Fault.OutOfMemory) }
     {
         Ok(History {

@@ -32,7 +32,7 @@ impl Model for RecordList {
 
 impl RecordList {
     /// No records, and no memory.
-    pub fn new(alloc: Global) -> RecordList
+    pub(crate) fn new(alloc: Global) -> RecordList
         ensures { result ≡ [] }
     {
         RecordList {
@@ -48,7 +48,7 @@ impl RecordList {
     }
 
     /// Puts a record to the end. It takes no memory, and a spare node where the record doesn't go on the last.
-    pub fn push(&mut self, last: Record, spare: &mut SpareNodes)
+    pub(crate) fn push(&mut self, last: Record, spare: &mut SpareNodes)
         requires spare { 0 < spare.old }
         requires fits { run_count_of self.old + spare.old < 2 ^ 63 }
         ensures records { self.new ≡ self.old ++ last ∷ [] }
@@ -63,7 +63,7 @@ impl RecordList {
     }
 
     /// Takes the first record out, in constant time.
-    pub fn pick(&mut self) -> Option<Record>
+    pub(crate) fn pick(&mut self) -> Option<Record>
         ensures first { result ≡ slice_get self.old 0 }
         ensures rest { self.new ≡ drop 1 self.old }
         ensures runs { run_count_of self.new ≤ run_count_of self.old }
@@ -89,8 +89,14 @@ impl RecordList {
 
     /// Moves the records in order: those born by the snapshot `older` to the end of `kept`, all others to the end of
     /// `deferred`. It takes no memory, and time by this list's runs alone.
-    pub fn sort_out(self, older: &Option<Epoch>, kept: &mut RecordList, deferred: &mut RecordList)
-        requires fits { run_count_of self + run_count_of kept.old + run_count_of deferred.old < 2 ^ 63 }
+    pub(crate) fn sort_out(
+        self,
+        older: &Option<Epoch>,
+        kept: &mut RecordList,
+        deferred: &mut RecordList,
+    )
+        requires fits { run_count_of self + run_count_of kept.old
+            + run_count_of deferred.old < 2 ^ 63 }
         ensures kept { kept.new ≡ kept.old ++ moved_down older.now self }
         ensures deferred { deferred.new ≡ deferred.old ++ let_go older.now self }
         ensures runs { run_count_of kept.new + run_count_of deferred.new ≤

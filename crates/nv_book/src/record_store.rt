@@ -35,9 +35,19 @@ impl Model for RecordStore {
 
     ghost Value = { Store };
 
-    ghost view = { λ s. record { manifests = s.manifests.items; most = s.most; deferred = s.deferred; room = s.room } };
+    ghost view = { λ s. record {
+      manifests = s.manifests.items;
+      most = s.most;
+      deferred = s.deferred;
+      room = s.room;
+    } };
 
-    ghost invariant = { λ s. IsStore (record { manifests = s.manifests.items; most = s.most; deferred = s.deferred; room = s.room })
+    ghost invariant = { λ s. IsStore (record {
+      manifests = s.manifests.items;
+      most = s.most;
+      deferred = s.deferred;
+      room = s.room;
+    })
         s.count s.spare (vec_capacity s.manifests) };
 }
 
@@ -46,7 +56,8 @@ impl RecordStore {
     ///
     /// The only error is `OutOfMemory`.
     pub fn new(alloc: Global, most: u64) -> Result<RecordStore, Fault>
-        ensures ok { IfOk result (λ store. store ≡ record { manifests = []; most = most; deferred = []; room = 0 }) }
+        ensures ok { IfOk result (λ store. store ≡
+            record { manifests = []; most = most; deferred = []; room = 0 }) }
         ensures err { FailsOnly Fault.OutOfMemory result }
     {
         Ok(RecordStore {
@@ -109,7 +120,8 @@ impl RecordStore {
         requires within { place < length self.old.manifests }
         requires at { slice_index (snapshots self.old.manifests) place ≡ s }
         requires oldest { place ≡ 0 → older.now ≡ None }
-        requires older { 0 < place → older.now ≡ Some (slice_index (snapshots self.old.manifests) (place - 1)) }
+        requires older { 0 < place → older.now ≡
+            Some (slice_index (snapshots self.old.manifests) (place - 1)) }
         ensures { self.new ≡ record self.old {
           manifests = after_drop s older.now self.old.manifests;
           deferred = self.old.deferred ++ let_go older.now (records_at s self.old.manifests);

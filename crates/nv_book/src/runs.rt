@@ -2,8 +2,7 @@
 
 ghost use Rattle.std.specs.Prelude.{◌≡◌, ◌+◌, ◌<◌, ◌≤◌, ◌^◌, [], ◌∷◌, ◌++◌, if◌then◌else◌, drop, length, filter, not, slice_get, sum_by};
 ghost use Rattle.nv_book.specs.Records.{is_born_by, is_held_by};
-ghost use Rattle.nv_book.specs.Runs.{IsRun, AreRuns, joins_last, pages_of, put, records_of};
-ghost use Rattle.nv_book.specs.declared.run.Run.{Run};
+ghost use Rattle.nv_book.specs.Runs.{IsRun, AreRuns, joins_last, pages_where, put, records_of};
 
 use crate::Record;
 use crate::run::Run;
@@ -141,12 +140,14 @@ pub fn sort_out(
     requires kept { AreRuns kept.old }
     requires deferred { AreRuns deferred.old }
     requires fits { length from + length kept.old + length deferred.old < 2 ^ 63 }
-    ensures kept { records_of kept.new ≡ records_of kept.old ++ filter (λ r. is_born_by older.now r) (records_of from) }
+    ensures kept { records_of kept.new ≡
+        records_of kept.old ++ filter (λ r. is_born_by older.now r) (records_of from) }
     ensures deferred { records_of deferred.new ≡
         records_of deferred.old ++ filter (λ r. not (is_born_by older.now r)) (records_of from) }
     ensures kept_runs { AreRuns kept.new }
     ensures deferred_runs { AreRuns deferred.new }
-    ensures room { length kept.new + length deferred.new ≤ length from + length kept.old + length deferred.old }
+    ensures room { length kept.new + length deferred.new ≤ length from + length kept.old
+        + length deferred.old }
 {
     while !from.is_empty() {
         let (run, node) = take_first(&mut from);
@@ -160,8 +161,8 @@ pub fn sort_out(
 
 /// How many blocks the runs have that the snapshot `s` holds.
 pub fn held(list: &LinkedList<Run>, s: Epoch) -> u64
-    requires { sum_by pages_of (filter (λ (run : Run). is_held_by s run.first) list.now) < 2 ^ 64 }
-    ensures { result ≡ sum_by pages_of (filter (λ (run : Run). is_held_by s run.first) list.now) }
+    requires { pages_where (is_held_by s) list.now < 2 ^ 64 }
+    ensures { result ≡ pages_where (is_held_by s) list.now }
 {
     let held = list.iter().filter(|run| run.first.is_held_by(s));
     held.map(|run| run.pages()).sum()
@@ -169,8 +170,8 @@ pub fn held(list: &LinkedList<Run>, s: Epoch) -> u64
 
 /// How many blocks the runs have that were not born by the snapshot `older`.
 pub fn let_go(list: &LinkedList<Run>, older: &Option<Epoch>) -> u64
-    requires { sum_by pages_of (filter (λ (run : Run). not (is_born_by older.now run.first)) list.now) < 2 ^ 64 }
-    ensures { result ≡ sum_by pages_of (filter (λ (run : Run). not (is_born_by older.now run.first)) list.now) }
+    requires { pages_where (λ r. not (is_born_by older.now r)) list.now < 2 ^ 64 }
+    ensures { result ≡ pages_where (λ r. not (is_born_by older.now r)) list.now }
 {
     let others = list.iter().filter(|run| !run.first.is_born_by(older));
     others.map(|run| run.pages()).sum()

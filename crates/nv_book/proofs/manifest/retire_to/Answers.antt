@@ -6,12 +6,14 @@ use Rattle.nv_book.proofs.manifest.retire_to.Goals as goal
 
 pub push-requires-clause-fits : goal.push-requires-clause-fits
 push-requires-clause-fits c =
-    let a : run_count_of c.index_mut-manifest.result.now.records ≤ runs_of c.args.manifests.now.items = total-at run_count_of _ _ _ c.requires.within c.index_mut-manifest.ensures.value in
+    let a : run_count_of c.index_mut-manifest.result.now.records ≤ runs_of c.args.manifests.now.items =
+    total-at run_count_of _ _ _ c.requires.within c.index_mut-manifest.ensures.value in
     let fits = c.requires.fits in
     omega (arith, a, fits)
 
 pub returns-clause-manifests : goal.returns-clause-manifests
-returns-clause-manifests c = rw c.push.ensures.records (put-place _ _ _ _ _ c.requires.rising c.requires.within c.requires.at c.index_mut-manifest.ensures.value)
+returns-clause-manifests c =
+    rw c.push.ensures.records (put-place _ _ _ _ _ c.requires.rising c.requires.within c.requires.at c.index_mut-manifest.ensures.value)
 
 pub returns-clause-room : goal.returns-clause-room
 returns-clause-room c =

@@ -13,10 +13,15 @@ pub returns-in_default-clause-joins : goal.returns-in_default-clause-joins
 returns-in_default-clause-joins c = sym (none-joins c.args.list.now c.args.run.now (empty _ c.in_default.ensures.variant.1))
 
 pub returns-then-not-joins-clause-joins : goal.returns-then-not-joins-clause-joins
-returns-then-not-joins-clause-joins c = sym (last-joins _ _ c.args.run.now (c.in-Some.ensures.variant.0 refl) c.in-Some.ensures.value ∙ (sym c.joins.ensures ∙ c.if-not-joins.true))
+returns-then-not-joins-clause-joins c =
+    sym (last-joins _ _ c.args.run.now (c.in-Some.ensures.variant.0 refl) c.in-Some.ensures.value
+    ∙ (sym c.joins.ensures ∙ c.if-not-joins.true))
 
 pub returns-clause-joins : goal.returns-clause-joins
-returns-clause-joins c = sym (last-joins _ _ c.args.run.now (c.in-Some.ensures.variant.0 refl) c.in-Some.ensures.value ∙ (sym c.joins.ensures ∙ c.if-not-joins.false))
+returns-clause-joins c =
+    sym (last-joins _ _ c.args.run.now (c.in-Some.ensures.variant.0 refl) c.in-Some.ensures.value
+    ∙ (sym c.joins.ensures ∙ c.if-not-joins.false))
 
 pub returns-clause-list : goal.returns-clause-list
-returns-clause-list c = last-put _ _ c.args.run.now (c.in-Some.ensures.variant.0 refl) c.in-Some.ensures.value (sym c.joins.ensures ∙ c.if-not-joins.false)
+returns-clause-list c = last-put _ _ c.args.run.now (c.in-Some.ensures.variant.0 refl) c.in-Some.ensures.value
+    (sym c.joins.ensures ∙ c.if-not-joins.false)

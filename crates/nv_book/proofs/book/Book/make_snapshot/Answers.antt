@@ -7,5 +7,6 @@ pub invariant_of-self-2 : goal.invariant_of-self-2
 invariant_of-self-2 c =
     let book = c.self.invariant in
     let filed = c.making_files.ensures.made _ _ _ _ book.dead book.filed in
-    let n = subst (λ s. IsNoted c.self.inside.history (Made s) c.note.new.self) c.in_ok-s.ensures.number (noted-event _ _ _ _ c.note.ensures.account c.note.ensures.now) in
+    let n = subst (λ s. IsNoted c.self.inside.history (Made s) c.note.new.self) c.in_ok-s.ensures.number
+    (noted-event _ _ _ _ c.note.ensures.account c.note.ensures.now) in
     rw (c.in_ok-s.ensures.ok, c.make-2.ensures, c.in_ok-s.ensures.number) (book-made _ _ _ _ book _ filed n)

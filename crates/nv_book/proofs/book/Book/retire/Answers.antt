@@ -15,12 +15,16 @@ none-retired b r e =
     subst (λ o. b ≡ with (put_to o (r ∷ []) b.manifests)) (sym e) (ap with (sym (put-none (r ∷ []) b.manifests)))
 
 pub returns-in_default-clause-state : goal.returns-in_default-clause-state
-returns-in_default-clause-state c = none-retired c.args.self.now.state c.args.killed (subst (λ (b : BookValue). holder_of (ids b.state.snaps) c.args.killed ≡ None) c.self.view_is (sym c.in_default.ensures))
+returns-in_default-clause-state c =
+    none-retired c.args.self.now.state c.args.killed
+    (subst (λ (b : BookValue). holder_of (ids b.state.snaps) c.args.killed ≡ None) c.self.view_is (sym c.in_default.ensures))
 
 pub unreachable-requires : goal.unreachable-requires
 unreachable-requires c =
-    let y = (c.holders_are_told_by_the_list.ensures.youngest (ids c.self.inside.snaps) c.args.killed.birth c.args.killed.death c.in-Some.s c.epoch-epoch.ensures.sound.rising).0 (sym c.in-Some.ensures) in
-    let p : IsSome (pins_at c.self.inside.snaps.living c.in-Some.s) = (c.pins_stay_with_their_snapshot.ensures.lives c.self.inside.snaps.living c.in-Some.s).1 y.lives in
+    let y = (c.holders_are_told_by_the_list.ensures.youngest (ids c.self.inside.snaps) c.args.killed.birth c.args.killed.death c.in-Some.s
+    c.epoch-epoch.ensures.sound.rising).0 (sym c.in-Some.ensures) in
+    let p : IsSome (pins_at c.self.inside.snaps.living c.in-Some.s) =
+    (c.pins_stay_with_their_snapshot.ensures.lives c.self.inside.snaps.living c.in-Some.s).1 y.lives in
     let q = subst (λ o. IsSome o) c.in_default-place.ensures.absent p in
     cc q
 

@@ -13,4 +13,6 @@ held-requires c =
     omega (arith, same, le, n, few)
 
 pub returns : goal.returns
-returns c = c.held.ensures ∙ (of-runs (is_held_by c.args.s) (held-together c.args.s) c.self.inside.runs ∙ ap (λ rs. block_count (filter (is_held_by c.args.s) rs)) c.self.view_is)
+returns c = c.held.ensures
+    ∙ (of-runs (is_held_by c.args.s) (held-together c.args.s) c.self.inside.runs
+    ∙ ap (λ rs. block_count (filter (is_held_by c.args.s) rs)) c.self.view_is)

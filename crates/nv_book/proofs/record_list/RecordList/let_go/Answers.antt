@@ -13,4 +13,6 @@ let_go-requires c =
     omega (arith, same, le, n, few)
 
 pub returns : goal.returns
-returns c = c.let_go.ensures ∙ (of-runs (λ r. not (is_born_by c.args.older.now r)) (let_go-together c.args.older.now) c.self.inside.runs ∙ ap (λ rs. block_count (let_go c.args.older.now rs)) c.self.view_is)
+returns c = c.let_go.ensures
+    ∙ (of-runs (λ r. not (is_born_by c.args.older.now r)) (let_go-together c.args.older.now) c.self.inside.runs
+    ∙ ap (λ rs. block_count (let_go c.args.older.now rs)) c.self.view_is)

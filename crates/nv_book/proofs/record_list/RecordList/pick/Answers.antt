@@ -12,7 +12,8 @@ returns-clause-rest c = c.pick.ensures.rest ∙ ap (drop 1) c.self.view_is
 
 pub returns-clause-runs : goal.returns-clause-runs
 returns-clause-runs c =
-    let a : run_count_of c.args.self.now ≡ length c.self.inside.runs = ap run_count_of (sym c.self.view_is) ∙ count-runs _ c.self.invariant in
+    let a : run_count_of c.args.self.now ≡ length c.self.inside.runs = ap run_count_of (sym c.self.view_is)
+    ∙ count-runs _ c.self.invariant in
     let b : run_count_of (records_of c.pick.new.list) ≡ length c.pick.new.list = count-runs _ c.pick.ensures.runs in
     let room = c.pick.ensures.room in
     omega (arith, a, b, room)

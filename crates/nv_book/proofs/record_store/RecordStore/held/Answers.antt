@@ -9,6 +9,8 @@ pub overflow_add-count : goal.overflow_add-count
 overflow_add-count c =
     let ms = c.args.self.now.manifests in
     let same : c.deref-m-items.result.now ≡ ms = c.deref-m-items.ensures.value ∙ ap (λ (u : Store). u.manifests) c.self.view_is in
-    let few : record_count ms ≤ NUMBER = subst (λ (u : Store). record_count u.manifests ≤ NUMBER) c.self.view_is (let counted = c.self.invariant.counted in let fits = c.self.invariant.fits in omega (arith, counted, fits)) in
+    let few : record_count ms ≤ NUMBER =
+    subst (λ (u : Store). record_count u.manifests ≤ NUMBER) c.self.view_is
+    (let counted = c.self.invariant.counted in let fits = c.self.invariant.fits in omega (arith, counted, fits)) in
     let more = held-more c.args.s ms c.loop-m.m-index c.m-item.result (rw same at c.loop-m-test.true) (rw same at c.m-item.is) in
     omega (arith, few, more, c.held-count.ensures, c.loop-m.invariant)
