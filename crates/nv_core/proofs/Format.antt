@@ -1,5 +1,5 @@
 -- A new world is lawful.
-use Rattle.std.proofs.Common.{ℕ, zero, suc, ◌<◌, ◌≤◌, ◌^◌, [], ◌∷◌, ◌≡◌, None, Some, arith, refl}
+use Rattle.std.proofs.Common.{ℕ, zero, suc, ◌<◌, ◌≤◌, [], ◌∷◌, ◌≡◌, None, Some, arith, refl}
 use Rattle.nv_base.specs.declared.geometry.GeometryNumbers.{GeometryNumbers}
 use Rattle.nv_base.specs.declared.limits.TheConstants.{BLOCKS, NUMBER}
 use Rattle.nv_base.specs.declared.node.Kind.TheVariants.{Dir}
@@ -15,7 +15,8 @@ root_kept block commit zero some = record {
 }
 root_kept block commit (suc ino) some = record { sound = refl; in_use = λ number u. let none : None ≡ Some number = u.1 in cc }
 
-pub format_is_world : (numbers : GeometryNumbers) (commit : ℕ) → 0 < numbers.block → numbers.blocks ≤ BLOCKS → 1 ≤ numbers.inodes → commit ≤ NUMBER
+pub format_is_world : (numbers : GeometryNumbers) (commit : ℕ) → 0 < numbers.block → numbers.blocks ≤ BLOCKS → 1 ≤ numbers.inodes
+    → commit ≤ NUMBER
     → IsWorld (formatted numbers commit)
 format_is_world numbers commit some few slots fits = record {
   some_bytes = some;

@@ -1,6 +1,7 @@
 -- How many data blocks and inode slots calls take.
-use Rattle.std.proofs.Common.{◌≡◌, ℕ, ◌+◌, ◌^◌, ◌<◌, List, [], ◌∷◌, length, Result, Ok, Err, IfOk, IfErr, arith, refl, ap, sym, ◌∙◌}
+use Rattle.std.proofs.Common.{◌≡◌, ℕ, ◌+◌, ◌<◌, List, [], ◌∷◌, length, Result, Ok, Err, IfOk, arith, refl, ap, sym, ◌∙◌}
 use Rattle.std.proofs.lemmas.List.{length-append, length-set}
+use Rattle.nv_base.specs.Refusals.{KeepsOnErr}
 use Rattle.nv_base.specs.declared.fault.Fault.{Fault}
 use Rattle.nv_base.specs.declared.numbers.Handle.{Handle}
 use Rattle.nv_entry.specs.declared.item.Entry.{Entry}
@@ -42,12 +43,12 @@ some_takes block offset (byte ∷ rest) some = refl
 pub write_takes : (old : WorldValue) (file : Handle) (offset : ℕ) (text : List ℕ) (result : Result Answer Fault) (new : WorldValue)
     → 0 < length text
     → IfOk result (λ a. (a ≡ answer.Count (length text)) × (write_check (numbers_of old) (plain_of old) file offset text ≡ Ok tt) ×
-    (old.commit < 2 ^ 62) × IsWritten old file offset text new)
-    → IfErr result (λ _. new ≡ old)
+    IsWritten old file offset text new)
+    → KeepsOnErr result old new
     → Takes (call.Write file offset text) old result new
 write_takes old file offset text (Ok a) new some ok same = record {
-  blocks = ap (λ w. length w.data_blocks) ok.3.world ∙ wrote_blocks old file offset text ok.3.run ∙ ap (λ n. length old.data_blocks + n)
+  blocks = ap (λ w. length w.data_blocks) ok.2.world ∙ wrote_blocks old file offset text ok.2.run ∙ ap (λ n. length old.data_blocks + n)
       (sym (some_takes old.numbers.block offset text some));
-  inodes = ap (λ w. length w.logs) ok.3.world ∙ slots_one_more old file.ino _ ∙ omega arith;
+  inodes = ap (λ w. length w.logs) ok.2.world ∙ slots_one_more old file.ino _ ∙ omega arith;
 }
 write_takes old file offset text (Err why) new some ok same = refused_takes_none (call.Write file offset text) old why new same

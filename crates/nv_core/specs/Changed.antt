@@ -1,6 +1,8 @@
 -- The world after a call.
-use Rattle.std.specs.Prelude.{◌≡◌, ℕ, ◌+◌, ◌/◌, List, [], ◌∷◌, ◌++◌, length, map, slice_set}
+use Rattle.std.specs.Prelude.{◌≡◌, ℕ, ◌+◌, ◌/◌, ◌<◌, Result, Ok, Err, List, [], ◌∷◌, ◌++◌, length, map, slice_set}
 use Rattle.std.specs.List.{range_with_len}
+use Rattle.nv_base.specs.declared.fault.Fault.{Fault}
+use Rattle.nv_base.specs.declared.limits.TheConstants.{NUMBER}
 use Rattle.nv_base.specs.declared.node.Kind.TheVariants.{File}
 use Rattle.nv_base.specs.declared.numbers.Handle.{Handle}
 use Rattle.nv_entry.specs.declared.item.Entry.{Entry}
@@ -16,6 +18,11 @@ use Rattle.nv_core.specs.World.{IsWorld, WorldValue, bytes_in, log_at, next_hand
 pub record StandsFor (world : WorldValue) (plain : Plain) : Type 0 where
   pub same : plain_of world ≡ plain
   pub lawful : IsWorld world
+
+-- what the tests of a call that commits answer: the next commit number, or the fault that refuses it
+abbrev pub IsChecked : Result (Unit {0}) Fault → ℕ → Result ℕ Fault → Type 0
+IsChecked check last (Ok commit) = (check ≡ Ok tt) × (commit ≡ last + 1) × (last < NUMBER)
+IsChecked check last (Err fault) = check ≡ Err fault
 
 -- an entry of the first epoch
 abbrev pub new_entry : ℕ → ℕ → Item → Entry

@@ -1,5 +1,5 @@
 -- The plain world: nodes by handle, and what calls do to them.
-use Rattle.std.specs.Prelude.{ℕ, ◌+◌, ◌*◌, ◌^◌, ◌==◌, ◌&&◌, Bool, true, false, not, if◌then◌else◌, nat_lt, nat_le, is_some, List, [], ◌∷◌, length, Option, Some, None, Result, Ok, Err, option_map}
+use Rattle.std.specs.Prelude.{ℕ, ◌+◌, ◌*◌, ◌==◌, ◌&&◌, Bool, true, false, not, if◌then◌else◌, nat_lt, nat_le, is_some, List, [], ◌∷◌, length, Option, Some, None, Result, Ok, Err, option_map}
 use Rattle.nv_base.specs.Names.{is_lawful_name}
 use Rattle.nv_base.specs.declared.fault.Fault.{Fault}
 use Rattle.nv_base.specs.declared.fault.Fault.TheVariants as fault
@@ -100,11 +100,13 @@ abbrev pub passed : Result (Unit {0}) Fault → Outcome → Outcome
 passed (Err fault) outcome = Refuses fault
 passed (Ok nothing) outcome = outcome
 
+-- the last test of a call that commits
+abbrev pub commit_check : Plain → Result (Unit {0}) Fault
+commit_check plain = refuse_if (nat_le NUMBER plain.commit) fault.CommitLimit (Ok tt)
+
 -- an answer with the next commit number, and what that commit does
 abbrev pub committed : Answer → (ℕ → Plain → Plain) → Plain → Outcome
-committed answer change plain =
-    passed (refuse_if (nat_le NUMBER plain.commit) fault.CommitLimit (Ok tt))
-    (Answers answer (change (plain.commit + 1) (record plain { commit = plain.commit + 1 })))
+committed answer change plain = Answers answer (change (plain.commit + 1) (record plain { commit = plain.commit + 1 }))
 
 -- ---- calls
 
@@ -117,7 +119,7 @@ create_check numbers plain dir name =
     want_directory (kind_in plain dir)
     (refuse_if (not (is_lawful_name name)) fault.BadName
     (refuse_if (is_some (bound_to name (names_of_node (node_in plain dir)))) fault.Exists
-    (refuse_if (numbers.inodes == 0) fault.NoInode (Ok tt))))
+    (refuse_if (numbers.inodes == 0) fault.NoInode (commit_check plain))))
 
 -- a new file in a directory
 abbrev pub file_made : Handle → List ℕ → ℕ → Handle → ℕ → Plain → Plain
@@ -134,7 +136,7 @@ write_check numbers plain file offset text =
     want_file (kind_in plain file)
     (refuse_if (nat_lt WRITE_PAGES (pages_touched numbers.block offset (length text))) fault.WriteTooBig
     (refuse_if (nat_lt (FILE_PAGES * numbers.block) (offset + length text)) fault.FileTooBig
-    (refuse_if (nat_lt numbers.blocks (pages_touched numbers.block offset (length text))) fault.NoSpace (Ok tt))))
+    (refuse_if (nat_lt numbers.blocks (pages_touched numbers.block offset (length text))) fault.NoSpace (commit_check plain))))
 
 abbrev pub file_written : Handle → ℕ → List ℕ → ℕ → Plain → Plain
 file_written file offset text commit plain = changed_at file commit (option_map (rewritten offset text)) plain

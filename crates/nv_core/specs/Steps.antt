@@ -1,7 +1,7 @@
 -- What a world replies to an event, and what it leaves.
 use Rattle.std.specs.Prelude.{◌≡◌, ℕ, ◌+◌, ◌⊎◌, nat_lt, List, [], ◌∷◌, length, Option, Some, None, Result, Ok, Err, MatchBool, slice_index_or, slice_set}
 use Rattle.nv_base.specs.declared.fault.Fault.{Fault}
-use Rattle.nv_base.specs.declared.fault.Fault.TheVariants.{ActorBusy, ActorIdle, CommitLimit, NoActor, OutOfMemory}
+use Rattle.nv_base.specs.declared.fault.Fault.TheVariants.{ActorBusy, ActorIdle, NoActor, OutOfMemory}
 use Rattle.nv_core.specs.declared.call.Answer.{Answer}
 use Rattle.nv_core.specs.declared.call.Call.{Call}
 use Rattle.nv_core.specs.declared.call.Call.TheVariants.{Create, Write}
@@ -13,12 +13,12 @@ use Rattle.nv_entry.specs.Bytes.{pages_touched}
 use Rattle.nv_core.specs.Plain.{Outcome, Refuses, Answers, outcome_of}
 use Rattle.nv_core.specs.World.{WorldValue, numbers_of, plain_of}
 
--- a call is answered as the outcome says, and the world then stands for the plain world after it; or it is
--- refused, as the outcome says or for want of memory, and nothing has changed. Want of memory may come in
--- place of an answer, and before the limit of commit numbers is met.
+-- a call is answered as the outcome says, and the world then stands for the plain world after it, or want of
+-- memory comes in place of the answer; a call that the outcome refuses is refused by that fault. A refusal changes
+-- nothing.
 abbrev pub IsOutcome : Outcome → WorldValue → Result Answer Fault → WorldValue → Type 0
 IsOutcome (Answers answer after) old result new = ((result ≡ Ok answer) × (plain_of new ≡ after)) ⊎ ((result ≡ Err OutOfMemory) × (new ≡ old))
-IsOutcome (Refuses fault) old result new = ((result ≡ Err fault) ⊎ ((fault ≡ CommitLimit) × (result ≡ Err OutOfMemory))) × (new ≡ old)
+IsOutcome (Refuses fault) old result new = (result ≡ Err fault) × (new ≡ old)
 
 abbrev pub reply_of : Result Answer Fault → Reply
 reply_of (Ok answer) = Done answer

@@ -1,11 +1,10 @@
 //! Making files.
 
-ghost use Rattle.std.specs.Prelude.{◌≡◌, ◌+◌, ◌<◌, ◌≤◌, ◌⊎◌, Ok, Err, IfErr, IfOk};
-ghost use Rattle.std.specs.Prelude.{◌∷◌, ◌++◌, [], OnErr, OnOk, slice_index_or, slice_set, vec_capacity, vec_len};
-ghost use Rattle.nv_base.specs.declared.limits.TheConstants.{NUMBER};
-ghost use Rattle.nv_core.specs.Changed.{created, new_entry};
+ghost use Rattle.std.specs.Prelude.{◌≡◌, ◌<◌, ◌∷◌, ◌++◌, [], Ok, IfOk, OnOk, slice_index_or, slice_set, vec_capacity, vec_len};
+ghost use Rattle.nv_base.specs.Refusals.{FailsAsChecked, KeepsOnErr};
+ghost use Rattle.nv_core.specs.Changed.{IsChecked, created, new_entry};
 ghost use Rattle.nv_core.specs.Logs.{logs_of};
-ghost use Rattle.nv_core.specs.Plain.{create_check};
+ghost use Rattle.nv_core.specs.Plain.{commit_check, create_check};
 ghost use Rattle.nv_core.specs.World.{next_handle, numbers_of, plain_of};
 
 use crate::{Answer, World};
@@ -18,19 +17,13 @@ impl World {
     pub(crate) fn create(&mut self, dir: Handle, name: &[u8], mode: Mode) -> Result<Answer, Fault>
         ensures ok { IfOk result (λ answer. (answer ≡ Answer.Made (next_handle self.old))
             × (create_check (numbers_of self.old) (plain_of self.old) dir name.now ≡ Ok tt)
-            × (self.old.commit < NUMBER)
             × (self.new ≡ created self.old dir name.now mode)) }
-        ensures same { IfErr result (λ _. self.new ≡ self.old) }
-        ensures err { IfErr result (λ fault.
-            (create_check (numbers_of self.old) (plain_of self.old) dir name.now ≡ Err fault)
-            ⊎ ((create_check (numbers_of self.old) (plain_of self.old) dir name.now ≡ Ok tt)
-            × (fault ≡ Fault.OutOfMemory))
-            ⊎ ((create_check (numbers_of self.old) (plain_of self.old) dir name.now ≡ Ok tt)
-            × (fault ≡ Fault.CommitLimit) × (NUMBER ≤ self.old.commit))) }
+        ensures err { FailsAsChecked
+            (create_check (numbers_of self.old) (plain_of self.old) dir name.now) result }
+        ensures same { KeepsOnErr result self.old self.new }
     {
-        self.check_create(&dir, name)?;
+        let commit = self.check_create(&dir, name)?;
         let ino = slot_of(&dir);
-        let commit = self.next_commit()?;
         let to = self.next_handle();
         let made = self.next_handle();
         let name = Name::read(self.alloc, name)?;
@@ -51,9 +44,10 @@ impl World {
         }
     }
 
-    /// Why a create is refused before it takes memory.
-    fn check_create(&self, dir: &Handle, name: &[u8]) -> Result<(), Fault>
-        ensures { result ≡ create_check (numbers_of self.now) (plain_of self.now) dir.now name.now }
+    /// The number that a create commits with, or why it is refused before it takes memory.
+    fn check_create(&self, dir: &Handle, name: &[u8]) -> Result<CommitNo, Fault>
+        ensures { IsChecked (create_check (numbers_of self.now) (plain_of self.now) dir.now name.now)
+            self.now.commit result }
     {
         match self.kind_under(dir) {
             None => return Err(Fault::Stale),
@@ -67,15 +61,12 @@ impl World {
         if self.geometry.numbers.inodes - self.logs.len() as u64 == 0 {
             return Err(Fault::NoInode);
         }
-        Ok(())
+        self.next_commit()
     }
 
     /// The number of the next commit.
     pub(crate) fn next_commit(&self) -> Result<CommitNo, Fault>
-        ensures ok { IfOk result (λ commit.
-            (commit ≡ self.now.commit + 1) × (self.now.commit < NUMBER)) }
-        ensures err { IfErr result (λ fault.
-            (fault ≡ Fault.CommitLimit) × (NUMBER ≤ self.now.commit)) }
+        ensures { IsChecked (commit_check (plain_of self.now)) self.now.commit result }
     {
         if self.commit.number() >= limits::NUMBER {
             return Err(Fault::CommitLimit);
@@ -117,7 +108,7 @@ fn add_file(
     ensures ok { OnOk result (logs_of logs.new
         ≡ slice_set (logs_of logs.old) ino
         (slice_index_or (logs_of logs.old) ino [] ++ bind ∷ []) ++ log.items ∷ []) }
-    ensures err { OnErr result (logs_of logs.new ≡ logs_of logs.old) }
+    ensures err { KeepsOnErr result (logs_of logs.old) (logs_of logs.new) }
 {
     logs.reserve(1)?;
     append(logs, ino, bind)?;
@@ -131,7 +122,7 @@ pub(crate) fn append(logs: &mut Vec<Vec<Entry>>, ino: usize, entry: Entry) -> Re
     ensures ok { OnOk result (logs_of logs.new
         ≡ slice_set (logs_of logs.old) ino
         (slice_index_or (logs_of logs.old) ino [] ++ entry ∷ [])) }
-    ensures err { OnErr result (logs_of logs.new ≡ logs_of logs.old) }
+    ensures err { KeepsOnErr result (logs_of logs.old) (logs_of logs.new) }
     ensures len { vec_len logs.new ≡ vec_len logs.old }
     ensures capacity { vec_capacity logs.new ≡ vec_capacity logs.old }
 {

@@ -1,6 +1,7 @@
 //! The bytes of data blocks, by their numbers.
 
-ghost use Rattle.std.specs.Prelude.{◌≡◌, ◌++◌, [], OnErr, OnOk, length};
+ghost use Rattle.std.specs.Prelude.{◌≡◌, ◌++◌, [], OnOk, length};
+ghost use Rattle.nv_base.specs.Refusals.{KeepsOnErr};
 
 use nv_base::{BlockNo, Bytes};
 use nv_entry::BlockBytes;
@@ -39,7 +40,7 @@ impl DataBlocks {
     /// Adds blocks behind the others. Where there is no room for them, nothing changes.
     pub fn add(&mut self, mut blocks: Vec<Bytes>) -> Result<(), AllocError>
         ensures ok { OnOk result (self.new ≡ self.old ++ blocks.items) }
-        ensures err { OnErr result (self.new ≡ self.old) }
+        ensures err { KeepsOnErr result self.old self.new }
     {
         self.blocks.append(&mut blocks)
     }

@@ -1,11 +1,12 @@
 //! Writing and reading files.
 
-ghost use Rattle.std.specs.Prelude.{◌≡◌, ◌+◌, ◌-◌, ◌*◌, ◌/◌, ◌<◌, ◌≤◌, ◌^◌, ◌⊎◌, ◌∷◌, ◌++◌, [], Ok, Err, IfErr, IfOk, OnErr, OnOk, length, map, slice_index_or, slice_set, vec_len};
+ghost use Rattle.std.specs.Prelude.{◌≡◌, ◌+◌, ◌-◌, ◌*◌, ◌/◌, ◌<◌, ◌≤◌, ◌^◌, ◌∷◌, ◌++◌, [], Ok, IfOk, OnOk, length, map, slice_index_or, slice_set, vec_len};
 ghost use Rattle.std.specs.List.{range_with_len};
-ghost use Rattle.nv_base.specs.declared.limits.TheConstants.{BLOCKS, BLOCK_BYTES, FILE_PAGES, NUMBER};
+ghost use Rattle.nv_base.specs.Refusals.{FailsAsChecked, KeepsOnErr};
+ghost use Rattle.nv_base.specs.declared.limits.TheConstants.{BLOCKS, BLOCK_BYTES, FILE_PAGES};
 ghost use Rattle.nv_entry.specs.Node.{file_bytes};
 ghost use Rattle.nv_entry.specs.Bytes.{page_of, pages_touched, read_at, written};
-ghost use Rattle.nv_core.specs.Changed.{IsWritten, bytes_at, new_entry};
+ghost use Rattle.nv_core.specs.Changed.{IsChecked, IsWritten, bytes_at, new_entry};
 ghost use Rattle.nv_core.specs.Logs.{logs_of};
 ghost use Rattle.nv_core.specs.Plain.{kind_in, want_file, write_check};
 ghost use Rattle.nv_core.specs.World.{bytes_in, numbers_of, plain_of};
@@ -23,27 +24,16 @@ impl World {
         requires { 0 < length text.now }
         ensures ok { IfOk result (λ answer. (answer ≡ Answer.Count (length text.now))
             × (write_check (numbers_of self.old) (plain_of self.old) file offset text.now ≡ Ok tt)
-            × (self.old.commit < NUMBER) × IsWritten self.old file offset text.now self.new) }
-        ensures same { IfErr result (λ _. self.new ≡ self.old) }
-        ensures err { IfErr result (λ fault.
-            (write_check (numbers_of self.old) (plain_of self.old) file offset text.now ≡ Err fault)
-            ⊎ ((write_check (numbers_of self.old) (plain_of self.old) file offset text.now ≡ Ok tt)
-            × (fault ≡ Fault.OutOfMemory))
-            ⊎ ((write_check (numbers_of self.old) (plain_of self.old) file offset text.now ≡ Ok tt)
-            × (fault ≡ Fault.CommitLimit) × (NUMBER ≤ self.old.commit))) }
+            × IsWritten self.old file offset text.now self.new) }
+        ensures err { FailsAsChecked
+            (write_check (numbers_of self.old) (plain_of self.old) file offset text.now) result }
+        ensures same { KeepsOnErr result self.old self.new }
     {
-        self.check_write(&file, offset, text)?;
-        let commit = self.next_commit()?;
+        let commit = self.check_write(&file, offset, text)?;
         let ino = slot_of(&file);
         let block = self.geometry.numbers.block;
-        let bytes = bytes_written(
-            self.alloc,
-            block,
-            &self.logs[ino],
-            &self.blocks,
-            offset,
-            text,
-        )?;
+        let log = self.log_of(&file);
+        let bytes = bytes_written(self.alloc, block, log, &self.blocks, offset, text)?;
         let first = offset / block;
         let count = pages_touched(block, offset, text.len() as u64);
         let pages = cut_pages(self.alloc, block, first, count, &bytes)?;
@@ -59,20 +49,12 @@ impl World {
         ensures ok { IfOk result (λ answer.
             (want_file (kind_in (plain_of self.now) file) (Ok tt) ≡ Ok tt)
             × (answer ≡ Answer.Bytes (read_at offset count (bytes_at self.now file.ino)))) }
-        ensures err { IfErr result (λ fault.
-            (want_file (kind_in (plain_of self.now) file) (Ok tt) ≡ Err fault)
-            ⊎ ((want_file (kind_in (plain_of self.now) file) (Ok tt) ≡ Ok tt)
-            × (fault ≡ Fault.OutOfMemory))) }
+        ensures err { FailsAsChecked (want_file (kind_in (plain_of self.now) file) (Ok tt)) result }
     {
         self.check_file(&file)?;
-        let log = &self.logs[slot_of(&file)];
-        let bytes = file_bytes_when(
-            self.alloc,
-            self.geometry.numbers.block,
-            When::Now,
-            log,
-            &self.blocks,
-        )?;
+        let block = self.geometry.numbers.block;
+        let log = self.log_of(&file);
+        let bytes = file_bytes_when(self.alloc, block, When::Now, log, &self.blocks)?;
         Ok(Answer::Bytes(part_of(self.alloc, bytes.as_slice(), offset, count)?))
     }
 
@@ -87,11 +69,12 @@ impl World {
         }
     }
 
-    /// Why a write of at least one byte is refused before it takes memory.
-    fn check_write(&self, file: &Handle, offset: u64, text: &[u8]) -> Result<(), Fault>
+    /// The number that a write of at least one byte commits with, or why it is refused before it takes memory.
+    fn check_write(&self, file: &Handle, offset: u64, text: &[u8]) -> Result<CommitNo, Fault>
         requires { 0 < length text.now }
-        ensures check { result
-            ≡ write_check (numbers_of self.now) (plain_of self.now) file.now offset text.now }
+        ensures check { IsChecked
+            (write_check (numbers_of self.now) (plain_of self.now) file.now offset text.now)
+            self.now.commit result }
         ensures fits { OnOk result (offset + length text.now ≤ FILE_PAGES * self.now.numbers.block) }
     {
         match self.kind_under(file) {
@@ -111,7 +94,7 @@ impl World {
         if pages > self.geometry.numbers.blocks - self.blocks.len() as u64 {
             return Err(Fault::NoSpace);
         }
-        Ok(())
+        self.next_commit()
     }
 }
 
@@ -234,8 +217,8 @@ fn add_pages(
     ensures log { OnOk result (logs_of logs.new ≡ slice_set (logs_of logs.old) ino
         (slice_index_or (logs_of logs.old) ino [] ++ entry ∷ [])) }
     ensures blocks { OnOk result (blocks.new ≡ blocks.old ++ pages.items) }
-    ensures same_log { OnErr result (logs_of logs.new ≡ logs_of logs.old) }
-    ensures same_blocks { OnErr result (blocks.new ≡ blocks.old) }
+    ensures same_log { KeepsOnErr result (logs_of logs.old) (logs_of logs.new) }
+    ensures same_blocks { KeepsOnErr result blocks.old blocks.new }
 {
     logs[ino].reserve(1)?;
     blocks.add(pages)?;

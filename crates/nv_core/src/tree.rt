@@ -1,6 +1,7 @@
 //! The tree of a world: its nodes with their paths.
 
-ghost use Rattle.std.specs.Prelude.{◌≡◌, ◌++◌, ◌∷◌, [], IfErr, IfOk, length};
+ghost use Rattle.std.specs.Prelude.{◌≡◌, ◌++◌, ◌∷◌, [], IfOk, length};
+ghost use Rattle.nv_base.specs.Refusals.{FailsOnly};
 ghost use Rattle.nv_core.specs.Tree.{path_below, tree_from, tree_of};
 ghost use Rattle.nv_core.specs.Plain.{node_in};
 ghost use Rattle.nv_core.specs.World.{plain_of};
@@ -29,7 +30,7 @@ impl World {
     pub fn tree(&self) -> Result<Tree, Fault>
         ensures ok { IfOk result (λ tree. tree
             ≡ tree_of (length self.now.logs) (plain_of self.now)) }
-        ensures err { IfErr result (λ fault. fault ≡ Fault.OutOfMemory) }
+        ensures err { FailsOnly Fault.OutOfMemory result }
     {
         let path = Path::empty(self.alloc);
         let root = Handle {

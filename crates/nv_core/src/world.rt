@@ -1,6 +1,7 @@
 //! A world: the logs of its inodes, its data blocks, and its actors.
 
-ghost use Rattle.std.specs.Prelude.{◌≡◌, ◌≤◌, IfOk, IfErr, None, replicate};
+ghost use Rattle.std.specs.Prelude.{◌≡◌, ◌≤◌, IfOk, None, replicate};
+ghost use Rattle.nv_base.specs.Refusals.{FailsOnly};
 ghost use Rattle.nv_base.specs.declared.limits.TheConstants.{NUMBER};
 ghost use Rattle.nv_core.specs.Roots.{formatted, root_log};
 
@@ -41,7 +42,7 @@ impl World {
     /// An empty world: the root alone, a directory of mode 493 (octal 755).
     pub fn format(alloc: Global, geometry: Geometry) -> Result<World, Fault>
         ensures ok { IfOk result (λ world. world ≡ formatted geometry.numbers 0) }
-        ensures err { IfErr result (λ fault. fault ≡ Fault.OutOfMemory) }
+        ensures err { FailsOnly Fault.OutOfMemory result }
     {
         World::format_at(alloc, geometry, CommitNo::new(0))
     }
@@ -50,7 +51,7 @@ impl World {
     pub fn format_at(alloc: Global, geometry: Geometry, commit: CommitNo) -> Result<World, Fault>
         requires { commit ≤ NUMBER }
         ensures ok { IfOk result (λ world. world ≡ formatted geometry.numbers commit) }
-        ensures err { IfErr result (λ fault. fault ≡ Fault.OutOfMemory) }
+        ensures err { FailsOnly Fault.OutOfMemory result }
     {
         let root = root_log(alloc, commit)?;
         let mut logs = Vec::with_capacity(alloc, 1)?;

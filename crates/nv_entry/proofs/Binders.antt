@@ -3,7 +3,6 @@ use Rattle.std.proofs.Common.{◌≡◌, ℕ, ◌⊎◌, inl, inr, ◌&&◌, ◌
 use Rattle.std.specs.Prelude.{filter, find}
 use Rattle.std.specs.List.{AllByRecursion, flat_map}
 use Rattle.std.specs.Option.{option_map, is_some}
-use Rattle.std.proofs.lemmas.Bool.{false_from_ne_true}
 use Rattle.nv_base.specs.Names.{same_name}
 use Rattle.nv_base.specs.declared.numbers.EntryId.{EntryId}
 use Rattle.nv_entry.specs.declared.item.Entry.{Entry}
@@ -14,25 +13,20 @@ use Rattle.nv_entry.specs.declared.names.BoundName.{BoundName}
 use Rattle.nv_entry.specs.declared.part_ref.PartRef.{PartRef}
 use Rattle.nv_entry.specs.Covered.{any_cover}
 use Rattle.nv_entry.specs.Index.{bound_name, names_of}
-use Rattle.nv_entry.specs.Keys.{NameKey, covers, name_of, sets}
+use Rattle.nv_entry.specs.Keys.{NameKey, covers, name_of, sets, touches}
 use Rattle.nv_entry.specs.Laws.{is_present}
 use Rattle.nv_entry.specs.Log.{IsLog, MayFollow, first_cover}
 use Rattle.nv_entry.specs.Refs.{NamesByIds, OneMoreRef, binders_after, binders_of, is_bind, left_by, part_ref, place_in, scan_ref}
 use Rattle.nv_entry.proofs.Covering.{any_cover-first}
 use Rattle.nv_entry.proofs.Refs.{scan_ref-cons, scan_ref-push, scan_ref-skip}
 use Rattle.nv_entry.proofs.Currents.{any_cover-push}
-use Rattle.nv_entry.proofs.Hiding.{same_name-self, same_name-equal}
+use Rattle.nv_entry.proofs.BlockSize.{sets_by}
+use Rattle.nv_entry.proofs.Hiding.{same_name-equal, same_name-self, same_name-sym}
 
 -- ---- the size of blocks says nothing of names
 
 covers-name : (block : ℕ) (item : Item) (name : List ℕ) → covers block item (NameKey name) ≡ covers 1 item (NameKey name)
-covers-name block (Init kind mode) name = refl
-covers-name block (Write first run size) name = refl
-covers-name block (SetSize size) name = refl
-covers-name block (SetMode mode) name = refl
-covers-name block (Bind n to) name = refl
-covers-name block (Unbind n) name = refl
-covers-name block Gone name = refl
+covers-name block item name = ap touches (sets_by block 1 item (NameKey name) refl)
 
 pub any_cover-name : (block : ℕ) (log : List Entry) (name : List ℕ) → any_cover block log (NameKey name) ≡ any_cover 1 log (NameKey name)
 any_cover-name block [] name = refl
@@ -98,10 +92,6 @@ bound_by_binders (e ∷ later) =
 
 -- ---- the part of a name
 
-same_name-flip : (a b : List ℕ) → same_name a b ≡ false → same_name b a ≡ false
-same_name-flip a b h = false_from_ne_true (same_name b a) (λ t.
-    let z : true ≡ false = sym (same_name-self a) ∙ ap (same_name a) (sym (same_name-equal b a t)) ∙ h in cc)
-
 absent_or_not : (b : Bool) (own : PartRef) → left_by (cond b Absent Untouched) own None ≡ None
 absent_or_not true own = refl
 absent_or_not false own = refl
@@ -109,7 +99,7 @@ absent_or_not false own = refl
 -- what does not bind a name leaves no part of it
 no_ref : (block : ℕ) (item : Item) (name : List ℕ) (own : PartRef) → (is_bind item && same_name name (name_of item)) ≡ false
     → left_by (sets block item (NameKey name)) own None ≡ None
-no_ref block (Bind n to) name own h = rw (same_name-flip name n h) refl
+no_ref block (Bind n to) name own h = rw (same_name-sym name n false h) refl
 no_ref block (Init kind mode) name own h = refl
 no_ref block (Write first run size) name own h = refl
 no_ref block (SetSize size) name own h = refl
@@ -173,7 +163,8 @@ binders_of-push [] e = go (is_bind e.item) where
 binders_of-push (x ∷ xs) e =
     ap (λ (c : Bool). cond (is_bind x.item && not c) (x ∷ binders_of (xs ++ e ∷ [])) (binders_of (xs ++ e ∷ [])))
     (any_cover-push 1 xs e (NameKey (name_of x.item)))
-    ∙ go (is_bind x.item) (any_cover 1 xs (NameKey (name_of x.item))) (covers 1 e.item (NameKey (name_of x.item))) refl (binders_of-push xs e) where
+    ∙ go (is_bind x.item) (any_cover 1 xs (NameKey (name_of x.item))) (covers 1 e.item (NameKey (name_of x.item))) refl
+    (binders_of-push xs e) where
       go : (b c d : Bool) → covers 1 e.item (NameKey (name_of x.item)) ≡ d → binders_of (xs ++ e ∷ []) ≡ binders_after e (binders_of xs)
           → cond (b && not (c || d)) (x ∷ binders_of (xs ++ e ∷ [])) (binders_of (xs ++ e ∷ []))
           ≡ filter (stays_bound e) (cond (b && not c) (x ∷ binders_of xs) (binders_of xs)) ++ new_binder e

@@ -132,7 +132,8 @@ kept-push : (r : Retention) (names : List PartId) (x : Entry) (later : List Entr
 kept-push r names x later e h =
     any_map (pair_of r.block x (later ++ e ∷ [])) (keeps (with_pending r names)) (parts_of x.item)
     ∙ any_by (names_it r names e x later)
-    (λ p. keeps (with_pending r names) (pair_of r.block x (later ++ e ∷ []) p)) (λ p. keeps r (pair_of r.block x later p)) (parts_of x.item) h
+    (λ p. keeps (with_pending r names) (pair_of r.block x (later ++ e ∷ []) p)) (λ p. keeps r (pair_of r.block x later p))
+    (parts_of x.item) h
     (λ p k. ap (keeps (with_pending r names)) (pair_of-push r.block x later e p)
     ∙ kept_after r names x p e.epoch (first_cover r.block later (key_of x.item p)) (covers r.block e.item (key_of x.item p)) k)
     ∙ sym (any_map (pair_of r.block x later) (keeps r) (parts_of x.item))

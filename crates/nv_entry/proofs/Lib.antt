@@ -15,12 +15,13 @@ pub mod PageBytes
 pub mod PartLists
 pub mod PartsSet
 pub mod Placed
+pub mod SameReads
 pub mod Refs
 pub mod Removal
 pub mod SoundLogs
 pub mod Spans
-pub mod Spared
 pub mod Steps
 pub mod StoredItems
 pub mod Values
 pub mod Walks
+pub mod WrittenRuns

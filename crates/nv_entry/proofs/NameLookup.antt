@@ -15,13 +15,9 @@ use Rattle.nv_entry.specs.Bindings.{NamesDiffer}
 use Rattle.nv_entry.specs.Index.{bound_name, bound_to, names_of}
 use Rattle.nv_entry.specs.Keys.{Key, NameKey, name_of, sets, touches}
 use Rattle.nv_entry.specs.Log.{first_cover, last_setting, later_of, value_now, value_of}
-use Rattle.nv_entry.proofs.Hiding.{not_true, same_name-equal, same_name-self}
+use Rattle.nv_entry.proofs.BlockSize.{value_by}
+use Rattle.nv_entry.proofs.Hiding.{same_name-equal, same_name-sym}
 use Rattle.nv_entry.proofs.Values.{later_of-untouched}
-
-same_name-sym : (a b : List ℕ) (t : Bool) → same_name a b ≡ t → same_name b a ≡ t
-same_name-sym a b true h = let e : a ≡ b = same_name-equal a b h in rw e (same_name-self b)
-same_name-sym a b false h = not_true (same_name b a) (λ t. let e : b ≡ a = same_name-equal b a t in let s : same_name a b ≡ true = rw e
-    (same_name-self a) in cc)
 
 -- a key is set where it is covered
 set_where_covered : (block : ℕ) (log : List Entry) (key : Key) → touches (last_setting block log key) ≡ is_some (first_cover block log key)
@@ -38,23 +34,6 @@ set_where_covered block (e ∷ log) key = go (sets block e.item key) (last_setti
   go (Present value) Untouched h = refl
   go (Present value) Absent h = refl
   go (Present value) (Present later) h = refl
-
--- the size of blocks says nothing of a name
-sets-name : (block : ℕ) (item : Item) (name : List ℕ) → sets block item (NameKey name) ≡ sets 1 item (NameKey name)
-sets-name block (Init kind mode) name = refl
-sets-name block (Write first run size) name = refl
-sets-name block (SetSize size) name = refl
-sets-name block (SetMode mode) name = refl
-sets-name block (Bind other to) name = refl
-sets-name block (Unbind other) name = refl
-sets-name block Gone name = refl
-
-last_setting-name : (block : ℕ) (log : List Entry) (name : List ℕ)
-    → last_setting block log (NameKey name) ≡ last_setting 1 log (NameKey name)
-last_setting-name block [] name = refl
-last_setting-name block (e ∷ log) name =
-    ap (λ (s : Setting). later_of s (last_setting block log (NameKey name))) (sets-name block e.item name)
-    ∙ ap (later_of (sets 1 e.item (NameKey name))) (last_setting-name block log name)
 
 -- what a list binds a name to, as the value of its key
 abbrev bound_value : List ℕ → List BoundName → Option Datum
@@ -102,7 +81,7 @@ value_by_one (e ∷ log) name = name_before e.item log name (value_by_one log na
 
 pub name_value : (block : ℕ) (log : List Entry) (name : List ℕ)
     → value_now block log (NameKey name) ≡ option_map datum.Node (bound_to name (names_of log))
-name_value block log name = ap value_of (last_setting-name block log name) ∙ value_by_one log name
+name_value block log name = value_by block 1 log (NameKey name) refl ∙ value_by_one log name
 
 -- a name that no later entry covers is bound by none of them
 unbound_after : (name : List ℕ) (last : Setting) (o : Option Handle) → touches last ≡ false → value_of last ≡ option_map datum.Node o

@@ -17,7 +17,8 @@ use Rattle.nv_entry.proofs.Hiding.{run_from, run_parts, same_name-equal, same_na
 use Rattle.nv_entry.proofs.PartLists.{page_at}
 
 pages_set : (block first : ℕ) (run : Run) (size a n : ℕ) → first ≤ a → a + n ≤ min (first + run.len) 65536
-    → AllByRecursion (λ p. is_present (sets block (Write first run size) (key_of (Write first run size) p)) ≡ true) (map part.Page (range_with_len a n))
+    → AllByRecursion (λ p. is_present (sets block (Write first run size) (key_of (Write first run size) p)) ≡ true)
+    (map part.Page (range_with_len a n))
 pages_set block first run size a zero low high = tt
 pages_set block first run size a (suc n) low high =
     let inside : in_run first run a ≡ true = run_from first run a low (omega arith) (omega arith) in
@@ -27,7 +28,8 @@ pub parts_are_set : (block : ℕ) (item : Item) → PartsAreSet block item
 parts_are_set block (Init kind mode) = (refl, (refl, (refl, tt)))
 parts_are_set block (Write first run size) = (refl, go (cases_lt first 65536)) where
   go : (first < 65536) ⊎ (65536 ≤ first)
-      → AllByRecursion (λ p. is_present (sets block (Write first run size) (key_of (Write first run size) p)) ≡ true) (map part.Page (range_with_len first (min run.len (65536 - first))))
+      → AllByRecursion (λ p. is_present (sets block (Write first run size) (key_of (Write first run size) p)) ≡ true)
+      (map part.Page (range_with_len first (min run.len (65536 - first))))
   go (inl lt) = pages_set block first run size first (min run.len (65536 - first)) (omega arith) (omega arith)
   go (inr le) = let none : min run.len (65536 - first) ≡ 0 = omega arith in rw none tt
 parts_are_set block (SetSize size) = (refl, tt)
@@ -116,7 +118,8 @@ pages_rise a (suc n) = (pages_above (4 + a) (a + 1) n (omega arith), pages_rise 
 
 pub parts_rise : (item : Item) → PartsRise (parts_of item)
 parts_rise (Init kind mode) = ((omega arith, (omega arith, tt)), ((omega arith, tt), (tt, tt)))
-parts_rise (Write first run size) = (pages_above 2 first (min run.len (65536 - first)) (omega arith), pages_rise first (min run.len (65536 - first)))
+parts_rise (Write first run size) =
+    (pages_above 2 first (min run.len (65536 - first)) (omega arith), pages_rise first (min run.len (65536 - first)))
 parts_rise (SetSize size) = (tt, tt)
 parts_rise (SetMode mode) = (tt, tt)
 parts_rise (Bind name to) = (tt, tt)

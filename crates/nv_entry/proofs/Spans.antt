@@ -2,7 +2,7 @@
 use Rattle.std.proofs.Common.{◌≡◌, ℕ, ◌≤◌, ◌⊎◌, inl, inr, Bool, true, false, ◌&&◌, ◌||◌, nat_lt, nat_le, List, [], ◌∷◌, ◌++◌, map, filter, Option, Some, None, arith, refl, ap, sym, ◌∙◌, append_assoc}
 use Rattle.std.specs.List.{AllByRecursion, list_any}
 use Rattle.std.specs.Option.{option_or}
-use Rattle.std.proofs.lemmas.Bool.{and_from, ltb-true, ltb-false, le-leb}
+use Rattle.std.proofs.lemmas.Bool.{and_from, ltb-true, ltb-false, le-leb, or_parts}
 use Rattle.std.proofs.lemmas.List.{map-append}
 use Rattle.std.proofs.lemmas.List.Elements.{filter-append}
 use Rattle.std.proofs.lemmas.List.Folds.{list_any-append}
@@ -12,15 +12,15 @@ use Rattle.nv_entry.specs.declared.key.Setting.{Setting}
 use Rattle.nv_entry.specs.declared.key.Setting.TheVariants.{Untouched, Absent, Present}
 use Rattle.nv_entry.specs.declared.part.Part.{Part}
 use Rattle.nv_entry.specs.declared.part.PartId.{PartId}
+use Rattle.nv_entry.specs.Covered.{any_cover}
 use Rattle.nv_entry.specs.Clean.{IsDroppable}
 use Rattle.nv_entry.specs.Held.{Retention, holds, is_current, is_held, is_named, is_needed, keeps, pair_name}
 use Rattle.nv_entry.specs.Keys.{Key, covers, key_of, parts_of, sets, touches}
 use Rattle.nv_entry.specs.Laws.{is_present, pairs_where}
 use Rattle.nv_entry.specs.Log.{MayFollow, first_cover, pair_of, pairs, pairs_of}
 use Rattle.nv_entry.proofs.Dying.{dies, is_held_between}
-use Rattle.nv_entry.proofs.Hiding.{clash, or_false}
+use Rattle.nv_entry.proofs.Hiding.{clash}
 use Rattle.nv_entry.proofs.PartsSet.{parts_are_set}
-use Rattle.nv_entry.proofs.Spared.{covered}
 use Rattle.nv_entry.proofs.Values.{first_cover-append}
 
 -- ---- how a death moves
@@ -62,7 +62,8 @@ moved_behind r front x mid e later key h follow own = go (sets r.block e.item ke
   go Absent q =
       let none = h.hides_nothing key q in
       let m = list_any-append (λ (y : Entry). covers r.block y.item key) front (x ∷ mid) in
-      let z : (covered r.block front key || (covers r.block x.item key || covered r.block mid key)) ≡ true = rw own (or_true (covered r.block front key)) in
+      let z : (any_cover r.block front key || (covers r.block x.item key || any_cover r.block mid key)) ≡ true = rw own
+      (or_true (any_cover r.block front key)) in
       let w : true ≡ false = sym z ∙ sym m ∙ none in cc where
         or_true : (t : Bool) → (t || true) ≡ true
         or_true true = refl
@@ -82,7 +83,8 @@ moved : (r : Retention) (front : List Entry) (x : Entry) (mid : List Entry) (e :
     → IsDroppable r (front ++ x ∷ mid) e later → AllByRecursion (MayFollow e) later → covers r.block x.item key ≡ true
     → Moved r.snapshots (first_cover r.block (mid ++ e ∷ later) key) (first_cover r.block (mid ++ later) key)
 moved r front x mid e later key h follow own =
-    rw (first_cover-append r.block mid (e ∷ later) key, first_cover-append r.block mid later key) (go (first_cover r.block mid key) (moved_behind r front x mid e later key h follow own)) where
+    rw (first_cover-append r.block mid (e ∷ later) key, first_cover-append r.block mid later key)
+    (go (first_cover r.block mid key) (moved_behind r front x mid e later key h follow own)) where
       go : (o : Option ℕ) → Moved r.snapshots (first_cover r.block (e ∷ later) key) (first_cover r.block later key)
           → Moved r.snapshots (option_or o (first_cover r.block (e ∷ later) key)) (option_or o (first_cover r.block later key))
       go None m = m
@@ -94,19 +96,21 @@ moved r front x mid e later key h follow own =
 pub record Steady (r : Retention) (test : Pair → Bool) : Type 0 where
   pub fails : (pair : Pair) → keeps r pair ≡ false → test pair ≡ false
   pub stays : (x : Entry) (p : Part) (old new : Option ℕ) → Moved r.snapshots old new
-      → test (record { entry = x.id; part = p; birth = x.epoch; death = new }) ≡ test (record { entry = x.id; part = p; birth = x.epoch; death = old })
+      → test (record { entry = x.id; part = p; birth = x.epoch; death = new }) ≡ test
+      (record { entry = x.id; part = p; birth = x.epoch; death = old })
 
 needed_false : (r : Retention) (pair : Pair) → keeps r pair ≡ false
     → (is_current pair ≡ false) × (is_held r.snapshots pair ≡ false) × (is_named r.pending pair ≡ false)
 needed_false r pair h =
-    let p = or_false (is_needed r.snapshots pair) (is_named r.pending pair) h in
-    let q = or_false (is_current pair) (is_held r.snapshots pair) p.0 in
+    let p = or_parts (is_needed r.snapshots pair) (is_named r.pending pair) h in
+    let q = or_parts (is_current pair) (is_held r.snapshots pair) p.0 in
     (q.0, q.1, p.1)
 
 pub steady_current : (r : Retention) → Steady r is_current
 steady_current r = record { fails = λ pair h. (needed_false r pair h).0; stays = λ x p old new m. go x p old new m } where
   go : (x : Entry) (p : Part) (old new : Option ℕ) → Moved r.snapshots old new
-      → is_current (record { entry = x.id; part = p; birth = x.epoch; death = new }) ≡ is_current (record { entry = x.id; part = p; birth = x.epoch; death = old })
+      → is_current (record { entry = x.id; part = p; birth = x.epoch; death = new }) ≡ is_current
+      (record { entry = x.id; part = p; birth = x.epoch; death = old })
   go x p old new (inl same) = rw same refl
   go x p old new (inr m) = rw (m.was, m.is) refl
 
@@ -126,7 +130,8 @@ same_side birth s from to rises out = ap (λ b. nat_le birth s && b) (go (nat_lt
 
 pub holds_stays : (snapshots : List ℕ) (s : ℕ) (x : Entry) (p : Part) (old new : Option ℕ)
     → ((from to : ℕ) → is_held_between snapshots from to ≡ false → (nat_le from s && nat_lt s to) ≡ false) → Moved snapshots old new
-    → holds s (record { entry = x.id; part = p; birth = x.epoch; death = new }) ≡ holds s (record { entry = x.id; part = p; birth = x.epoch; death = old })
+    → holds s (record { entry = x.id; part = p; birth = x.epoch; death = new }) ≡ holds s
+    (record { entry = x.id; part = p; birth = x.epoch; death = old })
 holds_stays snapshots s x p old new out (inl same) = rw same refl
 holds_stays snapshots s x p old new out (inr m) = rw (m.was, m.is) (same_side x.epoch s m.from m.to m.rises (out m.from m.to m.unheld))
 
@@ -147,12 +152,12 @@ all_living : (r : Retention) (snapshots : List ℕ) → ((pair : Pair) → is_he
 all_living r [] f g = tt
 all_living r (s ∷ snapshots) f g = (
   record {
-    fails = λ pair h. (or_false (holds s pair) (is_held snapshots pair) (f pair h)).0;
-    out = λ from to h. (or_false (nat_le from s && nat_lt s to) (is_held_between snapshots from to) (g from to h)).0;
+    fails = λ pair h. (or_parts (holds s pair) (is_held snapshots pair) (f pair h)).0;
+    out = λ from to h. (or_parts (nat_le from s && nat_lt s to) (is_held_between snapshots from to) (g from to h)).0;
   },
   all_living r snapshots
-      (λ pair h. (or_false (holds s pair) (is_held snapshots pair) (f pair h)).1)
-      (λ from to h. (or_false (nat_le from s && nat_lt s to) (is_held_between snapshots from to) (g from to h)).1),
+      (λ pair h. (or_parts (holds s pair) (is_held snapshots pair) (f pair h)).1)
+      (λ from to h. (or_parts (nat_le from s && nat_lt s to) (is_held_between snapshots from to) (g from to h)).1),
 )
 
 pub living : (r : Retention) → AllByRecursion (Living r) r.snapshots
@@ -163,11 +168,11 @@ living r = all_living r r.snapshots (λ pair h. h) (λ from to h. h)
 none_pass : (r : Retention) (test : Pair → Bool) → Steady r test → (xs : List Pair) → list_any (keeps r) xs ≡ false → filter test xs ≡ []
 none_pass r test steady [] h = refl
 none_pass r test steady (x ∷ xs) h =
-    let p = or_false (keeps r x) (list_any (keeps r) xs) h in
+    let p = or_parts (keeps r x) (list_any (keeps r) xs) h in
     rw (steady.fails x p.0) (none_pass r test steady xs p.1)
 
 -- the pairs of an entry, where those behind it change and the test does not see it
-same_pairs : (test : Pair → Bool) (block : ℕ) (x : Entry) (olds news : List Entry) (parts : List Part)
+pub same_pairs : (test : Pair → Bool) (block : ℕ) (x : Entry) (olds news : List Entry) (parts : List Part)
     → AllByRecursion (λ p. test (pair_of block x news p) ≡ test (pair_of block x olds p)) parts
     → map pair_name (filter test (map (pair_of block x news) parts)) ≡ map pair_name (filter test (map (pair_of block x olds) parts))
 same_pairs test block x olds news [] h = refl
@@ -175,7 +180,8 @@ same_pairs test block x olds news (p ∷ parts) h =
     go (test (pair_of block x olds p)) refl (same_pairs test block x olds news parts h.1) where
       go : (b : Bool) → test (pair_of block x olds p) ≡ b
           → map pair_name (filter test (map (pair_of block x news) parts)) ≡ map pair_name (filter test (map (pair_of block x olds) parts))
-          → map pair_name (filter test (map (pair_of block x news) (p ∷ parts))) ≡ map pair_name (filter test (map (pair_of block x olds) (p ∷ parts)))
+          → map pair_name (filter test (map (pair_of block x news) (p ∷ parts))) ≡ map pair_name
+          (filter test (map (pair_of block x olds) (p ∷ parts)))
       go true q ih = rw (h.0 ∙ q, q) (ap (λ (names : List PartId). (record { entry = x.id; part = p }) ∷ names) ih)
       go false q ih = rw (h.0 ∙ q, q) ih
 
@@ -198,7 +204,7 @@ parts_stay r test steady front x mid e later h follow (p ∷ parts) set = (
   parts_stay r test steady front x mid e later h follow parts set.1,
 )
 
-where-cons : (test : Pair → Bool) (block : ℕ) (x : Entry) (log : List Entry)
+pub where-cons : (test : Pair → Bool) (block : ℕ) (x : Entry) (log : List Entry)
     → pairs_where test block (x ∷ log) ≡ map pair_name (filter test (pairs_of block x log)) ++ pairs_where test block log
 where-cons test block x log =
     ap (map pair_name) (filter-append test (pairs_of block x log) (pairs block log))
@@ -208,11 +214,13 @@ where_along : (r : Retention) (test : Pair → Bool) → Steady r test → (fron
     → before ≡ front ++ rest → AllByRecursion (MayFollow e) later → IsDroppable r before e later
     → pairs_where test r.block (rest ++ later) ≡ pairs_where test r.block (rest ++ e ∷ later)
 where_along r test steady front [] before e later q follow h =
-    sym (where-cons test r.block e later ∙ ap (λ xs. map pair_name xs ++ pairs_where test r.block later) (none_pass r test steady (pairs_of r.block e later) h.unneeded))
+    sym (where-cons test r.block e later
+    ∙ ap (λ xs. map pair_name xs ++ pairs_where test r.block later) (none_pass r test steady (pairs_of r.block e later) h.unneeded))
 where_along r test steady front (x ∷ mid) before e later q follow h =
     let g = rw q at h in
     let ih = where_along r test steady (front ++ x ∷ []) mid before e later (q ∙ sym (append_assoc front (x ∷ []) mid)) follow h in
-    let own = same_pairs test r.block x (mid ++ e ∷ later) (mid ++ later) (parts_of x.item) (parts_stay r test steady front x mid e later g follow (parts_of x.item) (parts_are_set r.block x.item)) in
+    let own = same_pairs test r.block x (mid ++ e ∷ later) (mid ++ later) (parts_of x.item)
+    (parts_stay r test steady front x mid e later g follow (parts_of x.item) (parts_are_set r.block x.item)) in
     where-cons test r.block x (mid ++ later)
     ∙ ap (λ xs. xs ++ pairs_where test r.block (mid ++ later)) own
     ∙ ap (λ xs. map pair_name (filter test (pairs_of r.block x (mid ++ e ∷ later))) ++ xs) ih

@@ -22,34 +22,43 @@ take_entry log i e lt is = take_more log i e lt ∙ ap (λ x. take i log ++ x �
 -- the part of a log that is seen, with one more entry that is seen or not
 seen-push : (when : When) (log : List Entry) (e : Entry) → sees when e.epoch ≡ true → seen when (log ++ e ∷ []) ≡ seen when log ++ e ∷ []
 seen-push Now log e h = refl
-seen-push (At last) log e h = filter-append (λ (x : Entry). nat_le x.epoch last) log (e ∷ []) ∙ ap (λ xs. seen (At last) log ++ xs) (rw h refl)
+seen-push (At last) log e h =
+    filter-append (λ (x : Entry). nat_le x.epoch last) log (e ∷ []) ∙ ap (λ xs. seen (At last) log ++ xs) (rw h refl)
 
 seen-unseen : (when : When) (log : List Entry) (e : Entry) → sees when e.epoch ≡ false → seen when (log ++ e ∷ []) ≡ seen when log
 seen-unseen Now log e h = cc
-seen-unseen (At last) log e h = filter-append (λ (x : Entry). nat_le x.epoch last) log (e ∷ []) ∙ ap (λ xs. seen (At last) log ++ xs) (rw h refl) ∙ append-nil (seen (At last) log)
+seen-unseen (At last) log e h =
+    filter-append (λ (x : Entry). nat_le x.epoch last) log (e ∷ []) ∙ ap (λ xs. seen (At last) log ++ xs) (rw h refl)
+    ∙ append-nil (seen (At last) log)
 
-pub last_setting-more : (block : ℕ) (when : When) (log : List Entry) (i : ℕ) (e : Entry) (key : Key) → i < length log → e ≡ get_or log i e → sees when e.epoch ≡ true
-    → last_setting block (seen when (take (i + 1) log)) key ≡ later_of (last_setting block (seen when (take i log)) key) (sets block e.item key)
+pub last_setting-more : (block : ℕ) (when : When) (log : List Entry) (i : ℕ) (e : Entry) (key : Key) → i < length log → e ≡ get_or log i e
+    → sees when e.epoch ≡ true
+    → last_setting block (seen when (take (i + 1) log)) key ≡ later_of (last_setting block (seen when (take i log)) key)
+    (sets block e.item key)
 last_setting-more block when log i e key lt is h =
     ap (λ xs. last_setting block (seen when xs) key) (take_entry log i e lt is)
     ∙ ap (λ xs. last_setting block xs key) (seen-push when (take i log) e h)
     ∙ last_setting-push block (seen when (take i log)) e key
 
-pub last_setting-skips : (block : ℕ) (when : When) (log : List Entry) (i : ℕ) (e : Entry) (key : Key) → i < length log → e ≡ get_or log i e → sees when e.epoch ≡ false
+pub last_setting-skips : (block : ℕ) (when : When) (log : List Entry) (i : ℕ) (e : Entry) (key : Key) → i < length log → e ≡ get_or log i e
+    → sees when e.epoch ≡ false
     → last_setting block (seen when (take (i + 1) log)) key ≡ last_setting block (seen when (take i log)) key
 last_setting-skips block when log i e key lt is h =
     ap (λ xs. last_setting block (seen when xs) key) (take_entry log i e lt is)
     ∙ ap (λ xs. last_setting block xs key) (seen-unseen when (take i log) e h)
 
 -- the source of a page, with one more entry that is seen or not
-pub page_source-more : (block : ℕ) (when : When) (log : List Entry) (i : ℕ) (e : Entry) (page : ℕ) → i < length log → e ≡ get_or log i e → sees when e.epoch ≡ true
-    → page_source block (seen when (take (i + 1) log)) page ≡ source_after e (sets block e.item (PageKey page)) (page_source block (seen when (take i log)) page)
+pub page_source-more : (block : ℕ) (when : When) (log : List Entry) (i : ℕ) (e : Entry) (page : ℕ) → i < length log → e ≡ get_or log i e
+    → sees when e.epoch ≡ true
+    → page_source block (seen when (take (i + 1) log)) page ≡ source_after e (sets block e.item (PageKey page))
+    (page_source block (seen when (take i log)) page)
 page_source-more block when log i e page lt is h =
     ap (λ xs. page_source block (seen when xs) page) (take_entry log i e lt is)
     ∙ ap (λ xs. page_source block xs page) (seen-push when (take i log) e h)
     ∙ page_source-push block (seen when (take i log)) e page
 
-pub page_source-skips : (block : ℕ) (when : When) (log : List Entry) (i : ℕ) (e : Entry) (page : ℕ) → i < length log → e ≡ get_or log i e → sees when e.epoch ≡ false
+pub page_source-skips : (block : ℕ) (when : When) (log : List Entry) (i : ℕ) (e : Entry) (page : ℕ) → i < length log → e ≡ get_or log i e
+    → sees when e.epoch ≡ false
     → page_source block (seen when (take (i + 1) log)) page ≡ page_source block (seen when (take i log)) page
 page_source-skips block when log i e page lt is h =
     ap (λ xs. page_source block (seen when xs) page) (take_entry log i e lt is)
@@ -79,7 +88,8 @@ kept-live block (p ∷ pairs) = rw (keeps_nothing (is_current p)) (ap (λ b. is_
 pub valid_of-live : (block count : ℕ) (log : List Entry) → valid_of (current_alone block) count log ≡ live_of block count log
 valid_of-live block zero log = refl
 valid_of-live block (suc count) [] = refl
-valid_of-live block (suc count) (e ∷ later) = rw (kept-live block (pairs_of block e later)) (ap (λ n. cond (is_live block e later) 1 0 + n) (valid_of-live block count later))
+valid_of-live block (suc count) (e ∷ later) =
+    rw (kept-live block (pairs_of block e later)) (ap (λ n. cond (is_live block e later) 1 0 + n) (valid_of-live block count later))
 
 -- the rest of a slice from a place on
 pub rest_from : {A : Type 0} (xs : List A) (k : ℕ) → take (length xs - k) (drop k xs) ≡ drop k xs

@@ -29,13 +29,15 @@ later_of-untouched Untouched = refl
 later_of-untouched Absent = refl
 later_of-untouched (Present value) = refl
 
-pub last_setting-append : (block : ℕ) (xs ys : List Entry) (key : Key) → last_setting block (xs ++ ys) key ≡ later_of (last_setting block xs key) (last_setting block ys key)
+pub last_setting-append : (block : ℕ) (xs ys : List Entry) (key : Key)
+    → last_setting block (xs ++ ys) key ≡ later_of (last_setting block xs key) (last_setting block ys key)
 last_setting-append block [] ys key = sym (later_of-untouched (last_setting block ys key))
 last_setting-append block (x ∷ xs) ys key =
     ap (later_of (sets block x.item key)) (last_setting-append block xs ys key)
     ∙ later_of-assoc (sets block x.item key) (last_setting block xs key) (last_setting block ys key)
 
-pub last_setting-push : (block : ℕ) (log : List Entry) (e : Entry) (key : Key) → last_setting block (log ++ e ∷ []) key ≡ later_of (last_setting block log key) (sets block e.item key)
+pub last_setting-push : (block : ℕ) (log : List Entry) (e : Entry) (key : Key)
+    → last_setting block (log ++ e ∷ []) key ≡ later_of (last_setting block log key) (sets block e.item key)
 last_setting-push block log e key = last_setting-append block log (e ∷ []) key
 
 value_of-later_of : (before s : Setting) → value_of (later_of before s) ≡ value_after s (value_of before)
@@ -43,8 +45,10 @@ value_of-later_of before Untouched = refl
 value_of-later_of before Absent = refl
 value_of-later_of before (Present value) = refl
 
-pub value_now-push : (block : ℕ) (log : List Entry) (e : Entry) (key : Key) → value_now block (log ++ e ∷ []) key ≡ value_after (sets block e.item key) (value_now block log key)
-value_now-push block log e key = ap value_of (last_setting-push block log e key) ∙ value_of-later_of (last_setting block log key) (sets block e.item key)
+pub value_now-push : (block : ℕ) (log : List Entry) (e : Entry) (key : Key)
+    → value_now block (log ++ e ∷ []) key ≡ value_after (sets block e.item key) (value_now block log key)
+value_now-push block log e key =
+    ap value_of (last_setting-push block log e key) ∙ value_of-later_of (last_setting block log key) (sets block e.item key)
 
 later_out : (e : Entry) (epoch : ℕ) → epoch < e.epoch → up_to epoch (e ∷ []) ≡ []
 later_out e epoch h = go (nat_le e.epoch epoch) refl where
@@ -58,14 +62,16 @@ up_to-push log e epoch h =
     ∙ ap (λ xs. up_to epoch log ++ xs) (later_out e epoch h)
     ∙ append-nil (up_to epoch log)
 
-pub value_at-push : (block epoch : ℕ) (log : List Entry) (e : Entry) (key : Key) → epoch < e.epoch → value_at block epoch (log ++ e ∷ []) key ≡ value_at block epoch log key
+pub value_at-push : (block epoch : ℕ) (log : List Entry) (e : Entry) (key : Key) → epoch < e.epoch
+    → value_at block epoch (log ++ e ∷ []) key ≡ value_at block epoch log key
 value_at-push block epoch log e key h = ap (λ xs. value_now block xs key) (up_to-push log e epoch h)
 
 cover_step : (b : Bool) (x : ℕ) (o p : Option ℕ) → cond b (Some x) (option_or o p) ≡ option_or (cond b (Some x) o) p
 cover_step true x o p = refl
 cover_step false x o p = refl
 
-pub first_cover-append : (block : ℕ) (xs ys : List Entry) (key : Key) → first_cover block (xs ++ ys) key ≡ option_or (first_cover block xs key) (first_cover block ys key)
+pub first_cover-append : (block : ℕ) (xs ys : List Entry) (key : Key)
+    → first_cover block (xs ++ ys) key ≡ option_or (first_cover block xs key) (first_cover block ys key)
 first_cover-append block [] ys key = refl
 first_cover-append block (x ∷ xs) ys key =
     ap (λ o. cond (covers block x.item key) (Some x.epoch) o) (first_cover-append block xs ys key)
@@ -79,19 +85,23 @@ option_or-none : {T : Type 0} (a : Option T) → option_or a None ≡ a
 option_or-none None = refl
 option_or-none (Some x) = refl
 
-pub last_cover-append : (block : ℕ) (xs ys : List Entry) (key : Key) → last_cover block (xs ++ ys) key ≡ option_or (last_cover block ys key) (last_cover block xs key)
+pub last_cover-append : (block : ℕ) (xs ys : List Entry) (key : Key)
+    → last_cover block (xs ++ ys) key ≡ option_or (last_cover block ys key) (last_cover block xs key)
 last_cover-append block [] ys key = sym (option_or-none (last_cover block ys key))
 last_cover-append block (x ∷ xs) ys key =
     ap (λ o. option_or o (cond (covers block x.item key) (Some x) None)) (last_cover-append block xs ys key)
     ∙ sym (option_or-assoc (last_cover block ys key) (last_cover block xs key) (cond (covers block x.item key) (Some x) None))
 
 source_step : (e : Entry) (s : Setting) (settings : Entry → Setting) (before : Option Entry) → settings e ≡ s
-    → option_and_then (λ x. source_of x (settings x)) (option_or (option_or None (cond (touches s) (Some e) None)) before) ≡ source_after e s (option_and_then (λ x. source_of x (settings x)) before)
+    → option_and_then (λ x. source_of x (settings x))
+    (option_or (option_or None (cond (touches s) (Some e) None)) before) ≡ source_after e s
+    (option_and_then (λ x. source_of x (settings x)) before)
 source_step e Untouched settings before q = refl
 source_step e Absent settings before q = rw q refl
 source_step e (Present value) settings before q = rw q refl
 
-pub page_source-push : (block : ℕ) (log : List Entry) (e : Entry) (page : ℕ) → page_source block (log ++ e ∷ []) page ≡ source_after e (sets block e.item (PageKey page)) (page_source block log page)
+pub page_source-push : (block : ℕ) (log : List Entry) (e : Entry) (page : ℕ)
+    → page_source block (log ++ e ∷ []) page ≡ source_after e (sets block e.item (PageKey page)) (page_source block log page)
 page_source-push block log e page =
     ap (option_and_then (λ x. source_of x (sets block x.item (PageKey page)))) (last_cover-append block log (e ∷ []) (PageKey page))
     ∙ source_step e (sets block e.item (PageKey page)) (λ x. sets block x.item (PageKey page)) (last_cover block log (PageKey page)) refl
@@ -121,17 +131,21 @@ uncovered block (Write first run size) bound = refl
 uncovered block (SetSize size) bound = refl
 uncovered block (SetMode mode) bound = refl
 
-one_stays : (t : BoundName → Bool) (b : Bool) (name : List ℕ) (to : Handle) (epoch : ℕ) (o : Option ℕ) → t (record { name = name; to = to }) ≡ not b
+one_stays : (t : BoundName → Bool) (b : Bool) (name : List ℕ) (to : Handle) (epoch : ℕ) (o : Option ℕ)
+    → t (record { name = name; to = to }) ≡ not b
     → bound_name (Bind name to) (option_or o (cond b (Some epoch) None)) ≡ filter t (bound_name (Bind name to) o)
 one_stays t true name to epoch None q = rw q refl
 one_stays t false name to epoch None q = rw q refl
 one_stays t b name to epoch (Some d) q = refl
 
 -- a binding, where the log goes on by one more entry
-bound_name-push : (block : ℕ) (item : Item) (later : List Entry) (e : Entry) → bound_name item (first_cover block (later ++ e ∷ []) (NameKey (name_of item))) ≡ staying e.item (bound_name item (first_cover block later (NameKey (name_of item))))
+bound_name-push : (block : ℕ) (item : Item) (later : List Entry) (e : Entry)
+    → bound_name item (first_cover block (later ++ e ∷ []) (NameKey (name_of item))) ≡ staying e.item
+    (bound_name item (first_cover block later (NameKey (name_of item))))
 bound_name-push block (Bind name to) later e =
     ap (bound_name (Bind name to)) (first_cover-append block later (e ∷ []) (NameKey name))
-    ∙ one_stays (stays e.item) (covers block e.item (NameKey name)) name to e.epoch (first_cover block later (NameKey name)) (uncovered block e.item (record { name = name; to = to }))
+    ∙ one_stays (stays e.item) (covers block e.item (NameKey name)) name to e.epoch (first_cover block later (NameKey name))
+    (uncovered block e.item (record { name = name; to = to }))
 bound_name-push block (Unbind name) later e = refl
 bound_name-push block Gone later e = refl
 bound_name-push block (Init kind mode) later e = refl
@@ -144,8 +158,10 @@ names_of-staying [] e = append-nil (bound_name e.item None)
 names_of-staying (x ∷ log) e =
     ap (λ xs. xs ++ names_of (log ++ e ∷ [])) (bound_name-push 1 x.item log e)
     ∙ ap (λ ys. staying e.item (bound_name x.item (first_cover 1 log (NameKey (name_of x.item)))) ++ ys) (names_of-staying log e)
-    ∙ sym (append_assoc (staying e.item (bound_name x.item (first_cover 1 log (NameKey (name_of x.item))))) (staying e.item (names_of log)) (bound_name e.item None))
-    ∙ ap (λ xs. xs ++ bound_name e.item None) (sym (filter-append (stays e.item) (bound_name x.item (first_cover 1 log (NameKey (name_of x.item)))) (names_of log)))
+    ∙ sym (append_assoc (staying e.item (bound_name x.item (first_cover 1 log (NameKey (name_of x.item))))) (staying e.item (names_of log))
+    (bound_name e.item None))
+    ∙ ap (λ xs. xs ++ bound_name e.item None)
+    (sym (filter-append (stays e.item) (bound_name x.item (first_cover 1 log (NameKey (name_of x.item)))) (names_of log)))
 
 all_stay : (list : List BoundName) → filter (λ (b : BoundName). true) list ≡ list
 all_stay [] = refl

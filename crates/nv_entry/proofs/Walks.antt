@@ -1,7 +1,7 @@
 -- What the walks of the cleaners leave.
 use Rattle.std.proofs.Common.{◌≡◌, ℕ, ◌<◌, ◌≤◌, Bool, true, false, not, ◌||◌, List, [], ◌∷◌, ◌++◌, length, Some, arith, refl, ap, ◌∙◌, subst, append_assoc}
 use Rattle.std.specs.List.{AllByRecursion, list_any}
-use Rattle.std.proofs.lemmas.Bool.{and_parts, and_from}
+use Rattle.std.proofs.lemmas.Bool.{and_parts, and_from, or_from, or_parts}
 use Rattle.nv_entry.specs.declared.held.Pair.{Pair}
 use Rattle.nv_entry.specs.declared.item.Entry.{Entry}
 use Rattle.nv_entry.specs.Clean.{IsDroppable, all_go, entries_of, entries_stay, is_droppable, is_empty, kept_of, page_goes, pages_left, pages_stay, select}
@@ -10,8 +10,8 @@ use Rattle.nv_entry.specs.Keys.{Key, covers}
 use Rattle.nv_entry.specs.Laws.{AllDroppable, GoIfDroppable, GoIfPageDroppable, IsFast, IsPageDroppable, IsThorough, KeepsReads, NoneDroppable, ReadsSame, ReadsSameAt, SpansAreKept, pairs_where}
 use Rattle.nv_entry.specs.Log.{IsLog, MayFollow, first_cover, pairs, pairs_of, up_to}
 use Rattle.nv_entry.proofs.Dying.{unkept_earlier}
-use Rattle.nv_entry.proofs.Hiding.{clash, either_false, or_false}
-use Rattle.nv_entry.proofs.Spared.{reads_chain, reads_refl}
+use Rattle.nv_entry.proofs.Hiding.{clash}
+use Rattle.nv_entry.proofs.SameReads.{reads_chain, reads_refl}
 use Rattle.nv_entry.proofs.Removal.{droppable, droppable_test, empty-length, length-empty, reads_at, reads_now}
 use Rattle.nv_entry.proofs.Spans.{Living, Steady, epochs_of, living, pairs_stay, steady_current, steady_held, steady_pending}
 
@@ -40,15 +40,19 @@ walk_lasts : (r : Retention) (R : List Entry → List Entry → Type 0) (fact : 
     → (kept log : List Entry) → Along fact log → R (kept ++ log) (kept ++ walk r kept log)
 walk_lasts r R fact l kept [] known = l.none (kept ++ [])
 walk_lasts r R fact l kept (e ∷ later) known =
-    go (is_droppable r kept e later) refl (walk_lasts r R fact l kept later known.1) (walk_lasts r R fact l (kept ++ e ∷ []) later known.1) where
+    go (is_droppable r kept e later) refl (walk_lasts r R fact l kept later known.1)
+    (walk_lasts r R fact l (kept ++ e ∷ []) later known.1) where
       go : (b : Bool) → is_droppable r kept e later ≡ b
           → R (kept ++ later) (kept ++ walk r kept later)
           → R ((kept ++ e ∷ []) ++ later) ((kept ++ e ∷ []) ++ walk r (kept ++ e ∷ []) later)
           → R (kept ++ e ∷ later) (kept ++ walk r kept (e ∷ later))
-      go true q drops keeps = rw q (l.chain (kept ++ e ∷ later) (kept ++ later) (kept ++ walk r kept later) (l.step kept e later known.0 (droppable r kept e later q)) drops)
+      go true q drops keeps =
+          rw q (l.chain (kept ++ e ∷ later) (kept ++ later) (kept ++ walk r kept later)
+          (l.step kept e later known.0 (droppable r kept e later q)) drops)
       go false q drops keeps = rw q (
           subst (λ (xs : List Entry). R xs (kept ++ e ∷ walk r (kept ++ e ∷ []) later)) (append_assoc kept (e ∷ []) later)
-          (subst (λ (xs : List Entry). R ((kept ++ e ∷ []) ++ later) xs) (append_assoc kept (e ∷ []) (walk r (kept ++ e ∷ []) later)) keeps))
+          (subst (λ (xs : List Entry). R ((kept ++ e ∷ []) ++ later) xs)
+          (append_assoc kept (e ∷ []) (walk r (kept ++ e ∷ []) later)) keeps))
 
 page_lasts : (r : Retention) (R : List Entry → List Entry → Type 0) (fact : Entry → List Entry → Type 0) → Lasts r R fact
     → (kept page later : List Entry) → Along fact (page ++ later) → all_go r kept page later ≡ true
@@ -70,7 +74,8 @@ pages_last : (r : Retention) (R : List Entry → List Entry → Type 0) (fact : 
 pages_last r R fact l kept [] known = l.none (kept ++ [])
 pages_last r R fact l kept (page ∷ pages) known =
     let behind = along_behind fact page (entries_of pages) known in
-    go (page_goes r kept page (entries_of pages)) refl (pages_last r R fact l kept pages behind) (pages_last r R fact l (kept ++ page) pages behind) where
+    go (page_goes r kept page (entries_of pages)) refl (pages_last r R fact l kept pages behind)
+    (pages_last r R fact l (kept ++ page) pages behind) where
       go : (b : Bool) → page_goes r kept page (entries_of pages) ≡ b
           → R (kept ++ entries_of pages) (kept ++ entries_of (page_walk r kept pages))
           → R ((kept ++ page) ++ entries_of pages) ((kept ++ page) ++ entries_of (page_walk r (kept ++ page) pages))
@@ -80,13 +85,16 @@ pages_last r R fact l kept (page ∷ pages) known =
           rw q (l.chain (kept ++ (page ++ entries_of pages)) (kept ++ entries_of pages) (kept ++ entries_of (page_walk r kept pages))
           (page_lasts r R fact l kept page (entries_of pages) known p.1) goes)
       go false q goes stays = rw q (
-          subst (λ (xs : List Entry). R xs (kept ++ (page ++ entries_of (page_walk r (kept ++ page) pages)))) (append_assoc kept page (entries_of pages))
-          (subst (λ (xs : List Entry). R ((kept ++ page) ++ entries_of pages) xs) (append_assoc kept page (entries_of (page_walk r (kept ++ page) pages))) stays))
+          subst (λ (xs : List Entry). R xs (kept ++ (page ++ entries_of (page_walk r (kept ++ page) pages))))
+          (append_assoc kept page (entries_of pages))
+          (subst (λ (xs : List Entry). R ((kept ++ page) ++ entries_of pages) xs)
+          (append_assoc kept page (entries_of (page_walk r (kept ++ page) pages))) stays))
 
 -- ---- what lasts
 
 lasts_now : (r : Retention) → Lasts r (ReadsSame r.block) (λ e later. Unit {0})
-lasts_now r = record { none = reads_refl r.block; chain = reads_chain r.block; step = λ before e later known h. reads_now r before e later h }
+lasts_now r =
+    record { none = reads_refl r.block; chain = reads_chain r.block; step = λ before e later known h. reads_now r before e later h }
 
 -- no pair of the entry spans the epoch unkept
 abbrev SpansKept : Retention → ℕ → Entry → List Entry → Type 0
@@ -96,10 +104,10 @@ unspanned : (r : Retention) (epoch : ℕ) (xs : List Pair) → AllByRecursion (�
     → list_any (keeps r) xs ≡ false → list_any (holds epoch) xs ≡ false
 unspanned r epoch [] all h = refl
 unspanned r epoch (x ∷ xs) all h =
-    let p = or_false (keeps r x) (list_any (keeps r) xs) h in
-    either_false (holds epoch x) (list_any (holds epoch) xs) (go (holds epoch x) refl) (unspanned r epoch xs all.1 p.1) where
+    let p = or_parts (keeps r x) (list_any (keeps r) xs) h in
+    or_from (holds epoch x) (list_any (holds epoch) xs) (go (holds epoch x) refl) (unspanned r epoch xs all.1 p.1) where
       go : (b : Bool) → holds epoch x ≡ b → holds epoch x ≡ false
-      go true q = clash (keeps r x) (all.0 q) (or_false (keeps r x) (list_any (keeps r) xs) h).0
+      go true q = clash (keeps r x) (all.0 q) (or_parts (keeps r x) (list_any (keeps r) xs) h).0
       go false q = q
 
 lasts_at : (r : Retention) (epoch : ℕ) → Lasts r (ReadsSameAt r.block epoch) (SpansKept r epoch)
@@ -138,7 +146,8 @@ along_spans : (r : Retention) (epoch : ℕ) (log : List Entry) → SpansAreKept 
 along_spans r epoch [] all = tt
 along_spans r epoch (e ∷ later) all = (
   all_front (λ pair. holds epoch pair ≡ true → keeps r pair ≡ true) (pairs_of r.block e later) (pairs r.block later) all,
-  along_spans r epoch later (all_back (λ pair. holds epoch pair ≡ true → keeps r pair ≡ true) (pairs_of r.block e later) (pairs r.block later) all),
+  along_spans r epoch later
+      (all_back (λ pair. holds epoch pair ≡ true → keeps r pair ≡ true) (pairs_of r.block e later) (pairs r.block later) all),
 )
 
 -- a living snapshot's pairs are all needed
@@ -164,20 +173,27 @@ each_living r P f (s ∷ snapshots) all = (f s all.0, each_living r P f snapshot
 
 -- what a walk owes: what lasts over each removal lasts over it
 abbrev Outlasts : Retention → List Entry → List Entry → Type 1
-Outlasts r old new = (R : List Entry → List Entry → Type 0) (fact : Entry → List Entry → Type 0) → Lasts r R fact → Along fact old → R old new
+Outlasts r old new =
+    (R : List Entry → List Entry → Type 0) (fact : Entry → List Entry → Type 0) → Lasts r R fact → Along fact old → R old new
 
 keeps_reads : (r : Retention) (old new : List Entry) → Outlasts r old new → IsLog old → KeepsReads r old new
 keeps_reads r old new out l =
-    let at : (epoch : ℕ) → SpansAreKept r epoch old → ReadsSameAt r.block epoch old new = λ epoch all. out (ReadsSameAt r.block epoch) (SpansKept r epoch) (lasts_at r epoch) (along_spans r epoch old all) in
+    let at : (epoch : ℕ) → SpansAreKept r epoch old
+    → ReadsSameAt r.block epoch old new = λ epoch all. out (ReadsSameAt r.block epoch) (SpansKept r epoch) (lasts_at r epoch)
+    (along_spans r epoch old all) in
     let same : (test : Pair → Bool) → Steady r test → pairs_where test r.block new ≡ pairs_where test r.block old =
-    λ test steady. out (λ a b. pairs_where test r.block b ≡ pairs_where test r.block a) (λ e later. AllByRecursion (MayFollow e) later) (lasts_pairs r test steady) (along_log old l) in
+    λ test steady. out (λ a b. pairs_where test r.block b ≡ pairs_where test r.block a) (λ e later. AllByRecursion (MayFollow e) later)
+    (lasts_pairs r test steady) (along_log old l) in
     record {
       now = out (ReadsSame r.block) (λ e later. Unit {0}) (lasts_now r) (along_nothing old);
       kept = at;
-      held = each_living r (λ s. ReadsSameAt r.block s old new) (λ s h. at s (all_pairs (λ pair. holds s pair ≡ true → keeps r pair ≡ true) (held_keeps r s h) (pairs r.block old))) r.snapshots (living r);
+      held = each_living r (λ s. ReadsSameAt r.block s old new)
+          (λ s h. at s (all_pairs (λ pair. holds s pair ≡ true → keeps r pair ≡ true) (held_keeps r s h) (pairs r.block old))) r.snapshots
+          (living r);
       current = same is_current (steady_current r);
       pending = same (is_named r.pending) (steady_pending r);
-      holders = each_living r (λ s. pairs_where (holds s) r.block new ≡ pairs_where (holds s) r.block old) (λ s h. same (holds s) (steady_held r s h)) r.snapshots (living r);
+      holders = each_living r (λ s. pairs_where (holds s) r.block new ≡ pairs_where (holds s) r.block old)
+          (λ s h. same (holds s) (steady_held r s h)) r.snapshots (living r);
     }
 
 pub thorough_keeps : (r : Retention) (log : List Entry) → IsLog log → KeepsReads r log (kept_of r log)
@@ -214,7 +230,9 @@ all_droppable r kept (e ∷ page) later h =
 
 all_go-test : (r : Retention) (kept page later : List Entry) → AllDroppable r kept page later → all_go r kept page later ≡ true
 all_go-test r kept [] later h = refl
-all_go-test r kept (e ∷ page) later h = and_from (is_droppable r kept e (page ++ later)) (all_go r kept page later) (droppable_test r kept e (page ++ later) h.0) (all_go-test r kept page later h.1)
+all_go-test r kept (e ∷ page) later h =
+    and_from (is_droppable r kept e (page ++ later)) (all_go r kept page later) (droppable_test r kept e (page ++ later) h.0)
+    (all_go-test r kept page later h.1)
 
 page_droppable : (r : Retention) (kept page later : List Entry) → page_goes r kept page later ≡ true → IsPageDroppable r kept page later
 page_droppable r kept page later h =
@@ -225,7 +243,9 @@ page_droppable r kept page later h =
       not_empty false q = refl
 
 page_goes-test : (r : Retention) (kept page later : List Entry) → IsPageDroppable r kept page later → page_goes r kept page later ≡ true
-page_goes-test r kept page later h = and_from (not (is_empty page)) (all_go r kept page later) (ap not (length-empty page h.has_entries)) (all_go-test r kept page later h.all)
+page_goes-test r kept page later h =
+    and_from (not (is_empty page)) (all_go r kept page later) (ap not (length-empty page h.has_entries))
+    (all_go-test r kept page later h.all)
 
 pub pages_go : (r : Retention) (kept : List Entry) (pages : List (List Entry)) → GoIfPageDroppable r kept pages (pages_stay r kept pages)
 pages_go r kept [] = tt

@@ -1,5 +1,5 @@
 -- What lies below a page and what lies from one on, and a run put between.
-use Rattle.std.proofs.Common.{◌≡◌, ◌≢◌, ℕ, zero, suc, ◌+◌, ◌-◌, ◌<◌, ◌≤◌, ◌&&◌, Bool, true, false, cond, List, [], ◌∷◌, ◌++◌, length, take, drop, max, nat_le, nat_lt, set, slice_get, Option, Some, None, is_some, refl, ap, sym, ◌∙◌, arith, subst}
+use Rattle.std.proofs.Common.{◌≡◌, ◌≢◌, ℕ, ◌+◌, ◌-◌, ◌<◌, ◌≤◌, ◌&&◌, Bool, true, false, cond, List, [], ◌∷◌, ◌++◌, length, take, drop, max, nat_le, nat_lt, set, slice_get, Option, Some, None, is_some, refl, ap, sym, ◌∙◌, arith, subst}
 use Rattle.std.proofs.lemmas.Bool.{le-leb, lt-leb, ltb-true, ltb-false}
 use Rattle.std.proofs.lemmas.Bool.Decides.{nat_tests}
 use Rattle.std.proofs.lemmas.Grind.{common_steps}
@@ -9,20 +9,10 @@ use Rattle.std.proofs.lemmas.Option.{slice_get_within}
 use Rattle.nv_findex.specs.declared.page_ref.PageRef.{PageRef}
 use Rattle.nv_findex.specs.declared.page_run.PageRun.{PageRun}
 use Rattle.nv_findex.specs.Pages.{IsRun, ref_at, run_ref, present_from}
-use Rattle.nv_findex.specs.Runs.{AreRuns, BeginFrom, EndBy, EndBehind, IsBorder, IsBelow, IsPut, goes_on, goes_on_in, rest_from, pages_past}
+use Rattle.nv_findex.specs.Runs.{AreRuns, BeginFrom, EndBy, IsBorder, IsBelow, IsPut, goes_on, goes_on_in, rest_from, pages_past}
 use Rattle.nv_findex.proofs.Refs.{drop_read, split_read, past_read, ref_at-in, ref_at-below, ref_at-behind, ref_at-end_by, ref_at-back, ref_at-same_back, ref_at-before, ref_at-front, runs-front, runs-back, begin_earlier, end_later, end_within}
 use Rattle.nv_findex.proofs.Whole.{none_from, some_from}
 use Rattle.nv_findex.proofs.Counts.{how_many-same, pages_in, present, past_all}
-
--- borders come in the order of their pages
-pub border_order : (p q : ℕ) (rs : List PageRun) (at to : ℕ) → p ≤ q → at ≤ length rs → EndBy p (take at rs) → EndBehind q (drop to rs)
-    → at ≤ to
-unfolding EndBy EndBehind
-border_order p q rs zero to le within ended behind = omega arith
-border_order p q [] (suc at) to le within ended behind = absurd (omega arith)
-border_order p q (r ∷ rs) (suc at) zero le within ended behind = absurd (omega (arith, ended.0, behind))
-border_order p q (r ∷ rs) (suc at) (suc to) le within ended behind =
-    omega (arith, border_order p q rs at to le (omega arith) ended.1 behind)
 
 -- what ends before p, where the next run begins at p or later
 pub below_whole : (p : ℕ) (rs : List PageRun) (at : ℕ) → AreRuns rs → IsBorder p rs at → BeginFrom p (drop at rs)

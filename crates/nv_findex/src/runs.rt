@@ -2,22 +2,82 @@
 
 ghost use Rattle.std.specs.Prelude.{◌≡◌, ℕ, ◌+◌, ◌-◌, ◌^◌, ◌<◌, ◌≤◌, ◌++◌, length, take, drop, replicate, slice_get, vec_len, vec_capacity, IfSome};
 ghost use Rattle.nv_findex.specs.Pages.{IsRun, IsRunFrom, IsNextFrom, CutsFrom, ref_at, present_from};
-ghost use Rattle.nv_findex.specs.Runs.{AreRuns, IsBorder, IsBelow, IsPut, pages_past};
+ghost use Rattle.nv_findex.specs.Runs.{AreRuns, EndBehind, EndBy, IsBorder, IsBelow, IsPut, pages_past};
 
 use crate::{PageRef, PageRun};
 
-/// How many of the runs end at or before a page.
-fn ended_by(runs: &[PageRun], page: u32) -> usize
+/// How many runs before and behind a guess are looked at first.
+const NEAR: usize = 16;
+
+fn get(runs: &[PageRun], at: usize) -> Option<PageRun>
+    ensures { result ≡ slice_get runs.now at }
+{
+    runs.get(at).copied()
+}
+
+/// How many of the runs end at or before a page. Costs the logarithm of the runs.
+fn ended_in(runs: &[PageRun], page: u32) -> usize
     requires { AreRuns runs.now }
     ensures { IsBorder page runs.now result }
 {
     runs.partition_point(|run| run.end <= page)
 }
 
-fn get(runs: &[PageRun], at: usize) -> Option<PageRun>
-    ensures { result ≡ slice_get runs.now at }
+/// Where the border of a page would be if the runs lay evenly.
+fn guess(runs: &[PageRun], page: u32) -> usize {
+    let end = runs.last().map_or(1, |run| run.end.max(1));
+    let pages = (page as u64).saturating_mul(runs.len() as u64);
+    (pages / (end as u64)) as usize
+}
+
+/// A place near the guess that the border of a page isn't below, or else 0.
+fn low_near(runs: &[PageRun], guess: usize, page: u32) -> usize
+    requires { AreRuns runs.now }
+    ensures within { result ≤ length runs.now }
+    ensures ended { EndBy page (take result runs.now) }
 {
-    runs.get(at).copied()
+    let low = guess.saturating_sub(NEAR);
+    let Some(run) = get(runs, low) else {
+        return 0;
+    };
+    if run.end <= page {
+        return low;
+    }
+    0
+}
+
+/// A place near the guess that the border of a page isn't above, or else the end.
+fn high_near(runs: &[PageRun], guess: usize, page: u32) -> usize
+    ensures within { result ≤ length runs.now }
+    ensures behind { EndBehind page (drop result runs.now) }
+{
+    let high = guess.saturating_add(NEAR);
+    let Some(run) = get(runs, high) else {
+        return runs.len();
+    };
+    if page < run.end {
+        return high;
+    }
+    runs.len()
+}
+
+/// How many of the runs end at or before a page. Looks near the guess first: where it is near, this costs the same
+/// at any number of runs, and else the logarithm of the runs.
+fn ended_near(runs: &[PageRun], guess: usize, page: u32) -> usize
+    requires { AreRuns runs.now }
+    ensures { IsBorder page runs.now result }
+{
+    let low = low_near(runs, guess, page);
+    let high = high_near(runs, guess, page);
+    low + ended_in(&runs[low..high], page)
+}
+
+/// How many of the runs end at or before a page.
+fn ended_by(runs: &[PageRun], page: u32) -> usize
+    requires { AreRuns runs.now }
+    ensures { IsBorder page runs.now result }
+{
+    ended_near(runs, guess(runs, page), page)
 }
 
 /// The run that holds a page, or else the first one behind it.
@@ -161,7 +221,7 @@ pub fn put(runs: &mut Vec<PageRun>, run: PageRun)
 {
     let old = runs.as_slice();
     let at = ended_by(old, run.first);
-    let to = ended_by(old, run.end);
+    let to = ended_near(old, at, run.end);
     let next = get(old, to);
     let at = keep_below(runs, at, run.first);
     let Some(next) = next else {

@@ -2,7 +2,7 @@
 use Rattle.std.proofs.Common.{◌≡◌, ℕ, zero, suc, ◌+◌, ◌-◌, ◌*◌, ◌<◌, ◌≤◌, inl, inr, true, false, leb, List, [], ◌∷◌, ◌++◌, length, take, drop, get_or, map, min, length-drop, length-append, arith, refl, ap, sym, ◌∙◌, add-one, subst}
 use Rattle.std.proofs.lemmas.Bool.{cases_lt}
 use Rattle.std.proofs.lemmas.Bool.Decides.{nat_tests}
-use Rattle.std.proofs.lemmas.List.{drop-drop, take-append-drop, take-append-le, drop-append-le, take_at, drop_at, get_or_past, get_or_default, length-take-le, nil_from_length}
+use Rattle.std.proofs.lemmas.List.{drop-drop, take-append-drop, take-append-le, drop-append-le, take_at, drop_at, get_or_past, get_or_default, length-take, length-take-le, nil_from_length, take_min, drop_min}
 use Rattle.std.proofs.lemmas.List.Sorted.{IsNonDecreasingBy-from_all_adjacent}
 use Rattle.std.specs.List.Sorted.{IsNonDecreasingBy, IsPartitionPoint, IsStrictlyIncreasing}
 use Rattle.std.proofs.lemmas.List.FromFn.{map-range_with_len_more}
@@ -10,6 +10,8 @@ use Rattle.std.proofs.lemmas.Grind.{div_ceil_times}
 use Rattle.std.proofs.Math.Nat.{mul-le-mul_right}
 use Rattle.std.specs.Int.{div_ceil}
 use Rattle.std.specs.List.{AllByRecursion, range_with_len}
+use Rattle.nv_entry.specs.Clean.{pages_by}
+use Rattle.nv_entry.specs.declared.item.Entry.{Entry}
 use Rattle.nv_log.specs.Chain.{AreEnds, ends_from, joined, packed, parts_from}
 
 -- where part `k` stands
@@ -188,6 +190,25 @@ joined-parts most from (e ∷ ends) len xs are le =
       are.0,
       from_le_len most e ends len are.2,
     ))) ∙ take-append-drop n xs
+
+-- and they are what the list is cut into by how many items each has
+pub pages_by-parts : (from : ℕ) (ends : List ℕ) (es : List Entry) → pages_by (map length (parts_from from ends es)) es ≡ parts_from from ends es
+pages_by-parts from [] es = refl
+pages_by-parts from (e ∷ ends) es =
+    let n = e - from in
+    rw (length-take n es, take_min n es, drop_min n es) (ap (λ pages. take n es ∷ pages) (pages_by-parts e ends (drop n es)))
+
+-- how many items part `k` has of the first `tail`
+pub length-part : {X : Type 0} (most : ℕ) (ends : List ℕ) (tail k : ℕ) (xs : List X) → AreEnds most 0 ends (length xs) → k < length ends
+    → length (get_or (parts_from 0 ends (take tail xs)) k [])
+    ≡ min (get_or ends k (length xs)) tail - min (get_or (0 ∷ ends) k (length xs)) tail
+length-part most ends tail k xs are lt =
+    let len = length xs in
+    let start = get_or (0 ∷ ends) k len in
+    let n = get_or ends k len - start in
+    let at = part_at most 0 ends len k len are lt in
+    ap length (part_is most 0 ends len k len (take tail xs) are lt)
+    ∙ omega (arith, at.some, at.within, length-take n (drop (start - 0) (take tail xs)), length-drop (start - 0) (take tail xs), length-take tail xs)
 
 -- parts joined and cut again are those parts
 pub parts-joined : {X : Type 0} (from : ℕ) (parts : List (List X)) → parts_from from (ends_from from parts) (joined parts) ≡ parts

@@ -24,7 +24,8 @@ takes_all chunk line at end count whole =
 
 pub takes_front : (chunk line : List ℕ) (at end count byte : ℕ) → at + count < end → end ≤ length chunk
     → byte ≡ get_or chunk (at + count) byte
-    → line ++ drop at (take end chunk) ≡ ((line ++ take count (take (end - at) (drop at chunk))) ++ byte ∷ []) ++ drop (at + count + 1) (take end chunk)
+    → line ++ drop at (take end chunk) ≡ ((line ++ take count (take (end - at) (drop at chunk))) ++ byte ∷ []) ++ drop (at + count + 1)
+    (take end chunk)
 takes_front chunk line at end count byte more within same =
     let slice = slice_is chunk at end (omega arith) in
     let ahead : List ℕ = drop at (take end chunk) in

@@ -58,12 +58,27 @@ no_room input left old =
     whole None = ([], tt)
     whole (Some bytes) = (bytes, refl)
 
-plays-push : (old : Option WorldValue) (lines : List (List ℕ)) (text : List ℕ) (mid : Option WorldValue) (line more : List ℕ) (new : Option WorldValue)
+plays-push : (old : Option WorldValue) (lines : List (List ℕ)) (text : List ℕ) (mid : Option WorldValue) (line more : List ℕ)
+    (new : Option WorldValue)
     → PlaysAll old lines text mid → IsLine line → Plays mid line more new → PlaysAll old (lines ++ line ∷ []) (text ++ more) new
-plays-push old [] text mid line more new all lawful one =
-    (more, [], new, lawful, subst (λ (world : Option WorldValue). Plays world line more new) all.1 one, (refl, refl), ap (λ front. front ++ more) all.0 ∙ sym (append-nil more))
-plays-push old (first ∷ lines) text mid line more new all lawful one =
-    (all.0, all.1 ++ more, all.2, all.3, all.4, plays-push all.2 lines all.1 mid line more new all.5 lawful one, ap (λ front. front ++ more) all.6 ∙ append_assoc all.0 all.1 more)
+plays-push old [] text mid line more new all lawful one = (
+  more,
+  [],
+  new,
+  lawful,
+  subst (λ (world : Option WorldValue). Plays world line more new) all.1 one,
+  (refl, refl),
+  ap (λ front. front ++ more) all.0 ∙ sym (append-nil more),
+)
+plays-push old (first ∷ lines) text mid line more new all lawful one = (
+  all.0,
+  all.1 ++ more,
+  all.2,
+  all.3,
+  all.4,
+  plays-push all.2 lines all.1 mid line more new all.5 lawful one,
+  ap (λ front. front ++ more) all.6 ∙ append_assoc all.0 all.1 more,
+)
 
 if_same : (input : Option (List ℕ)) (u v : List ℕ) → u ≡ v → IfSome input (λ bytes. bytes ≡ u) → IfSome input (λ bytes. bytes ≡ v)
 if_same None u v same is = tt
@@ -102,9 +117,11 @@ broken : (input left old new : Option (List ℕ)) (lines : List (List ℕ)) (res
     → PlaysAll None lines text world → WritesSome old new text → EndsBy fault.Write input left (λ text. Appends old new text)
 broken input left old new lines rest text world split few all some =
     let at = breaks_at None lines text some.0 world all some.1 in
-    let ending : ended lines ≡ ended at.before ++ ((at.line ++ 10 ∷ []) ++ ended at.after) = ap ended at.split ∙ ended-append at.before (at.line ∷ at.after) in
+    let ending : ended lines ≡ ended at.before ++ ((at.line ++ 10 ∷ []) ++ ended at.after) = ap ended at.split
+    ∙ ended-append at.before (at.line ∷ at.after) in
     let whole : ended lines ++ rest ≡ ended at.before ++ ((at.line ++ 10 ∷ []) ++ (ended at.after ++ rest)) =
-    ap (λ front. front ++ rest) ending ∙ append_assoc (ended at.before) ((at.line ++ 10 ∷ []) ++ ended at.after) rest ∙ ap (λ bytes. ended at.before ++ bytes) (append_assoc (at.line ++ 10 ∷ []) (ended at.after) rest) in
+    ap (λ front. front ++ rest) ending ∙ append_assoc (ended at.before) ((at.line ++ 10 ∷ []) ++ ended at.after) rest
+    ∙ ap (λ bytes. ended at.before ++ bytes) (append_assoc (at.line ++ 10 ∷ []) (ended at.after) rest) in
     let count : length lines ≡ length (at.before ++ at.line ∷ at.after) = ap length at.split in
     let fewer : length at.before ≤ most_lines = omega (arith, count, few, length-append at.before (at.line ∷ at.after)) in (
       at.before,
@@ -128,20 +145,25 @@ ends_on (Err fault.Write) input left Old New turn e = (e.0, e.1, e.2, e.3, e.4, 
 ends_on (Err _) input left Old New turn e = absurd e
 
 -- the same where some of what was gathered was written
-broken_played : (input left old mid new : Option (List ℕ)) (gathered : List ℕ) (lines : List (List ℕ)) (rest text : List ℕ) (world : Option WorldValue) → Played input lines rest text world
+broken_played : (input left old mid new : Option (List ℕ)) (gathered : List ℕ) (lines : List (List ℕ)) (rest text : List ℕ)
+    (world : Option WorldValue) → Played input lines rest text world
     → WritesFront old mid text gathered → WritesSome mid new gathered → EndsBy fault.Write input left (λ text. Appends old new text)
 broken_played input left old mid new gathered lines rest text world played front some =
     let few = played.few in
-    broken input left old new lines rest text world played.split (omega (arith, few)) played.plays (writes_some old mid new text gathered front some)
+    broken input left old new lines rest text world played.split (omega (arith, few)) played.plays
+    (writes_some old mid new text gathered front some)
 
 -- not all of what was gathered at the end was written
 pub broken_off : (result : Result (Unit {0}) Fault) (input left old mid new : Option (List ℕ)) (gathered : List ℕ)
     → Ends result input left (λ text. WritesFront old mid text gathered) → WritesSome mid new gathered
     → EndsBy fault.Write input left (λ text. Appends old new text)
 broken_off (Ok done) input left old mid new gathered e some = broken_played input left old mid new gathered e.0 [] e.1 e.2 e.3 e.5 some
-broken_off (Err (fault.ScriptFault number why)) input left old mid new gathered e some = broken_played input left old mid new gathered e.0 e.1 e.2 e.3 e.4 e.6 some
-broken_off (Err fault.Read) input left old mid new gathered e some = broken_played input left old mid new gathered e.0 e.1 e.2 e.3 e.4 e.6 some
-broken_off (Err fault.OutOfMemory) input left old mid new gathered e some = broken_played input left old mid new gathered e.0 e.1 e.2 e.3 e.4 e.6 some
+broken_off (Err (fault.ScriptFault number why)) input left old mid new gathered e some = broken_played input left old mid new gathered e.0
+    e.1 e.2 e.3 e.4 e.6 some
+broken_off (Err fault.Read) input left old mid new gathered e some = broken_played input left old mid new gathered e.0 e.1 e.2 e.3 e.4 e.6
+    some
+broken_off (Err fault.OutOfMemory) input left old mid new gathered e some = broken_played input left old mid new gathered e.0 e.1 e.2 e.3
+    e.4 e.6 some
 broken_off (Err fault.Write) input left old mid new gathered e some =
     let next = e.6 in
     let own = next.7 in
@@ -176,17 +198,23 @@ answered number answer told is =
 pub line_taken : (number : ℕ) (t : Taken) (known after : Option (List ℕ)) (line : List ℕ) → is_line number t ≡ Ok true
     → TakenIs t known after line → TakenIs taken.Line known after line × (number ≤ most_lines)
 line_taken number taken.End known after line is took = cc
-line_taken number taken.Line known after line is took = elim (answered number _ _ is) [ inl many ↦ (let e = many.1 in cc) | inr few ↦ (took, few.0) ]
-line_taken number taken.Long known after line is took = elim (answered number _ _ is) [ inl many ↦ (let e = many.1 in cc) | inr few ↦ (let e = few.1 in cc) ]
-line_taken number taken.Unended known after line is took = elim (answered number _ _ is) [ inl many ↦ (let e = many.1 in cc) | inr few ↦ (let e = few.1 in cc) ]
+line_taken number taken.Line known after line is took =
+    elim (answered number _ _ is) [ inl many ↦ (let e = many.1 in cc) | inr few ↦ (took, few.0) ]
+line_taken number taken.Long known after line is took =
+    elim (answered number _ _ is) [ inl many ↦ (let e = many.1 in cc) | inr few ↦ (let e = few.1 in cc) ]
+line_taken number taken.Unended known after line is took =
+    elim (answered number _ _ is) [ inl many ↦ (let e = many.1 in cc) | inr few ↦ (let e = few.1 in cc) ]
 
 -- nothing was taken at the end
 end_taken : (number : ℕ) (t : Taken) (known after : Option (List ℕ)) (line : List ℕ) → is_line number t ≡ Ok false
     → TakenIs t known after line → TakenIs taken.End known after line
 end_taken number taken.End known after line is took = took
-end_taken number taken.Line known after line is took = elim (answered number _ _ is) [ inl many ↦ (let e = many.1 in cc) | inr few ↦ (let e = few.1 in cc) ]
-end_taken number taken.Long known after line is took = elim (answered number _ _ is) [ inl many ↦ (let e = many.1 in cc) | inr few ↦ (let e = few.1 in cc) ]
-end_taken number taken.Unended known after line is took = elim (answered number _ _ is) [ inl many ↦ (let e = many.1 in cc) | inr few ↦ (let e = few.1 in cc) ]
+end_taken number taken.Line known after line is took =
+    elim (answered number _ _ is) [ inl many ↦ (let e = many.1 in cc) | inr few ↦ (let e = few.1 in cc) ]
+end_taken number taken.Long known after line is took =
+    elim (answered number _ _ is) [ inl many ↦ (let e = many.1 in cc) | inr few ↦ (let e = few.1 in cc) ]
+end_taken number taken.Unended known after line is took =
+    elim (answered number _ _ is) [ inl many ↦ (let e = many.1 in cc) | inr few ↦ (let e = few.1 in cc) ]
 
 some_after : (bytes rest : List ℕ) → bytes ≢ [] → bytes ++ rest ≢ []
 some_after [] rest some is = some refl
@@ -196,7 +224,8 @@ some_with : (bytes : List ℕ) (byte : ℕ) → bytes ++ byte ∷ [] ≢ []
 some_with [] byte is = cc
 some_with (first ∷ bytes) byte is = cc
 
-module _ (input known old new : Option (List ℕ)) (gathered : List ℕ) (number : ℕ) (world : Option WorldValue) (few : number ≤ 1048577) (at : AtLine input known old new gathered number world) where
+module _ (input known old new : Option (List ℕ)) (gathered : List ℕ) (number : ℕ) (world : Option WorldValue) (few : number ≤ 1048577)
+    (at : AtLine input known old new gathered number world) where
   abbrev Written : List ℕ → Type 0
   Written text = WritesFront old new text gathered
 
@@ -205,13 +234,21 @@ module _ (input known old new : Option (List ℕ)) (gathered : List ℕ) (number
 
   played : (after : Option (List ℕ)) (piece : List ℕ) → Consumes known after piece
       → (rest : List ℕ) × Played input at.lines (piece ++ rest) at.text world
-  played after piece more = let c = cut input known after at.lines piece at.taken more in (c.0, record { split = c.1; few = lines_fit; plays = at.plays })
+  played after piece more = let c = cut input known after at.lines piece at.taken more in
+      (c.0, record { split = c.1; few = lines_fit; plays = at.plays })
 
   -- what was gathered was written, or some of it
   pub written_on : (new' : Option (List ℕ)) (gathered' : List ℕ) → WritesFront new new' gathered gathered'
       → AtLine input known old new' gathered' number world
   written_on new' gathered' more =
-      record { lines = at.lines; text = at.text; count = at.count; taken = at.taken; plays = at.plays; written = writes_rest old new new' at.text gathered gathered' at.written more }
+      record {
+        lines = at.lines;
+        text = at.text;
+        count = at.count;
+        taken = at.taken;
+        plays = at.plays;
+        written = writes_rest old new new' at.text gathered gathered' at.written more;
+      }
 
   pub written_some : (left new' : Option (List ℕ)) → WritesSome new new' gathered
       → EndsBy fault.Write input left (λ text. Appends old new' text)
@@ -224,8 +261,15 @@ module _ (input known old new : Option (List ℕ)) (gathered : List ℕ) (number
       → ahead ≡ [] → EndsBy fault.Read input left Written
   reads_fail left ahead piece more lawful none =
       let p = played (prepend_known ahead left) piece more in
-      let gone = Consumes-trans input known (prepend_known ahead left) (ended at.lines) piece at.taken more in
-      (at.lines, piece ++ p.0, at.text, world, p.1, (piece, lawful, all_left input left ahead (ended at.lines ++ piece) none gone), at.written)
+      let gone = Consumes-trans input known (prepend_known ahead left) (ended at.lines) piece at.taken more in (
+        at.lines,
+        piece ++ p.0,
+        at.text,
+        world,
+        p.1,
+        (piece, lawful, all_left input left ahead (ended at.lines ++ piece) none gone),
+        at.written,
+      )
 
   -- the end of the input
   pub ends : (t : Taken) (left : Option (List ℕ)) (ahead line : List ℕ) → is_line number t ≡ Ok false
@@ -235,7 +279,11 @@ module _ (input known old new : Option (List ℕ)) (gathered : List ℕ) (number
         at.lines,
         at.text,
         world,
-        record { split = cut_end input known (prepend_known ahead left) at.lines [] at.taken end.0 end.1; few = lines_fit; plays = at.plays },
+        record {
+          split = cut_end input known (prepend_known ahead left) at.lines [] at.taken end.0 end.1;
+          few = lines_fit;
+          plays = at.plays;
+        },
         none_left left ahead end.1,
         at.written,
       )
@@ -243,15 +291,18 @@ module _ (input known old new : Option (List ℕ)) (gathered : List ℕ) (number
   faulty : (after left : Option (List ℕ)) (piece : List ℕ) (why : ScriptFaultKind) → Consumes known after piece
       → ((rest : List ℕ) → IsFault number (is_some world) (piece ++ rest) why)
       → EndsBy (fault.ScriptFault number why) input left Written
-  faulty after left piece why more is = let p = played after piece more in (at.lines, piece ++ p.0, at.text, world, p.1, (sym at.count, is p.0), at.written)
+  faulty after left piece why more is = let p = played after piece more in
+      (at.lines, piece ++ p.0, at.text, world, p.1, (sym at.count, is p.0), at.written)
 
   too_many : (after left : Option (List ℕ)) (piece : List ℕ) → most_lines < number → piece ≢ [] → Consumes known after piece
       → EndsBy (fault.ScriptFault number kind.Lines) input left Written
-  too_many after left piece many some more = faulty after left piece kind.Lines more (λ rest. past number (is_some world) (piece ++ rest) many (some_after piece rest some))
+  too_many after left piece many some more = faulty after left piece kind.Lines more
+      (λ rest. past number (is_some world) (piece ++ rest) many (some_after piece rest some))
 
   too_long : (after left : Option (List ℕ)) (line : List ℕ) → number ≤ most_lines → IsLine line → TakenIs taken.Long known after line
       → EndsBy (fault.ScriptFault number kind.Long) input left Written
-  too_long after left line inside lawful is = faulty after left (line ++ is.0 ∷ []) kind.Long is.1 (λ rest. within number (is_some world) _ kind.Long inside (inl (refl, (line, rest, is.0, lawful, is.3, is.2, refl))))
+  too_long after left line inside lawful is = faulty after left (line ++ is.0 ∷ []) kind.Long is.1
+      (λ rest. within number (is_some world) _ kind.Long inside (inl (refl, (line, rest, is.0, lawful, is.3, is.2, refl))))
 
   unended : (after left : Option (List ℕ)) (line : List ℕ) → number ≤ most_lines → IsLine line → TakenIs taken.Unended known after line
       → EndsBy (fault.ScriptFault number kind.Unended) input left Written
@@ -289,7 +340,8 @@ module _ (input known old new : Option (List ℕ)) (gathered : List ℕ) (number
         | inr inside ↦ ends_as why _ left inside.1 (unended after left line inside.0 lawful took)
       ]
 
-  module _ (t : Taken) (after : Option (List ℕ)) (line : List ℕ) (is : is_line number t ≡ Ok true) (lawful : IsLine line) (took : TakenIs t known after line) where
+  module _ (t : Taken) (after : Option (List ℕ)) (line : List ℕ) (is : is_line number t ≡ Ok true) (lawful : IsLine line)
+      (took : TakenIs t known after line) where
     here : TakenIs taken.Line known after line
     here = (line_taken number t known after line is took).0
 
@@ -303,7 +355,8 @@ module _ (input known old new : Option (List ℕ)) (gathered : List ℕ) (number
         let p = played after (line ++ 10 ∷ []) here in
         (at.lines, (line ++ 10 ∷ []) ++ p.0, at.text, world, p.1, inr (line, p.0, lawful, refl, why), at.written)
     not_played left (line_fault.Faulty fault) world' why =
-        faulty after left (line ++ 10 ∷ []) fault here (λ rest. within number (is_some world) _ fault within_last (inr (inr (line, rest, lawful, refl, why.0))))
+        faulty after left (line ++ 10 ∷ []) fault here
+        (λ rest. within number (is_some world) _ fault within_last (inr (inr (line, rest, lawful, refl, why.0))))
 
     -- a line that was played, and its text gathered, or written in part
     pub next : (new' : Option (List ℕ)) (more gathered' : List ℕ) (world' : Option WorldValue) → Plays world line more world'
@@ -312,16 +365,19 @@ module _ (input known old new : Option (List ℕ)) (gathered : List ℕ) (number
       lines = at.lines ++ line ∷ [];
       text = at.text ++ more;
       count = (let count = at.count in omega (arith, count, length-append at.lines (line ∷ [])));
-      taken = subst (λ (bytes : List ℕ). Consumes input after bytes) (sym (ended-push at.lines line)) (Consumes-trans input known after (ended at.lines) (line ++ 10 ∷ []) at.taken here);
+      taken = subst (λ (bytes : List ℕ). Consumes input after bytes) (sym (ended-push at.lines line))
+          (Consumes-trans input known after (ended at.lines) (line ++ 10 ∷ []) at.taken here);
       plays = plays-push None at.lines at.text world line more world' at.plays lawful plays;
-      written = writes_rest old new new' (at.text ++ more) (gathered ++ more) gathered' (writes_grown old new at.text gathered more at.written) wrote;
+      written = writes_rest old new new' (at.text ++ more) (gathered ++ more) gathered'
+          (writes_grown old new at.text gathered more at.written) wrote;
     }
 
     pub breaks_off : (left new' : Option (List ℕ)) (more : List ℕ) (world' : Option WorldValue) → Plays world line more world'
         → WritesSome new new' (gathered ++ more) → EndsBy fault.Write input left (λ text. Appends old new' text)
     breaks_off left new' more world' plays wrote =
         let p = played after (line ++ 10 ∷ []) here in
-        let part = writes_some old new new' (at.text ++ more) (gathered ++ more) (writes_grown old new at.text gathered more at.written) wrote in
+        let part = writes_some old new new' (at.text ++ more) (gathered ++ more)
+        (writes_grown old new at.text gathered more at.written) wrote in
         broken input left old new' (at.lines ++ line ∷ []) p.0 (at.text ++ more) world' (split-push input at.lines line p.0 p.1.split)
         (let count = at.count in omega (arith, few, count, length-append at.lines (line ∷ [])))
         (plays-push None at.lines at.text world line more world' at.plays lawful plays) part
@@ -331,7 +387,8 @@ pub none_gathered : (input left old new : Option (List ℕ)) (gathered : List �
     → EndsBy fault.Write input left (λ text. Appends old new text)
     → EndsBy fault.Write input left (λ text. WritesFront old new text gathered)
 none_gathered input left old new gathered none e =
-    ends_on (Err fault.Write) input left (λ text. Appends old new text) (λ text. WritesFront old new text gathered) (λ text all. subst (λ (rest : List ℕ). WritesFront old new text rest) (sym none) (writes_all old new text all)) e
+    ends_on (Err fault.Write) input left (λ text. Appends old new text) (λ text. WritesFront old new text gathered)
+    (λ text all. subst (λ (rest : List ℕ). WritesFront old new text rest) (sym none) (writes_all old new text all)) e
 
 -- the same end, told by an equation
 pub ends_told : (told why : Fault) (input left : Option (List ℕ)) (Writes : List ℕ → Type 0) → told ≡ why → EndsBy why input left Writes

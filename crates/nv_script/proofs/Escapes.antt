@@ -48,7 +48,8 @@ unescaped-plain : (byte : ℕ) (rest : List ℕ) → is_plain byte ≡ true → 
 unescaped-plain byte [] plain = rw plain refl
 unescaped-plain byte (a ∷ []) plain = rw plain refl
 unescaped-plain byte (a ∷ b ∷ rest) plain =
-    second (byte == 37) _ _ (not_escape byte plain) ∙ ap (λ (first : Option ℕ). before first (unescaped (a ∷ b ∷ rest))) (plain_byte-plain byte plain)
+    second (byte == 37) _ _ (not_escape byte plain) ∙ ap (λ (first : Option ℕ). before first (unescaped (a ∷ b ∷ rest)))
+    (plain_byte-plain byte plain)
 
 hex_value-glyph : (digit : ℕ) → digit < 16 → hex_value (digit_glyph false digit) ≡ Some digit
 hex_value-glyph digit small = grind (arith, nat_tests)

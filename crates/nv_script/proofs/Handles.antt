@@ -5,7 +5,7 @@ use Rattle.std.proofs.lemmas.List.Splits.{slice_split_first, length-slice_split}
 use Rattle.std.proofs.lemmas.List.Sums.{passes_at_first}
 use Rattle.std.proofs.lemmas.List.Folds.{list_all_at}
 use Rattle.std.proofs.lemmas.Bool.Decides.{nat_tests}
-use Rattle.std.proofs.lemmas.Grind.{common_steps}
+use Rattle.std.proofs.lemmas.List.{take_rest}
 use Rattle.nv_script.specs.Words.{is_digit, number_of, parts_of, handle_from, handle_of_parts, handle_of}
 use Rattle.nv_script.proofs.Numbers.{number_of-other}
 
@@ -38,7 +38,8 @@ present place len point h =
 parts_of-whole : (word : List ℕ) → length word ≤ position_or_len is_point word → parts_of word ≡ word ∷ []
 parts_of-whole [] none = refl
 parts_of-whole (byte ∷ bytes) none =
-    elim (byte == 46) as (λ b. suc (length bytes) ≤ cond (not b) (1 + position_or_len is_point bytes) 0 → cond b ([] ∷ parts_of bytes) (onto_first byte (parts_of bytes)) ≡ (byte ∷ bytes) ∷ []) [
+    elim (byte == 46) as (λ b. suc (length bytes) ≤ cond (not b) (1 + position_or_len is_point bytes) 0
+    → cond b ([] ∷ parts_of bytes) (onto_first byte (parts_of bytes)) ≡ (byte ∷ bytes) ∷ []) [
       | true ↦ λ h. absurd (omega arith)
       | false ↦ λ h. ap (onto_first byte) (parts_of-whole bytes (omega arith))
     ] none
@@ -61,7 +62,8 @@ second_point : (ino word : List ℕ) → position_or_len is_point word < length 
 second_point ino word more =
     let parts = slice_split is_point (after_first is_point word) in
     let some : 0 < length parts = omega (arith, length-slice_split is_point (after_first is_point word)) in
-    let other : list_all is_digit word ≡ false = list_all_at is_digit word (position_or_len is_point word) 0 more (point_is_no_digit _ (passes_at_first is_point word 0 more)) in
+    let other : list_all is_digit word ≡ false = list_all_at is_digit word (position_or_len is_point word) 0 more
+    (point_is_no_digit _ (passes_at_first is_point word 0 more)) in
     ap (λ (rest : List (List ℕ)). handle_of_parts (ino ∷ rest)) (slice_split_first is_point word 0 more)
     ∙ handle_of_parts-more ino (before_first is_point word) parts some
     ∙ sym (ap (handle_from (number_of ino)) (number_of-other word other) ∙ handle_from-None (number_of ino))
@@ -70,15 +72,12 @@ second_point ino word more =
 handle_of_parts-rest : (ino word : List ℕ) (b : Bool) → nat_lt (position_or_len is_point word) (length word) ≡ b
     → handle_of_parts (ino ∷ parts_of word) ≡ handle_from (number_of ino) (number_of word)
 handle_of_parts-rest ino word true more = second_point ino word (lt_from_true _ _ more)
-handle_of_parts-rest ino word false none = ap (λ (rest : List (List ℕ)). handle_of_parts (ino ∷ rest)) (parts_of-whole word (le_from_false _ _ none))
+handle_of_parts-rest ino word false none = ap (λ (rest : List (List ℕ)). handle_of_parts (ino ∷ rest))
+    (parts_of-whole word (le_from_false _ _ none))
 
 -- no point
 pub handle_of-None : (word : List ℕ) → position is_point word ≡ None → handle_of word ≡ None
 handle_of-None word none = ap handle_of_parts (parts_of-whole word (absent (position_or_len is_point word) (length word) none))
-
--- the rest of a word, as a slice of it is written
-rest_of : (word : List ℕ) (k : ℕ) → drop k word ≡ take (length word - k) (drop k word)
-rest_of word k = grind (arith, common_steps)
 
 -- the first point
 pub handle_of-Some : (word : List ℕ) (point : ℕ) → position is_point word ≡ Some point
@@ -88,4 +87,4 @@ handle_of-Some word point some =
     ap handle_of_parts (slice_split_first is_point word 0 at.0)
     ∙ handle_of_parts-rest (before_first is_point word) (after_first is_point word) _ refl
     ∙ ap (λ (k : ℕ). handle_from (number_of (take k word)) (number_of (drop (k + 1) word))) at.1
-    ∙ ap (λ (rest : List ℕ). handle_from (number_of (take point word)) (number_of rest)) (rest_of word (point + 1))
+    ∙ ap (λ (rest : List ℕ). handle_from (number_of (take point word)) (number_of rest)) (sym (take_rest word (point + 1)))

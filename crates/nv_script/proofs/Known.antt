@@ -1,21 +1,19 @@
 -- A text that is written up to some place, in turn.
 use Rattle.std.proofs.Common.{◌≡◌, ◌<◌, ℕ, ◌-◌, List, [], ◌++◌, length, take, drop, refl, sym, ap, subst, ◌∙◌, append_assoc, append-nil, Option, arith}
 use Rattle.std.proofs.KnownBytes.{Appends-nil, Appends-trans}
-use Rattle.std.proofs.lemmas.List.{take-append-drop}
+use Rattle.std.proofs.lemmas.List.{take-append-drop, take_rest}
 use Rattle.std.proofs.lemmas.Grind.{common_steps}
 use Rattle.std.specs.Io.KnownBytes.{Appends}
 use Rattle.nv_script.specs.Lines.{WritesFront, WritesSome}
-
--- what is left after the first bytes, as a slice spells it
-left_of : (rest : List ℕ) (count : ℕ) → take (length rest - count) (drop count rest) ≡ drop count rest
-left_of rest count = grind (arith, common_steps)
 
 -- a front of what was left was written too
 pub writes_more : (a b c : Option (List ℕ)) (text rest : List ℕ) (count : ℕ) → WritesFront a b text rest → Appends b c (take count rest)
     → WritesFront a c text (take (length rest - count) (drop count rest))
 writes_more a b c text rest count front more =
-    let same : text ≡ (front.0 ++ take count rest) ++ drop count rest = front.1 ∙ ap (λ tail. front.0 ++ tail) (sym (take-append-drop count rest)) ∙ sym (append_assoc front.0 (take count rest) (drop count rest)) in
-    rw left_of (front.0 ++ take count rest, same, Appends-trans a b c front.0 (take count rest) front.2 more)
+    let same : text ≡ (front.0 ++ take count rest) ++ drop count rest = front.1
+    ∙ ap (λ tail. front.0 ++ tail) (sym (take-append-drop count rest))
+    ∙ sym (append_assoc front.0 (take count rest) (drop count rest)) in
+    rw take_rest (front.0 ++ take count rest, same, Appends-trans a b c front.0 (take count rest) front.2 more)
 
 -- nothing was written, all is left
 pub writes_none : (a : Option (List ℕ)) (text : List ℕ) → WritesFront a a text text
@@ -39,7 +37,8 @@ writes_rest a b c text left left' first then_ =
 
 -- all that was left was written
 pub writes_end : (a b c : Option (List ℕ)) (text left : List ℕ) → WritesFront a b text left → Appends b c left → Appends a c text
-writes_end a b c text left first then_ = subst (λ (t : List ℕ). Appends a c t) (sym first.1) (Appends-trans a b c first.0 left first.2 then_)
+writes_end a b c text left first then_ = subst (λ (t : List ℕ). Appends a c t) (sym first.1)
+    (Appends-trans a b c first.0 left first.2 then_)
 
 -- some of what was left was written
 pub writes_some : (a b c : Option (List ℕ)) (text left : List ℕ) → WritesFront a b text left → WritesSome b c left → WritesSome a c text

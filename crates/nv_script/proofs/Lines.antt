@@ -6,6 +6,10 @@ pub HasNoEnd-push : (bytes : List ℕ) (byte : ℕ) → HasNoEnd bytes → byte 
 HasNoEnd-push [] byte clean other = (other, tt)
 HasNoEnd-push (first ∷ bytes) byte clean other = (clean.0, HasNoEnd-push bytes byte clean.1 other)
 
+pub HasNoEnd-append : (bytes more : List ℕ) → HasNoEnd bytes → HasNoEnd more → HasNoEnd (bytes ++ more)
+HasNoEnd-append [] more clean next = next
+HasNoEnd-append (first ∷ bytes) more clean next = (clean.0, HasNoEnd-append bytes more clean.1 next)
+
 pub ended-append : (lines more : List (List ℕ)) → ended (lines ++ more) ≡ ended lines ++ ended more
 ended-append [] more = refl
 ended-append (first ∷ lines) more =

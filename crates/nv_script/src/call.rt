@@ -11,7 +11,7 @@ use nv_core::Call;
 use std::alloc::Global;
 
 /// A call by its name.
-#[derive(Clone, Copy, Debug, PartialEq, Eq, Drop)]
+#[derive(Clone, Copy, Drop)]
 pub(crate) enum CallWord {
     Create,
     Write,

@@ -15,7 +15,7 @@ use nv_core::Call;
 use std::alloc::Global;
 
 /// A command on a made world.
-#[derive(Debug, Drop)]
+#[derive(Drop)]
 pub(crate) enum Command {
     /// An actor makes a call.
     Do(u64, Call),
@@ -24,14 +24,14 @@ pub(crate) enum Command {
 }
 
 /// A command by its name, with the call that it names.
-#[derive(Clone, Copy, Debug, PartialEq, Eq, Drop)]
+#[derive(Clone, Copy, Drop)]
 pub(crate) enum CommandWord {
     Do(CallWord),
     Tree,
 }
 
 /// What a line is by its first words.
-#[derive(Clone, Copy, Debug, PartialEq, Eq, Drop)]
+#[derive(Clone, Copy, Drop)]
 pub(crate) enum Head {
     /// Makes the world.
     Format,

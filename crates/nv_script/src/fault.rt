@@ -7,7 +7,7 @@ use nv_base::ScriptFaultKind;
 use std::alloc::AllocError;
 
 /// Why a line ends the script.
-#[derive(Clone, Copy, Debug, PartialEq, Eq, Drop)]
+#[derive(Clone, Copy, Drop)]
 pub(crate) enum LineFault {
     /// A growth of memory was refused.
     OutOfMemory,

@@ -3,14 +3,14 @@ ghost use Rattle.std.specs.List.{Contains};
 ghost use Rattle.std.specs.Prelude.{◌≡◌, ◌≢◌, IsTrue, ℕ, ◌+◌, ◌≤◌, ◌<◌, [], ◌∷◌, ◌++◌, length, take, slice_index, IfOk, IsErr, MatchResult, MatchOption, MatchBool};
 ghost use Rattle.std.specs.Vec.{vec_capacity};
 ghost use Rattle.std.specs.Io.KnownBytes.{prepend_known, Consumes, Keeps, IsAtEnd};
-ghost use Rattle.nv_script.specs.Lines.{EndsLine};
+ghost use Rattle.nv_script.specs.Lines.{EndsLine, HasNoEnd};
 
 use std::alloc::{AllocError, Global};
 use std::io::Read;
 use std::marker::Model;
 
 /// The most bytes of a line, without its end.
-pub(crate) const MAX_LINE_BYTES: usize = 4096;
+pub const MAX_LINE_BYTES: usize = 4096;
 
 /// The byte that ends a line.
 const LINE_END: u8 = b'\n';
@@ -20,7 +20,7 @@ const CHUNK_BYTES: usize = 65_536;
 
 /// How a line was taken.
 #[derive(Clone, Copy, Debug, PartialEq, Eq, Drop)]
-pub(crate) enum Taken {
+pub enum Taken {
     /// A line and its end.
     Line,
     /// Nothing: the reader has no more bytes.
@@ -33,12 +33,12 @@ pub(crate) enum Taken {
 
 /// A read failed.
 #[derive(Clone, Copy, Debug, PartialEq, Eq, Drop)]
-pub(crate) struct ReadFailed;
+pub struct ReadFailed;
 
 /// Bytes that were read ahead: those of `chunk` from `at` up to `end`. The last line end among them stands
 /// before `lines_end`, which is 0 where none was read.
 #[derive(Drop)]
-pub(crate) struct Feed {
+pub struct Feed {
     chunk: Vec<u8>,
     at: usize,
     end: usize,
@@ -61,7 +61,7 @@ impl Feed {
     ghost use Rattle.nv_script.specs.Lines.{IsLine, TakenIs};
 
     /// A feed with no bytes read ahead.
-    pub(crate) fn new(alloc: Global) -> Result<Feed, AllocError>
+    pub fn new(alloc: Global) -> Result<Feed, AllocError>
         ensures { IfOk result (λ ahead. ahead ≡ []) }
     {
         let chunk = vec![in alloc; 0u8; CHUNK_BYTES]?;
@@ -74,7 +74,7 @@ impl Feed {
     }
 
     /// Whether the end of the next line is read ahead: to take that line needs no read then.
-    pub(crate) fn has_line(&self) -> bool
+    pub fn has_line(&self) -> bool
         ensures { IsTrue result → Contains self.now LINE_END }
     {
         self.at < self.lines_end
@@ -83,7 +83,7 @@ impl Feed {
     /// Takes the next line into `line`, in place of what it held.
     ///
     /// After a failed read `line` has the bytes that were taken until then, and no byte is read ahead.
-    pub(crate) fn next_line<R: Read>(
+    pub fn next_line<R: Read>(
         &mut self,
         reader: &mut R,
         line: &mut Vec<u8>,
@@ -171,14 +171,28 @@ impl Feed {
         ensures pushed { line.new.items ≡ line.old.items ++ take result bytes.now }
         ensures stopped { result < length bytes.now → slice_index bytes.now result ≢ LINE_END → length line.new.items ≡ MAX_LINE_BYTES }
     {
-        for (index, byte) in bytes.iter().enumerate() {
-            if *byte == LINE_END || line.len() == MAX_LINE_BYTES {
-                return index;
-            }
-            line.push_reserved(*byte);
-        }
-        bytes.len()
+        let room = bytes.len().min(MAX_LINE_BYTES - line.len());
+        let count = before_end(&bytes[..room]);
+        let Ok(()) = line.extend_from_slice(&bytes[..count]) else {
+            // There is room for the longest line.
+            unreachable!()
+        };
+        count
     }
+}
+
+/// How many bytes stand before the first line end.
+fn before_end(bytes: &[u8]) -> usize
+    ensures within { result ≤ length bytes.now }
+    ensures clean { HasNoEnd (take result bytes.now) }
+    ensures end { result < length bytes.now → slice_index bytes.now result ≡ LINE_END }
+{
+    for (index, byte) in bytes.iter().enumerate() {
+        if *byte == LINE_END {
+            return index;
+        }
+    }
+    bytes.len()
 }
 
 /// The place behind the last line end of some bytes, or 0 where there is none.

@@ -9,7 +9,7 @@ use nv_base::{Bytes, Handle, Mode, ScriptFaultKind};
 use std::alloc::Global;
 
 /// What a word of a line is read as.
-#[derive(Clone, Copy, Debug, PartialEq, Eq, Drop)]
+#[derive(Clone, Copy, Drop)]
 pub(crate) enum Field {
     Handle,
     Number,

@@ -8,17 +8,14 @@ mod act;
 mod call;
 mod command;
 mod fault;
-mod feed;
+pub mod feed;
 mod field;
 mod format;
 mod outbox;
 mod script;
 mod send;
-#[cfg(test)]
-mod tests;
 mod text;
-mod word;
+pub mod word;
 
 pub use script::play;
 pub use text::fault_text;
-pub use word::printed_text_reads_back;

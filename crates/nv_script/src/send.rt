@@ -6,7 +6,7 @@ ghost use Rattle.nv_script.specs.Lines.{WritesSome};
 use std::io::Write;
 
 /// A write failed, or took no byte.
-#[derive(Clone, Copy, Debug, PartialEq, Eq, Drop)]
+#[derive(Clone, Copy, Drop)]
 pub(crate) struct WriteFailed;
 
 /// Writes all bytes, or a front of them up to the first write that fails.

@@ -1,7 +1,7 @@
 //! The texts of replies and reports. Each line ends with LF; numbers are plain decimal.
 
 ghost use Rattle.std.specs.Prelude.{◌≡◌, ◌++◌, IfOk, OnOk, string_bytes};
-ghost use Rattle.nv_base.specs.Texts.{fault_text};
+ghost use Rattle.nv_base.specs.Texts.{bracketed, fault_text};
 ghost use Rattle.nv_script.specs.Texts.{answer_text, counted_bytes, kind_text, names_text, node_line, path_text, refused_line, reply_line, tree_lines};
 ghost use Rattle.std.specs.List.{flat_map};
 
@@ -15,14 +15,41 @@ use std::alloc::{AllocError, Global};
 pub fn fault_text(alloc: Global, fault: &Fault) -> Result<String, AllocError>
     ensures { IfOk result (λ text. string_bytes text ≡ fault_text fault.now) }
 {
-    format!(in alloc; "{fault}")
+    let mut text = String::new(alloc);
+    push_fault(&mut text, fault)?;
+    Ok(text)
+}
+
+/// Adds the text of a fault. Each piece is pushed as it is, since a script may be refused line after line.
+fn push_fault(out: &mut String, fault: &Fault) -> Result<(), AllocError>
+    ensures { OnOk result (string_bytes out.new ≡ string_bytes out.old ++ fault_text fault.now) }
+{
+    out.push_str(fault.name())?;
+    match fault {
+        Fault::BadGeometry(field) => push_bracketed(out, field.name()),
+        Fault::Mismatch(part) => push_bracketed(out, part.name()),
+        Fault::BadImage(fault) => push_bracketed(out, fault.name()),
+        Fault::ScriptFault(line, kind) => write!(out, "({line}, {kind})"),
+        _ => Ok(()),
+    }
+}
+
+/// Adds a text in brackets.
+fn push_bracketed(out: &mut String, text: &str) -> Result<(), AllocError>
+    ensures { OnOk result (string_bytes out.new ≡ string_bytes out.old ++ bracketed text.now) }
+{
+    out.push_str("(")?;
+    out.push_str(text)?;
+    out.push_str(")")
 }
 
 /// Adds the line of a refusal.
 pub(crate) fn push_refused(out: &mut String, fault: &Fault) -> Result<(), AllocError>
     ensures { OnOk result (string_bytes out.new ≡ string_bytes out.old ++ refused_line fault.now) }
 {
-    write!(out, "refused {fault}\n")
+    out.push_str("refused ")?;
+    push_fault(out, fault)?;
+    out.push_str("\n")
 }
 
 /// Adds how many bytes there are, and the bytes, if there are any.

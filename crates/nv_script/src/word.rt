@@ -11,6 +11,9 @@ use std::alloc::{AllocError, Global};
 /// The most digits of a number. The greatest number has this many, and shorter ones may have zeros in front.
 const MAX_DIGITS: usize = 20;
 
+/// The most words of a line without a fault: room for them is made at once.
+const MOST_WORDS: usize = 8;
+
 /// What parts the inode number of a handle from its generation.
 const POINT: u8 = b'.';
 
@@ -18,7 +21,7 @@ const POINT: u8 = b'.';
 const ESCAPE: u8 = b'%';
 
 /// The number that 1 to 20 decimal digits spell, if it is below 2 to the power of 64.
-pub(crate) fn number(word: &[u8]) -> Option<u64>
+pub fn number(word: &[u8]) -> Option<u64>
     ensures { result ≡ number_of word.now }
 {
     if word.is_empty() || word.len() > MAX_DIGITS {
@@ -37,14 +40,14 @@ pub(crate) fn number(word: &[u8]) -> Option<u64>
 }
 
 /// The number that a word spells, if it is at most `most`.
-pub(crate) fn number_up_to(most: u64, word: &[u8]) -> Option<u64>
+pub fn number_up_to(most: u64, word: &[u8]) -> Option<u64>
     ensures { result ≡ number_up_to most word.now }
 {
     number(word).filter(|value| *value <= most)
 }
 
 /// The mode that a word spells in decimal digits.
-pub(crate) fn mode(word: &[u8]) -> Option<Mode>
+pub fn mode(word: &[u8]) -> Option<Mode>
     ensures { result ≡ number_up_to MODE word.now }
 {
     let bits = number_up_to(u64::from(limits::MODE), word)?;
@@ -52,7 +55,7 @@ pub(crate) fn mode(word: &[u8]) -> Option<Mode>
 }
 
 /// The handle that a word spells: two numbers with a point between them.
-pub(crate) fn handle(word: &[u8]) -> Option<Handle>
+pub fn handle(word: &[u8]) -> Option<Handle>
     ensures { result ≡ handle_of word.now }
 {
     let (ino, generation) = around_point(word)?;
@@ -74,10 +77,12 @@ fn around_point(word: &[u8]) -> Option<(&[u8], &[u8])>
 }
 
 /// The words of a line, between single spaces. Two spaces in a row have an empty word between them.
-pub(crate) fn words(alloc: Global, line: &[u8]) -> Result<Vec<&[u8]>, AllocError>
+pub fn words(alloc: Global, line: &[u8]) -> Result<Vec<&[u8]>, AllocError>
     ensures { IfOk result (λ v. map (λ w. w.now) v.items ≡ words_of line.now) }
 {
-    line.split(|byte| *byte == b' ').collect(alloc)
+    let mut found = Vec::with_capacity(alloc, MOST_WORDS)?;
+    found.extend(line.split(|byte| *byte == b' '))?;
+    Ok(found)
 }
 
 /// Whether a byte stands for itself in escaped text: it is visible, and does not begin an escaped byte.
@@ -116,7 +121,7 @@ fn taken(first: u8, after: &[u8]) -> Option<(u8, &[u8])>
 }
 
 /// The bytes that a word of escaped text stands for. It has one or more.
-pub(crate) fn text(alloc: Global, word: &[u8]) -> Result<Option<Bytes>, AllocError>
+pub fn text(alloc: Global, word: &[u8]) -> Result<Option<Bytes>, AllocError>
     ensures { IfOk result (λ t. t ≡ text_of word.now) }
 {
     if word.is_empty() {
@@ -146,7 +151,7 @@ fn push_byte(out: &mut String, byte: u8) -> Result<(), AllocError>
 }
 
 /// Adds bytes as they are printed.
-pub(crate) fn push_escaped(out: &mut String, bytes: &[u8]) -> Result<(), AllocError>
+pub fn push_escaped(out: &mut String, bytes: &[u8]) -> Result<(), AllocError>
     ensures { OnOk result (string_bytes out.new ≡ string_bytes out.old ++ escaped bytes.now) }
 {
     for byte in bytes {

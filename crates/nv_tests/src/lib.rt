@@ -9,7 +9,11 @@ mod base;
 #[cfg(test)]
 mod blocks;
 #[cfg(test)]
+mod book;
+#[cfg(test)]
 mod chain;
+#[cfg(test)]
+mod compare;
 #[cfg(test)]
 mod entry;
 #[cfg(test)]
@@ -18,6 +22,8 @@ mod file_index;
 mod journal;
 #[cfg(test)]
 mod name_index;
+#[cfg(test)]
+mod scenes;
 #[cfg(test)]
 mod script;
 #[cfg(test)]

@@ -1,6 +1,9 @@
-//! Whole scripts and their ends. What scripts write comes from worked examples.
+//! Lines, words and whole scripts with their ends. What scripts write comes from worked examples.
 
 mod ends;
 mod faults;
+mod lines;
+mod pieces;
 mod rows;
 mod scripts;
+mod words;

@@ -1,6 +1,7 @@
 //! A first path through a world, by events and replies.
 
-use nv_base::{Bytes, CommitNo, Fault, Gen, Geometry, GeometryNumbers, Handle, Ino, Mode, limits};
+use crate::scenes::{Row, geometry, handle, handle_of};
+use nv_base::{Bytes, CommitNo, Fault, Mode, limits};
 use nv_core::{Answer, Call, Event, Reply, World};
 use std::alloc::Global;
 use std::process::Abort;
@@ -31,15 +32,11 @@ enum Want<'a> {
     Refused(Fault),
 }
 
+/// A step, and its reply.
+type Played = (Step<'static>, Want<'static>);
+
 use Step::{Do, Go, Start};
 use Words::{Create, Read, Write};
-
-fn handle(ino: u64, generation: u64) -> Handle {
-    Handle {
-        ino: Ino::new(ino),
-        generation: Gen::new(generation),
-    }
-}
 
 fn bytes(alloc: Global, text: &[u8]) -> Result<Bytes, Fail> {
     Ok(Bytes::from_vec(Vec::from_slice(alloc, text)?))
@@ -48,17 +45,17 @@ fn bytes(alloc: Global, text: &[u8]) -> Result<Bytes, Fail> {
 fn call(alloc: Global, words: &Words<'_>) -> Result<Call, Fail> {
     Ok(match words {
         Create(ino, generation, name) => Call::Create {
-            dir: handle(*ino, *generation),
+            dir: handle_of(*ino, *generation),
             name: bytes(alloc, name)?,
             mode: Mode::checked(420).ok_or("mode")?,
         },
         Write(ino, generation, offset, text) => Call::Write {
-            file: handle(*ino, *generation),
+            file: handle_of(*ino, *generation),
             offset: *offset,
             text: bytes(alloc, text)?,
         },
         Read(ino, generation, offset, count) => Call::Read {
-            file: handle(*ino, *generation),
+            file: handle_of(*ino, *generation),
             offset: *offset,
             count: *count,
         },
@@ -68,7 +65,7 @@ fn call(alloc: Global, words: &Words<'_>) -> Result<Call, Fail> {
 fn is_wanted(reply: &Reply, want: &Want<'_>) -> bool {
     match (reply, want) {
         (Reply::Started, Want::Started) => true,
-        (Reply::Done(Answer::Made(made)), Want::Made(ino)) => *made == handle(*ino, 1),
+        (Reply::Done(Answer::Made(made)), Want::Made(ino)) => *made == handle(*ino),
         (Reply::Done(Answer::Count(count)), Want::Count(want)) => count == want,
         (Reply::Done(Answer::Bytes(bytes)), Want::Bytes(want)) => bytes.as_slice() == *want,
         (Reply::Refused(fault), Want::Refused(want)) => fault == want,
@@ -77,12 +74,7 @@ fn is_wanted(reply: &Reply, want: &Want<'_>) -> bool {
 }
 
 /// Makes each step, and wants its reply.
-fn plays(
-    rt: &impl Abort,
-    alloc: Global,
-    world: &mut World,
-    rows: &[(Step<'_>, Want<'_>)],
-) -> Result<(), Fail> {
+fn plays(rt: &impl Abort, alloc: Global, world: &mut World, rows: &[Played]) -> Result<(), Fail> {
     for i in 0..rows.len() {
         let event = match &rows[i].0 {
             Start(actor, words) => Event::Start(*actor, call(alloc, words)?),
@@ -99,136 +91,107 @@ fn plays(
     Ok(())
 }
 
-fn geometry() -> Result<Geometry, Fault> {
-    Geometry::checked(GeometryNumbers {
-        blocks: 16,
-        cpus: 2,
-        block: 4,
-        page: 4,
-        inodes: 8,
-        snaps: 4,
-        actors: 3,
-    })
-}
+const SMALL: Row = [16, 2, 4, 4, 8, 4, 3];
 
-fn tiny() -> Result<Geometry, Fault> {
-    Geometry::checked(GeometryNumbers {
-        blocks: 8,
-        cpus: 1,
-        block: 1,
-        page: 2,
-        inodes: 2,
-        snaps: 1,
-        actors: 1,
-    })
-}
+const TINY: Row = [8, 1, 1, 2, 2, 1, 1];
+
+/// Writes and reads.
+const FILES: &[Played] = &[
+    (Do(Create(0, 1, b"a")), Want::Made(1)),
+    // partial at both ends
+    (Do(Write(1, 1, 3, b"abcdefghij")), Want::Count(10)),
+    (Do(Read(1, 1, 0, 20)), Want::Bytes(b"\0\0\0abcdefghij")),
+    (Do(Read(1, 1, 2, 3)), Want::Bytes(b"\0ab")),
+    (Do(Read(1, 1, 12, 9)), Want::Bytes(b"j")),
+    (Do(Read(1, 1, 13, 1)), Want::Bytes(b"")),
+    (Do(Read(1, 1, u64::MAX, u64::MAX)), Want::Bytes(b"")),
+    // over old bytes, of none, and past the end
+    (Do(Create(0, 1, b"b")), Want::Made(2)),
+    (Do(Write(2, 1, 0, b"abcdefghij")), Want::Count(10)),
+    (Do(Write(2, 1, 2, b"XY")), Want::Count(2)),
+    (Do(Read(2, 1, 0, 99)), Want::Bytes(b"abXYefghij")),
+    (Do(Write(2, 1, 3, b"")), Want::Count(0)),
+    (Do(Read(2, 1, 0, 99)), Want::Bytes(b"abXYefghij")),
+    (Do(Write(2, 1, 12, b"Z")), Want::Count(1)),
+    (Do(Read(2, 1, 0, 99)), Want::Bytes(b"abXYefghij\0\0Z")),
+];
 
 #[test]
 fn files(rt: HostRuntime) -> Result<(), Fail> {
-    let mut world = World::format(rt.alloc(), geometry()?)?;
-    plays(
-        &rt,
-        rt.alloc(),
-        &mut world,
-        &[
-            (Do(Create(0, 1, b"a")), Want::Made(1)),
-            // partial at both ends
-            (Do(Write(1, 1, 3, b"abcdefghij")), Want::Count(10)),
-            (Do(Read(1, 1, 0, 20)), Want::Bytes(b"\0\0\0abcdefghij")),
-            (Do(Read(1, 1, 2, 3)), Want::Bytes(b"\0ab")),
-            (Do(Read(1, 1, 12, 9)), Want::Bytes(b"j")),
-            (Do(Read(1, 1, 13, 1)), Want::Bytes(b"")),
-            (Do(Read(1, 1, u64::MAX, u64::MAX)), Want::Bytes(b"")),
-            // over old bytes, of none, and past the end
-            (Do(Create(0, 1, b"b")), Want::Made(2)),
-            (Do(Write(2, 1, 0, b"abcdefghij")), Want::Count(10)),
-            (Do(Write(2, 1, 2, b"XY")), Want::Count(2)),
-            (Do(Read(2, 1, 0, 99)), Want::Bytes(b"abXYefghij")),
-            (Do(Write(2, 1, 3, b"")), Want::Count(0)),
-            (Do(Read(2, 1, 0, 99)), Want::Bytes(b"abXYefghij")),
-            (Do(Write(2, 1, 12, b"Z")), Want::Count(1)),
-            (Do(Read(2, 1, 0, 99)), Want::Bytes(b"abXYefghij\0\0Z")),
-        ],
-    )
+    let mut world = World::format(rt.alloc(), geometry(SMALL)?)?;
+    plays(&rt, rt.alloc(), &mut world, FILES)
 }
+
+/// Refusals of calls and of actors.
+const REFUSALS: &[Played] = &[
+    (Do(Create(0, 1, b"a")), Want::Made(1)),
+    (Do(Create(7, 1, b"..")), Want::Refused(Fault::Stale)),
+    (Do(Create(0, 2, b"b")), Want::Refused(Fault::Stale)),
+    (Do(Create(99, 1, b"b")), Want::Refused(Fault::Stale)),
+    (Do(Create(1, 1, b"..")), Want::Refused(Fault::NotDirectory)),
+    (Do(Create(0, 1, b"..")), Want::Refused(Fault::BadName)),
+    (Do(Create(0, 1, b"a/b")), Want::Refused(Fault::BadName)),
+    (Do(Create(0, 1, b"a")), Want::Refused(Fault::Exists)),
+    (Do(Write(0, 1, 0, b"")), Want::Refused(Fault::NotFile)),
+    (Do(Read(2, 1, 0, 1)), Want::Refused(Fault::Stale)),
+    // of actors
+    (Go(0), Want::Refused(Fault::ActorIdle)),
+    (Go(3), Want::Refused(Fault::NoActor)),
+    (Start(3, Create(0, 1, b"b")), Want::Refused(Fault::NoActor)),
+    (Start(2, Create(0, 1, b"b")), Want::Started),
+    (
+        Start(2, Create(0, 1, b"c")),
+        Want::Refused(Fault::ActorBusy),
+    ),
+    (Go(2), Want::Made(2)),
+    (Go(2), Want::Refused(Fault::ActorIdle)),
+];
 
 #[test]
 fn refusals_in_order(rt: HostRuntime) -> Result<(), Fail> {
-    let mut world = World::format(rt.alloc(), geometry()?)?;
-    plays(
-        &rt,
-        rt.alloc(),
-        &mut world,
-        &[
-            (Do(Create(0, 1, b"a")), Want::Made(1)),
-            (Do(Create(7, 1, b"..")), Want::Refused(Fault::Stale)),
-            (Do(Create(0, 2, b"b")), Want::Refused(Fault::Stale)),
-            (Do(Create(99, 1, b"b")), Want::Refused(Fault::Stale)),
-            (Do(Create(1, 1, b"..")), Want::Refused(Fault::NotDirectory)),
-            (Do(Create(0, 1, b"..")), Want::Refused(Fault::BadName)),
-            (Do(Create(0, 1, b"a/b")), Want::Refused(Fault::BadName)),
-            (Do(Create(0, 1, b"a")), Want::Refused(Fault::Exists)),
-            (Do(Write(0, 1, 0, b"")), Want::Refused(Fault::NotFile)),
-            (Do(Read(2, 1, 0, 1)), Want::Refused(Fault::Stale)),
-            // of actors
-            (Go(0), Want::Refused(Fault::ActorIdle)),
-            (Go(3), Want::Refused(Fault::NoActor)),
-            (Start(3, Create(0, 1, b"b")), Want::Refused(Fault::NoActor)),
-            (Start(2, Create(0, 1, b"b")), Want::Started),
-            (
-                Start(2, Create(0, 1, b"c")),
-                Want::Refused(Fault::ActorBusy),
-            ),
-            (Go(2), Want::Made(2)),
-            (Go(2), Want::Refused(Fault::ActorIdle)),
-        ],
-    )
+    let mut world = World::format(rt.alloc(), geometry(SMALL)?)?;
+    plays(&rt, rt.alloc(), &mut world, REFUSALS)
 }
+
+/// With two inodes and eight blocks of one byte.
+const LIMITS: &[Played] = &[
+    (Do(Create(0, 1, b"a")), Want::Made(1)),
+    (Do(Create(0, 1, b"b")), Want::Refused(Fault::NoInode)),
+    (
+        Do(Write(1, 1, 65536, b"a")),
+        Want::Refused(Fault::FileTooBig),
+    ),
+    (
+        Do(Write(1, 1, 65536, &[b'a'; 1025])),
+        Want::Refused(Fault::WriteTooBig),
+    ),
+    (
+        Do(Write(1, 1, 0, b"abcdefghi")),
+        Want::Refused(Fault::NoSpace),
+    ),
+    (Do(Write(1, 1, 0, b"abcdefgh")), Want::Count(8)),
+    (Do(Write(1, 1, 0, b"a")), Want::Refused(Fault::NoSpace)),
+];
+
+/// With one commit number left.
+const LAST_COMMIT: &[Played] = &[
+    (Do(Create(0, 1, b"a")), Want::Made(1)),
+    (Do(Create(0, 1, b"b")), Want::Refused(Fault::CommitLimit)),
+    (Do(Write(1, 1, 0, b"a")), Want::Refused(Fault::CommitLimit)),
+];
 
 #[test]
 fn limits_of_a_world(rt: HostRuntime) -> Result<(), Fail> {
-    let mut world = World::format(rt.alloc(), tiny()?)?;
-    let long = vec![in rt.alloc(); b'a'; 1025]?;
-    plays(
-        &rt,
-        rt.alloc(),
-        &mut world,
-        &[
-            (Do(Create(0, 1, b"a")), Want::Made(1)),
-            (Do(Create(0, 1, b"b")), Want::Refused(Fault::NoInode)),
-            (
-                Do(Write(1, 1, 65536, b"a")),
-                Want::Refused(Fault::FileTooBig),
-            ),
-            (
-                Do(Write(1, 1, 65536, &long)),
-                Want::Refused(Fault::WriteTooBig),
-            ),
-            (
-                Do(Write(1, 1, 0, b"abcdefghi")),
-                Want::Refused(Fault::NoSpace),
-            ),
-            (Do(Write(1, 1, 0, b"abcdefgh")), Want::Count(8)),
-            (Do(Write(1, 1, 0, b"a")), Want::Refused(Fault::NoSpace)),
-        ],
-    )?;
+    let mut world = World::format(rt.alloc(), geometry(TINY)?)?;
+    plays(&rt, rt.alloc(), &mut world, LIMITS)?;
     let first = CommitNo::new(limits::NUMBER - 1);
-    let mut world = World::format_at(rt.alloc(), geometry()?, first)?;
-    plays(
-        &rt,
-        rt.alloc(),
-        &mut world,
-        &[
-            (Do(Create(0, 1, b"a")), Want::Made(1)),
-            (Do(Create(0, 1, b"b")), Want::Refused(Fault::CommitLimit)),
-            (Do(Write(1, 1, 0, b"a")), Want::Refused(Fault::CommitLimit)),
-        ],
-    )
+    let mut world = World::format_at(rt.alloc(), geometry(SMALL)?, first)?;
+    plays(&rt, rt.alloc(), &mut world, LAST_COMMIT)
 }
 
 #[test]
 fn a_tree_after_a_run(rt: HostRuntime) -> Result<(), Fail> {
-    let mut world = World::format(rt.alloc(), geometry()?)?;
+    let mut world = World::format(rt.alloc(), geometry(SMALL)?)?;
     let mut events = Vec::new(rt.alloc());
     for (actor, words) in [
         (0, Create(0, 1, b"log.txt")),

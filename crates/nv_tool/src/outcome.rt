@@ -8,7 +8,7 @@ use nv_base::Fault;
 use std::process::ExitCode;
 
 /// How the program ends.
-#[derive(Clone, Copy, Debug, PartialEq, Eq, Drop)]
+#[derive(Clone, Copy, Drop)]
 pub(crate) enum Outcome {
     /// A script was played to its end.
     Played,

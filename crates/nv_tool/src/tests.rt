@@ -1,8 +1,8 @@
 //! Command lines, what they ask for and what they are answered.
 
 use crate::command_line::Task;
-use crate::play_script;
-use nv_base::Fault;
+use crate::{fault_line, play_script};
+use nv_base::{Fault, ScriptFaultKind};
 use nv_script::play;
 use std::alloc::{AllocError, Global};
 
@@ -133,4 +133,17 @@ fn help_of_play_shows_what_a_script_prints(rt: HostRuntime) -> Result<(), AllocE
 fn a_missing_file_is_a_failed_read(rt: HostRuntime) {
     let outcome = play_script(&rt, Some("no such folder/first.nova"));
     assert!(rt; outcome == Err(Fault::Read));
+}
+
+#[test]
+fn a_fault_is_told_in_one_line(rt: HostRuntime) -> Result<(), AllocError> {
+    let unknown_word = Fault::ScriptFault(2, ScriptFaultKind::Word);
+    for (fault, want) in [
+        (Fault::Read, "novacore: E28 Read\n"),
+        (unknown_word, "novacore: E27 ScriptFault(2, word)\n"),
+    ] {
+        let line = fault_line(rt.alloc(), &fault)?;
+        assert!(rt; line.as_str() == want, "{want}");
+    }
+    Ok(())
 }

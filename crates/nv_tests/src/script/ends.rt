@@ -1,48 +1,11 @@
 //! Scripts that end early: a read or a write that fails, or memory that is refused.
 
+use super::pieces::Pieces;
 use super::rows::{FORMAT, SCRIPTS};
 use nv_base::Fault;
 use nv_script::play;
 use std::alloc::{AllocError, Global};
-use std::io;
-use std::io::{ErrorKind, Read, Write};
 use std::test::Fail;
-
-/// Reads or takes at most seven bytes at a call, and is interrupted once, when no call is left.
-#[derive(Drop)]
-struct Failing<T> {
-    inner: T,
-    calls: usize,
-}
-
-impl<T> Failing<T> {
-    fn turn(&mut self, len: usize) -> io::Result<usize> {
-        if self.calls == 0 {
-            self.calls = usize::MAX;
-            return Err(ErrorKind::Interrupted.into());
-        }
-        self.calls -= 1;
-        Ok(len.min(7))
-    }
-}
-
-impl<T: Read> Read for Failing<T> {
-    fn read(&mut self, buf: &mut [u8]) -> io::Result<usize> {
-        let count = self.turn(buf.len())?.min(buf.len());
-        self.inner.read(&mut buf[..count])
-    }
-}
-
-impl<T: Write> Write for Failing<T> {
-    fn write(&mut self, buf: &[u8]) -> io::Result<usize> {
-        let count = self.turn(buf.len())?.min(buf.len());
-        self.inner.write(&buf[..count])
-    }
-
-    fn flush(&mut self) -> io::Result<()> {
-        Ok(())
-    }
-}
 
 /// What the lines of a script write that stand whole in its first bytes.
 fn written_by_front(alloc: Global, front: &[u8]) -> Result<Vec<u8>, AllocError> {
@@ -58,8 +21,9 @@ fn failed_reads(rt: HostRuntime) -> Result<(), Fail> {
     let (script, want) = SCRIPTS[2];
     let bytes = script.as_bytes();
     for calls in 0..=bytes.len() / 7 + 1 {
-        let mut reader = Failing {
+        let mut reader = Pieces {
             inner: bytes,
+            most: 7,
             calls,
         };
         let mut written = Vec::new(rt.alloc());
@@ -77,8 +41,9 @@ fn failed_writes(rt: HostRuntime) -> Result<(), Fail> {
     let (script, want) = SCRIPTS[2];
     for calls in 0..want.len().div_ceil(7) {
         let mut reader = script.as_bytes();
-        let mut writer = Failing {
+        let mut writer = Pieces {
             inner: Vec::new(rt.alloc()),
+            most: 7,
             calls,
         };
         let outcome = play(rt.alloc(), &mut reader, &mut writer);

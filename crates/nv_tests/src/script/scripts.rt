@@ -1,5 +1,6 @@
 //! Whole scripts, and what they write.
 
+use super::pieces::Pieces;
 use super::rows::{FAULTS, FORMAT, SCRIPTS};
 use nv_base::Fault;
 use nv_script::{fault_text, play};
@@ -101,17 +102,20 @@ impl<'a> Write for Screen<'a> {
     }
 }
 
+/// Lines, each with its text.
+const DIALOGUE: &[(&str, &str)] = &[
+    (FORMAT, "formatted\n"),
+    ("# a comment\n", ""),
+    ("do 0 create 0.1 a 420\n", "done 1.1\n"),
+    ("do 0 create 0.1 a 420\n", "refused E8 Exists\n"),
+    ("tree\n", "/ d 493\n/a f 420 0\nend\n"),
+];
+
 #[test]
 fn each_line_is_answered_before_the_next_is_asked_for(rt: HostRuntime) -> Result<(), Fail> {
     let taken = Cell::new(0);
     let mut reader = Terminal {
-        lines: &[
-            (FORMAT, "formatted\n"),
-            ("# a comment\n", ""),
-            ("do 0 create 0.1 a 420\n", "done 1.1\n"),
-            ("do 0 create 0.1 a 420\n", "refused E8 Exists\n"),
-            ("tree\n", "/ d 493\n/a f 420 0\nend\n"),
-        ],
+        lines: DIALOGUE,
         given: 0,
         taken: &taken,
         texts: 0,
@@ -172,38 +176,18 @@ fn long_texts(rt: HostRuntime) -> Result<(), Fail> {
     Ok(())
 }
 
-/// Gives and takes one byte at a time.
-#[derive(Drop)]
-struct OneByOne<T> {
-    inner: T,
-}
-
-impl<T: Read> Read for OneByOne<T> {
-    fn read(&mut self, buf: &mut [u8]) -> io::Result<usize> {
-        let count = buf.len().min(1);
-        self.inner.read(&mut buf[..count])
-    }
-}
-
-impl<T: Write> Write for OneByOne<T> {
-    fn write(&mut self, buf: &[u8]) -> io::Result<usize> {
-        let count = buf.len().min(1);
-        self.inner.write(&buf[..count])
-    }
-
-    fn flush(&mut self) -> io::Result<()> {
-        Ok(())
-    }
-}
-
 #[test]
 fn scripts_come_and_go_byte_by_byte(rt: HostRuntime) -> Result<(), Fail> {
     for (script, want) in SCRIPTS {
-        let mut reader = OneByOne {
+        let mut reader = Pieces {
             inner: script.as_bytes(),
+            most: 1,
+            calls: usize::MAX,
         };
-        let mut writer = OneByOne {
+        let mut writer = Pieces {
             inner: Vec::new(rt.alloc()),
+            most: 1,
+            calls: usize::MAX,
         };
         let outcome = play(rt.alloc(), &mut reader, &mut writer);
         assert!(rt;

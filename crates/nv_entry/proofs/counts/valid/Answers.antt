@@ -6,7 +6,9 @@ use Rattle.nv_entry.proofs.counts.valid.Goals.{then-is_kept, else-is_kept}
 
 pub loop-i-preserved : goal.loop-i-preserved
 loop-i-preserved c =
-    let step = valid_of-drop (retention_of c.args.retention.now) c.args.count c.args.log.now c.loop-i.i c.index-log-i.result c.loop-i-test.true c.requires c.index-log-i.is in
+    let step = valid_of-drop
+    (retention_of c.args.retention.now) c.args.count c.args.log.now c.loop-i.i c.index-log-i.result c.loop-i-test.true
+    c.requires c.index-log-i.is in
     let tested = rw (rest_from c.args.log.now (c.loop-i.i + 1)) at c.is_kept.ensures in
     elim c.if-is_kept.branch [
       | then-is_kept w ↦

@@ -11,4 +11,5 @@ use Rattle.nv_entry.proofs.node.size_when.Goals as goal
 pub returns : goal.returns
 returns c block =
     let first : c.unwrap_or.result ≡ size_now 1 (seen c.args.when c.args.log.now) = search rules in
-    first ∙ ap (λ (o : Option Datum). unwrap_or (option_and_then size_in o) 0) (value_by 1 block (seen c.args.when c.args.log.now) SizeKey refl)
+    first ∙ ap (λ (o : Option Datum). unwrap_or (option_and_then size_in o) 0)
+    (value_by 1 block (seen c.args.when c.args.log.now) SizeKey refl)

@@ -4,4 +4,6 @@ use Rattle.nv_entry.specs.Log.{first_cover, seen}
 use Rattle.nv_entry.proofs.value.first_cover.Given as goal
 
 abbrev pub invariant-loop-entry : goal.invariant-loop-entry
-invariant-loop-entry l = first_cover l.block (seen l.when (drop l.entry-index l.later)) (key_named l.key) ≡ first_cover l.block (seen l.when l.later) (key_named l.key)
+invariant-loop-entry l =
+    first_cover l.block (seen l.when (drop l.entry-index l.later)) (key_named l.key) ≡ first_cover l.block (seen l.when l.later)
+    (key_named l.key)

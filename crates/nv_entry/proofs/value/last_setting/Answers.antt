@@ -10,10 +10,12 @@ loop-entry-preserved c =
     elim c.if-sees.branch [
       | then-sees w ↦
           let seen : sees c.args.when c.entry-item.result.epoch ≡ true = cc in
-          let m = last_setting-more c.args.block c.args.when c.args.log.now c.loop-entry.entry-index c.entry-item.result (key_named c.args.key) c.loop-entry-test.true c.entry-item.is seen in
+          let m = last_setting-more c.args.block c.args.when c.args.log.now c.loop-entry.entry-index c.entry-item.result
+          (key_named c.args.key) c.loop-entry-test.true c.entry-item.is seen in
           cc
       | else-sees w ↦
           let unseen : sees c.args.when c.entry-item.result.epoch ≡ false = cc in
-          let m = last_setting-skips c.args.block c.args.when c.args.log.now c.loop-entry.entry-index c.entry-item.result (key_named c.args.key) c.loop-entry-test.true c.entry-item.is unseen in
+          let m = last_setting-skips c.args.block c.args.when c.args.log.now c.loop-entry.entry-index c.entry-item.result
+          (key_named c.args.key) c.loop-entry-test.true c.entry-item.is unseen in
           cc
     ]

@@ -16,6 +16,15 @@ loop-count-preserved c =
     let pushed = c.in_ok-push_flags.ensures in
     let more = counts_left counts i c.loop-count-test.true in
     record {
-      flags = rw pushed (omega (arith, more, c.loop-count.invariant.flags, length-append c.loop-count.kept.items (replicate count (not goes)), length-replicate count (not goes)));
-      walk = rw (pushed, c.in_ok-push.ensures.items) (page_step r c.loop-count.kept.items c.loop-count.kept_pages.items log counts i goes c.loop-count-test.true c.loop-count.invariant.flags test ∙ c.loop-count.invariant.walk);
+      flags = rw pushed (omega (
+        arith,
+        more,
+        c.loop-count.invariant.flags,
+        length-append c.loop-count.kept.items
+            (replicate count (not goes)),
+        length-replicate count (not goes),
+      ));
+      walk = rw (pushed, c.in_ok-push.ensures.items)
+          (page_step r c.loop-count.kept.items c.loop-count.kept_pages.items log counts i goes c.loop-count-test.true
+          c.loop-count.invariant.flags test ∙ c.loop-count.invariant.walk);
     }

@@ -6,6 +6,7 @@ use Rattle.nv_entry.proofs.walk.fast_keeps.Given as goal
 abbrev pub invariant-loop-count : goal.invariant-loop-count
 invariant-loop-count l = record {
   flags : length l.kept.items + sum (drop l.count-index l.counts) ≡ length l.log;
-  walk : l.kept_pages.items ++ pages_stay (retention_of l.retention) (select l.kept.items l.log) (pages_by (drop l.count-index l.counts) (drop (length l.kept.items) l.log))
+  walk : l.kept_pages.items ++ pages_stay (retention_of l.retention) (select l.kept.items l.log)
+      (pages_by (drop l.count-index l.counts) (drop (length l.kept.items) l.log))
       ≡ pages_stay (retention_of l.retention) [] (pages_by l.counts l.log);
 }

@@ -11,6 +11,8 @@ loop-i-preserved c =
     let step = any-step test c.args.kept.now c.args.log.now c.loop-i.i in
     let short : c.loop-i.i < length c.args.log.now = omega arith in
     elim c.else-kept-i.branch [
-      | else-kept-i-via-then-kept-i+else-hides w ↦ step true c.index-log-i.result c.loop-i-test.true short w.if-kept-i.true c.index-log-i.is (sym w.hides.ensures ∙ w.if-hides.false) ∙ c.loop-i.invariant
-      | else-kept-i-via-else-kept-i w ↦ step false c.index-log-i.result c.loop-i-test.true short w.if-kept-i.false c.index-log-i.is refl ∙ c.loop-i.invariant
+      | else-kept-i-via-then-kept-i+else-hides w ↦ step true c.index-log-i.result c.loop-i-test.true short w.if-kept-i.true
+          c.index-log-i.is (sym w.hides.ensures ∙ w.if-hides.false) ∙ c.loop-i.invariant
+      | else-kept-i-via-else-kept-i w ↦ step false c.index-log-i.result c.loop-i-test.true short w.if-kept-i.false c.index-log-i.is refl
+          ∙ c.loop-i.invariant
     ]

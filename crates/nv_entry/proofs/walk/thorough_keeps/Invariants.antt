@@ -6,5 +6,6 @@ use Rattle.nv_entry.proofs.walk.thorough_keeps.Given as goal
 abbrev pub invariant-loop-i : goal.invariant-loop-i
 invariant-loop-i l = record {
   flags : length l.kept.items ≡ l.i;
-  walk : l.kept.items ++ entries_stay (retention_of l.retention) (select l.kept.items l.log) (drop l.i l.log) ≡ entries_stay (retention_of l.retention) [] l.log;
+  walk : l.kept.items ++ entries_stay (retention_of l.retention) (select l.kept.items l.log) (drop l.i l.log) ≡ entries_stay
+      (retention_of l.retention) [] l.log;
 }

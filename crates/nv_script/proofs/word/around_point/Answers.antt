@@ -7,11 +7,13 @@ use Rattle.nv_script.proofs.word.around_point.Goals as goal
 
 pub returns-in_err-point : goal.returns-in_err-point
 returns-in_err-point c =
-    let found : c.position.result ≡ position is_point c.args.word.now = position_from_yields_List is_point _ _ c.position.result c.position.ensures.ran (YieldsList-from_slice _ c.iter.ensures.rest) (λ x b q k. search (rules, tests)) in
+    let found : c.position.result ≡ position is_point c.args.word.now = position_from_yields_List is_point _ _ c.position.result
+    c.position.ensures.ran (YieldsList-from_slice _ c.iter.ensures.rest) (λ x b q k. search (rules, tests)) in
     let none = handle_of-None c.args.word.now (sym found ∙ c.in_err-point.was) in
     search rules
 
 pub returns : goal.returns
 returns c =
-    let found : c.position.result ≡ position is_point c.args.word.now = position_from_yields_List is_point _ _ c.position.result c.position.ensures.ran (YieldsList-from_slice _ c.iter.ensures.rest) (λ x b q k. search (rules, tests)) in
+    let found : c.position.result ≡ position is_point c.args.word.now = position_from_yields_List is_point _ _ c.position.result
+    c.position.ensures.ran (YieldsList-from_slice _ c.iter.ensures.rest) (λ x b q k. search (rules, tests)) in
     handle_of-Some c.args.word.now c.in_ok-point.point (sym found ∙ c.in_ok-point.was)

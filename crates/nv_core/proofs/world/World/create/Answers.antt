@@ -1,4 +1,4 @@
-use Rattle.std.proofs.Common.{◌≡◌, sym, ◌∙◌, subst, rules}
+use Rattle.std.proofs.Common.{◌≡◌, subst, rules}
 use Rattle.nv_core.specs.Changed.{created}
 use Rattle.nv_core.specs.Logs.{logs_of}
 use Rattle.nv_core.specs.World.{IsWorld, value_of}
@@ -10,7 +10,7 @@ invariant_of-self-2 c =
     let w = c.self.inside in
     let old : IsWorld c.args.self.now = rw (← c.self.view_is) c.self.invariant.0 in
     let law = created_stands c.args.self.now c.args.dir c.args.name.now c.args.mode old
-    (sym c.check_create.ensures ∙ c.in_ok-check_create.was) c.in_ok-commit.ensures.ok.1 in
+    c.in_ok-commit.ensures.0 in
     let same : created c.args.self.now c.args.dir c.args.name.now c.args.mode
     ≡ value_of w.geometry.numbers
     (logs_of c.add_file.new.logs) w.blocks c.in_ok-commit.commit w.calls.items = search rules in

@@ -15,7 +15,7 @@ returns-in-Create-clause-outcome c =
     let mode = c.in-Create.mode in
     let made = commits (create_check (numbers_of old) (plain_of old) dir name) (Made (next_handle old))
     (file_made dir name mode (next_handle old)) old c.create.result c.create.new.self
-    (c.create.new.self ≡ created old dir name mode) (λ ok below is. ap plain_of is ∙
-    (created_stands old dir name mode c.known.ensures ok below).same)
+    (c.create.new.self ≡ created old dir name mode) (λ ok is. ap plain_of is ∙
+    (created_stands old dir name mode c.known.ensures ok).same)
     c.create.ensures.ok c.create.ensures.same c.create.ensures.err in
     rw (c.in-Create.is, ← c.as_slice.ensures) made

@@ -20,8 +20,8 @@ returns-then-not-is_empty-clause-outcome c =
     subst (λ outcome. IsOutcome outcome old c.write.result c.write.new.self) (sym (some_written old file at text any))
     (commits (write_check (numbers_of old) (plain_of old) file at text) (Count (length text))
     (file_written file at text) old c.write.result c.write.new.self (IsWritten old file at text c.write.new.self)
-    (λ ok below is. ap plain_of is.world ∙ (wrote_stands old file at text is.run c.known.ensures any
-    (write_passed old file at text ok) is.start is.count below).same)
+    (λ ok is. ap plain_of is.world ∙ (wrote_stands old file at text is.run c.known.ensures any
+    (write_passed old file at text ok) is.start is.count).same)
     c.write.ensures.ok c.write.ensures.same c.write.ensures.err)
 
 pub returns-then-not-is_empty-clause-taken : goal.returns-then-not-is_empty-clause-taken

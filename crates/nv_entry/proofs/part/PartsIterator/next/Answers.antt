@@ -14,7 +14,12 @@ returns-in-Some-clause-steps c =
 
 pub returns-in-Some-clause-goes : goal.returns-in-Some-clause-goes
 returns-in-Some-clause-goes c = record {
-  on = λ _. (tt, tt, drop-less (parts_of c.args.self.now.item.now) c.args.self.now.next c.in-Some.part (sym c.part_at.ensures.value ∙ c.in-Some.is));
+  on = λ _. (
+    tt,
+    tt,
+    drop-less (parts_of c.args.self.now.item.now) c.args.self.now.next c.in-Some.part
+        (sym c.part_at.ensures.value ∙ c.in-Some.is),
+  );
   keeps = tt;
   rests = λ _. tt;
 }

@@ -8,7 +8,8 @@ abbrev pub invariant-loop-self : goal.invariant-loop-self
 invariant-loop-self g l = record {
   room : 4096 ≤ vec_capacity l.line;
   line : IsLine l.line.items;
-  taken : Consumes (prepend_known l.initial.self (g.R.Read.remaining l.initial.reader)) (prepend_known l.self (g.R.Read.remaining l.reader)) l.line.items;
+  taken : Consumes (prepend_known l.initial.self (g.R.Read.remaining l.initial.reader))
+      (prepend_known l.self (g.R.Read.remaining l.reader)) l.line.items;
 }
 
 abbrev pub decreases-loop-self : goal.decreases-loop-self

@@ -15,4 +15,5 @@ returns-clause-taken c =
     let here = c.self.invariant in
     let more : ahead.at + c.push_front.result < ahead.end = grind (arith, common_steps) in
     rw (c.push_front.ensures.pushed, c.deref.ensures.value, ← c.self.view_is)
-    (takes_front ahead.chunk.items c.args.line.now.items ahead.at ahead.end c.push_front.result c.index-byte.result.now more here.1 c.index-byte.ensures)
+    (takes_front ahead.chunk.items c.args.line.now.items ahead.at ahead.end c.push_front.result c.index-byte.result.now more here.1
+    c.index-byte.ensures)

@@ -5,4 +5,5 @@ use Rattle.nv_script.proofs.script.Player.play_lines.Given as goal
 
 abbrev pub invariant-loop-number : goal.invariant-loop-number
 invariant-loop-number g l = (l.number ≤ 1048577)
-    × AtLine (g.R.Read.remaining l.fn.reader) (prepend_known l.self.feed (g.R.Read.remaining l.reader)) (g.W.Write.contents l.fn.writer) (g.W.Write.contents l.writer) l.self.outbox l.number l.self.world
+    × AtLine (g.R.Read.remaining l.fn.reader) (prepend_known l.self.feed (g.R.Read.remaining l.reader)) (g.W.Write.contents l.fn.writer)
+    (g.W.Write.contents l.writer) l.self.outbox l.number l.self.world

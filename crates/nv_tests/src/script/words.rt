@@ -1,6 +1,6 @@
 //! Words by worked values.
 
-use crate::word::{handle, mode, number, number_up_to, push_escaped, text, words};
+use nv_script::word::{handle, mode, number, number_up_to, push_escaped, text, words};
 use std::test::Fail;
 
 const NUMBERS: [(&str, Option<u64>); 9] = [

@@ -1,9 +1,8 @@
-//! Lines of readers in memory and of one that fails, and writes to buffers.
+//! Lines of readers in memory and of one that fails.
 ghost use Rattle.std.specs.Prelude.{◌≤◌};
 ghost use Rattle.std.specs.Vec.{vec_capacity};
 
-use crate::feed::{Feed, MAX_LINE_BYTES, ReadFailed, Taken};
-use crate::send::{WriteFailed, send};
+use nv_script::feed::{Feed, MAX_LINE_BYTES, ReadFailed, Taken};
 use std::alloc::{AllocError, Global};
 use std::io;
 use std::io::{ErrorKind, Read};
@@ -129,17 +128,5 @@ fn failed_read(rt: HostRuntime) -> Result<(), Fail> {
     lines.take(&rt, &mut reader, Err(ReadFailed), b"abc");
     lines.take(&rt, &mut reader, Ok(Taken::Line), b"d");
     lines.take(&rt, &mut reader, Ok(Taken::End), b"");
-    Ok(())
-}
-
-#[test]
-fn sent_bytes(rt: HostRuntime) -> Result<(), Fail> {
-    let mut all = Vec::from_slice(rt.alloc(), b"to")?;
-    assert!(rt; send(&mut all, b" all").is_ok());
-    assert!(rt; all.as_slice() == b"to all".as_slice());
-    let mut room = [0u8; 3];
-    let mut short = room.as_mut_slice();
-    assert!(rt; send(&mut short, b"four") == Err(WriteFailed));
-    assert!(rt; room == *b"fou");
     Ok(())
 }

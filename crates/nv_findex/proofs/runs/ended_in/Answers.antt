@@ -3,7 +3,7 @@ use Rattle.std.proofs.lemmas.Bool.{leb-true, leb-false, le-leb}
 use Rattle.std.proofs.lemmas.List.Sorted.{IsPartitionPoint-from_clause}
 use Rattle.nv_findex.specs.declared.page_run.PageRun.{PageRun}
 use Rattle.nv_findex.specs.Runs.{AreRuns, BeginFrom, EndBy, EndBehind}
-use Rattle.nv_findex.proofs.runs.ended_by.Goals as goal
+use Rattle.nv_findex.proofs.runs.ended_in.Goals as goal
 
 -- a run ends behind the end before it
 end_behind : (r : PageRun) (rs : List PageRun) (i : ℕ) (d : PageRun) → AreRuns (r ∷ rs) → i < length rs → r.end ≤ (get_or rs i d).end

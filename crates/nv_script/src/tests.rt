@@ -1,4 +1,0 @@
-//! Lines and words.
-
-mod lines;
-mod words;
