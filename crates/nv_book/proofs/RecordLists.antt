@@ -1,9 +1,9 @@
 -- The record list after each call.
-use Rattle.std.proofs.Common.{◌≡◌, ◌≢◌, ℕ, zero, suc, ◌+◌, ◌<◌, ◌≤◌, ◌==◌, Bool, true, false, not, cond, nat_le, is_none, List, [], ◌∷◌, ◌++◌, map, filter, length, drop, slice_get, get_or, Option, Some, None, arith, refl, ap, sym, ◌∙◌, subst}
+use Rattle.std.proofs.Common.{◌≡◌, ℕ, zero, suc, ◌<◌, ◌≤◌, ◌==◌, Bool, true, false, not, cond, nat_le, is_none, List, [], ◌∷◌, ◌++◌, map, filter, length, drop, slice_get, get_or, Option, Some, None, arith, refl, ap, sym, ◌∙◌, subst}
 use Rattle.std.specs.List.{All, AllByRecursion, Contains, find}
-use Rattle.std.proofs.lemmas.Bool.{eqb-true, eqb-false, eq-eqb, ne_eqb}
+use Rattle.std.proofs.lemmas.Bool.{eqb-true, eqb-false, ne_eqb}
 use Rattle.std.proofs.lemmas.List.{append-nil, map-append}
-use Rattle.nv_epoch.specs.Holders.{IsRising, if_born_by, next_older, without, youngest_holder}
+use Rattle.nv_epoch.specs.Holders.{if_born_by, next_older, without, youngest_holder}
 use Rattle.nv_book.specs.declared.manifest.Manifest.{Manifest}
 use Rattle.nv_book.specs.declared.record.Record.{Record}
 use Rattle.nv_book.specs.Listed.{IsRecordList, is_snapshot, kept_by, manifest_of, manifest_told, not_kept_by, unheld, with_moved, with_retired, without_first}

@@ -1,4 +1,4 @@
-use Rattle.std.proofs.Common.{◌<◌, refl}
+use Rattle.std.proofs.Common.{refl}
 use Rattle.nv_book.proofs.RecordLists.{below-at, first-picked, listed-dropped, listed-made, listed-picked, listed-retired}
 use Rattle.nv_book.proofs.laws.one_list_tells_all.Goals as goal
 
