@@ -148,6 +148,7 @@ impl Book {
     {
         laws::holders_are_told_by_the_list();
         laws::pins_stay_with_their_snapshot();
+        // It tells that the numbers of the living snapshots rise.
         let _epoch = self.snaps.epoch();
         let Some(s) = self.snaps.youngest_in(killed.birth, killed.death) else {
             return Retired::Free;
@@ -205,6 +206,7 @@ impl Book {
         laws::removal_moves_holders_down();
         laws::pins_stay_with_their_snapshot();
         crate::laws::dropping_files();
+        // It tells that the numbers of the living snapshots rise.
         let _epoch = self.snaps.epoch();
         let older = self.snaps.older(s);
         let place = self.snaps.place(s);
@@ -297,6 +299,7 @@ impl Book {
             gain_of s (next_older (ids self.now.state.snaps) s) self.now.state.manifests }
     {
         laws::pins_stay_with_their_snapshot();
+        // It tells that the numbers of the living snapshots rise.
         let _epoch = self.snaps.epoch();
         let older = self.snaps.older(s);
         let Some(place) = self.snaps.place(s) else {
@@ -342,7 +345,8 @@ impl Book {
         ensures replayed { now_of self.now.state.history ≡
             state_now self.now.state.snaps self.now.state.commit }
     {
-        let _legal = self.history.len();
+        // It tells that the history is legal.
+        let _len = self.history.len();
         &self.history
     }
 

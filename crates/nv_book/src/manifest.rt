@@ -39,6 +39,7 @@ pub fn retire_to(
     ensures count { record_count manifests.new.items ≡ record_count manifests.old.items + 1 }
     ensures places { vec_capacity manifests.new ≡ vec_capacity manifests.old }
 {
+    // The contract alone speaks of the number.
     let _number = s;
     let manifest = &mut manifests[place];
     manifest.records.push(last, spare);
@@ -70,6 +71,7 @@ pub fn drop_at(
         record_count manifests.old.items + length deferred.old }
     ensures places { vec_capacity manifests.new ≡ vec_capacity manifests.old }
 {
+    // The contract alone speaks of the number.
     let _number = s;
     laws::removal_moves_holders_down();
     let Manifest { records, .. } = manifests.remove(place);

@@ -177,6 +177,7 @@ impl RecordStore {
         requires at { slice_index (snapshots self.now.manifests) place ≡ s }
         ensures { result ≡ gain_of s older.now self.now.manifests }
     {
+        // The contract alone speaks of the number.
         let _number = s;
         self.manifests[place].records.let_go(older)
     }
