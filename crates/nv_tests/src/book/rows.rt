@@ -207,7 +207,7 @@ fn folds_snapshots_into_the_base(rt: HostRuntime) -> Result<(), Fail> {
 #[test]
 fn opens_the_journal_of_a_cpu(rt: HostRuntime) -> Result<(), Fail> {
     let mut book = new_book(&rt, rt.alloc());
-    same(&rt, book.cpus(), 2);
+    assert_eq!(rt; book.cpus(), 2);
     let noted = [(3, 7), (0, 1)].map(|(ino, tail)| OldTail {
         ino: Ino::new(ino),
         tail,
