@@ -1,5 +1,5 @@
 -- A book: the value behind the commit lock, and how each call changes it.
-use Rattle.std.specs.Prelude.{◌≡◌, ℕ, ◌+◌, ◌≤◌, List, [], ◌∷◌, ◌++◌, drop, replicate, slice_set, Option, Some, None}
+use Rattle.std.specs.Prelude.{◌≡◌, ℕ, ◌+◌, ◌-◌, ◌≤◌, List, [], ◌∷◌, ◌++◌, drop, replicate, slice_set, Option, Some, None}
 use Rattle.nv_base.specs.declared.geometry.GeometryNumbers.{GeometryNumbers}
 use Rattle.nv_base.specs.declared.limits.TheConstants.{NUMBER}
 use Rattle.nv_epoch.specs.Holders.{next_older}
@@ -57,6 +57,11 @@ retired r b = record b { manifests = put_to (holder_of (ids b.snaps) r) (r ∷ [
 abbrev pub retired_as : Option ℕ → Retired
 retired_as (Some s) = Kept
 retired_as None = Free
+
+-- a kept record uses up room, and what is free does not
+abbrev pub room_after : Retired → ℕ → ℕ
+room_after Kept room = room - 1
+room_after Free room = room
 
 -- the current epoch becomes a snapshot with an empty manifest
 abbrev pub snapshot_made : BookState → BookState

@@ -8,7 +8,7 @@ ghost use Rattle.nv_base.specs.Refusals.{FailsEither, FailsOnly, IsRefusedBy, Ke
 ghost use Rattle.nv_epoch.specs.Holders.{next_older};
 ghost use Rattle.nv_epoch.specs.SnapList.{ids, pins_of};
 ghost use Rattle.nv_journal.specs.Journal.{AreDistinct};
-ghost use Rattle.nv_book.specs.Book.{BookState, BookValue, empty_book, entered, picked, retired, retired_as, snapshot_dropped, snapshot_made, snapshot_pinned, snapshot_unpinned, state_now, with_journal};
+ghost use Rattle.nv_book.specs.Book.{BookState, BookValue, empty_book, entered, picked, retired, retired_as, room_after, snapshot_dropped, snapshot_made, snapshot_pinned, snapshot_unpinned, state_now, with_journal};
 ghost use Rattle.nv_book.specs.History.{IsLegal, now_of};
 ghost use Rattle.nv_book.specs.Manifests.{AreDead, AreFiled, gain_of, held_of, runs_of};
 ghost use Rattle.nv_book.specs.Records.{block_count, holder_of, run_count_of};
@@ -110,9 +110,12 @@ impl Book {
         })
     }
 
-    /// Fixes the number and epoch of the seat's commit, with room for as many records as it may retire.
+    /// Fixes the number and epoch of the seat's commit, with room for `need` records: as many as the commit kills
+    /// parts, those that turn out free included.
     ///
-    /// `CommitLimit` where the last number is 2^62, before `OutOfMemory`.
+    /// `CommitLimit` where the last number is 2^62, before `OutOfMemory`. More than 2^62 records in all, which no
+    /// device has parts for, count as want of memory. It costs what it makes room for; where an old drop leaves the
+    /// latest events, also the number of living snapshots.
     pub fn enter(&mut self, seat: u64, need: u64) -> Result<(Epoch, CommitNo), Fault>
         ensures ok { OnOk result (self.new ≡
             record { state = entered seat self.old.state; room = need }) }
@@ -144,7 +147,7 @@ impl Book {
         requires room { 0 < self.old.room }
         ensures answer { result ≡ retired_as (holder_of (ids self.old.state.snaps) killed) }
         ensures state { self.new.state ≡ retired killed self.old.state }
-        ensures room { self.old.room ≤ self.new.room + 1 }
+        ensures room { self.new.room ≡ room_after result self.old.room }
     {
         laws::holders_are_told_by_the_list();
         laws::pins_stay_with_their_snapshot();
@@ -286,7 +289,8 @@ impl Book {
         self.journals.len() as u64
     }
 
-    /// How many blocks of recorded parts the snapshot `s` holds. It takes time by all runs.
+    /// How many blocks of recorded parts the living snapshot `s` holds; of any other number, how many of those in
+    /// manifests were born by then and died later. It takes time by all runs.
     pub fn held(&self, s: Epoch) -> u64
         ensures { result ≡ held_of s self.now.state.manifests }
     {
@@ -326,14 +330,18 @@ impl Book {
 
     /// The manifests of the living snapshots, oldest first.
     pub fn manifests(&self) -> &[Manifest]
-        ensures { result.now ≡ self.now.state.manifests }
+        ensures manifests { result.now ≡ self.now.state.manifests }
+        ensures filed { let now = self.now.state in AreFiled (ids now.snaps) now.manifests now.deferred }
+        ensures dead { let now = self.now.state in AreDead now.snaps.epoch now.manifests now.deferred }
     {
         self.store.manifests()
     }
 
     /// The deferred list.
     pub fn deferred(&self) -> &RecordList
-        ensures { result.now ≡ self.now.state.deferred }
+        ensures deferred { result.now ≡ self.now.state.deferred }
+        ensures filed { let now = self.now.state in AreFiled (ids now.snaps) now.manifests now.deferred }
+        ensures dead { let now = self.now.state in AreDead now.snaps.epoch now.manifests now.deferred }
     {
         self.store.deferred()
     }

@@ -11,6 +11,8 @@ pub enum Event {
         number: CommitNo,
         epoch: Epoch,
     },
+    /// The snapshot that was made: the epoch that it closed.
     Made(Epoch),
+    /// The snapshot that was dropped.
     Dropped(Epoch),
 }

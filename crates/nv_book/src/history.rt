@@ -71,7 +71,12 @@ impl History {
     /// A history of nothing, after the epoch and the commit.
     ///
     /// The only error is `OutOfMemory`.
-    pub fn new(alloc: Global, snaps: u64, epoch: Epoch, commit: CommitNo) -> Result<History, Fault>
+    pub(crate) fn new(
+        alloc: Global,
+        snaps: u64,
+        epoch: Epoch,
+        commit: CommitNo,
+    ) -> Result<History, Fault>
         ensures ok { IfOk result (λ h. h ≡
             record {
               base = record { epoch = epoch; commit = commit; living = [] };
@@ -91,8 +96,9 @@ impl History {
         })
     }
 
-    /// Notes an event. Where [`KEPT`] stand after the base already, the oldest of them goes into it.
-    pub fn note(&mut self, event: Event)
+    /// Notes an event. Where [`KEPT`] stand after the base already, the oldest of them goes into it, which costs the
+    /// number of living snapshots where that is a drop.
+    pub(crate) fn note(&mut self, event: Event)
         requires { IsNext self.old.most (now_of self.old) event }
         ensures account { self.new ≡ noted KEPT self.old event }
         ensures now { now_of self.new ≡ after (now_of self.old) event }

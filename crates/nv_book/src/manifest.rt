@@ -12,7 +12,7 @@ use nv_base::Epoch;
 use nv_epoch::laws;
 use std::alloc::Global;
 
-/// A snapshot, and the records of the parts that no younger living one holds.
+/// A snapshot, and the records of the parts that it holds and no younger living one does.
 #[derive(Drop)]
 pub struct Manifest {
     pub snapshot: Epoch,
