@@ -141,5 +141,15 @@ fn tells_what_a_slow_book_tells(rt: HostRuntime) -> Result<(), Fail> {
         some_call(&rt, &mut both, &mut seed);
         compare(&rt, &both.book, &both.slow);
     }
+    for place in 0..4 {
+        both.drop_one(&rt, place);
+        compare(&rt, &both.book, &both.slow);
+    }
+    same(&rt, both.book.snaps().is_empty(), true);
+    for _ in 0..1000 {
+        let _some = both.pick(&rt);
+    }
+    same(&rt, both.pick(&rt), false);
+    same(&rt, both.book.stored(), 0);
     Ok(())
 }

@@ -70,7 +70,7 @@ fn deferred_is_not_free(rt: HostRuntime) -> Result<(), Fail> {
 }
 
 #[test]
-fn a_run_is_picked_page_by_page(rt: HostRuntime) -> Result<(), Fail> {
+fn drain_within_a_run(rt: HostRuntime) -> Result<(), Fail> {
     let mut book = new_book(&rt, rt.alloc());
     book.make_snapshot()?;
     let _fixed = enter(&rt, &mut book, 0, 6);
@@ -230,9 +230,7 @@ fn opens_the_journal_of_a_cpu(rt: HostRuntime) -> Result<(), Fail> {
 fn goes_through_a_thread(rt: HostRuntime) -> Result<(), Fail> {
     let mut book = new_book(&rt, rt.alloc());
     overwritten(&rt, &mut book, 1);
-    let Ok(child) = thread::spawn(&rt, move || book.stored()) else {
-        return Ok(());
-    };
+    let child = thread::spawn(&rt, move || book.stored())?;
     same(&rt, child.join(&rt), 2);
     Ok(())
 }

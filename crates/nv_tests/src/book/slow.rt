@@ -2,6 +2,7 @@
 use crate::compare::{same, same_for};
 use nv_base::Epoch;
 use nv_book::{Book, Record};
+use nv_entry::Part;
 use std::alloc::{AllocError, Global};
 use std::process::Abort;
 
@@ -22,6 +23,16 @@ fn holder(living: &[Epoch], killed: &Record, gone: Option<Epoch>) -> Option<Epoc
         }
     }
     youngest
+}
+
+// Whether the second is the next page of the same entry with the same birth and death.
+fn is_next(one: &Record, other: &Record) -> bool {
+    let same = (one.ino, one.entry, one.birth, one.death)
+        == (other.ino, other.entry, other.birth, other.death);
+    match (one.part, other.part) {
+        (Part::Page(page), Part::Page(next)) => same && page.checked_add(1) == Some(next),
+        _ => false,
+    }
 }
 
 impl SlowBook {
@@ -78,6 +89,30 @@ impl SlowBook {
         None
     }
 
+    // The runs of the records whose youngest living holder is this one.
+    fn runs(&self, of: Option<Epoch>) -> u64 {
+        let mut count = 0u64;
+        let mut last: Option<Record> = None;
+        for r in &self.records {
+            if holder(&self.living, r, None) == of {
+                if !last.is_some_and(|l| is_next(&l, r)) {
+                    count = count.saturating_add(1);
+                }
+                last = Some(*r);
+            }
+        }
+        count
+    }
+
+    // How many runs all records are.
+    fn stored(&self) -> u64 {
+        let mut count = self.runs(None);
+        for s in &self.living {
+            count = count.saturating_add(self.runs(Some(*s)));
+        }
+        count
+    }
+
     fn held(&self, s: Epoch) -> u64 {
         self.records
             .iter()
@@ -103,6 +138,7 @@ impl SlowBook {
 pub fn compare(rt: &impl Abort, book: &Book, slow: &SlowBook) {
     same(rt, book.epoch().number(), slow.epoch);
     same(rt, book.snaps().len(), slow.living.len() as u64);
+    same(rt, book.stored(), slow.stored());
     for s in &slow.living {
         assert!(rt; book.snaps().has(*s));
         same_for(rt, s, book.held(*s), slow.held(*s));
