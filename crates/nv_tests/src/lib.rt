@@ -10,6 +10,8 @@ mod base;
 #[cfg(test)]
 mod blocks;
 #[cfg(test)]
+mod book;
+#[cfg(test)]
 mod chain;
 #[cfg(test)]
 mod compare;

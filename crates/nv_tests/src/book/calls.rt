@@ -1,0 +1,155 @@
+//! The same calls on a book and on a slow one.
+use crate::book::slow::{SlowBook, compare};
+use crate::book::{enter, new_book, record, retire};
+use crate::compare::{same, same_for};
+use nv_base::{Epoch, Fault};
+use nv_book::{Book, Retired};
+use nv_entry::Part;
+use std::alloc::Global;
+use std::process::Abort;
+use std::test::Fail;
+
+// Two books that take the same calls and tell the same.
+#[derive(Drop)]
+struct Both {
+    book: Book,
+    slow: SlowBook,
+}
+
+impl Both {
+    fn retire(&mut self, rt: &impl Abort, commit: u64, part: Part, birth: u64, death: u64) {
+        if self.book.room() == 0 {
+            let _fixed = enter(rt, &mut self.book, 0, 8);
+        }
+        let killed = record(commit, part, birth, death);
+        let kept = self.slow.retire(killed).expect(rt, "memory");
+        let answer = retire(rt, &mut self.book, killed);
+        same_for(rt, &killed, answer == Retired::Kept, kept);
+    }
+
+    fn make(&mut self, rt: &impl Abort) {
+        match self.book.make_snapshot() {
+            Ok(_) => self.slow.make().expect(rt, "memory"),
+            Err(fault) => same(rt, fault, Fault::TooManySnapshots),
+        }
+    }
+
+    fn drop_snapshot(&mut self, rt: &impl Abort, s: u64) {
+        if self.book.drop_snapshot(Epoch::new(s)).is_ok() {
+            self.slow.drop_snapshot(Epoch::new(s)).expect(rt, "memory");
+        }
+    }
+
+    // Drops the living snapshot at this place, counted round.
+    fn drop_one(&mut self, rt: &impl Abort, place: usize) {
+        let living = self.slow.living.len();
+        if living > 0 {
+            let s = self.slow.living[place % living];
+            self.drop_snapshot(rt, s.number());
+        }
+    }
+
+    // Picks from both, and answers whether there was a record.
+    fn pick(&mut self, rt: &impl Abort) -> bool {
+        let picked = self.book.pick();
+        same(rt, picked, self.slow.pick());
+        picked.is_some()
+    }
+}
+
+fn two_books(rt: &impl Abort, alloc: Global) -> Both {
+    Both {
+        book: new_book(rt, alloc),
+        slow: SlowBook::new(alloc),
+    }
+}
+
+// Three snapshots, and records of births and deaths at each border.
+fn bordered(rt: &impl Abort, alloc: Global) -> Both {
+    let mut both = two_books(rt, alloc);
+    for _ in 0..3 {
+        both.make(rt);
+    }
+    for birth in 1..5 {
+        for death in birth..5 {
+            for part in [Part::Kind, Part::Page(7), Part::Page(8)] {
+                both.retire(rt, birth * 10 + death, part, birth, death);
+            }
+        }
+    }
+    both
+}
+
+#[test]
+fn drops_in_each_order(rt: HostRuntime) -> Result<(), Fail> {
+    for order in [
+        [1, 2, 3],
+        [1, 3, 2],
+        [2, 1, 3],
+        [2, 3, 1],
+        [3, 1, 2],
+        [3, 2, 1],
+    ] {
+        let mut both = bordered(&rt, rt.alloc());
+        compare(&rt, &both.book, &both.slow);
+        for s in order {
+            both.drop_snapshot(&rt, s);
+            compare(&rt, &both.book, &both.slow);
+        }
+        for _ in 0..18 {
+            assert!(rt; both.pick(&rt));
+        }
+        assert!(rt; !both.pick(&rt));
+    }
+    Ok(())
+}
+
+// The next of a row of numbers without a pattern.
+fn next_number(seed: &mut u64) -> u64 {
+    *seed = seed
+        .wrapping_mul(6364136223846793005)
+        .wrapping_add(1442695040888963407);
+    *seed >> 33
+}
+
+// One call, chosen by the numbers.
+fn some_call(rt: &impl Abort, both: &mut Both, seed: &mut u64) {
+    let epoch = both.book.epoch().number();
+    match next_number(seed) % 8 {
+        0 => both.make(rt),
+        1 => {
+            let number = next_number(seed) as usize;
+            both.drop_one(rt, number);
+        }
+        2 => {
+            let _some = both.pick(rt);
+        }
+        _ => {
+            let death = epoch.saturating_sub(next_number(seed) % 2);
+            let birth = death.saturating_sub(next_number(seed) % 4);
+            let page = (next_number(seed) % 4) as u32;
+            both.retire(rt, next_number(seed) % 3, Part::Page(page), birth, death);
+        }
+    }
+}
+
+#[test]
+fn tells_what_a_slow_book_tells(rt: HostRuntime) -> Result<(), Fail> {
+    let mut both = two_books(&rt, rt.alloc());
+    let mut seed = 7;
+    for _ in 0..1000 {
+        some_call(&rt, &mut both, &mut seed);
+        compare(&rt, &both.book, &both.slow);
+    }
+    for place in 0..4 {
+        both.drop_one(&rt, place);
+        compare(&rt, &both.book, &both.slow);
+    }
+    same(&rt, both.book.snaps().is_empty(), true);
+    for _ in 0..1000 {
+        let _some = both.pick(&rt);
+    }
+    same(&rt, both.pick(&rt), false);
+    same(&rt, both.book.stored(), 0);
+    Ok(())
+}
