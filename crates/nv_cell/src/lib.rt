@@ -1,0 +1,10 @@
+//! An inode with its log: the value under each inode lock.
+#![tactic(auto)]
+
+mod mark;
+mod marks;
+mod tally;
+
+pub use mark::Mark;
+pub use marks::Marks;
+pub use tally::{PageCounts, Tally};
