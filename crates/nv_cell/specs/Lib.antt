@@ -1,2 +1,4 @@
+pub mod Index
+pub mod Numbers
 pub mod Marks
 pub mod Tallies
