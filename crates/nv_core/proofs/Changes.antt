@@ -49,12 +49,12 @@ file_passed (Some File) next h = (refl, h)
 file_passed (Some Dir) next h = cc
 
 -- the bytes of a node are those that its log gives
-pub bytes_found : (world : WorldValue) (handle : Handle) (f : Found world handle) → IsWorld world
+pub bytes_found : (world : WorldValue) (handle : Handle) (kind : Kind) (f : Found world handle kind) → IsWorld world
     → bytes_at world handle.ino ≡ f.node.bytes
-bytes_found world handle f w =
+bytes_found world handle kind f w =
     let log : List Entry = log_at world.logs handle.ino in
     stands-bytes (bytes_in world.data_blocks) world.numbers.block log f.node w.some_bytes
-    (subst (Tied world.numbers.block (stored (bytes_in world.data_blocks) world.numbers.block log)) f.is (w.files handle.ino).sound)
+    (subst (Tied (bytes_in world.data_blocks) world.numbers.block (stored world.numbers.block log)) f.is (w.files handle.ino).sound)
 
 -- the plain world after a commit that changes nodes alone
 abbrev at_nodes : ℕ → (Handle → Option PlainNode) → Plain
@@ -67,7 +67,7 @@ numbered world = record (plain_of world) { commit = world.commit + 1 }
 -- ---- create
 
 create_passed : (world : WorldValue) (dir : Handle) (name : List ℕ) → create_check (numbers_of world) (plain_of world) dir name ≡ Ok tt
-    → Found world dir × (length world.logs < world.numbers.inodes)
+    → Found world dir Dir × (length world.logs < world.numbers.inodes)
 create_passed world dir name ok =
     let room : Bool = world.numbers.inodes - length world.logs == 0 in
     let last : Result (Unit {0}) Fault = refuse_if room fault.NoInode (Ok tt) in
@@ -79,7 +79,7 @@ create_passed world dir name ok =
     let e = eqb-false (world.numbers.inodes - length world.logs) 0 (if_passed room fault.NoInode (Ok tt) d.1).0 in
     (found world dir Dir a.0, omega (arith, e))
 
-module _ (world : WorldValue) (dir : Handle) (name : List ℕ) (mode : ℕ) (w : IsWorld world) (f : Found world dir) where
+module _ (world : WorldValue) (dir : Handle) (name : List ℕ) (mode : ℕ) (w : IsWorld world) (f : Found world dir Dir) where
   abbrev bytes : ℕ → List ℕ
   bytes = bytes_in world.data_blocks
 
@@ -109,7 +109,7 @@ module _ (world : WorldValue) (dir : Handle) (name : List ℕ) (mode : ℕ) (w :
     others = λ ino apart. get_or-set_other world.logs dir.ino ino (log_at world.logs dir.ino ++ bind ∷ []) [] apart;
     gives = lawful_gives bytes world.numbers.block (log_at world.logs dir.ino) bind (named (slot_node world dir.ino)) w.some_bytes
         (w.files dir.ino).sound
-        (subst (λ (o : Option NodeCopy). Makes bytes world.numbers.block (Bind name (next_handle world)) o (named o)) (sym f.is) refl);
+        (subst (λ (o : Option NodeCopy). Makes bytes world.numbers.block (Bind name (next_handle world)) o (named o)) (sym f.is) (f.kind_is, refl));
     blocks = λ n none. absurd none;
   }
 
@@ -165,7 +165,7 @@ created_stands world dir name mode w ok below = let p = create_passed world dir 
 
 -- what the tests before a write say
 pub record WritePassed (world : WorldValue) (file : Handle) (offset : ℕ) (text : List ℕ) : Type 0 where
-  pub node : Found world file
+  pub node : Found world file File
   pub few : pages_touched world.numbers.block offset (length text) ≤ 1024
   pub fits : offset + length text ≤ 65536 * world.numbers.block
   pub room : pages_touched world.numbers.block offset (length text) ≤ world.numbers.blocks - length world.data_blocks
@@ -227,10 +227,11 @@ module _ (world : WorldValue) (file : Handle) (offset : ℕ) (text : List ℕ) (
   gives_from =
       let node : NodeCopy = p.node.node in
       let after : ℕ → List ℕ = bytes_in (world.data_blocks ++ pages_of node.bytes) in
-      let st = subst (Tied world.numbers.block (stored (bytes_in world.data_blocks) world.numbers.block log)) p.node.is (w.files file.ino).sound in
+      let st = subst (Tied (bytes_in world.data_blocks) world.numbers.block (stored world.numbers.block log)) p.node.is
+      (w.files file.ino).sound in
       let before = same_blocks_give (bytes_in world.data_blocks) after world.numbers.block log w.some_bytes (w.files file.ino).sound
       (λ number u. get_or_append_left world.data_blocks (pages_of node.bytes) [] number ((w.files file.ino).in_use number u)) in
-      let makes = written_makes after world.numbers.block offset text run node w.some_bytes any p.fits (omega (arith, st.length, st.fits))
+      let makes = written_makes after world.numbers.block offset text run node w.some_bytes any p.fits p.node.kind_is st.length st.fits
       (record { count = count; filled = filled node.bytes }) in
       lawful_gives after world.numbers.block log (entry_of node.bytes) (change (slot_node world file.ino)) w.some_bytes before.sound
       (subst (λ (o : Option NodeCopy). Makes after world.numbers.block (entry_of node.bytes).item o (change (slot_node world file.ino)))
@@ -254,7 +255,7 @@ module _ (world : WorldValue) (file : Handle) (offset : ℕ) (text : List ℕ) (
     first = p.node.first;
     here = get_or-set_same world.logs file.ino (log ++ entry_of old_bytes ∷ []) [] p.node.in_use;
     others = λ ino apart. get_or-set_other world.logs file.ino ino (log ++ entry_of old_bytes ∷ []) [] apart;
-    gives = subst GivesFrom (sym (bytes_found world file p.node w)) gives_from;
+    gives = subst GivesFrom (sym (bytes_found world file File p.node w)) gives_from;
     blocks = λ n h. omega (arith, more_blocks, h.1, start, count);
   }
 
@@ -286,7 +287,7 @@ pub bound_found : (world : WorldValue) (dir : Handle) (name : List ℕ) → IsWo
 bound_found world dir name w h =
     let log : List Entry = log_at world.logs dir.ino in
     let f = found world dir Dir h in
-    let st = subst (Tied world.numbers.block (stored (bytes_in world.data_blocks) world.numbers.block log)) f.is (w.files dir.ino).sound in
+    let st = subst (Tied (bytes_in world.data_blocks) world.numbers.block (stored world.numbers.block log)) f.is (w.files dir.ino).sound in
     ap is_some (name_value world.numbers.block log name)
     ∙ some_mapped Node (bound_to name (names_of log))
     ∙ ap (λ (names : List BoundName). is_some (bound_to name names))

@@ -46,14 +46,15 @@ node_found world handle first =
     ap (λ (b : Bool). option_map (λ (p : PlainNode). p.node) (cond b (stamped commit (slot_node world handle.ino)) None)) first
     ∙ node_stamped commit (slot_node world handle.ino)
 
--- the node that a handle leads to is the one of its slot, which is in use
-pub record Found (world : WorldValue) (handle : Handle) : Type 0 where
+-- the node that a handle leads to is the one of its slot, which is in use, and of that kind
+pub record Found (world : WorldValue) (handle : Handle) (kind : Kind) : Type 0 where
   pub node : NodeCopy
+  pub kind_is : node.kind ≡ kind
   pub first : (handle.generation == 1) ≡ true
   pub is : slot_node world handle.ino ≡ Some node
   pub in_use : handle.ino < length world.logs
 
-pub found : (world : WorldValue) (handle : Handle) (kind : Kind) → kind_in (plain_of world) handle ≡ Some kind → Found world handle
+pub found : (world : WorldValue) (handle : Handle) (kind : Kind) → kind_in (plain_of world) handle ≡ Some kind → Found world handle kind
 found world handle kind h = by_generation (handle.generation == 1) refl where
   used : (node : NodeCopy) → slot_node world handle.ino ≡ Some node → (handle.ino < length world.logs) ⊎ (length world.logs ≤ handle.ino)
       → handle.ino < length world.logs
@@ -64,11 +65,13 @@ found world handle kind h = by_generation (handle.generation == 1) refl where
       cc
 
   by_node : (node : Option NodeCopy) → slot_node world handle.ino ≡ node → (handle.generation == 1) ≡ true
-      → option_map (λ (n : NodeCopy). n.kind) node ≡ Some kind → Found world handle
+      → option_map (λ (n : NodeCopy). n.kind) node ≡ Some kind → Found world handle kind
   by_node None e q k = cc
-  by_node (Some node) e q k = record { node = node; first = q; is = e; in_use = used node e (cases_lt handle.ino (length world.logs)) }
+  by_node (Some node) e q k =
+      let same : node.kind ≡ kind = cc in
+      record { node = node; kind_is = same; first = q; is = e; in_use = used node e (cases_lt handle.ino (length world.logs)) }
 
-  by_generation : (b : Bool) → (handle.generation == 1) ≡ b → Found world handle
+  by_generation : (b : Bool) → (handle.generation == 1) ≡ b → Found world handle kind
   by_generation false q =
       let under : Bool → Option PlainNode = λ b. cond b (stamped (last_commit (log_at world.logs handle.ino))
       (slot_node world handle.ino)) None in

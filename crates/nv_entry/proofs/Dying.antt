@@ -2,7 +2,7 @@
 use Rattle.std.proofs.Common.{◌≡◌, ℕ, zero, suc, ◌≤◌, Bool, true, false, ◌&&◌, nat_lt, nat_le, List, [], ◌∷◌, map, Option, Some, None, arith, refl, sym, subst}
 use Rattle.std.specs.List.{list_any}
 use Rattle.std.specs.Prelude.{slice_get}
-use Rattle.std.proofs.lemmas.Bool.{and_parts, and_from, lt-ltb, ltb-true, ltb-false}
+use Rattle.std.proofs.lemmas.Bool.{and_parts, and_from, lt-ltb, ltb-true, ltb-false, false_from_ne_true, or_from, or_parts}
 use Rattle.nv_entry.specs.declared.item.Entry.{Entry}
 use Rattle.nv_entry.specs.declared.key.Datum.{Datum}
 use Rattle.nv_entry.specs.declared.key.Setting.TheVariants.{Present}
@@ -12,7 +12,7 @@ use Rattle.nv_entry.specs.Counts.{is_kept}
 use Rattle.nv_entry.specs.Held.{Retention, holds, is_named, keeps}
 use Rattle.nv_entry.specs.Keys.{Key, sets, parts_of, key_of}
 use Rattle.nv_entry.specs.Log.{pair_of, pairs_of, first_cover}
-use Rattle.nv_entry.proofs.Hiding.{clash, or_false, either_false, not_true}
+use Rattle.nv_entry.proofs.Hiding.{clash}
 use Rattle.nv_entry.proofs.PartsSet.{part_with}
 
 -- no snapshot lies between a birth and a death
@@ -33,7 +33,7 @@ unkept r e later p None q h = cc
 unkept r e later p (Some death) q h = record {
   death = death;
   covered = q;
-  unheld = (or_false (is_held_between r.snapshots e.epoch death) (is_named r.pending (record { entry = e.id; part = p; birth = e.epoch; death = Some death })) h).0;
+  unheld = (or_parts (is_held_between r.snapshots e.epoch death) (is_named r.pending (record { entry = e.id; part = p; birth = e.epoch; death = Some death })) h).0;
 }
 
 -- a test over pairs that fails at each of a list fails at each one's place
@@ -41,8 +41,8 @@ fails_at : {A B : Type 0} (f : A → B) (test : B → Bool) (xs : List A) (place
     → slice_get xs place ≡ Some x → test (f x) ≡ false
 fails_at f test [] place x h at = cc
 fails_at f test (y ∷ xs) zero x h at =
-    let same : y ≡ x = cc in subst (λ z. test (f z) ≡ false) same (or_false (test (f y)) (list_any test (map f xs)) h).0
-fails_at f test (y ∷ xs) (suc place) x h at = fails_at f test xs place x (or_false (test (f y)) (list_any test (map f xs)) h).1 at
+    let same : y ≡ x = cc in subst (λ z. test (f z) ≡ false) same (or_parts (test (f y)) (list_any test (map f xs)) h).0
+fails_at f test (y ∷ xs) (suc place) x h at = fails_at f test xs place x (or_parts (test (f y)) (list_any test (map f xs)) h).1 at
 
 -- a key that an entry sets to a value has a pair that fails, where all of them do
 pub record FailingPair (block : ℕ) (test : Pair → Bool) (e : Entry) (later : List Entry) (key : Key) : Type 0 where
@@ -90,10 +90,10 @@ earlier_unheld : (snapshots : List ℕ) (birth d death : ℕ) → d ≤ death �
     → is_held_between snapshots birth d ≡ false
 earlier_unheld [] birth d death le h = refl
 earlier_unheld (s ∷ snapshots) birth d death le h =
-    let q = or_false (nat_le birth s && nat_lt s death) (is_held_between snapshots birth death) h in
-    either_false (nat_le birth s && nat_lt s d) (is_held_between snapshots birth d) (one q.0) (earlier_unheld snapshots birth d death le q.1) where
+    let q = or_parts (nat_le birth s && nat_lt s death) (is_held_between snapshots birth death) h in
+    or_from (nat_le birth s && nat_lt s d) (is_held_between snapshots birth d) (one q.0) (earlier_unheld snapshots birth d death le q.1) where
       one : (nat_le birth s && nat_lt s death) ≡ false → (nat_le birth s && nat_lt s d) ≡ false
-      one h = not_true (nat_le birth s && nat_lt s d) (λ t.
+      one h = false_from_ne_true (nat_le birth s && nat_lt s d) (λ t.
           let p = and_parts (nat_le birth s) (nat_lt s d) t in
           clash (nat_le birth s && nat_lt s death) (and_from (nat_le birth s) (nat_lt s death) p.0 (lt-ltb s death (omega (arith, ltb-true s d p.1, le)))) h)
 
@@ -104,9 +104,9 @@ pair_earlier : (r : Retention) (e : Entry) (p : Part) (o q : Option ℕ)
 pair_earlier r e p o None f h = cc
 pair_earlier r e p o (Some death) f h =
     let x = f death refl in
-    let k = or_false (is_held_between r.snapshots e.epoch death) (is_named r.pending (record { entry = e.id; part = p; birth = e.epoch; death = Some death })) h in
+    let k = or_parts (is_held_between r.snapshots e.epoch death) (is_named r.pending (record { entry = e.id; part = p; birth = e.epoch; death = Some death })) h in
     subst (λ (w : Option ℕ). keeps r (record { entry = e.id; part = p; birth = e.epoch; death = w }) ≡ false) (sym x.1)
-    (either_false (is_held_between r.snapshots e.epoch x.0) (is_named r.pending (record {
+    (or_from (is_held_between r.snapshots e.epoch x.0) (is_named r.pending (record {
       entry =
           e.id;
       part = p;
@@ -122,7 +122,7 @@ unkept_earlier r e left later f h = over (parts_of e.item) h where
       → list_any (keeps r) (map (pair_of r.block e later) parts) ≡ false
   over [] h = refl
   over (p ∷ parts) h =
-      let q = or_false (keeps r (pair_of r.block e left p)) (list_any (keeps r) (map (pair_of r.block e left) parts)) h in
-      either_false (keeps r (pair_of r.block e later p)) (list_any (keeps r) (map (pair_of r.block e later) parts))
+      let q = or_parts (keeps r (pair_of r.block e left p)) (list_any (keeps r) (map (pair_of r.block e left) parts)) h in
+      or_from (keeps r (pair_of r.block e later p)) (list_any (keeps r) (map (pair_of r.block e later) parts))
       (pair_earlier r e p (first_cover r.block later (key_of e.item p)) (first_cover r.block left (key_of e.item p)) (f (key_of e.item p)) q.0)
       (over parts q.1)

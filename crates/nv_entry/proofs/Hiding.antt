@@ -1,7 +1,7 @@
 -- Which absent keys of an item an earlier item covers.
-use Rattle.std.proofs.Common.{◌≡◌, ℕ, ◌+◌, ◌-◌, ◌<◌, ◌≤◌, Bool, true, false, cond, ◌&&◌, ◌||◌, nat_lt, nat_le, min, max, List, [], ◌∷◌, arith, refl, sym, ◌∙◌, subst}
+use Rattle.std.proofs.Common.{◌≡◌, ℕ, ◌+◌, ◌-◌, ◌<◌, ◌≤◌, Bool, true, false, cond, ◌&&◌, nat_lt, nat_le, min, max, List, [], ◌∷◌, arith, refl, sym, ◌∙◌, subst}
 use Rattle.std.specs.List.{list_any}
-use Rattle.std.proofs.lemmas.Bool.{ltb-true, ltb-false, leb-true, lt-ltb, le-leb, and_parts, and_from}
+use Rattle.std.proofs.lemmas.Bool.{ltb-true, ltb-false, leb-true, lt-ltb, le-leb, and_parts, and_from, false_from_ne_true, or_from, or_parts}
 use Rattle.std.proofs.lemmas.Slice.Eq.{bytes_eq-Decides}
 use Rattle.nv_base.specs.Names.{same_name}
 use Rattle.nv_entry.specs.declared.item.Entry.{Entry}
@@ -36,10 +36,6 @@ touched_present : (b : Bool) (value : Datum) → touches (cond b (Present value)
 touched_present true value = refl
 touched_present false value = refl
 
-pub not_true : (b : Bool) → (b ≡ true → ⊥) → b ≡ false
-not_true true h = absurd (h refl)
-not_true false h = refl
-
 past_parts : (block size page : ℕ) → is_past block size page ≡ true → (pages_for block size ≤ page) × (page < 65536)
 past_parts block size page h = let p = and_parts (nat_le (pages_for block size) page) (is_page page) h in (leb-true (pages_for block size) page p.0, ltb-true page 65536 p.1)
 
@@ -62,10 +58,10 @@ run_from first run page a b c =
 none_from : (block from page : ℕ) (item : Item) → covers_from block from item ≡ false → from ≤ page → page < 65536 → covers block item (PageKey page) ≡ false
 none_from block from page (Write first run size) h low high =
     touched_present (in_run first run page) (datum.Block (run.start + (page - first)))
-    ∙ not_true (in_run first run page) (λ t. let p = run_parts first run page t in let k : min (first + run.len) 65536 ≤ max from first = ltb-false (max from first) (min (first + run.len) 65536) h in omega (arith, p, low, high))
+    ∙ false_from_ne_true (in_run first run page) (λ t. let p = run_parts first run page t in let k : min (first + run.len) 65536 ≤ max from first = ltb-false (max from first) (min (first + run.len) 65536) h in omega (arith, p, low, high))
 none_from block from page (SetSize size) h low high =
     touched_absent (is_past block size page)
-    ∙ not_true (is_past block size page) (λ t. let p = past_parts block size page t in let k : 65536 ≤ max from (pages_for block size) = ltb-false (max from (pages_for block size)) 65536 h in omega (arith, p, low, high))
+    ∙ false_from_ne_true (is_past block size page) (λ t. let p = past_parts block size page t in let k : 65536 ≤ max from (pages_for block size) = ltb-false (max from (pages_for block size)) 65536 h in omega (arith, p, low, high))
 none_from block from page Gone h low high = absurd (omega (arith, ltb-false from 65536 h, low, high))
 none_from block from page (Init kind mode) h low high = refl
 none_from block from page (SetMode mode) h low high = refl
@@ -173,7 +169,7 @@ gone_hides block Gone h = let k : true ≡ false = h KindKey refl in cc
 
 -- and the other way round
 pub hides-false : (block : ℕ) (item earlier : Item) → HidesNothing block item earlier → hides block item earlier ≡ false
-hides-false block (SetSize size) earlier h = not_true (hides block (SetSize size) earlier) (λ t.
+hides-false block (SetSize size) earlier h = false_from_ne_true (hides block (SetSize size) earlier) (λ t.
     let x = some_from block (pages_for block size) earlier t in
     clash (covers block earlier (PageKey x.page)) x.covered (h (PageKey x.page) (rw (past_from block size x.page x.low x.high) refl)))
 hides-false block (Unbind name) earlier h = h (NameKey name) (rw (same_name-self name) refl)
@@ -183,21 +179,13 @@ hides-false block (Init kind mode) earlier h = refl
 hides-false block (SetMode mode) earlier h = refl
 hides-false block (Bind name to) earlier h = refl
 
-pub or_false : (a b : Bool) → (a || b) ≡ false → (a ≡ false) × (b ≡ false)
-or_false true b h = cc
-or_false false b h = (refl, h)
-
-pub either_false : (a b : Bool) → a ≡ false → b ≡ false → (a || b) ≡ false
-either_false true b p q = cc
-either_false false b p q = q
-
 -- over all earlier entries
 pub hides_nothing_before : (block : ℕ) (item : Item) (before : List Entry) → list_any (λ (f : Entry). hides block item f.item) before ≡ false
     → (key : Key) → sets block item key ≡ Absent → list_any (λ (f : Entry). covers block f.item key) before ≡ false
 hides_nothing_before block item [] h key a = refl
 hides_nothing_before block item (f ∷ before) h key a =
-    let p = or_false (hides block item f.item) (list_any (λ (f : Entry). hides block item f.item) before) h in
-    either_false (covers block f.item key) (list_any (λ (f : Entry). covers block f.item key) before)
+    let p = or_parts (hides block item f.item) (list_any (λ (f : Entry). hides block item f.item) before) h in
+    or_from (covers block f.item key) (list_any (λ (f : Entry). covers block f.item key) before)
     (hides_nothing block item f.item p.0 key a)
     (hides_nothing_before block item before p.1 key a)
 
@@ -205,6 +193,6 @@ pub hides-false_before : (block : ℕ) (item : Item) (before : List Entry) → (
     → list_any (λ (f : Entry). hides block item f.item) before ≡ false
 hides-false_before block item [] h = refl
 hides-false_before block item (f ∷ before) h =
-    either_false (hides block item f.item) (list_any (λ (f : Entry). hides block item f.item) before)
-    (hides-false block item f.item (λ key a. (or_false (covers block f.item key) (list_any (λ (f : Entry). covers block f.item key) before) (h key a)).0))
-    (hides-false_before block item before (λ key a. (or_false (covers block f.item key) (list_any (λ (f : Entry). covers block f.item key) before) (h key a)).1))
+    or_from (hides block item f.item) (list_any (λ (f : Entry). hides block item f.item) before)
+    (hides-false block item f.item (λ key a. (or_parts (covers block f.item key) (list_any (λ (f : Entry). covers block f.item key) before) (h key a)).0))
+    (hides-false_before block item before (λ key a. (or_parts (covers block f.item key) (list_any (λ (f : Entry). covers block f.item key) before) (h key a)).1))

@@ -17,7 +17,7 @@ use Rattle.nv_entry.specs.Held.{Retention, is_current, is_held, is_named, keeps}
 use Rattle.nv_entry.specs.Index.{bound_name, last_cover, names_of, page_source, source_of}
 use Rattle.nv_entry.specs.Keys.{Key, NameKey, PageKey, covers, key_of, name_of, parts_of, sets, touches}
 use Rattle.nv_entry.specs.Laws.{is_present}
-use Rattle.nv_entry.specs.Log.{pair_of, pairs_of}
+use Rattle.nv_entry.specs.Log.{pair_of, pairs_of, value_now, value_of}
 use Rattle.nv_entry.specs.Leaving.{MayAllLeave, MayLeave, KeepsTheRest}
 use Rattle.nv_entry.specs.Refs.{place_in, ref_after, scan_ref}
 use Rattle.nv_entry.proofs.Binders.{any_cover-name, binds_or_not, names_of-cons, nil_either}
@@ -26,6 +26,7 @@ use Rattle.nv_entry.proofs.Currents.{any_map, current-uncovered}
 use Rattle.nv_entry.proofs.Hiding.{hides_nothing_before}
 use Rattle.nv_entry.proofs.PartsSet.{parts_are_set}
 use Rattle.nv_entry.proofs.Placed.{part_of}
+use Rattle.nv_entry.proofs.Refs.{value_now-last}
 use Rattle.nv_entry.proofs.Values.{last_cover-append}
 
 pub any_cover-append : (block : ℕ) (xs ys : List Entry) (key : Key)
@@ -78,6 +79,13 @@ last_stays block f before e later key gone h =
           let n : any_cover block later key ≡ false = any_cover-last block later key ∙ ap (λ (o : Option Entry). is_some o) p in
           let s = spare block before e later key h q n in
           rw (no_last block before key s.1) (sym (gone s.0))
+
+value_step : (block : ℕ) (before : List Entry) (e : Entry) (later : List Entry) (key : Key) → MayLeave block before e later
+    → value_now block (before ++ later) key ≡ value_now block (before ++ e ∷ later) key
+value_step block before e later key h =
+    value_now-last block (before ++ later) key
+    ∙ last_stays block (λ x. value_of (sets block x.item key)) before e later key (λ q. rw q refl) h
+    ∙ sym (value_now-last block (before ++ e ∷ later) key)
 
 scan_step : (block : ℕ) (before : List Entry) (e : Entry) (later : List Entry) (key : Key) → MayLeave block before e later
     → scan_ref block (before ++ later) key ≡ scan_ref block (before ++ e ∷ later) key
@@ -177,13 +185,14 @@ covered_walk block before (e ∷ later) (false ∷ flags) r =
     (ih.0 ∙ covered_along block [] before before e later refl r.0, ih.1)
 
 record SaysSame (block : ℕ) (old new : List Entry) : Type 0 where
+  values : (key : Key) → value_now block new key ≡ value_now block old key
   index : (key : Key) → scan_ref block new key ≡ scan_ref block old key
   sources : (page : ℕ) → page_source block new page ≡ page_source block old page
   names : names_of new ≡ names_of old
 
 walk : (block : ℕ) (before rest : List Entry) (flags : List Bool) → MayAllLeave block before rest flags
     → SaysSame block (before ++ rest) (before ++ select flags rest)
-walk block before [] [] r = record { index = λ key. refl; sources = λ page. refl; names = refl }
+walk block before [] [] r = record { values = λ key. refl; index = λ key. refl; sources = λ page. refl; names = refl }
 walk block before [] (b ∷ flags) r = absurd r
 walk block before (e ∷ later) [] r = absurd r
 walk block before (e ∷ later) (true ∷ flags) r =
@@ -192,6 +201,7 @@ walk block before (e ∷ later) (true ∷ flags) r =
 walk block before (e ∷ later) (false ∷ flags) r =
     let ih = walk block before later flags r.1 in
     record {
+      values = λ key. ih.values key ∙ value_step block before e later key r.0;
       index = λ key. ih.index key ∙ scan_step block before e later key r.0;
       sources = λ page. ih.sources page ∙ source_step block before e later page r.0;
       names = ih.names ∙ names_along block [] before before e later refl r.0;
@@ -200,7 +210,13 @@ walk block before (e ∷ later) (false ∷ flags) r =
 pub keeps_the_rest : (block : ℕ) (log : List Entry) (flags : List Bool) → MayAllLeave block [] log flags → KeepsTheRest block log flags
 keeps_the_rest block log flags r =
     let same = walk block [] log flags r in
-    record { index = same.index; sources = same.sources; names = same.names; covered = (covered_walk block [] log flags r).1 }
+    record {
+      values = same.values;
+      index = same.index;
+      sources = same.sources;
+      names = same.names;
+      covered = (covered_walk block [] log flags r).1;
+    }
 
 -- ---- which entries may leave
 

@@ -24,3 +24,4 @@ pub mod Steps
 pub mod StoredItems
 pub mod Values
 pub mod Walks
+pub mod WrittenRuns

@@ -1,6 +1,7 @@
 -- A name's value is what the names from scratch bind it to, each once.
 use Rattle.std.proofs.Common.{◌≡◌, ℕ, Bool, true, false, cond, List, [], ◌∷◌, ◌++◌, Option, Some, None, refl, ap, ◌∙◌}
 use Rattle.std.specs.Prelude.{is_some, option_map}
+use Rattle.std.proofs.lemmas.Bool.{false_from_ne_true}
 use Rattle.nv_base.specs.Names.{same_name}
 use Rattle.nv_base.specs.declared.numbers.Handle.{Handle}
 use Rattle.nv_entry.specs.declared.item.Entry.{Entry}
@@ -15,12 +16,12 @@ use Rattle.nv_entry.specs.Bindings.{NamesDiffer}
 use Rattle.nv_entry.specs.Index.{bound_name, bound_to, names_of}
 use Rattle.nv_entry.specs.Keys.{Key, NameKey, name_of, sets, touches}
 use Rattle.nv_entry.specs.Log.{first_cover, last_setting, later_of, value_now, value_of}
-use Rattle.nv_entry.proofs.Hiding.{not_true, same_name-equal, same_name-self}
+use Rattle.nv_entry.proofs.Hiding.{same_name-equal, same_name-self}
 use Rattle.nv_entry.proofs.Values.{later_of-untouched}
 
 same_name-sym : (a b : List ℕ) (t : Bool) → same_name a b ≡ t → same_name b a ≡ t
 same_name-sym a b true h = let e : a ≡ b = same_name-equal a b h in rw e (same_name-self b)
-same_name-sym a b false h = not_true (same_name b a) (λ t. let e : b ≡ a = same_name-equal b a t in let s : same_name a b ≡ true = rw e
+same_name-sym a b false h = false_from_ne_true (same_name b a) (λ t. let e : b ≡ a = same_name-equal b a t in let s : same_name a b ≡ true = rw e
     (same_name-self a) in cc)
 
 -- a key is set where it is covered

@@ -1,14 +1,15 @@
 -- The pages of a node.
-use Rattle.std.proofs.Common.{add-one, add-zero, zero-add, zero, suc, ◌≡◌, ℕ, ◌+◌, ◌≤◌, ◌&&◌, Bool, true, false, cond, nat_lt, nat_le, List, [], ◌∷◌, ◌++◌, None, arith, refl, ap, sym, ◌∙◌}
+use Rattle.std.proofs.Common.{add-one, add-zero, zero-add, zero, suc, ◌≡◌, ℕ, ◌+◌, ◌<◌, ◌≤◌, ◌&&◌, Bool, true, false, cond, nat_lt, nat_le, List, [], ◌∷◌, ◌++◌, None, arith, refl, ap, sym, ◌∙◌}
 use Rattle.std.specs.List.{flat_map, range_with_len}
-use Rattle.std.proofs.lemmas.Bool.{le-ltb, and_right}
+use Rattle.std.proofs.lemmas.Bool.{le-ltb, ltb-true, and_right}
 use Rattle.std.proofs.lemmas.Grind.{flat_map-append}
 use Rattle.std.proofs.lemmas.List.{append-nil}
 use Rattle.nv_entry.specs.declared.item.Entry.{Entry}
 use Rattle.nv_entry.specs.declared.item.Item.{Item}
 use Rattle.nv_entry.specs.declared.item.Item.TheVariants.{Init, Write, SetSize, SetMode, Bind, Unbind, Gone}
-use Rattle.nv_entry.specs.declared.key.Setting.TheVariants.{Untouched, Absent}
-use Rattle.nv_entry.specs.Keys.{PageKey, is_page, in_run, is_past, pages_for, sets}
+use Rattle.nv_entry.specs.declared.key.Datum.{Datum}
+use Rattle.nv_entry.specs.declared.key.Setting.TheVariants.{Untouched, Absent, Present}
+use Rattle.nv_entry.specs.Keys.{IsFileKey, Key, KindKey, ModeKey, NameKey, PageKey, SizeKey, is_page, in_run, is_past, pages_for, sets}
 use Rattle.nv_entry.specs.Log.{last_setting}
 use Rattle.nv_entry.specs.Node.{block_now, page_bytes, pages_bytes}
 
@@ -25,6 +26,17 @@ untouched_past block page (Init kind mode) h = refl
 untouched_past block page (SetMode mode) h = refl
 untouched_past block page (Bind name to) h = refl
 untouched_past block page (Unbind name) h = refl
+
+-- an item sets no other pages to a value
+pub present_in_file : (block : ℕ) (item : Item) (key : Key) (value : Datum) → sets block item key ≡ Present value → IsFileKey key
+present_in_file block item KindKey value h = tt
+present_in_file block item ModeKey value h = tt
+present_in_file block item SizeKey value h = tt
+present_in_file block item (NameKey name) value h = tt
+present_in_file block item (PageKey page) value h = go (is_page page) refl where
+  go : (b : Bool) → is_page page ≡ b → page < 65536
+  go true q = ltb-true page 65536 q
+  go false q = let none = untouched_past block page item q in cc
 
 last_setting-past : (block page : ℕ) (log : List Entry) → is_page page ≡ false → last_setting block log (PageKey page) ≡ Untouched
 last_setting-past block page [] h = refl

@@ -9,11 +9,12 @@ use Rattle.std.proofs.lemmas.Grind.{div_ceil_times}
 use Rattle.std.proofs.lemmas.Nat.{le-div, div_below}
 use Rattle.std.proofs.lemmas.List.{length-append, length-take, length-drop, length-replicate, get_or-take, get_or-drop, get_or_past, get_or_append_left, get_or-append_right}
 use Rattle.std.proofs.lemmas.List.FromFn.{take-map-range_with_len, fill_by_all}
+use Rattle.nv_base.specs.declared.node.Kind.TheVariants.{File}
 use Rattle.nv_entry.specs.declared.item.Run.{Run}
 use Rattle.nv_entry.specs.declared.item.Item.TheVariants.{Write}
 use Rattle.nv_entry.specs.declared.node.NodeCopy.{NodeCopy}
 use Rattle.nv_entry.specs.Bytes.{written, page_of, pages_touched}
-use Rattle.nv_entry.specs.Keys.{in_run}
+use Rattle.nv_entry.specs.Keys.{in_run, pages_for}
 use Rattle.nv_entry.specs.Sound.{HasText, Makes, rewritten}
 use Rattle.nv_entry.proofs.Hiding.{run_from, run_parts}
 
@@ -134,6 +135,23 @@ joined_pages block bytes some =
     ∙ take-map-range_with_len byte 0 (count * block) (length bytes) (div_ceil_times (length bytes) block some).0
     ∙ sym (fill_by_all byte bytes (length bytes) 0 refl (λ k lt. refl))
 
+-- ---- how many pages a size has
+
+-- no more than those within which it fits
+pub pages_for-most : (block size most : ℕ) → 0 < block → size ≤ most * block → pages_for block size ≤ most
+pages_for-most block size most some fits = go (cases_lt most (pages_for block size)) where
+  go : (most < pages_for block size) ⊎ (pages_for block size ≤ most) → pages_for block size ≤ most
+  go (inr le) = le
+  go (inl lt) =
+      let whole : (most + 1) * block ≤ pages_for block size * block = mul-le-mul_right block (omega arith) in
+      let less : pages_for block size * block < size + block = (div_ceil_times size block some).1 in
+      omega arith
+
+pub pages_for-rises : (block a b : ℕ) → 0 < block → a ≤ b → pages_for block a ≤ pages_for block b
+pages_for-rises block a b some le =
+    let whole : b ≤ pages_for block b * block = (div_ceil_times b block some).0 in
+    pages_for-most block a (pages_for block b) some (omega arith)
+
 -- ---- the pages that a text touches
 
 -- they end within a bound of pages within which the text ends
@@ -145,6 +163,13 @@ touched_end block offset count most some any fits =
     let rises : offset / block ≤ (offset + count - 1) / block = le-div (offset / block) (offset + count - 1) block some
     (omega (arith, div-mul-le_self offset block)) in
     (first, omega arith)
+
+-- at least one
+pub touches_some : (block offset count : ℕ) → 0 < block → 0 < count → 0 < pages_touched block offset count
+touches_some block offset count some any =
+    let rises : offset / block ≤ (offset + count - 1) / block = le-div (offset / block) (offset + count - 1) block some
+    (omega (arith, div-mul-le_self offset block)) in
+    omega arith
 
 -- a page before them ends by the offset, and one behind them begins where the text has ended
 touches_not : (block offset count page : ℕ) → 0 < block → 0 < count
@@ -166,6 +191,21 @@ page_of-apart block page offset text bytes (inl before) = page_of-same block pag
     (λ k le lt. written-before offset text bytes k (omega arith))
 page_of-apart block page offset text bytes (inr behind) = page_of-same block page (written offset text bytes) bytes
     (λ k le lt. written-behind offset text bytes k (omega arith))
+
+-- the pages that a text touches lie below the size after the write
+pub touched_within : (block offset : ℕ) (text old : List ℕ) → 0 < block → 0 < length text
+    → offset / block + pages_touched block offset (length text) ≤ pages_for block (length (written offset text old))
+touched_within block offset text old some any =
+    let size : ℕ = length (written offset text old) in
+    let whole : size ≤ pages_for block size * block = (div_ceil_times size block some).0 in
+    (touched_end block offset (length text) (pages_for block size) some any (omega (arith, length-written offset text old))).1
+
+-- a page that the text does not touch stays
+pub page_of-untouched : (block offset page : ℕ) (text old : List ℕ) → 0 < block → 0 < length text
+    → (page < offset / block) ⊎ (offset / block + pages_touched block offset (length text) ≤ page)
+    → page_of block page (written offset text old) ≡ page_of block page old
+page_of-untouched block offset page text old some any apart =
+    page_of-apart block page offset text old (touches_not block offset (length text) page some any apart)
 
 -- each page after a write is the one that the run has, or was there before
 written_page : (bytes : ℕ → List ℕ) (block offset : ℕ) (text old : List ℕ) (run : Run) (page : ℕ) → 0 < block → 0 < length text
@@ -190,18 +230,23 @@ written_page bytes block offset text old run page some any fits has = go (in_run
       let place : offset / block + (page - offset / block) ≡ page = omega (arith, p) in
       sym (has.filled (page - offset / block) (omega (arith, p)) ∙ ap (λ (n : ℕ). page_of block n (written offset text old)) place)
   go false q =
-      page_of-apart block page offset text old
-      (touches_not block offset (length text) page some any (apart q (cases_lt page (offset / block))
-      (cases_lt page (offset / block + run.len))))
+      page_of-untouched block offset page text old some any (apart q (cases_lt page (offset / block))
+      (cases_lt page (offset / block + run.len)))
 
+-- the item of a write with one run is lawful
 pub written_makes : (bytes : ℕ → List ℕ) (block offset : ℕ) (text : List ℕ) (run : Run) (node : NodeCopy) → 0 < block → 0 < length text
-    → offset + length text ≤ 65536 * block → length node.bytes ≤ 65536 * block
+    → offset + length text ≤ 65536 * block → node.kind ≡ File → length node.bytes ≡ node.size → node.size ≤ 65536 * block
     → HasText bytes block offset text node.bytes run
     → Makes bytes block (Write (offset / block) run (length (written offset text node.bytes))) (Some node)
     (Some (rewritten offset text node))
-written_makes bytes block offset text run node some any fits old has = record {
-  same = refl;
-  length = refl;
-  fits = omega (arith, length-written offset text node.bytes);
-  pages = λ page. written_page bytes block offset text node.bytes run page some any fits has;
-}
+written_makes bytes block offset text run node some any fits file long old has = (
+  omega (arith, has.count, touched_within block offset text node.bytes some any),
+  pages_for-rises block node.size (length (written offset text node.bytes)) some (omega (arith, length-written offset text node.bytes)),
+  record {
+    file = file;
+    same = refl;
+    length = refl;
+    fits = omega (arith, length-written offset text node.bytes);
+    pages = λ page. written_page bytes block offset text node.bytes run page some any fits has;
+  },
+)

@@ -1,21 +1,16 @@
 -- The places of an item's parts.
-use Rattle.std.proofs.Common.{◌≡◌, ℕ, zero, suc, ◌+◌, ◌-◌, ◌<◌, ◌≤◌, Bool, true, false, cond, List, ◌∷◌, length, map, Option, Some, None, arith, refl, ap, sym, ◌∙◌}
+use Rattle.std.proofs.Common.{◌≡◌, ℕ, zero, suc, ◌+◌, ◌-◌, ◌<◌, true, ◌∷◌, length, map, Some, arith, refl, ap, sym, ◌∙◌}
 use Rattle.std.specs.Prelude.{slice_get}
 use Rattle.std.specs.Option.{option_map}
 use Rattle.std.proofs.lemmas.Option.{same_Some, slice_get_within}
-use Rattle.nv_base.specs.Names.{same_name}
 use Rattle.nv_entry.specs.declared.item.Item.{Item}
 use Rattle.nv_entry.specs.declared.item.Item.TheVariants.{Init, Write, SetSize, SetMode, Bind, Unbind, Gone}
 use Rattle.nv_entry.specs.declared.item.Run.{Run}
-use Rattle.nv_entry.specs.declared.key.Datum.{Datum}
-use Rattle.nv_entry.specs.declared.key.Datum.TheVariants as datum
-use Rattle.nv_entry.specs.declared.key.Setting.TheVariants.{Untouched, Absent, Present}
 use Rattle.nv_entry.specs.declared.part.Part.{Part}
 use Rattle.nv_entry.specs.declared.part.Part.TheVariants as part
-use Rattle.nv_entry.specs.Keys.{Key, KindKey, ModeKey, SizeKey, NameKey, PageKey, in_run, is_page, is_past, key_of, parts_of, run_pages, sets}
+use Rattle.nv_entry.specs.Keys.{Key, key_of, parts_of, run_pages, sets}
 use Rattle.nv_entry.specs.Laws.{is_present}
 use Rattle.nv_entry.specs.Refs.{IsPlaced, place_in}
-use Rattle.nv_entry.proofs.Hiding.{run_parts, same_name-equal}
 use Rattle.nv_entry.proofs.PartLists.{length-written, page_at}
 use Rattle.nv_entry.proofs.PartsSet.{sets_are_parts}
 
@@ -66,19 +61,3 @@ at_place block item key h = let p = part_of block item key h in ap (option_map (
 
 pub placed : (block : ℕ) (item : Item) → IsPlaced block item
 placed block item = record { at = at_place block item; place = key_place item }
-
-few_parts : (item : Item) → length (parts_of item) ≤ 65537
-few_parts (Init kind mode) = omega arith
-few_parts (Write first run size) = omega (arith, length-written first run)
-few_parts (SetSize size) = omega arith
-few_parts (SetMode mode) = omega arith
-few_parts (Bind name to) = omega arith
-few_parts (Unbind name) = omega arith
-few_parts Gone = omega arith
-
-pub place_small : (block : ℕ) (item : Item) (key : Key) (value : Datum) → sets block item key ≡ Present value → place_in item key < 65537
-place_small block item key value h =
-    let set : is_present (sets block item key) ≡ true = ap is_present h in
-    let p = part_of block item key set in
-    let lt : place_in item key < length (parts_of item) = slice_get_within (parts_of item) (place_in item key) p.part p.at in
-    omega (arith, lt, few_parts item)

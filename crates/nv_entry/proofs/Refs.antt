@@ -1,5 +1,5 @@
 -- The part that holds a key.
-use Rattle.std.proofs.Common.{◌≡◌, ℕ, ◌+◌, ◌<◌, inl, inr, Bool, true, false, cond, List, [], ◌∷◌, ◌++◌, length, take, get_or, Option, Some, None, arith, refl, ap, sym, ◌∙◌, subst, ◌↔◌}
+use Rattle.std.proofs.Common.{◌≡◌, ℕ, ◌+◌, ◌<◌, Bool, true, false, cond, List, [], ◌∷◌, ◌++◌, length, take, get_or, Option, Some, None, arith, refl, ap, sym, ◌∙◌, subst, ◌↔◌}
 use Rattle.std.specs.Prelude.{option_and_then, slice_get}
 use Rattle.std.specs.List.{AllByRecursion}
 use Rattle.std.specs.Option.{option_or, is_some}
@@ -164,7 +164,7 @@ through_ref f block log key is absent = go (last_cover block log key) refl where
   go None q = refl
   go (Some e) q = by_setting e (is_last block log key e q) (sets block e.item key) refl
 
-value_now-last : (block : ℕ) (log : List Entry) (key : Key)
+pub value_now-last : (block : ℕ) (log : List Entry) (key : Key)
     → value_now block log key ≡ option_and_then (λ e. value_of (sets block e.item key)) (last_cover block log key)
 value_now-last block log key = ap value_of (last_setting-last block log key) ∙ go (last_cover block log key) where
   go : (o : Option Entry) → value_of (setting_by block key o) ≡ option_and_then (λ e. value_of (sets block e.item key)) o

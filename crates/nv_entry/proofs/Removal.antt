@@ -2,7 +2,7 @@
 use Rattle.std.proofs.Common.{◌≡◌, ℕ, ◌<◌, ◌≤◌, Bool, true, false, not, ◌&&◌, nat_le, List, [], ◌∷◌, ◌++◌, length, Option, Some, arith, refl, ap, sym, ◌∙◌, subst}
 use Rattle.std.specs.List.{list_any}
 use Rattle.std.specs.Option.{is_some}
-use Rattle.std.proofs.lemmas.Bool.{leb-false, and_parts, not-true}
+use Rattle.std.proofs.lemmas.Bool.{leb-false, and_parts, not-true, or_parts}
 use Rattle.std.proofs.lemmas.List.Elements.{filter-append}
 use Rattle.nv_entry.specs.declared.item.Entry.{Entry}
 use Rattle.nv_entry.specs.Clean.{IsDroppable, is_droppable, is_empty, hides}
@@ -12,7 +12,7 @@ use Rattle.nv_entry.specs.Keys.{Key, covers}
 use Rattle.nv_entry.specs.Laws.{ReadsSame, ReadsSameAt}
 use Rattle.nv_entry.specs.Log.{first_cover, pairs_of, up_to}
 use Rattle.nv_entry.proofs.Dying.{dies, dies_by}
-use Rattle.nv_entry.proofs.Hiding.{or_false, hides_nothing_before, hides-false_before}
+use Rattle.nv_entry.proofs.Hiding.{hides_nothing_before, hides-false_before}
 use Rattle.nv_entry.proofs.Spared.{Spare, covered, dead_cover, reads_refl, spare_reads}
 
 -- ---- the test
@@ -60,7 +60,7 @@ reads_now r before e later h = spare_reads r.block before e later (spare_now r b
 none_up_to : (test : Entry → Bool) (epoch : ℕ) (log : List Entry) → list_any test log ≡ false → list_any test (up_to epoch log) ≡ false
 none_up_to test epoch [] h = refl
 none_up_to test epoch (e ∷ log) h =
-    let p = or_false (test e) (list_any test log) h in
+    let p = or_parts (test e) (list_any test log) h in
     go (nat_le e.epoch epoch) p.0 (none_up_to test epoch log p.1) refl where
       go : (t : Bool) → test e ≡ false → list_any test (up_to epoch log) ≡ false → nat_le e.epoch epoch ≡ t
           → list_any test (up_to epoch (e ∷ log)) ≡ false

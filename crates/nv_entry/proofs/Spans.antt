@@ -2,7 +2,7 @@
 use Rattle.std.proofs.Common.{◌≡◌, ℕ, ◌≤◌, ◌⊎◌, inl, inr, Bool, true, false, ◌&&◌, ◌||◌, nat_lt, nat_le, List, [], ◌∷◌, ◌++◌, map, filter, Option, Some, None, arith, refl, ap, sym, ◌∙◌, append_assoc}
 use Rattle.std.specs.List.{AllByRecursion, list_any}
 use Rattle.std.specs.Option.{option_or}
-use Rattle.std.proofs.lemmas.Bool.{and_from, ltb-true, ltb-false, le-leb}
+use Rattle.std.proofs.lemmas.Bool.{and_from, ltb-true, ltb-false, le-leb, or_parts}
 use Rattle.std.proofs.lemmas.List.{map-append}
 use Rattle.std.proofs.lemmas.List.Elements.{filter-append}
 use Rattle.std.proofs.lemmas.List.Folds.{list_any-append}
@@ -18,7 +18,7 @@ use Rattle.nv_entry.specs.Keys.{Key, covers, key_of, parts_of, sets, touches}
 use Rattle.nv_entry.specs.Laws.{is_present, pairs_where}
 use Rattle.nv_entry.specs.Log.{MayFollow, first_cover, pair_of, pairs, pairs_of}
 use Rattle.nv_entry.proofs.Dying.{dies, is_held_between}
-use Rattle.nv_entry.proofs.Hiding.{clash, or_false}
+use Rattle.nv_entry.proofs.Hiding.{clash}
 use Rattle.nv_entry.proofs.PartsSet.{parts_are_set}
 use Rattle.nv_entry.proofs.Spared.{covered}
 use Rattle.nv_entry.proofs.Values.{first_cover-append}
@@ -99,8 +99,8 @@ pub record Steady (r : Retention) (test : Pair → Bool) : Type 0 where
 needed_false : (r : Retention) (pair : Pair) → keeps r pair ≡ false
     → (is_current pair ≡ false) × (is_held r.snapshots pair ≡ false) × (is_named r.pending pair ≡ false)
 needed_false r pair h =
-    let p = or_false (is_needed r.snapshots pair) (is_named r.pending pair) h in
-    let q = or_false (is_current pair) (is_held r.snapshots pair) p.0 in
+    let p = or_parts (is_needed r.snapshots pair) (is_named r.pending pair) h in
+    let q = or_parts (is_current pair) (is_held r.snapshots pair) p.0 in
     (q.0, q.1, p.1)
 
 pub steady_current : (r : Retention) → Steady r is_current
@@ -147,12 +147,12 @@ all_living : (r : Retention) (snapshots : List ℕ) → ((pair : Pair) → is_he
 all_living r [] f g = tt
 all_living r (s ∷ snapshots) f g = (
   record {
-    fails = λ pair h. (or_false (holds s pair) (is_held snapshots pair) (f pair h)).0;
-    out = λ from to h. (or_false (nat_le from s && nat_lt s to) (is_held_between snapshots from to) (g from to h)).0;
+    fails = λ pair h. (or_parts (holds s pair) (is_held snapshots pair) (f pair h)).0;
+    out = λ from to h. (or_parts (nat_le from s && nat_lt s to) (is_held_between snapshots from to) (g from to h)).0;
   },
   all_living r snapshots
-      (λ pair h. (or_false (holds s pair) (is_held snapshots pair) (f pair h)).1)
-      (λ from to h. (or_false (nat_le from s && nat_lt s to) (is_held_between snapshots from to) (g from to h)).1),
+      (λ pair h. (or_parts (holds s pair) (is_held snapshots pair) (f pair h)).1)
+      (λ from to h. (or_parts (nat_le from s && nat_lt s to) (is_held_between snapshots from to) (g from to h)).1),
 )
 
 pub living : (r : Retention) → AllByRecursion (Living r) r.snapshots
@@ -163,11 +163,11 @@ living r = all_living r r.snapshots (λ pair h. h) (λ from to h. h)
 none_pass : (r : Retention) (test : Pair → Bool) → Steady r test → (xs : List Pair) → list_any (keeps r) xs ≡ false → filter test xs ≡ []
 none_pass r test steady [] h = refl
 none_pass r test steady (x ∷ xs) h =
-    let p = or_false (keeps r x) (list_any (keeps r) xs) h in
+    let p = or_parts (keeps r x) (list_any (keeps r) xs) h in
     rw (steady.fails x p.0) (none_pass r test steady xs p.1)
 
 -- the pairs of an entry, where those behind it change and the test does not see it
-same_pairs : (test : Pair → Bool) (block : ℕ) (x : Entry) (olds news : List Entry) (parts : List Part)
+pub same_pairs : (test : Pair → Bool) (block : ℕ) (x : Entry) (olds news : List Entry) (parts : List Part)
     → AllByRecursion (λ p. test (pair_of block x news p) ≡ test (pair_of block x olds p)) parts
     → map pair_name (filter test (map (pair_of block x news) parts)) ≡ map pair_name (filter test (map (pair_of block x olds) parts))
 same_pairs test block x olds news [] h = refl
@@ -198,7 +198,7 @@ parts_stay r test steady front x mid e later h follow (p ∷ parts) set = (
   parts_stay r test steady front x mid e later h follow parts set.1,
 )
 
-where-cons : (test : Pair → Bool) (block : ℕ) (x : Entry) (log : List Entry)
+pub where-cons : (test : Pair → Bool) (block : ℕ) (x : Entry) (log : List Entry)
     → pairs_where test block (x ∷ log) ≡ map pair_name (filter test (pairs_of block x log)) ++ pairs_where test block log
 where-cons test block x log =
     ap (map pair_name) (filter-append test (pairs_of block x log) (pairs block log))

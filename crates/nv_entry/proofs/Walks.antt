@@ -1,7 +1,7 @@
 -- What the walks of the cleaners leave.
 use Rattle.std.proofs.Common.{◌≡◌, ℕ, ◌<◌, ◌≤◌, Bool, true, false, not, ◌||◌, List, [], ◌∷◌, ◌++◌, length, Some, arith, refl, ap, ◌∙◌, subst, append_assoc}
 use Rattle.std.specs.List.{AllByRecursion, list_any}
-use Rattle.std.proofs.lemmas.Bool.{and_parts, and_from}
+use Rattle.std.proofs.lemmas.Bool.{and_parts, and_from, or_from, or_parts}
 use Rattle.nv_entry.specs.declared.held.Pair.{Pair}
 use Rattle.nv_entry.specs.declared.item.Entry.{Entry}
 use Rattle.nv_entry.specs.Clean.{IsDroppable, all_go, entries_of, entries_stay, is_droppable, is_empty, kept_of, page_goes, pages_left, pages_stay, select}
@@ -10,7 +10,7 @@ use Rattle.nv_entry.specs.Keys.{Key, covers}
 use Rattle.nv_entry.specs.Laws.{AllDroppable, GoIfDroppable, GoIfPageDroppable, IsFast, IsPageDroppable, IsThorough, KeepsReads, NoneDroppable, ReadsSame, ReadsSameAt, SpansAreKept, pairs_where}
 use Rattle.nv_entry.specs.Log.{IsLog, MayFollow, first_cover, pairs, pairs_of, up_to}
 use Rattle.nv_entry.proofs.Dying.{unkept_earlier}
-use Rattle.nv_entry.proofs.Hiding.{clash, either_false, or_false}
+use Rattle.nv_entry.proofs.Hiding.{clash}
 use Rattle.nv_entry.proofs.Spared.{reads_chain, reads_refl}
 use Rattle.nv_entry.proofs.Removal.{droppable, droppable_test, empty-length, length-empty, reads_at, reads_now}
 use Rattle.nv_entry.proofs.Spans.{Living, Steady, epochs_of, living, pairs_stay, steady_current, steady_held, steady_pending}
@@ -96,10 +96,10 @@ unspanned : (r : Retention) (epoch : ℕ) (xs : List Pair) → AllByRecursion (�
     → list_any (keeps r) xs ≡ false → list_any (holds epoch) xs ≡ false
 unspanned r epoch [] all h = refl
 unspanned r epoch (x ∷ xs) all h =
-    let p = or_false (keeps r x) (list_any (keeps r) xs) h in
-    either_false (holds epoch x) (list_any (holds epoch) xs) (go (holds epoch x) refl) (unspanned r epoch xs all.1 p.1) where
+    let p = or_parts (keeps r x) (list_any (keeps r) xs) h in
+    or_from (holds epoch x) (list_any (holds epoch) xs) (go (holds epoch x) refl) (unspanned r epoch xs all.1 p.1) where
       go : (b : Bool) → holds epoch x ≡ b → holds epoch x ≡ false
-      go true q = clash (keeps r x) (all.0 q) (or_false (keeps r x) (list_any (keeps r) xs) h).0
+      go true q = clash (keeps r x) (all.0 q) (or_parts (keeps r x) (list_any (keeps r) xs) h).0
       go false q = q
 
 lasts_at : (r : Retention) (epoch : ℕ) → Lasts r (ReadsSameAt r.block epoch) (SpansKept r epoch)

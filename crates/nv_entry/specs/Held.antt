@@ -8,8 +8,8 @@ use Rattle.nv_entry.specs.declared.part.PartId.{PartId}
 use Rattle.nv_entry.specs.declared.held.Pair.{Pair}
 use Rattle.nv_entry.specs.declared.retention.Retention.{Retention as CodeRetention}
 
--- what keeps pairs that are no longer current: the living snapshots, and the pending pairs by name; with the
--- size of blocks in bytes
+-- what keeps pairs that are no longer current: the living snapshots, and the pending pairs by name, among which
+-- stand those that are killed and not yet retired where counts are asked; with the size of blocks in bytes
 pub record Retention : Type 0 where
   pub block : ℕ
   pub snapshots : List ℕ

@@ -1,5 +1,5 @@
 -- The keys of an inode, and what an item of its log does to each.
-use Rattle.std.specs.Prelude.{ℕ, ◌+◌, ◌-◌, ◌&&◌, Bool, true, false, if◌then◌else◌, nat_lt, nat_le, min, List, [], ◌∷◌, map}
+use Rattle.std.specs.Prelude.{ℕ, ◌+◌, ◌-◌, ◌<◌, ◌&&◌, Bool, true, false, if◌then◌else◌, nat_lt, nat_le, min, List, [], ◌∷◌, map}
 use Rattle.std.specs.Int.{div_ceil}
 use Rattle.std.specs.List.{range_with_len}
 use Rattle.nv_base.specs.Names.{same_name}
@@ -42,6 +42,11 @@ is_page_key (PageKey page) = true
 -- a file has pages below 65,536 alone
 abbrev pub is_page : ℕ → Bool
 is_page page = nat_lt page FILE_PAGES
+
+-- a page that a file can have, or a key that is no page
+abbrev pub IsFileKey : Key → Type 0
+IsFileKey (PageKey page) = page < FILE_PAGES
+IsFileKey key = Unit {0}
 
 -- how many pages hold that many bytes, with blocks of `block` bytes
 abbrev pub pages_for : ℕ → ℕ → ℕ

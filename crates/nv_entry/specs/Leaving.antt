@@ -7,6 +7,7 @@ use Rattle.nv_entry.specs.Covered.{any_cover, covered_parts}
 use Rattle.nv_entry.specs.Index.{names_of, page_source}
 use Rattle.nv_entry.specs.Keys.{Key, sets}
 use Rattle.nv_entry.specs.Laws.{is_present}
+use Rattle.nv_entry.specs.Log.{value_now}
 use Rattle.nv_entry.specs.Refs.{scan_ref}
 
 -- an entry may leave its log: each key that it sets to a value is covered later, and no earlier entry that is
@@ -23,9 +24,10 @@ MayAllLeave block before (e ∷ later) [] = ⊥
 MayAllLeave block before (e ∷ later) (true ∷ flags) = MayAllLeave block (before ++ e ∷ []) later flags
 MayAllLeave block before (e ∷ later) (false ∷ flags) = MayLeave block before e later × MayAllLeave block before later flags
 
--- what stays of a log has its index, its page sources and its names in their order, and each part that stays
--- is covered if it was
+-- what stays of a log has its values, its index, its page sources and its names in their order, and each part that
+-- stays is covered exactly if it was
 pub record KeepsTheRest (block : ℕ) (log : List Entry) (flags : List Bool) : Type 0 where
+  pub values : (key : Key) → value_now block (select flags log) key ≡ value_now block log key
   pub index : (key : Key) → scan_ref block (select flags log) key ≡ scan_ref block log key
   pub sources : (page : ℕ) → page_source block (select flags log) page ≡ page_source block log page
   pub names : names_of (select flags log) ≡ names_of log

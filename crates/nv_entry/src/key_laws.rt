@@ -18,7 +18,7 @@ ghost use Rattle.nv_entry.specs.declared.item.Item.{Item};
 ghost use Rattle.nv_entry.specs.declared.part.PartId.{PartId};
 ghost use Rattle.nv_entry.specs.declared.part_ref.PartRef.{PartRef};
 
-/// Entries of later epochs behind a log change nothing that it says of an epoch.
+/// Entries of later epochs behind a log change nothing that it says of an epoch, and the epoch holds the same pairs.
 pub fn later_epochs_change_nothing()
     ensures { (bytes : ℕ → List ℕ) (block epoch : ℕ) (log later : List Entry) → AreAfter epoch later
         → SameAtEpoch bytes block epoch log (log ++ later) }
@@ -92,8 +92,8 @@ pub fn naming_the_killed_keeps_valid()
         → valid_of (with_pending r names) count (log ++ e ∷ []) ≡ valid_of r count log }
 {}
 
-/// Where each entry that goes may leave, what stays of a log has its index, its page sources and its names in
-/// their order, and the parts that stay are covered as they were.
+/// Where each entry that goes may leave, what stays of a log has its values, its index, its page sources and its
+/// names in their order, and the parts that stay are covered as they were.
 pub fn leaving_keeps_the_rest()
     ensures { (block : ℕ) (log : List Entry) (flags : List Bool) → MayAllLeave block [] log flags
         → KeepsTheRest block log flags }

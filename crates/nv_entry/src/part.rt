@@ -1,7 +1,8 @@
 //! The parts of an entry: the keys that it sets to a value.
 
-ghost use Rattle.std.specs.Prelude.{◌≡◌, ◌<◌, IsSome, drop, length, slice_get};
+ghost use Rattle.std.specs.Prelude.{◌≡◌, ◌≤◌, IsSome, drop, length, slice_get};
 ghost use Rattle.std.specs.Iterator.{YieldsFirst, item_count};
+ghost use Rattle.nv_base.specs.declared.limits.TheConstants.{FILE_PAGES};
 ghost use Rattle.nv_entry.specs.Keys.{key_named, key_of, name_of, parts_of};
 ghost use Rattle.nv_entry.specs.Parts.{parts_left};
 
@@ -80,7 +81,7 @@ impl Item {
     /// The part at a place among those of an entry with the item, from 0.
     pub fn part_at(&self, place: u32) -> Option<Part>
         ensures value { result ≡ slice_get (parts_of self.now) place }
-        ensures bound { IsSome result → place < 65537 }
+        ensures bound { IsSome result → place ≤ FILE_PAGES }
     {
         if place >= self.part_count() {
             return None;

@@ -1,13 +1,14 @@
 //! Which part of which entry holds a key, from scratch.
 
 ghost use Rattle.std.specs.Prelude.{◌≡◌, ◌<◌};
-ghost use Rattle.nv_entry.specs.Keys.{key_named};
+ghost use Rattle.nv_entry.specs.Keys.{IsFileKey, key_named};
 ghost use Rattle.nv_entry.specs.Refs.{place_in, ref_after, scan_ref};
 
 use crate::{Entry, Item, Key, Setting};
 use nv_base::EntryId;
 
-/// A part of an entry of a log, by its place among the entry's parts, from 0.
+/// A part of an entry of a log, by its place among the entry's parts, from 0. The size of a `Write` is its part 0,
+/// so that the first page of its run is part 1.
 #[derive(Clone, Copy, Debug, PartialEq, Eq)]
 pub struct PartRef {
     pub entry: EntryId,
@@ -45,7 +46,7 @@ fn ref_after(block: u64, entry: &Entry, key: Key<'_>, before: Option<PartRef>) -
 impl Item {
     /// The place of a key among the parts of an entry that sets it to a value, from 0.
     pub fn place_of(&self, key: Key<'_>) -> u32
-        requires { place_in self.now (key_named key) < 65537 }
+        requires { IsFileKey (key_named key) }
         ensures { result ≡ place_in self.now (key_named key.entry) }
     {
         match self {

@@ -11,7 +11,8 @@ use crate::{Entry, Item, Retention, is_kept};
 use std::alloc::{AllocError, Global};
 
 /// Which entries of a log thorough cleaning keeps, a flag for each. The walk goes from the head and takes an
-/// entry out where it is droppable, with the earlier removals made. It takes the square of the log's length.
+/// entry out where it is droppable, with the earlier removals made. For each part of the log it costs a pass over
+/// the log, the snapshots and the pending pairs.
 pub fn thorough_keeps(
     alloc: Global,
     retention: &Retention<'_>,
@@ -30,7 +31,7 @@ pub fn thorough_keeps(
 
 /// Which pages of a log fast cleaning keeps, a flag for each, where `counts` says how many entries each page
 /// has. The walk goes from the head and takes a page with entries out where all of them are droppable, with
-/// those before in the page and the earlier pages gone. It takes the square of the log's length.
+/// those before in the page and the earlier pages gone. It costs as much as the thorough walk.
 pub fn fast_keeps(
     alloc: Global,
     retention: &Retention<'_>,

@@ -103,7 +103,8 @@ impl FileIndex {
     /// Makes room for as many calls of `set_run`, two more runs for each. Costs a move of all runs where it
     /// takes memory, and one read where it doesn't.
     ///
-    /// Fails with `OutOfMemory` alone, and only where that room was missing; then nothing has changed.
+    /// Fails with `OutOfMemory` alone, and only where that room was missing and its growth was refused, as any of
+    /// 2^63 bytes or more is; then nothing has changed.
     pub fn reserve_for(&mut self, runs: usize) -> Result<(), Fault>
         ensures pages { self.new.pages ≡ self.old.pages }
         ensures ok { OnOk result (2 * runs ≤ self.new.room) }
@@ -115,16 +116,15 @@ impl FileIndex {
         if runs <= self.room() / 2 {
             return Ok(());
         }
-        let more = runs.checked_mul(2).ok_or(Fault::OutOfMemory)?;
-        self.runs.reserve(more)?;
+        self.runs.reserve(runs.saturating_mul(2))?;
         Ok(())
     }
 
     /// Sets the pages `first` to `first + len - 1` to places 0 to `len - 1` of an entry, whether or not they
     /// were present. It takes no memory, and as much room as the index has more runs after it.
     ///
-    /// Costs two look-ups, and one move of the runs behind where there are more or fewer runs than before: an
-    /// overwrite of just one run moves nothing.
+    /// Costs one look-up, a step for each run that has a page of them, and one move of the runs behind where
+    /// there are more or fewer runs than before: an overwrite of just one run moves nothing.
     #[tactic(auto, using(crate::proofs::Counts::run_count_is))]
     pub fn set_run(&mut self, first: u32, len: u32, entry: EntryId)
         requires some { 0 < len }

@@ -1,8 +1,9 @@
 //! Sorted runs of pages.
 
-ghost use Rattle.std.specs.Prelude.{◌≡◌, ℕ, ◌+◌, ◌-◌, ◌^◌, ◌<◌, ◌≤◌, ◌++◌, length, take, drop, replicate, slice_get, vec_len, vec_capacity, IfSome};
+ghost use Rattle.std.specs.Prelude.{◌≡◌, ℕ, ◌+◌, ◌-◌, ◌^◌, ◌<◌, ◌≤◌, ◌++◌, nat_lt, length, take, drop, replicate, slice_get, vec_len, vec_capacity, IfSome};
+ghost use Rattle.std.specs.List.{position};
 ghost use Rattle.nv_findex.specs.Pages.{IsRun, IsRunFrom, IsNextFrom, CutsFrom, ref_at, present_from};
-ghost use Rattle.nv_findex.specs.Runs.{AreRuns, IsBorder, IsBelow, IsPut, pages_past};
+ghost use Rattle.nv_findex.specs.Runs.{AreRuns, EndBy, IsBorder, IsBelow, IsPut, pages_past};
 
 use crate::{PageRef, PageRun};
 
@@ -12,6 +13,27 @@ fn ended_by(runs: &[PageRun], page: u32) -> usize
     ensures { IsBorder page runs.now result }
 {
     runs.partition_point(|run| run.end <= page)
+}
+
+/// The place of the first run that ends behind a page. Costs a step for each run before it.
+fn first_behind(runs: &[PageRun], page: u32) -> Option<usize>
+    ensures { result ≡ position (λ run. nat_lt page run.end) runs.now }
+{
+    runs.iter().position(|run| page < run.end)
+}
+
+/// How many of the runs end at or before a page, where those before `from` do. Costs a step for each run behind
+/// them that does.
+fn ended_by_past(runs: &[PageRun], from: usize, page: u32) -> usize
+    requires within { from ≤ length runs.now }
+    requires ended { EndBy page (take from runs.now) }
+    ensures { IsBorder page runs.now result }
+{
+    let count = runs.len();
+    match first_behind(&runs[from..], page) {
+        Some(more) => from + more,
+        None => count,
+    }
 }
 
 fn get(runs: &[PageRun], at: usize) -> Option<PageRun>
@@ -161,7 +183,7 @@ pub fn put(runs: &mut Vec<PageRun>, run: PageRun)
 {
     let old = runs.as_slice();
     let at = ended_by(old, run.first);
-    let to = ended_by(old, run.end);
+    let to = ended_by_past(old, at, run.end);
     let next = get(old, to);
     let at = keep_below(runs, at, run.first);
     let Some(next) = next else {

@@ -12,10 +12,10 @@ use Rattle.nv_base.specs.declared.numbers.EntryId.{EntryId}
 use Rattle.nv_alloc.specs.Block.{BlockValue}
 use Rattle.nv_entry.specs.declared.item.Entry.{Entry}
 use Rattle.nv_entry.specs.Log.{MayFollow}
-use Rattle.nv_log.specs.Chain.{AppendsEntry, AreEnds, ChainState, IsChain, UnlinksPages, appended, compacted, end_in, joined, last_entry, last_epoch, last_id, left_of, log, log_pages, open_page, open_of, page_entries, pages_of, room_of, start_in, start_of, with_page, without_entries, without_pages}
+use Rattle.nv_log.specs.Chain.{AppendsEntry, AreEnds, ChainState, IsChain, KeepsPages, appended, compacted, end_in, joined, last_entry, last_epoch, last_id, left_of, log, log_pages, open_page, open_of, page_entries, pages_of, room_of, start_in, start_of, with_page, with_entries_left, with_pages_left}
 use Rattle.nv_log.proofs.Logs.{IsLog-push, IsLog-left_of}
 use Rattle.nv_log.proofs.Parts.{AreEnds-full, AreEnds-joined, AreEnds-push, AreEnds-take, AreSized-parts, div_ceil-le, in_order, len_le, length-ends_from, length-parts, part_any, parts-joined, parts-push, start_past}
-use Rattle.nv_log.proofs.Removals.{all_left, joined-left_of, length-left_of, length-left_of-le, spread, take-joined_left, take-left_of}
+use Rattle.nv_log.proofs.Flags.{all_left, joined-left_of, length-left_of, length-left_of-le, spread, take-joined_left, take-left_of}
 
 -- the next entry goes to the last page with entries while that has a free place, and else to the page after it
 open_either : (page : ℕ) (ends : List ℕ) (len : ℕ)
@@ -241,11 +241,11 @@ room-page chain block is =
     rw (length_push chain.blocks block, step) (omega (arith, held.fits))
 
 -- a chain without the entries of some pages is a chain
-pub IsChain-without_entries : (gone : List Bool) (chain : ChainState) → IsChain chain → IsChain (without_entries gone chain)
-IsChain-without_entries gone chain is =
+pub IsChain-with_entries_left : (stays : List Bool) (chain : ChainState) → IsChain chain → IsChain (with_entries_left stays chain)
+IsChain-with_entries_left stays chain is =
     let len = length chain.entries in
-    let all = joined-left_of chain.page 0 gone chain.ends len chain.entries is.parted (omega arith) in
-    let law = take-joined_left chain.page gone chain.ends chain.tail chain.entries is.parted in
+    let all = joined-left_of chain.page 0 stays chain.ends len chain.entries is.parted (omega arith) in
+    let law = take-joined_left chain.page stays chain.ends chain.tail chain.entries is.parted in
     record {
       least = is.least;
       most = is.most;
@@ -253,34 +253,34 @@ IsChain-without_entries gone chain is =
           omega (
             arith,
             is.paged,
-            length-ends_from 0 (left_of gone (pages_of chain)),
-            length-left_of gone (pages_of chain),
+            length-ends_from 0 (left_of stays (pages_of chain)),
+            length-left_of stays (pages_of chain),
             length-parts 0 chain.ends chain.entries,
           );
-      parted = AreEnds-joined chain.page 0 (left_of gone (pages_of chain)) (length (joined (left_of gone (pages_of chain))))
-          (all_left (λ part. (0 < length part) × (length part ≤ chain.page)) gone (pages_of chain)
+      parted = AreEnds-joined chain.page 0 (left_of stays (pages_of chain)) (length (joined (left_of stays (pages_of chain))))
+          (all_left (λ part. (0 < length part) × (length part ≤ chain.page)) stays (pages_of chain)
           (AreSized-parts chain.page 0 chain.ends len chain.entries is.parted (omega arith))) (omega arith);
-      rising = rw all (IsLog-left_of (spread 0 gone chain.ends) chain.entries is.rising);
+      rising = rw all (IsLog-left_of (spread 0 stays chain.ends) chain.entries is.rising);
       within =
           omega (
             arith,
             ap length law,
-            length-take (length (joined (left_of gone (log_pages chain)))) (joined (left_of gone (pages_of chain))),
+            length-take (length (joined (left_of stays (log_pages chain)))) (joined (left_of stays (pages_of chain))),
           );
     }
 
 -- nor is it another without these pages
-pub IsChain-without_pages : (gone : List Bool) (chain : ChainState) → IsChain chain → IsChain (without_pages gone chain)
-IsChain-without_pages gone chain is =
-    let rest = IsChain-without_entries gone chain is in
+pub IsChain-with_pages_left : (stays : List Bool) (chain : ChainState) → IsChain chain → IsChain (with_pages_left stays chain)
+IsChain-with_pages_left stays chain is =
+    let rest = IsChain-with_entries_left stays chain is in
     record {
       least = is.least;
       most = is.most;
       paged =
           omega (
             arith,
-            length-ends_from 0 (left_of gone (pages_of chain)),
-            length-left_of-le gone (pages_of chain) chain.blocks (omega (arith, is.paged, length-parts 0 chain.ends chain.entries)),
+            length-ends_from 0 (left_of stays (pages_of chain)),
+            length-left_of-le stays (pages_of chain) chain.blocks (omega (arith, is.paged, length-parts 0 chain.ends chain.entries)),
           );
       parted = rest.parted;
       rising = rest.rising;
@@ -288,36 +288,36 @@ IsChain-without_pages gone chain is =
     }
 
 -- each page that is left keeps its entries, and the log keeps what such a page had of it
-pub unlinks_pages : (gone : List Bool) (chain : ChainState) → IsChain chain → UnlinksPages gone chain (without_pages gone chain)
-unlinks_pages gone chain is = record {
-  pages_are = parts-joined 0 (left_of gone (pages_of chain));
-  log_is = take-joined_left chain.page gone chain.ends chain.tail chain.entries is.parted;
+pub keeps_pages : (stays : List Bool) (chain : ChainState) → IsChain chain → KeepsPages stays chain (with_pages_left stays chain)
+keeps_pages stays chain is = record {
+  pages_are = parts-joined 0 (left_of stays (pages_of chain));
+  log_is = take-joined_left chain.page stays chain.ends chain.tail chain.entries is.parted;
 }
 
 -- a chain with what is left of its entries on fresh pages is a chain
-pub IsChain-compacted : (gone : List Bool) (pages : List BlockValue) (chain : ChainState) → IsChain chain
-    → length pages ≡ div_ceil (length (left_of gone chain.entries)) chain.page → IsChain (compacted gone pages chain)
-IsChain-compacted gone pages chain is count =
-    let n = length (left_of gone chain.entries) in
+pub IsChain-compacted : (stays : List Bool) (pages : List BlockValue) (chain : ChainState) → IsChain chain
+    → length pages ≡ div_ceil (length (left_of stays chain.entries)) chain.page → IsChain (compacted stays pages chain)
+IsChain-compacted stays pages chain is count =
+    let n = length (left_of stays chain.entries) in
     let some : 0 < chain.page = omega (arith, is.least) in
-    let law = take-left_of gone chain.tail chain.entries in
+    let law = take-left_of stays chain.tail chain.entries in
     record {
       least = is.least;
       most = is.most;
       paged = omega (arith, count, length-map-range_with_len (λ k. min ((k + 1) * chain.page) n) 0 (div_ceil n chain.page));
       parted = AreEnds-full chain.page n some;
-      rising = IsLog-left_of gone chain.entries is.rising;
-      within = omega (arith, ap length law, length-take (length (left_of gone (log chain))) (left_of gone chain.entries));
+      rising = IsLog-left_of stays chain.entries is.rising;
+      within = omega (arith, ap length law, length-take (length (left_of stays (log chain))) (left_of stays chain.entries));
     }
 
 -- what is left needs no more pages than there were
-pub compacted_few : (gone : List Bool) (chain : ChainState) → IsChain chain
-    → div_ceil (length (left_of gone chain.entries)) chain.page ≤ length chain.blocks
-compacted_few gone chain is =
+pub compacted_few : (stays : List Bool) (chain : ChainState) → IsChain chain
+    → div_ceil (length (left_of stays chain.entries)) chain.page ≤ length chain.blocks
+compacted_few stays chain is =
     let all = len_le chain.page 0 chain.ends (length chain.entries) is.parted in
-    div_ceil-le (length (left_of gone chain.entries)) chain.page (length chain.blocks) (omega (arith, is.least)) (omega (
+    div_ceil-le (length (left_of stays chain.entries)) chain.page (length chain.blocks) (omega (arith, is.least)) (omega (
       arith,
       all,
-      length-left_of gone chain.entries,
+      length-left_of stays chain.entries,
       mul-le-mul_right chain.page is.paged,
     ))

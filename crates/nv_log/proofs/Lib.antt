@@ -1,5 +1,6 @@
-pub mod Logs
 pub mod Finding
 pub mod Parts
+pub mod Flags
+pub mod Logs
 pub mod Removals
 pub mod Chains

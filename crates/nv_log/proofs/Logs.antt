@@ -5,7 +5,7 @@ use Rattle.nv_base.proofs.Ids.{before-trans}
 use Rattle.nv_entry.specs.declared.item.Entry.{Entry}
 use Rattle.nv_entry.specs.Log.{IsLog, MayFollow}
 use Rattle.nv_log.specs.Chain.{left_of}
-use Rattle.nv_log.proofs.Removals.{all_left}
+use Rattle.nv_log.proofs.Flags.{all_left}
 
 -- what holds of each item holds of the one at a place
 all_at : {X : Type 0} (P : X → Type 0) (xs : List X) (k : ℕ) (d : X) → AllByRecursion P xs → k < length xs → P (get_or xs k d)
@@ -48,8 +48,8 @@ pub IsLog-push : (es : List Entry) (e : Entry) → IsLog es → (0 < length es �
 IsLog-push es e is last = push es e is (follows_each es e is last)
 
 -- what is left of a log is one
-pub IsLog-left_of : (gone : List Bool) (es : List Entry) → IsLog es → IsLog (left_of gone es)
-IsLog-left_of gone [] is = tt
-IsLog-left_of [] (e ∷ es) is = is
-IsLog-left_of (true ∷ gone) (e ∷ es) is = IsLog-left_of gone es is.1
-IsLog-left_of (false ∷ gone) (e ∷ es) is = (all_left (MayFollow e) gone es is.0, IsLog-left_of gone es is.1)
+pub IsLog-left_of : (stays : List Bool) (es : List Entry) → IsLog es → IsLog (left_of stays es)
+IsLog-left_of [] es is = is
+IsLog-left_of (b ∷ stays) [] is = tt
+IsLog-left_of (true ∷ stays) (e ∷ es) is = (all_left (MayFollow e) stays es is.0, IsLog-left_of stays es is.1)
+IsLog-left_of (false ∷ stays) (e ∷ es) is = IsLog-left_of stays es is.1

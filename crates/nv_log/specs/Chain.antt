@@ -1,5 +1,5 @@
 -- Chains: the pages of a log, its entries in append order, and how many of them count.
-use Rattle.std.specs.Prelude.{◌≡◌, ℕ, ◌+◌, ◌-◌, ◌*◌, ◌<◌, ◌≤◌, ◌==◌, ◌&&◌, Bool, true, false, if◌then◌else◌, nat_lt, min, List, [], ◌∷◌, ◌++◌, length, take, drop, map, replicate, find, position, Option, Some, slice_get, slice_index_or}
+use Rattle.std.specs.Prelude.{◌≡◌, ℕ, ◌+◌, ◌-◌, ◌*◌, ◌<◌, ◌≤◌, ◌==◌, ◌&&◌, Bool, true, false, not, if◌then◌else◌, nat_lt, min, List, [], ◌∷◌, ◌++◌, length, take, drop, map, replicate, find, position, Option, Some, slice_get, slice_index_or}
 use Rattle.std.specs.Int.{div_ceil}
 use Rattle.std.specs.List.{flat_map, range_with_len}
 use Rattle.std.specs.Option.{option_map}
@@ -7,6 +7,7 @@ use Rattle.nv_base.specs.Ids.{is_same_id}
 use Rattle.nv_base.specs.declared.limits.TheConstants.{LEAST_PAGE_ENTRIES, PAGE_ENTRIES}
 use Rattle.nv_base.specs.declared.numbers.EntryId.{EntryId}
 use Rattle.nv_alloc.specs.Block.{BlockValue}
+use Rattle.nv_entry.specs.Clean.{select}
 use Rattle.nv_entry.specs.declared.item.Entry.{Entry}
 use Rattle.nv_entry.specs.Log.{IsLog}
 
@@ -107,19 +108,20 @@ appended e chain = record chain {
   entries = chain.entries ++ e ∷ [];
 }
 
--- what is left of a list: an item whose flag is set goes, and one without a flag stays
+-- what flags leave of a list: the items that they mark as staying, and those past the flags
 abbrev pub left_of : {X : Type 0} → List Bool → List X → List X
-left_of gone [] = []
-left_of [] (x ∷ xs) = x ∷ xs
-left_of (true ∷ gone) (x ∷ xs) = left_of gone xs
-left_of (false ∷ gone) (x ∷ xs) = x ∷ left_of gone xs
+left_of stays xs = select stays xs ++ drop (length stays) xs
 
--- flags that begin at place `first`; and the flag of one place alone
+-- the items that flags mark as going
+abbrev pub gone_of : {X : Type 0} → List Bool → List X → List X
+gone_of stays xs = select (map not stays) xs
+
+-- flags from place `first` on, before which all stay; and those by which one place alone goes
 abbrev pub flags_from : ℕ → List Bool → List Bool
-flags_from first gone = replicate first false ++ gone
+flags_from first stays = replicate first true ++ stays
 
-abbrev pub only : ℕ → List Bool
-only k = flags_from k (true ∷ [])
+abbrev pub all_but : ℕ → List Bool
+all_but k = flags_from k (false ∷ [])
 
 -- lists one behind the other, and where each of them ends, from place `start` on
 abbrev pub joined : {X : Type 0} → List (List X) → List X
@@ -129,16 +131,16 @@ abbrev pub ends_from : {X : Type 0} → ℕ → List (List X) → List ℕ
 ends_from start [] = []
 ends_from start (part ∷ parts) = (start + length part) ∷ ends_from (start + length part) parts
 
--- the chain without the entries of the pages that are flagged, and without these pages
-abbrev pub without_entries : List Bool → ChainState → ChainState
-without_entries gone chain = record chain {
-  ends = ends_from 0 (left_of gone (pages_of chain));
-  entries = joined (left_of gone (pages_of chain));
-  tail = length (joined (left_of gone (log_pages chain)));
+-- the chain without the entries of the pages that go, and without these pages
+abbrev pub with_entries_left : List Bool → ChainState → ChainState
+with_entries_left stays chain = record chain {
+  ends = ends_from 0 (left_of stays (pages_of chain));
+  entries = joined (left_of stays (pages_of chain));
+  tail = length (joined (left_of stays (log_pages chain)));
 }
 
-abbrev pub without_pages : List Bool → ChainState → ChainState
-without_pages gone chain = record (without_entries gone chain) { blocks = left_of gone chain.blocks }
+abbrev pub with_pages_left : List Bool → ChainState → ChainState
+with_pages_left stays chain = record (with_entries_left stays chain) { blocks = left_of stays chain.blocks }
 
 -- where the pages end that `n` entries fill one after the other
 abbrev pub packed : ℕ → ℕ → List ℕ
@@ -146,11 +148,11 @@ packed page n = map (λ k. min ((k + 1) * page) n) (range_with_len 0 (div_ceil n
 
 -- the chain with what is left of its entries on fresh pages
 abbrev pub compacted : List Bool → List BlockValue → ChainState → ChainState
-compacted gone pages chain = record chain {
+compacted stays pages chain = record chain {
   blocks = pages;
-  ends = packed chain.page (length (left_of gone chain.entries));
-  entries = left_of gone chain.entries;
-  tail = length (left_of gone (log chain));
+  ends = packed chain.page (length (left_of stays chain.entries));
+  entries = left_of stays chain.entries;
+  tail = length (left_of stays (log chain));
 }
 
 -- the entry is the last, behind the others of its page, all else stays where it was, and the log stays
@@ -161,9 +163,9 @@ pub record AppendsEntry (e : Entry) (old new : ChainState) : Type 0 where
   pub log_stays : log new ≡ log old
 
 -- each page that stays keeps its entries, and the log keeps what such a page had of it
-pub record UnlinksPages (gone : List Bool) (old new : ChainState) : Type 0 where
-  pub pages_are : pages_of new ≡ left_of gone (pages_of old)
-  pub log_is : log new ≡ joined (left_of gone (log_pages old))
+pub record KeepsPages (stays : List Bool) (old new : ChainState) : Type 0 where
+  pub pages_are : pages_of new ≡ left_of stays (pages_of old)
+  pub log_is : log new ≡ joined (left_of stays (log_pages old))
 
 -- parts of one to `most` items, of which the first begins at `start` and the last ends at `len`
 abbrev pub AreEnds : ℕ → ℕ → List ℕ → ℕ → Type 0

@@ -1,13 +1,14 @@
 //! A chain of log pages.
 
-ghost use Rattle.std.specs.Prelude.{◌≡◌, ◌+◌, ◌-◌, ◌*◌, ◌<◌, ◌≤◌, ◌↔◌, ◌++◌, ◌==◌, IsTrue, IfErr, IfSome, OnOk, Some, length, max, take, slice_get, slice_index, vec_len};
+ghost use Rattle.std.specs.Prelude.{◌≡◌, ◌+◌, ◌-◌, ◌*◌, ◌<◌, ◌≤◌, ◌↔◌, ◌++◌, ◌==◌, IsTrue, IfErr, IfSome, OnOk, Some, length, max, not, take, slice_get, slice_index, vec_len};
 ghost use Rattle.std.specs.Int.{div_ceil};
-ghost use Rattle.std.specs.List.{count_by, items_where_true};
+ghost use Rattle.std.specs.List.{count_by};
 ghost use Rattle.std.specs.List.Sorted.{IsStrictlyIncreasing};
 ghost use Rattle.std.specs.Option.{ForSome, option_copied};
 ghost use Rattle.nv_alloc.specs.Block.{AreSized};
 ghost use Rattle.nv_base.specs.Ids.{IsIdBefore};
-ghost use Rattle.nv_log.specs.Chain.{AppendsEntry, IsChain, UnlinksPages, appended, compacted, empty_chain, end_of, entry_of, last_epoch, last_id, last_of, left_of, log, only, page_entries, pages_for, place_of, room_of, start_of, with_page, without_entries, without_pages, flags_from};
+ghost use Rattle.nv_entry.specs.Clean.{select};
+ghost use Rattle.nv_log.specs.Chain.{AppendsEntry, IsChain, KeepsPages, all_but, appended, compacted, empty_chain, end_of, entry_of, flags_from, gone_of, joined, last_epoch, last_id, last_of, left_of, log, log_pages, page_entries, pages_for, pages_of, place_of, room_of, start_of, with_entries_left, with_page, with_pages_left};
 
 use crate::reads::ReadCount;
 use crate::{pages, removal, search};
@@ -320,70 +321,77 @@ impl Chain {
     pub fn unlink_page(&mut self, k: usize) -> Block
         requires { k < length self.old.state.blocks }
         ensures block { slice_get self.old.state.blocks k ≡ Some result }
-        ensures state { self.new.state ≡ without_pages (only k) self.old.state }
-        ensures pages { UnlinksPages (only k) self.old.state self.new.state }
+        ensures state { self.new.state ≡ with_pages_left (all_but k) self.old.state }
+        ensures pages { KeepsPages (all_but k) self.old.state self.new.state }
         ensures spare { self.new.spare ≡ self.old.spare + 1 }
     {
-        self.take_pages(k, &[true]);
+        self.leave_pages(k, &[false]);
         self.blocks.remove(k)
     }
 
-    /// Takes the pages that are flagged out, with their entries, and puts their blocks into the queue, in order. A page
-    /// without a flag stays. All other entries stay, in their order and on their pages, and those of them that
-    /// count still do. The time is linear in the entries and pages, and no memory is taken.
-    pub fn unlink_pages(&mut self, gone: &[bool], queue: &mut BlockQueue)
-        requires room { count_by (λ goes. goes) gone.now ≤ queue.old.room }
-        requires sized { AreSized queue.old.size self.old.state.blocks }
-        ensures state { self.new.state ≡ without_pages gone.now self.old.state }
-        ensures pages { UnlinksPages gone.now self.old.state self.new.state }
+    /// Leaves the pages with entries that are flagged as staying, a flag for each, and those without an entry.
+    /// The other pages go with their entries, and their blocks are put into the queue, in order. All entries
+    /// of the pages that stay do so too, in their order and on their pages, and those of them that count still
+    /// do. The time is linear in the entries and pages, and no memory is taken.
+    pub fn unlink_pages(&mut self, stays: &[bool], queue: &mut BlockQueue)
+        requires flags { length stays.now ≡ length self.old.state.ends }
+        requires room { count_by not stays.now ≤ queue.old.room }
+        requires sized { AreSized queue.old.size (gone_of stays.now self.old.state.blocks) }
+        ensures state { self.new.state ≡ with_pages_left stays.now self.old.state }
+        ensures pages { pages_of self.new.state ≡ select stays.now (pages_of self.old.state) }
+        ensures log { log self.new.state ≡ joined (select stays.now (log_pages self.old.state)) }
         ensures spare { self.new.spare
-            ≡ self.old.spare + length (items_where_true gone.now self.old.state.blocks) }
+            ≡ self.old.spare + length (gone_of stays.now self.old.state.blocks) }
         ensures queue { queue.new ≡ record queue.old {
-          blocks = queue.old.blocks ++ items_where_true gone.now self.old.state.blocks;
-          room = queue.old.room - length (items_where_true gone.now self.old.state.blocks);
+          blocks = queue.old.blocks ++ gone_of stays.now self.old.state.blocks;
+          room = queue.old.room - length (gone_of stays.now self.old.state.blocks);
         } }
     {
-        self.take_pages(0, gone);
-        removal::hand_out(&mut self.blocks, gone, queue);
+        self.leave_pages(0, stays);
+        removal::hand_out(&mut self.blocks, stays, queue);
     }
 
-    /// Takes the entries of pages out, by flags that begin at page `first`. All blocks stay, so that those
-    /// behind the pages that have entries left are without.
-    fn take_pages(&mut self, first: usize, gone: &[bool])
-        ensures state { self.new.state ≡ without_entries (flags_from first gone.now) self.old.state }
+    /// Leaves the entries of the pages that stay, by flags from page `first` on. All blocks stay, so that
+    /// those behind the pages that have entries left are without.
+    fn leave_pages(&mut self, first: usize, stays: &[bool])
+        ensures state { self.new.state ≡ with_entries_left (flags_from first stays.now) self.old.state }
         ensures spare { self.new.spare ≡ self.old.spare }
         ensures was { IsChain self.old.state }
     {
-        self.tail = removal::take_pages(&mut self.entries, &mut self.ends, self.tail, first, gone);
+        self.tail = removal::take_pages(&mut self.entries, &mut self.ends, self.tail, first, stays);
     }
 
-    /// How many entries stay where those that are flagged go. The time is linear in the flags.
-    pub fn staying(&self, gone: &[bool]) -> usize
-        ensures { result ≡ length (left_of gone.now self.now.state.entries) }
+    /// How many entries stay where the log keeps those that are flagged as staying, a flag for each. The time
+    /// is linear in the flags.
+    pub fn staying(&self, stays: &[bool]) -> usize
+        requires { length stays.now ≡ self.now.state.tail }
+        ensures { result ≡ length (left_of stays.now self.now.state.entries) }
     {
-        removal::staying(&self.entries, gone)
+        removal::staying(&self.entries, stays)
     }
 
-    /// Takes the entries that are flagged out and moves the others in their order to fresh pages, which take
-    /// the place of the old ones, and hands out the blocks of these. An entry without a flag stays, and those
-    /// that stay and counted still do. The time is linear in the entries, and no memory is taken.
-    pub fn compact(&mut self, gone: &[bool], pages: Vec<Block>) -> Vec<Block>
-        requires { vec_len pages
-            ≡ div_ceil (length (left_of gone.now self.old.state.entries)) self.old.state.page }
+    /// Leaves the entries of the log that are flagged as staying, a flag for each, and those past the tail.
+    /// They move in their order to fresh pages, which take the place of the old ones, and the blocks of these
+    /// are handed out. Those that stay and counted still do. The time is linear in the entries, and no memory
+    /// is taken.
+    pub fn compact(&mut self, stays: &[bool], pages: Vec<Block>) -> Vec<Block>
+        requires flags { length stays.now ≡ self.old.state.tail }
+        requires pages { vec_len pages
+            ≡ div_ceil (length (left_of stays.now self.old.state.entries)) self.old.state.page }
         ensures blocks { result.items ≡ self.old.state.blocks }
-        ensures state { self.new.state ≡ compacted gone.now pages.items self.old.state }
-        ensures log { log self.new.state ≡ left_of gone.now (log self.old.state) }
+        ensures state { self.new.state ≡ compacted stays.now pages.items self.old.state }
+        ensures log { log self.new.state ≡ select stays.now (log self.old.state) }
         ensures spare { self.new.spare ≡ 0 }
     {
-        self.tail = removal::staying(&self.entries[..self.tail], gone);
-        removal::take_entries(&mut self.entries, gone);
+        self.tail = removal::staying(&self.entries[..self.tail], stays);
+        removal::take_entries(&mut self.entries, stays);
         pages::pack(&mut self.ends, self.page, self.entries.len());
         self.reserved = pages.len();
         mem::replace(&mut self.blocks, pages)
     }
 
     /// Puts another chain in the place of this one, and hands out the blocks of all old pages. The old
-    /// entries are gone.
+    /// entries are stays.
     pub fn replace(&mut self, chain: Chain) -> Vec<Block>
         ensures chain { self.new ≡ chain }
         ensures blocks { result.items ≡ self.old.state.blocks }

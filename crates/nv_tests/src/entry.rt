@@ -3,6 +3,7 @@
 mod cleaning;
 mod files;
 mod items;
+mod key_laws;
 mod laws;
 mod logs;
 mod nodes;

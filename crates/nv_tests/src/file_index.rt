@@ -1,22 +1,17 @@
 //! What no clause of the index says.
 
+use crate::compare::{crosses_threads, same};
+use crate::scenes::id;
 use nv_base::limits::FILE_PAGES;
-use nv_base::{CommitNo, EntryId, Fault};
+use nv_base::{EntryId, Fault};
 use nv_findex::{FileIndex, PageRef, PageRun};
 use std::alloc::Global;
 use std::process::Abort;
 use std::test::Fail;
 
-fn entry(commit: u64, number: u32) -> EntryId {
-    EntryId {
-        commit: CommitNo::new(commit),
-        place: number,
-    }
-}
-
 fn lies(commit: u64, number: u32, place: u32) -> PageRef {
     PageRef {
-        entry: entry(commit, number),
+        entry: id(commit, number),
         place,
     }
 }
@@ -37,8 +32,8 @@ fn write(
     assert!(rt; 0 < len && len <= FILE_PAGES && first <= FILE_PAGES - len);
     let before = sizes(index);
     if let Err(fault) = index.reserve_for(1) {
-        assert_eq!(rt; fault, Fault::OutOfMemory);
-        assert_eq!(rt; sizes(index), before);
+        same(rt, fault, Fault::OutOfMemory);
+        same(rt, sizes(index), before);
         index.reserve_for(1)?;
     }
     index.set_run(first, len, entry);
@@ -52,8 +47,8 @@ fn write_all(
     writes: &[(u32, u32, u64, u32, usize)],
 ) -> Result<(), Fault> {
     for (first, len, commit, number, runs) in writes {
-        write(rt, index, *first, *len, entry(*commit, *number))?;
-        assert_eq!(rt; index.run_count(), *runs);
+        write(rt, index, *first, *len, id(*commit, *number))?;
+        same(rt, index.run_count(), *runs);
     }
     Ok(())
 }
@@ -61,7 +56,7 @@ fn write_all(
 #[test]
 fn three_writes_make_one_three_and_five_runs(rt: HostRuntime) -> Result<(), Fail> {
     let mut index = FileIndex::new(rt.alloc());
-    assert_eq!(rt; sizes(&index), (0, 0, 0));
+    same(&rt, sizes(&index), (0, 0, 0));
     write_all(
         &rt,
         &mut index,
@@ -84,14 +79,15 @@ fn three_writes_make_one_three_and_five_runs(rt: HostRuntime) -> Result<(), Fail
             end,
             start: lies(commit, number, place),
         };
-        assert_eq!(rt; index.run_from(page), Some(run));
+        same(&rt, index.run_from(page), Some(run));
         let found = (index.at(page), index.next_from(page));
-        assert_eq!(rt;
+        same(
+            &rt,
             found,
             (
                 Some(lies(commit, number, place)),
-                Some((page, lies(commit, number, place)))
-            )
+                Some((page, lies(commit, number, place))),
+            ),
         );
     }
     for (page, present) in [
@@ -109,9 +105,10 @@ fn three_writes_make_one_three_and_five_runs(rt: HostRuntime) -> Result<(), Fail
             index.run_from(page).is_some(),
         );
         let is_present = present > 0;
-        assert_eq!(rt;
+        same(
+            &rt,
             (some, index.present_from(page)),
-            ((is_present, is_present, is_present), present)
+            ((is_present, is_present, is_present), present),
         );
     }
     Ok(())
@@ -121,13 +118,14 @@ fn three_writes_make_one_three_and_five_runs(rt: HostRuntime) -> Result<(), Fail
 fn the_last_page_of_an_empty_file_is_one_run(rt: HostRuntime) -> Result<(), Fail> {
     let mut index = FileIndex::new(rt.alloc());
     write_all(&rt, &mut index, &[(65_535, 1, 7, 2, 1)])?;
-    assert_eq!(rt;
+    same(
+        &rt,
         (index.at(65_534), index.next_from(0)),
-        (None, Some((65_535, lies(7, 2, 0))))
+        (None, Some((65_535, lies(7, 2, 0)))),
     );
-    assert_eq!(rt; index.run_from(0).map(|run| run.page_count()), Some(1));
+    same(&rt, index.run_from(0).map(|run| run.page_count()), Some(1));
     index.cut_from(65_535);
-    assert_eq!(rt; (index.next_from(0), index.run_count()), (None, 0));
+    same(&rt, (index.next_from(0), index.run_count()), (None, 0));
     Ok(())
 }
 
@@ -135,7 +133,7 @@ fn the_last_page_of_an_empty_file_is_one_run(rt: HostRuntime) -> Result<(), Fail
 fn a_run_written_again_joins_what_is_left_of_it(rt: HostRuntime) -> Result<(), Fail> {
     let mut index = FileIndex::new(rt.alloc());
     write_all(&rt, &mut index, &[(10, 6, 2, 0, 1), (10, 2, 2, 0, 1)])?;
-    assert_eq!(rt; index.at(12), Some(lies(2, 0, 2)));
+    same(&rt, index.at(12), Some(lies(2, 0, 2)));
     Ok(())
 }
 
@@ -143,11 +141,11 @@ fn a_run_written_again_joins_what_is_left_of_it(rt: HostRuntime) -> Result<(), F
 fn room_for_three_writes_lasts_for_three(rt: HostRuntime) -> Result<(), Fail> {
     let mut index = FileIndex::new(rt.alloc());
     index.reserve_for(3)?;
-    index.set_run(0, 30, entry(2, 0));
-    index.set_run(10, 10, entry(3, 0));
+    index.set_run(0, 30, id(2, 0));
+    index.set_run(10, 10, id(3, 0));
     index.cut_from(25);
-    index.set_run(12, 2, entry(4, 0));
-    assert_eq!(rt; index.run_count(), 5);
+    index.set_run(12, 2, id(4, 0));
+    same(&rt, index.run_count(), 5);
     Ok(())
 }
 
@@ -157,11 +155,11 @@ fn a_refused_growth_changes_nothing(rt: HostRuntime) -> Result<(), Fail> {
     write_all(&rt, &mut index, &[(4, 2, 2, 0, 1)])?;
     let before = sizes(&index);
     for runs in [usize::MAX, usize::MAX / 2, 1 << 62] {
-        assert_eq!(rt; index.reserve_for(runs), Err(Fault::OutOfMemory));
-        assert_eq!(rt; sizes(&index), before);
+        same(&rt, index.reserve_for(runs), Err(Fault::OutOfMemory));
+        same(&rt, sizes(&index), before);
     }
-    assert_eq!(rt; index.at(3), None);
-    assert_eq!(rt; index.at(5), Some(lies(2, 0, 1)));
+    same(&rt, index.at(3), None);
+    same(&rt, index.at(5), Some(lies(2, 0, 1)));
     Ok(())
 }
 
@@ -247,13 +245,13 @@ fn assert_same_at(
     page: u32,
 ) {
     let run = first_behind(runs, page);
-    assert_eq!(rt; index.at(page), slot(slots, page));
+    same(rt, index.at(page), slot(slots, page));
     if let Some((next, at)) = index.next_from(page) {
-        assert_eq!(rt; slot(slots, next), Some(at));
+        same(rt, slot(slots, next), Some(at));
     }
     let next = run.map(|run| run.first.max(page));
-    assert_eq!(rt; index.next_from(page).map(|found| found.0), next);
-    assert_eq!(rt; index.run_from(page), run);
+    same(rt, index.next_from(page).map(|found| found.0), next);
+    same(rt, index.run_from(page), run);
 }
 
 fn assert_same(
@@ -263,7 +261,7 @@ fn assert_same(
     slots: &[Option<PageRef>],
 ) -> Result<(), Fault> {
     let runs = runs_of(alloc, slots)?;
-    assert_eq!(rt; index.run_count(), runs.len());
+    same(rt, index.run_count(), runs.len());
     for page in 0..100 {
         assert_same_at(rt, index, &runs, slots, page);
     }
@@ -271,7 +269,7 @@ fn assert_same(
         assert_same_at(rt, index, &runs, slots, page);
     }
     for page in [0, 1, 20, 50, 90, 65_530, 65_536] {
-        assert_eq!(rt; index.present_from(page), present_from(slots, page));
+        same(rt, index.present_from(page), present_from(slots, page));
     }
     Ok(())
 }
@@ -293,8 +291,8 @@ fn runs_and_slots_answer_alike(rt: HostRuntime) -> Result<(), Fail> {
             index.cut_from(first);
             clear(&mut slots, first);
         } else {
-            write(&rt, &mut index, first, len, entry(call / 5, 0))?;
-            fill(&mut slots, first, len, &entry(call / 5, 0));
+            write(&rt, &mut index, first, len, id(call / 5, 0))?;
+            fill(&mut slots, first, len, &id(call / 5, 0));
         }
         if call % 10 == 9 {
             assert_same(&rt, rt.alloc(), &index, &slots)?;
@@ -302,8 +300,6 @@ fn runs_and_slots_answer_alike(rt: HostRuntime) -> Result<(), Fail> {
     }
     Ok(())
 }
-
-fn crosses_threads<T: Send + Sync>(_: &T) {}
 
 #[test]
 fn an_index_crosses_threads(rt: HostRuntime) {

@@ -11,6 +11,8 @@ mod blocks;
 #[cfg(test)]
 mod chain;
 #[cfg(test)]
+mod compare;
+#[cfg(test)]
 mod entry;
 #[cfg(test)]
 mod file_index;
@@ -18,6 +20,8 @@ mod file_index;
 mod journal;
 #[cfg(test)]
 mod name_index;
+#[cfg(test)]
+mod scenes;
 #[cfg(test)]
 mod script;
 #[cfg(test)]

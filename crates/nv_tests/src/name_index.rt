@@ -1,7 +1,9 @@
 //! Directories as tables of changes. Each call is made with ample memory; where a growth is refused the names
 //! and the reserved name are as they were, and the call is made once more.
 
-use nv_base::{CommitNo, EntryId, Fault, Gen, Handle, Ino, Name};
+use crate::compare::{crosses_threads, same};
+use crate::scenes::{handle, id};
+use nv_base::{Fault, Name};
 use nv_nindex::{Binding, NameIndex};
 use std::alloc::Global;
 use std::process::Abort;
@@ -21,15 +23,10 @@ use Change::{Bind, Clear, Reserve, Unbind};
 type Row = (&'static [u8], u64, u64);
 
 fn binding(ino: u64, commit: u64) -> Binding {
-    let to = Handle {
-        ino: Ino::new(ino),
-        generation: Gen::new(1),
-    };
-    let entry = EntryId {
-        commit: CommitNo::new(commit),
-        place: 0,
-    };
-    Binding { to, entry }
+    Binding {
+        to: handle(ino),
+        entry: id(commit, 0),
+    }
 }
 
 /// Reserves a name. Where a growth is refused nothing has changed, and it asks again.
@@ -43,11 +40,11 @@ fn reserve(
     let len = index.len();
     let was_reserved = index.is_reserved(bytes);
     if let Err(fault) = index.reserve_one(&name) {
-        assert_eq!(rt; fault, Fault::OutOfMemory);
-        assert_eq!(rt; index.is_reserved(bytes), was_reserved);
+        same(rt, fault, Fault::OutOfMemory);
+        same(rt, index.is_reserved(bytes), was_reserved);
         index.reserve_one(&name)?;
     }
-    assert_eq!(rt; index.len(), len);
+    same(rt, index.len(), len);
     assert!(rt; index.is_reserved(bytes) != index.is_bound(bytes));
     Ok(())
 }
@@ -72,29 +69,29 @@ fn changed(rt: &impl Abort, alloc: Global, changes: &[Change]) -> Result<NameInd
 
 /// Whether the names are these, by each way to read them.
 fn check(rt: &impl Abort, index: &NameIndex, want: &[Row]) -> Result<(), Fail> {
-    assert_eq!(rt; index.len(), want.len());
-    assert_eq!(rt; index.is_empty(), want.is_empty());
+    same(rt, index.len(), want.len());
+    same(rt, index.is_empty(), want.is_empty());
     let list = match index.list() {
         Ok(list) => list,
         Err(fault) => {
-            assert_eq!(rt; fault, Fault::OutOfMemory);
+            same(rt, fault, Fault::OutOfMemory);
             index.list()?
         }
     };
-    assert_eq!(rt; list.len(), want.len());
+    same(rt, list.len(), want.len());
     for (found, (name, ino, commit)) in list.iter().zip(want) {
-        assert_eq!(rt; found.0, *name);
-        assert_eq!(rt; found.1, binding(*ino, *commit));
-        assert_eq!(rt; index.get(name), Some(binding(*ino, *commit)));
+        same(rt, found.0, *name);
+        same(rt, found.1, binding(*ino, *commit));
+        same(rt, index.get(name), Some(binding(*ino, *commit)));
         assert!(rt; index.is_bound(name));
     }
     let mut place = 0;
     for found in index.iter() {
-        assert_eq!(rt; index.at(place), Some(found));
+        same(rt, index.at(place), Some(found));
         place += 1;
     }
-    assert_eq!(rt; place, want.len());
-    assert_eq!(rt; index.at(place), None);
+    same(rt, place, want.len());
+    same(rt, index.at(place), None);
     Ok(())
 }
 
@@ -154,7 +151,7 @@ fn names_stand_in_the_order_of_their_entries(rt: HostRuntime) -> Result<(), Fail
     for (changes, want) in tables {
         let index = changed(&rt, rt.alloc(), changes)?;
         check(&rt, &index, want)?;
-        assert_eq!(rt; index.get(b"unbound"), None);
+        same(&rt, index.get(b"unbound"), None);
     }
     Ok(())
 }
@@ -183,13 +180,11 @@ fn at_most_one_name_stands_reserved(rt: HostRuntime) -> Result<(), Fail> {
     for (changes, want) in tables {
         let index = changed(&rt, rt.alloc(), changes)?;
         for name in [b"x".as_slice(), b"y", b"a"] {
-            assert_eq!(rt; index.is_reserved(name), Some(name) == want);
+            same(&rt, index.is_reserved(name), Some(name) == want);
         }
     }
     Ok(())
 }
-
-fn crosses_threads<T: Send + Sync>(_: &T) {}
 
 #[test]
 fn an_index_crosses_threads(rt: HostRuntime) {

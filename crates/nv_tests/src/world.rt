@@ -1,6 +1,7 @@
 //! A first path through a world, by events and replies.
 
-use nv_base::{Bytes, CommitNo, Fault, Gen, Geometry, GeometryNumbers, Handle, Ino, Mode, limits};
+use crate::scenes::{Row, geometry, handle, handle_of};
+use nv_base::{Bytes, CommitNo, Fault, Mode, limits};
 use nv_core::{Answer, Call, Event, Reply, World};
 use std::alloc::Global;
 use std::process::Abort;
@@ -34,13 +35,6 @@ enum Want<'a> {
 use Step::{Do, Go, Start};
 use Words::{Create, Read, Write};
 
-fn handle(ino: u64, generation: u64) -> Handle {
-    Handle {
-        ino: Ino::new(ino),
-        generation: Gen::new(generation),
-    }
-}
-
 fn bytes(alloc: Global, text: &[u8]) -> Result<Bytes, Fail> {
     Ok(Bytes::from_vec(Vec::from_slice(alloc, text)?))
 }
@@ -48,17 +42,17 @@ fn bytes(alloc: Global, text: &[u8]) -> Result<Bytes, Fail> {
 fn call(alloc: Global, words: &Words<'_>) -> Result<Call, Fail> {
     Ok(match words {
         Create(ino, generation, name) => Call::Create {
-            dir: handle(*ino, *generation),
+            dir: handle_of(*ino, *generation),
             name: bytes(alloc, name)?,
             mode: Mode::checked(420).ok_or("mode")?,
         },
         Write(ino, generation, offset, text) => Call::Write {
-            file: handle(*ino, *generation),
+            file: handle_of(*ino, *generation),
             offset: *offset,
             text: bytes(alloc, text)?,
         },
         Read(ino, generation, offset, count) => Call::Read {
-            file: handle(*ino, *generation),
+            file: handle_of(*ino, *generation),
             offset: *offset,
             count: *count,
         },
@@ -68,7 +62,7 @@ fn call(alloc: Global, words: &Words<'_>) -> Result<Call, Fail> {
 fn is_wanted(reply: &Reply, want: &Want<'_>) -> bool {
     match (reply, want) {
         (Reply::Started, Want::Started) => true,
-        (Reply::Done(Answer::Made(made)), Want::Made(ino)) => *made == handle(*ino, 1),
+        (Reply::Done(Answer::Made(made)), Want::Made(ino)) => *made == handle(*ino),
         (Reply::Done(Answer::Count(count)), Want::Count(want)) => count == want,
         (Reply::Done(Answer::Bytes(bytes)), Want::Bytes(want)) => bytes.as_slice() == *want,
         (Reply::Refused(fault), Want::Refused(want)) => fault == want,
@@ -99,33 +93,13 @@ fn plays(
     Ok(())
 }
 
-fn geometry() -> Result<Geometry, Fault> {
-    Geometry::checked(GeometryNumbers {
-        blocks: 16,
-        cpus: 2,
-        block: 4,
-        page: 4,
-        inodes: 8,
-        snaps: 4,
-        actors: 3,
-    })
-}
+const SMALL: Row = [16, 2, 4, 4, 8, 4, 3];
 
-fn tiny() -> Result<Geometry, Fault> {
-    Geometry::checked(GeometryNumbers {
-        blocks: 8,
-        cpus: 1,
-        block: 1,
-        page: 2,
-        inodes: 2,
-        snaps: 1,
-        actors: 1,
-    })
-}
+const TINY: Row = [8, 1, 1, 2, 2, 1, 1];
 
 #[test]
 fn files(rt: HostRuntime) -> Result<(), Fail> {
-    let mut world = World::format(rt.alloc(), geometry()?)?;
+    let mut world = World::format(rt.alloc(), geometry(SMALL)?)?;
     plays(
         &rt,
         rt.alloc(),
@@ -154,7 +128,7 @@ fn files(rt: HostRuntime) -> Result<(), Fail> {
 
 #[test]
 fn refusals_in_order(rt: HostRuntime) -> Result<(), Fail> {
-    let mut world = World::format(rt.alloc(), geometry()?)?;
+    let mut world = World::format(rt.alloc(), geometry(SMALL)?)?;
     plays(
         &rt,
         rt.alloc(),
@@ -187,7 +161,7 @@ fn refusals_in_order(rt: HostRuntime) -> Result<(), Fail> {
 
 #[test]
 fn limits_of_a_world(rt: HostRuntime) -> Result<(), Fail> {
-    let mut world = World::format(rt.alloc(), tiny()?)?;
+    let mut world = World::format(rt.alloc(), geometry(TINY)?)?;
     let long = vec![in rt.alloc(); b'a'; 1025]?;
     plays(
         &rt,
@@ -213,7 +187,7 @@ fn limits_of_a_world(rt: HostRuntime) -> Result<(), Fail> {
         ],
     )?;
     let first = CommitNo::new(limits::NUMBER - 1);
-    let mut world = World::format_at(rt.alloc(), geometry()?, first)?;
+    let mut world = World::format_at(rt.alloc(), geometry(SMALL)?, first)?;
     plays(
         &rt,
         rt.alloc(),
@@ -228,7 +202,7 @@ fn limits_of_a_world(rt: HostRuntime) -> Result<(), Fail> {
 
 #[test]
 fn a_tree_after_a_run(rt: HostRuntime) -> Result<(), Fail> {
-    let mut world = World::format(rt.alloc(), geometry()?)?;
+    let mut world = World::format(rt.alloc(), geometry(SMALL)?)?;
     let mut events = Vec::new(rt.alloc());
     for (actor, words) in [
         (0, Create(0, 1, b"log.txt")),

@@ -1,23 +1,10 @@
 //! Which numbers make a geometry, and the home ranges of two of them.
 
-use nv_base::{BlockNo, Fault, Geometry, GeometryField, GeometryNumbers};
+use crate::compare::{same, same_for};
+use crate::scenes::{Row, geometry, numbers};
+use nv_base::{BlockNo, Fault, Geometry, GeometryField};
 use std::process::Abort;
 use std::test::Fail;
-
-/// Blocks, CPUs, bytes of a block, entries of a page, inodes, snapshots, actors.
-type Row = [u64; 7];
-
-fn numbers([blocks, cpus, block, page, inodes, snaps, actors]: Row) -> GeometryNumbers {
-    GeometryNumbers {
-        blocks,
-        cpus,
-        block,
-        page,
-        inodes,
-        snaps,
-        actors,
-    }
-}
 
 /// Numbers with the field that they are refused for.
 const CHECKS: [(Row, Option<GeometryField>); 27] = [
@@ -58,8 +45,8 @@ fn takes_the_limits_and_names_the_first_bad_field(rt: HostRuntime) {
             None => Ok(numbers(row)),
             Some(field) => Err(Fault::BadGeometry(field)),
         };
-        let checked = Geometry::checked(numbers(row)).map(|geometry| geometry.numbers);
-        assert_eq!(rt; checked, want, "for {row:?}");
+        let checked = geometry(row).map(|geometry| geometry.numbers);
+        same_for(&rt, &row, checked, want);
     }
 }
 
@@ -80,23 +67,23 @@ const HOMES: [(Row, &[u64], &[u64]); 2] = [
 
 fn homes_start(g: &Geometry, rt: &impl Abort, starts: &[u64]) {
     for cpu in 0..g.numbers.cpus + 1 {
-        assert_eq!(rt; Some(&g.home_start(cpu)), starts.get(cpu as usize));
+        same(rt, Some(&g.home_start(cpu)), starts.get(cpu as usize));
     }
 }
 
 fn homes_are(g: &Geometry, rt: &impl Abort, homes: &[u64]) {
     for number in 0..g.numbers.blocks {
         let home = g.home_of(BlockNo::new(number));
-        assert_eq!(rt; Some(&home), homes.get(number as usize), "of {number}");
+        same_for(rt, &number, Some(&home), homes.get(number as usize));
     }
 }
 
 #[test]
 fn cuts_blocks_into_home_ranges(rt: HostRuntime) -> Result<(), Fail> {
     for (row, starts, homes) in HOMES {
-        let geometry = Geometry::checked(numbers(row))?;
-        homes_start(&geometry, &rt, starts);
-        homes_are(&geometry, &rt, homes);
+        let device = geometry(row)?;
+        homes_start(&device, &rt, starts);
+        homes_are(&device, &rt, homes);
     }
     Ok(())
 }

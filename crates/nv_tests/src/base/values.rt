@@ -1,7 +1,9 @@
 //! Names, modes, items and numbers.
 
+use crate::compare::{same, same_for};
+use crate::scenes::id;
 use nv_base::limits::{is_contended, most_drained};
-use nv_base::{BlockNo, Bytes, CommitNo, EntryId, Epoch, Fault, Gen, Ino, Kind, Mode, Name};
+use nv_base::{BlockNo, Bytes, CommitNo, Epoch, Fault, Gen, Ino, Kind, Mode, Name};
 use std::test::Fail;
 
 /// Bytes, and whether they are a lawful name.
@@ -29,14 +31,14 @@ const CHECKED: [(&[u8], bool); 17] = [
 fn names(rt: HostRuntime) -> Result<(), Fail> {
     for (bytes, lawful) in CHECKED {
         if lawful {
-            assert_eq!(rt; Name::check(bytes), Ok(()), "{bytes:?}");
+            same_for(&rt, &bytes, Name::check(bytes), Ok(()));
             let name = Name::read(rt.alloc(), bytes)?;
-            assert_eq!(rt; name.bytes(), bytes);
-            assert_eq!(rt; name.copied(rt.alloc())?.bytes(), bytes);
+            same(&rt, name.bytes(), bytes);
+            same(&rt, name.copied(rt.alloc())?.bytes(), bytes);
         } else {
-            assert_eq!(rt; Name::check(bytes), Err(Fault::BadName), "{bytes:?}");
+            same_for(&rt, &bytes, Name::check(bytes), Err(Fault::BadName));
             let read = Name::read(rt.alloc(), bytes).err();
-            assert_eq!(rt; read, Some(Fault::BadName), "{bytes:?}");
+            same_for(&rt, &bytes, read, Some(Fault::BadName));
         }
     }
     Ok(())
@@ -53,7 +55,7 @@ fn modes(rt: HostRuntime) {
         (65_535, false),
     ] {
         let kept = Mode::checked(bits).map(|mode| mode.bits());
-        assert_eq!(rt; kept, lawful.then_some(bits));
+        same(&rt, kept, lawful.then_some(bits));
     }
     assert!(rt; Kind::File != Kind::Dir);
 }
@@ -62,42 +64,38 @@ fn modes(rt: HostRuntime) {
 fn bytes_of_a_vec(rt: HostRuntime) -> Result<(), Fail> {
     let empty = Bytes::empty(rt.alloc());
     assert!(rt; empty.is_empty());
-    assert_eq!(rt; empty.len(), 0);
+    same(&rt, empty.len(), 0);
 
     let bytes = Bytes::from_vec(Vec::from_slice(rt.alloc(), b"abc")?);
     assert!(rt; !bytes.is_empty());
-    assert_eq!(rt; bytes.len(), 3);
-    assert_eq!(rt; bytes.as_slice(), b"abc".as_slice());
-    assert_eq!(rt; bytes.into_vec().as_slice(), b"abc".as_slice());
+    same(&rt, bytes.len(), 3);
+    same(&rt, bytes.as_slice(), b"abc".as_slice());
+    same(&rt, bytes.into_vec().as_slice(), b"abc".as_slice());
     Ok(())
 }
 
 #[test]
 fn numbers(rt: HostRuntime) {
-    assert_eq!(rt; Ino::new(7).number(), 7);
-    assert_eq!(rt; BlockNo::new(7).number(), 7);
-    assert_eq!(rt; Gen::new(1).next(), Gen::new(2));
-    assert_eq!(rt; Epoch::new(1).next(), Epoch::new(2));
-    assert_eq!(rt; CommitNo::new(0).next(), CommitNo::new(1));
-    assert_eq!(rt; (Gen::new(3).number(), Epoch::new(4).number()), (3, 4));
-    assert_eq!(rt; CommitNo::new(5).number(), 5);
+    same(&rt, Ino::new(7).number(), 7);
+    same(&rt, BlockNo::new(7).number(), 7);
+    same(&rt, Gen::new(1).next(), Gen::new(2));
+    same(&rt, Epoch::new(1).next(), Epoch::new(2));
+    same(&rt, CommitNo::new(0).next(), CommitNo::new(1));
+    same(&rt, (Gen::new(3).number(), Epoch::new(4).number()), (3, 4));
+    same(&rt, CommitNo::new(5).number(), 5);
     for (number, records) in [
         (0, 1),
         (1, 1),
         (1_048_576, 1_048_576),
         (1_048_577, 1_048_576),
     ] {
-        assert_eq!(rt; most_drained(number), records);
+        same(&rt, most_drained(number), records);
     }
     assert!(rt; !is_contended(7) && is_contended(8));
 }
 
 #[test]
 fn ids_in_order(rt: HostRuntime) {
-    let id = |commit, place| EntryId {
-        commit: CommitNo::new(commit),
-        place,
-    };
     for (earlier, later) in [(id(2, 0), id(2, 1)), (id(2, 9), id(3, 0))] {
         assert!(rt; earlier < later);
         assert!(rt; earlier.is_before(later));

@@ -2,10 +2,12 @@
 
 ghost use Rattle.std.specs.Prelude.{◌≡◌, IfSome, sum};
 
-use super::logs::{BLOCK, Line, epochs, id, log_of, retention};
+use super::logs::{BLOCK, Line, epochs, log_of, retention};
 use super::rows::{
     KILLER, KILLER_GONE, MODES, MODES_LEFT, RUNS, SHORT_LIVED, SIZES, TOMBSTONE, UNBOUND_TWICE,
 };
+use crate::compare::{same, same_for};
+use crate::scenes::id;
 use nv_entry::{
     Entry, Part, PartId, Retention, fast_keeps, is_droppable, is_kept, live, thorough_keeps, valid,
 };
@@ -37,9 +39,9 @@ fn counts_of_pages(rt: HostRuntime) -> Result<(), Fail> {
         let snapshots = epochs(rt.alloc(), snapshots)?;
         let page = log.get(*from..).ok_or("a page")?;
         assert!(rt; *count <= page.len());
-        assert_eq!(rt; live(BLOCK, page, *count), *current, "{lines:?}");
+        same_for(&rt, &lines, live(BLOCK, page, *count), *current);
         let retention = retention(&snapshots, &[]);
-        assert_eq!(rt; valid(&retention, page, *count), *kept, "{lines:?}");
+        same_for(&rt, &lines, valid(&retention, page, *count), *kept);
     }
     Ok(())
 }
@@ -121,9 +123,9 @@ fn are_judged(
         let entry = &log[place];
         let later = &log[place + 1..];
         let is_kept = is_kept(retention, entry, later);
-        assert_eq!(rt; Some(is_kept), kept.get(place).copied(), "at {place}");
+        same_for(rt, &place, Some(is_kept), kept.get(place).copied());
         let may_go = is_droppable(retention, &log[..place], entry, later);
-        assert_eq!(rt; Some(may_go), goes.get(place).copied(), "at {place}");
+        same_for(rt, &place, Some(may_go), goes.get(place).copied());
     }
 }
 
@@ -281,11 +283,12 @@ fn walks_of_cleaners(rt: HostRuntime) -> Result<(), Fail> {
         let pending = names(rt.alloc(), pending)?;
         let retention = retention(&snapshots, &pending);
         let kept = thorough_keeps(rt.alloc(), &retention, &log)?;
-        assert_eq!(rt; kept.as_slice(), *entries, "{lines:?}");
-        assert_eq!(rt;
+        same_for(&rt, &lines, kept.as_slice(), *entries);
+        same_for(
+            &rt,
+            &lines,
             fast_cleaned(&rt, rt.alloc(), &retention, &log, counts)?.as_slice(),
             *pages,
-            "{lines:?}"
         );
     }
     Ok(())
@@ -298,7 +301,7 @@ fn fast_cleaned(
     log: &[Entry],
     counts: &[usize],
 ) -> Result<Vec<bool>, Fail> {
-    assert_eq!(rt; sum_of(counts), Some(log.len()));
+    same(rt, sum_of(counts), Some(log.len()));
     Ok(fast_keeps(alloc, retention, log, counts)?)
 }
 

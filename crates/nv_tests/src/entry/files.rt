@@ -1,7 +1,9 @@
 //! What logs say of their keys, now and at a snapshot.
 
-use super::logs::{BLOCK, Line, epochs, handle, id, log_of, when};
+use super::logs::{BLOCK, Line, epochs, log_of, when};
 use super::rows::{CUT, KILLER, KILLER_GONE, NAMES, OVERWRITTEN, RUNS, SHORT_LIVED};
+use crate::compare::{same, same_for};
+use crate::scenes::{handle, id};
 use nv_base::{BlockNo, Epoch};
 use nv_entry::{
     Datum, Entry, Key, PageSource, Pair, PartId, first_cover, page_source, value_at, value_now,
@@ -31,16 +33,17 @@ fn values(rt: HostRuntime) -> Result<(), Fail> {
     for (lines, epoch, key, number) in VALUES {
         let log = log_of(rt.alloc(), lines)?;
         let wanted = number.map(|number| datum(*key, number));
-        assert_eq!(rt;
+        same_for(
+            &rt,
+            &lines,
             value_when(BLOCK, when(*epoch), &log, *key),
             wanted,
-            "{lines:?}"
         );
         let value = match epoch {
             Some(number) => value_at(BLOCK, Epoch::new(*number), &log, *key),
             None => value_now(BLOCK, &log, *key),
         };
-        assert_eq!(rt; value, wanted, "{lines:?}");
+        same_for(&rt, &lines, value, wanted);
     }
     Ok(())
 }
@@ -57,10 +60,11 @@ fn first_covers(rt: HostRuntime) -> Result<(), Fail> {
     let log = log_of(rt.alloc(), OVERWRITTEN)?;
     let later = log.get(2..).ok_or("entries")?;
     let covered = first_cover(BLOCK, when(None), &log, Key::Page(0));
-    assert_eq!(rt; covered, Some(Epoch::new(1)));
-    assert_eq!(rt;
+    same(&rt, covered, Some(Epoch::new(1)));
+    same(
+        &rt,
         first_cover(BLOCK, when(Some(1)), later, Key::Page(0)),
-        None
+        None,
     );
     Ok(())
 }
@@ -96,12 +100,13 @@ fn pairs(rt: HostRuntime) -> Result<(), Fail> {
         let entry = log.get(*place).ok_or("an entry")?;
         let later = log.get(*place + 1..).ok_or("entries")?;
         let pair = Pair::at(BLOCK, entry, later, *part).ok_or("a part")?;
-        assert_eq!(rt;
+        same_for(
+            &rt,
+            &lines,
             (pair.birth, pair.death),
             (Epoch::new(*birth), death.map(Epoch::new)),
-            "{lines:?}"
         );
-        assert_eq!(rt; pair.is_current(), death.is_none(), "{lines:?}");
+        same_for(&rt, &lines, pair.is_current(), death.is_none());
         is_held(
             &rt,
             &pair,
@@ -125,7 +130,7 @@ fn is_held(rt: &impl Abort, pair: &Pair, holders: &[Epoch], others: &[Epoch]) {
         );
     }
     assert!(rt; !pair.is_held(others), "{pair:?}");
-    assert_eq!(rt; pair.is_needed(others), pair.is_current(), "{pair:?}");
+    same_for(rt, &pair, pair.is_needed(others), pair.is_current());
 }
 
 /// A log, a time, a page, and the entry and block that it stands in there.
@@ -151,10 +156,11 @@ fn sources_of_pages(rt: HostRuntime) -> Result<(), Fail> {
             entry: id(commit, place),
             block: BlockNo::new(block),
         });
-        assert_eq!(rt;
+        same_for(
+            &rt,
+            &(page, lines),
             page_source(BLOCK, when(*epoch), &log, *page),
             wanted,
-            "page {page} of {lines:?}"
         );
     }
     Ok(())

@@ -1,6 +1,8 @@
 //! What each item sets, and its parts.
 
-use super::logs::{BLOCK, Says, handle, id, item, mode};
+use super::logs::{BLOCK, Says, item, mode};
+use crate::compare::{same, same_for};
+use crate::scenes::{handle, id};
 use Says::{Bind, Directory, File, Gone, Mode, Size, Unbind, Write};
 use nv_base::{BlockNo, Epoch, Kind};
 use nv_entry::{Datum, Entry, Item, Key, Part, Setting, When};
@@ -36,12 +38,13 @@ fn parts_in_order(rt: HostRuntime) -> Result<(), Fail> {
             item: item(rt.alloc(), *says)?,
         };
         let parts: Vec<Part> = entry.parts().collect(rt.alloc())?;
-        assert_eq!(rt; parts.as_slice(), *wanted);
-        assert_eq!(rt; entry.item.part_count() as usize, wanted.len());
+        same(&rt, parts.as_slice(), *wanted);
+        same(&rt, entry.item.part_count() as usize, wanted.len());
         for place in 0..4 {
-            assert_eq!(rt;
+            same(
+                &rt,
                 entry.item.part_at(place),
-                wanted.get(place as usize).copied()
+                wanted.get(place as usize).copied(),
             );
         }
         for part in &parts {
@@ -110,9 +113,9 @@ fn settings(rt: HostRuntime) -> Result<(), Fail> {
 
 fn sets_key(rt: &impl Abort, item: &Item, key: Key<'_>, wanted: Sets) -> Result<(), Fail> {
     let wanted = setting(wanted)?;
-    assert_eq!(rt; item.setting(BLOCK, key), wanted, "{key:?} by {item:?}");
+    same_for(rt, &(key, item), item.setting(BLOCK, key), wanted);
     let covers = wanted != Setting::Untouched;
-    assert_eq!(rt; item.covers(BLOCK, key), covers, "{key:?} by {item:?}");
+    same_for(rt, &(key, item), item.covers(BLOCK, key), covers);
     Ok(())
 }
 
@@ -134,7 +137,7 @@ const NAMES: &[(Says, &[u8])] = &[(Bind("a", 3), b"a"), (Unbind("ab"), b"ab"), (
 #[test]
 fn names_of_items(rt: HostRuntime) -> Result<(), Fail> {
     for (says, name) in NAMES {
-        assert_eq!(rt; item(rt.alloc(), *says)?.name(), *name, "{says:?}");
+        same_for(&rt, &says, item(rt.alloc(), *says)?.name(), *name);
     }
     Ok(())
 }
@@ -151,7 +154,7 @@ const LATER: &[(Sets, Sets, Option<u64>)] = &[
 fn values_of_settings(rt: HostRuntime) -> Result<(), Fail> {
     for (first, later, size) in LATER {
         let value = setting(*first)?.then(setting(*later)?).value();
-        assert_eq!(rt; value, size.map(Datum::Size));
+        same(&rt, value, size.map(Datum::Size));
     }
     Ok(())
 }
@@ -159,12 +162,12 @@ fn values_of_settings(rt: HostRuntime) -> Result<(), Fail> {
 #[test]
 fn kinds_of_values(rt: HostRuntime) -> Result<(), Fail> {
     let size = Datum::Size(3);
-    assert_eq!(rt; (size.size(), size.block()), (Some(3), None));
+    same(&rt, (size.size(), size.block()), (Some(3), None));
     let node = Datum::Node(handle(1));
-    assert_eq!(rt; (node.node(), node.mode()), (Some(handle(1)), None));
-    assert_eq!(rt; Datum::Mode(mode(7)?).mode(), Some(mode(7)?));
+    same(&rt, (node.node(), node.mode()), (Some(handle(1)), None));
+    same(&rt, Datum::Mode(mode(7)?).mode(), Some(mode(7)?));
     let block = BlockNo::new(9);
-    assert_eq!(rt; Datum::Block(block).block(), Some(block));
+    same(&rt, Datum::Block(block).block(), Some(block));
     Ok(())
 }
 
@@ -172,7 +175,7 @@ fn kinds_of_values(rt: HostRuntime) -> Result<(), Fail> {
 fn epochs_that_are_seen(rt: HostRuntime) {
     let two = When::At(Epoch::new(2));
     for (epoch, seen) in [(1, true), (2, true), (3, false)] {
-        assert_eq!(rt; two.sees(Epoch::new(epoch)), seen);
+        same(&rt, two.sees(Epoch::new(epoch)), seen);
         assert!(rt; When::Now.sees(Epoch::new(epoch)));
     }
 }

@@ -1,6 +1,7 @@
 //! Logs by lines, and the blocks that they are read with. Blocks have four bytes.
 
-use nv_base::{BlockNo, CommitNo, EntryId, Epoch, Gen, Handle, Ino, Kind, Mode, Name};
+use crate::scenes::{handle, id};
+use nv_base::{BlockNo, Epoch, Kind, Mode, Name};
 use nv_entry::{BlockBytes, Entry, Item, PartId, Retention, Run, When};
 use std::alloc::Global;
 use std::test::Fail;
@@ -24,21 +25,6 @@ pub enum Says {
 
 /// A line of a log: commit, place, epoch, and what it says.
 pub type Line = (u64, u32, u64, Says);
-
-pub fn id(commit: u64, place: u32) -> EntryId {
-    EntryId {
-        commit: CommitNo::new(commit),
-        place,
-    }
-}
-
-/// The handle of an inode of generation 1.
-pub fn handle(ino: u64) -> Handle {
-    Handle {
-        ino: Ino::new(ino),
-        generation: Gen::new(1),
-    }
-}
 
 pub fn mode(bits: u16) -> Result<Mode, Fail> {
     Ok(Mode::checked(bits).ok_or("a mode")?)

@@ -1,7 +1,9 @@
 //! The nodes that logs give, now and at a snapshot.
 
-use super::logs::{BLOCK, Device, Line, handle, log_of, when};
+use super::logs::{BLOCK, Device, Line, log_of, when};
 use super::rows::{CUT, NAMES, OVERWRITTEN, REMOVED, RUNS, SHORT_LIVED};
+use crate::compare::{same, same_for};
+use crate::scenes::handle;
 use nv_base::{BlockNo, Kind};
 use nv_entry::{BlockBytes, BoundName, NameList, NodeCopy, names_when, node_when, size_when};
 use std::process::Abort;
@@ -50,10 +52,11 @@ fn nodes(rt: HostRuntime) -> Result<(), Fail> {
         is_read(&rt, &node, *wanted);
         let names = names_when(rt.alloc(), when(*epoch), &log)?;
         same_names(&rt, names.as_slice(), names_of(*wanted));
-        assert_eq!(rt;
+        same_for(
+            &rt,
+            &lines,
             size_when(when(*epoch), &log),
             bytes_of(*wanted).len() as u64,
-            "{lines:?}"
         );
     }
     Ok(())
@@ -82,18 +85,18 @@ fn is_read(rt: &impl Abort, node: &Option<NodeCopy>, wanted: Reads) {
     match node {
         None => assert!(rt; begun.is_none()),
         Some(node) => {
-            assert_eq!(rt; Some((node.kind, node.mode.bits())), begun);
-            assert_eq!(rt; node.bytes.as_slice(), bytes_of(wanted));
+            same(rt, Some((node.kind, node.mode.bits())), begun);
+            same(rt, node.bytes.as_slice(), bytes_of(wanted));
             same_names(rt, node.names.as_slice(), names_of(wanted));
         }
     }
 }
 
 fn same_names(rt: &impl Abort, names: &[BoundName], wanted: &[(&str, u64)]) {
-    assert_eq!(rt; names.len(), wanted.len());
+    same(rt, names.len(), wanted.len());
     for (bound, (name, ino)) in names.iter().zip(wanted) {
-        assert_eq!(rt; bound.name.bytes(), name.as_bytes());
-        assert_eq!(rt; bound.to, handle(*ino));
+        same(rt, bound.name.bytes(), name.as_bytes());
+        same(rt, bound.to, handle(*ino));
     }
 }
 
@@ -101,7 +104,7 @@ fn same_names(rt: &impl Abort, names: &[BoundName], wanted: &[(&str, u64)]) {
 fn a_list_from_a_vec(rt: HostRuntime) -> Result<(), Fail> {
     let list = NameList::from_vec(Vec::new(rt.alloc()));
     assert!(rt; list.is_empty());
-    assert_eq!(rt; list.len(), 0);
+    same(&rt, list.len(), 0);
     assert!(rt; list.into_vec().is_empty());
     Ok(())
 }
@@ -111,6 +114,6 @@ fn a_device_has_no_further_blocks(rt: HostRuntime) {
     let device = Device {
         blocks: &[*b"aaaa"],
     };
-    assert_eq!(rt; device.bytes(BlockNo::new(0)), b"aaaa".as_slice());
+    same(&rt, device.bytes(BlockNo::new(0)), b"aaaa".as_slice());
     assert!(rt; device.bytes(BlockNo::new(1)).is_empty());
 }

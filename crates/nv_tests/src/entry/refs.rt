@@ -1,7 +1,9 @@
 //! Which part of which entry holds a key.
 
-use super::logs::{BLOCK, Line, id, log_of};
+use super::logs::{BLOCK, Line, log_of};
 use super::rows::{CUT, NAMES, REMOVED, RUNS};
+use crate::compare::same_for;
+use crate::scenes::id;
 use nv_entry::{Key, PartRef, current_part};
 use std::test::Fail;
 
@@ -34,11 +36,7 @@ fn parts_that_hold(rt: HostRuntime) -> Result<(), Fail> {
             entry: id(commit, place),
             place: part,
         });
-        assert_eq!(rt;
-            current_part(BLOCK, &log, *key),
-            wanted,
-            "{key:?} of {lines:?}"
-        );
+        same_for(&rt, &(key, lines), current_part(BLOCK, &log, *key), wanted);
     }
     Ok(())
 }

@@ -1,22 +1,30 @@
 //! Small callers of the laws of what a log has stored.
 
-ghost use Rattle.std.specs.Prelude.{◌≡◌, ◌<◌, ℕ, List, [], ◌∷◌, ◌++◌, None, Some};
+ghost use Rattle.std.specs.Prelude.{◌≡◌, ◌+◌, ◌*◌, ◌/◌, ◌<◌, ◌≤◌, ℕ, List, [], ◌∷◌, ◌++◌, None, Some, length};
+ghost use Rattle.nv_base.specs.declared.limits.TheConstants.{FILE_PAGES};
 ghost use Rattle.nv_base.specs.declared.node.Kind.{Kind};
+ghost use Rattle.nv_base.specs.declared.node.Kind.TheVariants.{Dir, File};
+ghost use Rattle.nv_entry.specs.Blocks.{Uses};
+ghost use Rattle.nv_entry.specs.Bytes.{written};
 ghost use Rattle.nv_entry.specs.Index.{bound_to, names_of};
 ghost use Rattle.nv_entry.specs.Keys.{NameKey};
 ghost use Rattle.nv_entry.specs.Log.{value_now};
-ghost use Rattle.nv_entry.specs.Sound.{Gives, empty_node};
+ghost use Rattle.nv_entry.specs.Sound.{Gives, HaveText, Makes, blocks_of, empty_node, rewritten, write_items};
 ghost use Rattle.nv_entry.specs.Stored.{stored, stored_after};
 ghost use Rattle.nv_entry.specs.declared.item.Entry.{Entry};
-ghost use Rattle.nv_entry.specs.declared.item.Item.TheVariants.{Init};
+ghost use Rattle.nv_entry.specs.declared.item.Item.TheVariants.{Init, SetSize};
+ghost use Rattle.nv_entry.specs.declared.item.Run.{Run};
+ghost use Rattle.nv_entry.specs.declared.node.NodeCopy.{NodeCopy};
 
-use nv_entry::stored::{lawful_items_keep_logs_sound, names_are_values, several_items};
+use nv_entry::stored::{
+    lawful_items_keep_logs_sound, names_are_values, several_items, sound_logs_suit_their_kind,
+    written_runs_are_lawful,
+};
 
 fn two_more_entries()
-    ensures { (bytes : ℕ → List ℕ) (block : ℕ) (log : List Entry) (e f : Entry)
-        → stored bytes block (log ++ e ∷ f ∷ [])
-        ≡ stored_after bytes block f.item
-        (stored_after bytes block e.item (stored bytes block log)) }
+    ensures { (block : ℕ) (log : List Entry) (e f : Entry)
+        → stored block (log ++ e ∷ f ∷ [])
+        ≡ stored_after block f.item (stored_after block e.item (stored block log)) }
 {
     several_items();
 }
@@ -33,6 +41,33 @@ fn a_new_node_is_sound()
     lawful_items_keep_logs_sound();
 }
 
+fn a_size_is_set_on_no_directory()
+    ensures { (bytes : ℕ → List ℕ) (block size : ℕ) (node after : NodeCopy)
+        → Makes bytes block (SetSize size) (Some node) (Some after) → node.kind ≡ Dir → ⊥ }
+{}
+
+fn a_directory_uses_no_block()
+    ensures { (bytes : ℕ → List ℕ) (block number : ℕ) (log : List Entry) (node : NodeCopy)
+        → 0 < block → Gives bytes block log (Some node) → node.kind ≡ Dir
+        → Uses block log number → ⊥ }
+{
+    sound_logs_suit_their_kind();
+}
+
+fn a_write_in_two_runs_is_sound()
+    ensures { (bytes : ℕ → List ℕ) (block offset : ℕ) (text : List ℕ) (log : List Entry)
+        (first second : Entry) (a b : Run) (node : NodeCopy)
+        → 0 < block → 0 < length text → offset + length text ≤ FILE_PAGES * block
+        → Gives bytes block log (Some node) → node.kind ≡ File
+        → HaveText bytes block offset text node.bytes (blocks_of (a ∷ b ∷ []))
+        → first.item ∷ second.item ∷ []
+        ≡ write_items (offset / block) (a ∷ b ∷ []) (length (written offset text node.bytes))
+        → Gives bytes block (log ++ first ∷ second ∷ []) (Some (rewritten offset text node)) }
+{
+    lawful_items_keep_logs_sound();
+    written_runs_are_lawful();
+}
+
 fn a_name_without_a_value_is_unbound()
     ensures { (block : ℕ) (log : List Entry) (name : List ℕ)
         → value_now block log (NameKey name) ≡ None → bound_to name (names_of log) ≡ None }
@@ -44,5 +79,8 @@ fn a_name_without_a_value_is_unbound()
 fn laws_are_called(_rt: HostRuntime) {
     two_more_entries();
     a_new_node_is_sound();
+    a_size_is_set_on_no_directory();
+    a_directory_uses_no_block();
+    a_write_in_two_runs_is_sound();
     a_name_without_a_value_is_unbound();
 }

@@ -4,6 +4,6 @@ use Rattle.nv_log.proofs.removal.take_entries.Given as goal
 
 abbrev pub invariant-loop-place : goal.invariant-loop-place
 invariant-loop-place l = record {
-  sifted : IsSifted l.gone l.initial.entries.items l.entries.items l.to l.place;
+  sifted : IsSifted l.stays l.initial.entries.items l.entries.items l.to l.place;
   capacity : vec_capacity l.entries ≡ vec_capacity l.initial.entries;
 }

@@ -1,7 +1,7 @@
-use Rattle.std.proofs.Common.{◌≡◌, ◌<◌, ◌≤◌, length, sym, ◌∙◌, arith}
-use Rattle.nv_log.proofs.Removals.{page_next, swept_all, sweeps_down, sweeps_out}
+use Rattle.std.proofs.Common.{◌≡◌, ◌<◌, ◌≤◌, length, refl, sym, ◌∙◌, arith}
+use Rattle.nv_log.proofs.Removals.{page_next, swept_all, sweeps_down, sweeps_none, sweeps_out}
 use Rattle.nv_log.proofs.removal.take_pages.Goals as goal
-use Rattle.nv_log.proofs.removal.take_pages.Goals.{then-not-goes, else-not-goes}
+use Rattle.nv_log.proofs.removal.take_pages.Goals.{then-is_left, else-is_left}
 
 pub move_down-requires-clause-onward : goal.move_down-requires-clause-onward
 move_down-requires-clause-onward c =
@@ -30,24 +30,27 @@ overflow_add-counted c =
     let at = page_next _ _ c.requires.parted.1 lt c.index-end.ensures c.loop-k.invariant.swept in
     omega (arith, at, c.loop-k.invariant.swept.counts_behind, c.args.entries.now.ok, c.args.entries.now.small)
 
+pub loop-k-init : goal.loop-k-init
+loop-k-init c = record { swept = sweeps_none _ _ _ _; entries_capacity = refl; ends_capacity = refl }
+
 pub loop-k-preserved : goal.loop-k-preserved
 loop-k-preserved c =
     let is = c.loop-k.invariant in
     let lt : c.loop-k.k < length c.args.ends.now.items = omega (arith, c.args.ends.now.ok) in
-    elim c.if-not-goes.branch [
-      | then-not-goes w ↦
+    elim c.if-is_left.branch [
+      | then-is_left w ↦
           let down = w.move_down.ensures in
           let len : length w.move_down.new.entries.items ≡ length c.loop-k.entries.items =
           omega (arith, down.len, w.move_down.new.entries.ok, c.loop-k.entries.ok) in
-          rw (w.entries-is, w.ends-is, w.pages-is, w.places-is, w.counted-is, w.min.ensures, w.min-then-not-goes.ensures) (record {
+          rw (w.entries-is, w.ends-is, w.pages-is, w.places-is, w.counted-is, w.min.ensures, w.min-then-is_left.ensures) (record {
             swept =
-                sweeps_down _ _ _ c.requires.parted.1 lt c.index-end.ensures (sym c.goes.ensures
-                ∙ w.if-not-goes.true) is.swept down.front down.rest len;
+                sweeps_down _ _ _ c.requires.parted.1 lt c.index-end.ensures (sym c.is_left.ensures
+                ∙ w.if-is_left.true) is.swept down.front down.rest len;
             entries_capacity = omega (arith, is.entries_capacity, down.capacity);
             ends_capacity = is.ends_capacity;
           })
-      | else-not-goes w ↦ rw (w.entries-is, w.ends-is, w.pages-is, w.places-is, w.counted-is) (record {
-        swept = sweeps_out _ _ c.requires.parted.1 lt c.index-end.ensures (sym c.goes.ensures ∙ w.if-not-goes.false) is.swept;
+      | else-is_left w ↦ rw (w.entries-is, w.ends-is, w.pages-is, w.places-is, w.counted-is) (record {
+        swept = sweeps_out _ _ c.requires.parted.1 lt c.index-end.ensures (sym c.is_left.ensures ∙ w.if-is_left.false) is.swept;
         entries_capacity = is.entries_capacity;
         ends_capacity = is.ends_capacity;
       })

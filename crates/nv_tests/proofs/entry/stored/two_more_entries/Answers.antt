@@ -2,4 +2,4 @@ use Rattle.std.proofs.Common.{[], ◌∷◌}
 use Rattle.nv_tests.proofs.entry.stored.two_more_entries.Goals as goal
 
 pub returns : goal.returns
-returns c bytes block log e f = c.several_items.ensures bytes block log (e ∷ f ∷ [])
+returns c block log e f = c.several_items.ensures block log (e ∷ f ∷ [])
