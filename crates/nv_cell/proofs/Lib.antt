@@ -1,3 +1,10 @@
 pub mod Runs
 pub mod Tallies
 pub mod Setting
+pub mod Placing
+pub mod Numbers
+pub mod Killing
+pub mod NameWalk
+pub mod Publishing
+pub mod Readied
+pub mod Bound

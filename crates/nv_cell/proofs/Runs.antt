@@ -48,19 +48,21 @@ count_set test d (y ∷ ys) (suc from) to (suc n) x lt =
 -- a run has an item that another has not
 pub one_run : (ends : List ℕ) (len i j n : ℕ) → AreRuns ends len → i < length ends → j < length ends → start_at ends i ≤ n → n < end_at ends i → in_range (start_at ends j) (end_at ends j) n ≡ (i == j)
 one_run ends len i j n h li lj s e = elim (cases_lt i j) [
-      inl lt ↦ let r = h.rising i (j - 1) (omega arith) (omega arith) in
-          let z : (j == 0) ≡ false = grind (arith, nat_tests) in
-          let st : start_at ends j ≡ end_at ends (j - 1) = rw z refl in
-          let ne : (i == j) ≡ false = grind (arith, nat_tests) in
-          rw (st, ne) (grind (arith, nat_tests, r))
-    | inr ge ↦ elim (cases_lt j i) [
-          inl gt ↦ let r = h.rising j (i - 1) (omega arith) (omega arith) in
-              let z : (i == 0) ≡ false = grind (arith, nat_tests) in
-              let st : start_at ends i ≡ end_at ends (i - 1) = rw z refl in
-              let ne : (i == j) ≡ false = grind (arith, nat_tests) in
-              let le : end_at ends j ≤ n = omega (arith, r, st, s) in
-              rw ne (grind (arith, nat_tests, le))
-        | inr le ↦ let same : i ≡ j = omega arith in rw (← same, eq-eqb i i refl) (grind (arith, nat_tests)) ] ]
+  | inl lt ↦ let r = h.rising i (j - 1) (omega arith) (omega arith) in
+      let z : (j == 0) ≡ false = grind (arith, nat_tests) in
+      let st : start_at ends j ≡ end_at ends (j - 1) = rw z refl in
+      let ne : (i == j) ≡ false = grind (arith, nat_tests) in
+      rw (st, ne) (grind (arith, nat_tests, r))
+  | inr ge ↦ elim (cases_lt j i) [
+    | inl gt ↦ let r = h.rising j (i - 1) (omega arith) (omega arith) in
+        let z : (i == 0) ≡ false = grind (arith, nat_tests) in
+        let st : start_at ends i ≡ end_at ends (i - 1) = rw z refl in
+        let ne : (i == j) ≡ false = grind (arith, nat_tests) in
+        let le : end_at ends j ≤ n = omega (arith, r, st, s) in
+        rw ne (grind (arith, nat_tests, le))
+    | inr le ↦ let same : i ≡ j = omega arith in rw (← same, eq-eqb i i refl) (grind (arith, nat_tests))
+  ]
+]
 
 -- an item that passes is counted
 pub count_some : {X : Type 0} (test : X → Bool) (d : X) (xs : List X) (from to n : ℕ) (fails : X) → test fails ≡ false → n < length xs → from ≤ n → n < to → cond (test (slice_index_or xs n d)) 1 0 ≤ count_in test xs from to
@@ -130,11 +132,12 @@ climbing ends len h =
 run_found : (ends : List ℕ) (n i : ℕ) → AreRuns ends (n + 1) → i ≤ length ends
     → IsPartitionPoint (λ end. leb end n ≡ true) (λ end. leb end n ≡ false) ends i → IsInRun ends n i
 run_found ends n i h le parts = elim (cases_lt i (length ends)) [
-      inl lt ↦ record { within = lt; start = start i refl; end = above (end_at ends i) (parts.1 i 0 (omega arith) lt) }
-    | inr ge ↦
-        let last = h.all n (omega arith) in
-        let under = at_most (end_at ends (length ends - 1)) (parts.0 (length ends - 1) 0 (omega arith) (omega arith)) in
-        absurd (omega (arith, last.0, last.1, under)) ]
+  | inl lt ↦ record { within = lt; start = start i refl; end = above (end_at ends i) (parts.1 i 0 (omega arith) lt) }
+  | inr ge ↦
+      let last = h.all n (omega arith) in
+      let under = at_most (end_at ends (length ends - 1)) (parts.0 (length ends - 1) 0 (omega arith) (omega arith)) in
+      absurd (omega (arith, last.0, last.1, under))
+]
   where
     at_most : (m : ℕ) → leb m n ≡ true → m ≤ n
     at_most m e = grind (arith, nat_tests)

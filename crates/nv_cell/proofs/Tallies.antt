@@ -35,22 +35,22 @@ new_count : (f : PageCounts → ℕ) (test : Tally → Bool) (tallies : List Tal
     → (j : ℕ) → j < length ends → f (counts_at (slice_set pages k c) j) ≡ count_in test (slice_set tallies i t) (start_at ends j) (end_at ends j)
 new_count f test tallies pages ends i k t c runs len lk s e li fails old is =
     recount test no_tally tallies ends i k t (λ j. f (counts_at pages j)) (λ j. f (counts_at (slice_set pages k c) j)) runs lk s e li old
-      (omega (arith, counted test no_tally tallies ends k i (f (counts_at pages k)) fails (old k lk) li s e, bit_cond (test (tally_at tallies i))))
-      (λ j. ap f (counts_set pages k j c (omega arith)) ∙ pick (k == j) (counts_at pages j) ∙ rw (← bit_cond (test (tally_at tallies i)), ← bit_cond (test t), is) refl) where
-        pick : (b : Bool) (d : PageCounts) → f (cond b c d) ≡ cond b (f c) (f d)
-        pick true d = refl
-        pick false d = refl
+    (omega (arith, counted test no_tally tallies ends k i (f (counts_at pages k)) fails (old k lk) li s e, bit_cond (test (tally_at tallies i))))
+    (λ j. ap f (counts_set pages k j c (omega arith)) ∙ pick (k == j) (counts_at pages j) ∙ rw (← bit_cond (test (tally_at tallies i)), ← bit_cond (test t), is) refl) where
+      pick : (b : Bool) (d : PageCounts) → f (cond b c d) ≡ cond b (f c) (f d)
+      pick true d = refl
+      pick false d = refl
 
 pub new_counts : (tallies : List Tally) (ends : List ℕ) (pages : List PageCounts) (i k : ℕ) (t : Tally) → AreCounts pages ends tallies → k < length ends → start_at ends k ≤ i → i < end_at ends k → i < length tallies
     → AreCounts (slice_set pages k (recounted (counts_at pages k) (tally_at tallies i) t)) ends (slice_set tallies i t)
 new_counts tallies ends pages i k t h lk s e li =
     let len : length (slice_set tallies i t) ≡ length tallies = grind (arith, common_steps) in
     record {
-  runs = subst (λ (n : ℕ). AreRuns ends n) (sym len) h.runs;
-  len = grind (arith, common_steps, h.len);
-  live = new_count (λ c. c.live) is_live tallies pages ends i k t (recounted (counts_at pages k) (tally_at tallies i) t) h.runs h.len lk s e li refl h.live refl;
-  valid = new_count (λ c. c.valid) is_valid tallies pages ends i k t (recounted (counts_at pages k) (tally_at tallies i) t) h.runs h.len lk s e li refl h.valid refl;
-}
+      runs = subst (λ (n : ℕ). AreRuns ends n) (sym len) h.runs;
+      len = grind (arith, common_steps, h.len);
+      live = new_count (λ c. c.live) is_live tallies pages ends i k t (recounted (counts_at pages k) (tally_at tallies i) t) h.runs h.len lk s e li refl h.live refl;
+      valid = new_count (λ c. c.valid) is_valid tallies pages ends i k t (recounted (counts_at pages k) (tally_at tallies i) t) h.runs h.len lk s e li refl h.valid refl;
+    }
 
 tally_set : (tallies : List Tally) (i j : ℕ) (t : Tally) → i < length tallies → tally_at (slice_set tallies i t) j ≡ cond (i == j) t (tally_at tallies j)
 tally_set tallies i j t lt = grind (arith, common_steps)
@@ -70,17 +70,17 @@ new_tallies tallies ends marks i n m h li s e ln =
     let len : length (slice_set marks n m) ≡ length marks = grind (arith, common_steps) in
     let lt : i < length tallies = omega (arith, h.len) in
     record {
-  runs = subst (λ (k : ℕ). AreRuns ends k) (sym len) h.runs;
-  within = λ j lj. rw len (h.within j lj);
-  whole = h.whole ∙ sym len;
-  len = grind (arith, common_steps, h.len);
-  current = recount is_current Out marks ends n i m (λ j. (tally_at tallies j).current) (λ j. (tally_at (slice_set tallies i (moved (tally_at tallies i) (mark_at marks n) m)) j).current) h.runs li s e ln h.current
-      (omega (arith, counted is_current Out marks ends i n (tally_at tallies i).current refl (h.current i li) ln s e, bit_cond (is_current (mark_at marks n))))
-      (λ j. ap (λ (x : Tally). x.current) (tally_set tallies i j t lt) ∙ pick_current (i == j) t (tally_at tallies j) ∙ rw (bit_cond (is_current (mark_at marks n)), bit_cond (is_current m)) refl);
-  there = recount is_there Out marks ends n i m (λ j. (tally_at tallies j).there) (λ j. (tally_at (slice_set tallies i (moved (tally_at tallies i) (mark_at marks n) m)) j).there) h.runs li s e ln h.there
-      (omega (arith, counted is_there Out marks ends i n (tally_at tallies i).there refl (h.there i li) ln s e, bit_cond (is_there (mark_at marks n))))
-      (λ j. ap (λ (x : Tally). x.there) (tally_set tallies i j t lt) ∙ pick_there (i == j) t (tally_at tallies j) ∙ rw (bit_cond (is_there (mark_at marks n)), bit_cond (is_there m)) refl);
-}
+      runs = subst (λ (k : ℕ). AreRuns ends k) (sym len) h.runs;
+      within = λ j lj. rw len (h.within j lj);
+      whole = h.whole ∙ sym len;
+      len = grind (arith, common_steps, h.len);
+      current = recount is_current Out marks ends n i m (λ j. (tally_at tallies j).current) (λ j. (tally_at (slice_set tallies i (moved (tally_at tallies i) (mark_at marks n) m)) j).current) h.runs li s e ln h.current
+          (omega (arith, counted is_current Out marks ends i n (tally_at tallies i).current refl (h.current i li) ln s e, bit_cond (is_current (mark_at marks n))))
+          (λ j. ap (λ (x : Tally). x.current) (tally_set tallies i j t lt) ∙ pick_current (i == j) t (tally_at tallies j) ∙ rw (bit_cond (is_current (mark_at marks n)), bit_cond (is_current m)) refl);
+      there = recount is_there Out marks ends n i m (λ j. (tally_at tallies j).there) (λ j. (tally_at (slice_set tallies i (moved (tally_at tallies i) (mark_at marks n) m)) j).there) h.runs li s e ln h.there
+          (omega (arith, counted is_there Out marks ends i n (tally_at tallies i).there refl (h.there i li) ln s e, bit_cond (is_there (mark_at marks n))))
+          (λ j. ap (λ (x : Tally). x.there) (tally_set tallies i j t lt) ∙ pick_there (i == j) t (tally_at tallies j) ∙ rw (bit_cond (is_there (mark_at marks n)), bit_cond (is_there m)) refl);
+    }
 
 pub same_mark : (marks : List Mark) (n : ℕ) → n < length marks → slice_index_or marks n Current ≡ mark_at marks n
 same_mark marks n lt = grind (arith, common_steps)
@@ -180,18 +180,24 @@ add_runs ends len count h within = record {
 } where
   size : length (ends ++ (len + count) ∷ []) ≡ length ends + 1
   size = length-append ends ((len + count) ∷ [])
+
   last : end_at (ends ++ (len + count) ∷ []) (length (ends ++ (len + count) ∷ []) - 1) ≡ len + count
   last = grind (arith, common_steps, size)
+
   old : (i : ℕ) → i < length ends → end_at (ends ++ (len + count) ∷ []) i ≡ end_at ends i
   old i lt = grind (arith, common_steps)
+
   new : end_at (ends ++ (len + count) ∷ []) (length ends) ≡ len + count
   new = grind (arith, common_steps)
+
   rise : (i j : ℕ) → i ≤ j → j < length (ends ++ (len + count) ∷ []) → end_at (ends ++ (len + count) ∷ []) i ≤ end_at (ends ++ (len + count) ∷ []) j
   rise i j le lt = elim (cases_lt j (length ends)) [
-      inl l ↦ omega (arith, old i (omega arith), old j l, h.rising i j le l)
+    | inl l ↦ omega (arith, old i (omega arith), old j l, h.rising i j le l)
     | inr g ↦ let same : j ≡ length ends = omega (arith, lt, g, size) in rw same (elim (cases_lt i (length ends)) [
-          inl l ↦ omega (arith, old i l, new, within i l)
-        | inr m ↦ let s2 : i ≡ length ends = omega (arith, same, le, m) in rw s2 (omega arith) ]) ]
+      | inl l ↦ omega (arith, old i l, new, within i l)
+      | inr m ↦ let s2 : i ≡ length ends = omega (arith, same, le, m) in rw s2 (omega arith)
+    ])
+  ]
 
 start_old : (ends : List ℕ) (x j : ℕ) → j ≤ length ends → start_at (ends ++ x ∷ []) j ≡ start_at ends j
 start_old ends x zero h = refl
@@ -246,20 +252,25 @@ add_tallies tallies ends marks count h = record {
   whole = rw more (start_end ends (length marks + count)) ∙ sym size;
   len = omega (arith, length-append tallies ((record { current = count; there = count }) ∷ []), more, h.len);
   current = λ j lj. elim (cases_lt j (length ends)) [
-      inl l ↦ each_old is_current (λ t. t.current) tallies (record { current = count; there = count }) ends marks (replicate count Current) (length marks + count) j h.len l (h.within j l) (h.current j l)
-    | inr g ↦ let same : j ≡ length ends = omega (arith, lj, more, g) in rw same (each_new is_current (λ t. t.current) tallies (record { current = count; there = count }) ends marks count h.len h.whole (sym (count_all is_current Current count refl))) ];
+    | inl l ↦ each_old is_current (λ t. t.current) tallies (record { current = count; there = count }) ends marks (replicate count Current) (length marks + count) j h.len l (h.within j l) (h.current j l)
+    | inr g ↦ let same : j ≡ length ends = omega (arith, lj, more, g) in rw same (each_new is_current (λ t. t.current) tallies (record { current = count; there = count }) ends marks count h.len h.whole (sym (count_all is_current Current count refl)))
+  ];
   there = λ j lj. elim (cases_lt j (length ends)) [
-      inl l ↦ each_old is_there (λ t. t.there) tallies (record { current = count; there = count }) ends marks (replicate count Current) (length marks + count) j h.len l (h.within j l) (h.there j l)
-    | inr g ↦ let same : j ≡ length ends = omega (arith, lj, more, g) in rw same (each_new is_there (λ t. t.there) tallies (record { current = count; there = count }) ends marks count h.len h.whole (sym (count_all is_there Current count refl))) ];
+    | inl l ↦ each_old is_there (λ t. t.there) tallies (record { current = count; there = count }) ends marks (replicate count Current) (length marks + count) j h.len l (h.within j l) (h.there j l)
+    | inr g ↦ let same : j ≡ length ends = omega (arith, lj, more, g) in rw same (each_new is_there (λ t. t.there) tallies (record { current = count; there = count }) ends marks count h.len h.whole (sym (count_all is_there Current count refl)))
+  ];
 } where
   size : length (marks ++ replicate count Current) ≡ length marks + count
   size = omega (arith, length-append marks (replicate count Current), fresh_length count)
+
   more : length (ends ++ (length marks + count) ∷ []) ≡ length ends + 1
   more = length-append ends ((length marks + count) ∷ [])
+
   within : (j : ℕ) → j < length (ends ++ (length marks + count) ∷ []) → end_at (ends ++ (length marks + count) ∷ []) j ≤ length (marks ++ replicate count Current)
   within j lj = elim (cases_lt j (length ends)) [
-      inl l ↦ omega (arith, end_old ends (length marks + count) j l, h.within j l, size)
-    | inr g ↦ let same : j ≡ length ends = omega (arith, lj, more, g) in rw same (omega (arith, end_new ends (length marks + count), size)) ]
+    | inl l ↦ omega (arith, end_old ends (length marks + count) j l, h.within j l, size)
+    | inr g ↦ let same : j ≡ length ends = omega (arith, lj, more, g) in rw same (omega (arith, end_new ends (length marks + count), size))
+  ]
 
 pub add_counts : (tallies : List Tally) (ends : List ℕ) (pages : List PageCounts) (k : ℕ) (t : Tally) (c : PageCounts) → AreCounts pages ends tallies → k < length ends → start_at ends k ≤ length tallies → length tallies < end_at ends k
     → AreRuns ends (length tallies + 1)

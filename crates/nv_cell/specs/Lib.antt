@@ -1,3 +1,4 @@
+pub mod Effects
 pub mod Index
 pub mod Numbers
 pub mod Marks

@@ -103,11 +103,13 @@ impl CellIndex {
     pub fn name_part_at(&self, place: usize) -> Option<PartRef>
         ensures { result ≡ option_map (λ b. name_part b.1) (slice_get self.now.names.names place) }
     {
-        let (_name, binding) = self.names.at(place)?;
-        Some(PartRef {
-            entry: binding.entry,
-            place: 0,
-        })
+        match self.names.at(place) {
+            None => None,
+            Some((_, binding)) => Some(PartRef {
+                entry: binding.entry,
+                place: 0,
+            }),
+        }
     }
 
     /// The least present page that isn't below `page`, with its part.
@@ -128,7 +130,7 @@ impl CellIndex {
         requires block { 0 < block }
         requires room { 2 ≤ self.old.pages.room }
         requires names { NameReady entry.now.item self.old.names }
-        ensures names { NamesAfter entry.now self.old.names self.new.names }
+        ensures names { NamesAfter entry.now.id entry.now.item self.old.names self.new.names }
         ensures room { self.old.pages.room ≤ self.new.pages.room + 2 }
         ensures refs { (key : Key) → ref_of self.new key
             ≡ ref_after block entry.now key (ref_of self.old key) }

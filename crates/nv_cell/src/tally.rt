@@ -43,7 +43,11 @@ impl Tally {
     {
         Tally {
             current: self.current - usize::from(was.is_current()),
-            there: if mark.is_there() { self.there } else { self.there - 1 },
+            there: if mark.is_there() {
+                self.there
+            } else {
+                self.there - 1
+            },
         }
     }
 }

@@ -10,7 +10,6 @@ pub invariant_of-result : goal.invariant_of-result
 unfolding ref_at
 invariant_of-result c page at is = let h = ap (λ v. ref_at v.pages page) c.new.ensures in cc
 
-
 pub returns-clause-refs : goal.returns-clause-refs
 unfolding ref_at
 returns-clause-refs c KindKey = refl
