@@ -1,4 +1,6 @@
+pub mod Cell
 pub mod Effects
+pub mod Fields
 pub mod Index
 pub mod Numbers
 pub mod Marks
