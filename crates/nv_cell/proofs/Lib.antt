@@ -6,5 +6,10 @@ pub mod Numbers
 pub mod Killing
 pub mod NameWalk
 pub mod Publishing
+pub mod Cells
+pub mod Publishes
+pub mod Published
+pub mod Naming
+pub mod Remarking
 pub mod Readied
 pub mod Bound

@@ -2,6 +2,7 @@ pub mod Cell
 pub mod Effects
 pub mod Fields
 pub mod Index
+pub mod Named
 pub mod Numbers
 pub mod Marks
 pub mod Tallies

@@ -1,15 +1,20 @@
 -- The parts of a log by number, and which of them an index names.
-use Rattle.std.specs.Prelude.{◌≡◌, ℕ, ◌+◌, ◌<◌, ◌≤◌, ◌==◌, ◌&&◌, ◌^◌, Bool, true, false, not, nat_lt, nat_le, List, [], ◌∷◌, take, length, count_by, Option, Some, None, unwrap_or}
+use Rattle.std.specs.Prelude.{◌≡◌, ℕ, ◌+◌, ◌-◌, ◌<◌, if◌then◌else◌, filter, slice_get, ◌≤◌, ◌==◌, ◌&&◌, ◌^◌, Bool, true, false, not, nat_lt, nat_le, List, [], ◌∷◌, take, length, count_by, Option, Some, None, unwrap_or}
+use Rattle.std.specs.List.{range_with_len}
 use Rattle.std.specs.Option.{option_map, is_some, IsSome}
 use Rattle.nv_base.specs.Names.{same_name}
 use Rattle.nv_entry.specs.declared.item.Entry.{Entry}
 use Rattle.nv_entry.specs.declared.part_ref.PartRef.{PartRef}
-use Rattle.nv_entry.specs.Covered.{is_covered, key_at, part_total}
-use Rattle.nv_entry.specs.Keys.{Key, KindKey, ModeKey, SizeKey, NameKey, PageKey}
+use Rattle.nv_entry.specs.Covered.{is_covered, key_at, part_count, part_total}
+use Rattle.nv_entry.specs.Keys.{Key, KindKey, ModeKey, SizeKey, NameKey, PageKey, parts_of}
 use Rattle.nv_log.specs.Chain.{place_of}
 use Rattle.nv_nindex.specs.declared.binding.Binding.{Binding}
 use Rattle.nv_nindex.specs.NameIndex.{binding_of}
+use Rattle.nv_cell.specs.declared.killed.KilledPart.{KilledPart}
+use Rattle.nv_cell.specs.declared.mark.Mark.{Mark}
+use Rattle.nv_cell.specs.declared.mark.Mark.TheVariants.{Current, Killed, Out}
 use Rattle.nv_cell.specs.Index.{IndexValue, ref_of}
+use Rattle.nv_cell.specs.Marks.{mark_at}
 use Rattle.nv_cell.specs.Tallies.{start_at}
 
 -- how many parts the first `t` entries have
@@ -87,3 +92,20 @@ is_size key = false
 -- the parts that the entries from `tail` on kill: covered by all, and not by those before
 abbrev pub dies : ℕ → List Entry → ℕ → ℕ → Bool
 dies block es tail n = (nat_lt n (part_total es) && is_covered block es n) && not (is_covered block (take tail es) n)
+
+-- the numbers of the parts that the entries from `tail` on kill, rising
+abbrev pub killed_numbers : ℕ → List Entry → ℕ → List ℕ
+killed_numbers block es tail = filter (dies block es tail) (range_with_len 0 (part_total es))
+
+-- the part n of a log, with its birth
+abbrev pub killed_part : List Entry → ℕ → Option KilledPart
+killed_part [] n = None
+killed_part (e ∷ later) n =
+    if nat_lt n (part_count e)
+    then option_map (λ part. record { part = record { entry = e.id; part = part }; birth = e.epoch }) (slice_get (parts_of e.item) n)
+    else killed_part later (n - part_count e)
+
+-- the mark of the part n once the entries from `tail` on are published
+abbrev pub published_mark : ℕ → List Entry → ℕ → List Mark → ℕ → Mark
+published_mark block es tail marks n =
+    if dies block es tail n then Killed else if nat_lt n (part_base es tail) then mark_at marks n else if nat_lt n (part_total es) then Current else Out

@@ -93,5 +93,12 @@ pub record HasSpare (m : Marks) (parts entries : ℕ) : Type 0 where
   pub ends : vec_len m.ends + entries ≤ vec_capacity m.ends
   pub tallies : vec_len m.tallies + entries ≤ vec_capacity m.tallies
 
+-- the vectors have room for as much as before
+pub record SameCapacity (old new : Marks) : Type 0 where
+  pub marks : vec_capacity new.marks ≡ vec_capacity old.marks
+  pub ends : vec_capacity new.ends ≡ vec_capacity old.ends
+  pub tallies : vec_capacity new.tallies ≡ vec_capacity old.tallies
+  pub pages : vec_capacity new.pages ≡ vec_capacity old.pages
+
 abbrev pub is_in : ℕ → List ℕ → Bool
 is_in n list = list_any (λ m. m == n) list

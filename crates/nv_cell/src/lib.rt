@@ -8,6 +8,8 @@ mod killed;
 mod kills;
 mod mark;
 mod marks;
+mod number;
+mod publish;
 mod tally;
 
 pub use cell::InodeCell;

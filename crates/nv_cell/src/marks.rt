@@ -1,9 +1,9 @@
 //! The marks of a log's parts by number, with what follows from them by entry and by page.
 
-ghost use Rattle.std.specs.Prelude.{◌≡◌, ℕ, ◌+◌, ◌-◌, ◌<◌, ◌≤◌, ◌^◌, ◌++◌, ◌∷◌, [], Bool, true, false, if◌then◌else◌, IfErr, OnOk, length, replicate, slice_index, slice_index_or, slice_set, vec_capacity, vec_len};
+ghost use Rattle.std.specs.Prelude.{◌≡◌, ℕ, ◌+◌, ◌-◌, ◌<◌, ◌≤◌, ◌^◌, ◌++◌, ◌∷◌, [], Bool, true, false, if◌then◌else◌, IfErr, OnOk, length, replicate, slice_get, slice_index, slice_index_or, slice_set, vec_capacity, vec_len};
 ghost use Rattle.nv_base.specs.declared.fault.Fault.TheVariants.{OutOfMemory};
 ghost use Rattle.nv_cell.specs.Marks.{bit, is_current, is_there, mark_at};
-ghost use Rattle.nv_cell.specs.Tallies.{AreCounts, AreRuns, AreTallied, HasSpare, IsInRun, end_at, is_in, moved, start_at, tally_at, counts_at};
+ghost use Rattle.nv_cell.specs.Tallies.{AreCounts, AreRuns, AreTallied, HasSpare, IsInRun, SameCapacity, end_at, is_in, moved, start_at, tally_at, counts_at};
 ghost use Rattle.nv_cell.specs.declared.mark.Mark.TheVariants as mark;
 
 use crate::{Mark, PageCounts, Tally};
@@ -67,6 +67,22 @@ impl Marks {
         self.ends.get(entry - 1).copied().unwrap_or(0)
     }
 
+    /// The mark of a part, if there are so many parts.
+    pub fn get(&self, n: usize) -> Option<Mark>
+        ensures { result ≡ slice_get self.now.marks.items n }
+    {
+        self.marks.get(n).copied()
+    }
+
+    /// The place of the entry that a part stands in, by the part's number. The time grows with the logarithm of the
+    /// entries.
+    pub fn entry_of(&self, n: usize) -> usize
+        requires runs { AreRuns self.now.ends.items (n + 1) }
+        ensures { IsInRun self.now.ends.items n result }
+    {
+        run_of(&self.ends, n)
+    }
+
     /// Adds the marks of an entry's parts, each current, and counts the entry in its page. Grows nothing.
     pub fn add(&mut self, page_ends: &[usize], parts: usize)
         requires room { HasSpare self.old parts 1 }
@@ -77,8 +93,7 @@ impl Marks {
         ensures ends { self.new.ends.items
             ≡ self.old.ends.items ++ (length self.old.marks.items + parts) ∷ [] }
         ensures tallied { AreTallied self.new page_ends.now }
-        ensures room { (more entries : ℕ) → HasSpare self.old (parts + more) (1 + entries)
-            → HasSpare self.new more entries }
+        ensures room { SameCapacity self.old self.new }
     {
         let tally = Tally {
             current: parts,
@@ -101,6 +116,7 @@ impl Marks {
             ≡ (if is_in n killed.now then mark.Killed else mark_at self.old.marks.items n) }
         ensures len { vec_len self.new.marks ≡ vec_len self.old.marks }
         ensures ends { self.new.ends ≡ self.old.ends }
+        ensures room { SameCapacity self.old self.new }
         ensures tallied { AreTallied self.new page_ends.now }
     {
         for n in killed {
@@ -115,7 +131,7 @@ impl Marks {
         requires ended { is_current mark ≡ false }
         requires tallied { AreTallied self.old page_ends.now }
         ensures marks { self.new.marks.items ≡ slice_set self.old.marks.items n mark }
-        ensures marks_room { vec_capacity self.new.marks ≡ vec_capacity self.old.marks }
+        ensures room { SameCapacity self.old self.new }
         ensures ends { self.new.ends ≡ self.old.ends }
         ensures tallied { AreTallied self.new page_ends.now }
     {
