@@ -1,0 +1,15 @@
+pub mod Runs
+pub mod Tallies
+pub mod Setting
+pub mod Placing
+pub mod Numbers
+pub mod Killing
+pub mod NameWalk
+pub mod Publishing
+pub mod Cells
+pub mod Publishes
+pub mod Published
+pub mod Naming
+pub mod Remarking
+pub mod Readied
+pub mod Bound

@@ -1,0 +1,102 @@
+use Rattle.std.proofs.Common.{◌≡◌, ℕ, ◌+◌, ◌-◌, ◌*◌, ◌<◌, ◌≤◌, List, Option, Some, None, Bool, true, false, arith, refl, ap, sym, ◌∙◌, length, take, drop, inl, inr, min, cond, not}
+use Rattle.std.specs.Prelude.{vec_len, vec_capacity}
+use Rattle.nv_entry.specs.declared.item.Entry.{Entry}
+use Rattle.nv_entry.specs.Covered.{part_total, is_covered}
+use Rattle.nv_entry.specs.Keys.{Key}
+use Rattle.nv_entry.specs.Refs.{scan_ref}
+use Rattle.nv_cell.specs.declared.mark.Mark.{Mark}
+use Rattle.nv_cell.specs.declared.mark.Mark.TheVariants.{Current, Killed, Kept, Out}
+use Rattle.nv_cell.specs.Cell.{CellState, HasBlocks, HasMarks, log_of, mark_named, number_in, with_mark, without_part, IsReady}
+use Rattle.nv_cell.specs.Effects.{NamesReady, items_of}
+use Rattle.nv_cell.specs.Fields.{AreFields, state_in}
+use Rattle.nv_cell.specs.Marks.{is_current, is_there, mark_at}
+use Rattle.nv_cell.specs.Named.{number_named}
+use Rattle.nv_cell.specs.Numbers.{HasRoom, dies, killed_numbers, part_base, published_mark}
+use Rattle.std.proofs.Common.{subst, slice_index_or, map}
+use Rattle.std.specs.List.{range_with_len}
+use Rattle.nv_log.specs.Chain.{ChainState}
+use Rattle.nv_cell.specs.Cell.{CellValue, page_block, published}
+use Rattle.nv_cell.specs.Fields.{value_in}
+use Rattle.nv_cell.specs.Index.{bindings_of}
+use Rattle.nv_nindex.specs.NameIndex.{HaveSameBindings}
+use Rattle.nv_cell.proofs.Cells.{mark_now}
+use Rattle.nv_cell.proofs.Published.{list_from, names_ready, room_left, room_right, there_stays}
+use Rattle.nv_cell.proofs.Publishes.{filtered_low, first_base}
+use Rattle.nv_cell.proofs.Publishing.{take_whole}
+use Rattle.nv_cell.proofs.cell.InodeCell.publish.Goals as goal
+
+pub take_effect-requires-clause-names : goal.take_effect-requires-clause-names
+take_effect-requires-clause-names c =
+    let s = state_in c.self.inside in
+    let ready : IsReady (value_in c.self.inside) = subst (λ v. IsReady v) (sym c.self.view_is) c.requires.ready in
+    rw c.tail-tail.ensures.value (names_ready (items_of (drop s.chain.tail s.chain.entries)) (record { names = bindings_of (log_of s); reserved = c.self.inside.index.names.reserved }) c.self.inside.index.names c.self.invariant.names refl ready.names)
+
+pub name_all-requires-clause-ends : goal.name_all-requires-clause-ends
+name_all-requires-clause-ends c =
+    let es = c.self.inside.chain.state.entries in
+    record {
+      first = first_base c.take_effect.new.marks.ends.items es (length es) c.take_effect.ensures.ended;
+      small = omega (arith, c.take_effect.ensures.len);
+    }
+
+pub name_all-requires-clause-within : goal.name_all-requires-clause-within
+name_all-requires-clause-within c i d lt =
+    let es = c.self.inside.chain.state.entries in
+    filtered_low (dies c.self.inside.block es c.tail-tail.result) (part_total es) c.deref.result.now i d (c.deref.ensures.value ∙ c.take_effect.ensures.killed) lt
+
+pub name_all-requires-clause-room : goal.name_all-requires-clause-room
+name_all-requires-clause-room c =
+    let s = state_in c.self.inside in
+    let ready : IsReady (value_in c.self.inside) = subst (λ v. IsReady v) (sym c.self.view_is) c.requires.ready in
+    let room = room_right (λ n. cond (dies s.block s.chain.entries s.chain.tail n) 1 0) (vec_capacity c.self.inside.numbers) (vec_capacity c.self.inside.killed) ready.killed in
+    let few = room c.take_effect.new.numbers.items (λ n. let o = rw c.tail-tail.ensures.value at (c.take_effect.ensures.once n) in omega (arith, o)) in
+    rw (c.deref.ensures.value, c.replace-killed.ensures.value) few
+
+pub invariant_of-self : goal.invariant_of-self
+invariant_of-self c =
+    let s = state_in c.self.inside in
+    let es = c.self.inside.chain.state.entries in
+    let inv = c.self.invariant in
+    let to : c.publish_to.new.self.state ≡ record c.self.inside.chain.state { tail = length es } = c.publish_to.ensures.state ∙ ap (λ (t : ℕ). record c.self.inside.chain.state { tail = t }) c.len.ensures in
+    let marks = c.take_effect.new.marks.marks.items in
+    let is : (n : ℕ) → mark_at marks n ≡ published_mark s.block es s.chain.tail s.marks n = λ n. rw c.tail-tail.ensures.value at (c.take_effect.ensures.marks n) in
+    let r = c.take_effect.ensures.room in
+    rw to (record {
+      some = inv.some;
+      marks = record {
+        len = c.take_effect.ensures.len ∙ ap part_total (sym (take_whole es));
+        current = λ n lt.
+            mark_now s.block es s.chain.tail n (mark_at s.marks n) (mark_at marks n) (rw (take_whole es) at lt) (omega (arith, c.tail-tail.ensures.value, c.tail-tail.ensures.within)) (λ l. inv.marks.current n l) (is n)
+            ∙ ap (λ (xs : List Entry). not (is_covered s.block xs n)) (sym (take_whole es));
+      };
+      blocks = record {
+        len = inv.blocks.len;
+        numbers = λ n. inv.blocks.numbers n ∙ ap (λ (b : Bool). cond b (page_block s.block es n) None) (sym (there_stays s.block es s.chain.tail s.marks marks inv.marks.len c.take_effect.ensures.len inv.marks.current is n));
+        sized = inv.blocks.sized;
+      };
+      refs = λ key. c.take_effect.ensures.scan key ∙ ap (λ (xs : List Entry). scan_ref s.block xs key) (sym (take_whole es));
+      names = subst (λ (xs : List Entry). HaveSameBindings (bindings_of xs) c.take_effect.new.index.names.names) (sym (take_whole es)) c.take_effect.ensures.bound;
+      ends_len = c.take_effect.ensures.counted;
+      ends = c.take_effect.ensures.ended;
+      tallied = c.take_effect.ensures.tallied;
+      spare = record {
+        marks = omega (arith, inv.spare.marks, r.marks, c.take_effect.ensures.len, inv.marks.len);
+        ends = omega (arith, inv.spare.ends, r.ends, c.take_effect.ensures.counted, inv.ends_len);
+        tallies = omega (arith, inv.spare.tallies, r.tallies, c.take_effect.ensures.counted, inv.ends_len, inv.tallied.tallies.len, c.take_effect.ensures.tallied.tallies.len);
+      };
+      blocks_room = inv.blocks_room;
+      pages_room = omega (arith, inv.pages_room, r.pages, c.publish_to.ensures.spare);
+      no_numbers = c.clear.ensures.items;
+      no_killed = rw c.replace-killed.ensures.after c.new.ensures.items;
+    })
+
+pub returns-clause-state : goal.returns-clause-state
+returns-clause-state c =
+    let s = state_in c.self.inside in
+    let es = c.self.inside.chain.state.entries in
+    let to : c.publish_to.new.self.state ≡ record c.self.inside.chain.state { tail = length es } = c.publish_to.ensures.state ∙ ap (λ (t : ℕ). record c.self.inside.chain.state { tail = t }) c.len.ensures in
+    let f : ℕ → Mark = published_mark s.block es s.chain.tail s.marks in
+    let is : (n : ℕ) → mark_at c.take_effect.new.marks.marks.items n ≡ published_mark s.block es s.chain.tail s.marks n = λ n. rw c.tail-tail.ensures.value at (c.take_effect.ensures.marks n) in
+    let all = list_from c.take_effect.new.marks.marks.items f Out 0 (λ n lt. is n ∙ (let z : n ≡ 0 + n = omega arith in ap f z)) in
+    let m : c.take_effect.new.marks.marks.items ≡ map f (range_with_len 0 (part_total es)) = rw c.take_effect.ensures.len at all in
+    rw (← c.self.view_is, to, m) refl

@@ -1,0 +1,8 @@
+pub mod Cell
+pub mod Effects
+pub mod Fields
+pub mod Index
+pub mod Named
+pub mod Numbers
+pub mod Marks
+pub mod Tallies

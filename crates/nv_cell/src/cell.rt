@@ -1,0 +1,157 @@
+//! The inode cell.
+
+ghost use Rattle.std.specs.Prelude.{◌≡◌, ◌+◌, ◌<◌, ◌≤◌, ◌^◌, ◌⊎◌, [], None, Some, slice_index_or, length, map};
+ghost use Rattle.nv_base.specs.declared.limits.TheConstants.{LEAST_PAGE_ENTRIES, PAGE_ENTRIES};
+ghost use Rattle.nv_cell.specs.Cell.{IsReady, KeepsAppendRoom, empty_cell, killed_of, mark_named, number_in, published, with_mark, without_part};
+ghost use Rattle.nv_cell.specs.Numbers.{killed_part};
+
+use crate::number::number_of;
+use crate::publish::{name_all, take_effect};
+use crate::{CellIndex, KilledPart, Mark, Marks};
+use nv_alloc::Block;
+use nv_base::Gen;
+use nv_entry::PartId;
+use nv_log::Chain;
+use std::alloc::Global;
+use std::marker::Model;
+use std::mem;
+
+/// An inode with its log, or an empty slot. Its index, the marks of its parts and the counts of its pages are at all
+/// times those of one scan of its log.
+///
+/// A cell owns the blocks of its log pages and of its data, so it is no `Drop`.
+pub struct InodeCell {
+    alloc: Global,
+    // Bytes of a block.
+    block: u64,
+    generation: Gen,
+    version: u64,
+    chain: Chain,
+    index: CellIndex,
+    marks: Marks,
+    // The block of each page part that is not out, by part number; also of parts that are not yet published.
+    blocks: Vec<Option<Block>>,
+    // For how many more entries, and parts of entries, there is room.
+    entries: usize,
+    parts: usize,
+    // Room for the parts that a publish kills; empty between calls.
+    numbers: Vec<usize>,
+    killed: Vec<KilledPart>,
+}
+
+impl Model for InodeCell {
+    ghost use Rattle.nv_cell.specs.Cell.{CellValue};
+
+    ghost Value = { CellValue };
+
+    ghost use Rattle.nv_cell.specs.Fields.{AreFields, value_in};
+
+    ghost view = { value_in };
+
+    ghost invariant = { AreFields };
+}
+
+impl InodeCell {
+    /// An empty slot, for an inode with blocks of `block` bytes and `page` entries a log page.
+    pub fn new(alloc: Global, block: u64, page: usize, generation: Gen, version: u64) -> InodeCell
+        requires block { 0 < block }
+        requires least { LEAST_PAGE_ENTRIES ≤ page }
+        requires most { page ≤ PAGE_ENTRIES }
+        ensures state { result.state ≡ empty_cell block page generation version }
+    {
+        InodeCell {
+            alloc,
+            block,
+            generation,
+            version,
+            chain: Chain::new(alloc, page),
+            index: CellIndex::new(alloc),
+            marks: Marks::new(alloc),
+            blocks: Vec::new(alloc),
+            entries: 0,
+            parts: 0,
+            numbers: Vec::new(alloc),
+            killed: Vec::new(alloc),
+        }
+    }
+
+    /// How many commits were published. It outlasts the inode.
+    pub fn version(&self) -> u64
+        ensures { result ≡ self.now.state.version }
+    {
+        self.version
+    }
+
+    /// The generation of the inode, or in an empty slot that of the next one.
+    pub fn generation(&self) -> Gen
+        ensures { result ≡ self.now.state.generation }
+    {
+        self.generation
+    }
+
+    /// Publishes all entries past the tail, and gives the parts that were current, or are newly published, and are not
+    /// current after it, by entry in log order and then by part. They are marked killed. Takes no memory; the time is
+    /// that of the entries and parts that change, times a logarithm.
+    pub fn publish(&mut self) -> Vec<KilledPart>
+        requires some { self.old.state.chain.tail < length self.old.state.chain.entries }
+        requires version { self.old.state.version < 2 ^ 62 }
+        requires ready { IsReady self.old }
+        ensures state { self.new.state ≡ published self.old.state }
+        ensures killed { map Some result.items
+            ≡ map (killed_part self.old.state.chain.entries) (killed_of self.old.state) }
+        ensures room { KeepsAppendRoom self.old.room self.new.room }
+    {
+        let tail = self.chain.tail();
+        take_effect(
+            &mut self.index,
+            &mut self.numbers,
+            &mut self.marks,
+            &self.chain,
+            self.block,
+            tail,
+        );
+        let mut killed = mem::replace(&mut self.killed, Vec::new(self.alloc));
+        name_all(&mut killed, &self.numbers, &self.chain, &self.marks);
+        self.numbers.clear();
+        self.chain.publish_to(self.chain.len());
+        self.version += 1;
+        killed
+    }
+
+    /// The mark of a part of a published entry; none where the log has no such part. The time grows with the logarithm
+    /// of the entries.
+    pub fn mark(&self, part: PartId) -> Option<Mark>
+        ensures { result ≡ mark_named self.now.state part }
+    {
+        let n = number_of(&self.chain, &self.marks, part)?;
+        self.marks.get(n)
+    }
+
+    /// Marks a killed part kept. Takes no memory; the time grows with the logarithm of the entries and pages.
+    pub fn retire(&mut self, part: PartId)
+        requires { mark_named self.old.state part ≡ Some Mark.Killed }
+        ensures state { self.new.state
+            ≡ with_mark self.old.state (number_in self.old.state part) Mark.Kept }
+        ensures room { self.new.room ≡ self.old.room }
+    {
+        let n = number_of(&self.chain, &self.marks, part).unwrap();
+        self.marks.set(self.chain.ends(), n, Mark::Kept);
+    }
+
+    /// Puts a killed or kept part out, and hands out its block, which a page has and no other part. Takes no memory; the
+    /// time grows with the logarithm of the entries and pages.
+    pub fn release(&mut self, part: PartId) -> Option<Block>
+        requires { (mark_named self.old.state part ≡ Some Mark.Killed)
+            ⊎ (mark_named self.old.state part ≡ Some Mark.Kept) }
+        ensures block { result
+            ≡ slice_index_or self.old.state.blocks (number_in self.old.state part) None }
+        ensures state { self.new.state
+            ≡ without_part self.old.state (number_in self.old.state part) }
+        ensures room { self.new.room ≡ self.old.room }
+    {
+        let n = number_of(&self.chain, &self.marks, part).unwrap();
+        self.marks.set(self.chain.ends(), n, Mark::Out);
+        let slot = &mut self.blocks[n];
+        slot.take()
+    }
+}

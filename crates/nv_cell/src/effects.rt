@@ -1,0 +1,48 @@
+//! The entries past the tail take effect on the index.
+
+ghost use Rattle.std.specs.Prelude.{◌≡◌, ℕ, ◌+◌, ◌-◌, ◌*◌, ◌<◌, ◌≤◌, if◌then◌else◌, drop, length, take, vec_capacity};
+ghost use Rattle.nv_entry.specs.Keys.{Key};
+ghost use Rattle.nv_entry.specs.Refs.{scan_ref};
+ghost use Rattle.nv_cell.specs.Effects.{NamesReady, items_of};
+ghost use Rattle.nv_nindex.specs.NameIndex.{HaveSameBindings};
+ghost use Rattle.nv_cell.specs.Index.{bindings_of, ref_of};
+ghost use Rattle.nv_cell.specs.Numbers.{AreEnds, HasRoom, dies, times};
+
+use crate::kills::push_covered;
+use crate::{CellIndex, Marks};
+use nv_log::Chain;
+
+/// Brings the index from the entries before the tail up to all entries, and puts the numbers of the parts on the
+/// list that were current, or are newly published, and are not current after it.
+pub fn apply_all(
+    index: &mut CellIndex,
+    killed: &mut Vec<usize>,
+    chain: &Chain,
+    marks: &Marks,
+    block: u64,
+    tail: usize,
+)
+    requires block { 0 < block }
+    requires tail { tail ≤ length chain.now.state.entries }
+    requires ends { AreEnds marks.now.ends.items chain.now.state.entries }
+    requires pages { 2 * (length chain.now.state.entries - tail) ≤ index.old.pages.room }
+    requires names { NamesReady (items_of (drop tail chain.now.state.entries)) index.old.names }
+    requires scan { (key : Key) → ref_of index.old key
+        ≡ scan_ref block (take tail chain.now.state.entries) key }
+    requires bound { HaveSameBindings (bindings_of (take tail chain.now.state.entries))
+        index.old.names.names }
+    requires room { HasRoom (λ n. times n killed.old.items
+        + (if dies block chain.now.state.entries tail n then 1 else 0)) (vec_capacity killed.old) }
+    ensures scan { (key : Key) → ref_of index.new key ≡ scan_ref block chain.now.state.entries key }
+    ensures bound { HaveSameBindings (bindings_of chain.now.state.entries) index.new.names.names }
+    ensures killed { (n : ℕ) → times n killed.new.items ≡ times n killed.old.items
+        + (if dies block chain.now.state.entries tail n then 1 else 0) }
+    ensures capacity { vec_capacity killed.new ≡ vec_capacity killed.old }
+{
+    let entries = chain.entries();
+    for t in tail..entries.len() {
+        let entry = &entries[t];
+        push_covered(killed, chain, marks, index, block, &entry.item);
+        index.put(block, entry);
+    }
+}

@@ -1,0 +1,21 @@
+//! An inode with its log: the value under each inode lock.
+#![tactic(auto)]
+
+mod cell;
+mod effects;
+mod index;
+mod killed;
+mod kills;
+mod mark;
+mod marks;
+mod number;
+mod publish;
+mod tally;
+
+pub use cell::InodeCell;
+pub use effects::apply_all;
+pub use index::CellIndex;
+pub use killed::KilledPart;
+pub use mark::Mark;
+pub use marks::Marks;
+pub use tally::{PageCounts, Tally};

@@ -1,0 +1,150 @@
+//! The marks of a log's parts by number, with what follows from them by entry and by page.
+
+ghost use Rattle.std.specs.Prelude.{◌≡◌, ℕ, ◌+◌, ◌-◌, ◌<◌, ◌≤◌, ◌^◌, ◌++◌, ◌∷◌, [], Bool, true, false, if◌then◌else◌, IfErr, OnOk, length, replicate, slice_get, slice_index, slice_index_or, slice_set, vec_capacity, vec_len};
+ghost use Rattle.nv_base.specs.declared.fault.Fault.TheVariants.{OutOfMemory};
+ghost use Rattle.nv_cell.specs.Marks.{bit, is_current, is_there, mark_at};
+ghost use Rattle.nv_cell.specs.Tallies.{AreCounts, AreRuns, AreTallied, HasSpare, IsInRun, SameCapacity, end_at, is_in, moved, start_at, tally_at, counts_at};
+ghost use Rattle.nv_cell.specs.declared.mark.Mark.TheVariants as mark;
+
+use crate::{Mark, PageCounts, Tally};
+use nv_base::Fault;
+use std::alloc::Global;
+
+/// The mark of each published part by its number, where the parts of each entry end among them, and how many of each
+/// entry's parts and of each page's entries are kept. Pages are those of the chain: where they end is told by it.
+#[derive(Debug, Drop)]
+pub struct Marks {
+    pub(crate) marks: Vec<Mark>,
+    pub(crate) ends: Vec<usize>,
+    pub(crate) tallies: Vec<Tally>,
+    pub(crate) pages: Vec<PageCounts>,
+    /// How many parts are not out.
+    pub(crate) there: usize,
+}
+
+/// The run that an item stands in, found by halving over the ends of the runs.
+fn run_of(ends: &[usize], n: usize) -> usize
+    requires { AreRuns ends.now (n + 1) }
+    ensures { IsInRun ends.now n result }
+{
+    ends.partition_point(|end| *end <= n)
+}
+
+/// Adds marks of current parts.
+fn push_current(marks: &mut Vec<Mark>, count: usize)
+    requires { vec_len marks.old + count ≤ vec_capacity marks.old }
+    ensures items { marks.new.items ≡ marks.old.items ++ replicate count mark.Current }
+    ensures capacity { vec_capacity marks.new ≡ vec_capacity marks.old }
+{
+    for _done in 0..count {
+        marks.push_reserved(Mark::Current);
+    }
+}
+
+impl Marks {
+    /// No marks.
+    pub fn new(alloc: Global) -> Marks
+        ensures marks { result.marks.items ≡ [] }
+        ensures ends { result.ends.items ≡ [] }
+        ensures tallied { AreTallied result [] }
+    {
+        Marks {
+            marks: Vec::new(alloc),
+            ends: Vec::new(alloc),
+            tallies: Vec::new(alloc),
+            pages: Vec::new(alloc),
+            there: 0,
+        }
+    }
+
+    /// The number of the first part of an entry, by the entry's place in the log.
+    pub fn first(&self, entry: usize) -> usize
+        ensures { result ≡ start_at self.now.ends.items entry }
+    {
+        if entry == 0 {
+            return 0;
+        }
+        self.ends.get(entry - 1).copied().unwrap_or(0)
+    }
+
+    /// The mark of a part, if there are so many parts.
+    pub fn get(&self, n: usize) -> Option<Mark>
+        ensures { result ≡ slice_get self.now.marks.items n }
+    {
+        self.marks.get(n).copied()
+    }
+
+    /// The place of the entry that a part stands in, by the part's number. The time grows with the logarithm of the
+    /// entries.
+    pub fn entry_of(&self, n: usize) -> usize
+        requires runs { AreRuns self.now.ends.items (n + 1) }
+        ensures { IsInRun self.now.ends.items n result }
+    {
+        run_of(&self.ends, n)
+    }
+
+    /// Adds the marks of an entry's parts, each current, and counts the entry in its page. Grows nothing.
+    pub fn add(&mut self, page_ends: &[usize], parts: usize)
+        requires room { HasSpare self.old parts 1 }
+        requires page { AreRuns page_ends.now (length self.old.tallies.items + 1) }
+        requires tallied { AreTallied self.old page_ends.now }
+        ensures marks { self.new.marks.items
+            ≡ self.old.marks.items ++ replicate parts mark.Current }
+        ensures ends { self.new.ends.items
+            ≡ self.old.ends.items ++ (length self.old.marks.items + parts) ∷ [] }
+        ensures tallied { AreTallied self.new page_ends.now }
+        ensures room { SameCapacity self.old self.new }
+    {
+        let tally = Tally {
+            current: parts,
+            there: parts,
+        };
+        let k = run_of(page_ends, self.tallies.len());
+        self.pages[k] = self.pages[k].with_entry(tally);
+        self.there += parts;
+        push_current(&mut self.marks, parts);
+        self.ends.push_reserved(self.marks.len());
+        self.tallies.push_reserved(tally);
+    }
+
+    /// Marks current parts killed.
+    pub fn kill_all(&mut self, page_ends: &[usize], killed: &[usize])
+        requires current { (i : ℕ) → i < length killed.now
+            → is_current (mark_at self.old.marks.items (slice_index killed.now i)) ≡ true }
+        requires tallied { AreTallied self.old page_ends.now }
+        ensures marks { (n : ℕ) → mark_at self.new.marks.items n
+            ≡ (if is_in n killed.now then mark.Killed else mark_at self.old.marks.items n) }
+        ensures len { vec_len self.new.marks ≡ vec_len self.old.marks }
+        ensures ends { self.new.ends ≡ self.old.ends }
+        ensures room { SameCapacity self.old self.new }
+        ensures tallied { AreTallied self.new page_ends.now }
+    {
+        for n in killed {
+            self.set(page_ends, *n, Mark::Killed);
+        }
+    }
+
+    /// Gives a part that is not out another mark than current. Its entry's tally and its page's counts go along. The
+    /// time grows with the logarithms of the entries and the pages.
+    pub fn set(&mut self, page_ends: &[usize], n: usize, mark: Mark)
+        requires there { is_there (mark_at self.old.marks.items n) ≡ true }
+        requires ended { is_current mark ≡ false }
+        requires tallied { AreTallied self.old page_ends.now }
+        ensures marks { self.new.marks.items ≡ slice_set self.old.marks.items n mark }
+        ensures room { SameCapacity self.old self.new }
+        ensures ends { self.new.ends ≡ self.old.ends }
+        ensures tallied { AreTallied self.new page_ends.now }
+    {
+        let i = run_of(&self.ends, n);
+        let was = self.marks[n];
+        let old = self.tallies[i];
+        let new = old.moved(was, mark);
+        let k = run_of(page_ends, i);
+        self.pages[k] = self.pages[k].recounted(old, new);
+        self.tallies[i] = new;
+        self.marks[n] = mark;
+        if !mark.is_there() {
+            self.there -= 1;
+        }
+    }
+}
