@@ -102,29 +102,56 @@ fn takes_what_there_is(rt: HostRuntime) {
     list.dismantle();
 }
 
+/// A hand with the blocks 8, 9 and 0 as data, and 1 and 10 as pages.
+fn hand_of_both(
+    rt: &impl Abort,
+    alloc: Global,
+    first: &mut FreeList,
+    second: &mut FreeList,
+) -> Hand {
+    let mut hand = hand_for(rt, alloc, 3, 2);
+    is_homeless(rt, &hand);
+    same(rt, take(rt, second, &mut hand.data, 2), 2);
+    same(rt, take(rt, first, &mut hand.data, 1), 1);
+    same(rt, take(rt, first, &mut hand.pages, 1), 1);
+    same(rt, take(rt, second, &mut hand.pages, 1), 1);
+    hand
+}
+
+/// Gives the blocks of the lowest home, that of the list, which then has these runs.
+fn give_lowest(
+    rt: &impl Abort,
+    hand: &mut Hand,
+    list: &mut FreeList,
+    home: u64,
+    runs: &[(u64, u64)],
+) {
+    same(rt, hand.lowest_home(&device(rt)), Some(home));
+    hand.give_home(list);
+    assert_runs(rt, list, runs);
+}
+
 #[test]
 fn gives_each_block_to_its_home(rt: HostRuntime) {
-    let device = device(&rt);
     let mut first = list_of(&rt, rt.alloc(), 0);
     let mut second = list_of(&rt, rt.alloc(), 1);
-    let mut hand = hand_for(&rt, rt.alloc(), 3, 2);
-    same(&rt, hand.lowest_home(&device), None);
-    same(&rt, take(&rt, &mut second, &mut hand.data, 2), 2);
-    same(&rt, take(&rt, &mut first, &mut hand.data, 1), 1);
-    same(&rt, take(&rt, &mut first, &mut hand.pages, 1), 1);
-    same(&rt, take(&rt, &mut second, &mut hand.pages, 1), 1);
-    same(&rt, hand.lowest_home(&device), Some(0));
-    hand.give_home(&mut first);
+    let mut hand = hand_of_both(&rt, rt.alloc(), &mut first, &mut second);
+    give_lowest(&rt, &mut hand, &mut first, 0, &[(0, 7)]);
     has_numbers(&rt, &hand.data, &[8, 9]);
     has_numbers(&rt, &hand.pages, &[10]);
-    assert_runs(&rt, &first, &[(0, 7)]);
-    same(&rt, hand.lowest_home(&device), Some(1));
-    hand.give_home(&mut second);
-    assert_runs(&rt, &second, &[(8, 15)]);
-    assert!(rt; hand.is_empty());
+    give_lowest(&rt, &mut hand, &mut second, 1, &[(8, 15)]);
+    is_homeless(&rt, &hand);
     hand.dismantle();
     first.dismantle();
     second.dismantle();
+}
+
+fn is_homeless(rt: &impl Abort, hand: &Hand) {
+    same(
+        rt,
+        (hand.lowest_home(&device(rt)), hand.is_empty()),
+        (None, true),
+    );
 }
 
 #[test]

@@ -1,5 +1,5 @@
 //! Each call once.
-use crate::compare::crosses_threads;
+use crate::compare::{crosses_threads, same};
 use nv_base::Ino;
 use nv_journal::{Journal, OldTail, are_distinct};
 use smallvec::{SmallVec, smallvec};
@@ -17,20 +17,20 @@ fn notes_old_tails_until_closed(rt: HostRuntime) -> Result<(), Fail> {
     let noted = [old_tail(7, 3), old_tail(0, 12), old_tail(2, 0)];
     let tails: SmallVec<OldTail, 4> = SmallVec::from_slice(rt.alloc(), noted.as_slice())?;
     assert!(rt; are_distinct(tails.as_slice()));
-    assert_eq!(rt; tails.len(), 3);
+    same(&rt, tails.len(), 3);
 
     let mut journal = Journal::new();
     assert!(rt; !journal.is_open());
     journal.open(&tails);
     assert!(rt; journal.is_open());
-    assert_eq!(rt; journal.pending(), noted.as_slice());
-    assert_eq!(rt; journal.tail_of(Ino::new(0)), Some(12));
-    assert_eq!(rt; journal.tail_of(Ino::new(3)), None);
+    same(&rt, journal.pending(), noted.as_slice());
+    same(&rt, journal.tail_of(Ino::new(0)), Some(12));
+    same(&rt, journal.tail_of(Ino::new(3)), None);
 
     journal.close();
     assert!(rt; !journal.is_open());
     assert!(rt; journal.pending().is_empty());
-    assert_eq!(rt; journal.tail_of(Ino::new(0)), None);
+    same(&rt, journal.tail_of(Ino::new(0)), None);
     Ok(())
 }
 

@@ -1,5 +1,5 @@
 //! Snapshots: each call in a scene, and the limits.
-use crate::compare::crosses_threads;
+use crate::compare::{crosses_threads, same, same_for};
 use nv_base::{Epoch, Fault, limits};
 use nv_epoch::{SnapList, Snapshot};
 use std::alloc::Global;
@@ -34,131 +34,130 @@ fn answer(rt: &impl Abort, list: &mut SnapList, call: Call) -> Result<Epoch, Fau
     Ok(s)
 }
 
-/// A list with room for `snaps` after calls, each with its answer, and then the pins of the snapshot 2 and the
-/// room.
+/// A call with its answer, and then the pins of the snapshot 2 and the room.
+type Step = (Call, Result<u64, Fault>, Option<u32>, u64);
+
+/// A list with room for `snaps` after calls.
 fn scene(
     rt: &impl Abort,
     alloc: Global,
     snaps: u64,
     first: u64,
-    calls: &[(Call, Result<u64, Fault>, Option<u32>, u64)],
+    steps: &[Step],
 ) -> Result<SnapList, Fault> {
     assert!(rt; 1 <= first && first <= limits::NUMBER);
     let mut list = SnapList::new(alloc, snaps, Epoch::new(first))?;
     assert!(rt; list.is_empty());
-    for (call, wanted, pins, room) in calls {
+    for (call, wanted, pins, room) in steps {
         let did = answer(rt, &mut list, *call).map(|s| s.number());
-        assert_eq!(rt; did, *wanted);
-        assert_eq!(rt; (list.pins(Epoch::new(2)), list.room()), (*pins, *room));
+        same(rt, did, *wanted);
+        same(rt, (list.pins(Epoch::new(2)), list.room()), (*pins, *room));
     }
     Ok(list)
 }
 
+const REFUSALS: &[Step] = &[
+    (Call::Remove(7), Err(Fault::NoSnapshot), None, 4),
+    (Call::Make, Ok(1), None, 3),
+    (Call::Make, Ok(2), Some(0), 2),
+    (Call::Make, Ok(3), Some(0), 1),
+    (Call::Make, Ok(4), Some(0), 0),
+    (Call::Make, Err(Fault::TooManySnapshots), Some(0), 0),
+    (Call::Pin(2), Ok(2), Some(1), 0),
+    (Call::Remove(2), Err(Fault::Pinned), Some(1), 0),
+    (Call::Unpin(2), Ok(2), Some(0), 0),
+    (Call::Remove(2), Ok(2), None, 1),
+    (Call::Pin(2), Err(Fault::NoSnapshot), None, 1),
+    (Call::Remove(2), Err(Fault::NoSnapshot), None, 1),
+];
+
 #[test]
 fn refuses_in_order(rt: HostRuntime) -> Result<(), Fail> {
-    let list = scene(
-        &rt,
-        rt.alloc(),
-        4,
-        1,
-        &[
-            (Call::Remove(7), Err(Fault::NoSnapshot), None, 4),
-            (Call::Make, Ok(1), None, 3),
-            (Call::Make, Ok(2), Some(0), 2),
-            (Call::Make, Ok(3), Some(0), 1),
-            (Call::Make, Ok(4), Some(0), 0),
-            (Call::Make, Err(Fault::TooManySnapshots), Some(0), 0),
-            (Call::Pin(2), Ok(2), Some(1), 0),
-            (Call::Remove(2), Err(Fault::Pinned), Some(1), 0),
-            (Call::Unpin(2), Ok(2), Some(0), 0),
-            (Call::Remove(2), Ok(2), None, 1),
-            (Call::Pin(2), Err(Fault::NoSnapshot), None, 1),
-            (Call::Remove(2), Err(Fault::NoSnapshot), None, 1),
-        ],
-    )?;
-    assert_eq!(rt; (list.len(), list.epoch()), (3, Epoch::new(5)));
+    let list = scene(&rt, rt.alloc(), 4, 1, REFUSALS)?;
+    same(&rt, (list.len(), list.epoch()), (3, Epoch::new(5)));
     Ok(())
 }
+
+const LAST: u64 = limits::NUMBER;
+
+const PAST_THE_LAST: Step = (Call::Make, Err(Fault::EpochLimit), None, 0);
+
+const UP_TO_THE_LAST: &[Step] = &[(Call::Make, Ok(LAST - 1), None, 0), PAST_THE_LAST];
 
 #[test]
 fn ends_at_the_last_epoch(rt: HostRuntime) -> Result<(), Fail> {
-    let last = limits::NUMBER;
-    let refused = (Call::Make, Err(Fault::EpochLimit), None, 0);
-    let full = scene(&rt, rt.alloc(), 0, last, &[refused])?;
+    let full = scene(&rt, rt.alloc(), 0, LAST, &[PAST_THE_LAST])?;
     assert!(rt; full.is_empty());
 
-    let made = (Call::Make, Ok(last - 1), None, 0);
-    let list = scene(&rt, rt.alloc(), 1, last - 1, &[made, refused])?;
-    assert_eq!(rt; list.epoch(), Epoch::new(last));
+    let list = scene(&rt, rt.alloc(), 1, LAST - 1, UP_TO_THE_LAST)?;
+    same(&rt, list.epoch(), Epoch::new(LAST));
     let only = Snapshot {
-        number: Epoch::new(last - 1),
+        number: Epoch::new(LAST - 1),
         pins: 0,
     };
-    assert_eq!(rt; list.snapshots(), [only].as_slice());
+    same(&rt, list.snapshots(), [only].as_slice());
     Ok(())
 }
 
+const THREE_LIVING: &[Step] = &[
+    (Call::Make, Ok(3), None, 8),
+    (Call::Make, Ok(4), None, 7),
+    (Call::Make, Ok(5), None, 6),
+    (Call::Make, Ok(6), None, 5),
+    (Call::Make, Ok(7), None, 4),
+    (Call::Remove(5), Ok(5), None, 5),
+    (Call::Remove(6), Ok(6), None, 6),
+    (Call::Pin(4), Ok(4), None, 6),
+];
+
 /// The snapshots 3, 4 and 7, of which 4 has a pin.
 fn three_living(rt: &impl Abort, alloc: Global) -> Result<SnapList, Fault> {
-    scene(
-        rt,
-        alloc,
-        9,
-        3,
-        &[
-            (Call::Make, Ok(3), None, 8),
-            (Call::Make, Ok(4), None, 7),
-            (Call::Make, Ok(5), None, 6),
-            (Call::Make, Ok(6), None, 5),
-            (Call::Make, Ok(7), None, 4),
-            (Call::Remove(5), Ok(5), None, 5),
-            (Call::Remove(6), Ok(6), None, 6),
-            (Call::Pin(4), Ok(4), None, 6),
-        ],
-    )
+    scene(rt, alloc, 9, 3, THREE_LIVING)
 }
+
+/// A birth, a death, and the youngest snapshot that holds what lived between.
+const HOLDERS: &[(u64, u64, Option<u64>)] = &[
+    (1, 3, None),
+    (1, 4, Some(3)),
+    (3, 7, Some(4)),
+    (4, 5, Some(4)),
+    (5, 7, None),
+    (5, 8, Some(7)),
+    (7, 7, None),
+    (8, 8, None),
+];
 
 #[test]
 fn finds_holders(rt: HostRuntime) -> Result<(), Fail> {
     let list = three_living(&rt, rt.alloc())?;
     let ids: Vec<Epoch> = list.ids().collect(rt.alloc())?;
-    assert_eq!(rt; ids.as_slice(), [3, 4, 7].map(Epoch::new).as_slice());
-    for (birth, death, holder) in [
-        (1, 3, None),
-        (1, 4, Some(3)),
-        (3, 7, Some(4)),
-        (4, 5, Some(4)),
-        (5, 7, None),
-        (5, 8, Some(7)),
-        (7, 7, None),
-        (8, 8, None),
-    ] {
-        let found = list.youngest_in(Epoch::new(birth), Epoch::new(death));
-        assert_eq!(rt; found, holder.map(Epoch::new), "from {birth} to {death}");
+    same(&rt, ids.as_slice(), [3, 4, 7].map(Epoch::new).as_slice());
+    for (birth, death, holder) in HOLDERS {
+        let found = list.youngest_in(Epoch::new(*birth), Epoch::new(*death));
+        same_for(&rt, &(birth, death), found, holder.map(Epoch::new));
     }
     Ok(())
 }
 
+/// A number, the place and the pins of the snapshot, and the next older one.
+const PLACES: &[(u64, Option<usize>, Option<u32>, Option<u64>)] = &[
+    (2, None, None, None),
+    (3, Some(0), Some(0), None),
+    (4, Some(1), Some(1), Some(3)),
+    (6, None, None, Some(4)),
+    (7, Some(2), Some(0), Some(4)),
+    (9, None, None, Some(7)),
+];
+
 #[test]
 fn tells_places_pins_and_the_next_older(rt: HostRuntime) -> Result<(), Fail> {
     let list = three_living(&rt, rt.alloc())?;
-    for (number, place, pins, older) in [
-        (2, None, None, None),
-        (3, Some(0), Some(0), None),
-        (4, Some(1), Some(1), Some(3)),
-        (6, None, None, Some(4)),
-        (7, Some(2), Some(0), Some(4)),
-        (9, None, None, Some(7)),
-    ] {
-        let s = Epoch::new(number);
-        assert_eq!(rt; (list.place(s), list.pins(s)), (place, pins), "of {number}");
+    for (number, place, pins, older) in PLACES {
+        let s = Epoch::new(*number);
+        same_for(&rt, &number, (list.place(s), list.pins(s)), (*place, *pins));
         let lives = place.is_some();
-        assert_eq!(rt;
-            (list.has(s), list.can_pin(s)),
-            (lives, lives),
-            "of {number}"
-        );
-        assert_eq!(rt; list.older(s), older.map(Epoch::new), "below {number}");
+        same_for(&rt, &number, (list.has(s), list.can_pin(s)), (lives, lives));
+        same_for(&rt, &number, list.older(s), older.map(Epoch::new));
     }
     Ok(())
 }
@@ -168,12 +167,17 @@ fn takes_sixty_four_pins(rt: HostRuntime) -> Result<(), Fail> {
     let mut list = SnapList::new(rt.alloc(), 1, Epoch::new(1))?;
     let first = list.make()?;
     for pins in 0..limits::PINS {
-        assert_eq!(rt; (list.pins(first), list.can_pin(first)), (Some(pins), true));
+        same(&rt, list.pins(first), Some(pins));
+        assert!(rt; list.can_pin(first));
         list.pin(first)?;
     }
-    assert_eq!(rt; (list.pins(first), list.can_pin(first)), (Some(64), false));
+    same(
+        &rt,
+        (list.pins(first), list.can_pin(first)),
+        (Some(64), false),
+    );
     for left in (0..limits::PINS).rev() {
-        assert_eq!(rt; list.pins(first), Some(left + 1));
+        assert!(rt; list.pins(first) == Some(left + 1));
         list.unpin(first);
     }
     assert!(rt; list.can_pin(first));
@@ -185,12 +189,12 @@ fn takes_sixty_four_pins(rt: HostRuntime) -> Result<(), Fail> {
 fn makes_as_many_as_there_is_room_for(rt: HostRuntime) -> Result<(), Fail> {
     let mut list = SnapList::new(rt.alloc(), limits::SNAPS, Epoch::new(1))?;
     for number in 1..limits::SNAPS + 1 {
-        assert_eq!(rt; list.make(), Ok(Epoch::new(number)));
+        same(&rt, list.make(), Ok(Epoch::new(number)));
     }
-    assert_eq!(rt; list.make(), Err(Fault::TooManySnapshots));
+    same(&rt, list.make(), Err(Fault::TooManySnapshots));
     list.remove(Epoch::new(500))?;
-    assert_eq!(rt; list.make(), Ok(Epoch::new(limits::SNAPS + 1)));
-    assert_eq!(rt; list.older(Epoch::new(501)), Some(Epoch::new(499)));
+    same(&rt, list.make(), Ok(Epoch::new(limits::SNAPS + 1)));
+    same(&rt, list.older(Epoch::new(501)), Some(Epoch::new(499)));
     Ok(())
 }
 

@@ -1,8 +1,9 @@
 //! A first path through a world, by events and replies.
 
+use crate::compare::same;
 use crate::scenes::{Row, geometry, handle, handle_of};
 use nv_base::{Bytes, CommitNo, Fault, Mode, limits};
-use nv_core::{Answer, Call, Event, Reply, World};
+use nv_core::{Answer, Call, Event, Reply, TreeNode, World};
 use std::alloc::Global;
 use std::process::Abort;
 use std::test::Fail;
@@ -116,10 +117,15 @@ const FILES: &[Played] = &[
     (Do(Read(2, 1, 0, 99)), Want::Bytes(b"abXYefghij\0\0Z")),
 ];
 
+/// Makes each step in a new world, and wants its reply.
+fn plays_anew(rt: &impl Abort, alloc: Global, row: Row, rows: &[Played]) -> Result<(), Fail> {
+    let mut world = World::format(alloc, geometry(row)?)?;
+    plays(rt, alloc, &mut world, rows)
+}
+
 #[test]
 fn files(rt: HostRuntime) -> Result<(), Fail> {
-    let mut world = World::format(rt.alloc(), geometry(SMALL)?)?;
-    plays(&rt, rt.alloc(), &mut world, FILES)
+    plays_anew(&rt, rt.alloc(), SMALL, FILES)
 }
 
 /// Refusals of calls and of actors.
@@ -149,8 +155,7 @@ const REFUSALS: &[Played] = &[
 
 #[test]
 fn refusals_in_order(rt: HostRuntime) -> Result<(), Fail> {
-    let mut world = World::format(rt.alloc(), geometry(SMALL)?)?;
-    plays(&rt, rt.alloc(), &mut world, REFUSALS)
+    plays_anew(&rt, rt.alloc(), SMALL, REFUSALS)
 }
 
 /// With two inodes and eight blocks of one byte.
@@ -180,44 +185,65 @@ const LAST_COMMIT: &[Played] = &[
     (Do(Write(1, 1, 0, b"a")), Want::Refused(Fault::CommitLimit)),
 ];
 
+fn plays_to_the_last_commit(rt: &impl Abort, alloc: Global) -> Result<(), Fail> {
+    let first = CommitNo::new(limits::NUMBER - 1);
+    let mut world = World::format_at(alloc, geometry(SMALL)?, first)?;
+    plays(rt, alloc, &mut world, LAST_COMMIT)
+}
+
 #[test]
 fn limits_of_a_world(rt: HostRuntime) -> Result<(), Fail> {
-    let mut world = World::format(rt.alloc(), geometry(TINY)?)?;
-    plays(&rt, rt.alloc(), &mut world, LIMITS)?;
-    let first = CommitNo::new(limits::NUMBER - 1);
-    let mut world = World::format_at(rt.alloc(), geometry(SMALL)?, first)?;
-    plays(&rt, rt.alloc(), &mut world, LAST_COMMIT)
+    plays_anew(&rt, rt.alloc(), TINY, LIMITS)?;
+    plays_to_the_last_commit(&rt, rt.alloc())
+}
+
+/// Calls of actors.
+const CALLS: &[(u64, Words<'static>)] = &[
+    (0, Create(0, 1, b"log.txt")),
+    (1, Create(0, 1, b"b")),
+    (0, Write(1, 1, 2, b"hello")),
+];
+
+/// The two events of each of the calls.
+fn events(alloc: Global) -> Result<Vec<Event>, Fail> {
+    let mut events = Vec::new(alloc);
+    for (actor, words) in CALLS {
+        events.push(Event::Start(*actor, call(alloc, words)?))?;
+        events.push(Event::Go(*actor))?;
+    }
+    Ok(events)
+}
+
+fn run(rt: &impl Abort, alloc: Global, world: &mut World) -> Result<(), Fail> {
+    let Ok(replies) = world.run(events(alloc)?) else {
+        return Err("run".into());
+    };
+    assert!(rt; replies.len() == 6);
+    assert!(rt; is_wanted(&replies[5], &Want::Count(5)));
+    Ok(())
+}
+
+/// The names and the bytes of the nodes behind the root.
+const NODES: [(&[u8], &[u8]); 2] = [(b"log.txt", b"\0\0hello"), (b"b", b"")];
+
+fn has_nodes(rt: &impl Abort, nodes: &[TreeNode]) {
+    let [root, named @ ..] = nodes else {
+        panic!(rt; "a root");
+    };
+    assert!(rt; root.path.as_slice().is_empty());
+    same(rt, root.node.names.as_slice().len(), 2);
+    same(rt, named.len(), NODES.len());
+    for (node, (name, bytes)) in named.iter().zip(&NODES) {
+        let path = node.path.as_slice();
+        assert!(rt; path.len() == 1 && path[0].bytes() == *name, "{name:?}");
+        same(rt, node.node.bytes.as_slice(), *bytes);
+    }
 }
 
 #[test]
 fn a_tree_after_a_run(rt: HostRuntime) -> Result<(), Fail> {
     let mut world = World::format(rt.alloc(), geometry(SMALL)?)?;
-    let mut events = Vec::new(rt.alloc());
-    for (actor, words) in [
-        (0, Create(0, 1, b"log.txt")),
-        (1, Create(0, 1, b"b")),
-        (0, Write(1, 1, 2, b"hello")),
-    ] {
-        events.push(Event::Start(actor, call(rt.alloc(), &words)?))?;
-        events.push(Event::Go(actor))?;
-    }
-    let Ok(replies) = world.run(events) else {
-        return Err("run".into());
-    };
-    assert!(rt; replies.len() == 6);
-    assert!(rt; is_wanted(&replies[5], &Want::Count(5)));
-    let tree = world.tree()?;
-    let nodes = tree.as_slice();
-    assert!(rt; nodes.len() == 3);
-    for (node, name, bytes) in [
-        (1, b"log.txt".as_slice(), b"\0\0hello".as_slice()),
-        (2, b"b".as_slice(), b"".as_slice()),
-    ] {
-        let path = nodes[node].path.as_slice();
-        assert!(rt; path.len() == 1 && path[0].bytes() == name, "path {node}");
-        assert!(rt; nodes[node].node.bytes.as_slice() == bytes, "bytes {node}");
-    }
-    assert!(rt; nodes[0].path.as_slice().is_empty());
-    assert!(rt; nodes[0].node.names.as_slice().len() == 2);
+    run(&rt, rt.alloc(), &mut world)?;
+    has_nodes(&rt, world.tree()?.as_slice());
     Ok(())
 }

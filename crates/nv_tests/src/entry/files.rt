@@ -9,6 +9,7 @@ use nv_entry::{
     Datum, Entry, Key, PageSource, Pair, PartId, first_cover, page_source, value_at, value_now,
     value_when,
 };
+use std::alloc::Global;
 use std::process::Abort;
 use std::test::Fail;
 
@@ -34,11 +35,11 @@ fn values(rt: HostRuntime) -> Result<(), Fail> {
         let log = log_of(rt.alloc(), lines)?;
         let wanted = number.map(|number| datum(*key, number));
         let seen = value_when(BLOCK, when(*epoch), &log, *key);
-        assert!(rt; seen == wanted, "{lines:?}");
         let value = match epoch {
             Some(number) => value_at(BLOCK, Epoch::new(*number), &log, *key),
             None => value_now(BLOCK, &log, *key),
         };
+        assert!(rt; seen == wanted, "{lines:?}");
         same_for(&rt, &lines, value, wanted);
     }
     Ok(())
@@ -92,41 +93,57 @@ const PAIRS: &[Lives] = &[
 #[test]
 fn pairs(rt: HostRuntime) -> Result<(), Fail> {
     for (lines, place, part, birth, death, holders, others) in PAIRS {
-        let log = log_of(rt.alloc(), lines)?;
-        let entry = log.get(*place).ok_or("an entry")?;
-        let later = log.get(*place + 1..).ok_or("entries")?;
-        let pair = Pair::at(BLOCK, entry, later, *part).ok_or("a part")?;
-        same_for(
-            &rt,
-            &lines,
-            (pair.birth, pair.death),
-            (Epoch::new(*birth), death.map(Epoch::new)),
-        );
+        let pair = pair_of(rt.alloc(), lines, *place, *part)?;
+        let epochs = (Epoch::new(*birth), death.map(Epoch::new));
+        same_for(&rt, &lines, (pair.birth, pair.death), epochs);
         same_for(&rt, &lines, pair.is_current(), death.is_none());
-        is_held(
-            &rt,
-            &pair,
-            &epochs(rt.alloc(), holders)?,
-            &epochs(rt.alloc(), others)?,
-        );
-        let name = PartId {
-            entry: pair.entry,
-            part: pair.part,
-        };
-        assert!(rt; pair.is_named(&[name]) && !pair.is_named(&[]), "{lines:?}");
+        is_held(&rt, rt.alloc(), &pair, holders, others)?;
+        is_named(&rt, &pair);
     }
     Ok(())
 }
 
-fn is_held(rt: &impl Abort, pair: &Pair, holders: &[Epoch], others: &[Epoch]) {
+fn pair_of(alloc: Global, lines: &[Line], place: usize, part: u32) -> Result<Pair, Fail> {
+    let log = log_of(alloc, lines)?;
+    let Some([entry, later @ ..]) = log.get(place..) else {
+        return Err("an entry".into());
+    };
+    Ok(Pair::at(BLOCK, entry, later, part).ok_or("a part")?)
+}
+
+fn is_named(rt: &impl Abort, pair: &Pair) {
+    let name = PartId {
+        entry: pair.entry,
+        part: pair.part,
+    };
+    same_for(
+        rt,
+        pair,
+        (pair.is_named(&[name]), pair.is_named(&[])),
+        (true, false),
+    );
+}
+
+fn is_held(
+    rt: &impl Abort,
+    alloc: Global,
+    pair: &Pair,
+    holders: &[u64],
+    others: &[u64],
+) -> Result<(), Fail> {
     for holder in holders {
-        assert!(rt;
-            pair.is_held(&[*holder]) && pair.is_needed(&[*holder]),
-            "{pair:?}"
+        let holder = [Epoch::new(*holder)];
+        same_for(
+            rt,
+            pair,
+            (pair.is_held(&holder), pair.is_needed(&holder)),
+            (true, true),
         );
     }
-    assert!(rt; !pair.is_held(others), "{pair:?}");
-    same_for(rt, &pair, pair.is_needed(others), pair.is_current());
+    let others = epochs(alloc, others)?;
+    let held = (pair.is_held(&others), pair.is_needed(&others));
+    same_for(rt, pair, held, (false, pair.is_current()));
+    Ok(())
 }
 
 /// A log, a time, a page, and the entry and block that it stands in there.

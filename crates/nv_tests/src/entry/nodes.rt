@@ -2,10 +2,13 @@
 
 use super::logs::{BLOCK, Device, Line, log_of, when};
 use super::rows::{CUT, NAMES, OVERWRITTEN, REMOVED, RUNS, SHORT_LIVED};
-use crate::compare::{same, same_for};
+use crate::compare::same;
 use crate::scenes::handle;
 use nv_base::{BlockNo, Kind};
-use nv_entry::{BlockBytes, BoundName, NameList, NodeCopy, names_when, node_when, size_when};
+use nv_entry::{
+    BlockBytes, BoundName, Entry, NameList, NodeCopy, When, names_when, node_when, size_when,
+};
+use std::alloc::Global;
 use std::process::Abort;
 use std::test::Fail;
 
@@ -47,18 +50,27 @@ const SCATTERED: &[[u8; 4]] = &[
 fn nodes(rt: HostRuntime) -> Result<(), Fail> {
     for (lines, epoch, blocks, wanted) in READS {
         let log = log_of(rt.alloc(), lines)?;
-        let device = Device { blocks };
-        let node = node_when(rt.alloc(), BLOCK, when(*epoch), &log, &device)?;
-        is_read(&rt, &node, *wanted);
-        let names = names_when(rt.alloc(), when(*epoch), &log)?;
-        same_names(&rt, names.as_slice(), names_of(*wanted));
-        same_for(
-            &rt,
-            &lines,
-            size_when(when(*epoch), &log),
-            bytes_of(*wanted).len() as u64,
-        );
+        is_all_read(&rt, rt.alloc(), when(*epoch), &log, blocks, *wanted)?;
     }
+    Ok(())
+}
+
+fn is_all_read(
+    rt: &impl Abort,
+    alloc: Global,
+    when: When,
+    log: &[Entry],
+    blocks: &[[u8; 4]],
+    wanted: Reads,
+) -> Result<(), Fail> {
+    let node = node_when(alloc, BLOCK, when, log, &Device { blocks })?;
+    is_read(rt, &node, wanted);
+    same_names(
+        rt,
+        names_when(alloc, when, log)?.as_slice(),
+        names_of(wanted),
+    );
+    same(rt, size_when(when, log), bytes_of(wanted).len() as u64);
     Ok(())
 }
 
@@ -95,8 +107,11 @@ fn is_read(rt: &impl Abort, node: &Option<NodeCopy>, wanted: Reads) {
 fn same_names(rt: &impl Abort, names: &[BoundName], wanted: &[(&str, u64)]) {
     same(rt, names.len(), wanted.len());
     for (bound, (name, ino)) in names.iter().zip(wanted) {
-        same(rt, bound.name.bytes(), name.as_bytes());
-        same(rt, bound.to, handle(*ino));
+        same(
+            rt,
+            (bound.name.bytes(), bound.to),
+            (name.as_bytes(), handle(*ino)),
+        );
     }
 }
 

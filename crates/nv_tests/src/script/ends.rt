@@ -1,86 +1,69 @@
 //! Scripts that end early: a read or a write that fails, or memory that is refused.
 
-use super::pieces::Pieces;
+use super::pieces::{AT_ONCE, play_in_pieces};
 use super::rows::{FORMAT, SCRIPTS};
-use crate::compare::same_for;
+use crate::compare::{same, same_for};
 use nv_base::{Fault, ScriptFaultKind};
 use nv_script::play;
 use std::alloc::{AllocError, Global};
+use std::process::Abort;
 use std::test::Fail;
 
 /// What the lines of a script write that stand whole in its first bytes.
-fn written_by_front(alloc: Global, front: &[u8]) -> Result<Vec<u8>, AllocError> {
+fn written_by_front(alloc: Global, front: &[u8]) -> Vec<u8> {
     let whole = front.iter().rposition(|byte| *byte == b'\n');
-    let mut reader = &front[..whole.map_or(0, |last| last + 1)];
-    let mut written = Vec::new(alloc);
-    let _ = play(alloc, &mut reader, &mut written);
-    Ok(written)
+    let lines = &front[..whole.map_or(0, |last| last + 1)];
+    play_in_pieces(alloc, lines, AT_ONCE, AT_ONCE).1
 }
 
-/// Plays a script whose reader fails after so many calls of seven bytes.
-fn play_to_failed_read(alloc: Global, script: &[u8], calls: usize) -> (Result<(), Fault>, Vec<u8>) {
-    let mut reader = Pieces {
-        inner: script,
-        most: 7,
-        calls,
-    };
-    let mut written = Vec::new(alloc);
-    let outcome = play(alloc, &mut reader, &mut written);
-    (outcome, written)
+/// A reader that fails after so many calls of seven bytes.
+fn fails_to_read(rt: &impl Abort, alloc: Global, script: &[u8], calls: usize, want: &[u8]) {
+    let (outcome, written) = play_in_pieces(alloc, script, (7, calls), AT_ONCE);
+    let front = &script[..script.len().min(calls.saturating_mul(7))];
+    same_for(rt, &calls, outcome, Err(Fault::Read));
+    let by_front = written_by_front(alloc, front);
+    same_for(rt, &calls, written.as_slice(), by_front.as_slice());
+    same_for(rt, &calls, want.starts_with(&written), true);
 }
 
 #[test]
-fn failed_reads(rt: HostRuntime) -> Result<(), Fail> {
+fn failed_reads(rt: HostRuntime) {
     let (script, want) = SCRIPTS[2];
-    let bytes = script.as_bytes();
-    for calls in 0..=bytes.len() / 7 + 1 {
-        let (outcome, written) = play_to_failed_read(rt.alloc(), bytes, calls);
-        let front = &bytes[..bytes.len().min(7 * calls)];
-        let by_front = written_by_front(rt.alloc(), front)?;
-        same_for(&rt, &calls, outcome, Err(Fault::Read));
-        same_for(&rt, &calls, written.as_slice(), by_front.as_slice());
-        assert!(rt; want.as_bytes().starts_with(&written), "{calls}");
+    for calls in 0..script.len() / 7 + 2 {
+        fails_to_read(&rt, rt.alloc(), script.as_bytes(), calls, want.as_bytes());
     }
-    Ok(())
 }
 
-/// Plays a script whose writer fails after so many calls of seven bytes.
-fn play_to_failed_write(
-    alloc: Global,
-    script: &[u8],
-    calls: usize,
-) -> (Result<(), Fault>, Vec<u8>) {
-    let mut reader = script;
-    let mut writer = Pieces {
-        inner: Vec::new(alloc),
-        most: 7,
-        calls,
-    };
-    let outcome = play(alloc, &mut reader, &mut writer);
-    (outcome, writer.inner)
+/// A writer that fails after so many calls of seven bytes.
+fn fails_to_write(rt: &impl Abort, alloc: Global, script: &[u8], calls: usize, want: &[u8]) {
+    let (outcome, written) = play_in_pieces(alloc, script, AT_ONCE, (7, calls));
+    same_for(rt, &calls, outcome, Err(Fault::Write));
+    same_for(rt, &calls, want.starts_with(&written), true);
+    same_for(rt, &calls, written.len() >= calls, true);
 }
 
 #[test]
-fn failed_writes(rt: HostRuntime) -> Result<(), Fail> {
+fn failed_writes(rt: HostRuntime) {
     let (script, want) = SCRIPTS[2];
     for calls in 0..want.len().div_ceil(7) {
-        let (outcome, written) = play_to_failed_write(rt.alloc(), script.as_bytes(), calls);
-        same_for(&rt, &calls, outcome, Err(Fault::Write));
-        assert!(rt; want.as_bytes().starts_with(&written), "{calls}");
-        assert!(rt; written.len() >= calls, "{calls}");
+        fails_to_write(&rt, rt.alloc(), script.as_bytes(), calls, want.as_bytes());
     }
-    Ok(())
+}
+
+/// Plays a script into room for its text; how it ends, and how many bytes of room are left.
+fn play_into(alloc: Global, script: &[u8], room: &mut [u8]) -> (Result<(), Fault>, usize) {
+    let mut reader = script;
+    let mut writer = room;
+    let outcome = play(alloc, &mut reader, &mut writer);
+    (outcome, writer.len())
 }
 
 #[test]
-fn a_writer_that_takes_no_byte(rt: HostRuntime) -> Result<(), Fail> {
-    let mut reader = SCRIPTS[2].0.as_bytes();
+fn a_writer_that_takes_no_byte(rt: HostRuntime) {
     let mut room = [0u8; 12];
-    let mut writer = room.as_mut_slice();
-    let outcome = play(rt.alloc(), &mut reader, &mut writer);
-    assert!(rt; outcome == Err(Fault::Write));
-    assert!(rt; room == *b"formatted\ndo");
-    Ok(())
+    let (outcome, _) = play_into(rt.alloc(), SCRIPTS[2].0.as_bytes(), &mut room);
+    same(&rt, outcome, Err(Fault::Write));
+    same(&rt, room.as_slice(), b"formatted\ndo".as_slice());
 }
 
 const REFUSED: &[u8] = b"refused E1 OutOfMemory\n";
@@ -158,11 +141,8 @@ fn each_twice(alloc: Global) -> Result<String, AllocError> {
 #[test]
 fn one_refused_growth(rt: HostRuntime) -> Result<(), Fail> {
     let script = each_twice(rt.alloc())?;
-    let mut reader = script.as_bytes();
     let mut room = [0u8; 1024];
-    let mut writer = room.as_mut_slice();
-    let outcome = play(rt.alloc(), &mut reader, &mut writer);
-    let left = writer.len();
+    let (outcome, left) = play_into(rt.alloc(), script.as_bytes(), &mut room);
     let written = &room[..1024 - left.min(1024)];
     assert!(rt; may_end(&outcome, written));
     Ok(())

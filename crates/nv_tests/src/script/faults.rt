@@ -3,18 +3,31 @@
 use super::rows::{FIRST_LINES, FORMAT, SECOND_LINES};
 use super::scripts::{check, filled};
 use nv_base::{Fault, ScriptFaultKind};
+use std::process::Abort;
 use std::test::Fail;
+
+/// A line behind a front ends the script with this fault, after this text.
+fn is_faulty<R: AllocGlobal + Abort>(
+    rt: &R,
+    front: &str,
+    line: &str,
+    fault: Fault,
+    text: &[u8],
+) -> Result<(), Fail> {
+    let script = filled(rt.alloc(), front, b'#', 0, line.as_bytes())?;
+    check(rt, &script, Err(fault), text);
+    Ok(())
+}
 
 #[test]
 fn lines_have_their_faults(rt: HostRuntime) -> Result<(), Fail> {
     for (line, kind) in SECOND_LINES {
-        let script = format!(in rt.alloc(); "{FORMAT}{line}")?;
         let fault = Fault::ScriptFault(2, kind);
-        check(&rt, script.as_bytes(), Err(fault), b"formatted\n");
+        is_faulty(&rt, FORMAT, line, fault, b"formatted\n")?;
     }
     for (script, line, kind) in FIRST_LINES {
         let fault = Fault::ScriptFault(line, kind);
-        check(&rt, script.as_bytes(), Err(fault), b"");
+        is_faulty(&rt, "", script, fault, b"")?;
     }
     Ok(())
 }

@@ -2,6 +2,7 @@
 ghost use Rattle.std.specs.Prelude.{◌≤◌};
 ghost use Rattle.std.specs.Vec.{vec_capacity};
 
+use crate::compare::same;
 use nv_script::feed::{Feed, MAX_LINE_BYTES, ReadFailed, Taken};
 use std::alloc::{AllocError, Global};
 use std::io;
@@ -34,8 +35,8 @@ impl Lines {
         want: &[u8],
     ) {
         let result = self.feed.next_line(reader, &mut self.line);
-        assert!(rt; result == taken);
-        assert!(rt; self.line.as_slice() == want);
+        same(rt, result, taken);
+        same(rt, self.line.as_slice(), want);
     }
 }
 
@@ -95,26 +96,22 @@ fn lines_over_many_chunks(rt: HostRuntime) -> Result<(), Fail> {
     Ok(())
 }
 
-/// Gives `ab`, `c`, a failure, `d`, a line end and then nothing, by one read each.
+/// Pieces for one read each; at the third the read fails.
+const PIECES: [Option<&[u8]>; 5] = [Some(b"ab"), Some(b"c"), None, Some(b"d"), Some(b"\n")];
+
+/// Gives `PIECES`, and then nothing.
 #[derive(Drop)]
 struct Faltering {
-    reads: u8,
+    reads: usize,
 }
 
 impl Read for Faltering {
     fn read(&mut self, buf: &mut [u8]) -> io::Result<usize> {
-        let piece = match self.reads {
-            0 => b"ab".as_slice(),
-            1 => b"c".as_slice(),
-            2 => {
-                self.reads = 3;
-                return Err(ErrorKind::Other.into());
-            }
-            3 => b"d".as_slice(),
-            4 => b"\n".as_slice(),
-            _ => return Ok(0),
+        let Some(piece) = PIECES.get(self.reads) else {
+            return Ok(0);
         };
         self.reads += 1;
+        let piece = piece.ok_or(ErrorKind::Other)?;
         let count = piece.len().min(buf.len());
         buf[..count].copy_from_slice(&piece[..count]);
         Ok(count)

@@ -1,7 +1,8 @@
 //! Whole scripts, and what they write.
 
-use super::pieces::Pieces;
+use super::pieces::play_in_pieces;
 use super::rows::{FAULTS, FORMAT, SCRIPTS};
+use crate::compare::{same, same_for};
 use nv_base::{Fault, ScriptFaultKind};
 use nv_script::{fault_line, fault_text, play};
 use std::alloc::{AllocError, Global};
@@ -21,8 +22,8 @@ pub(super) fn check<R: AllocGlobal + Abort>(
     let mut reader = script;
     let mut written = Vec::new(rt.alloc());
     let ended = play(rt.alloc(), &mut reader, &mut written);
-    assert!(rt; ended == outcome, "{script:?}");
-    assert!(rt; written.as_slice() == text, "{script:?}");
+    same_for(rt, &script, ended, outcome);
+    same_for(rt, &script, written.as_slice(), text);
 }
 
 /// A front, so many bytes, and an end.
@@ -44,18 +45,22 @@ fn scripts_write_their_texts(rt: HostRuntime) -> Result<(), Fail> {
     for (script, text) in SCRIPTS {
         check(&rt, script.as_bytes(), Ok(()), text.as_bytes());
     }
-    let one_page = "format blocks=2000 cpus=1 block=1 page=2 inodes=2 snaps=1 actors=1\n\
-                    do 0 create 0.1 a 420\n\
-                    do 0 write 1.1 0 ";
-    for (letters, text) in [
-        (1_024, "formatted\ndone 1.1\ndone 1024\n"),
-        (1_025, "formatted\ndone 1.1\nrefused E11 WriteTooBig\n"),
-    ] {
-        let script = filled(rt.alloc(), one_page, b'a', letters, b"\n")?;
+    for (letters, text) in LONGEST {
+        let script = filled(rt.alloc(), ONE_PAGE, b'a', *letters, b"\n")?;
         check(&rt, &script, Ok(()), text.as_bytes());
     }
     Ok(())
 }
+
+const ONE_PAGE: &str = "format blocks=2000 cpus=1 block=1 page=2 inodes=2 snaps=1 actors=1\n\
+                        do 0 create 0.1 a 420\n\
+                        do 0 write 1.1 0 ";
+
+/// How many letters are written to `ONE_PAGE`, and the text of that script.
+const LONGEST: &[(usize, &str)] = &[
+    (1_024, "formatted\ndone 1.1\ndone 1024\n"),
+    (1_025, "formatted\ndone 1.1\nrefused E11 WriteTooBig\n"),
+];
 
 /// Gives one line at a time, or takes any bytes. Each line's text must have been taken before the next line
 /// is asked for.
@@ -131,21 +136,24 @@ fn each_line_is_answered_before_the_next_is_asked_for(rt: HostRuntime) -> Result
     Ok(())
 }
 
-#[test]
-fn answers_are_one_write_where_no_line_is_waited_for(rt: HostRuntime) -> Result<(), Fail> {
+/// Plays a script; how it ends, how many bytes it writes, and by how many calls.
+fn counts_of(alloc: Global, script: &str) -> (Result<(), Fault>, usize, usize) {
     let taken = Cell::new(0);
+    let mut reader = script.as_bytes();
+    let mut writer = Screen {
+        taken: &taken,
+        calls: 0,
+    };
+    let outcome = play(alloc, &mut reader, &mut writer);
+    (outcome, taken.get(), writer.calls)
+}
+
+#[test]
+fn answers_are_one_write_where_no_line_is_waited_for(rt: HostRuntime) {
     for (script, text) in SCRIPTS {
-        let mut reader = script.as_bytes();
-        let mut writer = Screen {
-            taken: &taken,
-            calls: 0,
-        };
-        taken.set(0);
-        let outcome = play(rt.alloc(), &mut reader, &mut writer);
-        assert!(rt; outcome.is_ok() && taken.get() == text.len(), "{script}");
-        assert!(rt; writer.calls == text.len().min(1), "{script}");
+        let want = (Ok(()), text.len(), text.len().min(1));
+        same_for(&rt, &script, counts_of(rt.alloc(), script), want);
     }
-    Ok(())
 }
 
 /// Fronts of texts, how many zeros follow, and their ends.
@@ -189,32 +197,19 @@ fn long_texts(rt: HostRuntime) -> Result<(), Fail> {
 }
 
 #[test]
-fn scripts_come_and_go_byte_by_byte(rt: HostRuntime) -> Result<(), Fail> {
+fn scripts_come_and_go_byte_by_byte(rt: HostRuntime) {
+    let by_byte = (1, usize::MAX);
     for (script, want) in SCRIPTS {
-        let mut reader = Pieces {
-            inner: script.as_bytes(),
-            most: 1,
-            calls: usize::MAX,
-        };
-        let mut writer = Pieces {
-            inner: Vec::new(rt.alloc()),
-            most: 1,
-            calls: usize::MAX,
-        };
-        let outcome = play(rt.alloc(), &mut reader, &mut writer);
-        assert!(rt;
-            outcome.is_ok() && writer.inner.as_slice() == want.as_bytes(),
-            "{script}"
-        );
+        let (outcome, written) = play_in_pieces(rt.alloc(), script.as_bytes(), by_byte, by_byte);
+        same_for(&rt, &script, outcome, Ok(()));
+        same_for(&rt, &script, written.as_slice(), want.as_bytes());
     }
-    Ok(())
 }
 
 #[test]
 fn faults_have_their_texts(rt: HostRuntime) -> Result<(), Fail> {
     for (fault, want) in FAULTS {
-        let text = fault_text(rt.alloc(), &fault)?;
-        assert!(rt; text.as_str() == want, "{want}");
+        same(&rt, fault_text(rt.alloc(), &fault)?.as_str(), want);
     }
     Ok(())
 }

@@ -1,9 +1,12 @@
 //! Words by worked values.
 
+use crate::compare::{same, same_for};
 use nv_script::word::{handle, mode, number, number_up_to, push_escaped, text, words};
+use std::alloc::Global;
+use std::process::Abort;
 use std::test::Fail;
 
-const NUMBERS: [(&str, Option<u64>); 9] = [
+const NUMBERS: &[(&str, Option<u64>)] = &[
     ("0", Some(0)),
     ("00000000000000000042", Some(42)),
     ("18446744073709551615", Some(u64::MAX)),
@@ -15,9 +18,9 @@ const NUMBERS: [(&str, Option<u64>); 9] = [
     ("1a", None),
 ];
 
-const NUMBERS_UP_TO_64: [(&str, Option<u64>); 3] = [("64", Some(64)), ("65", None), ("x", None)];
+const NUMBERS_UP_TO_64: &[(&str, Option<u64>)] = &[("64", Some(64)), ("65", None), ("x", None)];
 
-const MODES: [(&str, Option<u16>); 5] = [
+const MODES: &[(&str, Option<u16>)] = &[
     ("0420", Some(420)),
     ("4095", Some(4_095)),
     ("4096", None),
@@ -26,22 +29,21 @@ const MODES: [(&str, Option<u16>); 5] = [
 ];
 
 #[test]
-fn numbers_and_modes(rt: HostRuntime) -> Result<(), Fail> {
+fn numbers_and_modes(rt: HostRuntime) {
     for (word, want) in NUMBERS {
-        assert!(rt; number(word.as_bytes()) == want, "{word}");
+        same_for(&rt, word, number(word.as_bytes()), *want);
     }
     for (word, want) in NUMBERS_UP_TO_64 {
-        assert!(rt; number_up_to(64, word.as_bytes()) == want, "{word}");
+        same_for(&rt, word, number_up_to(64, word.as_bytes()), *want);
     }
     for (word, want) in MODES {
         let bits = mode(word.as_bytes()).map(|mode| mode.bits());
-        assert!(rt; bits == want, "{word}");
+        same_for(&rt, word, bits, *want);
     }
-    Ok(())
 }
 
 /// Handles as an inode number and a generation.
-const HANDLES: [(&str, Option<(u64, u64)>); 9] = [
+const HANDLES: &[(&str, Option<(u64, u64)>)] = &[
     ("1.1", Some((1, 1))),
     ("12.0345", Some((12, 345))),
     ("1.", None),
@@ -54,25 +56,29 @@ const HANDLES: [(&str, Option<(u64, u64)>); 9] = [
 ];
 
 #[test]
-fn handles(rt: HostRuntime) -> Result<(), Fail> {
+fn handles(rt: HostRuntime) {
     for (word, want) in HANDLES {
         let numbers = handle(word.as_bytes()).map(|it| (it.ino.number(), it.generation.number()));
-        assert!(rt; numbers == want, "{word}");
+        same_for(&rt, word, numbers, *want);
+    }
+}
+
+/// Lines with their words.
+const WORDS: &[(&[u8], &[&[u8]])] = &[
+    (b"read 1.1  7 ", &[b"read", b"1.1", b"", b"7", b""]),
+    (b"", &[b""]),
+];
+
+#[test]
+fn words_between_spaces(rt: HostRuntime) -> Result<(), Fail> {
+    for (line, want) in WORDS {
+        same(&rt, words(rt.alloc(), line)?.as_slice(), *want);
     }
     Ok(())
 }
 
-#[test]
-fn words_between_spaces(rt: HostRuntime) -> Result<(), Fail> {
-    let found = words(rt.alloc(), b"read 1.1  7 ")?;
-    let want = [b"read".as_slice(), b"1.1", b"", b"7", b""];
-    assert!(rt; found.as_slice() == want.as_slice());
-    assert!(rt; words(rt.alloc(), b"")?.len() == 1);
-    Ok(())
-}
-
 /// Escaped text with the bytes that it stands for.
-const TEXTS: [(&[u8], Option<&[u8]>); 12] = [
+const TEXTS: &[(&[u8], Option<&[u8]>)] = &[
     (b"a%2fb", Some(b"a/b")),
     (b"%2F", Some(b"/")),
     (b"%00%fF!~", Some(b"\x00\xff!~")),
@@ -92,10 +98,14 @@ fn texts(rt: HostRuntime) -> Result<(), Fail> {
     for (word, want) in TEXTS {
         let bytes = text(rt.alloc(), word)?;
         let found = bytes.as_ref().map(|bytes| bytes.as_slice());
-        assert!(rt; found == want, "{word:?}");
+        same_for(&rt, word, found, *want);
     }
-    let mut out = String::from_str(rt.alloc(), "> ")?;
+    is_escaped(&rt, rt.alloc())
+}
+
+fn is_escaped(rt: &impl Abort, alloc: Global) -> Result<(), Fail> {
+    let mut out = String::from_str(alloc, "> ")?;
     push_escaped(&mut out, &[0, 33, 37, 126, 127, 255])?;
-    assert!(rt; out.as_bytes() == b"> %00!%25~%7f%ff".as_slice());
+    same(rt, out.as_str(), "> %00!%25~%7f%ff");
     Ok(())
 }
