@@ -223,8 +223,7 @@ fn a_fault_is_told_in_one_line(rt: HostRuntime) -> Result<(), Fail> {
             "novacore: E27 ScriptFault(2, word)\n",
         ),
     ] {
-        let line = fault_line(rt.alloc(), &fault)?;
-        assert!(rt; line.as_str() == want, "{want}");
+        same(&rt, fault_line(rt.alloc(), &fault)?.as_str(), want);
     }
     Ok(())
 }
