@@ -1,137 +1,13 @@
 -- How many pages end a run, and how many are present.
-use Rattle.std.proofs.Common.{◌≡◌, ℕ, zero, suc, ◌+◌, ◌-◌, ◌<◌, ◌≤◌, ◌==◌, nat_lt, Bool, true, false, cond, List, [], ◌∷◌, length, max, Some, is_some, refl, ap, ◌∙◌, arith, zero-add, add-zero}
+use Rattle.std.proofs.Common.{◌≡◌, ℕ, zero, suc, ◌+◌, ◌-◌, ◌<◌, ◌≤◌, nat_le, nat_lt, Bool, true, false, cond, List, [], ◌∷◌, drop, length, max, Some, None, is_some, refl, ap, sym, ◌∙◌, ◌&&◌, arith, add-zero}
 use Rattle.std.specs.List.{sum_by}
+use Rattle.std.proofs.lemmas.Bool.{le-ltb, lt-ltb, leb-true, leb-false, ltb-true, ltb-false}
 use Rattle.std.proofs.lemmas.List.Sums.{sum_by-cons}
 use Rattle.nv_findex.specs.declared.page_run.PageRun.{PageRun}
-use Rattle.nv_findex.specs.Pages.{ref_at, run_ref, is_followed, ends_run, how_many, run_count_of}
-use Rattle.nv_findex.specs.Runs.{AreRuns, BeginFrom, EndBy, pages_past}
-use Rattle.std.proofs.lemmas.Bool.{eq-eqb, ltb-true, ltb-false}
-use Rattle.nv_findex.proofs.Refs.{ref_at-in, ref_at-behind, ref_at-before, begin_earlier, end_later, end_within}
-use Rattle.nv_findex.proofs.Whole.{stop-first}
-
-pub how_many-add : (test : ℕ → Bool) (from m n : ℕ) → how_many test from (m + n) ≡ how_many test from m + how_many test (from + m) n
-unfolding how_many
-how_many-add test from zero n = rw (zero-add n, add-zero from) (omega arith)
-how_many-add test from (suc m) n =
-    let steps : suc m + n ≡ suc (m + n) = omega arith in
-    let next : from + suc m ≡ from + 1 + m = omega arith in
-    rw (steps, next) (omega (arith, how_many-add test (from + 1) m n))
-
-pub how_many-same : (test other : ℕ → Bool) (from n : ℕ) → ((q : ℕ) → from ≤ q → q < from + n → test q ≡ other q)
-    → how_many test from n ≡ how_many other from n
-unfolding how_many
-how_many-same test other from zero h = refl
-how_many-same test other from (suc n) h =
-    let here : test from ≡ other from = h from (omega arith) (omega arith) in
-    let rest = how_many-same test other (from + 1) n (λ q low high. h q (omega arith) (omega arith)) in
-    rw (here, rest) refl
-
-pub how_many-none : (test : ℕ → Bool) (from n : ℕ) → ((q : ℕ) → from ≤ q → q < from + n → test q ≡ false) → how_many test from n ≡ 0
-unfolding how_many
-how_many-none test from zero h = refl
-how_many-none test from (suc n) h =
-    let here : test from ≡ false = h from (omega arith) (omega arith) in
-    rw here (omega (arith, how_many-none test (from + 1) n (λ q low high. h q (omega arith) (omega arith))))
-
-pub how_many-all : (test : ℕ → Bool) (from n : ℕ) → ((q : ℕ) → from ≤ q → q < from + n → test q ≡ true) → how_many test from n ≡ n
-unfolding how_many
-how_many-all test from zero h = refl
-how_many-all test from (suc n) h =
-    let here : test from ≡ true = h from (omega arith) (omega arith) in
-    rw here (omega (arith, how_many-all test (from + 1) n (λ q low high. h q (omega arith) (omega arith))))
-
--- a page of a run but its last ends none
-goes_on_within : (r : PageRun) (rs : List PageRun) (q : ℕ) → r.first ≤ q → q + 1 < r.end → ends_run (ref_at (r ∷ rs)) q ≡ false
-goes_on_within r rs q low high =
-    let commit : (r.start.entry.commit == r.start.entry.commit) ≡ true = eq-eqb r.start.entry.commit r.start.entry.commit refl in
-    let entry : (r.start.entry.place == r.start.entry.place) ≡ true = eq-eqb r.start.entry.place r.start.entry.place refl in
-    let place : (r.start.place + (q - r.first) + 1 == r.start.place + (q + 1 - r.first)) ≡ true = eq-eqb _ _ (omega arith) in
-    rw (ref_at-in r rs q low (omega arith), ref_at-in r rs (q + 1) (omega arith) high, commit, entry, place) refl
-
--- no page before a run's last one ends a run, and that one does
-before_last : (r : PageRun) (rs : List PageRun) (q : ℕ) → AreRuns (r ∷ rs) → q + 1 < r.end → ends_run (ref_at (r ∷ rs)) q ≡ false
-unfolding AreRuns BeginFrom
-before_last r rs q h high = go (nat_lt q r.first) refl where
-  go : (b : Bool) → nat_lt q r.first ≡ b → ends_run (ref_at (r ∷ rs)) q ≡ false
-  go true t = rw (ref_at-before r.first q (r ∷ rs) h (omega arith) (ltb-true q r.first t)) refl
-  go false t = goes_on_within r rs q (ltb-false q r.first t) high
-
-at_last : (r : PageRun) (rs : List PageRun) (q : ℕ) → AreRuns (r ∷ rs) → q + 1 ≡ r.end → ends_run (ref_at (r ∷ rs)) q ≡ true
-unfolding AreRuns
-at_last r rs q h e =
-    let some : ref_at (r ∷ rs) q ≡ Some (run_ref r q) = ref_at-in r rs q (omega (arith, h.0.some)) (omega arith) in
-    let stop : is_followed (ref_at (r ∷ rs) q) (ref_at (r ∷ rs) (q + 1)) ≡ false = rw e (stop-first r rs q h e) in
-    rw stop (rw some refl)
-
--- a page behind a run ends one if it does without it
-behind_run : (r : PageRun) (rs : List PageRun) (q : ℕ) → r.end ≤ q → ends_run (ref_at (r ∷ rs)) q ≡ ends_run (ref_at rs) q
-behind_run r rs q le = rw (ref_at-behind r rs q le, ref_at-behind r rs (q + 1) (omega arith)) refl
-
-pub run_count : (rs : List PageRun) (from n : ℕ) → AreRuns rs → BeginFrom from rs → EndBy (from + n) rs
-    → how_many (ends_run (ref_at rs)) from n ≡ length rs
-unfolding AreRuns BeginFrom EndBy ref_at how_many
-run_count [] from n h b e = how_many-none (ends_run (ref_at [])) from n (λ q low high. refl)
-run_count (r ∷ rs) from n h b e =
-    steps (r.end - 1) (from + n - r.end) (omega (arith, h.0.some)) (omega (arith, h.0.some, b, e.0))
-    (run_count rs r.end (from + n - r.end) h.3 h.1 (end_later (from + n) (r.end + (from + n - r.end)) rs (omega arith) e.1)) where
-      steps : (last rest : ℕ) → last + 1 ≡ r.end → n ≡ (last - from) + suc rest → how_many (ends_run (ref_at rs)) r.end rest ≡ length rs
-          → how_many (ends_run (ref_at (r ∷ rs))) from n ≡ suc (length rs)
-      steps last rest end split others =
-          let reach : from + (last - from) ≡ last = omega (arith, h.0.some, b) in
-          let before = how_many-none (ends_run (ref_at (r ∷ rs))) from (last - from) (λ q low high. before_last r rs q h (omega arith)) in
-          let behind = how_many-same (ends_run (ref_at (r ∷ rs))) (ends_run (ref_at rs)) r.end rest (λ q low high. behind_run r rs q low) in
-          ap (how_many (ends_run (ref_at (r ∷ rs))) from) split
-          ∙ how_many-add (ends_run (ref_at (r ∷ rs))) from (last - from) (suc rest)
-          ∙ rw (before, reach, at_last r rs last h end, end, behind, others) (omega arith)
-
-pub run_count_is : (rs : List PageRun) → AreRuns rs → run_count_of rs ≡ length rs
-unfolding BeginFrom
-run_count_is rs h = run_count rs 0 65536 h (from_start rs) (end_within rs h) where
-  from_start : (ss : List PageRun) → BeginFrom 0 ss
-  from_start [] = tt
-  from_start (s ∷ ss) = omega arith
-
--- how many pages the runs have
-abbrev pub pages_in : List PageRun → ℕ
-pages_in rs = sum_by (λ (r : PageRun). r.end - r.first) rs
-
-pub present : (rs : List PageRun) (from n : ℕ) → AreRuns rs → BeginFrom from rs → EndBy (from + n) rs
-    → how_many (λ q. is_some (ref_at rs q)) from n ≡ pages_in rs
-unfolding AreRuns BeginFrom EndBy ref_at
-present [] from n h b e = how_many-none (λ q. is_some (ref_at [] q)) from n (λ q low high. refl)
-present (r ∷ rs) from n h b e =
-    steps (r.first - from) (r.end - r.first) (from + n - r.end) (omega (arith, b)) (omega (arith, h.0.some))
-    (omega (arith, h.0.some, b, e.0))
-    (present rs r.end (from + n - r.end) h.3 h.1 (end_later (from + n) (r.end + (from + n - r.end)) rs (omega arith) e.1)) where
-      steps : (gap len rest : ℕ) → from + gap ≡ r.first → r.first + len ≡ r.end → n ≡ gap + (len + rest)
-          → how_many (λ q. is_some (ref_at rs q)) r.end rest ≡ pages_in rs
-          → how_many (λ q. is_some (ref_at (r ∷ rs) q)) from n ≡ pages_in (r ∷ rs)
-      steps gap len rest begin end split others =
-          let none = how_many-none (λ q. is_some (ref_at (r ∷ rs) q)) from gap (λ q low high. ap is_some
-          (ref_at-before r.first q (r ∷ rs) h (omega arith) (omega arith))) in
-          let all = how_many-all (λ q. is_some (ref_at (r ∷ rs) q)) r.first len
-          (λ q low high. ap is_some (ref_at-in r rs q low (omega arith))) in
-          let behind = how_many-same (λ q. is_some (ref_at (r ∷ rs) q)) (λ q. is_some (ref_at rs q)) r.end rest
-          (λ q low high. ap is_some (ref_at-behind r rs q low)) in
-          let sum = sum_by-cons (λ (x : PageRun). x.end - x.first) r rs in
-          ap (how_many (λ q. is_some (ref_at (r ∷ rs) q)) from) split
-          ∙ how_many-add (λ q. is_some (ref_at (r ∷ rs) q)) from gap (len + rest)
-          ∙ rw (begin, how_many-add (λ q. is_some (ref_at (r ∷ rs) q)) r.first len rest, end)
-          (omega (arith, none, all, behind, others, sum))
-
-pub past_all : (p : ℕ) (rs : List PageRun) → AreRuns rs → BeginFrom p rs → pages_past p rs ≡ pages_in rs
-unfolding AreRuns BeginFrom
-past_all p [] h b = refl
-past_all p (r ∷ rs) h b =
-    let clipped : r.end - max r.first p ≡ r.end - r.first = omega (arith, b) in
-    sum_by-cons (λ (x : PageRun). x.end - max x.first p) r rs
-    ∙ omega (
-      arith,
-      clipped,
-      past_all p rs h.3 (begin_earlier p r.end rs (omega (arith, b, h.0.some)) h.1),
-      sum_by-cons
-          (λ (x : PageRun). x.end - x.first) r rs,
-    )
+use Rattle.nv_findex.specs.Pages.{ref_at, run_ref, ends_run, how_many, present_from, run_count_of}
+use Rattle.nv_findex.specs.Runs.{AreRuns, AreRunsFrom, ended_by, pages_past}
+use Rattle.nv_findex.proofs.Refs.{ref_in, ref_behind, ref_before}
+use Rattle.nv_findex.proofs.Whole.{on_behind, ends_not}
 
 pub how_many_le : (test : ℕ → Bool) (from n : ℕ) → how_many test from n ≤ n
 unfolding how_many
@@ -140,3 +16,101 @@ how_many_le test from (suc n) = go (test from) (how_many_le test (from + 1) n) w
   go : (b : Bool) → how_many test (from + 1) n ≤ n → cond b 1 0 + how_many test (from + 1) n ≤ suc n
   go true le = omega arith
   go false le = omega arith
+
+-- a number that falls by one at each page that passes the test, down to 0
+how_many_is : (test : ℕ → Bool) (left : ℕ → ℕ) (p n : ℕ) → ((q : ℕ) → left q ≡ cond (test q) 1 0 + left (q + 1)) → left (p + n) ≡ 0
+    → how_many test p n ≡ left p
+unfolding how_many
+how_many_is test left p zero step end = sym (ap left (sym (add-zero p)) ∙ end)
+how_many_is test left p (suc n) step end =
+    let rest : left (p + 1 + n) ≡ 0 = ap left (omega arith) ∙ end in
+    omega (arith, how_many_is test left (p + 1) n step rest, step p)
+
+-- how many of the runs end behind p
+abbrev runs_past : ℕ → List PageRun → ℕ
+runs_past p rs = sum_by (λ (r : PageRun). cond (nat_lt p r.end) 1 0) rs
+
+runs_step : (l p : ℕ) (rs : List PageRun) → AreRunsFrom l rs → runs_past p rs ≡ cond (ends_run (ref_at rs) p) 1 0 + runs_past (p + 1) rs
+unfolding AreRunsFrom ref_at
+runs_step l p [] h = refl
+runs_step l p (r ∷ rs) h =
+    go (nat_lt (p + 1) r.end) (nat_lt p r.end) refl refl (sum_by-cons _ r rs) (sum_by-cons _ r rs) (runs_step r.end p rs h.3) where
+      none : p < r.end → ref_at rs p ≡ None
+      none lt = ref_before r.end p rs h.3 lt
+
+      go : (b c : Bool) → nat_lt (p + 1) r.end ≡ b → nat_lt p r.end ≡ c → runs_past p (r ∷ rs) ≡ cond c 1 0 + runs_past p rs
+          → runs_past (p + 1) (r ∷ rs) ≡ cond b 1 0 + runs_past (p + 1) rs
+          → runs_past p rs ≡ cond (ends_run (ref_at rs) p) 1 0 + runs_past (p + 1) rs
+          → runs_past p (r ∷ rs) ≡ cond (ends_run (ref_at (r ∷ rs)) p) 1 0 + runs_past (p + 1) (r ∷ rs)
+      go true true b c now later rest =
+          rw (ends_not l r rs p h (ltb-true _ _ b)) (omega (arith, now, later, rw (none (ltb-true _ _ c)) at rest))
+      go true false b c now later rest = absurd (omega (arith, ltb-true _ _ b, ltb-false _ _ c))
+      go false true b c now later rest =
+          let gone = none (ltb-true _ _ c) in
+          rw (on_behind l r rs p h (ltb-false _ _ b), ref_in r rs p (omega (arith, h.1.some, ltb-false _ _ b)) (ltb-true _ _ c), gone)
+          (omega (arith, now, later, rw gone at rest))
+      go false false b c now later rest =
+          rw (on_behind l r rs p h (ltb-false _ _ b), ref_behind r rs p (ltb-false _ _ c)) (omega (arith, now, later, rest))
+
+runs_all : (l : ℕ) (rs : List PageRun) → AreRunsFrom l rs → runs_past 0 rs ≡ length rs
+unfolding AreRunsFrom
+runs_all l [] h = refl
+runs_all l (r ∷ rs) h = sum_by-cons _ r rs ∙ rw (lt-ltb 0 r.end (omega (arith, h.1.some))) (omega (arith, runs_all r.end rs h.3))
+
+runs_none : (l p : ℕ) (rs : List PageRun) → AreRunsFrom l rs → 65536 ≤ p → runs_past p rs ≡ 0
+unfolding AreRunsFrom
+runs_none l p [] h le = refl
+runs_none l p (r ∷ rs) h le =
+    sum_by-cons _ r rs ∙ rw (le-ltb p r.end (omega (arith, h.1.within))) (omega (arith, runs_none r.end p rs h.3 le))
+
+pub run_count_is : (rs : List PageRun) → AreRuns rs → run_count_of rs ≡ length rs
+run_count_is rs h =
+    how_many_is (ends_run (ref_at rs)) (λ q. runs_past q rs) 0 65536 (λ q. runs_step 0 q rs h) (runs_none 0 _ rs h (omega arith))
+    ∙ runs_all 0 rs h
+
+pages_step : (l p : ℕ) (rs : List PageRun) → AreRunsFrom l rs
+    → pages_past p rs ≡ cond (is_some (ref_at rs p)) 1 0 + pages_past (p + 1) rs
+unfolding AreRunsFrom ref_at
+pages_step l p [] h = refl
+pages_step l p (r ∷ rs) h = go (nat_le r.first p) refl (nat_lt p r.end) refl (pages_step r.end p rs h.3) where
+  now : pages_past p (r ∷ rs) ≡ r.end - max r.first p + pages_past p rs
+  now = sum_by-cons _ r rs
+
+  later : pages_past (p + 1) (r ∷ rs) ≡ r.end - max r.first (p + 1) + pages_past (p + 1) rs
+  later = sum_by-cons _ r rs
+
+  go : (b : Bool) → nat_le r.first p ≡ b → (c : Bool) → nat_lt p r.end ≡ c
+      → pages_past p rs ≡ cond (is_some (ref_at rs p)) 1 0 + pages_past (p + 1) rs
+      → pages_past p (r ∷ rs) ≡ cond (is_some (cond (b && c) (Some (run_ref r p)) (ref_at rs p))) 1 0 + pages_past (p + 1) (r ∷ rs)
+  go true b true c rest =
+      omega (
+        arith,
+        now,
+        later,
+        leb-true _ _ b,
+        ltb-true _ _ c,
+        rw (ref_before r.end p rs h.3 (ltb-true _ _ c)) at rest,
+      )
+  go true b false c rest = omega (arith, now, later, ltb-false _ _ c, rest)
+  go false b c t rest = omega (arith, now, later, leb-false _ _ b, rest)
+
+pages_none : (l p : ℕ) (rs : List PageRun) → AreRunsFrom l rs → 65536 ≤ p → pages_past p rs ≡ 0
+unfolding AreRunsFrom
+pages_none l p [] h le = refl
+pages_none l p (r ∷ rs) h le = sum_by-cons _ r rs ∙ omega (arith, h.1.within, pages_none r.end p rs h.3 le)
+
+past_drop : (p : ℕ) (rs : List PageRun) → pages_past p (drop (ended_by p rs) rs) ≡ pages_past p rs
+past_drop p [] = refl
+past_drop p (r ∷ rs) = go (nat_le r.end p) refl (past_drop p rs) where
+  go : (b : Bool) → nat_le r.end p ≡ b → pages_past p (drop (ended_by p rs) rs) ≡ pages_past p rs
+      → pages_past p (drop (cond b (1 + ended_by p rs) 0) (r ∷ rs)) ≡ pages_past p (r ∷ rs)
+  go true t rest =
+      let step : 1 + ended_by p rs ≡ suc (ended_by p rs) = omega arith in
+      rw step (rest ∙ omega (arith, leb-true _ _ t, sum_by-cons (λ (x : PageRun). x.end - max x.first p) r rs))
+  go false t rest = refl
+
+pub present_is : (p : ℕ) (rs : List PageRun) → AreRuns rs → present_from p rs ≡ pages_past p (drop (ended_by p rs) rs)
+present_is p rs h =
+    how_many_is (λ q. is_some (ref_at rs q)) (λ q. pages_past q rs) p (65536 - p) (λ q. pages_step 0 q rs h)
+    (pages_none 0 _ rs h (omega arith))
+    ∙ sym (past_drop p rs)

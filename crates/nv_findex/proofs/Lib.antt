@@ -1,5 +1,6 @@
 pub mod Refs
-pub mod Borders
+pub mod Search
 pub mod Whole
 pub mod Counts
+pub mod Parts
 pub mod Put

@@ -46,9 +46,13 @@ is_followed None b = false
 is_followed (Some a) None = false
 is_followed (Some a) (Some b) = is_same_id a.entry b.entry && (a.place + 1 == b.place)
 
+-- the page behind follows in one entry on this one
+abbrev pub goes_on_at : (ℕ → Option PageRef) → ℕ → Bool
+goes_on_at pages page = is_followed (pages page) (pages (page + 1))
+
 -- a present page ends a run if the page behind it does not follow on it
 abbrev pub ends_run : (ℕ → Option PageRef) → ℕ → Bool
-ends_run pages page = is_some (pages page) && not (is_followed (pages page) (pages (page + 1)))
+ends_run pages page = is_some (pages page) && not (goes_on_at pages page)
 
 -- how many of the n pages from `from` on pass the test
 unfoldable pub how_many : (ℕ → Bool) → ℕ → ℕ → ℕ
@@ -73,8 +77,8 @@ pub record IsRun (r : PageRun) : Type 0 where
 pub record IsRunOf (at : ℕ → Option PageRef) (r : PageRun) : Type 0 where
   pub some : r.first < r.end
   pub pages : (page : ℕ) → r.first ≤ page → page < r.end → at page ≡ Some (run_ref r page)
-  pub begins : (page : ℕ) → page + 1 ≡ r.first → is_followed (at page) (at r.first) ≡ false
-  pub ends : (page : ℕ) → page + 1 ≡ r.end → is_followed (at page) (at r.end) ≡ false
+  pub begins : (page : ℕ) → page + 1 ≡ r.first → goes_on_at at page ≡ false
+  pub ends : (page : ℕ) → page + 1 ≡ r.end → goes_on_at at page ≡ false
 
 -- the run that has the page `from`, or else the first one behind it
 abbrev pub IsRunFrom : ℕ → (ℕ → Option PageRef) → Option PageRun → Type 0

@@ -35,7 +35,7 @@ impl Model for FileIndex {
 
 impl FileIndex {
     /// An index without pages. It takes no memory yet.
-    #[tactic(auto, unfolding(crate::specs::Runs::AreRuns))]
+    #[tactic(auto, unfolding(crate::specs::Runs::AreRunsFrom))]
     pub fn new(alloc: Global) -> Self
         ensures { result ≡ record { pages = []; room = 0 } }
     {

@@ -1,8 +1,8 @@
 //! Sorted runs of pages.
 
-ghost use Rattle.std.specs.Prelude.{◌≡◌, ℕ, ◌+◌, ◌-◌, ◌^◌, ◌<◌, ◌≤◌, ◌++◌, length, take, drop, replicate, slice_get, vec_len, vec_capacity, IfSome};
+ghost use Rattle.std.specs.Prelude.{◌≡◌, ℕ, true, ◌+◌, ◌-◌, ◌^◌, ◌<◌, ◌≤◌, ◌++◌, length, take, drop, replicate, slice_get, vec_len, vec_capacity, IfSome, IfNone, OnSome, option_map};
 ghost use Rattle.nv_findex.specs.Pages.{IsRun, IsRunFrom, IsNextFrom, CutsFrom, ref_at, present_from};
-ghost use Rattle.nv_findex.specs.Runs.{AreRuns, EndBehind, EndBy, IsBorder, IsBelow, IsPut, pages_past};
+ghost use Rattle.nv_findex.specs.Runs.{AreRuns, IsPut, before, ended_by, pages_past, rest_from};
 
 use crate::{PageRef, PageRun};
 
@@ -15,10 +15,10 @@ fn get(runs: &[PageRun], at: usize) -> Option<PageRun>
     runs.get(at).copied()
 }
 
-/// How many of the runs end at or before a page. Costs the logarithm of the runs.
+/// How many of the runs end at or before a page, where they are sorted. Costs the logarithm of the runs.
 fn ended_in(runs: &[PageRun], page: u32) -> usize
-    requires { AreRuns runs.now }
-    ensures { IsBorder page runs.now result }
+    ensures within { result ≤ length runs.now }
+    ensures ended { AreRuns runs.now → result ≡ ended_by page runs.now }
 {
     runs.partition_point(|run| run.end <= page)
 }
@@ -30,52 +30,42 @@ fn guess(runs: &[PageRun], page: u32) -> usize {
     (pages / (end as u64)) as usize
 }
 
-/// A place near the guess that the border of a page isn't below, or else 0.
-fn low_near(runs: &[PageRun], guess: usize, page: u32) -> usize
-    requires { AreRuns runs.now }
-    ensures within { result ≤ length runs.now }
-    ensures ended { EndBy page (take result runs.now) }
+/// Whether the runs before a place, and no others, end at or before a page.
+fn is_border(runs: &[PageRun], at: usize, page: u32) -> bool
+    requires runs { AreRuns runs.now }
+    requires within { at ≤ length runs.now }
+    ensures { result ≡ true → at ≡ ended_by page runs.now }
 {
-    let low = guess.saturating_sub(NEAR);
-    let Some(run) = get(runs, low) else {
-        return 0;
-    };
-    if run.end <= page {
-        return low;
+    if 0 < at && page < runs[at - 1].end {
+        return false;
     }
-    0
-}
-
-/// A place near the guess that the border of a page isn't above, or else the end.
-fn high_near(runs: &[PageRun], guess: usize, page: u32) -> usize
-    ensures within { result ≤ length runs.now }
-    ensures behind { EndBehind page (drop result runs.now) }
-{
-    let high = guess.saturating_add(NEAR);
-    let Some(run) = get(runs, high) else {
-        return runs.len();
-    };
-    if page < run.end {
-        return high;
+    if at < runs.len() && runs[at].end <= page {
+        return false;
     }
-    runs.len()
+    true
 }
 
 /// How many of the runs end at or before a page. Looks near the guess first: where it is near, this costs the same
 /// at any number of runs, and else the logarithm of the runs.
 fn ended_near(runs: &[PageRun], guess: usize, page: u32) -> usize
     requires { AreRuns runs.now }
-    ensures { IsBorder page runs.now result }
+    ensures within { result ≤ length runs.now }
+    ensures ended { result ≡ ended_by page runs.now }
 {
-    let low = low_near(runs, guess, page);
-    let high = high_near(runs, guess, page);
-    low + ended_in(&runs[low..high], page)
+    let low = guess.saturating_sub(NEAR).min(runs.len());
+    let high = guess.saturating_add(NEAR).min(runs.len());
+    let at = low + ended_in(&runs[low..high], page);
+    if is_border(runs, at, page) {
+        return at;
+    }
+    ended_in(runs, page)
 }
 
 /// How many of the runs end at or before a page.
 fn ended_by(runs: &[PageRun], page: u32) -> usize
     requires { AreRuns runs.now }
-    ensures { IsBorder page runs.now result }
+    ensures within { result ≤ length runs.now }
+    ensures ended { result ≡ ended_by page runs.now }
 {
     ended_near(runs, guess(runs, page), page)
 }
@@ -132,9 +122,9 @@ pub fn count_from(runs: &[PageRun], page: u32) -> u32
 /// Takes the pages from `page` on out of the run at `at` where it begins below. Returns how many runs lie
 /// below `page` then.
 fn keep_below(runs: &mut Vec<PageRun>, at: usize, page: u32) -> usize
-    requires runs { AreRuns runs.old.items }
-    requires border { IsBorder page runs.old.items at }
-    ensures below { IsBelow page runs.old.items (take result runs.new.items) }
+    requires within { at ≤ vec_len runs.old }
+    requires border { at ≡ ended_by page runs.old.items }
+    ensures before { take result runs.new.items ≡ before page runs.old.items }
     ensures behind { (n : ℕ) → at < n → drop n runs.new.items ≡ drop n runs.old.items }
     ensures len { vec_len runs.new ≡ vec_len runs.old }
     ensures within { result ≤ vec_len runs.new }
@@ -203,11 +193,24 @@ fn splice(runs: &mut Vec<PageRun>, from: usize, to: usize, put: &[PageRun])
     requires within { to ≤ vec_len runs.old }
     requires room { vec_len runs.old + length put.now ≤ vec_capacity runs.old + (to - from) }
     ensures items { runs.new.items ≡ take from runs.old.items ++ (put.now ++ drop to runs.old.items) }
+    ensures len { vec_len runs.new + (to - from) ≡ vec_len runs.old + length put.now }
     ensures capacity { vec_capacity runs.new ≡ vec_capacity runs.old }
 {
     let end = from + put.len();
     move_tail(runs, to, end, &put[0]);
     runs[from..end].copy_from_slice(put);
+}
+
+/// The pages from `page` on of the run that has it, or else of the first one behind it, which is at `at`.
+fn rest_at(runs: &[PageRun], at: usize, page: u32) -> Option<PageRun>
+    requires runs { AreRuns runs.now }
+    requires border { at ≡ ended_by page runs.now }
+    ensures rest { result ≡ option_map (rest_from page) (slice_get runs.now at) }
+    ensures some { OnSome result (at < length runs.now) }
+    ensures none { IfNone result (length runs.now ≤ at) }
+{
+    let run = get(runs, at)?;
+    Some(run.rest_from(page))
 }
 
 /// Puts a run in place of what the runs have of its pages.
@@ -222,13 +225,12 @@ pub fn put(runs: &mut Vec<PageRun>, run: PageRun)
     let old = runs.as_slice();
     let at = ended_by(old, run.first);
     let to = ended_near(old, at, run.end);
-    let next = get(old, to);
+    let next = rest_at(old, to, run.end);
     let at = keep_below(runs, at, run.first);
     let Some(next) = next else {
         splice(runs, at, to, &[run]);
         return;
     };
-    let next = next.rest_from(run.end);
     if run.goes_on(&next) {
         let joined = PageRun {
             end: next.end,
