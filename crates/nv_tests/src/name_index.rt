@@ -54,19 +54,31 @@ fn bind(rt: &impl Abort, index: &mut NameIndex, name: &[u8], binding: Binding) {
     index.bind(name, binding);
 }
 
+/// Makes a change by the entry of a commit.
+fn make(
+    rt: &impl Abort,
+    alloc: Global,
+    index: &mut NameIndex,
+    change: &Change,
+    commit: u64,
+) -> Result<(), Fail> {
+    match change {
+        Reserve(name) => reserve(rt, alloc, index, name)?,
+        Bind(name, ino) => {
+            reserve(rt, alloc, index, name)?;
+            bind(rt, index, name, binding(*ino, commit));
+        }
+        Unbind(name) => index.unbind(name),
+        Clear => index.clear(),
+    }
+    Ok(())
+}
+
 /// Makes the changes one after another.
 fn changed(rt: &impl Abort, alloc: Global, changes: &[Change]) -> Result<NameIndex, Fail> {
     let mut index = NameIndex::new(alloc);
     for (commit, change) in changes.iter().enumerate() {
-        match change {
-            Reserve(name) => reserve(rt, alloc, &mut index, name)?,
-            Bind(name, ino) => {
-                reserve(rt, alloc, &mut index, name)?;
-                bind(rt, &mut index, name, binding(*ino, commit as u64));
-            }
-            Unbind(name) => index.unbind(name),
-            Clear => index.clear(),
-        }
+        make(rt, alloc, &mut index, change, commit as u64)?;
     }
     Ok(index)
 }
@@ -162,6 +174,8 @@ fn names_stand_in_the_order_of_their_entries(rt: HostRuntime) -> Result<(), Fail
     Ok(())
 }
 
+const NAMES: &[&[u8]] = &[b"x", b"y", b"a"];
+
 /// Changes, and the name that stands reserved after them.
 const RESERVED: [(&[Change], Option<&[u8]>); 5] = [
     (&[Reserve(b"x")], Some(b"x")),
@@ -187,11 +201,15 @@ const RESERVED: [(&[Change], Option<&[u8]>); 5] = [
 fn at_most_one_name_stands_reserved(rt: HostRuntime) -> Result<(), Fail> {
     for (changes, want) in &RESERVED {
         let index = changed(&rt, rt.alloc(), changes)?;
-        for name in [b"x".as_slice(), b"y", b"a"] {
-            same(&rt, index.is_reserved(name), Some(name) == *want);
-        }
+        is_alone_reserved(&rt, &index, *want);
     }
     Ok(())
+}
+
+fn is_alone_reserved(rt: &impl Abort, index: &NameIndex, want: Option<&[u8]>) {
+    for name in NAMES {
+        same(rt, index.is_reserved(name), Some(*name) == want);
+    }
 }
 
 #[test]

@@ -31,6 +31,17 @@ fn last_published(chain: &Chain) -> Option<EntryId> {
     chain.last_published().map(|entry| entry.id)
 }
 
+/// Publishes the commits 1 to 3 in two steps.
+fn publishes_three(rt: &impl Abort, chain: &mut Chain) {
+    publish(rt, chain, 2);
+    assert_commits(rt, chain.log(), &[1, 2]);
+    same(rt, last_published(chain), Some(id(2, 0)));
+    same(rt, chain.last_id(), Some(id(3, 0)));
+    publish(rt, chain, 3);
+    assert_commits(rt, chain.log(), &[1, 2, 3]);
+    same(rt, chain.last_epoch(), Some(Epoch::new(1)));
+}
+
 #[test]
 fn appends_and_publishes(rt: HostRuntime) {
     let mut list = free_blocks(&rt, rt.alloc());
@@ -41,14 +52,7 @@ fn appends_and_publishes(rt: HostRuntime) {
         append(&rt, &mut chain, commit);
     }
     has_three(&rt, &chain);
-
-    publish(&rt, &mut chain, 2);
-    assert_commits(&rt, chain.log(), &[1, 2]);
-    same(&rt, last_published(&chain), Some(id(2, 0)));
-    same(&rt, chain.last_id(), Some(id(3, 0)));
-    publish(&rt, &mut chain, 3);
-    assert_commits(&rt, chain.log(), &[1, 2, 3]);
-    same(&rt, chain.last_epoch(), Some(Epoch::new(1)));
+    publishes_three(&rt, &mut chain);
     assert!(rt; !chain.may_append(id(3, 0), Epoch::new(1)));
     assert!(rt; !chain.may_append(id(4, 0), Epoch::new(0)));
     let_go(rt.alloc(), chain, queue, list);
@@ -72,6 +76,17 @@ fn finds_places(rt: &impl Abort, chain: &Chain) {
     }
 }
 
+/// Each entry that is found or seen is a read.
+fn counts_reads(rt: &impl Abort, chain: &Chain) {
+    finds_each(rt, chain);
+    same(rt, chain.reads(), 7);
+    same(rt, chain.entries().len(), 7);
+    same(rt, chain.reads(), 14);
+    finds_places(rt, chain);
+    assert!(rt; chain.last_published().is_none());
+    same(rt, chain.reads(), 15);
+}
+
 #[test]
 fn finds_entries_by_id(rt: HostRuntime) {
     let mut list = free_blocks(&rt, rt.alloc());
@@ -80,13 +95,7 @@ fn finds_entries_by_id(rt: HostRuntime) {
     for n in 1..8 {
         append(&rt, &mut chain, 3 * n);
     }
-    finds_each(&rt, &chain);
-    same(&rt, chain.reads(), 7);
-    same(&rt, chain.entries().len(), 7);
-    same(&rt, chain.reads(), 14);
-    finds_places(&rt, &chain);
-    assert!(rt; chain.last_published().is_none());
-    same(&rt, chain.reads(), 15);
+    counts_reads(&rt, &chain);
     let_go(rt.alloc(), chain, queue, list);
 }
 

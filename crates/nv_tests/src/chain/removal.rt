@@ -81,17 +81,22 @@ fn unlink(rt: &impl Abort, chain: &mut Chain, stays: &[bool], queue: &mut BlockQ
     chain.unlink_pages(stays, queue);
 }
 
+/// Takes the pages of a row from a chain of nine entries.
+fn unlinks(rt: &impl Abort, alloc: Global, row: &Removal) {
+    let mut list = free_blocks(rt, alloc);
+    let mut chain = nine_entries(rt, alloc, &mut list);
+    let mut taken = queue_for(rt, alloc, 5);
+    unlink(rt, &mut chain, row.stays, &mut taken);
+    has_numbers(rt, &taken, row.out);
+    assert_pages(rt, &chain, row.pages, row.log);
+    same(rt, chain.spare(), row.out.len());
+    let_go(alloc, chain, taken, list);
+}
+
 #[test]
 fn unlinks_pages(rt: HostRuntime) {
     for row in &UNLINKS {
-        let mut list = free_blocks(&rt, rt.alloc());
-        let mut chain = nine_entries(&rt, rt.alloc(), &mut list);
-        let mut taken = queue_for(&rt, rt.alloc(), 5);
-        unlink(&rt, &mut chain, row.stays, &mut taken);
-        has_numbers(&rt, &taken, row.out);
-        assert_pages(&rt, &chain, row.pages, row.log);
-        same(&rt, chain.spare(), row.out.len());
-        let_go(rt.alloc(), chain, taken, list);
+        unlinks(&rt, rt.alloc(), row);
     }
 }
 
@@ -173,20 +178,25 @@ fn compact(rt: &impl Abort, chain: &mut Chain, stays: &[bool], fresh: Vec<Block>
     chain.compact(stays, fresh)
 }
 
+/// Lays a chain of nine entries anew by a row.
+fn is_compacted(rt: &impl Abort, alloc: Global, row: &Removal) {
+    let mut list = free_blocks(rt, alloc);
+    let mut chain = nine_entries(rt, alloc, &mut list);
+    let mut queue = queue_with(rt, alloc, &mut list, row.pages.len() as u64);
+    let fresh = blocks_of(rt, alloc, &mut queue);
+    let old = compact(rt, &mut chain, row.stays, fresh);
+    are_numbered(rt, &old, row.out);
+    give_pages(alloc, old);
+    assert_pages(rt, &chain, row.pages, row.log);
+    same(rt, chain.spare(), 0);
+    reserve(rt, &mut chain, 3);
+    let_go(alloc, chain, queue, list);
+}
+
 #[test]
 fn compacts(rt: HostRuntime) {
     for row in &COMPACTIONS {
-        let mut list = free_blocks(&rt, rt.alloc());
-        let mut chain = nine_entries(&rt, rt.alloc(), &mut list);
-        let mut queue = queue_with(&rt, rt.alloc(), &mut list, row.pages.len() as u64);
-        let fresh = blocks_of(&rt, rt.alloc(), &mut queue);
-        let old = compact(&rt, &mut chain, row.stays, fresh);
-        are_numbered(&rt, &old, row.out);
-        assert_pages(&rt, &chain, row.pages, row.log);
-        same(&rt, chain.spare(), 0);
-        reserve(&rt, &mut chain, 3);
-        give_pages(rt.alloc(), old);
-        let_go(rt.alloc(), chain, queue, list);
+        is_compacted(&rt, rt.alloc(), row);
     }
 }
 

@@ -304,16 +304,24 @@ const MODES_KEPT: &[bool] = &[true, false, false, false, false, false, false, fa
 fn walks_of_cleaners(rt: HostRuntime) -> Result<(), Fail> {
     for (lines, snapshots, pending, entries, counts, pages) in WALKS {
         let scene = Scene::of(rt.alloc(), lines, snapshots, pending)?;
-        let retention = scene.retention();
-        let kept = thorough_keeps(rt.alloc(), &retention, &scene.log)?;
-        same_for(&rt, &lines, kept.as_slice(), *entries);
-        same_for(
-            &rt,
-            &lines,
-            fast_cleaned(&rt, rt.alloc(), &retention, &scene.log, counts)?.as_slice(),
-            *pages,
-        );
+        are_walked(&rt, rt.alloc(), &scene, entries, counts, pages)?;
     }
+    Ok(())
+}
+
+fn are_walked(
+    rt: &impl Abort,
+    alloc: Global,
+    scene: &Scene,
+    entries: &[bool],
+    counts: &[usize],
+    pages: &[bool],
+) -> Result<(), Fail> {
+    let retention = scene.retention();
+    let thorough = thorough_keeps(alloc, &retention, &scene.log)?;
+    same_for(rt, &counts, thorough.as_slice(), entries);
+    let fast = fast_cleaned(rt, alloc, &retention, &scene.log, counts)?;
+    same_for(rt, &counts, fast.as_slice(), pages);
     Ok(())
 }
 
