@@ -8,3 +8,5 @@ pub mod NameWalk
 pub mod Publishing
 pub mod Readied
 pub mod Bound
+pub mod NamesNow
+pub mod ValuesNow

@@ -5,3 +5,4 @@ pub mod Index
 pub mod Numbers
 pub mod Marks
 pub mod Tallies
+pub mod Reading

@@ -8,6 +8,8 @@ mod killed;
 mod kills;
 mod mark;
 mod marks;
+mod reading;
+mod stat;
 mod tally;
 
 pub use cell::InodeCell;
@@ -16,4 +18,5 @@ pub use index::CellIndex;
 pub use killed::KilledPart;
 pub use mark::Mark;
 pub use marks::Marks;
+pub use stat::Stat;
 pub use tally::{PageCounts, Tally};
