@@ -1,5 +1,5 @@
 -- The names of a log, told by its bindings.
-use Rattle.std.proofs.Common.{◌≡◌, ◌<◌, ◌⊎◌, inl, inr, arith, zero, suc, ℕ, length, slice_index_or, Bool, true, false, cond, List, [], ◌∷◌, ◌++◌, map, take, Option, Some, None, refl, ap, sym, ◌∙◌, subst}
+use Rattle.std.proofs.Common.{◌≡◌, ◌<◌, ◌⊎◌, inl, inr, arith, zero, suc, ℕ, length, slice_index_or, Bool, true, false, cond, List, [], ◌∷◌, ◌++◌, map, take, Some, None, refl, ap, sym, ◌∙◌, subst}
 use Rattle.std.specs.Prelude.{IsTrue}
 use denote.Ref.{Bor}
 use Rattle.std.specs.List.{AllByRecursion, IsDistinct, flat_map}
