@@ -13,3 +13,5 @@ pub mod Naming
 pub mod Remarking
 pub mod Readied
 pub mod Bound
+pub mod NamesNow
+pub mod ValuesNow

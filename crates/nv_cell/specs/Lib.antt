@@ -6,3 +6,4 @@ pub mod Named
 pub mod Numbers
 pub mod Marks
 pub mod Tallies
+pub mod Reading

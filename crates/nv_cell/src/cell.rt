@@ -21,16 +21,16 @@ use std::mem;
 ///
 /// A cell owns the blocks of its log pages and of its data, so it is no `Drop`.
 pub struct InodeCell {
-    alloc: Global,
+    pub(crate) alloc: Global,
     // Bytes of a block.
-    block: u64,
+    pub(crate) block: u64,
     generation: Gen,
     version: u64,
-    chain: Chain,
-    index: CellIndex,
-    marks: Marks,
+    pub(crate) chain: Chain,
+    pub(crate) index: CellIndex,
+    pub(crate) marks: Marks,
     // The block of each page part that is not out, by part number; also of parts that are not yet published.
-    blocks: Vec<Option<Block>>,
+    pub(crate) blocks: Vec<Option<Block>>,
     // For how many more entries, and parts of entries, there is room.
     entries: usize,
     parts: usize,

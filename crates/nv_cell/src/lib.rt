@@ -10,6 +10,8 @@ mod mark;
 mod marks;
 mod number;
 mod publish;
+mod reading;
+mod stat;
 mod tally;
 
 pub use cell::InodeCell;
@@ -18,4 +20,5 @@ pub use index::CellIndex;
 pub use killed::KilledPart;
 pub use mark::Mark;
 pub use marks::Marks;
+pub use stat::Stat;
 pub use tally::{PageCounts, Tally};
