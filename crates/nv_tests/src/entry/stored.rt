@@ -7,19 +7,28 @@ ghost use Rattle.nv_base.specs.declared.node.Kind.TheVariants.{Dir, File};
 ghost use Rattle.nv_entry.specs.Blocks.{Uses};
 ghost use Rattle.nv_entry.specs.Bytes.{written};
 ghost use Rattle.nv_entry.specs.Index.{bound_to, names_of};
-ghost use Rattle.nv_entry.specs.Keys.{NameKey};
+ghost use Rattle.nv_entry.specs.Keys.{NameKey, pages_for};
 ghost use Rattle.nv_entry.specs.Log.{value_now};
-ghost use Rattle.nv_entry.specs.Sound.{Gives, HaveText, Makes, blocks_of, empty_node, rewritten, write_items};
-ghost use Rattle.nv_entry.specs.Stored.{stored, stored_after};
+ghost use Rattle.nv_entry.specs.Node.{node_now};
+ghost use Rattle.nv_entry.specs.Sound.{Gives, HasText, HaveText, IsSound, Makes, MakesAll, blocks_of, empty_node, rewritten, write_items};
+ghost use Rattle.nv_entry.specs.Stored.{nothing, stored, stored_after};
 ghost use Rattle.nv_entry.specs.declared.item.Entry.{Entry};
-ghost use Rattle.nv_entry.specs.declared.item.Item.TheVariants.{Init, SetSize};
+ghost use Rattle.nv_entry.specs.declared.item.Item.TheVariants.{Init, SetMode, SetSize};
 ghost use Rattle.nv_entry.specs.declared.item.Run.{Run};
 ghost use Rattle.nv_entry.specs.declared.node.NodeCopy.{NodeCopy};
 
 use nv_entry::stored::{
-    lawful_items_keep_logs_sound, names_are_values, several_items, sound_logs_suit_their_kind,
-    written_runs_are_lawful,
+    lawful_items_keep_logs_sound, logs_use_their_blocks, names_are_values,
+    one_lawful_item_is_several, one_more_item, several_items, sound_logs_suit_their_kind,
+    stored_node_is_given, written_pages_are_lawful, written_runs_are_lawful,
 };
+
+fn a_new_mode_is_stored()
+    ensures { (block mode : ℕ) (log : List Entry) (e : Entry) → e.item ≡ SetMode mode
+        → (stored block (log ++ e ∷ [])).mode ≡ mode }
+{
+    one_more_item();
+}
 
 fn two_more_entries()
     ensures { (block : ℕ) (log : List Entry) (e f : Entry)
@@ -27,6 +36,13 @@ fn two_more_entries()
         ≡ stored_after block f.item (stored_after block e.item (stored block log)) }
 {
     several_items();
+}
+
+fn a_log_that_stores_nothing_gives_no_node()
+    ensures { (bytes : ℕ → List ℕ) (block : ℕ) (log : List Entry) → 0 < block
+        → stored block log ≡ nothing → node_now bytes block log ≡ None }
+{
+    stored_node_is_given();
 }
 
 fn a_new_node_is_sound()
@@ -54,6 +70,23 @@ fn a_directory_uses_no_block()
     sound_logs_suit_their_kind();
 }
 
+fn a_first_item_is_lawful_alone()
+    ensures { (bytes : ℕ → List ℕ) (block : ℕ) (kind : Kind) (mode : ℕ) → 0 < block
+        → MakesAll bytes block (Init kind mode ∷ []) None (Some (empty_node kind mode)) }
+{
+    one_lawful_item_is_several();
+}
+
+fn written_pages_lie_below_the_size()
+    ensures { (bytes : ℕ → List ℕ) (block offset : ℕ) (text : List ℕ) (run : Run) (node : NodeCopy)
+        → 0 < block → 0 < length text → offset + length text ≤ FILE_PAGES * block
+        → node.kind ≡ File → length node.bytes ≡ node.size → node.size ≤ FILE_PAGES * block
+        → HasText bytes block offset text node.bytes run
+        → offset / block + run.len ≤ pages_for block (length (written offset text node.bytes)) }
+{
+    written_pages_are_lawful();
+}
+
 fn a_write_in_two_runs_is_sound()
     ensures { (bytes : ℕ → List ℕ) (block offset : ℕ) (text : List ℕ) (log : List Entry)
         (first second : Entry) (a b : Run) (node : NodeCopy)
@@ -75,12 +108,28 @@ fn a_name_without_a_value_is_unbound()
     names_are_values();
 }
 
+fn blocks_give_a_node_and_a_new_mode_uses_no_other()
+    ensures node { (bytes other : ℕ → List ℕ) (block : ℕ) (log : List Entry) → 0 < block
+        → IsSound bytes block log
+        → ((number : ℕ) → Uses block log number → other number ≡ bytes number)
+        → node_now other block log ≡ node_now bytes block log }
+    ensures blocks { (block mode number : ℕ) (log : List Entry) (e : Entry)
+        → e.item ≡ SetMode mode → Uses block (log ++ e ∷ []) number → Uses block log number }
+{
+    logs_use_their_blocks();
+}
+
 #[test]
 fn laws_are_called(_rt: HostRuntime) {
+    a_new_mode_is_stored();
     two_more_entries();
+    a_log_that_stores_nothing_gives_no_node();
     a_new_node_is_sound();
     a_size_is_set_on_no_directory();
     a_directory_uses_no_block();
+    a_first_item_is_lawful_alone();
+    written_pages_lie_below_the_size();
     a_write_in_two_runs_is_sound();
     a_name_without_a_value_is_unbound();
+    blocks_give_a_node_and_a_new_mode_uses_no_other();
 }
