@@ -1,13 +1,14 @@
 -- How many pages end a run, and how many are present.
-use Rattle.std.proofs.Common.{◌≡◌, ℕ, zero, suc, ◌+◌, ◌-◌, ◌<◌, ◌≤◌, nat_le, nat_lt, Bool, true, false, cond, List, [], ◌∷◌, drop, length, max, Some, None, is_some, refl, ap, sym, ◌∙◌, ◌&&◌, arith, add-zero}
+use Rattle.std.proofs.Common.{◌≡◌, ℕ, zero, suc, ◌+◌, ◌-◌, ◌≤◌, nat_lt, Bool, true, false, cond, List, [], ◌∷◌, drop, length, max, Option, None, is_some, refl, sym, ◌∙◌, arith}
 use Rattle.std.specs.List.{sum_by}
-use Rattle.std.proofs.lemmas.Bool.{le-ltb, lt-ltb, leb-true, leb-false, ltb-true, ltb-false}
+use Rattle.std.proofs.lemmas.Bool.{le-ltb, lt-ltb}
+use Rattle.std.proofs.lemmas.Bool.Decides.{nat_tests}
 use Rattle.std.proofs.lemmas.List.Sums.{sum_by-cons}
+use Rattle.nv_findex.specs.declared.page_ref.PageRef.{PageRef}
 use Rattle.nv_findex.specs.declared.page_run.PageRun.{PageRun}
-use Rattle.nv_findex.specs.Pages.{ref_at, run_ref, ends_run, how_many, present_from, run_count_of}
-use Rattle.nv_findex.specs.Runs.{AreRuns, AreRunsFrom, ended_by, pages_past}
-use Rattle.nv_findex.proofs.Refs.{ref_in, ref_behind, ref_before}
-use Rattle.nv_findex.proofs.Whole.{on_behind, ends_not}
+use Rattle.nv_findex.specs.Pages.{ref_at, ends_run, how_many, present_from, run_count_of}
+use Rattle.nv_findex.specs.Runs.{AreRuns, AreRunsFrom, IsBorder, pages_past}
+use Rattle.nv_findex.proofs.Refs.{goes_head, ref_before}
 
 pub how_many_le : (test : ℕ → Bool) (from n : ℕ) → how_many test from n ≤ n
 unfolding how_many
@@ -17,100 +18,65 @@ how_many_le test from (suc n) = go (test from) (how_many_le test (from + 1) n) w
   go true le = omega arith
   go false le = omega arith
 
--- a number that falls by one at each page that passes the test, down to 0
-how_many_is : (test : ℕ → Bool) (left : ℕ → ℕ) (p n : ℕ) → ((q : ℕ) → left q ≡ cond (test q) 1 0 + left (q + 1)) → left (p + n) ≡ 0
-    → how_many test p n ≡ left p
-unfolding how_many
-how_many_is test left p zero step end = sym (ap left (sym (add-zero p)) ∙ end)
-how_many_is test left p (suc n) step end =
-    let rest : left (p + 1 + n) ≡ 0 = ap left (omega arith) ∙ end in
-    omega (arith, how_many_is test left (p + 1) n step rest, step p)
+-- a test of pages that counts, of each run, so many from a page on
+record Counts (test : List PageRun → ℕ → Bool) (many : ℕ → PageRun → ℕ) : Type 0 where
+  none : (q : ℕ) → test [] q ≡ false
+  step : (p q : ℕ) (a : Option PageRef) (r : PageRun) (rs : List PageRun) → AreRunsFrom p a (r ∷ rs)
+      → many q r + cond (test rs q) 1 0 ≡ cond (test (r ∷ rs) q) 1 0 + many (q + 1) r
+  last : (q : ℕ) (r : PageRun) → r.end ≤ q → many q r ≡ 0
 
--- how many of the runs end behind p
-abbrev runs_past : ℕ → List PageRun → ℕ
-runs_past p rs = sum_by (λ (r : PageRun). cond (nat_lt p r.end) 1 0) rs
+module _ (test : List PageRun → ℕ → Bool) (many : ℕ → PageRun → ℕ) (counts : Counts test many) where
+  count_step : (p q : ℕ) (a : Option PageRef) (rs : List PageRun) → AreRunsFrom p a rs
+      → sum_by (many q) rs ≡ cond (test rs q) 1 0 + sum_by (many (q + 1)) rs
+  unfolding AreRunsFrom
+  count_step p q a [] h = rw (counts.none q) refl
+  count_step p q a (r ∷ rs) h =
+      omega (arith, sum_by-cons (many q) r rs, sum_by-cons (many (q + 1)) r rs, counts.step p q a r rs h, count_step r.end q _ rs h.3)
 
-runs_step : (l p : ℕ) (rs : List PageRun) → AreRunsFrom l rs → runs_past p rs ≡ cond (ends_run (ref_at rs) p) 1 0 + runs_past (p + 1) rs
+  count_none : (p q : ℕ) (a : Option PageRef) (rs : List PageRun) → AreRunsFrom p a rs → 65536 ≤ q → sum_by (many q) rs ≡ 0
+  unfolding AreRunsFrom
+  count_none p q a [] h le = refl
+  count_none p q a (r ∷ rs) h le =
+      sum_by-cons (many q) r rs ∙ omega (arith, counts.last q r (omega (arith, h.1.within)), count_none r.end q _ rs h.3 le)
+
+  count_from : (q n : ℕ) (rs : List PageRun) → AreRuns rs → 65536 ≤ q + n → how_many (test rs) q n ≡ sum_by (many q) rs
+  unfolding how_many
+  count_from q zero rs h end = sym (count_none 0 q None rs h (omega arith))
+  count_from q (suc n) rs h end = omega (arith, count_from (q + 1) n rs h (omega arith), count_step 0 q None rs h)
+
+runs_counted : Counts (λ rs. ends_run (ref_at rs)) (λ q r. cond (nat_lt q r.end) 1 0)
 unfolding AreRunsFrom ref_at
-runs_step l p [] h = refl
-runs_step l p (r ∷ rs) h =
-    go (nat_lt (p + 1) r.end) (nat_lt p r.end) refl refl (sum_by-cons _ r rs) (sum_by-cons _ r rs) (runs_step r.end p rs h.3) where
-      none : p < r.end → ref_at rs p ≡ None
-      none lt = ref_before r.end p rs h.3 lt
+runs_counted = record {
+  none = λ q. refl;
+  step = λ p q a r rs h.
+      rw (goes_head p q a r rs h)
+      (let some = h.1.some in let none = ref_before r.end q _ rs h.3 in grind (arith, nat_tests, none));
+  last = λ q r le. rw (le-ltb q r.end le) refl;
+}
 
-      go : (b c : Bool) → nat_lt (p + 1) r.end ≡ b → nat_lt p r.end ≡ c → runs_past p (r ∷ rs) ≡ cond c 1 0 + runs_past p rs
-          → runs_past (p + 1) (r ∷ rs) ≡ cond b 1 0 + runs_past (p + 1) rs
-          → runs_past p rs ≡ cond (ends_run (ref_at rs) p) 1 0 + runs_past (p + 1) rs
-          → runs_past p (r ∷ rs) ≡ cond (ends_run (ref_at (r ∷ rs)) p) 1 0 + runs_past (p + 1) (r ∷ rs)
-      go true true b c now later rest =
-          rw (ends_not l r rs p h (ltb-true _ _ b)) (omega (arith, now, later, rw (none (ltb-true _ _ c)) at rest))
-      go true false b c now later rest = absurd (omega (arith, ltb-true _ _ b, ltb-false _ _ c))
-      go false true b c now later rest =
-          let gone = none (ltb-true _ _ c) in
-          rw (on_behind l r rs p h (ltb-false _ _ b), ref_in r rs p (omega (arith, h.1.some, ltb-false _ _ b)) (ltb-true _ _ c), gone)
-          (omega (arith, now, later, rw gone at rest))
-      go false false b c now later rest =
-          rw (on_behind l r rs p h (ltb-false _ _ b), ref_behind r rs p (ltb-false _ _ c)) (omega (arith, now, later, rest))
+pages_counted : Counts (λ rs q. is_some (ref_at rs q)) (λ q r. r.end - max r.first q)
+unfolding AreRunsFrom ref_at
+pages_counted = record {
+  none = λ q. refl;
+  step = λ p q a r rs h. let none = ref_before r.end q _ rs h.3 in grind (arith, nat_tests, none);
+  last = λ q r le. omega arith;
+}
 
-runs_all : (l : ℕ) (rs : List PageRun) → AreRunsFrom l rs → runs_past 0 rs ≡ length rs
+runs_all : (p : ℕ) (a : Option PageRef) (rs : List PageRun) → AreRunsFrom p a rs
+    → sum_by (λ (r : PageRun). cond (nat_lt 0 r.end) 1 0) rs ≡ length rs
 unfolding AreRunsFrom
-runs_all l [] h = refl
-runs_all l (r ∷ rs) h = sum_by-cons _ r rs ∙ rw (lt-ltb 0 r.end (omega (arith, h.1.some))) (omega (arith, runs_all r.end rs h.3))
-
-runs_none : (l p : ℕ) (rs : List PageRun) → AreRunsFrom l rs → 65536 ≤ p → runs_past p rs ≡ 0
-unfolding AreRunsFrom
-runs_none l p [] h le = refl
-runs_none l p (r ∷ rs) h le =
-    sum_by-cons _ r rs ∙ rw (le-ltb p r.end (omega (arith, h.1.within))) (omega (arith, runs_none r.end p rs h.3 le))
+runs_all p a [] h = refl
+runs_all p a (r ∷ rs) h = sum_by-cons _ r rs ∙ rw (lt-ltb 0 r.end (omega (arith, h.1.some))) (omega (arith, runs_all r.end _ rs h.3))
 
 pub run_count_is : (rs : List PageRun) → AreRuns rs → run_count_of rs ≡ length rs
-run_count_is rs h =
-    how_many_is (ends_run (ref_at rs)) (λ q. runs_past q rs) 0 65536 (λ q. runs_step 0 q rs h) (runs_none 0 _ rs h (omega arith))
-    ∙ runs_all 0 rs h
+run_count_is rs h = count_from _ _ runs_counted 0 65536 rs h (omega arith) ∙ runs_all 0 None rs h
 
-pages_step : (l p : ℕ) (rs : List PageRun) → AreRunsFrom l rs
-    → pages_past p rs ≡ cond (is_some (ref_at rs p)) 1 0 + pages_past (p + 1) rs
-unfolding AreRunsFrom ref_at
-pages_step l p [] h = refl
-pages_step l p (r ∷ rs) h = go (nat_le r.first p) refl (nat_lt p r.end) refl (pages_step r.end p rs h.3) where
-  now : pages_past p (r ∷ rs) ≡ r.end - max r.first p + pages_past p rs
-  now = sum_by-cons _ r rs
+past_drop : (p n : ℕ) (rs : List PageRun) → IsBorder p n rs → pages_past p (drop n rs) ≡ pages_past p rs
+unfolding IsBorder
+past_drop p zero rs b = refl
+past_drop p (suc n) [] b = refl
+past_drop p (suc n) (r ∷ rs) b =
+    past_drop p n rs b.1 ∙ omega (arith, b.0, sum_by-cons (λ (x : PageRun). x.end - max x.first p) r rs)
 
-  later : pages_past (p + 1) (r ∷ rs) ≡ r.end - max r.first (p + 1) + pages_past (p + 1) rs
-  later = sum_by-cons _ r rs
-
-  go : (b : Bool) → nat_le r.first p ≡ b → (c : Bool) → nat_lt p r.end ≡ c
-      → pages_past p rs ≡ cond (is_some (ref_at rs p)) 1 0 + pages_past (p + 1) rs
-      → pages_past p (r ∷ rs) ≡ cond (is_some (cond (b && c) (Some (run_ref r p)) (ref_at rs p))) 1 0 + pages_past (p + 1) (r ∷ rs)
-  go true b true c rest =
-      omega (
-        arith,
-        now,
-        later,
-        leb-true _ _ b,
-        ltb-true _ _ c,
-        rw (ref_before r.end p rs h.3 (ltb-true _ _ c)) at rest,
-      )
-  go true b false c rest = omega (arith, now, later, ltb-false _ _ c, rest)
-  go false b c t rest = omega (arith, now, later, leb-false _ _ b, rest)
-
-pages_none : (l p : ℕ) (rs : List PageRun) → AreRunsFrom l rs → 65536 ≤ p → pages_past p rs ≡ 0
-unfolding AreRunsFrom
-pages_none l p [] h le = refl
-pages_none l p (r ∷ rs) h le = sum_by-cons _ r rs ∙ omega (arith, h.1.within, pages_none r.end p rs h.3 le)
-
-past_drop : (p : ℕ) (rs : List PageRun) → pages_past p (drop (ended_by p rs) rs) ≡ pages_past p rs
-past_drop p [] = refl
-past_drop p (r ∷ rs) = go (nat_le r.end p) refl (past_drop p rs) where
-  go : (b : Bool) → nat_le r.end p ≡ b → pages_past p (drop (ended_by p rs) rs) ≡ pages_past p rs
-      → pages_past p (drop (cond b (1 + ended_by p rs) 0) (r ∷ rs)) ≡ pages_past p (r ∷ rs)
-  go true t rest =
-      let step : 1 + ended_by p rs ≡ suc (ended_by p rs) = omega arith in
-      rw step (rest ∙ omega (arith, leb-true _ _ t, sum_by-cons (λ (x : PageRun). x.end - max x.first p) r rs))
-  go false t rest = refl
-
-pub present_is : (p : ℕ) (rs : List PageRun) → AreRuns rs → present_from p rs ≡ pages_past p (drop (ended_by p rs) rs)
-present_is p rs h =
-    how_many_is (λ q. is_some (ref_at rs q)) (λ q. pages_past q rs) p (65536 - p) (λ q. pages_step 0 q rs h)
-    (pages_none 0 _ rs h (omega arith))
-    ∙ sym (past_drop p rs)
+pub present_is : (p n : ℕ) (rs : List PageRun) → AreRuns rs → IsBorder p n rs → present_from p rs ≡ pages_past p (drop n rs)
+present_is p n rs h b = count_from _ _ pages_counted p (65536 - p) rs h (omega arith) ∙ sym (past_drop p n rs b)

@@ -10,10 +10,10 @@ use Rattle.nv_findex.specs.declared.page_run.PageRun.{PageRun}
 abbrev pub run_ref : PageRun → ℕ → PageRef
 run_ref r page = record { entry = r.start.entry; place = r.start.place + (page - r.first) }
 
--- where a page lies, if one of the runs has it
+-- where a page lies, if the first run that ends behind it has it
 unfoldable pub ref_at : List PageRun → ℕ → Option PageRef
 ref_at [] page = None
-ref_at (r ∷ rs) page = if nat_le r.first page && nat_lt page r.end then Some (run_ref r page) else ref_at rs page
+ref_at (r ∷ rs) page = if nat_lt page r.end then (if nat_le r.first page then Some (run_ref r page) else None) else ref_at rs page
 
 -- what contracts see of an index: the runs of its present pages, of which all but `new` speaks by
 -- `ref_at` alone, and for how many more runs there is room

@@ -1,8 +1,8 @@
 //! Sorted runs of pages.
 
-ghost use Rattle.std.specs.Prelude.{◌≡◌, ℕ, true, ◌+◌, ◌-◌, ◌^◌, ◌<◌, ◌≤◌, ◌++◌, length, take, drop, replicate, slice_get, vec_len, vec_capacity, IfSome, IfNone, OnSome, option_map};
+ghost use Rattle.std.specs.Prelude.{◌≡◌, ℕ, true, ◌+◌, ◌-◌, ◌^◌, ◌<◌, ◌≤◌, ◌++◌, length, take, drop, replicate, slice_get, vec_len, vec_capacity, nat_lt, IfSome, is_some, option_map, option_to_list};
 ghost use Rattle.nv_findex.specs.Pages.{IsRun, IsRunFrom, IsNextFrom, CutsFrom, ref_at, present_from};
-ghost use Rattle.nv_findex.specs.Runs.{AreRuns, IsPut, before, ended_by, pages_past, rest_from};
+ghost use Rattle.nv_findex.specs.Runs.{AreRuns, IsBorder, IsPut, before, join, pages_past, rest_from};
 
 use crate::{PageRef, PageRun};
 
@@ -18,7 +18,7 @@ fn get(runs: &[PageRun], at: usize) -> Option<PageRun>
 /// How many of the runs end at or before a page, where they are sorted. Costs the logarithm of the runs.
 fn ended_in(runs: &[PageRun], page: u32) -> usize
     ensures within { result ≤ length runs.now }
-    ensures ended { AreRuns runs.now → result ≡ ended_by page runs.now }
+    ensures border { AreRuns runs.now → IsBorder page result runs.now }
 {
     runs.partition_point(|run| run.end <= page)
 }
@@ -34,7 +34,7 @@ fn guess(runs: &[PageRun], page: u32) -> usize {
 fn is_border(runs: &[PageRun], at: usize, page: u32) -> bool
     requires runs { AreRuns runs.now }
     requires within { at ≤ length runs.now }
-    ensures { result ≡ true → at ≡ ended_by page runs.now }
+    ensures { result ≡ true → IsBorder page at runs.now }
 {
     if 0 < at && page < runs[at - 1].end {
         return false;
@@ -50,7 +50,7 @@ fn is_border(runs: &[PageRun], at: usize, page: u32) -> bool
 fn ended_near(runs: &[PageRun], guess: usize, page: u32) -> usize
     requires { AreRuns runs.now }
     ensures within { result ≤ length runs.now }
-    ensures ended { result ≡ ended_by page runs.now }
+    ensures border { IsBorder page result runs.now }
 {
     let low = guess.saturating_sub(NEAR).min(runs.len());
     let high = guess.saturating_add(NEAR).min(runs.len());
@@ -65,7 +65,7 @@ fn ended_near(runs: &[PageRun], guess: usize, page: u32) -> usize
 fn ended_by(runs: &[PageRun], page: u32) -> usize
     requires { AreRuns runs.now }
     ensures within { result ≤ length runs.now }
-    ensures ended { result ≡ ended_by page runs.now }
+    ensures border { IsBorder page result runs.now }
 {
     ended_near(runs, guess(runs, page), page)
 }
@@ -123,8 +123,7 @@ pub fn count_from(runs: &[PageRun], page: u32) -> u32
 /// below `page` then.
 fn keep_below(runs: &mut Vec<PageRun>, at: usize, page: u32) -> usize
     requires within { at ≤ vec_len runs.old }
-    requires border { at ≡ ended_by page runs.old.items }
-    ensures before { take result runs.new.items ≡ before page runs.old.items }
+    ensures before { take result runs.new.items ≡ before page at runs.old.items }
     ensures behind { (n : ℕ) → at < n → drop n runs.new.items ≡ drop n runs.old.items }
     ensures len { vec_len runs.new ≡ vec_len runs.old }
     ensures within { result ≤ vec_len runs.new }
@@ -204,13 +203,40 @@ fn splice(runs: &mut Vec<PageRun>, from: usize, to: usize, put: &[PageRun])
 /// The pages from `page` on of the run that has it, or else of the first one behind it, which is at `at`.
 fn rest_at(runs: &[PageRun], at: usize, page: u32) -> Option<PageRun>
     requires runs { AreRuns runs.now }
-    requires border { at ≡ ended_by page runs.now }
+    requires border { IsBorder page at runs.now }
     ensures rest { result ≡ option_map (rest_from page) (slice_get runs.now at) }
-    ensures some { OnSome result (at < length runs.now) }
-    ensures none { IfNone result (length runs.now ≤ at) }
+    ensures variant { is_some result ≡ nat_lt at (length runs.now) }
 {
     let run = get(runs, at)?;
     Some(run.rest_from(page))
+}
+
+/// Puts a run in place of those from `from` on up to the one at `to`, of which `next` is what stays. The two are
+/// joined where the run goes on in `next`; without one, nothing lies behind.
+fn put_joined(runs: &mut Vec<PageRun>, from: usize, to: usize, run: PageRun, next: Option<PageRun>)
+    requires run { IsRun run }
+    requires from { from ≤ vec_len runs.old }
+    requires order { from ≤ to + 1 }
+    requires variant { is_some next ≡ nat_lt to (vec_len runs.old) }
+    requires room { vec_len runs.old + 2 ≤ vec_capacity runs.old }
+    ensures items { runs.new.items ≡ take from runs.old.items ++ join run (option_to_list next ++ drop (to + 1) runs.old.items) }
+    ensures len { vec_len runs.new ≤ vec_len runs.old + 2 }
+    ensures capacity { vec_capacity runs.new ≡ vec_capacity runs.old }
+{
+    let Some(next) = next else {
+        runs.truncate(from);
+        runs.push_reserved(run);
+        return;
+    };
+    if run.goes_on(&next) {
+        let joined = PageRun {
+            end: next.end,
+            ..run
+        };
+        splice(runs, from, to + 1, &[joined]);
+        return;
+    }
+    splice(runs, from, to + 1, &[run, next]);
 }
 
 /// Puts a run in place of what the runs have of its pages.
@@ -226,18 +252,6 @@ pub fn put(runs: &mut Vec<PageRun>, run: PageRun)
     let at = ended_by(old, run.first);
     let to = ended_near(old, at, run.end);
     let next = rest_at(old, to, run.end);
-    let at = keep_below(runs, at, run.first);
-    let Some(next) = next else {
-        splice(runs, at, to, &[run]);
-        return;
-    };
-    if run.goes_on(&next) {
-        let joined = PageRun {
-            end: next.end,
-            ..run
-        };
-        splice(runs, at, to + 1, &[joined]);
-        return;
-    }
-    splice(runs, at, to + 1, &[run, next]);
+    let kept = keep_below(runs, at, run.first);
+    put_joined(runs, kept, to, run, next);
 }
