@@ -57,7 +57,8 @@ unfolding AreRunsFrom ref_at
 refs_within p a [] h q at e = absurd (none-some at e)
 refs_within p a (r ∷ rs) h q at e = go (nat_lt q r.end) refl (nat_le r.first q) refl e (refs_within r.end _ rs h.3 q at) where
   go : (b : Bool) → nat_lt q r.end ≡ b → (c : Bool) → nat_le r.first q ≡ c
-      → cond b (cond c (Some (run_ref r q)) None) (ref_at rs q) ≡ Some at → (ref_at rs q ≡ Some at → (q < 65536) × (at.place < 65536)) → (q < 65536) × (at.place < 65536)
+      → cond b (cond c (Some (run_ref r q)) None) (ref_at rs q) ≡ Some at
+      → (ref_at rs q ≡ Some at → (q < 65536) × (at.place < 65536)) → (q < 65536) × (at.place < 65536)
   go true b true c s rest =
       let place = ap (λ (x : PageRef). x.place) (same_Some (run_ref r q) at s) in
       (omega (arith, h.1.within, ltb-true _ _ b), omega (arith, h.1.places, ltb-true _ _ b, leb-true _ _ c, place))

@@ -1,5 +1,5 @@
 -- The run that has a page, or else the first one behind it, goes no further than it says.
-use Rattle.std.proofs.Common.{ℕ, zero, suc, ◌+◌, ◌≤◌, List, [], ◌∷◌, slice_get, Option, Some, None, IfSome, refl, ◌∙◌, arith}
+use Rattle.std.proofs.Common.{◌≡◌, ℕ, zero, suc, ◌+◌, ◌≤◌, List, [], ◌∷◌, slice_get, Option, Some, None, IfSome, refl, sym, subst, ◌∙◌, arith}
 use Rattle.std.proofs.lemmas.Bool.{le-leb, le-ltb, lt-leb, lt-ltb}
 use Rattle.nv_findex.specs.declared.page_ref.PageRef.{PageRef}
 use Rattle.nv_findex.specs.declared.page_run.PageRun.{PageRun}
@@ -47,9 +47,9 @@ read_from p l (suc n) a (r ∷ rs) h b = behind (slice_get rs n) (read_from p r.
   )
 
 -- what is read at the border
-pub read_at : (p n : ℕ) (rs : List PageRun) → AreRuns rs → IsBorder p n rs
-    → IsRunFrom p (ref_at rs) (slice_get rs n) × IfSome (slice_get rs n) (λ r. IsRun r)
-read_at p n rs h b = go (slice_get rs n) (read_from p 0 n None rs h b) where
-  go : (o : Option PageRun) → IsRead 0 p rs o → IsRunFrom p (ref_at rs) o × IfSome o (λ r. IsRun r)
+pub read_at : (p n : ℕ) (rs : List PageRun) (o : Option PageRun) → AreRuns rs → IsBorder p n rs → o ≡ slice_get rs n
+    → IsRunFrom p (ref_at rs) o × IfSome o (λ r. IsRun r)
+read_at p n rs o h b read = go o (subst (IsRead 0 p rs) (sym read) (read_from p 0 n None rs h b)) where
+  go : (x : Option PageRun) → IsRead 0 p rs x → IsRunFrom p (ref_at rs) x × IfSome x (λ r. IsRun r)
   go None k = (k.0, tt)
   go (Some r) k = (k.0, k.1.1)
