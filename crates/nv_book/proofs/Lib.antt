@@ -7,3 +7,4 @@ pub mod Places
 pub mod RecordLists
 pub mod Series
 pub mod SortedOut
+pub mod Undoing

@@ -1,9 +1,9 @@
 -- What happened: commits, makings and drops of snapshots, after a base.
-use Rattle.std.specs.Prelude.{◌≡◌, ℕ, ◌+◌, ◌<◌, nat_lt, if◌then◌else◌, List, [], ◌∷◌, ◌++◌, length, Contains}
+use Rattle.std.specs.Prelude.{◌≡◌, ℕ, ◌+◌, ◌<◌, nat_lt, if◌then◌else◌, List, [], ◌∷◌, ◌++◌, length, All, Contains}
 use Rattle.nv_base.specs.declared.limits.TheConstants.{NUMBER}
 use Rattle.nv_book.specs.declared.event.Event.{Event}
 use Rattle.nv_book.specs.declared.event.Event.TheVariants.{Committed, Made, Dropped}
-use Rattle.nv_epoch.specs.Holders.{without}
+use Rattle.nv_epoch.specs.Holders.{IsRising, without}
 
 -- the epoch, the number of the last commit, and the living snapshots
 pub record State : Type 0 where
@@ -22,6 +22,37 @@ abbrev pub after : State → Event → State
 after now (Committed seat number epoch) = record now { commit = number }
 after now (Made s) = record now { epoch = s + 1; living = now.living ++ s ∷ [] }
 after now (Dropped s) = record now { living = without s now.living }
+
+-- the numbers of the living snapshots rise, and lie below the epoch
+pub record IsOrdered (now : State) : Type 0 where
+  pub rising : IsRising now.living
+  pub below_epoch : All (λ s. s < now.epoch) now.living
+
+-- where so many numbers of living snapshots have room, so has the event's
+abbrev pub FitsIn : ℕ → List ℕ → Event → Type 0
+FitsIn room living (Committed seat number epoch) = Unit {0}
+FitsIn room living (Made s) = length living < room
+FitsIn room living (Dropped s) = Unit {0}
+
+abbrev pub living_after : Event → List ℕ → List ℕ
+living_after (Committed seat number epoch) living = living
+living_after (Made s) living = living ++ s ∷ []
+living_after (Dropped s) living = without s living
+
+-- the number before the first that is not below it
+abbrev pub put_back : ℕ → List ℕ → List ℕ
+put_back s [] = s ∷ []
+put_back s (t ∷ ts) = if nat_lt t s then t ∷ put_back s ts else s ∷ t ∷ ts
+
+abbrev pub living_before : Event → List ℕ → List ℕ
+living_before (Committed seat number epoch) living = living
+living_before (Made s) living = without s living
+living_before (Dropped s) living = put_back s living
+
+-- what lived before the events
+unfoldable pub undone : List ℕ → List Event → List ℕ
+undone living [] = living
+undone living (e ∷ es) = living_before e (undone living es)
 
 -- a legal history: each event may come after those before it
 unfoldable pub IsLegal : ℕ → State → List Event → Type 0

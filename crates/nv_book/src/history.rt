@@ -1,69 +1,68 @@
 //! The latest events, and what came before them in sum.
 
 ghost use Rattle.std.specs.Prelude.{◌≡◌, ◌+◌, ◌<◌, ◌≤◌, ◌^◌, [], ◌∷◌, length, slice_get, vec_capacity, vec_len, IfOk, IfErr, IsTrue, ◌↔◌};
-ghost use Rattle.nv_book.specs.History.{State, Account, IsNext, IsLegal, after, now_of, noted};
-ghost use Rattle.nv_epoch.specs.Holders.{without};
-ghost use Rattle.nv_book.specs.Base.{state_of};
+ghost use Rattle.nv_base.specs.Refusals.{FailsOnly};
+ghost use Rattle.nv_book.specs.History.{Account, IsNext, IsLegal, after, now_of, noted};
+ghost use Rattle.nv_book.specs.Base.{IsWithinLimit, base_after};
 
-use crate::Event;
+use crate::{Event, living};
 use circular_buffer::HeapCircularBuffer;
 use nv_base::{CommitNo, Epoch, Fault};
+use nv_epoch::laws;
 use std::alloc::Global;
 use std::marker::Model;
 
 /// How many events a history keeps one by one.
 pub const KEPT: usize = 256;
 
-/// What the events before those that are kept led to: the epoch, the number of the last commit, and the living
-/// snapshots, oldest first.
-#[derive(Drop)]
+/// What the events before those that are kept led to: the epoch, and the number of the last commit.
+/// [`History::living_at_base`] has the snapshots that lived then.
+#[derive(Clone, Copy, Debug, PartialEq, Eq)]
 pub struct Base {
     pub epoch: Epoch,
     pub commit: CommitNo,
-    pub living: Vec<Epoch>,
 }
 
 /// What happened to a book since format: the latest events one by one, after a base that stands for those before.
+///
+/// The snapshots that lived at the base are not kept: they are those that live now, with what the latest events
+/// changed undone. So an event that goes into the base costs the same however many snapshots live.
 #[derive(Drop)]
 pub struct History {
     base: Base,
     latest: HeapCircularBuffer<Event>,
+    // The snapshots that live now.
+    living: Vec<Epoch>,
     most: u64,
 }
 
 impl Model for History {
+    ghost use Rattle.std.specs.Prelude.{vec_capacity};
     ghost use Rattle.nv_book.specs.History.{Account};
     ghost use Rattle.nv_book.specs.Base.{state_of, IsHistory};
     ghost use Rattle.nv_book.specs.declared.history.TheConstants.{KEPT};
 
     ghost Value = { Account };
 
-    ghost view = { λ h. record { base = state_of h.base; latest = h.latest.items; most = h.most } };
+    ghost view = { λ h. record {
+      base = state_of h.base h.living.items h.latest.items;
+      latest = h.latest.items;
+      most = h.most;
+    } };
 
-    ghost invariant = { λ h. IsHistory KEPT h.base h.latest h.most };
-}
-
-/// Removes a snapshot.
-fn remove(living: &mut Vec<Epoch>, s: Epoch)
-    ensures items { living.new.items ≡ without s living.old.items }
-    ensures room { vec_capacity living.new ≡ vec_capacity living.old }
-{
-    living.retain(|t| *t != s);
+    ghost invariant = { λ h.
+        IsHistory KEPT h.base h.latest h.living.items (vec_capacity h.living) h.most };
 }
 
 /// Takes an event into the base.
 fn take(base: &mut Base, event: Event)
-    requires { IsNext (vec_capacity base.old.living) (state_of base.old) event }
-    ensures state { state_of base.new ≡ after (state_of base.old) event }
-    ensures room { vec_capacity base.new.living ≡ vec_capacity base.old.living }
+    requires { IsWithinLimit event }
+    ensures { base.new ≡ base_after event base.old }
 {
     match event {
         Event::Committed { number, .. } => base.commit = number,
-        Event::Made(s) => {
-            base.living.push_reserved(s);
-            base.epoch = s.next();
-        }
-        Event::Dropped(s) => remove(&mut base.living, s),
+        Event::Made(s) => base.epoch = s.next(),
+        Event::Dropped(_) => {}
     }
 }
 
@@ -86,35 +85,56 @@ impl History {
         ensures err { IfErr result (λ fault. fault ≡ Fault.OutOfMemory) }
     {
         Ok(History {
-            base: Base {
-                epoch,
-                commit,
-                living: Vec::with_capacity(alloc, snaps as usize)?,
-            },
+            base: Base { epoch, commit },
             latest: HeapCircularBuffer::with_capacity(alloc, KEPT)?,
+            living: Vec::with_capacity(alloc, snaps as usize)?,
             most: snaps,
         })
     }
 
-    /// Notes an event. Where [`KEPT`] stand after the base already, the oldest of them goes into it, which costs the
-    /// number of living snapshots where that is a drop.
+    /// Notes an event. Where [`KEPT`] stand after the base already, the oldest of them goes into it. A drop costs
+    /// the number of living snapshots, and any other event the same however many there are.
     pub(crate) fn note(&mut self, event: Event)
         requires { IsNext self.old.most (now_of self.old) event }
         ensures account { self.new ≡ noted KEPT self.old event }
         ensures now { now_of self.new ≡ after (now_of self.old) event }
         ensures legal { IsLegal self.new.most self.new.base self.new.latest }
     {
+        laws::making_keeps_holders();
+        laws::removal_moves_holders_down();
+        living::apply(&mut self.living, &event);
         match self.latest.push_back(event) {
             None => {}
             Some(oldest) => take(&mut self.base, oldest),
         }
     }
 
-    /// What the events before the latest led to.
-    pub fn base(&self) -> &Base
-        ensures { state_of result.now ≡ self.now.base }
+    /// What the events before the latest led to, but for the snapshots.
+    pub fn base(&self) -> Base
+        ensures epoch { result.epoch ≡ self.now.base.epoch }
+        ensures commit { result.commit ≡ self.now.base.commit }
     {
-        &self.base
+        self.base
+    }
+
+    /// The snapshots that lived before the latest events, oldest first. It takes time by the events that are kept, and
+    /// for each drop among them by the number of snapshots.
+    ///
+    /// The only error is `OutOfMemory`.
+    pub fn living_at_base(&self, alloc: Global) -> Result<Vec<Epoch>, Fault>
+        ensures ok { IfOk result (λ living. living.items ≡ self.now.base.living) }
+        ensures err { FailsOnly Fault.OutOfMemory result }
+    {
+        let mut living = Vec::from_slice(alloc, &self.living)?;
+        let mut left = self.latest.len();
+        while left > 0 {
+            left -= 1;
+            let Some(event) = self.latest.get(left) else {
+                unreachable!();
+            };
+            living::undo(&mut living, *event)?;
+        }
+        Ok(living)
     }
 
     /// How many events stand after the base.

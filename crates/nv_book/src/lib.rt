@@ -9,6 +9,7 @@ mod book;
 mod event;
 mod history;
 pub mod laws;
+mod living;
 mod manifest;
 mod record;
 mod record_list;

@@ -2,10 +2,11 @@
 use crate::book::{device, enter, new_book, record, retire};
 use crate::compare::{same, same_for};
 use nv_base::{CommitNo, Epoch, Fault, Ino, limits};
-use nv_book::{Book, Event, KEPT, Record, Retired};
+use nv_book::{Base, Book, Event, KEPT, Record, Retired};
 use nv_entry::Part;
 use nv_journal::{OldTail, are_distinct};
 use smallvec::{SmallVec, smallvec};
+use std::alloc::Global;
 use std::process::Abort;
 use std::test::Fail;
 use std::thread;
@@ -178,6 +179,18 @@ fn keeps_the_latest_events(rt: HostRuntime) -> Result<(), Fail> {
     Ok(())
 }
 
+// What lived at the base. Where memory is refused, the call is made once more.
+fn living_at_base(rt: &impl Abort, alloc: Global, book: &Book) -> Vec<Epoch> {
+    match book.history().living_at_base(alloc) {
+        Ok(living) => living,
+        Err(fault) => {
+            same(rt, fault, Fault::OutOfMemory);
+            let again = book.history().living_at_base(alloc);
+            again.expect(rt, "memory for numbers")
+        }
+    }
+}
+
 #[test]
 fn folds_snapshots_into_the_base(rt: HostRuntime) -> Result<(), Fail> {
     let mut book = new_book(&rt, rt.alloc());
@@ -190,17 +203,22 @@ fn folds_snapshots_into_the_base(rt: HostRuntime) -> Result<(), Fail> {
         book.history().event(3),
         Some(Event::Dropped(Epoch::new(2))),
     );
-    for _ in 0..KEPT {
-        let _fixed = enter(&rt, &mut book, 0, 0);
+    // The commits since, and of what lived at the base how many and the second.
+    for (commits, count, second) in [
+        (0, 0, None),
+        (KEPT - 2, 2, Some(Epoch::new(2))),
+        (1, 3, Some(Epoch::new(2))),
+        (1, 2, Some(Epoch::new(3))),
+    ] {
+        for _ in 0..commits {
+            let _fixed = enter(&rt, &mut book, 0, 0);
+        }
+        let living = living_at_base(&rt, rt.alloc(), &book);
+        same_for(&rt, &commits, living.len(), count);
+        same_for(&rt, &commits, living.get(1).copied(), second);
     }
-    let base = book.history().base();
-    same(
-        &rt,
-        (base.epoch, base.commit),
-        (Epoch::new(4), CommitNo::new(0)),
-    );
-    assert_eq!(rt; base.living.as_slice(), [1, 3].map(Epoch::new).as_slice());
-
+    let (epoch, commit) = (Epoch::new(4), CommitNo::new(0));
+    same(&rt, book.history().base(), Base { epoch, commit });
     Ok(())
 }
 

@@ -1,81 +1,62 @@
-use Rattle.std.proofs.Common.{◌≡◌, ◌≤◌, ◌++◌, ◌∷◌, [], List, ℕ, Some, subst, sym, ap, ◌∙◌, length}
-use Rattle.circular_buffer.specs.Buffer.{keep_last}
-use Rattle.nv_book.specs.declared.event.Event.{Event}
-use Rattle.nv_book.specs.History.{State, IsNext, IsLegal, after, replay, now_of}
-use Rattle.nv_book.specs.Base.{state_of}
-use Rattle.nv_book.proofs.Noting.{legal-longer, replay-longer, push-none, push-some, next-wider, Folds, folds, answer, keep-fits}
+use Rattle.std.proofs.Common.{sym, subst}
+use Rattle.nv_book.specs.declared.history.TheConstants.{KEPT}
+use Rattle.nv_book.proofs.Noting.{Notes, has-room, history-kept, history-none, history-some, oldest-limit}
+use Rattle.nv_book.proofs.Undoing.{Rises}
 use Rattle.nv_book.proofs.history.History.note.Goals as goal
+
+pub apply-requires : goal.apply-requires
+apply-requires c =
+    let rises : Rises = record { made = c.making_keeps_holders.ensures.rising; dropped = c.removal_moves_holders_down.ensures.rising } in
+    has-room rises _ _ _ c.self.inside.latest _ c.self.inside.living.items _ _ _ _ c.self.invariant c.self.view_is c.requires
+
+in-none : (c : goal.In-None) → Notes KEPT c.self.inside.most c.args.self.now c.args.event c.self.inside.base c.push_back.new.self.items
+    c.apply.new.living.items
+in-none c =
+    let rises : Rises = record { made = c.making_keeps_holders.ensures.rising; dropped = c.removal_moves_holders_down.ensures.rising } in
+    history-none rises _ _ _ _ _ _ _ _ _ _ c.self.invariant c.self.view_is c.requires c.in-None.ensures.items c.apply.ensures.items
+    c.in-None.ensures.value
 
 pub invariant_of-self : goal.invariant_of-self
 invariant_of-self c =
-    let next : IsNext c.self.inside.most (replay (state_of c.self.inside.base) c.self.inside.latest.items) c.args.event =
-    subst (λ a. IsNext a.most (now_of a) c.args.event) (sym c.self.view_is) c.requires in
-    let items : c.push_back.new.self.items ≡ keep_last c.self.inside.latest.capacity (c.self.inside.latest.items ++ c.args.event ∷ []) =
-    ap (λ b. b.items) c.in-None.ensures.items in
-    let same = items ∙ push-none _ _ _ c.in-None.ensures.value in
-    record {
-      legal = rw same (legal-longer _ _ _ _ c.self.invariant.legal next);
-      ring_fits = ap (λ b. b.capacity) c.in-None.ensures.items ∙ c.self.invariant.ring_fits;
-      kept = rw items (subst (λ n. length (keep_last c.self.inside.latest.capacity (c.self.inside.latest.items ++ c.args.event ∷ [])) ≤ n)
-          c.self.invariant.ring_fits (keep-fits _ _));
-      room = c.self.invariant.room;
-    }
+    let rises : Rises = record { made = c.making_keeps_holders.ensures.rising; dropped = c.removal_moves_holders_down.ensures.rising } in
+    history-kept rises _ _ _ _ _ _ _ _ _ _ c.self.invariant c.self.view_is c.requires c.in-None.ensures.items c.apply.ensures.items _ _
+    (in-none c) c.apply.ensures.room
 
-pub returns-in-None-clause-legal : goal.returns-in-None-clause-legal
-returns-in-None-clause-legal c =
-    let next : IsNext c.self.inside.most (replay (state_of c.self.inside.base) c.self.inside.latest.items) c.args.event =
-    subst (λ a. IsNext a.most (now_of a) c.args.event) (sym c.self.view_is) c.requires in
-    let items : c.push_back.new.self.items ≡ keep_last c.self.inside.latest.capacity (c.self.inside.latest.items ++ c.args.event ∷ []) =
-    ap (λ b. b.items) c.in-None.ensures.items in
-    let same = items ∙ push-none _ _ _ c.in-None.ensures.value in
-    rw same (legal-longer _ _ _ _ c.self.invariant.legal next)
+pub returns-in-None-clause-account : goal.returns-in-None-clause-account
+returns-in-None-clause-account c = (in-none c).account
 
 pub returns-in-None-clause-now : goal.returns-in-None-clause-now
-returns-in-None-clause-now c =
-    let items : c.push_back.new.self.items ≡ keep_last c.self.inside.latest.capacity (c.self.inside.latest.items ++ c.args.event ∷ []) =
-    ap (λ b. b.items) c.in-None.ensures.items in
-    let same = items ∙ push-none _ _ _ c.in-None.ensures.value in
-    ap (replay (state_of c.self.inside.base)) same ∙ (replay-longer _ _ _ ∙ ap (λ a. after (now_of a) c.args.event) c.self.view_is)
+returns-in-None-clause-now c = (in-none c).now
 
-fold : (n most : ℕ) (base : State) (xs left : List Event) (e o : Event) → left ≡ keep_last n (xs ++ e ∷ []) → length xs ≤ n →
-    Some o ≡ answer n xs e → IsLegal most base xs → IsNext most (replay base xs) e → Folds most base xs e o left
-fold n most base xs left e o items fits value legal next =
-    folds most base xs e o left (push-some n xs e o fits value ∙ ap (λ us. o ∷ us) (sym items)) legal next
+pub returns-in-None-clause-legal : goal.returns-in-None-clause-legal
+returns-in-None-clause-legal c = (in-none c).legal
 
 pub take-requires : goal.take-requires
 take-requires c =
-    let next : IsNext c.self.inside.most (replay (state_of c.self.inside.base) c.self.inside.latest.items) c.args.event =
-    subst (λ a. IsNext a.most (now_of a) c.args.event) (sym c.self.view_is) c.requires in
-    let f = fold _ _ _ _ _ _ c.in-Some.oldest (ap (λ b. b.items) c.in-Some.ensures.items)
-    (subst (λ n. length c.self.inside.latest.items ≤ n) (sym c.self.invariant.ring_fits) c.self.invariant.kept)
-    c.in-Some.ensures.value c.self.invariant.legal next in
-    next-wider _ _ _ _ c.self.invariant.room f.first
+    let rises : Rises = record { made = c.making_keeps_holders.ensures.rising; dropped = c.removal_moves_holders_down.ensures.rising } in
+    oldest-limit rises _ _ _ _ _ _ _ _ _ _ c.self.invariant c.self.view_is c.requires c.in-Some.ensures.items c.apply.ensures.items _
+    c.in-Some.ensures.value
+
+in-some : (c : goal.After-take) → Notes KEPT c.self.inside.most c.args.self.now c.args.event c.take.new.base c.push_back.new.self.items
+    c.apply.new.living.items
+in-some c =
+    let rises : Rises = record { made = c.making_keeps_holders.ensures.rising; dropped = c.removal_moves_holders_down.ensures.rising } in
+    subst (λ b. Notes KEPT c.self.inside.most c.args.self.now c.args.event b c.push_back.new.self.items c.apply.new.living.items)
+    (sym c.take.ensures)
+    (history-some rises _ _ _ _ _ _ _ _ _ _ c.self.invariant c.self.view_is c.requires c.in-Some.ensures.items c.apply.ensures.items _
+    c.in-Some.ensures.value)
 
 pub invariant_of-self-in-Some : goal.invariant_of-self-in-Some
 invariant_of-self-in-Some c =
-    let next : IsNext c.self.inside.most (replay (state_of c.self.inside.base) c.self.inside.latest.items) c.args.event =
-    subst (λ a. IsNext a.most (now_of a) c.args.event) (sym c.self.view_is) c.requires in
-    let f = fold _ _ _ _ _ _ c.in-Some.oldest (ap (λ b. b.items) c.in-Some.ensures.items)
-    (subst (λ n. length c.self.inside.latest.items ≤ n) (sym c.self.invariant.ring_fits) c.self.invariant.kept)
-    c.in-Some.ensures.value c.self.invariant.legal next in
-    let items : c.push_back.new.self.items ≡ keep_last c.self.inside.latest.capacity (c.self.inside.latest.items ++ c.args.event ∷ []) =
-    ap (λ b. b.items) c.in-Some.ensures.items in
-    record {
-      legal = subst (λ s. IsLegal c.self.inside.most s c.push_back.new.self.items) (sym c.take.ensures.state) f.legal;
-      ring_fits = ap (λ b. b.capacity) c.in-Some.ensures.items ∙ c.self.invariant.ring_fits;
-      kept = rw items (subst (λ n. length (keep_last c.self.inside.latest.capacity (c.self.inside.latest.items ++ c.args.event ∷ [])) ≤ n)
-          c.self.invariant.ring_fits (keep-fits _ _));
-      room = subst (λ n. c.self.inside.most ≤ n) (sym c.take.ensures.room) c.self.invariant.room;
-    }
+    let rises : Rises = record { made = c.making_keeps_holders.ensures.rising; dropped = c.removal_moves_holders_down.ensures.rising } in
+    history-kept rises _ _ _ _ _ _ _ _ _ _ c.self.invariant c.self.view_is c.requires c.in-Some.ensures.items c.apply.ensures.items _ _
+    (in-some c) c.apply.ensures.room
 
-pub returns-in-Some-clause-legal : goal.returns-in-Some-clause-legal
-returns-in-Some-clause-legal c = (invariant_of-self-in-Some c).legal
+pub returns-in-Some-clause-account : goal.returns-in-Some-clause-account
+returns-in-Some-clause-account c = (in-some c).account
 
 pub returns-in-Some-clause-now : goal.returns-in-Some-clause-now
-returns-in-Some-clause-now c =
-    let next : IsNext c.self.inside.most (replay (state_of c.self.inside.base) c.self.inside.latest.items) c.args.event =
-    subst (λ a. IsNext a.most (now_of a) c.args.event) (sym c.self.view_is) c.requires in
-    let f = fold _ _ _ _ _ _ c.in-Some.oldest (ap (λ b. b.items) c.in-Some.ensures.items)
-    (subst (λ n. length c.self.inside.latest.items ≤ n) (sym c.self.invariant.ring_fits) c.self.invariant.kept)
-    c.in-Some.ensures.value c.self.invariant.legal next in
-    ap (λ s. replay s c.push_back.new.self.items) c.take.ensures.state ∙ (f.now ∙ ap (λ a. after (now_of a) c.args.event) c.self.view_is)
+returns-in-Some-clause-now c = (in-some c).now
+
+pub returns-in-Some-clause-legal : goal.returns-in-Some-clause-legal
+returns-in-Some-clause-legal c = (in-some c).legal
