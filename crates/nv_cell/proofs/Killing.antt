@@ -1,23 +1,17 @@
 -- The numbers of killed parts, by their keys.
-use Rattle.std.proofs.Common.{◌≡◌, ◌≢◌, ℕ, ◌+◌, ◌-◌, ◌<◌, ◌≤◌, ◌==◌, ◌&&◌, ◌||◌, Bool, true, false, cond, nat_lt, nat_le, List, [], ◌∷◌, ◌++◌, length, take, Option, Some, None, arith, refl, ap, sym, ◌∙◌, subst, inl, inr}
-use Rattle.std.proofs.lemmas.Bool.{eqb-true, eqb-false, eq-eqb, lt-ltb, le-ltb, cases_lt, ltb-true, ltb-false}
+use Rattle.std.proofs.Common.{◌≡◌, ◌≢◌, ℕ, ◌+◌, ◌<◌, ◌≤◌, ◌==◌, ◌&&◌, Bool, true, false, cond, nat_lt, nat_le, List, Option, Some, None, arith, refl, ap, sym, ◌∙◌, inl, inr}
+use Rattle.std.specs.Prelude.{vec_capacity, vec_len}
+use Rattle.std.specs.Global.{Vec}
+use Rattle.std.specs.Option.{option_map}
+use Rattle.std.proofs.lemmas.Bool.{eqb-true, eq-eqb, cases_lt}
 use Rattle.std.proofs.lemmas.Bool.Decides.{nat_tests}
-use Rattle.std.proofs.lemmas.Grind.{common_steps}
+use Rattle.nv_entry.specs.declared.item.Entry.{Entry}
+use Rattle.nv_entry.specs.declared.part_ref.PartRef.{PartRef}
+use Rattle.nv_entry.specs.Covered.{key_at}
 use Rattle.nv_entry.specs.Keys.{Key, KindKey, ModeKey, SizeKey, NameKey, PageKey}
-use Rattle.nv_base.specs.Names.{same_name}
 use Rattle.nv_entry.proofs.Hiding.{same_name-self, same_name-equal}
-use Rattle.nv_cell.specs.Numbers.{HasRoom, times, is_number, is_page_in, is_any_name, is_kind, is_mode, is_size, is_name}
-
-pub push_room : (xs : List ℕ) (n capacity : ℕ) → HasRoom (λ k. times k xs + cond (n == k) 1 0) capacity → length xs < capacity
-push_room xs n capacity h =
-    let le : length (xs ++ n ∷ []) ≤ capacity = h (xs ++ n ∷ []) (λ k. one k) in
-    let l : length (xs ++ n ∷ []) ≡ length xs + 1 = grind (arith, common_steps) in
-    omega arith where
-      one : (k : ℕ) → times k (xs ++ n ∷ []) ≤ times k xs + cond (n == k) 1 0
-      one k = let z : times k (xs ++ n ∷ []) ≡ times k xs + cond (n == k) 1 0 = grind (arith, common_steps) in omega arith
-
-pub less_room : (limit less : ℕ → ℕ) (capacity : ℕ) → HasRoom limit capacity → ((n : ℕ) → less n ≤ limit n) → HasRoom less capacity
-less_room limit less capacity h le ns k = h ns (λ n. omega (arith, k n, le n))
+use Rattle.nv_cell.specs.Index.{IndexValue, ref_of}
+use Rattle.nv_cell.specs.Numbers.{AreNamed, Pushes, times, number, number_at, is_named, is_number, is_page_in, is_key}
 
 pub number_is : (o : Option ℕ) (n : ℕ) → is_number o n ≡ true → o ≡ Some n
 number_is None n h = cc
@@ -33,52 +27,20 @@ differs o kat h key k n q ne = go (is_number (o key) n) refl where
   go true p = absurd (ne (sym q ∙ h key n (number_is (o key) n p)))
   go false p = p
 
-page_sum : (b : Bool) (from next page p : ℕ) → p ≡ page → from ≤ next → next ≤ page → cond (b && is_page_in from next (PageKey p)) 1 0 + cond b 1 0 ≡ cond (b && is_page_in from (page + 1) (PageKey p)) 1 0
-page_sum true from next page p q h g = grind (arith, nat_tests)
-page_sum false from next page p q h g = refl
+pub is_key_equal : (a b : Key) → is_key a b ≡ true → a ≡ b
+is_key_equal KindKey KindKey h = refl
+is_key_equal ModeKey ModeKey h = refl
+is_key_equal SizeKey SizeKey h = refl
+is_key_equal (NameKey a) (NameKey b) h = ap NameKey (same_name-equal a b h)
+is_key_equal (PageKey a) (PageKey b) h = ap PageKey (eqb-true a b h)
+is_key_equal a b h = cc
 
-page_less : (b : Bool) (from next page p : ℕ) → p < next → next ≤ page → cond (b && is_page_in from next (PageKey p)) 1 0 + 0 ≡ cond (b && is_page_in from (page + 1) (PageKey p)) 1 0
-page_less true from next page p h g = grind (arith, nat_tests)
-page_less false from next page p h g = refl
-
-page_more : (b : Bool) (from next page p : ℕ) → page < p → next ≤ page → cond (b && is_page_in from next (PageKey p)) 1 0 + 0 ≡ cond (b && is_page_in from (page + 1) (PageKey p)) 1 0
-page_more true from next page p h g = grind (arith, nat_tests)
-page_more false from next page p h g = refl
-
-none_sum : (b : Bool) → cond (b && false) 1 0 + 0 ≡ cond (b && false) 1 0
-none_sum true = refl
-none_sum false = refl
-
-pub page_step : (o : Key → Option ℕ) (kat : ℕ → Key) → AtKeys o kat → (from next page n : ℕ) → from ≤ next → next ≤ page → ((p : ℕ) → next ≤ p → p < page → o (PageKey p) ≡ None)
-    → cond (is_number (o (kat n)) n && is_page_in from next (kat n)) 1 0 + cond (is_number (o (PageKey page)) n) 1 0 ≡ cond (is_number (o (kat n)) n && is_page_in from (page + 1) (kat n)) 1 0
-page_step o kat h from next page n le after gap = go (kat n) refl where
-  go : (k : Key) → kat n ≡ k → cond (is_number (o k) n && is_page_in from next k) 1 0 + cond (is_number (o (PageKey page)) n) 1 0 ≡ cond (is_number (o k) n && is_page_in from (page + 1) k) 1 0
-  go KindKey q = rw (differs o kat h (PageKey page) KindKey n q (λ z. cc)) (none_sum (is_number (o KindKey) n))
-  go ModeKey q = rw (differs o kat h (PageKey page) ModeKey n q (λ z. cc)) (none_sum (is_number (o ModeKey) n))
-  go SizeKey q = rw (differs o kat h (PageKey page) SizeKey n q (λ z. cc)) (none_sum (is_number (o SizeKey) n))
-  go (NameKey m) q = rw (differs o kat h (PageKey page) (NameKey m) n q (λ z. cc)) (none_sum (is_number (o (NameKey m)) n))
-  go (PageKey p) q = elim (cases_lt p page) [
-    | inl lt ↦ rw (differs o kat h (PageKey page) (PageKey p) n q (λ z. let y : p ≡ page = cc in absurd (omega arith)))
-        (elim (cases_lt p next) [
-          | inl less ↦ page_less (is_number (o (PageKey p)) n) from next page p less after
-          | inr more ↦ rw (gap p more lt) refl
-        ])
-    | inr ge ↦ elim (cases_lt page p) [
-      | inl more ↦ rw (differs o kat h (PageKey page) (PageKey p) n q (λ z. let y : p ≡ page = cc in absurd (omega arith))) (page_more (is_number (o (PageKey p)) n) from next page p more after)
-      | inr same ↦ let y : p ≡ page = omega arith in subst (λ (r : ℕ). cond (is_number (o (PageKey p)) n && is_page_in from next (PageKey p)) 1 0 + cond (is_number (o (PageKey r)) n) 1 0 ≡ cond (is_number (o (PageKey p)) n && is_page_in from (page + 1) (PageKey p)) 1 0) y (page_sum (is_number (o (PageKey p)) n) from next page p y le after)
-    ]
-  ]
-
--- a range does not shrink
-pub page_grows : (b : Bool) (from next to : ℕ) (k : Key) → next ≤ to → cond (b && is_page_in from next k) 1 0 ≤ cond (b && is_page_in from to k) 1 0
-page_grows false from next to k le = omega arith
-page_grows true from next to KindKey le = omega arith
-page_grows true from next to ModeKey le = omega arith
-page_grows true from next to SizeKey le = omega arith
-page_grows true from next to (NameKey m) le = omega arith
-page_grows true from next to (PageKey p) le = grind (arith, nat_tests)
-
--- ---- fixed keys and names
+is_key_self : (a : Key) → is_key a a ≡ true
+is_key_self KindKey = refl
+is_key_self ModeKey = refl
+is_key_self SizeKey = refl
+is_key_self (NameKey a) = same_name-self a
+is_key_self (PageKey a) = eq-eqb a a refl
 
 same_test : (b : Bool) → b ≡ (b && true)
 same_test true = refl
@@ -88,42 +50,109 @@ no_test : (a b : Bool) → a ≡ false → a ≡ (b && false)
 no_test a true h = h
 no_test a false h = h
 
-pub at_kind : (o : Key → Option ℕ) (kat : ℕ → Key) → AtKeys o kat → (n : ℕ) → is_number (o KindKey) n ≡ (is_number (o (kat n)) n && is_kind (kat n))
-at_kind o kat h n = go (kat n) refl where
-  go : (k : Key) → kat n ≡ k → is_number (o KindKey) n ≡ (is_number (o k) n && is_kind k)
-  go KindKey q = same_test (is_number (o KindKey) n)
-  go ModeKey q = no_test (is_number (o KindKey) n) (is_number (o ModeKey) n) (differs o kat h KindKey ModeKey n q (λ z. cc))
-  go SizeKey q = no_test (is_number (o KindKey) n) (is_number (o SizeKey) n) (differs o kat h KindKey SizeKey n q (λ z. cc))
-  go (NameKey m) q = no_test (is_number (o KindKey) n) (is_number (o (NameKey m)) n) (differs o kat h KindKey (NameKey m) n q (λ z. cc))
-  go (PageKey p) q = no_test (is_number (o KindKey) n) (is_number (o (PageKey p)) n) (differs o kat h KindKey (PageKey p) n q (λ z. cc))
+-- a part has the number of a key exactly where it is named at its own key, which is that one
+pub at_key : (o : Key → Option ℕ) (kat : ℕ → Key) → AtKeys o kat → (key : Key) (n : ℕ) → is_number (o key) n ≡ (is_number (o (kat n)) n && is_key key (kat n))
+at_key o kat h key n = go (is_key key (kat n)) refl where
+  go : (b : Bool) → is_key key (kat n) ≡ b → is_number (o key) n ≡ (is_number (o (kat n)) n && is_key key (kat n))
+  go true q =
+      ap (λ (k : Key). is_number (o k) n) (is_key_equal key (kat n) q) ∙ same_test (is_number (o (kat n)) n)
+      ∙ ap (λ (b : Bool). is_number (o (kat n)) n && b) (sym q)
+  go false q =
+      no_test (is_number (o key) n) (is_number (o (kat n)) n)
+      (differs o kat h key (kat n) n refl (λ z. let y : true ≡ false = sym (is_key_self key) ∙ ap (is_key key) (sym z) ∙ q in cc))
+      ∙ ap (λ (b : Bool). is_number (o (kat n)) n && b) (sym q)
 
-pub at_mode : (o : Key → Option ℕ) (kat : ℕ → Key) → AtKeys o kat → (n : ℕ) → is_number (o ModeKey) n ≡ (is_number (o (kat n)) n && is_mode (kat n))
-at_mode o kat h n = go (kat n) refl where
-  go : (k : Key) → kat n ≡ k → is_number (o ModeKey) n ≡ (is_number (o k) n && is_mode k)
-  go KindKey q = no_test (is_number (o ModeKey) n) (is_number (o KindKey) n) (differs o kat h ModeKey KindKey n q (λ z. cc))
-  go ModeKey q = same_test (is_number (o ModeKey) n)
-  go SizeKey q = no_test (is_number (o ModeKey) n) (is_number (o SizeKey) n) (differs o kat h ModeKey SizeKey n q (λ z. cc))
-  go (NameKey m) q = no_test (is_number (o ModeKey) n) (is_number (o (NameKey m)) n) (differs o kat h ModeKey (NameKey m) n q (λ z. cc))
-  go (PageKey p) q = no_test (is_number (o ModeKey) n) (is_number (o (PageKey p)) n) (differs o kat h ModeKey (PageKey p) n q (λ z. cc))
+-- ---- what is put on the list
 
-pub at_size : (o : Key → Option ℕ) (kat : ℕ → Key) → AtKeys o kat → (n : ℕ) → is_number (o SizeKey) n ≡ (is_number (o (kat n)) n && is_size (kat n))
-at_size o kat h n = go (kat n) refl where
-  go : (k : Key) → kat n ≡ k → is_number (o SizeKey) n ≡ (is_number (o k) n && is_size k)
-  go KindKey q = no_test (is_number (o SizeKey) n) (is_number (o KindKey) n) (differs o kat h SizeKey KindKey n q (λ z. cc))
-  go ModeKey q = no_test (is_number (o SizeKey) n) (is_number (o ModeKey) n) (differs o kat h SizeKey ModeKey n q (λ z. cc))
-  go SizeKey q = same_test (is_number (o SizeKey) n)
-  go (NameKey m) q = no_test (is_number (o SizeKey) n) (is_number (o (NameKey m)) n) (differs o kat h SizeKey (NameKey m) n q (λ z. cc))
-  go (PageKey p) q = no_test (is_number (o SizeKey) n) (is_number (o (PageKey p)) n) (differs o kat h SizeKey (PageKey p) n q (λ z. cc))
+module _ (es : List Entry) (index : IndexValue) where
+  -- nothing is put there
+  pub none_pushed : (test : Key → Bool) (most : ℕ) (list : Vec ℕ) → ((n : ℕ) → (is_named es index n && test (key_at es n)) ≡ false) → Pushes es index test most list list
+  none_pushed test most list none = record {
+    numbers = λ n. rw (none n) (omega arith);
+    len = omega arith;
+    capacity = refl;
+  }
 
-pub at_name : (o : Key → Option ℕ) (kat : ℕ → Key) → AtKeys o kat → (name : List ℕ) (n : ℕ) → is_number (o (NameKey name)) n ≡ (is_number (o (kat n)) n && is_name name (kat n))
-at_name o kat h name n = go (kat n) refl where
-  by : (m : List ℕ) → kat n ≡ NameKey m → (b : Bool) → same_name name m ≡ b → is_number (o (NameKey name)) n ≡ (is_number (o (NameKey m)) n && b)
-  by m q true t = let e : name ≡ m = same_name-equal name m t in rw e (same_test (is_number (o (NameKey m)) n))
-  by m q false t = no_test (is_number (o (NameKey name)) n) (is_number (o (NameKey m)) n) (differs o kat h (NameKey name) (NameKey m) n q (λ z. let e : m ≡ name = cc in let y : true ≡ false = sym (same_name-self name) ∙ ap (same_name name) (sym e) ∙ t in cc))
+  -- the test may be another that tells the same of named parts
+  pub retold : (p q : Key → Bool) (a b : ℕ) (old new : Vec ℕ) → Pushes es index p a old new
+      → ((n : ℕ) → (is_named es index n && p (key_at es n)) ≡ (is_named es index n && q (key_at es n))) → a ≤ b → Pushes es index q b old new
+  retold p q a b old new h same le = record {
+    numbers = λ n. rw (← same n) (h.numbers n);
+    len = omega (arith, h.len, le);
+    capacity = h.capacity;
+  }
 
-  go : (k : Key) → kat n ≡ k → is_number (o (NameKey name)) n ≡ (is_number (o k) n && is_name name k)
-  go KindKey q = no_test (is_number (o (NameKey name)) n) (is_number (o KindKey) n) (differs o kat h (NameKey name) KindKey n q (λ z. cc))
-  go ModeKey q = no_test (is_number (o (NameKey name)) n) (is_number (o ModeKey) n) (differs o kat h (NameKey name) ModeKey n q (λ z. cc))
-  go SizeKey q = no_test (is_number (o (NameKey name)) n) (is_number (o SizeKey) n) (differs o kat h (NameKey name) SizeKey n q (λ z. cc))
-  go (NameKey m) q = by m q (same_name name m) refl
-  go (PageKey p) q = no_test (is_number (o (NameKey name)) n) (is_number (o (PageKey p)) n) (differs o kat h (NameKey name) (PageKey p) n q (λ z. cc))
+  and_sum : (t x y z : Bool) → cond x 1 0 + cond y 1 0 ≡ cond z 1 0 → cond (t && x) 1 0 + cond (t && y) 1 0 ≡ cond (t && z) 1 0
+  and_sum true x y z h = h
+  and_sum false x y z h = refl
+
+  -- one push after the other
+  pub both : (p q r : Key → Bool) (a b c : ℕ) (old mid new : Vec ℕ) → Pushes es index p a old mid → Pushes es index q b mid new
+      → ((k : Key) → cond (p k) 1 0 + cond (q k) 1 0 ≡ cond (r k) 1 0) → a + b ≤ c → Pushes es index r c old new
+  both p q r a b c old mid new f g sum le = record {
+    numbers = λ n. let s = and_sum (is_named es index n) (p (key_at es n)) (q (key_at es n)) (r (key_at es n)) (sum (key_at es n)) in omega (arith, f.numbers n, g.numbers n, s);
+    len = omega (arith, f.len, g.len, le);
+    capacity = g.capacity ∙ f.capacity;
+  }
+
+  module _ (named : AreNamed es index) where
+    -- the number of the part that a key has
+    pub key_pushed : (key : Key) (part : PartRef) (old new : Vec ℕ) → ref_of index key ≡ Some part
+        → ((n : ℕ) → times n new.items ≡ times n old.items + cond (number es part == n) 1 0) → vec_len new ≡ vec_len old + 1 → vec_capacity new ≡ vec_capacity old
+        → Pushes es index (is_key key) 1 old new
+    key_pushed key part old new at numbers len capacity = record {
+      numbers = λ n.
+          numbers n
+          ∙ ap (λ (o : Option ℕ). times n old.items + cond (is_number o n) 1 0) (sym (ap (option_map (number es)) at))
+          ∙ ap (λ (b : Bool). times n old.items + cond b 1 0) (at_key (number_at es index) (key_at es) named.keys key n);
+      len = omega (arith, len);
+      capacity = capacity;
+    }
+
+    pub key_absent : (key : Key) (list : Vec ℕ) → ref_of index key ≡ None → Pushes es index (is_key key) 1 list list
+    key_absent key list at =
+        none_pushed (is_key key) 1 list
+        (λ n. sym (at_key (number_at es index) (key_at es) named.keys key n) ∙ ap (λ (o : Option ℕ). is_number o n) (ap (option_map (number es)) at))
+
+-- ---- pages
+
+page_sum : (from page : ℕ) → from ≤ page → (k : Key) → cond (is_page_in from page k) 1 0 + cond (is_key (PageKey page) k) 1 0 ≡ cond (is_page_in from (page + 1) k) 1 0
+page_sum from page le KindKey = refl
+page_sum from page le ModeKey = refl
+page_sum from page le SizeKey = refl
+page_sum from page le (NameKey m) = refl
+page_sum from page le (PageKey p) = grind (arith, nat_tests)
+
+-- no page is there from `next` up to `to`
+gap_test : (from next to n : ℕ) (o : Key → Option ℕ) (k : Key) → from ≤ next → next ≤ to → ((p : ℕ) → next ≤ p → p < to → o (PageKey p) ≡ None)
+    → (is_number (o k) n && is_page_in from next k) ≡ (is_number (o k) n && is_page_in from to k)
+gap_test from next to n o KindKey begin le gap = refl
+gap_test from next to n o ModeKey begin le gap = refl
+gap_test from next to n o SizeKey begin le gap = refl
+gap_test from next to n o (NameKey m) begin le gap = refl
+gap_test from next to n o (PageKey p) begin le gap = elim (cases_lt p next) [
+  | inl lt ↦ ap (λ (b : Bool). is_number (o (PageKey p)) n && b) (below lt)
+  | inr ge ↦ elim (cases_lt p to) [
+    | inl lt ↦ rw (gap p ge lt) refl
+    | inr past ↦ ap (λ (b : Bool). is_number (o (PageKey p)) n && b) (above past)
+  ]
+] where
+  below : p < next → (nat_le from p && nat_lt p next) ≡ (nat_le from p && nat_lt p to)
+  below lt = grind (arith, nat_tests)
+
+  above : to ≤ p → (nat_le from p && nat_lt p next) ≡ (nat_le from p && nat_lt p to)
+  above past = grind (arith, nat_tests)
+
+pub skipped : (es : List Entry) (index : IndexValue) (from next to a b : ℕ) (old new : Vec ℕ) → Pushes es index (is_page_in from next) a old new
+    → from ≤ next → next ≤ to → ((p : ℕ) → next ≤ p → p < to → ref_of index (PageKey p) ≡ None) → a ≤ b → Pushes es index (is_page_in from to) b old new
+skipped es index from next to a b old new h begin le gap less =
+    retold es index (is_page_in from next) (is_page_in from to) a b old new h
+    (λ n. gap_test from next to n (number_at es index) (key_at es n) begin le (λ p ge lt. ap (option_map (number es)) (gap p ge lt))) less
+
+-- one more page, behind a gap
+pub page_pushed : (es : List Entry) (index : IndexValue) → AreNamed es index → (from next page a b : ℕ) (part : PartRef) (old mid new : Vec ℕ)
+    → Pushes es index (is_page_in from next) a old mid → from ≤ next → next ≤ page → ((p : ℕ) → next ≤ p → p < page → ref_of index (PageKey p) ≡ None)
+    → Pushes es index (is_key (PageKey page)) 1 mid new → a + 1 ≤ b → Pushes es index (is_page_in from (page + 1)) b old new
+page_pushed es index named from next page a b part old mid new h begin le gap one less =
+    both es index (is_page_in from page) (is_key (PageKey page)) (is_page_in from (page + 1)) a 1 b old mid new
+    (skipped es index from next page a a old mid h begin le gap (omega arith)) one (page_sum from page (omega arith)) less

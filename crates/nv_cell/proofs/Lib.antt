@@ -15,3 +15,5 @@ pub mod Readied
 pub mod Bound
 pub mod NamesNow
 pub mod ValuesNow
+pub mod Counting
+pub mod Weighing

@@ -1,5 +1,5 @@
 -- A walk over distinct names.
-use Rattle.std.proofs.Common.{◌≡◌, ◌≢◌, ℕ, zero, suc, ◌+◌, ◌-◌, ◌<◌, ◌≤◌, ◌==◌, ◌&&◌, ◌||◌, Bool, true, false, cond, List, [], ◌∷◌, ◌++◌, length, take, map, Option, Some, None, arith, refl, ap, sym, ◌∙◌, subst, slice_get}
+use Rattle.std.proofs.Common.{◌≡◌, ℕ, zero, suc, ◌+◌, ◌<◌, ◌&&◌, ◌||◌, Bool, true, false, cond, List, [], ◌∷◌, length, take, map, Option, Some, None, arith, refl, ap, sym, ◌∙◌, slice_get}
 use Rattle.std.specs.List.{AllByRecursion}
 use Rattle.std.specs.Option.{option_map, is_some}
 use Rattle.std.proofs.lemmas.Map.Keys.{IsDistinct-tail, IsDistinct-head}
@@ -8,9 +8,8 @@ use Rattle.nv_entry.specs.Keys.{Key, KindKey, ModeKey, SizeKey, NameKey, PageKey
 use Rattle.nv_nindex.specs.NameIndex.{AreDistinct}
 use Rattle.nv_nindex.specs.NameIndex.{binding_of}
 use Rattle.nv_nindex.specs.declared.binding.Binding.{Binding}
-use Rattle.nv_cell.specs.Numbers.{is_number, is_name_in, is_any_name, is_name}
+use Rattle.nv_cell.specs.Numbers.{is_number, is_name_in, is_any_name, is_key}
 use Rattle.nv_entry.proofs.Hiding.{same_name-self, same_name-equal}
-use Rattle.nv_cell.proofs.Killing.{AtKeys, at_name}
 
 -- a name with its binding
 abbrev Bound : Type 0
@@ -59,49 +58,32 @@ walk (x ∷ list) (suc i) d lt = on (walk list i (IsDistinct-tail same_name x.0 
         two m true h = refl
         two m false h = h
 
-pub sum_two : (t x y z : Bool) → (x && y) ≡ false → z ≡ (x || y) → cond (t && x) 1 0 + cond (t && y) 1 0 ≡ cond (t && z) 1 0
-sum_two false x y z h q = refl
-sum_two true true true z h q = cc
-sum_two true true false z h q = rw q refl
-sum_two true false true z h q = rw q refl
-sum_two true false false z h q = rw q refl
+one_more : (x y z : Bool) → (x && y) ≡ false → z ≡ (x || y) → cond x 1 0 + cond y 1 0 ≡ cond z 1 0
+one_more true true z h q = cc
+one_more true false z h q = rw q refl
+one_more false true z h q = rw q refl
+one_more false false z h q = rw q refl
 
-pub name_step : (o : Key → Option ℕ) (kat : ℕ → Key) → AtKeys o kat → (list : List Bound) (i n : ℕ) → (w : Walk list i)
-    → cond (is_number (o (kat n)) n && is_name_in (take i list) (kat n)) 1 0 + cond (is_number (o (NameKey w.item.0)) n) 1 0 ≡ cond (is_number (o (kat n)) n && is_name_in (take (suc i) list) (kat n)) 1 0
-name_step o kat h list i n w = rw (at_name o kat h w.item.0 n) (go (is_number (o (kat n)) n) (kat n)) where
-  apart : (m : List ℕ) (b : Bool) → same_name w.item.0 m ≡ b → (is_some (binding_of m (take i list)) && b) ≡ false
-  apart m true q = let e : w.item.0 ≡ m = same_name-equal w.item.0 m q in rw (← e, w.fresh) refl
-  apart m false q = no (is_some (binding_of m (take i list))) where
-    no : (b : Bool) → (b && false) ≡ false
-    no true = refl
-    no false = refl
+pub name_sum : (list : List Bound) (i : ℕ) → (w : Walk list i) → (k : Key)
+    → cond (is_name_in (take i list) k) 1 0 + cond (is_key (NameKey w.item.0) k) 1 0 ≡ cond (is_name_in (take (suc i) list) k) 1 0
+name_sum list i w (NameKey m) =
+    one_more (is_some (binding_of m (take i list))) (same_name w.item.0 m) (is_some (binding_of m (take (suc i) list))) (apart m (same_name w.item.0 m) refl)
+    (w.more m ∙ ap (λ b. is_some (binding_of m (take i list)) || b) (turn m w.item.0)) where
+      apart : (m : List ℕ) (b : Bool) → same_name w.item.0 m ≡ b → (is_some (binding_of m (take i list)) && b) ≡ false
+      apart m true q = let e : w.item.0 ≡ m = same_name-equal w.item.0 m q in rw (← e, w.fresh) refl
+      apart m false q = no (is_some (binding_of m (take i list))) where
+        no : (b : Bool) → (b && false) ≡ false
+        no true = refl
+        no false = refl
 
-  turn : (a b : List ℕ) → same_name a b ≡ same_name b a
-  turn a b = by (same_name a b) (same_name b a) refl refl where
-    by : (x y : Bool) → same_name a b ≡ x → same_name b a ≡ y → same_name a b ≡ same_name b a
-    by true true p q = p ∙ sym q
-    by false false p q = p ∙ sym q
-    by true false p q = let z : true ≡ false = sym (same_name-self a) ∙ ap (λ (k : List ℕ). same_name k a) (same_name-equal a b p) ∙ q in cc
-    by false true p q = let z : true ≡ false = sym (same_name-self a) ∙ ap (same_name a) (sym (same_name-equal b a q)) ∙ p in cc
-
-  go : (t : Bool) (k : Key) → cond (t && is_name_in (take i list) k) 1 0 + cond (t && is_name w.item.0 k) 1 0 ≡ cond (t && is_name_in (take (suc i) list) k) 1 0
-  go t KindKey = sum_two t false false false refl refl
-  go t ModeKey = sum_two t false false false refl refl
-  go t SizeKey = sum_two t false false false refl refl
-  go t (PageKey p) = sum_two t false false false refl refl
-  go t (NameKey m) = sum_two t (is_some (binding_of m (take i list))) (same_name w.item.0 m) (is_some (binding_of m (take (suc i) list))) (apart m (same_name w.item.0 m) refl) (w.more m ∙ ap (λ b. is_some (binding_of m (take i list)) || b) (turn m w.item.0))
-
--- names walked so far are names
-pub names_grow : (t : Bool) (list : List Bound) (k : Key) → cond (t && is_name_in list k) 1 0 ≤ cond (t && is_any_name k) 1 0
-names_grow false list k = omega arith
-names_grow true list KindKey = omega arith
-names_grow true list ModeKey = omega arith
-names_grow true list SizeKey = omega arith
-names_grow true list (PageKey p) = omega arith
-names_grow true list (NameKey m) = go (is_some (binding_of m list)) where
-  go : (b : Bool) → cond b 1 0 ≤ 1
-  go true = omega arith
-  go false = omega arith
+      turn : (a b : List ℕ) → same_name a b ≡ same_name b a
+      turn a b = by (same_name a b) (same_name b a) refl refl where
+        by : (x y : Bool) → same_name a b ≡ x → same_name b a ≡ y → same_name a b ≡ same_name b a
+        by true true p q = p ∙ sym q
+        by false false p q = p ∙ sym q
+        by true false p q = let z : true ≡ false = sym (same_name-self a) ∙ ap (λ (k : List ℕ). same_name k a) (same_name-equal a b p) ∙ q in cc
+        by false true p q = let z : true ≡ false = sym (same_name-self a) ∙ ap (same_name a) (sym (same_name-equal b a q)) ∙ p in cc
+name_sum list i w k = refl
 
 -- a name that has a part is on the list
 pub names_end : (f : Binding → ℕ) (o : Key → Option ℕ) (list : List Bound) → ((m : List ℕ) → o (NameKey m) ≡ option_map f (binding_of m list)) → (n : ℕ) (k : Key)

@@ -78,7 +78,7 @@ apart name (b ∷ bs) h = go (same_name name b.0) refl h (apart name bs) where
   go true q h rest = cc
   go false q h rest = (q, rest h)
 
-distinct : (bs : List Bound) → NamesDiffer (map named bs) → AreDistinct bs
+pub distinct : (bs : List Bound) → NamesDiffer (map named bs) → AreDistinct bs
 unfolding IsDistinct
 distinct [] h = tt
 distinct (b ∷ bs) h = (apart b.0 bs h.0, distinct bs h.1)

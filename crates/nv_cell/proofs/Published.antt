@@ -1,21 +1,21 @@
 -- What holds of a cell once its entries are published.
-use Rattle.std.proofs.Common.{◌≡◌, ℕ, zero, suc, ◌+◌, ◌-◌, ◌<◌, ◌≤◌, ◌&&◌, Bool, true, false, not, cond, nat_lt, min, List, [], ◌∷◌, length, take, drop, map, Option, Some, None, inl, inr, arith, refl, ap, sym, ◌∙◌, subst, slice_index_or}
+use Rattle.std.proofs.Common.{◌≡◌, ℕ, suc, ◌+◌, ◌<◌, ◌≤◌, ◌&&◌, Bool, true, false, not, nat_lt, List, [], ◌∷◌, length, take, map, inl, inr, arith, refl, ap, sym, ◌∙◌, subst, slice_index_or}
 use Rattle.std.specs.List.{AllByRecursion, range_with_len}
 use Rattle.std.specs.Option.{IsSome}
-use Rattle.std.proofs.lemmas.Bool.{ltb-true, ltb-false, lt-ltb, le-ltb, cases_lt}
+use Rattle.std.proofs.lemmas.Bool.{ltb-true, ltb-false, lt-ltb, cases_lt}
 use Rattle.std.proofs.lemmas.List.{get_or_default, get_or_past}
 use Rattle.nv_entry.specs.declared.item.Entry.{Entry}
 use Rattle.nv_entry.specs.declared.item.Item.{Item}
 use Rattle.nv_entry.specs.declared.item.Item.TheVariants.{Init, Write, SetSize, SetMode, Bind, Unbind, Gone}
 use Rattle.nv_entry.specs.Covered.{is_covered, part_total}
-use Rattle.nv_nindex.specs.NameIndex.{HaveSameBindings, Names, binding_of}
+use Rattle.nv_nindex.specs.NameIndex.{HaveSameBindings, Names}
 use Rattle.nv_cell.specs.declared.mark.Mark.{Mark}
 use Rattle.nv_cell.specs.declared.mark.Mark.TheVariants.{Current, Killed, Kept, Out}
 use Rattle.nv_cell.specs.Cell.{mark_or_fresh}
 use Rattle.nv_cell.specs.Effects.{NamesReady}
 use Rattle.nv_cell.specs.Index.{NameReady}
 use Rattle.nv_cell.specs.Marks.{is_current, is_there, mark_at}
-use Rattle.nv_cell.specs.Numbers.{HasRoom, dies, part_base, published_mark}
+use Rattle.nv_cell.specs.Numbers.{dies, part_base, published_mark}
 use Rattle.nv_cell.proofs.Publishes.{and_right}
 use Rattle.nv_cell.proofs.Publishing.{total_take}
 
@@ -80,9 +80,3 @@ all_ready (item ∷ items) old new same kept h = (ready_same item old new same k
 
 pub names_ready : (items : List Item) (old new : Names) → HaveSameBindings old.names new.names → new.reserved ≡ old.reserved → NamesReady items old → NamesReady items new
 names_ready items old new same kept h = (h.0, all_ready items old new same kept h.1)
-
-pub room_left : (limit : ℕ → ℕ) (a b : ℕ) → HasRoom limit (min a b) → HasRoom limit a
-room_left limit a b h ns le = let k = h ns le in omega (arith, k)
-
-pub room_right : (limit : ℕ → ℕ) (a b : ℕ) → HasRoom limit (min a b) → HasRoom limit b
-room_right limit a b h ns le = let k = h ns le in omega (arith, k)

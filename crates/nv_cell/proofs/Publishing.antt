@@ -1,10 +1,8 @@
 -- One more entry takes effect.
-use Rattle.std.proofs.Common.{◌≡◌, ◌≢◌, ℕ, zero, suc, ◌+◌, ◌-◌, ◌<◌, ◌≤◌, ◌==◌, ◌&&◌, ◌||◌, ◌^◌, Bool, true, false, not, cond, nat_lt, nat_le, List, [], ◌∷◌, ◌++◌, length, take, drop, Option, Some, None, arith, refl, ap, sym, ◌∙◌, subst, inl, inr, slice_index_or, add-one}
-use Rattle.std.specs.Option.{option_map, option_or, is_some, IsSome}
+use Rattle.std.proofs.Common.{◌≡◌, ℕ, zero, suc, ◌+◌, ◌-◌, ◌<◌, ◌≤◌, ◌&&◌, ◌||◌, Bool, true, false, not, cond, nat_lt, List, [], ◌∷◌, ◌++◌, length, take, drop, Option, Some, None, arith, refl, ap, sym, ◌∙◌, slice_index_or}
+use Rattle.std.specs.Option.{option_map, option_or}
 use Rattle.std.specs.Prelude.{option_and_then}
-use Rattle.std.proofs.lemmas.Bool.{ltb-true, ltb-false, lt-ltb, le-ltb, cases_lt}
-use Rattle.std.proofs.lemmas.Bool.Decides.{nat_tests}
-use Rattle.std.proofs.lemmas.Grind.{common_steps}
+use Rattle.std.proofs.lemmas.Bool.{ltb-true, ltb-false, lt-ltb}
 use Rattle.nv_entry.specs.declared.item.Entry.{Entry}
 use Rattle.nv_entry.specs.declared.key.Setting.{Setting}
 use Rattle.nv_entry.specs.declared.key.Setting.TheVariants.{Untouched, Absent, Present}
@@ -16,9 +14,9 @@ use Rattle.nv_entry.specs.Refs.{place_in, ref_after, left_by}
 use Rattle.nv_cell.specs.Index.{IndexValue, ref_of}
 use Rattle.nv_entry.specs.Covered.{part_count, part_total, part_key, key_at, any_cover, is_covered}
 use Rattle.nv_entry.specs.Refs.{scan_ref}
-use Rattle.nv_cell.specs.Numbers.{part_base, number, number_at, is_number, is_named, AreNamed, IsPart, dies}
+use Rattle.nv_cell.specs.Numbers.{number, number_at, is_number, is_named, AreNamed, IsPart}
 use Rattle.nv_cell.proofs.Killing.{number_is}
-use Rattle.nv_cell.proofs.Numbers.{cover_push, scan_n, scan_names, scan_key, covered_push, total_append, key_front, Linked, linked}
+use Rattle.nv_cell.proofs.Numbers.{scan_n, scan_names, scan_key, covered_push, total_append, key_front, Linked, linked}
 
 option_or-assoc : {T : Type 0} (a b c : Option T) → option_or a (option_or b c) ≡ option_or (option_or a b) c
 option_or-assoc None b c = refl
@@ -180,12 +178,3 @@ kill_step block es tail t n e index h le lt q =
     (λ b. ap (covers block e.item) (sym (front_key es t n (ltb-true n (part_total (take t es)) b))))
     (λ f. covered_take block es tail t n le f) in
     rw (named_is block es t index h n, take_next es t e lt q, covered_push block (take t es) e n) s
-
-more : (a b b2 c : Bool) → (b ≡ true → b2 ≡ true) → cond ((a && b) && c) 1 0 ≤ cond ((a && b2) && c) 1 0
-more false b b2 c h = omega arith
-more true false b2 c h = omega arith
-more true true b2 c h = rw (h refl) (omega arith)
-
-pub kill_within : (block : ℕ) (es : List Entry) (tail t n : ℕ) → t ≤ length es → cond ((nat_lt n (part_total es) && is_covered block (take t es) n) && not (is_covered block (take tail es) n)) 1 0 ≤ cond (dies block es tail n) 1 0
-kill_within block es tail t n le = more (nat_lt n (part_total es)) (is_covered block (take t es) n) (is_covered block es n) (not (is_covered block (take tail es) n))
-    (λ h. let k = covered_take block es t (length es) n le h in rw (take_whole es) at k)

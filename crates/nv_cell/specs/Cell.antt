@@ -1,11 +1,10 @@
 -- What contracts see of a cell, and what holds of each.
-use Rattle.std.specs.Prelude.{◌≡◌, ℕ, ◌+◌, ◌-◌, ◌*◌, ◌<◌, ◌≤◌, ◌==◌, ◌&&◌, drop, Bool, true, not, if◌then◌else◌, nat_lt, min, List, [], ◌∷◌, length, filter, map, Option, Some, None, slice_get, slice_index_or, option_and_then, slice_set, unwrap_or}
-use Rattle.std.specs.List.{AllByRecursion, range_with_len}
+use Rattle.std.specs.Prelude.{◌≡◌, ℕ, ◌+◌, ◌-◌, ◌<◌, ◌≤◌, drop, not, if◌then◌else◌, nat_lt, List, [], ◌∷◌, length, map, Option, Some, None, slice_get, slice_index_or, option_and_then, slice_set, unwrap_or}
+use Rattle.std.specs.List.{range_with_len, sum_by}
 use Rattle.std.specs.Option.{option_map}
 use Rattle.nv_alloc.specs.Block.{BlockValue, number_of}
 use Rattle.nv_entry.specs.declared.item.Entry.{Entry}
 use Rattle.nv_entry.specs.declared.item.Item.{Item}
-use Rattle.nv_entry.specs.declared.item.Item.TheVariants.{Gone}
 use Rattle.nv_entry.specs.declared.part.PartId.{PartId}
 use Rattle.nv_entry.specs.Covered.{is_covered, key_at, part_count, part_total}
 use Rattle.nv_entry.specs.Data.{block_in}
@@ -13,12 +12,13 @@ use Rattle.nv_entry.specs.Keys.{sets}
 use Rattle.nv_entry.specs.Log.{value_of}
 use Rattle.nv_log.specs.Chain.{ChainState, empty_chain, log}
 use Rattle.nv_cell.specs.declared.mark.Mark.{Mark}
-use Rattle.nv_cell.specs.declared.mark.Mark.TheVariants.{Current, Killed, Out}
+use Rattle.nv_cell.specs.declared.mark.Mark.TheVariants.{Current, Out}
 use Rattle.nv_cell.specs.Marks.{is_current, is_there, mark_at}
 use Rattle.nv_cell.specs.Effects.{NamesReady, items_of}
 use Rattle.nv_cell.specs.Index.{bindings_of}
 use Rattle.nv_cell.specs.Named.{number_named}
-use Rattle.nv_cell.specs.Numbers.{HasRoom, dies, killed_numbers, published_mark}
+use Rattle.nv_cell.specs.Numbers.{killed_numbers, published_mark}
+use Rattle.nv_cell.specs.Weights.{runs_of, weights_in}
 
 -- the size of blocks in bytes; how often the slot was emptied, and how many commits the cell has seen; the chain of the
 -- log; by part number the mark of each published part, and the block of each part that has one
@@ -89,11 +89,15 @@ published cell = record cell {
   marks = map (published_mark cell.block cell.chain.entries cell.chain.tail cell.marks) (range_with_len 0 (part_total cell.chain.entries));
 }
 
--- there is room for what the entries past the tail need when they are published
-pub record IsReady (cell : CellValue) : Type 0 where
-  pub runs : 2 * (length cell.state.chain.entries - cell.state.chain.tail) ≤ cell.room.runs
-  pub names : NamesReady (items_of (fresh_of cell.state)) (record { names = bindings_of (log_of cell.state); reserved = cell.room.name })
-  pub killed : HasRoom (λ n. if dies cell.state.block cell.state.chain.entries cell.state.chain.tail n then 1 else 0) cell.room.killed
+-- there is room for what these items need when they are published behind the log
+pub record CanPublish (items : List Item) (cell : CellValue) : Type 0 where
+  pub runs : sum_by runs_of items ≤ cell.room.runs
+  pub names : NamesReady items (record { names = bindings_of (log_of cell.state); reserved = cell.room.name })
+  pub killed : weights_in cell.state.block (log_of cell.state) items ≤ cell.room.killed
+
+-- the same for the entries past the tail
+abbrev pub IsReady : CellValue → Type 0
+IsReady cell = CanPublish (items_of (fresh_of cell.state)) cell
 
 -- there is room to append as much as before
 pub record KeepsAppendRoom (old new : CellRoom) : Type 0 where

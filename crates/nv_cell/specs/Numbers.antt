@@ -1,5 +1,6 @@
 -- The parts of a log by number, and which of them an index names.
-use Rattle.std.specs.Prelude.{◌≡◌, ℕ, ◌+◌, ◌-◌, ◌<◌, if◌then◌else◌, filter, slice_get, ◌≤◌, ◌==◌, ◌&&◌, ◌^◌, Bool, true, false, not, nat_lt, nat_le, List, [], ◌∷◌, take, length, count_by, Option, Some, None, unwrap_or}
+use Rattle.std.specs.Prelude.{◌≡◌, ℕ, ◌+◌, ◌-◌, ◌<◌, if◌then◌else◌, filter, slice_get, ◌≤◌, ◌==◌, ◌&&◌, ◌^◌, Bool, true, false, not, nat_lt, nat_le, List, [], ◌∷◌, take, length, count_by, Option, Some, None, unwrap_or, vec_len, vec_capacity}
+use Rattle.std.specs.Global.{Vec}
 use Rattle.std.specs.List.{range_with_len}
 use Rattle.std.specs.Option.{option_map, is_some, IsSome}
 use Rattle.nv_base.specs.Names.{same_name}
@@ -52,10 +53,6 @@ pub record AreNamed (es : List Entry) (index : IndexValue) : Type 0 where
   pub parts : (key : Key) (r : PartRef) → ref_of index key ≡ Some r → IsPart es r
   pub keys : (key : Key) (m : ℕ) → number_at es index key ≡ Some m → key_at es m ≡ key
 
--- a list that has each number at most as often as the limit says has room
-abbrev pub HasRoom : (ℕ → ℕ) → ℕ → Type 0
-HasRoom limit capacity = (ns : List ℕ) → ((n : ℕ) → times n ns ≤ limit n) → length ns ≤ capacity
-
 -- the index names the part n
 abbrev pub is_named : List Entry → IndexValue → ℕ → Bool
 is_named es index n = is_number (number_at es index (key_at es n)) n
@@ -73,21 +70,31 @@ abbrev pub is_any_name : Key → Bool
 is_any_name (NameKey name) = true
 is_any_name key = false
 
-abbrev pub is_name : List ℕ → Key → Bool
-is_name name (NameKey other) = same_name name other
-is_name name key = false
+-- kind, mode or size
+abbrev pub is_stat : Key → Bool
+is_stat KindKey = true
+is_stat ModeKey = true
+is_stat SizeKey = true
+is_stat key = false
 
-abbrev pub is_kind : Key → Bool
-is_kind KindKey = true
-is_kind key = false
+-- the same key
+abbrev pub is_key : Key → Key → Bool
+is_key KindKey KindKey = true
+is_key ModeKey ModeKey = true
+is_key SizeKey SizeKey = true
+is_key (NameKey name) (NameKey other) = same_name name other
+is_key (PageKey page) (PageKey other) = page == other
+is_key key other = false
 
-abbrev pub is_mode : Key → Bool
-is_mode ModeKey = true
-is_mode key = false
+-- there is room for so many more numbers on a list
+abbrev pub HasRoomFor : ℕ → Vec ℕ → Type 0
+HasRoomFor count list = vec_len list + count ≤ vec_capacity list
 
-abbrev pub is_size : Key → Bool
-is_size SizeKey = true
-is_size key = false
+-- the numbers of the parts that the index names at the keys which pass a test, at most so many, are put on a list
+pub record Pushes (es : List Entry) (index : IndexValue) (test : Key → Bool) (most : ℕ) (old new : Vec ℕ) : Type 0 where
+  pub numbers : (n : ℕ) → times n new.items ≡ times n old.items + (if is_named es index n && test (key_at es n) then 1 else 0)
+  pub len : vec_len new ≤ vec_len old + most
+  pub capacity : vec_capacity new ≡ vec_capacity old
 
 -- the parts that the entries from `tail` on kill: covered by all, and not by those before
 abbrev pub dies : ℕ → List Entry → ℕ → ℕ → Bool

@@ -1,12 +1,15 @@
 //! The entries past the tail take effect on the index.
 
-ghost use Rattle.std.specs.Prelude.{◌≡◌, ℕ, ◌+◌, ◌-◌, ◌*◌, ◌<◌, ◌≤◌, if◌then◌else◌, drop, length, take, vec_capacity};
+ghost use Rattle.std.specs.Prelude.{◌≡◌, ℕ, ◌+◌, ◌-◌, ◌<◌, ◌≤◌, if◌then◌else◌, drop, length, take, vec_capacity, vec_len};
+ghost use Rattle.std.specs.List.{sum_by};
 ghost use Rattle.nv_entry.specs.Keys.{Key};
+ghost use Rattle.nv_entry.specs.Log.{IsLog};
 ghost use Rattle.nv_entry.specs.Refs.{scan_ref};
 ghost use Rattle.nv_cell.specs.Effects.{NamesReady, items_of};
 ghost use Rattle.nv_nindex.specs.NameIndex.{HaveSameBindings};
 ghost use Rattle.nv_cell.specs.Index.{bindings_of, ref_of};
-ghost use Rattle.nv_cell.specs.Numbers.{AreEnds, HasRoom, dies, times};
+ghost use Rattle.nv_cell.specs.Numbers.{AreEnds, HasRoomFor, dies, times};
+ghost use Rattle.nv_cell.specs.Weights.{runs_of, weights_in};
 
 use crate::kills::push_covered;
 use crate::{CellIndex, Marks};
@@ -24,24 +27,30 @@ pub fn apply_all(
 )
     requires block { 0 < block }
     requires tail { tail ≤ length chain.now.state.entries }
+    requires rising { IsLog chain.now.state.entries }
     requires ends { AreEnds marks.now.ends.items chain.now.state.entries }
-    requires pages { 2 * (length chain.now.state.entries - tail) ≤ index.old.pages.room }
+    requires pages { sum_by runs_of (items_of (drop tail chain.now.state.entries))
+        ≤ index.old.pages.room }
     requires names { NamesReady (items_of (drop tail chain.now.state.entries)) index.old.names }
     requires scan { (key : Key) → ref_of index.old key
         ≡ scan_ref block (take tail chain.now.state.entries) key }
     requires bound { HaveSameBindings (bindings_of (take tail chain.now.state.entries))
         index.old.names.names }
-    requires room { HasRoom (λ n. times n killed.old.items
-        + (if dies block chain.now.state.entries tail n then 1 else 0)) (vec_capacity killed.old) }
+    requires room { HasRoomFor (weights_in block (take tail chain.now.state.entries)
+        (items_of (drop tail chain.now.state.entries))) killed.old }
     ensures scan { (key : Key) → ref_of index.new key ≡ scan_ref block chain.now.state.entries key }
     ensures bound { HaveSameBindings (bindings_of chain.now.state.entries) index.new.names.names }
     ensures killed { (n : ℕ) → times n killed.new.items ≡ times n killed.old.items
         + (if dies block chain.now.state.entries tail n then 1 else 0) }
+    ensures len { vec_len killed.new ≤ vec_len killed.old
+        + weights_in block (take tail chain.now.state.entries)
+        (items_of (drop tail chain.now.state.entries)) }
     ensures capacity { vec_capacity killed.new ≡ vec_capacity killed.old }
 {
-    let entries = chain.entries();
-    for t in tail..entries.len() {
-        let entry = &entries[t];
+    for t in tail..chain.len() {
+        let entry = chain.entry_at(t);
+        // No name stands twice in the index, so that it has as many as the log.
+        let _names = index.name_count();
         push_covered(killed, chain, marks, index, block, &entry.item);
         index.put(block, entry);
     }

@@ -5,14 +5,15 @@ ghost use Rattle.std.specs.Option.{option_map};
 ghost use Rattle.nv_base.specs.declared.fault.Fault.TheVariants.{OutOfMemory};
 ghost use Rattle.nv_base.specs.declared.limits.TheConstants.{FILE_PAGES};
 ghost use Rattle.nv_findex.specs.Pages.{AreWithin, ref_at};
-ghost use Rattle.nv_entry.specs.Keys.{Key, is_page, NameKey, PageKey, KindKey, ModeKey, SizeKey};
+ghost use Rattle.nv_entry.specs.Keys.{Key as KeyValue, is_page, key_named, NameKey, PageKey, KindKey, ModeKey, SizeKey};
 ghost use Rattle.nv_entry.specs.Refs.{ref_after};
 ghost use Rattle.nv_nindex.specs.NameIndex.{AreDistinct, binding_of};
 ghost use Rattle.nv_cell.specs.Index.{IsNextPart, NameReady, NamesAfter, name_part, ref_of};
+ghost use Rattle.nv_cell.specs.Weights.{runs_of};
 
 use nv_base::EntryId;
 use nv_base::limits::FILE_PAGES;
-use nv_entry::{Entry, Item, PartRef};
+use nv_entry::{Entry, Item, Key, PartRef};
 use nv_findex::FileIndex;
 use nv_nindex::{Binding, NameIndex};
 use std::alloc::Global;
@@ -50,7 +51,7 @@ impl Model for CellIndex {
 impl CellIndex {
     /// An index without keys.
     pub fn new(alloc: Global) -> CellIndex
-        ensures refs { (key : Key) → ref_of result key ≡ None }
+        ensures refs { (key : KeyValue) → ref_of result key ≡ None }
         ensures names { result.names.names ≡ [] }
     {
         CellIndex {
@@ -91,6 +92,30 @@ impl CellIndex {
         })
     }
 
+    /// The part of a page.
+    pub fn page(&self, page: u32) -> Option<PartRef>
+        ensures { result ≡ ref_of self.now (PageKey page) }
+    {
+        let at = self.pages.at(page)?;
+        Some(PartRef {
+            entry: at.entry,
+            place: at.place + 1,
+        })
+    }
+
+    /// The part that holds a key.
+    pub fn part(&self, key: Key<'_>) -> Option<PartRef>
+        ensures { result ≡ ref_of self.now (key_named key.entry) }
+    {
+        match key {
+            Key::Kind => self.kind,
+            Key::Mode => self.mode,
+            Key::Size => self.size,
+            Key::Name(name) => self.name(name),
+            Key::Page(page) => self.page(page),
+        }
+    }
+
     /// How many names are bound.
     pub fn name_count(&self) -> usize
         ensures value { result ≡ length self.now.names.names }
@@ -128,11 +153,11 @@ impl CellIndex {
     /// The parts of an entry hold their keys now.
     pub fn put(&mut self, block: u64, entry: &Entry)
         requires block { 0 < block }
-        requires room { 2 ≤ self.old.pages.room }
+        requires room { runs_of entry.now.item ≤ self.old.pages.room }
         requires names { NameReady entry.now.item self.old.names }
         ensures names { NamesAfter entry.now.id entry.now.item self.old.names self.new.names }
-        ensures room { self.old.pages.room ≤ self.new.pages.room + 2 }
-        ensures refs { (key : Key) → ref_of self.new key
+        ensures room { self.old.pages.room ≤ self.new.pages.room + runs_of entry.now.item }
+        ensures refs { (key : KeyValue) → ref_of self.new key
             ≡ ref_after block entry.now key (ref_of self.old key) }
     {
         match &entry.item {
@@ -199,7 +224,7 @@ fn cut_pages(pages: &mut FileIndex, end: u64)
     requires { AreWithin (ref_at pages.old.pages) }
     ensures pages { (page : ℕ) → ref_at pages.new.pages page
         ≡ (if nat_le end page && is_page page then None else ref_at pages.old.pages page) }
-    ensures room { pages.old.room ≤ pages.new.room + 2 }
+    ensures room { pages.old.room ≤ pages.new.room }
     ensures within { AreWithin (ref_at pages.new.pages) }
 {
     if end < u64::from(FILE_PAGES) {

@@ -1,31 +1,41 @@
 //! The parts that an entry kills: those whose keys it covers and that the index names, by number.
 
-ghost use Rattle.std.specs.Prelude.{◌≡◌, ℕ, ◌+◌, ◌<◌, ◌≤◌, ◌&&◌, if◌then◌else◌, min, vec_capacity};
-ghost use Rattle.std.specs.Option.{ForSome, option_map};
+ghost use Rattle.std.specs.Prelude.{◌≡◌, ℕ, ◌+◌, ◌<◌, ◌≤◌, ◌==◌, if◌then◌else◌, length, min, vec_capacity, vec_len};
 ghost use Rattle.nv_base.specs.declared.limits.TheConstants.{FILE_PAGES};
-ghost use Rattle.nv_entry.specs.Covered.{key_at};
-ghost use Rattle.nv_entry.specs.Keys.{covers};
-ghost use Rattle.nv_cell.specs.Numbers.{AreEnds, AreNamed, HasRoom, IsPart, is_any_name, is_kind, is_mode, is_name, is_named, is_number, is_page_in, is_size, number, times};
+ghost use Rattle.nv_entry.specs.Keys.{covers, key_named};
+ghost use Rattle.nv_findex.specs.Pages.{present_from};
+ghost use Rattle.nv_cell.specs.Numbers.{AreEnds, AreNamed, HasRoomFor, IsPart, Pushes, is_any_name, is_key, is_page_in, is_stat, number, times};
+ghost use Rattle.nv_cell.specs.Weights.{present_between, weight_by};
 
 use crate::{CellIndex, Marks};
 use nv_base::limits::FILE_PAGES;
-use nv_entry::{Item, PartRef};
+use nv_entry::{Item, Key, PartRef};
 use nv_log::Chain;
 
 /// Puts the number of a part on the list.
-fn push_part(killed: &mut Vec<usize>, chain: &Chain, marks: &Marks, part: Option<PartRef>)
+fn push_part(killed: &mut Vec<usize>, chain: &Chain, marks: &Marks, part: PartRef)
     requires ends { AreEnds marks.now.ends.items chain.now.state.entries }
-    requires known { ForSome part (λ r. IsPart chain.now.state.entries r) }
-    requires room { HasRoom (λ n. times n killed.old.items
-        + (if is_number (option_map (number chain.now.state.entries) part) n then 1 else 0))
-        (vec_capacity killed.old) }
-    ensures killed { (n : ℕ) → times n killed.new.items ≡ times n killed.old.items
-        + (if is_number (option_map (number chain.now.state.entries) part) n then 1 else 0) }
+    requires known { IsPart chain.now.state.entries part }
+    requires room { HasRoomFor 1 killed.old }
+    ensures numbers { (n : ℕ) → times n killed.new.items
+        ≡ times n killed.old.items + (if number chain.now.state.entries part == n then 1 else 0) }
+    ensures len { vec_len killed.new ≡ vec_len killed.old + 1 }
     ensures capacity { vec_capacity killed.new ≡ vec_capacity killed.old }
 {
-    if let Some(part) = part {
-        let place = chain.place_of(part.entry).unwrap();
-        killed.push_reserved(marks.first(place) + part.place as usize);
+    let place = chain.place_of(part.entry).unwrap();
+    killed.push_reserved(marks.first(place) + part.place as usize);
+}
+
+/// Puts the number of the part on the list that a key has.
+fn push_key(killed: &mut Vec<usize>, chain: &Chain, marks: &Marks, index: &CellIndex, key: Key<'_>)
+    requires ends { AreEnds marks.now.ends.items chain.now.state.entries }
+    requires named { AreNamed chain.now.state.entries index.now }
+    requires room { HasRoomFor 1 killed.old }
+    ensures { Pushes chain.now.state.entries index.now (is_key (key_named key.entry)) 1
+        killed.old killed.new }
+{
+    if let Some(part) = index.part(key) {
+        push_part(killed, chain, marks, part);
     }
 }
 
@@ -42,19 +52,15 @@ fn push_pages(
     requires named { AreNamed chain.now.state.entries index.now }
     requires order { from ≤ to }
     requires within { to ≤ FILE_PAGES }
-    requires room { HasRoom (λ n. times n killed.old.items
-        + (if is_named chain.now.state.entries index.now n
-        && is_page_in from to (key_at chain.now.state.entries n) then 1 else 0)) (vec_capacity killed.old) }
-    ensures killed { (n : ℕ) → times n killed.new.items ≡ times n killed.old.items
-        + (if is_named chain.now.state.entries index.now n
-        && is_page_in from to (key_at chain.now.state.entries n) then 1 else 0) }
-    ensures capacity { vec_capacity killed.new ≡ vec_capacity killed.old }
+    requires room { HasRoomFor (present_between index.now from to) killed.old }
+    ensures { Pushes chain.now.state.entries index.now (is_page_in from to)
+        (present_between index.now from to) killed.old killed.new }
 {
     let mut next = from;
     for _step in from..to {
         match index.page_from(next) {
             Some((page, part)) if page < to => {
-                push_part(killed, chain, marks, Some(part));
+                push_part(killed, chain, marks, part);
                 next = page + 1;
             }
             _ => return,
@@ -73,13 +79,9 @@ fn push_run(
 )
     requires ends { AreEnds marks.now.ends.items chain.now.state.entries }
     requires named { AreNamed chain.now.state.entries index.now }
-    requires room { HasRoom (λ n. times n killed.old.items
-        + (if is_named chain.now.state.entries index.now n
-        && is_page_in first (min (first + len) FILE_PAGES) (key_at chain.now.state.entries n) then 1 else 0)) (vec_capacity killed.old) }
-    ensures killed { (n : ℕ) → times n killed.new.items ≡ times n killed.old.items
-        + (if is_named chain.now.state.entries index.now n
-        && is_page_in first (min (first + len) FILE_PAGES) (key_at chain.now.state.entries n) then 1 else 0) }
-    ensures capacity { vec_capacity killed.new ≡ vec_capacity killed.old }
+    requires room { HasRoomFor len killed.old }
+    ensures { Pushes chain.now.state.entries index.now
+        (is_page_in first (min (first + len) FILE_PAGES)) len killed.old killed.new }
 {
     let end = first.saturating_add(len).min(FILE_PAGES);
     if first < end {
@@ -97,13 +99,9 @@ fn push_pages_from(
 )
     requires ends { AreEnds marks.now.ends.items chain.now.state.entries }
     requires named { AreNamed chain.now.state.entries index.now }
-    requires room { HasRoom (λ n. times n killed.old.items
-        + (if is_named chain.now.state.entries index.now n
-        && is_page_in from FILE_PAGES (key_at chain.now.state.entries n) then 1 else 0)) (vec_capacity killed.old) }
-    ensures killed { (n : ℕ) → times n killed.new.items ≡ times n killed.old.items
-        + (if is_named chain.now.state.entries index.now n
-        && is_page_in from FILE_PAGES (key_at chain.now.state.entries n) then 1 else 0) }
-    ensures capacity { vec_capacity killed.new ≡ vec_capacity killed.old }
+    requires room { HasRoomFor (present_from from index.now.pages.pages) killed.old }
+    ensures { Pushes chain.now.state.entries index.now (is_page_in from FILE_PAGES)
+        (present_from from index.now.pages.pages) killed.old killed.new }
 {
     if from < u64::from(FILE_PAGES) {
         push_pages(killed, chain, marks, index, from as u32, FILE_PAGES);
@@ -114,77 +112,26 @@ fn push_pages_from(
 fn push_names(killed: &mut Vec<usize>, chain: &Chain, marks: &Marks, index: &CellIndex)
     requires ends { AreEnds marks.now.ends.items chain.now.state.entries }
     requires named { AreNamed chain.now.state.entries index.now }
-    requires room { HasRoom (λ n. times n killed.old.items
-        + (if is_named chain.now.state.entries index.now n
-        && is_any_name (key_at chain.now.state.entries n) then 1 else 0)) (vec_capacity killed.old) }
-    ensures killed { (n : ℕ) → times n killed.new.items ≡ times n killed.old.items
-        + (if is_named chain.now.state.entries index.now n
-        && is_any_name (key_at chain.now.state.entries n) then 1 else 0) }
-    ensures capacity { vec_capacity killed.new ≡ vec_capacity killed.old }
+    requires room { HasRoomFor (length index.now.names.names) killed.old }
+    ensures { Pushes chain.now.state.entries index.now is_any_name
+        (length index.now.names.names) killed.old killed.new }
 {
     for i in 0..index.name_count() {
-        push_part(killed, chain, marks, index.name_part_at(i));
+        let part = index.name_part_at(i).unwrap();
+        push_part(killed, chain, marks, part);
     }
 }
 
-/// Puts the number of the part on the list that the kind has.
-fn push_kind(killed: &mut Vec<usize>, chain: &Chain, marks: &Marks, index: &CellIndex)
+/// Puts the numbers of the parts on the list that kind, mode and size have.
+fn push_stat(killed: &mut Vec<usize>, chain: &Chain, marks: &Marks, index: &CellIndex)
     requires ends { AreEnds marks.now.ends.items chain.now.state.entries }
     requires named { AreNamed chain.now.state.entries index.now }
-    requires room { HasRoom (λ n. times n killed.old.items
-        + (if is_named chain.now.state.entries index.now n
-        && is_kind (key_at chain.now.state.entries n) then 1 else 0)) (vec_capacity killed.old) }
-    ensures killed { (n : ℕ) → times n killed.new.items ≡ times n killed.old.items
-        + (if is_named chain.now.state.entries index.now n
-        && is_kind (key_at chain.now.state.entries n) then 1 else 0) }
-    ensures capacity { vec_capacity killed.new ≡ vec_capacity killed.old }
+    requires room { HasRoomFor 3 killed.old }
+    ensures { Pushes chain.now.state.entries index.now is_stat 3 killed.old killed.new }
 {
-    push_part(killed, chain, marks, index.kind());
-}
-
-/// Puts the number of the part on the list that the mode has.
-fn push_mode(killed: &mut Vec<usize>, chain: &Chain, marks: &Marks, index: &CellIndex)
-    requires ends { AreEnds marks.now.ends.items chain.now.state.entries }
-    requires named { AreNamed chain.now.state.entries index.now }
-    requires room { HasRoom (λ n. times n killed.old.items
-        + (if is_named chain.now.state.entries index.now n
-        && is_mode (key_at chain.now.state.entries n) then 1 else 0)) (vec_capacity killed.old) }
-    ensures killed { (n : ℕ) → times n killed.new.items ≡ times n killed.old.items
-        + (if is_named chain.now.state.entries index.now n
-        && is_mode (key_at chain.now.state.entries n) then 1 else 0) }
-    ensures capacity { vec_capacity killed.new ≡ vec_capacity killed.old }
-{
-    push_part(killed, chain, marks, index.mode());
-}
-
-/// Puts the number of the part on the list that the size has.
-fn push_size(killed: &mut Vec<usize>, chain: &Chain, marks: &Marks, index: &CellIndex)
-    requires ends { AreEnds marks.now.ends.items chain.now.state.entries }
-    requires named { AreNamed chain.now.state.entries index.now }
-    requires room { HasRoom (λ n. times n killed.old.items
-        + (if is_named chain.now.state.entries index.now n
-        && is_size (key_at chain.now.state.entries n) then 1 else 0)) (vec_capacity killed.old) }
-    ensures killed { (n : ℕ) → times n killed.new.items ≡ times n killed.old.items
-        + (if is_named chain.now.state.entries index.now n
-        && is_size (key_at chain.now.state.entries n) then 1 else 0) }
-    ensures capacity { vec_capacity killed.new ≡ vec_capacity killed.old }
-{
-    push_part(killed, chain, marks, index.size());
-}
-
-/// Puts the number of the part on the list that a name has.
-fn push_name(killed: &mut Vec<usize>, chain: &Chain, marks: &Marks, index: &CellIndex, name: &[u8])
-    requires ends { AreEnds marks.now.ends.items chain.now.state.entries }
-    requires named { AreNamed chain.now.state.entries index.now }
-    requires room { HasRoom (λ n. times n killed.old.items
-        + (if is_named chain.now.state.entries index.now n
-        && is_name name.now (key_at chain.now.state.entries n) then 1 else 0)) (vec_capacity killed.old) }
-    ensures killed { (n : ℕ) → times n killed.new.items ≡ times n killed.old.items
-        + (if is_named chain.now.state.entries index.now n
-        && is_name name.now (key_at chain.now.state.entries n) then 1 else 0) }
-    ensures capacity { vec_capacity killed.new ≡ vec_capacity killed.old }
-{
-    push_part(killed, chain, marks, index.name(name));
+    push_key(killed, chain, marks, index, Key::Kind);
+    push_key(killed, chain, marks, index, Key::Mode);
+    push_key(killed, chain, marks, index, Key::Size);
 }
 
 /// Puts the numbers of the parts on the list that an item kills.
@@ -199,36 +146,26 @@ pub fn push_covered(
     requires ends { AreEnds marks.now.ends.items chain.now.state.entries }
     requires named { AreNamed chain.now.state.entries index.now }
     requires block { 0 < block }
-    requires room { HasRoom (λ n. times n killed.old.items
-        + (if is_named chain.now.state.entries index.now n
-        && covers block item.now (key_at chain.now.state.entries n) then 1 else 0)) (vec_capacity killed.old) }
-    ensures killed { (n : ℕ) → times n killed.new.items ≡ times n killed.old.items
-        + (if is_named chain.now.state.entries index.now n
-        && covers block item.now (key_at chain.now.state.entries n) then 1 else 0) }
-    ensures capacity { vec_capacity killed.new ≡ vec_capacity killed.old }
+    requires room { HasRoomFor (weight_by block index.now item.now) killed.old }
+    ensures { Pushes chain.now.state.entries index.now (covers block item.now)
+        (weight_by block index.now item.now) killed.old killed.new }
 {
     match item {
-        Item::Init { .. } => {
-            push_kind(killed, chain, marks, index);
-            push_mode(killed, chain, marks, index);
-            push_size(killed, chain, marks, index);
-        }
+        Item::Init { .. } => push_stat(killed, chain, marks, index),
         Item::Write { first, run, .. } => {
-            push_size(killed, chain, marks, index);
+            push_key(killed, chain, marks, index, Key::Size);
             push_run(killed, chain, marks, index, *first, run.len);
         }
         Item::SetSize { size } => {
-            push_size(killed, chain, marks, index);
+            push_key(killed, chain, marks, index, Key::Size);
             push_pages_from(killed, chain, marks, index, size.div_ceil(block));
         }
-        Item::SetMode { .. } => push_mode(killed, chain, marks, index),
+        Item::SetMode { .. } => push_key(killed, chain, marks, index, Key::Mode),
         Item::Bind { name, .. } | Item::Unbind { name } => {
-            push_name(killed, chain, marks, index, name.bytes());
+            push_key(killed, chain, marks, index, Key::Name(name.bytes()));
         }
         Item::Gone => {
-            push_kind(killed, chain, marks, index);
-            push_mode(killed, chain, marks, index);
-            push_size(killed, chain, marks, index);
+            push_stat(killed, chain, marks, index);
             push_pages_from(killed, chain, marks, index, 0);
             push_names(killed, chain, marks, index);
         }

@@ -1,6 +1,7 @@
 //! What the publishing of entries does to the index and the marks, and which parts it kills.
 
-ghost use Rattle.std.specs.Prelude.{◌≡◌, ℕ, ◌+◌, ◌-◌, ◌*◌, ◌<◌, ◌≤◌, ◌^◌, [], Some, not, if◌then◌else◌, nat_lt, drop, length, map, slice_index_or, take, vec_capacity, vec_len};
+ghost use Rattle.std.specs.Prelude.{◌≡◌, ℕ, ◌+◌, ◌-◌, ◌<◌, ◌≤◌, ◌^◌, [], Some, not, if◌then◌else◌, nat_lt, drop, length, map, slice_index_or, take, vec_capacity, vec_len};
+ghost use Rattle.std.specs.List.{sum_by};
 ghost use Rattle.nv_entry.specs.Covered.{is_covered, part_total};
 ghost use Rattle.nv_entry.specs.Keys.{Key};
 ghost use Rattle.nv_entry.specs.Refs.{scan_ref};
@@ -8,7 +9,8 @@ ghost use Rattle.nv_nindex.specs.NameIndex.{HaveSameBindings};
 ghost use Rattle.nv_cell.specs.Effects.{NamesReady, items_of};
 ghost use Rattle.nv_cell.specs.Index.{bindings_of, ref_of};
 ghost use Rattle.nv_cell.specs.Marks.{is_current, mark_at};
-ghost use Rattle.nv_cell.specs.Numbers.{AreEnds, HasRoom, dies, killed_numbers, killed_part, part_base, published_mark, times};
+ghost use Rattle.nv_cell.specs.Numbers.{AreEnds, HasRoomFor, killed_numbers, killed_part, part_base, published_mark};
+ghost use Rattle.nv_cell.specs.Weights.{runs_of, weights_in};
 ghost use Rattle.nv_cell.specs.Tallies.{AreRuns, AreTallied, HasSpare, SameCapacity, end_at};
 ghost use Rattle.nv_cell.specs.declared.mark.Mark.TheVariants as mark;
 
@@ -65,15 +67,16 @@ pub fn take_effect(
     requires current { (n : ℕ) → n < part_base chain.now.state.entries tail
         → is_current (mark_at marks.old.marks.items n)
         ≡ not (is_covered block (take tail chain.now.state.entries) n) }
-    requires pages { 2 * (length chain.now.state.entries - tail) ≤ index.old.pages.room }
+    requires pages { sum_by runs_of (items_of (drop tail chain.now.state.entries))
+        ≤ index.old.pages.room }
     requires names { NamesReady (items_of (drop tail chain.now.state.entries)) index.old.names }
     requires scan { (key : Key) → ref_of index.old key
         ≡ scan_ref block (take tail chain.now.state.entries) key }
     requires bound { HaveSameBindings (bindings_of (take tail chain.now.state.entries))
         index.old.names.names }
     requires empty { numbers.old.items ≡ [] }
-    requires room { HasRoom (λ n. if dies block chain.now.state.entries tail n then 1 else 0)
-        (vec_capacity numbers.old) }
+    requires room { HasRoomFor (weights_in block (take tail chain.now.state.entries)
+        (items_of (drop tail chain.now.state.entries))) numbers.old }
     ensures scan { (key : Key) → ref_of index.new key ≡ scan_ref block chain.now.state.entries key }
     ensures bound { HaveSameBindings (bindings_of chain.now.state.entries) index.new.names.names }
     ensures counted { length marks.new.ends.items ≡ length chain.now.state.entries }
@@ -84,14 +87,15 @@ pub fn take_effect(
     ensures marks { (n : ℕ) → mark_at marks.new.marks.items n
         ≡ published_mark block chain.now.state.entries tail marks.old.marks.items n }
     ensures killed { numbers.new.items ≡ killed_numbers block chain.now.state.entries tail }
-    ensures once { (n : ℕ) → times n numbers.new.items
-        ≡ (if dies block chain.now.state.entries tail n then 1 else 0) }
+    ensures few { vec_len numbers.new ≤ weights_in block (take tail chain.now.state.entries)
+        (items_of (drop tail chain.now.state.entries)) }
     ensures room { SameCapacity marks.old marks.new }
     ensures capacity { vec_capacity numbers.new ≡ vec_capacity numbers.old }
 {
+    let ends = chain.ends();
     add_all(marks, chain, tail);
     apply_all(index, numbers, chain, marks, block, tail);
-    marks.kill_all(chain.ends(), numbers);
+    marks.kill_all(ends, numbers);
     numbers.sort_unstable();
 }
 

@@ -1,12 +1,10 @@
-use Rattle.std.proofs.Common.{◌≡◌, ℕ, ◌+◌, ◌<◌, ◌≤◌, List, Bool, true, cond, not, nat_lt, arith, refl, ap, sym, ◌∙◌, length, take, slice_index, slice_index_or}
-use Rattle.std.proofs.lemmas.List.Sorted.{IsNonDecreasingBy-from_sort}
-use Rattle.nv_entry.specs.declared.item.Entry.{Entry}
+use Rattle.std.proofs.Common.{◌≡◌, ℕ, ◌+◌, ◌<◌, Bool, true, cond, arith, ap, ◌∙◌, length, slice_index}
+use Rattle.std.proofs.lemmas.List.Sorted.{IsNonDecreasingBy-from_sort, length_permutation}
 use Rattle.nv_entry.specs.Covered.{part_total}
 use Rattle.nv_cell.specs.declared.mark.Mark.{Mark}
 use Rattle.nv_cell.specs.declared.mark.Mark.TheVariants as mark
-use Rattle.nv_cell.specs.Marks.{is_current, mark_at}
-use Rattle.nv_cell.specs.Numbers.{dies, times, part_base}
-use Rattle.nv_cell.specs.Tallies.{is_in}
+use Rattle.nv_cell.specs.Marks.{mark_at}
+use Rattle.nv_cell.specs.Numbers.{dies, times}
 use Rattle.nv_cell.proofs.Cells.{dies_low, in_dies, times_at}
 use Rattle.nv_cell.proofs.Publishes.{dies_when, dying_is_current, first_base, is_filtered, once, rising, same_times}
 use Rattle.nv_cell.proofs.publish.take_effect.Goals as goal
@@ -49,9 +47,6 @@ returns-clause-killed c =
     count
     (λ n h. dies_low c.args.block es c.args.tail n (rw h (omega arith)))
 
-pub returns-clause-once : goal.returns-clause-once
-returns-clause-once c n =
-    let es = c.args.chain.now.state.entries in
-    let d = dies c.args.block es c.args.tail n in
-    same_times n c.apply_all.new.killed.items c.sort_unstable.new.self.items c.sort_unstable.ensures.permutation ∙ c.apply_all.ensures.killed n
-    ∙ (let z : times n c.args.numbers.now.items + cond d 1 0 ≡ cond d 1 0 = omega (arith, ap (times n) c.requires.empty) in z)
+pub returns-clause-few : goal.returns-clause-few
+returns-clause-few c =
+    omega (arith, c.apply_all.ensures.len, length_permutation c.apply_all.new.killed.items c.sort_unstable.new.self.items c.sort_unstable.ensures.permutation, ap length c.requires.empty)

@@ -1,26 +1,22 @@
-use Rattle.std.proofs.Common.{◌≡◌, ℕ, ◌+◌, ◌-◌, ◌*◌, ◌<◌, ◌≤◌, List, Option, Some, None, Bool, true, false, arith, refl, ap, sym, ◌∙◌, length, take, drop, inl, inr, min, cond, not}
-use Rattle.std.specs.Prelude.{vec_len, vec_capacity}
+use Rattle.std.proofs.Common.{◌≡◌, ℕ, ◌+◌, List, None, Bool, arith, refl, ap, sym, ◌∙◌, length, drop, cond, not}
 use Rattle.nv_entry.specs.declared.item.Entry.{Entry}
 use Rattle.nv_entry.specs.Covered.{part_total, is_covered}
-use Rattle.nv_entry.specs.Keys.{Key}
 use Rattle.nv_entry.specs.Refs.{scan_ref}
 use Rattle.nv_cell.specs.declared.mark.Mark.{Mark}
-use Rattle.nv_cell.specs.declared.mark.Mark.TheVariants.{Current, Killed, Kept, Out}
-use Rattle.nv_cell.specs.Cell.{CellState, HasBlocks, HasMarks, log_of, mark_named, number_in, with_mark, without_part, IsReady}
-use Rattle.nv_cell.specs.Effects.{NamesReady, items_of}
-use Rattle.nv_cell.specs.Fields.{AreFields, state_in}
-use Rattle.nv_cell.specs.Marks.{is_current, is_there, mark_at}
-use Rattle.nv_cell.specs.Named.{number_named}
-use Rattle.nv_cell.specs.Numbers.{HasRoom, dies, killed_numbers, part_base, published_mark}
-use Rattle.std.proofs.Common.{subst, slice_index_or, map}
+use Rattle.nv_cell.specs.declared.mark.Mark.TheVariants.{Out}
+use Rattle.nv_cell.specs.Cell.{log_of, IsReady}
+use Rattle.nv_cell.specs.Effects.{items_of}
+use Rattle.nv_cell.specs.Fields.{state_in}
+use Rattle.nv_cell.specs.Marks.{mark_at}
+use Rattle.nv_cell.specs.Numbers.{dies, published_mark}
+use Rattle.std.proofs.Common.{subst, map}
 use Rattle.std.specs.List.{range_with_len}
-use Rattle.nv_log.specs.Chain.{ChainState}
-use Rattle.nv_cell.specs.Cell.{CellValue, page_block, published}
+use Rattle.nv_cell.specs.Cell.{page_block}
 use Rattle.nv_cell.specs.Fields.{value_in}
 use Rattle.nv_cell.specs.Index.{bindings_of}
 use Rattle.nv_nindex.specs.NameIndex.{HaveSameBindings}
 use Rattle.nv_cell.proofs.Cells.{mark_now}
-use Rattle.nv_cell.proofs.Published.{list_from, names_ready, room_left, room_right, there_stays}
+use Rattle.nv_cell.proofs.Published.{list_from, names_ready, there_stays}
 use Rattle.nv_cell.proofs.Publishes.{filtered_low, first_base}
 use Rattle.nv_cell.proofs.Publishing.{take_whole}
 use Rattle.nv_cell.proofs.cell.InodeCell.publish.Goals as goal
@@ -48,9 +44,18 @@ pub name_all-requires-clause-room : goal.name_all-requires-clause-room
 name_all-requires-clause-room c =
     let s = state_in c.self.inside in
     let ready : IsReady (value_in c.self.inside) = subst (λ v. IsReady v) (sym c.self.view_is) c.requires.ready in
-    let room = room_right (λ n. cond (dies s.block s.chain.entries s.chain.tail n) 1 0) (vec_capacity c.self.inside.numbers) (vec_capacity c.self.inside.killed) ready.killed in
-    let few = room c.take_effect.new.numbers.items (λ n. let o = rw c.tail-tail.ensures.value at (c.take_effect.ensures.once n) in omega (arith, o)) in
-    rw (c.deref.ensures.value, c.replace-killed.ensures.value) few
+    let few = rw c.tail-tail.ensures.value at c.take_effect.ensures.few in
+    rw (c.deref.ensures.value, c.replace-killed.ensures.value) (omega (arith, few, ready.killed))
+
+pub take_effect-requires-clause-pages : goal.take_effect-requires-clause-pages
+take_effect-requires-clause-pages c =
+    let ready : IsReady (value_in c.self.inside) = subst (λ v. IsReady v) (sym c.self.view_is) c.requires.ready in
+    rw c.tail-tail.ensures.value ready.runs
+
+pub take_effect-requires-clause-room : goal.take_effect-requires-clause-room
+take_effect-requires-clause-room c =
+    let ready : IsReady (value_in c.self.inside) = subst (λ v. IsReady v) (sym c.self.view_is) c.requires.ready in
+    rw c.tail-tail.ensures.value (omega (arith, ready.killed, ap length c.self.invariant.no_numbers))
 
 pub invariant_of-self : goal.invariant_of-self
 invariant_of-self c =
