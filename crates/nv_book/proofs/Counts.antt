@@ -35,6 +35,10 @@ pub blocks-le-records : (p : Record → Bool) (rs : List Record) → block_count
 blocks-le-records p rs =
     omega (arith, count_by-le-length (λ (r : Record). is_page r.part) (filter p rs), length-filter_both p (λ r. not (p r)) (λ r. refl) rs)
 
+pub let-go-none : (rs : List Record) → let_go None rs ≡ rs
+let-go-none [] = refl
+let-go-none (r ∷ rs) = ap (λ us. r ∷ us) (let-go-none rs)
+
 -- the blocks of runs that pass a test, where the records of one run pass it together
 
 module _ (p : Record → Bool) (together : (r : Record) → p (record_on 1 r) ≡ p r) where

@@ -2,9 +2,10 @@ pub mod Books
 pub mod Counts
 pub mod Ends
 pub mod Filing
+pub mod Listing
 pub mod Noting
 pub mod Places
 pub mod RecordLists
 pub mod Series
-pub mod SortedOut
+pub mod Split
 pub mod Undoing

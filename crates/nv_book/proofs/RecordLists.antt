@@ -7,7 +7,7 @@ use Rattle.nv_epoch.specs.Holders.{if_born_by, next_older, without, youngest_hol
 use Rattle.nv_book.specs.declared.manifest.Manifest.{Manifest}
 use Rattle.nv_book.specs.declared.record.Record.{Record}
 use Rattle.nv_book.specs.Listed.{IsRecordList, is_snapshot, kept_by, manifest_of, manifest_told, not_kept_by, unheld, with_moved, with_retired, without_first}
-use Rattle.nv_book.specs.Manifests.{after_drop, after_make, longer, manifests_without, put_to, records_at}
+use Rattle.nv_book.specs.Manifests.{after_drop, after_make, with_records, manifests_without, put_to, records_at}
 use Rattle.nv_book.specs.Records.{holder_of, is_born_by, let_go, moved_down}
 use Rattle.nv_book.proofs.Filing.{Makes, Removes}
 use Rattle.nv_book.proofs.Places.{put-none}
@@ -17,23 +17,23 @@ filter-same : (p q : Record → Bool) (rs : List Record) → AllByRecursion (λ 
 filter-same p q [] h = refl
 filter-same p q (r ∷ rs) h = rw h.0 (ap (λ us. cond (q r) (r ∷ us) us) (filter-same p q rs h.1))
 
-map-same : (f g : ℕ → Manifest) (ss : List ℕ) → AllByRecursion (λ s. f s ≡ g s) ss → map f ss ≡ map g ss
+pub map-same : (f g : ℕ → Manifest) (ss : List ℕ) → AllByRecursion (λ s. f s ≡ g s) ss → map f ss ≡ map g ss
 map-same f g [] h = refl
 map-same f g (s ∷ ss) h = rw h.0 (ap (λ ms. g s ∷ ms) (map-same f g ss h.1))
 
-all-of : (P : ℕ → Type 0) → ((s : ℕ) → P s) → (ss : List ℕ) → AllByRecursion P ss
+pub all-of : (P : ℕ → Type 0) → ((s : ℕ) → P s) → (ss : List ℕ) → AllByRecursion P ss
 all-of P h [] = tt
 all-of P h (s ∷ ss) = (h s, all-of P h ss)
 
-put-map : (o : Option ℕ) (xs : List Record) (f : ℕ → Manifest) (ss : List ℕ) → put_to o xs (map f ss) ≡ map (λ s. longer o xs (f s)) ss
+put-map : (o : Option ℕ) (xs : List Record) (f : ℕ → Manifest) (ss : List ℕ) → put_to o xs (map f ss) ≡ map (λ s. with_records o xs (f s)) ss
 put-map o xs f [] = refl
-put-map o xs f (s ∷ ss) = ap (λ ms. longer o xs (f s) ∷ ms) (put-map o xs f ss)
+put-map o xs f (s ∷ ss) = ap (λ ms. with_records o xs (f s) ∷ ms) (put-map o xs f ss)
 
 -- a record at the end
 
 module _ (living : List ℕ) (r : Record) (rs : List Record) where
   kept-one : (s t : ℕ) → holder_of living r ≡ Some t →
-      longer (Some t) (r ∷ []) (manifest_told living rs s) ≡ manifest_told living (rs ++ r ∷ []) s
+      with_records (Some t) (r ∷ []) (manifest_told living rs s) ≡ manifest_told living (rs ++ r ∷ []) s
   kept-one s t e =
       let all : kept_by s living (rs ++ r ∷ []) ≡ kept_by s living rs ++ kept_by s living (r ∷ []) =
       filter-append (λ u. is_snapshot s (holder_of living u)) rs (r ∷ []) in
@@ -56,8 +56,8 @@ listed-retired living ms ds rs r h = go (holder_of living r) refl where
   go None e = record { manifests_are = put-none (r ∷ []) ms ∙ h.manifests_are; deferred_is = h.deferred_is }
   go (Some t) e = record {
     manifests_are = ap (put_to (Some t) (r ∷ [])) h.manifests_are ∙ (put-map (Some t) (r ∷ []) (manifest_told living rs) living
-        ∙ map-same (λ s. longer (Some t) (r ∷ []) (manifest_told living rs s)) (manifest_told living (rs ++ r ∷ [])) living
-        (all-of (λ s. longer (Some t) (r ∷ []) (manifest_told living rs s) ≡ manifest_told living (rs ++ r ∷ []) s)
+        ∙ map-same (λ s. with_records (Some t) (r ∷ []) (manifest_told living rs s)) (manifest_told living (rs ++ r ∷ [])) living
+        (all-of (λ s. with_records (Some t) (r ∷ []) (manifest_told living rs s) ≡ manifest_told living (rs ++ r ∷ []) s)
         (λ s. kept-one living r rs s t e) living));
     deferred_is = h.deferred_is ∙ unheld-one living r rs t e;
   }
@@ -160,7 +160,7 @@ all-records P h [] = tt
 all-records P h (r ∷ rs) = (h r, all-records P h rs)
 
 moved-to : (u : ℕ) (o : Option ℕ) (xs mine : List Record) →
-    longer o (moved_down o mine) (manifest_of u (xs)) ≡ manifest_of u (xs ++ filter (λ r. is_snapshot u (if_born_by r.birth o)) mine)
+    with_records o (moved_down o mine) (manifest_of u (xs)) ≡ manifest_of u (xs ++ filter (λ r. is_snapshot u (if_born_by r.birth o)) mine)
 moved-to u None xs mine =
     ap (λ us. manifest_of u us) (sym (ap (λ us. xs ++ us) (filter-none (λ r. false) (λ r. refl) mine) ∙ append-nil xs))
 moved-to u (Some t) xs mine = go (u == t) refl where
@@ -219,7 +219,7 @@ held-some s (Some t) e = refl
 
 module _ (living : List ℕ) (s : ℕ) (removes : Removes living s) (rs : List Record) where
   dropped-manifest : (u : ℕ) → (u == s) ≡ false →
-      longer (next_older living s) (moved_down (next_older living s) (kept_by s living rs)) (manifest_told living rs u)
+      with_records (next_older living s) (moved_down (next_older living s) (kept_by s living rs)) (manifest_told living rs u)
       ≡ manifest_told (without s living) (with_moved s living rs) u
   dropped-manifest u ne =
       let p = is_snapshot u in
@@ -254,8 +254,8 @@ module _ (living : List ℕ) (s : ℕ) (removes : Removes living s) (rs : List R
       ∙ without-map s (λ t. kept_by t living rs) living in
       record {
         manifests_are = rw (mine, left) (put-map older (moved_down older (kept_by s living rs)) f (without s living)
-            ∙ map-same (λ u. longer older (moved_down older (kept_by s living rs)) (f u)) g (without s living)
-            (all-without s (λ u. longer older (moved_down older (kept_by s living rs)) (f u) ≡ g u) dropped-manifest living));
+            ∙ map-same (λ u. with_records older (moved_down older (kept_by s living rs)) (f u)) g (without s living)
+            (all-without s (λ u. with_records older (moved_down older (kept_by s living rs)) (f u) ≡ g u) dropped-manifest living));
         deferred_is = rw (mine, h.deferred_is) dropped-deferred;
       }
 

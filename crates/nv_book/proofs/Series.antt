@@ -8,7 +8,7 @@ use Rattle.nv_entry.specs.declared.part.Part.TheVariants.{Kind, Mode, Size, Boun
 use Rattle.nv_book.specs.declared.record.Record.{Record}
 use Rattle.nv_book.specs.declared.run.Run.{Run}
 use Rattle.nv_book.specs.Records.{goes_on, goes_on_in, is_next_page, is_same_entry, run_count_of, is_born_by}
-use Rattle.nv_book.specs.Runs.{IsRun, AreRuns, PageRun, put, joins, joins_in, joined, part_on, record_on, series, records_of, run_records, last_of, rest_of}
+use Rattle.nv_book.specs.Runs.{IsRun, AreLeft, AreRuns, records_left, PageRun, put, joins, joins_in, joined, part_on, record_on, series, records_of, run_records, last_of, rest_of}
 
 and-left : (a b : Bool) → (a && b) ≡ true → a ≡ true
 and-left true b h = refl
@@ -202,6 +202,30 @@ part-cut n Kind h k = absurd (omega (arith, h, k))
 part-cut n Mode h k = absurd (omega (arith, h, k))
 part-cut n Size h k = absurd (omega (arith, h, k))
 part-cut n Bound h k = absurd (omega (arith, h, k))
+
+-- a run and its rest, before other runs
+pub rest-none : (r : Run) (rs : List Run) → r.more ≤ 0 → run_records r ++ records_of rs ≡ r.first ∷ records_of rs
+unfolding records_of
+rest-none r rs h = single-first r rs h
+
+pub rest-some : (r : Run) (rs : List Run) → 0 < r.more → run_records r ++ records_of rs ≡ r.first ∷ run_records (rest_of r) ++ records_of rs
+unfolding records_of
+rest-some r rs h = cut-first r rs h
+
+pub rest-run : (r : Run) → IsRun r → 0 < r.more → IsRun (rest_of r)
+rest-run r h k = record { pages = part-cut r.more r.first.part h.pages k }
+
+-- the first of the runs is begun, where none was before
+pub begin-run : (begun : Option Run) (runs rest : List Run) (run : Run) → begun ≡ None → AreLeft begun runs → runs ≡ run ∷ rest →
+    IsRun run × AreRuns rest × (records_left begun runs ≡ run_records run ++ records_of rest)
+unfolding AreRuns records_of
+begin-run begun runs rest run none left steps =
+    let h : AreRuns (run ∷ rest) = subst AreRuns steps (subst (λ b. AreLeft b runs) none left) in
+    (h.0, h.2, ap (λ b. records_left b runs) none ∙ ap records_of steps)
+
+pub none-left : (begun : Option Run) (runs : List Run) → begun ≡ None → runs ≡ [] → records_left begun runs ≡ []
+unfolding records_of
+none-left begun runs none empty = ap (λ b. records_left b runs) none ∙ ap records_of empty
 
 last-cut : (r : Run) → 0 < r.more → last_of (rest_of r) ≡ last_of r
 last-cut r k = record-on-on (r.more - 1) 1 r.first ∙ ap (λ n. record_on n r.first) (omega (arith, k))

@@ -7,7 +7,7 @@ use Rattle.nv_epoch.specs.SnapList.{Snapshots, ids, after_making, after_removal,
 use Rattle.nv_journal.specs.declared.old_tail.OldTail.{OldTail}
 use Rattle.nv_book.specs.declared.event.Event.{Event}
 use Rattle.nv_book.specs.declared.event.Event.TheVariants.{Committed, Made, Dropped}
-use Rattle.nv_book.specs.declared.history.TheConstants.{KEPT}
+use Rattle.nv_book.specs.declared.history.TheConstants.{LATEST}
 use Rattle.nv_book.specs.declared.manifest.Manifest.{Manifest}
 use Rattle.nv_book.specs.declared.record.Record.{Record}
 use Rattle.nv_book.specs.declared.retired.Retired.{Retired}
@@ -44,15 +44,15 @@ empty_book numbers epoch commit = record {
 }
 
 abbrev pub with_event : Event → BookState → BookState
-with_event event b = record b { history = noted KEPT b.history event }
+with_event event b = record b { history = noted LATEST b.history event }
 
 -- one more commit
-abbrev pub entered : ℕ → BookState → BookState
-entered seat b = with_event (Committed seat (b.commit + 1) b.snaps.epoch) (record b { commit = b.commit + 1 })
+abbrev pub after_enter : ℕ → BookState → BookState
+after_enter seat b = with_event (Committed seat (b.commit + 1) b.snaps.epoch) (record b { commit = b.commit + 1 })
 
 -- the record at the end of the manifest of its youngest living holder, if it has one
-abbrev pub retired : Record → BookState → BookState
-retired r b = record b { manifests = put_to (holder_of (ids b.snaps) r) (r ∷ []) b.manifests }
+abbrev pub after_retire : Record → BookState → BookState
+after_retire r b = record b { manifests = put_to (holder_of (ids b.snaps) r) (r ∷ []) b.manifests }
 
 abbrev pub retired_as : Option ℕ → Retired
 retired_as (Some s) = Kept
@@ -64,30 +64,30 @@ room_after Kept room = room - 1
 room_after Free room = room
 
 -- the current epoch becomes a snapshot with an empty manifest
-abbrev pub snapshot_made : BookState → BookState
-snapshot_made b = with_event (Made b.snaps.epoch) (record b {
+abbrev pub after_make_snapshot : BookState → BookState
+after_make_snapshot b = with_event (Made b.snaps.epoch) (record b {
   snaps = after_making b.snaps;
   manifests = after_make b.snaps.epoch b.manifests;
 })
 
 -- the records of s move in order to the end of the next older snapshot's manifest where they were born by then, and to
 -- the end of the deferred list where they were not
-abbrev pub snapshot_dropped : ℕ → BookState → BookState
-snapshot_dropped s b = with_event (Dropped s) (record b {
+abbrev pub after_drop_snapshot : ℕ → BookState → BookState
+after_drop_snapshot s b = with_event (Dropped s) (record b {
   snaps = after_removal b.snaps s;
   manifests = after_drop s (next_older (ids b.snaps) s) b.manifests;
   deferred = b.deferred ++ let_go (next_older (ids b.snaps) s) (records_at s b.manifests);
 })
 
-abbrev pub snapshot_pinned : ℕ → BookState → BookState
-snapshot_pinned s b = record b { snaps = after_pin b.snaps s }
+abbrev pub after_pin_snapshot : ℕ → BookState → BookState
+after_pin_snapshot s b = record b { snaps = after_pin b.snaps s }
 
-abbrev pub snapshot_unpinned : ℕ → BookState → BookState
-snapshot_unpinned s b = record b { snaps = after_unpin b.snaps s }
+abbrev pub after_unpin_snapshot : ℕ → BookState → BookState
+after_unpin_snapshot s b = record b { snaps = after_unpin b.snaps s }
 
 -- the deferred list without its first record
-abbrev pub picked : BookState → BookState
-picked b = record b { deferred = drop 1 b.deferred }
+abbrev pub after_pick : BookState → BookState
+after_pick b = record b { deferred = drop 1 b.deferred }
 
 -- what the CPU's journal has noted
 abbrev pub with_journal : ℕ → List OldTail → BookState → BookState

@@ -31,6 +31,11 @@ pub record IsRecordList (living : List ℕ) (manifests : List Manifest) (deferre
   pub manifests_are : manifests ≡ map (manifest_told living rs) living
   pub deferred_is : deferred ≡ unheld living rs
 
+-- the manifests' records, oldest snapshot first
+abbrev pub all_records : List Manifest → List Record
+all_records [] = []
+all_records (m ∷ ms) = m.records ++ all_records ms
+
 -- a retired record stands at the end, if it has a living holder
 abbrev pub with_retired : List ℕ → Record → List Record → List Record
 with_retired living r rs = if is_none (holder_of living r) then rs else rs ++ r ∷ []

@@ -28,12 +28,12 @@ records_at s [] = []
 records_at s (m ∷ ms) = if m.snapshot == s then m.records else records_at s ms
 
 -- a manifest with more records at its end, if it is that snapshot's
-abbrev pub longer : Option ℕ → List Record → Manifest → Manifest
-longer None rs m = m
-longer (Some s) rs m = if m.snapshot == s then record m { records = m.records ++ rs } else m
+abbrev pub with_records : Option ℕ → List Record → Manifest → Manifest
+with_records None rs m = m
+with_records (Some s) rs m = if m.snapshot == s then record m { records = m.records ++ rs } else m
 
 abbrev pub put_to : Option ℕ → List Record → List Manifest → List Manifest
-put_to s rs manifests = map (longer s rs) manifests
+put_to s rs manifests = map (with_records s rs) manifests
 
 abbrev pub manifests_without : ℕ → List Manifest → List Manifest
 manifests_without s manifests = filter (λ (m : Manifest). not (m.snapshot == s)) manifests

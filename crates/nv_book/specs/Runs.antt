@@ -1,5 +1,5 @@
 -- Stored runs, and the records that they stand for.
-use Rattle.std.specs.Prelude.{◌≡◌, ℕ, zero, suc, ◌+◌, ◌-◌, ◌<◌, ◌^◌, Bool, false, if◌then◌else◌, List, [], ◌∷◌, ◌++◌, filter, sum_by}
+use Rattle.std.specs.Prelude.{◌≡◌, ℕ, zero, suc, ◌+◌, ◌-◌, ◌<◌, ◌^◌, Bool, false, if◌then◌else◌, List, [], ◌∷◌, ◌++◌, filter, sum_by, Option, Some, None}
 use Rattle.nv_entry.specs.declared.part.Part.{Part}
 use Rattle.nv_entry.specs.declared.part.Part.TheVariants.{Kind, Mode, Size, Bound, Page}
 use Rattle.nv_book.specs.declared.record.Record.{Record}
@@ -44,6 +44,11 @@ unfoldable pub records_of : List Run → List Record
 records_of [] = []
 records_of (r ∷ rs) = run_records r ++ records_of rs
 
+-- the records of a run that was begun, if there is one, and of the runs after it
+abbrev pub records_left : Option Run → List Run → List Record
+records_left None runs = records_of runs
+records_left (Some run) runs = run_records run ++ records_of runs
+
 abbrev pub joins : Run → Run → Bool
 joins r s = goes_on (last_of r) s.first
 
@@ -58,6 +63,11 @@ joins_in r (s ∷ rs) = joins r s
 unfoldable pub AreRuns : List Run → Type 0
 AreRuns [] = Unit {0}
 AreRuns (r ∷ rs) = IsRun r × (joins_in r rs ≡ false) × AreRuns rs
+
+-- the same of runs that follow one that was begun, if there is one
+abbrev pub AreLeft : Option Run → List Run → Type 0
+AreLeft None runs = AreRuns runs
+AreLeft (Some run) runs = IsRun run × AreRuns runs
 
 -- a run put to the end of others, as one with the last of them if it goes on there
 unfoldable pub put : List Run → Run → List Run

@@ -8,15 +8,15 @@ ghost use Rattle.nv_base.specs.Refusals.{FailsEither, FailsOnly, IsRefusedBy, Ke
 ghost use Rattle.nv_epoch.specs.Holders.{next_older};
 ghost use Rattle.nv_epoch.specs.SnapList.{ids, pins_of};
 ghost use Rattle.nv_journal.specs.Journal.{AreDistinct};
-ghost use Rattle.nv_book.specs.Book.{BookState, BookValue, empty_book, entered, picked, retired, retired_as, room_after, snapshot_dropped, snapshot_made, snapshot_pinned, snapshot_unpinned, state_now, with_journal};
+ghost use Rattle.nv_book.specs.Book.{BookState, BookValue, empty_book, after_enter, after_pick, after_retire, retired_as, room_after, after_drop_snapshot, after_make_snapshot, after_pin_snapshot, after_unpin_snapshot, state_now, with_journal};
 ghost use Rattle.nv_book.specs.History.{IsLegal, now_of};
 ghost use Rattle.nv_book.specs.Manifests.{AreDead, AreFiled, gain_of, held_of, runs_of};
 ghost use Rattle.nv_book.specs.Records.{block_count, holder_of, run_count_of};
 
 use crate::history::History;
 use crate::manifest::Manifest;
-use crate::record_list::RecordList;
 use crate::record_store::RecordStore;
+use crate::records::Records;
 use crate::{Event, Record, Retired};
 use nv_base::{CommitNo, Epoch, Fault, Geometry, limits};
 use nv_epoch::{SnapList, laws};
@@ -29,7 +29,7 @@ use std::marker::Model;
 /// the history.
 ///
 /// Contracts see its state, and apart from it the room that [`Book::enter`] made for records.
-#[derive(Drop)]
+#[derive(Debug, Drop)]
 pub struct Book {
     alloc: Global,
     snaps: SnapList,
@@ -118,7 +118,7 @@ impl Book {
     /// latest events, also the number of living snapshots.
     pub fn enter(&mut self, seat: u64, need: u64) -> Result<(Epoch, CommitNo), Fault>
         ensures ok { OnOk result (self.new ≡
-            record { state = entered seat self.old.state; room = need }) }
+            record { state = after_enter seat self.old.state; room = need }) }
         ensures epoch { IfOk result (λ fixed. fixed.0 ≡ self.old.state.snaps.epoch) }
         ensures number { IfOk result (λ fixed. fixed.1 ≡ self.new.state.commit) }
         ensures limit { IsRefusedBy result Fault.CommitLimit ↔ (self.old.state.commit ≡ NUMBER) }
@@ -146,7 +146,7 @@ impl Book {
         requires dead { killed.death ≤ self.old.state.snaps.epoch }
         requires room { 0 < self.old.room }
         ensures answer { result ≡ retired_as (holder_of (ids self.old.state.snaps) killed) }
-        ensures state { self.new.state ≡ retired killed self.old.state }
+        ensures state { self.new.state ≡ after_retire killed self.old.state }
         ensures room { self.new.room ≡ room_after result self.old.room }
     {
         laws::holders_are_told_by_the_list();
@@ -177,7 +177,7 @@ impl Book {
             (length self.old.state.snaps.living ≡ self.old.state.snaps.most)) }
         ensures number { IfOk result (λ s. s ≡ self.old.state.snaps.epoch) }
         ensures ok { OnOk result (self.new ≡
-            record self.old { state = snapshot_made self.old.state }) }
+            record self.old { state = after_make_snapshot self.old.state }) }
         ensures same { KeepsOnErr result self.old self.new }
     {
         laws::making_keeps_holders();
@@ -200,7 +200,7 @@ impl Book {
         ensures pinned { IsRefusedBy result Fault.Pinned ↔
             IsSomeAnd (pins_of self.old.state.snaps s) (λ pins. 0 < pins) }
         ensures ok { OnOk result (self.new ≡
-            record self.old { state = snapshot_dropped s self.old.state }) }
+            record self.old { state = after_drop_snapshot s self.old.state }) }
         ensures gain { OnOk result (block_count self.new.state.deferred ≡
             block_count self.old.state.deferred
             + gain_of s (next_older (ids self.old.state.snaps) s) self.old.state.manifests) }
@@ -229,7 +229,7 @@ impl Book {
         ensures pinned { IsOk result ↔ IsSome (pins_of self.old.state.snaps s) }
         ensures err { FailsOnly Fault.NoSnapshot result }
         ensures ok { OnOk result (self.new ≡
-            record self.old { state = snapshot_pinned s self.old.state }) }
+            record self.old { state = after_pin_snapshot s self.old.state }) }
         ensures same { KeepsOnErr result self.old self.new }
     {
         self.snaps.pin(s)
@@ -238,7 +238,7 @@ impl Book {
     /// Takes a pin from the snapshot `s`.
     pub fn unpin(&mut self, s: Epoch)
         requires { IsSomeAnd (pins_of self.old.state.snaps s) (λ pins. 0 < pins) }
-        ensures { self.new ≡ record self.old { state = snapshot_unpinned s self.old.state } }
+        ensures { self.new ≡ record self.old { state = after_unpin_snapshot s self.old.state } }
     {
         self.snaps.unpin(s);
     }
@@ -246,7 +246,7 @@ impl Book {
     /// Takes the first deferred record out, if there is one, in constant time.
     pub fn pick(&mut self) -> Option<Record>
         ensures first { result ≡ slice_get self.old.state.deferred 0 }
-        ensures rest { self.new ≡ record self.old { state = picked self.old.state } }
+        ensures rest { self.new ≡ record self.old { state = after_pick self.old.state } }
     {
         self.store.pick()
     }
@@ -312,6 +312,13 @@ impl Book {
         self.store.gain_at(place, s, &older)
     }
 
+    /// How many blocks the deferred records have. It takes time by their runs.
+    pub fn deferred_blocks(&self) -> u64
+        ensures { result ≡ block_count self.now.state.deferred }
+    {
+        self.store.deferred_blocks()
+    }
+
     /// How many runs the records are stored as. It takes time by the snapshots.
     pub fn stored(&self) -> u64
         ensures { result ≡ runs_of self.now.state.manifests + run_count_of self.now.state.deferred }
@@ -338,7 +345,7 @@ impl Book {
     }
 
     /// The deferred list.
-    pub fn deferred(&self) -> &RecordList
+    pub fn deferred(&self) -> &Records
         ensures deferred { result.now ≡ self.now.state.deferred }
         ensures filed { let now = self.now.state in AreFiled (ids now.snaps) now.manifests now.deferred }
         ensures dead { let now = self.now.state in AreDead now.snaps.epoch now.manifests now.deferred }

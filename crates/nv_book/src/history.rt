@@ -13,7 +13,7 @@ use std::alloc::Global;
 use std::marker::Model;
 
 /// How many events a history keeps one by one.
-pub const KEPT: usize = 256;
+pub const LATEST: usize = 256;
 
 /// What the events before those that are kept led to: the epoch, and the number of the last commit.
 /// [`History::living_at_base`] has the snapshots that lived then.
@@ -27,7 +27,7 @@ pub struct Base {
 ///
 /// The snapshots that lived at the base are not kept: they are those that live now, with what the latest events
 /// changed undone. So an event that goes into the base costs the same however many snapshots live.
-#[derive(Drop)]
+#[derive(Debug, Drop)]
 pub struct History {
     base: Base,
     latest: HeapCircularBuffer<Event>,
@@ -40,7 +40,7 @@ impl Model for History {
     ghost use Rattle.std.specs.Prelude.{vec_capacity};
     ghost use Rattle.nv_book.specs.History.{Account};
     ghost use Rattle.nv_book.specs.Base.{state_of, IsHistory};
-    ghost use Rattle.nv_book.specs.declared.history.TheConstants.{KEPT};
+    ghost use Rattle.nv_book.specs.declared.history.TheConstants.{LATEST};
 
     ghost Value = { Account };
 
@@ -51,7 +51,7 @@ impl Model for History {
     } };
 
     ghost invariant = { λ h.
-        IsHistory KEPT h.base h.latest h.living.items (vec_capacity h.living) h.most };
+        IsHistory LATEST h.base h.latest h.living.items (vec_capacity h.living) h.most };
 }
 
 /// Takes an event into the base.
@@ -86,17 +86,17 @@ impl History {
     {
         Ok(History {
             base: Base { epoch, commit },
-            latest: HeapCircularBuffer::with_capacity(alloc, KEPT)?,
+            latest: HeapCircularBuffer::with_capacity(alloc, LATEST)?,
             living: Vec::with_capacity(alloc, snaps as usize)?,
             most: snaps,
         })
     }
 
-    /// Notes an event. Where [`KEPT`] stand after the base already, the oldest of them goes into it. A drop costs
+    /// Notes an event. Where [`LATEST`] stand after the base already, the oldest of them goes into it. A drop costs
     /// the number of living snapshots, and any other event the same however many there are.
     pub(crate) fn note(&mut self, event: Event)
         requires { IsNext self.old.most (now_of self.old) event }
-        ensures account { self.new ≡ noted KEPT self.old event }
+        ensures account { self.new ≡ noted LATEST self.old event }
         ensures now { now_of self.new ≡ after (now_of self.old) event }
         ensures legal { IsLegal self.new.most self.new.base self.new.latest }
     {
@@ -140,7 +140,7 @@ impl History {
     /// How many events stand after the base.
     pub fn len(&self) -> usize
         ensures value { result ≡ length self.now.latest }
-        ensures fits { result ≤ KEPT }
+        ensures fits { result ≤ LATEST }
         ensures legal { IsLegal self.now.most self.now.base self.now.latest }
     {
         self.latest.len()

@@ -9,7 +9,7 @@ ghost use Rattle.nv_epoch.specs.Holders.{IsRising, next_older, without};
 ghost use Rattle.nv_book.specs.declared.manifest.Manifest.{Manifest};
 ghost use Rattle.nv_book.specs.declared.record.Record.{Record};
 ghost use Rattle.nv_book.specs.Records.{block_count, holder_of, let_go};
-ghost use Rattle.nv_book.specs.Listed.{IsRecordList, with_moved, with_retired, without_first};
+ghost use Rattle.nv_book.specs.Listed.{IsRecordList, all_records, with_moved, with_retired, without_first};
 ghost use Rattle.nv_book.specs.Manifests.{AreFiled, AreDead, put_to, records_at, after_drop, after_make, gain_of};
 
 use nv_epoch::laws;
@@ -47,6 +47,14 @@ pub fn dropping_files()
     laws::removal_moves_holders_down();
 }
 
+/// Whatever is filed is told by one list of records: the manifests' records, oldest snapshot first, and the deferred
+/// ones after them.
+pub fn filed_records_are_listed()
+    ensures { (living : List ℕ) (manifests : List Manifest) (deferred : List Record) →
+        IsRising living → AreFiled living manifests deferred →
+        IsRecordList living manifests deferred (all_records manifests ++ deferred) }
+{}
+
 /// The manifests and the deferred list are told by one list of records: a retired record that has a holder goes to its
 /// end, a drop moves the records of its snapshot there in order, and a pick takes out the first without a living holder.
 pub fn one_list_tells_all()
@@ -58,7 +66,7 @@ pub fn one_list_tells_all()
         (with_retired living r rs) }
     ensures made { (living : List ℕ) (epoch : ℕ) (manifests : List Manifest)
         (deferred rs : List Record) →
-        IsRising living → All (λ s. s < epoch) living → AllByRecursion (λ r. r.death ≤ epoch) rs →
+        IsRising living → All (λ s. s < epoch) living → AreDead epoch manifests deferred →
         IsRecordList living manifests deferred rs →
         IsRecordList (living ++ epoch ∷ []) (after_make epoch manifests) deferred rs }
     ensures dropped { (living : List ℕ) (s : ℕ) (manifests : List Manifest)

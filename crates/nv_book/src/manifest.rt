@@ -6,17 +6,17 @@ ghost use Rattle.nv_book.specs.Manifests.{snapshots, records_at, put_to, after_d
 ghost use Rattle.nv_book.specs.Records.{run_count_of, let_go};
 
 use crate::Record;
-use crate::record_list::RecordList;
+use crate::records::Records;
 use crate::spare_nodes::SpareNodes;
 use nv_base::Epoch;
 use nv_epoch::laws;
 use std::alloc::Global;
 
 /// A snapshot, and the records of the parts that it holds and no younger living one does.
-#[derive(Drop)]
+#[derive(Debug, Drop)]
 pub struct Manifest {
     pub snapshot: Epoch,
-    pub records: RecordList,
+    pub records: Records,
 }
 
 /// Puts a record to the end of the manifest of the snapshot `s`, which stands at `place`.
@@ -53,7 +53,7 @@ pub fn drop_at(
     place: usize,
     s: Epoch,
     older: &Option<Epoch>,
-    deferred: &mut RecordList,
+    deferred: &mut Records,
 )
     requires rising { IsRising (snapshots manifests.old.items) }
     requires within { place < length manifests.old.items }
@@ -76,10 +76,10 @@ pub fn drop_at(
     laws::removal_moves_holders_down();
     let Manifest { records, .. } = manifests.remove(place);
     if place == 0 {
-        let mut nobody = RecordList::new(alloc);
-        records.sort_out(older, &mut nobody, deferred);
+        let mut nobody = Records::new(alloc);
+        records.split_by_birth(older, &mut nobody, deferred);
         return;
     }
     let next = &mut manifests[place - 1];
-    records.sort_out(older, &mut next.records, deferred);
+    records.split_by_birth(older, &mut next.records, deferred);
 }

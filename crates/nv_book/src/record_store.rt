@@ -9,7 +9,7 @@ ghost use Rattle.nv_book.specs.Store.{Store};
 
 use crate::Record;
 use crate::manifest::{self, Manifest};
-use crate::record_list::RecordList;
+use crate::records::Records;
 use crate::spare_nodes::SpareNodes;
 use nv_base::{Epoch, Fault, limits};
 use std::alloc::Global;
@@ -17,11 +17,11 @@ use std::marker::Model;
 
 /// The manifests of the living snapshots, oldest first, and the deferred list. One reserve of nodes serves them all, so
 /// that a record takes no memory whatever list it goes to.
-#[derive(Drop)]
+#[derive(Debug, Drop)]
 pub struct RecordStore {
     manifests: Vec<Manifest>,
     most: u64,
-    deferred: RecordList,
+    deferred: Records,
     spare: SpareNodes,
     // How many records there are.
     count: u64,
@@ -63,7 +63,7 @@ impl RecordStore {
         Ok(RecordStore {
             manifests: Vec::with_capacity(alloc, most as usize)?,
             most,
-            deferred: RecordList::new(alloc),
+            deferred: Records::new(alloc),
             spare: SpareNodes::new(alloc),
             count: 0,
             room: 0,
@@ -109,7 +109,7 @@ impl RecordStore {
     {
         self.manifests.push_reserved(Manifest {
             snapshot: s,
-            records: RecordList::new(alloc),
+            records: Records::new(alloc),
         });
     }
 
@@ -179,7 +179,14 @@ impl RecordStore {
     {
         // The contract alone speaks of the number.
         let _number = s;
-        self.manifests[place].records.let_go(older)
+        self.manifests[place].records.blocks_not_born_by(older)
+    }
+
+    /// How many blocks the deferred records have. It takes time by their runs.
+    pub fn deferred_blocks(&self) -> u64
+        ensures { result ≡ block_count self.now.deferred }
+    {
+        self.deferred.blocks()
     }
 
     /// How many records may be put without memory.
@@ -197,7 +204,7 @@ impl RecordStore {
     }
 
     /// The deferred list.
-    pub fn deferred(&self) -> &RecordList
+    pub fn deferred(&self) -> &Records
         ensures { result.now ≡ self.now.deferred }
     {
         &self.deferred

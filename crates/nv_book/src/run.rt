@@ -1,7 +1,8 @@
 //! Records that are kept as one.
 
-ghost use Rattle.std.specs.Prelude.{◌≡◌, ◌<◌};
-ghost use Rattle.nv_book.specs.Runs.{IsRun, last_of, joins, pages_of, rest_of};
+ghost use Rattle.std.specs.Prelude.{◌≡◌, ◌<◌, List, ◌∷◌, ◌++◌};
+ghost use Rattle.nv_book.specs.Runs.{IsRun, AreLeft, AreRuns, last_of, joins, pages_of, records_left, records_of, rest_of, run_records};
+ghost use Rattle.nv_book.specs.declared.run.Run.{Run};
 
 use crate::Record;
 use nv_entry::Part;
@@ -44,6 +45,21 @@ impl Run {
             self.first.part = Part::Page(page + 1);
         }
         self.more -= 1;
+    }
+
+    /// The run without its first record, if more follow it.
+    pub fn rest(self) -> Option<Run>
+        requires { IsRun self }
+        ensures records { (runs : List Run) →
+            run_records self ++ records_of runs ≡ self.first ∷ records_left result runs }
+        ensures left { (runs : List Run) → AreRuns runs → AreLeft result runs }
+    {
+        if self.more == 0 {
+            return None;
+        }
+        let mut rest = self;
+        rest.cut();
+        Some(rest)
     }
 
     /// How many blocks the run has.

@@ -130,7 +130,7 @@ pub fn pick(list: &mut LinkedList<Run>) -> Option<Record>
 
 /// Moves the runs of a list in order: those born by the snapshot `older` to the end of `kept`, all others to the
 /// end of `deferred`.
-pub fn sort_out(
+pub fn split_by_birth(
     mut from: LinkedList<Run>,
     older: &Option<Epoch>,
     kept: &mut LinkedList<Run>,
@@ -169,7 +169,7 @@ pub fn held(list: &LinkedList<Run>, s: Epoch) -> u64
 }
 
 /// How many blocks the runs have that were not born by the snapshot `older`.
-pub fn let_go(list: &LinkedList<Run>, older: &Option<Epoch>) -> u64
+pub fn blocks_not_born_by(list: &LinkedList<Run>, older: &Option<Epoch>) -> u64
     requires { pages_where (λ r. not (is_born_by older.now r)) list.now < 2 ^ 64 }
     ensures { result ≡ pages_where (λ r. not (is_born_by older.now r)) list.now }
 {

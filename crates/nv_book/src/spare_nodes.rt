@@ -11,7 +11,7 @@ use std::collections::LinkedList;
 use std::marker::Model;
 
 /// Spare nodes. Contracts see how many.
-#[derive(Drop)]
+#[derive(Debug, Drop)]
 pub struct SpareNodes {
     pub(crate) nodes: LinkedList<Run>,
 }

@@ -2,7 +2,7 @@
 use crate::book::{device, enter, new_book, record, retire};
 use crate::compare::{same, same_for};
 use nv_base::{CommitNo, Epoch, Fault, Ino, limits};
-use nv_book::{Base, Book, Event, KEPT, Record, Retired};
+use nv_book::{Base, Book, Event, LATEST, Record, Retired};
 use nv_entry::Part;
 use nv_journal::{OldTail, are_distinct};
 use smallvec::{SmallVec, smallvec};
@@ -83,7 +83,11 @@ fn drain_within_a_run(rt: HostRuntime) -> Result<(), Fail> {
     }
     same(&rt, book.stored(), 3);
     book.drop_snapshot(Epoch::new(1))?;
-    same(&rt, book.stored(), 3);
+    same(&rt, (book.stored(), book.deferred_blocks()), (3, 6));
+    for (listed, (commit, page)) in book.deferred().iter().zip(killed) {
+        let killed = record(commit, Part::Page(page), 1, 2);
+        same_for(&rt, &page, listed, killed);
+    }
     for (stored, (commit, page)) in [3, 3, 3, 2, 1, 0].into_iter().zip(killed) {
         same(
             &rt,
@@ -206,7 +210,7 @@ fn folds_snapshots_into_the_base(rt: HostRuntime) -> Result<(), Fail> {
     // The commits since, and of what lived at the base how many and the second.
     for (commits, count, second) in [
         (0, 0, None),
-        (KEPT - 2, 2, Some(Epoch::new(2))),
+        (LATEST - 2, 2, Some(Epoch::new(2))),
         (1, 3, Some(Epoch::new(2))),
         (1, 2, Some(Epoch::new(3))),
     ] {

@@ -1,4 +1,5 @@
 use Rattle.std.proofs.Common.{refl}
+use Rattle.nv_book.proofs.Listing.{listed-died}
 use Rattle.nv_book.proofs.RecordLists.{below-at, first-picked, listed-dropped, listed-made, listed-picked, listed-retired}
 use Rattle.nv_book.proofs.laws.one_list_tells_all.Goals as goal
 
@@ -13,7 +14,8 @@ returns-clause-made c living epoch ms ds rs rising below dead h =
     listed-made c.making_keeps_holders.ensures.youngest living epoch
     (λ birth death t e. (let y = (c.holders_are_told_by_the_list.ensures.youngest living birth death t rising).0 e in let at =
     y.lives in below-at living epoch t below at))
-    ms ds rs dead h
+    ms ds rs
+    (listed-died living epoch (λ r t e. ((c.holders_are_told_by_the_list.ensures.youngest living r.birth r.death t rising).0 e).lives) ms ds rs dead h) h
 
 pub returns-clause-dropped : goal.returns-clause-dropped
 returns-clause-dropped c living s ms ds rs rising lives h =

@@ -30,10 +30,10 @@ returns-then-place-eq0-clause-count c =
     let none = none-moved c.args.older.now rs (c.requires.oldest c.if-place-eq0.true) in
     let both = moved-and-let_go c.args.older.now rs in
     let d = length-append c.args.deferred.now (let_go c.args.older.now rs) in
-    rw (c.remove-records.ensures.items, c.sort_out.ensures.deferred) (omega (arith, g, none, both, d))
+    rw (c.remove-records.ensures.items, c.split_by_birth.ensures.deferred) (omega (arith, g, none, both, d))
 
-pub sort_out-requires-2 : goal.sort_out-requires-2
-sort_out-requires-2 c =
+pub split_by_birth-requires-2 : goal.split_by_birth-requires-2
+split_by_birth-requires-2 c =
     let pos : 0 < c.args.place = omega (arith, c.if-place-eq0.false) in
     let en = subst (λ ms. c.index_mut-next.result.now ≡ get_or ms (c.args.place - 1) c.index_mut-next.result.now)
     c.remove-records.ensures.items c.index_mut-next.ensures.value in
@@ -48,12 +48,12 @@ returns-clause-manifests c =
     let pos : 0 < c.args.place = omega (arith, c.if-place-eq0.false) in
     let en = subst (λ ms. c.index_mut-next.result.now ≡ get_or ms (c.args.place - 1) c.index_mut-next.result.now)
     c.remove-records.ensures.items c.index_mut-next.ensures.value in
-    rw (c.remove-records.ensures.items, c.sort_out-2.ensures.kept)
+    rw (c.remove-records.ensures.items, c.split_by_birth-2.ensures.kept)
     (drop-place _ _ _ c.requires.rising (c.removal_moves_holders_down.ensures.rising _ c.args.s c.requires.rising) c.requires.within
     c.requires.at pos _ _ _ c.remove-records.ensures.value en (c.requires.older pos))
 
 pub returns-clause-deferred : goal.returns-clause-deferred
-returns-clause-deferred c = c.sort_out-2.ensures.deferred
+returns-clause-deferred c = c.split_by_birth-2.ensures.deferred
     ∙ ap (λ rs. c.args.deferred.now ++ let_go c.args.older.now rs)
     (sym (records-place _ _ _ _ c.requires.rising c.requires.within c.requires.at c.remove-records.ensures.value))
 
@@ -64,8 +64,8 @@ returns-clause-room c =
     c.remove-records.ensures.items c.index_mut-next.ensures.value in
     let n = total-dropped _ _ c.args.s c.requires.rising (c.removal_moves_holders_down.ensures.rising _ c.args.s c.requires.rising)
     c.requires.within c.requires.at pos run_count_of c.remove-records.result c.index_mut-next.result.now
-    c.remove-records.ensures.value en c.sort_out-2.new.kept in
-    let runs = c.sort_out-2.ensures.runs in
+    c.remove-records.ensures.value en c.split_by_birth-2.new.kept in
+    let runs = c.split_by_birth-2.ensures.runs in
     rw c.remove-records.ensures.items (omega (arith, n, runs))
 
 pub returns-clause-count : goal.returns-clause-count
@@ -76,10 +76,10 @@ returns-clause-count c =
     c.remove-records.ensures.items c.index_mut-next.ensures.value in
     let n = total-dropped _ _ c.args.s c.requires.rising (c.removal_moves_holders_down.ensures.rising _ c.args.s c.requires.rising)
     c.requires.within c.requires.at pos length c.remove-records.result c.index_mut-next.result.now c.remove-records.ensures.value en
-    c.sort_out-2.new.kept in
+    c.split_by_birth-2.new.kept in
     let both = moved-and-let_go c.args.older.now rs in
-    let k : length c.sort_out-2.new.kept ≡ length c.index_mut-next.result.now.records + length (moved_down c.args.older.now rs) =
-    ap length c.sort_out-2.ensures.kept ∙ length-append c.index_mut-next.result.now.records (moved_down c.args.older.now rs) in
-    let d : length c.sort_out-2.new.deferred ≡ length c.args.deferred.now + length (let_go c.args.older.now rs) =
-    ap length c.sort_out-2.ensures.deferred ∙ length-append c.args.deferred.now (let_go c.args.older.now rs) in
+    let k : length c.split_by_birth-2.new.kept ≡ length c.index_mut-next.result.now.records + length (moved_down c.args.older.now rs) =
+    ap length c.split_by_birth-2.ensures.kept ∙ length-append c.index_mut-next.result.now.records (moved_down c.args.older.now rs) in
+    let d : length c.split_by_birth-2.new.deferred ≡ length c.args.deferred.now + length (let_go c.args.older.now rs) =
+    ap length c.split_by_birth-2.ensures.deferred ∙ length-append c.args.deferred.now (let_go c.args.older.now rs) in
     rw c.remove-records.ensures.items (omega (arith, n, both, k, d))

@@ -1,7 +1,7 @@
 use Rattle.std.proofs.Common.{◌≡◌, ◌+◌, ◌++◌, ap, subst}
 use Rattle.nv_epoch.specs.Holders.{next_older, without}
 use Rattle.nv_epoch.specs.SnapList.{Snapshots, ids}
-use Rattle.nv_book.specs.Book.{BookValue, snapshot_dropped}
+use Rattle.nv_book.specs.Book.{BookValue, after_drop_snapshot}
 use Rattle.nv_book.specs.Manifests.{gain_of, records_at}
 use Rattle.nv_book.specs.Records.{block_count, let_go}
 use Rattle.nv_book.proofs.Books.{book-dropped, noted-event}
@@ -18,7 +18,7 @@ invariant_of-self-2 c =
 
 pub returns-clause-ok : goal.returns-clause-ok
 returns-clause-ok c = rw (c.in_ok-remove.ensures.ok, c.drop_at.ensures, c.older-older.ensures, c.note.ensures.account)
-    (ap (λ (b : BookValue). record b { state = snapshot_dropped c.args.s b.state }) c.self.view_is)
+    (ap (λ (b : BookValue). record b { state = after_drop_snapshot c.args.s b.state }) c.self.view_is)
 
 pub returns-clause-gain : goal.returns-clause-gain
 returns-clause-gain c =

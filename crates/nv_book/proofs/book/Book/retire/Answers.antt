@@ -2,14 +2,14 @@ use Rattle.std.proofs.Common.{◌≡◌, ◌≤◌, ◌∷◌, [], List, None, I
 use Rattle.nv_epoch.specs.SnapList.{ids, pins_at}
 use Rattle.nv_book.specs.declared.manifest.Manifest.{Manifest}
 use Rattle.nv_book.specs.declared.record.Record.{Record}
-use Rattle.nv_book.specs.Book.{BookState, BookValue, retired}
+use Rattle.nv_book.specs.Book.{BookState, BookValue, after_retire}
 use Rattle.nv_book.specs.Manifests.{put_to}
 use Rattle.nv_book.specs.Records.{holder_of}
 use Rattle.nv_book.proofs.Books.{book-retired}
 use Rattle.nv_book.proofs.Places.{put-none}
 use Rattle.nv_book.proofs.book.Book.retire.Goals as goal
 
-none-retired : (b : BookState) (r : Record) → holder_of (ids b.snaps) r ≡ None → b ≡ retired r b
+none-retired : (b : BookState) (r : Record) → holder_of (ids b.snaps) r ≡ None → b ≡ after_retire r b
 none-retired b r e =
     let with : List Manifest → BookState = λ ms. record b { manifests = ms } in
     subst (λ o. b ≡ with (put_to o (r ∷ []) b.manifests)) (sym e) (ap with (sym (put-none (r ∷ []) b.manifests)))

@@ -1,6 +1,5 @@
-use Rattle.std.proofs.Common.{◌≡◌, ◌≤◌, ◌-◌, ℕ, suc, Some, None, length, drop, arith, ap, sym, ◌∙◌, slice_get}
+use Rattle.std.proofs.Common.{◌≡◌, ◌-◌, suc, Some, drop, arith, ap, sym, ◌∙◌, slice_get}
 use Rattle.std.specs.Option.{option_copied}
-use Rattle.nv_book.specs.declared.event.Event.{Event}
 use Rattle.nv_book.specs.History.{undone, living_before}
 use Rattle.nv_book.proofs.Undoing.{event-there, undone-from, undone-end}
 use Rattle.nv_book.proofs.history.History.living_at_base.Goals as goal

@@ -1,5 +1,5 @@
 use Rattle.std.proofs.Common.{sym, subst}
-use Rattle.nv_book.specs.declared.history.TheConstants.{KEPT}
+use Rattle.nv_book.specs.declared.history.TheConstants.{LATEST}
 use Rattle.nv_book.proofs.Noting.{Notes, has-room, history-kept, history-none, history-some, oldest-limit}
 use Rattle.nv_book.proofs.Undoing.{Rises}
 use Rattle.nv_book.proofs.history.History.note.Goals as goal
@@ -9,7 +9,7 @@ apply-requires c =
     let rises : Rises = record { made = c.making_keeps_holders.ensures.rising; dropped = c.removal_moves_holders_down.ensures.rising } in
     has-room rises _ _ _ c.self.inside.latest _ c.self.inside.living.items _ _ _ _ c.self.invariant c.self.view_is c.requires
 
-in-none : (c : goal.In-None) → Notes KEPT c.self.inside.most c.args.self.now c.args.event c.self.inside.base c.push_back.new.self.items
+in-none : (c : goal.In-None) → Notes LATEST c.self.inside.most c.args.self.now c.args.event c.self.inside.base c.push_back.new.self.items
     c.apply.new.living.items
 in-none c =
     let rises : Rises = record { made = c.making_keeps_holders.ensures.rising; dropped = c.removal_moves_holders_down.ensures.rising } in
@@ -37,11 +37,11 @@ take-requires c =
     oldest-limit rises _ _ _ _ _ _ _ _ _ _ c.self.invariant c.self.view_is c.requires c.in-Some.ensures.items c.apply.ensures.items _
     c.in-Some.ensures.value
 
-in-some : (c : goal.After-take) → Notes KEPT c.self.inside.most c.args.self.now c.args.event c.take.new.base c.push_back.new.self.items
+in-some : (c : goal.After-take) → Notes LATEST c.self.inside.most c.args.self.now c.args.event c.take.new.base c.push_back.new.self.items
     c.apply.new.living.items
 in-some c =
     let rises : Rises = record { made = c.making_keeps_holders.ensures.rising; dropped = c.removal_moves_holders_down.ensures.rising } in
-    subst (λ b. Notes KEPT c.self.inside.most c.args.self.now c.args.event b c.push_back.new.self.items c.apply.new.living.items)
+    subst (λ b. Notes LATEST c.self.inside.most c.args.self.now c.args.event b c.push_back.new.self.items c.apply.new.living.items)
     (sym c.take.ensures)
     (history-some rises _ _ _ _ _ _ _ _ _ _ c.self.invariant c.self.view_is c.requires c.in-Some.ensures.items c.apply.ensures.items _
     c.in-Some.ensures.value)

@@ -11,5 +11,5 @@ returns c =
     let within = rw (← c.self.view_is) at c.requires.within in
     let at = rw (← c.self.view_is) at c.requires.at in
     let here = records-place c.self.inside.manifests.items c.args.place c.args.s c.index.result.now rising within at c.index.ensures in
-    c.let_go.ensures ∙ (ap (λ rs. block_count (let_go c.args.older.now rs)) (sym here)
+    c.blocks_not_born_by.ensures ∙ (ap (λ rs. block_count (let_go c.args.older.now rs)) (sym here)
     ∙ ap (λ (u : Store). gain_of c.args.s c.args.older.now u.manifests) c.self.view_is)

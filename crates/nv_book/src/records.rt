@@ -4,6 +4,7 @@ ghost use Rattle.std.specs.Prelude.{◌≡◌, ◌+◌, ◌<◌, ◌≤◌, ◌^
 ghost use Rattle.nv_book.specs.Records.{let_go, moved_down};
 ghost use Rattle.nv_book.specs.Records.{block_count, is_held_by, run_count_of};
 
+use crate::record_iter::RecordIter;
 use crate::run::Run;
 use crate::spare_nodes::SpareNodes;
 use crate::{Record, runs};
@@ -13,12 +14,12 @@ use std::collections::LinkedList;
 use std::marker::Model;
 
 /// A list of records. Neighbours that go on are stored as one run.
-#[derive(Drop)]
-pub struct RecordList {
+#[derive(Debug, Drop)]
+pub struct Records {
     runs: LinkedList<Run>,
 }
 
-impl Model for RecordList {
+impl Model for Records {
     ghost use Rattle.std.specs.Prelude.{List};
     ghost use Rattle.nv_book.specs.declared.record.Record.{Record};
     ghost use Rattle.nv_book.specs.Runs.{AreRuns, records_of};
@@ -30,12 +31,12 @@ impl Model for RecordList {
     ghost invariant = { λ l. AreRuns l.runs };
 }
 
-impl RecordList {
+impl Records {
     /// No records, and no memory.
-    pub(crate) fn new(alloc: Global) -> RecordList
+    pub(crate) fn new(alloc: Global) -> Records
         ensures { result ≡ [] }
     {
-        RecordList {
+        Records {
             runs: LinkedList::new(alloc),
         }
     }
@@ -71,6 +72,21 @@ impl RecordList {
         runs::pick(&mut self.runs)
     }
 
+    /// The records one by one, in order.
+    pub fn iter(&self) -> RecordIter<'_>
+        ensures { result ≡ self.now }
+    {
+        RecordIter::new(self.runs.iter())
+    }
+
+    /// How many blocks the records have. It takes time by the runs.
+    pub fn blocks(&self) -> u64
+        requires { length self.now < 2 ^ 63 }
+        ensures { result ≡ block_count self.now }
+    {
+        self.blocks_not_born_by(&None)
+    }
+
     /// How many blocks of the records the snapshot `s` holds. It takes time by the runs.
     pub fn held(&self, s: Epoch) -> u64
         requires { length self.now < 2 ^ 63 }
@@ -80,20 +96,20 @@ impl RecordList {
     }
 
     /// How many blocks of the records were not born by the snapshot `older`. It takes time by the runs.
-    pub fn let_go(&self, older: &Option<Epoch>) -> u64
+    pub fn blocks_not_born_by(&self, older: &Option<Epoch>) -> u64
         requires { length self.now < 2 ^ 63 }
         ensures { result ≡ block_count (let_go older.now self.now) }
     {
-        runs::let_go(&self.runs, older)
+        runs::blocks_not_born_by(&self.runs, older)
     }
 
     /// Moves the records in order: those born by the snapshot `older` to the end of `kept`, all others to the end of
     /// `deferred`. It takes no memory, and time by this list's runs alone.
-    pub(crate) fn sort_out(
+    pub(crate) fn split_by_birth(
         self,
         older: &Option<Epoch>,
-        kept: &mut RecordList,
-        deferred: &mut RecordList,
+        kept: &mut Records,
+        deferred: &mut Records,
     )
         requires fits { run_count_of self + run_count_of kept.old
             + run_count_of deferred.old < 2 ^ 63 }
@@ -102,6 +118,6 @@ impl RecordList {
         ensures runs { run_count_of kept.new + run_count_of deferred.new ≤
             run_count_of self + run_count_of kept.old + run_count_of deferred.old }
     {
-        runs::sort_out(self.runs, older, &mut kept.runs, &mut deferred.runs);
+        runs::split_by_birth(self.runs, older, &mut kept.runs, &mut deferred.runs);
     }
 }

@@ -1,7 +1,7 @@
 use Rattle.std.proofs.Common.{◌≤◌, ◌+◌, length, subst, sym, ◌∙◌}
 use Rattle.std.proofs.lemmas.Bool.{eqb-true}
-use Rattle.nv_book.proofs.SortedOut.{IsMoving, keeps, defers, done}
-use Rattle.nv_book.proofs.runs.sort_out.Goals as goal
+use Rattle.nv_book.proofs.Split.{IsMoving, keeps, defers, done}
+use Rattle.nv_book.proofs.runs.split_by_birth.Goals as goal
 
 pub loop-from-preserved-then-is_born_by : goal.loop-from-preserved-then-is_born_by
 loop-from-preserved-then-is_born_by c =

@@ -2,7 +2,7 @@ use Rattle.std.proofs.Common.{◌≡◌, length, drop, slice_get, arith, ap, sym
 use Rattle.nv_book.specs.Records.{run_count_of}
 use Rattle.nv_book.specs.Runs.{records_of}
 use Rattle.nv_book.proofs.Series.{count-runs}
-use Rattle.nv_book.proofs.record_list.RecordList.pick.Goals as goal
+use Rattle.nv_book.proofs.records.Records.pick.Goals as goal
 
 pub returns-clause-first : goal.returns-clause-first
 returns-clause-first c = c.pick.ensures.first ∙ ap (λ rs. slice_get rs 0) c.self.view_is

@@ -2,7 +2,7 @@ use Rattle.std.proofs.Common.{◌≡◌, ◌++◌, ◌∷◌, [], length, arith,
 use Rattle.nv_book.specs.Records.{run_count_of}
 use Rattle.nv_book.specs.Runs.{records_of, series}
 use Rattle.nv_book.proofs.Series.{count-runs, put-records}
-use Rattle.nv_book.proofs.record_list.RecordList.push.Goals as goal
+use Rattle.nv_book.proofs.records.Records.push.Goals as goal
 
 pub add-requires-clause-fits : goal.add-requires-clause-fits
 add-requires-clause-fits c =

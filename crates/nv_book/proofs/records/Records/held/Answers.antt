@@ -2,7 +2,7 @@ use Rattle.std.proofs.Common.{◌≡◌, length, filter, arith, ap, ◌∙◌}
 use Rattle.nv_book.specs.Records.{block_count, is_held_by}
 use Rattle.nv_book.specs.Runs.{records_of}
 use Rattle.nv_book.proofs.Counts.{blocks-le-records, held-together, of-runs}
-use Rattle.nv_book.proofs.record_list.RecordList.held.Goals as goal
+use Rattle.nv_book.proofs.records.Records.held.Goals as goal
 
 pub held-requires : goal.held-requires
 held-requires c =

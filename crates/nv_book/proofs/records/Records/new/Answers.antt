@@ -1,6 +1,6 @@
 use Rattle.std.proofs.Common.{refl}
 use Rattle.nv_book.specs.Runs.{AreRuns, records_of}
-use Rattle.nv_book.proofs.record_list.RecordList.new.Goals as goal
+use Rattle.nv_book.proofs.records.Records.new.Goals as goal
 
 pub invariant_of-result : goal.invariant_of-result
 unfolding AreRuns
