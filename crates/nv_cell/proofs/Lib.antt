@@ -15,3 +15,8 @@ pub mod Readied
 pub mod Bound
 pub mod NamesNow
 pub mod ValuesNow
+pub mod PageMarks
+pub mod PagesNow
+pub mod Opening
+pub mod Appending
+pub mod Erasing

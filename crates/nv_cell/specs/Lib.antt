@@ -1,3 +1,4 @@
+pub mod Append
 pub mod Cell
 pub mod Effects
 pub mod Fields
@@ -6,4 +7,5 @@ pub mod Named
 pub mod Numbers
 pub mod Marks
 pub mod Tallies
+pub mod Readers
 pub mod Reading
