@@ -131,7 +131,7 @@ written : (block first size k : ℕ) (run : Run) (bs : List BlockValue) → firs
 written block first size k run bs within nums lt =
     let len : length bs ≡ run.len = sym (length-map bs number_of) ∙ ap length nums ∙ length-range_with_len run.start run.len in
     let low : nat_lt (suc k) (length (parts_of (Write first run size))) ≡ true =
-        lt-ltb (suc k) (length (parts_of (Write first run size))) (omega (arith, length_parts first size run within, lt)) in
+    lt-ltb (suc k) (length (parts_of (Write first run size))) (omega (arith, length_parts first size run within, lt)) in
     let back : first + k - first ≡ k = omega arith in
     numbered bs k (omega (arith, len, lt))
     ∙ ap (λ (xs : List ℕ). Some (slice_index_or xs k 0)) nums
@@ -143,15 +143,15 @@ slot_block : (block : ℕ) (item : Item) (bs : List BlockValue) (m : ℕ) → Is
     → option_map number_of (slice_index_or (slots_of item bs) m None) ≡ own_block block item m
 slot_block block (Write first run size) bs zero within nums =
     let some : nat_lt 0 (length (parts_of (Write first run size))) ≡ true =
-        lt-ltb 0 (length (parts_of (Write first run size))) (omega (arith, length_parts first size run within)) in
+    lt-ltb 0 (length (parts_of (Write first run size))) (omega (arith, length_parts first size run within)) in
     rw some refl
 slot_block block (Write first run size) bs (suc k) within nums = elim (cases_lt k run.len) [
   | inl lt ↦ written block first size k run bs within nums lt
   | inr ge ↦
       let len : length (map Some bs) ≡ run.len =
-          length-map bs Some ∙ sym (length-map bs number_of) ∙ ap length nums ∙ length-range_with_len run.start run.len in
+      length-map bs Some ∙ sym (length-map bs number_of) ∙ ap length nums ∙ length-range_with_len run.start run.len in
       let past : nat_lt (suc k) (length (parts_of (Write first run size))) ≡ false =
-          le-ltb (suc k) (length (parts_of (Write first run size))) (omega (arith, length_parts first size run within, ge)) in
+      le-ltb (suc k) (length (parts_of (Write first run size))) (omega (arith, length_parts first size run within, ge)) in
       rw (get_or_past (map Some bs) k None (omega (arith, len, ge)), past) refl
 ]
 slot_block block (Init kind mode) bs m within nums = bare block (Init kind mode) m refl
@@ -165,7 +165,7 @@ pub length_slots : (item : Item) (bs : List BlockValue) → IsWithinFile item �
     → length (slots_of item bs) ≡ length (parts_of item)
 length_slots (Write first run size) bs within nums =
     ap suc (length-map bs Some ∙ sym (length-map bs number_of) ∙ ap length nums ∙ length-range_with_len run.start run.len)
-        ∙ sym (length_parts first size run within)
+    ∙ sym (length_parts first size run within)
 length_slots (Init kind mode) bs within nums = length_none 3
 length_slots (SetSize size) bs within nums = length_none 1
 length_slots (SetMode mode) bs within nums = length_none 1

@@ -20,3 +20,5 @@ pub mod PagesNow
 pub mod Opening
 pub mod Appending
 pub mod Erasing
+pub mod ReadAt
+pub mod Stretches

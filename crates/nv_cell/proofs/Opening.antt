@@ -4,6 +4,7 @@ use Rattle.std.specs.Prelude.{count_by}
 use Rattle.std.proofs.lemmas.Bool.{cases_lt, lt-ltb, le-ltb}
 use Rattle.std.proofs.lemmas.Bool.Decides.{nat_tests}
 use Rattle.std.proofs.lemmas.Grind.{common_steps}
+use Rattle.std.proofs.lemmas.List.{take_all}
 use Rattle.nv_log.specs.Chain.{AreEnds, ChainState, IsChain, appended, open_of, start_in}
 use Rattle.nv_log.proofs.Parts.{ends_last}
 use Rattle.nv_entry.specs.declared.item.Entry.{Entry}
@@ -17,13 +18,7 @@ use Rattle.nv_cell.proofs.Tallies.{end_new, end_old, start_old}
 -- ---- past the end of a list nothing counts
 
 take_long : {X : Type 0} (xs : List X) (n m : ℕ) → length xs ≤ n → length xs ≤ m → take n xs ≡ take m xs
-take_long [] zero zero h k = refl
-take_long [] zero (suc m) h k = refl
-take_long [] (suc n) zero h k = refl
-take_long [] (suc n) (suc m) h k = refl
-take_long (x ∷ xs) zero m h k = absurd (omega arith)
-take_long (x ∷ xs) (suc n) zero h k = absurd (omega arith)
-take_long (x ∷ xs) (suc n) (suc m) h k = ap (λ ys. x ∷ ys) (take_long xs n m (omega (arith, h)) (omega (arith, k)))
+take_long xs n m h k = take_all n xs h ∙ sym (take_all m xs k)
 
 count_long : {X : Type 0} (test : X → Bool) (xs : List X) (from a b : ℕ) → length xs ≤ a → length xs ≤ b
     → count_in test xs from a ≡ count_in test xs from b
@@ -54,14 +49,14 @@ count_past test (x ∷ xs) (suc from) to h =
 raised : (f : PageCounts → ℕ) (test : Tally → Bool) (pages : List PageCounts) (tallies : List Tally) (front : List ℕ) (old new : ℕ)
     → length tallies ≤ old → length tallies ≤ new
     → ((k : ℕ) → k < length (front ++ old ∷ [])
-        → f (counts_at pages k) ≡ count_in test tallies (start_at (front ++ old ∷ []) k) (end_at (front ++ old ∷ []) k))
+    → f (counts_at pages k) ≡ count_in test tallies (start_at (front ++ old ∷ []) k) (end_at (front ++ old ∷ []) k))
     → (k : ℕ) → k < length (front ++ new ∷ [])
     → f (counts_at pages k) ≡ count_in test tallies (start_at (front ++ new ∷ []) k) (end_at (front ++ new ∷ []) k)
 raised f test pages tallies front old new low lower h k lt =
     let size : length (front ++ old ∷ []) ≡ length front + 1 = length-append front (old ∷ []) in
     let same : length (front ++ new ∷ []) ≡ length front + 1 = length-append front (new ∷ []) in
     let start : start_at (front ++ old ∷ []) k ≡ start_at (front ++ new ∷ []) k =
-        start_old front old k (omega (arith, lt, same)) ∙ sym (start_old front new k (omega (arith, lt, same))) in
+    start_old front old k (omega (arith, lt, same)) ∙ sym (start_old front new k (omega (arith, lt, same))) in
     let was = h k (omega (arith, lt, same, size)) in
     elim (cases_lt k (length front)) [
       | inl l ↦
@@ -132,19 +127,6 @@ front_last (e ∷ (f ∷ ends)) lt =
     let z : length (e ∷ (f ∷ ends)) - 1 ≡ suc (length (f ∷ ends) - 1) = omega arith in
     rw z (ap (λ (xs : List ℕ). e ∷ xs) (front_last (f ∷ ends) (omega arith)))
 
-take_all : (ends : List ℕ) → take (length ends) ends ≡ ends
-take_all [] = refl
-take_all (e ∷ ends) = ap (λ (xs : List ℕ). e ∷ xs) (take_all ends)
-
-start_last : (ends : List ℕ) (new len : ℕ) → (0 < length ends → get_or ends (length ends - 1) 0 ≡ len) → (length ends ≡ 0 → len ≡ 0)
-    → start_at (ends ++ new ∷ []) (length ends) ≡ len
-start_last [] new len last none = sym (none refl)
-start_last (e ∷ ends) new len last none =
-    start_old (e ∷ ends) new (length (e ∷ ends)) (omega arith) ∙ after (e ∷ ends) (omega arith) ∙ last (omega arith) where
-  after : (xs : List ℕ) → 0 < length xs → start_at xs (length xs) ≡ slice_index_or xs (length xs - 1) 0
-  after [] lt = absurd (omega arith)
-  after (x ∷ xs) lt = let a : (length (x ∷ xs) == 0) ≡ false = grind (arith, nat_tests) in rw a refl
-
 take_none : (ends : List ℕ) → length ends ≤ 0 → take (length ends - 1) ends ≡ ends
 take_none [] le = refl
 take_none (e ∷ ends) le = absurd (omega arith)
@@ -165,9 +147,9 @@ rises pages tallies ends len some last low h runs =
     let whole : front ++ len ∷ [] ≡ ends = subst (λ (x : ℕ). front ++ x ∷ [] ≡ ends) last (front_last ends some) in
     let before : AreCounts pages (front ++ len ∷ []) tallies = subst (λ (xs : List ℕ). AreCounts pages xs tallies) (sym whole) h in
     let size : length (front ++ (len + 1) ∷ []) ≡ length ends =
-        omega (arith, length-append front (len ∷ []), length-append front ((len + 1) ∷ []), ap length whole) in
+    omega (arith, length-append front (len ∷ []), length-append front ((len + 1) ∷ []), ap length whole) in
     let no : nat_lt (length pages) (length (front ++ (len + 1) ∷ [])) ≡ false =
-        le-ltb (length pages) (length (front ++ (len + 1) ∷ [])) (omega (arith, size, h.len)) in
+    le-ltb (length pages) (length (front ++ (len + 1) ∷ [])) (omega (arith, size, h.len)) in
     rw no (counts_raised pages tallies front len (len + 1) low (omega arith) before runs)
 
 opens : (pages : List PageCounts) (tallies : List Tally) (ends : List ℕ) (len : ℕ)
@@ -175,7 +157,7 @@ opens : (pages : List PageCounts) (tallies : List Tally) (ends : List ℕ) (len 
     → AreCounts pages ends tallies → AreRuns (ends_with (len + 1) ends) (len + 1) → Grown pages tallies (ends_with (len + 1) ends)
 opens pages tallies ends len last none low h runs =
     let yes : nat_lt (length pages) (length (ends ++ (len + 1) ∷ [])) ≡ true =
-        lt-ltb (length pages) (length (ends ++ (len + 1) ∷ [])) (omega (arith, h.len, length-append ends ((len + 1) ∷ []))) in
+    lt-ltb (length pages) (length (ends ++ (len + 1) ∷ [])) (omega (arith, h.len, length-append ends ((len + 1) ∷ []))) in
     let past : length tallies ≤ start_at (ends ++ (len + 1) ∷ []) (length ends) = omega (arith, start_last ends (len + 1) len last none) in
     rw yes (counts_opened pages tallies ends (len + 1) past (omega arith) h runs)
 
@@ -201,7 +183,7 @@ counts_grow chain e pages tallies is next low h = go (nat_lt (len - start_in cha
       → Grown pages tallies (appended e chain).ends
   at k xs place front grown =
       let same : ends_with (len + 1) xs ≡ (appended e chain).ends =
-          ap (ends_with (len + 1)) (sym (ap (λ (j : ℕ). take j chain.ends) place ∙ front)) in
+      ap (ends_with (len + 1)) (sym (ap (λ (j : ℕ). take j chain.ends) place ∙ front)) in
       subst (Grown pages tallies) same (grown (subst (λ (ends : List ℕ). AreRuns ends (len + 1)) (sym same) runs))
 
   go : (b : Bool) → nat_lt (len - start_in chain.ends len (length chain.ends - 1)) chain.page ≡ b
@@ -212,5 +194,5 @@ counts_grow chain e pages tallies is next low h = go (nat_lt (len - start_in cha
     | inr none ↦ at (length chain.ends - 1) chain.ends (rw q refl) (take_none chain.ends none)
         (λ r. opens pages tallies chain.ends len last (no_ends chain.page chain.ends len is.parted) low h r)
   ]
-  go false q = at (length chain.ends) chain.ends (rw q refl) (take_all chain.ends)
+  go false q = at (length chain.ends) chain.ends (rw q refl) (take_all (length chain.ends) chain.ends (omega arith))
       (λ r. opens pages tallies chain.ends len last (no_ends chain.page chain.ends len is.parted) low h r)

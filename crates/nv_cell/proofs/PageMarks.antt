@@ -102,10 +102,10 @@ tally_marks test f chain ends tallies marks i within len bases counts lt =
     let size : length es ≡ chain.tail = length-take-le chain.tail chain.entries within in
     let next : i + 1 ≡ suc i = omega arith in
     let from : start_at ends i ≡ part_base es i =
-        first_base ends chain.entries chain.tail bases i lt ∙ ap part_total (sym (take-take i chain.tail chain.entries (omega arith))) in
+    first_base ends chain.entries chain.tail bases i lt ∙ ap part_total (sym (take-take i chain.tail chain.entries (omega arith))) in
     let to : end_at ends i ≡ part_base es (suc i) =
-        bases i lt ∙ ap (part_base chain.entries) next
-            ∙ ap part_total (sym (take-take (suc i) chain.tail chain.entries (omega (arith, lt)))) in
+    bases i lt ∙ ap (part_base chain.entries) next
+    ∙ ap part_total (sym (take-take (suc i) chain.tail chain.entries (omega (arith, lt)))) in
     let count : f (tally_at tallies i) ≡ count_in test marks (start_at ends i) (end_at ends i) = counts i (omega arith) in
     rw (count, from, to) (sym (any_counts test (take (part_base es (suc i) - part_base es i) (drop (part_base es i) marks))))
     ∙ ap (list_any test) (sym (marks_at es marks i (omega (arith, size, lt))))
@@ -128,7 +128,7 @@ page_count : (test : Mark → Bool) (pass : Tally → Bool) (chain : ChainState)
 page_count test pass chain tallies marks k is len same lt =
     let all = marks_by_entry (log chain) marks in
     let size : length tallies ≡ length all =
-        omega (arith, len, length-marks (log chain) marks, length-take-le chain.tail chain.entries is.within) in
+    omega (arith, len, length-marks (log chain) marks, length-take-le chain.tail chain.entries is.within) in
     let begun : start_at chain.ends k - 0 ≡ start_at chain.ends k = omega arith in
     let start = start_cons chain.ends k in
     let part = part_is chain.page 0 chain.ends (length chain.entries) k 0 all is.parted lt in
@@ -146,11 +146,11 @@ pub counts_are : (chain : ChainState) (pages : List PageCounts) (tallies : List 
 counts_are chain pages tallies ends marks k is tallied counted len bases lt =
     let size : length tallies ≡ chain.tail = omega (arith, tallied.len, len) in
     let live = counted.live k lt
-        ∙ page_count is_current is_live chain tallies marks k is size
-        (λ i low. tally_marks is_current (λ t. t.current) chain ends tallies marks i is.within len bases tallied.current low) lt in
+    ∙ page_count is_current is_live chain tallies marks k is size
+    (λ i low. tally_marks is_current (λ t. t.current) chain ends tallies marks i is.within len bases tallied.current low) lt in
     let valid = counted.valid k lt
-        ∙ page_count is_there is_valid chain tallies marks k is size
-        (λ i low. tally_marks is_there (λ t. t.there) chain ends tallies marks i is.within len bases tallied.there low) lt in
+    ∙ page_count is_there is_valid chain tallies marks k is size
+    (λ i low. tally_marks is_there (λ t. t.there) chain ends tallies marks i is.within len bases tallied.there low) lt in
     rw (← live, ← valid) refl
 
 -- a page that is not there has no entries

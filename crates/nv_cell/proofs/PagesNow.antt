@@ -22,7 +22,7 @@ front_block block [] ys n lt = absurd (omega arith)
 front_block block (x ∷ xs) ys n lt = go (nat_lt n (part_count x)) refl (λ l. front_block block xs ys (n - part_count x) l) where
   go : (b : Bool) → nat_lt n (part_count x) ≡ b
       → (n - part_count x < part_total xs
-          → page_block block (xs ++ ys) (n - part_count x) ≡ page_block block xs (n - part_count x))
+      → page_block block (xs ++ ys) (n - part_count x) ≡ page_block block xs (n - part_count x))
       → page_block block (x ∷ (xs ++ ys)) n ≡ page_block block (x ∷ xs) n
   go true q rec = rw q refl
   go false q rec = rw q (rec (omega (arith, lt, ltb-false n (part_count x) q)))
@@ -30,17 +30,19 @@ front_block block (x ∷ xs) ys n lt = go (nat_lt n (part_count x)) refl (λ l. 
 -- an entry covers a key if the last setting of the key is one
 touched : (block : ℕ) (log : List Entry) (key : Key) → touches (last_setting block log key) ≡ any_cover block log key
 touched block [] key = refl
-touched block (e ∷ later) key = go (sets block e.item key) (last_setting block later key) (any_cover block later key) (touched block later key) where
-  go : (s l : Setting) (b : Bool) → touches l ≡ b → touches (later_of s l) ≡ (touches s || b)
-  go Untouched Untouched b h = h
-  go Untouched Absent b h = h
-  go Untouched (Present v) b h = h
-  go Absent Untouched b h = refl
-  go Absent Absent b h = refl
-  go Absent (Present v) b h = refl
-  go (Present v) Untouched b h = refl
-  go (Present v) Absent b h = refl
-  go (Present v) (Present w) b h = refl
+touched block (e ∷ later) key =
+    go (sets block e.item key) (last_setting block later key) (any_cover block later key) (touched block later key)
+  where
+    go : (s l : Setting) (b : Bool) → touches l ≡ b → touches (later_of s l) ≡ (touches s || b)
+    go Untouched Untouched b h = h
+    go Untouched Absent b h = h
+    go Untouched (Present v) b h = h
+    go Absent Untouched b h = refl
+    go Absent Absent b h = refl
+    go Absent (Present v) b h = refl
+    go (Present v) Untouched b h = refl
+    go (Present v) Absent b h = refl
+    go (Present v) (Present w) b h = refl
 
 abbrev block_by : Setting → Option ℕ
 block_by s = option_and_then block_in (value_of s)

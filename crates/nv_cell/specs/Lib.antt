@@ -7,5 +7,6 @@ pub mod Named
 pub mod Numbers
 pub mod Marks
 pub mod Tallies
+pub mod Pages
 pub mod Readers
 pub mod Reading

@@ -12,6 +12,7 @@ mod mark;
 mod marks;
 mod number;
 mod publish;
+mod read;
 mod readers;
 mod reading;
 mod stat;

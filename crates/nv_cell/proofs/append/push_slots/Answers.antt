@@ -11,7 +11,7 @@ pub push_blocks-requires-clause-room : goal.push_blocks-requires-clause-room
 push_blocks-requires-clause-room c =
     let w = c.in-Write in
     let room =
-        subst (λ (item : Item). vec_len c.args.slots.now + length (parts_of item) ≤ vec_capacity c.args.slots.now) w.is c.requires.room in
+    subst (λ (item : Item). vec_len c.args.slots.now + length (parts_of item) ≤ vec_capacity c.args.slots.now) w.is c.requires.room in
     let within = subst IsWithinFile w.is c.requires.within in
     omega (arith, room, length_parts w.first w.size w.run' within, c.push_reserved.ensures.len, c.push_reserved.ensures.capacity)
 

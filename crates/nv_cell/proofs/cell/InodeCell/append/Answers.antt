@@ -31,9 +31,10 @@ invariant_of-self c =
     let size : queue.size ≡ s.block = c.requires.size ∙ ap (λ (v : CellValue). v.state.block) (sym c.self.view_is) in
     let entries : 0 < c.self.inside.entries = subst (λ (v : CellValue). 0 < v.room.entries) (sym c.self.view_is) c.requires.entries in
     let parts : part_count e ≤ c.self.inside.parts =
-        subst (λ (v : CellValue). part_count e ≤ v.room.parts) (sym c.self.view_is) c.requires.parts in
+    subst (λ (v : CellValue). part_count e ≤ v.room.parts) (sym c.self.view_is) c.requires.parts in
     let sized : AreSized s.block bs =
-        subst (λ (n : ℕ). AreSized n bs) size (sized_front queue.size (length (run_numbers e.item)) queue.blocks c.block_bytes-size.ensures.sized) in
+    subst (λ (n : ℕ). AreSized n bs) size
+    (sized_front queue.size (length (run_numbers e.item)) queue.blocks c.block_bytes-size.ensures.sized) in
     let few : length s.marks ≤ part_total es = omega (arith, inv.marks.len, total_take es s.chain.tail) in
     let blocks : HasBlocks (appended e bs s) = blocks_append s e bs inv.blocks few c.requires.within c.requires.blocks sized in
     let after : CellState = appended e bs s in
@@ -42,9 +43,9 @@ invariant_of-self c =
     let more : length (es ++ e ∷ []) ≡ length es + 1 = length-append es (e ∷ []) in
     let counts : List PageCounts = c.self.inside.marks.pages.items in
     let ends : c.ends.result.now ≡ (appended_chain e s.chain).ends =
-        c.ends.ensures.value ∙ ap (λ (k : ChainState). k.ends) c.append.ensures.state in
+    c.ends.ensures.value ∙ ap (λ (k : ChainState). k.ends) c.append.ensures.state in
     let pages : c.count_pages.new.pages.items ≡ counts_for counts (appended_chain e s.chain).ends =
-        c.count_pages.ensures.pages ∙ ap (counts_for counts) ends in
+    c.count_pages.ensures.pages ∙ ap (counts_for counts) ends in
     let low : length c.self.inside.marks.tallies.items ≤ length es = omega (arith, inv.tallied.tallies.len, inv.ends_len, within) in
     let grown = counts_grow s.chain e counts c.self.inside.marks.tallies.items old next low inv.tallied.counts in
     rw c.append.ensures.state (record {

@@ -13,7 +13,7 @@ clear_slots-requires c =
     let inv = c.self.invariant in
     let nothing = subst (λ (v : CellValue). keeps_nothing v.state ≡ true) (sym c.self.view_is) c.requires.nothing in
     let tail : s.chain.tail ≡ length s.chain.entries =
-        subst (λ (v : CellValue). v.state.chain.tail ≡ length v.state.chain.entries) (sym c.self.view_is) c.requires.published in
+    subst (λ (v : CellValue). v.state.chain.tail ≡ length v.state.chain.entries) (sym c.self.view_is) c.requires.published in
     let all : length s.marks ≡ part_total s.chain.entries =
-        inv.marks.len ∙ ap (λ (t : ℕ). part_total (take t s.chain.entries)) tail ∙ ap part_total (take_whole s.chain.entries) in
+    inv.marks.len ∙ ap (λ (t : ℕ). part_total (take t s.chain.entries)) tail ∙ ap part_total (take_whole s.chain.entries) in
     none_left s inv.blocks all nothing
