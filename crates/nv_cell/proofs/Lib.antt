@@ -17,3 +17,10 @@ pub mod NamesNow
 pub mod ValuesNow
 pub mod Counting
 pub mod Weighing
+pub mod PageMarks
+pub mod PagesNow
+pub mod Opening
+pub mod Appending
+pub mod Erasing
+pub mod ReadAt
+pub mod Stretches

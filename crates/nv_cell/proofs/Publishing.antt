@@ -71,7 +71,7 @@ link block es t index h key =
     let i : IsLog (take t es ++ drop t es) = rw (take_drop es t) h.log in
     rw (take_drop es t) at (linked block [] (take t es) (drop t es) key i)
 
-by_number : (block : ℕ) (es : List Entry) (t : ℕ) (index : IndexValue) → IsScan block es t index → (key : Key) → number_at es index key ≡ scan_n block (take t es) key
+pub by_number : (block : ℕ) (es : List Entry) (t : ℕ) (index : IndexValue) → IsScan block es t index → (key : Key) → number_at es index key ≡ scan_n block (take t es) key
 by_number block es t index h key =
     ap (option_map (number es)) (h.scan key) ∙ (link block es t index h key).numbers ∙ from_zero (scan_n block (take t es) key)
 

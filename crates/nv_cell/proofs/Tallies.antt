@@ -199,7 +199,7 @@ add_runs ends len count h within = record {
     ])
   ]
 
-start_old : (ends : List ℕ) (x j : ℕ) → j ≤ length ends → start_at (ends ++ x ∷ []) j ≡ start_at ends j
+pub start_old : (ends : List ℕ) (x j : ℕ) → j ≤ length ends → start_at (ends ++ x ∷ []) j ≡ start_at ends j
 start_old ends x zero h = refl
 start_old ends x (suc j) h =
     let a : (suc j == 0) ≡ false = grind (arith, nat_tests) in
@@ -208,10 +208,10 @@ start_old ends x (suc j) h =
       at : (j : ℕ) → j < length ends → slice_index_or (ends ++ x ∷ []) j 0 ≡ slice_index_or ends j 0
       at j lt = grind (arith, common_steps)
 
-end_old : (ends : List ℕ) (x j : ℕ) → j < length ends → end_at (ends ++ x ∷ []) j ≡ end_at ends j
+pub end_old : (ends : List ℕ) (x j : ℕ) → j < length ends → end_at (ends ++ x ∷ []) j ≡ end_at ends j
 end_old ends x j lt = grind (arith, common_steps)
 
-end_new : (ends : List ℕ) (x : ℕ) → end_at (ends ++ x ∷ []) (length ends) ≡ x
+pub end_new : (ends : List ℕ) (x : ℕ) → end_at (ends ++ x ∷ []) (length ends) ≡ x
 end_new ends x = grind (arith, common_steps)
 
 tally_old : (tallies : List Tally) (t : Tally) (j : ℕ) → j < length tallies → tally_at (tallies ++ t ∷ []) j ≡ tally_at tallies j

@@ -1,3 +1,4 @@
+pub mod Append
 pub mod Cell
 pub mod Effects
 pub mod Fields
@@ -6,5 +7,7 @@ pub mod Named
 pub mod Numbers
 pub mod Marks
 pub mod Tallies
+pub mod Pages
+pub mod Readers
 pub mod Reading
 pub mod Weights

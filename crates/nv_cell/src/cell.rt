@@ -24,7 +24,7 @@ pub struct InodeCell {
     pub(crate) alloc: Global,
     // Bytes of a block.
     pub(crate) block: u64,
-    generation: Gen,
+    pub(crate) generation: Gen,
     version: u64,
     pub(crate) chain: Chain,
     pub(crate) index: CellIndex,
@@ -32,8 +32,8 @@ pub struct InodeCell {
     // The block of each page part that is not out, by part number; also of parts that are not yet published.
     pub(crate) blocks: Vec<Option<Block>>,
     // For how many more entries, and parts of entries, there is room.
-    entries: usize,
-    parts: usize,
+    pub(crate) entries: usize,
+    pub(crate) parts: usize,
     // Room for the parts that a publish kills; empty between calls.
     numbers: Vec<usize>,
     killed: Vec<KilledPart>,

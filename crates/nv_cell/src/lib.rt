@@ -1,8 +1,10 @@
 //! An inode with its log: the value under each inode lock.
 #![tactic(auto)]
 
+mod append;
 mod cell;
 mod effects;
+mod erase;
 mod index;
 mod killed;
 mod kills;
@@ -10,6 +12,8 @@ mod mark;
 mod marks;
 mod number;
 mod publish;
+mod read;
+mod readers;
 mod reading;
 mod stat;
 mod tally;

@@ -77,7 +77,12 @@ fn stat_of(block: u64, chain: &Chain, index: &CellIndex) -> Option<Stat>
 
 /// The value of a key by the part that holds it.
 #[tactic(auto, using(crate::proofs::ValuesNow::value_is))]
-fn value_by(block: u64, chain: &Chain, part: Option<PartRef>, key: Key<'_>) -> Option<Datum>
+pub(crate) fn value_by(
+    block: u64,
+    chain: &Chain,
+    part: Option<PartRef>,
+    key: Key<'_>,
+) -> Option<Datum>
     requires block { 0 < block }
     requires part { part ≡ scan_ref block (log chain.now.state) (key_named key) }
     ensures { result ≡ value_now block (log chain.now.state) (key_named key.entry) }
@@ -109,7 +114,7 @@ fn mode_by(value: Option<Datum>) -> Mode
 }
 
 /// The size that a value is; 0 where it is none.
-fn size_by(value: Option<Datum>) -> u64
+pub(crate) fn size_by(value: Option<Datum>) -> u64
     ensures { result ≡ unwrap_or (option_and_then size_in value) 0 }
 {
     value.and_then(Datum::size).unwrap_or(0)

@@ -1,0 +1,38 @@
+-- What appending an entry makes of a cell.
+use Rattle.std.specs.Prelude.{ℕ, ◌+◌, ◌-◌, ◌≤◌, List, [], ◌∷◌, ◌++◌, length, map, replicate, take, Option, Some, None}
+use Rattle.std.specs.List.{range_with_len}
+use Rattle.nv_alloc.specs.Block.{BlockValue}
+use Rattle.nv_base.specs.declared.limits.TheConstants.{FILE_PAGES}
+use Rattle.nv_entry.specs.declared.item.Entry.{Entry}
+use Rattle.nv_entry.specs.declared.item.Item.{Item}
+use Rattle.nv_entry.specs.declared.item.Item.TheVariants.{Write}
+use Rattle.nv_entry.specs.Keys.{parts_of}
+use Rattle.nv_log.specs.Chain.{appended as appended_chain}
+use Rattle.nv_cell.specs.Cell.{CellRoom, CellState}
+
+-- the numbers of the blocks of an item's pages
+abbrev pub run_numbers : Item → List ℕ
+run_numbers (Write first run size) = range_with_len run.start run.len
+run_numbers item = []
+
+-- the pages of an item are pages that a file can have
+abbrev pub IsWithinFile : Item → Type 0
+IsWithinFile (Write first run size) = first + run.len ≤ FILE_PAGES
+IsWithinFile item = Unit {0}
+
+-- the front blocks of a list that has them for an item's pages
+abbrev pub blocks_for : Item → List BlockValue → List BlockValue
+blocks_for item blocks = take (length (run_numbers item)) blocks
+
+-- the block of each part of an item, by place: a page has one, and no other part
+abbrev pub slots_of : Item → List BlockValue → List (Option BlockValue)
+slots_of (Write first run size) blocks = None ∷ map Some blocks
+slots_of item blocks = replicate (length (parts_of item)) None
+
+-- the cell with one more entry, past the tail, with the blocks of its pages
+abbrev pub appended : Entry → List BlockValue → CellState → CellState
+appended e blocks cell = record cell { chain = appended_chain e cell.chain; blocks = cell.blocks ++ slots_of e.item blocks }
+
+-- the room that is left once an entry with so many parts was appended
+abbrev pub after_append : ℕ → CellRoom → CellRoom
+after_append parts room = record room { entries = room.entries - 1; parts = room.parts - parts }

@@ -1,0 +1,119 @@
+//! Entries and pages that are added past the tail.
+
+ghost use Rattle.std.specs.Prelude.{◌≡◌, ◌+◌, ◌-◌, ◌<◌, ◌≤◌, ◌++◌, ◌∷◌, [], None, Some, drop, if◌then◌else◌, length, map, nat_lt, replicate, take, vec_capacity, vec_len};
+ghost use Rattle.std.specs.Option.{ForSome};
+ghost use Rattle.nv_alloc.specs.Block.{numbers_of};
+ghost use Rattle.nv_base.specs.Ids.{IsIdBefore};
+ghost use Rattle.nv_entry.specs.Covered.{part_count};
+ghost use Rattle.nv_entry.specs.Keys.{parts_of};
+ghost use Rattle.nv_log.specs.Chain.{last_epoch, last_id, room_of, with_page};
+ghost use Rattle.nv_cell.specs.Append.{IsWithinFile, after_append, appended, blocks_for, run_numbers, slots_of};
+ghost use Rattle.nv_cell.specs.Tallies.{no_counts};
+
+use crate::{InodeCell, PageCounts};
+use nv_alloc::{Block, BlockQueue};
+use nv_entry::{Entry, Item};
+
+impl InodeCell {
+    /// Adds a page of the log behind the others. Takes no memory.
+    pub fn add_page(&mut self, block: Block)
+        requires reserved { 0 < self.old.room.pages }
+        ensures state { self.new.state
+            ≡ record self.old.state { chain = with_page block self.old.state.chain } }
+        ensures room { self.new.room
+            ≡ record self.old.room { pages = self.old.room.pages - 1 } }
+    {
+        self.chain.add_page(block);
+    }
+
+    /// Appends an entry past the tail, with the blocks of its pages from the front of the queue. Takes no memory; the
+    /// time is that of its parts.
+    pub fn append(&mut self, entry: Entry, queue: &mut BlockQueue)
+        requires page { 0 < room_of self.old.state.chain }
+        requires entries { 0 < self.old.room.entries }
+        requires parts { part_count entry ≤ self.old.room.parts }
+        requires id { ForSome (last_id self.old.state.chain) (λ last. IsIdBefore last entry.id) }
+        requires epoch { ForSome (last_epoch self.old.state.chain) (λ last. last ≤ entry.epoch) }
+        requires within { IsWithinFile entry.item }
+        requires size { queue.old.size ≡ self.old.state.block }
+        requires blocks { numbers_of (blocks_for entry.item queue.old.blocks)
+            ≡ run_numbers entry.item }
+        ensures state { self.new.state
+            ≡ appended entry (blocks_for entry.item queue.old.blocks) self.old.state }
+        ensures room { self.new.room ≡ after_append (part_count entry) self.old.room }
+        ensures queue { queue.new ≡ record queue.old {
+          blocks = drop (length (run_numbers entry.item)) queue.old.blocks;
+          room = queue.old.room + length (run_numbers entry.item);
+        } }
+    {
+        // The chain's pages end where its entries say, and each block in the queue has the queue's size.
+        let _ends = self.chain.ends();
+        let _size = queue.block_bytes();
+        let parts = entry.item.part_count() as usize;
+        push_slots(&mut self.blocks, &entry.item, queue);
+        self.chain.append(entry);
+        count_pages(&mut self.marks.pages, self.chain.ends().len());
+        self.entries -= 1;
+        self.parts -= parts;
+    }
+}
+
+/// Puts the front blocks of a queue on a list.
+fn push_blocks(slots: &mut Vec<Option<Block>>, count: u32, queue: &mut BlockQueue)
+    requires room { vec_len slots.old + count ≤ vec_capacity slots.old }
+    requires there { count ≤ length queue.old.blocks }
+    ensures slots { slots.new.items ≡ slots.old.items ++ map Some (take count queue.old.blocks) }
+    ensures capacity { vec_capacity slots.new ≡ vec_capacity slots.old }
+    ensures queue { queue.new ≡ record queue.old {
+      blocks = drop count queue.old.blocks;
+      room = queue.old.room + count;
+    } }
+{
+    for _taken in 0..count {
+        slots.push_reserved(queue.take_next());
+    }
+}
+
+/// Puts places without a block on a list.
+fn push_empty(slots: &mut Vec<Option<Block>>, count: u32)
+    requires { vec_len slots.old + count ≤ vec_capacity slots.old }
+    ensures slots { slots.new.items ≡ slots.old.items ++ replicate count None }
+    ensures capacity { vec_capacity slots.new ≡ vec_capacity slots.old }
+{
+    for _pushed in 0..count {
+        slots.push_reserved(None);
+    }
+}
+
+/// Puts the block of each part of an item on a list.
+fn push_slots(slots: &mut Vec<Option<Block>>, item: &Item, queue: &mut BlockQueue)
+    requires room { vec_len slots.old + length (parts_of item.now) ≤ vec_capacity slots.old }
+    requires within { IsWithinFile item.now }
+    requires there { length (run_numbers item.now) ≤ length queue.old.blocks }
+    ensures slots { slots.new.items
+        ≡ slots.old.items ++ slots_of item.now (blocks_for item.now queue.old.blocks) }
+    ensures capacity { vec_capacity slots.new ≡ vec_capacity slots.old }
+    ensures queue { queue.new ≡ record queue.old {
+      blocks = drop (length (run_numbers item.now)) queue.old.blocks;
+      room = queue.old.room + length (run_numbers item.now);
+    } }
+{
+    if let Item::Write { run, .. } = item {
+        slots.push_reserved(None);
+        push_blocks(slots, run.len, queue);
+    } else {
+        push_empty(slots, item.part_count());
+    }
+}
+
+/// Opens the counts of one more page where the chain has one more with entries.
+fn count_pages(pages: &mut Vec<PageCounts>, count: usize)
+    requires { vec_len pages.old < count → vec_len pages.old < vec_capacity pages.old }
+    ensures pages { pages.new.items ≡ (if nat_lt (length pages.old.items) count
+        then pages.old.items ++ no_counts ∷ [] else pages.old.items) }
+    ensures capacity { vec_capacity pages.new ≡ vec_capacity pages.old }
+{
+    if pages.len() < count {
+        pages.push_reserved(PageCounts { live: 0, valid: 0 });
+    }
+}
