@@ -15,3 +15,4 @@ pub mod Readied
 pub mod Bound
 pub mod NamesNow
 pub mod ValuesNow
+pub mod RunFlags

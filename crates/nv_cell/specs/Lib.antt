@@ -7,3 +7,4 @@ pub mod Numbers
 pub mod Marks
 pub mod Tallies
 pub mod Reading
+pub mod Removal

@@ -2,6 +2,7 @@
 #![tactic(auto)]
 
 mod cell;
+mod closing;
 mod effects;
 mod index;
 mod killed;
