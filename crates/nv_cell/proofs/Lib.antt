@@ -24,3 +24,4 @@ pub mod Appending
 pub mod Erasing
 pub mod ReadAt
 pub mod Stretches
+pub mod RunFlags

@@ -11,3 +11,4 @@ pub mod Pages
 pub mod Readers
 pub mod Reading
 pub mod Weights
+pub mod Removal

@@ -3,6 +3,7 @@
 
 mod append;
 mod cell;
+mod closing;
 mod effects;
 mod erase;
 mod index;
