@@ -1,0 +1,5 @@
+pub mod Commits
+pub mod Items
+pub mod Passed
+pub mod Touched
+pub mod fits

@@ -1,0 +1,60 @@
+-- What a call knows whose tests it passes.
+use Rattle.std.proofs.Common.{◌≡◌, ℕ, ◌==◌, Bool, true, false, cond, List, Option, Some, None, Result, Ok, refl}
+use Rattle.std.specs.Prelude.{option_map}
+use Rattle.std.proofs.lemmas.Bool.{eqb-true}
+use Rattle.nv_base.specs.declared.fault.Fault.{Fault}
+use Rattle.nv_base.specs.declared.node.Kind.{Kind}
+use Rattle.nv_base.specs.declared.node.Kind.TheVariants.{File, Dir}
+use Rattle.nv_base.specs.declared.numbers.Handle.{Handle}
+use Rattle.nv_entry.specs.declared.node.NodeCopy.{NodeCopy}
+use Rattle.nv_calls.specs.Plain.{PlainNode, node_in}
+use Rattle.nv_calls.specs.Refusals.{Check, kind_of, passes, refuse_if, want_bound, want_directory, want_file, want_node}
+use Rattle.nv_calls.specs.Slots.{Slot, node_under}
+
+-- a node that is there
+pub record IsThere (found : Option NodeCopy) : Type 0 where
+  pub node : NodeCopy
+  pub is : found ≡ Some node
+
+-- a node of some kind that is there
+pub record HasKind (kind : Kind) (found : Option NodeCopy) : Type 0 where
+  pub node : NodeCopy
+  pub is : found ≡ Some node
+  pub kind_is : node.kind ≡ kind
+
+pub there : (kind : Kind) (found : Option NodeCopy) → HasKind kind found → IsThere found
+there kind found h = record { node = h.node; is = h.is }
+
+pub if_passed : (b : Bool) (why : Fault) (next : Check) → refuse_if b why next ≡ passes → (b ≡ false) × (next ≡ passes)
+if_passed true why next h = cc
+if_passed false why next h = (refl, h)
+
+pub node_passed : (found : Option NodeCopy) (next : Check) → want_node (kind_of found) next ≡ passes → IsThere found × (next ≡ passes)
+node_passed None next h = cc
+node_passed (Some node) next h = (record { node = node; is = refl }, h)
+
+file_kind : (kind : Kind) (next : Check) → want_file (Some kind) next ≡ passes → (kind ≡ File) × (next ≡ passes)
+file_kind File next h = (refl, h)
+file_kind Dir next h = cc
+
+pub file_passed : (found : Option NodeCopy) (next : Check) → want_file (kind_of found) next ≡ passes → HasKind File found × (next ≡ passes)
+file_passed None next h = cc
+file_passed (Some node) next h = let k = file_kind node.kind next h in (record { node = node; is = refl; kind_is = k.0 }, k.1)
+
+directory_kind : (kind : Kind) (next : Check) → want_directory (Some kind) next ≡ passes → (kind ≡ Dir) × (next ≡ passes)
+directory_kind File next h = cc
+directory_kind Dir next h = (refl, h)
+
+pub directory_passed : (found : Option NodeCopy) (next : Check) → want_directory (kind_of found) next ≡ passes
+    → HasKind Dir found × (next ≡ passes)
+directory_passed None next h = cc
+directory_passed (Some node) next h = let k = directory_kind node.kind next h in (record { node = node; is = refl; kind_is = k.0 }, k.1)
+
+-- a handle with a node is that of its slot
+pub own_handle : (bytes : ℕ → List ℕ) (block : ℕ) (slots : ℕ → Slot) (handle : Handle)
+    → IsThere (node_in (node_under bytes block slots) handle) → handle.generation ≡ (slots handle.ino).generation
+own_handle bytes block slots handle there = go (handle.generation == (slots handle.ino).generation) _ refl there.is where
+  go : (b : Bool) (there_now : Option PlainNode) → (handle.generation == (slots handle.ino).generation) ≡ b
+      → option_map (λ (p : PlainNode). p.node) (cond b there_now None) ≡ Some there.node → handle.generation ≡ (slots handle.ino).generation
+  go true now q h = eqb-true handle.generation (slots handle.ino).generation q
+  go false now q h = cc

@@ -1,0 +1,4 @@
+pub mod Create
+pub mod Mode
+pub mod Rename
+pub mod Unlink

@@ -1,0 +1,7 @@
+pub mod AllCalls
+pub mod Locked
+pub mod Plain
+pub mod Plan
+pub mod Refusals
+pub mod Slots
+pub mod calls

@@ -1,0 +1,42 @@
+-- Plans: for each inode the items that a call appends to its log.
+use Rattle.std.specs.Prelude.{◌≡◌, ℕ, ◌+◌, ◌<◌, List, [], ◌∷◌, length, Option}
+use Rattle.std.specs.List.{flat_map, range_with_len}
+use Rattle.nv_base.specs.declared.numbers.Handle.{Handle}
+use Rattle.nv_entry.specs.declared.item.Item.{Item}
+use Rattle.nv_entry.specs.declared.item.Item.TheVariants.{Write}
+use Rattle.nv_entry.specs.declared.item.Run.{Run}
+use Rattle.nv_entry.specs.declared.node.NodeCopy.{NodeCopy}
+use Rattle.nv_entry.specs.Sound.{MakesAll}
+use Rattle.nv_calls.specs.Plain.{Change}
+use Rattle.nv_calls.specs.declared.plan.Planned.{Planned}
+
+abbrev pub planned : Handle → List Item → Planned
+planned handle items = record { handle = handle; items = items }
+
+-- the items of one inode make of its node what a change makes of it
+pub record Fits (bytes : ℕ → List ℕ) (block : ℕ) (nodes : Handle → Option NodeCopy) (p : Planned) (c : Change) : Type 0 where
+  pub same : p.handle ≡ c.handle
+  pub makes : MakesAll bytes block p.items (nodes p.handle) (c.becomes (nodes p.handle))
+
+-- a plan does what an effect says, inode by inode
+abbrev pub AllFit : (ℕ → List ℕ) → ℕ → (Handle → Option NodeCopy) → List Planned → List Change → Type 0
+AllFit bytes block nodes [] [] = Unit {0}
+AllFit bytes block nodes (p ∷ plan) (c ∷ effect) = Fits bytes block nodes p c × AllFit bytes block nodes plan effect
+AllFit bytes block nodes [] (c ∷ effect) = ⊥
+AllFit bytes block nodes (p ∷ plan) [] = ⊥
+
+-- ---- blocks
+
+-- the data blocks that items put pages in, in order
+abbrev pub item_blocks : Item → List ℕ
+item_blocks (Write first run size) = range_with_len run.start run.len
+item_blocks item = []
+
+abbrev pub plan_blocks : List Planned → List ℕ
+plan_blocks plan = flat_map (λ (p : Planned). flat_map item_blocks p.items) plan
+
+-- each run has a block, and none goes on where the one before it ends
+abbrev pub AreMaximal : List Run → Type 0
+AreMaximal [] = Unit {0}
+AreMaximal (run ∷ []) = 0 < run.len
+AreMaximal (run ∷ next ∷ runs) = (0 < run.len) × (run.start + run.len ≡ next.start → ⊥) × AreMaximal (next ∷ runs)

@@ -1,0 +1,9 @@
+pub mod Create
+pub mod Lookup
+pub mod Mode
+pub mod Rename
+pub mod Rmdir
+pub mod Size
+pub mod Stat
+pub mod Unlink
+pub mod Write

@@ -1,0 +1,82 @@
+//! Giving a node another name.
+
+ghost use Rattle.std.specs.Prelude.{◌≡◌, IfOk, Some};
+ghost use Rattle.nv_base.specs.Names.{same_name};
+ghost use Rattle.nv_calls.specs.Plain.{same_handle};
+ghost use Rattle.nv_calls.specs.Refusals.{is_directory};
+ghost use Rattle.nv_calls.specs.calls.Rename.{moved_refusal, own_place, rename_refusal, replaced_refusal};
+
+use crate::Nodes;
+use crate::wants::{refuse_if, want_bound, want_directory, want_lawful, want_node};
+use nv_base::{Fault, Handle, Kind};
+
+/// Why a rename is refused.
+pub fn check<N: Nodes>(
+    nodes: &N,
+    from: &Handle,
+    old: &[u8],
+    to: &Handle,
+    new: &[u8],
+) -> Result<(), Fault>
+    ensures { result ≡ rename_refusal (N.nodes_of nodes.now) from.now old.now to.now new.now }
+{
+    want_directory(nodes.kind(from))?;
+    want_lawful(old)?;
+    let moved = want_bound(nodes.lookup(from, old))?;
+    want_directory(nodes.kind(to))?;
+    want_lawful(new)?;
+    if is_own_place(from, old, to, new) {
+        return Ok(());
+    }
+    let kind = nodes.kind(&moved);
+    refuse_if(
+        is_directory(&kind) && !is_same(from, to),
+        Fault::MoveDirectory,
+    )?;
+    check_replaced(nodes, &kind, nodes.lookup(to, new))
+}
+
+/// Why a node of a kind may not replace what a name leads to.
+fn check_replaced<N: Nodes>(
+    nodes: &N,
+    moved: &Option<Kind>,
+    other: Option<Handle>,
+) -> Result<(), Fault>
+    ensures { result ≡ replaced_refusal (N.nodes_of nodes.now) moved.now other }
+{
+    let Some(other) = other else {
+        return Ok(());
+    };
+    let kind = nodes.kind(&other);
+    let is_dir = is_directory(moved) || is_directory(&kind);
+    want_node(kind)?;
+    refuse_if(is_dir, Fault::Exists)
+}
+
+/// Whether both names are one, in one directory.
+pub fn is_own_place(from: &Handle, old: &[u8], to: &Handle, new: &[u8]) -> bool
+    ensures { result ≡ own_place from.now old.now to.now new.now }
+{
+    is_same(from, to) && is_same_name(old, new)
+}
+
+fn is_same(a: &Handle, b: &Handle) -> bool
+    ensures { result ≡ same_handle a.now b.now }
+{
+    a.ino == b.ino && a.generation == b.generation
+}
+
+fn is_same_name(a: &[u8], b: &[u8]) -> bool
+    ensures { result ≡ same_name a.now b.now }
+{
+    a == b
+}
+
+fn is_directory(kind: &Option<Kind>) -> bool
+    ensures { result ≡ is_directory kind.now }
+{
+    match kind {
+        Some(Kind::Dir) => true,
+        Some(Kind::File) | None => false,
+    }
+}

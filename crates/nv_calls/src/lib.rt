@@ -1,0 +1,22 @@
+//! The file calls, each as what it is: when it is refused, what it appends and changes, and what it is answered.
+//!
+//! Contracts speak of a plain world: nodes by handle, with their bytes or names. A call is cut by the step that
+//! decides: its refusal is a function of the nodes at the check, its effect a list of changes at the commit. Its plan
+//! is the items that it appends, inode by inode; a law says that a commit of any plan that fits an effect has that
+//! effect, and another that each call's plan fits its own.
+#![tactic(auto)]
+
+mod answer;
+mod call;
+pub mod calls;
+pub mod laws;
+mod nodes;
+mod plan;
+mod refusal;
+mod wants;
+
+pub use answer::Answer;
+pub use call::Call;
+pub use nodes::Nodes;
+pub use plan::{Plan, Planned};
+pub use refusal::check;
