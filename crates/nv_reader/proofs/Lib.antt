@@ -1,0 +1,2 @@
+mod Pushed
+pub mod Coming
