@@ -1,6 +1,6 @@
 -- The tree: the nodes that are reached from the root through names, each with its path.
-use Rattle.std.specs.Prelude.{ℕ, zero, suc, List, [], ◌∷◌, ◌++◌, Option, Some, None}
-use Rattle.std.specs.List.{flat_map}
+use Rattle.std.specs.Prelude.{ℕ, zero, suc, ◌≡◌, ◌<◌, List, [], ◌∷◌, ◌++◌, length, slice_index_or, Option, Some, None, IsSome}
+use Rattle.std.specs.List.{Contains, flat_map}
 use Rattle.nv_base.specs.declared.numbers.Handle.{Handle}
 use Rattle.nv_entry.specs.declared.names.BoundName.{BoundName}
 use Rattle.nv_entry.specs.declared.node.NodeCopy.{NodeCopy}
@@ -30,3 +30,21 @@ tree_from nodes (suc depth) path handle = node_and_below (nodes handle) path (λ
 
 abbrev pub root : Handle
 root = record { ino = 0; generation = 1 }
+
+-- no way down from a handle is longer than so many nodes, so that this depth cuts nothing of the tree
+abbrev pub CutsNothing : (Handle → Option NodeCopy) → ℕ → Handle → Type 0
+CutsNothing nodes zero handle = nodes handle ≡ None
+CutsNothing nodes (suc depth) handle = (bound : BoundName) → Contains (names_under nodes handle) bound → CutsNothing nodes depth bound.to
+
+-- a name of a directory, by its place in the list, leads to a node
+abbrev pub LeadsAt : (Handle → Option NodeCopy) → Handle → ℕ → BoundName → Type 0
+LeadsAt nodes dir place bound =
+    let names = names_under nodes dir in
+    (place < length names) × (slice_index_or names place bound ≡ bound) × IsSome (nodes bound.to)
+
+-- the directories form a tree below the root, with so many inodes at most: no name leads to the root, and no two names lead to one inode
+pub record FormTree (nodes : Handle → Option NodeCopy) (inodes : ℕ) : Type 0 where
+  pub numbered : (handle : Handle) → IsSome (nodes handle) → handle.ino < inodes
+  pub root_unnamed : (dir : Handle) (place : ℕ) (bound : BoundName) → LeadsAt nodes dir place bound → root.ino < bound.to.ino
+  pub one_name : (one other : Handle) (j k : ℕ) (a b : BoundName) → LeadsAt nodes one j a → LeadsAt nodes other k b
+    → a.to.ino ≡ b.to.ino → (one.ino ≡ other.ino) × (j ≡ k)

@@ -1,2 +1,4 @@
-mod Pushed
 pub mod Coming
+pub mod Depths
+mod Pushed
+pub mod Ways
