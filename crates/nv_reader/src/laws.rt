@@ -1,0 +1,30 @@
+//! Laws of walks and trees. Each is a function that does nothing, whose contract is the law.
+
+ghost use Rattle.std.specs.Prelude.{◌≡◌, ◌≤◌, ◌∷◌, [], ℕ, List, Option};
+ghost use Rattle.nv_base.specs.declared.numbers.Handle.{Handle};
+ghost use Rattle.nv_entry.specs.Tree.{CutsNothing, FormTree, root, tree_from};
+ghost use Rattle.nv_entry.specs.declared.node.NodeCopy.{NodeCopy};
+ghost use Rattle.nv_reader.specs.Walk.{GivesNext, Visit, given_for, root_visit, to_come, visits_after};
+
+/// A whole walk gives out the tree from its root on: each node that is handed in under its handle is the next of it, in
+/// whatever world, and there is one visit less.
+pub fn walks_give_the_tree()
+    ensures whole { (nodes : Handle → Option NodeCopy) (depth : ℕ) (root : Handle) →
+        to_come nodes (root_visit depth root) ≡ tree_from nodes depth [] root }
+    ensures next { (nodes : Handle → Option NodeCopy) (visit : Visit) (later : List Visit) →
+        GivesNext nodes (visit ∷ later) (given_for (visit ∷ later) (nodes visit.handle))
+        (visits_after (visit ∷ later) (nodes visit.handle)) }
+{}
+
+/// Two depths that cut nothing give the same tree.
+pub fn deep_enough_depths_agree()
+    ensures { (nodes : Handle → Option NodeCopy) (one other : ℕ) (path : List (List ℕ)) (handle : Handle) →
+        CutsNothing nodes one handle → CutsNothing nodes other handle →
+        tree_from nodes one path handle ≡ tree_from nodes other path handle }
+{}
+
+/// Where the directories form a tree, a depth of as many nodes as there are inodes cuts nothing.
+pub fn inodes_bound_the_depth()
+    ensures { (nodes : Handle → Option NodeCopy) (inodes depth : ℕ) → FormTree nodes inodes → inodes ≤ depth →
+        CutsNothing nodes depth root }
+{}
