@@ -63,7 +63,8 @@ by-snapshots : (ms : List Manifest) → IsRising (snapshots ms) → ms ≡ map (
 by-snapshots [] rising = refl
 by-snapshots (m ∷ ms) rising =
     ap (λ us. m ∷ us) (by-snapshots ms rising.1
-    ∙ map-same (λ s. manifest_of s (records_at s ms)) (λ s. manifest_of s (records_at s (m ∷ ms))) (snapshots ms) (later (snapshots ms) rising.0))
+    ∙ map-same (λ s. manifest_of s (records_at s ms)) (λ s. manifest_of s (records_at s (m ∷ ms))) (snapshots ms)
+    (later (snapshots ms) rising.0))
     ∙ rw (eq-eqb m.snapshot m.snapshot refl) refl
   where
     later : (ss : List ℕ) → All (λ t. m.snapshot < t) ss →
@@ -95,7 +96,8 @@ module _ (living : List ℕ) (epoch : ℕ) where
   abbrev Died : Record → Type 0
   Died r = r.death ≤ epoch
 
-  died-at : (rs : List Record) (ss : List ℕ) → AllByRecursion (λ (m : Manifest). AllByRecursion Died m.records) (map (manifest_told living rs) ss) →
+  died-at : (rs : List Record) (ss : List ℕ) →
+      AllByRecursion (λ (m : Manifest). AllByRecursion Died m.records) (map (manifest_told living rs) ss) →
       (s : ℕ) → Contains ss s → AllByRecursion Died (kept_by s living rs)
   died-at rs [] h s lives = absurd (let lt = lives.1 in omega (arith, lt))
   died-at rs (t ∷ ts) h s lives = go (died-at rs ts h.1 s) lives.0 lives.1 lives.2 where
@@ -105,7 +107,8 @@ module _ (living : List ℕ) (epoch : ℕ) where
     go others (suc k) lt e = others (k, omega (arith, lt), e)
 
   died-each : ((r : Record) (t : ℕ) → holder_of living r ≡ Some t → Contains living t) → (rs : List Record) →
-      ((s : ℕ) → Contains living s → AllByRecursion Died (kept_by s living rs)) → AllByRecursion Died (unheld living rs) → AllByRecursion Died rs
+      ((s : ℕ) → Contains living s → AllByRecursion Died (kept_by s living rs)) → AllByRecursion Died (unheld living rs) →
+      AllByRecursion Died rs
   died-each lives [] kept others = tt
   died-each lives (r ∷ rs) kept others = (
     first (holder_of living r) refl,
@@ -121,7 +124,8 @@ module _ (living : List ℕ) (epoch : ℕ) where
       first None e = (subst (λ o. AllByRecursion Died (cond (is_none o) (r ∷ unheld living rs) (unheld living rs))) e others).0
       first (Some t) e =
           let h : AllByRecursion Died (cond (t == t) (r ∷ kept_by t living rs) (kept_by t living rs)) =
-          subst (λ o. AllByRecursion Died (cond (is_snapshot t o) (r ∷ kept_by t living rs) (kept_by t living rs))) e (kept t (lives r t e)) in
+          subst (λ o. AllByRecursion Died (cond (is_snapshot t o) (r ∷ kept_by t living rs) (kept_by t living rs))) e
+          (kept t (lives r t e)) in
           (subst (λ b. AllByRecursion Died (cond b (r ∷ kept_by t living rs) (kept_by t living rs))) (eq-eqb t t refl) h).0
 
   pub listed-died : ((r : Record) (t : ℕ) → holder_of living r ≡ Some t → Contains living t) → (ms : List Manifest) (ds rs : List Record) →

@@ -112,7 +112,8 @@ notes : Rises → (n : ℕ) (old : Account) (e : Event) (b : Base) (es : List Ev
 notes rises n old e b es living base account now legal ordered lives epoch commit =
     let after-all : (replay base es).living ≡ living_after e living =
     ap (λ (s : State). s.living) now ∙ (sym (living-next (now_of old) e) ∙ ap (living_after e) lives) in
-    let same : state_of b (living_after e living) es ≡ base = told rises old.most base es b (living_after e living) ordered legal after-all epoch commit in
+    let same : state_of b (living_after e living) es ≡ base =
+    told rises old.most base es b (living_after e living) ordered legal after-all epoch commit in
     let by-base : State → Account = λ s. record { base = s; latest = es; most = old.most } in
     record {
       account = ap by-base same ∙ account;
@@ -191,7 +192,8 @@ module _ (rises : Rises) (n : ℕ) (b : Base) (ring new : Buffer Event) (living 
   module _ (pushed : new ≡ record { items = keep_last ring.capacity (ring.items ++ e ∷ []); capacity = ring.capacity })
       (changed : left ≡ living_after e living) where
     -- what is said of the ring with n events, and of the account as it is seen here, holds of these
-    here : (b' : Base) → Notes n most a e b' (keep_last n (ring.items ++ e ∷ [])) (living_after e living) → Notes n most old e b' new.items left
+    here : (b' : Base) → Notes n most a e b' (keep_last n (ring.items ++ e ∷ [])) (living_after e living) →
+        Notes n most old e b' new.items left
     here b' h =
         let items : new.items ≡ keep_last n (ring.items ++ e ∷ []) =
         ap (λ (r : Buffer Event). r.items) pushed ∙ ap (λ m. keep_last m (ring.items ++ e ∷ [])) kept.ring_fits in
@@ -225,6 +227,7 @@ module _ (rises : Rises) (n : ℕ) (b : Base) (ring new : Buffer Event) (living 
           lives = h.lives;
           ring_fits = ap (λ (r : Buffer Event). r.capacity) pushed ∙ kept.ring_fits;
           kept = rw (ap (λ (r : Buffer Event). r.items) pushed)
-              (subst (λ m. length (keep_last ring.capacity (ring.items ++ e ∷ [])) ≤ m) kept.ring_fits (keep-fits ring.capacity (ring.items ++ e ∷ [])));
+              (subst (λ m. length (keep_last ring.capacity (ring.items ++ e ∷ [])) ≤ m) kept.ring_fits
+              (keep-fits ring.capacity (ring.items ++ e ∷ [])));
           fits = omega (arith, fits, same);
         }

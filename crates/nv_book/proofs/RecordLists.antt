@@ -25,7 +25,8 @@ pub all-of : (P : ℕ → Type 0) → ((s : ℕ) → P s) → (ss : List ℕ) �
 all-of P h [] = tt
 all-of P h (s ∷ ss) = (h s, all-of P h ss)
 
-put-map : (o : Option ℕ) (xs : List Record) (f : ℕ → Manifest) (ss : List ℕ) → put_to o xs (map f ss) ≡ map (λ s. with_records o xs (f s)) ss
+put-map : (o : Option ℕ) (xs : List Record) (f : ℕ → Manifest) (ss : List ℕ) →
+    put_to o xs (map f ss) ≡ map (λ s. with_records o xs (f s)) ss
 put-map o xs f [] = refl
 put-map o xs f (s ∷ ss) = ap (λ ms. with_records o xs (f s) ∷ ms) (put-map o xs f ss)
 

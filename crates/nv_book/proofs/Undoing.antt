@@ -20,7 +20,8 @@ added-out : (s : ℕ) (living : List ℕ) → All (λ t. t < s) living → witho
 added-out s [] below = rw (eq-eqb s s refl) refl
 added-out s (t ∷ ts) below =
     let lt : t < s = below 0 0 (omega arith) in
-    rw (ne_eqb t s (λ e. absurd (omega (arith, lt, e)))) (ap (λ us. t ∷ us) (added-out s ts (λ k d in'. below (suc k) d (omega (arith, in')))))
+    rw (ne_eqb t s (λ e. absurd (omega (arith, lt, e))))
+    (ap (λ us. t ∷ us) (added-out s ts (λ k d in'. below (suc k) d (omega (arith, in')))))
 
 -- a living number, taken out and put back
 out-back : (s : ℕ) (living : List ℕ) → IsRising living → Contains living s → put_back s (without s living) ≡ living
@@ -59,7 +60,8 @@ pub record Rises : Type 0 where
   pub dropped : (living : List ℕ) (s : ℕ) → IsRising living → IsRising (without s living)
 
 pub ordered-after : Rises → (most : ℕ) (now : State) (e : Event) → IsOrdered now → IsNext most now e → IsOrdered (after now e)
-ordered-after rises most now (Committed seat number epoch) ordered next = record { rising = ordered.rising; below_epoch = ordered.below_epoch }
+ordered-after rises most now (Committed seat number epoch) ordered next =
+    record { rising = ordered.rising; below_epoch = ordered.below_epoch }
 ordered-after rises most now (Made s) ordered next =
     let below : All (λ t. t < s) now.living = subst (λ n. All (λ t. t < n) now.living) (sym next.0) ordered.below_epoch in
     record {

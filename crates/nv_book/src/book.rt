@@ -114,8 +114,8 @@ impl Book {
     /// parts, those that turn out free included.
     ///
     /// `CommitLimit` where the last number is 2^62, before `OutOfMemory`. More than 2^62 records in all, which no
-    /// device has parts for, count as want of memory. It costs what it makes room for; where an old drop leaves the
-    /// latest events, also the number of living snapshots.
+    /// device has parts for, count as want of memory. It costs what it makes room for, however many records and
+    /// snapshots there are.
     pub fn enter(&mut self, seat: u64, need: u64) -> Result<(Epoch, CommitNo), Fault>
         ensures ok { OnOk result (self.new ≡
             record { state = after_enter seat self.old.state; room = need }) }
@@ -163,7 +163,8 @@ impl Book {
         Retired::Kept
     }
 
-    /// Makes a snapshot of the current epoch, which is its number, and begins the next epoch. It takes no memory.
+    /// Makes a snapshot of the current epoch, which is its number, and begins the next epoch. It takes no memory, and
+    /// constant time.
     ///
     /// `EpochLimit` where the epoch is 2^62, before `TooManySnapshots`.
     pub fn make_snapshot(&mut self) -> Result<Epoch, Fault>
@@ -190,7 +191,7 @@ impl Book {
 
     /// Drops the snapshot `s`: in order, its records move to the end of the next older snapshot's manifest where they
     /// were born by then, and to the end of the deferred list where they were not. It takes no memory, and time by the
-    /// runs of the manifest of `s` and the number of snapshots.
+    /// runs of the manifest of `s` and, for the places that it leaves in lists, by the number of snapshots.
     ///
     /// `NoSnapshot` where it doesn't live, before `Pinned`.
     pub fn drop_snapshot(&mut self, s: Epoch) -> Result<(), Fault>

@@ -15,7 +15,8 @@ returns-clause-made c living epoch ms ds rs rising below dead h =
     (λ birth death t e. (let y = (c.holders_are_told_by_the_list.ensures.youngest living birth death t rising).0 e in let at =
     y.lives in below-at living epoch t below at))
     ms ds rs
-    (listed-died living epoch (λ r t e. ((c.holders_are_told_by_the_list.ensures.youngest living r.birth r.death t rising).0 e).lives) ms ds rs dead h) h
+    (listed-died living epoch
+    (λ r t e. ((c.holders_are_told_by_the_list.ensures.youngest living r.birth r.death t rising).0 e).lives) ms ds rs dead h) h
 
 pub returns-clause-dropped : goal.returns-clause-dropped
 returns-clause-dropped c living s ms ds rs rising lives h =

@@ -16,7 +16,8 @@ pub unreachable-requires : goal.unreachable-requires
 unreachable-requires c =
     let some = c.loop-left-test.true in
     let within = c.loop-left.invariant.0 in
-    event-there c.self.inside.latest.items (c.loop-left.left - 1) (omega (arith, some, within)) (sym c.get.ensures ∙ ap option_copied c.in_default.is)
+    event-there c.self.inside.latest.items (c.loop-left.left - 1) (omega (arith, some, within))
+    (sym c.get.ensures ∙ ap option_copied c.in_default.is)
 
 pub loop-left-preserved : goal.loop-left-preserved
 loop-left-preserved c =
@@ -27,6 +28,7 @@ loop-left-preserved c =
     let one : c.loop-left.left ≡ suc (c.loop-left.left - 1) = omega (arith, some) in
     let at : slice_get latest (c.loop-left.left - 1) ≡ Some c.in-Some.event.now = sym c.get.ensures ∙ ap option_copied c.in-Some.is in (
       omega (arith, within),
-      c.in_ok-undo.ensures.ok ∙ (ap (living_before c.in-Some.event.now) (c.loop-left.invariant.1 ∙ ap (λ k. undone living (drop k latest)) one)
+      c.in_ok-undo.ensures.ok
+          ∙ (ap (living_before c.in-Some.event.now) (c.loop-left.invariant.1 ∙ ap (λ k. undone living (drop k latest)) one)
           ∙ undone-from living latest (c.loop-left.left - 1) c.in-Some.event.now at),
     )

@@ -11,5 +11,6 @@ invariant_of-result c =
 pub returns-clause-ok : goal.returns-clause-ok
 returns-clause-ok c =
     let b : Base = record { epoch = c.args.epoch; commit = c.args.commit } in
-    account-empty b c.in_ok-with_capacity-2.field-0.items c.in_ok-with_capacity.field-0.items c.args.snaps c.in_ok-with_capacity-2.ensures.items
+    account-empty b c.in_ok-with_capacity-2.field-0.items c.in_ok-with_capacity.field-0.items c.args.snaps
+    c.in_ok-with_capacity-2.ensures.items
     (ap (λ b. b.items) c.in_ok-with_capacity.ensures)

@@ -21,7 +21,8 @@ returns-clause-runs c =
     ∙ count-runs _ c.kept.invariant in
     let d : run_count_of c.args.deferred.now ≡ length c.deferred.inside.runs = ap run_count_of (sym c.deferred.view_is)
     ∙ count-runs _ c.deferred.invariant in
-    let k : run_count_of (records_of c.split_by_birth.new.kept) ≡ length c.split_by_birth.new.kept = count-runs _ c.split_by_birth.ensures.kept_runs in
+    let k : run_count_of (records_of c.split_by_birth.new.kept) ≡ length c.split_by_birth.new.kept =
+    count-runs _ c.split_by_birth.ensures.kept_runs in
     let e : run_count_of (records_of c.split_by_birth.new.deferred) ≡ length c.split_by_birth.new.deferred =
     count-runs _ c.split_by_birth.ensures.deferred_runs in
     let room = c.split_by_birth.ensures.room in
