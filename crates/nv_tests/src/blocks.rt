@@ -2,7 +2,7 @@
 //! refused nothing has changed, and the call is made once more.
 
 use crate::compare::{crosses_threads, same};
-use crate::scenes::{Row, free_list, geometry, has_numbers, next, put, reserve, take};
+use crate::scenes::{Row, free_list, geometry, has_numbers, next, push, put, reserve, take};
 use nv_alloc::{Block, BlockQueue, FreeList, FreeRun, Hand, InodePool};
 use nv_base::{BlockNo, Fault, Geometry, Ino};
 use std::alloc::Global;
@@ -201,10 +201,7 @@ fn writes_in_place(rt: HostRuntime) {
 
 fn one_page(rt: &impl Abort, alloc: Global, block: Block) -> Vec<Block> {
     let mut pages = Vec::new(alloc);
-    match pages.push(block) {
-        Ok(()) => {}
-        Err(failed) => pages.push(failed.value).expect(rt, "memory for a page"),
-    }
+    push(rt, &mut pages, block);
     pages
 }
 

@@ -1,13 +1,14 @@
 //! What no clause of the index says.
 
+ghost use Rattle.std.specs.Prelude.{◌*◌, ◌≤◌};
+
 use crate::compare::{crosses_threads, same, same_for};
-use crate::scenes::id;
+use crate::scenes::{id, push};
 use nv_base::limits::FILE_PAGES;
 use nv_base::{EntryId, Fault};
 use nv_findex::{FileIndex, PageRef, PageRun};
 use std::alloc::Global;
 use std::process::Abort;
-use std::test::Fail;
 
 fn lies(commit: u64, number: u32, place: u32) -> PageRef {
     PageRef {
@@ -21,36 +22,31 @@ fn sizes(index: &FileIndex) -> (usize, usize, u32) {
     (index.run_count(), index.room(), index.present_from(0))
 }
 
-/// A write to pages of an entry. A refused growth changes nothing and is asked for again.
-fn write(
-    rt: &impl Abort,
-    index: &mut FileIndex,
-    first: u32,
-    len: u32,
-    entry: EntryId,
-) -> Result<(), Fault> {
-    assert!(rt; 0 < len && len <= FILE_PAGES && first <= FILE_PAGES - len);
+/// Makes room for so many writes. A refused growth changes nothing and is asked for again.
+fn reserve(rt: &impl Abort, index: &mut FileIndex, writes: usize)
+    ensures { 2 * writes ≤ index.new.room }
+{
     let before = sizes(index);
-    if let Err(fault) = index.reserve_for(1) {
+    if let Err(fault) = index.reserve_for(writes) {
         same(rt, fault, Fault::OutOfMemory);
         same(rt, sizes(index), before);
-        index.reserve_for(1)?;
+        index.reserve_for(writes).expect(rt, "memory for runs");
     }
+}
+
+/// A write to pages of an entry.
+fn write(rt: &impl Abort, index: &mut FileIndex, first: u32, len: u32, entry: EntryId) {
+    assert!(rt; 0 < len && len <= FILE_PAGES && first <= FILE_PAGES - len);
+    reserve(rt, index, 1);
     index.set_run(first, len, entry);
-    Ok(())
 }
 
 /// Writes `(first page, pages, commit, entry of the commit)`, each with the runs that the index has after it.
-fn write_all(
-    rt: &impl Abort,
-    index: &mut FileIndex,
-    writes: &[(u32, u32, u64, u32, usize)],
-) -> Result<(), Fault> {
+fn write_all(rt: &impl Abort, index: &mut FileIndex, writes: &[(u32, u32, u64, u32, usize)]) {
     for (first, len, commit, number, runs) in writes {
-        write(rt, index, *first, *len, id(*commit, *number))?;
+        write(rt, index, *first, *len, id(*commit, *number));
         same(rt, index.run_count(), *runs);
     }
-    Ok(())
 }
 
 /// A page, the end of its run, and what it is: commit, entry of the commit, place.
@@ -100,7 +96,7 @@ fn has_five_pages(rt: &impl Abort, index: &FileIndex) {
 }
 
 #[test]
-fn three_writes_make_one_three_and_five_runs(rt: HostRuntime) -> Result<(), Fail> {
+fn three_writes_make_one_three_and_five_runs(rt: HostRuntime) {
     let mut index = FileIndex::new(rt.alloc());
     same(&rt, sizes(&index), (0, 0, 0));
     write_all(
@@ -112,16 +108,15 @@ fn three_writes_make_one_three_and_five_runs(rt: HostRuntime) -> Result<(), Fail
             (3, 1, 4, 0, 4),
             (4, 1, 4, 1, 5),
         ],
-    )?;
+    );
     has_five_runs(&rt, &index);
     has_five_pages(&rt, &index);
-    Ok(())
 }
 
 #[test]
-fn the_last_page_of_an_empty_file_is_one_run(rt: HostRuntime) -> Result<(), Fail> {
+fn the_last_page_of_an_empty_file_is_one_run(rt: HostRuntime) {
     let mut index = FileIndex::new(rt.alloc());
-    write_all(&rt, &mut index, &[(65_535, 1, 7, 2, 1)])?;
+    write_all(&rt, &mut index, &[(65_535, 1, 7, 2, 1)]);
     same(
         &rt,
         (index.at(65_534), index.next_from(0)),
@@ -130,33 +125,30 @@ fn the_last_page_of_an_empty_file_is_one_run(rt: HostRuntime) -> Result<(), Fail
     same(&rt, index.run_from(0).map(|run| run.page_count()), Some(1));
     index.cut_from(65_535);
     same(&rt, (index.next_from(0), index.run_count()), (None, 0));
-    Ok(())
 }
 
 #[test]
-fn a_run_written_again_joins_what_is_left_of_it(rt: HostRuntime) -> Result<(), Fail> {
+fn a_run_written_again_joins_what_is_left_of_it(rt: HostRuntime) {
     let mut index = FileIndex::new(rt.alloc());
-    write_all(&rt, &mut index, &[(10, 6, 2, 0, 1), (10, 2, 2, 0, 1)])?;
+    write_all(&rt, &mut index, &[(10, 6, 2, 0, 1), (10, 2, 2, 0, 1)]);
     same(&rt, index.at(12), Some(lies(2, 0, 2)));
-    Ok(())
 }
 
 #[test]
-fn room_for_three_writes_lasts_for_three(rt: HostRuntime) -> Result<(), Fail> {
+fn room_for_three_writes_lasts_for_three(rt: HostRuntime) {
     let mut index = FileIndex::new(rt.alloc());
-    index.reserve_for(3)?;
+    reserve(&rt, &mut index, 3);
     index.set_run(0, 30, id(2, 0));
     index.set_run(10, 10, id(3, 0));
     index.cut_from(25);
     index.set_run(12, 2, id(4, 0));
     same(&rt, index.run_count(), 5);
-    Ok(())
 }
 
 #[test]
-fn a_refused_growth_changes_nothing(rt: HostRuntime) -> Result<(), Fail> {
+fn a_refused_growth_changes_nothing(rt: HostRuntime) {
     let mut index = FileIndex::new(rt.alloc());
-    write_all(&rt, &mut index, &[(4, 2, 2, 0, 1)])?;
+    write_all(&rt, &mut index, &[(4, 2, 2, 0, 1)]);
     let before = sizes(&index);
     for runs in [usize::MAX, usize::MAX / 2, 1 << 62] {
         same(&rt, index.reserve_for(runs), Err(Fault::OutOfMemory));
@@ -164,14 +156,15 @@ fn a_refused_growth_changes_nothing(rt: HostRuntime) -> Result<(), Fail> {
     }
     same(&rt, index.at(3), None);
     same(&rt, index.at(5), Some(lies(2, 0, 1)));
-    Ok(())
 }
 
 /// A slot for each page that a file may have: the plain form of an index.
-fn no_pages(alloc: Global) -> Result<Vec<Option<PageRef>>, Fault> {
+fn no_pages(rt: &impl Abort, alloc: Global) -> Vec<Option<PageRef>> {
     let mut slots = Vec::new(alloc);
-    slots.resize(FILE_PAGES as usize, None)?;
-    Ok(slots)
+    for _ in 0..FILE_PAGES {
+        push(rt, &mut slots, None);
+    }
+    slots
 }
 
 fn fill(slots: &mut [Option<PageRef>], first: u32, len: u32, entry: &EntryId) {
@@ -208,18 +201,18 @@ fn is_joined(slots: &[Option<PageRef>], page: u32) -> bool {
 }
 
 /// The runs of all pages, by a look at each slot.
-fn runs_of(alloc: Global, slots: &[Option<PageRef>]) -> Result<Vec<PageRun>, Fault> {
+fn runs_of(rt: &impl Abort, alloc: Global, slots: &[Option<PageRef>]) -> Vec<PageRun> {
     let mut runs: Vec<PageRun> = Vec::new(alloc);
     for first in 0..FILE_PAGES {
         let end = first + 1;
         if let Some(start) = slot(slots, first) {
             match runs.last_mut() {
                 Some(run) if is_joined(slots, first.saturating_sub(1)) => run.end = end,
-                _ => runs.push(PageRun { first, end, start })?,
+                _ => push(rt, &mut runs, PageRun { first, end, start }),
             }
         }
     }
-    Ok(runs)
+    runs
 }
 
 fn first_behind(runs: &[PageRun], page: u32) -> Option<PageRun> {
@@ -258,13 +251,8 @@ fn assert_same_at(
     assert!(rt; index.run_from(page) == run, "page {page}");
 }
 
-fn assert_same(
-    rt: &impl Abort,
-    alloc: Global,
-    index: &FileIndex,
-    slots: &[Option<PageRef>],
-) -> Result<(), Fault> {
-    let runs = runs_of(alloc, slots)?;
+fn assert_same(rt: &impl Abort, alloc: Global, index: &FileIndex, slots: &[Option<PageRef>]) {
+    let runs = runs_of(rt, alloc, slots);
     same(rt, index.run_count(), runs.len());
     for page in 0..100 {
         assert_same_at(rt, index, &runs, slots, page);
@@ -275,13 +263,12 @@ fn assert_same(
     for page in [0, 1, 20, 50, 90, 65_530, 65_536] {
         same(rt, index.present_from(page), present_from(slots, page));
     }
-    Ok(())
 }
 
 #[test]
-fn runs_and_slots_answer_alike(rt: HostRuntime) -> Result<(), Fail> {
+fn runs_and_slots_answer_alike(rt: HostRuntime) {
     let mut index = FileIndex::new(rt.alloc());
-    let mut slots = no_pages(rt.alloc())?;
+    let mut slots = no_pages(&rt, rt.alloc());
     let mut state: u32 = 1;
     for call in 0..160u64 {
         state = state.wrapping_mul(1_103_515_245).wrapping_add(12_345);
@@ -295,14 +282,13 @@ fn runs_and_slots_answer_alike(rt: HostRuntime) -> Result<(), Fail> {
             index.cut_from(first);
             clear(&mut slots, first);
         } else {
-            write(&rt, &mut index, first, len, id(call / 5, 0))?;
+            write(&rt, &mut index, first, len, id(call / 5, 0));
             fill(&mut slots, first, len, &id(call / 5, 0));
         }
         if call % 10 == 9 {
-            assert_same(&rt, rt.alloc(), &index, &slots)?;
+            assert_same(&rt, rt.alloc(), &index, &slots);
         }
     }
-    Ok(())
 }
 
 #[test]

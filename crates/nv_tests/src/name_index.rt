@@ -2,12 +2,11 @@
 //! and the reserved name are as they were, and the call is made once more.
 
 use crate::compare::{crosses_threads, same};
-use crate::scenes::{handle, id};
-use nv_base::{Fault, Name};
+use crate::scenes::{handle, id, name};
+use nv_base::Fault;
 use nv_nindex::{Binding, NameIndex};
 use std::alloc::Global;
 use std::process::Abort;
-use std::test::Fail;
 
 /// A change of a directory, made by the entry of the commit with its place in the table.
 enum Change {
@@ -30,23 +29,18 @@ fn binding(ino: u64, commit: u64) -> Binding {
 }
 
 /// Reserves a name. Where a growth is refused nothing has changed, and it asks again.
-fn reserve(
-    rt: &impl Abort,
-    alloc: Global,
-    index: &mut NameIndex,
-    bytes: &[u8],
-) -> Result<(), Fail> {
-    let name = Name::read(alloc, bytes)?;
+fn reserve(rt: &impl Abort, alloc: Global, index: &mut NameIndex, bytes: &[u8]) {
+    let name = name(rt, alloc, bytes);
     let len = index.len();
     let was_reserved = index.is_reserved(bytes);
     if let Err(fault) = index.reserve_one(&name) {
         same(rt, fault, Fault::OutOfMemory);
         same(rt, index.is_reserved(bytes), was_reserved);
-        index.reserve_one(&name)?;
+        same(rt, index.len(), len);
+        index.reserve_one(&name).expect(rt, "memory for a name");
     }
     same(rt, index.len(), len);
     assert!(rt; index.is_reserved(bytes) != index.is_bound(bytes));
-    Ok(())
 }
 
 fn bind(rt: &impl Abort, index: &mut NameIndex, name: &[u8], binding: Binding) {
@@ -55,43 +49,36 @@ fn bind(rt: &impl Abort, index: &mut NameIndex, name: &[u8], binding: Binding) {
 }
 
 /// Makes a change by the entry of a commit.
-fn make(
-    rt: &impl Abort,
-    alloc: Global,
-    index: &mut NameIndex,
-    change: &Change,
-    commit: u64,
-) -> Result<(), Fail> {
+fn make(rt: &impl Abort, alloc: Global, index: &mut NameIndex, change: &Change, commit: u64) {
     match change {
-        Reserve(name) => reserve(rt, alloc, index, name)?,
+        Reserve(name) => reserve(rt, alloc, index, name),
         Bind(name, ino) => {
-            reserve(rt, alloc, index, name)?;
+            reserve(rt, alloc, index, name);
             bind(rt, index, name, binding(*ino, commit));
         }
         Unbind(name) => index.unbind(name),
         Clear => index.clear(),
     }
-    Ok(())
 }
 
 /// Makes the changes one after another.
-fn changed(rt: &impl Abort, alloc: Global, changes: &[Change]) -> Result<NameIndex, Fail> {
+fn changed(rt: &impl Abort, alloc: Global, changes: &[Change]) -> NameIndex {
     let mut index = NameIndex::new(alloc);
     for (commit, change) in changes.iter().enumerate() {
-        make(rt, alloc, &mut index, change, commit as u64)?;
+        make(rt, alloc, &mut index, change, commit as u64);
     }
-    Ok(index)
+    index
 }
 
 /// Whether the names are these, by each way to read them.
-fn check(rt: &impl Abort, index: &NameIndex, want: &[Row]) -> Result<(), Fail> {
+fn check(rt: &impl Abort, index: &NameIndex, want: &[Row]) {
     same(rt, index.len(), want.len());
     same(rt, index.is_empty(), want.is_empty());
     let list = match index.list() {
         Ok(list) => list,
         Err(fault) => {
             same(rt, fault, Fault::OutOfMemory);
-            index.list()?
+            index.list().expect(rt, "memory for a list")
         }
     };
     same(rt, list.len(), want.len());
@@ -108,7 +95,6 @@ fn check(rt: &impl Abort, index: &NameIndex, want: &[Row]) -> Result<(), Fail> {
     }
     same(rt, place, want.len());
     assert!(rt; index.at(place).is_none());
-    Ok(())
 }
 
 /// Changes, and the names that they leave, in order.
@@ -165,13 +151,12 @@ const ORDERS: [(&[Change], &[Row]); 7] = [
 ];
 
 #[test]
-fn names_stand_in_the_order_of_their_entries(rt: HostRuntime) -> Result<(), Fail> {
+fn names_stand_in_the_order_of_their_entries(rt: HostRuntime) {
     for (changes, want) in &ORDERS {
-        let index = changed(&rt, rt.alloc(), changes)?;
-        check(&rt, &index, want)?;
+        let index = changed(&rt, rt.alloc(), changes);
+        check(&rt, &index, want);
         same(&rt, index.get(b"unbound"), None);
     }
-    Ok(())
 }
 
 const NAMES: &[&[u8]] = &[b"x", b"y", b"a"];
@@ -198,12 +183,11 @@ const RESERVED: [(&[Change], Option<&[u8]>); 5] = [
 ];
 
 #[test]
-fn at_most_one_name_stands_reserved(rt: HostRuntime) -> Result<(), Fail> {
+fn at_most_one_name_stands_reserved(rt: HostRuntime) {
     for (changes, want) in &RESERVED {
-        let index = changed(&rt, rt.alloc(), changes)?;
+        let index = changed(&rt, rt.alloc(), changes);
         is_alone_reserved(&rt, &index, *want);
     }
-    Ok(())
 }
 
 fn is_alone_reserved(rt: &impl Abort, index: &NameIndex, want: Option<&[u8]>) {

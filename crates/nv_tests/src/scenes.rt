@@ -3,7 +3,9 @@
 
 use crate::compare::same;
 use nv_alloc::{Block, BlockQueue, FreeList};
-use nv_base::{BlockNo, CommitNo, EntryId, Fault, Gen, Geometry, GeometryNumbers, Handle, Ino};
+use nv_base::{
+    BlockNo, CommitNo, EntryId, Fault, Gen, Geometry, GeometryNumbers, Handle, Ino, Name,
+};
 use std::alloc::Global;
 use std::process::Abort;
 
@@ -42,6 +44,25 @@ pub fn handle_of(ino: u64, generation: u64) -> Handle {
     Handle {
         ino: Ino::new(ino),
         generation: Gen::new(generation),
+    }
+}
+
+pub fn name(rt: &impl Abort, alloc: Global, bytes: &[u8]) -> Name {
+    match Name::read(alloc, bytes) {
+        Ok(name) => name,
+        Err(fault) => {
+            same(rt, fault, Fault::OutOfMemory);
+            Name::read(alloc, bytes).expect(rt, "memory for a name")
+        }
+    }
+}
+
+/// Adds an item to what a test notes for itself.
+pub fn push<T>(rt: &impl Abort, items: &mut Vec<T>, item: T) {
+    let len = items.len();
+    if let Err(failed) = items.push(item) {
+        same(rt, items.len(), len);
+        items.push(failed.value).expect(rt, "memory for an item");
     }
 }
 

@@ -14,6 +14,19 @@ enum Call {
     Unpin(u64),
 }
 
+/// A list of at most `snaps` snapshots, without any. Where its memory is refused it is asked for again.
+fn new_list(rt: &impl Abort, alloc: Global, snaps: u64, first: u64) -> SnapList {
+    assert!(rt; 1 <= first && first <= limits::NUMBER);
+    let first = Epoch::new(first);
+    match SnapList::new(alloc, snaps, first) {
+        Ok(list) => list,
+        Err(fault) => {
+            same(rt, fault, Fault::OutOfMemory);
+            SnapList::new(alloc, snaps, first).expect(rt, "memory for a list")
+        }
+    }
+}
+
 /// The snapshot that a call made or names, or why the call is refused.
 fn answer(rt: &impl Abort, list: &mut SnapList, call: Call) -> Result<Epoch, Fault> {
     let (Call::Remove(s) | Call::Pin(s) | Call::Unpin(s)) = call else {
@@ -38,22 +51,15 @@ fn answer(rt: &impl Abort, list: &mut SnapList, call: Call) -> Result<Epoch, Fau
 type Step = (Call, Result<u64, Fault>, Option<u32>, u64);
 
 /// A list with room for `snaps` after calls.
-fn scene(
-    rt: &impl Abort,
-    alloc: Global,
-    snaps: u64,
-    first: u64,
-    steps: &[Step],
-) -> Result<SnapList, Fault> {
-    assert!(rt; 1 <= first && first <= limits::NUMBER);
-    let mut list = SnapList::new(alloc, snaps, Epoch::new(first))?;
+fn scene(rt: &impl Abort, alloc: Global, snaps: u64, first: u64, steps: &[Step]) -> SnapList {
+    let mut list = new_list(rt, alloc, snaps, first);
     assert!(rt; list.is_empty());
     for (call, wanted, pins, room) in steps {
         let did = answer(rt, &mut list, *call).map(|s| s.number());
         same(rt, did, *wanted);
         same(rt, (list.pins(Epoch::new(2)), list.room()), (*pins, *room));
     }
-    Ok(list)
+    list
 }
 
 const REFUSALS: &[Step] = &[
@@ -72,10 +78,9 @@ const REFUSALS: &[Step] = &[
 ];
 
 #[test]
-fn refuses_in_order(rt: HostRuntime) -> Result<(), Fail> {
-    let list = scene(&rt, rt.alloc(), 4, 1, REFUSALS)?;
+fn refuses_in_order(rt: HostRuntime) {
+    let list = scene(&rt, rt.alloc(), 4, 1, REFUSALS);
     same(&rt, (list.len(), list.epoch()), (3, Epoch::new(5)));
-    Ok(())
 }
 
 const LAST: u64 = limits::NUMBER;
@@ -85,18 +90,17 @@ const PAST_THE_LAST: Step = (Call::Make, Err(Fault::EpochLimit), None, 0);
 const UP_TO_THE_LAST: &[Step] = &[(Call::Make, Ok(LAST - 1), None, 0), PAST_THE_LAST];
 
 #[test]
-fn ends_at_the_last_epoch(rt: HostRuntime) -> Result<(), Fail> {
-    let full = scene(&rt, rt.alloc(), 0, LAST, &[PAST_THE_LAST])?;
+fn ends_at_the_last_epoch(rt: HostRuntime) {
+    let full = scene(&rt, rt.alloc(), 0, LAST, &[PAST_THE_LAST]);
     assert!(rt; full.is_empty());
 
-    let list = scene(&rt, rt.alloc(), 1, LAST - 1, UP_TO_THE_LAST)?;
+    let list = scene(&rt, rt.alloc(), 1, LAST - 1, UP_TO_THE_LAST);
     same(&rt, list.epoch(), Epoch::new(LAST));
     let only = Snapshot {
         number: Epoch::new(LAST - 1),
         pins: 0,
     };
     same(&rt, list.snapshots(), [only].as_slice());
-    Ok(())
 }
 
 const THREE_LIVING: &[Step] = &[
@@ -111,7 +115,7 @@ const THREE_LIVING: &[Step] = &[
 ];
 
 /// The snapshots 3, 4 and 7, of which 4 has a pin.
-fn three_living(rt: &impl Abort, alloc: Global) -> Result<SnapList, Fault> {
+fn three_living(rt: &impl Abort, alloc: Global) -> SnapList {
     scene(rt, alloc, 9, 3, THREE_LIVING)
 }
 
@@ -128,15 +132,17 @@ const HOLDERS: &[(u64, u64, Option<u64>)] = &[
 ];
 
 #[test]
-fn finds_holders(rt: HostRuntime) -> Result<(), Fail> {
-    let list = three_living(&rt, rt.alloc())?;
-    let ids: Vec<Epoch> = list.ids().collect(rt.alloc())?;
-    same(&rt, ids.as_slice(), [3, 4, 7].map(Epoch::new).as_slice());
+fn finds_holders(rt: HostRuntime) {
+    let list = three_living(&rt, rt.alloc());
+    let mut ids = list.ids();
+    for number in [3, 4, 7] {
+        same(&rt, ids.next(), Some(Epoch::new(number)));
+    }
+    same(&rt, ids.next(), None);
     for (birth, death, holder) in HOLDERS {
         let found = list.youngest_in(Epoch::new(*birth), Epoch::new(*death));
         same_for(&rt, &(birth, death), found, holder.map(Epoch::new));
     }
-    Ok(())
 }
 
 /// A number, the place and the pins of the snapshot, and the next older one.
@@ -150,8 +156,8 @@ const PLACES: &[(u64, Option<usize>, Option<u32>, Option<u64>)] = &[
 ];
 
 #[test]
-fn tells_places_pins_and_the_next_older(rt: HostRuntime) -> Result<(), Fail> {
-    let list = three_living(&rt, rt.alloc())?;
+fn tells_places_pins_and_the_next_older(rt: HostRuntime) {
+    let list = three_living(&rt, rt.alloc());
     for (number, place, pins, older) in PLACES {
         let s = Epoch::new(*number);
         same_for(&rt, &number, (list.place(s), list.pins(s)), (*place, *pins));
@@ -159,12 +165,11 @@ fn tells_places_pins_and_the_next_older(rt: HostRuntime) -> Result<(), Fail> {
         same_for(&rt, &number, (list.has(s), list.can_pin(s)), (lives, lives));
         same_for(&rt, &number, list.older(s), older.map(Epoch::new));
     }
-    Ok(())
 }
 
 #[test]
 fn takes_sixty_four_pins(rt: HostRuntime) -> Result<(), Fail> {
-    let mut list = SnapList::new(rt.alloc(), 1, Epoch::new(1))?;
+    let mut list = new_list(&rt, rt.alloc(), 1, 1);
     let first = list.make()?;
     for pins in 0..limits::PINS {
         same(&rt, list.pins(first), Some(pins));
@@ -187,7 +192,7 @@ fn takes_sixty_four_pins(rt: HostRuntime) -> Result<(), Fail> {
 
 #[test]
 fn makes_as_many_as_there_is_room_for(rt: HostRuntime) -> Result<(), Fail> {
-    let mut list = SnapList::new(rt.alloc(), limits::SNAPS, Epoch::new(1))?;
+    let mut list = new_list(&rt, rt.alloc(), limits::SNAPS, 1);
     for number in 1..limits::SNAPS + 1 {
         same(&rt, list.make(), Ok(Epoch::new(number)));
     }
@@ -199,7 +204,6 @@ fn makes_as_many_as_there_is_room_for(rt: HostRuntime) -> Result<(), Fail> {
 }
 
 #[test]
-fn a_snapshot_list_crosses_threads(rt: HostRuntime) -> Result<(), Fail> {
-    crosses_threads(&SnapList::new(rt.alloc(), 1, Epoch::new(1))?);
-    Ok(())
+fn a_snapshot_list_crosses_threads(rt: HostRuntime) {
+    crosses_threads(&new_list(&rt, rt.alloc(), 1, 1));
 }

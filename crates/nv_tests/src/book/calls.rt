@@ -7,7 +7,6 @@ use nv_book::{Book, Retired};
 use nv_entry::Part;
 use std::alloc::Global;
 use std::process::Abort;
-use std::test::Fail;
 
 // Two books that take the same calls and tell the same.
 #[derive(Drop)]
@@ -22,31 +21,54 @@ impl Both {
             let _fixed = enter(rt, &mut self.book, 0, 8);
         }
         let killed = record(commit, part, birth, death);
-        let kept = self.slow.retire(killed).expect(rt, "memory");
+        let kept = self.slow.retire(rt, killed);
         let answer = retire(rt, &mut self.book, killed);
         same_for(rt, &killed, answer == Retired::Kept, kept);
     }
 
     fn make(&mut self, rt: &impl Abort) {
         match self.book.make_snapshot() {
-            Ok(_) => self.slow.make().expect(rt, "memory"),
+            Ok(_) => self.slow.make(rt),
             Err(fault) => same(rt, fault, Fault::TooManySnapshots),
         }
     }
 
-    fn drop_snapshot(&mut self, rt: &impl Abort, s: u64) {
-        if self.book.drop_snapshot(Epoch::new(s)).is_ok() {
-            self.slow.drop_snapshot(Epoch::new(s)).expect(rt, "memory");
+    // Drops a living snapshot, or neither does since it has a pin.
+    fn drop_snapshot(&mut self, rt: &impl Abort, s: Epoch) {
+        let answer = self.slow.drop_snapshot(rt, s);
+        same_for(rt, &s, self.book.drop_snapshot(s), answer);
+    }
+
+    fn pin(&mut self, rt: &impl Abort, s: Epoch) {
+        assert!(rt; self.book.snaps().can_pin(s));
+        same_for(rt, &s, self.book.pin(s), Ok(()));
+        self.slow.pin(rt, s);
+    }
+
+    // Takes a pin from the snapshot, if it has one.
+    fn unpin(&mut self, rt: &impl Abort, s: Epoch) {
+        if self.slow.pins(s) > 0 {
+            assert!(rt; self.book.snaps().pins(s).is_some_and(|pins| pins > 0));
+            self.book.unpin(s);
+            self.slow.unpin(s);
         }
     }
 
-    // Drops the living snapshot at this place, counted round.
-    fn drop_one(&mut self, rt: &impl Abort, place: usize) {
-        let living = self.slow.living.len();
-        if living > 0 {
-            let s = self.slow.living[place % living];
-            self.drop_snapshot(rt, s.number());
+    fn unpin_all(&mut self, rt: &impl Abort) {
+        for _ in 0..self.slow.pinned.len() {
+            if let Some(s) = self.slow.pinned.last().copied() {
+                self.unpin(rt, s);
+            }
         }
+    }
+
+    // The living snapshot at this place, counted round, if any lives.
+    fn living_at(&self, place: u64) -> Option<Epoch> {
+        let living = self.slow.living.len();
+        if living == 0 {
+            return None;
+        }
+        Some(self.slow.living[place as usize % living])
     }
 
     // Picks from both, and answers whether there was a record.
@@ -81,7 +103,7 @@ fn bordered(rt: &impl Abort, alloc: Global) -> Both {
 }
 
 #[test]
-fn drops_in_each_order(rt: HostRuntime) -> Result<(), Fail> {
+fn drops_in_each_order(rt: HostRuntime) {
     for order in [
         [1, 2, 3],
         [1, 3, 2],
@@ -93,7 +115,7 @@ fn drops_in_each_order(rt: HostRuntime) -> Result<(), Fail> {
         let mut both = bordered(&rt, rt.alloc());
         compare(&rt, &both.book, &both.slow);
         for s in order {
-            both.drop_snapshot(&rt, s);
+            both.drop_snapshot(&rt, Epoch::new(s));
             compare(&rt, &both.book, &both.slow);
         }
         for _ in 0..18 {
@@ -101,7 +123,6 @@ fn drops_in_each_order(rt: HostRuntime) -> Result<(), Fail> {
         }
         assert!(rt; !both.pick(&rt));
     }
-    Ok(())
 }
 
 // The next of a row of numbers without a pattern.
@@ -114,17 +135,14 @@ fn next_number(seed: &mut u64) -> u64 {
 
 // One call, chosen by the numbers.
 fn some_call(rt: &impl Abort, both: &mut Both, seed: &mut u64) {
-    let epoch = both.book.epoch().number();
-    match next_number(seed) % 8 {
-        0 => both.make(rt),
-        1 => {
-            let number = next_number(seed) as usize;
-            both.drop_one(rt, number);
-        }
+    match next_number(seed) % 12 {
+        0 | 1 => both.make(rt),
         2 => {
             let _some = both.pick(rt);
         }
+        3..=7 => some_call_on(rt, both, seed),
         _ => {
+            let epoch = both.book.epoch().number();
             let death = epoch.saturating_sub(next_number(seed) % 2);
             let birth = death.saturating_sub(next_number(seed) % 4);
             let page = (next_number(seed) % 4) as u32;
@@ -133,16 +151,30 @@ fn some_call(rt: &impl Abort, both: &mut Both, seed: &mut u64) {
     }
 }
 
+// One call on a living snapshot, if any lives; pins go more often than they come.
+fn some_call_on(rt: &impl Abort, both: &mut Both, seed: &mut u64) {
+    if let Some(s) = both.living_at(next_number(seed)) {
+        match next_number(seed) % 5 {
+            0 => both.pin(rt, s),
+            1 | 2 => both.unpin(rt, s),
+            _ => both.drop_snapshot(rt, s),
+        }
+    }
+}
+
 #[test]
-fn tells_what_a_slow_book_tells(rt: HostRuntime) -> Result<(), Fail> {
+fn tells_what_a_slow_book_tells(rt: HostRuntime) {
     let mut both = two_books(&rt, rt.alloc());
     let mut seed = 7;
     for _ in 0..1000 {
         some_call(&rt, &mut both, &mut seed);
         compare(&rt, &both.book, &both.slow);
     }
-    for place in 0..4 {
-        both.drop_one(&rt, place);
+    both.unpin_all(&rt);
+    for _ in 0..4 {
+        if let Some(s) = both.living_at(0) {
+            both.drop_snapshot(&rt, s);
+        }
         compare(&rt, &both.book, &both.slow);
     }
     same(&rt, both.book.snaps().is_empty(), true);
@@ -151,5 +183,4 @@ fn tells_what_a_slow_book_tells(rt: HostRuntime) -> Result<(), Fail> {
     }
     same(&rt, both.pick(&rt), false);
     same(&rt, both.book.stored(), 0);
-    Ok(())
 }

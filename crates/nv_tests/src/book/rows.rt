@@ -57,7 +57,8 @@ fn deferred_is_not_free(rt: HostRuntime) -> Result<(), Fail> {
     overwritten(&rt, &mut book, 1);
     book.drop_snapshot(Epoch::new(1))?;
     // What was born and died in one epoch is free at once.
-    same(&rt, book.enter(0, 1), Ok((Epoch::new(2), CommitNo::new(4))));
+    let fixed = enter(&rt, &mut book, 0, 1);
+    same(&rt, fixed, (Epoch::new(2), CommitNo::new(4)));
     same(
         &rt,
         retire(&rt, &mut book, record(3, Part::Page(0), 2, 2)),
@@ -129,12 +130,27 @@ fn refuses_in_order(rt: HostRuntime) -> Result<(), Fail> {
     Ok(())
 }
 
+// A book with at most one snapshot, which has one more epoch and one more commit.
+fn nearly_last_book(rt: &impl Abort, alloc: Global) -> Book {
+    let device = device(1).expect(rt, "a geometry");
+    let last = limits::NUMBER - 1;
+    let (epoch, commit) = (Epoch::new(last), CommitNo::new(last));
+    match Book::starting_at(alloc, &device, epoch, commit) {
+        Ok(book) => book,
+        Err(fault) => {
+            same(rt, fault, Fault::OutOfMemory);
+            Book::starting_at(alloc, &device, epoch, commit).expect(rt, "memory for a book")
+        }
+    }
+}
+
 #[test]
-fn ends_at_the_last_numbers(rt: HostRuntime) -> Result<(), Fail> {
+fn ends_at_the_last_numbers(rt: HostRuntime) {
     let last = limits::NUMBER;
-    let (epoch, commit) = (Epoch::new(last - 1), CommitNo::new(last - 1));
-    let mut book = Book::starting_at(rt.alloc(), &device(1)?, epoch, commit)?;
-    same(&rt, book.enter(0, 1), Ok((epoch, CommitNo::new(last))));
+    let epoch = Epoch::new(last - 1);
+    let mut book = nearly_last_book(&rt, rt.alloc());
+    let fixed = enter(&rt, &mut book, 0, 1);
+    same(&rt, fixed, (epoch, CommitNo::new(last)));
     same(&rt, book.enter(0, 1), Err(Fault::CommitLimit));
     same(&rt, book.make_snapshot(), Ok(epoch));
     // The limit of epochs comes before that of snapshots.
@@ -145,12 +161,11 @@ fn ends_at_the_last_numbers(rt: HostRuntime) -> Result<(), Fail> {
         (Epoch::new(last), CommitNo::new(last)),
     );
     same(&rt, (book.history().len(), book.room()), (2, 1));
-    Ok(())
 }
 
 // More records than a book can count are refused, and change nothing.
 #[test]
-fn has_room_for_no_more_than_it_counts(rt: HostRuntime) -> Result<(), Fail> {
+fn has_room_for_no_more_than_it_counts(rt: HostRuntime) {
     let mut book = new_book(&rt, rt.alloc());
     same(
         &rt,
@@ -158,13 +173,13 @@ fn has_room_for_no_more_than_it_counts(rt: HostRuntime) -> Result<(), Fail> {
         Err(Fault::OutOfMemory),
     );
     same(&rt, (book.commit(), book.room()), (CommitNo::new(0), 0));
-    same(&rt, book.enter(3, 7), Ok((Epoch::new(1), CommitNo::new(1))));
+    let fixed = enter(&rt, &mut book, 3, 7);
+    same(&rt, fixed, (Epoch::new(1), CommitNo::new(1)));
     same(&rt, (book.commit(), book.room()), (CommitNo::new(1), 7));
-    Ok(())
 }
 
 #[test]
-fn keeps_the_latest_events(rt: HostRuntime) -> Result<(), Fail> {
+fn keeps_the_latest_events(rt: HostRuntime) {
     for (commits, base, kept) in [(255, 0, 255), (256, 0, 256), (257, 1, 256), (300, 44, 256)] {
         let mut book = new_book(&rt, rt.alloc());
         for _ in 0..commits {
@@ -180,7 +195,6 @@ fn keeps_the_latest_events(rt: HostRuntime) -> Result<(), Fail> {
         };
         same_for(&rt, &commits, history.event(0), Some(first));
     }
-    Ok(())
 }
 
 // What lived at the base. Where memory is refused, the call is made once more.

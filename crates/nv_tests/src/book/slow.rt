@@ -1,9 +1,10 @@
 //! A slow book: one list of single records, and holders by a scan of the living snapshots.
 use crate::compare::{same, same_for};
-use nv_base::Epoch;
+use crate::scenes::push;
+use nv_base::{Epoch, Fault};
 use nv_book::{Book, Record};
 use nv_entry::Part;
-use std::alloc::{AllocError, Global};
+use std::alloc::Global;
 use std::process::Abort;
 
 #[derive(Drop)]
@@ -11,6 +12,8 @@ pub struct SlowBook {
     alloc: Global,
     pub living: Vec<Epoch>,
     pub epoch: u64,
+    // Each pin, by its snapshot.
+    pub pinned: Vec<Epoch>,
     records: Vec<Record>,
 }
 
@@ -41,38 +44,59 @@ impl SlowBook {
             alloc,
             living: Vec::new(alloc),
             epoch: 1,
+            pinned: Vec::new(alloc),
             records: Vec::new(alloc),
         }
     }
 
     // Whether a living snapshot holds it.
-    pub fn retire(&mut self, killed: Record) -> Result<bool, AllocError> {
+    pub fn retire(&mut self, rt: &impl Abort, killed: Record) -> bool {
         if holder(&self.living, &killed, None).is_none() {
-            return Ok(false);
+            return false;
         }
-        self.records.push(killed)?;
-        Ok(true)
+        push(rt, &mut self.records, killed);
+        true
     }
 
-    pub fn make(&mut self) -> Result<(), AllocError> {
-        self.living.push(Epoch::new(self.epoch))?;
+    pub fn make(&mut self, rt: &impl Abort) {
+        push(rt, &mut self.living, Epoch::new(self.epoch));
         self.epoch = self.epoch.saturating_add(1);
-        Ok(())
     }
 
-    // The records whose youngest holder is `s` go to the end.
-    pub fn drop_snapshot(&mut self, s: Epoch) -> Result<(), AllocError> {
+    pub fn pins(&self, s: Epoch) -> u64 {
+        self.pinned.iter().filter(|t| **t == s).count() as u64
+    }
+
+    pub fn pin(&mut self, rt: &impl Abort, s: Epoch) {
+        push(rt, &mut self.pinned, s);
+    }
+
+    // Takes a pin of the snapshot out, if it has one.
+    pub fn unpin(&mut self, s: Epoch) {
+        for place in 0..self.pinned.len() {
+            if self.pinned[place] == s {
+                let _one = self.pinned.remove(place);
+                return;
+            }
+        }
+    }
+
+    // The records whose youngest holder is `s` go to the end; refused where it has a pin.
+    pub fn drop_snapshot(&mut self, rt: &impl Abort, s: Epoch) -> Result<(), Fault> {
+        if self.pins(s) > 0 {
+            return Err(Fault::Pinned);
+        }
         let mut others = Vec::new(self.alloc);
         let mut moved = Vec::new(self.alloc);
         for killed in &self.records {
             if holder(&self.living, killed, None) == Some(s) {
-                moved.push(*killed)?;
+                push(rt, &mut moved, *killed);
             } else {
-                others.push(*killed)?;
+                push(rt, &mut others, *killed);
             }
         }
         for killed in &moved {
-            others.push(*killed)?;
+            push(rt, &mut others, *killed);
         }
         self.records = others;
         self.living.retain(|t| *t != s);
@@ -141,6 +165,8 @@ pub fn compare(rt: &impl Abort, book: &Book, slow: &SlowBook) {
     same(rt, book.stored(), slow.stored());
     for s in &slow.living {
         assert!(rt; book.snaps().has(*s));
+        let pins = book.snaps().pins(*s).map(u64::from);
+        same_for(rt, s, pins, Some(slow.pins(*s)));
         same_for(rt, s, book.held(*s), slow.held(*s));
         same_for(rt, s, book.gain(*s), slow.gain(*s));
     }
