@@ -16,3 +16,6 @@ pub mod Bound
 pub mod NamesNow
 pub mod ValuesNow
 pub mod RunFlags
+pub mod Recounting
+pub mod Removing
+pub mod PageFlags

@@ -12,6 +12,8 @@ mod marks;
 mod number;
 mod publish;
 mod reading;
+mod recount;
+mod removal;
 mod stat;
 mod tally;
 
