@@ -25,3 +25,6 @@ pub mod Erasing
 pub mod ReadAt
 pub mod Stretches
 pub mod RunFlags
+pub mod Recounting
+pub mod Removing
+pub mod PageFlags

@@ -106,9 +106,10 @@ run_passes old queue next flags start count to false ahead h is le next_is =
 pub front_is : {X : Type 0} (old queue : List X) (flags : List Bool) (start count : ℕ) (ahead : List Bool) → IsPassing old queue flags start ahead
     → start + count ≤ length old → (take count queue ≡ take count (drop start old)) × (count ≤ length queue)
 front_is old queue flags start count ahead h le =
-    let fits : count ≤ length (drop start old) = omega (arith, le, length-drop start old) in
-    (ap (take count) h.queue_is ∙ take-append-le count (drop start old) h.done fits,
-     omega (arith, fits, ap length h.queue_is, length-append (drop start old) h.done))
+    let fits : count ≤ length (drop start old) = omega (arith, le, length-drop start old) in (
+      ap (take count) h.queue_is ∙ take-append-le count (drop start old) h.done fits,
+      omega (arith, fits, ap length h.queue_is, length-append (drop start old) h.done),
+    )
 
 -- once all runs have passed, those past them follow
 pub all_passed : {X : Type 0} (old queue next : List X) (flags : List Bool) (start : ℕ) → IsPassing old queue flags start []
@@ -201,3 +202,50 @@ flags_within [] [] = refl
 flags_within (b ∷ flags) [] = refl
 flags_within [] (e ∷ es) = refl
 flags_within (b ∷ flags) (e ∷ es) = ap (λ fs. replicate (part_count e) b ++ fs) (flags_within flags es)
+
+-- the parts of one more entry have passed
+pub passes_on : {X : Type 0} (old queue next : List X) (flags : List Bool) (es : List Entry) (i count : ℕ) (b : Bool) (e : Entry) → AreNext flags es i b e
+    → count ≡ part_count e → part_total es ≤ length old
+    → IsPassing old queue (part_flags flags es) (part_base es i) (part_flags (drop i flags) (drop i es))
+    → next ≡ drop count queue ++ cond b (take count queue) []
+    → IsPassing old next (part_flags flags es) (part_base es (i + 1)) (part_flags (drop (i + 1) flags) (drop (i + 1) es))
+passes_on old queue next flags es i count b e h is fits passing turned =
+    let later = part_flags (drop (i + 1) flags) (drop (i + 1) es) in
+    let ahead : part_flags (drop i flags) (drop i es) ≡ replicate count b ++ later = h.ahead ∙ ap (λ k. replicate k b ++ later) (sym is) in
+    run_passes old queue next (part_flags flags es) (part_base es i) count (part_base es (i + 1)) b later
+    (subst (IsPassing old queue (part_flags flags es) (part_base es i)) ahead passing) (omega (arith, h.to, is)) (omega (arith, h.within, fits)) turned
+
+-- what goes of the rest is known to pass a test, also behind the next entry, and for the next entry itself
+pub goes_on : {X : Type 0} (P : X → Type 0) (old : List X) (flags : List Bool) (es : List Entry) (i : ℕ) (b : Bool) (e : Entry) → AreNext flags es i b e
+    → AllByRecursion P (gone_of (part_flags (drop i flags) (drop i es)) (drop (part_base es i) old))
+    → AllByRecursion P (gone_of (part_flags (drop (i + 1) flags) (drop (i + 1) es)) (drop (part_base es (i + 1)) old))
+goes_on P old flags es i b e h all =
+    gone_passes P old (part_base es i) (part_count e) (part_base es (i + 1)) b (part_flags (drop (i + 1) flags) (drop (i + 1) es)) h.to
+    (subst (λ fs. AllByRecursion P (gone_of fs (drop (part_base es i) old))) h.ahead all)
+
+pub entry_goes : {X : Type 0} (P : X → Type 0) (old queue : List X) (flags : List Bool) (es : List Entry) (i count : ℕ) (e : Entry) → AreNext flags es i false e
+    → count ≡ part_count e → part_total es ≤ length old
+    → IsPassing old queue (part_flags flags es) (part_base es i) (part_flags (drop i flags) (drop i es))
+    → AllByRecursion P (gone_of (part_flags (drop i flags) (drop i es)) (drop (part_base es i) old)) → AllByRecursion P (take count queue)
+entry_goes P old queue flags es i count e h is fits passing all =
+    let front = front_is old queue (part_flags flags es) (part_base es i) count (part_flags (drop i flags) (drop i es)) passing (omega (arith, h.to, h.within, is, fits)) in
+    let one = run_gone P (part_count e) (part_flags (drop (i + 1) flags) (drop (i + 1) es)) (drop (part_base es i) old)
+    (subst (λ fs. AllByRecursion P (gone_of fs (drop (part_base es i) old))) h.ahead all) in
+    subst (AllByRecursion P) (ap (λ k. take k (drop (part_base es i) old)) (sym is) ∙ sym front.0) one
+
+pub entry_there : {X : Type 0} (old queue : List X) (flags : List Bool) (es : List Entry) (i count : ℕ) (b : Bool) (e : Entry) → AreNext flags es i b e
+    → count ≡ part_count e → part_total es ≤ length old
+    → IsPassing old queue (part_flags flags es) (part_base es i) (part_flags (drop i flags) (drop i es)) → count ≤ length queue
+entry_there old queue flags es i count b e h is fits passing =
+    (front_is old queue (part_flags flags es) (part_base es i) count (part_flags (drop i flags) (drop i es)) passing (omega (arith, h.to, h.within, is, fits))).1
+
+-- all entries of the log have passed
+pub log_passed : {X : Type 0} (old queue next : List X) (flags : List Bool) (es : List Entry) (i fresh : ℕ) → length flags ≡ length es → length es ≤ i
+    → fresh ≡ length old - part_total es
+    → IsPassing old queue (part_flags flags es) (part_base es i) (part_flags (drop i flags) (drop i es))
+    → next ≡ drop fresh queue ++ take fresh queue → next ≡ left_of (part_flags flags es) old
+log_passed old queue next flags es i fresh len past size passing turned =
+    let none = flags_end flags es i (omega (arith, past, len)) in
+    let rest : fresh ≡ length old - part_base es i = omega (arith, size, base_past es i past) in
+    all_passed old queue next (part_flags flags es) (part_base es i) (subst (IsPassing old queue (part_flags flags es) (part_base es i)) none passing)
+    (turned ∙ ap (λ k. drop k queue ++ take k queue) rest)

@@ -16,6 +16,8 @@ mod publish;
 mod read;
 mod readers;
 mod reading;
+mod recount;
+mod removal;
 mod stat;
 mod tally;
 
