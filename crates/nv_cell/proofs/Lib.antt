@@ -17,3 +17,4 @@ pub mod NamesNow
 pub mod ValuesNow
 pub mod Counting
 pub mod Weighing
+pub mod Growing

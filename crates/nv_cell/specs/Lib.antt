@@ -8,3 +8,4 @@ pub mod Marks
 pub mod Tallies
 pub mod Reading
 pub mod Weights
+pub mod Room

@@ -8,9 +8,11 @@ mod killed;
 mod kills;
 mod mark;
 mod marks;
+mod needs;
 mod number;
 mod publish;
 mod reading;
+mod ready;
 mod stat;
 mod tally;
 
@@ -20,5 +22,6 @@ pub use index::CellIndex;
 pub use killed::KilledPart;
 pub use mark::Mark;
 pub use marks::Marks;
+pub use ready::ready_cells_can_publish;
 pub use stat::Stat;
 pub use tally::{PageCounts, Tally};
