@@ -28,3 +28,4 @@ pub mod RunFlags
 pub mod Recounting
 pub mod Removing
 pub mod PageFlags
+pub mod Growing

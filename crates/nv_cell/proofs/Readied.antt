@@ -1,5 +1,8 @@
 -- What names ask for stays ready while entries take effect.
-use Rattle.std.proofs.Common.{◌≡◌, ℕ, ◌||◌, Bool, true, false, cond, List, [], ◌∷◌, Some, None, inl, inr, refl, ap, sym, ◌∙◌, subst}
+use Rattle.std.proofs.Common.{◌≡◌, ℕ, zero, suc, ◌<◌, arith, length, take, slice_index_or, Option, ◌||◌, Bool, true, false, cond, List, [], ◌∷◌, Some, None, inl, inr, refl, ap, sym, ◌∙◌, subst}
+use Rattle.std.specs.Prelude.{Result, Ok, Err, OnOk}
+use Rattle.nv_base.specs.declared.fault.Fault.{Fault}
+use Rattle.nv_nindex.specs.declared.binding.Binding.{Binding}
 use Rattle.std.specs.List.{AllByRecursion}
 use Rattle.std.specs.Option.{IsSome}
 use Rattle.nv_base.specs.Names.{same_name}
@@ -10,7 +13,7 @@ use Rattle.nv_entry.specs.declared.item.Item.TheVariants.{Init, Write, SetSize, 
 use Rattle.nv_entry.specs.Keys.{NameKey, covers}
 use Rattle.nv_entry.specs.Refs.{is_bind}
 use Rattle.nv_nindex.specs.NameIndex.{Names, Rebinds, binding_of}
-use Rattle.nv_cell.specs.Effects.{LeavesName, NamesReady}
+use Rattle.nv_cell.specs.Effects.{BindOne, LeavesName, NamesReady}
 use Rattle.nv_cell.specs.Index.{NameReady, NamesAfter}
 
 apart : (m name : List ℕ) → covers 1 (Unbind m) (NameKey name) ≡ false → same_name m name ≡ false
@@ -48,3 +51,59 @@ all_stay id item (other ∷ later) old new h leaves ready =
 -- once an entry has taken effect, the others' names are ready
 pub ready_after : (id : EntryId) (item : Item) (later : List Item) (old new : Names) → NamesAfter id item old new → NamesReady (item ∷ later) old → NamesReady later new
 ready_after id item later old new h ready = (ready.0.1, all_stay id item later old new h ready.0.0 ready.1.1)
+
+-- ---- the name that items bind is made ready
+
+plain_ready : (item : Item) (names : Names) → is_bind item ≡ false → NameReady item names
+plain_ready (Bind name to) names h = cc
+plain_ready (Init kind mode) names h = tt
+plain_ready (Write first run size) names h = tt
+plain_ready (SetSize size) names h = tt
+plain_ready (SetMode mode) names h = tt
+plain_ready (Unbind name) names h = tt
+plain_ready Gone names h = tt
+
+ready_none : (items : List Item) (names : Names) → AllByRecursion (λ item. is_bind item ≡ false) items → AllByRecursion (λ item. NameReady item names) items
+ready_none [] names h = tt
+ready_none (item ∷ items) names h = (plain_ready item names h.0, ready_none items names h.1)
+
+pub none_ready : (items : List Item) (names : Names) → BindOne items → AllByRecursion (λ item. is_bind item ≡ false) items → NamesReady items names
+none_ready items names one h = (one, ready_none items names h)
+
+-- behind a Bind no other may stand
+left_plain : (name : List ℕ) (to : Handle) (other : Item) → LeavesName (Bind name to) other → is_bind other ≡ false
+left_plain name to (Bind m of) h = cc
+left_plain name to (Init kind mode) h = refl
+left_plain name to (Write first run size) h = refl
+left_plain name to (SetSize size) h = refl
+left_plain name to (SetMode mode) h = refl
+left_plain name to (Unbind m) h = refl
+left_plain name to Gone h = refl
+
+all_left : (name : List ℕ) (to : Handle) (later : List Item) → AllByRecursion (LeavesName (Bind name to)) later → AllByRecursion (λ item. is_bind item ≡ false) later
+all_left name to [] h = tt
+all_left name to (other ∷ later) h = (left_plain name to other h.0, all_left name to later h.1)
+
+ready_one : (items : List Item) (i : ℕ) (name : List ℕ) (to : Handle) (names : Names) → BindOne items → i < length items → slice_index_or items i (Bind name to) ≡ Bind name to
+    → AllByRecursion (λ item. is_bind item ≡ false) (take i items) → NameReady (Bind name to) names → AllByRecursion (λ item. NameReady item names) items
+ready_one [] i name to names one lt is plain ready = tt
+ready_one (item ∷ items) zero name to names one lt is plain ready =
+    let leaves : AllByRecursion (LeavesName (Bind name to)) items = subst (λ (x : Item). AllByRecursion (LeavesName x) items) is one.0 in
+    (subst (λ (x : Item). NameReady x names) (sym is) ready, ready_none items names (all_left name to items leaves))
+ready_one (item ∷ items) (suc i) name to names one lt is plain ready =
+    (plain_ready item names plain.0, ready_one items i name to names one.1 (omega (arith, lt)) is plain.1 ready)
+
+-- a name that was reserved where it was not bound is ready
+reserved_ready : (name : List ℕ) (to : Handle) (old new : Names) → new.names ≡ old.names
+    → (binding_of name old.names ≡ None → new.reserved ≡ Some name) → NameReady (Bind name to) new
+reserved_ready name to old new same reserved = go (binding_of name old.names) refl where
+  go : (o : Option Binding) → binding_of name old.names ≡ o → NameReady (Bind name to) new
+  go None q = inr (reserved q)
+  go (Some b) q = inl (rw (same, q) refl)
+
+pub one_ready : (items : List Item) (i : ℕ) (name : List ℕ) (to : Handle) (old new : Names) (result : Result (Unit {0}) Fault) → BindOne items → i < length items
+    → slice_index_or items i (Bind name to) ≡ Bind name to → AllByRecursion (λ item. is_bind item ≡ false) (take i items) → new.names ≡ old.names
+    → (binding_of name old.names ≡ None → OnOk result (new.reserved ≡ Some name)) → OnOk result (NamesReady items new)
+one_ready items i name to old new (Ok u) one lt is plain same reserved =
+    (one, ready_one items i name to new one lt is plain (reserved_ready name to old new same reserved))
+one_ready items i name to old new (Err fault) one lt is plain same reserved = tt

@@ -1,7 +1,10 @@
 -- How many parts items kill at most.
-use Rattle.std.proofs.Common.{◌≡◌, ℕ, ◌+◌, ◌-◌, ◌≤◌, ◌&&◌, Bool, true, false, cond, nat_lt, nat_le, List, [], ◌∷◌, ◌++◌, length, filter, Option, Some, None, arith, refl, ap, sym, ◌∙◌, subst, length-append}
+use Rattle.std.proofs.Common.{◌≡◌, ℕ, ◌+◌, ◌-◌, ◌<◌, ◌≤◌, ◌&&◌, Bool, true, false, cond, nat_lt, nat_le, List, [], ◌∷◌, ◌++◌, length, filter, Option, Some, None, arith, refl, ap, sym, ◌∙◌, subst, length-append, min, take, slice_index_or}
 use Rattle.std.specs.Prelude.{is_some, not}
+use Rattle.std.specs.List.{sum_by}
 use Rattle.std.specs.Option.{option_map}
+use Rattle.std.proofs.lemmas.List.Sums.{sum_by-cons}
+use Rattle.std.proofs.lemmas.List.{take_more}
 use Rattle.std.proofs.lemmas.List.{length-map}
 use Rattle.std.proofs.lemmas.List.Filters.{length-filter_both}
 use Rattle.nv_base.specs.Names.{same_name}
@@ -25,7 +28,7 @@ use Rattle.nv_nindex.specs.NameIndex.{AreDistinct, HaveSameBindings}
 use Rattle.nv_nindex.proofs.Order.{counted}
 use Rattle.nv_cell.specs.Index.{IndexValue, bindings_of, page_part, ref_of}
 use Rattle.nv_cell.specs.Reading.{named}
-use Rattle.nv_cell.specs.Weights.{names_added, pages_added, present_in, weight, weight_by, weights, weights_in}
+use Rattle.nv_cell.specs.Weights.{names_added, pages_added, present_in, weight, weight_by, weights, weights_by, weights_in}
 use Rattle.nv_cell.proofs.Counting.{how_many_added, how_many_same}
 use Rattle.nv_cell.proofs.NamesNow.{distinct, names_are}
 use Rattle.nv_cell.proofs.Publishing.{scan_push}
@@ -132,3 +135,50 @@ pub weight_is : (block : ℕ) (log : List Entry) (index : IndexValue) (item : It
 weight_is block log index item scan same differ =
     weight_more block (λ from. present_from from index.pages.pages) (present_in block log) (length index.names.names) (length (names_of log)) item
     (λ from. omega (arith, present_is block log index scan from)) (omega (arith, names_count log index.names.names same differ))
+
+pub weights_are : (block : ℕ) (log : List Entry) (index : IndexValue) (items : List Item) → ((key : Key) → ref_of index key ≡ scan_ref block log key)
+    → HaveSameBindings (bindings_of log) index.names.names → AreDistinct index.names.names → weights_in block log items ≤ weights_by block index items
+weights_are block log index items scan same differ =
+    weights_more block (present_in block log) (λ from. present_from from index.pages.pages) (length (names_of log)) (length index.names.names) items
+    (λ from. omega (arith, present_is block log index scan from)) (omega (arith, names_count log index.names.names same differ))
+
+-- ---- one more item
+
+weight_same : (block : ℕ) (pages other : ℕ → ℕ) (names bound : ℕ) (item : Item) → ((from : ℕ) → pages from ≡ other from) → names ≡ bound
+    → weight block pages names item ≡ weight block other bound item
+weight_same block pages other names bound item h q =
+    omega (
+      arith,
+      weight_more block pages other names bound item (λ from. omega (arith, h from)) (omega (arith, q)),
+      weight_more block other pages bound names item (λ from. omega (arith, h from)) (omega (arith, q)),
+    )
+
+weights_last : (block : ℕ) (pages : ℕ → ℕ) (names : ℕ) (items : List Item) (item : Item) → weights block pages names (items ++ item ∷ [])
+    ≡ weights block pages names items + weight block (λ from. pages from + sum_by pages_added items) (names + sum_by names_added items) item
+weights_last block pages names [] item =
+    omega (arith, weight_same block pages (λ from. pages from + 0) names (names + 0) item (λ from. omega arith) (omega arith))
+weights_last block pages names (x ∷ items) item =
+    omega (
+      arith,
+      weights_last block (λ from. pages from + pages_added x) (names + names_added x) items item,
+      weight_same block (λ from. pages from + pages_added x + sum_by pages_added items) (λ from. pages from + sum_by pages_added (x ∷ items))
+          (names + names_added x + sum_by names_added items) (names + sum_by names_added (x ∷ items)) item
+          (λ from. omega (arith, sum_by-cons pages_added x items)) (omega (arith, sum_by-cons names_added x items)),
+    )
+
+pub weights_next : (block : ℕ) (pages : ℕ → ℕ) (names : ℕ) (items : List Item) (i : ℕ) (item : Item) → i < length items → item ≡ slice_index_or items i item
+    → weights block pages names (take (i + 1) items)
+    ≡ weights block pages names (take i items) + weight block (λ from. pages from + sum_by pages_added (take i items)) (names + sum_by names_added (take i items)) item
+weights_next block pages names items i item lt is =
+    rw (take_more items i item lt) (rw (← is) (weights_last block pages names (take i items) item))
+
+-- numbers that are counted up to a greatest one
+pub weight_capped : (block most : ℕ) (pages : ℕ → ℕ) (added names : ℕ) (item : Item)
+    → min (weight block (λ from. pages from + min added most) (min names most) item) most ≡ min (weight block (λ from. pages from + added) names item) most
+weight_capped block most pages added names (SetSize size) = omega arith
+weight_capped block most pages added names Gone = omega arith
+weight_capped block most pages added names (Init kind mode) = refl
+weight_capped block most pages added names (Write first run size) = refl
+weight_capped block most pages added names (SetMode mode) = refl
+weight_capped block most pages added names (Bind name to) = refl
+weight_capped block most pages added names (Unbind name) = refl

@@ -10,7 +10,7 @@ use Rattle.nv_entry.specs.Covered.{is_covered, key_at, part_count, part_total}
 use Rattle.nv_entry.specs.Data.{block_in}
 use Rattle.nv_entry.specs.Keys.{sets}
 use Rattle.nv_entry.specs.Log.{value_of}
-use Rattle.nv_log.specs.Chain.{ChainState, empty_chain, log}
+use Rattle.nv_log.specs.Chain.{ChainState, IsChain, empty_chain, log}
 use Rattle.nv_cell.specs.declared.mark.Mark.{Mark}
 use Rattle.nv_cell.specs.declared.mark.Mark.TheVariants.{Current, Out}
 use Rattle.nv_cell.specs.Marks.{is_current, is_there, mark_at}
@@ -72,6 +72,13 @@ pub record HasBlocks (cell : CellState) : Type 0 where
 pub record HasMarks (cell : CellState) : Type 0 where
   pub len : length cell.marks ≡ part_total (log_of cell)
   pub current : (n : ℕ) → n < part_total (log_of cell) → is_current (mark_at cell.marks n) ≡ not (is_covered cell.block (log_of cell) n)
+
+-- what holds of each cell
+pub record IsCell (cell : CellState) : Type 0 where
+  pub some : 0 < cell.block
+  pub chain : IsChain cell.chain
+  pub marks : HasMarks cell
+  pub blocks : HasBlocks cell
 
 -- the entries that are appended and not yet published
 abbrev pub fresh_of : CellState → List Entry

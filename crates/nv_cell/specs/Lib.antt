@@ -12,3 +12,4 @@ pub mod Readers
 pub mod Reading
 pub mod Weights
 pub mod Removal
+pub mod Room

@@ -1,11 +1,12 @@
 -- How much room items need to be published: for the parts that they kill, and for runs of pages.
 use Rattle.std.specs.Prelude.{ℕ, ◌+◌, ◌-◌, List, [], ◌∷◌, length, is_some}
+use Rattle.std.specs.List.{sum_by}
 use Rattle.nv_base.specs.declared.limits.TheConstants.{FILE_PAGES}
 use Rattle.nv_entry.specs.declared.item.Entry.{Entry}
 use Rattle.nv_entry.specs.declared.item.Item.{Item}
 use Rattle.nv_entry.specs.declared.item.Item.TheVariants.{Init, Write, SetSize, SetMode, Bind, Unbind, Gone}
 use Rattle.nv_entry.specs.Index.{names_of}
-use Rattle.nv_entry.specs.Keys.{PageKey, pages_for}
+use Rattle.nv_entry.specs.Keys.{PageKey, pages_for, parts_of}
 use Rattle.nv_entry.specs.Refs.{scan_ref}
 use Rattle.nv_findex.specs.Pages.{how_many, present_from, ref_at}
 use Rattle.nv_cell.specs.Index.{IndexValue}
@@ -23,6 +24,10 @@ names_added item = 0
 abbrev pub runs_of : Item → ℕ
 runs_of (Write first run size) = 2
 runs_of item = 0
+
+-- how many parts entries with these items have
+abbrev pub parts_in : List Item → ℕ
+parts_in items = sum_by (λ item. length (parts_of item)) items
 
 -- how many parts an item kills at most, where so many pages are present from each one on, and so many names bound
 abbrev pub weight : ℕ → (ℕ → ℕ) → ℕ → Item → ℕ
@@ -47,6 +52,10 @@ present_in block log from = how_many (λ page. is_some (scan_ref block log (Page
 -- how many parts these items kill at most behind a log
 abbrev pub weights_in : ℕ → List Entry → List Item → ℕ
 weights_in block log items = weights block (present_in block log) (length (names_of log)) items
+
+-- the same for items one after the other
+abbrev pub weights_by : ℕ → IndexValue → List Item → ℕ
+weights_by block index items = weights block (λ from. present_from from index.pages.pages) (length index.names.names) items
 
 -- how many pages of a range are present in an index
 abbrev pub present_between : IndexValue → ℕ → ℕ → ℕ

@@ -2,7 +2,7 @@
 
 ghost use Rattle.std.specs.Prelude.{◌≡◌, ◌+◌, ◌<◌, ◌≤◌, ◌^◌, ◌⊎◌, [], None, Some, slice_index_or, length, map};
 ghost use Rattle.nv_base.specs.declared.limits.TheConstants.{LEAST_PAGE_ENTRIES, PAGE_ENTRIES};
-ghost use Rattle.nv_cell.specs.Cell.{IsReady, KeepsAppendRoom, empty_cell, killed_of, mark_named, number_in, published, with_mark, without_part};
+ghost use Rattle.nv_cell.specs.Cell.{IsCell, IsReady, KeepsAppendRoom, empty_cell, killed_of, mark_named, number_in, published, with_mark, without_part};
 ghost use Rattle.nv_cell.specs.Numbers.{killed_part};
 
 use crate::number::number_of;
@@ -35,8 +35,8 @@ pub struct InodeCell {
     pub(crate) entries: usize,
     pub(crate) parts: usize,
     // Room for the parts that a publish kills; empty between calls.
-    numbers: Vec<usize>,
-    killed: Vec<KilledPart>,
+    pub(crate) numbers: Vec<usize>,
+    pub(crate) killed: Vec<KilledPart>,
 }
 
 impl Model for InodeCell {
@@ -80,6 +80,13 @@ impl InodeCell {
         ensures { result ≡ self.now.state.version }
     {
         self.version
+    }
+
+    /// What holds of each cell: its log is one, and its marks and blocks are those of its parts. Costs nothing.
+    pub fn known(&self)
+        ensures { IsCell self.now.state }
+    {
+        let _ends = self.chain.ends();
     }
 
     /// The generation of the inode, or in an empty slot that of the next one.

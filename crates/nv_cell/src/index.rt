@@ -4,15 +4,20 @@ ghost use Rattle.std.specs.Prelude.{◌≡◌, ℕ, ◌+◌, ◌-◌, ◌<◌, �
 ghost use Rattle.std.specs.Option.{option_map};
 ghost use Rattle.nv_base.specs.declared.fault.Fault.TheVariants.{OutOfMemory};
 ghost use Rattle.nv_base.specs.declared.limits.TheConstants.{FILE_PAGES};
-ghost use Rattle.nv_findex.specs.Pages.{AreWithin, ref_at};
+ghost use Rattle.nv_findex.specs.Pages.{AreWithin, present_from, ref_at};
 ghost use Rattle.nv_entry.specs.Keys.{Key as KeyValue, is_page, key_named, NameKey, PageKey, KindKey, ModeKey, SizeKey};
 ghost use Rattle.nv_entry.specs.Refs.{ref_after};
 ghost use Rattle.nv_nindex.specs.NameIndex.{AreDistinct, binding_of};
 ghost use Rattle.nv_cell.specs.Index.{IsNextPart, NameReady, NamesAfter, name_part, ref_of};
+ghost use Rattle.nv_cell.specs.Effects.{BindOne, NamesReady};
+ghost use Rattle.nv_cell.specs.Room.{HasSameParts};
 ghost use Rattle.nv_cell.specs.Weights.{runs_of};
+ghost use Rattle.nv_base.specs.Refusals.{FailsOnly};
+ghost use Rattle.std.specs.List.{sum_by};
 
-use nv_base::EntryId;
+use crate::needs::write_count;
 use nv_base::limits::FILE_PAGES;
+use nv_base::{EntryId, Fault};
 use nv_entry::{Entry, Item, Key, PartRef};
 use nv_findex::FileIndex;
 use nv_nindex::{Binding, NameIndex};
@@ -150,6 +155,28 @@ impl CellIndex {
         Some((page, part))
     }
 
+    /// How many pages are present from one on. Costs a look-up and a step for each run from there on.
+    pub fn present_from(&self, page: u32) -> u32
+        ensures { result ≡ present_from page self.now.pages.pages }
+    {
+        self.pages.present_from(page)
+    }
+
+    /// Makes room for what the items need when they take effect: runs of pages, and the name that one binds.
+    ///
+    /// `OutOfMemory` where a growth was refused: then nothing has changed but the room for runs.
+    pub fn reserve(&mut self, items: &[Item]) -> Result<(), Fault>
+        requires one { BindOne items.now }
+        ensures same { HasSameParts self.old self.new }
+        ensures runs { OnOk result (sum_by runs_of items.now ≤ self.new.pages.room) }
+        ensures names { OnOk result (NamesReady items.now self.new.names) }
+        ensures reserved { OnErr result (self.new.names.reserved ≡ self.old.names.reserved) }
+        ensures err { FailsOnly OutOfMemory result }
+    {
+        self.pages.reserve_for(write_count(items))?;
+        reserve_name(&mut self.names, items)
+    }
+
     /// The parts of an entry hold their keys now.
     pub fn put(&mut self, block: u64, entry: &Entry)
         requires block { 0 < block }
@@ -192,6 +219,22 @@ impl CellIndex {
             }
         }
     }
+}
+
+/// The name that one of the items binds is bound or reserved.
+fn reserve_name(names: &mut NameIndex, items: &[Item]) -> Result<(), Fault>
+    requires one { BindOne items.now }
+    ensures names { names.new.names ≡ names.old.names }
+    ensures ready { OnOk result (NamesReady items.now names.new) }
+    ensures reserved { OnErr result (names.new.reserved ≡ names.old.reserved) }
+    ensures err { FailsOnly OutOfMemory result }
+{
+    for item in items {
+        if let Item::Bind { name, .. } = item {
+            return names.reserve_one(name);
+        }
+    }
+    Ok(())
 }
 
 fn part_of(entry: &Entry, place: u32) -> Option<PartRef>

@@ -2,6 +2,8 @@
 
 ghost use Rattle.std.specs.Prelude.{◌≡◌, ℕ, ◌+◌, ◌-◌, ◌<◌, ◌≤◌, ◌^◌, ◌++◌, ◌∷◌, [], Bool, true, false, if◌then◌else◌, IfErr, OnOk, length, replicate, slice_get, slice_index, slice_index_or, slice_set, vec_capacity, vec_len};
 ghost use Rattle.nv_base.specs.declared.fault.Fault.TheVariants.{OutOfMemory};
+ghost use Rattle.nv_base.specs.Refusals.{FailsOnly};
+ghost use Rattle.nv_cell.specs.Room.{HaveGrown};
 ghost use Rattle.nv_cell.specs.Marks.{bit, is_current, is_there, mark_at};
 ghost use Rattle.nv_cell.specs.Tallies.{AreCounts, AreRuns, AreTallied, HasSpare, IsInRun, SameCapacity, end_at, is_in, moved, start_at, tally_at, counts_at};
 ghost use Rattle.nv_cell.specs.declared.mark.Mark.TheVariants as mark;
@@ -81,6 +83,23 @@ impl Marks {
         ensures { IsInRun self.now.ends.items n result }
     {
         run_of(&self.ends, n)
+    }
+
+    /// Makes room for the marks of so many parts and entries more, and for so many pages in all.
+    ///
+    /// `OutOfMemory` where a growth was refused: then nothing has changed but room.
+    pub fn reserve(&mut self, parts: usize, entries: usize, pages: usize) -> Result<(), Fault>
+        ensures same { HaveGrown self.old self.new }
+        ensures spare { OnOk result (HasSpare self.new parts entries) }
+        ensures pages { OnOk result (pages ≤ vec_capacity self.new.pages) }
+        ensures counted { OnOk result (parts < 2 ^ 63) }
+        ensures err { FailsOnly OutOfMemory result }
+    {
+        self.marks.reserve(parts)?;
+        self.ends.reserve(entries)?;
+        self.tallies.reserve(entries)?;
+        self.pages.reserve(pages.saturating_sub(self.pages.len()))?;
+        Ok(())
     }
 
     /// Adds the marks of an entry's parts, each current, and counts the entry in its page. Grows nothing.
