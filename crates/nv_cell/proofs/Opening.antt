@@ -132,9 +132,9 @@ start_last : (ends : List ℕ) (new len : ℕ) → (0 < length ends → get_or e
 start_last [] new len last none = sym (none refl)
 start_last (e ∷ ends) new len last none =
     start_old (e ∷ ends) new (length (e ∷ ends)) (omega arith) ∙ after (e ∷ ends) (omega arith) ∙ last (omega arith) where
-  after : (xs : List ℕ) → 0 < length xs → start_at xs (length xs) ≡ slice_index_or xs (length xs - 1) 0
-  after [] lt = absurd (omega arith)
-  after (x ∷ xs) lt = let a : (length (x ∷ xs) == 0) ≡ false = grind (arith, nat_tests) in rw a refl
+      after : (xs : List ℕ) → 0 < length xs → start_at xs (length xs) ≡ slice_index_or xs (length xs - 1) 0
+      after [] lt = absurd (omega arith)
+      after (x ∷ xs) lt = let a : (length (x ∷ xs) == 0) ≡ false = grind (arith, nat_tests) in rw a refl
 
 take_none : (ends : List ℕ) → length ends ≤ 0 → take (length ends - 1) ends ≡ ends
 take_none [] le = refl

@@ -1,14 +1,17 @@
 -- What appending an entry makes of a cell.
-use Rattle.std.specs.Prelude.{ℕ, ◌+◌, ◌-◌, ◌≤◌, List, [], ◌∷◌, ◌++◌, length, map, replicate, take, Option, Some, None}
+use Rattle.std.specs.Prelude.{ℕ, ◌+◌, ◌-◌, ◌<◌, ◌≤◌, List, [], ◌∷◌, ◌++◌, length, map, replicate, take, Option, Some, None}
 use Rattle.std.specs.List.{range_with_len}
+use Rattle.std.specs.Option.{ForSome}
 use Rattle.nv_alloc.specs.Block.{BlockValue}
+use Rattle.nv_base.specs.Ids.{IsIdBefore}
 use Rattle.nv_base.specs.declared.limits.TheConstants.{FILE_PAGES}
 use Rattle.nv_entry.specs.declared.item.Entry.{Entry}
 use Rattle.nv_entry.specs.declared.item.Item.{Item}
 use Rattle.nv_entry.specs.declared.item.Item.TheVariants.{Write}
+use Rattle.nv_entry.specs.Covered.{part_count}
 use Rattle.nv_entry.specs.Keys.{parts_of}
-use Rattle.nv_log.specs.Chain.{appended as appended_chain}
-use Rattle.nv_cell.specs.Cell.{CellRoom, CellState}
+use Rattle.nv_log.specs.Chain.{appended as appended_chain, last_epoch, last_id, room_of}
+use Rattle.nv_cell.specs.Cell.{CellRoom, CellState, CellValue}
 
 -- the numbers of the blocks of an item's pages
 abbrev pub run_numbers : Item → List ℕ
@@ -28,6 +31,15 @@ blocks_for item blocks = take (length (run_numbers item)) blocks
 abbrev pub slots_of : Item → List BlockValue → List (Option BlockValue)
 slots_of (Write first run size) blocks = None ∷ map Some blocks
 slots_of item blocks = replicate (length (parts_of item)) None
+
+-- there is room for an entry, and it may stand behind the last one
+pub record MayAppend (e : Entry) (cell : CellValue) : Type 0 where
+  pub page : 0 < room_of cell.state.chain
+  pub entries : 0 < cell.room.entries
+  pub parts : part_count e ≤ cell.room.parts
+  pub id : ForSome (last_id cell.state.chain) (λ last. IsIdBefore last e.id)
+  pub epoch : ForSome (last_epoch cell.state.chain) (λ last. last ≤ e.epoch)
+  pub within : IsWithinFile e.item
 
 -- the cell with one more entry, past the tail, with the blocks of its pages
 abbrev pub appended : Entry → List BlockValue → CellState → CellState

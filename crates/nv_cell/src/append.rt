@@ -1,17 +1,16 @@
 //! Entries and pages that are added past the tail.
 
-ghost use Rattle.std.specs.Prelude.{◌≡◌, ◌+◌, ◌-◌, ◌<◌, ◌≤◌, ◌++◌, ◌∷◌, [], None, Some, drop, if◌then◌else◌, length, map, nat_lt, replicate, take, vec_capacity, vec_len};
-ghost use Rattle.std.specs.Option.{ForSome};
+ghost use Rattle.std.specs.Prelude.{◌≡◌, ◌+◌, ◌-◌, ◌<◌, ◌≤◌, ◌++◌, ◌∷◌, ◌↔◌, IsTrue, [], None, Some, drop, if◌then◌else◌, length, map, nat_lt, replicate, take, vec_capacity, vec_len};
 ghost use Rattle.nv_alloc.specs.Block.{numbers_of};
-ghost use Rattle.nv_base.specs.Ids.{IsIdBefore};
 ghost use Rattle.nv_entry.specs.Covered.{part_count};
 ghost use Rattle.nv_entry.specs.Keys.{parts_of};
-ghost use Rattle.nv_log.specs.Chain.{last_epoch, last_id, room_of, with_page};
-ghost use Rattle.nv_cell.specs.Append.{IsWithinFile, after_append, appended, blocks_for, run_numbers, slots_of};
+ghost use Rattle.nv_log.specs.Chain.{with_page};
+ghost use Rattle.nv_cell.specs.Append.{IsWithinFile, MayAppend, after_append, appended, blocks_for, run_numbers, slots_of};
 ghost use Rattle.nv_cell.specs.Tallies.{no_counts};
 
 use crate::{InodeCell, PageCounts};
 use nv_alloc::{Block, BlockQueue};
+use nv_base::limits::FILE_PAGES;
 use nv_entry::{Entry, Item};
 
 impl InodeCell {
@@ -26,15 +25,26 @@ impl InodeCell {
         self.chain.add_page(block);
     }
 
+    /// Whether there is room for an entry, and it may stand behind the last one.
+    pub fn may_append(&self, entry: &Entry) -> bool
+        ensures { IsTrue result ↔ MayAppend entry.now self.now }
+    {
+        if self.chain.room() == 0 {
+            return false;
+        }
+        if self.entries == 0 {
+            return false;
+        }
+        if self.parts < entry.item.part_count() as usize {
+            return false;
+        }
+        self.chain.may_append(entry.id, entry.epoch) && is_within_file(&entry.item)
+    }
+
     /// Appends an entry past the tail, with the blocks of its pages from the front of the queue. Takes no memory; the
     /// time is that of its parts.
     pub fn append(&mut self, entry: Entry, queue: &mut BlockQueue)
-        requires page { 0 < room_of self.old.state.chain }
-        requires entries { 0 < self.old.room.entries }
-        requires parts { part_count entry ≤ self.old.room.parts }
-        requires id { ForSome (last_id self.old.state.chain) (λ last. IsIdBefore last entry.id) }
-        requires epoch { ForSome (last_epoch self.old.state.chain) (λ last. last ≤ entry.epoch) }
-        requires within { IsWithinFile entry.item }
+        requires next { MayAppend entry self.old }
         requires size { queue.old.size ≡ self.old.state.block }
         requires blocks { numbers_of (blocks_for entry.item queue.old.blocks)
             ≡ run_numbers entry.item }
@@ -55,6 +65,18 @@ impl InodeCell {
         count_pages(&mut self.marks.pages, self.chain.ends().len());
         self.entries -= 1;
         self.parts -= parts;
+    }
+}
+
+/// Whether the pages of an item are pages that a file can have.
+fn is_within_file(item: &Item) -> bool
+    ensures { IsTrue result ↔ IsWithinFile item.now }
+{
+    match item {
+        Item::Write { first, run, .. } => {
+            u64::from(*first) + u64::from(run.len) <= u64::from(FILE_PAGES)
+        }
+        _ => true,
     }
 }
 

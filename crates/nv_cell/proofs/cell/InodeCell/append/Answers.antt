@@ -29,14 +29,14 @@ invariant_of-self c =
     let next : IsChain (appended_chain e s.chain) = subst IsChain c.append.ensures.state c.ends.ensures.chain in
     let within : s.chain.tail ≤ length es = old.within in
     let size : queue.size ≡ s.block = c.requires.size ∙ ap (λ (v : CellValue). v.state.block) (sym c.self.view_is) in
-    let entries : 0 < c.self.inside.entries = subst (λ (v : CellValue). 0 < v.room.entries) (sym c.self.view_is) c.requires.entries in
+    let entries : 0 < c.self.inside.entries = subst (λ (v : CellValue). 0 < v.room.entries) (sym c.self.view_is) c.requires.next.entries in
     let parts : part_count e ≤ c.self.inside.parts =
-    subst (λ (v : CellValue). part_count e ≤ v.room.parts) (sym c.self.view_is) c.requires.parts in
+    subst (λ (v : CellValue). part_count e ≤ v.room.parts) (sym c.self.view_is) c.requires.next.parts in
     let sized : AreSized s.block bs =
     subst (λ (n : ℕ). AreSized n bs) size
     (sized_front queue.size (length (run_numbers e.item)) queue.blocks c.block_bytes-size.ensures.sized) in
     let few : length s.marks ≤ part_total es = omega (arith, inv.marks.len, total_take es s.chain.tail) in
-    let blocks : HasBlocks (appended e bs s) = blocks_append s e bs inv.blocks few c.requires.within c.requires.blocks sized in
+    let blocks : HasBlocks (appended e bs s) = blocks_append s e bs inv.blocks few c.requires.next.within c.requires.blocks sized in
     let after : CellState = appended e bs s in
     let log : take s.chain.tail (es ++ e ∷ []) ≡ take s.chain.tail es = log_stays s.chain.tail es e within in
     let total : part_total (es ++ e ∷ []) ≡ part_total es + part_count e = omega (arith, total_append es (e ∷ [])) in
