@@ -58,7 +58,8 @@ up_to-entries at commit epoch place log items lt =
 pub handle-same : (a b : Handle) → a.ino ≡ b.ino → a.generation ≡ b.generation → a ≡ b
 handle-same a b i g = ap₂ (λ (x y : ℕ). let h : Handle = record { ino = x; generation = y } in h) i g
 
-pub node-stamped : (commit : ℕ) (node : Option NodeCopy) → node_in (λ (h : Handle). stamped commit node) (record { ino = 0; generation = 0 }) ≡ node
+pub node-stamped : (commit : ℕ) (node : Option NodeCopy)
+    → node_in (λ (h : Handle). stamped commit node) (record { ino = 0; generation = 0 }) ≡ node
 node-stamped commit None = refl
 node-stamped commit (Some n) = refl
 
@@ -70,8 +71,11 @@ module _ (bytes : ℕ → List ℕ) (block : ℕ) (slots : ℕ → Slot) where
   log_of handle = (slots handle.ino).log
 
   -- a handle that is its slot's has the node of its log
-  pub own_node : (handle : Handle) → handle.generation ≡ (slots handle.ino).generation → node_in nodes handle ≡ node_now bytes block (log_of handle)
-  own_node handle own = rw (eq-eqb handle.generation (slots handle.ino).generation own) (node-stamped (last_commit (log_of handle)) (node_now bytes block (log_of handle)))
+  pub own_node : (handle : Handle) → handle.generation ≡ (slots handle.ino).generation
+      → node_in nodes handle ≡ node_now bytes block (log_of handle)
+  own_node handle own =
+      rw (eq-eqb handle.generation (slots handle.ino).generation own)
+      (node-stamped (last_commit (log_of handle)) (node_now bytes block (log_of handle)))
 
   module _ (commit epoch : ℕ) (place : ℕ → ℕ) (some : 0 < block) (sound : (ino : ℕ) → IsSound bytes block (slots ino).log) where
     abbrev log_with : Handle → List Item → List Entry
@@ -81,15 +85,19 @@ module _ (bytes : ℕ → List ℕ) (block : ℕ) (slots : ℕ → Slot) where
     planned_gives : (p : Planned) (c : Change) → IsPlanned slots p → Fits bytes block (node_in nodes) p c
         → Gives bytes block (log_with p.handle p.items) (c.becomes (node_in nodes p.handle))
     planned_gives p c is fits =
-        several_give bytes block (log_of p.handle) (entries_of commit epoch (place p.handle.ino) p.items) (c.becomes (node_in nodes p.handle)) some
+        several_give bytes block (log_of p.handle) (entries_of commit epoch (place p.handle.ino) p.items)
+        (c.becomes (node_in nodes p.handle)) some
         (sound p.handle.ino)
-        (subst (λ (items : List Item). MakesAll bytes block items (node_now bytes block (log_of p.handle)) (c.becomes (node_in nodes p.handle)))
+        (subst (λ (items : List Item). MakesAll bytes block items (node_now bytes block (log_of p.handle))
+        (c.becomes (node_in nodes p.handle)))
         (sym (entries-items commit epoch (place p.handle.ino) p.items))
-        (subst (λ (node : Option NodeCopy). MakesAll bytes block p.items node (c.becomes (node_in nodes p.handle))) (own_node p.handle is.own) fits.makes))
+        (subst (λ (node : Option NodeCopy). MakesAll bytes block p.items node (c.becomes (node_in nodes p.handle)))
+        (own_node p.handle is.own) fits.makes))
 
     -- ---- each log
 
-    log_sound : (plan : List Planned) (effect : List Change) → AllByRecursion (IsPlanned slots) plan → AllFit bytes block (node_in nodes) plan effect
+    log_sound : (plan : List Planned) (effect : List Change) → AllByRecursion (IsPlanned slots) plan
+        → AllFit bytes block (node_in nodes) plan effect
         → (ino : ℕ) → IsSound bytes block ((slots ino).log ++ entries_of commit epoch (place ino) (items_for plan ino))
     log_sound [] [] all fit ino = subst (IsSound bytes block) (sym (append-nil (slots ino).log)) (sound ino)
     log_sound [] (c ∷ effect) all fit ino = absurd fit
@@ -113,16 +121,18 @@ module _ (bytes : ℕ → List ℕ) (block : ℕ) (slots : ℕ → Slot) where
     stale_stays [] [] handle all fit q none = none
     stale_stays [] (c ∷ effect) handle all fit q none = absurd fit
     stale_stays (p ∷ plan) [] handle all fit q none = absurd fit
-    stale_stays (p ∷ plan) (c ∷ effect) handle all fit q none = go (same_handle c.handle handle) refl (stale_stays plan effect handle all.1 fit.1 q none) where
-      go : (b : Bool) → same_handle c.handle handle ≡ b → nodes_after commit effect nodes handle ≡ None
-          → cond b (stamped commit (c.becomes (node_in nodes handle))) (nodes_after commit effect nodes handle) ≡ None
-      go false r ih = ih
-      go true r ih =
-          let same = and_parts (c.handle.ino == handle.ino) (c.handle.generation == handle.generation) r in
-          let i : c.handle.ino ≡ handle.ino = eqb-true c.handle.ino handle.ino same.0 in
-          let g : c.handle.generation ≡ handle.generation = eqb-true c.handle.generation handle.generation same.1 in
-          let its : c.handle.generation ≡ (slots c.handle.ino).generation = subst (λ (h : Handle). h.generation ≡ (slots h.ino).generation) fit.0.same all.0.own in
-          absurd (eqb-false handle.generation (slots handle.ino).generation q (sym g ∙ its ∙ ap (λ (x : ℕ). (slots x).generation) i))
+    stale_stays (p ∷ plan) (c ∷ effect) handle all fit q none =
+        go (same_handle c.handle handle) refl (stale_stays plan effect handle all.1 fit.1 q none) where
+          go : (b : Bool) → same_handle c.handle handle ≡ b → nodes_after commit effect nodes handle ≡ None
+              → cond b (stamped commit (c.becomes (node_in nodes handle))) (nodes_after commit effect nodes handle) ≡ None
+          go false r ih = ih
+          go true r ih =
+              let same = and_parts (c.handle.ino == handle.ino) (c.handle.generation == handle.generation) r in
+              let i : c.handle.ino ≡ handle.ino = eqb-true c.handle.ino handle.ino same.0 in
+              let g : c.handle.generation ≡ handle.generation = eqb-true c.handle.generation handle.generation same.1 in
+              let its : c.handle.generation ≡ (slots c.handle.ino).generation =
+              subst (λ (h : Handle). h.generation ≡ (slots h.ino).generation) fit.0.same all.0.own in
+              absurd (eqb-false handle.generation (slots handle.ino).generation q (sym g ∙ its ∙ ap (λ (x : ℕ). (slots x).generation) i))
 
     -- the node that a handle's slot gives after items
     abbrev node_with : Handle → List Item → Option PlainNode
@@ -136,23 +146,27 @@ module _ (bytes : ℕ → List ℕ) (block : ℕ) (slots : ℕ → Slot) where
         ∙ sym (rw (eq-eqb handle.generation (slots handle.ino).generation own) refl)
     own_after [] (c ∷ effect) handle all fit own = absurd fit
     own_after (p ∷ plan) [] handle all fit own = absurd fit
-    own_after (p ∷ plan) (c ∷ effect) handle all fit own = subst Whole fit.0.same (go (p.handle.ino == handle.ino) refl (own_after plan effect handle all.1 fit.1 own)) where
-      Whole : Handle → Type 0
-      Whole other = node_with handle (cond (p.handle.ino == handle.ino) p.items (items_for plan handle.ino))
-          ≡ cond (same_handle other handle) (stamped commit (c.becomes (node_in nodes handle))) (nodes_after commit effect nodes handle)
+    own_after (p ∷ plan) (c ∷ effect) handle all fit own =
+        subst Whole fit.0.same (go (p.handle.ino == handle.ino) refl (own_after plan effect handle all.1 fit.1 own)) where
+          Whole : Handle → Type 0
+          Whole other = node_with handle (cond (p.handle.ino == handle.ino) p.items (items_for plan handle.ino))
+              ≡ cond (same_handle other handle) (stamped commit (c.becomes (node_in nodes handle))) (nodes_after commit effect nodes handle)
 
-      here : p.handle ≡ handle → node_with handle p.items ≡ stamped commit (c.becomes (node_in nodes handle))
-      here same = subst (λ (h : Handle). node_with h p.items ≡ stamped commit (c.becomes (node_in nodes h))) same
-          (ap₂ stamped (last_commit-entries (log_of p.handle) commit epoch (place p.handle.ino) p.items all.0.some) (planned_gives p c all.0 fit.0).is)
+          here : p.handle ≡ handle → node_with handle p.items ≡ stamped commit (c.becomes (node_in nodes handle))
+          here same = subst (λ (h : Handle). node_with h p.items ≡ stamped commit (c.becomes (node_in nodes h))) same
+              (ap₂ stamped (last_commit-entries (log_of p.handle) commit epoch (place p.handle.ino) p.items all.0.some)
+              (planned_gives p c all.0 fit.0).is)
 
-      go : (b : Bool) → (p.handle.ino == handle.ino) ≡ b → node_with handle (items_for plan handle.ino) ≡ nodes_after commit effect nodes handle
-          → node_with handle (cond b p.items (items_for plan handle.ino))
-          ≡ cond (b && p.handle.generation == handle.generation) (stamped commit (c.becomes (node_in nodes handle))) (nodes_after commit effect nodes handle)
-      go false r ih = ih
-      go true r ih =
-          let i : p.handle.ino ≡ handle.ino = eqb-true p.handle.ino handle.ino r in
-          let g : p.handle.generation ≡ handle.generation = all.0.own ∙ ap (λ (x : ℕ). (slots x).generation) i ∙ sym own in
-          rw (eq-eqb p.handle.generation handle.generation g) (here (handle-same p.handle handle i g))
+          go : (b : Bool) → (p.handle.ino == handle.ino) ≡ b
+              → node_with handle (items_for plan handle.ino) ≡ nodes_after commit effect nodes handle
+              → node_with handle (cond b p.items (items_for plan handle.ino))
+              ≡ cond (b && p.handle.generation == handle.generation) (stamped commit (c.becomes (node_in nodes handle)))
+              (nodes_after commit effect nodes handle)
+          go false r ih = ih
+          go true r ih =
+              let i : p.handle.ino ≡ handle.ino = eqb-true p.handle.ino handle.ino r in
+              let g : p.handle.generation ≡ handle.generation = all.0.own ∙ ap (λ (x : ℕ). (slots x).generation) i ∙ sym own in
+              rw (eq-eqb p.handle.generation handle.generation g) (here (handle-same p.handle handle i g))
 
     node_after : (plan : List Planned) (effect : List Change) → IsPlan bytes block slots plan effect → (handle : Handle)
         → node_under bytes block (published commit epoch place plan slots) handle ≡ nodes_after commit effect nodes handle

@@ -31,7 +31,8 @@ module _ (bytes : ℕ → List ℕ) (block : ℕ) (slots : ℕ → Slot) (some :
 
   -- one more inode
   pub and_plan : (handle : Handle) (items : List Item) (becomes : Option NodeCopy → Option NodeCopy) (plan : List Planned) (effect : List Change)
-      → 0 < length items → handle.generation ≡ (slots handle.ino).generation → MakesAll bytes block items (nodes handle) (becomes (nodes handle))
+      → 0 < length items → handle.generation ≡ (slots handle.ino).generation
+      → MakesAll bytes block items (nodes handle) (becomes (nodes handle))
       → IsPlanOf plan effect → IsPlanOf (planned handle items ∷ plan) (change handle becomes ∷ effect)
   and_plan handle items becomes plan effect any own makes rest = record {
     all = (record { some = any; own = own }, rest.all);
@@ -58,19 +59,23 @@ module _ (bytes : ℕ → List ℕ) (block : ℕ) (slots : ℕ → Slot) (some :
       → IsPlanOf (planned handle (Gone ∷ []) ∷ plan) (change handle goes ∷ effect)
   and_gone handle plan effect there rest = and_item handle Gone goes plan effect there tt rest
 
-  pub and_bind : (dir : Handle) (name : List ℕ) (to : Handle) (plan : List Planned) (effect : List Change) → HasKind Dir (nodes dir) → IsPlanOf plan effect
+  pub and_bind : (dir : Handle) (name : List ℕ) (to : Handle) (plan : List Planned) (effect : List Change) → HasKind Dir (nodes dir)
+      → IsPlanOf plan effect
       → IsPlanOf (planned dir (Bind name to ∷ []) ∷ plan) (change dir (with_names (with_last name to)) ∷ effect)
   and_bind dir name to plan effect d rest =
       and_item dir (Bind name to) (with_names (with_last name to)) plan effect (record { node = d.node; is = d.is }) (d.kind_is, refl) rest
 
-  pub and_unbind : (dir : Handle) (name : List ℕ) (plan : List Planned) (effect : List Change) → HasKind Dir (nodes dir) → IsPlanOf plan effect
+  pub and_unbind : (dir : Handle) (name : List ℕ) (plan : List Planned) (effect : List Change) → HasKind Dir (nodes dir)
+      → IsPlanOf plan effect
       → IsPlanOf (planned dir (Unbind name ∷ []) ∷ plan) (change dir (with_names (without name)) ∷ effect)
   and_unbind dir name plan effect d rest =
       and_item dir (Unbind name) (with_names (without name)) plan effect (record { node = d.node; is = d.is }) (d.kind_is, refl) rest
 
   -- both names of one directory
-  pub and_move : (dir : Handle) (old new : List ℕ) (to : Handle) (plan : List Planned) (effect : List Change) → HasKind Dir (nodes dir) → IsPlanOf plan effect
-      → IsPlanOf (planned dir (Unbind old ∷ Bind new to ∷ []) ∷ plan) (change dir (with_names (λ names. with_last new to (without old names))) ∷ effect)
+  pub and_move : (dir : Handle) (old new : List ℕ) (to : Handle) (plan : List Planned) (effect : List Change) → HasKind Dir (nodes dir)
+      → IsPlanOf plan effect
+      → IsPlanOf (planned dir (Unbind old ∷ Bind new to ∷ []) ∷ plan)
+      (change dir (with_names (λ names. with_last new to (without old names))) ∷ effect)
   and_move dir old new to plan effect d rest =
       let between : NodeCopy = record d.node { names = without old d.node.names } in
       let after : NodeCopy = record d.node { names = with_last new to (without old d.node.names) } in
@@ -80,10 +85,12 @@ module _ (bytes : ℕ → List ℕ) (block : ℕ) (slots : ℕ → Slot) (some :
       (record { node = d.node; is = d.is }) (λ s t. second (stored_after block (Unbind old) s) (first s t)) rest
 
   -- a new inode
-  pub and_init : (made : Handle) (kind : Kind) (mode : ℕ) (plan : List Planned) (effect : List Change) → IsFree slots made → IsPlanOf plan effect
+  pub and_init : (made : Handle) (kind : Kind) (mode : ℕ) (plan : List Planned) (effect : List Change) → IsFree slots made
+      → IsPlanOf plan effect
       → IsPlanOf (planned made (Init kind mode ∷ []) ∷ plan) (change made (begins kind mode) ∷ effect)
   and_init made kind mode plan effect free rest =
-      let none : nodes made ≡ None = own_node bytes block slots made free.own ∙ ap (λ (log : List Entry). node_now bytes block log) free.empty in
+      let none : nodes made ≡ None = own_node bytes block slots made free.own
+      ∙ ap (λ (log : List Entry). node_now bytes block log) free.empty in
       and_plan made (Init kind mode ∷ []) (begins kind mode) plan effect (omega arith) free.own
       (subst (λ (node : Option NodeCopy). MakesAll bytes block (Init kind mode ∷ []) node (Some (empty_node kind mode))) (sym none)
       (one_makes bytes block (Init kind mode) None (Some (empty_node kind mode)) some refl)) rest

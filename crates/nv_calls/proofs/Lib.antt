@@ -1,5 +1,9 @@
 pub mod Commits
 pub mod Items
+pub mod Keeps
 pub mod Passed
+pub mod Resized
+pub mod RunLists
+pub mod Same
 pub mod Touched
 pub mod fits

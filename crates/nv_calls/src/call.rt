@@ -2,8 +2,8 @@
 
 use nv_base::{Bytes, Handle, Mode};
 
-/// A call on files and directories. Names and texts are plain bytes: a name may be unlawful, and is refused
-/// then.
+/// A call on files and directories. Names and texts are plain bytes: a name may be unlawful, and is
+/// refused then.
 #[derive(Debug, Drop)]
 pub enum Call {
     /// Makes an empty file in a directory.
@@ -18,8 +18,8 @@ pub enum Call {
         name: Bytes,
         mode: Mode,
     },
-    /// Writes bytes into a file from an offset in bytes on. What lies between the end and the offset
-    /// becomes zeros.
+    /// Writes bytes into a file from an offset in bytes on. What lies between the end and the
+    /// offset becomes zeros.
     Write {
         file: Handle,
         offset: u64,

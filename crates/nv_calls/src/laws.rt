@@ -1,9 +1,15 @@
 //! Laws of plans and effects, each the contract of a function that does nothing.
 
-ghost use Rattle.std.specs.Prelude.{◌≡◌, ◌<◌, ℕ, List};
+ghost use Rattle.std.specs.Prelude.{◌≡◌, ◌<◌, ℕ, List, Option};
+ghost use Rattle.nv_base.specs.declared.numbers.Handle.{Handle};
 ghost use Rattle.nv_entry.specs.Sound.{IsSound};
-ghost use Rattle.nv_calls.specs.Plain.{Change};
-ghost use Rattle.nv_calls.specs.Slots.{Commits, IsPlan, Slot};
+ghost use Rattle.nv_entry.specs.declared.node.NodeCopy.{NodeCopy};
+ghost use Rattle.nv_calls.specs.AllCalls.{IsReady, Taken, effect, plan, refusal};
+ghost use Rattle.nv_calls.specs.Locked.{Agree, KeepsToIts, SameCall, handles};
+ghost use Rattle.nv_calls.specs.Plain.{Change, PlainNode, node_in};
+ghost use Rattle.nv_calls.specs.Refusals.{passes};
+ghost use Rattle.nv_calls.specs.Slots.{Commits, IsPlan, Slot, node_under};
+ghost use Rattle.nv_calls.specs.declared.call.Call.{Call};
 ghost use Rattle.nv_calls.specs.declared.plan.Planned.{Planned};
 
 /// A commit of a plan that fits an effect has that effect on the nodes, leaves each log sound, and changes
@@ -14,4 +20,29 @@ pub fn a_commit()
         → ((ino : ℕ) → IsSound bytes block (slots ino).log)
         → IsPlan bytes block slots plan effect
         → Commits bytes block commit epoch place slots plan effect }
+{}
+
+/// A call that is not refused has a plan that fits its effect, where what was taken is what it needs.
+pub fn plans_fit_effects()
+    ensures { (bytes : ℕ → List ℕ) (block : ℕ) (slots : ℕ → Slot) (taken : Taken) (call : Call)
+        → 0 < block
+        → refusal block (node_in (node_under bytes block slots)) call ≡ passes
+        → IsReady bytes block slots (node_in (node_under bytes block slots)) taken call
+        → IsPlan bytes block slots
+        (plan block (node_in (node_under bytes block slots)) taken call)
+        (effect (node_in (node_under bytes block slots)) taken.made call) }
+{}
+
+/// A call is refused alike, plans alike, has the same effect and is answered alike wherever the nodes that it
+/// locks are the same.
+pub fn calls_read_what_they_lock()
+    ensures { (block : ℕ) (nodes other : Handle → Option PlainNode) (taken : Taken) (call : Call)
+        → Agree nodes other (handles (node_in nodes) call) → SameCall block nodes other taken call }
+{}
+
+/// A call's plan is of the handles that it locks and of the one made, and uses the blocks that were taken and
+/// no others; none where it is of several inodes.
+pub fn plans_keep_to_their_calls()
+    ensures { (block : ℕ) (nodes : Handle → Option NodeCopy) (taken : Taken) (call : Call)
+        → KeepsToIts nodes call taken (plan block nodes taken call) }
 {}

@@ -1,9 +1,9 @@
-//! The file calls, each as what it is: when it is refused, what it appends and changes, and what it is answered.
+//! The file calls, each as what it is: when it is refused, what it appends and changes, what it is answered.
 //!
-//! Contracts speak of a plain world: nodes by handle, with their bytes or names. A call is cut by the step that
-//! decides: its refusal is a function of the nodes at the check, its effect a list of changes at the commit. Its plan
-//! is the items that it appends, inode by inode; a law says that a commit of any plan that fits an effect has that
-//! effect, and another that each call's plan fits its own.
+//! Contracts speak of a plain world: nodes by handle, with their bytes or names. A call is cut by the step
+//! that decides: its refusal is a function of the nodes at the check, its effect a list of changes at the
+//! commit. Its plan is the items that it appends, inode by inode; a law says that a commit of any plan that
+//! fits an effect has that effect, and another that each call's plan fits its own.
 #![tactic(auto)]
 
 mod answer;
@@ -13,6 +13,7 @@ pub mod laws;
 mod nodes;
 mod plan;
 mod refusal;
+mod runs;
 mod wants;
 
 pub use answer::Answer;
@@ -20,3 +21,4 @@ pub use call::Call;
 pub use nodes::Nodes;
 pub use plan::{Plan, Planned};
 pub use refusal::check;
+pub use runs::runs_of;

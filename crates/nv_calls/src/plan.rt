@@ -25,6 +25,19 @@ impl Planned {
         let items = list_of_one(alloc, item)?;
         Ok(Planned { handle, items })
     }
+
+    /// Two items for the log of an inode.
+    pub fn two(
+        alloc: Global,
+        handle: Handle,
+        first: Item,
+        second: Item,
+    ) -> Result<Planned, AllocError>
+        ensures { IfOk result (λ p. p ≡ planned handle (first ∷ second ∷ [])) }
+    {
+        let items = list_of_two(alloc, first, second)?;
+        Ok(Planned { handle, items })
+    }
 }
 
 /// A list of one.

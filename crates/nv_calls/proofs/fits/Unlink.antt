@@ -27,13 +27,15 @@ module _ (bytes : ℕ → List ℕ) (block : ℕ) (slots : ℕ → Slot) (some :
       and_unbind bytes block slots some dir name (planned to (Gone ∷ []) ∷ []) (change to goes ∷ []) d
       (and_gone bytes block slots some to [] [] (is_there to h) (no_plan bytes block slots some))
 
-  pub unlink_fits : unlink_refusal nodes dir name ≡ passes → IsPlan bytes block slots (unlink_plan nodes dir name) (unlink_effect nodes dir name)
+  pub unlink_fits : unlink_refusal nodes dir name ≡ passes
+      → IsPlan bytes block slots (unlink_plan nodes dir name) (unlink_effect nodes dir name)
   unlink_fits passed =
       let d = directory_passed (nodes dir) _ passed in
       leave_fits (lookup nodes dir name) _ d.0 (λ to h. there File (nodes to) (file_passed (nodes to) passes h).0)
       (if_passed (not (is_lawful_name name)) fault.BadName _ d.1).1
 
-  pub rmdir_fits : rmdir_refusal nodes dir name ≡ passes → IsPlan bytes block slots (unlink_plan nodes dir name) (unlink_effect nodes dir name)
+  pub rmdir_fits : rmdir_refusal nodes dir name ≡ passes
+      → IsPlan bytes block slots (unlink_plan nodes dir name) (unlink_effect nodes dir name)
   rmdir_fits passed =
       let d = directory_passed (nodes dir) _ passed in
       leave_fits (lookup nodes dir name) _ d.0 (λ to h. there Dir (nodes to) (directory_passed (nodes to) _ h).0)

@@ -1,14 +1,16 @@
 //! Giving a node another name.
 
-ghost use Rattle.std.specs.Prelude.{◌≡◌, IfOk, Some};
+ghost use Rattle.std.specs.Prelude.{◌≡◌, [], IfOk, Some};
 ghost use Rattle.nv_base.specs.Names.{same_name};
 ghost use Rattle.nv_calls.specs.Plain.{same_handle};
 ghost use Rattle.nv_calls.specs.Refusals.{is_directory};
-ghost use Rattle.nv_calls.specs.calls.Rename.{moved_refusal, own_place, rename_refusal, replaced_refusal};
+ghost use Rattle.nv_calls.specs.calls.Rename.{bound_plan, move_plan, own_place, rename_refusal, replaced_refusal};
 
-use crate::Nodes;
 use crate::wants::{refuse_if, want_bound, want_directory, want_lawful, want_node};
-use nv_base::{Fault, Handle, Kind};
+use crate::{Nodes, Plan, Planned};
+use nv_base::{Fault, Handle, Kind, Name};
+use nv_entry::Item;
+use std::alloc::{AllocError, Global};
 
 /// Why a rename is refused.
 pub fn check<N: Nodes>(
@@ -51,6 +53,53 @@ fn check_replaced<N: Nodes>(
     let is_dir = is_directory(moved) || is_directory(&kind);
     want_node(kind)?;
     refuse_if(is_dir, Fault::Exists)
+}
+
+/// The first name leaves, the second goes last with what the first led to, and a file at the second goes.
+pub fn plan(
+    alloc: Global,
+    from: Handle,
+    old: Name,
+    to: Handle,
+    new: Name,
+    moved: Handle,
+    other: Option<Handle>,
+) -> Result<Plan, AllocError>
+    ensures { IfOk result (λ plan. plan ≡ bound_plan from old to new (Some moved) other) }
+{
+    let mut plan = plan_of_names(alloc, from, old, to, new, moved)?;
+    if let Some(other) = other {
+        plan.push(Planned::one(alloc, other, Item::Gone)?)?;
+    }
+    Ok(Plan::from_vec(plan))
+}
+
+/// What the two directories append; within one, both items in one log.
+fn plan_of_names(
+    alloc: Global,
+    from: Handle,
+    old: Name,
+    to: Handle,
+    new: Name,
+    moved: Handle,
+) -> Result<Vec<Planned>, AllocError>
+    ensures { IfOk result (λ plan. plan.items
+        ≡ move_plan (same_handle from to) from old to new moved []) }
+{
+    let same = is_same(&from, &to);
+    let unbind = Item::Unbind { name: old };
+    let bind = Item::Bind {
+        name: new,
+        to: moved,
+    };
+    let mut plan = Vec::new(alloc);
+    if same {
+        plan.push(Planned::two(alloc, from, unbind, bind)?)?;
+        return Ok(plan);
+    }
+    plan.push(Planned::one(alloc, from, unbind)?)?;
+    plan.push(Planned::one(alloc, to, bind)?)?;
+    Ok(plan)
 }
 
 /// Whether both names are one, in one directory.

@@ -1,13 +1,19 @@
 //! Writing into a file.
 
-ghost use Rattle.std.specs.Prelude.{◌≡◌, ◌+◌, ◌-◌, ◌*◌, ◌/◌, ◌<◌, ◌≤◌, ◌^◌, length, nat_lt};
-ghost use Rattle.nv_base.specs.declared.limits.TheConstants.{BLOCK_BYTES};
-ghost use Rattle.nv_entry.specs.Bytes.{pages_touched};
+ghost use Rattle.std.specs.Prelude.{◌≡◌, ◌+◌, ◌-◌, ◌*◌, ◌/◌, ◌<◌, ◌≤◌, ◌^◌, ◌∷◌, [], ℕ, List, IfOk, length, nat_lt};
+ghost use Rattle.nv_base.specs.declared.limits.TheConstants.{BLOCK_BYTES, FILE_PAGES};
+ghost use Rattle.nv_entry.specs.Bytes.{pages_touched, written};
+ghost use Rattle.nv_entry.specs.Sound.{blocks_of, write_items};
+ghost use Rattle.nv_calls.specs.Plan.{planned};
 ghost use Rattle.nv_calls.specs.calls.Write.{count_refusal, write_refusal};
 
-use crate::Nodes;
+use crate::plan::list_of_one;
+use crate::runs::write_items;
 use crate::wants::{refuse_if, want_file};
-use nv_base::{Fault, Handle, limits};
+use crate::{Nodes, Plan, Planned};
+use nv_base::{Fault, Handle, Items, limits};
+use nv_entry::Run;
+use std::alloc::{AllocError, Global};
 
 /// Why a write is refused.
 pub fn check<N: Nodes>(
@@ -50,6 +56,41 @@ fn ends_past(size: u64, offset: u64, count: u64) -> bool
         return true;
     }
     count > size - offset
+}
+
+/// One item for each run of the blocks that have the text's pages, with the size of the file after
+/// the call.
+pub fn plan(
+    alloc: Global,
+    block: u64,
+    file: Handle,
+    offset: u64,
+    size: u64,
+    runs: &[Run],
+) -> Result<Plan, AllocError>
+    requires some_bytes { 0 < block }
+    requires fits { offset / block + length (blocks_of runs.now) ≤ FILE_PAGES }
+    ensures { IfOk result (λ plan. plan
+        ≡ planned file (write_items (offset / block) runs.now size) ∷ []) }
+{
+    let first = (offset / block) as u32;
+    let items = Items::from_vec(write_items(alloc, first, runs, size)?);
+    list_of_one(
+        alloc,
+        Planned {
+            handle: file,
+            items,
+        },
+    )
+}
+
+/// The size of a file after a write.
+pub fn size_after(size: u64, offset: u64, count: u64) -> u64
+    requires end { offset + count < 2 ^ 64 }
+    ensures { (before text : List ℕ) → length before ≡ size → length text ≡ count
+        → result ≡ length (written offset text before) }
+{
+    size.max(offset + count)
 }
 
 /// How many pages a text of `count` bytes touches that is written at `offset`.
