@@ -1,5 +1,5 @@
 -- What is still to come of a tree, as the next visit's node is handed in.
-use Rattle.std.proofs.Common.{◌≡◌, ℕ, zero, suc, ◌+◌, List, [], ◌∷◌, ◌++◌, map, Option, Some, None, arith, refl, ap, sym, ◌∙◌}
+use Rattle.std.proofs.Common.{◌≡◌, ℕ, zero, suc, ◌+◌, List, [], ◌∷◌, ◌++◌, map, Option, Some, None, IsSome, arith, refl, ap, sym, ◌∙◌}
 use Rattle.std.proofs.lemmas.Grind.{flat_map-append}
 use Rattle.std.proofs.lemmas.List.{append-nil}
 use Rattle.std.proofs.lemmas.List.Sums.{sum_by-append, sum_by-cons}
@@ -10,7 +10,7 @@ use Rattle.nv_entry.specs.Tree.{names_of_node, node_and_below, path_below, tree_
 use Rattle.nv_entry.specs.declared.names.BoundName.{BoundName}
 use Rattle.nv_entry.specs.declared.node.NodeCopy.{NodeCopy}
 use Rattle.nv_entry.specs.declared.tree.TreeNode.{TreeNode}
-use Rattle.nv_reader.specs.Walk.{GivesNext, Visit, given_for, name_visits, root_visit, to_come, visit_count, visits_after, visits_to_come}
+use Rattle.nv_reader.specs.Walk.{GivesNext, Visit, given_for, name_visits, next_handle, root_visit, to_come, visit_count, visits_after, visits_to_come, wanted_node}
 
 pub whole : (nodes : Handle → Option NodeCopy) (depth : ℕ) (root : Handle) → to_come nodes (root_visit depth root) ≡ tree_from nodes depth [] root
 whole nodes zero root = refl
@@ -61,9 +61,17 @@ fewer_of nodes visit later (Some node) =
     let f : Visit → ℕ = λ v. visit_count nodes (suc v.below) v.handle in
     omega (arith, name_count nodes visit.below visit.path node.names, sum_by-append f (name_visits visit.below visit.path node.names) later)
 
-pub gives_next : (nodes : Handle → Option NodeCopy) (visit : Visit) (later : List Visit)
+gives_next : (nodes : Handle → Option NodeCopy) (visit : Visit) (later : List Visit)
     → GivesNext nodes (visit ∷ later) (given_for (visit ∷ later) (nodes visit.handle)) (visits_after (visit ∷ later) (nodes visit.handle))
 gives_next nodes visit later = record {
   next = next_of nodes visit later (nodes visit.handle);
   fewer = sum_by-cons (λ (v : Visit). visit_count nodes (suc v.below) v.handle) visit later ∙ fewer_of nodes visit later (nodes visit.handle);
 }
+
+-- the same of any walk that has visits to make
+pub handed_next : (nodes : Handle → Option NodeCopy) (visits : List Visit) (node : Option NodeCopy) (given : Option TreeNode) (left : List Visit)
+    → IsSome (next_handle visits) → node ≡ wanted_node nodes visits → given ≡ given_for visits node → left ≡ visits_after visits node
+    → GivesNext nodes visits given left
+handed_next nodes [] _ given left some found is rest = cc
+handed_next nodes (visit ∷ later) _ given left some found is rest =
+    rw (is, rest, found) (gives_next nodes visit later)

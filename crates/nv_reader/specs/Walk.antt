@@ -1,5 +1,5 @@
 -- The walk of a tree: the visits that are still to be made, in order.
-use Rattle.std.specs.Prelude.{ℕ, zero, suc, ◌+◌, ◌≡◌, List, [], ◌∷◌, ◌++◌, drop, map, sum_by, Option, Some, None, option_map}
+use Rattle.std.specs.Prelude.{ℕ, zero, suc, ◌+◌, ◌≡◌, List, [], ◌∷◌, ◌++◌, drop, map, sum_by, Option, Some, None, option_and_then, option_map}
 use Rattle.std.specs.List.{flat_map}
 use Rattle.std.specs.Option.{option_to_list}
 use Rattle.nv_base.specs.declared.numbers.Handle.{Handle}
@@ -28,6 +28,10 @@ name_visits (suc below) path names = map (λ bound. record { path = path_below p
 abbrev pub next_handle : List Visit → Option Handle
 next_handle [] = None
 next_handle (visit ∷ later) = Some visit.handle
+
+-- the node that is wanted next, where `nodes` gives the node under each handle
+abbrev pub wanted_node : (Handle → Option NodeCopy) → List Visit → Option NodeCopy
+wanted_node nodes visits = option_and_then nodes (next_handle visits)
 
 -- what is given out for the node of the next visit
 abbrev pub given_for : List Visit → Option NodeCopy → Option TreeNode

@@ -1,19 +1,15 @@
 //! Laws of walks and trees. Each is a function that does nothing, whose contract is the law.
 
-ghost use Rattle.std.specs.Prelude.{◌≡◌, ◌≤◌, ◌∷◌, [], ℕ, List, Option};
+ghost use Rattle.std.specs.Prelude.{◌≡◌, ◌≤◌, [], ℕ, List, Option};
 ghost use Rattle.nv_base.specs.declared.numbers.Handle.{Handle};
 ghost use Rattle.nv_entry.specs.Tree.{CutsNothing, FormTree, root, tree_from};
 ghost use Rattle.nv_entry.specs.declared.node.NodeCopy.{NodeCopy};
-ghost use Rattle.nv_reader.specs.Walk.{GivesNext, Visit, given_for, root_visit, to_come, visits_after};
+ghost use Rattle.nv_reader.specs.Walk.{root_visit, to_come};
 
-/// A whole walk gives out the tree from its root on: each node that is handed in under its handle is the next of it, in
-/// whatever world, and there is one visit less.
+/// What is to come of a new walk is the tree from its root on.
 pub fn walks_give_the_tree()
-    ensures whole { (nodes : Handle → Option NodeCopy) (depth : ℕ) (root : Handle) →
+    ensures { (nodes : Handle → Option NodeCopy) (depth : ℕ) (root : Handle) →
         to_come nodes (root_visit depth root) ≡ tree_from nodes depth [] root }
-    ensures next { (nodes : Handle → Option NodeCopy) (visit : Visit) (later : List Visit) →
-        GivesNext nodes (visit ∷ later) (given_for (visit ∷ later) (nodes visit.handle))
-        (visits_after (visit ∷ later) (nodes visit.handle)) }
 {}
 
 /// Two depths that cut nothing give the same tree.

@@ -1,8 +1,10 @@
 //! The walk of a tree, one node at a time.
 
-ghost use Rattle.std.specs.Prelude.{◌≡◌, ◌<◌, IfOk, None, OnOk, length};
+ghost use Rattle.std.specs.Prelude.{◌≡◌, IfOk, IsSome, None, OnOk, Option};
 ghost use Rattle.nv_base.specs.Refusals.{FailsOnly, KeepsOnErr};
-ghost use Rattle.nv_reader.specs.Walk.{given_for, next_handle, root_visit, visits_after, visits_below};
+ghost use Rattle.nv_base.specs.declared.numbers.Handle.{Handle};
+ghost use Rattle.nv_entry.specs.declared.node.NodeCopy.{NodeCopy};
+ghost use Rattle.nv_reader.specs.Walk.{GivesNext, given_for, next_handle, root_visit, visits_after, visits_below, wanted_node};
 
 use crate::levels::{Level, Step, leave_done, next_path, next_step, steps_of, take_step};
 use nv_base::{Fault, Handle};
@@ -66,9 +68,11 @@ impl Walk {
 
     /// Takes the node that was wanted, and gives it out with its path; none where the handle leads to no node.
     pub fn hand_in(&mut self, node: Option<NodeCopy>) -> Result<Option<TreeNode>, Fault>
-        requires { 0 < length self.old }
+        requires { IsSome (next_handle self.old) }
         ensures given { IfOk result (λ given. given ≡ given_for self.old node) }
-        ensures rest { OnOk result (self.new ≡ visits_after self.old node) }
+        ensures left { OnOk result (self.new ≡ visits_after self.old node) }
+        ensures next { (nodes : Handle → Option NodeCopy) → node ≡ wanted_node nodes self.old →
+            IfOk result (λ given. GivesNext nodes self.old given self.new) }
         ensures err { FailsOnly Fault.OutOfMemory result }
         ensures same { KeepsOnErr result self.old self.new }
     {
@@ -83,7 +87,7 @@ impl Walk {
 
     /// Goes past the next visit.
     fn pass(&mut self)
-        requires { 0 < length self.old }
+        requires { IsSome (next_handle self.old) }
         ensures { self.new ≡ visits_after self.old None }
     {
         let _step = take_step(&mut self.levels);
@@ -92,7 +96,7 @@ impl Walk {
 
     /// Goes to the names of the next visit's node, unless the tree may not be that deep.
     fn descend(&mut self, names: &[BoundName]) -> Result<(), AllocError>
-        requires { 0 < length self.old }
+        requires { IsSome (next_handle self.old) }
         ensures ok { OnOk result (self.new ≡ visits_below self.old names.now) }
         ensures same { KeepsOnErr result self.old self.new }
     {
