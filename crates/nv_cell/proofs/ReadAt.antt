@@ -1,5 +1,5 @@
 -- Reading a file's bytes page by page.
-use Rattle.std.proofs.Common.{◌≡◌, ℕ, zero, suc, ◌+◌, ◌-◌, ◌*◌, ◌/◌, ◌<◌, ◌≤◌, List, [], ◌∷◌, ◌++◌, length, length-append, min, take, drop, arith, refl, ap, sym, ◌∙◌, subst, inl, inr, append_assoc}
+use Rattle.std.proofs.Common.{◌≡◌, ℕ, zero, suc, ◌+◌, ◌-◌, ◌*◌, ◌/◌, ◌<◌, ◌≤◌, List, [], ◌∷◌, ◌++◌, length, min, take, drop, arith, refl, ap, sym, ◌∙◌, inl, inr}
 use Rattle.std.specs.List.{flat_map, range_with_len}
 use Rattle.std.proofs.lemmas.Bool.{cases_lt}
 use Rattle.std.proofs.lemmas.List.{drop-append-le, drop-drop, drop-take, drop_at, length-drop, length-take, take-append-le, take-take, take_all}
@@ -24,7 +24,8 @@ drop_past block k xs ys len = sym (drop-drop k block (xs ++ ys)) ∙ ap (drop k)
 
 -- the pages from one on
 from_page : (f : ℕ → List ℕ) (block a count page : ℕ) → ((p : ℕ) → length (f p) ≡ block) → page < count
-    → drop (page * block) (flat_map f (range_with_len a count)) ≡ f (a + page) ++ flat_map f (range_with_len (a + page + 1) (count - page - 1))
+    → drop (page * block) (flat_map f (range_with_len a count))
+    ≡ f (a + page) ++ flat_map f (range_with_len (a + page + 1) (count - page - 1))
 from_page f block a zero page full lt = absurd (omega arith)
 from_page f block a (suc count) zero full lt =
     let none : 0 * block ≡ 0 = omega arith in
@@ -35,7 +36,9 @@ from_page f block a (suc count) (suc page) full lt =
     let far : suc page * block ≡ block + page * block = omega arith in
     let here : a + suc page ≡ a + 1 + page = omega arith in
     let rest : suc count - suc page - 1 ≡ count - page - 1 = omega arith in
-    rw (far, here, rest) (drop_past block (page * block) (f a) (flat_map f (range_with_len (a + 1) count)) (full a) ∙ from_page f block (a + 1) count page full (omega (arith, lt)))
+    rw (far, here, rest)
+    (drop_past block (page * block) (f a) (flat_map f (range_with_len (a + 1) count)) (full a)
+    ∙ from_page f block (a + 1) count page full (omega (arith, lt)))
 
 -- a piece of a page is that piece of all
 piece : (f : ℕ → List ℕ) (block count page d n : ℕ) → ((p : ℕ) → length (f p) ≡ block) → page < count → d + n ≤ block
@@ -47,20 +50,24 @@ piece f block count page d n full lt fits =
     from_page f block 0 count page full lt ∙ ap (λ (p : ℕ). f p ++ rest) zero_on in
     let low : d ≤ length (f page) = omega (arith, fits, full page) in
     let short : n ≤ length (drop d (f page)) = omega (arith, fits, full page, length-drop d (f page)) in
-    ap (take n) (sym (drop-drop d (page * block) (flat_map f (range_with_len 0 count))) ∙ ap (drop d) at ∙ drop-append-le d (f page) rest low)
+    ap (take n)
+    (sym (drop-drop d (page * block) (flat_map f (range_with_len 0 count)))
+    ∙ ap (drop d) at ∙ drop-append-le d (f page) rest low)
     ∙ take-append-le n (drop d (f page)) rest short
 
 -- what is read up to a page, and the piece of that page behind it
 pub read_more : (f : ℕ → List ℕ) (block count page start end : ℕ) → ((p : ℕ) → length (f p) ≡ block) → page < count → start ≤ end
     → page * block ≤ end → start ≤ page * block + block
-    → read_at start (min end (page * block) - start) (flat_map f (range_with_len 0 count)) ++ take (min block (end - page * block) - (start - page * block)) (drop (start - page * block) (f page))
+    → read_at start (min end (page * block) - start) (flat_map f (range_with_len 0 count))
+    ++ take (min block (end - page * block) - (start - page * block)) (drop (start - page * block) (f page))
     ≡ read_at start (min end ((page + 1) * block) - start) (flat_map f (range_with_len 0 count))
 read_more f block count page start end full lt order begun near = go (page * block) refl where
   all : List ℕ
   all = flat_map f (range_with_len 0 count)
 
   go : (base : ℕ) → page * block ≡ base
-      → take (min end (page * block) - start) (drop start all) ++ take (min block (end - page * block) - (start - page * block)) (drop (start - page * block) (f page))
+      → take (min end (page * block) - start) (drop start all)
+      ++ take (min block (end - page * block) - (start - page * block)) (drop (start - page * block) (f page))
       ≡ take (min end ((page + 1) * block) - start) (drop start all)
   go base q =
       let next : (page + 1) * block ≡ base + block = omega (arith, q) in
@@ -99,7 +106,8 @@ read_cut at len size start end all e s = elim (cases_lt size at) [
       elim (cases_lt (size - at) len) [
         | inl long ↦
             let count : end - at ≡ size - at = omega (arith, e, long, within) in
-            rw (same, count, cut) (sym (take_all len (take (size - at) (drop at all)) (omega (arith, length-take (size - at) (drop at all)))))
+            rw (same, count, cut)
+            (sym (take_all len (take (size - at) (drop at all)) (omega (arith, length-take (size - at) (drop at all)))))
         | inr short ↦
             let count : end - at ≡ len = omega (arith, e, short, within) in
             rw (same, count, cut) (sym (take-take len (size - at) (drop at all) short))

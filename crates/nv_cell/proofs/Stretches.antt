@@ -1,5 +1,5 @@
 -- The pages of a file by the runs of its index.
-use Rattle.std.proofs.Common.{◌≡◌, ℕ, zero, suc, ◌+◌, ◌-◌, ◌<◌, ◌≤◌, ◌&&◌, ◌^◌, Bool, true, false, not, cond, min, nat_lt, List, [], ◌∷◌, ◌++◌, length, take, drop, Option, Some, None, replicate, arith, refl, ap, sym, ◌∙◌, subst, slice_index_or, inl, inr}
+use Rattle.std.proofs.Common.{◌≡◌, ℕ, zero, suc, ◌+◌, ◌-◌, ◌<◌, ◌≤◌, ◌&&◌, ◌^◌, Bool, true, false, not, cond, min, nat_lt, List, ◌++◌, length, take, drop, Option, Some, None, arith, refl, ap, sym, ◌∙◌, slice_index_or, inl, inr}
 use Rattle.std.specs.Prelude.{option_and_then, unwrap_or}
 use Rattle.std.specs.List.{flat_map, range_with_len}
 use Rattle.std.specs.Option.{IfSome, IsSome, option_map}
@@ -8,22 +8,20 @@ use Rattle.std.proofs.lemmas.List.{length-replicate, take-append-drop}
 use Rattle.nv_alloc.specs.Block.{BlockValue, number_of}
 use Rattle.nv_base.specs.declared.limits.TheConstants.{FILE_PAGES}
 use Rattle.nv_entry.specs.declared.item.Entry.{Entry}
-use Rattle.nv_entry.specs.declared.part_ref.PartRef.{PartRef}
 use Rattle.nv_entry.specs.Covered.{is_covered, key_at, part_total}
 use Rattle.nv_entry.specs.Keys.{Key, PageKey, pages_for}
-use Rattle.nv_entry.specs.Log.{IsLog}
 use Rattle.nv_entry.specs.Node.{block_now, file_bytes, page_bytes, size_now}
 use Rattle.nv_findex.specs.declared.page_ref.PageRef.{PageRef}
 use Rattle.nv_findex.specs.declared.page_run.PageRun.{PageRun}
-use Rattle.nv_findex.specs.Pages.{AreWithin, IsRun, IsRunFrom, IsRunOf, ref_at, run_ref}
-use Rattle.nv_log.specs.Chain.{ChainState, log, place_of}
+use Rattle.nv_findex.specs.Pages.{IsRun, IsRunFrom, IsRunOf, ref_at, run_ref}
+use Rattle.nv_log.specs.Chain.{place_of}
 use Rattle.nv_cell.specs.declared.mark.Mark.{Mark}
 use Rattle.nv_cell.specs.declared.mark.Mark.TheVariants.{Current, Killed, Kept, Out}
 use Rattle.nv_cell.specs.declared.read.Stretch.{Stretch}
 use Rattle.nv_cell.specs.Cell.{CellState, HasBlocks, HasMarks, log_of, mark_or_fresh, page_block}
 use Rattle.nv_cell.specs.Index.{IndexValue, page_part, ref_of}
 use Rattle.nv_cell.specs.Marks.{is_current, is_there, mark_at}
-use Rattle.nv_cell.specs.Numbers.{is_number, number, number_at, part_base}
+use Rattle.nv_cell.specs.Numbers.{is_number, number, part_base}
 use Rattle.nv_cell.specs.Pages.{AreBytesOf, AreSlotsSized, IsStretch, page_now, page_number, pages_now, slot_bytes}
 use Rattle.nv_cell.specs.Tallies.{start_at}
 use Rattle.nv_cell.proofs.Cells.{base_rises}
@@ -56,7 +54,8 @@ scanned_there cell key n marks q =
     let found : is_number (scan_n cell.block (log_of cell) (key_at (log_of cell) n)) n ≡ true =
     ap (λ (k : Key). is_number (scan_n cell.block (log_of cell) k) n) s.1 ∙ ap (λ (o : Option ℕ). is_number o n) q ∙ eq-eqb n n refl in
     let uncovered : is_covered cell.block (log_of cell) n ≡ false =
-    low_and (nat_lt n (part_total (log_of cell))) (is_covered cell.block (log_of cell) n) (sym found ∙ scan_names cell.block (log_of cell) n) in
+    low_and (nat_lt n (part_total (log_of cell))) (is_covered cell.block (log_of cell) n)
+    (sym found ∙ scan_names cell.block (log_of cell) n) in
     let current : is_current (mark_at cell.marks n) ≡ true = marks.current n s.0 ∙ ap not uncovered in
     ap is_there (same_mark cell.marks n (omega (arith, s.0, marks.len))) ∙ current_there (mark_at cell.marks n) current
 
@@ -78,7 +77,8 @@ slot_page bytes block (Some b) h = h b refl
 
 pub page_is : (cell : CellState) (index : IndexValue) (bytes : ℕ → List ℕ) (page : ℕ) → HasMarks cell → HasBlocks cell
     → IsScan cell.block cell.chain.entries cell.chain.tail index → AreBytesOf cell bytes
-    → page_bytes bytes cell.block (block_now cell.block (log_of cell) page) ≡ page_now cell.block cell.blocks (page_number cell.chain.entries index) page
+    → page_bytes bytes cell.block (block_now cell.block (log_of cell) page)
+    ≡ page_now cell.block cell.blocks (page_number cell.chain.entries index) page
 page_is cell index bytes page marks blocks scan are =
     let key = PageKey page in
     let numbers : page_number cell.chain.entries index page ≡ scan_n cell.block (log_of cell) key =
@@ -88,7 +88,8 @@ page_is cell index bytes page marks blocks scan are =
     ∙ ap (λ (o : Option ℕ). slot_bytes cell.block (option_and_then (λ n. slice_index_or cell.blocks n None) o)) (sym numbers)
   where
     go : (o : Option ℕ) → scan_n cell.block (log_of cell) (PageKey page) ≡ o
-        → page_bytes bytes cell.block (option_and_then (page_block cell.block (log_of cell)) o) ≡ slot_bytes cell.block (option_and_then (λ n. slice_index_or cell.blocks n None) o)
+        → page_bytes bytes cell.block (option_and_then (page_block cell.block (log_of cell)) o)
+        ≡ slot_bytes cell.block (option_and_then (λ n. slice_index_or cell.blocks n None) o)
     go None q = refl
     go (Some n) q =
         ap (page_bytes bytes cell.block) (slot_is cell page n marks blocks q)
@@ -103,10 +104,13 @@ flat_same f g a (suc n) same = ap (λ (xs : List ℕ). xs ++ flat_map f (range_w
 pub file_is : (cell : CellState) (index : IndexValue) (bytes : ℕ → List ℕ) → HasMarks cell → HasBlocks cell
     → IsScan cell.block cell.chain.entries cell.chain.tail index → AreBytesOf cell bytes
     → file_bytes bytes cell.block (log_of cell)
-    ≡ take (size_now cell.block (log_of cell)) (pages_now cell.block cell.blocks (page_number cell.chain.entries index) (pages_for cell.block (size_now cell.block (log_of cell))))
+    ≡ take (size_now cell.block (log_of cell))
+    (pages_now cell.block cell.blocks (page_number cell.chain.entries index) (pages_for cell.block (size_now cell.block (log_of cell))))
 file_is cell index bytes marks blocks scan are =
     ap (take (size_now cell.block (log_of cell)))
-    (flat_same (λ page. page_bytes bytes cell.block (block_now cell.block (log_of cell) page)) (page_now cell.block cell.blocks (page_number cell.chain.entries index)) 0 (pages_for cell.block (size_now cell.block (log_of cell)))
+    (flat_same (λ page. page_bytes bytes cell.block (block_now cell.block (log_of cell) page))
+    (page_now cell.block cell.blocks (page_number cell.chain.entries index)) 0
+    (pages_for cell.block (size_now cell.block (log_of cell)))
     (λ page. page_is cell index bytes page marks blocks scan are))
 
 -- each page has as many bytes as a block
@@ -127,7 +131,8 @@ full_page block slots numbers page sized = go (numbers page) where
 pub page_found : (block : ℕ) (es : List Entry) (t : ℕ) (index : IndexValue) (ends : List ℕ) (run : PageRun) (page : ℕ)
     → IsScan block es t index → ((i : ℕ) → i < t → start_at ends i ≡ part_base es i)
     → IsRunOf (ref_at index.pages.pages) run → run.first ≤ page → page < run.end
-    → (page_number es index page ≡ Some (start_at ends (unwrap_or (place_of es run.start.entry) 0) + 1 + run.start.place + (page - run.first)))
+    → (page_number es index page
+    ≡ Some (start_at ends (unwrap_or (place_of es run.start.entry) 0) + 1 + run.start.place + (page - run.first)))
     × (start_at ends (unwrap_or (place_of es run.start.entry) 0) + 1 + run.start.place + (page - run.first) < part_total (take t es))
 page_found block es t index ends run page scan bases is ge lt =
     let place = unwrap_or (place_of es run.start.entry) 0 in
@@ -153,7 +158,8 @@ run_known block es t index run scan is =
 pub stretch_is : (block : ℕ) (es : List Entry) (t : ℕ) (index : IndexValue) (ends : List ℕ) (run : PageRun) (from page : ℕ)
     → IsScan block es t index → ((i : ℕ) → i < t → start_at ends i ≡ part_base es i)
     → part_total (take t es) < 2 ^ 64 → IsRunFrom from (ref_at index.pages.pages) (Some run) → IsRun run → from ≡ min page FILE_PAGES
-    → IsStretch (page_number es index) page (record { first = run.first; end = run.end; number = start_at ends (unwrap_or (place_of es run.start.entry) 0) + 1 + run.start.place })
+    → IsStretch (page_number es index) page
+    (record { first = run.first; end = run.end; number = start_at ends (unwrap_or (place_of es run.start.entry) 0) + 1 + run.start.place })
 stretch_is block es t index ends run from page scan bases small is good at =
     let last = page_found block es t index ends run (run.end - 1) scan bases is.0 (omega (arith, good.some)) (omega (arith, good.some)) in
     let same : from ≡ page = omega (arith, at, is.1, good.within) in

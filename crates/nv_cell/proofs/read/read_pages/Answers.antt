@@ -1,4 +1,4 @@
-use Rattle.std.proofs.Common.{◌≡◌, ℕ, ◌+◌, ◌-◌, ◌*◌, ◌<◌, ◌≤◌, ◌++◌, List, length, min, take, drop, Option, arith, refl, ap, sym, ◌∙◌}
+use Rattle.std.proofs.Common.{◌≡◌, ℕ, ◌+◌, ◌-◌, ◌*◌, ◌<◌, ◌≤◌, ◌++◌, List, min, take, drop, Option, arith, refl, ap, ◌∙◌}
 use Rattle.std.specs.Option.{option_copied}
 use Rattle.nv_entry.specs.Bytes.{read_at}
 use Rattle.nv_cell.specs.Pages.{IsStretch, page_now, page_number, pages_now, slot_bytes}
@@ -37,14 +37,18 @@ loop-page-preserved c =
     record {
       begun = omega (arith, c.loop-page.invariant.begun);
       bytes = λ count le.
-          let more = read_more (page_now block slots numbers) block count page start end (λ p. full_page block slots numbers p c.requires.sized)
+          let more = read_more (page_now block slots numbers) block count page start end
+          (λ p. full_page block slots numbers p c.requires.sized)
           (is_counted end block page count within le) c.requires.order (omega (arith, within)) behind in
           let pushed = c.in_ok-push_part.ensures block (omega (arith, c.min.ensures)) in
-          let piece : take (c.min.result - c.saturating_sub.result) (drop c.saturating_sub.result (slot_bytes block (option_copied c.block_in.result)))
-          ≡ take (min block (end - page * block) - (start - page * block)) (drop (start - page * block) (page_now block slots numbers page)) =
+          let piece : take (c.min.result - c.saturating_sub.result)
+          (drop c.saturating_sub.result (slot_bytes block (option_copied c.block_in.result)))
+          ≡ take (min block (end - page * block) - (start - page * block))
+          (drop (start - page * block) (page_now block slots numbers page)) =
           rw (c.block_in.ensures numbers is, c.min.ensures, c.saturating_sub.ensures) refl in
           pushed
-          ∙ ap (λ (xs : List ℕ). xs ++ take (c.min.result - c.saturating_sub.result) (drop c.saturating_sub.result (slot_bytes block (option_copied c.block_in.result)))) (c.loop-page.invariant.bytes count le)
+          ∙ ap (λ (xs : List ℕ). xs ++ take (c.min.result - c.saturating_sub.result)
+          (drop c.saturating_sub.result (slot_bytes block (option_copied c.block_in.result)))) (c.loop-page.invariant.bytes count le)
           ∙ ap (λ (xs : List ℕ). read_at start (min end (page * block) - start) (pages_now block slots numbers count) ++ xs) piece
           ∙ more;
       stretch = λ lt. stretch_on numbers page c.if-stretch-page.stretch is lt;

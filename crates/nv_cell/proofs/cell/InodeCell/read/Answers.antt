@@ -1,4 +1,4 @@
-use Rattle.std.proofs.Common.{◌≡◌, ℕ, ◌+◌, ◌-◌, ◌*◌, ◌≤◌, List, Option, min, take, arith, refl, ap, sym, ◌∙◌, subst}
+use Rattle.std.proofs.Common.{◌≡◌, ℕ, ◌+◌, ◌-◌, ◌*◌, ◌≤◌, List, Option, min, arith, ap, sym, ◌∙◌, subst}
 use Rattle.std.specs.Prelude.{option_and_then, unwrap_or}
 use Rattle.std.proofs.lemmas.Grind.{div_ceil_times}
 use Rattle.nv_alloc.specs.Block.{BlockValue}
@@ -6,7 +6,7 @@ use Rattle.nv_entry.specs.declared.key.Datum.{Datum}
 use Rattle.nv_entry.specs.Bytes.{read_at}
 use Rattle.nv_entry.specs.Data.{size_in}
 use Rattle.nv_entry.specs.Keys.{pages_for}
-use Rattle.nv_entry.specs.Node.{file_bytes, size_now}
+use Rattle.nv_entry.specs.Node.{size_now}
 use Rattle.nv_cell.specs.Cell.{CellValue, log_of}
 use Rattle.nv_cell.specs.Fields.{state_in}
 use Rattle.nv_cell.specs.Pages.{AreBytesOf, page_number, pages_now}
@@ -39,7 +39,10 @@ returns-clause-bytes c bytes are =
     let slots : c.deref.result.now ≡ s.blocks = c.deref.ensures.value in
     let pages : c.read_pages.new.bytes.items ≡ read_at c.min-start.result (c.min-end.result - c.min-start.result) all =
     c.in_ok-read_pages.ensures (pages_for s.block size) fits
-    ∙ ap (λ (xs : List (Option BlockValue)). read_at c.min-start.result (c.min-end.result - c.min-start.result) (pages_now s.block xs numbers (pages_for s.block size))) slots in
-    let file = file_is s index bytes inv.marks inv.blocks scan (subst (λ (v : CellValue). AreBytesOf v.state bytes) (sym c.self.view_is) are) in
+    ∙ ap (λ (xs : List (Option BlockValue)). read_at c.min-start.result (c.min-end.result - c.min-start.result)
+    (pages_now s.block xs numbers (pages_for s.block size))) slots in
+    let file = file_is s index bytes inv.marks inv.blocks scan
+    (subst (λ (v : CellValue). AreBytesOf v.state bytes) (sym c.self.view_is) are) in
     rw (← c.self.view_is)
-    (c.from_vec.ensures ∙ pages ∙ read_cut c.args.at c.args.len size c.min-start.result c.min-end.result all ended begun ∙ ap (read_at c.args.at c.args.len) (sym file))
+    (c.from_vec.ensures ∙ pages
+    ∙ read_cut c.args.at c.args.len size c.min-start.result c.min-end.result all ended begun ∙ ap (read_at c.args.at c.args.len) (sym file))
