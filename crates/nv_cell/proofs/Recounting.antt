@@ -1,5 +1,5 @@
 -- Tallies and counts told anew.
-use Rattle.std.proofs.Common.{◌≡◌, ℕ, zero, suc, ◌+◌, ◌-◌, ◌<◌, ◌≤◌, ◌==◌, Bool, false, min, List, [], ◌∷◌, ◌++◌, length, take, drop, arith, refl, ap, sym, ◌∙◌, inl, inr}
+use Rattle.std.proofs.Common.{◌≡◌, ℕ, zero, suc, ◌+◌, ◌-◌, ◌<◌, ◌≤◌, ◌==◌, Bool, false, min, List, [], ◌∷◌, ◌++◌, length, take, drop, arith, refl, ap, sym, ◌∙◌, slice_index_or, inl, inr}
 use Rattle.std.proofs.lemmas.Bool.{cases_lt}
 use Rattle.std.proofs.lemmas.Bool.Decides.{nat_tests}
 use Rattle.std.specs.List.{count_by}
@@ -63,38 +63,23 @@ tallied_by tallies ends marks es tail ends_len len marks_len ended current there
       → count_in test marks (start_at ends i) (end_at ends i) ≡ count_in test marks (part_base es i) (part_base es (i + 1))
   run test i lt = rw (begins ends es tail ended i (omega (arith, lt)), ended i lt) refl
 
--- one tally more
-pub tally_more : (f : Tally → ℕ) (tallies : List Tally) (t : Tally) (want : ℕ → ℕ) (len : ℕ) → length tallies ≡ len
-    → ((i : ℕ) → i < len → f (tally_at tallies i) ≡ want i) → f t ≡ want len
-    → (i : ℕ) → i < len + 1 → f (tally_at (tallies ++ t ∷ []) i) ≡ want i
-tally_more f tallies t want len is old new i lt = elim (cases_lt i len) [
-  | inl l ↦ ap f (front tallies i (omega (arith, l, is))) ∙ old i l
-  | inr g ↦ let same : i ≡ len = omega (arith, lt, g) in rw same (ap f (ap (tally_at (tallies ++ t ∷ [])) (sym is) ∙ behind tallies) ∙ new)
+-- one item more
+pub one_more : {X : Type 0} (f : X → ℕ) (d : X) (xs : List X) (x : X) (want : ℕ → ℕ) (len : ℕ) → length xs ≡ len
+    → ((i : ℕ) → i < len → f (slice_index_or xs i d) ≡ want i) → f x ≡ want len
+    → (i : ℕ) → i < len + 1 → f (slice_index_or (xs ++ x ∷ []) i d) ≡ want i
+one_more {X = X} f d xs x want len is old new i lt = elim (cases_lt i len) [
+  | inl l ↦ ap f (front xs i (omega (arith, l, is))) ∙ old i l
+  | inr g ↦ let same : i ≡ len = omega (arith, lt, g) in
+      rw same (ap f (ap (λ n. slice_index_or (xs ++ x ∷ []) n d) (sym is) ∙ behind xs) ∙ new)
 ] where
-  front : (xs : List Tally) (i : ℕ) → i < length xs → tally_at (xs ++ t ∷ []) i ≡ tally_at xs i
+  front : (ys : List X) (i : ℕ) → i < length ys → slice_index_or (ys ++ x ∷ []) i d ≡ slice_index_or ys i d
   front [] i lt = absurd (omega arith)
-  front (x ∷ xs) zero lt = refl
-  front (x ∷ xs) (suc i) lt = front xs i (omega (arith, lt))
+  front (y ∷ ys) zero lt = refl
+  front (y ∷ ys) (suc i) lt = front ys i (omega (arith, lt))
 
-  behind : (xs : List Tally) → tally_at (xs ++ t ∷ []) (length xs) ≡ t
+  behind : (ys : List X) → slice_index_or (ys ++ x ∷ []) (length ys) d ≡ x
   behind [] = refl
-  behind (x ∷ xs) = behind xs
-
-pub counts_more : (f : PageCounts → ℕ) (pages : List PageCounts) (c : PageCounts) (want : ℕ → ℕ) (len : ℕ) → length pages ≡ len
-    → ((i : ℕ) → i < len → f (counts_at pages i) ≡ want i) → f c ≡ want len
-    → (i : ℕ) → i < len + 1 → f (counts_at (pages ++ c ∷ []) i) ≡ want i
-counts_more f pages c want len is old new i lt = elim (cases_lt i len) [
-  | inl l ↦ ap f (front pages i (omega (arith, l, is))) ∙ old i l
-  | inr g ↦ let same : i ≡ len = omega (arith, lt, g) in rw same (ap f (ap (counts_at (pages ++ c ∷ [])) (sym is) ∙ behind pages) ∙ new)
-] where
-  front : (xs : List PageCounts) (i : ℕ) → i < length xs → counts_at (xs ++ c ∷ []) i ≡ counts_at xs i
-  front [] i lt = absurd (omega arith)
-  front (x ∷ xs) zero lt = refl
-  front (x ∷ xs) (suc i) lt = front xs i (omega (arith, lt))
-
-  behind : (xs : List PageCounts) → counts_at (xs ++ c ∷ []) (length xs) ≡ c
-  behind [] = refl
-  behind (x ∷ xs) = behind xs
+  behind (y ∷ ys) = behind ys
 
 -- a run that ends past a list is cut where the list ends
 none_taken : {X : Type 0} (n m : ℕ) → take n (drop {A = X} m []) ≡ []

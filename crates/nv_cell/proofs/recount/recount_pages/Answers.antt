@@ -1,7 +1,7 @@
 use Rattle.std.proofs.Common.{◌≡◌, ℕ, ◌+◌, length, min, arith, ap, sym, ◌∙◌}
 use Rattle.std.proofs.lemmas.List.{length_push}
-use Rattle.nv_cell.specs.Tallies.{count_in, end_at, is_live, is_valid, start_at}
-use Rattle.nv_cell.proofs.Recounting.{count_short, counts_more, start_next}
+use Rattle.nv_cell.specs.Tallies.{count_in, end_at, is_live, is_valid, no_counts, start_at}
+use Rattle.nv_cell.proofs.Recounting.{count_short, one_more, start_next}
 use Rattle.nv_cell.proofs.recount.recount_pages.Goals as goal
 
 pub loop-k-preserved : goal.loop-k-preserved
@@ -24,8 +24,8 @@ loop-k-preserved c =
       started = end ∙ ap (λ n. min n (length tallies)) (sym (start_next ends k));
       len = ap length c.push_reserved.ensures.items ∙ length_push c.loop-k.pages.items counts ∙ ap (λ n. n + 1) inv.len;
       live = λ j lt. rw c.push_reserved.ensures.items
-          (counts_more (λ x. x.live) c.loop-k.pages.items counts want_live k inv.len inv.live live j lt);
+          (one_more (λ x. x.live) no_counts c.loop-k.pages.items counts want_live k inv.len inv.live live j lt);
       valid = λ j lt. rw c.push_reserved.ensures.items
-          (counts_more (λ x. x.valid) c.loop-k.pages.items counts want_valid k inv.len inv.valid valid j lt);
+          (one_more (λ x. x.valid) no_counts c.loop-k.pages.items counts want_valid k inv.len inv.valid valid j lt);
       capacity = c.push_reserved.ensures.capacity ∙ inv.capacity;
     }

@@ -3,9 +3,9 @@ use Rattle.std.proofs.lemmas.Option.{get_or_from_slice_get, slice_get_within}
 use Rattle.std.proofs.lemmas.List.{length_push}
 use Rattle.nv_cell.specs.Marks.{is_current, is_there}
 use Rattle.nv_cell.specs.Numbers.{part_base}
-use Rattle.nv_cell.specs.Tallies.{count_in}
+use Rattle.nv_cell.specs.Tallies.{count_in, no_tally}
 use Rattle.nv_cell.proofs.Cells.{base_next, base_rises, end_step}
-use Rattle.nv_cell.proofs.Recounting.{tallied_by, tally_more}
+use Rattle.nv_cell.proofs.Recounting.{tallied_by, one_more}
 use Rattle.nv_cell.proofs.recount.retally.Goals as goal
 
 pub overflow_add-end : goal.overflow_add-end
@@ -69,9 +69,9 @@ loop-t-preserved c =
       ended = λ i li. rw c.push_reserved-in-loop-t.ensures.items
           (end_step c.loop-t.ends.items es t end i inv.ends_len to li (λ l. inv.ended i l));
       current = λ i li. rw c.push_reserved.ensures.items
-          (tally_more (λ x. x.current) c.loop-t.tallies.items tally want_current t inv.tallies_len inv.current current i li);
+          (one_more (λ x. x.current) no_tally c.loop-t.tallies.items tally want_current t inv.tallies_len inv.current current i li);
       there = λ i li. rw c.push_reserved.ensures.items
-          (tally_more (λ x. x.there) c.loop-t.tallies.items tally want_there t inv.tallies_len inv.there there i li);
+          (one_more (λ x. x.there) no_tally c.loop-t.tallies.items tally want_there t inv.tallies_len inv.there there i li);
       ends_capacity = c.push_reserved-in-loop-t.ensures.capacity ∙ inv.ends_capacity;
       tallies_capacity = c.push_reserved.ensures.capacity ∙ inv.tallies_capacity;
     }
