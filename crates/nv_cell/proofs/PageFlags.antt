@@ -1,5 +1,6 @@
 -- Flags of pages as flags of the log's entries.
-use Rattle.std.proofs.Common.{◌≡◌, ℕ, zero, suc, ◌+◌, ◌-◌, ◌<◌, ◌≤◌, Bool, true, false, List, [], ◌∷◌, ◌++◌, length, take, drop, replicate, get_or, inl, inr, arith, refl, ap, sym, ◌∙◌, length-append, add-one}
+use Rattle.std.proofs.Common.{◌≡◌, ℕ, zero, suc, ◌+◌, ◌-◌, ◌<◌, ◌≤◌, Bool, true, false, List, [], ◌∷◌, ◌++◌, length, take, replicate, get_or, inl, inr, arith, refl, ap, sym, ◌∙◌, length-append, add-one, Some}
+use Rattle.std.specs.Prelude.{slice_get}
 use Rattle.std.proofs.lemmas.Bool.{cases_lt}
 use Rattle.std.proofs.lemmas.List.{length-take, get_or-take}
 use Rattle.nv_entry.specs.declared.item.Entry.{Entry}
@@ -7,7 +8,7 @@ use Rattle.nv_log.specs.Chain.{AreEnds, ChainState, IsChain, end_of, joined, lef
 use Rattle.nv_log.proofs.Flags.{joined-left_of, left_of-none, length-left_of, left_of-select, take-joined_left}
 use Rattle.nv_log.proofs.Parts.{length-ends_from, length-parts, part_at, start_past}
 use Rattle.nv_cell.specs.Removal.{ArePublished, log_flags, run_flags}
-use Rattle.nv_cell.proofs.RunFlags.{spread_is, stays_on}
+use Rattle.nv_cell.proofs.RunFlags.{AreNext, next_parts, spread_is, stays_on}
 use Rattle.nv_cell.proofs.Removing.{IsLeft}
 
 in_front : (n m : ℕ) (b : Bool) (flags : List Bool) (d : Bool) → m < n → get_or (replicate n b ++ flags) m d ≡ b
@@ -30,14 +31,22 @@ flags_count most start [] len [] are is = omega (arith, are)
 flags_count most start [] len (b ∷ stays) are is = absurd (omega (arith, is))
 flags_count most start (e ∷ ends) len [] are is = absurd (omega (arith, is))
 flags_count most start (e ∷ ends) len (b ∷ stays) are is =
-    omega (arith, are.0, length-append (replicate (e - start) b) (run_flags e stays ends), size (e - start) b, flags_count most e ends len stays are.2 (omega (arith, is)))
+    omega (
+      arith,
+      are.0,
+      length-append (replicate (e - start) b) (run_flags e stays ends),
+      size (e - start) b,
+      flags_count most e ends len stays are.2 (omega (arith, is)),
+    )
 
 -- the flag of an entry is that of its page
-pub flag_at : (most start : ℕ) (ends : List ℕ) (len : ℕ) (stays : List Bool) (k i : ℕ) (d : Bool) → AreEnds most start ends len → k < length ends
+pub flag_at : (most start : ℕ) (ends : List ℕ) (len : ℕ) (stays : List Bool) (k i : ℕ) (d : Bool) → AreEnds most start ends len
+    → k < length ends
     → get_or (start ∷ ends) k len ≤ i → i < get_or ends k len → get_or (run_flags start stays ends) (i - start) d ≡ get_or stays k d
 flag_at most start [] len stays k i d are lt from to = absurd (omega arith)
 flag_at most start (e ∷ ends) len [] k i d are lt from to = refl
-flag_at most start (e ∷ ends) len (b ∷ stays) zero i d are lt from to = in_front (e - start) (i - start) b (run_flags e stays ends) d (omega (arith, from, to))
+flag_at most start (e ∷ ends) len (b ∷ stays) zero i d are lt from to = in_front (e - start) (i - start) b (run_flags e stays ends) d
+    (omega (arith, from, to))
 flag_at most start (e ∷ ends) len (b ∷ stays) (suc k) i d are lt from to =
     let at = part_at most e ends len k len are.2 (omega (arith, lt)) in
     let split : i - start ≡ (e - start) + (i - e) = omega (arith, at.from_le, from, are.0) in
@@ -46,7 +55,8 @@ flag_at most start (e ∷ ends) len (b ∷ stays) (suc k) i d are lt from to =
 
 -- entries past the tail stay
 fresh_stay : (most start : ℕ) (ends : List ℕ) (len : ℕ) (stays : List Bool) (tail i : ℕ) → AreEnds most start ends len
-    → ((k : ℕ) → get_or stays k true ≡ false → get_or ends k len ≤ tail) → tail ≤ i → start ≤ i → get_or (run_flags start stays ends) (i - start) true ≡ true
+    → ((k : ℕ) → get_or stays k true ≡ false → get_or ends k len ≤ tail) → tail ≤ i → start ≤ i
+    → get_or (run_flags start stays ends) (i - start) true ≡ true
 fresh_stay most start ends len [] tail i are goes past le = refl
 fresh_stay most start [] len (b ∷ stays) tail i are goes past le = refl
 fresh_stay most start (e ∷ ends) len (b ∷ stays) tail i are goes past le = elim (cases_lt i e) [
@@ -74,7 +84,8 @@ pages_left stays chain is len published =
     let flags = run_flags 0 stays chain.ends in
     let es = chain.entries in
     let all : length flags ≡ length es = omega (arith, flags_count chain.page 0 chain.ends (length es) stays is.parted len) in
-    let few : length (take chain.tail flags) ≡ length (log chain) = omega (arith, all, length-take chain.tail flags, length-take chain.tail es) in
+    let few : length (take chain.tail flags) ≡ length (log chain) =
+    omega (arith, all, length-take chain.tail flags, length-take chain.tail es) in
     let short : 0 + length (take chain.tail es) ≤ length es = omega (arith, length-take chain.tail es) in
     let spread_flags = ap (λ fs. left_of fs es) (spread_is 0 stays chain.ends) in
     let log_left : joined (left_of stays (log_pages chain)) ≡ left_of (take chain.tail flags) (log chain) =
@@ -85,7 +96,8 @@ pages_left stays chain is len published =
       entries =
           joined-left_of chain.page 0 stays chain.ends (length es) es is.parted (omega arith) ∙ spread_flags
           ∙ stays_on chain.tail flags es (λ i le. goes_on i le);
-      log_is = take-joined_left chain.page stays chain.ends chain.tail es is.parted ∙ log_left ∙ left_of-select (take chain.tail flags) (log chain) few;
+      log_is = take-joined_left chain.page stays chain.ends chain.tail es is.parted ∙ log_left
+          ∙ left_of-select (take chain.tail flags) (log chain) few;
       tail = ap length log_left;
     }
   where
@@ -95,7 +107,8 @@ pages_left stays chain is len published =
         rw z at (fresh_stay chain.page 0 chain.ends (length chain.entries) stays chain.tail i is.parted published le (omega arith))
 
 -- a walk along the entries: the page that entry `i` stands on, or the next one
-pub here : (chain : ChainState) (k i : ℕ) → IsChain chain → i < length chain.entries → k ≤ length chain.ends → start_of chain k ≤ i → k < length chain.ends
+pub here : (chain : ChainState) (k i : ℕ) → IsChain chain → i < length chain.entries → k ≤ length chain.ends → start_of chain k ≤ i
+    → k < length chain.ends
 here chain k i is lt le from = elim (cases_lt k (length chain.ends)) [
   | inl l ↦ l
   | inr ge ↦ let past = start_past chain.page 0 chain.ends (length chain.entries) k is.parted ge in absurd (omega (arith, past, from, lt))
@@ -104,30 +117,53 @@ here chain k i is lt le from = elim (cases_lt k (length chain.ends)) [
 pub starts_next : (chain : ChainState) (k i : ℕ) → end_of chain k ≤ i → start_of chain (k + 1) ≤ i
 starts_next chain k i to = rw add-one to
 
-pub there : (chain : ChainState) (k i : ℕ) → IsChain chain → i < length chain.entries → k ≤ length chain.ends → start_of chain k ≤ i → end_of chain k ≤ i
+pub there : (chain : ChainState) (k i : ℕ) → IsChain chain → i < length chain.entries → k ≤ length chain.ends → start_of chain k ≤ i
+    → end_of chain k ≤ i
     → k + 1 < length chain.ends
 there chain k i is lt le from to = here chain (k + 1) i is lt (omega (arith, here chain k i is lt le from)) (starts_next chain k i to)
 
-pub ends_next : (chain : ChainState) (k i : ℕ) → IsChain chain → i < length chain.entries → k ≤ length chain.ends → start_of chain k ≤ i → end_of chain k ≤ i
+pub ends_next : (chain : ChainState) (k i : ℕ) → IsChain chain → i < length chain.entries → k ≤ length chain.ends → start_of chain k ≤ i
+    → end_of chain k ≤ i
     → i ≤ end_of chain k → i < end_of chain (k + 1)
 ends_next chain k i is lt le from to within =
-    let at = part_at chain.page 0 chain.ends (length chain.entries) (k + 1) (length chain.entries) is.parted (there chain k i is lt le from to) in
+    let at = part_at chain.page 0 chain.ends (length chain.entries) (k + 1) (length chain.entries) is.parted
+    (there chain k i is lt le from to) in
     let same : start_of chain (k + 1) ≡ end_of chain k = rw add-one refl in
     omega (arith, at.some, same, within)
 
 -- the flag of an entry of the log, by its page
-pub flag_is : (stays : List Bool) (chain : ChainState) (k i : ℕ) (b : Bool) → IsChain chain → i < chain.tail → k < length chain.ends → start_of chain k ≤ i
+flag_is : (stays : List Bool) (chain : ChainState) (k i : ℕ) (b : Bool) → IsChain chain → i < chain.tail → k < length chain.ends
+    → start_of chain k ≤ i
     → i < end_of chain k → b ≡ get_or stays k b → b ≡ get_or (log_flags stays chain) i b
 flag_is stays chain k i b is lt page from to same =
     let z : i - 0 ≡ i = omega arith in
     same ∙ sym (get_or-take chain.tail (run_flags 0 stays chain.ends) i b lt
     ∙ rw z at (flag_at chain.page 0 chain.ends (length chain.entries) stays k i b is.parted page from to))
 
-pub log_flags-count : (stays : List Bool) (chain : ChainState) → IsChain chain → length stays ≡ length chain.ends → length (log_flags stays chain) ≡ chain.tail
+pub log_flags-count : (stays : List Bool) (chain : ChainState) → IsChain chain → length stays ≡ length chain.ends
+    → length (log_flags stays chain) ≡ chain.tail
 log_flags-count stays chain is len =
-    omega (arith, flags_count chain.page 0 chain.ends (length chain.entries) stays is.parted len, length-take chain.tail (run_flags 0 stays chain.ends), is.within)
+    omega (
+      arith,
+      flags_count chain.page 0 chain.ends (length chain.entries) stays is.parted len,
+      length-take chain.tail (run_flags 0 stays chain.ends),
+      is.within,
+    )
+
+-- the parts of an entry, with its page's flag
+pub page_parts : (stays : List Bool) (chain : ChainState) (k i : ℕ) (b : Bool) (e : Entry) → IsChain chain
+    → length stays ≡ length chain.ends → i < chain.tail → k < length chain.ends → start_of chain k ≤ i → i < end_of chain k → b ≡ get_or stays k b
+    → slice_get chain.entries i ≡ Some e → AreNext (log_flags stays chain) (log chain) i b e
+page_parts stays chain k i b e is len lt page from to flag at =
+    next_parts (log_flags stays chain) chain.entries chain.tail i b e (omega (arith, log_flags-count stays chain is len, lt)) lt is.within
+    (flag_is stays chain k i b is lt page from to flag) at
 
 -- no more pages have entries than before
 pub pages_fewer : (stays : List Bool) (chain : ChainState) → length (with_pages_left stays chain).ends ≤ length chain.ends
 pages_fewer stays chain =
-    omega (arith, length-ends_from 0 (left_of stays (pages_of chain)), length-left_of stays (pages_of chain), length-parts 0 chain.ends chain.entries)
+    omega (
+      arith,
+      length-ends_from 0 (left_of stays (pages_of chain)),
+      length-left_of stays (pages_of chain),
+      length-parts 0 chain.ends chain.entries,
+    )

@@ -1,10 +1,9 @@
 -- What stays of a cell once entries are taken out that may go.
-use Rattle.std.proofs.Common.{◌≡◌, ℕ, zero, suc, ◌+◌, ◌-◌, ◌*◌, ◌<◌, ◌≤◌, min, ◌&&◌, ◌||◌, Bool, true, false, not, cond, nat_lt, List, [], ◌∷◌, ◌++◌, length, take, drop, map, replicate, get_or, Option, Some, None, arith, refl, ap, sym, ◌∙◌, subst, slice_index_or, length-append, length-drop}
-use Rattle.std.specs.Prelude.{slice_get}
+use Rattle.std.proofs.Common.{◌≡◌, ℕ, zero, suc, ◌+◌, ◌-◌, ◌*◌, ◌<◌, ◌≤◌, min, ◌&&◌, ◌||◌, Bool, true, false, not, cond, nat_lt, List, [], ◌∷◌, ◌++◌, length, take, drop, map, replicate, get_or, Option, Some, None, arith, refl, ap, sym, ◌∙◌, slice_index_or, length-append, length-drop}
 use Rattle.std.specs.List.{AllByRecursion, flat_map}
 use Rattle.std.specs.Option.{option_map}
-use Rattle.std.proofs.lemmas.Bool.{ltb-true, ltb-false, lt-ltb, le-ltb, not-false}
-use Rattle.std.proofs.lemmas.List.{length-take, length-take-le, take-append-le, drop-append-le}
+use Rattle.std.proofs.lemmas.Bool.{ltb-true, ltb-false, lt-ltb, le-ltb}
+use Rattle.std.proofs.lemmas.List.{length-take-le, take-append-le, drop-append-le}
 use Rattle.std.proofs.lemmas.Option.{get_or_from_slice_get, slice_get_within}
 use Rattle.nv_alloc.specs.Block.{BlockValue, number_of}
 use Rattle.nv_entry.specs.declared.item.Entry.{Entry}
@@ -12,12 +11,12 @@ use Rattle.nv_entry.specs.declared.item.Item.{Item}
 use Rattle.nv_entry.specs.declared.item.Item.TheVariants.{Init, Write, SetSize, SetMode, Bind, Unbind, Gone}
 use Rattle.nv_entry.specs.declared.part.Part.TheVariants as part
 use Rattle.nv_entry.specs.Clean.{select}
-use Rattle.nv_entry.specs.Covered.{any_cover, covered_of, covered_parts, has_uncovered, is_covered, key_at, part_count, part_key, part_total}
+use Rattle.nv_entry.specs.Covered.{any_cover, covered_of, covered_parts, has_uncovered, is_covered, part_count, part_key, part_total}
 use Rattle.nv_entry.specs.Keys.{Key, NameKey, key_of, name_of, parts_of, sets}
 use Rattle.nv_entry.specs.Laws.{is_present}
-use Rattle.nv_entry.specs.Leaving.{KeepsTheRest, MayAllLeave, MayLeave}
+use Rattle.nv_entry.specs.Leaving.{MayAllLeave, MayLeave}
 use Rattle.nv_entry.specs.Refs.{binders_of, is_bind, place_in, scan_ref}
-use Rattle.nv_entry.proofs.Binders.{any_cover-name, binds_or_not}
+use Rattle.nv_entry.proofs.Binders.{any_cover-name}
 use Rattle.nv_entry.proofs.Currents.{uncovered_are_current}
 use Rattle.nv_entry.proofs.Leaving.{keeps_the_rest}
 use Rattle.nv_entry.proofs.Placed.{part_of}
@@ -28,7 +27,7 @@ use Rattle.nv_log.proofs.Parts.{div_ceil-le, len_le}
 use Rattle.std.specs.Int.{div_ceil}
 use Rattle.std.proofs.lemmas.List.FromFn.{length-map-range_with_len}
 use Rattle.nv_cell.specs.declared.mark.Mark.{Mark}
-use Rattle.nv_cell.specs.declared.mark.Mark.TheVariants.{Current, Killed, Kept, Out}
+use Rattle.nv_cell.specs.declared.mark.Mark.TheVariants.{Current, Out}
 use Rattle.nv_cell.specs.Cell.{CellState, HasBlocks, HasMarks, log_of, mark_or_fresh, page_block}
 use Rattle.nv_cell.specs.Index.{bindings_of, bound_by}
 use Rattle.nv_cell.specs.Marks.{is_current, is_there, mark_at}
@@ -78,7 +77,8 @@ source_behind (suc k) flags (suc n) le =
     rw z (omega (arith, source_behind k flags n (omega (arith, le))))
 
 -- the block that a part says is that of the same part before
-pub block_left : (block : ℕ) (flags : List Bool) (es : List Entry) (n : ℕ) → page_block block (left_of flags es) n ≡ page_block block es (source (part_flags flags es) n)
+pub block_left : (block : ℕ) (flags : List Bool) (es : List Entry) (n : ℕ)
+    → page_block block (left_of flags es) n ≡ page_block block es (source (part_flags flags es) n)
 block_left block [] es n = refl
 block_left block (b ∷ flags) [] n = refl
 block_left block (false ∷ flags) (e ∷ es) n =
@@ -137,7 +137,8 @@ covered_count block e later = mapped (parts_of e.item) where
 
 flat_count : (block : ℕ) (es : List Entry) → length (flat (covered_parts block es)) ≡ part_total es
 flat_count block [] = refl
-flat_count block (e ∷ es) = length-append (covered_of block e es) (flat (covered_parts block es)) ∙ omega (arith, covered_count block e es, flat_count block es)
+flat_count block (e ∷ es) = length-append (covered_of block e es) (flat (covered_parts block es))
+    ∙ omega (arith, covered_count block e es, flat_count block es)
 
 flat_left : (block : ℕ) (flags : List Bool) (es : List Entry) → length flags ≡ length es
     → flat (select flags (covered_parts block es)) ≡ left_of (part_flags flags es) (flat (covered_parts block es))
@@ -178,7 +179,8 @@ covered_left block flags es n len may =
     (uncovered_are_current block (select flags es)).numbered n
     ∙ ap (λ cs. get_or (flat cs) n false) (keeps_the_rest block es flags may).covered
     ∙ ap (λ cs. get_or cs n false) (flat_left block flags es len)
-    ∙ at_source (part_flags flags es) (flat (covered_parts block es)) n false (omega (arith, length-part_flags flags es, flat_count block es))
+    ∙ at_source (part_flags flags es) (flat (covered_parts block es)) n false
+    (omega (arith, length-part_flags flags es, flat_count block es))
     ∙ sym ((uncovered_are_current block es).numbered (source (part_flags flags es) n))
 
 -- ---- marks let entries leave
@@ -201,10 +203,12 @@ may_all_leave block before [] [] len dead hidden = tt
 may_all_leave block before [] (b ∷ flags) len dead hidden = absurd (omega (arith, len))
 may_all_leave block before (e ∷ rest) [] len dead hidden = absurd (omega (arith, len))
 may_all_leave block before (e ∷ rest) (true ∷ flags) len dead hidden =
-    may_all_leave block (before ++ e ∷ []) rest flags (omega (arith, len)) (λ n lt goes. later_dead block e rest flags true n (dead (part_count e + n) (omega (arith, lt))) goes) hidden
+    may_all_leave block (before ++ e ∷ []) rest flags (omega (arith, len))
+    (λ n lt goes. later_dead block e rest flags true n (dead (part_count e + n) (omega (arith, lt))) goes) hidden
 may_all_leave block before (e ∷ rest) (false ∷ flags) len dead hidden = (
   record { dead = λ key set. own key set; hides_nothing = hidden.0 },
-  may_all_leave block before rest flags (omega (arith, len)) (λ n lt goes. later_dead block e rest flags false n (dead (part_count e + n) (omega (arith, lt))) goes) hidden.1,
+  may_all_leave block before rest flags (omega (arith, len))
+      (λ n lt goes. later_dead block e rest flags false n (dead (part_count e + n) (omega (arith, lt))) goes) hidden.1,
 ) where
   own : (key : Key) → is_present (sets block e.item key) ≡ true → any_cover block rest key ≡ true
   own key set =
@@ -224,7 +228,8 @@ may_all_leave block before (e ∷ rest) (false ∷ flags) len dead hidden = (
 pub going_is_covered : (flags : List Bool) (cell : CellState) → HasMarks cell → MayGo flags cell → (n : ℕ) → n < part_total (log_of cell)
     → get_or (part_flags flags (log_of cell)) n true ≡ false → is_covered cell.block (log_of cell) n ≡ true
 going_is_covered flags cell has may n lt goes =
-    let out : mark_at cell.marks n ≡ Out = gone_at (λ m. m ≡ Out) (part_flags flags (log_of cell)) cell.marks n Out may.out (omega (arith, lt, has.len)) goes in
+    let out : mark_at cell.marks n ≡ Out = gone_at (λ m. m ≡ Out) (part_flags flags (log_of cell)) cell.marks n Out may.out
+    (omega (arith, lt, has.len)) goes in
     covered (is_covered cell.block (log_of cell) n) (sym (has.current n lt) ∙ ap is_current out) where
       covered : (b : Bool) → not b ≡ false → b ≡ true
       covered true h = refl
@@ -283,15 +288,19 @@ bind_left block before [] [] may = refl
 bind_left block before [] (b ∷ flags) may = absurd may
 bind_left block before (e ∷ rest) [] may = absurd may
 bind_left block before (e ∷ rest) (true ∷ flags) may =
-    ap (λ bs. cond (is_bind e.item && has_uncovered (covered_of block e rest)) (e ∷ bs) bs) (bind_left block (before ++ e ∷ []) rest flags may)
+    ap (λ bs. cond (is_bind e.item && has_uncovered (covered_of block e rest)) (e ∷ bs) bs)
+    (bind_left block (before ++ e ∷ []) rest flags may)
 bind_left block before (e ∷ rest) (false ∷ flags) may =
     bind_left block before rest flags may.1
-    ∙ sym (ap (λ b. cond b (e ∷ bind_by rest (covered_parts block rest)) (bind_by rest (covered_parts block rest))) (dead_bind block before e rest may.0))
+    ∙ sym (ap (λ b. cond b (e ∷ bind_by rest (covered_parts block rest)) (bind_by rest (covered_parts block rest)))
+    (dead_bind block before e rest may.0))
 
-pub bindings_left : (block : ℕ) (es : List Entry) (flags : List Bool) → MayAllLeave block [] es flags → bindings_of (select flags es) ≡ bindings_of es
+pub bindings_left : (block : ℕ) (es : List Entry) (flags : List Bool) → MayAllLeave block [] es flags
+    → bindings_of (select flags es) ≡ bindings_of es
 bindings_left block es flags may =
     ap (λ bs. flat_map (λ (e : Entry). bound_by e.id e.item) bs) (binders_are block (select flags es)
-    ∙ ap (bind_by (select flags es)) (keeps_the_rest block es flags may).covered ∙ bind_left block [] es flags may ∙ sym (binders_are block es))
+    ∙ ap (bind_by (select flags es)) (keeps_the_rest block es flags may).covered ∙ bind_left block [] es flags may
+    ∙ sym (binders_are block es))
 
 -- ---- the cell
 
@@ -302,7 +311,8 @@ pub record IsLeft (flags : List Bool) (old new : ChainState) : Type 0 where
   pub log_is : log new ≡ select flags (log old)
   pub tail : new.tail ≡ length (left_of flags (log old))
 
-flags_of_all : (flags : List Bool) (chain : ChainState) → length flags ≡ length (log chain) → part_flags flags chain.entries ≡ part_flags flags (log chain)
+flags_of_all : (flags : List Bool) (chain : ChainState) → length flags ≡ length (log chain)
+    → part_flags flags chain.entries ≡ part_flags flags (log chain)
 flags_of_all flags chain len = front flags chain.tail chain.entries (omega (arith, len)) where
   front : (fs : List Bool) (t : ℕ) (es : List Entry) → length fs ≤ length (take t es) → part_flags fs es ≡ part_flags fs (take t es)
   front [] t es le = refl
@@ -314,19 +324,22 @@ no_number : (o : Option BlockValue) → option_map number_of o ≡ None → o �
 no_number None h = refl
 no_number (Some b) h = cc
 
-all_gone_none : (fs : List Bool) (bs : List (Option BlockValue)) (ms : List Mark) (page : ℕ → Option ℕ) → AllByRecursion (λ m. m ≡ Out) (gone_of fs ms)
+all_gone_none : (fs : List Bool) (bs : List (Option BlockValue)) (ms : List Mark) (page : ℕ → Option ℕ)
+    → AllByRecursion (λ m. m ≡ Out) (gone_of fs ms)
     → ((n : ℕ) → option_map number_of (slice_index_or bs n None) ≡ cond (is_there (mark_or_fresh ms n)) (page n) None)
     → length fs ≤ length ms → AllByRecursion (λ b. b ≡ None) (gone_of fs bs)
 all_gone_none [] bs ms page out numbers le = tt
 all_gone_none (b ∷ fs) [] ms page out numbers le = tt
 all_gone_none (b ∷ fs) (x ∷ bs) [] page out numbers le = absurd (omega arith)
-all_gone_none (true ∷ fs) (x ∷ bs) (m ∷ ms) page out numbers le = all_gone_none fs bs ms (λ n. page (suc n)) out (λ n. numbers (suc n)) (omega (arith, le))
+all_gone_none (true ∷ fs) (x ∷ bs) (m ∷ ms) page out numbers le = all_gone_none fs bs ms (λ n. page (suc n)) out (λ n. numbers (suc n))
+    (omega (arith, le))
 all_gone_none (false ∷ fs) (x ∷ bs) (m ∷ ms) page out numbers le = (
   no_number x (numbers 0 ∙ ap (λ k. cond (is_there k) (page 0) None) out.0),
   all_gone_none fs bs ms (λ n. page (suc n)) out.1 (λ n. numbers (suc n)) (omega (arith, le)),
 )
 
-module _ {flags : List Bool} {cell : CellState} {chain : ChainState} (left : IsLeft flags cell.chain chain) (marks : HasMarks cell) (blocks : HasBlocks cell) (may : MayGo flags cell) where
+module _ {flags : List Bool} {cell : CellState} {chain : ChainState} (left : IsLeft flags cell.chain chain) (marks : HasMarks cell)
+    (blocks : HasBlocks cell) (may : MayGo flags cell) where
   pub may_leave : MayAllLeave cell.block [] (log_of cell) flags
   may_leave = cell_may_leave flags cell left.flags_len marks may
 
@@ -334,7 +347,8 @@ module _ {flags : List Bool} {cell : CellState} {chain : ChainState} (left : IsL
   few = omega (arith, length-part_flags flags (log_of cell), marks.len)
 
   pub marks_count : length (left_of (part_flags flags (log_of cell)) cell.marks) ≡ part_total (log chain)
-  marks_count = total_left flags (log_of cell) cell.marks marks.len ∙ ap part_total (left_of-select flags (log_of cell) left.flags_len ∙ sym left.log_is)
+  marks_count = total_left flags (log_of cell) cell.marks marks.len
+      ∙ ap part_total (left_of-select flags (log_of cell) left.flags_len ∙ sym left.log_is)
 
   pub marks_left : HasMarks (left_in flags chain cell)
   marks_left = record {
@@ -343,7 +357,8 @@ module _ {flags : List Bool} {cell : CellState} {chain : ChainState} (left : IsL
         let within = source_within (part_flags flags (log_of cell)) cell.marks n few (omega (arith, lt, marks_count)) in
         ap is_current (at_source (part_flags flags (log_of cell)) cell.marks n Out few)
         ∙ marks.current (source (part_flags flags (log_of cell)) n) (omega (arith, within, marks.len))
-        ∙ ap not (sym (ap (λ es. is_covered cell.block es n) left.log_is ∙ covered_left cell.block flags (log_of cell) n left.flags_len may_leave));
+        ∙ ap not (sym (ap (λ es. is_covered cell.block es n) left.log_is
+        ∙ covered_left cell.block flags (log_of cell) n left.flags_len may_leave));
   }
 
   some : length (part_flags flags (log_of cell)) ≤ length cell.blocks
@@ -354,11 +369,14 @@ module _ {flags : List Bool} {cell : CellState} {chain : ChainState} (left : IsL
       let fs = part_flags flags (log_of cell) in
       let all = flags_of_all flags cell.chain left.flags_len in
       record {
-        len = ap (λ gs. length (left_of gs cell.blocks)) (sym all) ∙ total_left flags cell.chain.entries cell.blocks blocks.len ∙ ap part_total (sym left.entries);
+        len = ap (λ gs. length (left_of gs cell.blocks)) (sym all) ∙ total_left flags cell.chain.entries cell.blocks blocks.len
+            ∙ ap part_total (sym left.entries);
         numbers = λ n.
             ap (option_map number_of) (at_source fs cell.blocks n None some) ∙ blocks.numbers (source fs n)
-            ∙ ap (λ m. cond (is_there m) (page_block cell.block cell.chain.entries (source fs n)) None) (sym (at_source fs cell.marks n Current few))
-            ∙ ap (λ o. cond (is_there (mark_or_fresh (left_of fs cell.marks) n)) o None) (sym (ap (λ es. page_block cell.block es n) left.entries
+            ∙ ap (λ m. cond (is_there m) (page_block cell.block cell.chain.entries (source fs n)) None)
+            (sym (at_source fs cell.marks n Current few))
+            ∙ ap (λ o. cond (is_there (mark_or_fresh (left_of fs cell.marks) n)) o None)
+            (sym (ap (λ es. page_block cell.block es n) left.entries
             ∙ block_left cell.block flags cell.chain.entries n ∙ ap (λ gs. page_block cell.block cell.chain.entries (source gs n)) all));
         sized = λ n b is. blocks.sized (source fs n) b (sym (at_source fs cell.blocks n None some) ∙ is);
       }
@@ -371,12 +389,14 @@ module _ {flags : List Bool} {cell : CellState} {chain : ChainState} (left : IsL
 
   -- the parts that go have no blocks
   pub none_gone : AllByRecursion (λ b. b ≡ None) (gone_of (part_flags flags (log_of cell)) cell.blocks)
-  none_gone = all_gone_none (part_flags flags (log_of cell)) cell.blocks cell.marks (page_block cell.block cell.chain.entries) may.out blocks.numbers
+  none_gone = all_gone_none (part_flags flags (log_of cell)) cell.blocks cell.marks
+      (page_block cell.block cell.chain.entries) may.out blocks.numbers
       few
 
 -- ---- the chain and the room
 
-pub compact_left : (flags : List Bool) (pages : List BlockValue) (chain : ChainState) → length flags ≡ chain.tail → chain.tail ≤ length chain.entries
+pub compact_left : (flags : List Bool) (pages : List BlockValue) (chain : ChainState) → length flags ≡ chain.tail
+    → chain.tail ≤ length chain.entries
     → IsLeft flags chain (compacted flags pages chain)
 compact_left flags pages chain len within =
     let few : length flags ≡ length (log chain) = len ∙ sym (length-take-le chain.tail chain.entries within) in
@@ -388,7 +408,8 @@ compact_left flags pages chain len within =
     }
 
 -- fresh pages are no more than the old ones
-pages_within : (flags : List Bool) (chain : ChainState) → IsChain chain → div_ceil (length (left_of flags chain.entries)) chain.page ≤ length chain.ends
+pages_within : (flags : List Bool) (chain : ChainState) → IsChain chain
+    → div_ceil (length (left_of flags chain.entries)) chain.page ≤ length chain.ends
 pages_within flags chain is =
     let n = length (left_of flags chain.entries) in
     let most = len_le chain.page 0 chain.ends (length chain.entries) is.parted in
@@ -403,7 +424,8 @@ pub packed_within : (flags : List Bool) (pages : List BlockValue) (chain : Chain
     → length (compacted flags pages chain).ends ≤ length chain.ends
 packed_within flags pages chain is =
     let n = length (left_of flags chain.entries) in
-    let size : length (packed chain.page n) ≡ div_ceil n chain.page = length-map-range_with_len (λ k. min ((k + 1) * chain.page) n) 0 (div_ceil n chain.page) in
+    let size : length (packed chain.page n) ≡ div_ceil n chain.page = length-map-range_with_len (λ k. min ((k + 1) * chain.page) n) 0
+    (div_ceil n chain.page) in
     omega (arith, size, pages_within flags chain is)
 
 -- no more is there than before
@@ -412,12 +434,14 @@ pub record IsFewer (flags : List Bool) (cell : CellState) (chain : ChainState) :
   pub tail : chain.tail ≤ length (log_of cell)
   pub parts : part_total chain.entries ≤ part_total cell.chain.entries
 
-pub fewer : {flags : List Bool} {cell : CellState} {chain : ChainState} → IsLeft flags cell.chain chain → HasBlocks cell → IsFewer flags cell chain
+pub fewer : {flags : List Bool} {cell : CellState} {chain : ChainState} → IsLeft flags cell.chain chain → HasBlocks cell
+    → IsFewer flags cell chain
 fewer {flags} {cell} {chain} left blocks =
     let all = flags_of_all flags cell.chain left.flags_len in
     let fs = part_flags flags (log_of cell) in
     let total : length (left_of fs cell.blocks) ≡ part_total chain.entries =
-    ap (λ gs. length (left_of gs cell.blocks)) (sym all) ∙ total_left flags cell.chain.entries cell.blocks blocks.len ∙ ap part_total (sym left.entries) in
+    ap (λ gs. length (left_of gs cell.blocks)) (sym all) ∙ total_left flags cell.chain.entries cell.blocks blocks.len
+    ∙ ap part_total (sym left.entries) in
     record {
       entries = omega (arith, ap length left.entries, length-left_of flags cell.chain.entries);
       tail = omega (arith, left.tail, length-left_of flags (log_of cell));

@@ -6,7 +6,6 @@ use Rattle.nv_entry.specs.declared.key.Setting.TheVariants.{Absent}
 use Rattle.nv_entry.specs.Covered.{any_cover, part_count}
 use Rattle.nv_entry.specs.Keys.{Key, sets}
 use Rattle.nv_log.specs.Chain.{ChainState, end_of, gone_of, left_of}
-use Rattle.nv_cell.specs.declared.mark.Mark.{Mark}
 use Rattle.nv_cell.specs.declared.mark.Mark.TheVariants.{Out}
 use Rattle.nv_cell.specs.Cell.{CellState, log_of}
 

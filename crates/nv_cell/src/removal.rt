@@ -5,8 +5,11 @@ ghost use Rattle.std.specs.Int.{div_ceil};
 ghost use Rattle.std.specs.List.{AllByRecursion, count_by};
 ghost use Rattle.std.specs.VecDeque.{deque_capacity};
 ghost use Rattle.nv_alloc.specs.Block.{AreSized};
+ghost use Rattle.nv_entry.specs.Clean.{select};
 ghost use Rattle.nv_entry.specs.Covered.{part_total};
+ghost use Rattle.nv_entry.specs.Leaving.{KeepsTheRest};
 ghost use Rattle.nv_log.specs.Chain.{compacted, gone_of, left_of, log, with_pages_left};
+ghost use Rattle.nv_cell.specs.Cell.{log_of};
 ghost use Rattle.nv_cell.specs.Removal.{ArePublished, MayGo, left_in, log_flags, part_flags};
 
 use crate::closing::{pass_entries, pass_pages};
@@ -103,6 +106,8 @@ impl InodeCell {
         ensures blocks { result.items ≡ self.old.state.chain.blocks }
         ensures state { self.new.state ≡ left_in stays.now
             (compacted stays.now pages.items self.old.state.chain) self.old.state }
+        ensures log { log_of self.new.state ≡ select stays.now (log_of self.old.state) }
+        ensures rest { KeepsTheRest self.old.state.block (log_of self.old.state) stays.now }
         ensures room { self.new.room ≡ record self.old.room { pages = 0 } }
     {
         // The chain is one, so that fresh pages are no more than the old ones.
@@ -125,6 +130,10 @@ impl InodeCell {
         requires sized { AreSized queue.old.size (gone_of stays.now self.old.state.chain.blocks) }
         ensures state { self.new.state ≡ left_in (log_flags stays.now self.old.state.chain)
             (with_pages_left stays.now self.old.state.chain) self.old.state }
+        ensures log { log_of self.new.state
+            ≡ select (log_flags stays.now self.old.state.chain) (log_of self.old.state) }
+        ensures rest { KeepsTheRest self.old.state.block (log_of self.old.state)
+            (log_flags stays.now self.old.state.chain) }
         ensures room { self.new.room ≡ record self.old.room {
           pages = self.old.room.pages
               + length (gone_of stays.now self.old.state.chain.blocks);

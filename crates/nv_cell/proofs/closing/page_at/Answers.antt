@@ -1,5 +1,4 @@
-use Rattle.std.proofs.Common.{◌≡◌, ◌+◌, ◌<◌, ◌≤◌, arith}
-use Rattle.nv_log.specs.Chain.{end_of}
+use Rattle.std.proofs.Common.{arith}
 use Rattle.nv_cell.proofs.PageFlags.{ends_next}
 use Rattle.nv_cell.proofs.closing.page_at.Goals as goal
 

@@ -1,4 +1,4 @@
-use Rattle.std.proofs.Common.{◌≡◌, ℕ, ◌+◌, ◌-◌, ◌<◌, ◌≤◌, false, length, arith, sym, ◌∙◌, slice_index_or, None}
+use Rattle.std.proofs.Common.{◌≡◌, ◌-◌, ◌<◌, false, length, arith, sym, ◌∙◌, slice_index_or, None}
 use Rattle.std.proofs.lemmas.List.{get_or_default, length-take}
 use Rattle.nv_log.specs.Chain.{log}
 use Rattle.nv_cell.proofs.RunFlags.{entry_goes, entry_there, goes_on, log_passed, next_parts, passes_on}
@@ -40,10 +40,13 @@ pass-requires-clause-none c goes =
     let flags = c.args.stays.now in
     let lt : i < chain.tail = omega (arith, c.loop-i-test.true, c.tail-i-end.ensures.value) in
     let fits : i < length flags = omega (arith, c.requires.flags, lt) in
-    let next = next_parts flags chain.entries chain.tail i false c.entry_at.result.now fits lt (omega (arith, c.tail-i-end.ensures)) (sym goes)
+    let next = next_parts flags chain.entries chain.tail i false c.entry_at.result.now fits lt (omega (arith, c.tail-i-end.ensures))
+    (sym goes)
     c.entry_at.ensures in
-    entry_goes (λ o. o ≡ None) c.args.blocks.now.items c.loop-i.blocks.items flags (log chain) i c.part_count-count.result c.entry_at.result.now next
-    c.part_count-count.ensures (omega (arith, c.requires.marks_there, c.requires.blocks_there)) c.loop-i.invariant.blocks c.loop-i.invariant.none
+    entry_goes (λ o. o ≡ None) c.args.blocks.now.items c.loop-i.blocks.items flags
+    (log chain) i c.part_count-count.result c.entry_at.result.now next
+    c.part_count-count.ensures
+    (omega (arith, c.requires.marks_there, c.requires.blocks_there)) c.loop-i.invariant.blocks c.loop-i.invariant.none
 
 pub loop-i-preserved : goal.loop-i-preserved
 loop-i-preserved c =
@@ -54,15 +57,18 @@ loop-i-preserved c =
     let e = c.entry_at.result.now in
     let lt : i < chain.tail = omega (arith, c.loop-i-test.true, c.tail-i-end.ensures.value) in
     let fits : i < length flags = omega (arith, c.requires.flags, lt) in
-    let next = next_parts flags chain.entries chain.tail i b e fits lt (omega (arith, c.tail-i-end.ensures)) (get_or_default flags i false b fits)
+    let next = next_parts flags chain.entries chain.tail i b e fits lt (omega (arith, c.tail-i-end.ensures))
+    (get_or_default flags i false b fits)
     c.entry_at.ensures in
     let inv = c.loop-i.invariant in
     record {
       marks =
-          passes_on c.args.marks.now.items c.loop-i.marks.items c.pass.new.marks.items flags (log chain) i c.part_count-count.result b e next
+          passes_on c.args.marks.now.items c.loop-i.marks.items c.pass.new.marks.items flags
+          (log chain) i c.part_count-count.result b e next
           c.part_count-count.ensures (omega (arith, c.requires.marks_there)) inv.marks c.pass.ensures.marks;
       blocks =
-          passes_on c.args.blocks.now.items c.loop-i.blocks.items c.pass.new.blocks.items flags (log chain) i c.part_count-count.result b e next
+          passes_on c.args.blocks.now.items c.loop-i.blocks.items c.pass.new.blocks.items flags
+          (log chain) i c.part_count-count.result b e next
           c.part_count-count.ensures (omega (arith, c.requires.marks_there, c.requires.blocks_there)) inv.blocks c.pass.ensures.blocks;
       none = goes_on (λ o. o ≡ None) c.args.blocks.now.items flags (log chain) i b e next inv.none;
       marks_room = c.pass.ensures.marks_room ∙ inv.marks_room;

@@ -8,6 +8,7 @@ invariant-loop-k l = record {
   started : l.start ≡ min (start_at l.page_ends l.k) (length l.tallies);
   len : length l.pages.items ≡ l.k;
   live : (j : ℕ) → j < l.k → (counts_at l.pages.items j).live ≡ count_in is_live l.tallies (start_at l.page_ends j) (end_at l.page_ends j);
-  valid : (j : ℕ) → j < l.k → (counts_at l.pages.items j).valid ≡ count_in is_valid l.tallies (start_at l.page_ends j) (end_at l.page_ends j);
+  valid : (j : ℕ) → j < l.k
+      → (counts_at l.pages.items j).valid ≡ count_in is_valid l.tallies (start_at l.page_ends j) (end_at l.page_ends j);
   capacity : vec_capacity l.pages ≡ vec_capacity l.fn.pages;
 }

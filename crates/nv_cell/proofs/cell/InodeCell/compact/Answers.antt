@@ -1,16 +1,15 @@
-use Rattle.std.proofs.Common.{◌≡◌, ℕ, ◌+◌, ◌-◌, ◌<◌, ◌≤◌, List, Bool, None, arith, refl, ap, sym, ◌∙◌, subst, length}
-use Rattle.std.specs.Prelude.{vec_capacity, vec_len}
-use Rattle.std.specs.List.{AllByRecursion}
+use Rattle.std.proofs.Common.{◌≡◌, ◌≤◌, arith, refl, ap, sym, ◌∙◌, subst, length}
+use Rattle.std.specs.Prelude.{vec_len}
 use Rattle.nv_entry.specs.Covered.{part_total}
-use Rattle.nv_entry.specs.Keys.{Key}
 use Rattle.std.specs.Int.{div_ceil}
+use Rattle.nv_entry.proofs.Leaving.{keeps_the_rest}
 use Rattle.nv_log.specs.Chain.{compacted, left_of, log}
 use Rattle.nv_nindex.specs.NameIndex.{HaveSameBindings}
 use Rattle.nv_cell.specs.Cell.{log_of}
 use Rattle.nv_cell.specs.Fields.{state_in}
 use Rattle.nv_cell.specs.Removal.{MayGo}
 use Rattle.nv_cell.proofs.Publishing.{total_take}
-use Rattle.nv_cell.proofs.Removing.{blocks_left, compact_left, fewer, fresh_within, marks_count, marks_left, names_left, none_gone, packed_within, refs_left}
+use Rattle.nv_cell.proofs.Removing.{blocks_left, compact_left, fewer, fresh_within, marks_count, marks_left, may_leave, names_left, none_gone, packed_within, refs_left}
 use Rattle.nv_cell.proofs.cell.InodeCell.compact.Goals as goal
 
 pub close_entries-requires-clause-blocks_there : goal.close_entries-requires-clause-blocks_there
@@ -78,7 +77,8 @@ invariant_of-self c =
     let chain = compacted stays c.args.pages.items s.chain in
     let r = c.recount.ensures.room in
     let count : length c.recount.new.self.marks.items ≡ part_total (log chain) =
-    ap (λ v. length v.items) c.recount.ensures.marks ∙ ap length c.close_entries.ensures.marks ∙ marks_count left inv.marks inv.blocks may in
+    ap (λ v. length v.items) c.recount.ensures.marks ∙ ap length c.close_entries.ensures.marks
+    ∙ marks_count left inv.marks inv.blocks may in
     let ends : length c.recount.new.self.ends.items ≡ chain.tail = c.recount.ensures.len ∙ ap (λ ch. ch.tail) c.compact-old.ensures.state in
     let tallies : length c.recount.new.self.tallies.items ≡ length c.recount.new.self.ends.items = c.recount.ensures.tallied.tallies.len in
     let within : part_total (log chain) ≤ part_total chain.entries = total_take chain.entries chain.tail in
@@ -88,28 +88,77 @@ invariant_of-self c =
     fresh_within stays c.args.pages.items s.chain c.ends-ends.ensures.chain (held ∙ c.requires.pages ∙ wanted) in
     record {
       some = inv.some;
-      marks = rw (c.compact-old.ensures.state, c.recount.ensures.marks, c.close_entries.ensures.marks) (let h = marks_left left inv.marks inv.blocks may in record { len = h.len; current = h.current });
+      marks = rw (c.compact-old.ensures.state, c.recount.ensures.marks, c.close_entries.ensures.marks)
+          (let h = marks_left left inv.marks inv.blocks may in record { len = h.len; current = h.current });
       blocks = rw (c.compact-old.ensures.state, c.recount.ensures.marks, c.close_entries.ensures.marks, c.close_entries.ensures.blocks)
           (record { len = blocks.len; numbers = blocks.numbers; sized = blocks.sized });
       refs = λ key. rw c.compact-old.ensures.state (inv.refs key ∙ sym (refs_left left inv.marks inv.blocks may key));
-      names = rw c.compact-old.ensures.state (subst (λ bs. HaveSameBindings bs c.self.inside.index.names.names) (sym (names_left left inv.marks inv.blocks may)) inv.names);
+      names = rw c.compact-old.ensures.state
+          (subst (λ bs. HaveSameBindings bs c.self.inside.index.names.names) (sym (names_left left inv.marks inv.blocks may)) inv.names);
       ends_len = c.recount.ensures.len;
       ends = c.recount.ensures.ended;
       tallied = c.recount.ensures.tallied;
       spare = rw c.compact-old.ensures.state (record {
-        marks = omega (arith, count, within, few.parts, inv.spare.marks, r.marks, c.close_entries.ensures.marks_room, inv.marks.len, total_take s.chain.entries s.chain.tail);
+        marks = omega (
+          arith,
+          count,
+          within,
+          few.parts,
+          inv.spare.marks,
+          r.marks,
+          c.close_entries.ensures.marks_room,
+          inv.marks.len,
+          total_take s.chain.entries s.chain.tail,
+        );
         ends = omega (arith, ends, few.entries, few.tail, left.flags_len, len, inv.spare.ends, inv.ends_len, r.ends);
-        tallies = omega (arith, ends, tallies, few.entries, few.tail, left.flags_len, len, inv.spare.tallies, inv.tallied.tallies.len, inv.ends_len, r.tallies);
+        tallies = omega (
+          arith,
+          ends,
+          tallies,
+          few.entries,
+          few.tail,
+          left.flags_len,
+          len,
+          inv.spare.tallies,
+          inv.tallied.tallies.len,
+          inv.ends_len,
+          r.tallies,
+        );
       });
       blocks_room = rw c.compact-old.ensures.state (omega (arith, few.parts, inv.blocks_room, c.close_entries.ensures.blocks_room));
-      pages_room = rw (c.compact-old.ensures.state, c.compact-old.ensures.spare) (omega (arith, inv.pages_room, r.pages, size, c.ends-ends.ensures.chain.paged));
+      pages_room = rw (c.compact-old.ensures.state, c.compact-old.ensures.spare)
+          (omega (arith, inv.pages_room, r.pages, size, c.ends-ends.ensures.chain.paged));
       no_numbers = inv.no_numbers;
       no_killed = inv.no_killed;
     }
 
 pub returns-clause-state : goal.returns-clause-state
 returns-clause-state c =
-    rw (← c.self.view_is, c.compact-old.ensures.state, c.recount.ensures.marks, c.close_entries.ensures.marks, c.close_entries.ensures.blocks) refl
+    rw (
+      ← c.self.view_is,
+      c.compact-old.ensures.state,
+      c.recount.ensures.marks,
+      c.close_entries.ensures.marks,
+      c.close_entries.ensures.blocks,
+    ) refl
 
 pub returns-clause-room : goal.returns-clause-room
 returns-clause-room c = rw (← c.self.view_is, c.compact-old.ensures.spare) refl
+
+pub returns-clause-log : goal.returns-clause-log
+returns-clause-log c =
+    let s = state_in c.self.inside in
+    let stays = c.args.stays.now in
+    let len : length stays ≡ s.chain.tail = c.requires.flags ∙ sym (ap (λ v. v.state.chain.tail) c.self.view_is) in
+    let left = compact_left stays c.args.pages.items s.chain len c.ends-ends.ensures.chain.within in
+    rw (← c.self.view_is, c.compact-old.ensures.state) left.log_is
+
+pub returns-clause-rest : goal.returns-clause-rest
+returns-clause-rest c =
+    let s = state_in c.self.inside in
+    let inv = c.self.invariant in
+    let stays = c.args.stays.now in
+    let may = subst (λ v. MayGo stays v.state) (sym c.self.view_is) c.requires.may in
+    let len : length stays ≡ s.chain.tail = c.requires.flags ∙ sym (ap (λ v. v.state.chain.tail) c.self.view_is) in
+    let left = compact_left stays c.args.pages.items s.chain len c.ends-ends.ensures.chain.within in
+    rw (← c.self.view_is) (keeps_the_rest s.block (log_of s) stays (may_leave left inv.marks inv.blocks may))

@@ -1,4 +1,4 @@
-use Rattle.std.proofs.Common.{◌≡◌, ◌≤◌, length, arith, ap, sym, ◌∙◌}
+use Rattle.std.proofs.Common.{length, arith}
 use Rattle.nv_cell.proofs.Publishes.{chain_runs}
 use Rattle.nv_cell.proofs.Runs.{fewer_runs}
 use Rattle.nv_cell.proofs.marks.Marks.recount.Goals as goal
