@@ -18,3 +18,4 @@ pub mod Refs
 pub mod Later
 pub mod Leaving
 pub mod Killing
+pub mod Tree

@@ -21,6 +21,7 @@ mod part;
 mod part_ref;
 mod retention;
 pub mod stored;
+mod tree;
 mod value;
 mod walk;
 
@@ -35,5 +36,6 @@ pub use node::{BlockBytes, NodeCopy, file_bytes_when, node_when, size_when};
 pub use part::{Part, PartId, Parts};
 pub use part_ref::{PartRef, current_part};
 pub use retention::Retention;
+pub use tree::{Path, Tree, TreeNode};
 pub use value::{When, first_cover, value_at, value_now, value_when};
 pub use walk::{fast_keeps, thorough_keeps};

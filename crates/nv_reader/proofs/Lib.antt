@@ -1,0 +1,4 @@
+pub mod Coming
+pub mod Depths
+mod Pushed
+pub mod Ways

@@ -1,0 +1,11 @@
+//! What is read of a world: the walk of its tree.
+//!
+//! A [`Walk`] says which node it wants next, its caller hands that node in, and the walk gives it out with its path. So it
+//! is the same walk wherever the nodes come from.
+#![tactic(auto)]
+
+pub mod laws;
+mod levels;
+mod walk;
+
+pub use walk::Walk;
