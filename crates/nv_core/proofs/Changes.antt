@@ -27,7 +27,8 @@ use Rattle.nv_entry.proofs.NameLookup.{name_value}
 use Rattle.nv_entry.proofs.PageBytes.{written_makes}
 use Rattle.nv_entry.proofs.SoundLogs.{lawful_gives, same_blocks_give, stands-bytes}
 use Rattle.nv_core.specs.Changed.{StandsFor, bytes_at, created, new_entry, new_pages, one_more, wrote}
-use Rattle.nv_core.specs.Plain.{Plain, PlainNode, commit_check, create_check, file_made, file_written, kind_in, names_of_node, node_in, refuse_if, same_handle, stamped, want_directory, want_file, with_name, write_check}
+use Rattle.nv_entry.specs.Tree.{names_of_node}
+use Rattle.nv_core.specs.Plain.{Plain, PlainNode, commit_check, create_check, file_made, file_written, kind_in, node_in, refuse_if, same_handle, stamped, want_directory, want_file, with_name, write_check}
 use Rattle.nv_core.specs.World.{IsWorld, WorldValue, bytes_in, log_at, next_handle, numbers_of, plain_of}
 use Rattle.nv_core.proofs.Slots.{ChangesSlot, Found, files_after, found, log_before, node_found, nodes_after, slot_node}
 

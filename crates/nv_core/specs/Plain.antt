@@ -10,7 +10,7 @@ use Rattle.nv_base.specs.declared.numbers.Handle.{Handle}
 use Rattle.nv_entry.specs.Bytes.{pages_touched, read_at}
 use Rattle.nv_entry.specs.Index.{bound_to, with_last}
 use Rattle.nv_entry.specs.Sound.{empty_node, rewritten}
-use Rattle.nv_entry.specs.declared.names.BoundName.{BoundName}
+use Rattle.nv_entry.specs.Tree.{names_of_node}
 use Rattle.nv_entry.specs.declared.node.NodeCopy.{NodeCopy}
 use Rattle.nv_core.specs.declared.call.Answer.{Answer}
 use Rattle.nv_core.specs.declared.call.Answer.TheVariants as answer
@@ -63,10 +63,6 @@ kind_in plain handle = option_map (λ n. n.kind) (node_in plain handle)
 abbrev pub bytes_of : Option NodeCopy → List ℕ
 bytes_of None = []
 bytes_of (Some node) = node.bytes
-
-abbrev pub names_of_node : Option NodeCopy → List BoundName
-names_of_node None = []
-names_of_node (Some node) = node.names
 
 -- a node as a commit changed it
 abbrev pub stamped : ℕ → Option NodeCopy → Option PlainNode

@@ -18,5 +18,5 @@ mod world;
 
 pub use call::{Answer, Call};
 pub use event::{Event, Reply};
-pub use tree::{Path, Tree, TreeNode};
+pub use nv_entry::{Path, Tree, TreeNode};
 pub use world::World;

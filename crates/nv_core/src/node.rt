@@ -3,7 +3,8 @@
 ghost use Rattle.std.specs.Prelude.{◌≡◌, ◌<◌, IfOk, MatchOption, None, Some, is_some, length};
 ghost use Rattle.nv_entry.specs.Index.{bound_to};
 ghost use Rattle.nv_entry.specs.Node.{node_now};
-ghost use Rattle.nv_core.specs.Plain.{kind_in, names_of_node, node_in};
+ghost use Rattle.nv_entry.specs.Tree.{names_of_node};
+ghost use Rattle.nv_core.specs.Plain.{kind_in, node_in};
 ghost use Rattle.nv_core.specs.World.{bytes_in, log_at, plain_of};
 
 use crate::World;

@@ -10,7 +10,7 @@ use Rattle.nv_core.specs.declared.call.Answer.{Answer}
 use Rattle.nv_core.specs.declared.call.Answer.TheVariants as answer
 use Rattle.nv_core.specs.declared.event.Reply.{Reply}
 use Rattle.nv_core.specs.declared.event.Reply.TheVariants as reply
-use Rattle.nv_core.specs.declared.tree.TreeNode.{TreeNode}
+use Rattle.nv_entry.specs.declared.tree.TreeNode.{TreeNode}
 use Rattle.nv_script.specs.Words.{escaped}
 
 -- a text and its line end

@@ -24,6 +24,8 @@ mod journal;
 #[cfg(test)]
 mod name_index;
 #[cfg(test)]
+mod reader;
+#[cfg(test)]
 mod scenes;
 #[cfg(test)]
 mod script;
