@@ -5,16 +5,16 @@ use Rattle.nv_base.specs.declared.node.Kind.TheVariants.{Dir}
 use Rattle.nv_base.specs.declared.numbers.Handle.{Handle}
 use Rattle.nv_entry.specs.declared.item.Entry.{Entry}
 use Rattle.nv_entry.specs.declared.item.Item.{Item}
-use Rattle.nv_entry.specs.declared.item.Item.TheVariants.{Init, SetMode, Bind, Unbind, Gone}
+use Rattle.nv_entry.specs.declared.item.Item.TheVariants.{Init, Bind, Unbind, Gone}
 use Rattle.nv_entry.specs.declared.node.NodeCopy.{NodeCopy}
 use Rattle.nv_entry.specs.Index.{with_last, without}
 use Rattle.nv_entry.specs.Node.{node_now}
 use Rattle.nv_entry.specs.Sound.{Makes, MakesAll, empty_node}
 use Rattle.nv_entry.specs.Stored.{stored_after}
 use Rattle.nv_entry.proofs.SoundLogs.{one_makes}
-use Rattle.nv_calls.specs.Plain.{Change, PlainNode, begins, change, goes, node_in, with_mode, with_names}
+use Rattle.nv_calls.specs.Plain.{Change, begins, change, goes, node_in, with_names}
 use Rattle.nv_calls.specs.declared.plan.Planned.{Planned}
-use Rattle.nv_calls.specs.Plan.{Fits, planned}
+use Rattle.nv_calls.specs.Plan.{planned}
 use Rattle.nv_calls.specs.Slots.{IsFree, IsPlan, Slot, node_under}
 use Rattle.nv_calls.proofs.Commits.{own_node}
 use Rattle.nv_calls.proofs.Passed.{HasKind, IsThere, own_handle}

@@ -1,5 +1,5 @@
 -- What a call knows whose tests it passes.
-use Rattle.std.proofs.Common.{◌≡◌, ℕ, ◌==◌, Bool, true, false, cond, List, Option, Some, None, Result, Ok, refl}
+use Rattle.std.proofs.Common.{◌≡◌, ℕ, ◌==◌, Bool, true, false, cond, List, Option, Some, None, refl}
 use Rattle.std.specs.Prelude.{option_map}
 use Rattle.std.proofs.lemmas.Bool.{eqb-true}
 use Rattle.nv_base.specs.declared.fault.Fault.{Fault}
@@ -8,7 +8,7 @@ use Rattle.nv_base.specs.declared.node.Kind.TheVariants.{File, Dir}
 use Rattle.nv_base.specs.declared.numbers.Handle.{Handle}
 use Rattle.nv_entry.specs.declared.node.NodeCopy.{NodeCopy}
 use Rattle.nv_calls.specs.Plain.{PlainNode, node_in}
-use Rattle.nv_calls.specs.Refusals.{Check, kind_of, passes, refuse_if, want_bound, want_directory, want_file, want_node}
+use Rattle.nv_calls.specs.Refusals.{Check, kind_of, passes, refuse_if, want_directory, want_file, want_node}
 use Rattle.nv_calls.specs.Slots.{Slot, node_under}
 
 -- a node that is there

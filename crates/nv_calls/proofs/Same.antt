@@ -1,15 +1,12 @@
 -- A call is the same in worlds that agree on the handles that it locks.
-use Rattle.std.proofs.Common.{◌≡◌, ℕ, ◌&&◌, Bool, not, nat_lt, cond, length, List, [], ◌∷◌, ◌++◌, Option, Some, None, refl, ap, ap₂, ◌∙◌}
+use Rattle.std.proofs.Common.{◌≡◌, ℕ, ◌&&◌, not, nat_lt, cond, length, List, [], ◌∷◌, ◌++◌, Option, Some, None, refl, ap, ap₂, ◌∙◌}
 use Rattle.std.specs.List.{AllByRecursion}
 use Rattle.std.specs.Prelude.{option_map}
-use Rattle.nv_base.specs.Names.{is_lawful_name}
 use Rattle.nv_base.specs.declared.fault.Fault.TheVariants as fault
 use Rattle.nv_base.specs.declared.node.Kind.{Kind}
 use Rattle.nv_base.specs.declared.numbers.Handle.{Handle}
 use Rattle.nv_entry.specs.declared.node.NodeCopy.{NodeCopy}
-use Rattle.nv_calls.specs.AllCalls.{Taken, answer, plan}
-use Rattle.nv_calls.specs.declared.answer.Answer.{Answer}
-use Rattle.nv_calls.specs.declared.answer.Answer.TheVariants as answers
+use Rattle.nv_calls.specs.AllCalls.{Taken, plan}
 use Rattle.nv_calls.specs.declared.call.Call.{Call}
 use Rattle.nv_calls.specs.declared.call.Call.TheVariants as call
 use Rattle.nv_calls.specs.Locked.{Agree, SameCall, found, handles}

@@ -1,6 +1,6 @@
 -- The file calls of the plain world, by the step that decides: refusal at the check, effect at the commit, and
 -- answer; and the plan of each. No changes: no commit.
-use Rattle.std.specs.Prelude.{◌≡◌, ℕ, ◌<◌, Bool, List, [], length, Option}
+use Rattle.std.specs.Prelude.{ℕ, ◌<◌, Bool, List, [], length, Option}
 use Rattle.nv_base.specs.declared.node.Kind.TheVariants.{File, Dir}
 use Rattle.nv_base.specs.declared.numbers.Handle.{Handle}
 use Rattle.nv_entry.specs.declared.item.Run.{Run}

@@ -1,8 +1,7 @@
 -- A size that is not refused has a plan with its effect.
-use Rattle.std.proofs.Common.{◌≡◌, ℕ, ◌+◌, ◌-◌, ◌*◌, ◌/◌, ◌<◌, ◌≤◌, ◌⊎◌, inl, inr, Bool, true, false, cond, nat_lt, nat_le, ◌&&◌, List, [], ◌∷◌, ◌++◌, length, replicate, suc, Option, Some, None, arith, refl, ap, sym, ◌∙◌, subst}
+use Rattle.std.proofs.Common.{◌≡◌, ℕ, ◌+◌, ◌-◌, ◌*◌, ◌/◌, ◌<◌, ◌≤◌, ◌⊎◌, inl, inr, Bool, true, false, cond, nat_lt, List, [], ◌∷◌, ◌++◌, length, replicate, suc, Option, Some, None, arith, refl, ap, sym, ◌∙◌, subst}
 use Rattle.std.specs.Prelude.{option_map}
-use Rattle.std.specs.List.{AllByRecursion}
-use Rattle.std.proofs.lemmas.Bool.{cases_lt, ltb-false, ltb-true, lt-ltb}
+use Rattle.std.proofs.lemmas.Bool.{ltb-false}
 use Rattle.nv_base.specs.declared.fault.Fault.TheVariants as fault
 use Rattle.nv_base.specs.declared.node.Kind.TheVariants.{File}
 use Rattle.nv_base.specs.declared.numbers.Handle.{Handle}
@@ -10,9 +9,9 @@ use Rattle.nv_entry.specs.declared.item.Item.TheVariants.{Write, SetSize}
 use Rattle.nv_entry.specs.declared.item.Run.{Run}
 use Rattle.nv_entry.specs.declared.node.NodeCopy.{NodeCopy}
 use Rattle.nv_entry.specs.Bytes.{page_of}
-use Rattle.nv_entry.specs.Keys.{in_run, is_page, is_past, pages_for}
+use Rattle.nv_entry.specs.Keys.{in_run, is_past, pages_for}
 use Rattle.nv_entry.specs.Node.{page_bytes}
-use Rattle.nv_entry.specs.Sound.{Makes, MakesAll, Rewrites, Stands, write_items}
+use Rattle.nv_entry.specs.Sound.{MakesAll, Rewrites, Stands, write_items}
 use Rattle.nv_entry.specs.Stored.{Stored, block_after, stored_after_all}
 use Rattle.nv_entry.proofs.Hiding.{run_from, run_parts}
 use Rattle.nv_entry.proofs.PageBytes.{page_of-past, pages_for-most}
@@ -20,9 +19,9 @@ use Rattle.nv_entry.proofs.SoundLogs.{one_makes, suits_file}
 use Rattle.nv_calls.specs.Plain.{node_in}
 use Rattle.nv_calls.specs.Refusals.{bytes_of, passes, refuse_if}
 use Rattle.nv_calls.specs.Slots.{IsPlan, Slot, node_under}
-use Rattle.nv_calls.specs.calls.Size.{HaveCut, IsCutPage, cuts_page, resized, resized_node, size_effect, size_plan, size_refusal}
+use Rattle.nv_calls.specs.calls.Size.{HaveCut, cuts_page, resized, resized_node, size_effect, size_plan, size_refusal}
 use Rattle.nv_calls.proofs.Items.{and_plan, no_plan}
-use Rattle.nv_calls.proofs.Passed.{HasKind, file_passed, if_passed, own_handle, there}
+use Rattle.nv_calls.proofs.Passed.{file_passed, if_passed, own_handle, there}
 use Rattle.nv_calls.proofs.Resized.{length-resized, not_cut, not_past, past_end, stays_far, stays_other}
 
 module _ (bytes : ℕ → List ℕ) (block size : ℕ) (node : NodeCopy) (some : 0 < block) (file : node.kind ≡ File)
