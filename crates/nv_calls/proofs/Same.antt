@@ -11,7 +11,8 @@ use Rattle.nv_calls.specs.declared.call.Call.{Call}
 use Rattle.nv_calls.specs.declared.call.Call.TheVariants as call
 use Rattle.nv_calls.specs.Locked.{Agree, SameCall, found, handles}
 use Rattle.nv_calls.specs.Plain.{PlainNode, node_in, same_handle}
-use Rattle.nv_calls.specs.Refusals.{Check, is_directory, kind_of, lookup, names_of_node, passes, refuse_if, want_bound, want_directory, want_file, want_lawful}
+use Rattle.nv_calls.specs.Refusals.{Check, is_directory, kind_of, lookup, passes, refuse_if, want_bound, want_directory, want_file, want_lawful}
+use Rattle.nv_entry.specs.Tree.{names_of_node}
 use Rattle.nv_calls.specs.calls.Lookup.{lookup_answer}
 use Rattle.nv_calls.specs.calls.Rename.{bound_effect, bound_plan, moved_refusal, own_place, pass_if, rename_refusal, replaced_refusal}
 use Rattle.nv_calls.specs.calls.Stat.{stat_answer}

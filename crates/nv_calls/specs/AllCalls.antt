@@ -13,7 +13,8 @@ use Rattle.nv_calls.specs.declared.call.Call.{Call}
 use Rattle.nv_calls.specs.declared.call.Call.TheVariants as call
 use Rattle.nv_calls.specs.declared.plan.Planned.{Planned}
 use Rattle.nv_calls.specs.Plain.{Change, PlainNode, node_in}
-use Rattle.nv_calls.specs.Refusals.{Check, bytes_of, kind_of, lookup, names_of_node, passes, want_directory, want_file}
+use Rattle.nv_calls.specs.Refusals.{Check, bytes_of, kind_of, lookup, passes, want_directory, want_file}
+use Rattle.nv_entry.specs.Tree.{names_of_node}
 use Rattle.nv_calls.specs.Slots.{IsFree, Slot}
 use Rattle.nv_calls.specs.calls.Create.{create_effect, create_plan, create_refusal}
 use Rattle.nv_calls.specs.calls.Lookup.{lookup_answer, lookup_refusal}

@@ -6,9 +6,9 @@ use Rattle.nv_base.specs.declared.fault.Fault.TheVariants as fault
 use Rattle.nv_base.specs.declared.node.Kind.{Kind}
 use Rattle.nv_base.specs.declared.node.Kind.TheVariants.{File, Dir}
 use Rattle.nv_base.specs.declared.numbers.Handle.{Handle}
-use Rattle.nv_entry.specs.declared.names.BoundName.{BoundName}
 use Rattle.nv_entry.specs.declared.node.NodeCopy.{NodeCopy}
 use Rattle.nv_entry.specs.Index.{bound_to}
+use Rattle.nv_entry.specs.Tree.{names_of_node}
 
 -- ---- nodes
 
@@ -18,10 +18,6 @@ kind_of node = option_map (λ (n : NodeCopy). n.kind) node
 abbrev pub bytes_of : Option NodeCopy → List ℕ
 bytes_of None = []
 bytes_of (Some node) = node.bytes
-
-abbrev pub names_of_node : Option NodeCopy → List BoundName
-names_of_node None = []
-names_of_node (Some node) = node.names
 
 abbrev pub is_directory : Option Kind → Bool
 is_directory (Some Dir) = true

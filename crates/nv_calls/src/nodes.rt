@@ -3,7 +3,8 @@
 ghost use Rattle.std.specs.Prelude.{◌≡◌, Option, length};
 ghost use Rattle.nv_base.specs.declared.numbers.Handle.{Handle};
 ghost use Rattle.nv_entry.specs.declared.node.NodeCopy.{NodeCopy};
-ghost use Rattle.nv_calls.specs.Refusals.{bytes_of, kind_of, lookup, names_of_node};
+ghost use Rattle.nv_calls.specs.Refusals.{bytes_of, kind_of, lookup};
+ghost use Rattle.nv_entry.specs.Tree.{names_of_node};
 
 use nv_base::{Handle, Kind};
 

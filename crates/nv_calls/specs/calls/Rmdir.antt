@@ -3,7 +3,8 @@ use Rattle.std.specs.Prelude.{ℕ, nat_lt, length, List, Option}
 use Rattle.nv_base.specs.declared.fault.Fault.TheVariants as fault
 use Rattle.nv_base.specs.declared.numbers.Handle.{Handle}
 use Rattle.nv_entry.specs.declared.node.NodeCopy.{NodeCopy}
-use Rattle.nv_calls.specs.Refusals.{Check, kind_of, lookup, names_of_node, passes, refuse_if, want_bound, want_directory, want_lawful}
+use Rattle.nv_calls.specs.Refusals.{Check, kind_of, lookup, passes, refuse_if, want_bound, want_directory, want_lawful}
+use Rattle.nv_entry.specs.Tree.{names_of_node}
 
 abbrev pub rmdir_refusal : (Handle → Option NodeCopy) → Handle → List ℕ → Check
 rmdir_refusal nodes dir name =
