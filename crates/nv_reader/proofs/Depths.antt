@@ -1,8 +1,8 @@
 -- Depths that cut nothing of a tree.
-use Rattle.std.proofs.Common.{◌≡◌, ℕ, zero, suc, ◌+◌, ◌<◌, ◌≤◌, List, [], ◌∷◌, ◌++◌, length, map, Bool, true, false, Option, Some, None, IsSome, arith, refl, ap, ap₂, sym, subst, ◌∙◌}
+use Rattle.std.proofs.Common.{◌≡◌, ℕ, zero, suc, ◌+◌, List, [], ◌∷◌, ◌++◌, Option, Some, None, arith, refl, ap, ap₂, sym, subst}
 use Rattle.std.specs.List.{Contains, flat_map}
 use Rattle.nv_base.specs.declared.numbers.Handle.{Handle}
-use Rattle.nv_entry.specs.Tree.{CutsNothing, names_of_node, names_under, node_and_below, path_below, tree_from}
+use Rattle.nv_entry.specs.Tree.{CutsNothing, names_of_node, node_and_below, path_below, tree_from}
 use Rattle.nv_entry.specs.declared.names.BoundName.{BoundName}
 use Rattle.nv_entry.specs.declared.node.NodeCopy.{NodeCopy}
 use Rattle.nv_entry.specs.declared.tree.TreeNode.{TreeNode}
