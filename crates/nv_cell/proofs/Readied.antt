@@ -107,3 +107,9 @@ pub one_ready : (items : List Item) (i : ℕ) (name : List ℕ) (to : Handle) (o
 one_ready items i name to old new (Ok u) one lt is plain same reserved =
     (one, ready_one items i name to new one lt is plain (reserved_ready name to old new same reserved))
 one_ready items i name to old new (Err fault) one lt is plain same reserved = tt
+
+pub ready_at : (items : List Item) (i : ℕ) (name : List ℕ) (to : Handle) (names : Names) → AllByRecursion (λ item. NameReady item names) items → i < length items
+    → slice_index_or items i (Bind name to) ≡ Bind name to → NameReady (Bind name to) names
+ready_at [] i name to names h lt is = absurd (omega arith)
+ready_at (item ∷ items) zero name to names h lt is = subst (λ (x : Item). NameReady x names) is h.0
+ready_at (item ∷ items) (suc i) name to names h lt is = ready_at items i name to names h.1 (omega (arith, lt)) is

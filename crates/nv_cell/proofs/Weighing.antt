@@ -142,6 +142,12 @@ weights_are block log index items scan same differ =
     weights_more block (present_in block log) (λ from. present_from from index.pages.pages) (length (names_of log)) (length index.names.names) items
     (λ from. omega (arith, present_is block log index scan from)) (omega (arith, names_count log index.names.names same differ))
 
+pub weights_were : (block : ℕ) (log : List Entry) (index : IndexValue) (items : List Item) → ((key : Key) → ref_of index key ≡ scan_ref block log key)
+    → HaveSameBindings (bindings_of log) index.names.names → AreDistinct index.names.names → weights_by block index items ≤ weights_in block log items
+weights_were block log index items scan same differ =
+    weights_more block (λ from. present_from from index.pages.pages) (present_in block log) (length index.names.names) (length (names_of log)) items
+    (λ from. omega (arith, present_is block log index scan from)) (omega (arith, names_count log index.names.names same differ))
+
 -- ---- one more item
 
 weight_same : (block : ℕ) (pages other : ℕ → ℕ) (names bound : ℕ) (item : Item) → ((from : ℕ) → pages from ≡ other from) → names ≡ bound

@@ -1,6 +1,6 @@
 //! The index of an inode.
 
-ghost use Rattle.std.specs.Prelude.{◌≡◌, ℕ, ◌+◌, ◌-◌, ◌<◌, ◌≤◌, ◌⊎◌, ◌&&◌, [], if◌then◌else◌, nat_le, nat_lt, IsSome, IfErr, IfSome, OnOk, OnErr, Some, None, length, slice_get};
+ghost use Rattle.std.specs.Prelude.{◌≡◌, ℕ, ◌+◌, ◌-◌, ◌<◌, ◌≤◌, ◌⊎◌, ◌&&◌, [], if◌then◌else◌, nat_le, nat_lt, IsSome, IfErr, IfSome, IsOk, OnOk, OnErr, Some, None, length, slice_get};
 ghost use Rattle.std.specs.Option.{option_map};
 ghost use Rattle.nv_base.specs.declared.fault.Fault.TheVariants.{OutOfMemory};
 ghost use Rattle.nv_base.specs.declared.limits.TheConstants.{FILE_PAGES};
@@ -171,6 +171,8 @@ impl CellIndex {
         ensures runs { OnOk result (sum_by runs_of items.now ≤ self.new.pages.room) }
         ensures names { OnOk result (NamesReady items.now self.new.names) }
         ensures reserved { OnErr result (self.new.names.reserved ≡ self.old.names.reserved) }
+        ensures enough { sum_by runs_of items.now ≤ self.old.pages.room
+            → NamesReady items.now self.old.names → IsOk result }
         ensures err { FailsOnly OutOfMemory result }
     {
         self.pages.reserve_for(write_count(items))?;
@@ -227,10 +229,14 @@ fn reserve_name(names: &mut NameIndex, items: &[Item]) -> Result<(), Fault>
     ensures names { names.new.names ≡ names.old.names }
     ensures ready { OnOk result (NamesReady items.now names.new) }
     ensures reserved { OnErr result (names.new.reserved ≡ names.old.reserved) }
+    ensures enough { NamesReady items.now names.old → IsOk result }
     ensures err { FailsOnly OutOfMemory result }
 {
     for item in items {
         if let Item::Bind { name, .. } = item {
+            if names.is_reserved(name.bytes()) {
+                return Ok(());
+            }
             return names.reserve_one(name);
         }
     }

@@ -1,6 +1,6 @@
 //! The marks of a log's parts by number, with what follows from them by entry and by page.
 
-ghost use Rattle.std.specs.Prelude.{◌≡◌, ℕ, ◌+◌, ◌-◌, ◌<◌, ◌≤◌, ◌^◌, ◌++◌, ◌∷◌, [], Bool, true, false, if◌then◌else◌, IfErr, OnOk, length, replicate, slice_get, slice_index, slice_index_or, slice_set, vec_capacity, vec_len};
+ghost use Rattle.std.specs.Prelude.{◌≡◌, ℕ, ◌+◌, ◌-◌, ◌<◌, ◌≤◌, ◌^◌, ◌++◌, ◌∷◌, [], Bool, true, false, if◌then◌else◌, IfErr, IsOk, OnOk, length, replicate, slice_get, slice_index, slice_index_or, slice_set, vec_capacity, vec_len};
 ghost use Rattle.nv_base.specs.declared.fault.Fault.TheVariants.{OutOfMemory};
 ghost use Rattle.nv_base.specs.Refusals.{FailsOnly};
 ghost use Rattle.nv_cell.specs.Room.{HaveGrown};
@@ -93,6 +93,8 @@ impl Marks {
         ensures spare { OnOk result (HasSpare self.new parts entries) }
         ensures pages { OnOk result (pages ≤ vec_capacity self.new.pages) }
         ensures counted { OnOk result (parts < 2 ^ 63) }
+        ensures enough { HasSpare self.old parts entries → pages ≤ vec_capacity self.old.pages
+            → IsOk result }
         ensures err { FailsOnly OutOfMemory result }
     {
         self.marks.reserve(parts)?;

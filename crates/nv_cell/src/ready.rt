@@ -1,6 +1,6 @@
 //! Room for what is to follow.
 
-ghost use Rattle.std.specs.Prelude.{◌≡◌, ◌+◌, ◌<◌, ◌≤◌, ◌^◌, OnErr, OnOk, length, take, vec_capacity, vec_len};
+ghost use Rattle.std.specs.Prelude.{◌≡◌, ◌+◌, ◌<◌, ◌≤◌, ◌^◌, IsOk, OnErr, OnOk, length, take, vec_capacity, vec_len};
 ghost use Rattle.std.specs.List.{sum_by};
 ghost use Rattle.nv_base.specs.Refusals.{FailsOnly};
 ghost use Rattle.nv_base.specs.declared.fault.Fault.TheVariants.{OutOfMemory};
@@ -23,12 +23,13 @@ impl InodeCell {
     /// published without memory. The time is that of the items, and for each cut that of the runs of pages
     /// that it takes out, where no growth moves anything.
     ///
-    /// `OutOfMemory` where a growth was refused: then nothing has changed but room.
+    /// `OutOfMemory` where room was missing and its growth refused: then nothing has changed but room.
     pub fn ready(&mut self, items: &[Item]) -> Result<(), Fault>
         requires settled { self.old.state.chain.tail ≡ length self.old.state.chain.entries }
         requires one { BindOne items.now }
         ensures state { self.new.state ≡ self.old.state }
         ensures ok { OnOk result (IsReadyFor items.now self.new) }
+        ensures enough { IsReadyFor items.now self.old → IsOk result }
         ensures room { HasNoLess self.old.room self.new.room }
         ensures name { OnErr result (self.new.room.name ≡ self.old.room.name) }
         ensures err { FailsOnly OutOfMemory result }
@@ -66,6 +67,8 @@ fn grow_lists(
     ensures ok { OnOk result ((vec_len numbers.new + count ≤ vec_capacity numbers.new)
         × (vec_len killed.new + count ≤ vec_capacity killed.new)) }
     ensures counted { OnOk result (count < 2 ^ 63) }
+    ensures enough { vec_len numbers.old + count ≤ vec_capacity numbers.old
+        → vec_len killed.old + count ≤ vec_capacity killed.old → IsOk result }
     ensures err { FailsOnly OutOfMemory result }
 {
     numbers.reserve(count)?;
@@ -87,10 +90,13 @@ fn grow_log(
     ensures marks { HaveGrown marks.old marks.new }
     ensures blocks { HasGrown blocks.old blocks.new }
     ensures pages { length chain.new.state.blocks + chain.new.spare ≤ vec_capacity marks.new.pages }
-    ensures enough { OnOk result (pages_for chain.new.state entries ≤ chain.new.spare) }
+    ensures reserved { OnOk result (pages_for chain.new.state entries ≤ chain.new.spare) }
     ensures room { OnOk result (HasSpare marks.new parts entries) }
     ensures places { OnOk result (vec_len blocks.new + parts ≤ vec_capacity blocks.new) }
     ensures counted { OnOk result (parts < 2 ^ 63) }
+    ensures enough { HasSpare marks.old parts entries
+        → vec_len blocks.old + parts ≤ vec_capacity blocks.old
+        → pages_for chain.old.state entries ≤ chain.old.spare → IsOk result }
     ensures err { FailsOnly OutOfMemory result }
 {
     let pages = chain.pages_for(entries);

@@ -1,15 +1,16 @@
-use Rattle.std.proofs.Common.{◌≡◌, ℕ, ◌+◌, ◌-◌, ◌<◌, ◌≤◌, List, arith, refl, ap, sym, ◌∙◌, subst, length, max, take}
+use Rattle.std.proofs.Common.{◌≡◌, ℕ, ◌+◌, ◌-◌, ◌<◌, ◌≤◌, List, arith, refl, ap, sym, ◌∙◌, subst, length, max, take, true, false}
 use Rattle.std.specs.Prelude.{vec_capacity, vec_len}
 use Rattle.nv_entry.specs.Covered.{part_total}
 use Rattle.nv_entry.specs.declared.item.Entry.{Entry}
 use Rattle.nv_cell.specs.Cell.{CellValue, log_of}
-use Rattle.nv_cell.specs.Fields.{state_in}
+use Rattle.nv_cell.specs.Fields.{state_in, value_in}
+use Rattle.nv_cell.specs.Room.{IsReadyFor}
 use Rattle.nv_cell.specs.Index.{bindings_of}
 use Rattle.nv_cell.specs.Weights.{parts_in, weights_by, weights_in}
 use Rattle.nv_log.specs.Chain.{ChainState}
 use Rattle.nv_nindex.specs.NameIndex.{binding_of}
 use Rattle.nv_cell.proofs.Published.{names_ready}
-use Rattle.nv_cell.proofs.Weighing.{weights_are}
+use Rattle.nv_cell.proofs.Weighing.{weights_are, weights_were}
 use Rattle.nv_cell.proofs.Growing.{fields_grown, same_parts, spare_grown}
 use Rattle.nv_cell.proofs.Publishing.{take_whole}
 use Rattle.nv_cell.proofs.cell.InodeCell.ready.Goals as goal
@@ -110,7 +111,7 @@ returns-clause-ok c =
     ap (λ (s : ChainState). weights_in i.block (take s.tail s.entries) items) c.grow_log.ensures.chain in
     record {
       append = record {
-        pages = c.in_ok-grow_log.ensures.enough;
+        pages = c.in_ok-grow_log.ensures.reserved;
         entries = omega (arith, entries);
         parts = omega (arith, parts, all);
       };
@@ -126,3 +127,39 @@ returns-clause-ok c =
         killed = omega (arith, same, bound, kills, room.0, room.1);
       };
     }
+
+pub returns-in_err-grow_lists-clause-enough : goal.returns-in_err-grow_lists-clause-enough
+returns-in_err-grow_lists-clause-enough c ready =
+    let i = c.self.inside in
+    let inv = c.self.invariant in
+    let items = c.args.items.now in
+    let r : IsReadyFor items (value_in i) = subst (λ (v : CellValue). IsReadyFor items v) (sym c.self.view_is) ready in
+    let less = weights_were i.block (log_of (state_in i)) i.index items inv.refs inv.names c.most_killed-killed.ensures.distinct in
+    let no : false ≡ true = c.in_err-grow_lists.ensures.enough (omega (arith, r.publish.killed, less, c.most_killed-killed.ensures.value, ap length inv.no_numbers))
+    (omega (arith, r.publish.killed, less, c.most_killed-killed.ensures.value, ap length inv.no_killed)) in
+    cc
+
+pub returns-in_err-grow_log-clause-enough : goal.returns-in_err-grow_log-clause-enough
+returns-in_err-grow_log-clause-enough c ready =
+    let i = c.self.inside in
+    let inv = c.self.invariant in
+    let items = c.args.items.now in
+    let r : IsReadyFor items (value_in i) = subst (λ (v : CellValue). IsReadyFor items v) (sym c.self.view_is) ready in
+    let no : false ≡ true = c.in_err-grow_log.ensures.enough
+    (record {
+      marks = omega (arith, inv.spare.marks, r.append.parts, c.part_total-parts.ensures);
+      ends = omega (arith, inv.spare.ends, r.append.entries);
+      tallies = omega (arith, inv.spare.tallies, r.append.entries);
+    })
+    (omega (arith, inv.blocks_room, inv.blocks.len, r.append.parts, c.part_total-parts.ensures)) r.append.pages in
+    cc
+
+pub returns-in_err-reserve-clause-enough : goal.returns-in_err-reserve-clause-enough
+returns-in_err-reserve-clause-enough c ready =
+    let i = c.self.inside in
+    let inv = c.self.invariant in
+    let items = c.args.items.now in
+    let r : IsReadyFor items (value_in i) = subst (λ (v : CellValue). IsReadyFor items v) (sym c.self.view_is) ready in
+    let no : false ≡ true = c.in_err-reserve.ensures.enough r.publish.runs
+    (names_ready items (record { names = bindings_of (log_of (state_in i)); reserved = i.index.names.reserved }) i.index.names inv.names refl r.publish.names) in
+    cc
