@@ -30,8 +30,8 @@ module _ (bytes : ℕ → List ℕ) (block : ℕ) (slots : ℕ → Slot) (some :
   no_plan = record { all = tt; fit = tt }
 
   -- one more inode
-  pub and_plan : (handle : Handle) (items : List Item) (becomes : Option NodeCopy → Option NodeCopy) (plan : List Planned) (effect : List Change)
-      → 0 < length items → handle.generation ≡ (slots handle.ino).generation
+  pub and_plan : (handle : Handle) (items : List Item) (becomes : Option NodeCopy → Option NodeCopy) (plan : List Planned)
+      (effect : List Change) → 0 < length items → handle.generation ≡ (slots handle.ino).generation
       → MakesAll bytes block items (nodes handle) (becomes (nodes handle))
       → IsPlanOf plan effect → IsPlanOf (planned handle items ∷ plan) (change handle becomes ∷ effect)
   and_plan handle items becomes plan effect any own makes rest = record {
@@ -40,8 +40,8 @@ module _ (bytes : ℕ → List ℕ) (block : ℕ) (slots : ℕ → Slot) (some :
   }
 
   -- one more inode that has a node
-  pub and_node : (handle : Handle) (items : List Item) (becomes : Option NodeCopy → Option NodeCopy) (plan : List Planned) (effect : List Change)
-      → 0 < length items → (there : IsThere (nodes handle)) → MakesAll bytes block items (Some there.node) (becomes (Some there.node))
+  pub and_node : (handle : Handle) (items : List Item) (becomes : Option NodeCopy → Option NodeCopy) (plan : List Planned)
+      (effect : List Change) → 0 < length items → (there : IsThere (nodes handle)) → MakesAll bytes block items (Some there.node) (becomes (Some there.node))
       → IsPlanOf plan effect → IsPlanOf (planned handle items ∷ plan) (change handle becomes ∷ effect)
   and_node handle items becomes plan effect any there makes rest =
       and_plan handle items becomes plan effect any (own_handle bytes block slots handle there)

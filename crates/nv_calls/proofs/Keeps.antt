@@ -38,12 +38,12 @@ on_right (x ∷ xs) ys y c = behind x y (xs ++ ys) (on_right xs ys y c)
 
 -- ---- blocks
 
-write_blocks-are : (first : ℕ) (runs : List Run) (size : ℕ) → flat_map item_blocks (write_items first runs size) ≡ blocks_of runs
+pub write_blocks-are : (first : ℕ) (runs : List Run) (size : ℕ) → flat_map item_blocks (write_items first runs size) ≡ blocks_of runs
 write_blocks-are first [] size = refl
 write_blocks-are first (run ∷ runs) size =
     ap (λ (xs : List ℕ). range_with_len run.start run.len ++ xs) (write_blocks-are (first + run.len) runs size)
 
-cut_blocks-are : (first : ℕ) (runs : List Run) (size : ℕ)
+pub cut_blocks-are : (first : ℕ) (runs : List Run) (size : ℕ)
     → flat_map item_blocks (write_items first runs size ++ SetSize size ∷ []) ≡ blocks_of runs
 cut_blocks-are first [] size = refl
 cut_blocks-are first (run ∷ runs) size =
@@ -84,7 +84,7 @@ module _ (block : ℕ) (nodes : Handle → Option NodeCopy) (taken : Taken) wher
     (named_in (dir ∷ to ∷ []) to (behind dir to (to ∷ []) (at_first to [])), tt),
   )
 
-  leave_none : (dir : Handle) (name : List ℕ) (bound : Option Handle) → plan_blocks (leave_plan dir name bound) ≡ []
+  pub leave_none : (dir : Handle) (name : List ℕ) (bound : Option Handle) → plan_blocks (leave_plan dir name bound) ≡ []
   leave_none dir name None = refl
   leave_none dir name (Some to) = refl
 
@@ -123,7 +123,7 @@ module _ (block : ℕ) (nodes : Handle → Option NodeCopy) (taken : Taken) wher
         (behind from to tail (at_first to (moved ∷ found second)))
         (replaced_among list second (λ handle c. on_right (from ∷ to ∷ moved ∷ []) (found second) handle c))
 
-    bound_none : (own : Bool) (first second : Option Handle) → plan_blocks (cond own [] (bound_plan from old to new first second)) ≡ []
+    pub bound_none : (own : Bool) (first second : Option Handle) → plan_blocks (cond own [] (bound_plan from old to new first second)) ≡ []
     bound_none true first second = refl
     bound_none false None second = refl
     bound_none false (Some moved) second = move_none (same_handle from to) moved (replaced_plan second) (replaced_none second)

@@ -6,4 +6,5 @@ pub mod Resized
 pub mod RunLists
 pub mod Same
 pub mod Touched
+pub mod Wanted
 pub mod fits

@@ -63,7 +63,8 @@ pub record IsPlan (bytes : ℕ → List ℕ) (block : ℕ) (slots : ℕ → Slot
   pub fit : AllFit bytes block (node_in (node_under bytes block slots)) plan effect
 
 -- a commit does to the nodes what its effect says, leaves each log sound, and changes none at an earlier epoch
-pub record Commits (bytes : ℕ → List ℕ) (block commit epoch : ℕ) (place : ℕ → ℕ) (slots : ℕ → Slot) (plan : List Planned) (effect : List Change) : Type 0 where
+pub record Commits (bytes : ℕ → List ℕ) (block commit epoch : ℕ) (place : ℕ → ℕ) (slots : ℕ → Slot) (plan : List Planned)
+    (effect : List Change) : Type 0 where
   pub nodes : (handle : Handle) → node_under bytes block (published commit epoch place plan slots) handle
       ≡ nodes_after commit effect (node_under bytes block slots) handle
   pub sound : (ino : ℕ) → IsSound bytes block (published commit epoch place plan slots ino).log

@@ -1,12 +1,13 @@
 //! Laws of plans and effects, each the contract of a function that does nothing.
 
-ghost use Rattle.std.specs.Prelude.{◌≡◌, ◌<◌, ℕ, List, Option};
+ghost use Rattle.std.specs.Prelude.{◌≡◌, ◌<◌, ℕ, List, Option, length};
 ghost use Rattle.nv_base.specs.declared.numbers.Handle.{Handle};
 ghost use Rattle.nv_entry.specs.Sound.{IsSound};
 ghost use Rattle.nv_entry.specs.declared.node.NodeCopy.{NodeCopy};
-ghost use Rattle.nv_calls.specs.AllCalls.{IsReady, Taken, effect, plan, refusal};
+ghost use Rattle.nv_calls.specs.AllCalls.{IsReady, Taken, blocks_wanted, effect, plan, refusal};
 ghost use Rattle.nv_calls.specs.Locked.{Agree, KeepsToIts, SameCall, handles};
 ghost use Rattle.nv_calls.specs.Plain.{Change, PlainNode, node_in};
+ghost use Rattle.nv_calls.specs.Plan.{plan_blocks};
 ghost use Rattle.nv_calls.specs.Refusals.{passes};
 ghost use Rattle.nv_calls.specs.Slots.{Commits, IsPlan, Slot, node_under};
 ghost use Rattle.nv_calls.specs.declared.call.Call.{Call};
@@ -45,4 +46,12 @@ pub fn calls_read_what_they_lock()
 pub fn plans_keep_to_their_calls()
     ensures { (block : ℕ) (nodes : Handle → Option NodeCopy) (taken : Taken) (call : Call)
         → KeepsToIts nodes call taken (plan block nodes taken call) }
+{}
+
+/// Where what was taken is what a call needs, its plan uses as many blocks as the call wants.
+pub fn plans_use_the_blocks_wanted()
+    ensures { (bytes : ℕ → List ℕ) (block : ℕ) (slots : ℕ → Slot) (nodes : Handle → Option NodeCopy)
+        (taken : Taken) (call : Call) → IsReady bytes block slots nodes taken call
+        → length (plan_blocks (plan block nodes taken call))
+        ≡ blocks_wanted block nodes taken.present call }
 {}
