@@ -25,7 +25,7 @@ pub struct InodeCell {
     // Bytes of a block.
     pub(crate) block: u64,
     pub(crate) generation: Gen,
-    version: u64,
+    pub(crate) version: u64,
     pub(crate) chain: Chain,
     pub(crate) index: CellIndex,
     pub(crate) marks: Marks,
@@ -35,8 +35,8 @@ pub struct InodeCell {
     pub(crate) entries: usize,
     pub(crate) parts: usize,
     // Room for the parts that a publish kills; empty between calls.
-    numbers: Vec<usize>,
-    killed: Vec<KilledPart>,
+    pub(crate) numbers: Vec<usize>,
+    pub(crate) killed: Vec<KilledPart>,
 }
 
 impl Model for InodeCell {
