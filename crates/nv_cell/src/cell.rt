@@ -25,7 +25,7 @@ pub struct InodeCell {
     // Bytes of a block.
     pub(crate) block: u64,
     pub(crate) generation: Gen,
-    version: u64,
+    pub(crate) version: u64,
     pub(crate) chain: Chain,
     pub(crate) index: CellIndex,
     pub(crate) marks: Marks,

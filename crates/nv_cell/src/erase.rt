@@ -37,6 +37,45 @@ impl InodeCell {
         let page = self.chain.entries_per_page();
         mem::replace(&mut self.chain, Chain::new(self.alloc, page))
     }
+
+    /// Takes the cell apart with all its blocks: for the owner of a whole device that is let go.
+    pub fn dismantle(self) {
+        let InodeCell {
+            alloc: _,
+            block: _,
+            generation: _,
+            version: _,
+            chain,
+            index: _,
+            marks: _,
+            blocks,
+            entries: _,
+            parts: _,
+            numbers: _,
+            killed: _,
+        } = self;
+        dismantle_slots(blocks);
+        dismantle_pages(chain.into_blocks());
+    }
+}
+
+fn dismantle_pages(mut pages: Vec<Block>) {
+    while let Some(block) = pages.pop() {
+        let _ = block.into_bytes();
+    }
+    pages.destroy_empty();
+}
+
+fn dismantle_slots(mut slots: Vec<Option<Block>>) {
+    while let Some(slot) = slots.pop() {
+        match slot {
+            Some(block) => {
+                let _ = block.into_bytes();
+            }
+            None => {}
+        }
+    }
+    slots.destroy_empty();
 }
 
 /// Empties a list of places that have no block.
