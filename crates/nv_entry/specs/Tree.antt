@@ -47,4 +47,4 @@ pub record FormTree (nodes : Handle → Option NodeCopy) (inodes : ℕ) : Type 0
   pub numbered : (handle : Handle) → IsSome (nodes handle) → handle.ino < inodes
   pub root_unnamed : (dir : Handle) (place : ℕ) (bound : BoundName) → LeadsAt nodes dir place bound → root.ino < bound.to.ino
   pub one_name : (one other : Handle) (j k : ℕ) (a b : BoundName) → LeadsAt nodes one j a → LeadsAt nodes other k b
-    → a.to.ino ≡ b.to.ino → (one.ino ≡ other.ino) × (j ≡ k)
+      → a.to.ino ≡ b.to.ino → (one.ino ≡ other.ino) × (j ≡ k)
