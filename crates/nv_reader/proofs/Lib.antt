@@ -1,3 +1,4 @@
+pub mod CellBytes
 pub mod PageBytes
 pub mod PageParts
 pub mod Logs

@@ -2,3 +2,4 @@ pub mod Walk
 pub mod Levels
 pub mod Attributes
 pub mod Blocks
+pub mod Cells
