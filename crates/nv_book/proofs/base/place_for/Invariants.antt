@@ -1,5 +1,5 @@
 use Rattle.std.proofs.Common.{ℕ, ◌-◌, ◌<◌, ◌≤◌, length, get_or}
-use Rattle.nv_book.proofs.living.place_for.Given as goal
+use Rattle.nv_book.proofs.base.place_for.Given as goal
 
 abbrev pub invariant-loop-place : goal.invariant-loop-place
 invariant-loop-place l = (l.place ≤ length l.living) × ((k : ℕ) → k < l.place → get_or l.living k 0 < l.s)

@@ -2,7 +2,7 @@ use Rattle.std.proofs.Common.{arith, sym, ◌∙◌}
 use Rattle.std.proofs.lemmas.List.{get_or_default}
 use Rattle.std.proofs.lemmas.Map.Keys.{ge_from_not_lt}
 use Rattle.nv_book.proofs.Undoing.{put-place}
-use Rattle.nv_book.proofs.living.place_for.Goals as goal
+use Rattle.nv_book.proofs.base.place_for.Goals as goal
 
 pub returns-else-lt-clause-place : goal.returns-else-lt-clause-place
 returns-else-lt-clause-place c =
