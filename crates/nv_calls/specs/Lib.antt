@@ -1,4 +1,5 @@
 pub mod AllCalls
+pub mod Lawful
 pub mod Locked
 pub mod Plain
 pub mod Plan

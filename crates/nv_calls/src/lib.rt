@@ -10,6 +10,7 @@ mod answer;
 mod call;
 pub mod calls;
 pub mod laws;
+mod looked;
 mod nodes;
 mod plan;
 mod refusal;
@@ -18,7 +19,8 @@ mod wants;
 
 pub use answer::Answer;
 pub use call::Call;
+pub use looked::{Looked, found, look, look_all};
 pub use nodes::Nodes;
 pub use plan::{Plan, Planned};
-pub use refusal::check;
+pub use refusal::{check, check_early, check_late, check_look};
 pub use runs::runs_of;
