@@ -1,3 +1,4 @@
+pub mod CellNodes
 pub mod Commits
 pub mod Items
 pub mod Keeps
