@@ -1,4 +1,5 @@
 pub mod Apart
+pub mod CellNodes
 pub mod Commits
 pub mod Items
 pub mod Keeps
