@@ -6,3 +6,4 @@ pub mod Runs
 pub mod Steps
 pub mod Tree
 pub mod World
+pub mod machine

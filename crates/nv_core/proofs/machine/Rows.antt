@@ -1,0 +1,179 @@
+-- Worked scripts, computed step by step.
+use Rattle.std.proofs.Common.{◌≡◌, ℕ, zero, suc, ◌+◌, Bool, true, List, [], ◌∷◌, ◌++◌, length, map, replicate, refl}
+use Rattle.std.specs.List.{sum_by}
+use Rattle.nv_base.specs.declared.fault.Fault.TheVariants.{ActorBusy, ActorIdle, NoActor}
+use Rattle.nv_base.specs.declared.geometry.GeometryNumbers.{GeometryNumbers}
+use Rattle.nv_base.specs.declared.numbers.Handle.{Handle}
+use Rattle.nv_alloc.specs.FreeList.{FreeBlocks}
+use Rattle.nv_calls.specs.declared.answer.Answer.TheVariants as answer
+use Rattle.nv_calls.specs.declared.call.Call.{Call}
+use Rattle.nv_calls.specs.declared.call.Call.TheVariants as call
+use Rattle.nv_cell.specs.Cell.{CellState}
+use Rattle.nv_entry.specs.declared.tree.TreeNode.{TreeNode}
+use Rattle.nv_core.specs.machine.Format.{formatted}
+use Rattle.nv_core.specs.machine.Settled.{tree_of}
+use Rattle.nv_core.specs.machine.Step.{Step, after, replies, stays, step}
+use Rattle.nv_core.specs.machine.World.{Done, Event, Go, Moved, Refused, Reply, Shared, Start, Started, Waiting, World}
+
+-- ---- scripts
+
+-- a call is started and goes on as long as it moves; it is started; or an actor goes on so many times, or as long as it moves
+pub data Line : Type 0 where
+  DoCall : (actor : ℕ) (c : Call) → Line
+  StartCall : (actor : ℕ) (c : Call) → Line
+  Goes : (actor : ℕ) (times : ℕ) → Line
+
+abbrev pub on_reply : Reply → World → (World → Step) → Step
+on_reply Moved w rest = rest w
+on_reply reply w rest = stays reply w
+
+-- so many times, or up to the first reply that is not Moved
+abbrev pub goes : ℕ → ℕ → World → Step
+goes zero actor w = stays Moved w
+goes (suc n) actor w = on_reply (step w (Go actor true)).reply (step w (Go actor true)).world (goes n actor)
+
+abbrev pub on_start : Reply → World → (World → Step) → Step
+on_start Started w rest = rest w
+on_start reply w rest = stays reply w
+
+abbrev pub line : World → Line → Step
+line w (DoCall actor c) = on_start (step w (Start actor c)).reply (step w (Start actor c)).world (goes 99 actor)
+line w (StartCall actor c) = step w (Start actor c)
+line w (Goes actor times) = goes times actor w
+
+abbrev pub play : World → List Line → List Reply
+play w [] = []
+play w (l ∷ lines) = (line w l).reply ∷ play (line w l).world lines
+
+abbrev pub played : World → List Line → World
+played w [] = w
+played w (l ∷ lines) = played (line w l).world lines
+
+-- ---- what is seen
+
+abbrev pub free_count : Shared → ℕ
+free_count s = sum_by (λ (l : FreeBlocks). length l.blocks) s.lists
+
+abbrev pub chain_count : Shared → ℕ
+chain_count s = sum_by (λ (c : CellState). length c.chain.blocks) s.cells
+
+-- a node of a tree: its path and its bytes
+abbrev pub shown : TreeNode → List (List ℕ) × List ℕ
+shown n = (n.path, n.node.bytes)
+
+-- ---- one device
+
+abbrev pub device : GeometryNumbers
+device = record { blocks = 16; cpus = 2; block = 4; page = 4; inodes = 8; snaps = 4; actors = 3 }
+
+abbrev pub handle : ℕ → ℕ → Handle
+handle ino generation = record { ino = ino; generation = generation }
+
+-- a create with one taking has eighteen steps
+created : replies (formatted device) (Start 0 (call.Create (handle 0 1) (97 ∷ []) 420) ∷ replicate 18 (Go 0 true)) ≡ Started ∷ replicate 17 Moved ++ Done (answer.Made (handle 1 1)) ∷ []
+created = refl
+
+-- ---- events and lines
+
+abbrev pub events_and_lines : List Line
+events_and_lines =
+    Goes 0 1
+    ∷ StartCall 3 (call.Stat (handle 0 1))
+    ∷ DoCall 0 (call.Create (handle 0 1) (97 ∷ []) 420)
+    ∷ StartCall 0 (call.Write (handle 1 1) 0 (122 ∷ 122 ∷ []))
+    ∷ StartCall 0 (call.Stat (handle 0 1))
+    ∷ Goes 0 1
+    ∷ DoCall 1 (call.Read (handle 1 1) 0 2)
+    ∷ Goes 1 1
+    ∷ Goes 0 99
+    ∷ Goes 1 1
+    ∷ []
+
+events : play (formatted device) events_and_lines ≡
+    Refused ActorIdle
+    ∷ Refused NoActor
+    ∷ Done (answer.Made (handle 1 1))
+    ∷ Started
+    ∷ Refused ActorBusy
+    ∷ Moved
+    ∷ Waiting
+    ∷ Waiting
+    ∷ Done (answer.Count 2)
+    ∷ Done (answer.Bytes (122 ∷ 122 ∷ []))
+    ∷ []
+events = refl
+
+-- ---- a write across a snapshot, up to its report of space
+
+abbrev pub a_write_across : List Line
+a_write_across =
+    DoCall 0 (call.Create (handle 0 1) (97 ∷ []) 420)
+    ∷ DoCall 0 (call.Write (handle 1 1) 0 (97 ∷ 97 ∷ 97 ∷ 97 ∷ []))
+    ∷ StartCall 0 (call.Write (handle 1 1) 0 (98 ∷ 98 ∷ 98 ∷ 98 ∷ []))
+    ∷ Goes 0 4
+    ∷ []
+
+across : play (formatted device) a_write_across ≡ Done (answer.Made (handle 1 1)) ∷ Done (answer.Count 4) ∷ Started ∷ Moved ∷ []
+across = refl
+
+-- 12 free, 2 in chains, and one in the file and one in the hand
+across_free : free_count (played (formatted device) a_write_across).shared ≡ 12
+across_free = refl
+
+across_chains : chain_count (played (formatted device) a_write_across).shared ≡ 2
+across_chains = refl
+
+-- ---- the tree by settled logs, while a rename replaces a file
+
+abbrev pub renames : List Line
+renames =
+    DoCall 0 (call.Mkdir (handle 0 1) (100 ∷ []) 493)
+    ∷ DoCall 0 (call.Mkdir (handle 0 1) (101 ∷ []) 493)
+    ∷ DoCall 0 (call.Create (handle 1 1) (120 ∷ []) 420)
+    ∷ DoCall 0 (call.Create (handle 2 1) (121 ∷ []) 420)
+    ∷ DoCall 0 (call.Write (handle 3 1) 0 (110 ∷ 101 ∷ 119 ∷ []))
+    ∷ DoCall 0 (call.Write (handle 4 1) 0 (111 ∷ 108 ∷ 100 ∷ []))
+    ∷ StartCall 0 (call.Rename (handle 1 1) (120 ∷ []) (handle 2 1) (121 ∷ []))
+    ∷ Goes 0 14
+    ∷ []
+
+renamed : play (formatted device) renames ≡
+    Done (answer.Made (handle 1 1))
+    ∷ Done (answer.Made (handle 2 1))
+    ∷ Done (answer.Made (handle 3 1))
+    ∷ Done (answer.Made (handle 4 1))
+    ∷ Done (answer.Count 3)
+    ∷ Done (answer.Count 3)
+    ∷ Started
+    ∷ Moved
+    ∷ []
+renamed = refl
+
+-- the first tail has moved, and the journal is open
+before_the_close : map shown (tree_of (played (formatted device) renames)) ≡
+    ([], [])
+    ∷ ((100 ∷ []) ∷ [], [])
+    ∷ ((100 ∷ []) ∷ (120 ∷ []) ∷ [], 110 ∷ 101 ∷ 119 ∷ [])
+    ∷ ((101 ∷ []) ∷ [], [])
+    ∷ ((101 ∷ []) ∷ (121 ∷ []) ∷ [], 111 ∷ 108 ∷ 100 ∷ [])
+    ∷ []
+before_the_close = refl
+
+-- the journal is closed
+after_the_close : map shown (tree_of (line (played (formatted device) renames) (Goes 0 3)).world) ≡
+    ([], [])
+    ∷ ((100 ∷ []) ∷ [], [])
+    ∷ ((101 ∷ []) ∷ [], [])
+    ∷ ((101 ∷ []) ∷ (121 ∷ []) ∷ [], 110 ∷ 101 ∷ 119 ∷ [])
+    ∷ []
+after_the_close = refl
+
+-- the replaced file is erased
+at_the_end : line (played (formatted device) renames) (Goes 0 99) ≡ stays (Done answer.Nothing) (line (played (formatted device) renames) (Goes 0 99)).world
+at_the_end = refl
+
+erased_free : free_count (line (played (formatted device) renames) (Goes 0 99)).world.shared ≡ 11
+erased_free = refl
+
+erased_pool : (line (played (formatted device) renames) (Goes 0 99)).world.shared.pool.numbers ≡ 4 ∷ 5 ∷ 6 ∷ 7 ∷ []
+erased_pool = refl

@@ -1,0 +1,8 @@
+pub mod Looks
+pub mod World
+pub mod Reads
+pub mod Sequence
+pub mod Kinds
+pub mod Step
+pub mod Format
+pub mod Settled

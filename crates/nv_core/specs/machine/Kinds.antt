@@ -1,0 +1,327 @@
+-- The steps, one function a kind. What decides a step is an argument.
+use Rattle.std.specs.Prelude.{ℕ, zero, suc, ◌+◌, ◌-◌, ◌%◌, ◌&&◌, ◌==◌, Bool, true, false, if◌then◌else◌, nat_le, nat_lt, List, [], ◌∷◌, ◌++◌, drop, length, map, take, Option, Some, None, Ok, Err, slice_get, slice_index_or}
+use Rattle.std.specs.List.{flat_map}
+use Rattle.nv_alloc.specs.Block.{BlockValue}
+use Rattle.nv_alloc.specs.Giving.{after_giving, kept_of}
+use Rattle.nv_alloc.specs.Numbers.{put_by}
+use Rattle.nv_base.specs.declared.fault.Fault.{Fault}
+use Rattle.nv_base.specs.declared.fault.Fault.TheVariants.{CommitLimit, Contended, NoInode, NoSpace, OutOfMemory}
+use Rattle.nv_base.specs.declared.limits.TheConstants.{NUMBER}
+use Rattle.nv_base.specs.declared.numbers.Handle.{Handle}
+use Rattle.nv_book.specs.Book.{BookState, after_enter, after_retire, retired_as, with_journal}
+use Rattle.nv_book.specs.Records.{holder_of}
+use Rattle.nv_book.specs.declared.record.Record.{Record}
+use Rattle.nv_book.specs.declared.retired.Retired.{Retired}
+use Rattle.nv_book.specs.declared.retired.Retired.TheVariants.{Kept, Free}
+use Rattle.nv_calls.specs.AllCalls.{answer}
+use Rattle.nv_calls.specs.Plain.{Change}
+use Rattle.nv_calls.specs.Refusals.{Check as Tests}
+use Rattle.nv_calls.specs.Slots.{entries_of, items_for}
+use Rattle.nv_calls.specs.declared.answer.Answer.{Answer}
+use Rattle.nv_cell.specs.Append.{appended, blocks_for, run_numbers}
+use Rattle.nv_cell.specs.Cell.{CellState, empty_cell, killed_of, log_of, number_in, published, with_mark, without_part}
+use Rattle.nv_cell.specs.Numbers.{killed_part}
+use Rattle.nv_cell.specs.Readers.{is_gone, keeps_nothing}
+use Rattle.nv_cell.specs.declared.killed.KilledPart.{KilledPart}
+use Rattle.nv_cell.specs.declared.mark.Mark.TheVariants as mark
+use Rattle.nv_entry.specs.declared.item.Entry.{Entry}
+use Rattle.nv_entry.specs.declared.part.PartId.{PartId}
+use Rattle.nv_epoch.specs.SnapList.{ids}
+use Rattle.nv_journal.specs.declared.old_tail.OldTail.{OldTail}
+use Rattle.nv_log.specs.Chain.{pages_for, with_page}
+use Rattle.nv_core.specs.machine.Looks.{Looked, place_in}
+use Rattle.nv_core.specs.machine.Reads.{copies, filled, fresh_pages, home_from, pages_wanted, plan_by, slot_at, slots_of, written_slots}
+use Rattle.nv_core.specs.machine.Sequence.{sequel}
+use Rattle.nv_core.specs.machine.World.{Answers, Append, Back, Check, Close, Done, Ending, Ends, Enter, Give, HandState, Leave, Lock, Look, Moves, Next, Number, Open, Overtaken, Publish, Ready, Refused, Refuses, Reply, Retire, Running, Shared, TakeBlocks, TakePages, Turn, Unlock, Waits, cell_at, go_to, list_at, with_book, with_cell, with_list, with_owner}
+
+-- ---- how a call ends
+
+abbrev pub blocks_in : HandState → List BlockValue
+blocks_in h = h.blocks ++ h.pages ++ h.chain
+
+-- the reply of a call's last step; what is answered to a call that commits, no node tells
+abbrev pub reply_by : Ending → Running → Reply
+reply_by Answers r = Done (answer (λ handle. None) r.made r.call)
+reply_by (Refuses fault) r = Refused fault
+reply_by Overtaken r = Refused Contended
+
+-- nothing is locked: blocks go home, CPU by CPU, and then a number goes back; where nothing is left, the step replies
+abbrev pub rest_turn : Option ℕ → Option ℕ → Shared → HandState → Running → Turn
+rest_turn (Some cpu) number s h r = Moves s h (go_to (Give cpu) r)
+rest_turn None (Some ino) s h r = Moves s h (go_to Back r)
+rest_turn None None s h r = Ends (reply_by r.ending r) s h
+
+-- the next round of looks, if there is one
+abbrev pub again_turn : ℕ → Shared → HandState → Running → Turn
+again_turn zero s h r = Ends (Refused Contended) s h
+again_turn (suc rounds) s h r = Moves s h (record r { ending = Answers; rounds = rounds; slots = []; next = Look 0 })
+
+abbrev pub over_turn : Ending → Shared → HandState → Running → Turn
+over_turn Answers s h r = rest_turn (home_from 0 0 s.lists (blocks_in h)) h.ino s h r
+over_turn (Refuses fault) s h r = rest_turn (home_from 0 0 s.lists (blocks_in h)) h.ino s h r
+over_turn Overtaken s h r = again_turn r.rounds s h r
+
+-- the call turns to its last steps, of which the first is to unlock what is locked
+abbrev pub end_turn : List ℕ → Ending → Shared → HandState → Running → Turn
+end_turn [] ending s h r = over_turn ending s h (record r { ending = ending })
+end_turn (slot ∷ slots) ending s h r = Moves s h (record r { ending = ending; next = Unlock 0 })
+
+abbrev pub refuse : Fault → Shared → HandState → Running → Turn
+refuse fault s h r = end_turn r.slots (Refuses fault) s h r
+
+-- a step that grows anything goes on where the memory is granted
+abbrev pub grown : Bool → Turn → Shared → HandState → Running → Turn
+grown true turn s h r = turn
+grown false turn s h r = refuse OutOfMemory s h r
+
+-- the step has done its work
+abbrev pub go_on : Next → Shared → HandState → Running → Turn
+go_on done s h r = Moves s h (go_to (sequel r done) r)
+
+-- ---- number: the lowest free number, if there is one
+
+abbrev pub number_turn : List ℕ → Shared → HandState → Running → Turn
+number_turn [] s h r = go_on Number s h (record r { slots = slots_of s None r.looked r.call })
+number_turn (ino ∷ numbers) s h r =
+    go_on Number (record s { pool = record s.pool { numbers = numbers } }) (record h { ino = Some ino }) (record r { slots = slots_of s (Some ino) r.looked r.call })
+
+-- ---- look: what the names of one directory are bound to
+
+-- one directory's look finds both names; of two, each its own
+abbrev pub seen_at : List Handle → ℕ → Looked → Looked → Looked
+seen_at (dir ∷ other ∷ rest) zero now before = record { first = now.first; second = None }
+seen_at (dir ∷ other ∷ rest) (suc place) now before = record { first = before.first; second = now.second }
+seen_at directories place now before = now
+
+-- the first name may be refused at its look; what is wrong with the second is told at the check
+abbrev pub look_tests : ℕ → Tests → Tests
+look_tests zero tests = tests
+look_tests (suc place) tests = Ok tt
+
+abbrev pub look_turn : Option ℕ → Tests → Looked → ℕ → Shared → HandState → Running → Turn
+look_turn (Some other) tests found place s h r = Waits
+look_turn None (Err fault) found place s h r = refuse fault s h r
+look_turn None (Ok passed) found place s h r = go_on (Look place) s h (record r { looked = found; slots = slots_of s None found r.call })
+
+-- ---- lock
+
+abbrev pub lock_turn : Option ℕ → ℕ → ℕ → Shared → HandState → Running → Turn
+lock_turn (Some other) actor place s h r = Waits
+lock_turn None actor place s h r = go_on (Lock place) (with_owner (slot_at r.slots place) (Some actor) s) h r
+
+-- ---- check
+
+-- whether a check ends the call, and how: by the tests before the names are compared with what the looks found; by a name
+-- that was bound anew; by the other tests; for want of a number; or since there is nothing to commit
+abbrev pub check_ending : Tests → Bool → Tests → Bool → List Change → Option Ending
+check_ending (Err fault) same tests numbered effect = Some (Refuses fault)
+check_ending (Ok passed) false tests numbered effect = Some Overtaken
+check_ending (Ok passed) true (Err fault) numbered effect = Some (Refuses fault)
+check_ending (Ok passed) true (Ok all) false effect = Some (Refuses NoInode)
+check_ending (Ok passed) true (Ok all) true [] = Some Answers
+check_ending (Ok passed) true (Ok all) true (change ∷ effect) = None
+
+-- what is wanted is taken, data blocks first and then log pages; a taking of nothing has no step
+abbrev pub wants_pages : ℕ → Shared → HandState → Running → Turn
+wants_pages zero s h r = Moves s h (record r { wanted = 0; next = Ready })
+wants_pages (suc n) s h r = Moves s h (record r { wanted = suc n; next = TakePages 0 })
+
+abbrev pub wants_blocks : ℕ → ℕ → Shared → HandState → Running → Turn
+wants_blocks zero block s h r = wants_pages (pages_wanted s r.slots (plan_by block s h r)) s h r
+wants_blocks (suc n) block s h r = Moves s h (record r { wanted = suc n; next = TakeBlocks 0 })
+
+abbrev pub check_turn : Option Ending → Bool → ℕ → ℕ → Shared → HandState → Running → Turn
+check_turn (Some ending) granted wanted block s h r = end_turn r.slots ending s h r
+check_turn None granted wanted block s h r = grown granted (wants_blocks wanted block s h r) s h r
+
+-- ---- take: from one list, its lowest blocks
+
+-- the list that is asked so many lists behind the actor's own
+abbrev pub asked_list : ℕ → ℕ → ℕ → ℕ
+asked_list cpus actor asked = (actor + asked) % cpus
+
+abbrev pub less_list : ℕ → ℕ → Shared → Shared
+less_list cpu n s = with_list cpu (record (list_at s cpu) { blocks = drop n (list_at s cpu).blocks }) s
+
+-- so many blocks are wanted yet, and there is another list to ask or not
+abbrev pub blocks_turn : ℕ → Bool → ℕ → ℕ → Shared → HandState → Running → Turn
+blocks_turn zero more asked block s h r = wants_pages (pages_wanted s r.slots (plan_by block s h r)) s h r
+blocks_turn (suc n) true asked block s h r = Moves s h (record r { wanted = suc n; next = TakeBlocks (asked + 1) })
+blocks_turn (suc n) false asked block s h r = refuse NoSpace s h r
+
+abbrev pub pages_turn : ℕ → Bool → ℕ → Shared → HandState → Running → Turn
+pages_turn zero more asked s h r = Moves s h (record r { wanted = 0; next = Ready })
+pages_turn (suc n) true asked s h r = Moves s h (record r { wanted = suc n; next = TakePages (asked + 1) })
+pages_turn (suc n) false asked s h r = refuse NoSpace s h r
+
+abbrev pub take_blocks_turn : ℕ → ℕ → ℕ → Shared → HandState → Running → Turn
+take_blocks_turn cpu asked block s h r =
+    blocks_turn (r.wanted - length (list_at s cpu).blocks) (nat_lt (asked + 1) (length s.lists)) asked block (less_list cpu r.wanted s)
+    (record h { blocks = h.blocks ++ take r.wanted (list_at s cpu).blocks }) r
+
+abbrev pub take_pages_turn : ℕ → ℕ → Shared → HandState → Running → Turn
+take_pages_turn cpu asked s h r =
+    pages_turn (r.wanted - length (list_at s cpu).blocks) (nat_lt (asked + 1) (length s.lists)) asked (less_list cpu r.wanted s)
+    (record h { pages = h.pages ++ take r.wanted (list_at s cpu).blocks }) r
+
+-- ---- ready: all growths; then the fresh blocks have their bytes
+
+abbrev pub ready_turn : Bool → ℕ → Shared → HandState → Running → Turn
+ready_turn granted block s h r =
+    grown granted (go_on Ready s (record h { blocks = filled (fresh_pages block (copies s) r.call) h.blocks }) (record r { plan = plan_by block s h r })) s h r
+
+-- ---- enter: the commit lock, and the commit's number and epoch
+
+abbrev pub enter_turn : Option ℕ → Bool → Bool → ℕ → Shared → HandState → Running → Turn
+enter_turn (Some other) last granted actor s h r = Waits
+enter_turn None true granted actor s h r = refuse CommitLimit s h r
+enter_turn None false granted actor s h r =
+    grown granted (go_on Enter (record s { book = after_enter actor s.book; holder = Some actor }) h
+    (record r { commit = s.book.commit + 1; epoch = s.book.snaps.epoch })) s h r
+
+-- ---- append: one inode's entries, past its tail
+
+-- a cell with more log pages
+abbrev pub with_pages : List BlockValue → CellState → CellState
+with_pages [] cell = cell
+with_pages (b ∷ blocks) cell = with_pages blocks (record cell { chain = with_page b cell.chain })
+
+-- a cell with more entries, each with the blocks of its pages from the front of these
+abbrev pub with_entries : List Entry → List BlockValue → CellState → CellState
+with_entries [] blocks cell = cell
+with_entries (e ∷ entries) blocks cell = with_entries entries (drop (length (run_numbers e.item)) blocks) (appended e (blocks_for e.item blocks) cell)
+
+-- what these leave of the blocks
+abbrev pub blocks_left : List Entry → List BlockValue → List BlockValue
+blocks_left [] blocks = blocks
+blocks_left (e ∷ entries) blocks = blocks_left entries (drop (length (run_numbers e.item)) blocks)
+
+-- the entries that a call has for a slot
+abbrev pub entries_for : Running → ℕ → List Entry
+entries_for r ino = entries_of r.commit r.epoch (place_in r.plan ino) (items_for r.plan ino)
+
+abbrev pub append_turn : ℕ → ℕ → ℕ → Shared → HandState → Running → Turn
+append_turn ino pages place s h r =
+    go_on (Append place) (with_cell ino (with_entries (entries_for r ino) h.blocks (with_pages (take pages h.pages) (cell_at s ino))) s)
+    (record h { blocks = blocks_left (entries_for r ino) h.blocks; pages = drop pages h.pages }) r
+
+-- ---- open and close the journal of the actor's CPU
+
+abbrev pub old_tails : Shared → List ℕ → List OldTail
+old_tails s slots = map (λ ino. record { ino = ino; tail = (cell_at s ino).chain.tail }) slots
+
+abbrev pub open_turn : ℕ → Shared → HandState → Running → Turn
+open_turn cpu s h r = go_on Open (with_book (with_journal cpu (old_tails s (written_slots r)) s.book) s) h r
+
+-- a new inode has its number from here on
+abbrev pub close_turn : ℕ → Shared → HandState → Running → Turn
+close_turn cpu s h r = go_on Close (with_book (with_journal cpu [] s.book) s) (record h { ino = None }) r
+
+-- ---- publish: one inode
+
+abbrev pub if_part : Option KilledPart → List KilledPart
+if_part None = []
+if_part (Some part) = part ∷ []
+
+abbrev pub killed_by_publish : CellState → List KilledPart
+killed_by_publish cell = flat_map (λ n. if_part (killed_part cell.chain.entries n)) (killed_of cell)
+
+abbrev pub publish_turn : ℕ → ℕ → Shared → HandState → Running → Turn
+publish_turn ino place s h r =
+    go_on (Publish place) (with_cell ino (published (cell_at s ino)) s) (record h { killed = h.killed ++ killed_by_publish (cell_at s ino) ∷ [] }) r
+
+-- ---- retire: the killed parts of one inode, in order
+
+-- the book and the cell, and the blocks of parts that no living snapshot holds
+pub record Retiring : Type 0 where
+  pub book : BookState
+  pub cell : CellState
+  pub freed : List BlockValue
+
+abbrev pub record_of : ℕ → ℕ → KilledPart → Record
+record_of ino death killed = record { ino = ino; entry = killed.part.entry; part = killed.part.part; birth = killed.birth; death = death }
+
+abbrev pub if_block : Option BlockValue → List BlockValue
+if_block None = []
+if_block (Some b) = b ∷ []
+
+abbrev pub retire_one : Retired → Record → PartId → Retiring → Retiring
+retire_one Kept killed part all = record all { book = after_retire killed all.book; cell = with_mark all.cell (number_in all.cell part) mark.Kept }
+retire_one Free killed part all = record {
+  book = after_retire killed all.book;
+  cell = without_part all.cell (number_in all.cell part);
+  freed = all.freed ++ if_block (slice_index_or all.cell.blocks (number_in all.cell part) None);
+}
+
+abbrev pub retire_all : ℕ → ℕ → List KilledPart → Retiring → Retiring
+retire_all ino death [] all = all
+retire_all ino death (killed ∷ rest) all =
+    retire_all ino death rest (retire_one (retired_as (holder_of (ids all.book.snaps) (record_of ino death killed))) (record_of ino death killed) killed.part all)
+
+-- what was killed first
+abbrev pub first_killed : List (List KilledPart) → List KilledPart
+first_killed [] = []
+first_killed (parts ∷ rest) = parts
+
+-- a gone inode that keeps nothing is erased: its chain goes to the hand, and its number too, unless its slot's next
+-- generation is the last
+abbrev pub number_left : Bool → ℕ → Option ℕ → Option ℕ
+number_left true ino number = Some ino
+number_left false ino number = number
+
+abbrev pub erase_turn : Bool → ℕ → ℕ → Shared → HandState → Running → Turn
+erase_turn false ino place s h r = go_on (Retire place) s h r
+erase_turn true ino place s h r =
+    go_on (Retire place)
+    (with_cell ino (empty_cell (cell_at s ino).block (cell_at s ino).chain.page ((cell_at s ino).generation + 1) (cell_at s ino).version) s)
+    (record h { chain = h.chain ++ (cell_at s ino).chain.blocks; ino = number_left (nat_lt ((cell_at s ino).generation + 1) NUMBER) ino h.ino }) r
+
+abbrev pub retired_turn : Retiring → ℕ → ℕ → Shared → HandState → Running → Turn
+retired_turn all ino place s h r =
+    erase_turn (is_gone (log_of all.cell) && keeps_nothing all.cell) ino place (with_cell ino all.cell (with_book all.book s))
+    (record h { blocks = h.blocks ++ all.freed; killed = drop 1 h.killed }) r
+
+abbrev pub retire_turn : ℕ → ℕ → Shared → HandState → Running → Turn
+retire_turn ino place s h r =
+    retired_turn (retire_all ino r.epoch (first_killed h.killed) (record { book = s.book; cell = cell_at s ino; freed = [] })) ino place s h r
+
+-- ---- leave
+
+abbrev pub leave_turn : Shared → HandState → Running → Turn
+leave_turn s h r = go_on Leave (record s { holder = None }) h r
+
+-- ---- unlock
+
+abbrev pub unlocked_turn : Bool → ℕ → Shared → HandState → Running → Turn
+unlocked_turn true place s h r = go_on (Unlock place) s h r
+unlocked_turn false place s h r = over_turn r.ending s h r
+
+abbrev pub unlock_turn : ℕ → Shared → HandState → Running → Turn
+unlock_turn place s h r = unlocked_turn (nat_lt (place + 1) (length r.slots)) place (with_owner (slot_at r.slots place) None s) h r
+
+-- ---- give: all that is at home on one CPU
+
+abbrev pub given : ℕ → Shared → HandState → HandState
+given cpu s h = record h {
+  blocks = kept_of (list_at s cpu) h.blocks;
+  pages = kept_of (after_giving (list_at s cpu) h.blocks) h.pages;
+  chain = kept_of (after_giving (list_at s cpu) (h.blocks ++ h.pages)) h.chain;
+}
+
+abbrev pub give_turn : ℕ → Shared → HandState → Running → Turn
+give_turn cpu s h r =
+    rest_turn (home_from (cpu + 1) 0 s.lists (blocks_in (given cpu s h))) h.ino (with_list cpu (after_giving (list_at s cpu) (blocks_in h)) s) (given cpu s h) r
+
+-- ---- back: the number in the hand goes to the pool
+
+abbrev pub back_turn : Option ℕ → Shared → HandState → Running → Turn
+back_turn None s h r = Ends (reply_by r.ending r) s h
+back_turn (Some ino) s h r =
+    Ends (reply_by r.ending r) (record s { pool = record s.pool { numbers = put_by (λ n. n) ino s.pool.numbers } }) (record h { ino = None })
+
+-- ---- visit
+
+abbrev pub visit_turn : Option ℕ → Tests → Bool → Answer → Shared → HandState → Running → Turn
+visit_turn (Some other) tests granted found s h r = Waits
+visit_turn None (Err fault) granted found s h r = refuse fault s h r
+visit_turn None (Ok passed) granted found s h r = grown granted (Ends (Done found) s h) s h r
