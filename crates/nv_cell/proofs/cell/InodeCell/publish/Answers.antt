@@ -70,6 +70,7 @@ invariant_of-self c =
     let r = c.take_effect.ensures.room in
     rw to (record {
       some = inv.some;
+      pages = inv.pages;
       marks = record {
         len = c.take_effect.ensures.len ∙ ap part_total (sym (take_whole es));
         current = λ n lt.
