@@ -1,10 +1,10 @@
 -- The bytes of the parts of a cell are those of the blocks that its log names.
-use Rattle.std.proofs.Common.{◌≡◌, ℕ, ◌+◌, ◌-◌, ◌≤◌, Bool, true, false, cond, List, [], ◌∷◌, ◌++◌, take, drop, Option, Some, None, refl, ap, sym, subst, ◌∙◌, slice_index_or, take-take}
+use Rattle.std.proofs.Common.{◌≡◌, ℕ, ◌+◌, ◌-◌, ◌≤◌, Bool, true, false, cond, List, [], ◌∷◌, ◌++◌, take, drop, Option, Some, None, refl, ap, sym, subst, ◌∙◌, slice_index_or, take-take, length, arith}
 use Rattle.std.proofs.lemmas.Bool.{eq-eqb}
 use Rattle.std.specs.Prelude.{IsSome, option_and_then}
 use Rattle.std.specs.List.{AllByRecursion}
 use Rattle.std.specs.Option.{IfSome, option_map}
-use Rattle.std.proofs.lemmas.List.{take-append-drop}
+use Rattle.std.proofs.lemmas.List.{length-take, take-append-drop}
 use Rattle.nv_alloc.specs.Block.{BlockValue, number_of}
 use Rattle.nv_base.proofs.Ids.{before-same}
 use Rattle.nv_base.specs.Ids.{IsIdBefore, is_same_id}
@@ -26,7 +26,7 @@ use Rattle.nv_entry.specs.Log.{IsLog, MayFollow}
 use Rattle.nv_entry.specs.Node.{block_now}
 use Rattle.nv_entry.specs.Refs.{left_by, part_ref, place_in, ref_after, scan_ref, value_in}
 use Rattle.nv_entry.proofs.Refs.{refs_give, scan_ref-cons}
-use Rattle.nv_cell.specs.Cell.{CellState, IsCell, log_of, mark_or_fresh, page_block}
+use Rattle.nv_cell.specs.Cell.{CellState, IsCell, block_named, log_of, mark_or_fresh, page_block}
 use Rattle.nv_cell.specs.Marks.{is_there}
 use Rattle.nv_cell.specs.Named.{number_named, place_of}
 use Rattle.nv_cell.specs.Pages.{AreBytesOf}
@@ -34,7 +34,7 @@ use Rattle.nv_cell.proofs.Numbers.{scan_key, scan_n}
 use Rattle.nv_cell.proofs.PagesNow.{block_scanned, front_block}
 use Rattle.nv_cell.proofs.ValuesNow.{IsLog-take}
 use Rattle.nv_reader.specs.Blocks.{HaveBytes, page_part, page_writer}
-use Rattle.nv_reader.specs.Cells.{NoneOut, block_named, part_bytes}
+use Rattle.nv_reader.specs.Cells.{NoneOut, part_bytes}
 
 -- a part of entries behind one is of a later entry
 ref_behind : (first : Entry) (block : ℕ) (log : List Entry) (p : ℕ) (r : PartRef) → AllByRecursion (MayFollow first) log
@@ -192,3 +192,15 @@ cell_gives cell t bytes is le same there p low =
         ap (option_and_then (λ (n : ℕ). slice_index_or cell.blocks n None)) found in
         let there : IsSome (block_named cell id) = rw q at h in
         rw q (at num.n num.scanned id named (slice_index_or cell.blocks num.n None) refl there)
+
+-- the same of any first entries of the log
+pub front_gives : (cell : CellState) (log : List Entry) (bytes : ℕ → List ℕ) → IsCell cell → log ≡ take (length log) (log_of cell)
+    → AreBytesOf cell bytes → NoneOut cell log → HaveBytes (part_bytes cell) bytes cell.block log
+front_gives cell log bytes is front same there =
+    let t = length log in
+    let tail = cell.chain.tail in
+    let es = cell.chain.entries in
+    let le : t ≤ tail = omega (arith, ap length front, length-take t (log_of cell), length-take tail es) in
+    let whole : log ≡ take t es = front ∙ take-take t tail es le in
+    subst (HaveBytes (part_bytes cell) bytes cell.block) (sym whole)
+    (cell_gives cell t bytes is le same (subst (NoneOut cell) whole there))

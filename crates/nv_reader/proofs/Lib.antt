@@ -1,3 +1,5 @@
+pub mod Counted
+pub mod NodesNow
 pub mod Entered
 pub mod CellBytes
 pub mod PageBytes

@@ -11,7 +11,9 @@ pub mod laws;
 mod names;
 mod node;
 mod pages;
+mod show;
 mod walk;
 mod way;
 
+pub use show::{settled_on, show_on};
 pub use walk::Walk;
