@@ -28,6 +28,7 @@ pub(crate) use index::CellIndex;
 pub use killed::KilledPart;
 pub use mark::Mark;
 pub(crate) use marks::Marks;
+pub(crate) use number::NumberedPart;
 pub use ready::ready_cells_can_publish;
 pub use stat::Stat;
 pub use tally::PageCounts;

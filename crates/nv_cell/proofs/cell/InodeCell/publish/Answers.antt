@@ -8,7 +8,7 @@ use Rattle.nv_cell.specs.Cell.{log_of, IsReady}
 use Rattle.nv_cell.specs.Effects.{items_of}
 use Rattle.nv_cell.specs.Fields.{state_in}
 use Rattle.nv_cell.specs.Marks.{mark_at}
-use Rattle.nv_cell.specs.Numbers.{dies, published_mark}
+use Rattle.nv_cell.specs.Numbers.{dies, numbers_in, published_mark}
 use Rattle.std.proofs.Common.{subst, map}
 use Rattle.std.specs.List.{range_with_len}
 use Rattle.nv_cell.specs.Cell.{page_block}
@@ -16,6 +16,7 @@ use Rattle.nv_cell.specs.Fields.{value_in}
 use Rattle.nv_cell.specs.Index.{bindings_of}
 use Rattle.nv_nindex.specs.NameIndex.{HaveSameBindings}
 use Rattle.nv_cell.proofs.Cells.{mark_now}
+use Rattle.nv_cell.proofs.Numbered.{length_numbers}
 use Rattle.nv_cell.proofs.Published.{list_from, names_ready, there_stays}
 use Rattle.nv_cell.proofs.Publishes.{filtered_low, first_base}
 use Rattle.nv_cell.proofs.Publishing.{take_whole}
@@ -38,7 +39,8 @@ name_all-requires-clause-ends c =
 pub name_all-requires-clause-within : goal.name_all-requires-clause-within
 name_all-requires-clause-within c i d lt =
     let es = c.self.inside.chain.state.entries in
-    filtered_low (dies c.self.inside.block es c.tail-tail.result) (part_total es) c.deref.result.now i d (c.deref.ensures.value ∙ c.take_effect.ensures.killed) lt
+    filtered_low (dies c.self.inside.block es c.tail-tail.result) (part_total es) (numbers_in c.deref.result.now) i d (ap numbers_in c.deref.ensures.value ∙ c.take_effect.ensures.killed)
+    (omega (arith, lt, length_numbers c.deref.result.now))
 
 pub name_all-requires-clause-room : goal.name_all-requires-clause-room
 name_all-requires-clause-room c =
