@@ -31,3 +31,4 @@ pub mod Recounting
 pub mod Removing
 pub mod PageFlags
 pub mod Growing
+pub mod Numbered

@@ -7,9 +7,9 @@ ghost use Rattle.nv_cell.specs.Effects.{items_of};
 ghost use Rattle.nv_cell.specs.Numbers.{killed_part};
 ghost use Rattle.nv_cell.specs.Weights.{weights_in};
 
-use crate::number::number_of;
+use crate::number::find_part;
 use crate::publish::{name_all, take_effect};
-use crate::{CellIndex, KilledPart, Mark, Marks};
+use crate::{CellIndex, KilledPart, Mark, Marks, NumberedPart};
 use nv_alloc::Block;
 use nv_base::Gen;
 use nv_entry::PartId;
@@ -37,7 +37,7 @@ pub struct InodeCell {
     pub(crate) entries: usize,
     pub(crate) parts: usize,
     // Room for the parts that a publish kills; empty between calls.
-    pub(crate) numbers: Vec<usize>,
+    pub(crate) numbers: Vec<NumberedPart>,
     pub(crate) killed: Vec<KilledPart>,
 }
 
@@ -134,8 +134,8 @@ impl InodeCell {
     pub fn mark(&self, part: PartId) -> Option<Mark>
         ensures { result ≡ mark_named self.now.state part }
     {
-        let n = number_of(&self.chain, &self.marks, part)?;
-        self.marks.get(n)
+        let found = find_part(&self.chain, &self.marks, part)?;
+        self.marks.get(found.number)
     }
 
     /// Marks a killed part kept. Takes no memory; the time grows with the logarithm of the entries and pages.
@@ -145,8 +145,8 @@ impl InodeCell {
             ≡ with_mark self.old.state (number_in self.old.state part) Mark.Kept }
         ensures room { self.new.room ≡ self.old.room }
     {
-        let n = number_of(&self.chain, &self.marks, part).unwrap();
-        self.marks.set(self.chain.ends(), n, Mark::Kept);
+        let found = find_part(&self.chain, &self.marks, part).unwrap();
+        self.marks.set(self.chain.ends(), found, Mark::Kept);
     }
 
     /// Puts a killed or kept part out, and hands out its block, which a page has and no other part. Takes no memory; the
@@ -160,9 +160,9 @@ impl InodeCell {
             ≡ without_part self.old.state (number_in self.old.state part) }
         ensures room { self.new.room ≡ self.old.room }
     {
-        let n = number_of(&self.chain, &self.marks, part).unwrap();
-        self.marks.set(self.chain.ends(), n, Mark::Out);
-        let slot = &mut self.blocks[n];
+        let found = find_part(&self.chain, &self.marks, part).unwrap();
+        self.marks.set(self.chain.ends(), found, Mark::Out);
+        let slot = &mut self.blocks[found.number];
         slot.take()
     }
 }
