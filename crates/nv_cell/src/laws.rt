@@ -7,13 +7,15 @@ ghost use Rattle.nv_alloc.specs.Block.{BlockValue};
 ghost use Rattle.nv_base.specs.Ids.{IsIdBefore};
 ghost use Rattle.nv_entry.specs.Covered.{part_count};
 ghost use Rattle.nv_entry.specs.Log.{IsLog};
+ghost use Rattle.nv_entry.specs.Node.{file_bytes};
 ghost use Rattle.nv_entry.specs.declared.item.Entry.{Entry};
 ghost use Rattle.nv_entry.specs.declared.item.Item.{Item};
 ghost use Rattle.nv_entry.specs.declared.part.PartId.{PartId};
 ghost use Rattle.nv_log.specs.Chain.{ChainState, IsChain, last_epoch, last_id, pages_for, room_of, with_page};
 ghost use Rattle.nv_cell.specs.Append.{IsWithinFile, MayAppend, after_append, appended};
-ghost use Rattle.nv_cell.specs.Cell.{CellState, CellValue, IsReady, mark_named, number_in, with_mark, without_part};
+ghost use Rattle.nv_cell.specs.Cell.{CellState, CellValue, IsCell, IsReady, log_of, mark_named, number_in, with_mark, without_part};
 ghost use Rattle.nv_cell.specs.Killed.{AreKilled, AreNamesOfParts, ArePairs, DiesAt, IsMarkedAnew, IsWithoutBlock};
+ghost use Rattle.nv_cell.specs.Pages.{AreBytesOf, own_bytes};
 ghost use Rattle.nv_cell.specs.Room.{AddsPage, IsReadyFor};
 ghost use Rattle.nv_cell.specs.declared.mark.Mark.{Mark};
 ghost use Rattle.nv_cell.specs.declared.mark.Mark.TheVariants.{Out};
@@ -98,4 +100,10 @@ pub fn one_part_goes_out()
 pub fn the_others_stay_killed()
     ensures { (id : PartId) (mark : Mark) (later : List PartId) (old new : CellState)
         → IsMarkedAnew id mark old new → AreKilled (id ∷ later) old → AreKilled later new }
+{}
+
+/// The bytes of the file that a cell holds are those that its log gives, by what its blocks have.
+pub fn a_file_is_in_its_blocks()
+    ensures { (cell : CellState) (bytes : ℕ → List ℕ) → IsCell cell → AreBytesOf cell bytes
+        → own_bytes cell ≡ file_bytes bytes cell.block (log_of cell) }
 {}

@@ -10,7 +10,6 @@ use Rattle.nv_cell.specs.Fields.{state_in}
 use Rattle.nv_cell.specs.Marks.{mark_at}
 use Rattle.nv_cell.specs.Numbers.{dies, killed_numbers, killed_part, published_mark}
 use Rattle.std.proofs.Common.{subst, map}
-use Rattle.std.specs.List.{range_with_len}
 use Rattle.std.proofs.lemmas.List.{length-map}
 use Rattle.nv_cell.specs.Cell.{page_block}
 use Rattle.nv_cell.specs.Fields.{value_in}
