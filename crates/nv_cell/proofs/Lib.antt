@@ -21,6 +21,7 @@ pub mod ValuesNow
 pub mod Counting
 pub mod Weighing
 pub mod PageMarks
+pub mod Scanned
 pub mod PagesNow
 pub mod Opening
 pub mod Appending

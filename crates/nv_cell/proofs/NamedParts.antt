@@ -201,13 +201,13 @@ get_right (x ∷ xs) ys (suc n) le =
     get_right xs ys n (omega (arith, le)) ∙ ap (slice_get ys) back
 
 -- the pairs of the first entry, and those of the others
-pair_first : (block : ℕ) (e : Entry) (log : List Entry) (n : ℕ) → n < part_count e
+pub pair_first : (block : ℕ) (e : Entry) (log : List Entry) (n : ℕ) → n < part_count e
     → slice_get (pairs block (e ∷ log)) n ≡ option_map (pair_of block e log) (slice_get (parts_of e.item) n)
 pair_first block e log n lt =
     get_left (pairs_of block e log) (pairs block log) n (omega (arith, lt, length-map (parts_of e.item) (pair_of block e log)))
     ∙ slice_get-map (pair_of block e log) (parts_of e.item) n
 
-pair_later : (block : ℕ) (e : Entry) (log : List Entry) (n : ℕ) → part_count e ≤ n
+pub pair_later : (block : ℕ) (e : Entry) (log : List Entry) (n : ℕ) → part_count e ≤ n
     → slice_get (pairs block (e ∷ log)) n ≡ slice_get (pairs block log) (n - part_count e)
 pair_later block e log n le =
     let len : length (pairs_of block e log) ≡ part_count e = length-map (parts_of e.item) (pair_of block e log) in

@@ -6,6 +6,7 @@ ghost use Rattle.std.specs.Option.{ForSome};
 ghost use Rattle.nv_alloc.specs.Block.{BlockValue};
 ghost use Rattle.nv_base.specs.Ids.{IsIdBefore};
 ghost use Rattle.nv_entry.specs.Covered.{part_count};
+ghost use Rattle.nv_entry.specs.Held.{Retention};
 ghost use Rattle.nv_entry.specs.Log.{IsLog};
 ghost use Rattle.nv_entry.specs.Node.{file_bytes};
 ghost use Rattle.nv_entry.specs.declared.item.Entry.{Entry};
@@ -16,6 +17,7 @@ ghost use Rattle.nv_cell.specs.Append.{IsWithinFile, MayAppend, after_append, ap
 ghost use Rattle.nv_cell.specs.Cell.{CellState, CellValue, IsCell, IsReady, log_of, mark_named, number_in, with_mark, without_part};
 ghost use Rattle.nv_cell.specs.Killed.{AreKilled, AreNamesOfParts, ArePairs, DiesAt, IsMarkedAnew, IsWithoutBlock};
 ghost use Rattle.nv_cell.specs.Pages.{AreBytesOf, own_bytes};
+ghost use Rattle.nv_cell.specs.Retained.{AreMarksOf, LiveIsScanned, ValidIsScanned};
 ghost use Rattle.nv_cell.specs.Room.{AddsPage, IsReadyFor};
 ghost use Rattle.nv_cell.specs.declared.mark.Mark.{Mark};
 ghost use Rattle.nv_cell.specs.declared.mark.Mark.TheVariants.{Out};
@@ -106,4 +108,15 @@ pub fn the_others_stay_killed()
 pub fn a_file_is_in_its_blocks()
     ensures { (cell : CellState) (bytes : ℕ → List ℕ) → IsCell cell → AreBytesOf cell bytes
         → own_bytes cell ≡ file_bytes bytes cell.block (log_of cell) }
+{}
+
+/// The live count of a page is that of the log from scratch, from the page's first entry on.
+pub fn live_is_scanned()
+    ensures { (cell : CellState) → IsCell cell → LiveIsScanned cell }
+{}
+
+/// Where the marks are what a retention says, so is the other count of a page.
+pub fn valid_is_scanned()
+    ensures { (r : Retention) (cell : CellState) → IsCell cell → AreMarksOf r cell
+        → ValidIsScanned r cell }
 {}
