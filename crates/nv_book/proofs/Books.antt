@@ -1,5 +1,5 @@
 -- A book after each call.
-use Rattle.std.proofs.Common.{◌≡◌, ℕ, suc, ◌+◌, ◌<◌, ◌≤◌, ◌==◌, Bool, true, false, cond, List, [], ◌∷◌, ◌++◌, length, Some, arith, refl, ap, sym, ◌∙◌, subst}
+use Rattle.std.proofs.Common.{◌≡◌, ℕ, suc, ◌+◌, ◌<◌, ◌≤◌, ◌==◌, Bool, true, false, cond, List, [], ◌∷◌, ◌++◌, length, Some, arith, refl, ap, sym, subst}
 use Rattle.std.specs.List.{Contains}
 use Rattle.std.proofs.lemmas.Bool.{eqb-true}
 use Rattle.std.proofs.lemmas.List.{length-map, map-append}
@@ -12,7 +12,7 @@ use Rattle.nv_book.specs.declared.event.Event.TheVariants.{Made}
 use Rattle.nv_book.specs.declared.manifest.Manifest.{Manifest}
 use Rattle.nv_book.specs.declared.record.Record.{Record}
 use Rattle.nv_book.specs.Book.{IsBook}
-use Rattle.nv_book.specs.History.{State, IsHistory, IsLegal, IsNext, after, replay, state_now, undone}
+use Rattle.nv_book.specs.History.{IsHistory, IsLegal, IsNext, after, replay, state_now, undone}
 use Rattle.nv_book.specs.Manifests.{AreFiled, snapshots, put_to, records_at, after_drop, after_make}
 use Rattle.nv_book.specs.Records.{holder_of, let_go}
 use Rattle.nv_book.specs.Store.{Store}
