@@ -30,6 +30,7 @@ pub mod ReadAt
 pub mod Stretches
 pub mod PageBlocks
 pub mod RunFlags
+pub mod Droppable
 pub mod Recounting
 pub mod Removing
 pub mod PageFlags

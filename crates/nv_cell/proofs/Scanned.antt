@@ -64,7 +64,7 @@ valid_flags r (suc count) (e ∷ es) =
 -- ---- marks that are as their pairs
 
 -- two lists alike under two tests
-any_alike : {X Y : Type 0} (f : X → Bool) (g : Y → Bool) (xs : List X) (ys : List Y) (d : X) → length xs ≡ length ys
+pub any_alike : {X Y : Type 0} (f : X → Bool) (g : Y → Bool) (xs : List X) (ys : List Y) (d : X) → length xs ≡ length ys
     → ((n : ℕ) (y : Y) → slice_get ys n ≡ Some y → f (slice_index_or xs n d) ≡ g y) → list_any f xs ≡ list_any g ys
 any_alike f g [] [] d len same = refl
 any_alike f g [] (y ∷ ys) d len same = absurd (omega (arith, len))
@@ -73,14 +73,14 @@ any_alike f g (x ∷ xs) (y ∷ ys) d len same =
     let rest = any_alike f g xs ys d (omega (arith, len)) (λ n z q. same (suc n) z q) in
     ap (λ (b : Bool). b || list_any f xs) (same 0 y refl) ∙ ap (λ (b : Bool). g y || b) rest
 
-front_mark : (marks : List Mark) (c n : ℕ) → n < c → slice_index_or (take c marks) n Out ≡ mark_at marks n
+pub front_mark : (marks : List Mark) (c n : ℕ) → n < c → slice_index_or (take c marks) n Out ≡ mark_at marks n
 front_mark [] zero n lt = absurd (omega arith)
 front_mark [] (suc c) n lt = refl
 front_mark (m ∷ marks) zero n lt = absurd (omega arith)
 front_mark (m ∷ marks) (suc c) zero lt = refl
 front_mark (m ∷ marks) (suc c) (suc n) lt = front_mark marks c n (omega (arith, lt))
 
-later_mark : (marks : List Mark) (c n : ℕ) → mark_at (drop c marks) n ≡ mark_at marks (c + n)
+pub later_mark : (marks : List Mark) (c n : ℕ) → mark_at (drop c marks) n ≡ mark_at marks (c + n)
 later_mark [] zero n = refl
 later_mark [] (suc c) n = refl
 later_mark (m ∷ marks) zero n = let z : n ≡ 0 + n = omega arith in ap (mark_at (m ∷ marks)) z
@@ -88,7 +88,7 @@ later_mark (m ∷ marks) (suc c) n =
     let z : suc (c + n) ≡ suc c + n = omega arith in
     later_mark marks c n ∙ ap (mark_at (m ∷ marks)) z
 
-abbrev AreAlike : (Mark → Bool) → (Pair → Bool) → ℕ → List Entry → List Mark → Type 0
+abbrev pub AreAlike : (Mark → Bool) → (Pair → Bool) → ℕ → List Entry → List Mark → Type 0
 AreAlike test by block es marks = (n : ℕ) (pair : Pair) → slice_get (pairs block es) n ≡ Some pair → test (mark_at marks n) ≡ by pair
 
 marks_flags : (test : Mark → Bool) (by : Pair → Bool) (block : ℕ) (es : List Entry) (marks : List Mark) → length marks ≡ part_total es
