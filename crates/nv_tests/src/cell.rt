@@ -4,5 +4,6 @@
 mod append;
 mod device;
 mod entries;
+mod erase;
 mod rows;
 mod scene;

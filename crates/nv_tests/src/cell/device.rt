@@ -2,7 +2,7 @@
 
 use crate::compare::same;
 use crate::scenes::{Row, free_list, next, queue_for, take};
-use nv_alloc::{Block, BlockQueue, FreeList, FreeRun};
+use nv_alloc::{Block, BlockQueue, ChainPages, FreeList, FreeRun};
 use nv_base::BlockNo;
 use std::alloc::Global;
 use std::process::Abort;
@@ -49,6 +49,15 @@ impl Device {
             panic!(rt; "the block isn't free")
         }
         self.list.give(block);
+    }
+
+    /// Gives the pages of a chain back.
+    pub fn give_pages(&mut self, rt: &impl Abort, alloc: Global, blocks: Vec<Block>) {
+        let mut pages = ChainPages::new(alloc);
+        pages.put(blocks);
+        pages.give_home(&mut self.list);
+        same(rt, pages.len(), 0);
+        pages.dismantle();
     }
 
     /// The runs of free blocks are these, from the first number to the last.

@@ -1,7 +1,7 @@
 //! Worked rows, as commits on one cell each. Its first log page is block 1, but for the root's, which is block 0.
 
 use super::entries::Says;
-use super::scene::{End, Scene, Step};
+use super::scene::{End, Step, play};
 use End::{Kept, Out};
 use Says::{Bind, Directory, File, Size, Unbind, Write};
 use Step::{Commit, Counts, Free, Names, Read, Release, Stat, Unbound};
@@ -199,8 +199,6 @@ const ROWS: &[&[Step]] = &[SHORT_LIVED, RUNS, CUT, CUT_THEN_GROWN, PARTIAL, NAME
 #[test]
 fn rows_as_calls_on_a_cell(rt: HostRuntime) {
     for row in ROWS {
-        let mut scene = Scene::new(&rt, rt.alloc());
-        scene.play(&rt, row);
-        scene.dismantle();
+        play(&rt, rt.alloc(), 1, row);
     }
 }

@@ -38,30 +38,37 @@ pub enum Step {
     Names(&'static [(&'static [u8], u64)]),
     /// A name is not bound.
     Unbound(&'static [u8]),
+    /// There is nothing to read.
+    Gone,
     /// Live and valid entries of each page.
     Counts(&'static [(usize, usize)]),
+    /// Whether the inode is gone, nothing of it is kept, and the slot is withheld; its generation and version.
+    Slot([bool; 3], u64, u64),
+    /// The slot is emptied, and the pages of its log are free.
+    Erase,
     /// The runs of free blocks.
     Free(&'static [(u64, u64)]),
 }
 
 /// A cell with blocks of four bytes.
-pub struct Scene {
+struct Scene {
     alloc: Global,
-    pub cell: InodeCell,
+    cell: InodeCell,
     device: Device,
     ghost block: { cell.state.block ≡ 4 },
 }
 
 impl Scene {
-    pub fn new(rt: &impl Abort, alloc: Global) -> Scene {
+    /// An empty slot of a generation.
+    fn new(rt: &impl Abort, alloc: Global, generation: u64) -> Scene {
         Scene {
             alloc,
-            cell: InodeCell::new(alloc, BLOCK, 4, Gen::new(1), 0),
+            cell: InodeCell::new(alloc, BLOCK, 4, Gen::new(generation), 0),
             device: Device::new(rt, alloc),
         }
     }
 
-    pub fn dismantle(self) {
+    fn dismantle(self) {
         let Scene {
             alloc: _,
             cell,
@@ -69,13 +76,6 @@ impl Scene {
         } = self;
         cell.dismantle();
         device.dismantle();
-    }
-
-    /// Makes each step.
-    pub fn play(&mut self, rt: &impl Abort, steps: &[Step]) {
-        for step in steps {
-            self.make(rt, step);
-        }
     }
 
     fn make(&mut self, rt: &impl Abort, step: &Step) {
@@ -93,6 +93,11 @@ impl Scene {
             Step::Names(want) => has_names(rt, &self.cell, want),
             Step::Unbound(name) => same(rt, self.cell.lookup(name), None),
             Step::Counts(want) => has_counts(rt, &self.cell, want),
+            Step::Slot(is, generation, version) => {
+                is_slot(rt, &self.cell, *is, *generation, *version)
+            }
+            Step::Erase => self.erase(rt),
+            Step::Gone => is_empty(rt, &self.cell),
             Step::Free(want) => self.device.has_free(rt, want),
         }
     }
@@ -138,6 +143,24 @@ impl Scene {
         }
         same(rt, self.cell.mark(part), Some(Mark::Out));
     }
+
+    fn erase(&mut self, rt: &impl Abort) {
+        assert!(rt; self.cell.is_gone() && self.cell.keeps_nothing() && !self.cell.is_withheld());
+        assert!(rt; self.cell.tail() == self.cell.len());
+        let entries = self.cell.len();
+        let chain = self.cell.erase();
+        same(rt, (chain.len(), self.cell.len()), (entries, 0));
+        self.device.give_pages(rt, self.alloc, chain.into_blocks());
+    }
+}
+
+/// Makes each step on a slot that is empty at first, of that generation.
+pub fn play(rt: &impl Abort, alloc: Global, generation: u64, steps: &[Step]) {
+    let mut scene = Scene::new(rt, alloc, generation);
+    for step in steps {
+        scene.make(rt, step);
+    }
+    scene.dismantle();
 }
 
 fn part_id(commit: u64, place: u32, part: Part) -> PartId {
@@ -212,4 +235,18 @@ fn has_counts(rt: &impl Abort, cell: &InodeCell, want: &[(usize, usize)]) {
         cell.counts(want.len()),
         PageCounts { live: 0, valid: 0 },
     );
+}
+
+fn is_slot(rt: &impl Abort, cell: &InodeCell, is: [bool; 3], generation: u64, version: u64) {
+    let found = [cell.is_gone(), cell.keeps_nothing(), cell.is_withheld()];
+    same(rt, found, is);
+    same(rt, cell.generation(), Gen::new(generation));
+    same(rt, cell.version(), version);
+}
+
+/// An empty slot or a gone inode, which has no bytes and no names.
+fn is_empty(rt: &impl Abort, cell: &InodeCell) {
+    same(rt, cell.stat(), None);
+    reads(rt, cell, b"");
+    has_names(rt, cell, &[]);
 }
