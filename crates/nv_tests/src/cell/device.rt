@@ -9,7 +9,9 @@ use std::process::Abort;
 
 pub const BLOCK: u64 = 4;
 
-const GEOMETRY: Row = [16, 2, BLOCK, 4, 8, 4, 3];
+fn geometry(blocks: u64) -> Row {
+    [blocks, 2, BLOCK, 4, 8, 4, 3]
+}
 
 /// The free blocks, and those that are taken for the data and for the log pages of a commit.
 pub struct Device {
@@ -19,9 +21,9 @@ pub struct Device {
 }
 
 impl Device {
-    pub fn new(rt: &impl Abort, alloc: Global) -> Device {
+    pub fn new(rt: &impl Abort, alloc: Global, blocks: u64) -> Device {
         let mut device = Device {
-            list: free_list(rt, alloc, GEOMETRY, 0),
+            list: free_list(rt, alloc, geometry(blocks), 0),
             data: queue_for(rt, alloc, 8),
             pages: queue_for(rt, alloc, 1),
         };
@@ -33,6 +35,16 @@ impl Device {
     pub fn take_page(&mut self, rt: &impl Abort) -> Block {
         same(rt, take(rt, &mut self.list, &mut self.pages, 1), 1);
         next(rt, &mut self.pages)
+    }
+
+    /// The number of the lowest free block, and how many free blocks follow one another from there.
+    pub fn lowest_run(&self, rt: &impl Abort) -> (u64, u64) {
+        let run = self.list.runs().next().expect(rt, "a free block");
+        let first = run.first.number();
+        (
+            first,
+            run.last.number().saturating_sub(first).saturating_add(1),
+        )
     }
 
     /// Takes a block for every four bytes of a text, and writes them.

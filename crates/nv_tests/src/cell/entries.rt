@@ -30,7 +30,7 @@ impl Says {
         }
     }
 
-    fn item(self, rt: &impl Abort, alloc: Global) -> Item {
+    pub fn item(self, rt: &impl Abort, alloc: Global) -> Item {
         match self {
             Says::File => begun(rt, Kind::File, 420),
             Says::Directory => begun(rt, Kind::Dir, 493),

@@ -1,7 +1,7 @@
 //! The end of an inode, and the slot's next one.
 
 use super::entries::Says;
-use super::scene::{End, Step, play};
+use super::steps::{End, Step, play};
 use End::{Kept, Out};
 use Says::{Bind, Directory, File, Write};
 use Step::{Commit, Counts, Erase, Free, Names, Read, Release, Slot, Stat};

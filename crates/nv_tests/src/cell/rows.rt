@@ -1,7 +1,7 @@
 //! Worked rows, as commits on one cell each. Its first log page is block 1, but for the root's, which is block 0.
 
 use super::entries::Says;
-use super::scene::{End, Step, play};
+use super::steps::{End, Step, play};
 use End::{Kept, Out};
 use Says::{Bind, Directory, File, Size, Unbind, Write};
 use Step::{Commit, Counts, Free, Names, Read, Release, Stat, Unbound};
