@@ -1,10 +1,8 @@
 -- The items of a plan are such that the logs can take them.
-use Rattle.std.proofs.Common.{◌≡◌, ℕ, ◌+◌, ◌-◌, ◌*◌, ◌/◌, ◌%◌, ◌<◌, ◌≤◌, ◌⊎◌, inl, inr, ◌==◌, ◌&&◌, not, nat_lt, Bool, true, false, cond, List, [], ◌∷◌, ◌++◌, length, suc, Option, Some, None, arith, refl, ap, sym, ◌∙◌, subst}
+use Rattle.std.proofs.Common.{◌≡◌, ℕ, ◌+◌, ◌*◌, ◌/◌, ◌<◌, ◌≤◌, ◌&&◌, nat_lt, Bool, true, false, cond, List, [], ◌∷◌, ◌++◌, length, suc, Option, Some, None, arith, refl, ap, sym, ◌∙◌, subst}
 use Rattle.std.specs.Prelude.{IsTrue}
 use Rattle.std.specs.List.{AllByRecursion, range_with_len}
-use Rattle.std.proofs.Math.Nat.{div-mul-le_self, mul-le-mul_right}
-use Rattle.std.proofs.lemmas.Bool.{and_parts, cases_lt, ltb-true, ltb-false}
-use Rattle.std.proofs.lemmas.Nat.{le-div}
+use Rattle.std.proofs.lemmas.Bool.{ltb-false}
 use Rattle.std.proofs.lemmas.List.{append-nil, length-append}
 use Rattle.std.proofs.lemmas.List.FromFn.{length-range_with_len}
 use Rattle.nv_base.specs.Names.{is_lawful_name, same_name}
@@ -16,11 +14,12 @@ use Rattle.nv_entry.specs.declared.item.Item.{Item}
 use Rattle.nv_entry.specs.declared.item.Item.TheVariants.{Init, Write, SetSize, SetMode, Bind, Unbind, Gone}
 use Rattle.nv_entry.specs.declared.item.Run.{Run}
 use Rattle.nv_entry.specs.declared.node.NodeCopy.{NodeCopy}
-use Rattle.nv_entry.specs.Bytes.{pages_touched, written}
+use Rattle.nv_entry.specs.Bytes.{written}
 use Rattle.nv_entry.specs.Sound.{IsSound, blocks_of, write_items}
 use Rattle.nv_entry.proofs.PageBytes.{length-written}
 use Rattle.nv_cell.specs.Effects.{BindOne, LeavesName}
-use Rattle.nv_calls.specs.AllCalls.{IsReady, Taken, plan, refusal}
+use Rattle.nv_calls.specs.AllCalls.{IsReady, plan, refusal}
+use Rattle.nv_calls.specs.declared.taken.Taken.{Taken}
 use Rattle.nv_calls.specs.Lawful.{AreLawful, IsLawfulFor, IsLawfulPlan}
 use Rattle.nv_calls.specs.declared.call.Call.{Call}
 use Rattle.nv_calls.specs.declared.call.Call.TheVariants as call
@@ -38,7 +37,7 @@ use Rattle.nv_calls.specs.calls.Write.{text_refusal}
 use Rattle.nv_calls.proofs.Passed.{HasKind, IsThere, both_passed, directory_passed, file_passed, if_passed, lawful_passed, look_passed, node_passed, there}
 use Rattle.nv_calls.proofs.Standing.{no_node, stands}
 use Rattle.nv_calls.proofs.fits.Rename.{elsewhere, moved_passed, names_passed}
-use Rattle.nv_calls.proofs.fits.Write.{count_passed}
+use Rattle.nv_calls.proofs.Within.{count_passed, cut_within, touched_within}
 
 -- ---- items of writes
 
@@ -78,20 +77,6 @@ writes_bind_none first size (run ∷ runs) tail each last = (
   leave_all (Write first run size) (first + run.len) size runs tail (each (Write first run size)),
   writes_bind_none (first + run.len) size runs tail each last,
 )
-
--- the pages that a text touches are pages that a file can have
-touched_within : (block offset count : ℕ) → 0 < block → 0 < count → offset + count ≤ 65536 * block
-    → offset / block + pages_touched block offset count ≤ 65536
-touched_within block offset count some any fits = go (cases_lt ((offset + count - 1) / block) 65536) where
-  rises : offset / block ≤ (offset + count - 1) / block
-  rises = le-div (offset / block) (offset + count - 1) block some (omega (arith, div-mul-le_self offset block))
-
-  go : ((offset + count - 1) / block < 65536) ⊎ (65536 ≤ (offset + count - 1) / block)
-      → offset / block + pages_touched block offset count ≤ 65536
-  go (inl lt) = omega (arith, rises, lt)
-  go (inr le) =
-      let whole : 65536 * block ≤ (offset + count - 1) / block * block = mul-le-mul_right block le in
-      absurd (omega (arith, whole, div-mul-le_self (offset + count - 1) block))
 
 -- ---- kinds
 
@@ -175,7 +160,7 @@ module _ (bytes : ℕ → List ℕ) (block : ℕ) (slots : ℕ → Slot) (some :
     items = write_items (offset / block) taken.runs size
 
     ends : offset + length text ≤ 65536 * block
-    ends = count_passed block offset (length text) f.1
+    ends = (count_passed block offset (length text) f.1).1
 
     few : size ≤ 65536 * block
     few =
@@ -202,32 +187,12 @@ module _ (bytes : ℕ → List ℕ) (block : ℕ) (slots : ℕ → Slot) (some :
     before : List ℕ
     before = bytes_of (nodes file)
 
-    is_cut : (b : Bool) (n : ℕ) → n ≡ 1 → n ≡ cond b 1 0 → b ≡ true
-    is_cut true n one h = refl
-    is_cut false n one h = absurd (omega arith)
-
-    cut_within : cuts_page block size taken.present before ≡ true → size / block + 1 ≤ 65536
-    cut_within cuts = go (cases_lt (size / block) 65536) where
-      old : length before ≡ length f.0.node.bytes
-      old = ap (λ (n : Option NodeCopy). length (bytes_of n)) f.0.is
-
-      below : size < length before
-      below = ltb-true size (length before)
-          (and_parts (nat_lt size (length before)) (not (size % block == 0))
-          (and_parts (nat_lt size (length before) && not (size % block == 0)) taken.present cuts).0).0
-
-      go : (size / block < 65536) ⊎ (65536 ≤ size / block) → size / block + 1 ≤ 65536
-      go (inl lt) = omega (arith, lt)
-      go (inr le) =
-          let whole : 65536 * block ≤ size / block * block = mul-le-mul_right block le in
-          absurd (omega (arith, whole, div-mul-le_self size block, below, old, size_within file f.0))
-
     lawful : (runs : List Run) → AllByRecursion (IsCutPage bytes block size before) runs
         → length runs ≡ cond (cuts_page block size taken.present before) 1 0
         → AreLawful block (write_items (size / block) runs size ++ SetSize size ∷ []) (Some File)
     lawful [] filled count = (few, tt)
     lawful (run ∷ []) filled count =
-        let within = cut_within (is_cut (cuts_page block size taken.present before) 1 refl count) in
+        let within = cut_within block size taken.present before 1 some few count in
         ((omega (arith, filled.0.0), omega (arith, filled.0.0, within), few), (few, tt))
     lawful (run ∷ next ∷ runs) filled count = absurd (most (cuts_page block size taken.present before) (length runs) count) where
       most : (b : Bool) (n : ℕ) → suc (suc n) ≡ cond b 1 0 → ⊥

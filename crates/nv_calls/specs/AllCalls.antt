@@ -1,9 +1,9 @@
 -- The file calls of the plain world, by the step that decides: what its looks find, refusal at the check, effect at the
 -- commit, and answer; and the plan of each. No changes: no commit.
-use Rattle.std.specs.Prelude.{◌≡◌, ℕ, ◌/◌, ◌<◌, Bool, List, [], length, Option, None, is_some}
+use Rattle.std.specs.Prelude.{◌≡◌, ℕ, ◌/◌, ◌<◌, ◌&&◌, nat_lt, Bool, true, false, List, [], ◌∷◌, length, Option, None, is_some}
+use Rattle.nv_base.specs.declared.limits.TheConstants.{FILE_PAGES}
 use Rattle.nv_base.specs.declared.node.Kind.TheVariants.{File, Dir}
 use Rattle.nv_base.specs.declared.numbers.Handle.{Handle}
-use Rattle.nv_entry.specs.declared.item.Run.{Run}
 use Rattle.nv_entry.specs.declared.node.NodeCopy.{NodeCopy}
 use Rattle.nv_entry.specs.Bytes.{read_at}
 use Rattle.nv_entry.specs.Node.{block_now}
@@ -13,7 +13,9 @@ use Rattle.nv_calls.specs.declared.answer.Answer.TheVariants as answers
 use Rattle.nv_calls.specs.declared.call.Call.{Call}
 use Rattle.nv_calls.specs.declared.call.Call.TheVariants as call
 use Rattle.nv_calls.specs.declared.looked.Looked.{Looked}
+use Rattle.nv_calls.specs.declared.plan.Plan.{Plan}
 use Rattle.nv_calls.specs.declared.plan.Planned.{Planned}
+use Rattle.nv_calls.specs.declared.taken.Taken.{Taken}
 use Rattle.nv_calls.specs.Plain.{Change, PlainNode, node_in}
 use Rattle.nv_calls.specs.Plan.{AreMaximal}
 use Rattle.nv_calls.specs.Refusals.{Check, and_then, bytes_of, found, kind_of, lookup, passes, want_directory, want_file}
@@ -22,7 +24,7 @@ use Rattle.nv_calls.specs.Slots.{IsFree, Slot}
 use Rattle.nv_calls.specs.calls.Create.{create_effect, create_plan, create_refusal}
 use Rattle.nv_calls.specs.calls.Lookup.{lookup_answer, lookup_refusal}
 use Rattle.nv_calls.specs.calls.Mode.{mode_effect, mode_plan, mode_refusal}
-use Rattle.nv_calls.specs.calls.Rename.{rename_early, rename_effect, rename_late, rename_plan}
+use Rattle.nv_calls.specs.calls.Rename.{own_place, rename_early, rename_effect, rename_late, rename_plan}
 use Rattle.nv_calls.specs.calls.Rmdir.{rmdir_late}
 use Rattle.nv_calls.specs.calls.Size.{HaveCut, size_blocks, size_effect, size_plan, size_refusal}
 use Rattle.nv_calls.specs.calls.Stat.{stat_answer, stat_refusal}
@@ -99,18 +101,38 @@ answer nodes made other = answers.Nothing
 
 -- ---- plan
 
--- what a plan is made with: the handle of a new inode, the runs of fresh blocks, and for a size whether the page
--- that it ends in is present
-pub record Taken : Type 0 where
-  pub made : Handle
-  pub runs : List Run
-  pub present : Bool
+abbrev pub is_empty : List ℕ → Bool
+is_empty [] = true
+is_empty (byte ∷ rest) = false
+
+-- a call that commits nothing, where it is not refused
+abbrev pub is_nothing : Call → Bool
+is_nothing (call.Create dir name mode) = false
+is_nothing (call.Mkdir dir name mode) = false
+is_nothing (call.Write file offset text) = is_empty text
+is_nothing (call.Size file size) = false
+is_nothing (call.Mode handle mode) = false
+is_nothing (call.Unlink dir name) = false
+is_nothing (call.Rmdir dir name) = false
+is_nothing (call.Rename from old to new) = own_place from old to new
+is_nothing other = true
+
+-- for a size whether the page that it ends in is present
+abbrev pub ends_in_page : (Handle → ℕ → Bool) → ℕ → Call → Bool
+ends_in_page has_page block (call.Size file size) = nat_lt (size / block) FILE_PAGES && has_page file (size / block)
+ends_in_page has_page block other = false
 
 -- how many data blocks a call takes
 abbrev pub blocks_wanted : ℕ → (Handle → Option NodeCopy) → Bool → Call → ℕ
 blocks_wanted block nodes present (call.Write file offset text) = write_blocks block offset text
 blocks_wanted block nodes present (call.Size file size) = size_blocks block nodes file size present
 blocks_wanted block nodes present other = 0
+
+-- a call that passes its check, with the blocks that it takes
+pub record IsPlanOf (block : ℕ) (nodes : Handle → Option NodeCopy) (has_page : Handle → ℕ → Bool) (c : Call) (p : Plan) : Type 0 where
+  pub passed : refusal block nodes c ≡ passes
+  pub call : p.call ≡ c
+  pub blocks : p.blocks ≡ blocks_wanted block nodes (ends_in_page has_page block c) c
 
 -- the items that a call appends, inode by inode
 abbrev pub plan : ℕ → (Handle → Option NodeCopy) → Taken → Call → List Planned

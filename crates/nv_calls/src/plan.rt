@@ -1,13 +1,32 @@
-//! Plans: the items that a call appends to the logs of its inodes.
+//! Plans: what a call that passed its check needs, and the items that it appends to the logs of its inodes.
 
 ghost use Rattle.std.specs.Prelude.{◌≡◌, ◌∷◌, [], IfOk};
+ghost use Rattle.nv_calls.specs.AllCalls.{is_nothing};
 ghost use Rattle.nv_calls.specs.Plan.{planned};
 
+use crate::Call;
+use crate::planning::is_nothing;
 use nv_base::{Handle, Items};
 use nv_entry::Item;
 use std::alloc::{AllocError, Global};
 
-/// What a plan appends to the log of one inode.
+/// A call that passed its check, and how many blocks it needs for its pages.
+#[derive(Debug, Drop)]
+pub struct Plan {
+    pub call: Call,
+    pub blocks: u64,
+}
+
+impl Plan {
+    /// Whether the call appends nothing, so that it is answered at its check.
+    pub fn nothing(&self) -> bool
+        ensures { result ≡ is_nothing self.now.call }
+    {
+        is_nothing(&self.call)
+    }
+}
+
+/// What a call appends to the log of one inode.
 #[derive(Debug, Drop)]
 pub struct Planned {
     pub handle: Handle,
@@ -15,7 +34,7 @@ pub struct Planned {
 }
 
 /// What a call appends, inode by inode.
-pub type Plan = Items<Planned>;
+pub type PlannedItems = Items<Planned>;
 
 impl Planned {
     /// One item for the log of an inode.
