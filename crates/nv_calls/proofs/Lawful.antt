@@ -64,6 +64,15 @@ module _ (block size : ℕ) (few : size ≤ 65536 * block) (tail : List Item) (l
     writes_lawful (first + run.len) runs some.1 (omega (arith, count-cons run runs, fits)),
   )
 
+-- as many items as runs, and no more runs than blocks
+one_item_a_run : (first size : ℕ) (runs : List Run) → length (write_items first runs size) ≡ length runs
+one_item_a_run first size [] = refl
+one_item_a_run first size (run ∷ runs) = omega (arith, one_item_a_run (first + run.len) size runs)
+
+few_runs : (runs : List Run) → HaveBlocks runs → length runs ≤ length (blocks_of runs)
+few_runs [] some = omega arith
+few_runs (run ∷ runs) some = omega (arith, count-cons run runs, few_runs runs some.1, some.0)
+
 -- writes and a size bind no name
 leave_all : (item : Item) (first size : ℕ) (runs : List Run) (tail : List Item) → AllByRecursion (LeavesName item) tail
     → AllByRecursion (LeavesName item) (write_items first runs size ++ tail)
@@ -99,25 +108,25 @@ module _ (bytes : ℕ → List ℕ) (block : ℕ) (slots : ℕ → Slot) (some :
 
   -- items that are lawful for a kind, for a node of that kind
   good : (handle : Handle) (items : List Item) (kind : Option Kind) → kind_of (nodes handle) ≡ kind → AreLawful block items kind
-      → BindOne items → IsGood (planned handle items)
-  good handle items kind is lawful one = record { lawful = subst (AreLawful block items) (sym is) lawful; one = one }
+      → BindOne items → length items ≤ 1024 → IsGood (planned handle items)
+  good handle items kind is lawful one few = record { lawful = subst (AreLawful block items) (sym is) lawful; one = one; few = few }
 
   bind_good : (dir : Handle) (name : List ℕ) (to : Handle) → HasKind Dir (nodes dir) → IsTrue (is_lawful_name name)
       → IsGood (planned dir (Bind name to ∷ []))
-  bind_good dir name to d lawful = good dir (Bind name to ∷ []) (Some Dir) (kind_there Dir (nodes dir) d) (lawful, tt) (tt, tt)
+  bind_good dir name to d lawful = good dir (Bind name to ∷ []) (Some Dir) (kind_there Dir (nodes dir) d) (lawful, tt) (tt, tt) (omega arith)
 
   unbind_good : (dir : Handle) (name : List ℕ) → HasKind Dir (nodes dir) → IsTrue (is_lawful_name name)
       → IsGood (planned dir (Unbind name ∷ []))
-  unbind_good dir name d lawful = good dir (Unbind name ∷ []) (Some Dir) (kind_there Dir (nodes dir) d) (lawful, tt) (tt, tt)
+  unbind_good dir name d lawful = good dir (Unbind name ∷ []) (Some Dir) (kind_there Dir (nodes dir) d) (lawful, tt) (tt, tt) (omega arith)
 
   gone_good : (handle : Handle) → IsThere (nodes handle) → IsGood (planned handle (Gone ∷ []))
-  gone_good handle h = good handle (Gone ∷ []) (Some h.node.kind) (some_kind (nodes handle) h) (tt, tt) (tt, tt)
+  gone_good handle h = good handle (Gone ∷ []) (Some h.node.kind) (some_kind (nodes handle) h) (tt, tt) (tt, tt) (omega arith)
 
   -- both names of one directory, which differ
   move_good : (dir : Handle) (old new : List ℕ) (to : Handle) → HasKind Dir (nodes dir) → IsTrue (is_lawful_name old)
       → IsTrue (is_lawful_name new) → same_name old new ≡ false → IsGood (planned dir (Unbind old ∷ Bind new to ∷ []))
   move_good dir old new to d o n differ =
-      good dir (Unbind old ∷ Bind new to ∷ []) (Some Dir) (kind_there Dir (nodes dir) d) (o, (n, tt)) ((rw differ refl, tt), (tt, tt))
+      good dir (Unbind old ∷ Bind new to ∷ []) (Some Dir) (kind_there Dir (nodes dir) d) (o, (n, tt)) ((rw differ refl, tt), (tt, tt)) (omega arith)
 
   -- ---- calls
 
@@ -127,7 +136,7 @@ module _ (bytes : ℕ → List ℕ) (block : ℕ) (slots : ℕ → Slot) (some :
       let d = directory_passed (nodes dir) _ h in (
         bind_good dir name taken.made d.0 (lawful_passed name _ d.1).0,
         (
-          good taken.made (Init kind mode ∷ []) None (ap kind_of (no_node bytes block slots taken.made free)) (tt, tt) (tt, tt),
+          good taken.made (Init kind mode ∷ []) None (ap kind_of (no_node bytes block slots taken.made free)) (tt, tt) (tt, tt) (omega arith),
           tt,
         ),
       )
@@ -144,7 +153,7 @@ module _ (bytes : ℕ → List ℕ) (block : ℕ) (slots : ℕ → Slot) (some :
     good file items (Some File) (kind_there File (nodes file) f.0)
         (subst (λ (xs : List Item). AreLawful block xs (Some File)) (append-nil items)
         (writes_lawful block size few [] tt (offset / block) taken.runs (have_blocks taken.runs r.maximal) fits))
-        (subst BindOne (append-nil items) (writes_bind_none (offset / block) size taken.runs [] (λ item. tt) tt)),
+        (subst BindOne (append-nil items) (writes_bind_none (offset / block) size taken.runs [] (λ item. tt) tt)) short,
     tt,
   ) where
     text : List ℕ
@@ -167,6 +176,17 @@ module _ (bytes : ℕ → List ℕ) (block : ℕ) (slots : ℕ → Slot) (some :
         let before : length (bytes_of (nodes file)) ≡ length f.0.node.bytes = ap (λ (n : Option NodeCopy). length (bytes_of n)) f.0.is in
         omega (arith, before, size_within file f.0, ends, length-written offset text (bytes_of (nodes file)))
 
+    short : length items ≤ 1024
+    short =
+        let each = few_runs taken.runs (have_blocks taken.runs r.maximal) in
+        omega (
+          arith,
+          one_item_a_run (offset / block) size taken.runs,
+          each,
+          (r.filled (omega arith)).count,
+          (count_passed block offset (length text) f.1).0,
+        )
+
     fits : offset / block + length (blocks_of taken.runs) ≤ 65536
     fits = omega (arith, (r.filled (omega arith)).count, touched_within block offset (length text) some (omega arith) ends)
 
@@ -175,7 +195,8 @@ module _ (bytes : ℕ → List ℕ) (block : ℕ) (slots : ℕ → Slot) (some :
   size_good file size h r = (
     good file (write_items (size / block) taken.runs size ++ SetSize size ∷ []) (Some File) (kind_there File (nodes file) f.0)
         (lawful taken.runs r.cut.filled r.cut.count)
-        (writes_bind_none (size / block) size taken.runs (SetSize size ∷ []) (λ item. (tt, tt)) (tt, tt)),
+        (writes_bind_none (size / block) size taken.runs (SetSize size ∷ []) (λ item. (tt, tt)) (tt, tt))
+    (short (cuts_page block size taken.present before) r.cut.count),
     tt,
   ) where
     f : HasKind File (nodes file) × (refuse_if (nat_lt (65536 * block) size) fault.FileTooBig passes ≡ passes)
@@ -186,6 +207,14 @@ module _ (bytes : ℕ → List ℕ) (block : ℕ) (slots : ℕ → Slot) (some :
 
     before : List ℕ
     before = bytes_of (nodes file)
+
+    short : (b : Bool) → length taken.runs ≡ cond b 1 0 → length (write_items (size / block) taken.runs size ++ SetSize size ∷ []) ≤ 1024
+    short b is =
+        let items : List Item = write_items (size / block) taken.runs size in
+        omega (arith, length-append items (SetSize size ∷ []), one_item_a_run (size / block) size taken.runs, most b is) where
+          most : (b : Bool) → length taken.runs ≡ cond b 1 0 → length taken.runs ≤ 1
+          most true h = omega arith
+          most false h = omega arith
 
     lawful : (runs : List Run) → AllByRecursion (IsCutPage bytes block size before) runs
         → length runs ≡ cond (cuts_page block size taken.present before) 1 0
@@ -239,7 +268,7 @@ module _ (bytes : ℕ → List ℕ) (block : ℕ) (slots : ℕ → Slot) (some :
   plan_good (call.Size file size) h r = size_good file size h r
   plan_good (call.Mode handle mode) h r =
       let m = (node_passed (nodes handle) passes h).0 in
-      (good handle (SetMode mode ∷ []) (Some m.node.kind) (some_kind (nodes handle) m) (tt, tt) (tt, tt), tt)
+      (good handle (SetMode mode ∷ []) (Some m.node.kind) (some_kind (nodes handle) m) (tt, tt) (tt, tt) (omega arith), tt)
   plan_good (call.Stat handle) h r = tt
   plan_good (call.List dir) h r = tt
   plan_good (call.Lookup dir name) h r = tt

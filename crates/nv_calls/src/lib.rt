@@ -24,7 +24,7 @@ pub use answer::Answer;
 pub use call::Call;
 pub use looked::{Looked, found, look, look_all};
 pub use nodes::Nodes;
-pub use plan::{Plan, Planned, PlannedItems};
+pub use plan::{Plan, Planned, PlannedItems, place_in};
 pub use planning::{blocks_wanted, ends_in_page, is_nothing, plan_items, plan_of};
 pub use refusal::{check, check_early, check_late, check_look};
 pub use runs::runs_of;

@@ -1,12 +1,13 @@
 //! Plans: what a call that passed its check needs, and the items that it appends to the logs of its inodes.
 
-ghost use Rattle.std.specs.Prelude.{◌≡◌, ◌∷◌, [], IfOk};
+ghost use Rattle.std.specs.Prelude.{◌≡◌, ◌<◌, ◌^◌, ◌∷◌, [], IfOk};
 ghost use Rattle.nv_calls.specs.AllCalls.{is_nothing};
 ghost use Rattle.nv_calls.specs.Plan.{planned};
+ghost use Rattle.nv_calls.specs.Slots.{place_in};
 
 use crate::Call;
 use crate::planning::is_nothing;
-use nv_base::{Handle, Items};
+use nv_base::{Handle, Ino, Items};
 use nv_entry::Item;
 use std::alloc::{AllocError, Global};
 
@@ -31,6 +32,20 @@ impl Plan {
 pub struct Planned {
     pub handle: Handle,
     pub items: Items<Item>,
+}
+
+/// Where the entries of an inode begin among those of a commit, which go by rising inode number.
+pub fn place_in(plan: &[Planned], ino: Ino) -> u32
+    requires { place_in plan.now ino < 2 ^ 32 }
+    ensures { result ≡ place_in plan.now ino }
+{
+    let mut place = 0;
+    for planned in plan {
+        if planned.handle.ino < ino {
+            place += planned.items.len() as u32;
+        }
+    }
+    place
 }
 
 /// What a call appends, inode by inode.
