@@ -28,7 +28,7 @@ use Rattle.nv_calls.specs.Plain.{node_in, same_handle}
 use Rattle.nv_calls.specs.Plan.{AreMaximal, planned}
 use Rattle.nv_calls.specs.Refusals.{Check, bytes_of, found, kind_of, passes, refuse_if, want_bound}
 use Rattle.nv_calls.specs.Slots.{IsFree, Slot, node_under}
-use Rattle.nv_calls.specs.calls.Create.{create_plan, create_refusal}
+use Rattle.nv_calls.specs.calls.Create.{begin_plan, create_refusal}
 use Rattle.nv_calls.specs.calls.Lookup.{lookup_refusal}
 use Rattle.nv_calls.specs.calls.Rename.{bound_plan, move_plan, moved_refusal, own_place, pass_if, replaced_plan, replaced_refusal}
 use Rattle.nv_calls.specs.calls.Size.{IsCutPage, cuts_page}
@@ -131,7 +131,7 @@ module _ (bytes : ℕ → List ℕ) (block : ℕ) (slots : ℕ → Slot) (some :
   -- ---- calls
 
   create_good : (kind : Kind) (dir : Handle) (name : List ℕ) (mode : ℕ) → create_refusal nodes dir name ≡ passes → IsFree slots taken.made
-      → AllGood (create_plan kind dir name mode taken.made)
+      → AllGood (begin_plan kind dir name mode taken.made)
   create_good kind dir name mode h free =
       let d = directory_passed (nodes dir) _ h in (
         bind_good dir name taken.made d.0 (lawful_passed name _ d.1).0,
@@ -196,7 +196,7 @@ module _ (bytes : ℕ → List ℕ) (block : ℕ) (slots : ℕ → Slot) (some :
     good file (write_items (size / block) taken.runs size ++ SetSize size ∷ []) (Some File) (kind_there File (nodes file) f.0)
         (lawful taken.runs r.cut.filled r.cut.count)
         (writes_bind_none (size / block) size taken.runs (SetSize size ∷ []) (λ item. (tt, tt)) (tt, tt))
-    (short (cuts_page block size taken.present before) r.cut.count),
+        (short (cuts_page block size taken.present before) r.cut.count),
     tt,
   ) where
     f : HasKind File (nodes file) × (refuse_if (nat_lt (65536 * block) size) fault.FileTooBig passes ≡ passes)

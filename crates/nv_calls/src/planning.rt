@@ -8,12 +8,12 @@ ghost use Rattle.nv_entry.specs.Sound.{blocks_of};
 ghost use Rattle.nv_calls.specs.AllCalls.{IsPlanOf, blocks_wanted, ends_in_page, is_nothing, plan, refusal};
 ghost use Rattle.nv_calls.specs.Refusals.{passes};
 
-use crate::calls::{create, mode, rename, size, unlink, write};
+use crate::calls::{create, mkdir, mode, rename, size, unlink, write};
 use crate::looked::{found, look_all};
 use crate::refusal::check;
 use crate::{Call, Nodes, Plan, PlannedItems, Taken};
 use nv_base::limits::FILE_PAGES;
-use nv_base::{Fault, Handle, Items, Kind};
+use nv_base::{Fault, Handle, Items};
 use std::alloc::Global;
 
 /// Whether a call that is not refused commits nothing.
@@ -98,10 +98,10 @@ pub fn plan_items<N: Nodes>(
     let runs = taken.runs.as_slice();
     match call {
         Call::Create { dir, name, mode } => {
-            create::plan(alloc, Kind::File, *dir, name.as_slice(), *mode, made)
+            create::plan(alloc, *dir, name.as_slice(), *mode, made)
         }
         Call::Mkdir { dir, name, mode } => {
-            create::plan(alloc, Kind::Dir, *dir, name.as_slice(), *mode, made)
+            mkdir::plan(alloc, *dir, name.as_slice(), *mode, made)
         }
         Call::Write { file, offset, text } => Ok(write::plan(
             alloc,
