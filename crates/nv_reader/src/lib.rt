@@ -8,10 +8,10 @@ mod attributes;
 mod bytes;
 mod epochs;
 pub mod laws;
-mod levels;
 mod names;
 mod node;
 mod pages;
 mod walk;
+mod way;
 
 pub use walk::Walk;
