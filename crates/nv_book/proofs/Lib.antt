@@ -3,7 +3,6 @@ pub mod Counts
 pub mod Ends
 pub mod Filing
 pub mod Listing
-pub mod Noting
 pub mod Places
 pub mod RecordLists
 pub mod Series

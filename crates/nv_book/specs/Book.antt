@@ -12,7 +12,7 @@ use Rattle.nv_book.specs.declared.manifest.Manifest.{Manifest}
 use Rattle.nv_book.specs.declared.record.Record.{Record}
 use Rattle.nv_book.specs.declared.retired.Retired.{Retired}
 use Rattle.nv_book.specs.declared.retired.Retired.TheVariants.{Kept, Free}
-use Rattle.nv_book.specs.History.{Account, State, noted, now_of}
+use Rattle.nv_book.specs.History.{Account, IsHistory, noted, state_now}
 use Rattle.nv_book.specs.Manifests.{AreFiled, AreDead, put_to, records_at, after_drop, after_make}
 use Rattle.nv_book.specs.Records.{holder_of, let_go}
 use Rattle.nv_book.specs.Store.{Store}
@@ -40,7 +40,7 @@ empty_book numbers epoch commit = record {
   manifests = [];
   deferred = [];
   journals = replicate numbers.cpus [];
-  history = record { base = record { epoch = epoch; commit = commit; living = [] }; latest = []; most = numbers.snaps };
+  history = record { base = record { epoch = epoch; commit = commit; living = [] }; latest = [] };
 }
 
 abbrev pub with_event : Event → BookState → BookState
@@ -93,16 +93,11 @@ after_pick b = record b { deferred = drop 1 b.deferred }
 abbrev pub with_journal : ℕ → List OldTail → BookState → BookState
 with_journal cpu tails b = record b { journals = slice_set b.journals cpu tails }
 
--- the state that the history leads to
-abbrev pub state_now : Snapshots → ℕ → State
-state_now snaps commit = record { epoch = snaps.epoch; commit = commit; living = ids snaps }
-
 -- each record stands with its youngest living holder, or is deferred if it has none, and died by now; the history leads
 -- to the living snapshots, the epoch and the commit number
-pub record IsBook (snaps : Snapshots) (commit : ℕ) (store : Store) (history : Account) : Type 0 where
+pub record IsBook (snaps : Snapshots) (commit : ℕ) (store : Store) (latest : List Event) : Type 0 where
   pub filed : AreFiled (ids snaps) store.manifests store.deferred
   pub dead : AreDead snaps.epoch store.manifests store.deferred
-  pub replayed : now_of history ≡ state_now snaps commit
+  pub history : IsHistory snaps.most (state_now snaps commit) latest
   pub commit_fits : commit ≤ NUMBER
   pub places_fit : snaps.most ≤ store.most
-  pub history_fits : snaps.most ≤ history.most

@@ -1,9 +1,10 @@
 -- What happened: commits, makings and drops of snapshots, after a base.
-use Rattle.std.specs.Prelude.{◌≡◌, ℕ, ◌+◌, ◌<◌, nat_lt, if◌then◌else◌, List, [], ◌∷◌, ◌++◌, length, All, Contains}
+use Rattle.std.specs.Prelude.{◌≡◌, ℕ, ◌+◌, ◌-◌, ◌<◌, nat_lt, if◌then◌else◌, List, [], ◌∷◌, ◌++◌, length, All, Contains}
 use Rattle.nv_base.specs.declared.limits.TheConstants.{NUMBER}
 use Rattle.nv_book.specs.declared.event.Event.{Event}
 use Rattle.nv_book.specs.declared.event.Event.TheVariants.{Committed, Made, Dropped}
 use Rattle.nv_epoch.specs.Holders.{IsRising, without}
+use Rattle.nv_epoch.specs.SnapList.{Snapshots, ids}
 
 -- the epoch, the number of the last commit, and the living snapshots
 pub record State : Type 0 where
@@ -28,31 +29,21 @@ pub record IsOrdered (now : State) : Type 0 where
   pub rising : IsRising now.living
   pub below_epoch : All (λ s. s < now.epoch) now.living
 
--- where so many numbers of living snapshots have room, so has the event's
-abbrev pub FitsIn : ℕ → List ℕ → Event → Type 0
-FitsIn room living (Committed seat number epoch) = Unit {0}
-FitsIn room living (Made s) = length living < room
-FitsIn room living (Dropped s) = Unit {0}
-
-abbrev pub living_after : Event → List ℕ → List ℕ
-living_after (Committed seat number epoch) living = living
-living_after (Made s) living = living ++ s ∷ []
-living_after (Dropped s) living = without s living
-
 -- the number before the first that is not below it
 abbrev pub put_back : ℕ → List ℕ → List ℕ
 put_back s [] = s ∷ []
 put_back s (t ∷ ts) = if nat_lt t s then t ∷ put_back s ts else s ∷ t ∷ ts
 
-abbrev pub living_before : Event → List ℕ → List ℕ
-living_before (Committed seat number epoch) living = living
-living_before (Made s) living = without s living
-living_before (Dropped s) living = put_back s living
+-- the state before an event that led to this one
+abbrev pub before : State → Event → State
+before now (Committed seat number epoch) = record now { commit = number - 1 }
+before now (Made s) = record now { epoch = s; living = without s now.living }
+before now (Dropped s) = record now { living = put_back s now.living }
 
--- what lived before the events
-unfoldable pub undone : List ℕ → List Event → List ℕ
-undone living [] = living
-undone living (e ∷ es) = living_before e (undone living es)
+-- the state before some events that led to this one
+unfoldable pub undone : State → List Event → State
+undone now [] = now
+undone now (e ∷ es) = before (undone now es) e
 
 -- a legal history: each event may come after those before it
 unfoldable pub IsLegal : ℕ → State → List Event → Type 0
@@ -68,7 +59,6 @@ replay base (e ∷ es) = replay (after base e) es
 pub record Account : Type 0 where
   pub base : State
   pub latest : List Event
-  pub most : ℕ
 
 abbrev pub now_of : Account → State
 now_of a = replay a.base a.latest
@@ -87,3 +77,17 @@ longer a e = record a { latest = a.latest ++ e ∷ [] }
 -- one event more, with at most n after the base
 abbrev pub noted : ℕ → Account → Event → Account
 noted n a e = if nat_lt (length a.latest) n then longer a e else folded (longer a e)
+
+-- the latest events, after a base that is the present state with them undone
+abbrev pub told : State → List Event → Account
+told now latest = record { base = undone now latest; latest = latest }
+
+-- the latest events are legal after that base, and lead to the present state
+pub record IsHistory (most : ℕ) (now : State) (latest : List Event) : Type 0 where
+  pub legal : IsLegal most (undone now latest) latest
+  pub ordered : IsOrdered (undone now latest)
+  pub leads : now_of (told now latest) ≡ now
+
+-- the state of a book
+abbrev pub state_now : Snapshots → ℕ → State
+state_now snaps commit = record { epoch = snaps.epoch; commit = commit; living = ids snaps }

@@ -4,5 +4,4 @@ pub mod Manifests
 pub mod Listed
 pub mod Store
 pub mod History
-pub mod Base
 pub mod Book

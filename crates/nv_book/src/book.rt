@@ -8,8 +8,8 @@ ghost use Rattle.nv_base.specs.Refusals.{FailsEither, FailsOnly, IsRefusedBy, Ke
 ghost use Rattle.nv_epoch.specs.Holders.{next_older};
 ghost use Rattle.nv_epoch.specs.SnapList.{ids, pins_of};
 ghost use Rattle.nv_journal.specs.Journal.{AreDistinct};
-ghost use Rattle.nv_book.specs.Book.{BookState, BookValue, empty_book, after_enter, after_pick, after_retire, retired_as, room_after, after_drop_snapshot, after_make_snapshot, after_pin_snapshot, after_unpin_snapshot, state_now, with_journal};
-ghost use Rattle.nv_book.specs.History.{IsLegal, now_of};
+ghost use Rattle.nv_book.specs.Book.{BookState, BookValue, empty_book, after_enter, after_pick, after_retire, retired_as, room_after, after_drop_snapshot, after_make_snapshot, after_pin_snapshot, after_unpin_snapshot, with_journal};
+ghost use Rattle.nv_book.specs.History.{IsLegal, now_of, state_now};
 ghost use Rattle.nv_book.specs.Manifests.{AreDead, AreFiled, gain_of, held_of, runs_of};
 ghost use Rattle.nv_book.specs.Records.{block_count, holder_of, run_count_of};
 
@@ -17,7 +17,7 @@ use crate::history::History;
 use crate::manifest::Manifest;
 use crate::record_store::RecordStore;
 use crate::records::Records;
-use crate::{Event, Record, Retired};
+use crate::{Base, Event, Record, Retired};
 use nv_base::{CommitNo, Epoch, Fault, Geometry, limits};
 use nv_epoch::{SnapList, laws};
 use nv_journal::{Journal, OldTail};
@@ -41,6 +41,7 @@ pub struct Book {
 
 impl Model for Book {
     ghost use Rattle.nv_book.specs.Book.{BookValue, IsBook};
+    ghost use Rattle.nv_book.specs.History.{state_now, told};
 
     ghost Value = { BookValue };
 
@@ -51,7 +52,7 @@ impl Model for Book {
         manifests = b.store.manifests;
         deferred = b.store.deferred;
         journals = b.journals.items;
-        history = b.history;
+        history = told (state_now b.snaps b.commit) b.history;
       };
       room = b.store.room;
     } };
@@ -106,7 +107,7 @@ impl Book {
             commit,
             store: RecordStore::new(alloc, snaps)?,
             journals: closed_journals(alloc, geometry.numbers.cpus)?,
-            history: History::new(alloc, snaps, epoch, commit)?,
+            history: History::new(alloc)?,
         })
     }
 
@@ -354,16 +355,27 @@ impl Book {
         self.store.deferred()
     }
 
-    /// What happened since format: a base, and the latest events after it.
+    /// The latest events, after [`Book::base`].
     pub fn history(&self) -> &History
-        ensures history { result.now ≡ self.now.state.history }
-        ensures legal { let all = self.now.state.history in IsLegal all.most all.base all.latest }
+        ensures history { result.now ≡ self.now.state.history.latest }
+        ensures legal { let now = self.now.state in
+            IsLegal now.snaps.most now.history.base now.history.latest }
         ensures replayed { now_of self.now.state.history ≡
             state_now self.now.state.snaps self.now.state.commit }
     {
-        // It tells that the history is legal.
-        let _len = self.history.len();
         &self.history
+    }
+
+    /// What the events before the latest led to. It takes time by the events that are kept, and for each making and
+    /// drop among them by the number of snapshots.
+    ///
+    /// The only error is `OutOfMemory`.
+    pub fn base(&self) -> Result<Base, Fault>
+        ensures ok { IfOk result (λ base. base ≡ self.now.state.history.base) }
+        ensures err { FailsOnly Fault.OutOfMemory result }
+    {
+        let now = Base::now(self.alloc, &self.snaps, self.commit)?;
+        self.history.base(now)
     }
 
     /// The current epoch.

@@ -5,11 +5,11 @@
 //! or to the deferred list, from which they are picked for release.
 #![tactic(auto)]
 
+mod base;
 mod book;
 mod event;
 mod history;
 pub mod laws;
-mod living;
 mod manifest;
 mod record;
 mod record_iter;
@@ -20,9 +20,10 @@ mod run;
 mod runs;
 mod spare_nodes;
 
+pub use base::Base;
 pub use book::Book;
 pub use event::Event;
-pub use history::{Base, History, LATEST};
+pub use history::{History, LATEST};
 pub use manifest::Manifest;
 pub use record::Record;
 pub use record_iter::RecordIter;

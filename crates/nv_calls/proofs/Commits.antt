@@ -15,7 +15,7 @@ use Rattle.nv_entry.proofs.SoundLogs.{several_give}
 use Rattle.nv_calls.specs.Plain.{Change, PlainNode, node_in, nodes_after, same_handle, stamped}
 use Rattle.nv_calls.specs.declared.plan.Planned.{Planned}
 use Rattle.nv_calls.specs.Plan.{AllFit, Fits}
-use Rattle.nv_calls.specs.Slots.{Commits, IsPlan, IsPlanned, Slot, entries_of, items_for, last_commit, node_under, published}
+use Rattle.nv_calls.specs.Slots.{Commits, IsPlan, IsPlanned, Slot, entries_of, items_for, last_commit, node_under, place_in}
 
 -- ---- the entries of a commit
 
@@ -96,7 +96,7 @@ module _ (bytes : ℕ → List ℕ) (block : ℕ) (slots : ℕ → Slot) where
 
     -- ---- each log
 
-    log_sound : (plan : List Planned) (effect : List Change) → AllByRecursion (IsPlanned slots) plan
+    pub log_sound : (plan : List Planned) (effect : List Change) → AllByRecursion (IsPlanned slots) plan
         → AllFit bytes block (node_in nodes) plan effect
         → (ino : ℕ) → IsSound bytes block ((slots ino).log ++ entries_of commit epoch (place ino) (items_for plan ino))
     log_sound [] [] all fit ino = subst (IsSound bytes block) (sym (append-nil (slots ino).log)) (sound ino)
@@ -168,18 +168,22 @@ module _ (bytes : ℕ → List ℕ) (block : ℕ) (slots : ℕ → Slot) where
               let g : p.handle.generation ≡ handle.generation = all.0.own ∙ ap (λ (x : ℕ). (slots x).generation) i ∙ sym own in
               rw (eq-eqb p.handle.generation handle.generation g) (here (handle-same p.handle handle i g))
 
-    node_after : (plan : List Planned) (effect : List Change) → IsPlan bytes block slots plan effect → (handle : Handle)
-        → node_under bytes block (published commit epoch place plan slots) handle ≡ nodes_after commit effect nodes handle
+    -- the slots after the commit
+    abbrev slots_with : List Planned → ℕ → Slot
+    slots_with plan ino = record { generation = (slots ino).generation; log = (slots ino).log ++ entries_of commit epoch (place ino) (items_for plan ino) }
+
+    pub node_after : (plan : List Planned) (effect : List Change) → IsPlan bytes block slots plan effect → (handle : Handle)
+        → node_under bytes block (slots_with plan) handle ≡ nodes_after commit effect nodes handle
     node_after plan effect is handle = go (handle.generation == (slots handle.ino).generation) refl where
       go : (b : Bool) → (handle.generation == (slots handle.ino).generation) ≡ b
           → cond b (node_with handle (items_for plan handle.ino)) None ≡ nodes_after commit effect nodes handle
       go true q = own_after plan effect handle is.all is.fit (eqb-true handle.generation (slots handle.ino).generation q)
       go false q = sym (stale_stays plan effect handle is.all is.fit q (rw q refl))
 
-    pub commits : (plan : List Planned) (effect : List Change) → IsPlan bytes block slots plan effect
-        → Commits bytes block commit epoch place slots plan effect
-    commits plan effect is = record {
-      nodes = node_after plan effect is;
-      sound = log_sound plan effect is.all is.fit;
-      earlier = λ at ino lt. up_to-entries at commit epoch (place ino) (slots ino).log (items_for plan ino) lt;
-    }
+  pub commits : (commit epoch : ℕ) → 0 < block → ((ino : ℕ) → IsSound bytes block (slots ino).log) → (plan : List Planned)
+      (effect : List Change) → IsPlan bytes block slots plan effect → Commits bytes block commit epoch slots plan effect
+  commits commit epoch some sound plan effect is = record {
+    nodes = node_after commit epoch (place_in plan) some sound plan effect is;
+    sound = log_sound commit epoch (place_in plan) some sound plan effect is.all is.fit;
+    earlier = λ at ino lt. up_to-entries at commit epoch (place_in plan ino) (slots ino).log (items_for plan ino) lt;
+  }

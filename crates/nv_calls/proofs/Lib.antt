@@ -1,10 +1,15 @@
+pub mod Apart
+pub mod CellNodes
 pub mod Commits
 pub mod Items
 pub mod Keeps
+pub mod Lawful
 pub mod Passed
+pub mod Places
 pub mod Resized
 pub mod RunLists
 pub mod Same
+pub mod Standing
 pub mod Touched
 pub mod Wanted
 pub mod fits

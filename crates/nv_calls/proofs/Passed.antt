@@ -1,15 +1,18 @@
 -- What a call knows whose tests it passes.
-use Rattle.std.proofs.Common.{◌≡◌, ℕ, ◌==◌, Bool, true, false, cond, List, Option, Some, None, refl}
-use Rattle.std.specs.Prelude.{option_map}
+use Rattle.std.proofs.Common.{◌≡◌, ℕ, ◌==◌, Bool, true, false, not, cond, List, Option, Some, None, refl}
+use Rattle.std.specs.Prelude.{Ok, Err, IsTrue, option_map}
 use Rattle.std.proofs.lemmas.Bool.{eqb-true}
+use Rattle.nv_base.specs.Names.{is_lawful_name}
 use Rattle.nv_base.specs.declared.fault.Fault.{Fault}
+use Rattle.nv_base.specs.declared.fault.Fault.TheVariants as fault
 use Rattle.nv_base.specs.declared.node.Kind.{Kind}
 use Rattle.nv_base.specs.declared.node.Kind.TheVariants.{File, Dir}
 use Rattle.nv_base.specs.declared.numbers.Handle.{Handle}
 use Rattle.nv_entry.specs.declared.node.NodeCopy.{NodeCopy}
 use Rattle.nv_calls.specs.Plain.{PlainNode, node_in}
-use Rattle.nv_calls.specs.Refusals.{Check, kind_of, passes, refuse_if, want_directory, want_file, want_node}
+use Rattle.nv_calls.specs.Refusals.{Check, and_then, kind_of, passes, refuse_if, want_directory, want_file, want_lawful, want_node}
 use Rattle.nv_calls.specs.Slots.{Slot, node_under}
+use Rattle.nv_calls.specs.calls.Lookup.{lookup_refusal}
 
 -- a node that is there
 pub record IsThere (found : Option NodeCopy) : Type 0 where
@@ -22,7 +25,7 @@ pub record HasKind (kind : Kind) (found : Option NodeCopy) : Type 0 where
   pub is : found ≡ Some node
   pub kind_is : node.kind ≡ kind
 
-pub there : (kind : Kind) (found : Option NodeCopy) → HasKind kind found → IsThere found
+abbrev pub there : (kind : Kind) (found : Option NodeCopy) → HasKind kind found → IsThere found
 there kind found h = record { node = h.node; is = h.is }
 
 pub if_passed : (b : Bool) (why : Fault) (next : Check) → refuse_if b why next ≡ passes → (b ≡ false) × (next ≡ passes)
@@ -49,6 +52,24 @@ pub directory_passed : (found : Option NodeCopy) (next : Check) → want_directo
     → HasKind Dir found × (next ≡ passes)
 directory_passed None next h = cc
 directory_passed (Some node) next h = let k = directory_kind node.kind next h in (record { node = node; is = refl; kind_is = k.0 }, k.1)
+
+-- two rounds of tests
+pub both_passed : (first next : Check) → and_then first next ≡ passes → (first ≡ passes) × (next ≡ passes)
+both_passed (Ok tt) next h = (refl, h)
+both_passed (Err why) next h = cc
+
+lawful_by : (b : Bool) (next : Check) → refuse_if (not b) fault.BadName next ≡ passes → IsTrue b × (next ≡ passes)
+lawful_by true next h = (refl, h)
+lawful_by false next h = cc
+
+pub lawful_passed : (name : List ℕ) (next : Check) → want_lawful name next ≡ passes → IsTrue (is_lawful_name name) × (next ≡ passes)
+lawful_passed name next h = lawful_by (is_lawful_name name) next h
+
+-- a look that is not refused
+pub look_passed : (nodes : Handle → Option NodeCopy) (dir : Handle) (name : List ℕ) → lookup_refusal nodes dir name ≡ passes
+    → HasKind Dir (nodes dir) × IsTrue (is_lawful_name name)
+look_passed nodes dir name passed =
+    let d = directory_passed (nodes dir) _ passed in (d.0, (lawful_passed name _ d.1).0)
 
 -- a handle with a node is that of its slot
 pub own_handle : (bytes : ℕ → List ℕ) (block : ℕ) (slots : ℕ → Slot) (handle : Handle)

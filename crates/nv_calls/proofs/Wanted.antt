@@ -11,7 +11,7 @@ use Rattle.nv_calls.specs.AllCalls.{IsReady, Taken, blocks_wanted, plan}
 use Rattle.nv_calls.specs.declared.call.Call.{Call}
 use Rattle.nv_calls.specs.declared.call.Call.TheVariants as call
 use Rattle.nv_calls.specs.Plan.{plan_blocks}
-use Rattle.nv_calls.specs.Refusals.{lookup}
+use Rattle.nv_calls.specs.Refusals.{found}
 use Rattle.nv_calls.specs.Slots.{Slot}
 use Rattle.nv_calls.specs.calls.Rename.{own_place}
 use Rattle.nv_calls.specs.calls.Size.{IsCutPage}
@@ -30,10 +30,10 @@ pub blocks_used : (bytes : ℕ → List ℕ) (block : ℕ) (slots : ℕ → Slot
     → IsReady bytes block slots nodes taken c → length (plan_blocks (plan block nodes taken c)) ≡ blocks_wanted block nodes taken.present c
 blocks_used bytes block slots nodes taken (call.Write file offset []) ready = refl
 blocks_used bytes block slots nodes taken (call.Write file offset (byte ∷ rest)) ready =
-    let has = ready (omega arith) in
+    let has = ready.filled (omega arith) in
     ap length (append-nil _ ∙ write_blocks-are _ taken.runs _) ∙ has.count
 blocks_used bytes block slots nodes taken (call.Size file size) ready =
-    ap length (append-nil _ ∙ cut_blocks-are _ taken.runs size) ∙ single_runs bytes block size _ taken.runs ready.filled ∙ ready.count
+    ap length (append-nil _ ∙ cut_blocks-are _ taken.runs size) ∙ single_runs bytes block size _ taken.runs ready.cut.filled ∙ ready.cut.count
 blocks_used bytes block slots nodes taken (call.Create dir name mode) ready = refl
 blocks_used bytes block slots nodes taken (call.Mkdir dir name mode) ready = refl
 blocks_used bytes block slots nodes taken (call.Read file offset count) ready = refl
@@ -41,7 +41,7 @@ blocks_used bytes block slots nodes taken (call.Mode handle mode) ready = refl
 blocks_used bytes block slots nodes taken (call.Stat handle) ready = refl
 blocks_used bytes block slots nodes taken (call.List dir) ready = refl
 blocks_used bytes block slots nodes taken (call.Lookup dir name) ready = refl
-blocks_used bytes block slots nodes taken (call.Unlink dir name) ready = ap length (leave_none block nodes taken dir name (lookup nodes dir name))
-blocks_used bytes block slots nodes taken (call.Rmdir dir name) ready = ap length (leave_none block nodes taken dir name (lookup nodes dir name))
+blocks_used bytes block slots nodes taken (call.Unlink dir name) ready = ap length (leave_none block nodes taken dir name (found nodes dir name))
+blocks_used bytes block slots nodes taken (call.Rmdir dir name) ready = ap length (leave_none block nodes taken dir name (found nodes dir name))
 blocks_used bytes block slots nodes taken (call.Rename from old to new) ready =
-    ap length (bound_none block nodes taken from old to new (own_place from old to new) (lookup nodes from old) (lookup nodes to new))
+    ap length (bound_none block nodes taken from old to new (own_place from old to new) (found nodes from old) (found nodes to new))

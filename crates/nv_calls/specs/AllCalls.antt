@@ -1,45 +1,79 @@
--- The file calls of the plain world, by the step that decides: refusal at the check, effect at the commit, and
--- answer; and the plan of each. No changes: no commit.
-use Rattle.std.specs.Prelude.{ℕ, ◌<◌, Bool, List, [], length, Option}
+-- The file calls of the plain world, by the step that decides: what its looks find, refusal at the check, effect at the
+-- commit, and answer; and the plan of each. No changes: no commit.
+use Rattle.std.specs.Prelude.{◌≡◌, ℕ, ◌/◌, ◌<◌, Bool, List, [], length, Option, None, is_some}
 use Rattle.nv_base.specs.declared.node.Kind.TheVariants.{File, Dir}
 use Rattle.nv_base.specs.declared.numbers.Handle.{Handle}
 use Rattle.nv_entry.specs.declared.item.Run.{Run}
 use Rattle.nv_entry.specs.declared.node.NodeCopy.{NodeCopy}
 use Rattle.nv_entry.specs.Bytes.{read_at}
+use Rattle.nv_entry.specs.Node.{block_now}
 use Rattle.nv_entry.specs.Sound.{HaveText, blocks_of}
 use Rattle.nv_calls.specs.declared.answer.Answer.{Answer}
 use Rattle.nv_calls.specs.declared.answer.Answer.TheVariants as answers
 use Rattle.nv_calls.specs.declared.call.Call.{Call}
 use Rattle.nv_calls.specs.declared.call.Call.TheVariants as call
+use Rattle.nv_calls.specs.declared.looked.Looked.{Looked}
 use Rattle.nv_calls.specs.declared.plan.Planned.{Planned}
 use Rattle.nv_calls.specs.Plain.{Change, PlainNode, node_in}
-use Rattle.nv_calls.specs.Refusals.{Check, bytes_of, kind_of, lookup, passes, want_directory, want_file}
+use Rattle.nv_calls.specs.Plan.{AreMaximal}
+use Rattle.nv_calls.specs.Refusals.{Check, and_then, bytes_of, found, kind_of, lookup, passes, want_directory, want_file}
 use Rattle.nv_entry.specs.Tree.{names_of_node}
 use Rattle.nv_calls.specs.Slots.{IsFree, Slot}
 use Rattle.nv_calls.specs.calls.Create.{create_effect, create_plan, create_refusal}
 use Rattle.nv_calls.specs.calls.Lookup.{lookup_answer, lookup_refusal}
 use Rattle.nv_calls.specs.calls.Mode.{mode_effect, mode_plan, mode_refusal}
-use Rattle.nv_calls.specs.calls.Rename.{rename_effect, rename_plan, rename_refusal}
-use Rattle.nv_calls.specs.calls.Rmdir.{rmdir_refusal}
+use Rattle.nv_calls.specs.calls.Rename.{rename_early, rename_effect, rename_late, rename_plan}
+use Rattle.nv_calls.specs.calls.Rmdir.{rmdir_late}
 use Rattle.nv_calls.specs.calls.Size.{HaveCut, size_blocks, size_effect, size_plan, size_refusal}
 use Rattle.nv_calls.specs.calls.Stat.{stat_answer, stat_refusal}
-use Rattle.nv_calls.specs.calls.Unlink.{unlink_effect, unlink_plan, unlink_refusal}
+use Rattle.nv_calls.specs.calls.Unlink.{leave_effect, leave_plan, unlink_late}
 use Rattle.nv_calls.specs.calls.Write.{write_blocks, write_effect, write_plan, write_refusal}
 
--- why a call is refused at its check
+-- ---- looks
+
+-- what the names of a call lead to, where it looks them up before it locks
+abbrev pub looked : (Handle → Option NodeCopy) → Call → Looked
+looked nodes (call.Unlink dir name) = record { first = found nodes dir name; second = None }
+looked nodes (call.Rmdir dir name) = record { first = found nodes dir name; second = None }
+looked nodes (call.Rename from old to new) = record { first = found nodes from old; second = found nodes to new }
+looked nodes other = record { first = None; second = None }
+
+-- why a call is refused at a look: the tests of its first name
+abbrev pub look_refusal : (Handle → Option NodeCopy) → Call → Check
+look_refusal nodes (call.Unlink dir name) = lookup_refusal nodes dir name
+look_refusal nodes (call.Rmdir dir name) = lookup_refusal nodes dir name
+look_refusal nodes (call.Rename from old to new) = lookup_refusal nodes from old
+look_refusal nodes other = passes
+
+-- ---- the check
+
+-- the tests that stand before names are compared with what the looks found
+abbrev pub early : (Handle → Option NodeCopy) → Call → Check
+early nodes (call.Unlink dir name) = lookup_refusal nodes dir name
+early nodes (call.Rmdir dir name) = lookup_refusal nodes dir name
+early nodes (call.Rename from old to new) = rename_early nodes from old to new
+early nodes other = passes
+
+-- and those behind it, by what the names lead to
+abbrev pub late : ℕ → (Handle → Option NodeCopy) → Looked → Call → Check
+late block nodes looked (call.Create dir name mode) = create_refusal nodes dir name
+late block nodes looked (call.Mkdir dir name mode) = create_refusal nodes dir name
+late block nodes looked (call.Write file offset text) = write_refusal block nodes file offset text
+late block nodes looked (call.Read file offset count) = want_file (kind_of (nodes file)) passes
+late block nodes looked (call.Size file size) = size_refusal block nodes file size
+late block nodes looked (call.Mode handle mode) = mode_refusal nodes handle
+late block nodes looked (call.Stat handle) = stat_refusal nodes handle
+late block nodes looked (call.List dir) = want_directory (kind_of (nodes dir)) passes
+late block nodes looked (call.Lookup dir name) = lookup_refusal nodes dir name
+late block nodes looked (call.Unlink dir name) = unlink_late nodes looked.first
+late block nodes looked (call.Rmdir dir name) = rmdir_late nodes looked.first
+late block nodes looked (call.Rename from old to new) = rename_late nodes from old to new looked
+
+-- why a call is refused
 abbrev pub refusal : ℕ → (Handle → Option NodeCopy) → Call → Check
-refusal block nodes (call.Create dir name mode) = create_refusal nodes dir name
-refusal block nodes (call.Mkdir dir name mode) = create_refusal nodes dir name
-refusal block nodes (call.Write file offset text) = write_refusal block nodes file offset text
-refusal block nodes (call.Read file offset count) = want_file (kind_of (nodes file)) passes
-refusal block nodes (call.Size file size) = size_refusal block nodes file size
-refusal block nodes (call.Mode handle mode) = mode_refusal nodes handle
-refusal block nodes (call.Stat handle) = stat_refusal nodes handle
-refusal block nodes (call.List dir) = want_directory (kind_of (nodes dir)) passes
-refusal block nodes (call.Lookup dir name) = lookup_refusal nodes dir name
-refusal block nodes (call.Unlink dir name) = unlink_refusal nodes dir name
-refusal block nodes (call.Rmdir dir name) = rmdir_refusal nodes dir name
-refusal block nodes (call.Rename from old to new) = rename_refusal nodes from old to new
+refusal block nodes c = and_then (early nodes c) (late block nodes (looked nodes c) c)
+
+-- ---- effect and answer
 
 -- what a commit changes, where a new inode has the handle `made`
 abbrev pub effect : (Handle → Option NodeCopy) → Handle → Call → List Change
@@ -48,9 +82,9 @@ effect nodes made (call.Mkdir dir name mode) = create_effect Dir dir name mode m
 effect nodes made (call.Write file offset text) = write_effect file offset text
 effect nodes made (call.Size file size) = size_effect file size
 effect nodes made (call.Mode handle mode) = mode_effect handle mode
-effect nodes made (call.Unlink dir name) = unlink_effect nodes dir name
-effect nodes made (call.Rmdir dir name) = unlink_effect nodes dir name
-effect nodes made (call.Rename from old to new) = rename_effect nodes from old to new
+effect nodes made (call.Unlink dir name) = leave_effect dir name (found nodes dir name)
+effect nodes made (call.Rmdir dir name) = leave_effect dir name (found nodes dir name)
+effect nodes made (call.Rename from old to new) = rename_effect from old to new (looked nodes (call.Rename from old to new))
 effect nodes made other = []
 
 abbrev pub answer : (Handle → Option PlainNode) → Handle → Call → Answer
@@ -62,6 +96,8 @@ answer nodes made (call.Stat handle) = stat_answer (nodes handle)
 answer nodes made (call.List dir) = answers.Names (names_of_node (node_in nodes dir))
 answer nodes made (call.Lookup dir name) = lookup_answer (lookup (node_in nodes) dir name)
 answer nodes made other = answers.Nothing
+
+-- ---- plan
 
 -- what a plan is made with: the handle of a new inode, the runs of fresh blocks, and for a size whether the page
 -- that it ends in is present
@@ -83,17 +119,26 @@ plan block nodes taken (call.Mkdir dir name mode) = create_plan Dir dir name mod
 plan block nodes taken (call.Write file offset text) = write_plan block nodes file offset text taken.runs
 plan block nodes taken (call.Size file size) = size_plan block file size taken.runs
 plan block nodes taken (call.Mode handle mode) = mode_plan handle mode
-plan block nodes taken (call.Unlink dir name) = unlink_plan nodes dir name
-plan block nodes taken (call.Rmdir dir name) = unlink_plan nodes dir name
-plan block nodes taken (call.Rename from old to new) = rename_plan nodes from old to new
+plan block nodes taken (call.Unlink dir name) = leave_plan dir name (found nodes dir name)
+plan block nodes taken (call.Rmdir dir name) = leave_plan dir name (found nodes dir name)
+plan block nodes taken (call.Rename from old to new) = rename_plan from old to new (looked nodes (call.Rename from old to new))
 plan block nodes taken other = []
+
+-- maximal runs of blocks, which have the pages that a text touches after the write
+pub record HasPages (bytes : ℕ → List ℕ) (block : ℕ) (taken : Taken) (offset : ℕ) (text before : List ℕ) : Type 0 where
+  pub maximal : AreMaximal taken.runs
+  pub filled : 0 < length text → HaveText bytes block offset text before (blocks_of taken.runs)
+
+-- it is told whether the page that a size ends in is present, and where that page is cut, there is a block with it
+pub record HasCutPage (bytes : ℕ → List ℕ) (block : ℕ) (slots : ℕ → Slot) (taken : Taken) (file : Handle) (size : ℕ)
+    (before : List ℕ) : Type 0 where
+  pub present : taken.present ≡ is_some (block_now block (slots file.ino).log (size / block))
+  pub cut : HaveCut bytes block size taken.present before taken.runs
 
 -- what was taken is what the call needs, and the fresh blocks are filled
 abbrev pub IsReady : (ℕ → List ℕ) → ℕ → (ℕ → Slot) → (Handle → Option NodeCopy) → Taken → Call → Type 0
 IsReady bytes block slots nodes taken (call.Create dir name mode) = IsFree slots taken.made
 IsReady bytes block slots nodes taken (call.Mkdir dir name mode) = IsFree slots taken.made
-IsReady bytes block slots nodes taken (call.Write file offset text) =
-    0 < length text → HaveText bytes block offset text (bytes_of (nodes file)) (blocks_of taken.runs)
-IsReady bytes block slots nodes taken (call.Size file size) =
-    HaveCut bytes block size taken.present (bytes_of (nodes file)) taken.runs
+IsReady bytes block slots nodes taken (call.Write file offset text) = HasPages bytes block taken offset text (bytes_of (nodes file))
+IsReady bytes block slots nodes taken (call.Size file size) = HasCutPage bytes block slots taken file size (bytes_of (nodes file))
 IsReady bytes block slots nodes taken other = Unit {0}

@@ -1,7 +1,10 @@
 pub mod AllCalls
+pub mod Lawful
+pub mod Cells
 pub mod Locked
 pub mod Plain
 pub mod Plan
 pub mod Refusals
 pub mod Slots
+pub mod Views
 pub mod calls

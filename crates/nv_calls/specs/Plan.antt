@@ -1,6 +1,6 @@
 -- Plans: for each inode the items that a call appends to its log.
-use Rattle.std.specs.Prelude.{◌≡◌, ℕ, ◌+◌, ◌<◌, List, [], ◌∷◌, Option}
-use Rattle.std.specs.List.{flat_map, range_with_len}
+use Rattle.std.specs.Prelude.{◌≡◌, ◌≢◌, ℕ, ◌+◌, ◌<◌, ◌≤◌, List, [], ◌∷◌, length, Option}
+use Rattle.std.specs.List.{AllByRecursion, flat_map, range_with_len}
 use Rattle.nv_base.specs.declared.numbers.Handle.{Handle}
 use Rattle.nv_entry.specs.declared.item.Item.{Item}
 use Rattle.nv_entry.specs.declared.item.Item.TheVariants.{Write}
@@ -24,6 +24,18 @@ AllFit bytes block nodes [] [] = Unit {0}
 AllFit bytes block nodes (p ∷ plan) (c ∷ effect) = Fits bytes block nodes p c × AllFit bytes block nodes plan effect
 AllFit bytes block nodes [] (c ∷ effect) = ⊥
 AllFit bytes block nodes (p ∷ plan) [] = ⊥
+
+-- ---- inodes
+
+-- no two of them are of one inode
+abbrev pub AreApart : List Planned → Type 0
+AreApart [] = Unit {0}
+AreApart (p ∷ plan) = AllByRecursion (λ (other : Planned). other.handle.ino ≢ p.handle.ino) plan × AreApart plan
+
+-- a plan is of different inodes, of no more than three
+pub record AreFewApart (plan : List Planned) : Type 0 where
+  pub apart : AreApart plan
+  pub few : length plan ≤ 3
 
 -- ---- blocks
 

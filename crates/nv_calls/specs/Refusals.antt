@@ -71,3 +71,22 @@ want_lawful name next = refuse_if (not (is_lawful_name name)) fault.BadName next
 abbrev pub want_bound : Option Handle → (Handle → Check) → Check
 want_bound None next = Err fault.Missing
 want_bound (Some to) next = next to
+
+-- ---- looks
+
+-- what a passed test lets a look find
+abbrev pub and_find : Check → Option Handle → Result (Option Handle) Fault
+and_find (Ok nothing) to = Ok to
+and_find (Err fault) to = Err fault
+
+-- a look at a name: what it leads to, if anything, where there is a directory and the name is lawful
+abbrev pub look : (Handle → Option NodeCopy) → Handle → List ℕ → Result (Option Handle) Fault
+look nodes dir name = and_find (want_directory (kind_of (nodes dir)) (want_lawful name passes)) (lookup nodes dir name)
+
+-- a look that is refused finds nothing
+abbrev pub found_by : Result (Option Handle) Fault → Option Handle
+found_by (Ok to) = to
+found_by (Err fault) = None
+
+abbrev pub found : (Handle → Option NodeCopy) → Handle → List ℕ → Option Handle
+found nodes dir name = found_by (look nodes dir name)

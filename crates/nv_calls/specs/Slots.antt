@@ -1,10 +1,10 @@
 -- Slots of inodes, the plain nodes that they give, and what a commit publishes in them.
-use Rattle.std.specs.Prelude.{◌≡◌, ℕ, ◌+◌, ◌<◌, ◌==◌, if◌then◌else◌, List, [], ◌∷◌, ◌++◌, length, Option, None}
-use Rattle.std.specs.List.{AllByRecursion}
+use Rattle.std.specs.Prelude.{◌≡◌, ℕ, ◌+◌, ◌<◌, ◌≤◌, ◌==◌, if◌then◌else◌, nat_lt, List, [], ◌∷◌, ◌++◌, length, Option, None}
+use Rattle.std.specs.List.{AllByRecursion, sum_by}
 use Rattle.nv_base.specs.declared.numbers.Handle.{Handle}
 use Rattle.nv_entry.specs.declared.item.Entry.{Entry}
 use Rattle.nv_entry.specs.declared.item.Item.{Item}
-use Rattle.nv_entry.specs.Log.{up_to}
+use Rattle.nv_entry.specs.Log.{IsLog, up_to}
 use Rattle.nv_entry.specs.Node.{node_now}
 use Rattle.nv_entry.specs.Sound.{IsSound}
 use Rattle.nv_calls.specs.Plain.{Change, PlainNode, node_in, nodes_after, stamped}
@@ -47,10 +47,19 @@ abbrev pub items_for : List Planned → ℕ → List Item
 items_for [] ino = []
 items_for (p ∷ plan) ino = if p.handle.ino == ino then p.items else items_for plan ino
 
--- the slots after a commit; `place` says where the entries of a slot begin in it
-abbrev pub published : ℕ → ℕ → (ℕ → ℕ) → List Planned → (ℕ → Slot) → ℕ → Slot
-published commit epoch place plan slots ino =
-    record { generation = (slots ino).generation; log = (slots ino).log ++ entries_of commit epoch (place ino) (items_for plan ino) }
+-- where the entries of a slot begin in a commit, whose entries go by rising inode number: behind those of lower numbers
+abbrev pub place_in : List Planned → ℕ → ℕ
+place_in plan ino = sum_by (λ (p : Planned). if nat_lt p.handle.ino ino then length p.items else 0) plan
+
+-- the places of a plan's entries, slot by slot, are the numbers from 0 on
+pub record ArePlaced (plan : List Planned) : Type 0 where
+  pub first : place_in plan 0 ≡ 0
+  pub next : (ino : ℕ) → place_in plan (ino + 1) ≡ place_in plan ino + length (items_for plan ino)
+
+-- the slots after a commit
+abbrev pub published : ℕ → ℕ → List Planned → (ℕ → Slot) → ℕ → Slot
+published commit epoch plan slots ino =
+    record { generation = (slots ino).generation; log = (slots ino).log ++ entries_of commit epoch (place_in plan ino) (items_for plan ino) }
 
 -- there are items, and the handle is that of its slot
 pub record IsPlanned (slots : ℕ → Slot) (p : Planned) : Type 0 where
@@ -62,10 +71,15 @@ pub record IsPlan (bytes : ℕ → List ℕ) (block : ℕ) (slots : ℕ → Slot
   pub all : AllByRecursion (IsPlanned slots) plan
   pub fit : AllFit bytes block (node_in (node_under bytes block slots)) plan effect
 
+-- a log of entries of earlier commits, in which ids rise and epochs never fall, none of them above an epoch
+pub record IsBefore (commit epoch : ℕ) (log : List Entry) : Type 0 where
+  pub ordered : IsLog log
+  pub earlier : AllByRecursion (λ (e : Entry). (e.id.commit < commit) × (e.epoch ≤ epoch)) log
+
 -- a commit does to the nodes what its effect says, leaves each log sound, and changes none at an earlier epoch
-pub record Commits (bytes : ℕ → List ℕ) (block commit epoch : ℕ) (place : ℕ → ℕ) (slots : ℕ → Slot) (plan : List Planned)
-    (effect : List Change) : Type 0 where
-  pub nodes : (handle : Handle) → node_under bytes block (published commit epoch place plan slots) handle
+pub record Commits (bytes : ℕ → List ℕ) (block commit epoch : ℕ) (slots : ℕ → Slot) (plan : List Planned) (effect : List Change)
+    : Type 0 where
+  pub nodes : (handle : Handle) → node_under bytes block (published commit epoch plan slots) handle
       ≡ nodes_after commit effect (node_under bytes block slots) handle
-  pub sound : (ino : ℕ) → IsSound bytes block (published commit epoch place plan slots ino).log
-  pub earlier : (at ino : ℕ) → at < epoch → up_to at (published commit epoch place plan slots ino).log ≡ up_to at (slots ino).log
+  pub sound : (ino : ℕ) → IsSound bytes block (published commit epoch plan slots ino).log
+  pub earlier : (at ino : ℕ) → at < epoch → up_to at (published commit epoch plan slots ino).log ≡ up_to at (slots ino).log

@@ -1,32 +1,48 @@
 //! Laws of plans and effects, each the contract of a function that does nothing.
 
-ghost use Rattle.std.specs.Prelude.{◌≡◌, ◌<◌, ℕ, List, Option, length};
+ghost use Rattle.std.specs.Prelude.{◌≡◌, ◌<◌, ℕ, Err, List, Option, length};
+ghost use Rattle.nv_base.specs.declared.fault.Fault.{Fault};
 ghost use Rattle.nv_base.specs.declared.numbers.Handle.{Handle};
+ghost use Rattle.nv_entry.specs.Log.{IsLog};
 ghost use Rattle.nv_entry.specs.Sound.{IsSound};
 ghost use Rattle.nv_entry.specs.declared.node.NodeCopy.{NodeCopy};
-ghost use Rattle.nv_calls.specs.AllCalls.{IsReady, Taken, blocks_wanted, effect, plan, refusal};
-ghost use Rattle.nv_calls.specs.Locked.{Agree, KeepsToIts, SameCall, handles};
+ghost use Rattle.nv_calls.specs.AllCalls.{IsReady, Taken, blocks_wanted, effect, look_refusal, looked, plan, refusal};
+ghost use Rattle.nv_calls.specs.Lawful.{IsLawfulPlan};
+ghost use Rattle.nv_calls.specs.Locked.{Agree, KeepsToIts, SameCall, first_look, handles};
 ghost use Rattle.nv_calls.specs.Plain.{Change, PlainNode, node_in};
-ghost use Rattle.nv_calls.specs.Plan.{plan_blocks};
+ghost use Rattle.nv_calls.specs.Plan.{AreApart, AreFewApart, plan_blocks};
 ghost use Rattle.nv_calls.specs.Refusals.{passes};
-ghost use Rattle.nv_calls.specs.Slots.{Commits, IsPlan, Slot, node_under};
+ghost use Rattle.nv_calls.specs.Slots.{ArePlaced, Commits, IsBefore, IsPlan, Slot, node_under, published};
 ghost use Rattle.nv_calls.specs.declared.call.Call.{Call};
 ghost use Rattle.nv_calls.specs.declared.plan.Planned.{Planned};
 
 /// A commit of a plan that fits an effect has that effect on the nodes, leaves each log sound, and changes
 /// none at an earlier epoch.
 pub fn a_commit()
-    ensures { (bytes : ℕ → List ℕ) (block commit epoch : ℕ) (place : ℕ → ℕ) (slots : ℕ → Slot)
-        (plan : List Planned) (effect : List Change) → 0 < block
+    ensures { (bytes : ℕ → List ℕ) (block commit epoch : ℕ) (slots : ℕ → Slot) (plan : List Planned)
+        (effect : List Change) → 0 < block
         → ((ino : ℕ) → IsSound bytes block (slots ino).log)
         → IsPlan bytes block slots plan effect
-        → Commits bytes block commit epoch place slots plan effect }
+        → Commits bytes block commit epoch slots plan effect }
+{}
+
+/// Where inodes get entries by rising number, the places of a commit's entries are the numbers from 0 on.
+pub fn places_count_entries()
+    ensures { (plan : List Planned) → AreApart plan → ArePlaced plan }
+{}
+
+/// After a commit ids rise along each log and epochs never fall, as before it.
+pub fn ids_rise_along_each_log()
+    ensures { (commit epoch : ℕ) (slots : ℕ → Slot) (plan : List Planned)
+        → ((ino : ℕ) → IsBefore commit epoch (slots ino).log)
+        → (ino : ℕ) → IsLog (published commit epoch plan slots ino).log }
 {}
 
 /// A call that is not refused has a plan that fits its effect, where what was taken is what it needs.
 pub fn plans_fit_effects()
     ensures { (bytes : ℕ → List ℕ) (block : ℕ) (slots : ℕ → Slot) (taken : Taken) (call : Call)
         → 0 < block
+        → ((ino : ℕ) → IsSound bytes block (slots ino).log)
         → refusal block (node_in (node_under bytes block slots)) call ≡ passes
         → IsReady bytes block slots (node_in (node_under bytes block slots)) taken call
         → IsPlan bytes block slots
@@ -34,15 +50,42 @@ pub fn plans_fit_effects()
         (effect (node_in (node_under bytes block slots)) taken.made call) }
 {}
 
-/// A call is refused alike, plans alike, has the same effect and is answered alike wherever the nodes that it
-/// locks are the same.
-pub fn calls_read_what_they_lock()
-    ensures { (block : ℕ) (nodes other : Handle → Option PlainNode) (taken : Taken) (call : Call)
-        → Agree nodes other (handles (node_in nodes) call) → SameCall block nodes other taken call }
+/// Its items can be taken by the logs that they are for.
+pub fn plans_are_lawful()
+    ensures { (bytes : ℕ → List ℕ) (block : ℕ) (slots : ℕ → Slot) (taken : Taken) (call : Call)
+        → 0 < block
+        → ((ino : ℕ) → IsSound bytes block (slots ino).log)
+        → refusal block (node_in (node_under bytes block slots)) call ≡ passes
+        → IsReady bytes block slots (node_in (node_under bytes block slots)) taken call
+        → IsLawfulPlan block (node_in (node_under bytes block slots))
+        (plan block (node_in (node_under bytes block slots)) taken call) }
 {}
 
-/// A call's plan is of the handles that it locks and of the one made, and uses the blocks that were taken and
-/// no others; none where it is of several inodes.
+/// It is of different inodes, of no more than three.
+pub fn plans_are_of_few_inodes()
+    ensures { (bytes : ℕ → List ℕ) (block : ℕ) (slots : ℕ → Slot) (taken : Taken) (call : Call)
+        → 0 < block → refusal block (node_in (node_under bytes block slots)) call ≡ passes
+        → IsReady bytes block slots (node_in (node_under bytes block slots)) taken call
+        → AreFewApart (plan block (node_in (node_under bytes block slots)) taken call) }
+{}
+
+/// A call looks up the same, is refused alike, plans alike, has the same effect and is answered alike
+/// wherever the nodes that it locks are the same.
+pub fn calls_read_what_they_lock()
+    ensures { (block : ℕ) (nodes other : Handle → Option PlainNode) (taken : Taken) (call : Call)
+        → Agree nodes other (handles (looked (node_in nodes) call) call)
+        → SameCall block nodes other taken call }
+{}
+
+/// What a look refuses, the check refuses for the same fault, as long as the directory is the same.
+pub fn checks_refuse_what_looks_refuse()
+    ensures { (block : ℕ) (nodes other : Handle → Option NodeCopy) (call : Call) (fault : Fault)
+        → Agree nodes other (first_look call) → look_refusal nodes call ≡ Err fault
+        → refusal block other call ≡ Err fault }
+{}
+
+/// A call's plan is of handles that it locks, and uses the blocks that were taken and no others; none where
+/// it is of several inodes.
 pub fn plans_keep_to_their_calls()
     ensures { (block : ℕ) (nodes : Handle → Option NodeCopy) (taken : Taken) (call : Call)
         → KeepsToIts nodes call taken (plan block nodes taken call) }

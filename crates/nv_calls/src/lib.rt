@@ -9,16 +9,24 @@
 mod answer;
 mod call;
 pub mod calls;
+mod cells;
 pub mod laws;
+mod looked;
+mod lent;
 mod nodes;
 mod plan;
 mod refusal;
 mod runs;
+mod view;
 mod wants;
 
 pub use answer::Answer;
 pub use call::Call;
+pub use looked::{Looked, found, look, look_all};
+pub use cells::Cells;
+pub use lent::{LentCell, NoCells};
 pub use nodes::Nodes;
 pub use plan::{Plan, Planned};
-pub use refusal::check;
+pub use refusal::{check, check_early, check_late, check_look};
 pub use runs::runs_of;
+pub use view::{View, list_on, look_on, lookup_on, read_on, stat_on};

@@ -12,6 +12,7 @@ pub mod Published
 pub mod Naming
 pub mod Remarking
 pub mod Readied
+pub mod ReadySteps
 pub mod Bound
 pub mod NamesNow
 pub mod ValuesNow
@@ -24,6 +25,7 @@ pub mod Appending
 pub mod Erasing
 pub mod ReadAt
 pub mod Stretches
+pub mod PageBlocks
 pub mod RunFlags
 pub mod Recounting
 pub mod Removing

@@ -60,7 +60,7 @@ scanned_there cell key n marks q =
     ap is_there (same_mark cell.marks n (omega (arith, s.0, marks.len))) ∙ current_there (mark_at cell.marks n) current
 
 -- the block of a page is the one that the cell has for its part
-slot_is : (cell : CellState) (page n : ℕ) → HasMarks cell → HasBlocks cell → scan_n cell.block (log_of cell) (PageKey page) ≡ Some n
+pub slot_is : (cell : CellState) (page n : ℕ) → HasMarks cell → HasBlocks cell → scan_n cell.block (log_of cell) (PageKey page) ≡ Some n
     → page_block cell.block (log_of cell) n ≡ option_map number_of (slice_index_or cell.blocks n None)
 slot_is cell page n marks blocks q =
     let es = cell.chain.entries in

@@ -116,13 +116,18 @@ pub record KeepsAppendRoom (old new : CellRoom) : Type 0 where
 abbrev pub mark_named : CellState → PartId → Option Mark
 mark_named cell id = option_and_then (λ n. slice_get cell.marks n) (number_named (log_of cell) id)
 
+-- the block of a part of the log, by its name
+abbrev pub block_named : CellState → PartId → Option BlockValue
+block_named cell id = option_and_then (λ n. slice_index_or cell.blocks n None) (number_named (log_of cell) id)
+
 -- the number of a part of the log; 0 where it has none of that name
 abbrev pub number_in : CellState → PartId → ℕ
 number_in cell id = unwrap_or (number_named (log_of cell) id) 0
 
--- the cell with another mark of a part, and its block if the part goes out
+-- the cell with another mark of a part
 abbrev pub with_mark : CellState → ℕ → Mark → CellState
 with_mark cell n mark = record cell { marks = slice_set cell.marks n mark }
 
+-- the cell with a part out, and without its block
 abbrev pub without_part : CellState → ℕ → CellState
 without_part cell n = record cell { marks = slice_set cell.marks n Out; blocks = slice_set cell.blocks n None }

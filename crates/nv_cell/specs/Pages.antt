@@ -4,10 +4,11 @@ use Rattle.std.specs.List.{flat_map, range_with_len}
 use Rattle.nv_alloc.specs.Block.{BlockValue}
 use Rattle.nv_entry.specs.declared.item.Entry.{Entry}
 use Rattle.nv_entry.specs.Keys.{PageKey}
+use Rattle.nv_entry.specs.Refs.{scan_ref}
 use Rattle.nv_cell.specs.declared.read.Stretch.{Stretch}
-use Rattle.nv_cell.specs.Cell.{CellState}
+use Rattle.nv_cell.specs.Cell.{CellState, log_of}
 use Rattle.nv_cell.specs.Index.{IndexValue}
-use Rattle.nv_cell.specs.Numbers.{number_at}
+use Rattle.nv_cell.specs.Numbers.{number, number_at}
 
 -- these are the bytes of each block that the cell has
 abbrev pub AreBytesOf : CellState → (ℕ → List ℕ) → Type 0
@@ -25,6 +26,11 @@ AreSlotsSized block slots = (n : ℕ) (b : BlockValue) → slice_index_or slots 
 -- the number of the part that holds a page
 abbrev pub page_number : List Entry → IndexValue → ℕ → Option ℕ
 page_number es index page = number_at es index (PageKey page)
+
+-- the block of the part that holds a page now
+abbrev pub block_at_page : CellState → ℕ → Option BlockValue
+block_at_page cell page =
+    option_and_then (λ r. slice_index_or cell.blocks (number cell.chain.entries r) None) (scan_ref cell.block (log_of cell) (PageKey page))
 
 -- the bytes of a page of a file by its part's block
 abbrev pub page_now : ℕ → List (Option BlockValue) → (ℕ → Option ℕ) → ℕ → List ℕ

@@ -1,4 +1,4 @@
-mod Last
+pub mod Last
 mod HolderLaws
 mod Places
 mod Sound

@@ -1,3 +1,6 @@
+pub mod PageBytes
+pub mod PageParts
+pub mod Logs
 pub mod Coming
 pub mod Depths
 mod Pushed

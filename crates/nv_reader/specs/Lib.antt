@@ -1,2 +1,4 @@
 pub mod Walk
 pub mod Levels
+pub mod Attributes
+pub mod Blocks

@@ -4,8 +4,14 @@
 //! is the same walk wherever the nodes come from.
 #![tactic(auto)]
 
+mod attributes;
+mod bytes;
+mod epochs;
 pub mod laws;
 mod levels;
+mod names;
+mod node;
+mod pages;
 mod walk;
 
 pub use walk::Walk;

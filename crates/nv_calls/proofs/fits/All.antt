@@ -3,6 +3,7 @@ use Rattle.std.proofs.Common.{◌≡◌, ℕ, ◌<◌, List, Option}
 use Rattle.nv_base.specs.declared.node.Kind.TheVariants.{File, Dir}
 use Rattle.nv_base.specs.declared.numbers.Handle.{Handle}
 use Rattle.nv_entry.specs.declared.node.NodeCopy.{NodeCopy}
+use Rattle.nv_entry.specs.Sound.{IsSound}
 use Rattle.nv_calls.specs.AllCalls.{IsReady, Taken, effect, plan, refusal}
 use Rattle.nv_calls.specs.declared.call.Call.{Call}
 use Rattle.nv_calls.specs.declared.call.Call.TheVariants as call
@@ -17,7 +18,8 @@ use Rattle.nv_calls.proofs.fits.Size.{size_fits}
 use Rattle.nv_calls.proofs.fits.Unlink.{rmdir_fits, unlink_fits}
 use Rattle.nv_calls.proofs.fits.Write.{write_fits}
 
-module _ (bytes : ℕ → List ℕ) (block : ℕ) (slots : ℕ → Slot) (taken : Taken) (some : 0 < block) where
+module _ (bytes : ℕ → List ℕ) (block : ℕ) (slots : ℕ → Slot) (taken : Taken) (some : 0 < block)
+    (sound : (ino : ℕ) → IsSound bytes block (slots ino).log) where
   abbrev nodes : Handle → Option NodeCopy
   nodes = node_in (node_under bytes block slots)
 
@@ -25,8 +27,8 @@ module _ (bytes : ℕ → List ℕ) (block : ℕ) (slots : ℕ → Slot) (taken 
       → IsPlan bytes block slots (plan block nodes taken c) (effect nodes taken.made c)
   call_fits (call.Create dir name mode) h r = create_fits bytes block slots File dir name mode taken.made some h r
   call_fits (call.Mkdir dir name mode) h r = create_fits bytes block slots Dir dir name mode taken.made some h r
-  call_fits (call.Write file offset text) h r = write_fits bytes block slots some file offset taken.runs text h r
-  call_fits (call.Size file size) h r = size_fits bytes block slots file size taken.present taken.runs some h r
+  call_fits (call.Write file offset text) h r = write_fits bytes block slots some file offset taken.runs text h r.filled
+  call_fits (call.Size file size) h r = size_fits bytes block slots file size taken some (sound file.ino) h r
   call_fits (call.Mode handle mode) h r = mode_fits bytes block slots handle mode some h
   call_fits (call.Unlink dir name) h r = unlink_fits bytes block slots some dir name h
   call_fits (call.Rmdir dir name) h r = rmdir_fits bytes block slots some dir name h

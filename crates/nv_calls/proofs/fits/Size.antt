@@ -1,27 +1,30 @@
 -- A size that is not refused has a plan with its effect.
 use Rattle.std.proofs.Common.{◌≡◌, ℕ, ◌+◌, ◌-◌, ◌*◌, ◌/◌, ◌<◌, ◌≤◌, ◌⊎◌, inl, inr, Bool, true, false, cond, nat_lt, List, [], ◌∷◌, ◌++◌, length, replicate, suc, Option, Some, None, arith, refl, ap, sym, ◌∙◌, subst}
-use Rattle.std.specs.Prelude.{option_map}
+use Rattle.std.specs.Prelude.{is_some, option_map}
 use Rattle.std.proofs.lemmas.Bool.{ltb-false}
 use Rattle.nv_base.specs.declared.fault.Fault.TheVariants as fault
 use Rattle.nv_base.specs.declared.node.Kind.TheVariants.{File}
 use Rattle.nv_base.specs.declared.numbers.Handle.{Handle}
+use Rattle.nv_entry.specs.declared.item.Entry.{Entry}
 use Rattle.nv_entry.specs.declared.item.Item.TheVariants.{Write, SetSize}
 use Rattle.nv_entry.specs.declared.item.Run.{Run}
 use Rattle.nv_entry.specs.declared.node.NodeCopy.{NodeCopy}
 use Rattle.nv_entry.specs.Bytes.{page_of}
 use Rattle.nv_entry.specs.Keys.{in_run, is_past, pages_for}
-use Rattle.nv_entry.specs.Node.{page_bytes}
-use Rattle.nv_entry.specs.Sound.{MakesAll, Rewrites, Stands, write_items}
-use Rattle.nv_entry.specs.Stored.{Stored, block_after, stored_after_all}
+use Rattle.nv_entry.specs.Node.{block_now, page_bytes}
+use Rattle.nv_entry.specs.Sound.{IsSound, MakesAll, Rewrites, Stands, write_items}
+use Rattle.nv_entry.specs.Stored.{Stored, block_after, stored, stored_after_all}
 use Rattle.nv_entry.proofs.Hiding.{run_from, run_parts}
 use Rattle.nv_entry.proofs.PageBytes.{page_of-past, pages_for-most}
 use Rattle.nv_entry.proofs.SoundLogs.{one_makes, suits_file}
+use Rattle.nv_calls.specs.AllCalls.{HasCutPage, Taken}
 use Rattle.nv_calls.specs.Plain.{node_in}
 use Rattle.nv_calls.specs.Refusals.{bytes_of, passes, refuse_if}
 use Rattle.nv_calls.specs.Slots.{IsPlan, Slot, node_under}
 use Rattle.nv_calls.specs.calls.Size.{HaveCut, cuts_page, resized, resized_node, size_effect, size_plan, size_refusal}
 use Rattle.nv_calls.proofs.Items.{and_plan, no_plan}
 use Rattle.nv_calls.proofs.Passed.{file_passed, if_passed, own_handle, there}
+use Rattle.nv_calls.proofs.Standing.{stands}
 use Rattle.nv_calls.proofs.Resized.{length-resized, not_cut, not_past, past_end, stays_far, stays_other}
 
 module _ (bytes : ℕ → List ℕ) (block size : ℕ) (node : NodeCopy) (some : 0 < block) (file : node.kind ≡ File)
@@ -118,16 +121,17 @@ module _ (bytes : ℕ → List ℕ) (block size : ℕ) (node : NodeCopy) (some :
     }
 
   size_makes : (present : Bool) (runs : List Run) → HaveCut bytes block size present node.bytes runs
+      → (present ≡ false → page_of block (size / block) node.bytes ≡ replicate block 0)
       → MakesAll bytes block (write_items (size / block) runs size ++ SetSize size ∷ []) (Some node) (Some (resized_node size node))
-  size_makes present [] has s st =
+  size_makes present [] has absent s st =
       one_makes bytes block (SetSize size) (Some node) (Some (resized_node size node)) some
-      (rewrites present (none (cuts_page block size present node.bytes) 0 refl has.count) has.absent
+      (rewrites present (none (cuts_page block size present node.bytes) 0 refl has.count) absent
       (omega (arith, st.length, st.fits))) s st where
         none : (b : Bool) (n : ℕ) → n ≡ 0 → n ≡ cond b 1 0 → b ≡ false
         none true n z h = absurd (omega arith)
         none false n z h = refl
-  size_makes present (run ∷ []) has s st = cut_stands run has.filled.0.0 has.filled.0.1 s st
-  size_makes present (run ∷ next ∷ runs) has s st = absurd (most (cuts_page block size present node.bytes) (length runs) has.count) where
+  size_makes present (run ∷ []) has absent s st = cut_stands run has.filled.0.0 has.filled.0.1 s st
+  size_makes present (run ∷ next ∷ runs) has absent s st = absurd (most (cuts_page block size present node.bytes) (length runs) has.count) where
     most : (b : Bool) (n : ℕ) → suc (suc n) ≡ cond b 1 0 → ⊥
     most true n h = absurd (omega arith)
     most false n h = absurd (omega arith)
@@ -136,19 +140,33 @@ some_items : (first : ℕ) (runs : List Run) (size : ℕ) → 0 < length (write_
 some_items first [] size = omega arith
 some_items first (run ∷ runs) size = omega arith
 
-pub size_fits : (bytes : ℕ → List ℕ) (block : ℕ) (slots : ℕ → Slot) (file : Handle) (size : ℕ) (present : Bool) (runs : List Run)
-    → 0 < block
+-- a page that is absent has zeros
+absent_page : (bytes : ℕ → List ℕ) (block page : ℕ) (log : List Entry) (node : NodeCopy) (present : Bool)
+    → Stands bytes block (stored block log) node → present ≡ is_some (block_now block log page) → present ≡ false
+    → page_of block page node.bytes ≡ replicate block 0
+absent_page bytes block page log node present st told missing =
+    sym (st.pages page) ∙ none (block_now block log page) (sym told ∙ missing) where
+      none : (b : Option ℕ) → is_some b ≡ false → page_bytes bytes block b ≡ replicate block 0
+      none None h = refl
+      none (Some number) h = cc
+
+pub size_fits : (bytes : ℕ → List ℕ) (block : ℕ) (slots : ℕ → Slot) (file : Handle) (size : ℕ) (taken : Taken)
+    → 0 < block → IsSound bytes block (slots file.ino).log
     → size_refusal block (node_in (node_under bytes block slots)) file size ≡ passes
-    → HaveCut bytes block size present (bytes_of (node_in (node_under bytes block slots) file)) runs
-    → IsPlan bytes block slots (size_plan block file size runs) (size_effect file size)
-size_fits bytes block slots file size present runs some passed has =
+    → HasCutPage bytes block slots taken file size (bytes_of (node_in (node_under bytes block slots) file))
+    → IsPlan bytes block slots (size_plan block file size taken.runs) (size_effect file size)
+size_fits bytes block slots file size taken some sound passed has =
+    let runs : List Run = taken.runs in
     let found : Option NodeCopy = node_in (node_under bytes block slots) file in
     let f = file_passed found (refuse_if (nat_lt (65536 * block) size) fault.FileTooBig passes) passed in
     let few = ltb-false (65536 * block) size (if_passed (nat_lt (65536 * block) size) fault.FileTooBig passes f.1).0 in
-    let ready = subst (λ (o : Option NodeCopy). HaveCut bytes block size present (bytes_of o) runs) f.0.is has in
+    let ready = subst (λ (o : Option NodeCopy). HaveCut bytes block size taken.present (bytes_of o) runs) f.0.is has.cut in
+    let own = own_handle bytes block slots file (there File found f.0) in
+    let st = stands bytes block slots file (there File found f.0) sound in
+    let absent = absent_page bytes block (size / block) (slots file.ino).log f.0.node taken.present st has.present in
     and_plan bytes block slots some file (write_items (size / block) runs size ++ SetSize size ∷ []) (option_map (resized_node size)) [] []
-    (some_items (size / block) runs size) (own_handle bytes block slots file (there File found f.0))
+    (some_items (size / block) runs size) own
     (subst (λ (o : Option NodeCopy). MakesAll bytes block (write_items (size / block) runs size ++ SetSize size ∷ []) o
     (option_map (resized_node size) o))
-    (sym f.0.is) (size_makes bytes block size f.0.node some f.0.kind_is few present runs ready))
+    (sym f.0.is) (size_makes bytes block size f.0.node some f.0.kind_is few taken.present runs ready absent))
     (no_plan bytes block slots some)

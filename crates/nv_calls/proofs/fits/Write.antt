@@ -22,7 +22,7 @@ some_items : (first : ℕ) (runs : List Run) (size : ℕ) → 0 < length (blocks
 some_items first [] size some = absurd (omega arith)
 some_items first (run ∷ runs) size some = omega arith
 
-count_passed : (block offset count : ℕ) → count_refusal block offset count ≡ passes → offset + count ≤ 65536 * block
+pub count_passed : (block offset count : ℕ) → count_refusal block offset count ≡ passes → offset + count ≤ 65536 * block
 count_passed block offset count h =
     let last : Check = refuse_if (nat_lt (65536 * block) (offset + count)) fault.FileTooBig passes in
     let few = if_passed (nat_lt 1024 (pages_touched block offset count)) fault.WriteTooBig last h in

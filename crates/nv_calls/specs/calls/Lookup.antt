@@ -1,4 +1,4 @@
--- lookup: the handle that a name is bound to.
+-- lookup: the handle that a name is bound to; and the looks of other calls, which are refused alike.
 use Rattle.std.specs.Prelude.{ℕ, List, Option, Some, None}
 use Rattle.nv_base.specs.declared.numbers.Handle.{Handle}
 use Rattle.nv_entry.specs.declared.node.NodeCopy.{NodeCopy}

@@ -10,7 +10,9 @@ use Rattle.nv_entry.specs.Index.{with_last, without}
 use Rattle.nv_calls.specs.Plain.{Change, change, goes, same_handle, with_names}
 use Rattle.nv_calls.specs.declared.plan.Planned.{Planned}
 use Rattle.nv_calls.specs.Plan.{planned}
-use Rattle.nv_calls.specs.Refusals.{Check, is_directory, kind_of, lookup, passes, refuse_if, want_bound, want_directory, want_lawful, want_node}
+use Rattle.nv_calls.specs.Refusals.{Check, and_then, is_directory, kind_of, passes, refuse_if, want_bound, want_directory, want_lawful, want_node}
+use Rattle.nv_calls.specs.calls.Lookup.{lookup_refusal}
+use Rattle.nv_calls.specs.declared.looked.Looked.{Looked}
 
 -- both names are one, in one directory
 abbrev pub own_place : Handle → List ℕ → Handle → List ℕ → Bool
@@ -26,20 +28,22 @@ replaced_refusal nodes moved None = passes
 replaced_refusal nodes moved (Some other) =
     want_node (kind_of (nodes other)) (refuse_if (is_directory moved || is_directory (kind_of (nodes other))) fault.Exists passes)
 
--- the tests behind those of the first name: a directory may not move to another parent
-abbrev pub moved_refusal : (Handle → Option NodeCopy) → Handle → List ℕ → Handle → List ℕ → Handle → Check
-moved_refusal nodes from old to new moved =
-    want_directory (kind_of (nodes to))
-    (want_lawful new
-    (pass_if (own_place from old to new)
-    (refuse_if (is_directory (kind_of (nodes moved)) && not (same_handle from to)) fault.MoveDirectory
-    (replaced_refusal nodes (kind_of (nodes moved)) (lookup nodes to new)))))
+-- the tests before the names are compared with what the looks found: all of the first name, and of the second all
+-- but that it is bound
+abbrev pub rename_early : (Handle → Option NodeCopy) → Handle → List ℕ → Handle → List ℕ → Check
+rename_early nodes from old to new = and_then (lookup_refusal nodes from old) (want_directory (kind_of (nodes to)) (want_lawful new passes))
 
-abbrev pub rename_refusal : (Handle → Option NodeCopy) → Handle → List ℕ → Handle → List ℕ → Check
-rename_refusal nodes from old to new =
-    want_directory (kind_of (nodes from))
-    (want_lawful old
-    (want_bound (lookup nodes from old) (moved_refusal nodes from old to new)))
+-- the tests of what is moved: a directory may not move to another parent
+abbrev pub moved_refusal : (Handle → Option NodeCopy) → Handle → Handle → Option Handle → Handle → Check
+moved_refusal nodes from to other moved =
+    want_node (kind_of (nodes moved))
+    (refuse_if (is_directory (kind_of (nodes moved)) && not (same_handle from to)) fault.MoveDirectory
+    (replaced_refusal nodes (kind_of (nodes moved)) other))
+
+-- the tests of what the names lead to
+abbrev pub rename_late : (Handle → Option NodeCopy) → Handle → List ℕ → Handle → List ℕ → Looked → Check
+rename_late nodes from old to new looked =
+    want_bound looked.first (λ moved. pass_if (own_place from old to new) (moved_refusal nodes from to looked.second moved))
 
 -- ---- what becomes of the directories and of a replaced file
 
@@ -56,9 +60,9 @@ abbrev pub bound_effect : Handle → List ℕ → Handle → List ℕ → Option
 bound_effect from old to new None other = []
 bound_effect from old to new (Some moved) other = move_effect (same_handle from to) from old to new moved (replaced_effect other)
 
-abbrev pub rename_effect : (Handle → Option NodeCopy) → Handle → List ℕ → Handle → List ℕ → List Change
-rename_effect nodes from old to new =
-    if own_place from old to new then [] else bound_effect from old to new (lookup nodes from old) (lookup nodes to new)
+abbrev pub rename_effect : Handle → List ℕ → Handle → List ℕ → Looked → List Change
+rename_effect from old to new looked =
+    if own_place from old to new then [] else bound_effect from old to new looked.first looked.second
 
 -- ---- its plan
 
@@ -74,6 +78,6 @@ abbrev pub bound_plan : Handle → List ℕ → Handle → List ℕ → Option H
 bound_plan from old to new None other = []
 bound_plan from old to new (Some moved) other = move_plan (same_handle from to) from old to new moved (replaced_plan other)
 
-abbrev pub rename_plan : (Handle → Option NodeCopy) → Handle → List ℕ → Handle → List ℕ → List Planned
-rename_plan nodes from old to new =
-    if own_place from old to new then [] else bound_plan from old to new (lookup nodes from old) (lookup nodes to new)
+abbrev pub rename_plan : Handle → List ℕ → Handle → List ℕ → Looked → List Planned
+rename_plan from old to new looked =
+    if own_place from old to new then [] else bound_plan from old to new looked.first looked.second

@@ -1,5 +1,5 @@
 -- size: the bytes cut, or zeros added.
-use Rattle.std.specs.Prelude.{◌≡◌, ℕ, ◌-◌, ◌*◌, ◌/◌, ◌%◌, ◌==◌, ◌&&◌, Bool, false, not, if◌then◌else◌, nat_lt, List, [], ◌∷◌, ◌++◌, length, take, replicate, Option, option_map}
+use Rattle.std.specs.Prelude.{◌≡◌, ℕ, ◌-◌, ◌*◌, ◌/◌, ◌%◌, ◌==◌, ◌&&◌, Bool, not, if◌then◌else◌, nat_lt, List, [], ◌∷◌, ◌++◌, length, take, replicate, Option, option_map}
 use Rattle.std.specs.List.{AllByRecursion}
 use Rattle.nv_base.specs.declared.fault.Fault.TheVariants as fault
 use Rattle.nv_base.specs.declared.limits.TheConstants.{FILE_PAGES}
@@ -43,8 +43,7 @@ size_plan block file size runs = planned file (write_items (size / block) runs s
 abbrev pub IsCutPage : (ℕ → List ℕ) → ℕ → ℕ → List ℕ → Run → Type 0
 IsCutPage bytes block size before run = (run.len ≡ 1) × (bytes run.start ≡ page_of block (size / block) (resized size before))
 
--- where a page is cut, there is one run with it, and else none; a page that is not present has zeros alone
+-- where a page is cut, there is one run with it, and else none
 pub record HaveCut (bytes : ℕ → List ℕ) (block size : ℕ) (present : Bool) (before : List ℕ) (runs : List Run) : Type 0 where
   pub count : length runs ≡ (if cuts_page block size present before then 1 else 0)
   pub filled : AllByRecursion (IsCutPage bytes block size before) runs
-  pub absent : present ≡ false → page_of block (size / block) before ≡ replicate block 0

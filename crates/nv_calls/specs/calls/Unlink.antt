@@ -7,13 +7,11 @@ use Rattle.nv_entry.specs.Index.{without}
 use Rattle.nv_calls.specs.Plain.{Change, change, goes, with_names}
 use Rattle.nv_calls.specs.declared.plan.Planned.{Planned}
 use Rattle.nv_calls.specs.Plan.{planned}
-use Rattle.nv_calls.specs.Refusals.{Check, kind_of, lookup, passes, want_bound, want_directory, want_file, want_lawful}
+use Rattle.nv_calls.specs.Refusals.{Check, kind_of, passes, want_bound, want_file}
 
-abbrev pub unlink_refusal : (Handle → Option NodeCopy) → Handle → List ℕ → Check
-unlink_refusal nodes dir name =
-    want_directory (kind_of (nodes dir))
-    (want_lawful name
-    (want_bound (lookup nodes dir name) (λ to. want_file (kind_of (nodes to)) passes)))
+-- the tests of what the name leads to
+abbrev pub unlink_late : (Handle → Option NodeCopy) → Option Handle → Check
+unlink_late nodes bound = want_bound bound (λ to. want_file (kind_of (nodes to)) passes)
 
 -- the name leaves, and what it led to goes
 abbrev pub leave_effect : Handle → List ℕ → Option Handle → List Change
@@ -23,9 +21,3 @@ leave_effect dir name (Some to) = change dir (with_names (without name)) ∷ cha
 abbrev pub leave_plan : Handle → List ℕ → Option Handle → List Planned
 leave_plan dir name None = []
 leave_plan dir name (Some to) = planned dir (Unbind name ∷ []) ∷ planned to (Gone ∷ []) ∷ []
-
-abbrev pub unlink_effect : (Handle → Option NodeCopy) → Handle → List ℕ → List Change
-unlink_effect nodes dir name = leave_effect dir name (lookup nodes dir name)
-
-abbrev pub unlink_plan : (Handle → Option NodeCopy) → Handle → List ℕ → List Planned
-unlink_plan nodes dir name = leave_plan dir name (lookup nodes dir name)

@@ -4,38 +4,66 @@ ghost use Rattle.std.specs.Prelude.{◌≡◌, [], IfOk, Some};
 ghost use Rattle.nv_base.specs.Names.{same_name};
 ghost use Rattle.nv_calls.specs.Plain.{same_handle};
 ghost use Rattle.nv_calls.specs.Refusals.{is_directory};
-ghost use Rattle.nv_calls.specs.calls.Rename.{bound_plan, move_plan, own_place, rename_refusal, replaced_refusal};
+ghost use Rattle.nv_calls.specs.calls.Rename.{bound_plan, move_plan, moved_refusal, own_place, rename_early, rename_late, replaced_refusal};
 
+use crate::calls::lookup;
 use crate::wants::{refuse_if, want_bound, want_directory, want_lawful, want_node};
-use crate::{Nodes, Plan, Planned};
+use crate::{Looked, Nodes, Plan, Planned};
 use nv_base::{Fault, Handle, Kind, Name};
 use nv_entry::Item;
 use std::alloc::{AllocError, Global};
 
-/// Why a rename is refused.
-pub fn check<N: Nodes>(
+/// Why a rename is refused before its names are compared with what the looks found.
+pub fn check_early<N: Nodes>(
     nodes: &N,
     from: &Handle,
     old: &[u8],
     to: &Handle,
     new: &[u8],
 ) -> Result<(), Fault>
-    ensures { result ≡ rename_refusal (N.nodes_of nodes.now) from.now old.now to.now new.now }
+    ensures { result ≡ rename_early (N.nodes_of nodes.now) from.now old.now to.now new.now }
 {
-    want_directory(nodes.kind(from))?;
-    want_lawful(old)?;
-    let moved = want_bound(nodes.lookup(from, old))?;
+    lookup::check(nodes, from, old)?;
     want_directory(nodes.kind(to))?;
-    want_lawful(new)?;
+    want_lawful(new)
+}
+
+/// Why a rename is refused, by what its names lead to.
+pub fn check_late<N: Nodes>(
+    nodes: &N,
+    from: &Handle,
+    old: &[u8],
+    to: &Handle,
+    new: &[u8],
+    looked: &Looked,
+) -> Result<(), Fault>
+    ensures { result
+        ≡ rename_late (N.nodes_of nodes.now) from.now old.now to.now new.now looked.now }
+{
+    let moved = want_bound(looked.first)?;
     if is_own_place(from, old, to, new) {
         return Ok(());
     }
-    let kind = nodes.kind(&moved);
+    check_moved(nodes, from, to, looked.second, &moved)
+}
+
+/// Why a node may not move from one directory to another.
+fn check_moved<N: Nodes>(
+    nodes: &N,
+    from: &Handle,
+    to: &Handle,
+    other: Option<Handle>,
+    moved: &Handle,
+) -> Result<(), Fault>
+    ensures { result ≡ moved_refusal (N.nodes_of nodes.now) from.now to.now other moved.now }
+{
+    let kind = nodes.kind(moved);
+    want_node(kind)?;
     refuse_if(
         is_directory(&kind) && !is_same(from, to),
         Fault::MoveDirectory,
     )?;
-    check_replaced(nodes, &kind, nodes.lookup(to, new))
+    check_replaced(nodes, &kind, other)
 }
 
 /// Why a node of a kind may not replace what a name leads to.

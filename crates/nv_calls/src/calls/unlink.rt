@@ -1,22 +1,20 @@
 //! Taking a file out of a directory.
 
 ghost use Rattle.std.specs.Prelude.{◌≡◌, IfOk, Some};
-ghost use Rattle.nv_calls.specs.calls.Unlink.{leave_plan, unlink_refusal};
+ghost use Rattle.nv_calls.specs.calls.Unlink.{leave_plan, unlink_late};
 
 use crate::plan::list_of_two;
-use crate::wants::{want_bound, want_directory, want_file, want_lawful};
+use crate::wants::{want_bound, want_file};
 use crate::{Nodes, Plan, Planned};
 use nv_base::{Fault, Handle, Name};
 use nv_entry::Item;
 use std::alloc::{AllocError, Global};
 
-/// Why an unlink is refused.
-pub fn check<N: Nodes>(nodes: &N, dir: &Handle, name: &[u8]) -> Result<(), Fault>
-    ensures { result ≡ unlink_refusal (N.nodes_of nodes.now) dir.now name.now }
+/// Why an unlink is refused, by what the name leads to.
+pub fn check_late<N: Nodes>(nodes: &N, bound: Option<Handle>) -> Result<(), Fault>
+    ensures { result ≡ unlink_late (N.nodes_of nodes.now) bound }
 {
-    want_directory(nodes.kind(dir))?;
-    want_lawful(name)?;
-    let to = want_bound(nodes.lookup(dir, name))?;
+    let to = want_bound(bound)?;
     want_file(nodes.kind(&to))
 }
 

@@ -186,7 +186,12 @@ fn keeps_the_latest_events(rt: HostRuntime) {
             let _fixed = enter(&rt, &mut book, 5, 0);
         }
         let history = book.history();
-        same_for(&rt, &commits, history.base().commit, CommitNo::new(base));
+        same_for(
+            &rt,
+            &commits,
+            base_of(&rt, &book).commit(),
+            CommitNo::new(base),
+        );
         same_for(&rt, &commits, history.len(), kept);
         let first = Event::Committed {
             seat: 5,
@@ -197,14 +202,13 @@ fn keeps_the_latest_events(rt: HostRuntime) {
     }
 }
 
-// What lived at the base. Where memory is refused, the call is made once more.
-fn living_at_base(rt: &impl Abort, alloc: Global, book: &Book) -> Vec<Epoch> {
-    match book.history().living_at_base(alloc) {
-        Ok(living) => living,
+// What the events before the latest led to. Where memory is refused, the call is made once more.
+fn base_of(rt: &impl Abort, book: &Book) -> Base {
+    match book.base() {
+        Ok(base) => base,
         Err(fault) => {
             same(rt, fault, Fault::OutOfMemory);
-            let again = book.history().living_at_base(alloc);
-            again.expect(rt, "memory for numbers")
+            book.base().expect(rt, "memory for numbers")
         }
     }
 }
@@ -231,12 +235,16 @@ fn folds_snapshots_into_the_base(rt: HostRuntime) -> Result<(), Fail> {
         for _ in 0..commits {
             let _fixed = enter(&rt, &mut book, 0, 0);
         }
-        let living = living_at_base(&rt, rt.alloc(), &book);
-        same_for(&rt, &commits, living.len(), count);
-        same_for(&rt, &commits, living.get(1).copied(), second);
+        let base = base_of(&rt, &book);
+        same_for(&rt, &commits, base.living().len(), count);
+        same_for(&rt, &commits, base.living().get(1).copied(), second);
     }
-    let (epoch, commit) = (Epoch::new(4), CommitNo::new(0));
-    same(&rt, book.history().base(), Base { epoch, commit });
+    let base = base_of(&rt, &book);
+    same(
+        &rt,
+        (base.epoch(), base.commit()),
+        (Epoch::new(4), CommitNo::new(0)),
+    );
     Ok(())
 }
 

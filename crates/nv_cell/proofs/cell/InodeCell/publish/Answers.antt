@@ -1,4 +1,4 @@
-use Rattle.std.proofs.Common.{◌≡◌, ℕ, ◌+◌, List, None, Bool, arith, refl, ap, sym, ◌∙◌, length, drop, cond, not}
+use Rattle.std.proofs.Common.{◌≡◌, ℕ, ◌+◌, List, None, Some, Bool, arith, refl, ap, sym, ◌∙◌, length, drop, cond, not}
 use Rattle.nv_entry.specs.declared.item.Entry.{Entry}
 use Rattle.nv_entry.specs.Covered.{part_total, is_covered}
 use Rattle.nv_entry.specs.Refs.{scan_ref}
@@ -8,9 +8,10 @@ use Rattle.nv_cell.specs.Cell.{log_of, IsReady}
 use Rattle.nv_cell.specs.Effects.{items_of}
 use Rattle.nv_cell.specs.Fields.{state_in}
 use Rattle.nv_cell.specs.Marks.{mark_at}
-use Rattle.nv_cell.specs.Numbers.{dies, published_mark}
+use Rattle.nv_cell.specs.Numbers.{dies, killed_part, published_mark}
 use Rattle.std.proofs.Common.{subst, map}
 use Rattle.std.specs.List.{range_with_len}
+use Rattle.std.proofs.lemmas.List.{length-map}
 use Rattle.nv_cell.specs.Cell.{page_block}
 use Rattle.nv_cell.specs.Fields.{value_in}
 use Rattle.nv_cell.specs.Index.{bindings_of}
@@ -105,3 +106,12 @@ returns-clause-state c =
     let all = list_from c.take_effect.new.marks.marks.items f Out 0 (λ n lt. is n ∙ (let z : n ≡ 0 + n = omega arith in ap f z)) in
     let m : c.take_effect.new.marks.marks.items ≡ map f (range_with_len 0 (part_total es)) = rw c.take_effect.ensures.len at all in
     rw (← c.self.view_is, to, m) refl
+
+pub returns-clause-few : goal.returns-clause-few
+returns-clause-few c =
+    let s = state_in c.self.inside in
+    let es = s.chain.entries in
+    let few = rw c.tail-tail.ensures.value at c.take_effect.ensures.few in
+    let told : length c.name_all.new.killed.items ≡ length c.deref.result.now =
+    sym (length-map c.name_all.new.killed.items Some) ∙ ap length c.name_all.ensures ∙ length-map c.deref.result.now (killed_part es) in
+    rw (← c.self.view_is) (omega (arith, few, told, c.deref.ensures.len, c.name_all.new.killed.ok))

@@ -1,0 +1,162 @@
+-- A plan is of different inodes, of no more than three.
+use Rattle.std.proofs.Common.{◌≡◌, ◌≢◌, ℕ, ◌<◌, ◌≤◌, ◌==◌, ◌||◌, nat_lt, Bool, true, false, cond, List, [], ◌∷◌, length, Option, Some, None, arith, refl, ap, sym, ◌∙◌}
+use Rattle.std.specs.Prelude.{Ok, Err}
+use Rattle.std.proofs.lemmas.Bool.{eq-eqb, ltb-false}
+use Rattle.nv_base.specs.declared.fault.Fault.TheVariants as fault
+use Rattle.nv_base.specs.declared.node.Kind.{Kind}
+use Rattle.nv_base.specs.declared.node.Kind.TheVariants.{File, Dir}
+use Rattle.nv_base.specs.declared.numbers.Handle.{Handle}
+use Rattle.nv_entry.specs.declared.names.BoundName.{BoundName}
+use Rattle.nv_entry.specs.declared.node.NodeCopy.{NodeCopy}
+use Rattle.nv_entry.specs.Index.{bound_to}
+use Rattle.nv_entry.specs.Tree.{names_of_node}
+use Rattle.nv_calls.specs.AllCalls.{IsReady, Taken, plan, refusal}
+use Rattle.nv_calls.specs.declared.call.Call.{Call}
+use Rattle.nv_calls.specs.declared.call.Call.TheVariants as call
+use Rattle.nv_calls.specs.declared.plan.Planned.{Planned}
+use Rattle.nv_calls.specs.Plain.{node_in, same_handle}
+use Rattle.nv_calls.specs.Plan.{AreFewApart}
+use Rattle.nv_calls.specs.Refusals.{Check, and_find, found, found_by, is_directory, kind_of, passes, refuse_if, want_bound, want_directory, want_file, want_lawful}
+use Rattle.nv_calls.specs.Slots.{Slot, node_under}
+use Rattle.nv_calls.specs.calls.Lookup.{lookup_refusal}
+use Rattle.nv_calls.specs.calls.Rename.{bound_plan, move_plan, moved_refusal, own_place, pass_if, replaced_plan, replaced_refusal}
+use Rattle.nv_calls.specs.calls.Unlink.{leave_plan}
+use Rattle.nv_calls.proofs.Passed.{HasKind, IsThere, both_passed, directory_passed, file_passed, if_passed, look_passed, node_passed, there}
+use Rattle.nv_calls.proofs.Standing.{free_apart, kinds_apart, one_handle}
+use Rattle.nv_calls.proofs.fits.Rename.{elsewhere, moved_passed, names_passed}
+
+-- ---- lists of one to three
+
+few_none : AreFewApart []
+few_none = record { apart = tt; few = omega arith }
+
+few_one : (p : Planned) → AreFewApart (p ∷ [])
+few_one p = record { apart = (tt, tt); few = omega arith }
+
+few_two : (p q : Planned) → q.handle.ino ≢ p.handle.ino → AreFewApart (p ∷ q ∷ [])
+few_two p q apart = record { apart = ((apart, tt), (tt, tt)); few = omega arith }
+
+few_three : (p q r : Planned) → q.handle.ino ≢ p.handle.ino → r.handle.ino ≢ p.handle.ino → r.handle.ino ≢ q.handle.ino
+    → AreFewApart (p ∷ q ∷ r ∷ [])
+few_three p q r a b c = record { apart = ((a, (b, tt)), ((c, tt), (tt, tt))); few = omega arith }
+
+-- ---- what is known
+
+-- a directory in which a look finds something has a name
+some_name : (name : List ℕ) (names : List BoundName) (to : Handle) → bound_to name names ≡ Some to → 0 < length names
+some_name name [] to h = cc
+some_name name (bound ∷ names) to h = omega arith
+
+found_name : (check : Check) (name : List ℕ) (names : List BoundName) (to : Handle)
+    → found_by (and_find check (bound_to name names)) ≡ Some to → 0 < length names
+found_name (Ok tt) name names to h = some_name name names to h
+found_name (Err why) name names to h = cc
+
+-- no directory
+file_of : (found : Option NodeCopy) → IsThere found → is_directory (kind_of found) ≡ false → HasKind File found
+file_of found t other = record {
+  node = t.node;
+  is = t.is;
+  kind_is = go t.node.kind (ap (λ (n : Option NodeCopy). is_directory (kind_of n)) (sym t.is) ∙ other);
+} where
+  go : (kind : Kind) → is_directory (Some kind) ≡ false → kind ≡ File
+  go File h = refl
+  go Dir h = cc
+
+second_false : (a b : Bool) → (a || b) ≡ false → b ≡ false
+second_false true b h = cc
+second_false false b h = h
+
+module _ (bytes : ℕ → List ℕ) (block : ℕ) (slots : ℕ → Slot) (some : 0 < block) (taken : Taken) where
+  abbrev nodes : Handle → Option NodeCopy
+  nodes = node_in (node_under bytes block slots)
+
+  -- ---- unlink and rmdir
+
+  unlink_apart : (dir : Handle) (name : List ℕ) (bound : Option Handle) → HasKind Dir (nodes dir)
+      → want_bound bound (λ to. want_file (kind_of (nodes to)) passes) ≡ passes → AreFewApart (leave_plan dir name bound)
+  unlink_apart dir name None d h = few_none
+  unlink_apart dir name (Some to) d h = few_two _ _ (kinds_apart bytes block slots to dir (file_passed (nodes to) passes h).0 d)
+
+  rmdir_apart : (dir : Handle) (name : List ℕ) (bound : Option Handle) → HasKind Dir (nodes dir) → found nodes dir name ≡ bound
+      → want_bound bound (λ to. want_directory (kind_of (nodes to)) (refuse_if (nat_lt 0 (length (names_of_node (nodes to)))) fault.NotEmpty passes)) ≡ passes
+      → AreFewApart (leave_plan dir name bound)
+  rmdir_apart dir name None d is h = few_none
+  rmdir_apart dir name (Some to) d is h = few_two _ _ apart where
+    t : HasKind Dir (nodes to) × (refuse_if (nat_lt 0 (length (names_of_node (nodes to)))) fault.NotEmpty passes ≡ passes)
+    t = directory_passed (nodes to) _ h
+
+    none : length (names_of_node (nodes to)) ≤ 0
+    none = ltb-false 0 (length (names_of_node (nodes to))) (if_passed (nat_lt 0 (length (names_of_node (nodes to)))) fault.NotEmpty passes t.1).0
+
+    one : 0 < length (names_of_node (nodes dir))
+    one = found_name (want_directory (kind_of (nodes dir)) (want_lawful name passes)) name (names_of_node (nodes dir)) to is
+
+    apart : to.ino ≢ dir.ino
+    apart i =
+        let same = one_handle bytes block slots to dir (there Dir (nodes to) t.0) (there Dir (nodes dir) d) i in
+        let names : length (names_of_node (nodes to)) ≡ length (names_of_node (nodes dir)) =
+        ap (λ (h : Handle). length (names_of_node (nodes h))) same in
+        omega (arith, names, none, one)
+
+  -- ---- rename
+
+  module _ (from : Handle) (old : List ℕ) (to : Handle) (new : List ℕ) (f : HasKind Dir (nodes from)) (t : HasKind Dir (nodes to)) where
+    replaced_file : (moved : Option Kind) (other : Handle) → replaced_refusal nodes moved (Some other) ≡ passes → HasKind File (nodes other)
+    replaced_file moved other h =
+        let n = node_passed (nodes other) _ h in
+        file_of (nodes other) n.0
+        (second_false (is_directory moved) (is_directory (kind_of (nodes other)))
+        (if_passed (is_directory moved || is_directory (kind_of (nodes other))) fault.Exists passes n.1).0)
+
+    two_directories : same_handle from to ≡ false → to.ino ≢ from.ino
+    two_directories differ i =
+        let same = one_handle bytes block slots to from (there Dir (nodes to) t) (there Dir (nodes from) f) i in
+        let ino : (from.ino == to.ino) ≡ true = eq-eqb from.ino to.ino (ap (λ (h : Handle). h.ino) (sym same)) in
+        let generation : (from.generation == to.generation) ≡ true =
+        eq-eqb from.generation to.generation (ap (λ (h : Handle). h.generation) (sym same)) in
+        let both : same_handle from to ≡ true = rw (ino, generation) refl in
+        let z : true ≡ false = sym both ∙ differ in cc
+
+    move_apart : (same : Bool) (moved : Handle) (kind : Option Kind) (other : Option Handle) → same_handle from to ≡ same
+        → replaced_refusal nodes kind other ≡ passes → AreFewApart (move_plan same from old to new moved (replaced_plan other))
+    move_apart true moved kind None is h = few_one _
+    move_apart true moved kind (Some other) is h =
+        few_two _ _ (kinds_apart bytes block slots other from (replaced_file kind other h) f)
+    move_apart false moved kind None is h = few_two _ _ (two_directories is)
+    move_apart false moved kind (Some other) is h =
+        few_three _ _ _ (two_directories is) (kinds_apart bytes block slots other from (replaced_file kind other h) f)
+        (kinds_apart bytes block slots other to (replaced_file kind other h) t)
+
+    bound_apart : (own : Bool) (bound other : Option Handle) → own_place from old to new ≡ own
+        → want_bound bound (λ moved. pass_if (own_place from old to new) (moved_refusal nodes from to other moved)) ≡ passes
+        → AreFewApart (cond own [] (bound_plan from old to new bound other))
+    bound_apart true bound other is h = few_none
+    bound_apart false None other is h = few_none
+    bound_apart false (Some moved) other is h =
+        let last = elsewhere bytes block slots some from old to new (own_place from old to new) (moved_refusal nodes from to other moved) is h in
+        let m = moved_passed bytes block slots some from old to new moved other last in
+        move_apart (same_handle from to) moved (kind_of (nodes moved)) other refl m.1
+
+  pub few_apart : (c : Call) → refusal block nodes c ≡ passes → IsReady bytes block slots nodes taken c → AreFewApart (plan block nodes taken c)
+  few_apart (call.Create dir name mode) h r =
+      few_two _ _ (free_apart bytes block slots taken.made dir r (there Dir (nodes dir) (directory_passed (nodes dir) _ h).0))
+  few_apart (call.Mkdir dir name mode) h r =
+      few_two _ _ (free_apart bytes block slots taken.made dir r (there Dir (nodes dir) (directory_passed (nodes dir) _ h).0))
+  few_apart (call.Write file offset []) h r = few_none
+  few_apart (call.Write file offset (byte ∷ rest)) h r = few_one _
+  few_apart (call.Read file offset count) h r = few_none
+  few_apart (call.Size file size) h r = few_one _
+  few_apart (call.Mode handle mode) h r = few_one _
+  few_apart (call.Stat handle) h r = few_none
+  few_apart (call.List dir) h r = few_none
+  few_apart (call.Lookup dir name) h r = few_none
+  few_apart (call.Unlink dir name) h r =
+      let both = both_passed (lookup_refusal nodes dir name) _ h in
+      unlink_apart dir name (found nodes dir name) (look_passed nodes dir name both.0).0 both.1
+  few_apart (call.Rmdir dir name) h r =
+      let both = both_passed (lookup_refusal nodes dir name) _ h in
+      rmdir_apart dir name (found nodes dir name) (look_passed nodes dir name both.0).0 refl both.1
+  few_apart (call.Rename from old to new) h r =
+      let names = names_passed bytes block slots some from old to new h in
+      bound_apart from old to new names.0 names.1 (own_place from old to new) (found nodes from old) (found nodes to new) refl names.4

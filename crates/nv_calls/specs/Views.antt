@@ -1,0 +1,73 @@
+-- What a call that only reads finds in the cell of its inode.
+use Rattle.std.specs.Prelude.{◌≡◌, ℕ, Bool, true, false, List, Option, Result, Ok, Err}
+use Rattle.nv_base.specs.declared.fault.Fault.{Fault}
+use Rattle.nv_base.specs.declared.numbers.Handle.{Handle}
+use Rattle.nv_entry.specs.declared.node.NodeCopy.{NodeCopy}
+use Rattle.nv_cell.specs.Cell.{CellState, log_of}
+use Rattle.nv_cell.specs.declared.stat.Stat.{Stat}
+use Rattle.nv_calls.specs.declared.call.Call.{Call}
+use Rattle.nv_calls.specs.declared.call.Call.TheVariants as call
+use Rattle.nv_calls.specs.declared.view.View.{View}
+use Rattle.nv_calls.specs.AllCalls.{answer, refusal}
+use Rattle.nv_calls.specs.Plain.{PlainNode, node_in}
+use Rattle.nv_calls.specs.Refusals.{Check, kind_of, lookup, passes, want_directory, want_lawful}
+use Rattle.nv_calls.specs.Slots.{Slot, node_under}
+
+abbrev pub slot_of : CellState → Slot
+slot_of cell = record { generation = cell.generation; log = log_of cell }
+
+-- the plain node under a handle of the cell's slot, where `bytes` gives those of a block
+abbrev pub node_of : (ℕ → List ℕ) → CellState → Handle → Option PlainNode
+node_of bytes cell = node_under bytes cell.block (λ ino. slot_of cell)
+
+abbrev pub copy_of : (ℕ → List ℕ) → CellState → Handle → Option NodeCopy
+copy_of bytes cell = node_in (node_of bytes cell)
+
+-- what a node tells of itself
+abbrev pub stat_of : PlainNode → Stat
+stat_of p = record { kind = p.node.kind; mode = p.node.mode; size = p.node.size; commit = p.changed }
+
+-- ---- looks
+
+-- what follows tests that pass
+abbrev pub and_gives : {T : Type 0} → Check → T → Result T Fault
+and_gives (Ok nothing) found = Ok found
+and_gives (Err fault) found = Err fault
+
+-- what a name of a directory leads to, where the handle is one of a directory and the name is lawful
+abbrev pub look : (Handle → Option NodeCopy) → Handle → List ℕ → Result (Option Handle) Fault
+look nodes dir name = and_gives (want_directory (kind_of (nodes dir)) (want_lawful name passes)) (lookup nodes dir name)
+
+-- what a check says that looks for something
+abbrev pub check_of : {T : Type 0} → Result T Fault → Check
+check_of (Ok found) = passes
+check_of (Err fault) = Err fault
+
+-- ---- views
+
+abbrev pub is_stat : Call → Bool
+is_stat (call.Stat handle) = true
+is_stat other = false
+
+abbrev pub is_lookup : Call → Bool
+is_lookup (call.Lookup dir name) = true
+is_lookup other = false
+
+abbrev pub is_list : Call → Bool
+is_list (call.List dir) = true
+is_list other = false
+
+abbrev pub is_read : Call → Bool
+is_read (call.Read file offset count) = true
+is_read other = false
+
+-- why a call is refused that only reads this cell
+abbrev pub view_refusal : (ℕ → List ℕ) → CellState → Call → Check
+view_refusal bytes cell c = refusal cell.block (copy_of bytes cell) c
+
+-- a view of a call that passes: it has the call, what the node answers, and the version
+pub record IsView (bytes : ℕ → List ℕ) (cell : CellState) (c : Call) (view : View) : Type 0 where
+  pub passes : view_refusal bytes cell c ≡ passes
+  pub call : view.call ≡ c
+  pub found : (made : Handle) → view.found ≡ answer (node_of bytes cell) made c
+  pub version : view.version ≡ cell.version

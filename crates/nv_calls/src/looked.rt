@@ -1,0 +1,57 @@
+//! What calls look up before they lock.
+
+ghost use Rattle.std.specs.Prelude.{◌≡◌, ◌↔◌, IsTrue};
+ghost use Rattle.nv_calls.specs.AllCalls.{looked};
+ghost use Rattle.nv_calls.specs.Refusals.{and_find, found, look};
+
+use crate::wants::{want_directory, want_lawful};
+use crate::{Call, Nodes};
+use nv_base::{Fault, Handle};
+
+/// What the names of a call lead to, the first and the second, as its looks found it: none where a name is
+/// not bound or the look was refused.
+#[derive(Clone, Copy, Debug, PartialEq, Eq)]
+pub struct Looked {
+    pub first: Option<Handle>,
+    pub second: Option<Handle>,
+}
+
+/// A look at a name: what it leads to, if anything. `Stale` or `NotDirectory` where there is no directory,
+/// and `BadName`.
+pub fn look<N: Nodes>(nodes: &N, dir: &Handle, name: &[u8]) -> Result<Option<Handle>, Fault>
+    ensures { result ≡ look (N.nodes_of nodes.now) dir.now name.now }
+{
+    want_directory(nodes.kind(dir))?;
+    want_lawful(name)?;
+    Ok(nodes.lookup(dir, name))
+}
+
+/// What a look finds, nothing where it is refused.
+pub fn found<N: Nodes>(nodes: &N, dir: &Handle, name: &[u8]) -> Option<Handle>
+    ensures { result ≡ found (N.nodes_of nodes.now) dir.now name.now }
+{
+    match look(nodes, dir, name) {
+        Ok(to) => to,
+        Err(_) => None,
+    }
+}
+
+/// What the names of a call lead to now.
+pub fn look_all<N: Nodes>(nodes: &N, call: &Call) -> Looked
+    ensures { result ≡ looked (N.nodes_of nodes.now) call.now }
+{
+    match call {
+        Call::Unlink { dir, name } | Call::Rmdir { dir, name } => Looked {
+            first: found(nodes, dir, name.as_slice()),
+            second: None,
+        },
+        Call::Rename { from, old, to, new } => Looked {
+            first: found(nodes, from, old.as_slice()),
+            second: found(nodes, to, new.as_slice()),
+        },
+        _ => Looked {
+            first: None,
+            second: None,
+        },
+    }
+}

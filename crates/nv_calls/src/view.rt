@@ -1,0 +1,183 @@
+//! What calls that only read find in the cell of their inode.
+
+ghost use Rattle.std.specs.Prelude.{◌≡◌, ℕ, List, Err, MatchResult, IfOk, Some, option_map, true};
+ghost use Rattle.nv_base.specs.Refusals.{FailsAsChecked};
+ghost use Rattle.nv_cell.specs.Pages.{AreBytesOf};
+ghost use Rattle.nv_calls.specs.Refusals.{kind_of, lookup};
+ghost use Rattle.nv_calls.specs.calls.Lookup.{lookup_refusal};
+ghost use Rattle.nv_calls.specs.Views.{IsView, check_of, copy_of, is_list, is_lookup, is_read, is_stat, look, node_of, stat_of, view_refusal};
+
+use crate::wants::{want_directory, want_file, want_lawful};
+use crate::{Answer, Call};
+use nv_base::{Fault, Handle, Kind};
+use nv_cell::{InodeCell, Stat};
+
+/// What a call that only reads was answered, with that call and the version of the inode that it read. None is made
+/// but by a read.
+#[derive(Debug, Drop)]
+pub struct View {
+    call: Call,
+    found: Answer,
+    version: u64,
+}
+
+impl View {
+    pub fn call(&self) -> &Call
+        ensures { result.now ≡ self.now.call }
+    {
+        &self.call
+    }
+
+    /// The answer.
+    pub fn found(&self) -> &Answer
+        ensures { result.now ≡ self.now.found }
+    {
+        &self.found
+    }
+
+    /// How many commits of the inode were published.
+    pub fn version(&self) -> u64
+        ensures { result ≡ self.now.version }
+    {
+        self.version
+    }
+
+    pub fn into_found(self) -> Answer
+        ensures { result ≡ self.found }
+    {
+        self.found
+    }
+}
+
+/// What the node under a handle of the cell's slot tells of itself, if there is one.
+fn stat_in(cell: &InodeCell, handle: &Handle) -> Option<Stat>
+    ensures { (bytes : ℕ → List ℕ) → result
+        ≡ option_map stat_of (node_of bytes cell.now.state handle.now) }
+{
+    if handle.generation != cell.generation() {
+        return None;
+    }
+    cell.stat()
+}
+
+/// The kind of the node under a handle of the cell's slot.
+fn kind_in(cell: &InodeCell, handle: &Handle) -> Option<Kind>
+    ensures { (bytes : ℕ → List ℕ) → result
+        ≡ kind_of (copy_of bytes cell.now.state handle.now) }
+{
+    let stat = stat_in(cell, handle)?;
+    Some(stat.kind)
+}
+
+/// What a name of a directory leads to, by the directory's cell: nothing where the name isn't bound. Takes no memory.
+///
+/// `Stale` and `NotDirectory` of the handle, then `BadName`.
+pub fn look_on(cell: &InodeCell, dir: &Handle, name: &[u8]) -> Result<Option<Handle>, Fault>
+    ensures { (bytes : ℕ → List ℕ) → result ≡ look (copy_of bytes cell.now.state) dir.now name.now }
+{
+    want_directory(kind_in(cell, dir))?;
+    want_lawful(name)?;
+    Ok(cell.lookup(name))
+}
+
+/// What a name of a directory leads to, where it is bound.
+fn find_in(cell: &InodeCell, dir: &Handle, name: &[u8]) -> Result<Handle, Fault>
+    ensures refusal { (bytes : ℕ → List ℕ)
+        → lookup_refusal (copy_of bytes cell.now.state) dir.now name.now ≡ check_of result }
+    ensures found { (bytes : ℕ → List ℕ)
+        → IfOk result (λ to. lookup (copy_of bytes cell.now.state) dir.now name.now ≡ Some to) }
+{
+    let Some(to) = look_on(cell, dir, name)? else {
+        return Err(Fault::Missing);
+    };
+    Ok(to)
+}
+
+/// What a `Stat` tells of the cell's inode. Takes no memory.
+pub fn stat_on(cell: &InodeCell, call: Call) -> Result<View, Fault>
+    requires { is_stat call ≡ true }
+    ensures { (bytes : ℕ → List ℕ) → MatchResult result (IsView bytes cell.now.state call)
+        (λ fault. view_refusal bytes cell.now.state call ≡ Err fault) }
+{
+    let Call::Stat { handle } = &call else {
+        unreachable!()
+    };
+    let stat = stat_in(cell, handle).ok_or(Fault::Stale)?;
+    let found = Answer::Stat {
+        kind: stat.kind,
+        mode: stat.mode,
+        size: stat.size,
+        commit: stat.commit,
+    };
+    let version = cell.version();
+    Ok(View {
+        call,
+        found,
+        version,
+    })
+}
+
+/// What a `Lookup` finds in the cell of its directory. Takes no memory.
+pub fn lookup_on(cell: &InodeCell, call: Call) -> Result<View, Fault>
+    requires { is_lookup call ≡ true }
+    ensures { (bytes : ℕ → List ℕ) → MatchResult result (IsView bytes cell.now.state call)
+        (λ fault. view_refusal bytes cell.now.state call ≡ Err fault) }
+{
+    let Call::Lookup { dir, name } = &call else {
+        unreachable!()
+    };
+    let to = find_in(cell, dir, name.as_slice())?;
+    let version = cell.version();
+    Ok(View {
+        call,
+        found: Answer::Made(to),
+        version,
+    })
+}
+
+/// The names that a `List` finds in the cell of its directory. `OutOfMemory` where room for them was refused.
+pub fn list_on(cell: &InodeCell, call: Call) -> Result<View, Fault>
+    requires { is_list call ≡ true }
+    ensures view { (bytes : ℕ → List ℕ) → IfOk result (IsView bytes cell.now.state call) }
+    ensures err { (bytes : ℕ → List ℕ)
+        → FailsAsChecked (view_refusal bytes cell.now.state call) result }
+{
+    let Call::List { dir } = &call else {
+        unreachable!()
+    };
+    want_directory(kind_in(cell, dir))?;
+    let names = cell.list()?;
+    let version = cell.version();
+    Ok(View {
+        call,
+        found: Answer::Names(names),
+        version,
+    })
+}
+
+/// The bytes that a `Read` finds in the cell of its file. `OutOfMemory` where room for them was refused. Costs the
+/// pages that it reads, and one look-up for each run of them.
+pub fn read_on(cell: &InodeCell, call: Call) -> Result<View, Fault>
+    requires { is_read call ≡ true }
+    ensures view { (bytes : ℕ → List ℕ) → AreBytesOf cell.now.state bytes
+        → IfOk result (IsView bytes cell.now.state call) }
+    ensures err { (bytes : ℕ → List ℕ)
+        → FailsAsChecked (view_refusal bytes cell.now.state call) result }
+{
+    let Call::Read {
+        file,
+        offset,
+        count,
+    } = &call
+    else {
+        unreachable!()
+    };
+    want_file(kind_in(cell, file))?;
+    let bytes = cell.read(*offset, *count)?;
+    let version = cell.version();
+    Ok(View {
+        call,
+        found: Answer::Bytes(bytes),
+        version,
+    })
+}
