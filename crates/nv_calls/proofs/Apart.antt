@@ -10,7 +10,8 @@ use Rattle.nv_entry.specs.declared.names.BoundName.{BoundName}
 use Rattle.nv_entry.specs.declared.node.NodeCopy.{NodeCopy}
 use Rattle.nv_entry.specs.Index.{bound_to}
 use Rattle.nv_entry.specs.Tree.{names_of_node}
-use Rattle.nv_calls.specs.AllCalls.{IsReady, Taken, plan, refusal}
+use Rattle.nv_calls.specs.AllCalls.{IsReady, plan, refusal}
+use Rattle.nv_calls.specs.declared.taken.Taken.{Taken}
 use Rattle.nv_calls.specs.declared.call.Call.{Call}
 use Rattle.nv_calls.specs.declared.call.Call.TheVariants as call
 use Rattle.nv_calls.specs.declared.plan.Planned.{Planned}

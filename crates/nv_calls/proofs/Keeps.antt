@@ -8,7 +8,8 @@ use Rattle.nv_entry.specs.declared.item.Item.TheVariants.{SetSize}
 use Rattle.nv_entry.specs.declared.item.Run.{Run}
 use Rattle.nv_entry.specs.declared.node.NodeCopy.{NodeCopy}
 use Rattle.nv_entry.specs.Sound.{blocks_of, write_items}
-use Rattle.nv_calls.specs.AllCalls.{Taken, looked, plan}
+use Rattle.nv_calls.specs.AllCalls.{looked, plan}
+use Rattle.nv_calls.specs.declared.taken.Taken.{Taken}
 use Rattle.nv_calls.specs.declared.call.Call.{Call}
 use Rattle.nv_calls.specs.declared.call.Call.TheVariants as call
 use Rattle.nv_calls.specs.Locked.{KeepsToIts, if_any, locks}

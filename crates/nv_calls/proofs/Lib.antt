@@ -12,4 +12,5 @@ pub mod Same
 pub mod Standing
 pub mod Touched
 pub mod Wanted
+pub mod Within
 pub mod fits

@@ -7,7 +7,8 @@ use Rattle.nv_base.specs.declared.numbers.Handle.{Handle}
 use Rattle.nv_entry.specs.declared.item.Run.{Run}
 use Rattle.nv_entry.specs.declared.node.NodeCopy.{NodeCopy}
 use Rattle.nv_entry.specs.Sound.{blocks_of}
-use Rattle.nv_calls.specs.AllCalls.{IsReady, Taken, blocks_wanted, plan}
+use Rattle.nv_calls.specs.AllCalls.{IsReady, blocks_wanted, plan}
+use Rattle.nv_calls.specs.declared.taken.Taken.{Taken}
 use Rattle.nv_calls.specs.declared.call.Call.{Call}
 use Rattle.nv_calls.specs.declared.call.Call.TheVariants as call
 use Rattle.nv_calls.specs.Plan.{plan_blocks}

@@ -1,11 +1,8 @@
 -- What a publish kills, and what is left of it while its parts are retired or released.
-use Rattle.std.proofs.Common.{◌≡◌, ℕ, zero, suc, ◌+◌, ◌<◌, ◌≤◌, Bool, true, false, cond, List, [], ◌∷◌, length, map, Option, Some, None, inl, inr, arith, refl, ap, sym, ◌∙◌, subst, filter, slice_get, slice_set, slice_index_or}
+use Rattle.std.proofs.Common.{◌≡◌, ℕ, zero, suc, ◌+◌, ◌<◌, ◌≤◌, Bool, true, false, List, [], ◌∷◌, length, map, Option, Some, None, arith, refl, ap, sym, ◌∙◌, subst, filter, slice_get, slice_set, slice_index_or}
 use Rattle.std.specs.Prelude.{option_and_then}
 use Rattle.std.specs.List.{AllByRecursion, range_with_len}
-use Rattle.std.specs.Option.{IsSome}
-use Rattle.std.proofs.lemmas.Bool.{cases_order}
-use Rattle.std.proofs.lemmas.Option.{same_Some, slice_get_within}
-use Rattle.nv_alloc.specs.Block.{BlockValue}
+use Rattle.std.proofs.lemmas.Option.{same_Some}
 use Rattle.nv_entry.specs.declared.item.Entry.{Entry}
 use Rattle.nv_entry.specs.declared.part.PartId.{PartId}
 use Rattle.nv_entry.specs.Covered.{part_total}
@@ -13,7 +10,7 @@ use Rattle.nv_entry.specs.Log.{IsLog}
 use Rattle.nv_cell.specs.declared.killed.KilledPart.{KilledPart}
 use Rattle.nv_cell.specs.declared.mark.Mark.{Mark}
 use Rattle.nv_cell.specs.declared.mark.Mark.TheVariants.{Killed, Out}
-use Rattle.nv_cell.specs.Cell.{CellState, block_named, killed_of, log_of, mark_named, number_in, published, with_mark, without_part}
+use Rattle.nv_cell.specs.Cell.{CellState, killed_of, log_of, mark_named, number_in, published, with_mark, without_part}
 use Rattle.nv_cell.specs.Killed.{AreKilled, IsMarkedAnew, IsWithoutBlock}
 use Rattle.nv_cell.specs.Named.{number_named}
 use Rattle.nv_cell.specs.Numbers.{dies, killed_part, published_mark}

@@ -21,6 +21,7 @@ pub mod ValuesNow
 pub mod Counting
 pub mod Weighing
 pub mod PageMarks
+pub mod Scanned
 pub mod PagesNow
 pub mod Opening
 pub mod Appending
@@ -29,7 +30,9 @@ pub mod ReadAt
 pub mod Stretches
 pub mod PageBlocks
 pub mod RunFlags
+pub mod Droppable
 pub mod Recounting
 pub mod Removing
 pub mod PageFlags
 pub mod Growing
+pub mod Numbered

@@ -1,10 +1,10 @@
 -- The parts of a log by their names and by their pairs.
-use Rattle.std.proofs.Common.{◌≡◌, ℕ, zero, suc, ◌+◌, ◌-◌, ◌<◌, ◌≤◌, ◌&&◌, ◌||◌, Bool, true, false, not, cond, min, nat_lt, nat_le, List, [], ◌∷◌, ◌++◌, length, take, drop, map, Option, Some, None, arith, refl, ap, sym, ◌∙◌, subst, slice_get, slice_index_or}
+use Rattle.std.proofs.Common.{◌≡◌, ℕ, zero, suc, ◌+◌, ◌-◌, ◌<◌, ◌≤◌, ◌&&◌, Bool, true, false, not, cond, min, nat_lt, nat_le, List, [], ◌∷◌, ◌++◌, length, take, drop, map, Option, Some, None, arith, refl, ap, sym, ◌∙◌, subst, slice_get, slice_index_or}
 use Rattle.std.specs.List.{AllByRecursion}
 use Rattle.std.specs.Option.{IsSome, option_map}
 use Rattle.std.proofs.lemmas.Bool.{and_parts, le-leb, le-ltb, leb-true, lt-ltb, ltb-false, ltb-true}
 use Rattle.std.proofs.lemmas.List.{length-map}
-use Rattle.std.proofs.lemmas.Option.{get_or_from_slice_get, same_Some, slice_get-get_or, slice_get-map, slice_get_within}
+use Rattle.std.proofs.lemmas.Option.{same_Some, slice_get-get_or, slice_get-map, slice_get_within}
 use Rattle.nv_base.specs.declared.numbers.EntryId.{EntryId}
 use Rattle.nv_base.specs.Ids.{IsIdBefore, is_same_id}
 use Rattle.nv_base.proofs.Ids.{before-same, ordered}
@@ -17,7 +17,7 @@ use Rattle.nv_entry.specs.declared.part.Part.{Part}
 use Rattle.nv_entry.specs.declared.part.Part.TheVariants as part
 use Rattle.nv_entry.specs.declared.part.PartId.{PartId}
 use Rattle.nv_entry.specs.Covered.{any_cover, is_covered, part_count, part_key, part_total}
-use Rattle.nv_entry.specs.Keys.{Key, covers, in_run, is_page, key_of, parts_of, run_pages}
+use Rattle.nv_entry.specs.Keys.{Key, covers, in_run, is_page, parts_of, run_pages}
 use Rattle.nv_entry.specs.Log.{IsLog, MayFollow, first_cover, pair_of, pairs, pairs_of}
 use Rattle.nv_entry.proofs.PartLists.{length-written, page_at}
 use Rattle.nv_cell.specs.declared.killed.KilledPart.{KilledPart}
@@ -201,13 +201,13 @@ get_right (x ∷ xs) ys (suc n) le =
     get_right xs ys n (omega (arith, le)) ∙ ap (slice_get ys) back
 
 -- the pairs of the first entry, and those of the others
-pair_first : (block : ℕ) (e : Entry) (log : List Entry) (n : ℕ) → n < part_count e
+pub pair_first : (block : ℕ) (e : Entry) (log : List Entry) (n : ℕ) → n < part_count e
     → slice_get (pairs block (e ∷ log)) n ≡ option_map (pair_of block e log) (slice_get (parts_of e.item) n)
 pair_first block e log n lt =
     get_left (pairs_of block e log) (pairs block log) n (omega (arith, lt, length-map (parts_of e.item) (pair_of block e log)))
     ∙ slice_get-map (pair_of block e log) (parts_of e.item) n
 
-pair_later : (block : ℕ) (e : Entry) (log : List Entry) (n : ℕ) → part_count e ≤ n
+pub pair_later : (block : ℕ) (e : Entry) (log : List Entry) (n : ℕ) → part_count e ≤ n
     → slice_get (pairs block (e ∷ log)) n ≡ slice_get (pairs block log) (n - part_count e)
 pair_later block e log n le =
     let len : length (pairs_of block e log) ≡ part_count e = length-map (parts_of e.item) (pair_of block e log) in

@@ -1,5 +1,5 @@
 -- The parts that a publish kills, by name and by pair.
-use Rattle.std.specs.Prelude.{◌≡◌, ℕ, ◌<◌, true, List, [], ◌∷◌, Option, Some, None, slice_get}
+use Rattle.std.specs.Prelude.{◌≡◌, ℕ, ◌<◌, true, List, [], ◌∷◌, Some, None, slice_get}
 use Rattle.std.specs.List.{AllByRecursion}
 use Rattle.std.specs.Option.{IsSome, option_map}
 use Rattle.nv_entry.specs.declared.held.Pair.{Pair}

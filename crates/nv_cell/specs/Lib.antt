@@ -13,4 +13,5 @@ pub mod Readers
 pub mod Reading
 pub mod Weights
 pub mod Removal
+pub mod Retained
 pub mod Room

@@ -8,9 +8,9 @@ ghost use Rattle.nv_cell.specs.Killed.{AreKilled};
 ghost use Rattle.nv_cell.specs.Numbers.{killed_part};
 ghost use Rattle.nv_cell.specs.Weights.{weights_in};
 
-use crate::number::number_of;
+use crate::number::find_part;
 use crate::publish::{name_all, take_effect};
-use crate::{CellIndex, KilledPart, Mark, Marks};
+use crate::{CellIndex, KilledPart, Mark, Marks, NumberedPart};
 use nv_alloc::Block;
 use nv_base::Gen;
 use nv_entry::PartId;
@@ -38,7 +38,7 @@ pub struct InodeCell {
     pub(crate) entries: usize,
     pub(crate) parts: usize,
     // Room for the parts that a publish kills; empty between calls.
-    pub(crate) numbers: Vec<usize>,
+    pub(crate) numbers: Vec<NumberedPart>,
     pub(crate) killed: Vec<KilledPart>,
 }
 
@@ -101,7 +101,8 @@ impl InodeCell {
 
     /// Publishes all entries past the tail, and gives the parts that were current, or are newly published, and are not
     /// current after it, by entry in log order and then by part. They are marked killed. Takes no memory; the time is
-    /// that of the entries and parts that change, times a logarithm.
+    /// that of the entries and parts that change, times a logarithm at most, and for each Write after which the file
+    /// has more or fewer runs of pages one move of the runs behind.
     pub fn publish(&mut self) -> Vec<KilledPart>
         requires some { self.old.state.chain.tail < length self.old.state.chain.entries }
         requires version { self.old.state.version < 2 ^ 62 }
@@ -138,8 +139,8 @@ impl InodeCell {
     pub fn mark(&self, part: PartId) -> Option<Mark>
         ensures { result ≡ mark_named self.now.state part }
     {
-        let n = number_of(&self.chain, &self.marks, part)?;
-        self.marks.get(n)
+        let found = find_part(&self.chain, &self.marks, part)?;
+        self.marks.get(found.number)
     }
 
     /// Marks a killed part kept. Takes no memory; the time grows with the logarithm of the entries and pages.
@@ -149,8 +150,8 @@ impl InodeCell {
             ≡ with_mark self.old.state (number_in self.old.state part) Mark.Kept }
         ensures room { self.new.room ≡ self.old.room }
     {
-        let n = number_of(&self.chain, &self.marks, part).unwrap();
-        self.marks.set(self.chain.ends(), n, Mark::Kept);
+        let found = find_part(&self.chain, &self.marks, part).unwrap();
+        self.marks.set(self.chain.ends(), found, Mark::Kept);
     }
 
     /// Puts a killed or kept part out, and hands out its block, which a page has and no other part. Takes no memory; the
@@ -164,9 +165,9 @@ impl InodeCell {
             ≡ without_part self.old.state (number_in self.old.state part) }
         ensures room { self.new.room ≡ self.old.room }
     {
-        let n = number_of(&self.chain, &self.marks, part).unwrap();
-        self.marks.set(self.chain.ends(), n, Mark::Out);
-        let slot = &mut self.blocks[n];
+        let found = find_part(&self.chain, &self.marks, part).unwrap();
+        self.marks.set(self.chain.ends(), found, Mark::Out);
+        let slot = &mut self.blocks[found.number];
         slot.take()
     }
 }

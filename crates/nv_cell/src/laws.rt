@@ -1,19 +1,25 @@
 //! Laws of cells, each the contract of a function that does nothing.
 
-ghost use Rattle.std.specs.Prelude.{◌≡◌, ◌∷◌, ◌<◌, ◌≤◌, ◌-◌, ℕ, List, [], Some, drop};
+ghost use Rattle.std.specs.Prelude.{◌≡◌, ◌∷◌, ◌<◌, ◌≤◌, ◌-◌, ℕ, Bool, List, [], Some, drop, length};
 ghost use Rattle.std.specs.List.{AllByRecursion};
 ghost use Rattle.std.specs.Option.{ForSome};
 ghost use Rattle.nv_alloc.specs.Block.{BlockValue};
 ghost use Rattle.nv_base.specs.Ids.{IsIdBefore};
 ghost use Rattle.nv_entry.specs.Covered.{part_count};
+ghost use Rattle.nv_entry.specs.Held.{Retention};
+ghost use Rattle.nv_entry.specs.Laws.{GoIfDroppable, GoIfPageDroppable};
 ghost use Rattle.nv_entry.specs.Log.{IsLog};
+ghost use Rattle.nv_entry.specs.Node.{file_bytes};
 ghost use Rattle.nv_entry.specs.declared.item.Entry.{Entry};
 ghost use Rattle.nv_entry.specs.declared.item.Item.{Item};
 ghost use Rattle.nv_entry.specs.declared.part.PartId.{PartId};
-ghost use Rattle.nv_log.specs.Chain.{ChainState, IsChain, last_epoch, last_id, pages_for, room_of, with_page};
+ghost use Rattle.nv_log.specs.Chain.{ChainState, IsChain, last_epoch, last_id, log_pages, pages_for, room_of, with_page};
 ghost use Rattle.nv_cell.specs.Append.{IsWithinFile, MayAppend, after_append, appended};
-ghost use Rattle.nv_cell.specs.Cell.{CellState, CellValue, IsReady, mark_named, number_in, with_mark, without_part};
+ghost use Rattle.nv_cell.specs.Cell.{CellState, CellValue, IsCell, IsReady, log_of, mark_named, number_in, with_mark, without_part};
 ghost use Rattle.nv_cell.specs.Killed.{AreKilled, AreNamesOfParts, ArePairs, DiesAt, IsMarkedAnew, IsWithoutBlock};
+ghost use Rattle.nv_cell.specs.Pages.{AreBytesOf, own_bytes};
+ghost use Rattle.nv_cell.specs.Removal.{ArePublished, MayGo, log_flags};
+ghost use Rattle.nv_cell.specs.Retained.{AreMarksOf, LiveIsScanned, ValidIsScanned};
 ghost use Rattle.nv_cell.specs.Room.{AddsPage, IsReadyFor};
 ghost use Rattle.nv_cell.specs.declared.mark.Mark.{Mark};
 ghost use Rattle.nv_cell.specs.declared.mark.Mark.TheVariants.{Out};
@@ -98,4 +104,36 @@ pub fn one_part_goes_out()
 pub fn the_others_stay_killed()
     ensures { (id : PartId) (mark : Mark) (later : List PartId) (old new : CellState)
         → IsMarkedAnew id mark old new → AreKilled (id ∷ later) old → AreKilled later new }
+{}
+
+/// The bytes of the file that a cell holds are those that its log gives, by what its blocks have.
+pub fn a_file_is_in_its_blocks()
+    ensures { (cell : CellState) (bytes : ℕ → List ℕ) → IsCell cell → AreBytesOf cell bytes
+        → own_bytes cell ≡ file_bytes bytes cell.block (log_of cell) }
+{}
+
+/// The live count of a page is that of the log from scratch, from the page's first entry on.
+pub fn live_is_scanned()
+    ensures { (cell : CellState) → IsCell cell → LiveIsScanned cell }
+{}
+
+/// Where the marks are what a retention says, so is the other count of a page.
+pub fn valid_is_scanned()
+    ensures { (r : Retention) (cell : CellState) → IsCell cell → AreMarksOf r cell
+        → ValidIsScanned r cell }
+{}
+
+/// Where the marks are what a retention says, the entries that thorough cleaning takes out may go.
+pub fn droppable_entries_may_go()
+    ensures { (r : Retention) (cell : CellState) (flags : List Bool) → IsCell cell
+        → AreMarksOf r cell → GoIfDroppable r [] (log_of cell) flags → MayGo flags cell }
+{}
+
+/// So may those of the pages that fast cleaning takes out, and each such page ends at the tail or before it.
+pub fn droppable_pages_may_go()
+    ensures may { (r : Retention) (cell : CellState) (stays : List Bool) → IsCell cell
+        → AreMarksOf r cell → GoIfPageDroppable r [] (log_pages cell.chain) stays
+        → MayGo (log_flags stays cell.chain) cell }
+    ensures published { (r : Retention) (chain : ChainState) (stays : List Bool) → IsChain chain
+        → GoIfPageDroppable r [] (log_pages chain) stays → ArePublished stays chain }
 {}

@@ -6,4 +6,4 @@ pub mod Runs
 pub mod Slots
 pub mod Taken
 pub mod Touched
-pub mod machine
+pub mod steps

@@ -6,3 +6,5 @@ pub mod Kinds
 pub mod Step
 pub mod Format
 pub mod Settled
+pub mod Bound
+pub mod Frame

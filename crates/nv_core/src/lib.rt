@@ -10,6 +10,7 @@ mod create;
 mod data;
 mod event;
 mod file;
+pub mod machine;
 mod node;
 mod run;
 mod step;

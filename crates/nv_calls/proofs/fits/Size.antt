@@ -17,7 +17,8 @@ use Rattle.nv_entry.specs.Stored.{Stored, block_after, stored, stored_after_all}
 use Rattle.nv_entry.proofs.Hiding.{run_from, run_parts}
 use Rattle.nv_entry.proofs.PageBytes.{page_of-past, pages_for-most}
 use Rattle.nv_entry.proofs.SoundLogs.{one_makes, suits_file}
-use Rattle.nv_calls.specs.AllCalls.{HasCutPage, Taken}
+use Rattle.nv_calls.specs.AllCalls.{HasCutPage}
+use Rattle.nv_calls.specs.declared.taken.Taken.{Taken}
 use Rattle.nv_calls.specs.Plain.{node_in}
 use Rattle.nv_calls.specs.Refusals.{bytes_of, passes, refuse_if}
 use Rattle.nv_calls.specs.Slots.{IsPlan, Slot, node_under}

@@ -1,19 +1,17 @@
 -- A world that was just made.
-use Rattle.std.specs.Prelude.{ℕ, ◌+◌, ◌-◌, List, [], ◌∷◌, drop, length, map, replicate, Option, None}
+use Rattle.std.specs.Prelude.{ℕ, ◌+◌, ◌-◌, List, [], ◌∷◌, drop, map, replicate, None}
 use Rattle.std.specs.List.{range_with_len}
-use Rattle.nv_alloc.specs.Block.{BlockValue, zero_block, zero_blocks}
+use Rattle.nv_alloc.specs.Block.{zero_block, zero_blocks}
 use Rattle.nv_alloc.specs.FreeList.{FreeBlocks}
-use Rattle.nv_alloc.specs.InodePool.{FreeInodes}
 use Rattle.nv_base.specs.Homes.{home_start}
 use Rattle.nv_base.specs.declared.geometry.GeometryNumbers.{GeometryNumbers}
 use Rattle.nv_base.specs.declared.node.Kind.TheVariants.{Dir}
 use Rattle.nv_book.specs.Book.{empty_book}
-use Rattle.nv_cell.specs.Append.{appended}
 use Rattle.nv_cell.specs.Cell.{CellState, empty_cell}
 use Rattle.nv_cell.specs.declared.mark.Mark.TheVariants.{Current}
 use Rattle.nv_entry.specs.declared.item.Entry.{Entry}
 use Rattle.nv_entry.specs.declared.item.Item.TheVariants.{Init}
-use Rattle.nv_core.specs.machine.World.{Shared, World, idle}
+use Rattle.nv_core.specs.machine.World.{World, idle}
 
 -- the list of a CPU with all blocks of its home range
 abbrev pub full_list : GeometryNumbers → ℕ → FreeBlocks

@@ -1,5 +1,5 @@
 -- The steps, one function a kind. What decides a step is an argument.
-use Rattle.std.specs.Prelude.{ℕ, zero, suc, ◌+◌, ◌-◌, ◌%◌, ◌&&◌, ◌==◌, Bool, true, false, if◌then◌else◌, nat_le, nat_lt, List, [], ◌∷◌, ◌++◌, drop, length, map, take, Option, Some, None, Ok, Err, slice_get, slice_index_or}
+use Rattle.std.specs.Prelude.{ℕ, zero, suc, ◌+◌, ◌-◌, ◌%◌, ◌&&◌, Bool, true, false, nat_lt, List, [], ◌∷◌, ◌++◌, drop, length, map, take, Option, Some, None, Ok, Err, slice_index_or}
 use Rattle.std.specs.List.{flat_map}
 use Rattle.nv_alloc.specs.Block.{BlockValue}
 use Rattle.nv_alloc.specs.Giving.{after_giving, kept_of}
@@ -28,11 +28,11 @@ use Rattle.nv_entry.specs.declared.item.Entry.{Entry}
 use Rattle.nv_entry.specs.declared.part.PartId.{PartId}
 use Rattle.nv_epoch.specs.SnapList.{ids}
 use Rattle.nv_journal.specs.declared.old_tail.OldTail.{OldTail}
-use Rattle.nv_log.specs.Chain.{pages_for, with_page}
+use Rattle.nv_log.specs.Chain.{with_page}
 use Rattle.nv_core.specs.machine.Looks.{Looked, place_in}
 use Rattle.nv_core.specs.machine.Reads.{copies, filled, fresh_pages, home_from, pages_wanted, plan_by, slot_at, slots_of, written_slots}
 use Rattle.nv_core.specs.machine.Sequence.{sequel}
-use Rattle.nv_core.specs.machine.World.{Answers, Append, Back, Check, Close, Done, Ending, Ends, Enter, Give, HandState, Leave, Lock, Look, Moves, Next, Number, Open, Overtaken, Publish, Ready, Refused, Refuses, Reply, Retire, Running, Shared, TakeBlocks, TakePages, Turn, Unlock, Waits, cell_at, go_to, list_at, with_book, with_cell, with_list, with_owner}
+use Rattle.nv_core.specs.machine.World.{Answers, Append, Back, Close, Done, Ending, Ends, Enter, Give, HandState, Leave, Lock, Look, Moves, Next, Number, Open, Overtaken, Publish, Ready, Refused, Refuses, Reply, Retire, Running, Shared, TakeBlocks, TakePages, Turn, Unlock, Waits, cell_at, go_to, list_at, with_book, with_cell, with_list, with_owner}
 
 -- ---- how a call ends
 
@@ -54,7 +54,7 @@ rest_turn None None s h r = Ends (reply_by r.ending r) s h
 -- the next round of looks, if there is one
 abbrev pub again_turn : ℕ → Shared → HandState → Running → Turn
 again_turn zero s h r = Ends (Refused Contended) s h
-again_turn (suc rounds) s h r = Moves s h (record r { ending = Answers; rounds = rounds; slots = []; next = Look 0 })
+again_turn (suc rounds) s h r = Moves s h (record r { ending = Answers; rounds = rounds; next = Look 0 })
 
 abbrev pub over_turn : Ending → Shared → HandState → Running → Turn
 over_turn Answers s h r = rest_turn (home_from 0 0 s.lists (blocks_in h)) h.ino s h r
@@ -100,7 +100,7 @@ look_tests (suc place) tests = Ok tt
 
 abbrev pub look_turn : Option ℕ → Tests → Looked → ℕ → Shared → HandState → Running → Turn
 look_turn (Some other) tests found place s h r = Waits
-look_turn None (Err fault) found place s h r = refuse fault s h r
+look_turn None (Err fault) found place s h r = end_turn [] (Refuses fault) s h r
 look_turn None (Ok passed) found place s h r = go_on (Look place) s h (record r { looked = found; slots = slots_of s None found r.call })
 
 -- ---- lock
@@ -281,9 +281,12 @@ retired_turn all ino place s h r =
     erase_turn (is_gone (log_of all.cell) && keeps_nothing all.cell) ino place (with_cell ino all.cell (with_book all.book s))
     (record h { blocks = h.blocks ++ all.freed; killed = drop 1 h.killed }) r
 
+-- the first of the killed parts in the hand, retired
+abbrev pub retired_by : ℕ → Shared → HandState → Running → Retiring
+retired_by ino s h r = retire_all ino r.epoch (first_killed h.killed) (record { book = s.book; cell = cell_at s ino; freed = [] })
+
 abbrev pub retire_turn : ℕ → ℕ → Shared → HandState → Running → Turn
-retire_turn ino place s h r =
-    retired_turn (retire_all ino r.epoch (first_killed h.killed) (record { book = s.book; cell = cell_at s ino; freed = [] })) ino place s h r
+retire_turn ino place s h r = retired_turn (retired_by ino s h r) ino place s h r
 
 -- ---- leave
 

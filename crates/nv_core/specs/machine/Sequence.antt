@@ -7,7 +7,7 @@ use Rattle.nv_calls.specs.declared.call.Call.TheVariants as call
 use Rattle.nv_entry.specs.Tree.{root}
 use Rattle.nv_core.specs.machine.Looks.{Looked}
 use Rattle.nv_core.specs.machine.Reads.{slots_of, written_slots}
-use Rattle.nv_core.specs.machine.World.{Answers, Append, Back, Check, Close, Enter, Give, Leave, Lock, Look, Next, Number, Open, Publish, Ready, Retire, Running, Shared, TakeBlocks, TakePages, Unlock, Visit}
+use Rattle.nv_core.specs.machine.World.{Answers, Append, Check, Close, Enter, Leave, Lock, Look, Next, Number, Open, Publish, Ready, Retire, Running, Shared, Unlock, Visit}
 
 -- ---- how calls begin
 
@@ -66,15 +66,12 @@ publishing place written = if nat_lt place (length written) then Publish place e
 abbrev pub retiring : ℕ → List ℕ → Next
 retiring place written = if nat_lt place (length written) then Retire place else Leave
 
--- THE SEQUENCE: what comes behind a step that has done its work. What still wants blocks takes them before it is ready, and
--- the steps behind the last unlock depend on what is in the hand.
+-- THE SEQUENCE: what comes behind a step that has done its work. A check and a taking go on by what is still wanted, and the
+-- last steps by what is in the hand.
 abbrev pub sequel : Running → Next → Next
 sequel r Number = locking 0 r.slots
 sequel r (Look place) = looking (place + 1) r
 sequel r (Lock place) = locking (place + 1) r.slots
-sequel r Check = Ready
-sequel r (TakeBlocks asked) = Ready
-sequel r (TakePages asked) = Ready
 sequel r Ready = Enter
 sequel r Enter = Append 0
 sequel r (Append place) = appending (place + 1) (written_slots r)
@@ -84,9 +81,7 @@ sequel r Close = Retire 0
 sequel r (Retire place) = retiring (place + 1) (written_slots r)
 sequel r Leave = Unlock 0
 sequel r (Unlock place) = Unlock (place + 1)
-sequel r (Give cpu) = Back
-sequel r Back = Back
-sequel r Visit = Visit
+sequel r other = other
 
 -- ---- a call that starts
 

@@ -1,5 +1,5 @@
 -- The step of an actor's call, and events.
-use Rattle.std.specs.Prelude.{ℕ, ◌%◌, ◌&&◌, ◌||◌, ◌==◌, Bool, true, false, is_some, not, nat_le, nat_lt, List, [], ◌∷◌, length, Option, Some, None, slice_index_or, slice_set}
+use Rattle.std.specs.Prelude.{ℕ, ◌%◌, ◌&&◌, ◌||◌, Bool, true, false, is_some, not, nat_le, nat_lt, List, [], ◌∷◌, length, Option, Some, None, slice_index_or, slice_set}
 use Rattle.nv_base.specs.declared.fault.Fault.TheVariants.{ActorBusy, ActorIdle, NoActor}
 use Rattle.nv_base.specs.declared.limits.TheConstants.{NUMBER}
 use Rattle.nv_base.specs.declared.numbers.Handle.{Handle}
@@ -14,7 +14,7 @@ use Rattle.nv_core.specs.machine.Kinds.{append_turn, asked_list, back_turn, chec
 use Rattle.nv_core.specs.machine.Looks.{Looked, early, handles, look_refusal, looked}
 use Rattle.nv_core.specs.machine.Reads.{copies, has_last_page, nodes, slot_at, written_slots}
 use Rattle.nv_core.specs.machine.Sequence.{Beginning, Looks, Locks, Numbers, Visits, beginning, begun, directories, nothing_looked}
-use Rattle.nv_core.specs.machine.World.{Actor, Append, Back, Check, Close, Done, Ends, Enter, Event, Give, Go, HandState, Leave, Lock, Look, Moved, Moves, Next, Number, Open, Publish, Ready, Refused, Reply, Retire, Running, Shared, Start, Started, TakeBlocks, TakePages, Turn, Unlock, Visit, Waiting, Waits, World, actor_at, cell_at, owner_at}
+use Rattle.nv_core.specs.machine.World.{Actor, Append, Back, Check, Close, Ending, Ends, Enter, Event, Give, Go, HandState, Leave, Lock, Look, Moved, Moves, Next, Number, Open, Publish, Ready, Refused, Reply, Retire, Running, Shared, Start, Started, TakeBlocks, TakePages, Turn, Unlock, Visit, Waiting, Waits, World, actor_at, cell_at, owner_at}
 
 -- ---- what decides
 
@@ -44,6 +44,15 @@ abbrev pub made_in : Shared → Option ℕ → Handle → Handle
 made_in s None made = made
 made_in s (Some ino) made = record { ino = ino; generation = (cell_at s ino).generation }
 
+abbrev pub with_made : Shared → HandState → Running → Running
+with_made s h r = record r { made = made_in s h.ino r.made }
+
+-- how its check ends a call, if it does
+abbrev pub ending_at : ℕ → Shared → HandState → Running → Option Ending
+ending_at block s h r =
+    check_ending (early (copies s) r.call) (same_looked (looked (copies s) r.call) r.looked) (refusal block (copies s) r.call)
+    (is_numbered (beginning r.call) h.ino) (effect (copies s) (made_in s h.ino r.made) r.call)
+
 -- of the visits a stat alone takes no memory
 abbrev pub visit_grows : Call → Bool
 visit_grows (call.Stat handle) = false
@@ -58,9 +67,7 @@ kind_turn (Look place) block actor granted s h r =
     (seen_at (directories r.call) place (looked (copies s) r.call) r.looked) place s h r
 kind_turn (Lock place) block actor granted s h r = lock_turn (owner_at s (slot_at r.slots place)) actor place s h r
 kind_turn Check block actor granted s h r =
-    check_turn (check_ending (early (copies s) r.call) (same_looked (looked (copies s) r.call) r.looked) (refusal block (copies s) r.call)
-    (is_numbered (beginning r.call) h.ino) (effect (copies s) (made_in s h.ino r.made) r.call))
-    granted (blocks_wanted block (copies s) (has_last_page block s r.call) r.call) block s h (record r { made = made_in s h.ino r.made })
+    check_turn (ending_at block s h r) granted (blocks_wanted block (copies s) (has_last_page block s r.call) r.call) block s h (with_made s h r)
 kind_turn (TakeBlocks asked) block actor granted s h r = take_blocks_turn (asked_list (length s.lists) actor asked) asked block s h r
 kind_turn (TakePages asked) block actor granted s h r = take_pages_turn (asked_list (length s.lists) actor asked) asked s h r
 kind_turn Ready block actor granted s h r = ready_turn granted block s h r

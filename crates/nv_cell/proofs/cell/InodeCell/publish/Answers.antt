@@ -8,15 +8,15 @@ use Rattle.nv_cell.specs.Cell.{log_of, killed_of, published, IsReady}
 use Rattle.nv_cell.specs.Effects.{items_of}
 use Rattle.nv_cell.specs.Fields.{state_in}
 use Rattle.nv_cell.specs.Marks.{mark_at}
-use Rattle.nv_cell.specs.Numbers.{dies, killed_numbers, killed_part, published_mark}
+use Rattle.nv_cell.specs.Numbers.{dies, killed_numbers, killed_part, numbers_in, published_mark}
 use Rattle.std.proofs.Common.{subst, map}
-use Rattle.std.specs.List.{range_with_len}
 use Rattle.std.proofs.lemmas.List.{length-map}
 use Rattle.nv_cell.specs.Cell.{page_block}
 use Rattle.nv_cell.specs.Fields.{value_in}
 use Rattle.nv_cell.specs.Index.{bindings_of}
 use Rattle.nv_nindex.specs.NameIndex.{HaveSameBindings}
 use Rattle.nv_cell.proofs.Cells.{mark_now}
+use Rattle.nv_cell.proofs.Numbered.{length_numbers}
 use Rattle.nv_cell.proofs.KilledParts.{published_killed}
 use Rattle.nv_cell.proofs.Published.{list_from, names_ready, there_stays}
 use Rattle.nv_cell.proofs.Publishes.{filtered_low, first_base}
@@ -40,7 +40,8 @@ name_all-requires-clause-ends c =
 pub name_all-requires-clause-within : goal.name_all-requires-clause-within
 name_all-requires-clause-within c i d lt =
     let es = c.self.inside.chain.state.entries in
-    filtered_low (dies c.self.inside.block es c.tail-tail.result) (part_total es) c.deref.result.now i d (c.deref.ensures.value ∙ c.take_effect.ensures.killed) lt
+    filtered_low (dies c.self.inside.block es c.tail-tail.result) (part_total es) (numbers_in c.deref.result.now) i d (ap numbers_in c.deref.ensures.value ∙ c.take_effect.ensures.killed)
+    (omega (arith, lt, length_numbers c.deref.result.now))
 
 pub name_all-requires-clause-room : goal.name_all-requires-clause-room
 name_all-requires-clause-room c =
@@ -123,7 +124,7 @@ returns-clause-few c =
     let es = s.chain.entries in
     let few = rw c.tail-tail.ensures.value at c.take_effect.ensures.few in
     let told : length c.name_all.new.killed.items ≡ length c.deref.result.now =
-    sym (length-map c.name_all.new.killed.items Some) ∙ ap length c.name_all.ensures ∙ length-map c.deref.result.now (killed_part es) in
+    sym (length-map c.name_all.new.killed.items Some) ∙ ap length c.name_all.ensures ∙ length-map (numbers_in c.deref.result.now) (killed_part es) ∙ length_numbers c.deref.result.now in
     rw (← c.self.view_is) (omega (arith, few, told, c.deref.ensures.len, c.name_all.new.killed.ok))
 
 pub returns-clause-marked : goal.returns-clause-marked
@@ -133,5 +134,5 @@ returns-clause-marked c =
     let tail : c.tail-tail.result ≡ s.chain.tail = c.tail-tail.ensures.value in
     let told : map Some c.name_all.new.killed.items ≡ map (killed_part es) (killed_of s) =
     c.name_all.ensures
-    ∙ ap (map (killed_part es)) (c.deref.ensures.value ∙ c.take_effect.ensures.killed ∙ ap (killed_numbers s.block es) tail) in
+    ∙ ap (map (killed_part es)) (ap numbers_in c.deref.ensures.value ∙ c.take_effect.ensures.killed ∙ ap (killed_numbers s.block es) tail) in
     rw (chain_is c, marks_are c) (published_killed s c.name_all.new.killed.items c.ends-ends.ensures.chain.rising told)

@@ -1,5 +1,5 @@
 -- Worked scripts, computed step by step.
-use Rattle.std.proofs.Common.{◌≡◌, ℕ, zero, suc, ◌+◌, Bool, true, List, [], ◌∷◌, ◌++◌, length, map, replicate, refl}
+use Rattle.std.proofs.Common.{◌≡◌, ℕ, zero, suc, true, List, [], ◌∷◌, ◌++◌, length, map, replicate, refl}
 use Rattle.std.specs.List.{sum_by}
 use Rattle.nv_base.specs.declared.fault.Fault.TheVariants.{ActorBusy, ActorIdle, NoActor}
 use Rattle.nv_base.specs.declared.geometry.GeometryNumbers.{GeometryNumbers}
@@ -12,8 +12,8 @@ use Rattle.nv_cell.specs.Cell.{CellState}
 use Rattle.nv_entry.specs.declared.tree.TreeNode.{TreeNode}
 use Rattle.nv_core.specs.machine.Format.{formatted}
 use Rattle.nv_core.specs.machine.Settled.{tree_of}
-use Rattle.nv_core.specs.machine.Step.{Step, after, replies, stays, step}
-use Rattle.nv_core.specs.machine.World.{Done, Event, Go, Moved, Refused, Reply, Shared, Start, Started, Waiting, World}
+use Rattle.nv_core.specs.machine.Step.{Step, replies, stays, step}
+use Rattle.nv_core.specs.machine.World.{Done, Go, Moved, Refused, Reply, Shared, Start, Started, Waiting, World}
 
 -- ---- scripts
 

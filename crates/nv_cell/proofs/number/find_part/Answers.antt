@@ -1,14 +1,11 @@
-use Rattle.std.proofs.Common.{◌≡◌, ℕ, ◌+◌, ◌<◌, ◌≤◌, Some, None, length, take, arith, refl, ap, sym, ◌∙◌, slice_index_or}
+use Rattle.std.proofs.Common.{◌≡◌, ◌+◌, ◌<◌, None, length, arith, ap, sym, ◌∙◌, slice_index_or}
 use Rattle.std.specs.Option.{option_map}
 use Rattle.std.proofs.lemmas.Option.{get_or_from_slice_get, slice_get_within}
-use Rattle.nv_entry.specs.declared.item.Entry.{Entry}
-use Rattle.nv_entry.specs.Covered.{part_total}
 use Rattle.nv_log.specs.Chain.{place_of as chain_place_of}
-use Rattle.nv_cell.specs.Named.{number_named, place_of}
 use Rattle.nv_cell.specs.Numbers.{part_base}
 use Rattle.nv_cell.proofs.Cells.{base_next, base_rises}
 use Rattle.nv_cell.proofs.Naming.{named_here, named_nowhere, named_past, place_low}
-use Rattle.nv_cell.proofs.number.number_of.Goals as goal
+use Rattle.nv_cell.proofs.number.find_part.Goals as goal
 
 pub overflow_add-result : goal.overflow_add-result
 overflow_add-result c =

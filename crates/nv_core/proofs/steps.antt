@@ -1,0 +1,4 @@
+pub mod Rows
+pub mod Framed
+pub mod Bounded
+pub mod Events

@@ -1,0 +1,3 @@
+//! The machine of atomic steps. So far it is told by definitions and laws alone.
+
+pub mod laws;
