@@ -1,4 +1,3 @@
-pub mod Looks
 pub mod World
 pub mod Reads
 pub mod Sequence

@@ -1,6 +1,7 @@
 -- A step leaves what it is not lent.
 use Rattle.std.proofs.Common.{ℕ, zero, suc, ◌∙◌, Bool, true, false, List, [], ◌∷◌, length, Option, Some, None, ap, refl, sym, get_or-set_other, length-set}
 use Rattle.std.specs.Prelude.{Ok, Err}
+use Rattle.nv_calls.specs.declared.looked.Looked.{Looked}
 use Rattle.nv_alloc.specs.FreeList.{FreeBlocks}
 use Rattle.nv_book.specs.Book.{BookState}
 use Rattle.nv_calls.specs.Refusals.{Check as Tests}
@@ -8,7 +9,6 @@ use Rattle.nv_calls.specs.declared.answer.Answer.{Answer}
 use Rattle.nv_cell.specs.Cell.{CellState}
 use Rattle.nv_core.specs.machine.Frame.{Frame, IsFramed, Lent, Stays, lent, nothing_lent}
 use Rattle.nv_core.specs.machine.Kinds.{Retiring, again_turn, back_turn, blocks_turn, check_turn, end_turn, enter_turn, erase_turn, grown, lock_turn, look_turn, number_turn, over_turn, pages_turn, rest_turn, retired_by, unlocked_turn, visit_turn, wants_blocks, wants_pages}
-use Rattle.nv_core.specs.machine.Looks.{Looked}
 use Rattle.nv_core.specs.machine.Reads.{slot_at, written_slots}
 use Rattle.nv_core.specs.machine.Step.{ending_at, kind_turn, with_made}
 use Rattle.nv_core.specs.machine.World.{Answers, Append, Back, Check, Close, Ending, Enter, Give, HandState, Leave, Lock, Look, Next, Number, Open, Overtaken, Publish, Ready, Refuses, Retire, Running, Shared, TakeBlocks, TakePages, Turn, Unlock, Visit, no_cell, no_list, with_book, with_cell, with_list, with_owner}

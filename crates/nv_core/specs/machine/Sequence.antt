@@ -1,11 +1,11 @@
 -- The order of a call's steps.
 use Rattle.std.specs.Prelude.{ℕ, ◌+◌, if◌then◌else◌, nat_lt, List, [], ◌∷◌, length, None}
+use Rattle.nv_calls.specs.declared.looked.Looked.{Looked}
 use Rattle.nv_base.specs.declared.numbers.Handle.{Handle}
 use Rattle.nv_calls.specs.Plain.{same_handle}
 use Rattle.nv_calls.specs.declared.call.Call.{Call}
 use Rattle.nv_calls.specs.declared.call.Call.TheVariants as call
 use Rattle.nv_entry.specs.Tree.{root}
-use Rattle.nv_core.specs.machine.Looks.{Looked}
 use Rattle.nv_core.specs.machine.Reads.{slots_of, written_slots}
 use Rattle.nv_core.specs.machine.World.{Answers, Append, Check, Close, Enter, Leave, Lock, Look, Next, Number, Open, Publish, Ready, Retire, Running, Shared, Unlock, Visit}
 
