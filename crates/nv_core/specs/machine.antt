@@ -7,3 +7,4 @@ pub mod Format
 pub mod Settled
 pub mod Bound
 pub mod Frame
+pub mod Locks

@@ -263,7 +263,7 @@ falls (Publish place) block actor granted s h r =
     omega (arith, publish_next (length s.lists) place (length r.slots) (length (written_slots r)) (nat_lt (place + 1) (length (written_slots r))) (nat_lt 1 (length (written_slots r))) refl (written-length r))
 falls Close block actor granted s h r = omega arith
 falls (Retire place) block actor granted s h r = retired_falls (length s.lists) _ _ place _ _ r
-falls Leave block actor granted s h r = omega arith
+falls Leave block actor granted s h r = end_falls (length s.lists) _ r.slots _ _ h r (omega arith)
 falls (Unlock place) block actor granted s h r = unlock_falls (length s.lists) _ place _ h r refl
 falls (Give cpu) block actor granted s h r = give_falls cpu s _ (given cpu s h) r
 falls Back block actor granted s h r = back_falls (length s.lists) _ h.ino s h r

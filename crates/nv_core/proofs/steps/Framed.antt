@@ -84,6 +84,19 @@ book_frame book s = record {
   locks = refl;
 }
 
+leave_frame : (s : Shared) → Frame (record nothing_lent { commit_lock = true }) s (record s { holder = None })
+leave_frame s = record {
+  lists = λ cpu h. refl;
+  pool = refl;
+  cells = λ n h. refl;
+  owners = λ n h. refl;
+  book = refl;
+  holder = tt;
+  cpus = refl;
+  slots = refl;
+  locks = refl;
+}
+
 -- a cell and the book, and the cell once more
 retired_frame : (ino : ℕ) (book : BookState) (cell : CellState) (s : Shared) → Frame (record nothing_lent { book = true; cell = Some ino }) s (with_cell ino cell (with_book book s))
 retired_frame ino book cell s = record {
@@ -243,17 +256,7 @@ framed Open block actor granted s h r = book_frame _ s
 framed (Publish place) block actor granted s h r = cell_frame _ _ s
 framed Close block actor granted s h r = book_frame _ s
 framed (Retire place) block actor granted s h r = erase_framed _ (retired_by (slot_at (written_slots r) place) s h r) _ place s _ r
-framed Leave block actor granted s h r = record {
-  lists = λ cpu h. refl;
-  pool = refl;
-  cells = λ n h. refl;
-  owners = λ n h. refl;
-  book = refl;
-  holder = tt;
-  cpus = refl;
-  slots = refl;
-  locks = refl;
-}
+framed Leave block actor granted s h r = end_framed _ s (record s { holder = None }) r.slots _ h r (leave_frame s)
 framed (Unlock place) block actor granted s h r = unlock_framed _ _ place s _ h r (lock_frame _ _ s)
 framed (Give cpu) block actor granted s h r = rest_framed _ s _ _ h.ino _ r (list_frame cpu _ s)
 framed Back block actor granted s h r = back_framed h.ino s h r

@@ -291,12 +291,12 @@ retire_turn ino place s h r = retired_turn (retired_by ino s h r) ino place s h 
 -- ---- leave
 
 abbrev pub leave_turn : Shared → HandState → Running → Turn
-leave_turn s h r = go_on Leave (record s { holder = None }) h r
+leave_turn s h r = end_turn r.slots r.ending (record s { holder = None }) h r
 
 -- ---- unlock
 
 abbrev pub unlocked_turn : Bool → ℕ → Shared → HandState → Running → Turn
-unlocked_turn true place s h r = go_on (Unlock place) s h r
+unlocked_turn true place s h r = Moves s h (go_to (Unlock (place + 1)) r)
 unlocked_turn false place s h r = over_turn r.ending s h r
 
 abbrev pub unlock_turn : ℕ → Shared → HandState → Running → Turn
