@@ -1,4 +1,6 @@
 pub mod Rows
+pub mod Lists
+pub mod Locked
 pub mod Framed
 pub mod Bounded
 pub mod Events

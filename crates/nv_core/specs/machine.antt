@@ -1,4 +1,3 @@
-pub mod Looks
 pub mod World
 pub mod Reads
 pub mod Sequence
@@ -8,3 +7,4 @@ pub mod Format
 pub mod Settled
 pub mod Bound
 pub mod Frame
+pub mod Locks

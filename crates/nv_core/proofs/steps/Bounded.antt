@@ -7,6 +7,8 @@ use Rattle.std.proofs.lemmas.List.Sums.{count_by-le-length, length-filter}
 use Rattle.std.proofs.lemmas.Option.{none-some}
 use Rattle.std.specs.List.{list_any}
 use Rattle.std.specs.Prelude.{Ok, Err, unwrap_or}
+use Rattle.nv_calls.specs.Locked.{handles, if_any}
+use Rattle.nv_calls.specs.declared.looked.Looked.{Looked}
 use Rattle.nv_alloc.specs.Block.{BlockValue}
 use Rattle.nv_alloc.specs.FreeList.{FreeBlocks, is_home}
 use Rattle.nv_base.specs.declared.numbers.Handle.{Handle}
@@ -17,7 +19,6 @@ use Rattle.nv_calls.specs.declared.call.Call.{Call}
 use Rattle.nv_calls.specs.declared.call.Call.TheVariants as call
 use Rattle.nv_core.specs.machine.Bound.{Falls, bound, most_steps, rank, round}
 use Rattle.nv_core.specs.machine.Kinds.{again_turn, back_turn, blocks_in, blocks_turn, check_turn, end_turn, enter_turn, erase_turn, given, grown, lock_turn, look_turn, number_turn, over_turn, pages_turn, rest_turn, unlocked_turn, visit_turn, wants_blocks, wants_pages}
-use Rattle.nv_core.specs.machine.Looks.{Looked, handles, if_any}
 use Rattle.nv_core.specs.machine.Reads.{home_from, if_number, is_written, slots_in, slots_of, with_slot, written_slots}
 use Rattle.nv_core.specs.machine.Sequence.{Beginning, Looks, Locks, Numbers, Visits, begun, directories, locking, nothing_looked}
 use Rattle.nv_core.specs.machine.Step.{ending_at, kind_turn, with_made}
@@ -262,7 +263,7 @@ falls (Publish place) block actor granted s h r =
     omega (arith, publish_next (length s.lists) place (length r.slots) (length (written_slots r)) (nat_lt (place + 1) (length (written_slots r))) (nat_lt 1 (length (written_slots r))) refl (written-length r))
 falls Close block actor granted s h r = omega arith
 falls (Retire place) block actor granted s h r = retired_falls (length s.lists) _ _ place _ _ r
-falls Leave block actor granted s h r = omega arith
+falls Leave block actor granted s h r = end_falls (length s.lists) _ r.slots _ _ h r (omega arith)
 falls (Unlock place) block actor granted s h r = unlock_falls (length s.lists) _ place _ h r refl
 falls (Give cpu) block actor granted s h r = give_falls cpu s _ (given cpu s h) r
 falls Back block actor granted s h r = back_falls (length s.lists) _ h.ino s h r

@@ -1,6 +1,7 @@
 -- A step leaves what it is not lent.
 use Rattle.std.proofs.Common.{ℕ, zero, suc, ◌∙◌, Bool, true, false, List, [], ◌∷◌, length, Option, Some, None, ap, refl, sym, get_or-set_other, length-set}
 use Rattle.std.specs.Prelude.{Ok, Err}
+use Rattle.nv_calls.specs.declared.looked.Looked.{Looked}
 use Rattle.nv_alloc.specs.FreeList.{FreeBlocks}
 use Rattle.nv_book.specs.Book.{BookState}
 use Rattle.nv_calls.specs.Refusals.{Check as Tests}
@@ -8,7 +9,6 @@ use Rattle.nv_calls.specs.declared.answer.Answer.{Answer}
 use Rattle.nv_cell.specs.Cell.{CellState}
 use Rattle.nv_core.specs.machine.Frame.{Frame, IsFramed, Lent, Stays, lent, nothing_lent}
 use Rattle.nv_core.specs.machine.Kinds.{Retiring, again_turn, back_turn, blocks_turn, check_turn, end_turn, enter_turn, erase_turn, grown, lock_turn, look_turn, number_turn, over_turn, pages_turn, rest_turn, retired_by, unlocked_turn, visit_turn, wants_blocks, wants_pages}
-use Rattle.nv_core.specs.machine.Looks.{Looked}
 use Rattle.nv_core.specs.machine.Reads.{slot_at, written_slots}
 use Rattle.nv_core.specs.machine.Step.{ending_at, kind_turn, with_made}
 use Rattle.nv_core.specs.machine.World.{Answers, Append, Back, Check, Close, Ending, Enter, Give, HandState, Leave, Lock, Look, Next, Number, Open, Overtaken, Publish, Ready, Refuses, Retire, Running, Shared, TakeBlocks, TakePages, Turn, Unlock, Visit, no_cell, no_list, with_book, with_cell, with_list, with_owner}
@@ -79,6 +79,19 @@ book_frame book s = record {
   owners = λ ino h. refl;
   book = tt;
   holder = refl;
+  cpus = refl;
+  slots = refl;
+  locks = refl;
+}
+
+leave_frame : (s : Shared) → Frame (record nothing_lent { commit_lock = true }) s (record s { holder = None })
+leave_frame s = record {
+  lists = λ cpu h. refl;
+  pool = refl;
+  cells = λ n h. refl;
+  owners = λ n h. refl;
+  book = refl;
+  holder = tt;
   cpus = refl;
   slots = refl;
   locks = refl;
@@ -243,17 +256,7 @@ framed Open block actor granted s h r = book_frame _ s
 framed (Publish place) block actor granted s h r = cell_frame _ _ s
 framed Close block actor granted s h r = book_frame _ s
 framed (Retire place) block actor granted s h r = erase_framed _ (retired_by (slot_at (written_slots r) place) s h r) _ place s _ r
-framed Leave block actor granted s h r = record {
-  lists = λ cpu h. refl;
-  pool = refl;
-  cells = λ n h. refl;
-  owners = λ n h. refl;
-  book = refl;
-  holder = tt;
-  cpus = refl;
-  slots = refl;
-  locks = refl;
-}
+framed Leave block actor granted s h r = end_framed _ s (record s { holder = None }) r.slots _ h r (leave_frame s)
 framed (Unlock place) block actor granted s h r = unlock_framed _ _ place s _ h r (lock_frame _ _ s)
 framed (Give cpu) block actor granted s h r = rest_framed _ s _ _ h.ino _ r (list_frame cpu _ s)
 framed Back block actor granted s h r = back_framed h.ino s h r

@@ -1,6 +1,7 @@
 -- The steps, one function a kind. What decides a step is an argument.
 use Rattle.std.specs.Prelude.{ℕ, zero, suc, ◌+◌, ◌-◌, ◌%◌, ◌&&◌, Bool, true, false, nat_lt, List, [], ◌∷◌, ◌++◌, drop, length, map, take, Option, Some, None, Ok, Err, slice_index_or}
 use Rattle.std.specs.List.{flat_map}
+use Rattle.nv_calls.specs.declared.looked.Looked.{Looked}
 use Rattle.nv_alloc.specs.Block.{BlockValue}
 use Rattle.nv_alloc.specs.Giving.{after_giving, kept_of}
 use Rattle.nv_alloc.specs.Numbers.{put_by}
@@ -16,7 +17,7 @@ use Rattle.nv_book.specs.declared.retired.Retired.TheVariants.{Kept, Free}
 use Rattle.nv_calls.specs.AllCalls.{answer}
 use Rattle.nv_calls.specs.Plain.{Change}
 use Rattle.nv_calls.specs.Refusals.{Check as Tests}
-use Rattle.nv_calls.specs.Slots.{entries_of, items_for}
+use Rattle.nv_calls.specs.Slots.{entries_of, items_for, place_in}
 use Rattle.nv_calls.specs.declared.answer.Answer.{Answer}
 use Rattle.nv_cell.specs.Append.{appended, blocks_for, run_numbers}
 use Rattle.nv_cell.specs.Cell.{CellState, empty_cell, killed_of, log_of, number_in, published, with_mark, without_part}
@@ -29,7 +30,6 @@ use Rattle.nv_entry.specs.declared.part.PartId.{PartId}
 use Rattle.nv_epoch.specs.SnapList.{ids}
 use Rattle.nv_journal.specs.declared.old_tail.OldTail.{OldTail}
 use Rattle.nv_log.specs.Chain.{with_page}
-use Rattle.nv_core.specs.machine.Looks.{Looked, place_in}
 use Rattle.nv_core.specs.machine.Reads.{copies, filled, fresh_pages, home_from, pages_wanted, plan_by, slot_at, slots_of, written_slots}
 use Rattle.nv_core.specs.machine.Sequence.{sequel}
 use Rattle.nv_core.specs.machine.World.{Answers, Append, Back, Close, Done, Ending, Ends, Enter, Give, HandState, Leave, Lock, Look, Moves, Next, Number, Open, Overtaken, Publish, Ready, Refused, Refuses, Reply, Retire, Running, Shared, TakeBlocks, TakePages, Turn, Unlock, Waits, cell_at, go_to, list_at, with_book, with_cell, with_list, with_owner}
@@ -291,12 +291,12 @@ retire_turn ino place s h r = retired_turn (retired_by ino s h r) ino place s h 
 -- ---- leave
 
 abbrev pub leave_turn : Shared → HandState → Running → Turn
-leave_turn s h r = go_on Leave (record s { holder = None }) h r
+leave_turn s h r = end_turn r.slots r.ending (record s { holder = None }) h r
 
 -- ---- unlock
 
 abbrev pub unlocked_turn : Bool → ℕ → Shared → HandState → Running → Turn
-unlocked_turn true place s h r = go_on (Unlock place) s h r
+unlocked_turn true place s h r = Moves s h (go_to (Unlock (place + 1)) r)
 unlocked_turn false place s h r = over_turn r.ending s h r
 
 abbrev pub unlock_turn : ℕ → Shared → HandState → Running → Turn

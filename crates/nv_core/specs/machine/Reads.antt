@@ -3,6 +3,8 @@ use Rattle.std.specs.Prelude.{◌≡◌, ℕ, ◌+◌, ◌^◌, ◌/◌, ◌==�
 use Rattle.std.proofs.Common.{refl}
 use Rattle.std.proofs.lemmas.Bool.{ltb-true}
 use Rattle.std.specs.List.{flat_map, list_any, range_with_len, sum_by}
+use Rattle.nv_calls.specs.Locked.{handles}
+use Rattle.nv_calls.specs.declared.looked.Looked.{Looked}
 use Rattle.nv_alloc.specs.Block.{BlockValue, numbers_of}
 use Rattle.nv_alloc.specs.FreeList.{FreeBlocks, is_home}
 use Rattle.nv_base.specs.declared.numbers.Handle.{Handle}
@@ -20,7 +22,6 @@ use Rattle.nv_entry.specs.Node.{block_now, node_now}
 use Rattle.nv_entry.specs.declared.item.Run.{Run}
 use Rattle.nv_entry.specs.declared.node.NodeCopy.{NodeCopy}
 use Rattle.nv_log.specs.Chain.{pages_for}
-use Rattle.nv_core.specs.machine.Looks.{Looked, handles}
 use Rattle.nv_core.specs.machine.World.{HandState, Running, Shared, cell_at}
 
 -- ---- nodes

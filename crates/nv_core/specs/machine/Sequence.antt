@@ -1,13 +1,13 @@
 -- The order of a call's steps.
 use Rattle.std.specs.Prelude.{ℕ, ◌+◌, if◌then◌else◌, nat_lt, List, [], ◌∷◌, length, None}
+use Rattle.nv_calls.specs.declared.looked.Looked.{Looked}
 use Rattle.nv_base.specs.declared.numbers.Handle.{Handle}
 use Rattle.nv_calls.specs.Plain.{same_handle}
 use Rattle.nv_calls.specs.declared.call.Call.{Call}
 use Rattle.nv_calls.specs.declared.call.Call.TheVariants as call
 use Rattle.nv_entry.specs.Tree.{root}
-use Rattle.nv_core.specs.machine.Looks.{Looked}
 use Rattle.nv_core.specs.machine.Reads.{slots_of, written_slots}
-use Rattle.nv_core.specs.machine.World.{Answers, Append, Check, Close, Enter, Leave, Lock, Look, Next, Number, Open, Publish, Ready, Retire, Running, Shared, Unlock, Visit}
+use Rattle.nv_core.specs.machine.World.{Answers, Append, Check, Close, Enter, Leave, Lock, Look, Next, Number, Open, Publish, Ready, Retire, Running, Shared, Visit}
 
 -- ---- how calls begin
 
@@ -66,8 +66,8 @@ publishing place written = if nat_lt place (length written) then Publish place e
 abbrev pub retiring : ℕ → List ℕ → Next
 retiring place written = if nat_lt place (length written) then Retire place else Leave
 
--- THE SEQUENCE: what comes behind a step that has done its work. A check and a taking go on by what is still wanted, and the
--- last steps by what is in the hand.
+-- THE SEQUENCE: what comes behind a step that has done its work. A check and a taking go on by what is still wanted, and a
+-- leave and the last steps by what is locked or in the hand.
 abbrev pub sequel : Running → Next → Next
 sequel r Number = locking 0 r.slots
 sequel r (Look place) = looking (place + 1) r
@@ -79,8 +79,6 @@ sequel r Open = Publish 0
 sequel r (Publish place) = publishing (place + 1) (written_slots r)
 sequel r Close = Retire 0
 sequel r (Retire place) = retiring (place + 1) (written_slots r)
-sequel r Leave = Unlock 0
-sequel r (Unlock place) = Unlock (place + 1)
 sequel r other = other
 
 -- ---- a call that starts

@@ -1,5 +1,6 @@
 -- The world of atomic steps: what is shared, and what is each actor's own.
 use Rattle.std.specs.Prelude.{ℕ, Bool, List, [], Option, None, slice_index_or, slice_set}
+use Rattle.nv_calls.specs.declared.looked.Looked.{Looked}
 use Rattle.nv_alloc.specs.Block.{BlockValue}
 use Rattle.nv_alloc.specs.FreeList.{FreeBlocks}
 use Rattle.nv_alloc.specs.InodePool.{FreeInodes}
@@ -12,7 +13,6 @@ use Rattle.nv_calls.specs.declared.call.Call.{Call}
 use Rattle.nv_calls.specs.declared.plan.Planned.{Planned}
 use Rattle.nv_cell.specs.Cell.{CellState, empty_cell}
 use Rattle.nv_cell.specs.declared.killed.KilledPart.{KilledPart}
-use Rattle.nv_core.specs.machine.Looks.{Looked}
 
 -- ---- what is shared
 
