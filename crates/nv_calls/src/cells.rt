@@ -71,6 +71,7 @@ pub trait Cells {
     fn add_page(&mut self, k: usize, block: Block)
         requires within { k < length (cells self.old) }
         requires reserved { 0 < (value_at (cells self.old) k).room.pages }
+        requires sized { length block.bytes ≡ (state_at (cells self.old) k).block }
         ensures cells { OnlyAt k (cells self.old) (cells self.new) }
         ensures state { state_at (cells self.new) k ≡ record (state_at (cells self.old) k) {
           chain = with_page block (state_at (cells self.old) k).chain;
