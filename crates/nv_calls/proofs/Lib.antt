@@ -4,6 +4,7 @@ pub mod Commits
 pub mod Items
 pub mod Keeps
 pub mod Lawful
+pub mod Nothing
 pub mod Passed
 pub mod Places
 pub mod Resized

@@ -146,6 +146,13 @@ plan block nodes taken (call.Rmdir dir name) = leave_plan dir name (found nodes 
 plan block nodes taken (call.Rename from old to new) = rename_plan from old to new (looked nodes (call.Rename from old to new))
 plan block nodes taken other = []
 
+-- a call that commits nothing has no effect and no plan, and any other has both
+pub record IsToldNothing (block : ℕ) (nodes : Handle → Option NodeCopy) (taken : Taken) (c : Call) : Type 0 where
+  pub no_effect : is_nothing c ≡ true → effect nodes taken.made c ≡ []
+  pub no_plan : is_nothing c ≡ true → plan block nodes taken c ≡ []
+  pub some_effect : is_nothing c ≡ false → 0 < length (effect nodes taken.made c)
+  pub some_plan : is_nothing c ≡ false → 0 < length (plan block nodes taken c)
+
 -- maximal runs of blocks, which have the pages that a text touches after the write
 pub record HasPages (bytes : ℕ → List ℕ) (block : ℕ) (taken : Taken) (offset : ℕ) (text before : List ℕ) : Type 0 where
   pub maximal : AreMaximal taken.runs

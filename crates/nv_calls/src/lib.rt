@@ -25,9 +25,9 @@ mod wants;
 
 pub use answer::Answer;
 pub use call::Call;
-pub use looked::{Looked, found, look, look_all};
 pub use cells::Cells;
 pub use lent::{LentCell, NoCells};
+pub use looked::{Looked, found, is_as_looked, look, look_all};
 pub use nodes::Nodes;
 pub use plan::{Plan, Planned, PlannedItems, place_in};
 pub use planning::{blocks_wanted, ends_in_page, is_nothing, plan_items, plan_of};
