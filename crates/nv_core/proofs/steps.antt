@@ -4,3 +4,4 @@ pub mod Locked
 pub mod Framed
 pub mod Bounded
 pub mod Events
+pub mod Locks

@@ -1,14 +1,17 @@
 -- What single events leave, and how lists of them go.
 use Rattle.std.proofs.Common.{◌≡◌, ◌≢◌, ℕ, ◌+◌, ◌<◌, ◌≤◌, ◌==◌, Bool, true, false, List, [], ◌∷◌, length, Option, Some, None, ap, arith, get_or-set_other, get_or-set_same, if◌then◌else◌, length-set, nat_lt, refl, set, subst, sym}
-use Rattle.std.proofs.lemmas.Bool.{eqb-false, eqb-true, false≢true, lt-ltb, ltb-true}
+use Rattle.std.proofs.lemmas.Bool.{eqb-false, eqb-true, false_from_ne_true, false≢true, lt-ltb, ltb-true}
 use Rattle.std.specs.List.{AllByRecursion}
+use Rattle.std.specs.Prelude.{Result, Ok, Err}
 use Rattle.nv_base.specs.declared.fault.Fault.{Fault}
+use Rattle.nv_base.specs.declared.fault.Fault.TheVariants.{ActorBusy, ActorIdle, NoActor}
+use Rattle.nv_calls.specs.declared.answer.Answer.{Answer}
 use Rattle.nv_calls.specs.declared.call.Call.{Call}
 use Rattle.nv_core.specs.machine.Bound.{Falls, IsNoStart, bound, bound_at, bound_of, most_steps, moves, moves_by, moves_in}
 use Rattle.nv_core.specs.machine.Frame.{Frame, IsFramed, IsOneStep, IsStart, LeavesOthers, Lent, lent}
 use Rattle.nv_core.specs.machine.Sequence.{beginning, begun}
-use Rattle.nv_core.specs.machine.Step.{Step, after, go_step, start_step, step, turn, turned}
-use Rattle.nv_core.specs.machine.World.{Actor, Done, Ends, Event, Go, Moved, Moves, Refused, Reply, Running, Shared, Start, Started, Turn, Waiting, Waits, World, actor_at, idle}
+use Rattle.nv_core.specs.machine.Step.{Step, after, go_step, reply_of, start_step, stays, step, turn, turned}
+use Rattle.nv_core.specs.machine.World.{Actor, Ends, Event, Go, Moves, Refused, Reply, Running, Shared, Start, Started, Turn, Waits, World, actor_at, idle}
 use Rattle.nv_core.proofs.steps.Bounded.{begun_bound, falls, some_left}
 use Rattle.nv_core.proofs.steps.Framed.{framed, same_frame}
 
@@ -33,19 +36,19 @@ set_others actor x w s = record {
 same_others : (actor : ℕ) (w : World) → LeavesOthers actor w w
 same_others actor w = record { others = λ b h. refl; count = refl; numbers = refl }
 
-turned_others : (t : Turn) (actor : ℕ) (w : World) → LeavesOthers actor w (turned t actor w).world
+pub turned_others : (t : Turn) (actor : ℕ) (w : World) → LeavesOthers actor w (turned t actor w).world
 turned_others (Moves s h r) actor w = set_others actor _ w s
 turned_others Waits actor w = same_others actor w
-turned_others (Ends reply s h) actor w = set_others actor _ w s
+turned_others (Ends result s h) actor w = set_others actor _ w s
 
-turned_frame : (l : Lent) (t : Turn) (actor : ℕ) (w : World) → IsFramed l w.shared t → Frame l w.shared (turned t actor w).world.shared
+pub turned_frame : (l : Lent) (t : Turn) (actor : ℕ) (w : World) → IsFramed l w.shared t → Frame l w.shared (turned t actor w).world.shared
 turned_frame l (Moves s h r) actor w f = f
 turned_frame l Waits actor w f = same_frame l w.shared
-turned_frame l (Ends reply s h) actor w f = f
+turned_frame l (Ends result s h) actor w f = f
 
 -- ---- one event
 
-go_is_turn : (b : Bool) (running : Option Running) (w : World) (actor : ℕ) (granted : Bool) (r : Running) → b ≡ true → running ≡ Some r
+pub go_is_turn : (b : Bool) (running : Option Running) (w : World) (actor : ℕ) (granted : Bool) (r : Running) → b ≡ true → running ≡ Some r
     → go_step b running actor granted w ≡ turned (turn w.numbers.block actor granted w.shared (actor_at w actor).hand r) actor w
 go_is_turn b running w actor granted r there is = rw there (rw is refl)
 
@@ -69,18 +72,42 @@ start_at true None w actor c = record { shared = refl; others = set_others actor
 pub starts : (w : World) (actor : ℕ) (c : Call) → IsStart w actor (step w (Start actor c))
 starts w actor c = start_at _ _ w actor c
 
+-- ---- who is refused an event
+
+no_actor : (w : World) (actor : ℕ) → length w.actors ≤ actor → nat_lt actor (length w.actors) ≡ false
+no_actor w actor past = false_from_ne_true (nat_lt actor (length w.actors)) (λ e. omega (arith, past, ltb-true actor (length w.actors) e))
+
+start_nobody : (b : Bool) (running : Option Running) (w : World) (actor : ℕ) (c : Call) → b ≡ false → start_step b running actor c w ≡ stays (Refused NoActor) w
+start_nobody b running w actor c e = rw e refl
+
+go_nobody : (b : Bool) (running : Option Running) (w : World) (actor : ℕ) (granted : Bool) → b ≡ false → go_step b running actor granted w ≡ stays (Refused NoActor) w
+go_nobody b running w actor granted e = rw e refl
+
+start_busy : (b : Bool) (running : Option Running) (w : World) (actor : ℕ) (c : Call) (r : Running) → b ≡ true → running ≡ Some r → start_step b running actor c w ≡ stays (Refused ActorBusy) w
+start_busy b running w actor c r e f = rw e (rw f refl)
+
+go_idle : (b : Bool) (running : Option Running) (w : World) (actor : ℕ) (granted : Bool) → b ≡ true → running ≡ None → go_step b running actor granted w ≡ stays (Refused ActorIdle) w
+go_idle b running w actor granted e f = rw e (rw f refl)
+
+pub nobody : (w : World) (actor : ℕ) (c : Call) (granted : Bool) → length w.actors ≤ actor
+    → (step w (Start actor c) ≡ stays (Refused NoActor) w) × (step w (Go actor granted) ≡ stays (Refused NoActor) w)
+nobody w actor c granted past = (start_nobody _ _ w actor c (no_actor w actor past), go_nobody _ _ w actor granted (no_actor w actor past))
+
+pub busy : (w : World) (actor : ℕ) (c : Call) (r : Running) → actor < length w.actors → (actor_at w actor).running ≡ Some r → step w (Start actor c) ≡ stays (Refused ActorBusy) w
+busy w actor c r there is = start_busy _ _ w actor c r (lt-ltb actor (length w.actors) there) is
+
+pub idles : (w : World) (actor : ℕ) (granted : Bool) → actor < length w.actors → (actor_at w actor).running ≡ None → step w (Go actor granted) ≡ stays (Refused ActorIdle) w
+idles w actor granted there is = go_idle _ _ w actor granted (lt-ltb actor (length w.actors) there) is
+
 -- ---- the bound
 
 -- an actor that is set is there
 set_is : (actor : ℕ) (x : Actor) (w : World) (s : Shared) → actor < length w.actors → actor_at (record w { shared = s; actors = set w.actors actor x }) actor ≡ x
 set_is actor x w s there = get_or-set_same w.actors actor x idle there
 
-few_moves : (reply : Reply) → moves_by reply ≤ 1
-few_moves Started = omega arith
-few_moves Moved = omega arith
-few_moves Waiting = omega arith
-few_moves (Done answer) = omega arith
-few_moves (Refused fault) = omega arith
+last_moves : (result : Result Answer Fault) → moves_by (reply_of result) ≡ 0
+last_moves (Ok found) = refl
+last_moves (Err fault) = refl
 
 turned_bound : (t : Turn) (actor : ℕ) (w : World) (l : Lent) (n : ℕ) → actor < length w.actors → 0 < n → bound_at w actor ≡ n
     → Falls (length w.shared.lists) n t → IsFramed l w.shared t
@@ -89,9 +116,9 @@ turned_bound (Moves s h r) actor w l n there some is falls f =
     let set = set_is actor (record { hand = h; running = Some r }) w s there in
     rw set (rw f.cpus (omega (arith, falls)))
 turned_bound Waits actor w l n there some is falls f = omega (arith, is)
-turned_bound (Ends reply s h) actor w l n there some is falls f =
+turned_bound (Ends result s h) actor w l n there some is falls f =
     let set = set_is actor (record { hand = h; running = None }) w s there in
-    rw set (omega (arith, some, few_moves reply))
+    rw set (omega (arith, some, last_moves result))
 
 own_go : (b : Bool) (running : Option Running) (w : World) (actor : ℕ) (granted : Bool) → nat_lt actor (length w.actors) ≡ b → (actor_at w actor).running ≡ running
     → moves_by (go_step b running actor granted w).reply + bound_at (go_step b running actor granted w).world actor ≤ bound_at w actor

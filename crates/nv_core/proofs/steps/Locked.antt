@@ -1,17 +1,17 @@
 -- Each actor holds exactly the locks of its call, and waits for another's alone.
-use Rattle.std.proofs.Common.{◌≡◌, ◌≢◌, ℕ, zero, suc, ◌+◌, ◌<◌, ◌≤◌, ◌==◌, ◌∙◌, Bool, true, false, List, [], ◌∷◌, Option, Some, None, ap, arith, drop, get_or-set_other, get_or-set_same, if◌then◌else◌, length, length-set, nat_lt, refl, subst, sym, take}
+use Rattle.std.proofs.Common.{◌≡◌, ◌≢◌, ℕ, zero, suc, ◌+◌, ◌<◌, ◌==◌, ◌∙◌, Bool, true, false, List, [], ◌∷◌, Option, Some, None, ap, arith, drop, get_or-set_other, get_or-set_same, if◌then◌else◌, length, length-set, nat_lt, refl, subst, sym, take}
 use Rattle.std.specs.Prelude.{◌||◌, Ok, Err, slice_index_or}
-use Rattle.std.proofs.lemmas.Bool.{eqb-false, eqb-true, false≢true, ltb-false, ltb-true, true≢false}
+use Rattle.std.proofs.lemmas.Bool.{eqb-false, eqb-true, ltb-false, ltb-true}
 use Rattle.nv_alloc.specs.Numbers.{has}
 use Rattle.nv_calls.specs.Refusals.{Check as Tests}
 use Rattle.nv_calls.specs.declared.answer.Answer.{Answer}
 use Rattle.nv_core.specs.machine.Kinds.{Retiring, again_turn, back_turn, blocks_turn, check_turn, end_turn, enter_turn, erase_turn, grown, lock_turn, look_turn, number_turn, over_turn, pages_turn, rest_turn, retired_by, unlocked_turn, visit_turn, wants_blocks, wants_pages}
 use Rattle.nv_core.specs.machine.Locks.{AreSlots, HoldsIts, IsHeldByOther, IsInside, WaitsFor, commits_at, held_at, is_owner}
-use Rattle.nv_core.specs.machine.Looks.{Looked}
+use Rattle.nv_calls.specs.declared.looked.Looked.{Looked}
 use Rattle.nv_core.specs.machine.Reads.{slot_at, slots_of, written_slots}
-use Rattle.nv_core.specs.machine.Sequence.{directories, locking, sequel}
+use Rattle.nv_core.specs.machine.Sequence.{directories, locking}
 use Rattle.nv_core.specs.machine.Step.{ending_at, kind_turn, with_made}
-use Rattle.nv_core.specs.machine.World.{Answers, Append, Back, Check, Close, Done, Ending, Ends, Enter, Give, HandState, Leave, Lock, Look, Moves, Next, Number, Open, Overtaken, Publish, Ready, Refuses, Retire, Running, Shared, TakeBlocks, TakePages, Turn, Unlock, Visit, Waits, go_to, owner_at, with_owner}
+use Rattle.nv_core.specs.machine.World.{Answers, Append, Back, Check, Close, Ending, Ends, Enter, Give, HandState, Leave, Lock, Look, Moves, Next, Number, Open, Overtaken, Publish, Ready, Refuses, Retire, Running, Shared, TakeBlocks, TakePages, Turn, Unlock, Visit, Waits, go_to, owner_at, with_owner}
 use Rattle.nv_core.proofs.steps.Lists.{drop_all, drop_apart, has_drop, has_take, slot_inside, slots_are, take_all, take_apart}
 
 -- ---- what a turn leaves of the locks
@@ -26,14 +26,14 @@ pub record LocksLeft (a : ℕ) (s t : Shared) : Type 0 where
 abbrev pub OnLocks : ℕ → Shared → Type 0 → Turn → Type 0
 OnLocks a s waits (Moves t h q) = LocksLeft a s t × HoldsIts t a (Some q)
 OnLocks a s waits Waits = waits
-OnLocks a s waits (Ends reply t h) = LocksLeft a s t × HoldsIts t a None
+OnLocks a s waits (Ends result t h) = LocksLeft a s t × HoldsIts t a None
 
 -- what an actor holds: these slots, and the commit lock or not
 pub record Holds (s : Shared) (a : ℕ) (slots : List ℕ) (commits : Bool) : Type 0 where
   pub owners : (ino : ℕ) → is_owner a (owner_at s ino) ≡ has slots ino
   pub holder : is_owner a s.holder ≡ commits
 
-same_locks : (a : ℕ) (s : Shared) → LocksLeft a s s
+pub same_locks : (a : ℕ) (s : Shared) → LocksLeft a s s
 same_locks a s = record { owners = λ b h ino. refl; holder = λ b h. refl; wide = refl }
 
 -- a call whose next step holds these
@@ -86,7 +86,7 @@ lock_here s a place r true e mine are = holds_as s a (go_to (Lock place) r) (tak
 lock_here s a place r false e mine are =
     holds_as s a (go_to Check r) (take place r.slots) false mine (sym (take_all place r.slots (ltb-false place (length r.slots) e))) refl are tt
 
-locking_holds : (s : Shared) (a place : ℕ) (r : Running) → Holds s a (take place r.slots) false → AreSlots (length s.owners) r.slots → HoldsIts s a (Some (go_to (locking place r.slots) r))
+pub locking_holds : (s : Shared) (a place : ℕ) (r : Running) → Holds s a (take place r.slots) false → AreSlots (length s.owners) r.slots → HoldsIts s a (Some (go_to (locking place r.slots) r))
 locking_holds s a place r mine are = lock_here s a place r (nat_lt place (length r.slots)) refl mine are
 
 look_here : (s : Shared) (a place : ℕ) (r : Running) (b : Bool) → Holds s a [] false → AreSlots (length s.owners) r.slots
@@ -148,7 +148,7 @@ owner_set s slot owner ino P false e h here there =
 locked_left : (a : ℕ) (s : Shared) (slot : ℕ) → slot < length s.owners → owner_at s slot ≡ None → LocksLeft a s (with_owner slot (Some a) s)
 locked_left a s slot h free = record {
   owners = λ b ne ino. owner_set s slot (Some a) ino (λ (o : Option ℕ). is_owner b o ≡ is_owner b (owner_at s ino)) (slot == ino) refl h
-    (λ is. apart a b (a == b) refl (λ e. ne (sym e)) ∙ sym (ap (is_owner b) (subst (λ (n : ℕ). owner_at s n ≡ None) is free))) (λ ne. refl);
+      (λ is. apart a b (a == b) refl (λ e. ne (sym e)) ∙ sym (ap (is_owner b) (subst (λ (n : ℕ). owner_at s n ≡ None) is free))) (λ ne. refl);
   holder = λ b ne. refl;
   wide = length-set s.owners slot (Some a);
 }
@@ -156,7 +156,7 @@ locked_left a s slot h free = record {
 unlocked_left : (a : ℕ) (s : Shared) (slot : ℕ) → slot < length s.owners → is_owner a (owner_at s slot) ≡ true → LocksLeft a s (with_owner slot None s)
 unlocked_left a s slot h own = record {
   owners = λ b ne ino. owner_set s slot None ino (λ (o : Option ℕ). is_owner b o ≡ is_owner b (owner_at s ino)) (slot == ino) refl h
-    (λ is. sym (subst (λ (n : ℕ). is_owner b (owner_at s n) ≡ false) is (others_not a b (owner_at s slot) ne own))) (λ ne. refl);
+      (λ is. sym (subst (λ (n : ℕ). is_owner b (owner_at s n) ≡ false) is (others_not a b (owner_at s slot) ne own))) (λ ne. refl);
   holder = λ b ne. refl;
   wide = length-set s.owners slot None;
 }
@@ -165,9 +165,9 @@ locked_holds : (a : ℕ) (s : Shared) (place : ℕ) (slots : List ℕ) → place
     → Holds (with_owner (slot_at slots place) (Some a) s) a (take (place + 1) slots) false
 locked_holds a s place slots inside h mine = record {
   owners = λ ino. owner_set s (slot_at slots place) (Some a) ino (λ (o : Option ℕ). is_owner a o ≡ has (take (place + 1) slots) ino) (slot_at slots place == ino) refl h
-    (λ is. self a ∙ sym (has_take place slots ino inside ∙ ap (λ (b : Bool). (has (take place slots) ino || b)) (subst (λ (n : ℕ). (slot_at slots place == n) ≡ true) is (self (slot_at slots place)))
+      (λ is. self a ∙ sym (has_take place slots ino inside ∙ ap (λ (b : Bool). (has (take place slots) ino || b)) (subst (λ (n : ℕ). (slot_at slots place == n) ≡ true) is (self (slot_at slots place)))
       ∙ or_true (has (take place slots) ino)))
-    (λ ne. mine.owners ino ∙ sym (has_take place slots ino inside ∙ ap (λ (b : Bool). (has (take place slots) ino || b)) (apart (slot_at slots place) ino (slot_at slots place == ino) refl ne)
+      (λ ne. mine.owners ino ∙ sym (has_take place slots ino inside ∙ ap (λ (b : Bool). (has (take place slots) ino || b)) (apart (slot_at slots place) ino (slot_at slots place == ino) refl ne)
       ∙ or_not (has (take place slots) ino)));
   holder = mine.holder;
 }
@@ -176,9 +176,9 @@ unlocked_holds : (a : ℕ) (s : Shared) (place : ℕ) (slots : List ℕ) → pla
     → Holds (with_owner (slot_at slots place) None s) a (drop (place + 1) slots) false
 unlocked_holds a s place slots inside are mine = record {
   owners = λ ino. owner_set s (slot_at slots place) None ino (λ (o : Option ℕ). is_owner a o ≡ has (drop (place + 1) slots) ino) (slot_at slots place == ino) refl
-    (slot_inside (length s.owners) slots place are inside)
-    (λ is. sym (subst (λ (n : ℕ). has (drop (place + 1) slots) n ≡ false) is (drop_apart place slots are.rising inside)))
-    (λ ne. mine.owners ino ∙ has_drop place slots ino inside ∙ ap (λ (b : Bool). (b || has (drop (place + 1) slots) ino)) (apart (slot_at slots place) ino (slot_at slots place == ino) refl ne));
+      (slot_inside (length s.owners) slots place are inside)
+      (λ is. sym (subst (λ (n : ℕ). has (drop (place + 1) slots) n ≡ false) is (drop_apart place slots are.rising inside)))
+      (λ ne. mine.owners ino ∙ has_drop place slots ino inside ∙ ap (λ (b : Bool). (b || has (drop (place + 1) slots) ino)) (apart (slot_at slots place) ino (slot_at slots place == ino) refl ne));
   holder = mine.holder;
 }
 
@@ -191,7 +191,7 @@ pub record Before (a : ℕ) (s : Shared) (k : Next) (r : Running) : Type 0 where
   pub inside : IsInside k r.slots
   pub wide : length s.owners ≡ length s.cells
 
-new_slots : (s : Shared) (number : Option ℕ) (looked : Looked) (r : Running) → length s.owners ≡ length s.cells → AreSlots (length s.owners) (slots_of s number looked r.call)
+pub new_slots : (s : Shared) (number : Option ℕ) (looked : Looked) (r : Running) → length s.owners ≡ length s.cells → AreSlots (length s.owners) (slots_of s number looked r.call)
 new_slots s number looked r e = subst (λ (n : ℕ). AreSlots n (slots_of s number looked r.call)) (sym e) (slots_are (length s.cells) _)
 
 not_mine : (a : ℕ) (owner : Option ℕ) (other : ℕ) → owner ≡ Some other → is_owner a owner ≡ false → IsHeldByOther a owner
@@ -201,9 +201,10 @@ number_locks : (a : ℕ) (numbers : List ℕ) (s : Shared) (h : HandState) (r : 
 number_locks a [] s h r b =
     (same_locks a s, locking_holds s a 0 (record r { slots = slots_of s None r.looked r.call }) b.mine (new_slots s None r.looked r b.wide))
 number_locks a (ino ∷ numbers) s h r b =
-    let m : Holds (record s { pool = record s.pool { numbers = numbers } }) a [] false = record { owners = b.mine.owners; holder = b.mine.holder } in
-    (record { owners = λ o ne n. refl; holder = λ o ne. refl; wide = refl },
-     locking_holds (record s { pool = record s.pool { numbers = numbers } }) a 0 (record r { slots = slots_of s (Some ino) r.looked r.call }) m (new_slots s (Some ino) r.looked r b.wide))
+    let m : Holds (record s { pool = record s.pool { numbers = numbers } }) a [] false = record { owners = b.mine.owners; holder = b.mine.holder } in (
+      record { owners = λ o ne n. refl; holder = λ o ne. refl; wide = refl },
+      locking_holds (record s { pool = record s.pool { numbers = numbers } }) a 0 (record r { slots = slots_of s (Some ino) r.looked r.call }) m (new_slots s (Some ino) r.looked r b.wide),
+    )
 
 look_locks : (a : ℕ) (owner : Option ℕ) (slot : ℕ) (tests : Tests) (found : Looked) (place : ℕ) (s : Shared) (h : HandState) (r : Running) → owner_at s slot ≡ owner → Before a s (Look place) r
     → OnLocks a s (IsHeldByOther a (owner_at s slot)) (look_turn owner tests found place s h r)
@@ -218,9 +219,11 @@ lock_locks a (Some other) place s h r e b =
     not_mine a (owner_at s (slot_at r.slots place)) other e (b.mine.owners (slot_at r.slots place) ∙ take_apart place r.slots b.are.rising b.inside)
 lock_locks a None place s h r e b =
     let in-range = slot_inside (length s.owners) r.slots place b.are b.inside in
-    let left = locked_left a s (slot_at r.slots place) in-range e in
-    (left, locking_holds (with_owner (slot_at r.slots place) (Some a) s) a (place + 1) r (locked_holds a s place r.slots b.inside in-range b.mine)
-      (subst (λ (n : ℕ). AreSlots n r.slots) (sym left.wide) b.are))
+    let left = locked_left a s (slot_at r.slots place) in-range e in (
+      left,
+      locking_holds (with_owner (slot_at r.slots place) (Some a) s) a (place + 1) r (locked_holds a s place r.slots b.inside in-range b.mine)
+          (subst (λ (n : ℕ). AreSlots n r.slots) (sym left.wide) b.are),
+    )
 
 pages_locks : (a : ℕ) (n : ℕ) (s t : Shared) (h : HandState) (r : Running) → LocksLeft a s t → Holds t a r.slots false → AreSlots (length t.owners) r.slots
     → OnLocks a s ⊥ (wants_pages n t h r)
@@ -269,9 +272,10 @@ enter_locks a None false granted s h r e b = grown_locks a s s _ granted _ h r (
 retired_locks : (a : ℕ) (erases : Bool) (all : Retiring) (ino place : ℕ) (s t : Shared) (h : HandState) (r : Running) → LocksLeft a s t → Holds t a r.slots true → AreSlots (length t.owners) r.slots
     → OnLocks a s ⊥ (erase_turn erases ino place t h r)
 retired_locks a false all ino place s t h r left mine are = (left, retire_here t a (place + 1) r (nat_lt (place + 1) (length (written_slots r))) mine are)
-retired_locks a true all ino place s t h r left mine are =
-    (record { owners = left.owners; holder = left.holder; wide = left.wide },
-     retire_here _ a (place + 1) r (nat_lt (place + 1) (length (written_slots r))) (record { owners = mine.owners; holder = mine.holder }) are)
+retired_locks a true all ino place s t h r left mine are = (
+  record { owners = left.owners; holder = left.holder; wide = left.wide },
+  retire_here _ a (place + 1) r (nat_lt (place + 1) (length (written_slots r))) (record { owners = mine.owners; holder = mine.holder }) are,
+)
 
 unlock_locks : (a : ℕ) (more : Bool) (place : ℕ) (s t : Shared) (h : HandState) (r : Running) → nat_lt (place + 1) (length r.slots) ≡ more → LocksLeft a s t → Holds t a (drop (place + 1) r.slots) false
     → AreSlots (length t.owners) r.slots → OnLocks a s ⊥ (unlocked_turn more place t h r)
@@ -290,7 +294,7 @@ visit_locks a (Some other) slot tests granted found s h r e b = not_mine a (owne
 visit_locks a None slot (Err fault) granted found s h r e b =
     end_locks a s s _ r.slots (Refuses fault) h r refl (same_locks a s) (subst (λ (l : List ℕ). Holds s a l false) (sym b.inside) b.mine) b.are
 visit_locks a None slot (Ok passed) granted found s h r e b =
-    grown_locks a s s _ granted (Ends (Done found) s h) h r (same_locks a s) (subst (λ (l : List ℕ). Holds s a l false) (sym b.inside) b.mine) b.are (same_locks a s, idle_as s a b.mine)
+    grown_locks a s s _ granted (Ends (Ok found) s h) h r (same_locks a s) (subst (λ (l : List ℕ). Holds s a l false) (sym b.inside) b.mine) b.are (same_locks a s, idle_as s a b.mine)
 
 -- owners and holder are as before
 as_before : (a : ℕ) (s t : Shared) → t.owners ≡ s.owners → t.holder ≡ s.holder → LocksLeft a s t
@@ -322,10 +326,10 @@ locks_kept Leave block a granted s h r b =
     end_locks a s _ _ r.slots _ h r refl (left_left a s b.mine.holder) (record { owners = b.mine.owners; holder = refl }) b.are
 locks_kept (Unlock place) block a granted s h r b =
     let left = unlocked_left a s (slot_at r.slots place) (slot_inside (length s.owners) r.slots place b.are b.inside)
-          (b.mine.owners (slot_at r.slots place) ∙ has_drop place r.slots (slot_at r.slots place) b.inside
-            ∙ ap (λ (c : Bool). (c || has (drop (place + 1) r.slots) (slot_at r.slots place))) (self (slot_at r.slots place))) in
+    (b.mine.owners (slot_at r.slots place) ∙ has_drop place r.slots (slot_at r.slots place) b.inside
+    ∙ ap (λ (c : Bool). (c || has (drop (place + 1) r.slots) (slot_at r.slots place))) (self (slot_at r.slots place))) in
     unlock_locks a (nat_lt (place + 1) (length r.slots)) place s (with_owner (slot_at r.slots place) None s) h r refl left
-      (unlocked_holds a s place r.slots b.inside b.are b.mine) (subst (λ (n : ℕ). AreSlots n r.slots) (sym left.wide) b.are)
+    (unlocked_holds a s place r.slots b.inside b.are b.mine) (subst (λ (n : ℕ). AreSlots n r.slots) (sym left.wide) b.are)
 locks_kept (Give cpu) block a granted s h r b = rest_locks a s _ _ _ h.ino _ r (as_before a s _ refl refl) (record { owners = b.mine.owners; holder = b.mine.holder }) b.are
 locks_kept Back block a granted s h r b = back_locks a h.ino s h r b
 locks_kept Visit block a granted s h r b = visit_locks a _ _ _ _ _ s h r refl b

@@ -40,7 +40,7 @@ most_steps cpus = 8 * round cpus
 abbrev pub Falls : ℕ → ℕ → Turn → Type 0
 Falls cpus n (Moves s h r) = bound cpus r < n
 Falls cpus n Waits = Unit {0}
-Falls cpus n (Ends reply s h) = Unit {0}
+Falls cpus n (Ends result s h) = Unit {0}
 
 -- ---- over events
 

@@ -60,7 +60,7 @@ pub record Frame (l : Lent) (s t : Shared) : Type 0 where
 abbrev pub IsFramed : Lent → Shared → Turn → Type 0
 IsFramed l s (Moves t h r) = Frame l s t
 IsFramed l s Waits = Unit {0}
-IsFramed l s (Ends reply t h) = Frame l s t
+IsFramed l s (Ends result t h) = Frame l s t
 
 -- ---- events
 

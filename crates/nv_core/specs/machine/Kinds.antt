@@ -1,5 +1,5 @@
 -- The steps, one function a kind. What decides a step is an argument.
-use Rattle.std.specs.Prelude.{ℕ, zero, suc, ◌+◌, ◌-◌, ◌%◌, ◌&&◌, Bool, true, false, nat_lt, List, [], ◌∷◌, ◌++◌, drop, length, map, take, Option, Some, None, Ok, Err, slice_index_or}
+use Rattle.std.specs.Prelude.{ℕ, zero, suc, ◌+◌, ◌-◌, ◌%◌, ◌&&◌, Bool, true, false, nat_lt, List, [], ◌∷◌, ◌++◌, drop, length, map, take, Option, Some, None, Result, Ok, Err, slice_index_or}
 use Rattle.std.specs.List.{flat_map}
 use Rattle.nv_calls.specs.declared.looked.Looked.{Looked}
 use Rattle.nv_alloc.specs.Block.{BlockValue}
@@ -32,28 +32,28 @@ use Rattle.nv_journal.specs.declared.old_tail.OldTail.{OldTail}
 use Rattle.nv_log.specs.Chain.{with_page}
 use Rattle.nv_core.specs.machine.Reads.{copies, filled, fresh_pages, home_from, pages_wanted, plan_by, slot_at, slots_of, written_slots}
 use Rattle.nv_core.specs.machine.Sequence.{sequel}
-use Rattle.nv_core.specs.machine.World.{Answers, Append, Back, Close, Done, Ending, Ends, Enter, Give, HandState, Leave, Lock, Look, Moves, Next, Number, Open, Overtaken, Publish, Ready, Refused, Refuses, Reply, Retire, Running, Shared, TakeBlocks, TakePages, Turn, Unlock, Waits, cell_at, go_to, list_at, with_book, with_cell, with_list, with_owner}
+use Rattle.nv_core.specs.machine.World.{Answers, Append, Back, Close, Ending, Ends, Enter, Give, HandState, Lock, Look, Moves, Next, Number, Open, Overtaken, Publish, Ready, Refuses, Retire, Running, Shared, TakeBlocks, TakePages, Turn, Unlock, Waits, cell_at, go_to, list_at, with_book, with_cell, with_list, with_owner}
 
 -- ---- how a call ends
 
 abbrev pub blocks_in : HandState → List BlockValue
 blocks_in h = h.blocks ++ h.pages ++ h.chain
 
--- the reply of a call's last step; what is answered to a call that commits, no node tells
-abbrev pub reply_by : Ending → Running → Reply
-reply_by Answers r = Done (answer (λ handle. None) r.made r.call)
-reply_by (Refuses fault) r = Refused fault
-reply_by Overtaken r = Refused Contended
+-- what a call is answered at its last step; what a call that commits is answered, no node tells
+abbrev pub result_by : Ending → Running → Result Answer Fault
+result_by Answers r = Ok (answer (λ handle. None) r.made r.call)
+result_by (Refuses fault) r = Err fault
+result_by Overtaken r = Err Contended
 
 -- nothing is locked: blocks go home, CPU by CPU, and then a number goes back; where nothing is left, the step replies
 abbrev pub rest_turn : Option ℕ → Option ℕ → Shared → HandState → Running → Turn
 rest_turn (Some cpu) number s h r = Moves s h (go_to (Give cpu) r)
 rest_turn None (Some ino) s h r = Moves s h (go_to Back r)
-rest_turn None None s h r = Ends (reply_by r.ending r) s h
+rest_turn None None s h r = Ends (result_by r.ending r) s h
 
 -- the next round of looks, if there is one
 abbrev pub again_turn : ℕ → Shared → HandState → Running → Turn
-again_turn zero s h r = Ends (Refused Contended) s h
+again_turn zero s h r = Ends (Err Contended) s h
 again_turn (suc rounds) s h r = Moves s h (record r { ending = Answers; rounds = rounds; next = Look 0 })
 
 abbrev pub over_turn : Ending → Shared → HandState → Running → Turn
@@ -318,13 +318,13 @@ give_turn cpu s h r =
 -- ---- back: the number in the hand goes to the pool
 
 abbrev pub back_turn : Option ℕ → Shared → HandState → Running → Turn
-back_turn None s h r = Ends (reply_by r.ending r) s h
+back_turn None s h r = Ends (result_by r.ending r) s h
 back_turn (Some ino) s h r =
-    Ends (reply_by r.ending r) (record s { pool = record s.pool { numbers = put_by (λ n. n) ino s.pool.numbers } }) (record h { ino = None })
+    Ends (result_by r.ending r) (record s { pool = record s.pool { numbers = put_by (λ n. n) ino s.pool.numbers } }) (record h { ino = None })
 
 -- ---- visit
 
 abbrev pub visit_turn : Option ℕ → Tests → Bool → Answer → Shared → HandState → Running → Turn
 visit_turn (Some other) tests granted found s h r = Waits
 visit_turn None (Err fault) granted found s h r = refuse fault s h r
-visit_turn None (Ok passed) granted found s h r = grown granted (Ends (Done found) s h) s h r
+visit_turn None (Ok passed) granted found s h r = grown granted (Ends (Ok found) s h) s h r

@@ -1,14 +1,12 @@
 -- Which locks a call holds, and what a step may wait for.
-use Rattle.std.specs.Prelude.{◌≡◌, ◌≢◌, ℕ, ◌+◌, ◌<◌, ◌==◌, Bool, true, false, List, [], drop, length, take, Option, Some, None}
+use Rattle.std.specs.Prelude.{◌≡◌, ◌≢◌, ℕ, ◌<◌, ◌==◌, Bool, true, false, List, [], drop, length, take, Option, Some, None}
 use Rattle.std.specs.List.{AllByRecursion}
 use Rattle.nv_alloc.specs.Numbers.{IsRising, has}
-use Rattle.nv_base.specs.declared.numbers.Handle.{Handle}
-use Rattle.nv_calls.specs.declared.call.Call.{Call}
 use Rattle.nv_core.specs.machine.Reads.{slot_at}
 use Rattle.nv_core.specs.machine.Sequence.{directories, nothing_looked}
 use Rattle.nv_core.specs.machine.Step.{handle_at}
-use Rattle.nv_core.specs.machine.Looks.{handles}
-use Rattle.nv_core.specs.machine.World.{Append, Back, Check, Close, Enter, Give, Leave, Lock, Look, Next, Number, Open, Publish, Ready, Retire, Running, Shared, TakeBlocks, TakePages, Unlock, Visit, World, actor_at, owner_at}
+use Rattle.nv_calls.specs.Locked.{handles}
+use Rattle.nv_core.specs.machine.World.{Append, Back, Close, Enter, Give, Leave, Lock, Look, Next, Number, Open, Publish, Retire, Running, Shared, Unlock, Visit, World, actor_at, owner_at}
 
 -- ---- what a call holds
 

@@ -1,13 +1,15 @@
 -- The step of an actor's call, and events.
-use Rattle.std.specs.Prelude.{ℕ, ◌%◌, ◌&&◌, ◌||◌, Bool, true, false, is_some, not, nat_le, nat_lt, List, [], ◌∷◌, length, Option, Some, None, slice_index_or, slice_set}
+use Rattle.std.specs.Prelude.{ℕ, ◌%◌, ◌&&◌, ◌||◌, Bool, true, false, is_some, not, nat_le, nat_lt, List, [], ◌∷◌, length, Option, Some, None, Result, Ok, Err, slice_index_or, slice_set}
 use Rattle.nv_calls.specs.Locked.{handles}
 use Rattle.nv_calls.specs.declared.looked.Looked.{Looked}
+use Rattle.nv_base.specs.declared.fault.Fault.{Fault}
 use Rattle.nv_base.specs.declared.fault.Fault.TheVariants.{ActorBusy, ActorIdle, NoActor}
 use Rattle.nv_base.specs.declared.limits.TheConstants.{NUMBER}
 use Rattle.nv_base.specs.declared.numbers.Handle.{Handle}
 use Rattle.nv_calls.specs.AllCalls.{answer, blocks_wanted, early, effect, look_refusal, looked, refusal}
 use Rattle.nv_calls.specs.Plain.{same_handle}
 use Rattle.nv_calls.specs.Slots.{items_for}
+use Rattle.nv_calls.specs.declared.answer.Answer.{Answer}
 use Rattle.nv_calls.specs.declared.call.Call.{Call}
 use Rattle.nv_calls.specs.declared.call.Call.TheVariants as call
 use Rattle.nv_entry.specs.Tree.{root}
@@ -15,7 +17,7 @@ use Rattle.nv_log.specs.Chain.{pages_for}
 use Rattle.nv_core.specs.machine.Kinds.{append_turn, asked_list, back_turn, check_ending, check_turn, close_turn, enter_turn, give_turn, leave_turn, lock_turn, look_tests, look_turn, number_turn, open_turn, publish_turn, ready_turn, retire_turn, seen_at, take_blocks_turn, take_pages_turn, unlock_turn, visit_turn}
 use Rattle.nv_core.specs.machine.Reads.{copies, has_last_page, nodes, slot_at, written_slots}
 use Rattle.nv_core.specs.machine.Sequence.{Beginning, Looks, Locks, Numbers, Visits, beginning, begun, directories, nothing_looked}
-use Rattle.nv_core.specs.machine.World.{Actor, Append, Back, Check, Close, Ending, Ends, Enter, Event, Give, Go, HandState, Leave, Lock, Look, Moved, Moves, Next, Number, Open, Publish, Ready, Refused, Reply, Retire, Running, Shared, Start, Started, TakeBlocks, TakePages, Turn, Unlock, Visit, Waiting, Waits, World, actor_at, cell_at, owner_at}
+use Rattle.nv_core.specs.machine.World.{Actor, Append, Back, Check, Close, Done, Ending, Ends, Enter, Event, Give, Go, HandState, Leave, Lock, Look, Moved, Moves, Next, Number, Open, Publish, Ready, Refused, Reply, Retire, Running, Shared, Start, Started, TakeBlocks, TakePages, Turn, Unlock, Visit, Waiting, Waits, World, actor_at, cell_at, owner_at}
 
 -- ---- what decides
 
@@ -104,10 +106,14 @@ pub record Step : Type 0 where
 abbrev pub stays : Reply → World → Step
 stays reply w = record { reply = reply; world = w }
 
+abbrev pub reply_of : Result Answer Fault → Reply
+reply_of (Ok found) = Done found
+reply_of (Err fault) = Refused fault
+
 abbrev pub turned : Turn → ℕ → World → Step
 turned (Moves s h r) actor w = record { reply = Moved; world = record w { shared = s; actors = with_actor actor h (Some r) w.actors } }
 turned Waits actor w = stays Waiting w
-turned (Ends reply s h) actor w = record { reply = reply; world = record w { shared = s; actors = with_actor actor h None w.actors } }
+turned (Ends result s h) actor w = record { reply = reply_of result; world = record w { shared = s; actors = with_actor actor h None w.actors } }
 
 -- a start changes its actor alone
 abbrev pub start_step : Bool → Option Running → ℕ → Call → World → Step

@@ -1,5 +1,5 @@
 -- The world of atomic steps: what is shared, and what is each actor's own.
-use Rattle.std.specs.Prelude.{ℕ, Bool, List, [], Option, None, slice_index_or, slice_set}
+use Rattle.std.specs.Prelude.{ℕ, Bool, List, [], Option, None, Result, slice_index_or, slice_set}
 use Rattle.nv_calls.specs.declared.looked.Looked.{Looked}
 use Rattle.nv_alloc.specs.Block.{BlockValue}
 use Rattle.nv_alloc.specs.FreeList.{FreeBlocks}
@@ -103,11 +103,11 @@ pub data Reply : Type 0 where
   Refused : (fault : Fault) → Reply
 
 -- what a step comes to: it moves on with what is shared, the hand and the call; it waits and nothing changes; or it is
--- the call's last, with the reply, what is shared and the hand
+-- the call's last, with what the call is answered, what is shared and the hand
 pub data Turn : Type 0 where
   Moves : Shared → HandState → Running → Turn
   Waits : Turn
-  Ends : Reply → Shared → HandState → Turn
+  Ends : Result Answer Fault → Shared → HandState → Turn
 
 -- ---- parts by their places
 

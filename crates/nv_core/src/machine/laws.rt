@@ -1,20 +1,50 @@
 //! Laws of the machine of steps, for all worlds and events, each the contract of a function that does nothing.
 
-ghost use Rattle.std.specs.Prelude.{◌≡◌, ◌+◌, ◌<◌, ◌≤◌, ℕ, Bool, List, Some, length};
+ghost use Rattle.std.specs.Prelude.{◌≡◌, ◌+◌, ◌<◌, ◌≤◌, ℕ, Bool, List, Some, None, length};
 ghost use Rattle.std.specs.List.{AllByRecursion};
+ghost use Rattle.nv_base.specs.Limits.{IsWithinLimits};
+ghost use Rattle.nv_base.specs.declared.fault.Fault.TheVariants.{ActorBusy, ActorIdle, NoActor};
+ghost use Rattle.nv_base.specs.declared.geometry.GeometryNumbers.{GeometryNumbers};
 ghost use Rattle.nv_calls.specs.declared.call.Call.{Call};
 ghost use Rattle.nv_core.specs.machine.Bound.{IsNoStart, bound_at, most_steps, moves};
+ghost use Rattle.nv_core.specs.machine.Format.{formatted};
 ghost use Rattle.nv_core.specs.machine.Frame.{IsOneStep, IsStart};
-ghost use Rattle.nv_core.specs.machine.Step.{after, step};
-ghost use Rattle.nv_core.specs.machine.World.{Event, Go, Running, Start, Started, World, actor_at};
+ghost use Rattle.nv_core.specs.machine.Locks.{AreLocks, WaitsFor};
+ghost use Rattle.nv_core.specs.machine.Step.{after, stays, step};
+ghost use Rattle.nv_core.specs.machine.World.{Event, Go, Refused, Running, Start, Started, Waiting, World, actor_at};
 
 /// A `Go` of an actor whose call runs makes the one step that comes next, and changes only its actor and the
-/// parts that the step is lent. A start changes its actor alone.
+/// parts that the step is lent. A start changes its actor alone. What is refused for its actor changes
+/// nothing.
 pub fn one_step()
     ensures goes { (w : World) (actor : ℕ) (granted : Bool) (r : Running) → actor < length w.actors
         → (actor_at w actor).running ≡ Some r
         → IsOneStep w actor granted r (step w (Go actor granted)) }
     ensures starts { (w : World) (actor : ℕ) (c : Call) → IsStart w actor (step w (Start actor c)) }
+    ensures nobody { (w : World) (actor : ℕ) (c : Call) (granted : Bool) → length w.actors ≤ actor
+        → (step w (Start actor c) ≡ stays (Refused NoActor) w)
+        × (step w (Go actor granted) ≡ stays (Refused NoActor) w) }
+    ensures busy { (w : World) (actor : ℕ) (c : Call) (r : Running) → actor < length w.actors
+        → (actor_at w actor).running ≡ Some r
+        → step w (Start actor c) ≡ stays (Refused ActorBusy) w }
+    ensures idle { (w : World) (actor : ℕ) (granted : Bool) → actor < length w.actors
+        → (actor_at w actor).running ≡ None
+        → step w (Go actor granted) ≡ stays (Refused ActorIdle) w }
+{}
+
+/// From a new world on, whatever events come, each actor holds exactly the locks that its call has taken and not
+/// yet given up, and one without a call holds none.
+pub fn who_holds_what()
+    ensures new { (g : GeometryNumbers) → IsWithinLimits g → AreLocks (formatted g) }
+    ensures stays { (events : List Event) (w : World) → AreLocks w → AreLocks (after w events) }
+{}
+
+/// A `Go` that waits changes nothing, and comes only where another actor holds the lock that the step needs.
+pub fn who_waits()
+    ensures { (w : World) (actor : ℕ) (granted : Bool) (r : Running) → AreLocks w
+        → actor < length w.actors → (actor_at w actor).running ≡ Some r
+        → (step w (Go actor granted)).reply ≡ Waiting
+        → ((step w (Go actor granted)).world ≡ w) × WaitsFor w.shared actor r r.next }
 {}
 
 /// Calls end: a call is started with a bound on its steps that depends on the number of CPUs alone, each `Go`

@@ -1,4 +1,4 @@
-use Rattle.nv_core.proofs.steps.Events.{goes, starts}
+use Rattle.nv_core.proofs.steps.Events.{busy, goes, idles, nobody, starts}
 use Rattle.nv_core.proofs.machine.laws.one_step.Goals as goal
 
 pub returns-clause-goes : goal.returns-clause-goes
@@ -6,3 +6,12 @@ returns-clause-goes c = goes
 
 pub returns-clause-starts : goal.returns-clause-starts
 returns-clause-starts c = starts
+
+pub returns-clause-nobody : goal.returns-clause-nobody
+returns-clause-nobody c = nobody
+
+pub returns-clause-busy : goal.returns-clause-busy
+returns-clause-busy c = busy
+
+pub returns-clause-idle : goal.returns-clause-idle
+returns-clause-idle c = idles

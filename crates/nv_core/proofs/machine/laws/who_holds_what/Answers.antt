@@ -1,0 +1,8 @@
+use Rattle.nv_core.proofs.steps.Locks.{events_locks, new_locks}
+use Rattle.nv_core.proofs.machine.laws.who_holds_what.Goals as goal
+
+pub returns-clause-new : goal.returns-clause-new
+returns-clause-new c = new_locks
+
+pub returns-clause-stays : goal.returns-clause-stays
+returns-clause-stays c = events_locks
