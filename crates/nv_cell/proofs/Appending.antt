@@ -242,7 +242,8 @@ pub log_stays : (t : ℕ) (es : List Entry) (e : Entry) → t ≤ length es → 
 log_stays t es e le = take-append-le t es (e ∷ []) le
 
 -- one more block of that size
-pub sized_more : (size : ℕ) (bs : List BlockValue) (b : BlockValue) → AreSized size bs → length b.bytes ≡ size → AreSized size (bs ++ b ∷ [])
+pub sized_more : (size : ℕ) (bs : List BlockValue) (b : BlockValue) → AreSized size bs → length b.bytes ≡ size
+    → AreSized size (bs ++ b ∷ [])
 sized_more size [] b all one = (one, tt)
 sized_more size (x ∷ bs) b all one = (all.0, sized_more size bs b all.1 one)
 

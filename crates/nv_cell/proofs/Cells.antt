@@ -1,21 +1,21 @@
 -- The marks of a cell after a publish.
-use Rattle.std.proofs.Common.{◌≡◌, ℕ, zero, suc, ◌+◌, ◌-◌, ◌<◌, ◌≤◌, ◌==◌, ◌&&◌, ◌||◌, Bool, true, false, not, cond, nat_lt, List, [], ◌∷◌, ◌++◌, length, take, drop, replicate, arith, refl, ap, sym, ◌∙◌, subst, slice_index_or, slice_index, slice_set, inl, inr}
-use Rattle.std.specs.Prelude.{count_by, IsTrue}
+use Rattle.std.proofs.Common.{◌≡◌, ℕ, zero, suc, ◌+◌, ◌-◌, ◌<◌, ◌≤◌, ◌==◌, ◌&&◌, ◌||◌, Bool, true, false, not, cond, nat_lt, List, [], ◌∷◌, ◌++◌, length, take, replicate, arith, refl, ap, sym, ◌∙◌, slice_index_or, slice_index, inl, inr}
 use Rattle.std.proofs.lemmas.Grind.{common_steps}
 use Rattle.std.proofs.lemmas.List.Sums.{sum_by-cons}
-use Rattle.std.proofs.lemmas.Bool.{ltb-true, ltb-false, lt-ltb, le-ltb, eq-eqb, eqb-true, cases_lt}
+use Rattle.std.proofs.lemmas.Bool.{ltb-true, ltb-false, lt-ltb, le-ltb, eq-eqb, cases_lt}
 use Rattle.std.proofs.lemmas.Bool.Decides.{nat_tests}
 use Rattle.nv_entry.specs.declared.item.Entry.{Entry}
 use Rattle.nv_entry.specs.Covered.{is_covered, part_count, part_total}
 use Rattle.nv_cell.specs.Numbers.{dies, part_base, times}
 use Rattle.nv_cell.proofs.Numbers.{total_append}
-use Rattle.nv_cell.proofs.Publishing.{take_next, total_take, covered_take, take_whole}
+use Rattle.nv_cell.proofs.Publishing.{take_next, covered_take, take_whole}
 use Rattle.nv_cell.specs.declared.mark.Mark.{Mark}
-use Rattle.nv_cell.specs.declared.mark.Mark.TheVariants.{Current, Killed, Kept, Out}
+use Rattle.nv_cell.specs.declared.mark.Mark.TheVariants.{Current, Killed, Out}
 use Rattle.nv_cell.specs.Marks.{is_current, mark_at}
 use Rattle.nv_cell.specs.Tallies.{end_at, is_in}
 
-pub base_next : (es : List Entry) (t : ℕ) (e : Entry) → t < length es → e ≡ slice_index_or es t e → part_base es (t + 1) ≡ part_base es t + part_count e
+pub base_next : (es : List Entry) (t : ℕ) (e : Entry) → t < length es → e ≡ slice_index_or es t e
+    → part_base es (t + 1) ≡ part_base es t + part_count e
 base_next es t e lt q = rw (take_next es t e lt q, total_append (take t es) (e ∷ [])) (let z : part_total (take t es) + (part_count e + 0) ≡ part_total (take t es) + part_count e = omega arith in z)
 
 pub base_rises : (es : List Entry) (a b : ℕ) → a ≤ b → part_base es a ≤ part_base es b
@@ -30,7 +30,8 @@ mark_fresh zero n = let z : nat_lt n 0 ≡ false = grind (arith, nat_tests) in r
 mark_fresh (suc c) zero = let z : nat_lt 0 (suc c) ≡ true = grind (arith, nat_tests) in rw z refl
 mark_fresh (suc c) (suc n) = let z : nat_lt (suc n) (suc c) ≡ nat_lt n c = grind (arith, nat_tests) in rw z (mark_fresh c n)
 
-mark_push : (marks : List Mark) (count n : ℕ) → mark_at (marks ++ replicate count Current) n ≡ cond (nat_lt n (length marks)) (mark_at marks n) (cond (nat_lt n (length marks + count)) Current Out)
+mark_push : (marks : List Mark) (count n : ℕ)
+    → mark_at (marks ++ replicate count Current) n ≡ cond (nat_lt n (length marks)) (mark_at marks n) (cond (nat_lt n (length marks + count)) Current Out)
 mark_push [] count n =
     let z : nat_lt n 0 ≡ false = grind (arith, nat_tests) in
     let y : 0 + count ≡ count = omega arith in
@@ -42,7 +43,8 @@ mark_push (m ∷ marks) count (suc n) =
     rw (z, y) (mark_push marks count n)
 
 -- the marks after one more entry
-pub mark_step : (marks new : List Mark) (old : Mark) (base below above count n : ℕ) → new ≡ marks ++ replicate count Current → length marks ≡ below → above ≡ below + count → base ≤ below
+pub mark_step : (marks new : List Mark) (old : Mark) (base below above count n : ℕ) → new ≡ marks ++ replicate count Current
+    → length marks ≡ below → above ≡ below + count → base ≤ below
     → mark_at marks n ≡ cond (nat_lt n base) old (cond (nat_lt n below) Current Out)
     → mark_at new n ≡ cond (nat_lt n base) old (cond (nat_lt n above) Current Out)
 mark_step marks new old base below above count n is len up le h = rw is (mark_push marks count n ∙ rw (len, ← up, h) (go (nat_lt n base) refl (nat_lt n below) refl (nat_lt n above) refl)) where
@@ -107,7 +109,8 @@ mark_now block es tail n old new lt le was is = go (is_covered block es n) refl 
   more : is_covered block (take tail es) n ≡ true → is_covered block es n ≡ true
   more h = let k = covered_take block es tail (length es) n le h in rw (take_whole es) at k
 
-  go : (c : Bool) → is_covered block es n ≡ c → (f : Bool) → is_covered block (take tail es) n ≡ f → (a : Bool) → nat_lt n (part_base es tail) ≡ a → is_current new ≡ not (is_covered block es n)
+  go : (c : Bool) → is_covered block es n ≡ c → (f : Bool) → is_covered block (take tail es) n ≡ f → (a : Bool)
+      → nat_lt n (part_base es tail) ≡ a → is_current new ≡ not (is_covered block es n)
   go true p false q a r = let k : new ≡ Killed = rw (low, p, q) at is in rw (k, p) refl
   go true p true q true r =
       let k : new ≡ old = rw (low, p, q, r) at is in
@@ -125,7 +128,8 @@ end_old ends x j lt = grind (arith, common_steps)
 end_new : (ends : List ℕ) (x : ℕ) → end_at (ends ++ x ∷ []) (length ends) ≡ x
 end_new ends x = grind (arith, common_steps)
 
-pub end_step : (ends : List ℕ) (es : List Entry) (t x i : ℕ) → length ends ≡ t → x ≡ part_base es (t + 1) → i < t + 1 → (i < t → end_at ends i ≡ part_base es (i + 1)) → end_at (ends ++ x ∷ []) i ≡ part_base es (i + 1)
+pub end_step : (ends : List ℕ) (es : List Entry) (t x i : ℕ) → length ends ≡ t → x ≡ part_base es (t + 1) → i < t + 1
+    → (i < t → end_at ends i ≡ part_base es (i + 1)) → end_at (ends ++ x ∷ []) i ≡ part_base es (i + 1)
 end_step ends es t x i len is lt old = elim (cases_lt i t) [
   | inl l ↦ end_old ends x i (omega arith) ∙ old l
   | inr g ↦ let same : i ≡ t = omega arith in rw same (ap (λ (k : ℕ). end_at (ends ++ x ∷ []) k) (sym len) ∙ end_new ends x ∙ is)

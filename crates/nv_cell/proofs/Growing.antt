@@ -10,7 +10,7 @@ use Rattle.nv_cell.specs.declared.mark.Mark.{Mark}
 use Rattle.nv_cell.specs.declared.marks.Marks.{Marks}
 use Rattle.nv_cell.specs.Cell.{CellState, HasBlocks, HasMarks, log_of}
 use Rattle.nv_cell.specs.Fields.{AreFields, state_in}
-use Rattle.nv_cell.specs.Index.{IndexValue, bindings_of, ref_of}
+use Rattle.nv_cell.specs.Index.{IndexValue, bindings_of}
 use Rattle.nv_cell.specs.Marks.{is_there}
 use Rattle.nv_cell.specs.Numbers.{part_base}
 use Rattle.nv_cell.specs.Room.{HasGrown, HasSameParts, HaveGrown}

@@ -47,7 +47,8 @@ loop-t-preserved c =
     let lt : t < length es = slice_get_within es t e c.entry_at-entry.ensures in
     let is : e ≡ slice_index_or es t e = sym (get_or_from_slice_get es t e e c.entry_at-entry.ensures) in
     let b = base_next es t e lt is in
-    let up : part_base es (t + 1) ≡ part_base es t + c.part_count.result = b ∙ ap (λ (k : ℕ). part_base es t + k) (sym c.part_count.ensures) in
+    let up : part_base es (t + 1) ≡ part_base es t + c.part_count.result =
+    b ∙ ap (λ (k : ℕ). part_base es t + k) (sym c.part_count.ensures) in
     let len = c.loop-t.invariant.len in
     let r = c.loop-t.invariant.room in
     let s = c.add.ensures.room in
