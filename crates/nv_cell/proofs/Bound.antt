@@ -67,7 +67,9 @@ kept_at item m (x ∷ es) = go (keeps_name item x) refl (covers 1 item (NameKey 
   whole = ap (binding_of m) (flat_map-cons (λ (e : Entry). bound_by e.id e.item) x es) ∙ append_at m (bound_by x.id x.item) (all_of es)
 
   more : binding_of m (all_of (x ∷ filter (keeps_name item) es)) ≡ option_or (binding_of m (bound_by x.id x.item)) (binding_of m (all_of (filter (keeps_name item) es)))
-  more = ap (binding_of m) (flat_map-cons (λ (e : Entry). bound_by e.id e.item) x (filter (keeps_name item) es)) ∙ append_at m (bound_by x.id x.item) (all_of (filter (keeps_name item) es))
+  more =
+      ap (binding_of m) (flat_map-cons (λ (e : Entry). bound_by e.id e.item) x (filter (keeps_name item) es))
+      ∙ append_at m (bound_by x.id x.item) (all_of (filter (keeps_name item) es))
 
   go : (k : Bool) → keeps_name item x ≡ k → (c : Bool) → covers 1 item (NameKey m) ≡ c
       → binding_of m (all_of (filter (keeps_name item) es)) ≡ cond (covers 1 item (NameKey m)) None (binding_of m (all_of es))
@@ -116,7 +118,8 @@ names_after id (Bind name to) old new m h = h m ∙ go (same_name name m) refl (
       → cond (same_name name m) (Some (record { to = to; entry = id })) (binding_of m old.names) ≡ bound_after id (Bind name to) m (binding_of m old.names)
   go true p true q = rw (p, q) refl
   go true p false q = let z : true ≡ false = sym (same_name-self name) ∙ ap (λ k. same_name k name) (same_name-equal name m p) ∙ q in cc
-  go false p true q = let z : true ≡ false = sym (same_name-self name) ∙ ap (λ k. same_name name k) (sym (same_name-equal m name q)) ∙ p in cc
+  go false p true q =
+      let z : true ≡ false = sym (same_name-self name) ∙ ap (λ k. same_name name k) (sym (same_name-equal m name q)) ∙ p in cc
   go false p false q = rw (p, q) (sym (or_none (binding_of m old.names)))
 names_after id (Unbind name) old new m h = h.0 m ∙ go (same_name name m) refl where
   go : (a : Bool) → same_name name m ≡ a

@@ -65,7 +65,9 @@ fields_grown old new h g =
       marks = subst (λ (s : CellState). HasMarks s) (sym same) h.marks;
       blocks = subst (λ (s : CellState). HasBlocks s) (sym same) h.blocks;
       refs = λ key. g.index.refs key ∙ h.refs key ∙ ap (λ (s : CellState). scan_ref s.block (log_of s) key) (sym same);
-      names = λ name. ap (binding_of name) g.index.names ∙ h.names name ∙ ap (λ (s : CellState). binding_of name (bindings_of (log_of s))) (sym same);
+      names =
+          λ name. ap (binding_of name) g.index.names ∙ h.names name
+          ∙ ap (λ (s : CellState). binding_of name (bindings_of (log_of s))) (sym same);
       ends_len = ap length g.marks.ends.items ∙ h.ends_len ∙ ap (λ (s : ChainState). s.tail) (sym g.chain);
       ends = λ i lt.
           ap (λ (ends : List ℕ). end_at ends i) g.marks.ends.items

@@ -105,7 +105,8 @@ pub record IsFrom (log : List Entry) (low : ℕ) (id : PartId) : Type 0 where
 
 lower : (log : List Entry) (low : ℕ) (ids : List PartId) → AllByRecursion (IsFrom log (low + 1)) ids → AllByRecursion (IsFrom log low) ids
 lower log low [] all = tt
-lower log low (id ∷ ids) all = (record { number = all.0.number; named = all.0.named; from = omega (arith, all.0.from) }, lower log low ids all.1)
+lower log low (id ∷ ids) all =
+    (record { number = all.0.number; named = all.0.named; from = omega (arith, all.0.from) }, lower log low ids all.1)
 
 apart_from : (log : List Entry) (low : ℕ) (id : PartId) (ids : List PartId) → number_named log id ≡ Some low
     → AllByRecursion (IsFrom log (low + 1)) ids

@@ -144,5 +144,6 @@ lawful_at (x ∷ bs) (suc i) b all lt q = lawful_at bs i b all.1 (omega arith) q
 
 pub not_refused : (bytes : List ℕ) (fault : Fault) → IsTrue (is_lawful_name bytes) → (fault ≡ BadName) ⊎ (fault ≡ OutOfMemory)
     → (fault ≡ BadName → is_lawful_name bytes ≡ false) → fault ≡ OutOfMemory
-not_refused bytes fault lawful (inl bad) unlawful = let z : is_lawful_name bytes ≡ false = unlawful bad in let y : IsTrue false = subst IsTrue z lawful in cc
+not_refused bytes fault lawful (inl bad) unlawful =
+    let z : is_lawful_name bytes ≡ false = unlawful bad in let y : IsTrue false = subst IsTrue z lawful in cc
 not_refused bytes fault lawful (inr memory) unlawful = memory

@@ -80,7 +80,8 @@ named_here es tail i e id h lt got =
 pub named_nowhere : (es : List Entry) (tail : ℕ) (id : PartId) → chain_place_of es id.entry ≡ None → number_named (take tail es) id ≡ None
 named_nowhere [] zero id h = refl
 named_nowhere [] (suc tail) id h = refl
-named_nowhere (x ∷ es) tail id h = number_nowhere (x ∷ es) tail x id (λ k l m. no_position (λ (y : Entry). is_same_id y.id id.entry) (x ∷ es) k x h m)
+named_nowhere (x ∷ es) tail id h =
+    number_nowhere (x ∷ es) tail x id (λ k l m. no_position (λ (y : Entry). is_same_id y.id id.entry) (x ∷ es) k x h m)
 
 -- the entry of that id is not yet published
 pub named_past : (es : List Entry) (tail i : ℕ) (id : PartId) → chain_place_of es id.entry ≡ Some i → tail ≤ i

@@ -40,7 +40,9 @@ or_false false = refl
 pub cover_push : (block : ℕ) (xs : List Entry) (e : Entry) (key : Key)
     → any_cover block (xs ++ e ∷ []) key ≡ (any_cover block xs key || covers block e.item key)
 cover_push block [] e key = or_false (covers block e.item key)
-cover_push block (x ∷ xs) e key = ap (λ b. covers block x.item key || b) (cover_push block xs e key) ∙ or_assoc (covers block x.item key) (any_cover block xs key) (covers block e.item key)
+cover_push block (x ∷ xs) e key =
+    ap (λ b. covers block x.item key || b) (cover_push block xs e key)
+    ∙ or_assoc (covers block x.item key) (any_cover block xs key) (covers block e.item key)
 
 all_at : {X : Type 0} (P : X → Type 0) (xs : List X) (i : ℕ) (d : X) → AllByRecursion P xs → i < length xs → P (slice_index_or xs i d)
 all_at P [] i d h lt = absurd (omega arith)
@@ -48,7 +50,8 @@ all_at P (x ∷ xs) zero d h lt = h.0
 all_at P (x ∷ xs) (suc i) d h lt = all_at P xs i d h.1 (omega (arith, lt))
 
 part_set : (block : ℕ) (e : Entry) (n : ℕ) → n < part_count e → is_present (sets block e.item (part_key e n)) ≡ true
-part_set block e n lt = all_at (λ (r : Part). is_present (sets block e.item (key_of e.item r)) ≡ true) (parts_of e.item) n part.Kind (parts_are_set block e.item) lt
+part_set block e n lt =
+    all_at (λ (r : Part). is_present (sets block e.item (key_of e.item r)) ≡ true) (parts_of e.item) n part.Kind (parts_are_set block e.item) lt
 
 present_touches : (s : Setting) → is_present s ≡ true → touches s ≡ true
 present_touches Untouched h = cc
@@ -66,7 +69,8 @@ own_covered block (e ∷ later) n lt = go (nat_lt n (part_count e)) refl (λ l. 
   go : (b : Bool) → nat_lt n (part_count e) ≡ b
       → (n - part_count e < part_total later → any_cover block later (key_at later (n - part_count e)) ≡ true)
       → any_cover block (e ∷ later) (key_at (e ∷ later) n) ≡ true
-  go true q rec = rw q (let c : covers block e.item (part_key e n) ≡ true = present_touches (sets block e.item (part_key e n)) (part_set block e n (ltb-true n (part_count e) q)) in rw c refl)
+  go true q rec =
+      rw q (let c : covers block e.item (part_key e n) ≡ true = present_touches (sets block e.item (part_key e n)) (part_set block e n (ltb-true n (part_count e) q)) in rw c refl)
   go false q rec =
       let k : key_at (e ∷ later) n ≡ key_at later (n - part_count e) = rw q refl in
       subst (λ (key : Key). any_cover block (e ∷ later) key ≡ true) (sym k) (ap (λ (b : Bool). covers block e.item (key_at later (n - part_count e)) || b) (rec (omega (arith, lt, ltb-false n (part_count e) q))) ∙ or_true (covers block e.item (key_at later (n - part_count e))))
@@ -78,7 +82,8 @@ own_place block e key = cond (is_present (sets block e.item key)) (Some (place_i
 
 abbrev pub scan_n : ℕ → List Entry → Key → Option ℕ
 scan_n block [] key = None
-scan_n block (e ∷ later) key = cond (any_cover block later key) (option_map (λ m. part_count e + m) (scan_n block later key)) (own_place block e key)
+scan_n block (e ∷ later) key =
+    cond (any_cover block later key) (option_map (λ m. part_count e + m) (scan_n block later key)) (own_place block e key)
 
 shifted : (o : Option ℕ) (k n : ℕ) → k ≤ n → is_number (option_map (λ m. k + m) o) n ≡ is_number o (n - k)
 shifted None k n h = refl
@@ -91,9 +96,11 @@ not_shifted (Some m) k n h = grind (arith, nat_tests)
 own_number : (block : ℕ) (e : Entry) (key : Key) (n : ℕ) → part_count e ≤ n → is_number (own_place block e key) n ≡ false
 own_number block e key n le = go (is_present (sets block e.item key)) refl where
   go : (b : Bool) → is_present (sets block e.item key) ≡ b → is_number (cond b (Some (place_in e.item key)) None) n ≡ false
-  go true q = let p = place_key block e.item key q in let lt : place_in e.item key < n = omega (arith, p.0, le) in small (place_in e.item key) n lt where
-    small : (a b : ℕ) → a < b → (a == b) ≡ false
-    small a b h = grind (arith, nat_tests)
+  go true q =
+      let p = place_key block e.item key q in
+      let lt : place_in e.item key < n = omega (arith, p.0, le) in small (place_in e.item key) n lt where
+        small : (a b : ℕ) → a < b → (a == b) ≡ false
+        small a b h = grind (arith, nat_tests)
   go false q = refl
 
 and_not : (b : Bool) → (b && not true) ≡ false
@@ -107,7 +114,8 @@ scan_names block [] n = let z : nat_lt n 0 ≡ false = grind (arith, nat_tests) 
 scan_names block (e ∷ later) n = go (nat_lt n (part_count e)) refl (scan_names block later (n - part_count e)) where
   front : n < part_count e → (b : Bool) → any_cover block later (part_key e n) ≡ b
       → is_number (cond b (option_map (λ m. part_count e + m) (scan_n block later (part_key e n))) (own_place block e (part_key e n))) n ≡ (nat_lt n (part_count e + part_total later) && not b)
-  front lt true q = not_shifted (scan_n block later (part_key e n)) (part_count e) n lt ∙ sym (and_not (nat_lt n (part_count e + part_total later)))
+  front lt true q =
+      not_shifted (scan_n block later (part_key e n)) (part_count e) n lt ∙ sym (and_not (nat_lt n (part_count e + part_total later)))
   front lt false q =
       let a : nat_lt n (part_count e + part_total later) ≡ true = lt-ltb n (part_count e + part_total later) (omega arith) in
       rw (part_set block e n lt, key_place e.item n lt, eq-eqb n n refl, a) refl
@@ -214,7 +222,8 @@ own_id a = grind (arith, nat_tests)
 
 pub own_place_of : (es : List Entry) (k : ℕ) (d : Entry) → IsLog es → k < length es → place_of es (get_or es k d).id ≡ Some k
 own_place_of es k d is within =
-    let at : position_or_len (has_id (get_or es k d).id) es ≡ k = position_or_len_is (has_id (get_or es k d).id) es k d (omega arith) (λ j lt. other_id (get_or es j d).id (get_or es k d).id (ordered_at es j k d is lt within).id_rises) (λ _. own_id (get_or es k d).id) in
+    let at : position_or_len (has_id (get_or es k d).id) es ≡ k =
+    position_or_len_is (has_id (get_or es k d).id) es k d (omega arith) (λ j lt. other_id (get_or es j d).id (get_or es k d).id (ordered_at es j k d is lt within).id_rises) (λ _. own_id (get_or es k d).id) in
     rw at (rw (lt-ltb k (length es) within) refl)
 
 at_split : (pre : List Entry) (x : Entry) (post : List Entry) (d : Entry) → get_or (pre ++ x ∷ post) (length pre) d ≡ x
@@ -229,7 +238,8 @@ place_split : (pre : List Entry) (x : Entry) (post : List Entry) → IsLog (pre 
     → place_of (pre ++ x ∷ post) x.id ≡ Some (length pre)
 place_split pre x post is =
     let within : length pre < length (pre ++ x ∷ post) = omega (arith, length-append pre (x ∷ post)) in
-    ap (λ (e : Entry). place_of (pre ++ x ∷ post) e.id) (sym (at_split pre x post x)) ∙ own_place_of (pre ++ x ∷ post) (length pre) x is within
+    ap (λ (e : Entry). place_of (pre ++ x ∷ post) e.id) (sym (at_split pre x post x))
+    ∙ own_place_of (pre ++ x ∷ post) (length pre) x is within
 
 no_last : (block : ℕ) (log : List Entry) (key : Key) → any_cover block log key ≡ false → last_cover block log key ≡ None
 no_last block [] key h = refl

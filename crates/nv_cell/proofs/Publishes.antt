@@ -25,7 +25,7 @@ use Rattle.nv_cell.specs.declared.mark.Mark.TheVariants.{Current, Out}
 use Rattle.nv_cell.specs.Marks.{is_current}
 use Rattle.nv_cell.specs.Numbers.{dies, killed_part, part_base, times}
 use Rattle.nv_cell.specs.Tallies.{AreRuns, end_at, start_at}
-use Rattle.nv_cell.proofs.Cells.{in_dies}
+use Rattle.nv_cell.proofs.Cells.{in_dies, times_cons}
 
 -- ---- where things end
 
@@ -54,9 +54,6 @@ first_base ends es len h (suc i) lt =
 
 pub same_times : (n : ℕ) (xs ys : List ℕ) → IsPermutation xs ys → times n ys ≡ times n xs
 same_times n xs ys h = sum_by-IsPermutation (λ m. cond (m == n) 1 0) xs ys h
-
-times_cons : (m n : ℕ) (ns : List ℕ) → times n (m ∷ ns) ≡ cond (m == n) 1 0 + times n ns
-times_cons m n ns = sum_by-cons (λ k. cond (k == n) 1 0) m ns
 
 above : (x : ℕ) (xs : List ℕ) → ((j : ℕ) → j < length xs → x ≤ slice_index_or xs j 0) → times x xs ≡ 0 → AllByRecursion (λ m. x < m) xs
 above x [] h none = tt
@@ -97,7 +94,10 @@ is_filtered test len xs up count low =
     ∙ same_filter (λ n. not (not (test n))) test (λ n. twice_not (test n)) (range_with_len 0 len)
   where
     wanted : (k : ℕ) (b : Bool) → test k ≡ b → test k ≡ ((nat_le 0 k && nat_lt k (0 + len)) && not (not (test k)))
-    wanted k true q = let l = low k q in let a : nat_le 0 k ≡ true = grind (arith, nat_tests) in let e : nat_lt k (0 + len) ≡ true = lt-ltb k (0 + len) (omega arith) in rw (q, a, e) refl
+    wanted k true q =
+        let l = low k q in
+        let a : nat_le 0 k ≡ true = grind (arith, nat_tests) in
+        let e : nat_lt k (0 + len) ≡ true = lt-ltb k (0 + len) (omega arith) in rw (q, a, e) refl
     wanted k false q = rw q (nothing (nat_le 0 k && nat_lt k (0 + len))) where
       nothing : (b : Bool) → false ≡ (b && false)
       nothing true = refl
@@ -162,15 +162,16 @@ part_at_number (x ∷ es) (suc i) n e lt is from to =
 -- what a test leaves of a range lies within it
 filter_low : (test : ℕ → Bool) (low len : ℕ) → AllByRecursion (λ x. x < low + len) (filter test (range_with_len low len))
 filter_low test low zero = tt
-filter_low test low (suc len) = go (test low) refl (wider (filter test (range_with_len (low + 1) len)) (filter_low test (low + 1) len)) where
-  wider : (xs : List ℕ) → AllByRecursion (λ x. x < low + 1 + len) xs → AllByRecursion (λ x. x < low + suc len) xs
-  wider [] h = tt
-  wider (x ∷ xs) h = (omega (arith, h.0), wider xs h.1)
+filter_low test low (suc len) =
+    go (test low) refl (wider (filter test (range_with_len (low + 1) len)) (filter_low test (low + 1) len)) where
+      wider : (xs : List ℕ) → AllByRecursion (λ x. x < low + 1 + len) xs → AllByRecursion (λ x. x < low + suc len) xs
+      wider [] h = tt
+      wider (x ∷ xs) h = (omega (arith, h.0), wider xs h.1)
 
-  go : (b : Bool) → test low ≡ b → AllByRecursion (λ x. x < low + suc len) (filter test (range_with_len (low + 1) len))
-      → AllByRecursion (λ x. x < low + suc len) (filter test (range_with_len low (suc len)))
-  go true q h = rw q (omega arith, h)
-  go false q h = rw q h
+      go : (b : Bool) → test low ≡ b → AllByRecursion (λ x. x < low + suc len) (filter test (range_with_len (low + 1) len))
+          → AllByRecursion (λ x. x < low + suc len) (filter test (range_with_len low (suc len)))
+      go true q h = rw q (omega arith, h)
+      go false q h = rw q h
 
 all_at : (P : ℕ → Type 0) (xs : List ℕ) (i d : ℕ) → AllByRecursion P xs → i < length xs → P (slice_index_or xs i d)
 all_at P [] i d h lt = absurd (omega arith)

@@ -58,7 +58,9 @@ blocks_stay cell n mark h lt was now = record {
   sized = h.sized;
 } where
   go : (k : ℕ) (b : Bool) → (n == k) ≡ b → is_there (cond b mark (mark_or_fresh cell.marks k)) ≡ is_there (mark_or_fresh cell.marks k)
-  go k true q = now ∙ sym (ap (λ (i : ℕ). is_there (mark_or_fresh cell.marks i)) (sym (eqb-true n k q)) ∙ ap is_there (default cell.marks n Current Out lt) ∙ was)
+  go k true q =
+      now
+      ∙ sym (ap (λ (i : ℕ). is_there (mark_or_fresh cell.marks i)) (sym (eqb-true n k q)) ∙ ap is_there (default cell.marks n Current Out lt) ∙ was)
   go k false q = refl
 
   same : (k : ℕ) → is_there (mark_or_fresh (slice_set cell.marks n mark) k) ≡ is_there (mark_or_fresh cell.marks k)
@@ -73,7 +75,9 @@ pub block_leaves : (cell : CellState) (n : ℕ) → HasBlocks cell → n < lengt
     → HasBlocks (without_part cell n)
 block_leaves cell n h lt in_blocks = record {
   len = (let z : length (slice_set cell.blocks n None) ≡ length cell.blocks = grind (arith, common_steps) in z) ∙ h.len;
-  numbers = λ k. ap (option_map number_of) (block_set cell.blocks n k None in_blocks) ∙ go k (n == k) refl ∙ ap (λ (m : Mark). cond (is_there m) (page_block cell.block cell.chain.entries k) None) (sym (mark_set cell.marks n k Out Current lt));
+  numbers =
+      λ k. ap (option_map number_of) (block_set cell.blocks n k None in_blocks) ∙ go k (n == k) refl
+      ∙ ap (λ (m : Mark). cond (is_there m) (page_block cell.block cell.chain.entries k) None) (sym (mark_set cell.marks n k Out Current lt));
   sized = λ k b q. size k b (n == k) refl (sym (block_set cell.blocks n k None in_blocks) ∙ q);
 } where
   go : (k : ℕ) (b : Bool) → (n == k) ≡ b
@@ -94,11 +98,15 @@ pub record IsIdle (cell : CellState) (id : PartId) : Type 0 where
   pub idle : is_current (mark_at cell.marks (number_in cell id)) ≡ false
 
 pub is_killed : (cell : CellState) (id : PartId) → mark_named cell id ≡ Some Killed → IsIdle cell id
-is_killed cell id h = let m = marked cell id Killed h in record { number = m.number; within = m.within; there = ap is_there m.mark_is; idle = ap is_current m.mark_is }
+is_killed cell id h =
+    let m = marked cell id Killed h in
+    record { number = m.number; within = m.within; there = ap is_there m.mark_is; idle = ap is_current m.mark_is }
 
 pub is_idle : (cell : CellState) (id : PartId) → (mark_named cell id ≡ Some Killed) ⊎ (mark_named cell id ≡ Some Kept) → IsIdle cell id
 is_idle cell id (inl h) = is_killed cell id h
-is_idle cell id (inr h) = let m = marked cell id Kept h in record { number = m.number; within = m.within; there = ap is_there m.mark_is; idle = ap is_current m.mark_is }
+is_idle cell id (inr h) =
+    let m = marked cell id Kept h in
+    record { number = m.number; within = m.within; there = ap is_there m.mark_is; idle = ap is_current m.mark_is }
 
 pub some_same : {m n : ℕ} → Some m ≡ Some n → m ≡ n
 some_same h = cc

@@ -110,11 +110,14 @@ both_front one two h (x ∷ xs) (suc len) = go (one x) (two x) refl refl (both_f
   go : (a b : Bool) → one x ≡ a → two x ≡ b → count_by one (take len xs) + count_by two (take len xs) ≤ length xs
       → count_by one (x ∷ take len xs) + count_by two (x ∷ take len xs) ≤ suc (length xs)
   go true true p q ih = let z : true ≡ false = sym q ∙ h x p in cc
-  go true false p q ih = let y = rw p at (count_cons one x (take len xs)) in let z = rw q at (count_cons two x (take len xs)) in omega (arith, y, z, ih)
-  go false b p q ih = let y = rw p at (count_cons one x (take len xs)) in let z = count_cons two x (take len xs) in omega (arith, y, z, ih, bit (two x)) where
-    bit : (c : Bool) → cond c 1 0 ≤ 1
-    bit true = omega arith
-    bit false = omega arith
+  go true false p q ih =
+      let y = rw p at (count_cons one x (take len xs)) in let z = rw q at (count_cons two x (take len xs)) in omega (arith, y, z, ih)
+  go false b p q ih =
+      let y = rw p at (count_cons one x (take len xs)) in
+      let z = count_cons two x (take len xs) in omega (arith, y, z, ih, bit (two x)) where
+        bit : (c : Bool) → cond c 1 0 ≤ 1
+        bit true = omega arith
+        bit false = omega arith
 
 pub both : {X : Type 0} (one two : X → Bool) → ((x : X) → one x ≡ true → two x ≡ false) → (xs : List X) (from to : ℕ)
     → count_in one xs from to + count_in two xs from to ≤ length xs

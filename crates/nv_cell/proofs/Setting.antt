@@ -103,6 +103,8 @@ add_tallied m page_ends k parts before c marks ends tallies h at runs marks_is e
     let b : before ≡ counts_at m.pages.items k = at_index m.pages.items k before no_counts before_at lk in
     record {
       tallies = rw (marks_is, ends_is, tallies_is) (add_tallies m.tallies.items m.ends.items m.marks.items parts h.tallies);
-      counts = rw tallies_is (add_counts m.tallies.items page_ends m.pages.items k (record { current = parts; there = parts }) c h.counts at.within at.start at.end runs (rw (c_is, b) refl) (rw (c_is, b) refl));
-      there = omega (arith, ap (count_by is_there) marks_is, count_append is_there m.marks.items (replicate parts Current), count_all is_there Current parts refl, h.there);
+      counts =
+          rw tallies_is (add_counts m.tallies.items page_ends m.pages.items k (record { current = parts; there = parts }) c h.counts at.within at.start at.end runs (rw (c_is, b) refl) (rw (c_is, b) refl));
+      there =
+          omega (arith, ap (count_by is_there) marks_is, count_append is_there m.marks.items (replicate parts Current), count_all is_there Current parts refl, h.there);
     }

@@ -78,7 +78,8 @@ stretch_is block es t index ends run from page scan bases small is good at =
     record {
       ahead = omega (arith, same, is.1);
       small = omega (arith, last.1, good.some, small);
-      absent = λ p ge lt. ap (λ (o : Option PageRef). option_map (number es) (option_map page_part o)) (is.2 p (omega (arith, ge, same)) lt);
+      absent =
+          λ p ge lt. ap (λ (o : Option PageRef). option_map (number es) (option_map page_part o)) (is.2 p (omega (arith, ge, same)) lt);
       present = λ p ge lt. (page_found block es t index ends run p scan bases is.0 ge lt).0;
     }
 

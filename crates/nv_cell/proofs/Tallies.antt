@@ -21,7 +21,8 @@ bit_cond false = refl
 pub counted : {X : Type 0} (test : X → Bool) (d : X) (xs : List X) (ends : List ℕ) (k i : ℕ) (c : ℕ) → test d ≡ false
     → c ≡ count_in test xs (start_at ends k) (end_at ends k) → i < length xs → start_at ends k ≤ i → i < end_at ends k
     → bit (test (slice_index_or xs i d)) ≤ c
-counted test d xs ends k i c fails q lt s e = omega (arith, bit_cond (test (slice_index_or xs i d)), count_some test d xs (start_at ends k) (end_at ends k) i d fails lt s e)
+counted test d xs ends k i c fails q lt s e =
+    omega (arith, bit_cond (test (slice_index_or xs i d)), count_some test d xs (start_at ends k) (end_at ends k) i d fails lt s e)
 
 pub few : {X : Type 0} (test : X → Bool) (xs : List X) (from to c : ℕ) → c ≡ count_in test xs from to → c ≤ length xs
 few test xs from to c q = let b = both test (λ x. false) (λ x h. refl) xs from to in omega (arith, b, q)
@@ -53,8 +54,10 @@ new_counts tallies ends pages i k t h lk s e li =
     record {
       runs = subst (λ (n : ℕ). AreRuns ends n) (sym len) h.runs;
       len = grind (arith, common_steps, h.len);
-      live = new_count (λ c. c.live) is_live tallies pages ends i k t (recounted (counts_at pages k) (tally_at tallies i) t) h.runs h.len lk s e li refl h.live refl;
-      valid = new_count (λ c. c.valid) is_valid tallies pages ends i k t (recounted (counts_at pages k) (tally_at tallies i) t) h.runs h.len lk s e li refl h.valid refl;
+      live =
+          new_count (λ c. c.live) is_live tallies pages ends i k t (recounted (counts_at pages k) (tally_at tallies i) t) h.runs h.len lk s e li refl h.live refl;
+      valid =
+          new_count (λ c. c.valid) is_valid tallies pages ends i k t (recounted (counts_at pages k) (tally_at tallies i) t) h.runs h.len lk s e li refl h.valid refl;
     }
 
 tally_set : (tallies : List Tally) (i j : ℕ) (t : Tally) → i < length tallies
@@ -81,10 +84,12 @@ new_tallies tallies ends marks i n m h li s e ln =
       within = λ j lj. rw len (h.within j lj);
       whole = h.whole ∙ sym len;
       len = grind (arith, common_steps, h.len);
-      current = recount is_current Out marks ends n i m (λ j. (tally_at tallies j).current) (λ j. (tally_at (slice_set tallies i (moved (tally_at tallies i) (mark_at marks n) m)) j).current) h.runs li s e ln h.current
+      current =
+          recount is_current Out marks ends n i m (λ j. (tally_at tallies j).current) (λ j. (tally_at (slice_set tallies i (moved (tally_at tallies i) (mark_at marks n) m)) j).current) h.runs li s e ln h.current
           (omega (arith, counted is_current Out marks ends i n (tally_at tallies i).current refl (h.current i li) ln s e, bit_cond (is_current (mark_at marks n))))
           (λ j. ap (λ (x : Tally). x.current) (tally_set tallies i j t lt) ∙ pick_current (i == j) t (tally_at tallies j) ∙ rw (bit_cond (is_current (mark_at marks n)), bit_cond (is_current m)) refl);
-      there = recount is_there Out marks ends n i m (λ j. (tally_at tallies j).there) (λ j. (tally_at (slice_set tallies i (moved (tally_at tallies i) (mark_at marks n) m)) j).there) h.runs li s e ln h.there
+      there =
+          recount is_there Out marks ends n i m (λ j. (tally_at tallies j).there) (λ j. (tally_at (slice_set tallies i (moved (tally_at tallies i) (mark_at marks n) m)) j).there) h.runs li s e ln h.there
           (omega (arith, counted is_there Out marks ends i n (tally_at tallies i).there refl (h.there i li) ln s e, bit_cond (is_there (mark_at marks n))))
           (λ j. ap (λ (x : Tally). x.there) (tally_set tallies i j t lt) ∙ pick_there (i == j) t (tally_at tallies j) ∙ rw (bit_cond (is_there (mark_at marks n)), bit_cond (is_there m)) refl);
     }
@@ -128,7 +133,9 @@ new_run test xs ys =
 
 pub count_all : {X : Type 0} (test : X → Bool) (x : X) (n : ℕ) → test x ≡ true → count_by test (replicate n x) ≡ n
 count_all test x zero h = refl
-count_all test x (suc n) h = count_cons2 test x (replicate n x) ∙ rw h (let i = count_all test x n h in let z : 1 + count_by test (replicate n x) ≡ suc n = omega arith in z)
+count_all test x (suc n) h =
+    count_cons2 test x (replicate n x)
+    ∙ rw h (let i = count_all test x n h in let z : 1 + count_by test (replicate n x) ≡ suc n = omega arith in z)
 
 taken_none : {X : Type 0} (test : X → Bool) (n : ℕ) → count_by test (take n []) ≡ 0
 taken_none test zero = refl
@@ -153,7 +160,8 @@ push_front test (y ∷ ys) x (suc len) =
 
 pub push_count : {X : Type 0} (test : X → Bool) (xs : List X) (x : X) (from to : ℕ)
     → count_in test (xs ++ x ∷ []) from to ≡ count_in test xs from to + cond (in_range from to (length xs) && test x) 1 0
-push_count test xs x zero to = let z : in_range 0 to (length xs) ≡ nat_lt (length xs) (to - 0) = grind (arith, nat_tests) in rw z (push_front test xs x (to - 0))
+push_count test xs x zero to =
+    let z : in_range 0 to (length xs) ≡ nat_lt (length xs) (to - 0) = grind (arith, nat_tests) in rw z (push_front test xs x (to - 0))
 push_count test [] x (suc from) to =
     let z : in_range (suc from) to 0 ≡ false = grind (arith, nat_tests) in
     rw z (let e : count_by test (take (to - suc from) (drop from [])) ≡ count_by test (take (to - suc from) []) + 0 = omega (arith, dropped_none test (to - suc from) from, taken_none test (to - suc from)) in e)
@@ -170,7 +178,8 @@ push_counts : (f : PageCounts → ℕ) (test : Tally → Bool) (tallies : List T
     → (j : ℕ) → j < length ends
     → f (counts_at (slice_set pages k c) j) ≡ count_in test (tallies ++ t ∷ []) (start_at ends j) (end_at ends j)
 push_counts f test tallies t pages ends k c runs len lk s e old is j lj =
-    ap f (counts_set pages k j c (omega arith)) ∙ go (k == j) refl (push_count test tallies t (start_at ends j) (end_at ends j)) (one_run ends (length tallies) k j (length tallies) runs lk lj s e) where
+    ap f (counts_set pages k j c (omega arith))
+    ∙ go (k == j) refl (push_count test tallies t (start_at ends j) (end_at ends j)) (one_run ends (length tallies) k j (length tallies) runs lk lj s e) where
       go : (b : Bool) → (k == j) ≡ b
           → count_in test (tallies ++ t ∷ []) (start_at ends j) (end_at ends j) ≡ count_in test tallies (start_at ends j) (end_at ends j) + cond (in_range (start_at ends j) (end_at ends j) (length tallies) && test t) 1 0
           → in_range (start_at ends j) (end_at ends j) (length tallies) ≡ (k == j)
@@ -250,7 +259,8 @@ each_old : (test : Mark → Bool) (f : Tally → ℕ) (tallies : List Tally) (t 
     → f (tally_at tallies j) ≡ count_in test marks (start_at ends j) (end_at ends j)
     → f (tally_at (tallies ++ t ∷ []) j) ≡ count_in test (marks ++ fresh) (start_at (ends ++ x ∷ []) j) (end_at (ends ++ x ∷ []) j)
 each_old test f tallies t ends marks fresh x j len lt le h =
-    ap f (tally_old tallies t j (omega (arith, len))) ∙ h ∙ rw (start_old ends x j (omega (arith, lt)), end_old ends x j lt) (sym (old_run test marks fresh (start_at ends j) (end_at ends j) le))
+    ap f (tally_old tallies t j (omega (arith, len))) ∙ h
+    ∙ rw (start_old ends x j (omega (arith, lt)), end_old ends x j lt) (sym (old_run test marks fresh (start_at ends j) (end_at ends j) le))
 
 each_new : (test : Mark → Bool) (f : Tally → ℕ) (tallies : List Tally) (t : Tally) (ends : List ℕ) (marks : List Mark) (count : ℕ)
     → length tallies ≡ length ends → start_at ends (length ends) ≡ length marks

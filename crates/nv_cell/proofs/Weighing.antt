@@ -51,7 +51,8 @@ pub weights_more : (block : ℕ) (pages more : ℕ → ℕ) (names bound : ℕ) 
 weights_more block pages more names bound [] h le = omega arith
 weights_more block pages more names bound (item ∷ later) h le =
     let a = weight_more block pages more names bound item h le in
-    let b = weights_more block (λ from. pages from + pages_added item) (λ from. more from + pages_added item) (names + names_added item) (bound + names_added item) later (λ from. omega (arith, h from)) (omega (arith, le)) in
+    let b =
+    weights_more block (λ from. pages from + pages_added item) (λ from. more from + pages_added item) (names + names_added item) (bound + names_added item) later (λ from. omega (arith, h from)) (omega (arith, le)) in
     omega (arith, a, b)
 
 -- ---- a log with one more entry
@@ -112,7 +113,8 @@ names_push log e = rw (names_of-push log e) (few_names e.item (names_of log))
 pub weights_push : (block : ℕ) (log : List Entry) (e : Entry) (later : List Item)
     → weight block (present_in block log) (length (names_of log)) e.item + weights_in block (log ++ e ∷ []) later ≤ weights_in block log (e.item ∷ later)
 weights_push block log e later =
-    let h = weights_more block (present_in block (log ++ e ∷ [])) (λ from. present_in block log from + pages_added e.item) (length (names_of (log ++ e ∷ []))) (length (names_of log) + names_added e.item) later
+    let h =
+    weights_more block (present_in block (log ++ e ∷ [])) (λ from. present_in block log from + pages_added e.item) (length (names_of (log ++ e ∷ []))) (length (names_of log) + names_added e.item) later
     (λ from. present_push block log e from) (names_push log e) in
     omega (arith, h)
 

@@ -50,7 +50,8 @@ no_room = record { pages = 0; entries = 0; parts = 0; runs = 0; name = None; kil
 
 -- an empty slot
 abbrev pub empty_cell : ℕ → ℕ → ℕ → ℕ → CellState
-empty_cell block page generation version = record { block = block; generation = generation; version = version; chain = empty_chain page; marks = []; blocks = [] }
+empty_cell block page generation version =
+    record { block = block; generation = generation; version = version; chain = empty_chain page; marks = []; blocks = [] }
 
 -- the log of a cell
 abbrev pub log_of : CellState → List Entry
@@ -60,7 +61,9 @@ log_of cell = log cell.chain
 abbrev pub page_block : ℕ → List Entry → ℕ → Option ℕ
 page_block block [] n = None
 page_block block (e ∷ later) n =
-    if nat_lt n (part_count e) then option_and_then block_in (value_of (sets block e.item (key_at (e ∷ []) n))) else page_block block later (n - part_count e)
+    if nat_lt n (part_count e)
+    then option_and_then block_in (value_of (sets block e.item (key_at (e ∷ []) n)))
+    else page_block block later (n - part_count e)
 
 -- the mark of a part; one that is not yet published is current
 abbrev pub mark_or_fresh : List Mark → ℕ → Mark
@@ -74,7 +77,9 @@ AreSlotsSized block slots = (n : ℕ) (b : BlockValue) → slice_index_or slots 
 pub record HasBlocks (cell : CellState) : Type 0 where
   pub len : length cell.blocks ≡ part_total cell.chain.entries
   pub numbers : (n : ℕ)
-      → option_map number_of (slice_index_or cell.blocks n None) ≡ (if is_there (mark_or_fresh cell.marks n) then page_block cell.block cell.chain.entries n else None)
+      → option_map number_of (slice_index_or cell.blocks n None) ≡ (if is_there (mark_or_fresh cell.marks n)
+      then page_block cell.block cell.chain.entries n
+      else None)
   pub sized : AreSlotsSized cell.block cell.blocks
 
 -- each published part has a mark, and is marked current exactly where no later entry covers its key

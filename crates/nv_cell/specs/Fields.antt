@@ -44,7 +44,8 @@ pub record AreFields (c : Inside) : Type 0 where
   pub ends_len : length c.marks.ends.items ≡ c.chain.state.tail
   pub ends : (i : ℕ) → i < c.chain.state.tail → end_at c.marks.ends.items i ≡ part_base c.chain.state.entries (i + 1)
   pub tallied : AreTallied c.marks c.chain.state.ends
-  pub spare : HasSpare c.marks (part_total c.chain.state.entries - length c.marks.marks.items + c.parts) (length c.chain.state.entries - c.chain.state.tail + c.entries)
+  pub spare : HasSpare c.marks (part_total c.chain.state.entries - length c.marks.marks.items + c.parts)
+      (length c.chain.state.entries - c.chain.state.tail + c.entries)
   pub blocks_room : part_total c.chain.state.entries + c.parts ≤ vec_capacity c.blocks
   pub pages_room : length c.chain.state.blocks + c.chain.spare ≤ vec_capacity c.marks.pages
   pub no_numbers : c.numbers.items ≡ []
