@@ -10,6 +10,7 @@ use Rattle.nv_entry.specs.Covered.{part_count, part_total}
 use Rattle.nv_entry.specs.Held.{Retention, keeps}
 use Rattle.nv_entry.specs.Keys.{parts_of}
 use Rattle.nv_entry.specs.Laws.{AllDroppable, GoIfDroppable, GoIfPageDroppable}
+use Rattle.nv_entry.specs.Leaving.{HidesNone}
 use Rattle.nv_entry.specs.Log.{pair_of, pairs, pairs_of}
 use Rattle.nv_log.specs.Chain.{AreEnds, ChainState, IsChain, gone_of, log, log_pages, parts_from}
 use Rattle.nv_log.proofs.Chains.{joined-log_pages}
@@ -17,7 +18,7 @@ use Rattle.nv_cell.specs.declared.mark.Mark.{Mark}
 use Rattle.nv_cell.specs.declared.mark.Mark.TheVariants.{Current, Killed, Kept, Out}
 use Rattle.nv_cell.specs.Cell.{CellState, IsCell, log_of}
 use Rattle.nv_cell.specs.Marks.{is_there}
-use Rattle.nv_cell.specs.Removal.{ArePublished, HideNoneLeft, HidesNone, MayGo, log_flags, part_flags, run_flags}
+use Rattle.nv_cell.specs.Removal.{ArePublished, HideNoneLeft, MayGo, log_flags, part_flags, run_flags}
 use Rattle.nv_cell.specs.Retained.{AreMarksOf}
 use Rattle.nv_cell.proofs.NamedParts.{pair_first, pair_later}
 use Rattle.nv_cell.proofs.RunFlags.{gone_of-run}
