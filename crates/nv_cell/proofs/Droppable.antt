@@ -1,24 +1,24 @@
 -- Entries and pages that are droppable may go.
-use Rattle.std.proofs.Common.{◌≡◌, ℕ, zero, suc, ◌+◌, ◌-◌, ◌<◌, ◌≤◌, ◌||◌, Bool, true, false, List, [], ◌∷◌, ◌++◌, length, length-append, take, drop, map, replicate, Some, arith, refl, ap, sym, ◌∙◌, subst, append_assoc, slice_get, slice_index_or}
+use Rattle.std.proofs.Common.{◌≡◌, ℕ, zero, suc, ◌+◌, ◌-◌, ◌<◌, ◌≤◌, Bool, true, false, List, [], ◌∷◌, ◌++◌, length, length-append, take, drop, replicate, arith, refl, ap, sym, ◌∙◌, subst, append_assoc, slice_get, slice_index_or}
 use Rattle.std.specs.List.{AllByRecursion, list_any}
 use Rattle.std.proofs.lemmas.List.{append-nil, length-drop, length-map, length-take, length-take-le}
 use Rattle.std.proofs.lemmas.Option.{slice_get-map, slice_get_within}
-use Rattle.nv_entry.specs.declared.held.Pair.{Pair}
 use Rattle.nv_entry.specs.declared.item.Entry.{Entry}
-use Rattle.nv_entry.specs.Clean.{IsDroppable, entries_of}
+use Rattle.nv_entry.specs.Clean.{entries_of}
 use Rattle.nv_entry.specs.Counts.{is_kept}
 use Rattle.nv_entry.specs.Covered.{part_count, part_total}
 use Rattle.nv_entry.specs.Held.{Retention, keeps}
 use Rattle.nv_entry.specs.Keys.{parts_of}
 use Rattle.nv_entry.specs.Laws.{AllDroppable, GoIfDroppable, GoIfPageDroppable}
+use Rattle.nv_entry.specs.Leaving.{HidesNone}
 use Rattle.nv_entry.specs.Log.{pair_of, pairs, pairs_of}
 use Rattle.nv_log.specs.Chain.{AreEnds, ChainState, IsChain, gone_of, log, log_pages, parts_from}
 use Rattle.nv_log.proofs.Chains.{joined-log_pages}
 use Rattle.nv_cell.specs.declared.mark.Mark.{Mark}
 use Rattle.nv_cell.specs.declared.mark.Mark.TheVariants.{Current, Killed, Kept, Out}
 use Rattle.nv_cell.specs.Cell.{CellState, IsCell, log_of}
-use Rattle.nv_cell.specs.Marks.{is_there, mark_at}
-use Rattle.nv_cell.specs.Removal.{ArePublished, HideNoneLeft, HidesNone, MayGo, log_flags, part_flags, run_flags}
+use Rattle.nv_cell.specs.Marks.{is_there}
+use Rattle.nv_cell.specs.Removal.{ArePublished, HideNoneLeft, MayGo, log_flags, part_flags, run_flags}
 use Rattle.nv_cell.specs.Retained.{AreMarksOf}
 use Rattle.nv_cell.proofs.NamedParts.{pair_first, pair_later}
 use Rattle.nv_cell.proofs.RunFlags.{gone_of-run}
@@ -46,7 +46,8 @@ all_out (Current ∷ marks) h = cc
 all_out (Killed ∷ marks) h = cc
 all_out (Kept ∷ marks) h = cc
 
-all_join : (xs ys : List Mark) → AllByRecursion (λ m. m ≡ Out) xs → AllByRecursion (λ m. m ≡ Out) ys → AllByRecursion (λ m. m ≡ Out) (xs ++ ys)
+all_join : (xs ys : List Mark) → AllByRecursion (λ m. m ≡ Out) xs → AllByRecursion (λ m. m ≡ Out) ys
+    → AllByRecursion (λ m. m ≡ Out) (xs ++ ys)
 all_join [] ys all more = more
 all_join (x ∷ xs) ys all more = (all.0, all_join xs ys all.1 more)
 
@@ -71,7 +72,8 @@ later_alike r e later marks alike n pair q =
     ap is_there (later_mark marks c n)
     ∙ alike (c + n) pair (pair_later r.block e later (c + n) past ∙ ap (slice_get (pairs r.block later)) back ∙ q)
 
-out : (r : Retention) (kept rest : List Entry) (flags : List Bool) (marks : List Mark) → AllGoBy r kept rest flags → length marks ≡ part_total rest
+out : (r : Retention) (kept rest : List Entry) (flags : List Bool) (marks : List Mark) → AllGoBy r kept rest flags
+    → length marks ≡ part_total rest
     → AreAlike is_there (keeps r) r.block rest marks → AllByRecursion (λ m. m ≡ Out) (gone_of (part_flags flags rest) marks)
 out r kept [] [] marks h len alike = tt
 out r kept [] (b ∷ flags) marks h len alike = tt
@@ -87,7 +89,8 @@ out r kept (e ∷ later) (false ∷ flags) marks h len alike =
     (all_out (take c marks) (first_alike r e later marks len alike ∙ h.0))
     (out r kept later flags (drop c marks) h.2 (omega (arith, length-drop c marks, len)) (later_alike r e later marks alike)))
 
-may_go : (r : Retention) (cell : CellState) (flags : List Bool) → IsCell cell → AreMarksOf r cell → AllGoBy r [] (log_of cell) flags → MayGo flags cell
+may_go : (r : Retention) (cell : CellState) (flags : List Bool) → IsCell cell → AreMarksOf r cell → AllGoBy r [] (log_of cell) flags
+    → MayGo flags cell
 may_go r cell flags is are h = record {
   out = out r [] (log_of cell) flags cell.marks h is.marks.len are.there;
   hidden = subst (λ (block : ℕ). HideNoneLeft block [] (log_of cell) flags) are.block (hidden r [] (log_of cell) flags h);
@@ -101,7 +104,8 @@ all_go r kept (e ∷ later) [] h = tt
 all_go r kept (e ∷ later) (true ∷ flags) h = all_go r (kept ++ e ∷ []) later flags h.1
 all_go r kept (e ∷ later) (false ∷ flags) h = (h.0.unneeded, h.0.hides_nothing, all_go r kept later flags h.1)
 
-pub entries_may_go : (r : Retention) (cell : CellState) (flags : List Bool) → IsCell cell → AreMarksOf r cell → GoIfDroppable r [] (log_of cell) flags
+pub entries_may_go : (r : Retention) (cell : CellState) (flags : List Bool) → IsCell cell → AreMarksOf r cell
+    → GoIfDroppable r [] (log_of cell) flags
     → MayGo flags cell
 entries_may_go r cell flags is are h = may_go r cell flags is are (all_go r [] (log_of cell) flags h)
 
@@ -168,7 +172,8 @@ has_some start (end ∷ ends) xs some =
     length-append (take k xs) (entries_of (parts_from end ends (drop k xs))) in
     go (length (entries_of (parts_from end ends (drop k xs)))) (λ more. has_some end ends (drop k xs) more) both
   where
-    go : (n : ℕ) → (0 < n → 0 < length (drop (end - start) xs)) → length (entries_of (parts_from start (end ∷ ends) xs)) ≡ length (take (end - start) xs) + n
+    go : (n : ℕ) → (0 < n → 0 < length (drop (end - start) xs))
+        → length (entries_of (parts_from start (end ∷ ends) xs)) ≡ length (take (end - start) xs) + n
         → 0 < length xs
     go zero rec both = omega (arith, both, some, length-take (end - start) xs)
     go (suc n) rec both = omega (arith, rec (omega arith), length-drop (end - start) xs)

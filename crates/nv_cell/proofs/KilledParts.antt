@@ -37,7 +37,8 @@ empty_own [] n = refl
 empty_own (y ∷ xs) zero = refl
 empty_own (y ∷ xs) (suc n) = empty_own xs n
 
-empty_other : {X : Type 0} (xs : List (Option X)) (n k : ℕ) → (n ≡ k → ⊥) → slice_index_or (slice_set xs n None) k None ≡ slice_index_or xs k None
+empty_other : {X : Type 0} (xs : List (Option X)) (n k : ℕ) → (n ≡ k → ⊥)
+    → slice_index_or (slice_set xs n None) k None ≡ slice_index_or xs k None
 empty_other [] n k apart = refl
 empty_other (y ∷ xs) zero zero apart = absurd (apart refl)
 empty_other (y ∷ xs) zero (suc k) apart = refl
@@ -47,7 +48,8 @@ empty_other (y ∷ xs) (suc n) (suc k) apart = empty_other xs n k (λ same. apar
 -- ---- one part of another mark
 
 -- what is found by a name is found by no other
-apart_by : {X : Type 0} (log : List Entry) (id other : PartId) (n : ℕ) (old new : ℕ → Option X) → number_named log id ≡ Some n → (other ≡ id → ⊥)
+apart_by : {X : Type 0} (log : List Entry) (id other : PartId) (n : ℕ) (old new : ℕ → Option X) → number_named log id ≡ Some n
+    → (other ≡ id → ⊥)
     → ((k : ℕ) → (n ≡ k → ⊥) → new k ≡ old k)
     → option_and_then new (number_named log other) ≡ option_and_then old (number_named log other)
 apart_by {X = X} log id other n old new p apart same = go (number_named log other) refl where
@@ -103,9 +105,11 @@ pub record IsFrom (log : List Entry) (low : ℕ) (id : PartId) : Type 0 where
 
 lower : (log : List Entry) (low : ℕ) (ids : List PartId) → AllByRecursion (IsFrom log (low + 1)) ids → AllByRecursion (IsFrom log low) ids
 lower log low [] all = tt
-lower log low (id ∷ ids) all = (record { number = all.0.number; named = all.0.named; from = omega (arith, all.0.from) }, lower log low ids all.1)
+lower log low (id ∷ ids) all =
+    (record { number = all.0.number; named = all.0.named; from = omega (arith, all.0.from) }, lower log low ids all.1)
 
-apart_from : (log : List Entry) (low : ℕ) (id : PartId) (ids : List PartId) → number_named log id ≡ Some low → AllByRecursion (IsFrom log (low + 1)) ids
+apart_from : (log : List Entry) (low : ℕ) (id : PartId) (ids : List PartId) → number_named log id ≡ Some low
+    → AllByRecursion (IsFrom log (low + 1)) ids
     → AllByRecursion (λ other. other ≡ id → ⊥) ids
 apart_from log low id [] named all = tt
 apart_from log low id (other ∷ ids) named all = (differ, apart_from log low id ids named all.1) where

@@ -32,6 +32,9 @@ pub mod PageBlocks
 pub mod RunFlags
 pub mod Droppable
 pub mod Recounting
+pub mod Sources
+pub mod Leaving
+pub mod NamesLeft
 pub mod Removing
 pub mod PageFlags
 pub mod Growing

@@ -134,7 +134,8 @@ number_told (e ∷ log) n k is h = go (nat_lt n (part_count e)) refl (λ r. numb
       let same : record { part = record { entry = e.id; part = at }; birth = e.epoch } ≡ k = same_Some _ k r in
       rw (← same) (rw (own_id e.id) (place_there e.item n at p))
 
-  go : (b : Bool) → nat_lt n (part_count e) ≡ b → (killed_part log (n - part_count e) ≡ Some k → number_named log k.part ≡ Some (n - part_count e))
+  go : (b : Bool) → nat_lt n (part_count e) ≡ b
+      → (killed_part log (n - part_count e) ≡ Some k → number_named log k.part ≡ Some (n - part_count e))
       → number_named (e ∷ log) k.part ≡ Some n
   go true q rec = own (slice_get (parts_of e.item) n) refl (rw q at h)
   go false q rec =
@@ -143,7 +144,8 @@ number_told (e ∷ log) n k is h = go (nat_lt n (part_count e)) refl (λ r. numb
       let whole : part_count e + (n - part_count e) ≡ n = omega (arith, ltb-false n (part_count e) q) in
       rw (other, rec found) (ap Some whole)
 
-pub name_told : (log : List Entry) (id : PartId) (n : ℕ) → number_named log id ≡ Some n → option_map (λ k. k.part) (killed_part log n) ≡ Some id
+pub name_told : (log : List Entry) (id : PartId) (n : ℕ) → number_named log id ≡ Some n
+    → option_map (λ k. k.part) (killed_part log n) ≡ Some id
 name_told [] id n h = cc
 name_told (e ∷ log) id n h = go (is_same_id e.id id.entry) refl (λ m r. name_told log id m r) where
   more : (o : Option ℕ) → number_named log id ≡ o → option_map (λ m. part_count e + m) o ≡ Some n
@@ -231,7 +233,8 @@ are_pairs block (e ∷ log) n = go (nat_lt n (part_count e)) refl (are_pairs blo
 -- ---- deaths
 
 -- the first cover of a key that only the entries from `t` on cover
-first_at : (block : ℕ) (later : List Entry) (t epoch : ℕ) (key : Key) → any_cover block (take t later) key ≡ false → any_cover block later key ≡ true
+first_at : (block : ℕ) (later : List Entry) (t epoch : ℕ) (key : Key) → any_cover block (take t later) key ≡ false
+    → any_cover block later key ≡ true
     → AllByRecursion (λ e. e.epoch ≡ epoch) (drop t later) → first_cover block later key ≡ Some epoch
 first_at block [] t epoch key none some all = cc
 first_at block (e ∷ later) zero epoch key none some all =
@@ -248,7 +251,8 @@ first_at block (e ∷ later) (suc t) epoch key none some all =
       go true q rec = let z : true ≡ false = rw q at none in cc
       go false q rec = rw q (rec (rw q at none) (rw q at some))
 
-pub dies_at : (block : ℕ) (es : List Entry) (tail epoch : ℕ) → AllByRecursion (λ e. e.epoch ≡ epoch) (drop tail es) → DiesAt block es tail epoch
+pub dies_at : (block : ℕ) (es : List Entry) (tail epoch : ℕ) → AllByRecursion (λ e. e.epoch ≡ epoch) (drop tail es)
+    → DiesAt block es tail epoch
 dies_at block es tail epoch all n pair h p = go es tail n all (covered h) (uncovered h) p where
   covered : dies block es tail n ≡ true → is_covered block es n ≡ true
   covered h =

@@ -15,11 +15,11 @@ use Rattle.nv_entry.specs.Node.{block_now, file_bytes, page_bytes, size_now}
 use Rattle.nv_entry.specs.Refs.{scan_ref}
 use Rattle.nv_cell.specs.declared.mark.Mark.{Mark}
 use Rattle.nv_cell.specs.declared.mark.Mark.TheVariants.{Current, Killed, Kept, Out}
-use Rattle.nv_cell.specs.Cell.{CellState, HasBlocks, HasMarks, IsCell, log_of, mark_or_fresh, page_block}
+use Rattle.nv_cell.specs.Cell.{AreSlotsSized, CellState, HasBlocks, HasMarks, IsCell, log_of, mark_or_fresh, page_block}
 use Rattle.nv_cell.specs.Index.{IndexValue, ref_of}
 use Rattle.nv_cell.specs.Marks.{is_current, is_there, mark_at}
 use Rattle.nv_cell.specs.Numbers.{is_number, number}
-use Rattle.nv_cell.specs.Pages.{AreBytesOf, AreSlotsSized, block_at_page, own_bytes, own_page, page_now, page_number, pages_now, slot_bytes}
+use Rattle.nv_cell.specs.Pages.{AreBytesOf, block_at_page, own_bytes, own_page, page_now, page_number, pages_now, slot_bytes}
 use Rattle.nv_cell.proofs.Numbers.{scan_key, scan_n, scan_names}
 use Rattle.nv_cell.proofs.PagesNow.{block_scanned, front_block}
 use Rattle.nv_cell.proofs.Publishing.{scanned}
@@ -90,7 +90,8 @@ page_slot cell index page refs =
 abbrev scanned_page : CellState → ℕ → Option ℕ
 scanned_page cell page = scan_n cell.block (log_of cell) (PageKey page)
 
-at_scanned : (cell : CellState) (page : ℕ) → IsLog cell.chain.entries → block_at_page cell page ≡ slot_by cell.blocks (scanned_page cell page)
+at_scanned : (cell : CellState) (page : ℕ) → IsLog cell.chain.entries
+    → block_at_page cell page ≡ slot_by cell.blocks (scanned_page cell page)
 at_scanned cell page is =
     go (scan_ref cell.block (log_of cell) (PageKey page))
     ∙ ap (slot_by cell.blocks) (scanned cell.block cell.chain.entries cell.chain.tail (PageKey page) is)
@@ -148,7 +149,8 @@ file_is cell bytes is are =
     (λ page. sym (page_is cell bytes page is are)))
 
 -- the pages that an index names are the file's
-pub pages_are : (cell : CellState) (index : IndexValue) (count : ℕ) → ((key : Key) → ref_of index key ≡ scan_ref cell.block (log_of cell) key)
+pub pages_are : (cell : CellState) (index : IndexValue) (count : ℕ)
+    → ((key : Key) → ref_of index key ≡ scan_ref cell.block (log_of cell) key)
     → pages_now cell.block cell.blocks (page_number cell.chain.entries index) count ≡ flat_map (own_page cell) (range_with_len 0 count)
 pages_are cell index count refs =
     flat_same (page_now cell.block cell.blocks (page_number cell.chain.entries index)) (own_page cell) 0 count

@@ -1,14 +1,14 @@
 -- The counts of a page are those of its log from scratch.
-use Rattle.std.proofs.Common.{◌≡◌, ℕ, zero, suc, ◌+◌, ◌-◌, ◌<◌, ◌≤◌, ◌||◌, Bool, true, false, not, cond, List, [], ◌∷◌, ◌++◌, length, length-append, take, drop, map, min, Option, Some, None, arith, refl, ap, sym, ◌∙◌, subst, slice_get, slice_index_or}
+use Rattle.std.proofs.Common.{◌≡◌, ℕ, zero, suc, ◌+◌, ◌-◌, ◌<◌, ◌≤◌, ◌||◌, Bool, false, not, cond, List, [], ◌∷◌, length, length-append, take, drop, map, Some, arith, refl, ap, sym, ◌∙◌, slice_get, slice_index_or}
 use Rattle.std.specs.Prelude.{count_by}
 use Rattle.std.specs.List.{flat_map, list_any}
 use Rattle.std.specs.Option.{option_map}
 use Rattle.std.proofs.lemmas.List.{length-drop, length-map, length-take-le}
-use Rattle.std.proofs.lemmas.Option.{get_or_from_slice_get, same_Some, slice_get-map, slice_get_within}
+use Rattle.std.proofs.lemmas.Option.{same_Some, slice_get-map, slice_get_within}
 use Rattle.nv_entry.specs.declared.held.Pair.{Pair}
 use Rattle.nv_entry.specs.declared.item.Entry.{Entry}
 use Rattle.nv_entry.specs.Counts.{live_of, valid_of}
-use Rattle.nv_entry.specs.Covered.{covered_parts, is_covered, part_count, part_total}
+use Rattle.nv_entry.specs.Covered.{covered_parts, part_count, part_total}
 use Rattle.nv_entry.specs.Held.{Retention, is_current as is_current_pair, keeps}
 use Rattle.nv_entry.specs.Keys.{parts_of}
 use Rattle.nv_entry.specs.Log.{pair_of, pairs, pairs_of}

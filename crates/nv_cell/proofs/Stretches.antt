@@ -14,9 +14,10 @@ use Rattle.nv_findex.specs.declared.page_run.PageRun.{PageRun}
 use Rattle.nv_findex.specs.Pages.{IsRun, IsRunFrom, IsRunOf, ref_at, run_ref}
 use Rattle.nv_log.specs.Chain.{place_of}
 use Rattle.nv_cell.specs.declared.read.Stretch.{Stretch}
+use Rattle.nv_cell.specs.Cell.{AreSlotsSized}
 use Rattle.nv_cell.specs.Index.{IndexValue, page_part, ref_of}
 use Rattle.nv_cell.specs.Numbers.{number, part_base}
-use Rattle.nv_cell.specs.Pages.{AreSlotsSized, IsStretch, page_now, page_number, slot_bytes}
+use Rattle.nv_cell.specs.Pages.{IsStretch, page_now, page_number, slot_bytes}
 use Rattle.nv_cell.specs.Tallies.{start_at}
 use Rattle.nv_cell.proofs.Cells.{base_rises}
 use Rattle.nv_cell.proofs.Numbers.{scan_key}
@@ -77,7 +78,8 @@ stretch_is block es t index ends run from page scan bases small is good at =
     record {
       ahead = omega (arith, same, is.1);
       small = omega (arith, last.1, good.some, small);
-      absent = λ p ge lt. ap (λ (o : Option PageRef). option_map (number es) (option_map page_part o)) (is.2 p (omega (arith, ge, same)) lt);
+      absent =
+          λ p ge lt. ap (λ (o : Option PageRef). option_map (number es) (option_map page_part o)) (is.2 p (omega (arith, ge, same)) lt);
       present = λ p ge lt. (page_found block es t index ends run p scan bases is.0 ge lt).0;
     }
 

@@ -1,5 +1,5 @@
 -- The bytes of a file's pages, by the index and the blocks of its cell.
-use Rattle.std.specs.Prelude.{◌≡◌, ℕ, ◌+◌, ◌-◌, ◌<◌, ◌≤◌, ◌^◌, List, length, replicate, Option, Some, None, option_and_then, slice_index_or, take}
+use Rattle.std.specs.Prelude.{◌≡◌, ℕ, ◌+◌, ◌-◌, ◌<◌, ◌≤◌, ◌^◌, List, replicate, Option, Some, None, option_and_then, slice_index_or, take}
 use Rattle.std.specs.List.{flat_map, range_with_len}
 use Rattle.nv_alloc.specs.Block.{BlockValue}
 use Rattle.nv_entry.specs.declared.item.Entry.{Entry}
@@ -19,10 +19,6 @@ AreBytesOf cell bytes = (n : ℕ) (b : BlockValue) → slice_index_or cell.block
 abbrev pub slot_bytes : ℕ → Option BlockValue → List ℕ
 slot_bytes block None = replicate block 0
 slot_bytes block (Some b) = b.bytes
-
--- each block has so many bytes
-abbrev pub AreSlotsSized : ℕ → List (Option BlockValue) → Type 0
-AreSlotsSized block slots = (n : ℕ) (b : BlockValue) → slice_index_or slots n None ≡ Some b → length b.bytes ≡ block
 
 -- the number of the part that holds a page
 abbrev pub page_number : List Entry → IndexValue → ℕ → Option ℕ

@@ -1,5 +1,5 @@
 -- Marks that are what keeps the parts of a log.
-use Rattle.std.specs.Prelude.{◌≡◌, ℕ, ◌<◌, List, [], Some, drop, length, slice_get, slice_index_or}
+use Rattle.std.specs.Prelude.{◌≡◌, ℕ, ◌<◌, [], Some, drop, length, slice_get, slice_index_or}
 use Rattle.nv_entry.specs.declared.held.Pair.{Pair}
 use Rattle.nv_entry.specs.Counts.{live_of, valid_of}
 use Rattle.nv_entry.specs.Held.{Retention, keeps}

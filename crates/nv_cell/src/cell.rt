@@ -2,7 +2,7 @@
 
 ghost use Rattle.std.specs.Prelude.{◌≡◌, ◌+◌, ◌<◌, ◌≤◌, ◌^◌, ◌⊎◌, [], None, Some, slice_index_or, length, map, vec_len};
 ghost use Rattle.nv_base.specs.declared.limits.TheConstants.{LEAST_PAGE_ENTRIES, PAGE_ENTRIES};
-ghost use Rattle.nv_cell.specs.Cell.{IsCell, IsReady, KeepsAppendRoom, empty_cell, fresh_of, killed_of, log_of, mark_named, number_in, published, with_mark, without_part};
+ghost use Rattle.nv_cell.specs.Cell.{IsCell, IsReady, KeepsAppendRoom, empty_cell, fresh_of, killed_of, log_of, mark_named, no_room, number_in, published, with_mark, without_part};
 ghost use Rattle.nv_cell.specs.Effects.{items_of};
 ghost use Rattle.nv_cell.specs.Killed.{AreKilled};
 ghost use Rattle.nv_cell.specs.Numbers.{killed_part};
@@ -61,6 +61,7 @@ impl InodeCell {
         requires least { LEAST_PAGE_ENTRIES ≤ page }
         requires most { page ≤ PAGE_ENTRIES }
         ensures state { result.state ≡ empty_cell block page generation version }
+        ensures room { result.room ≡ no_room }
     {
         InodeCell {
             alloc,

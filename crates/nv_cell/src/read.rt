@@ -8,9 +8,9 @@ ghost use Rattle.nv_entry.specs.Bytes.{read_at};
 ghost use Rattle.nv_entry.specs.Covered.{part_total};
 ghost use Rattle.nv_entry.specs.Node.{block_now, file_bytes};
 ghost use Rattle.nv_log.specs.Chain.{log, place_of};
-ghost use Rattle.nv_cell.specs.Cell.{log_of};
+ghost use Rattle.nv_cell.specs.Cell.{AreSlotsSized, log_of};
 ghost use Rattle.nv_cell.specs.Numbers.{part_base};
-ghost use Rattle.nv_cell.specs.Pages.{AreBytesOf, AreSlotsSized, IsStretch, block_at_page, own_bytes, page_number, pages_now, slot_bytes};
+ghost use Rattle.nv_cell.specs.Pages.{AreBytesOf, IsStretch, block_at_page, own_bytes, page_number, pages_now, slot_bytes};
 ghost use Rattle.nv_cell.specs.Reading.{IsIndexOf};
 ghost use Rattle.nv_cell.specs.Tallies.{start_at};
 
