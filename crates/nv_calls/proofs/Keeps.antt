@@ -77,7 +77,8 @@ module _ (block : ℕ) (nodes : Handle → Option NodeCopy) (taken : Taken) wher
   leave_none dir name None = refl
   leave_none dir name (Some to) = refl
 
-  replaced_among : (list : List Handle) (bound : Option Handle) → ((handle : Handle) → Contains (if_any bound) handle → Contains list handle)
+  replaced_among : (list : List Handle) (bound : Option Handle)
+      → ((handle : Handle) → Contains (if_any bound) handle → Contains list handle)
       → Among list (replaced_plan bound)
   replaced_among list None each = tt
   replaced_among list (Some to) each = (each to (at_first to []), tt)

@@ -113,7 +113,8 @@ module _ (bytes : ℕ → List ℕ) (block : ℕ) (slots : ℕ → Slot) (some :
 
   bind_good : (dir : Handle) (name : List ℕ) (to : Handle) → HasKind Dir (nodes dir) → IsTrue (is_lawful_name name)
       → IsGood (planned dir (Bind name to ∷ []))
-  bind_good dir name to d lawful = good dir (Bind name to ∷ []) (Some Dir) (kind_there Dir (nodes dir) d) (lawful, tt) (tt, tt) (omega arith)
+  bind_good dir name to d lawful =
+      good dir (Bind name to ∷ []) (Some Dir) (kind_there Dir (nodes dir) d) (lawful, tt) (tt, tt) (omega arith)
 
   unbind_good : (dir : Handle) (name : List ℕ) → HasKind Dir (nodes dir) → IsTrue (is_lawful_name name)
       → IsGood (planned dir (Unbind name ∷ []))
@@ -126,7 +127,8 @@ module _ (bytes : ℕ → List ℕ) (block : ℕ) (slots : ℕ → Slot) (some :
   move_good : (dir : Handle) (old new : List ℕ) (to : Handle) → HasKind Dir (nodes dir) → IsTrue (is_lawful_name old)
       → IsTrue (is_lawful_name new) → same_name old new ≡ false → IsGood (planned dir (Unbind old ∷ Bind new to ∷ []))
   move_good dir old new to d o n differ =
-      good dir (Unbind old ∷ Bind new to ∷ []) (Some Dir) (kind_there Dir (nodes dir) d) (o, (n, tt)) ((rw differ refl, tt), (tt, tt)) (omega arith)
+      good dir (Unbind old ∷ Bind new to ∷ []) (Some Dir) (kind_there Dir (nodes dir) d) (o, (n, tt))
+      ((rw differ refl, tt), (tt, tt)) (omega arith)
 
   -- ---- calls
 
@@ -136,7 +138,8 @@ module _ (bytes : ℕ → List ℕ) (block : ℕ) (slots : ℕ → Slot) (some :
       let d = directory_passed (nodes dir) _ h in (
         bind_good dir name taken.made d.0 (lawful_passed name _ d.1).0,
         (
-          good taken.made (Init kind mode ∷ []) None (ap kind_of (no_node bytes block slots taken.made free)) (tt, tt) (tt, tt) (omega arith),
+          good taken.made (Init kind mode ∷ []) None (ap kind_of (no_node bytes block slots taken.made free)) (tt, tt) (tt, tt)
+              (omega arith),
           tt,
         ),
       )
@@ -256,7 +259,8 @@ module _ (bytes : ℕ → List ℕ) (block : ℕ) (slots : ℕ → Slot) (some :
     bound_good true bound other is h = tt
     bound_good false None other is h = tt
     bound_good false (Some moved) other is h =
-        let last = elsewhere bytes block slots some from old to new (own_place from old to new) (moved_refusal nodes from to other moved) is h in
+        let last =
+        elsewhere bytes block slots some from old to new (own_place from old to new) (moved_refusal nodes from to other moved) is h in
         let m = moved_passed bytes block slots some from old to new moved other last in
         moves_good (same_handle from to) moved (replaced_plan other) refl is (replaced_good (kind_of (nodes moved)) other m.1)
 

@@ -52,32 +52,33 @@ is_one false n h = inl h
 -- the page that is cut is one that a file can have, since a greatest size ends in none
 pub cut_within : (block size : ℕ) (present : Bool) (before : List ℕ) (count : ℕ) → 0 < block → size ≤ 65536 * block
     → count ≡ cond (cuts_page block size present before) 1 0 → size / block + count ≤ 65536
-cut_within block size present before count some few is = go (is_one (cuts_page block size present before) count is) (cases_lt (size / block) 65536) where
-  parts : size / block * block + size % block ≡ size
-  parts = div-add-mod' size block
+cut_within block size present before count some few is =
+    go (is_one (cuts_page block size present before) count is) (cases_lt (size / block) 65536) where
+      parts : size / block * block + size % block ≡ size
+      parts = div-add-mod' size block
 
-  inside : cuts_page block size present before ≡ true → (size % block == 0) ≡ false
-  inside cuts = flip (size % block == 0)
-      (and_parts (nat_lt size (length before)) (not (size % block == 0))
-      (and_parts (nat_lt size (length before) && not (size % block == 0)) present cuts).0).1 where
-        flip : (b : Bool) → not b ≡ true → b ≡ false
-        flip true h = cc
-        flip false h = refl
+      inside : cuts_page block size present before ≡ true → (size % block == 0) ≡ false
+      inside cuts = flip (size % block == 0)
+          (and_parts (nat_lt size (length before)) (not (size % block == 0))
+          (and_parts (nat_lt size (length before) && not (size % block == 0)) present cuts).0).1 where
+            flip : (b : Bool) → not b ≡ true → b ≡ false
+            flip true h = cc
+            flip false h = refl
 
-  go : (count ≡ 0) ⊎ ((count ≡ 1) × (cuts_page block size present before ≡ true)) → (size / block < 65536) ⊎ (65536 ≤ size / block)
-      → size / block + count ≤ 65536
-  go (inr one) (inl lt) = omega (arith, one.0, lt)
-  go (inl none) (inl lt) = omega (arith, none, lt)
-  go (inl none) (inr le) = omega (arith, none, most (cases_lt 65536 (size / block))) where
-    most : (65536 < size / block) ⊎ (size / block ≤ 65536) → size / block ≤ 65536
-    most (inr le) = le
-    most (inl lt) =
-        let whole : 65537 * block ≤ size / block * block = mul-le-mul_right block (omega (arith, lt)) in
-        absurd (omega (arith, whole, parts, few, some))
-  go (inr one) (inr le) =
-      let whole : 65536 * block ≤ size / block * block = mul-le-mul_right block le in
-      let whole_blocks : size % block ≡ 0 = omega (arith, whole, parts, few) in
-      let z : true ≡ false = sym (eq-eqb (size % block) 0 whole_blocks) ∙ inside one.1 in cc
+      go : (count ≡ 0) ⊎ ((count ≡ 1) × (cuts_page block size present before ≡ true)) → (size / block < 65536) ⊎ (65536 ≤ size / block)
+          → size / block + count ≤ 65536
+      go (inr one) (inl lt) = omega (arith, one.0, lt)
+      go (inl none) (inl lt) = omega (arith, none, lt)
+      go (inl none) (inr le) = omega (arith, none, most (cases_lt 65536 (size / block))) where
+        most : (65536 < size / block) ⊎ (size / block ≤ 65536) → size / block ≤ 65536
+        most (inr le) = le
+        most (inl lt) =
+            let whole : 65537 * block ≤ size / block * block = mul-le-mul_right block (omega (arith, lt)) in
+            absurd (omega (arith, whole, parts, few, some))
+      go (inr one) (inr le) =
+          let whole : 65536 * block ≤ size / block * block = mul-le-mul_right block le in
+          let whole_blocks : size % block ≡ 0 = omega (arith, whole, parts, few) in
+          let z : true ≡ false = sym (eq-eqb (size % block) 0 whole_blocks) ∙ inside one.1 in cc
 
 -- ---- calls
 

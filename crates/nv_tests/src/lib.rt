@@ -12,6 +12,8 @@ mod blocks;
 #[cfg(test)]
 mod book;
 #[cfg(test)]
+mod calls;
+#[cfg(test)]
 mod cell;
 #[cfg(test)]
 mod chain;

@@ -11,7 +11,8 @@ use Rattle.nv_calls.specs.calls.Create.{begin_effect, begin_plan, create_refusal
 use Rattle.nv_calls.proofs.Items.{and_bind, and_init, no_plan}
 use Rattle.nv_calls.proofs.Passed.{directory_passed}
 
-pub create_fits : (bytes : ℕ → List ℕ) (block : ℕ) (slots : ℕ → Slot) (kind : Kind) (dir : Handle) (name : List ℕ) (mode : ℕ) (made : Handle)
+pub create_fits : (bytes : ℕ → List ℕ) (block : ℕ) (slots : ℕ → Slot) (kind : Kind) (dir : Handle) (name : List ℕ) (mode : ℕ)
+    (made : Handle)
     → 0 < block
     → create_refusal (node_in (node_under bytes block slots)) dir name ≡ passes → IsFree slots made
     → IsPlan bytes block slots (begin_plan kind dir name mode made) (begin_effect kind dir name mode made)
