@@ -5,3 +5,5 @@ pub mod Framed
 pub mod Bounded
 pub mod Events
 pub mod Locks
+pub mod Scripts
+pub mod MoreRows

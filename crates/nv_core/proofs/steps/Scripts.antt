@@ -1,0 +1,70 @@
+-- Scripts of calls and single steps, played through the step function.
+use Rattle.std.proofs.Common.{◌≡◌, ℕ, zero, suc, true, List, [], ◌∷◌, ◌++◌, length, map, replicate, refl}
+use Rattle.std.specs.List.{sum_by}
+use Rattle.nv_base.specs.declared.fault.Fault.TheVariants.{ActorBusy, ActorIdle, NoActor}
+use Rattle.nv_base.specs.declared.geometry.GeometryNumbers.{GeometryNumbers}
+use Rattle.nv_base.specs.declared.numbers.Handle.{Handle}
+use Rattle.nv_alloc.specs.FreeList.{FreeBlocks}
+use Rattle.nv_calls.specs.declared.answer.Answer.TheVariants as answer
+use Rattle.nv_calls.specs.declared.call.Call.{Call}
+use Rattle.nv_calls.specs.declared.call.Call.TheVariants as call
+use Rattle.nv_cell.specs.Cell.{CellState}
+use Rattle.nv_entry.specs.declared.tree.TreeNode.{TreeNode}
+use Rattle.nv_core.specs.machine.Format.{formatted}
+use Rattle.nv_core.specs.machine.Settled.{tree_of}
+use Rattle.nv_core.specs.machine.Step.{Step, replies, stays, step}
+use Rattle.nv_core.specs.machine.World.{Done, Go, Moved, Refused, Reply, Shared, Start, Started, Waiting, World}
+
+-- ---- scripts
+
+-- a call is started and goes on as long as it moves; it is started; or an actor goes on so many times, or as long as it moves
+pub data Line : Type 0 where
+  DoCall : (actor : ℕ) (c : Call) → Line
+  StartCall : (actor : ℕ) (c : Call) → Line
+  Goes : (actor : ℕ) (times : ℕ) → Line
+
+abbrev pub on_reply : Reply → World → (World → Step) → Step
+on_reply Moved w rest = rest w
+on_reply reply w rest = stays reply w
+
+-- so many times, or up to the first reply that is not Moved
+abbrev pub goes : ℕ → ℕ → World → Step
+goes zero actor w = stays Moved w
+goes (suc n) actor w = on_reply (step w (Go actor true)).reply (step w (Go actor true)).world (goes n actor)
+
+abbrev pub on_start : Reply → World → (World → Step) → Step
+on_start Started w rest = rest w
+on_start reply w rest = stays reply w
+
+abbrev pub line : World → Line → Step
+line w (DoCall actor c) = on_start (step w (Start actor c)).reply (step w (Start actor c)).world (goes 99 actor)
+line w (StartCall actor c) = step w (Start actor c)
+line w (Goes actor times) = goes times actor w
+
+abbrev pub play : World → List Line → List Reply
+play w [] = []
+play w (l ∷ lines) = (line w l).reply ∷ play (line w l).world lines
+
+abbrev pub played : World → List Line → World
+played w [] = w
+played w (l ∷ lines) = played (line w l).world lines
+
+-- ---- what is seen
+
+abbrev pub free_count : Shared → ℕ
+free_count s = sum_by (λ (l : FreeBlocks). length l.blocks) s.lists
+
+abbrev pub chain_count : Shared → ℕ
+chain_count s = sum_by (λ (c : CellState). length c.chain.blocks) s.cells
+
+-- a node of a tree: its path and its bytes
+abbrev pub shown : TreeNode → List (List ℕ) × List ℕ
+shown n = (n.path, n.node.bytes)
+
+-- ---- one device
+
+abbrev pub device : GeometryNumbers
+device = record { blocks = 16; cpus = 2; block = 4; page = 4; inodes = 8; snaps = 4; actors = 3 }
+
+abbrev pub handle : ℕ → ℕ → Handle
+handle ino generation = record { ino = ino; generation = generation }
