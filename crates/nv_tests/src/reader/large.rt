@@ -31,7 +31,12 @@ fn ten_thousand_nested_directories(rt: HostRuntime) {
             None => same(&rt, ino, 0),
         }
         let below = directory(&rt, alloc, ino + 1, MANY.min(ino + 1));
-        enter(&rt, &mut walk, below, directory(&rt, alloc, ino + 1, MANY.min(ino + 1)));
+        enter(
+            &rt,
+            &mut walk,
+            below,
+            directory(&rt, alloc, ino + 1, MANY.min(ino + 1)),
+        );
     }
     same(&rt, walk.wanted(), None);
 }
@@ -51,7 +56,12 @@ fn a_directory_of_ten_thousand_names(rt: HostRuntime) {
             Some(name) => same(&rt, name.bytes(), bound.name.bytes()),
             None => panic!(rt; "a path"),
         }
-        enter(&rt, &mut walk, NameList::empty(alloc), NameList::empty(alloc));
+        enter(
+            &rt,
+            &mut walk,
+            NameList::empty(alloc),
+            NameList::empty(alloc),
+        );
     }
     same(&rt, walk.wanted(), None);
     has_path(&rt, walk.path(), &[]);
