@@ -10,6 +10,8 @@ pub mod Cells
 pub mod Publishes
 pub mod Published
 pub mod Naming
+pub mod NamedParts
+pub mod KilledParts
 pub mod Remarking
 pub mod Readied
 pub mod ReadySteps

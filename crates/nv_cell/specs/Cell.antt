@@ -2,7 +2,7 @@
 use Rattle.std.specs.Prelude.{◌≡◌, ℕ, ◌+◌, ◌-◌, ◌<◌, ◌≤◌, drop, not, if◌then◌else◌, nat_lt, List, [], ◌∷◌, length, map, Option, Some, None, slice_get, slice_index_or, option_and_then, slice_set, unwrap_or}
 use Rattle.std.specs.List.{range_with_len, sum_by}
 use Rattle.std.specs.Option.{option_map}
-use Rattle.nv_alloc.specs.Block.{BlockValue, number_of}
+use Rattle.nv_alloc.specs.Block.{AreSized, BlockValue, number_of}
 use Rattle.nv_entry.specs.declared.item.Entry.{Entry}
 use Rattle.nv_entry.specs.declared.item.Item.{Item}
 use Rattle.nv_entry.specs.declared.part.PartId.{PartId}
@@ -77,6 +77,7 @@ pub record HasMarks (cell : CellState) : Type 0 where
 pub record IsCell (cell : CellState) : Type 0 where
   pub some : 0 < cell.block
   pub chain : IsChain cell.chain
+  pub pages : AreSized cell.block cell.chain.blocks
   pub marks : HasMarks cell
   pub blocks : HasBlocks cell
 

@@ -3,6 +3,7 @@ pub mod Cell
 pub mod Effects
 pub mod Fields
 pub mod Index
+pub mod Killed
 pub mod Named
 pub mod Numbers
 pub mod Marks

@@ -4,6 +4,7 @@ ghost use Rattle.std.specs.Prelude.{◌≡◌, ◌+◌, ◌<◌, ◌≤◌, ◌^
 ghost use Rattle.nv_base.specs.declared.limits.TheConstants.{LEAST_PAGE_ENTRIES, PAGE_ENTRIES};
 ghost use Rattle.nv_cell.specs.Cell.{IsCell, IsReady, KeepsAppendRoom, empty_cell, fresh_of, killed_of, log_of, mark_named, number_in, published, with_mark, without_part};
 ghost use Rattle.nv_cell.specs.Effects.{items_of};
+ghost use Rattle.nv_cell.specs.Killed.{AreKilled};
 ghost use Rattle.nv_cell.specs.Numbers.{killed_part};
 ghost use Rattle.nv_cell.specs.Weights.{weights_in};
 
@@ -110,8 +111,11 @@ impl InodeCell {
             ≡ map (killed_part self.old.state.chain.entries) (killed_of self.old.state) }
         ensures few { vec_len result ≤ weights_in self.old.state.block (log_of self.old.state)
             (items_of (fresh_of self.old.state)) }
+        ensures marked { AreKilled (map (λ k. k.part) result.items) self.new.state }
         ensures room { KeepsAppendRoom self.old.room self.new.room }
     {
+        // Ids rise along all entries, so that each part has a name of its own.
+        let _ends = self.chain.ends();
         let tail = self.chain.tail();
         take_effect(
             &mut self.index,

@@ -52,6 +52,7 @@ invariant_of-self c =
     let grown = counts_grow s.chain e counts c.self.inside.marks.tallies.items old next low inv.tallied.counts in
     rw c.append.ensures.state (record {
       some = inv.some;
+      pages = inv.pages;
       marks = record {
         len = inv.marks.len ∙ ap part_total (sym log);
         current = λ n lt. inv.marks.current n (rw log at lt) ∙ ap (λ (xs : List Entry). not (is_covered s.block xs n)) (sym log);
