@@ -1,3 +1,5 @@
+pub mod Appends
+pub mod CellLists
 pub mod Apart
 pub mod CellNodes
 pub mod Commits
@@ -7,9 +9,11 @@ pub mod Lawful
 pub mod Passed
 pub mod Places
 pub mod Resized
+pub mod Retires
 pub mod RunLists
 pub mod Same
 pub mod Standing
+pub mod Tails
 pub mod Touched
 pub mod Wanted
 pub mod fits

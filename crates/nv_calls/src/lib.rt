@@ -7,26 +7,37 @@
 #![tactic(auto)]
 
 mod answer;
+mod append;
 mod call;
 pub mod calls;
 mod cells;
 pub mod laws;
-mod looked;
 mod lent;
+mod looked;
 mod nodes;
 mod plan;
+mod publish;
+mod ready;
 mod refusal;
+mod retire;
 mod runs;
+mod stamp;
+mod steps;
+mod update;
 mod view;
 mod wants;
 
 pub use answer::Answer;
 pub use call::Call;
-pub use looked::{Looked, found, look, look_all};
 pub use cells::Cells;
 pub use lent::{LentCell, NoCells};
+pub use looked::{Looked, found, look, look_all};
 pub use nodes::Nodes;
 pub use plan::{Plan, Planned};
+pub use ready::{CellPlan, Ready};
 pub use refusal::{check, check_early, check_late, check_look};
 pub use runs::runs_of;
+pub use stamp::Stamp;
+pub use steps::{append_on, close_on, open_on, publish_on, retire_on};
+pub use update::Update;
 pub use view::{View, list_on, look_on, lookup_on, read_on, stat_on};
