@@ -1,3 +1,5 @@
+pub mod Appends
+pub mod CellLists
 pub mod Apart
 pub mod CellNodes
 pub mod Commits
@@ -8,9 +10,11 @@ pub mod Nothing
 pub mod Passed
 pub mod Places
 pub mod Resized
+pub mod Retires
 pub mod RunLists
 pub mod Same
 pub mod Standing
+pub mod Tails
 pub mod Touched
 pub mod Wanted
 pub mod Within

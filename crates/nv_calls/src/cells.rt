@@ -11,7 +11,7 @@ use nv_log::Chain;
 ///
 /// Each method that changes a cell does so as the cell's own method of that name.
 pub trait Cells {
-    ghost use Rattle.std.specs.Prelude.{◌≡◌, ℕ, ◌+◌, ◌-◌, ◌<◌, ◌≤◌, ◌^◌, ◌⊎◌, List, None, OnErr, OnOk, IsOk, Some, drop, length, map, slice_index_or, true};
+    ghost use Rattle.std.specs.Prelude.{◌≡◌, ℕ, ◌+◌, ◌-◌, ◌<◌, ◌≤◌, ◌^◌, ◌⊎◌, List, None, OnErr, OnOk, IsOk, Some, drop, length, map, slice_index_or, true, vec_len};
     ghost use Rattle.nv_base.specs.Refusals.{FailsOnly};
     ghost use Rattle.nv_base.specs.declared.fault.Fault.TheVariants.{OutOfMemory};
     ghost use Rattle.nv_base.specs.declared.limits.TheConstants.{NUMBER};
@@ -20,11 +20,13 @@ pub trait Cells {
     ghost use Rattle.nv_log.specs.Chain.{with_page};
     ghost use Rattle.nv_cell.specs.declared.mark.Mark.TheVariants as mark;
     ghost use Rattle.nv_cell.specs.Append.{MayAppend, after_append, appended, blocks_for, run_numbers};
-    ghost use Rattle.nv_cell.specs.Cell.{CellValue, IsReady, KeepsAppendRoom, empty_cell, killed_of, log_of, mark_named, number_in, published, with_mark, without_part};
-    ghost use Rattle.nv_cell.specs.Effects.{BindOne};
+    ghost use Rattle.nv_cell.specs.Cell.{CellValue, IsReady, KeepsAppendRoom, empty_cell, fresh_of, killed_of, log_of, mark_named, number_in, published, with_mark, without_part};
+    ghost use Rattle.nv_cell.specs.Effects.{BindOne, items_of};
+    ghost use Rattle.nv_cell.specs.Killed.{AreKilled};
     ghost use Rattle.nv_cell.specs.Numbers.{killed_part};
     ghost use Rattle.nv_cell.specs.Readers.{is_gone, keeps_nothing};
     ghost use Rattle.nv_cell.specs.Room.{HasNoLess, IsReadyFor};
+    ghost use Rattle.nv_cell.specs.Weights.{weights_in};
     ghost use Rattle.nv_calls.specs.Cells.{OnlyAt, ino_at, state_at, value_at};
 
     ghost cells: { Self → List (ℕ × CellValue) };
@@ -113,6 +115,9 @@ pub trait Cells {
         ensures killed { map Some result.items
             ≡ map (killed_part (state_at (cells self.old) k).chain.entries)
             (killed_of (state_at (cells self.old) k)) }
+        ensures few { vec_len result ≤ weights_in (state_at (cells self.old) k).block
+            (log_of (state_at (cells self.old) k)) (items_of (fresh_of (state_at (cells self.old) k))) }
+        ensures marked { AreKilled (map (λ killed. killed.part) result.items) (state_at (cells self.new) k) }
         ensures room { KeepsAppendRoom (value_at (cells self.old) k).room (value_at (cells self.new) k).room }
         ensures places { places self.new ≡ places self.old }
         ensures beside { beside self.new ≡ beside self.old };

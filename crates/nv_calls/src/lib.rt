@@ -7,6 +7,7 @@
 #![tactic(auto)]
 
 mod answer;
+mod append;
 mod call;
 pub mod calls;
 mod cells;
@@ -17,9 +18,15 @@ mod names;
 mod nodes;
 mod plan;
 mod planning;
+mod publish;
+mod ready;
 mod refusal;
+mod retire;
 mod runs;
+mod stamp;
+mod steps;
 mod taken;
+mod update;
 mod view;
 mod wants;
 
@@ -31,7 +38,11 @@ pub use looked::{Looked, found, is_as_looked, look, look_all};
 pub use nodes::Nodes;
 pub use plan::{Plan, Planned, PlannedItems, place_in};
 pub use planning::{blocks_wanted, ends_in_page, is_nothing, plan_items, plan_of};
+pub use ready::{CellPlan, Ready};
 pub use refusal::{check, check_early, check_late, check_look};
 pub use runs::runs_of;
+pub use stamp::Stamp;
+pub use steps::{append_on, close_on, open_on, publish_on, retire_on};
 pub use taken::Taken;
+pub use update::Update;
 pub use view::{View, list_on, look_on, lookup_on, read_on, stat_on};
