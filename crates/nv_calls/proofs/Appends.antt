@@ -12,7 +12,8 @@ use Rattle.nv_entry.specs.declared.item.Entry.{Entry}
 use Rattle.nv_entry.specs.declared.item.Item.{Item}
 use Rattle.nv_log.specs.Chain.{AppendsEntry, IsChain, last_epoch, last_id, last_entry, pages_for, room_of, with_page}
 use Rattle.nv_log.proofs.Chains.{appends_entry}
-use Rattle.nv_cell.specs.Append.{MayAppend, blocks_for, run_numbers}
+use Rattle.nv_entry.specs.Blocks.{item_blocks}
+use Rattle.nv_cell.specs.Append.{MayAppend, blocks_for}
 use Rattle.nv_cell.specs.Cell.{CellState, CellValue}
 use Rattle.nv_cell.specs.Room.{IsReadyFor}
 use Rattle.nv_cell.proofs.ReadySteps.{adds_page, first_may, others_ready, page_ready}
@@ -48,13 +49,13 @@ map-drop zero bs = refl
 map-drop (suc n) [] = refl
 map-drop (suc n) (b ∷ bs) = map-drop n bs
 
-pub numbers-cons : (item : Item) (items : List Item) → numbers_in (item ∷ items) ≡ run_numbers item ++ numbers_in items
-numbers-cons item items = flat_map-cons run_numbers item items
+pub numbers-cons : (item : Item) (items : List Item) → numbers_in (item ∷ items) ≡ item_blocks item ++ numbers_in items
+numbers-cons item items = flat_map-cons item_blocks item items
 
 split : (item : Item) (items : List Item) (block : ℕ) (queue : QueueValue) → HaveBlocks (item ∷ items) block queue
-    → (numbers_of (blocks_for item queue.blocks) ≡ run_numbers item) × HaveBlocks items block (without_front (length (run_numbers item)) queue)
+    → (numbers_of (blocks_for item queue.blocks) ≡ item_blocks item) × HaveBlocks items block (without_front (length (item_blocks item)) queue)
 split item items block queue h =
-    let xs = run_numbers item in
+    let xs = item_blocks item in
     let ys = numbers_in items in
     let cons = numbers-cons item items in
     let all : take (length (xs ++ ys)) (numbers_of queue.blocks) ≡ xs ++ ys =
@@ -72,13 +73,13 @@ split item items block queue h =
 
 -- a queue without its first blocks, and then without more
 pub without_more : (item : Item) (items : List Item) (queue : QueueValue)
-    → without_front (length (numbers_in items)) (without_front (length (run_numbers item)) queue)
+    → without_front (length (numbers_in items)) (without_front (length (item_blocks item)) queue)
     ≡ without_front (length (numbers_in (item ∷ items))) queue
 without_more item items queue =
-    let n = length (run_numbers item) in
+    let n = length (item_blocks item) in
     let m = length (numbers_in items) in
     let all : length (numbers_in (item ∷ items)) ≡ n + m =
-    ap length (numbers-cons item items) ∙ length-append (run_numbers item) (numbers_in items) in
+    ap length (numbers-cons item items) ∙ length-append (item_blocks item) (numbers_in items) in
     let room : queue.room + n + m ≡ queue.room + (n + m) = omega arith in
     rw all
     (ap₂ (λ (bs : List BlockValue) (r : ℕ). let q : QueueValue = record { blocks = bs; size = queue.size; room = r } in q)
@@ -87,7 +88,7 @@ without_more item items queue =
 -- ---- one entry more
 
 pub blocks_are : (stamp : Stamp) (place : ℕ) (item : Item) (items : List Item) (queue : QueueValue) (now : CellValue)
-    → IsUnderway stamp place (item ∷ items) queue now → numbers_of (blocks_for item queue.blocks) ≡ run_numbers item
+    → IsUnderway stamp place (item ∷ items) queue now → numbers_of (blocks_for item queue.blocks) ≡ item_blocks item
 blocks_are stamp place item items queue now h = (split item items now.state.block queue h.blocks).0
 
 pub may_append : (stamp : Stamp) (place : ℕ) (item : Item) (items : List Item) (queue : QueueValue) (now : CellValue)
@@ -110,7 +111,7 @@ follows stamp place item new h =
 pub goes_on : (stamp : Stamp) (place : ℕ) (item : Item) (items : List Item) (queue : QueueValue) (now new : CellValue)
     → IsUnderway stamp place (item ∷ items) queue now → IsChain now.state.chain
     → new ≡ with_entry (stamped_entry stamp place item) queue.blocks now
-    → IsUnderway stamp (place + 1) items (without_front (length (run_numbers item)) queue) new
+    → IsUnderway stamp (place + 1) items (without_front (length (item_blocks item)) queue) new
 goes_on stamp place item items queue now new h is e =
     let entry : Entry = stamped_entry stamp place item in
     let bs : List BlockValue = blocks_for item queue.blocks in

@@ -15,7 +15,8 @@ use Rattle.nv_calls.specs.declared.call.Call.TheVariants as call
 use Rattle.nv_calls.specs.Locked.{KeepsToIts, if_any, locks}
 use Rattle.nv_calls.specs.Plain.{same_handle}
 use Rattle.nv_calls.specs.declared.plan.Planned.{Planned}
-use Rattle.nv_calls.specs.Plan.{item_blocks, plan_blocks}
+use Rattle.nv_entry.specs.Blocks.{item_blocks}
+use Rattle.nv_calls.specs.Plan.{plan_blocks}
 use Rattle.nv_calls.specs.Refusals.{found}
 use Rattle.nv_calls.specs.calls.Rename.{bound_plan, move_plan, own_place, replaced_plan}
 use Rattle.nv_calls.specs.calls.Unlink.{leave_plan}

@@ -11,7 +11,8 @@ use Rattle.nv_entry.specs.declared.item.Entry.{Entry}
 use Rattle.nv_entry.specs.declared.item.Item.{Item}
 use Rattle.nv_entry.specs.Covered.{part_count}
 use Rattle.nv_log.specs.Chain.{ChainState, last_epoch, last_id, pages_for}
-use Rattle.nv_cell.specs.Append.{IsWithinFile, after_append, appended, blocks_for, run_numbers}
+use Rattle.nv_entry.specs.Blocks.{item_blocks}
+use Rattle.nv_cell.specs.Append.{IsWithinFile, after_append, appended, blocks_for}
 use Rattle.nv_cell.specs.Cell.{CellValue}
 use Rattle.nv_cell.specs.Room.{IsReadyFor}
 use Rattle.nv_calls.specs.declared.stamp.Stamp.{Stamp}
@@ -32,12 +33,12 @@ with_entry e blocks cell = record { state = appended e (blocks_for e.item blocks
 
 -- the numbers of the blocks of the items' pages
 abbrev pub numbers_in : List Item → List ℕ
-numbers_in items = flat_map run_numbers items
+numbers_in items = flat_map item_blocks items
 
 -- several entries, one behind the other
 abbrev pub with_entries : List Entry → List BlockValue → CellValue → CellValue
 with_entries [] blocks cell = cell
-with_entries (e ∷ later) blocks cell = with_entries later (drop (length (run_numbers e.item)) blocks) (with_entry e blocks cell)
+with_entries (e ∷ later) blocks cell = with_entries later (drop (length (item_blocks e.item)) blocks) (with_entry e blocks cell)
 
 -- the entries that items become in a commit, from a place in it on
 abbrev pub stamped_entries : Stamp → ℕ → List Item → List Entry

@@ -17,9 +17,10 @@ pub trait Cells {
     ghost use Rattle.nv_base.specs.declared.limits.TheConstants.{NUMBER};
     ghost use Rattle.nv_alloc.specs.Block.{numbers_of};
     ghost use Rattle.nv_entry.specs.Covered.{part_count};
+    ghost use Rattle.nv_entry.specs.Blocks.{item_blocks};
     ghost use Rattle.nv_log.specs.Chain.{with_page};
     ghost use Rattle.nv_cell.specs.declared.mark.Mark.TheVariants as mark;
-    ghost use Rattle.nv_cell.specs.Append.{MayAppend, after_append, appended, blocks_for, run_numbers};
+    ghost use Rattle.nv_cell.specs.Append.{MayAppend, after_append, appended, blocks_for};
     ghost use Rattle.nv_cell.specs.Cell.{CellValue, IsReady, KeepsAppendRoom, empty_cell, fresh_of, killed_of, log_of, mark_named, number_in, published, with_mark, without_part};
     ghost use Rattle.nv_cell.specs.Effects.{BindOne, items_of};
     ghost use Rattle.nv_cell.specs.Killed.{AreKilled};
@@ -90,15 +91,15 @@ pub trait Cells {
         requires next { MayAppend entry (value_at (cells self.old) k) }
         requires size { queue.old.size ≡ (state_at (cells self.old) k).block }
         requires blocks { numbers_of (blocks_for entry.item queue.old.blocks)
-            ≡ run_numbers entry.item }
+            ≡ item_blocks entry.item }
         ensures cells { OnlyAt k (cells self.old) (cells self.new) }
         ensures state { state_at (cells self.new) k
             ≡ appended entry (blocks_for entry.item queue.old.blocks) (state_at (cells self.old) k) }
         ensures room { (value_at (cells self.new) k).room
             ≡ after_append (part_count entry) (value_at (cells self.old) k).room }
         ensures queue { queue.new ≡ record queue.old {
-          blocks = drop (length (run_numbers entry.item)) queue.old.blocks;
-          room = queue.old.room + length (run_numbers entry.item);
+          blocks = drop (length (item_blocks entry.item)) queue.old.blocks;
+          room = queue.old.room + length (item_blocks entry.item);
         } }
         ensures places { places self.new ≡ places self.old }
         ensures beside { beside self.new ≡ beside self.old };

@@ -1,7 +1,8 @@
 use Rattle.std.proofs.Common.{◌≡◌, ◌+◌, List, ◌∷◌, length, ap, sym, ◌∙◌, arith, subst}
 use Rattle.nv_alloc.specs.Queue.{QueueValue}
 use Rattle.nv_log.specs.Chain.{IsChain}
-use Rattle.nv_cell.specs.Append.{MayAppend, blocks_for, run_numbers}
+use Rattle.nv_entry.specs.Blocks.{item_blocks}
+use Rattle.nv_cell.specs.Append.{MayAppend, blocks_for}
 use Rattle.nv_cell.specs.Cell.{CellValue}
 use Rattle.nv_alloc.specs.Block.{numbers_of}
 use Rattle.nv_entry.specs.declared.item.Entry.{Entry}
@@ -25,7 +26,7 @@ append-requires-clause-blocks g c =
     let l = c.loop-done in
     let now = value_at (g.C.Cells.cells l.cells) c.args.k in
     let under = rw c.in-Some.ensures.items at l.invariant.underway in
-    subst (λ (e : Entry). numbers_of (blocks_for e.item l.blocks.blocks) ≡ run_numbers e.item) (sym c.entry_of.ensures)
+    subst (λ (e : Entry). numbers_of (blocks_for e.item l.blocks.blocks) ≡ item_blocks e.item) (sym c.entry_of.ensures)
     (blocks_are c.args.stamp.now l.next c.in-Some.item c.pop_front.new.self.items l.blocks now under)
 
 pub loop-done-preserved : goal.loop-done-preserved
@@ -43,13 +44,13 @@ loop-done-preserved g c =
     let e : c.entry_of.result ≡ stamped_entry stamp l.next item = c.entry_of.ensures in
     let made : new ≡ with_entry (stamped_entry stamp l.next item) l.blocks.blocks now =
     value_is new _ _ c.append.ensures.state c.append.ensures.room ∙ ap (λ (x : Entry). with_entry x l.blocks.blocks now) e in
-    let queue : c.append.new.queue ≡ without_front (length (run_numbers item)) l.blocks =
-    c.append.ensures.queue ∙ ap (λ (x : Entry). without_front (length (run_numbers x.item)) l.blocks) e in
+    let queue : c.append.new.queue ≡ without_front (length (item_blocks item)) l.blocks =
+    c.append.ensures.queue ∙ ap (λ (x : Entry). without_front (length (item_blocks x.item)) l.blocks) e in
     let chain : IsChain now.state.chain = subst (λ (v : CellValue). IsChain v.state.chain) c.cell.ensures c.known.ensures.chain in
     record {
       only = only_along (g.C.Cells.cells c.args.cells.now) (g.C.Cells.cells l.cells) (g.C.Cells.cells c.append.new.self) k i.only c.append.ensures.cells;
       rest = ap (λ (q : QueueValue). with_entries (stamped_entries stamp (l.next + 1) rest) q.blocks new) queue
-          ∙ ap (λ (v : CellValue). with_entries (stamped_entries stamp (l.next + 1) rest) (without_front (length (run_numbers item)) l.blocks).blocks v) made
+          ∙ ap (λ (v : CellValue). with_entries (stamped_entries stamp (l.next + 1) rest) (without_front (length (item_blocks item)) l.blocks).blocks v) made
           ∙ sym (ap (λ (xs : List Item). with_entries (stamped_entries stamp l.next xs) l.blocks.blocks now) items) ∙ i.rest;
       underway = subst (λ (q : QueueValue). IsUnderway stamp (l.next + 1) rest q new) (sym queue)
           (goes_on stamp l.next item rest l.blocks now new under chain made);
