@@ -117,7 +117,8 @@ fn node(alloc: Global, kind: Kind, text: &[u8], names: Vec<BoundName>) -> Result
     })
 }
 
-fn known(alloc: Global) -> Result<Known, Fail> {
+/// The nodes.
+pub fn known(alloc: Global) -> Result<Known, Fail> {
     let mut nodes = Vec::new(alloc);
     for (ino, named) in DIRECTORIES {
         let mut names = Vec::new(alloc);
