@@ -22,7 +22,7 @@ impl World {
             ino: Ino::new(0),
             generation: Gen::new(1),
         };
-        let mut walk = Walk::new(self.alloc, root, self.logs.len());
+        let mut walk = Walk::new(self.alloc, root, self.logs.len())?;
         let mut nodes = Vec::new(self.alloc);
         while let Some(handle) = walk.wanted() {
             let node = self.node_under(&handle)?;

@@ -28,8 +28,9 @@ pub fn inodes_bound_the_depth()
 /// A walk makes at most one visit for each name of the nodes that it gives out, and one more, in any world. So the nodes are
 /// no more either.
 pub fn names_bound_the_visits()
-    ensures visits { (nodes : Handle → Option NodeCopy) (depth : ℕ) (root : Handle) →
-        visits_to_come nodes (root_visit depth root) ≤ name_count (tree_from nodes depth [] root) + 1 }
+    ensures visits { (nodes : Handle → Option NodeCopy) (depth : ℕ) (root : Handle)
+        → visits_to_come nodes (root_visit depth root)
+        ≤ name_count (tree_from nodes depth [] root) + 1 }
     ensures nodes { (nodes : Handle → Option NodeCopy) (depth : ℕ) (root : Handle) →
         length (tree_from nodes depth [] root) ≤ name_count (tree_from nodes depth [] root) + 1 }
 {}

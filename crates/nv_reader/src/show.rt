@@ -33,7 +33,8 @@ impl PartBlocks for InodeCell {
 pub fn show_on(alloc: Global, cell: &InodeCell, epoch: Epoch) -> Result<Option<NodeCopy>, Fault>
     ensures node { (bytes : ℕ → List ℕ) → AreBytesOf cell.now.state bytes
         → NoneOut cell.now.state (up_to epoch (log_of cell.now.state))
-        → IfOk result (λ node. node ≡ node_at bytes cell.now.state.block epoch (log_of cell.now.state)) }
+        → IfOk result (λ node. node
+        ≡ node_at bytes cell.now.state.block epoch (log_of cell.now.state)) }
     ensures err { FailsOnly Fault.OutOfMemory result }
 {
     // What a cell keeps of its log and its blocks.
@@ -55,7 +56,8 @@ pub fn settled_on(
     requires { ForSome noted (λ tail. tail ≤ cell.now.state.chain.tail) }
     ensures node { (bytes : ℕ → List ℕ) → AreBytesOf cell.now.state bytes
         → ForSome noted (λ tail. NoneOut cell.now.state (settled noted cell.now.state))
-        → IfOk result (λ node. node ≡ node_now bytes cell.now.state.block (settled noted cell.now.state)) }
+        → IfOk result (λ node. node
+        ≡ node_now bytes cell.now.state.block (settled noted cell.now.state)) }
     ensures err { FailsOnly Fault.OutOfMemory result }
 {
     let Some(tail) = noted else {

@@ -40,19 +40,21 @@ impl Model for Walk {
 }
 
 impl Walk {
-    /// A walk from a root on, at most `depth` nodes deep. It takes no memory yet.
-    pub fn new(alloc: Global, root: Handle, depth: usize) -> Walk
-        ensures { result ≡ root_visit depth root }
+    /// A walk from a root on, at most `depth` nodes deep. `OutOfMemory` where room for it was refused.
+    pub fn new(alloc: Global, root: Handle, depth: usize) -> Result<Walk, Fault>
+        ensures ok { IfOk result (λ walk. walk ≡ root_visit depth root) }
+        ensures err { FailsOnly Fault.OutOfMemory result }
     {
-        Walk {
+        // The first step down takes no memory then.
+        Ok(Walk {
             alloc,
             depth,
             next: if depth > 0 { Some(root) } else { None },
             way: Way {
-                path: Vec::new(alloc),
-                left: Vec::new(alloc),
+                path: Vec::with_capacity(alloc, 1)?,
+                left: Vec::with_capacity(alloc, 1)?,
             },
-        }
+        })
     }
 
     /// The handle whose node is wanted next; none once all is visited.
@@ -74,8 +76,9 @@ impl Walk {
     pub fn enter(&mut self, names: NameList) -> Result<(), Fault>
         requires { IsSome (next_handle self.old) }
         ensures ok { OnOk result (self.new ≡ visits_below self.old names) }
-        ensures next { (nodes : Handle → Option NodeCopy) (node : NodeCopy) → wanted_node nodes self.old ≡ Some node
-            → node.names ≡ names → OnOk result (GivesNext nodes self.old (given_for self.old (Some node)) self.new) }
+        ensures next { (nodes : Handle → Option NodeCopy) (node : NodeCopy)
+            → wanted_node nodes self.old ≡ Some node → node.names ≡ names
+            → OnOk result (GivesNext nodes self.old (given_for self.old (Some node)) self.new) }
         ensures err { FailsOnly Fault.OutOfMemory result }
         ensures same { KeepsOnErr result self.old self.new }
     {

@@ -20,7 +20,8 @@ impl Way {
     /// all are followed, and then the way is empty.
     pub(crate) fn next(&mut self) -> Option<Handle>
         requires { length self.old.path.items ≡ length self.old.left.items }
-        ensures visits { (depth : ℕ) → visits_of depth result self.new.path.items self.new.left.items
+        ensures visits { (depth : ℕ)
+            → visits_of depth result self.new.path.items self.new.left.items
             ≡ left_visits depth (reverse self.old.path.items) (reverse self.old.left.items) }
         ensures len { length self.new.path.items ≡ length self.new.left.items }
         ensures shorter { length self.new.path.items ≤ length self.old.path.items }

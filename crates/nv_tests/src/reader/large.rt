@@ -1,10 +1,9 @@
 //! Walks of large trees.
 
-use super::names::{enter, has_path, numbered, wants};
+use super::names::{enter, has_path, new_walk, numbered, wants};
 use crate::compare::same;
 use crate::scenes::{handle, push};
 use nv_entry::NameList;
-use nv_reader::Walk;
 use std::alloc::Global;
 use std::process::Abort;
 
@@ -22,7 +21,7 @@ fn directory(rt: &impl Abort, alloc: Global, first: u64, last: u64) -> NameList 
 #[test]
 fn ten_thousand_nested_directories(rt: HostRuntime) {
     let alloc = rt.alloc();
-    let mut walk = Walk::new(alloc, handle(0), usize::MAX);
+    let mut walk = new_walk(&rt, alloc, usize::MAX);
     for ino in 0..=MANY {
         wants(&rt, &walk, handle(ino));
         same(&rt, walk.path().len() as u64, ino);
@@ -44,7 +43,7 @@ fn ten_thousand_nested_directories(rt: HostRuntime) {
 #[test]
 fn a_directory_of_ten_thousand_names(rt: HostRuntime) {
     let alloc = rt.alloc();
-    let mut walk = Walk::new(alloc, handle(0), 2);
+    let mut walk = new_walk(&rt, alloc, 2);
     wants(&rt, &walk, handle(0));
     let all = directory(&rt, alloc, 1, MANY);
     enter(&rt, &mut walk, all, directory(&rt, alloc, 1, MANY));

@@ -35,6 +35,17 @@ pub fn numbered(rt: &impl Abort, alloc: Global, ino: u64) -> BoundName {
     }
 }
 
+/// A walk from the root on.
+pub fn new_walk(rt: &impl Abort, alloc: Global, depth: usize) -> Walk {
+    match Walk::new(alloc, handle_of(0, 1), depth) {
+        Ok(walk) => walk,
+        Err(fault) => {
+            same(rt, fault, Fault::OutOfMemory);
+            Walk::new(alloc, handle_of(0, 1), depth).expect(rt, "memory for a walk")
+        }
+    }
+}
+
 /// The walk wants this handle next.
 pub fn wants(rt: &impl Abort, walk: &Walk, want: Handle) {
     same(rt, walk.wanted(), Some(want));

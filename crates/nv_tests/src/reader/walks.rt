@@ -1,8 +1,8 @@
 //! Walks of small trees.
 
-use super::names::{Named, enter, has_path, named, wants};
+use super::names::{Named, enter, has_path, named, new_walk, wants};
 use crate::compare::same;
-use crate::scenes::{handle, handle_of};
+use crate::scenes::handle_of;
 use nv_base::{Bytes, Fault, Kind, Mode};
 use nv_entry::{NameList, NodeCopy, TreeNode};
 use nv_reader::Walk;
@@ -63,7 +63,7 @@ fn pass(rt: &impl Abort, walk: &mut Walk) {
 #[test]
 fn paths_are_lent(rt: HostRuntime) {
     for (depth, visits) in WALKS {
-        let mut walk = Walk::new(rt.alloc(), handle(0), *depth);
+        let mut walk = new_walk(&rt, rt.alloc(), *depth);
         for row in *visits {
             visit(&rt, rt.alloc(), &mut walk, row);
         }
@@ -113,7 +113,7 @@ fn found(rt: &impl Abort, alloc: Global, names: Option<&[Named]>) -> Option<Node
 #[test]
 fn nodes_are_handed_in(rt: HostRuntime) {
     for (depth, visits) in WALKS {
-        let mut walk = Walk::new(rt.alloc(), handle(0), *depth);
+        let mut walk = new_walk(&rt, rt.alloc(), *depth);
         for ((ino, generation), names, path) in *visits {
             wants(&rt, &walk, handle_of(*ino, *generation));
             match hand_in(&rt, rt.alloc(), &mut walk, *names) {
