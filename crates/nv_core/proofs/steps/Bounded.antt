@@ -20,7 +20,7 @@ use Rattle.nv_calls.specs.declared.call.Call.TheVariants as call
 use Rattle.nv_core.specs.machine.Bound.{Falls, bound, most_steps, rank, round}
 use Rattle.nv_core.specs.machine.Kinds.{again_turn, back_turn, blocks_in, blocks_turn, check_turn, end_turn, enter_turn, erase_turn, given, grown, lock_turn, look_turn, number_turn, over_turn, pages_turn, rest_turn, unlocked_turn, visit_turn, wants_blocks, wants_pages}
 use Rattle.nv_core.specs.machine.Reads.{home_from, if_number, is_written, slots_in, slots_of, with_slot, written_slots}
-use Rattle.nv_core.specs.machine.Sequence.{Beginning, Looks, Locks, Numbers, Visits, begun, directories, locking, nothing_looked}
+use Rattle.nv_core.specs.machine.Sequence.{Beginning, Locks, Looks, Numbers, Visits, begun, closing, directories, locking, nothing_looked, opening, publishing, retiring}
 use Rattle.nv_core.specs.machine.Step.{ending_at, kind_turn, with_made}
 use Rattle.nv_core.specs.machine.World.{Answers, Append, Back, Check, Close, Ending, Enter, Give, HandState, Leave, Lock, Look, Next, Number, Open, Overtaken, Publish, Ready, Refuses, Retire, Running, Shared, TakeBlocks, TakePages, Turn, Unlock, Visit}
 
@@ -155,22 +155,40 @@ look_next : (c place : ℕ) (r : Running) (b : Bool) → nat_lt (place + 1) (len
 look_next c place r true e few = omega (arith, ltb-true (place + 1) (length (directories r.call)) e, directories-length r.call)
 look_next c place r false e few = omega (arith, first_lock c r.slots few)
 
-append_next : (c place n w : ℕ) (b d : Bool) → nat_lt (place + 1) w ≡ b → w ≤ n
-    → rank c n (if b then Append (place + 1) else if d then Open else Publish 0) < 9 + c + 3 * n + (n - place)
-append_next c place n w true d e few = omega (arith, few, ltb-true (place + 1) w e)
-append_next c place n w false true e few = omega arith
-append_next c place n w false false e few = omega arith
-
-publish_next : (c place n w : ℕ) (b d : Bool) → nat_lt (place + 1) w ≡ b → w ≤ n
-    → rank c n (if b then Publish (place + 1) else if d then Close else Retire 0) < 7 + c + 2 * n + (n - place)
-publish_next c place n w true d e few = omega (arith, few, ltb-true (place + 1) w e)
-publish_next c place n w false true e few = omega arith
-publish_next c place n w false false e few = omega arith
+retire_from : (c n place : ℕ) (b : Bool) → rank c n (if b then Retire place else Leave) ≤ 5 + c + n + (n - place)
+retire_from c n place true = omega arith
+retire_from c n place false = omega arith
 
 retire_next : (c place n w : ℕ) (b : Bool) → nat_lt (place + 1) w ≡ b → w ≤ n
     → rank c n (if b then Retire (place + 1) else Leave) < 5 + c + n + (n - place)
 retire_next c place n w true e few = omega (arith, few, ltb-true (place + 1) w e)
 retire_next c place n w false e few = omega arith
+
+closing_at : (c n : ℕ) (written : List ℕ) (b : Bool) → rank c n (if b then Close else retiring 0 written) ≤ 6 + c + 2 * n
+closing_at c n written true = omega arith
+closing_at c n written false = omega (arith, retire_from c n 0 (nat_lt 0 (length written)))
+
+publish_from : (c n place : ℕ) (written : List ℕ) (b : Bool) → rank c n (if b then Publish place else closing written) ≤ 7 + c + 2 * n + (n - place)
+publish_from c n place written true = omega arith
+publish_from c n place written false = omega (arith, closing_at c n written (nat_lt 1 (length written)))
+
+publish_next : (c n place : ℕ) (written : List ℕ) (b : Bool) → nat_lt (place + 1) (length written) ≡ b → length written ≤ n
+    → rank c n (if b then Publish (place + 1) else closing written) < 7 + c + 2 * n + (n - place)
+publish_next c n place written true e few = omega (arith, few, ltb-true (place + 1) (length written) e)
+publish_next c n place written false e few = omega (arith, closing_at c n written (nat_lt 1 (length written)))
+
+opening_at : (c n : ℕ) (written : List ℕ) (b : Bool) → rank c n (if b then Open else publishing 0 written) ≤ 8 + c + 3 * n
+opening_at c n written true = omega arith
+opening_at c n written false = omega (arith, publish_from c n 0 written (nat_lt 0 (length written)))
+
+append_from : (c n place : ℕ) (written : List ℕ) (b : Bool) → rank c n (if b then Append place else opening written) ≤ 9 + c + 3 * n + (n - place)
+append_from c n place written true = omega arith
+append_from c n place written false = omega (arith, opening_at c n written (nat_lt 1 (length written)))
+
+append_next : (c n place : ℕ) (written : List ℕ) (b : Bool) → nat_lt (place + 1) (length written) ≡ b → length written ≤ n
+    → rank c n (if b then Append (place + 1) else opening written) < 9 + c + 3 * n + (n - place)
+append_next c n place written true e few = omega (arith, few, ltb-true (place + 1) (length written) e)
+append_next c n place written false e few = omega (arith, opening_at c n written (nat_lt 1 (length written)))
 
 -- ---- the kinds
 
@@ -219,7 +237,8 @@ enter_falls : (c : ℕ) (holder : Option ℕ) (last granted : Bool) (actor : ℕ
     → Falls c (r.rounds * round c + (10 + c + 4 * length r.slots)) (enter_turn holder last granted actor s h r)
 enter_falls c (Some other) last granted actor s h r = tt
 enter_falls c None true granted actor s h r = end_falls c _ r.slots _ s h r (omega arith)
-enter_falls c None false granted actor s h r = grown_falls c _ granted _ s h r (omega arith) (omega arith)
+enter_falls c None false granted actor s h r = grown_falls c _ granted _ s h r (omega arith)
+    (omega (arith, append_from c (length r.slots) 0 (written_slots r) (nat_lt 0 (length (written_slots r)))))
 
 retired_falls : (c : ℕ) (erases : Bool) (ino place : ℕ) (s : Shared) (h : HandState) (r : Running)
     → Falls c (r.rounds * round c + (5 + c + length r.slots + (length r.slots - place))) (erase_turn erases ino place s h r)
@@ -257,11 +276,13 @@ falls (TakePages asked) block actor granted s h r = taken_pages_fall (length s.l
 falls Ready block actor granted s h r = grown_falls (length s.lists) _ granted _ s h r (omega arith) (omega arith)
 falls Enter block actor granted s h r = enter_falls (length s.lists) s.holder _ granted actor s h r
 falls (Append place) block actor granted s h r =
-    omega (arith, append_next (length s.lists) place (length r.slots) (length (written_slots r)) (nat_lt (place + 1) (length (written_slots r))) (nat_lt 1 (length (written_slots r))) refl (written-length r))
-falls Open block actor granted s h r = omega arith
+    omega (arith, append_next (length s.lists) (length r.slots) place (written_slots r) (nat_lt (place + 1) (length (written_slots r))) refl (written-length r))
+falls Open block actor granted s h r =
+    omega (arith, publish_from (length s.lists) (length r.slots) 0 (written_slots r) (nat_lt 0 (length (written_slots r))))
 falls (Publish place) block actor granted s h r =
-    omega (arith, publish_next (length s.lists) place (length r.slots) (length (written_slots r)) (nat_lt (place + 1) (length (written_slots r))) (nat_lt 1 (length (written_slots r))) refl (written-length r))
-falls Close block actor granted s h r = omega arith
+    omega (arith, publish_next (length s.lists) (length r.slots) place (written_slots r) (nat_lt (place + 1) (length (written_slots r))) refl (written-length r))
+falls Close block actor granted s h r =
+    omega (arith, retire_from (length s.lists) (length r.slots) 0 (nat_lt 0 (length (written_slots r))))
 falls (Retire place) block actor granted s h r = retired_falls (length s.lists) _ _ place _ _ r
 falls Leave block actor granted s h r = end_falls (length s.lists) _ r.slots _ _ h r (omega arith)
 falls (Unlock place) block actor granted s h r = unlock_falls (length s.lists) _ place _ h r refl

@@ -1,5 +1,5 @@
 -- Lists of slots, and parts of them.
-use Rattle.std.proofs.Common.{◌≡◌, ℕ, zero, suc, ◌+◌, ◌<◌, ◌≤◌, ◌==◌, ◌++◌, ◌∙◌, Bool, true, false, List, [], ◌∷◌, add-one, ap, arith, drop, drop-cons, get_or, if◌then◌else◌, length, nat_lt, refl, sym, take}
+use Rattle.std.proofs.Common.{◌≡◌, ℕ, zero, suc, ◌+◌, ◌<◌, ◌≤◌, ◌==◌, ◌++◌, ◌∙◌, Bool, true, false, List, [], ◌∷◌, add-one, ap, arith, drop, drop-cons, get_or, if◌then◌else◌, length, nat_lt, refl, sym, take, filter}
 use Rattle.std.specs.Prelude.{◌||◌}
 use Rattle.std.proofs.lemmas.Bool.{eqb-false, eqb-true, ltb-false, ltb-true}
 use Rattle.std.proofs.lemmas.List.Folds.{list_any-append}
@@ -112,3 +112,54 @@ slots_are many (ino ∷ rest) = go (nat_lt ino many) refl (slots_are many rest) 
 
 pub slot_inside : (many : ℕ) (slots : List ℕ) (p : ℕ) → AreSlots many slots → p < length slots → slot_at slots p < many
 slot_inside many slots p are h = all_at (λ k. k < many) slots p are.inside h
+
+-- ---- what is listed is there
+
+eqb-self : (n : ℕ) (b : Bool) → (n == n) ≡ b → b ≡ true
+eqb-self n true e = refl
+eqb-self n false e = absurd (eqb-false n n e refl)
+
+pub self : (n : ℕ) → (n == n) ≡ true
+self n = eqb-self n (n == n) refl
+
+or_left : (b c : Bool) → b ≡ true → (b || c) ≡ true
+or_left b c e = rw e refl
+
+or_right : (b c : Bool) → c ≡ true → (b || c) ≡ true
+or_right true c e = refl
+or_right false c e = e
+
+or_more : (b c d : Bool) → (c ≡ true → d ≡ true) → (b || c) ≡ true → (b || d) ≡ true
+or_more true c d more e = refl
+or_more false c d more e = more e
+
+pub has_at : (xs : List ℕ) (p : ℕ) → p < length xs → has xs (get_or xs p 0) ≡ true
+has_at [] p h = absurd (omega (arith, h))
+has_at (x ∷ xs) zero h = or_left (x == x) (has xs x) (self x)
+has_at (x ∷ xs) (suc p) h = or_right (x == get_or xs p 0) (has xs (get_or xs p 0)) (has_at xs p (omega (arith, h)))
+
+pub has_filter : (f : ℕ → Bool) (xs : List ℕ) (n : ℕ) → has (filter f xs) n ≡ true → has xs n ≡ true
+has_filter f [] n h = h
+has_filter f (x ∷ xs) n h = go (f x) (has_filter f xs n) h where
+  go : (b : Bool) → (has (filter f xs) n ≡ true → has xs n ≡ true) → has (if b then x ∷ filter f xs else filter f xs) n ≡ true → has (x ∷ xs) n ≡ true
+  go true more e = or_more (x == n) (has (filter f xs) n) (has xs n) more e
+  go false more e = or_right (x == n) (has xs n) (more e)
+
+pub has_later : (p : ℕ) (xs : List ℕ) (n : ℕ) → has (drop p xs) n ≡ true → has xs n ≡ true
+has_later zero xs n h = h
+has_later (suc p) [] n h = h
+has_later (suc p) (x ∷ xs) n h = or_right (x == n) (has xs n) (has_later p xs n h)
+
+all_filter : (P : ℕ → Type 0) (f : ℕ → Bool) (xs : List ℕ) → AllByRecursion P xs → AllByRecursion P (filter f xs)
+all_filter P f [] h = tt
+all_filter P f (x ∷ xs) h = go (f x) (all_filter P f xs h.1) where
+  go : (b : Bool) → AllByRecursion P (filter f xs) → AllByRecursion P (if b then x ∷ filter f xs else filter f xs)
+  go true more = (h.0, more)
+  go false more = more
+
+pub rising_filter : (f : ℕ → Bool) (xs : List ℕ) → IsRising xs → IsRising (filter f xs)
+rising_filter f [] h = tt
+rising_filter f (x ∷ xs) h = go (f x) (rising_filter f xs h.1) where
+  go : (b : Bool) → IsRising (filter f xs) → IsRising (if b then x ∷ filter f xs else filter f xs)
+  go true more = (all_filter (λ n. x < n) f xs h.0, more)
+  go false more = more

@@ -1,18 +1,20 @@
 -- Each actor holds exactly the locks of its call, and waits for another's alone.
 use Rattle.std.proofs.Common.{◌≡◌, ◌≢◌, ℕ, zero, suc, ◌+◌, ◌<◌, ◌==◌, ◌∙◌, Bool, true, false, List, [], ◌∷◌, Option, Some, None, ap, arith, drop, get_or-set_other, get_or-set_same, if◌then◌else◌, length, length-set, nat_lt, refl, subst, sym, take}
-use Rattle.std.specs.Prelude.{◌||◌, Ok, Err, slice_index_or}
-use Rattle.std.proofs.lemmas.Bool.{eqb-false, eqb-true, ltb-false, ltb-true}
+use Rattle.std.proofs.lemmas.Option.{none-some}
+use Rattle.std.specs.Prelude.{unwrap_or, ◌||◌, Ok, Err, slice_index_or}
+use Rattle.std.proofs.lemmas.Bool.{eqb-false, eqb-true, false≢true, ltb-false, ltb-true}
 use Rattle.nv_alloc.specs.Numbers.{has}
 use Rattle.nv_calls.specs.Refusals.{Check as Tests}
 use Rattle.nv_calls.specs.declared.answer.Answer.{Answer}
+use Rattle.nv_core.specs.machine.Frame.{lent}
 use Rattle.nv_core.specs.machine.Kinds.{Retiring, again_turn, back_turn, blocks_turn, check_turn, end_turn, enter_turn, erase_turn, grown, lock_turn, look_turn, number_turn, over_turn, pages_turn, rest_turn, retired_by, unlocked_turn, visit_turn, wants_blocks, wants_pages}
 use Rattle.nv_core.specs.machine.Locks.{AreSlots, HoldsIts, IsHeldByOther, IsInside, WaitsFor, commits_at, held_at, is_owner}
 use Rattle.nv_calls.specs.declared.looked.Looked.{Looked}
-use Rattle.nv_core.specs.machine.Reads.{slot_at, slots_of, written_slots}
-use Rattle.nv_core.specs.machine.Sequence.{directories, locking}
+use Rattle.nv_core.specs.machine.Reads.{is_written, slot_at, slots_of, written_slots}
+use Rattle.nv_core.specs.machine.Sequence.{appending, closing, directories, locking, opening, publishing, retiring}
 use Rattle.nv_core.specs.machine.Step.{ending_at, kind_turn, with_made}
 use Rattle.nv_core.specs.machine.World.{Answers, Append, Back, Check, Close, Ending, Ends, Enter, Give, HandState, Leave, Lock, Look, Moves, Next, Number, Open, Overtaken, Publish, Ready, Refuses, Retire, Running, Shared, TakeBlocks, TakePages, Turn, Unlock, Visit, Waits, go_to, owner_at, with_owner}
-use Rattle.nv_core.proofs.steps.Lists.{drop_all, drop_apart, has_drop, has_take, slot_inside, slots_are, take_all, take_apart}
+use Rattle.nv_core.proofs.steps.Lists.{drop_all, drop_apart, has_at, has_drop, has_filter, has_take, self, slot_inside, slots_are, take_all, take_apart}
 
 -- ---- what a turn leaves of the locks
 
@@ -38,7 +40,7 @@ same_locks a s = record { owners = λ b h ino. refl; holder = λ b h. refl; wide
 
 -- a call whose next step holds these
 pub holds_as : (s : Shared) (a : ℕ) (q : Running) (slots : List ℕ) (commits : Bool) → Holds s a slots commits → held_at q.next q.slots ≡ slots → commits_at q.next ≡ commits
-    → AreSlots (length s.owners) q.slots → IsInside q.next q.slots → HoldsIts s a (Some q)
+    → AreSlots (length s.owners) q.slots → IsInside q.next q → HoldsIts s a (Some q)
 holds_as s a q slots commits h e f are inside = record {
   owners = λ ino. h.owners ino ∙ ap (λ (l : List ℕ). has l ino) (sym e);
   holder = h.holder ∙ sym f;
@@ -94,33 +96,49 @@ look_here : (s : Shared) (a place : ℕ) (r : Running) (b : Bool) → Holds s a 
 look_here s a place r true mine are = holds_as s a (go_to (Look place) r) [] false mine refl refl are tt
 look_here s a place r false mine are = locking_holds s a 0 r mine are
 
-append_here : (s : Shared) (a place : ℕ) (r : Running) (b c : Bool) → Holds s a r.slots true → AreSlots (length s.owners) r.slots
-    → HoldsIts s a (Some (go_to (if b then Append place else if c then Open else Publish 0) r))
-append_here s a place r true c mine are = holds_as s a (go_to (Append place) r) r.slots true mine refl refl are tt
-append_here s a place r false true mine are = holds_as s a (go_to Open r) r.slots true mine refl refl are tt
-append_here s a place r false false mine are = holds_as s a (go_to (Publish 0) r) r.slots true mine refl refl are tt
+retire_here : (s : Shared) (a place : ℕ) (r : Running) (b : Bool) → nat_lt place (length (written_slots r)) ≡ b → Holds s a r.slots true
+    → AreSlots (length s.owners) r.slots → HoldsIts s a (Some (go_to (if b then Retire place else Leave) r))
+retire_here s a place r true e mine are =
+    holds_as s a (go_to (Retire place) r) r.slots true mine refl refl are (ltb-true place (length (written_slots r)) e)
+retire_here s a place r false e mine are = holds_as s a (go_to Leave r) r.slots true mine refl refl are tt
 
-publish_here : (s : Shared) (a place : ℕ) (r : Running) (b c : Bool) → Holds s a r.slots true → AreSlots (length s.owners) r.slots
-    → HoldsIts s a (Some (go_to (if b then Publish place else if c then Close else Retire 0) r))
-publish_here s a place r true c mine are = holds_as s a (go_to (Publish place) r) r.slots true mine refl refl are tt
-publish_here s a place r false true mine are = holds_as s a (go_to Close r) r.slots true mine refl refl are tt
-publish_here s a place r false false mine are = holds_as s a (go_to (Retire 0) r) r.slots true mine refl refl are tt
+retiring_holds : (s : Shared) (a place : ℕ) (r : Running) → Holds s a r.slots true → AreSlots (length s.owners) r.slots
+    → HoldsIts s a (Some (go_to (retiring place (written_slots r)) r))
+retiring_holds s a place r mine are = retire_here s a place r (nat_lt place (length (written_slots r))) refl mine are
 
-retire_here : (s : Shared) (a place : ℕ) (r : Running) (b : Bool) → Holds s a r.slots true → AreSlots (length s.owners) r.slots
-    → HoldsIts s a (Some (go_to (if b then Retire place else Leave) r))
-retire_here s a place r true mine are = holds_as s a (go_to (Retire place) r) r.slots true mine refl refl are tt
-retire_here s a place r false mine are = holds_as s a (go_to Leave r) r.slots true mine refl refl are tt
+close_here : (s : Shared) (a : ℕ) (r : Running) (b : Bool) → Holds s a r.slots true → AreSlots (length s.owners) r.slots
+    → HoldsIts s a (Some (go_to (if b then Close else retiring 0 (written_slots r)) r))
+close_here s a r true mine are = holds_as s a (go_to Close r) r.slots true mine refl refl are tt
+close_here s a r false mine are = retiring_holds s a 0 r mine are
+
+publish_here : (s : Shared) (a place : ℕ) (r : Running) (b : Bool) → nat_lt place (length (written_slots r)) ≡ b → Holds s a r.slots true
+    → AreSlots (length s.owners) r.slots → HoldsIts s a (Some (go_to (if b then Publish place else closing (written_slots r)) r))
+publish_here s a place r true e mine are =
+    holds_as s a (go_to (Publish place) r) r.slots true mine refl refl are (ltb-true place (length (written_slots r)) e)
+publish_here s a place r false e mine are = close_here s a r (nat_lt 1 (length (written_slots r))) mine are
+
+publishing_holds : (s : Shared) (a place : ℕ) (r : Running) → Holds s a r.slots true → AreSlots (length s.owners) r.slots
+    → HoldsIts s a (Some (go_to (publishing place (written_slots r)) r))
+publishing_holds s a place r mine are = publish_here s a place r (nat_lt place (length (written_slots r))) refl mine are
+
+open_here : (s : Shared) (a : ℕ) (r : Running) (b : Bool) → Holds s a r.slots true → AreSlots (length s.owners) r.slots
+    → HoldsIts s a (Some (go_to (if b then Open else publishing 0 (written_slots r)) r))
+open_here s a r true mine are = holds_as s a (go_to Open r) r.slots true mine refl refl are tt
+open_here s a r false mine are = publishing_holds s a 0 r mine are
+
+append_here : (s : Shared) (a place : ℕ) (r : Running) (b : Bool) → nat_lt place (length (written_slots r)) ≡ b → Holds s a r.slots true
+    → AreSlots (length s.owners) r.slots → HoldsIts s a (Some (go_to (if b then Append place else opening (written_slots r)) r))
+append_here s a place r true e mine are =
+    holds_as s a (go_to (Append place) r) r.slots true mine refl refl are (ltb-true place (length (written_slots r)) e)
+append_here s a place r false e mine are = open_here s a r (nat_lt 1 (length (written_slots r))) mine are
+
+appending_holds : (s : Shared) (a place : ℕ) (r : Running) → Holds s a r.slots true → AreSlots (length s.owners) r.slots
+    → HoldsIts s a (Some (go_to (appending place (written_slots r)) r))
+appending_holds s a place r mine are = append_here s a place r (nat_lt place (length (written_slots r))) refl mine are
 
 -- ---- one lock
 
-eqb-self : (n : ℕ) (b : Bool) → (n == n) ≡ b → b ≡ true
-eqb-self n true e = refl
-eqb-self n false e = absurd (eqb-false n n e refl)
-
-self : (n : ℕ) → (n == n) ≡ true
-self n = eqb-self n (n == n) refl
-
-apart : (n m : ℕ) (b : Bool) → (n == m) ≡ b → n ≢ m → b ≡ false
+pub apart : (n m : ℕ) (b : Bool) → (n == m) ≡ b → n ≢ m → b ≡ false
 apart n m true e h = absurd (h (eqb-true n m e))
 apart n m false e h = refl
 
@@ -188,7 +206,7 @@ unlocked_holds a s place slots inside are mine = record {
 pub record Before (a : ℕ) (s : Shared) (k : Next) (r : Running) : Type 0 where
   pub mine : Holds s a (held_at k r.slots) (commits_at k)
   pub are : AreSlots (length s.owners) r.slots
-  pub inside : IsInside k r.slots
+  pub inside : IsInside k r
   pub wide : length s.owners ≡ length s.cells
 
 pub new_slots : (s : Shared) (number : Option ℕ) (looked : Looked) (r : Running) → length s.owners ≡ length s.cells → AreSlots (length s.owners) (slots_of s number looked r.call)
@@ -266,15 +284,17 @@ enter_locks : (a : ℕ) (holder : Option ℕ) (last granted : Bool) (s : Shared)
     → OnLocks a s (IsHeldByOther a s.holder) (enter_turn holder last granted a s h r)
 enter_locks a (Some other) last granted s h r e b = not_mine a s.holder other e b.mine.holder
 enter_locks a None true granted s h r e b = end_locks a s s _ r.slots _ h r refl (same_locks a s) b.mine b.are
-enter_locks a None false granted s h r e b = grown_locks a s s _ granted _ h r (same_locks a s) b.mine b.are
-    (entered_left a s _ e refl refl, holds_as _ a _ r.slots true (record { owners = b.mine.owners; holder = self a }) refl refl b.are tt)
+enter_locks a None false granted s h r e b = grown_locks a s s _ granted _ h r (same_locks a s) b.mine b.are (
+  entered_left a s _ e refl refl,
+  appending_holds _ a 0 (record r { commit = s.book.commit + 1; epoch = s.book.snaps.epoch }) (record { owners = b.mine.owners; holder = self a }) b.are,
+)
 
 retired_locks : (a : ℕ) (erases : Bool) (all : Retiring) (ino place : ℕ) (s t : Shared) (h : HandState) (r : Running) → LocksLeft a s t → Holds t a r.slots true → AreSlots (length t.owners) r.slots
     → OnLocks a s ⊥ (erase_turn erases ino place t h r)
-retired_locks a false all ino place s t h r left mine are = (left, retire_here t a (place + 1) r (nat_lt (place + 1) (length (written_slots r))) mine are)
+retired_locks a false all ino place s t h r left mine are = (left, retiring_holds t a (place + 1) r mine are)
 retired_locks a true all ino place s t h r left mine are = (
   record { owners = left.owners; holder = left.holder; wide = left.wide },
-  retire_here _ a (place + 1) r (nat_lt (place + 1) (length (written_slots r))) (record { owners = mine.owners; holder = mine.holder }) are,
+  retiring_holds _ a (place + 1) r (record { owners = mine.owners; holder = mine.holder }) are,
 )
 
 unlock_locks : (a : ℕ) (more : Bool) (place : ℕ) (s t : Shared) (h : HandState) (r : Running) → nat_lt (place + 1) (length r.slots) ≡ more → LocksLeft a s t → Holds t a (drop (place + 1) r.slots) false
@@ -315,11 +335,11 @@ locks_kept Ready block a granted s h r b =
     grown_locks a s s _ granted _ h r (same_locks a s) b.mine b.are (same_locks a s, holds_as s a _ r.slots false b.mine refl refl b.are tt)
 locks_kept Enter block a granted s h r b = enter_locks a s.holder _ granted s h r refl b
 locks_kept (Append place) block a granted s h r b =
-    (as_before a s _ refl refl, append_here _ a (place + 1) r (nat_lt (place + 1) (length (written_slots r))) (nat_lt 1 (length (written_slots r))) (record { owners = b.mine.owners; holder = b.mine.holder }) b.are)
-locks_kept Open block a granted s h r b = (as_before a s _ refl refl, holds_as _ a _ r.slots true (record { owners = b.mine.owners; holder = b.mine.holder }) refl refl b.are tt)
+    (as_before a s _ refl refl, appending_holds _ a (place + 1) r (record { owners = b.mine.owners; holder = b.mine.holder }) b.are)
+locks_kept Open block a granted s h r b = (as_before a s _ refl refl, publishing_holds _ a 0 r (record { owners = b.mine.owners; holder = b.mine.holder }) b.are)
 locks_kept (Publish place) block a granted s h r b =
-    (as_before a s _ refl refl, publish_here _ a (place + 1) r (nat_lt (place + 1) (length (written_slots r))) (nat_lt 1 (length (written_slots r))) (record { owners = b.mine.owners; holder = b.mine.holder }) b.are)
-locks_kept Close block a granted s h r b = (as_before a s _ refl refl, holds_as _ a _ r.slots true (record { owners = b.mine.owners; holder = b.mine.holder }) refl refl b.are tt)
+    (as_before a s _ refl refl, publishing_holds _ a (place + 1) r (record { owners = b.mine.owners; holder = b.mine.holder }) b.are)
+locks_kept Close block a granted s h r b = (as_before a s _ refl refl, retiring_holds _ a 0 r (record { owners = b.mine.owners; holder = b.mine.holder }) b.are)
 locks_kept (Retire place) block a granted s h r b =
     retired_locks a _ (retired_by (slot_at (written_slots r) place) s h r) _ place s _ _ r (as_before a s _ refl refl) (record { owners = b.mine.owners; holder = b.mine.holder }) b.are
 locks_kept Leave block a granted s h r b =
@@ -333,3 +353,43 @@ locks_kept (Unlock place) block a granted s h r b =
 locks_kept (Give cpu) block a granted s h r b = rest_locks a s _ _ _ h.ino _ r (as_before a s _ refl refl) (record { owners = b.mine.owners; holder = b.mine.holder }) b.are
 locks_kept Back block a granted s h r b = back_locks a h.ino s h r b
 locks_kept Visit block a granted s h r b = visit_locks a _ _ _ _ _ s h r refl b
+
+-- ---- what a step is lent is its actor's
+
+owner_is : (a : ℕ) (owner : Option ℕ) → is_owner a owner ≡ true → owner ≡ Some a
+owner_is a None e = absurd (false≢true e)
+owner_is a (Some o) e = ap (λ (n : ℕ). Some n) (eqb-true o a e)
+
+written_owned : (a place : ℕ) (s : Shared) (r : Running) → Holds s a r.slots true → place < length (written_slots r) → owner_at s (slot_at (written_slots r) place) ≡ Some a
+written_owned a place s r mine inside =
+    owner_is a (owner_at s (slot_at (written_slots r) place))
+    (mine.owners (slot_at (written_slots r) place) ∙ has_filter (is_written r.plan) r.slots (slot_at (written_slots r) place) (has_at (written_slots r) place inside))
+
+pub slot_owned : (a : ℕ) (s : Shared) (r : Running) (ino : ℕ) → HoldsIts s a (Some r) → has (held_at r.next r.slots) ino ≡ true → owner_at s ino ≡ Some a
+slot_owned a s r ino mine there = owner_is a (owner_at s ino) (mine.owners ino ∙ there)
+
+some_cell : (a n ino : ℕ) (s : Shared) → owner_at s n ≡ Some a → Some n ≡ Some ino → owner_at s ino ≡ Some a
+some_cell a n ino s own e = subst (λ (m : ℕ). owner_at s m ≡ Some a) (ap (λ (o : Option ℕ). unwrap_or o 0) e) own
+
+pub lent_cell : (k : Next) (cpus a : ℕ) (s : Shared) (r : Running) → Before a s k r → (ino : ℕ) → (lent k cpus a r).cell ≡ Some ino → owner_at s ino ≡ Some a
+lent_cell Number cpus a s r b ino e = absurd (none-some ino e)
+lent_cell (Look place) cpus a s r b ino e = absurd (none-some ino e)
+lent_cell (Lock place) cpus a s r b ino e = absurd (none-some ino e)
+lent_cell Check cpus a s r b ino e = absurd (none-some ino e)
+lent_cell (TakeBlocks asked) cpus a s r b ino e = absurd (none-some ino e)
+lent_cell (TakePages asked) cpus a s r b ino e = absurd (none-some ino e)
+lent_cell Ready cpus a s r b ino e = absurd (none-some ino e)
+lent_cell Enter cpus a s r b ino e = absurd (none-some ino e)
+lent_cell (Append place) cpus a s r b ino e = some_cell a (slot_at (written_slots r) place) ino s (written_owned a place s r b.mine b.inside) e
+lent_cell Open cpus a s r b ino e = absurd (none-some ino e)
+lent_cell (Publish place) cpus a s r b ino e = some_cell a (slot_at (written_slots r) place) ino s (written_owned a place s r b.mine b.inside) e
+lent_cell Close cpus a s r b ino e = absurd (none-some ino e)
+lent_cell (Retire place) cpus a s r b ino e = some_cell a (slot_at (written_slots r) place) ino s (written_owned a place s r b.mine b.inside) e
+lent_cell Leave cpus a s r b ino e = absurd (none-some ino e)
+lent_cell (Unlock place) cpus a s r b ino e = absurd (none-some ino e)
+lent_cell (Give cpu) cpus a s r b ino e = absurd (none-some ino e)
+lent_cell Back cpus a s r b ino e = absurd (none-some ino e)
+lent_cell Visit cpus a s r b ino e = absurd (none-some ino e)
+
+pub lent_holder : (k : Next) (a : ℕ) (s : Shared) (r : Running) → Before a s k r → commits_at k ≡ true → s.holder ≡ Some a
+lent_holder k a s r b e = owner_is a s.holder (b.mine.holder ∙ e)

@@ -8,14 +8,14 @@ use Rattle.nv_calls.specs.declared.call.Call.{Call}
 use Rattle.nv_cell.specs.Cell.{empty_cell}
 use Rattle.nv_core.specs.machine.Format.{formatted}
 use Rattle.nv_core.specs.machine.Frame.{lent}
-use Rattle.nv_core.specs.machine.Locks.{AreLocks, AreSlots, HasSlots, HoldsIts, WaitsFor, is_owner}
+use Rattle.nv_core.specs.machine.Locks.{AreLocks, AreSlots, HasSlots, HasLent, HoldsIts, WaitsFor, is_owner}
 use Rattle.nv_core.specs.machine.Sequence.{Beginning, Looks, Locks, Numbers, Visits, beginning, begun, nothing_looked, started}
 use Rattle.nv_core.specs.machine.Step.{Step, after, go_step, start_step, step, turn, turned}
 use Rattle.nv_core.specs.machine.Reads.{slots_of}
 use Rattle.nv_core.specs.machine.World.{Actor, Check, Ends, Event, Go, Moves, Reply, Running, Shared, Start, Turn, Waiting, Waits, World, actor_at, idle}
 use Rattle.nv_core.proofs.steps.Events.{go_is_turn, turned_frame}
 use Rattle.nv_core.proofs.steps.Framed.{framed}
-use Rattle.nv_core.proofs.steps.Locked.{Before, Holds, LocksLeft, OnLocks, holds_as, locking_holds, locks_kept, new_slots, same_locks}
+use Rattle.nv_core.proofs.steps.Locked.{lent_cell, lent_holder, Before, Holds, LocksLeft, OnLocks, holds_as, locking_holds, locks_kept, new_slots, same_locks}
 
 -- ---- replies
 
@@ -28,7 +28,7 @@ not_waiting no-wait e = true≢false (sym (ap waits_by e) ∙ no-wait)
 
 -- ---- an actor's own
 
-before : (w : World) (actor : ℕ) (r : Running) → AreLocks w → (actor_at w actor).running ≡ Some r → Before actor w.shared r.next r
+pub before : (w : World) (actor : ℕ) (r : Running) → AreLocks w → (actor_at w actor).running ≡ Some r → Before actor w.shared r.next r
 before w actor r locks is =
     let own : HoldsIts w.shared actor (Some r) = subst (λ (running : Option Running). HoldsIts w.shared actor running) is (locks.each actor) in
     record { mine = record { owners = own.owners; holder = own.holder }; are = own.slots.0; inside = own.slots.1; wide = locks.wide }
@@ -157,3 +157,9 @@ pub waits : (w : World) (actor : ℕ) (granted : Bool) (r : Running) → AreLock
     → (step w (Go actor granted)).reply ≡ Waiting → ((step w (Go actor granted)).world ≡ w) × WaitsFor w.shared actor r r.next
 waits w actor granted r locks there is e =
     go_waits (nat_lt actor (length w.actors)) (actor_at w actor).running w actor granted r locks is (lt-ltb actor (length w.actors) there) is e
+
+pub has_lent : (w : World) (actor : ℕ) (r : Running) → AreLocks w → (actor_at w actor).running ≡ Some r → HasLent w.shared actor r
+has_lent w actor r locks is = record {
+  cell = lent_cell r.next (length w.shared.lists) actor w.shared r (before w actor r locks is);
+  holder = lent_holder r.next actor w.shared r (before w actor r locks is);
+}

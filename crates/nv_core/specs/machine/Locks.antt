@@ -2,7 +2,8 @@
 use Rattle.std.specs.Prelude.{◌≡◌, ◌≢◌, ℕ, ◌<◌, ◌==◌, Bool, true, false, List, [], drop, length, take, Option, Some, None}
 use Rattle.std.specs.List.{AllByRecursion}
 use Rattle.nv_alloc.specs.Numbers.{IsRising, has}
-use Rattle.nv_core.specs.machine.Reads.{slot_at}
+use Rattle.nv_core.specs.machine.Frame.{lent}
+use Rattle.nv_core.specs.machine.Reads.{slot_at, written_slots}
 use Rattle.nv_core.specs.machine.Sequence.{directories, nothing_looked}
 use Rattle.nv_core.specs.machine.Step.{handle_at}
 use Rattle.nv_calls.specs.Locked.{handles}
@@ -48,16 +49,19 @@ pub record AreSlots (slots : ℕ) (list : List ℕ) : Type 0 where
   pub rising : IsRising list
   pub inside : AllByRecursion (λ ino. ino < slots) list
 
--- a loop over slots stands at one of them; a visit has none
-abbrev pub IsInside : Next → List ℕ → Type 0
-IsInside (Lock place) slots = place < length slots
-IsInside (Unlock place) slots = place < length slots
-IsInside Visit slots = slots ≡ []
-IsInside other slots = Unit {0}
+-- a loop stands at one of those that it goes over; a visit has no slots
+abbrev pub IsInside : Next → Running → Type 0
+IsInside (Lock place) r = place < length r.slots
+IsInside (Unlock place) r = place < length r.slots
+IsInside (Append place) r = place < length (written_slots r)
+IsInside (Publish place) r = place < length (written_slots r)
+IsInside (Retire place) r = place < length (written_slots r)
+IsInside Visit r = r.slots ≡ []
+IsInside other r = Unit {0}
 
 abbrev pub HasSlots : ℕ → Option Running → Type 0
 HasSlots slots None = Unit {0}
-HasSlots slots (Some r) = AreSlots slots r.slots × IsInside r.next r.slots
+HasSlots slots (Some r) = AreSlots slots r.slots × IsInside r.next r
 
 -- an actor holds exactly the locks of its call
 pub record HoldsIts (s : Shared) (actor : ℕ) (running : Option Running) : Type 0 where
@@ -83,3 +87,10 @@ WaitsFor s actor r (Lock place) = IsHeldByOther actor (owner_at s (slot_at r.slo
 WaitsFor s actor r Enter = IsHeldByOther actor s.holder
 WaitsFor s actor r Visit = IsHeldByOther actor (owner_at s (handle_at (handles nothing_looked r.call) 0).ino)
 WaitsFor s actor r other = ⊥
+
+-- ---- what is lent
+
+-- the cell that a step is lent is locked by its actor, and in a commit the commit lock is the actor's
+pub record HasLent (s : Shared) (actor : ℕ) (r : Running) : Type 0 where
+  pub cell : (ino : ℕ) → (lent r.next (length s.lists) actor r).cell ≡ Some ino → owner_at s ino ≡ Some actor
+  pub holder : commits_at r.next ≡ true → s.holder ≡ Some actor

@@ -50,21 +50,21 @@ locking place slots = if nat_lt place (length slots) then Lock place else Check
 abbrev pub looking : ℕ → Running → Next
 looking place r = if nat_lt place (length (directories r.call)) then Look place else locking 0 r.slots
 
+abbrev pub retiring : ℕ → List ℕ → Next
+retiring place written = if nat_lt place (length written) then Retire place else Leave
+
 -- a commit of two or more inodes has a journal
-abbrev pub opening : List ℕ → Next
-opening written = if nat_lt 1 (length written) then Open else Publish 0
-
 abbrev pub closing : List ℕ → Next
-closing written = if nat_lt 1 (length written) then Close else Retire 0
-
-abbrev pub appending : ℕ → List ℕ → Next
-appending place written = if nat_lt place (length written) then Append place else opening written
+closing written = if nat_lt 1 (length written) then Close else retiring 0 written
 
 abbrev pub publishing : ℕ → List ℕ → Next
 publishing place written = if nat_lt place (length written) then Publish place else closing written
 
-abbrev pub retiring : ℕ → List ℕ → Next
-retiring place written = if nat_lt place (length written) then Retire place else Leave
+abbrev pub opening : List ℕ → Next
+opening written = if nat_lt 1 (length written) then Open else publishing 0 written
+
+abbrev pub appending : ℕ → List ℕ → Next
+appending place written = if nat_lt place (length written) then Append place else opening written
 
 -- THE SEQUENCE: what comes behind a step that has done its work. A check and a taking go on by what is still wanted, and a
 -- leave and the last steps by what is locked or in the hand.
@@ -73,11 +73,11 @@ sequel r Number = locking 0 r.slots
 sequel r (Look place) = looking (place + 1) r
 sequel r (Lock place) = locking (place + 1) r.slots
 sequel r Ready = Enter
-sequel r Enter = Append 0
+sequel r Enter = appending 0 (written_slots r)
 sequel r (Append place) = appending (place + 1) (written_slots r)
-sequel r Open = Publish 0
+sequel r Open = publishing 0 (written_slots r)
 sequel r (Publish place) = publishing (place + 1) (written_slots r)
-sequel r Close = Retire 0
+sequel r Close = retiring 0 (written_slots r)
 sequel r (Retire place) = retiring (place + 1) (written_slots r)
 sequel r other = other
 

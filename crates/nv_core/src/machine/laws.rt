@@ -9,7 +9,7 @@ ghost use Rattle.nv_calls.specs.declared.call.Call.{Call};
 ghost use Rattle.nv_core.specs.machine.Bound.{IsNoStart, bound_at, most_steps, moves};
 ghost use Rattle.nv_core.specs.machine.Format.{formatted};
 ghost use Rattle.nv_core.specs.machine.Frame.{IsOneStep, IsStart};
-ghost use Rattle.nv_core.specs.machine.Locks.{AreLocks, WaitsFor};
+ghost use Rattle.nv_core.specs.machine.Locks.{AreLocks, HasLent, WaitsFor};
 ghost use Rattle.nv_core.specs.machine.Step.{after, stays, step};
 ghost use Rattle.nv_core.specs.machine.World.{Event, Go, Refused, Running, Start, Started, Waiting, World, actor_at};
 
@@ -33,10 +33,13 @@ pub fn one_step()
 {}
 
 /// From a new world on, whatever events come, each actor holds exactly the locks that its call has taken and not
-/// yet given up, and one without a call holds none.
+/// yet given up, and one without a call holds none. So a cell that a step is lent is locked by its actor, and
+/// in a commit the commit lock is the actor's.
 pub fn who_holds_what()
     ensures new { (g : GeometryNumbers) → IsWithinLimits g → AreLocks (formatted g) }
     ensures stays { (events : List Event) (w : World) → AreLocks w → AreLocks (after w events) }
+    ensures lent { (w : World) (actor : ℕ) (r : Running) → AreLocks w
+        → (actor_at w actor).running ≡ Some r → HasLent w.shared actor r }
 {}
 
 /// A `Go` that waits changes nothing, and comes only where another actor holds the lock that the step needs.

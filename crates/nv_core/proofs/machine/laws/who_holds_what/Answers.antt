@@ -1,4 +1,4 @@
-use Rattle.nv_core.proofs.steps.Locks.{events_locks, new_locks}
+use Rattle.nv_core.proofs.steps.Locks.{events_locks, has_lent, new_locks}
 use Rattle.nv_core.proofs.machine.laws.who_holds_what.Goals as goal
 
 pub returns-clause-new : goal.returns-clause-new
@@ -6,3 +6,6 @@ returns-clause-new c = new_locks
 
 pub returns-clause-stays : goal.returns-clause-stays
 returns-clause-stays c = events_locks
+
+pub returns-clause-lent : goal.returns-clause-lent
+returns-clause-lent c = has_lent
