@@ -3,6 +3,7 @@ pub mod CellLists
 pub mod Apart
 pub mod CellNodes
 pub mod Commits
+pub mod Fills
 pub mod Items
 pub mod Keeps
 pub mod Lawful

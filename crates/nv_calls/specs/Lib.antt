@@ -1,5 +1,6 @@
 pub mod AllCalls
 pub mod Cells
+pub mod Filling
 pub mod Lawful
 pub mod Locked
 pub mod Plain
