@@ -19,7 +19,8 @@ use Rattle.nv_calls.specs.Plain.{Change}
 use Rattle.nv_calls.specs.Refusals.{Check as Tests}
 use Rattle.nv_calls.specs.Slots.{entries_of, items_for, place_in}
 use Rattle.nv_calls.specs.declared.answer.Answer.{Answer}
-use Rattle.nv_cell.specs.Append.{appended, blocks_for, run_numbers}
+use Rattle.nv_entry.specs.Blocks.{item_blocks}
+use Rattle.nv_cell.specs.Append.{appended, blocks_for}
 use Rattle.nv_cell.specs.Cell.{CellState, empty_cell, killed_of, log_of, number_in, published, with_mark, without_part}
 use Rattle.nv_cell.specs.Numbers.{killed_part}
 use Rattle.nv_cell.specs.Readers.{is_gone, keeps_nothing}
@@ -189,12 +190,12 @@ with_pages (b ∷ blocks) cell = with_pages blocks (record cell { chain = with_p
 -- a cell with more entries, each with the blocks of its pages from the front of these
 abbrev pub with_entries : List Entry → List BlockValue → CellState → CellState
 with_entries [] blocks cell = cell
-with_entries (e ∷ entries) blocks cell = with_entries entries (drop (length (run_numbers e.item)) blocks) (appended e (blocks_for e.item blocks) cell)
+with_entries (e ∷ entries) blocks cell = with_entries entries (drop (length (item_blocks e.item)) blocks) (appended e (blocks_for e.item blocks) cell)
 
 -- what these leave of the blocks
 abbrev pub blocks_left : List Entry → List BlockValue → List BlockValue
 blocks_left [] blocks = blocks
-blocks_left (e ∷ entries) blocks = blocks_left entries (drop (length (run_numbers e.item)) blocks)
+blocks_left (e ∷ entries) blocks = blocks_left entries (drop (length (item_blocks e.item)) blocks)
 
 -- the entries that a call has for a slot
 abbrev pub entries_for : Running → ℕ → List Entry
