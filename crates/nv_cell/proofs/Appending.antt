@@ -241,6 +241,11 @@ blocks_append cell e bs h few within nums sized = record { len = len; numbers = 
 pub log_stays : (t : ℕ) (es : List Entry) (e : Entry) → t ≤ length es → take t (es ++ e ∷ []) ≡ take t es
 log_stays t es e le = take-append-le t es (e ∷ []) le
 
+-- one more block of that size
+pub sized_more : (size : ℕ) (bs : List BlockValue) (b : BlockValue) → AreSized size bs → length b.bytes ≡ size → AreSized size (bs ++ b ∷ [])
+sized_more size [] b all one = (one, tt)
+sized_more size (x ∷ bs) b all one = (all.0, sized_more size bs b all.1 one)
+
 pub sized_front : (size n : ℕ) (bs : List BlockValue) → AreSized size bs → AreSized size (take n bs)
 sized_front size zero bs all = tt
 sized_front size (suc n) [] all = tt

@@ -61,6 +61,7 @@ fields_grown old new h g =
     ap (λ (s : ChainState). length s.entries - s.tail + new.entries) g.chain in
     record {
       some = rw g.block h.some;
+      pages = rw (g.block, g.chain) h.pages;
       marks = subst (λ (s : CellState). HasMarks s) (sym same) h.marks;
       blocks = subst (λ (s : CellState). HasBlocks s) (sym same) h.blocks;
       refs = λ key. g.index.refs key ∙ h.refs key ∙ ap (λ (s : CellState). scan_ref s.block (log_of s) key) (sym same);

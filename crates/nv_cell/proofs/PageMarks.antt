@@ -91,13 +91,11 @@ marks_at (e ∷ es) marks (suc i) lt =
     ∙ ap (take (part_base es (suc i) - part_base es i)) (drop-drop (part_base es i) (part_count e) marks)
     ∙ ap (λ (k : ℕ). take k (drop (part_count e + part_base es i) marks)) n
 
--- a tally counts the marks of its entry
-tally_marks : (test : Mark → Bool) (f : Tally → ℕ) (chain : ChainState) (ends : List ℕ) (tallies : List Tally) (marks : List Mark) (i : ℕ)
-    → chain.tail ≤ length chain.entries → length ends ≡ chain.tail
-    → ((j : ℕ) → j < chain.tail → end_at ends j ≡ part_base chain.entries (j + 1))
-    → ((j : ℕ) → j < length ends → f (tally_at tallies j) ≡ count_in test marks (start_at ends j) (end_at ends j))
-    → i < chain.tail → nat_lt 0 (f (tally_at tallies i)) ≡ list_any test (slice_index_or (marks_by_entry (log chain) marks) i [])
-tally_marks test f chain ends tallies marks i within len bases counts lt =
+-- the marks of a published entry, by where the parts of each end
+pub entry_marks : (chain : ChainState) (ends : List ℕ) (marks : List Mark) (i : ℕ) → chain.tail ≤ length chain.entries
+    → ((j : ℕ) → j < chain.tail → end_at ends j ≡ part_base chain.entries (j + 1)) → i < chain.tail
+    → take (end_at ends i - start_at ends i) (drop (start_at ends i) marks) ≡ slice_index_or (marks_by_entry (log chain) marks) i []
+entry_marks chain ends marks i within bases lt =
     let es = take chain.tail chain.entries in
     let size : length es ≡ chain.tail = length-take-le chain.tail chain.entries within in
     let next : i + 1 ≡ suc i = omega arith in
@@ -106,9 +104,17 @@ tally_marks test f chain ends tallies marks i within len bases counts lt =
     let to : end_at ends i ≡ part_base es (suc i) =
     bases i lt ∙ ap (part_base chain.entries) next
     ∙ ap part_total (sym (take-take (suc i) chain.tail chain.entries (omega (arith, lt)))) in
-    let count : f (tally_at tallies i) ≡ count_in test marks (start_at ends i) (end_at ends i) = counts i (omega arith) in
-    rw (count, from, to) (sym (any_counts test (take (part_base es (suc i) - part_base es i) (drop (part_base es i) marks))))
-    ∙ ap (list_any test) (sym (marks_at es marks i (omega (arith, size, lt))))
+    rw (from, to) (sym (marks_at es marks i (omega (arith, size, lt))))
+
+-- a tally counts the marks of its entry
+tally_marks : (test : Mark → Bool) (f : Tally → ℕ) (chain : ChainState) (ends : List ℕ) (tallies : List Tally) (marks : List Mark) (i : ℕ)
+    → chain.tail ≤ length chain.entries → length ends ≡ chain.tail
+    → ((j : ℕ) → j < chain.tail → end_at ends j ≡ part_base chain.entries (j + 1))
+    → ((j : ℕ) → j < length ends → f (tally_at tallies j) ≡ count_in test marks (start_at ends j) (end_at ends j))
+    → i < chain.tail → nat_lt 0 (f (tally_at tallies i)) ≡ list_any test (slice_index_or (marks_by_entry (log chain) marks) i [])
+tally_marks test f chain ends tallies marks i within len bases counts lt =
+    ap (nat_lt 0) (counts i (omega arith)) ∙ sym (any_counts test (take (end_at ends i - start_at ends i) (drop (start_at ends i) marks)))
+    ∙ ap (list_any test) (entry_marks chain ends marks i within bases lt)
 
 -- ---- the counts of a page
 

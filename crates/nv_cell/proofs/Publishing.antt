@@ -66,14 +66,19 @@ pub record IsScan (block : ℕ) (es : List Entry) (t : ℕ) (index : IndexValue)
   pub log : IsLog es
   pub scan : (key : Key) → ref_of index key ≡ scan_ref block (take t es) key
 
-link : (block : ℕ) (es : List Entry) (t : ℕ) (index : IndexValue) → IsScan block es t index → (key : Key) → Linked block es 0 (take t es) key
-link block es t index h key =
-    let i : IsLog (take t es ++ drop t es) = rw (take_drop es t) h.log in
+link : (block : ℕ) (es : List Entry) (t : ℕ) (key : Key) → IsLog es → Linked block es 0 (take t es) key
+link block es t key is =
+    let i : IsLog (take t es ++ drop t es) = rw (take_drop es t) is in
     rw (take_drop es t) at (linked block [] (take t es) (drop t es) key i)
+
+-- the scan by ids is the scan by numbers
+pub scanned : (block : ℕ) (es : List Entry) (t : ℕ) (key : Key) → IsLog es
+    → option_map (number es) (scan_ref block (take t es) key) ≡ scan_n block (take t es) key
+scanned block es t key is = (link block es t key is).numbers ∙ from_zero (scan_n block (take t es) key)
 
 pub by_number : (block : ℕ) (es : List Entry) (t : ℕ) (index : IndexValue) → IsScan block es t index → (key : Key) → number_at es index key ≡ scan_n block (take t es) key
 by_number block es t index h key =
-    ap (option_map (number es)) (h.scan key) ∙ (link block es t index h key).numbers ∙ from_zero (scan_n block (take t es) key)
+    ap (option_map (number es)) (h.scan key) ∙ scanned block es t key h.log
 
 pub total_take : (es : List Entry) (t : ℕ) → part_total (take t es) ≤ part_total es
 total_take es t = let a : part_total (take t es ++ drop t es) ≡ part_total es = ap part_total (take_drop es t) in omega (arith, a, total_append (take t es) (drop t es))
@@ -93,7 +98,7 @@ are_named block es t index h = record {
       let n : scan_n block (take t es) key ≡ Some (number es r) = sym (by_number block es t index h key) ∙ ap (option_map (number es)) q in
       let s = scan_key block (take t es) key (number es r) n in
       record {
-        entry = (link block es t index h key).known r (sym (h.scan key) ∙ q);
+        entry = (link block es t key h.log).known r (sym (h.scan key) ∙ q);
         within = omega (arith, s.0, total_take es t);
       }
 

@@ -2,7 +2,7 @@
 use Rattle.std.specs.Prelude.{◌≡◌, ℕ, ◌+◌, ◌-◌, ◌<◌, ◌≤◌, drop, not, if◌then◌else◌, nat_lt, List, [], ◌∷◌, length, map, Option, Some, None, slice_get, slice_index_or, option_and_then, slice_set, unwrap_or}
 use Rattle.std.specs.List.{range_with_len, sum_by}
 use Rattle.std.specs.Option.{option_map}
-use Rattle.nv_alloc.specs.Block.{BlockValue, number_of}
+use Rattle.nv_alloc.specs.Block.{AreSized, BlockValue, number_of}
 use Rattle.nv_entry.specs.declared.item.Entry.{Entry}
 use Rattle.nv_entry.specs.declared.item.Item.{Item}
 use Rattle.nv_entry.specs.declared.part.PartId.{PartId}
@@ -77,6 +77,7 @@ pub record HasMarks (cell : CellState) : Type 0 where
 pub record IsCell (cell : CellState) : Type 0 where
   pub some : 0 < cell.block
   pub chain : IsChain cell.chain
+  pub pages : AreSized cell.block cell.chain.blocks
   pub marks : HasMarks cell
   pub blocks : HasBlocks cell
 
@@ -116,13 +117,18 @@ pub record KeepsAppendRoom (old new : CellRoom) : Type 0 where
 abbrev pub mark_named : CellState → PartId → Option Mark
 mark_named cell id = option_and_then (λ n. slice_get cell.marks n) (number_named (log_of cell) id)
 
+-- the block of a part of the log, by its name
+abbrev pub block_named : CellState → PartId → Option BlockValue
+block_named cell id = option_and_then (λ n. slice_index_or cell.blocks n None) (number_named (log_of cell) id)
+
 -- the number of a part of the log; 0 where it has none of that name
 abbrev pub number_in : CellState → PartId → ℕ
 number_in cell id = unwrap_or (number_named (log_of cell) id) 0
 
--- the cell with another mark of a part, and its block if the part goes out
+-- the cell with another mark of a part
 abbrev pub with_mark : CellState → ℕ → Mark → CellState
 with_mark cell n mark = record cell { marks = slice_set cell.marks n mark }
 
+-- the cell with a part out, and without its block
 abbrev pub without_part : CellState → ℕ → CellState
 without_part cell n = record cell { marks = slice_set cell.marks n Out; blocks = slice_set cell.blocks n None }

@@ -1,5 +1,6 @@
 -- The fields of a cell.
 use Rattle.std.specs.Prelude.{◌≡◌, ℕ, ◌+◌, ◌-◌, ◌<◌, ◌≤◌, min, [], length, vec_capacity, vec_len}
+use Rattle.nv_alloc.specs.Block.{AreSized}
 use Rattle.nv_entry.specs.Covered.{part_total}
 use Rattle.nv_entry.specs.Keys.{Key}
 use Rattle.nv_entry.specs.Refs.{scan_ref}
@@ -37,6 +38,7 @@ value_in c = record {
 -- the index, the tallies and the counts are the scan of the log; and there is room for as much as the fields say
 pub record AreFields (c : Inside) : Type 0 where
   pub some : 0 < c.block
+  pub pages : AreSized c.block c.chain.state.blocks
   pub marks : HasMarks (state_in c)
   pub blocks : HasBlocks (state_in c)
   pub refs : (key : Key) → ref_of c.index key ≡ scan_ref c.block (log_of (state_in c)) key

@@ -9,6 +9,12 @@ is_current Killed = false
 is_current Kept = false
 is_current Out = false
 
+abbrev pub is_killed : Mark → Bool
+is_killed Current = false
+is_killed Killed = true
+is_killed Kept = false
+is_killed Out = false
+
 -- current, killed or kept
 abbrev pub is_there : Mark → Bool
 is_there Current = true

@@ -10,7 +10,7 @@ use Rattle.nv_log.specs.Chain.{last_of, parts_from}
 use Rattle.nv_cell.specs.declared.mark.Mark.{Mark}
 use Rattle.nv_cell.specs.declared.tally.PageCounts.{PageCounts}
 use Rattle.nv_cell.specs.Cell.{CellState, log_of}
-use Rattle.nv_cell.specs.Marks.{is_current, is_there}
+use Rattle.nv_cell.specs.Marks.{is_current, is_killed, is_there}
 
 -- the marks of a log, entry by entry
 abbrev pub marks_by_entry : List Entry → List Mark → List (List Mark)
@@ -39,3 +39,7 @@ is_gone log = unwrap_or (option_map (λ e. is_last_word e.item) (last_of log)) f
 -- every part of the log is out
 abbrev pub keeps_nothing : CellState → Bool
 keeps_nothing cell = not (list_any is_there cell.marks)
+
+-- a part is killed
+abbrev pub has_killed : CellState → Bool
+has_killed cell = list_any is_killed cell.marks

@@ -1,11 +1,11 @@
 -- Room for what is to follow.
-use Rattle.std.specs.Prelude.{◌≡◌, ◌≤◌, List, length, Option, vec_capacity}
+use Rattle.std.specs.Prelude.{◌≡◌, ℕ, ◌+◌, ◌-◌, ◌≤◌, List, ◌++◌, length, vec_capacity}
 use Rattle.std.specs.Global.{Vec}
 use Rattle.nv_entry.specs.declared.item.Item.{Item}
 use Rattle.nv_entry.specs.Keys.{Key}
-use Rattle.nv_log.specs.Chain.{pages_for}
+use Rattle.nv_log.specs.Chain.{ChainState, pages_for, room_of}
 use Rattle.nv_cell.specs.declared.marks.Marks.{Marks}
-use Rattle.nv_cell.specs.Cell.{CanPublish, CellRoom, CellValue, IsReady, fresh_of, log_of}
+use Rattle.nv_cell.specs.Cell.{CanPublish, CellRoom, CellValue, fresh_of}
 use Rattle.nv_cell.specs.Effects.{items_of}
 use Rattle.nv_cell.specs.Index.{IndexValue, ref_of}
 use Rattle.nv_cell.specs.Weights.{parts_in}
@@ -16,23 +16,15 @@ pub record CanAppend (items : List Item) (cell : CellValue) : Type 0 where
   pub entries : length items ≤ cell.room.entries
   pub parts : parts_in items ≤ cell.room.parts
 
--- and to publish them then
+-- and to publish them then, with those that stand past the tail already
 pub record IsReadyFor (items : List Item) (cell : CellValue) : Type 0 where
   pub append : CanAppend items cell
-  pub publish : CanPublish items cell
+  pub publish : CanPublish (items_of (fresh_of cell.state) ++ items) cell
 
--- entries with these items have been appended, and nothing else has happened that publishing asks about
-pub record HasAppended (items : List Item) (old new : CellValue) : Type 0 where
-  pub block : new.state.block ≡ old.state.block
-  pub log : log_of new.state ≡ log_of old.state
-  pub fresh : items_of (fresh_of new.state) ≡ items
-  pub runs : new.room.runs ≡ old.room.runs
-  pub name : new.room.name ≡ old.room.name
-  pub killed : new.room.killed ≡ old.room.killed
-
--- a cell that was made ready can publish then
-abbrev pub ReadyIsReady : Type 0
-ReadyIsReady = (items : List Item) (old new : CellValue) → IsReadyFor items old → HasAppended items old new → IsReady new
+-- a page more: each number of entries needs one page less
+pub record AddsPage (old new : ChainState) : Type 0 where
+  pub room_rises : room_of new ≡ room_of old + old.page
+  pub pages_fall : (entries : ℕ) → pages_for new entries ≡ pages_for old entries - 1
 
 -- no room is less; of the name that is reserved this says nothing
 pub record HasNoLess (old new : CellRoom) : Type 0 where

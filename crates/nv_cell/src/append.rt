@@ -1,11 +1,13 @@
 //! Entries and pages that are added past the tail.
 
-ghost use Rattle.std.specs.Prelude.{◌≡◌, ◌+◌, ◌-◌, ◌<◌, ◌≤◌, ◌++◌, ◌∷◌, ◌↔◌, IsTrue, [], None, Some, drop, if◌then◌else◌, length, map, nat_lt, replicate, take, vec_capacity, vec_len};
+ghost use Rattle.std.specs.Prelude.{◌≡◌, ◌+◌, ◌-◌, ◌<◌, ◌≤◌, ◌++◌, ◌∷◌, ◌↔◌, IsTrue, List, [], None, Some, drop, if◌then◌else◌, length, map, nat_lt, replicate, take, vec_capacity, vec_len};
 ghost use Rattle.nv_alloc.specs.Block.{numbers_of};
 ghost use Rattle.nv_entry.specs.Covered.{part_count};
 ghost use Rattle.nv_entry.specs.Keys.{parts_of};
-ghost use Rattle.nv_log.specs.Chain.{with_page};
+ghost use Rattle.nv_entry.specs.declared.item.Item.{Item as ItemValue};
+ghost use Rattle.nv_log.specs.Chain.{AppendsEntry, with_page};
 ghost use Rattle.nv_cell.specs.Append.{IsWithinFile, MayAppend, after_append, appended, blocks_for, run_numbers, slots_of};
+ghost use Rattle.nv_cell.specs.Room.{AddsPage, IsReadyFor};
 ghost use Rattle.nv_cell.specs.Tallies.{no_counts};
 
 use crate::{InodeCell, PageCounts};
@@ -14,14 +16,20 @@ use nv_base::limits::FILE_PAGES;
 use nv_entry::{Entry, Item};
 
 impl InodeCell {
-    /// Adds a page of the log behind the others. Takes no memory.
+    /// Adds a page of the log behind the others: a block of the cell's size. Takes no memory. What the cell is ready for, it stays ready for.
     pub fn add_page(&mut self, block: Block)
         requires reserved { 0 < self.old.room.pages }
+        requires sized { length block.bytes ≡ self.old.state.block }
         ensures state { self.new.state
             ≡ record self.old.state { chain = with_page block self.old.state.chain } }
         ensures room { self.new.room
             ≡ record self.old.room { pages = self.old.room.pages - 1 } }
+        ensures pages { AddsPage self.old.state.chain self.new.state.chain }
+        ensures ready { (items : List ItemValue) → IsReadyFor items self.old
+            → IsReadyFor items self.new }
     {
+        // The chain is one, so that a page gives as much room as it holds.
+        let _ends = self.chain.ends();
         self.chain.add_page(block);
     }
 
@@ -42,7 +50,7 @@ impl InodeCell {
     }
 
     /// Appends an entry past the tail, with the blocks of its pages from the front of the queue. Takes no memory; the
-    /// time is that of its parts.
+    /// time is that of its parts. A cell that is ready for items of which this is the first is then ready for the others.
     pub fn append(&mut self, entry: Entry, queue: &mut BlockQueue)
         requires next { MayAppend entry self.old }
         requires size { queue.old.size ≡ self.old.state.block }
@@ -51,6 +59,9 @@ impl InodeCell {
         ensures state { self.new.state
             ≡ appended entry (blocks_for entry.item queue.old.blocks) self.old.state }
         ensures room { self.new.room ≡ after_append (part_count entry) self.old.room }
+        ensures pages { AppendsEntry entry self.old.state.chain self.new.state.chain }
+        ensures ready { (later : List ItemValue) → IsReadyFor (entry.item ∷ later) self.old
+            → IsReadyFor later self.new }
         ensures queue { queue.new ≡ record queue.old {
           blocks = drop (length (run_numbers entry.item)) queue.old.blocks;
           room = queue.old.room + length (run_numbers entry.item);

@@ -1,9 +1,12 @@
 //! The inode cell.
 
-ghost use Rattle.std.specs.Prelude.{◌≡◌, ◌+◌, ◌<◌, ◌≤◌, ◌^◌, ◌⊎◌, [], None, Some, slice_index_or, length, map};
+ghost use Rattle.std.specs.Prelude.{◌≡◌, ◌+◌, ◌<◌, ◌≤◌, ◌^◌, ◌⊎◌, [], None, Some, slice_index_or, length, map, vec_len};
 ghost use Rattle.nv_base.specs.declared.limits.TheConstants.{LEAST_PAGE_ENTRIES, PAGE_ENTRIES};
-ghost use Rattle.nv_cell.specs.Cell.{IsCell, IsReady, KeepsAppendRoom, empty_cell, killed_of, mark_named, number_in, published, with_mark, without_part};
+ghost use Rattle.nv_cell.specs.Cell.{IsCell, IsReady, KeepsAppendRoom, empty_cell, fresh_of, killed_of, log_of, mark_named, number_in, published, with_mark, without_part};
+ghost use Rattle.nv_cell.specs.Effects.{items_of};
+ghost use Rattle.nv_cell.specs.Killed.{AreKilled};
 ghost use Rattle.nv_cell.specs.Numbers.{killed_part};
+ghost use Rattle.nv_cell.specs.Weights.{weights_in};
 
 use crate::number::number_of;
 use crate::publish::{name_all, take_effect};
@@ -106,8 +109,13 @@ impl InodeCell {
         ensures state { self.new.state ≡ published self.old.state }
         ensures killed { map Some result.items
             ≡ map (killed_part self.old.state.chain.entries) (killed_of self.old.state) }
+        ensures few { vec_len result ≤ weights_in self.old.state.block (log_of self.old.state)
+            (items_of (fresh_of self.old.state)) }
+        ensures marked { AreKilled (map (λ k. k.part) result.items) self.new.state }
         ensures room { KeepsAppendRoom self.old.room self.new.room }
     {
+        // Ids rise along all entries, so that each part has a name of its own.
+        let _ends = self.chain.ends();
         let tail = self.chain.tail();
         take_effect(
             &mut self.index,

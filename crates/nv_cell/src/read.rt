@@ -1,15 +1,16 @@
 //! The bytes of a file, read by its index.
 
 ghost use Rattle.std.specs.Prelude.{◌≡◌, ℕ, ◌+◌, ◌-◌, ◌*◌, ◌<◌, ◌≤◌, ◌^◌, ◌++◌, IfErr, IfOk, IfSome, IsSome, List, OnOk, [], None, Option, drop, length, option_and_then, replicate, slice_index_or, take, unwrap_or};
-ghost use Rattle.std.specs.Option.{option_copied};
+ghost use Rattle.std.specs.Option.{option_copied, option_map};
+ghost use Rattle.nv_alloc.specs.Block.{number_of};
 ghost use Rattle.nv_base.specs.declared.fault.Fault.TheVariants.{OutOfMemory};
 ghost use Rattle.nv_entry.specs.Bytes.{read_at};
 ghost use Rattle.nv_entry.specs.Covered.{part_total};
-ghost use Rattle.nv_entry.specs.Node.{file_bytes};
+ghost use Rattle.nv_entry.specs.Node.{block_now, file_bytes};
 ghost use Rattle.nv_log.specs.Chain.{log, place_of};
 ghost use Rattle.nv_cell.specs.Cell.{log_of};
 ghost use Rattle.nv_cell.specs.Numbers.{part_base};
-ghost use Rattle.nv_cell.specs.Pages.{AreBytesOf, AreSlotsSized, IsStretch, page_number, pages_now, slot_bytes};
+ghost use Rattle.nv_cell.specs.Pages.{AreBytesOf, AreSlotsSized, IsStretch, block_at_page, own_bytes, page_number, pages_now, slot_bytes};
 ghost use Rattle.nv_cell.specs.Reading.{IsIndexOf};
 ghost use Rattle.nv_cell.specs.Tallies.{start_at};
 
@@ -37,6 +38,7 @@ impl InodeCell {
     /// At most `len` bytes of a file from a place on, none past its end: zeros where it has no page. `OutOfMemory` where
     /// room for them was refused. Costs the pages that it reads, and one look-up for each run of them.
     pub fn read(&self, at: u64, len: u64) -> Result<Bytes, Fault>
+        ensures own { IfOk result (λ read. read ≡ read_at at len (own_bytes self.now.state)) }
         ensures bytes { (bytes : ℕ → List ℕ) → AreBytesOf self.now.state bytes
             → IfOk result (λ read. read ≡ read_at at len
             (file_bytes bytes self.now.state.block (log_of self.now.state))) }
@@ -58,6 +60,21 @@ impl InodeCell {
             start..end,
         )?;
         Ok(Bytes::from_vec(bytes))
+    }
+
+    /// The block of a page of a file now; none where the page is absent. Takes no memory, and costs one look-up.
+    pub fn page_now(&self, page: u32) -> Option<&Block>
+        ensures block { option_copied result ≡ block_at_page self.now.state page }
+        ensures number { option_map number_of (option_copied result)
+            ≡ block_now self.now.state.block (log_of self.now.state) page }
+        ensures sized { IfSome (option_copied result)
+            (λ b. length b.bytes ≡ self.now.state.block) }
+    {
+        // Ids rise along all entries, so that the one of an id stands in the log.
+        let _ends = self.chain.ends();
+        let page = u64::from(page);
+        let stretch = stretch_from(self.block, &self.index, &self.chain, &self.marks, page);
+        block_in(&self.blocks, stretch, page)
     }
 }
 

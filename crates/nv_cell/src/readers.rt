@@ -1,8 +1,9 @@
 //! What callers ask of a cell before they change it. None of these takes memory, and each costs the same at any size
 //! of the log.
 
-ghost use Rattle.std.specs.Prelude.{◌≡◌, ◌+◌, ◌*◌, ◌≤◌, nat_le, length};
-ghost use Rattle.nv_base.specs.declared.limits.TheConstants.{NUMBER};
+ghost use Rattle.std.specs.Prelude.{◌≡◌, ◌+◌, ◌*◌, ◌<◌, ◌≤◌, nat_le, length};
+ghost use Rattle.nv_base.specs.declared.limits.TheConstants.{LEAST_PAGE_ENTRIES, NUMBER, PAGE_ENTRIES};
+ghost use Rattle.nv_entry.specs.Index.{names_of};
 ghost use Rattle.nv_log.specs.Chain.{last_id, pages_for, room_of};
 ghost use Rattle.nv_cell.specs.Cell.{log_of};
 ghost use Rattle.nv_cell.specs.Readers.{counts_of, is_gone, keeps_nothing};
@@ -11,8 +12,48 @@ use crate::{InodeCell, PageCounts};
 use nv_base::EntryId;
 use nv_base::limits::NUMBER;
 use nv_entry::Item;
+use nv_log::Chain;
 
 impl InodeCell {
+    /// The log as a chain of pages, with the entries past the tail.
+    pub fn log(&self) -> &Chain
+        ensures state { result.now.state ≡ self.now.state.chain }
+        ensures spare { result.now.spare ≡ self.now.room.pages }
+    {
+        &self.chain
+    }
+
+    /// How many bytes a block has.
+    pub fn block_bytes(&self) -> u64
+        ensures value { result ≡ self.now.state.block }
+        ensures some { 0 < result }
+    {
+        self.block
+    }
+
+    /// How many entries a page of the log holds.
+    pub fn entries_per_page(&self) -> usize
+        ensures value { result ≡ self.now.state.chain.page }
+        ensures least { LEAST_PAGE_ENTRIES ≤ result }
+        ensures most { result ≤ PAGE_ENTRIES }
+    {
+        // A chain has pages of a lawful size.
+        let _ends = self.chain.ends();
+        self.chain.entries_per_page()
+    }
+
+    /// How many names are bound.
+    pub fn name_count(&self) -> usize
+        ensures { result ≡ length (names_of (log_of self.now.state)) }
+    {
+        self.index.name_count()
+    }
+
+    /// How many entries were handed out to be read so far, as [`Chain::reads`] counts them.
+    pub fn reads(&self) -> u64 {
+        self.chain.reads()
+    }
+
     /// How many more entries the pages that are there take.
     pub fn room(&self) -> usize
         ensures { result ≡ room_of self.now.state.chain }

@@ -1,15 +1,16 @@
 //! Room for what is to follow.
 
-ghost use Rattle.std.specs.Prelude.{◌≡◌, ◌+◌, ◌<◌, ◌≤◌, ◌^◌, IsOk, OnErr, OnOk, length, take, vec_capacity, vec_len};
+ghost use Rattle.std.specs.Prelude.{◌≡◌, ◌+◌, ◌-◌, ◌<◌, ◌≤◌, ◌^◌, IsOk, OnErr, OnOk, length, min, take, vec_capacity, vec_len};
 ghost use Rattle.std.specs.List.{sum_by};
 ghost use Rattle.nv_base.specs.Refusals.{FailsOnly};
 ghost use Rattle.nv_base.specs.declared.fault.Fault.TheVariants.{OutOfMemory};
 ghost use Rattle.nv_log.specs.Chain.{pages_for};
 ghost use Rattle.nv_nindex.specs.NameIndex.{AreDistinct};
+ghost use Rattle.nv_cell.specs.Cell.{log_of};
 ghost use Rattle.nv_cell.specs.Effects.{BindOne, NamesReady};
-ghost use Rattle.nv_cell.specs.Room.{HasGrown, HasNoLess, HaveGrown, IsReadyFor, ReadyIsReady};
+ghost use Rattle.nv_cell.specs.Room.{HasGrown, HasNoLess, HaveGrown, IsReadyFor};
 ghost use Rattle.nv_cell.specs.Tallies.{HasSpare};
-ghost use Rattle.nv_cell.specs.Weights.{parts_in, runs_of, weights_by};
+ghost use Rattle.nv_cell.specs.Weights.{parts_in, runs_of, weights_by, weights_in};
 
 use crate::needs::{most_killed, part_total};
 use crate::{CellIndex, InodeCell, KilledPart, Marks};
@@ -49,12 +50,16 @@ impl InodeCell {
         self.parts = self.parts.max(parts);
         Ok(())
     }
-}
 
-/// A law: once entries with the items that a cell was made ready for are appended, it can publish them.
-pub fn ready_cells_can_publish()
-    ensures { ReadyIsReady }
-{}
+    /// How many parts a publish of entries with these items behind the log kills at most, up to the greatest number.
+    /// The time is that of the items, and for each cut that of the runs of pages that it takes out.
+    pub fn most_killed(&self, items: &[Item]) -> usize
+        ensures { result ≡ min (weights_in self.now.state.block (log_of self.now.state) items.now)
+            (2 ^ 64 - 1) }
+    {
+        most_killed(&self.index, self.block, items)
+    }
+}
 
 /// Makes room for so many killed parts.
 fn grow_lists(

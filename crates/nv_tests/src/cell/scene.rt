@@ -1,7 +1,5 @@
 //! A cell on a device.
 
-ghost use Rattle.std.specs.Prelude.{◌≡◌};
-
 use super::append::{At, commit};
 use super::device::{BLOCK, Device};
 use super::entries::{Says, items};
@@ -17,7 +15,6 @@ pub struct Scene {
     alloc: Global,
     pub cell: InodeCell,
     pub device: Device,
-    ghost block: { cell.state.block ≡ 4 },
 }
 
 impl Scene {

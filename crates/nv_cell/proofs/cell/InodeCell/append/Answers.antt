@@ -1,20 +1,22 @@
-use Rattle.std.proofs.Common.{◌≡◌, ℕ, ◌+◌, ◌<◌, ◌≤◌, ◌++◌, List, [], ◌∷◌, Option, not, length, length-append, take, arith, ap, sym, ◌∙◌, subst}
+use Rattle.std.proofs.Common.{◌≡◌, ℕ, ◌+◌, ◌<◌, ◌≤◌, ◌++◌, List, [], ◌∷◌, Option, not, length, length-append, take, arith, refl, ap, sym, ◌∙◌, subst}
 use Rattle.std.proofs.lemmas.List.{take-append-le}
 use Rattle.nv_alloc.specs.Block.{AreSized, BlockValue}
 use Rattle.nv_entry.specs.declared.item.Entry.{Entry}
 use Rattle.nv_entry.specs.Covered.{is_covered, part_count, part_total}
 use Rattle.nv_entry.specs.Refs.{scan_ref}
-use Rattle.nv_log.specs.Chain.{ChainState, IsChain, appended as appended_chain}
+use Rattle.nv_log.specs.Chain.{ChainState, IsChain, appended as appended_chain, room_of}
 use Rattle.nv_nindex.specs.NameIndex.{HaveSameBindings}
 use Rattle.nv_cell.specs.declared.tally.PageCounts.{PageCounts}
 use Rattle.nv_cell.specs.Append.{appended, blocks_for, run_numbers}
 use Rattle.nv_cell.specs.Cell.{CellState, CellValue, HasBlocks}
-use Rattle.nv_cell.specs.Fields.{state_in}
+use Rattle.nv_cell.specs.Fields.{state_in, value_in}
 use Rattle.nv_cell.specs.Index.{bindings_of}
+use Rattle.nv_cell.specs.Room.{IsReadyFor}
 use Rattle.nv_cell.proofs.Appending.{blocks_append, log_stays, sized_front}
 use Rattle.nv_cell.proofs.Numbers.{total_append}
 use Rattle.nv_cell.proofs.Opening.{counts_for, counts_grow}
 use Rattle.nv_cell.proofs.Publishing.{total_take}
+use Rattle.nv_cell.proofs.ReadySteps.{others_ready}
 use Rattle.nv_cell.proofs.cell.InodeCell.append.Goals as goal
 
 pub invariant_of-self : goal.invariant_of-self
@@ -50,6 +52,7 @@ invariant_of-self c =
     let grown = counts_grow s.chain e counts c.self.inside.marks.tallies.items old next low inv.tallied.counts in
     rw c.append.ensures.state (record {
       some = inv.some;
+      pages = inv.pages;
       marks = record {
         len = inv.marks.len ∙ ap part_total (sym log);
         current = λ n lt. inv.marks.current n (rw log at lt) ∙ ap (λ (xs : List Entry). not (is_covered s.block xs n)) (sym log);
@@ -72,3 +75,14 @@ invariant_of-self c =
       no_numbers = inv.no_numbers;
       no_killed = inv.no_killed;
     })
+
+pub returns-clause-ready : goal.returns-clause-ready
+returns-clause-ready c later h =
+    let i = c.self.inside in
+    let e : Entry = c.args.entry in
+    let bs = blocks_for e.item c.args.queue.now.blocks in
+    let page : 0 < room_of i.chain.state = subst (λ (v : CellValue). 0 < room_of v.state.chain) (sym c.self.view_is) c.requires.next.page in
+    others_ready e bs later (value_in i) _ c.ends-ends.ensures.chain page
+    (rw (c.append.ensures.state, c.push_slots.ensures.slots) refl)
+    (rw (c.append.ensures.spare, c.part_count-parts.ensures) refl)
+    (subst (λ (v : CellValue). IsReadyFor (e.item ∷ later) v) (sym c.self.view_is) h)

@@ -1,7 +1,6 @@
-use Rattle.std.proofs.Common.{◌≡◌, ℕ, ◌+◌, ◌-◌, ◌<◌, ◌≤◌, List, arith, refl, ap, sym, ◌∙◌, subst, length, max, take, true, false}
+use Rattle.std.proofs.Common.{◌≡◌, ℕ, ◌+◌, ◌-◌, ◌<◌, ◌≤◌, arith, refl, ap, sym, ◌∙◌, subst, length, max, take, true, false}
 use Rattle.std.specs.Prelude.{vec_capacity, vec_len}
 use Rattle.nv_entry.specs.Covered.{part_total}
-use Rattle.nv_entry.specs.declared.item.Entry.{Entry}
 use Rattle.nv_cell.specs.Cell.{CellValue, log_of}
 use Rattle.nv_cell.specs.Fields.{state_in, value_in}
 use Rattle.nv_cell.specs.Room.{IsReadyFor}
@@ -13,6 +12,7 @@ use Rattle.nv_cell.proofs.Published.{names_ready}
 use Rattle.nv_cell.proofs.Weighing.{weights_are, weights_were}
 use Rattle.nv_cell.proofs.Growing.{fields_grown, same_parts, spare_grown}
 use Rattle.nv_cell.proofs.Publishing.{take_whole}
+use Rattle.nv_cell.proofs.ReadySteps.{settled_publish, settled_ready}
 use Rattle.nv_cell.proofs.cell.InodeCell.ready.Goals as goal
 
 pub invariant_of-self-in_err-grow_log : goal.invariant_of-self-in_err-grow_log
@@ -109,24 +109,28 @@ returns-clause-ok c =
     let bound = weights_are i.block (log_of (state_in i)) i.index items inv.refs inv.names c.most_killed-killed.ensures.distinct in
     let same : weights_in i.block (take c.grow_log.new.chain.state.tail c.grow_log.new.chain.state.entries) items ≡ weights_in i.block (log_of (state_in i)) items =
     ap (λ (s : ChainState). weights_in i.block (take s.tail s.entries) items) c.grow_log.ensures.chain in
-    record {
-      append = record {
-        pages = c.in_ok-grow_log.ensures.reserved;
-        entries = omega (arith, entries);
-        parts = omega (arith, parts, all);
-      };
-      publish = record {
-        runs = c.in_ok-reserve.ensures.runs;
-        names =
-            names_ready items c.reserve.new.self.names
-            (record { names = bindings_of (take c.grow_log.new.chain.state.tail c.grow_log.new.chain.state.entries); reserved = c.reserve.new.self.names.reserved })
-            (λ name.
-            ap (λ (s : ChainState). binding_of name (bindings_of (take s.tail s.entries))) c.grow_log.ensures.chain
-            ∙ sym (inv.names name) ∙ ap (binding_of name) (sym c.reserve.ensures.same.names))
-            refl c.in_ok-reserve.ensures.names;
-        killed = omega (arith, same, bound, kills, room.0, room.1);
-      };
-    }
+    let settled : i.chain.state.tail ≡ length i.chain.state.entries =
+    subst (λ (v : CellValue). v.state.chain.tail ≡ length v.state.chain.entries) (sym c.self.view_is) c.requires.settled in
+    settled_ready items _ (subst (λ (s : ChainState). s.tail ≡ length s.entries) (sym c.grow_log.ensures.chain) settled)
+    (record {
+      pages = c.in_ok-grow_log.ensures.reserved;
+      entries = omega (arith, entries);
+      parts = omega (arith, parts, all);
+    })
+    (record {
+      runs = c.in_ok-reserve.ensures.runs;
+      names =
+          names_ready items c.reserve.new.self.names
+          (record {
+            names = bindings_of (take c.grow_log.new.chain.state.tail c.grow_log.new.chain.state.entries);
+            reserved = c.reserve.new.self.names.reserved;
+          })
+          (λ name.
+          ap (λ (s : ChainState). binding_of name (bindings_of (take s.tail s.entries))) c.grow_log.ensures.chain
+          ∙ sym (inv.names name) ∙ ap (binding_of name) (sym c.reserve.ensures.same.names))
+          refl c.in_ok-reserve.ensures.names;
+      killed = omega (arith, same, bound, kills, room.0, room.1);
+    })
 
 pub returns-in_err-grow_lists-clause-enough : goal.returns-in_err-grow_lists-clause-enough
 returns-in_err-grow_lists-clause-enough c ready =
@@ -134,9 +138,11 @@ returns-in_err-grow_lists-clause-enough c ready =
     let inv = c.self.invariant in
     let items = c.args.items.now in
     let r : IsReadyFor items (value_in i) = subst (λ (v : CellValue). IsReadyFor items v) (sym c.self.view_is) ready in
+    let p = settled_publish items (value_in i)
+    (subst (λ (v : CellValue). v.state.chain.tail ≡ length v.state.chain.entries) (sym c.self.view_is) c.requires.settled) r in
     let less = weights_were i.block (log_of (state_in i)) i.index items inv.refs inv.names c.most_killed-killed.ensures.distinct in
-    let no : false ≡ true = c.in_err-grow_lists.ensures.enough (omega (arith, r.publish.killed, less, c.most_killed-killed.ensures.value, ap length inv.no_numbers))
-    (omega (arith, r.publish.killed, less, c.most_killed-killed.ensures.value, ap length inv.no_killed)) in
+    let no : false ≡ true = c.in_err-grow_lists.ensures.enough (omega (arith, p.killed, less, c.most_killed-killed.ensures.value, ap length inv.no_numbers))
+    (omega (arith, p.killed, less, c.most_killed-killed.ensures.value, ap length inv.no_killed)) in
     cc
 
 pub returns-in_err-grow_log-clause-enough : goal.returns-in_err-grow_log-clause-enough
@@ -160,6 +166,8 @@ returns-in_err-reserve-clause-enough c ready =
     let inv = c.self.invariant in
     let items = c.args.items.now in
     let r : IsReadyFor items (value_in i) = subst (λ (v : CellValue). IsReadyFor items v) (sym c.self.view_is) ready in
-    let no : false ≡ true = c.in_err-reserve.ensures.enough r.publish.runs
-    (names_ready items (record { names = bindings_of (log_of (state_in i)); reserved = i.index.names.reserved }) i.index.names inv.names refl r.publish.names) in
+    let p = settled_publish items (value_in i)
+    (subst (λ (v : CellValue). v.state.chain.tail ≡ length v.state.chain.entries) (sym c.self.view_is) c.requires.settled) r in
+    let no : false ≡ true = c.in_err-reserve.ensures.enough p.runs
+    (names_ready items (record { names = bindings_of (log_of (state_in i)); reserved = i.index.names.reserved }) i.index.names inv.names refl p.names) in
     cc

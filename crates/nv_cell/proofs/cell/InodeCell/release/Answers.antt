@@ -41,6 +41,7 @@ invariant_of-self c =
     let len = length_set s.marks c.unwrap-n.result Out in
     record {
       some = inv.some;
+      pages = inv.pages;
       marks = (let h = marks_stay s (number_in s c.args.part) Out inv.marks m.within m.idle refl in rw (c.set.ensures.marks, e) (record { len = h.len; current = h.current }));
       blocks = rw (c.set.ensures.marks, c.take.ensures.after, e) (block_leaves s (number_in s c.args.part) inv.blocks m.within lt);
       refs = inv.refs;

@@ -29,6 +29,7 @@ invariant_of-self c =
     let len = length_set s.marks c.unwrap-n.result Kept in
     record {
       some = inv.some;
+      pages = inv.pages;
       marks = rw (c.set.ensures.marks, e) (marks_stay s (number_in s c.args.part) Kept inv.marks m.within m.idle refl);
       blocks = rw (c.set.ensures.marks, e) (blocks_stay s (number_in s c.args.part) Kept inv.blocks m.within m.there refl);
       refs = inv.refs;
