@@ -3,6 +3,8 @@
 
 mod append;
 mod changes;
+mod cleaned;
+mod cleaning;
 mod device;
 mod entries;
 mod erase;

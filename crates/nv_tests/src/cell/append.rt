@@ -1,19 +1,20 @@
 //! Entries that are appended to a cell, and published, with what a cell asks for before.
 
-ghost use Rattle.std.specs.Prelude.{◌≡◌, ◌++◌, ◌∷◌, [], IsTrue, length, map, take};
+ghost use Rattle.std.specs.Prelude.{◌≡◌, ◌∷◌, [], IsTrue, List, map, take};
 ghost use Rattle.std.specs.List.{AllByRecursion, range_with_len};
 ghost use Rattle.nv_alloc.specs.Block.{number_of, numbers_of};
+ghost use Rattle.nv_entry.specs.declared.item.Item.{Item as ItemValue};
 ghost use Rattle.nv_cell.specs.Append.{blocks_for, run_numbers};
-ghost use Rattle.nv_cell.specs.Cell.{IsReady, fresh_of};
-ghost use Rattle.nv_cell.specs.Effects.{BindOne, LeavesName, items_of};
-ghost use Rattle.nv_cell.specs.Room.{HasAppended, IsReadyFor};
+ghost use Rattle.nv_cell.specs.Effects.{BindOne, LeavesName};
+ghost use Rattle.nv_cell.specs.Room.{IsReadyFor};
 
 use super::device::Device;
 use crate::compare::same;
 use nv_alloc::BlockQueue;
 use nv_base::limits::NUMBER;
-use nv_base::{CommitNo, EntryId, Epoch, Fault};
-use nv_cell::{InodeCell, KilledPart, Stat, ready_cells_can_publish};
+use nv_base::{EntryId, Epoch, Fault};
+use nv_cell::laws::ready_cells_can_publish;
+use nv_cell::{InodeCell, KilledPart, Stat};
 use nv_entry::{Entry, Item, Key, Run};
 use std::process::Abort;
 
@@ -27,10 +28,7 @@ pub fn commit(
     device: &mut Device,
     at: At,
     items: Vec<Item>,
-) -> Vec<KilledPart>
-    requires { cell.old.state.block ≡ 4 }
-    ensures { cell.new.state.block ≡ 4 }
-{
+) -> Vec<KilledPart> {
     make_ready(rt, cell, &items);
     append_all(rt, cell, device, at, items);
     ready_cells_can_publish();
@@ -50,9 +48,7 @@ fn state(cell: &InodeCell) -> (u64, [usize; 3], Option<EntryId>, Option<Stat>) {
 }
 
 fn make_ready(rt: &impl Abort, cell: &mut InodeCell, items: &[Item])
-    ensures state { cell.new.state ≡ cell.old.state }
-    ensures settled { cell.old.state.chain.tail ≡ length cell.old.state.chain.entries }
-    ensures ready { IsReadyFor items.now cell.new }
+    ensures { IsReadyFor items.now cell.new }
 {
     assert!(rt; cell.tail() == cell.len());
     assert!(rt; binds_one(items));
@@ -72,9 +68,8 @@ fn append_all(
     at: At,
     mut items: Vec<Item>,
 )
-    requires block { cell.old.state.block ≡ 4 }
-    requires settled { cell.old.state.chain.tail ≡ length cell.old.state.chain.entries }
-    ensures { HasAppended items.items cell.old cell.new }
+    requires { IsReadyFor items.items cell.old }
+    ensures { IsReadyFor [] cell.new }
 {
     let (first, epoch) = at;
     let mut place = first.place;
@@ -91,22 +86,23 @@ fn append_all(
 
 /// Adds a page where no other has room.
 fn open_page(rt: &impl Abort, cell: &mut InodeCell, device: &mut Device)
-    ensures { HasAppended (items_of (fresh_of cell.old.state)) cell.old cell.new }
+    ensures { (items : List ItemValue) → IsReadyFor items cell.old → IsReadyFor items cell.new }
 {
     if cell.room() == 0 {
+        let block = device.take_page(rt);
         assert!(rt; cell.pages_room() > 0);
-        cell.add_page(device.take_page(rt));
+        assert!(rt; block.bytes().len() as u64 == cell.block_bytes());
+        cell.add_page(block);
     }
 }
 
 fn append(rt: &impl Abort, cell: &mut InodeCell, device: &mut Device, entry: Entry)
-    requires { cell.old.state.block ≡ 4 }
-    ensures { HasAppended (items_of (fresh_of cell.old.state) ++ entry.item ∷ []) cell.old cell.new }
+    ensures { (later : List ItemValue)
+        → IsReadyFor (entry.item ∷ later) cell.old → IsReadyFor later cell.new }
 {
     open_page(rt, cell, device);
-    cell.known();
     assert!(rt; cell.may_append(&entry));
-    assert!(rt; device.data.block_bytes() == 4);
+    assert!(rt; device.data.block_bytes() as u64 == cell.block_bytes());
     assert!(rt; has_blocks(&device.data, &entry.item));
     cell.append(entry, &mut device.data);
 }

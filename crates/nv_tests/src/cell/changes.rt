@@ -41,7 +41,7 @@ struct Both {
 impl Both {
     fn new(rt: &impl Abort, alloc: Global) -> Both {
         Both {
-            scene: Scene::new(rt, alloc, 1, BLOCKS),
+            scene: Scene::new(rt, alloc, 1, 4, BLOCKS),
             slow: SlowCell::new(rt, alloc, BLOCKS),
             commit: 0,
         }

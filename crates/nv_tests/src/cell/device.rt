@@ -72,6 +72,13 @@ impl Device {
         pages.dismantle();
     }
 
+    /// Gives the blocks of a queue back.
+    pub fn give_queue(&mut self, rt: &impl Abort, mut queue: BlockQueue) {
+        queue.give_home(&mut self.list);
+        same(rt, queue.len(), 0);
+        queue.dismantle();
+    }
+
     /// The runs of free blocks are these, from the first number to the last.
     pub fn has_free(&self, rt: &impl Abort, want: &[(u64, u64)]) {
         let mut runs = self.list.runs();

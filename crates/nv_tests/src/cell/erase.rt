@@ -106,6 +106,6 @@ const WITHHELD: &[Step] = &[
 #[test]
 fn a_gone_inode_is_erased(rt: HostRuntime) {
     for (generation, steps) in [(1, HELD), (NUMBER - 1, LAST), (NUMBER, WITHHELD)] {
-        play(&rt, rt.alloc(), generation, steps);
+        play(&rt, rt.alloc(), generation, 4, steps);
     }
 }

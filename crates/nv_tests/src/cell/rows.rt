@@ -199,6 +199,6 @@ const ROWS: &[&[Step]] = &[SHORT_LIVED, RUNS, CUT, CUT_THEN_GROWN, PARTIAL, NAME
 #[test]
 fn rows_as_calls_on_a_cell(rt: HostRuntime) {
     for row in ROWS {
-        play(&rt, rt.alloc(), 1, row);
+        play(&rt, rt.alloc(), 1, 4, row);
     }
 }

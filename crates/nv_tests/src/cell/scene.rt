@@ -1,31 +1,30 @@
 //! A cell on a device.
 
-ghost use Rattle.std.specs.Prelude.{◌≡◌};
-
 use super::append::{At, commit};
+use super::cleaning::{fast, thorough};
 use super::device::{BLOCK, Device};
 use super::entries::{Says, items};
 use crate::compare::same;
-use nv_base::{BlockNo, Gen};
+use nv_base::{BlockNo, Epoch, Gen};
 use nv_cell::{InodeCell, KilledPart, Mark};
-use nv_entry::PartId;
+use nv_entry::{PartId, Retention};
 use std::alloc::Global;
 use std::process::Abort;
 
-/// A cell with blocks of four bytes, and log pages of four entries.
+/// A cell with blocks of four bytes.
 pub struct Scene {
     alloc: Global,
     pub cell: InodeCell,
     pub device: Device,
-    ghost block: { cell.state.block ≡ 4 },
 }
 
 impl Scene {
-    /// An empty slot of a generation, on a device with so many blocks.
-    pub fn new(rt: &impl Abort, alloc: Global, generation: u64, blocks: u64) -> Scene {
+    /// An empty slot of a generation, with pages of so many entries, on a device with so many blocks.
+    pub fn new(rt: &impl Abort, alloc: Global, generation: u64, page: usize, blocks: u64) -> Scene {
+        assert!(rt; 2 <= page && page <= 63);
         Scene {
             alloc,
-            cell: InodeCell::new(alloc, BLOCK, 4, Gen::new(generation), 0),
+            cell: InodeCell::new(alloc, BLOCK, page, Gen::new(generation), 0),
             device: Device::new(rt, alloc, blocks),
         }
     }
@@ -67,6 +66,27 @@ impl Scene {
             }
         }
         same(rt, self.cell.mark(part), Some(Mark::Out));
+    }
+
+    /// Cleans the log, thoroughly or fast, while these snapshots live and nothing is pending; and says how many entries
+    /// and pages go.
+    pub fn clean(
+        &mut self,
+        rt: &impl Abort,
+        is_thorough: bool,
+        snapshots: &[Epoch],
+    ) -> (usize, usize) {
+        let retention = Retention {
+            block: BLOCK,
+            snapshots,
+            pending: &[],
+        };
+        let (cell, device) = (&mut self.cell, &mut self.device);
+        if is_thorough {
+            thorough(rt, self.alloc, cell, device, &retention)
+        } else {
+            fast(rt, self.alloc, cell, device, &retention)
+        }
     }
 
     pub fn erase(&mut self, rt: &impl Abort) {

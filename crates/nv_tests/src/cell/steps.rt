@@ -41,15 +41,19 @@ pub enum Step {
     Counts(&'static [(usize, usize)]),
     /// Whether the inode is gone, nothing of it is kept, and the slot is withheld; its generation and version.
     Slot([bool; 3], u64, u64),
+    /// Thorough cleaning, while at most this snapshot lives, and how many entries and pages the log loses.
+    Thorough(Option<u64>, usize, usize),
+    /// The same of fast cleaning.
+    Fast(Option<u64>, usize, usize),
     /// The slot is emptied, and the pages of its log are free.
     Erase,
     /// The runs of free blocks.
     Free(&'static [(u64, u64)]),
 }
 
-/// Makes each step on a slot that is empty at first, of that generation.
-pub fn play(rt: &impl Abort, alloc: Global, generation: u64, steps: &[Step]) {
-    let mut scene = Scene::new(rt, alloc, generation, 16);
+/// Makes each step on a slot that is empty at first, of that generation, with pages of so many entries.
+pub fn play(rt: &impl Abort, alloc: Global, generation: u64, page: usize, steps: &[Step]) {
+    let mut scene = Scene::new(rt, alloc, generation, page, 16);
     for step in steps {
         make(rt, &mut scene, step);
     }
@@ -79,9 +83,29 @@ fn make(rt: &impl Abort, scene: &mut Scene, step: &Step) {
         Step::Slot(is, generation, version) => {
             is_slot(rt, &scene.cell, *is, *generation, *version)
         }
+        Step::Thorough(snapshot, entries, pages) => {
+            cleans(rt, scene, true, *snapshot, (*entries, *pages))
+        }
+        Step::Fast(snapshot, entries, pages) => {
+            cleans(rt, scene, false, *snapshot, (*entries, *pages))
+        }
         Step::Erase => scene.erase(rt),
         Step::Free(want) => scene.device.has_free(rt, want),
     }
+}
+
+fn cleans(
+    rt: &impl Abort,
+    scene: &mut Scene,
+    is_thorough: bool,
+    snapshot: Option<u64>,
+    want: (usize, usize),
+) {
+    let found = match snapshot {
+        None => scene.clean(rt, is_thorough, &[]),
+        Some(snapshot) => scene.clean(rt, is_thorough, &[Epoch::new(snapshot)]),
+    };
+    same(rt, found, want);
 }
 
 /// Compares the parts that are killed, and ends them.

@@ -1,5 +1,6 @@
 //! What a cell tells.
 
+use super::device::BLOCK;
 use crate::compare::{same, same_for};
 use crate::scenes::handle;
 use nv_base::{Bytes, Fault, Gen};
@@ -7,12 +8,23 @@ use nv_cell::{InodeCell, PageCounts};
 use nv_entry::NameList;
 use std::process::Abort;
 
+/// Reads, and asserts that no more entries were read than pages.
+fn read_few(rt: &impl Abort, cell: &InodeCell, at: u64, len: u64) -> Result<Bytes, Fault> {
+    let before = cell.reads();
+    let bytes = cell.read(at, len)?;
+    let entries = cell.reads().saturating_sub(before);
+    let end = at.saturating_add(bytes.len() as u64);
+    let pages = end.div_ceil(BLOCK).saturating_sub(at / BLOCK);
+    assert!(rt; bytes.is_empty() || entries <= pages);
+    Ok(bytes)
+}
+
 pub fn read(rt: &impl Abort, cell: &InodeCell, at: u64, len: u64) -> Bytes {
-    match cell.read(at, len) {
+    match read_few(rt, cell, at, len) {
         Ok(bytes) => bytes,
         Err(fault) => {
             same(rt, fault, Fault::OutOfMemory);
-            cell.read(at, len).expect(rt, "memory for bytes")
+            read_few(rt, cell, at, len).expect(rt, "memory for bytes")
         }
     }
 }
@@ -60,6 +72,7 @@ pub fn has_counts(rt: &impl Abort, cell: &InodeCell, want: &[(usize, usize)]) {
 
 /// Whether it is gone, keeps nothing, and is withheld; its generation and version.
 pub fn is_slot(rt: &impl Abort, cell: &InodeCell, is: [bool; 3], generation: u64, version: u64) {
+    cell.known();
     let found = [cell.is_gone(), cell.keeps_nothing(), cell.is_withheld()];
     same(rt, found, is);
     same(rt, cell.generation(), Gen::new(generation));
