@@ -7,3 +7,5 @@ pub mod Events
 pub mod Locks
 pub mod Scripts
 pub mod MoreRows
+pub mod Ordered
+pub mod InOrder

@@ -8,3 +8,4 @@ pub mod Settled
 pub mod Bound
 pub mod Frame
 pub mod Locks
+pub mod Order

@@ -100,7 +100,7 @@ start_locks true None w actor c e is locks =
       wide = locks.wide;
     }
 
-event_locks : (w : World) (e : Event) → AreLocks w → AreLocks (step w e).world
+pub event_locks : (w : World) (e : Event) → AreLocks w → AreLocks (step w e).world
 event_locks w (Start actor c) locks = start_locks (nat_lt actor (length w.actors)) (actor_at w actor).running w actor c refl refl locks
 event_locks w (Go actor granted) locks = go_locks (nat_lt actor (length w.actors)) (actor_at w actor).running w actor granted refl refl locks
 

@@ -1,5 +1,5 @@
 -- Worked scripts of rounds, names, limits and full devices.
-use Rattle.std.proofs.Common.{◌≡◌, ℕ, zero, suc, ◌+◌, Bool, true, List, [], ◌∷◌, ◌++◌, length, map, replicate, refl}
+use Rattle.std.proofs.Common.{◌≡◌, ℕ, List, [], ◌∷◌, ◌++◌, map, replicate, refl}
 use Rattle.nv_alloc.specs.Block.{numbers_of}
 use Rattle.nv_alloc.specs.FreeList.{FreeBlocks}
 use Rattle.nv_base.specs.declared.fault.Fault.TheVariants as fault
@@ -8,8 +8,8 @@ use Rattle.nv_base.specs.declared.node.Kind.TheVariants.{Dir, File}
 use Rattle.nv_calls.specs.declared.answer.Answer.TheVariants as answer
 use Rattle.nv_calls.specs.declared.call.Call.TheVariants as call
 use Rattle.nv_core.specs.machine.Format.{formatted}
-use Rattle.nv_core.specs.machine.World.{Done, Moved, Refused, Reply, Started, World}
-use Rattle.nv_core.proofs.steps.Scripts.{DoCall, Goes, Line, StartCall, chain_count, device, free_count, handle, line, play, played}
+use Rattle.nv_core.specs.machine.World.{Done, Moved, Refused, Reply, Started}
+use Rattle.nv_core.proofs.steps.Scripts.{DoCall, Goes, Line, StartCall, chain_count, device, free_count, handle, play, played}
 
 -- ---- bounded retries: a name is bound anew after each look
 

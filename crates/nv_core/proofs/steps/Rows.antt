@@ -1,19 +1,12 @@
 -- Worked scripts, computed step by step.
-use Rattle.std.proofs.Common.{◌≡◌, ℕ, zero, suc, true, List, [], ◌∷◌, ◌++◌, length, map, replicate, refl}
-use Rattle.std.specs.List.{sum_by}
+use Rattle.std.proofs.Common.{◌≡◌, true, List, [], ◌∷◌, ◌++◌, map, replicate, refl}
 use Rattle.nv_base.specs.declared.fault.Fault.TheVariants.{ActorBusy, ActorIdle, NoActor}
-use Rattle.nv_base.specs.declared.geometry.GeometryNumbers.{GeometryNumbers}
-use Rattle.nv_base.specs.declared.numbers.Handle.{Handle}
-use Rattle.nv_alloc.specs.FreeList.{FreeBlocks}
 use Rattle.nv_calls.specs.declared.answer.Answer.TheVariants as answer
-use Rattle.nv_calls.specs.declared.call.Call.{Call}
 use Rattle.nv_calls.specs.declared.call.Call.TheVariants as call
-use Rattle.nv_cell.specs.Cell.{CellState}
-use Rattle.nv_entry.specs.declared.tree.TreeNode.{TreeNode}
 use Rattle.nv_core.specs.machine.Format.{formatted}
 use Rattle.nv_core.specs.machine.Settled.{tree_of}
-use Rattle.nv_core.specs.machine.Step.{Step, replies, stays, step}
-use Rattle.nv_core.specs.machine.World.{Done, Go, Moved, Refused, Reply, Shared, Start, Started, Waiting, World}
+use Rattle.nv_core.specs.machine.Step.{replies, stays}
+use Rattle.nv_core.specs.machine.World.{Done, Go, Moved, Refused, Start, Started, Waiting}
 use Rattle.nv_core.proofs.steps.Scripts.{DoCall, Goes, Line, StartCall, chain_count, device, free_count, handle, line, play, played, shown}
 
 -- a create with one taking has eighteen steps

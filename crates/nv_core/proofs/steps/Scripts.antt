@@ -1,19 +1,14 @@
 -- Scripts of calls and single steps, played through the step function.
-use Rattle.std.proofs.Common.{◌≡◌, ℕ, zero, suc, true, List, [], ◌∷◌, ◌++◌, length, map, replicate, refl}
+use Rattle.std.proofs.Common.{ℕ, zero, suc, true, List, [], ◌∷◌, length}
 use Rattle.std.specs.List.{sum_by}
-use Rattle.nv_base.specs.declared.fault.Fault.TheVariants.{ActorBusy, ActorIdle, NoActor}
 use Rattle.nv_base.specs.declared.geometry.GeometryNumbers.{GeometryNumbers}
 use Rattle.nv_base.specs.declared.numbers.Handle.{Handle}
 use Rattle.nv_alloc.specs.FreeList.{FreeBlocks}
-use Rattle.nv_calls.specs.declared.answer.Answer.TheVariants as answer
 use Rattle.nv_calls.specs.declared.call.Call.{Call}
-use Rattle.nv_calls.specs.declared.call.Call.TheVariants as call
 use Rattle.nv_cell.specs.Cell.{CellState}
 use Rattle.nv_entry.specs.declared.tree.TreeNode.{TreeNode}
-use Rattle.nv_core.specs.machine.Format.{formatted}
-use Rattle.nv_core.specs.machine.Settled.{tree_of}
-use Rattle.nv_core.specs.machine.Step.{Step, replies, stays, step}
-use Rattle.nv_core.specs.machine.World.{Done, Go, Moved, Refused, Reply, Shared, Start, Started, Waiting, World}
+use Rattle.nv_core.specs.machine.Step.{Step, stays, step}
+use Rattle.nv_core.specs.machine.World.{Go, Moved, Reply, Shared, Start, Started, World}
 
 -- ---- scripts
 

@@ -10,6 +10,7 @@ ghost use Rattle.nv_core.specs.machine.Bound.{IsNoStart, bound_at, most_steps, m
 ghost use Rattle.nv_core.specs.machine.Format.{formatted};
 ghost use Rattle.nv_core.specs.machine.Frame.{IsOneStep, IsStart};
 ghost use Rattle.nv_core.specs.machine.Locks.{AreLocks, HasLent, WaitsFor};
+ghost use Rattle.nv_core.specs.machine.Order.{IsInOrder};
 ghost use Rattle.nv_core.specs.machine.Step.{after, stays, step};
 ghost use Rattle.nv_core.specs.machine.World.{Event, Go, Refused, Running, Start, Started, Waiting, World, actor_at};
 
@@ -59,4 +60,12 @@ pub fn calls_end()
     ensures falls { (events : List Event) (w : World) (actor : ℕ)
         → AllByRecursion (IsNoStart actor) events
         → moves actor w events + bound_at (after w events) actor ≤ bound_at w actor }
+{}
+
+/// Along every log ids rise and epochs never fall, from a new world on, whatever events come: no commit but the
+/// one that has entered last is under way, and it has the book's number and epoch.
+pub fn ids_rise()
+    ensures new { (g : GeometryNumbers) → IsInOrder (formatted g) }
+    ensures stays { (events : List Event) (w : World) → AreLocks w → IsInOrder w
+        → IsInOrder (after w events) }
 {}
