@@ -4,7 +4,8 @@ ghost use Rattle.std.specs.Prelude.{◌≡◌, ◌∷◌, [], IsTrue, List, map,
 ghost use Rattle.std.specs.List.{AllByRecursion, range_with_len};
 ghost use Rattle.nv_alloc.specs.Block.{number_of, numbers_of};
 ghost use Rattle.nv_entry.specs.declared.item.Item.{Item as ItemValue};
-ghost use Rattle.nv_cell.specs.Append.{blocks_for, run_numbers};
+ghost use Rattle.nv_cell.specs.Append.{blocks_for};
+ghost use Rattle.nv_entry.specs.Blocks.{item_blocks};
 ghost use Rattle.nv_cell.specs.Effects.{BindOne, LeavesName};
 ghost use Rattle.nv_cell.specs.Room.{IsReadyFor};
 
@@ -110,7 +111,7 @@ fn append(rt: &impl Abort, cell: &mut InodeCell, device: &mut Device, entry: Ent
 /// Whether the blocks at the front of the queue are those of an item's pages.
 fn has_blocks(queue: &BlockQueue, item: &Item) -> bool
     ensures { IsTrue result
-        → numbers_of (blocks_for item.now queue.now.blocks) ≡ run_numbers item.now }
+        → numbers_of (blocks_for item.now queue.now.blocks) ≡ item_blocks item.now }
 {
     match item {
         Item::Write { run, .. } => has_run(queue, *run),

@@ -2,7 +2,8 @@
 
 ghost use Rattle.std.specs.Prelude.{◌≡◌, ◌∷◌, [], IsTrue, List, take};
 ghost use Rattle.nv_alloc.specs.Block.{numbers_of};
-ghost use Rattle.nv_cell.specs.Append.{blocks_for, run_numbers};
+ghost use Rattle.nv_cell.specs.Append.{blocks_for};
+ghost use Rattle.nv_entry.specs.Blocks.{item_blocks};
 ghost use Rattle.nv_cell.specs.Room.{IsReadyFor};
 ghost use Rattle.nv_entry.specs.declared.item.Item.{Item as ItemValue};
 
@@ -199,7 +200,7 @@ fn append(rt: &impl Abort, cell: &mut InodeCell, data: &mut BlockQueue, entry: E
 /// Whether the block at the front of the queue is that of an item's page.
 fn has_blocks(queue: &BlockQueue, item: &Item) -> bool
     ensures { IsTrue result
-        → numbers_of (blocks_for item.now queue.now.blocks) ≡ run_numbers item.now }
+        → numbers_of (blocks_for item.now queue.now.blocks) ≡ item_blocks item.now }
 {
     match item {
         Item::Write { run, .. } => run.len == 1 && is_first(queue, run.start),
