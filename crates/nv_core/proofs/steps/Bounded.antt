@@ -29,7 +29,8 @@ use Rattle.nv_core.specs.machine.World.{Answers, Append, Back, Check, Close, End
 with_slot-length : (n : ℕ) (slots : List ℕ) → length (with_slot n slots) ≤ length slots + 1
 with_slot-length n [] = omega arith
 with_slot-length n (m ∷ slots) = go (n == m) (nat_lt n m) (with_slot-length n slots) where
-  go : (b c : Bool) → length (with_slot n slots) ≤ length slots + 1 → length (if b then m ∷ slots else if c then n ∷ m ∷ slots else m ∷ with_slot n slots) ≤ length (m ∷ slots) + 1
+  go : (b c : Bool) → length (with_slot n slots) ≤ length slots + 1
+      → length (if b then m ∷ slots else if c then n ∷ m ∷ slots else m ∷ with_slot n slots) ≤ length (m ∷ slots) + 1
   go true c more = omega arith
   go false true more = omega arith
   go false false more = omega (arith, more)
@@ -37,7 +38,8 @@ with_slot-length n (m ∷ slots) = go (n == m) (nat_lt n m) (with_slot-length n 
 slots_in-length : (inodes : ℕ) (list : List ℕ) → length (slots_in inodes list) ≤ length list
 slots_in-length inodes [] = omega arith
 slots_in-length inodes (ino ∷ rest) = go (nat_lt ino inodes) (slots_in-length inodes rest) where
-  go : (b : Bool) → length (slots_in inodes rest) ≤ length rest → length (if b then with_slot ino (slots_in inodes rest) else slots_in inodes rest) ≤ length (ino ∷ rest)
+  go : (b : Bool) → length (slots_in inodes rest) ≤ length rest
+      → length (if b then with_slot ino (slots_in inodes rest) else slots_in inodes rest) ≤ length (ino ∷ rest)
   go true more = omega (arith, with_slot-length ino (slots_in inodes rest), more)
   go false more = omega (arith, more)
 
@@ -101,18 +103,24 @@ written-length r = omega (arith, length-filter (is_written r.plan) r.slots, coun
 home_from-above : (from : ℕ) (cpu : ℕ) (lists : List FreeBlocks) (blocks : List BlockValue) (to : ℕ)
     → home_from from cpu lists blocks ≡ Some to → (from ≤ to) × (to < cpu + length lists)
 home_from-above from cpu [] blocks to e = absurd (none-some to e)
-home_from-above from cpu (list ∷ lists) blocks to e = go (nat_lt cpu from) (list_any (λ (b : BlockValue). is_home list b.number) blocks) refl (home_from-above from (cpu + 1) lists blocks to) e where
-  go : (b c : Bool) → nat_lt cpu from ≡ b → (home_from from (cpu + 1) lists blocks ≡ Some to → (from ≤ to) × (to < cpu + 1 + length lists))
-      → (if b then home_from from (cpu + 1) lists blocks else if c then Some cpu else home_from from (cpu + 1) lists blocks) ≡ Some to
-      → (from ≤ to) × (to < cpu + length (list ∷ lists))
-  go true c is more e = let h = more e in (h.0, omega (arith, h.1))
-  go false false is more e = let h = more e in (h.0, omega (arith, h.1))
-  go false true is more e = let same : cpu ≡ to = ap (λ (o : Option ℕ). unwrap_or o 0) e in let low = ltb-false cpu from is in (omega (arith, same, low), omega (arith, same))
+home_from-above from cpu (list ∷ lists) blocks to e = go (nat_lt cpu from)
+    (list_any (λ (b : BlockValue). is_home list b.number) blocks) refl (home_from-above from (cpu + 1) lists blocks to) e where
+      go : (b c : Bool) → nat_lt cpu from ≡ b
+          → (home_from from (cpu + 1) lists blocks ≡ Some to → (from ≤ to) × (to < cpu + 1 + length lists))
+          → (if b then home_from from (cpu + 1) lists blocks else if c then Some cpu else home_from from (cpu + 1) lists blocks) ≡ Some to
+          → (from ≤ to) × (to < cpu + length (list ∷ lists))
+      go true c is more e = let h = more e in (h.0, omega (arith, h.1))
+      go false false is more e = let h = more e in (h.0, omega (arith, h.1))
+      go false true is more e =
+          let same : cpu ≡ to = ap (λ (o : Option ℕ). unwrap_or o 0) e in
+          let low = ltb-false cpu from is in
+          (omega (arith, same, low), omega (arith, same))
 
 -- ---- the last steps
 
 rest_falls : (c m : ℕ) (home number : Option ℕ) (s : Shared) (h : HandState) (r : Running)
-    → ((cpu : ℕ) → home ≡ Some cpu → r.rounds * round c + (2 + (c - cpu)) < m) → r.rounds * round c + 1 < m → Falls c m (rest_turn home number s h r)
+    → ((cpu : ℕ) → home ≡ Some cpu → r.rounds * round c + (2 + (c - cpu)) < m) → r.rounds * round c + 1 < m
+    → Falls c m (rest_turn home number s h r)
 rest_falls c m (Some cpu) number s h r low one = low cpu refl
 rest_falls c m None (Some ino) s h r low one = one
 rest_falls c m None None s h r low one = tt
@@ -121,7 +129,8 @@ again_falls : (c m rounds : ℕ) (s : Shared) (h : HandState) (r : Running) → 
 again_falls c m zero s h r low = tt
 again_falls c m (suc n) s h r low = let more = suc-mul n (round c) in omega (arith, low, more)
 
-over_falls : (c m : ℕ) (e : Ending) (s : Shared) (h : HandState) (r : Running) → r.rounds * round c + (2 + c) < m → Falls c m (over_turn e s h r)
+over_falls : (c m : ℕ) (e : Ending) (s : Shared) (h : HandState) (r : Running) → r.rounds * round c + (2 + c) < m
+    → Falls c m (over_turn e s h r)
 over_falls c m Answers s h r low = rest_falls c m _ h.ino s h r (λ cpu e. omega (arith, low)) (omega (arith, low))
 over_falls c m (Refuses fault) s h r low = rest_falls c m _ h.ino s h r (λ cpu e. omega (arith, low)) (omega (arith, low))
 over_falls c m Overtaken s h r low = again_falls c m r.rounds s h r (omega (arith, low))
@@ -142,7 +151,8 @@ lock_at : (c place n : ℕ) (b : Bool) → nat_lt place n ≡ b → rank c n (if
 lock_at c place n true e = omega arith
 lock_at c place n false e = omega arith
 
-lock_next : (c place n : ℕ) (b : Bool) → nat_lt (place + 1) n ≡ b → rank c n (if b then Lock (place + 1) else Check) < 15 + 3 * c + 4 * n + (n - place)
+lock_next : (c place n : ℕ) (b : Bool) → nat_lt (place + 1) n ≡ b
+    → rank c n (if b then Lock (place + 1) else Check) < 15 + 3 * c + 4 * n + (n - place)
 lock_next c place n true e = omega (arith, ltb-true (place + 1) n e)
 lock_next c place n false e = omega arith
 
@@ -168,7 +178,8 @@ closing_at : (c n : ℕ) (written : List ℕ) (b : Bool) → rank c n (if b then
 closing_at c n written true = omega arith
 closing_at c n written false = omega (arith, retire_from c n 0 (nat_lt 0 (length written)))
 
-publish_from : (c n place : ℕ) (written : List ℕ) (b : Bool) → rank c n (if b then Publish place else closing written) ≤ 7 + c + 2 * n + (n - place)
+publish_from : (c n place : ℕ) (written : List ℕ) (b : Bool)
+    → rank c n (if b then Publish place else closing written) ≤ 7 + c + 2 * n + (n - place)
 publish_from c n place written true = omega arith
 publish_from c n place written false = omega (arith, closing_at c n written (nat_lt 1 (length written)))
 
@@ -181,7 +192,8 @@ opening_at : (c n : ℕ) (written : List ℕ) (b : Bool) → rank c n (if b then
 opening_at c n written true = omega arith
 opening_at c n written false = omega (arith, publish_from c n 0 written (nat_lt 0 (length written)))
 
-append_from : (c n place : ℕ) (written : List ℕ) (b : Bool) → rank c n (if b then Append place else opening written) ≤ 9 + c + 3 * n + (n - place)
+append_from : (c n place : ℕ) (written : List ℕ) (b : Bool)
+    → rank c n (if b then Append place else opening written) ≤ 9 + c + 3 * n + (n - place)
 append_from c n place written true = omega arith
 append_from c n place written false = omega (arith, opening_at c n written (nat_lt 1 (length written)))
 
@@ -192,34 +204,43 @@ append_next c n place written false e few = omega (arith, opening_at c n written
 
 -- ---- the kinds
 
-number_falls : (c : ℕ) (numbers : List ℕ) (s : Shared) (h : HandState) (r : Running) → Falls c (r.rounds * round c + (41 + 3 * c)) (number_turn numbers s h r)
+number_falls : (c : ℕ) (numbers : List ℕ) (s : Shared) (h : HandState) (r : Running)
+    → Falls c (r.rounds * round c + (41 + 3 * c)) (number_turn numbers s h r)
 number_falls c [] s h r = omega (arith, first_lock c (slots_of s None r.looked r.call) (slots_of-length s None r.looked r.call))
-number_falls c (ino ∷ numbers) s h r = omega (arith, first_lock c (slots_of s (Some ino) r.looked r.call) (slots_of-length s (Some ino) r.looked r.call))
+number_falls c (ino ∷ numbers) s h r = omega
+    (arith, first_lock c (slots_of s (Some ino) r.looked r.call) (slots_of-length s (Some ino) r.looked r.call))
 
 look_falls : (c : ℕ) (owner : Option ℕ) (tests : Tests) (found : Looked) (place : ℕ) (s : Shared) (h : HandState) (r : Running)
     → Falls c (r.rounds * round c + (41 + 3 * c + (2 - place))) (look_turn owner tests found place s h r)
 look_falls c (Some other) tests found place s h r = tt
 look_falls c None (Err fault) found place s h r = over_falls c _ (Refuses fault) s h (record r { ending = Refuses fault }) (omega arith)
 look_falls c None (Ok passed) found place s h r =
-    omega (arith, look_next c place (record r { looked = found; slots = slots_of s None found r.call }) (nat_lt (place + 1) (length (directories r.call))) refl (slots_of-length s None found r.call))
+    omega (
+      arith,
+      look_next c place (record r { looked = found; slots = slots_of s None found r.call })
+          (nat_lt (place + 1) (length (directories r.call))) refl (slots_of-length s None found r.call),
+    )
 
 lock_falls : (c : ℕ) (owner : Option ℕ) (actor place : ℕ) (s : Shared) (h : HandState) (r : Running)
     → Falls c (r.rounds * round c + (15 + 3 * c + 4 * length r.slots + (length r.slots - place))) (lock_turn owner actor place s h r)
 lock_falls c (Some other) actor place s h r = tt
 lock_falls c None actor place s h r = omega (arith, lock_next c place (length r.slots) (nat_lt (place + 1) (length r.slots)) refl)
 
-pages_fall : (c m n : ℕ) (s : Shared) (h : HandState) (r : Running) → r.rounds * round c + (12 + c + 4 * length r.slots + c) < m → Falls c m (wants_pages n s h r)
+pages_fall : (c m n : ℕ) (s : Shared) (h : HandState) (r : Running) → r.rounds * round c + (12 + c + 4 * length r.slots + c) < m
+    → Falls c m (wants_pages n s h r)
 pages_fall c m zero s h r low = omega (arith, low)
 pages_fall c m (suc n) s h r low = omega (arith, low)
 
-wants_fall : (c n block : ℕ) (s : Shared) (h : HandState) (r : Running) → Falls c (r.rounds * round c + (14 + 3 * c + 4 * length r.slots)) (wants_blocks n block s h r)
+wants_fall : (c n block : ℕ) (s : Shared) (h : HandState) (r : Running)
+    → Falls c (r.rounds * round c + (14 + 3 * c + 4 * length r.slots)) (wants_blocks n block s h r)
 wants_fall c zero block s h r = pages_fall c _ _ s h r (omega arith)
 wants_fall c (suc n) block s h r = omega arith
 
 check_falls : (c : ℕ) (ending : Option Ending) (granted : Bool) (wanted block : ℕ) (s : Shared) (h : HandState) (r : Running)
     → Falls c (r.rounds * round c + (14 + 3 * c + 4 * length r.slots)) (check_turn ending granted wanted block s h r)
 check_falls c (Some e) granted wanted block s h r = end_falls c _ r.slots e s h r (omega arith)
-check_falls c None granted wanted block s h r = grown_falls c _ granted (wants_blocks wanted block s h r) s h r (omega arith) (wants_fall c wanted block s h r)
+check_falls c None granted wanted block s h r = grown_falls c _ granted (wants_blocks wanted block s h r) s h r (omega arith)
+    (wants_fall c wanted block s h r)
 
 blocks_fall : (c left : ℕ) (more : Bool) (asked block : ℕ) (s : Shared) (h : HandState) (r : Running) → nat_lt (asked + 1) c ≡ more
     → Falls c (r.rounds * round c + (13 + 2 * c + 4 * length r.slots + (c - asked))) (blocks_turn left more asked block s h r)
@@ -242,8 +263,16 @@ enter_falls c None false granted actor s h r = grown_falls c _ granted _ s h r (
 
 retired_falls : (c : ℕ) (erases : Bool) (ino place : ℕ) (s : Shared) (h : HandState) (r : Running)
     → Falls c (r.rounds * round c + (5 + c + length r.slots + (length r.slots - place))) (erase_turn erases ino place s h r)
-retired_falls c false ino place s h r = omega (arith, retire_next c place (length r.slots) (length (written_slots r)) (nat_lt (place + 1) (length (written_slots r))) refl (written-length r))
-retired_falls c true ino place s h r = omega (arith, retire_next c place (length r.slots) (length (written_slots r)) (nat_lt (place + 1) (length (written_slots r))) refl (written-length r))
+retired_falls c false ino place s h r = omega (
+  arith,
+  retire_next c place (length r.slots) (length (written_slots r)) (nat_lt (place + 1) (length (written_slots r))) refl
+      (written-length r),
+)
+retired_falls c true ino place s h r = omega (
+  arith,
+  retire_next c place (length r.slots) (length (written_slots r)) (nat_lt (place + 1) (length (written_slots r))) refl
+      (written-length r),
+)
 
 unlock_falls : (c : ℕ) (more : Bool) (place : ℕ) (s : Shared) (h : HandState) (r : Running) → nat_lt (place + 1) (length r.slots) ≡ more
     → Falls c (r.rounds * round c + (3 + c + (length r.slots - place))) (unlocked_turn more place s h r)
@@ -261,12 +290,14 @@ visit_falls c None (Err fault) granted found s h r = end_falls c _ r.slots _ s h
 visit_falls c None (Ok passed) granted found s h r = grown_falls c _ granted _ s h r (omega arith) tt
 
 give_falls : (cpu : ℕ) (s t : Shared) (h : HandState) (r : Running)
-    → Falls (length s.lists) (r.rounds * round (length s.lists) + (2 + (length s.lists - cpu))) (rest_turn (home_from (cpu + 1) 0 s.lists (blocks_in h)) h.ino t h r)
+    → Falls (length s.lists) (r.rounds * round (length s.lists) + (2 + (length s.lists - cpu)))
+    (rest_turn (home_from (cpu + 1) 0 s.lists (blocks_in h)) h.ino t h r)
 give_falls cpu s t h r = rest_falls (length s.lists) _ _ h.ino t h r
     (λ to e. let above = home_from-above (cpu + 1) 0 s.lists (blocks_in h) to e in omega (arith, above.0, above.1)) (omega arith)
 
 pub falls : (k : Next) (block actor : ℕ) (granted : Bool) (s : Shared) (h : HandState) (r : Running)
-    → Falls (length s.lists) (r.rounds * round (length s.lists) + rank (length s.lists) (length r.slots) k) (kind_turn k block actor granted s h r)
+    → Falls (length s.lists) (r.rounds * round (length s.lists) + rank (length s.lists) (length r.slots) k)
+    (kind_turn k block actor granted s h r)
 falls Number block actor granted s h r = number_falls (length s.lists) s.pool.numbers s h r
 falls (Look place) block actor granted s h r = look_falls (length s.lists) _ _ _ place s h r
 falls (Lock place) block actor granted s h r = lock_falls (length s.lists) _ actor place s h r
@@ -276,11 +307,19 @@ falls (TakePages asked) block actor granted s h r = taken_pages_fall (length s.l
 falls Ready block actor granted s h r = grown_falls (length s.lists) _ granted _ s h r (omega arith) (omega arith)
 falls Enter block actor granted s h r = enter_falls (length s.lists) s.holder _ granted actor s h r
 falls (Append place) block actor granted s h r =
-    omega (arith, append_next (length s.lists) (length r.slots) place (written_slots r) (nat_lt (place + 1) (length (written_slots r))) refl (written-length r))
+    omega (
+      arith,
+      append_next (length s.lists) (length r.slots) place (written_slots r)
+          (nat_lt (place + 1) (length (written_slots r))) refl (written-length r),
+    )
 falls Open block actor granted s h r =
     omega (arith, publish_from (length s.lists) (length r.slots) 0 (written_slots r) (nat_lt 0 (length (written_slots r))))
 falls (Publish place) block actor granted s h r =
-    omega (arith, publish_next (length s.lists) (length r.slots) place (written_slots r) (nat_lt (place + 1) (length (written_slots r))) refl (written-length r))
+    omega (
+      arith,
+      publish_next (length s.lists) (length r.slots) place (written_slots r)
+          (nat_lt (place + 1) (length (written_slots r))) refl (written-length r),
+    )
 falls Close block actor granted s h r =
     omega (arith, retire_from (length s.lists) (length r.slots) 0 (nat_lt 0 (length (written_slots r))))
 falls (Retire place) block actor granted s h r = retired_falls (length s.lists) _ _ place _ _ r
@@ -295,7 +334,10 @@ falls Visit block actor granted s h r = visit_falls (length s.lists) _ _ _ _ s h
 pub begun_bound : (b : Beginning) (s : Shared) (c : Call) → bound (length s.lists) (begun b s c) ≤ most_steps (length s.lists)
 begun_bound Numbers s c = omega arith
 begun_bound Looks s c = omega arith
-begun_bound Locks s c = omega (arith, first_lock (length s.lists) (slots_of s None nothing_looked c) (slots_of-length s None nothing_looked c))
+begun_bound Locks s c = omega (
+  arith,
+  first_lock (length s.lists) (slots_of s None nothing_looked c) (slots_of-length s None nothing_looked c),
+)
 begun_bound Visits s c = omega arith
 
 -- and some step is left as long as it runs

@@ -26,7 +26,8 @@ refused_started e = false≢true (ap is_started e)
 
 -- ---- other actors
 
-set_others : (actor : ℕ) (x : Actor) (w : World) (s : Shared) → LeavesOthers actor w (record w { shared = s; actors = set w.actors actor x })
+set_others : (actor : ℕ) (x : Actor) (w : World) (s : Shared)
+    → LeavesOthers actor w (record w { shared = s; actors = set w.actors actor x })
 set_others actor x w s = record {
   others = λ b h. get_or-set_other w.actors actor b x idle h;
   count = length-set w.actors actor x;
@@ -41,14 +42,16 @@ turned_others (Moves s h r) actor w = set_others actor _ w s
 turned_others Waits actor w = same_others actor w
 turned_others (Ends result s h) actor w = set_others actor _ w s
 
-pub turned_frame : (l : Lent) (t : Turn) (actor : ℕ) (w : World) → IsFramed l w.shared t → Frame l w.shared (turned t actor w).world.shared
+pub turned_frame : (l : Lent) (t : Turn) (actor : ℕ) (w : World) → IsFramed l w.shared t
+    → Frame l w.shared (turned t actor w).world.shared
 turned_frame l (Moves s h r) actor w f = f
 turned_frame l Waits actor w f = same_frame l w.shared
 turned_frame l (Ends result s h) actor w f = f
 
 -- ---- one event
 
-pub go_is_turn : (b : Bool) (running : Option Running) (w : World) (actor : ℕ) (granted : Bool) (r : Running) → b ≡ true → running ≡ Some r
+pub go_is_turn : (b : Bool) (running : Option Running) (w : World) (actor : ℕ) (granted : Bool) (r : Running) → b ≡ true
+    → running ≡ Some r
     → go_step b running actor granted w ≡ turned (turn w.numbers.block actor granted w.shared (actor_at w actor).hand r) actor w
 go_is_turn b running w actor granted r there is = rw there (rw is refl)
 
@@ -56,7 +59,8 @@ pub goes : (w : World) (actor : ℕ) (granted : Bool) (r : Running) → actor < 
     → IsOneStep w actor granted r (step w (Go actor granted))
 goes w actor granted r there is =
     let t = turn w.numbers.block actor granted w.shared (actor_at w actor).hand r in
-    let same = go_is_turn (nat_lt actor (length w.actors)) (actor_at w actor).running w actor granted r (lt-ltb actor (length w.actors) there) is in
+    let same = go_is_turn (nat_lt actor (length w.actors)) (actor_at w actor).running w actor granted r
+    (lt-ltb actor (length w.actors) there) is in
     record {
       is_turn = same;
       frame = subst (λ (made : Step). Frame (lent r.next (length w.shared.lists) actor r) w.shared made.world.shared) (sym same)
@@ -77,32 +81,42 @@ starts w actor c = start_at _ _ w actor c
 no_actor : (w : World) (actor : ℕ) → length w.actors ≤ actor → nat_lt actor (length w.actors) ≡ false
 no_actor w actor past = false_from_ne_true (nat_lt actor (length w.actors)) (λ e. omega (arith, past, ltb-true actor (length w.actors) e))
 
-start_nobody : (b : Bool) (running : Option Running) (w : World) (actor : ℕ) (c : Call) → b ≡ false → start_step b running actor c w ≡ stays (Refused NoActor) w
+start_nobody : (b : Bool) (running : Option Running) (w : World) (actor : ℕ) (c : Call) → b ≡ false
+    → start_step b running actor c w ≡ stays (Refused NoActor) w
 start_nobody b running w actor c e = rw e refl
 
-go_nobody : (b : Bool) (running : Option Running) (w : World) (actor : ℕ) (granted : Bool) → b ≡ false → go_step b running actor granted w ≡ stays (Refused NoActor) w
+go_nobody : (b : Bool) (running : Option Running) (w : World) (actor : ℕ) (granted : Bool) → b ≡ false
+    → go_step b running actor granted w ≡ stays (Refused NoActor) w
 go_nobody b running w actor granted e = rw e refl
 
-start_busy : (b : Bool) (running : Option Running) (w : World) (actor : ℕ) (c : Call) (r : Running) → b ≡ true → running ≡ Some r → start_step b running actor c w ≡ stays (Refused ActorBusy) w
+start_busy : (b : Bool) (running : Option Running) (w : World) (actor : ℕ) (c : Call) (r : Running) → b ≡ true
+    → running ≡ Some r → start_step b running actor c w ≡ stays (Refused ActorBusy) w
 start_busy b running w actor c r e f = rw e (rw f refl)
 
-go_idle : (b : Bool) (running : Option Running) (w : World) (actor : ℕ) (granted : Bool) → b ≡ true → running ≡ None → go_step b running actor granted w ≡ stays (Refused ActorIdle) w
+go_idle : (b : Bool) (running : Option Running) (w : World) (actor : ℕ) (granted : Bool) → b ≡ true → running ≡ None
+    → go_step b running actor granted w ≡ stays (Refused ActorIdle) w
 go_idle b running w actor granted e f = rw e (rw f refl)
 
 pub nobody : (w : World) (actor : ℕ) (c : Call) (granted : Bool) → length w.actors ≤ actor
     → (step w (Start actor c) ≡ stays (Refused NoActor) w) × (step w (Go actor granted) ≡ stays (Refused NoActor) w)
-nobody w actor c granted past = (start_nobody _ _ w actor c (no_actor w actor past), go_nobody _ _ w actor granted (no_actor w actor past))
+nobody w actor c granted past = (
+  start_nobody _ _ w actor c (no_actor w actor past),
+  go_nobody _ _ w actor granted (no_actor w actor past),
+)
 
-pub busy : (w : World) (actor : ℕ) (c : Call) (r : Running) → actor < length w.actors → (actor_at w actor).running ≡ Some r → step w (Start actor c) ≡ stays (Refused ActorBusy) w
+pub busy : (w : World) (actor : ℕ) (c : Call) (r : Running) → actor < length w.actors → (actor_at w actor).running ≡ Some r
+    → step w (Start actor c) ≡ stays (Refused ActorBusy) w
 busy w actor c r there is = start_busy _ _ w actor c r (lt-ltb actor (length w.actors) there) is
 
-pub idles : (w : World) (actor : ℕ) (granted : Bool) → actor < length w.actors → (actor_at w actor).running ≡ None → step w (Go actor granted) ≡ stays (Refused ActorIdle) w
+pub idles : (w : World) (actor : ℕ) (granted : Bool) → actor < length w.actors → (actor_at w actor).running ≡ None
+    → step w (Go actor granted) ≡ stays (Refused ActorIdle) w
 idles w actor granted there is = go_idle _ _ w actor granted (lt-ltb actor (length w.actors) there) is
 
 -- ---- the bound
 
 -- an actor that is set is there
-set_is : (actor : ℕ) (x : Actor) (w : World) (s : Shared) → actor < length w.actors → actor_at (record w { shared = s; actors = set w.actors actor x }) actor ≡ x
+set_is : (actor : ℕ) (x : Actor) (w : World) (s : Shared) → actor < length w.actors
+    → actor_at (record w { shared = s; actors = set w.actors actor x }) actor ≡ x
 set_is actor x w s there = get_or-set_same w.actors actor x idle there
 
 last_moves : (result : Result Answer Fault) → moves_by (reply_of result) ≡ 0
@@ -120,23 +134,27 @@ turned_bound (Ends result s h) actor w l n there some is falls f =
     let set = set_is actor (record { hand = h; running = None }) w s there in
     rw set (omega (arith, some, last_moves result))
 
-own_go : (b : Bool) (running : Option Running) (w : World) (actor : ℕ) (granted : Bool) → nat_lt actor (length w.actors) ≡ b → (actor_at w actor).running ≡ running
+own_go : (b : Bool) (running : Option Running) (w : World) (actor : ℕ) (granted : Bool) → nat_lt actor (length w.actors) ≡ b
+    → (actor_at w actor).running ≡ running
     → moves_by (go_step b running actor granted w).reply + bound_at (go_step b running actor granted w).world actor ≤ bound_at w actor
 own_go false running w actor granted there is = omega arith
 own_go true None w actor granted there is = omega arith
 own_go true (Some r) w actor granted there is =
     let same : bound_at w actor ≡ bound (length w.shared.lists) r = ap (bound_of (length w.shared.lists)) is in
     let left = some_left (length w.shared.lists) (length r.slots) r.next in
-    rw same (turned_bound (turn w.numbers.block actor granted w.shared (actor_at w actor).hand r) actor w (lent r.next (length w.shared.lists) actor r)
+    rw same (turned_bound (turn w.numbers.block actor granted w.shared (actor_at w actor).hand r) actor w
+    (lent r.next (length w.shared.lists) actor r)
     (bound (length w.shared.lists) r) (ltb-true actor (length w.actors) there) (omega (arith, left)) same
     (falls r.next w.numbers.block actor granted w.shared (actor_at w actor).hand r)
     (framed r.next w.numbers.block actor granted w.shared (actor_at w actor).hand r))
 
 -- another actor's event leaves the bound as it is
-turned_cpus : (l : Lent) (t : Turn) (actor : ℕ) (w : World) → IsFramed l w.shared t → length (turned t actor w).world.shared.lists ≡ length w.shared.lists
+turned_cpus : (l : Lent) (t : Turn) (actor : ℕ) (w : World) → IsFramed l w.shared t
+    → length (turned t actor w).world.shared.lists ≡ length w.shared.lists
 turned_cpus l t actor w f = (turned_frame l t actor w f).cpus
 
-same_bound : (w v : World) (actor other : ℕ) → LeavesOthers other w v → actor ≢ other → length v.shared.lists ≡ length w.shared.lists → bound_at v actor ≡ bound_at w actor
+same_bound : (w v : World) (actor other : ℕ) → LeavesOthers other w v → actor ≢ other
+    → length v.shared.lists ≡ length w.shared.lists → bound_at v actor ≡ bound_at w actor
 same_bound w v actor other o h e = rw (o.others actor h) (rw e refl)
 
 other_go : (b : Bool) (running : Option Running) (w : World) (actor other : ℕ) (granted : Bool) → actor ≢ other
@@ -146,36 +164,46 @@ other_go true None w actor other granted h = refl
 other_go true (Some r) w actor other granted h =
     let t = turn w.numbers.block other granted w.shared (actor_at w other).hand r in
     same_bound w (turned t other w).world actor other (turned_others t other w) h
-    (turned_cpus (lent r.next (length w.shared.lists) other r) t other w (framed r.next w.numbers.block other granted w.shared (actor_at w other).hand r))
+    (turned_cpus (lent r.next (length w.shared.lists) other r) t other w
+    (framed r.next w.numbers.block other granted w.shared (actor_at w other).hand r))
 
 go_bound : (w : World) (actor other : ℕ) (granted same : Bool) → (other == actor) ≡ same
-    → (if same then moves_by (step w (Go other granted)).reply else 0) + bound_at (step w (Go other granted)).world actor ≤ bound_at w actor
+    → (if same then moves_by (step w (Go other granted)).reply else 0) + bound_at (step w (Go other granted)).world actor ≤
+    bound_at w actor
 go_bound w actor other granted true e =
-    subst (λ (a : ℕ). moves_by (step w (Go a granted)).reply + bound_at (step w (Go a granted)).world actor ≤ bound_at w actor) (sym (eqb-true other actor e))
+    subst (λ (a : ℕ). moves_by (step w (Go a granted)).reply + bound_at (step w (Go a granted)).world actor ≤ bound_at w actor)
+    (sym (eqb-true other actor e))
     (own_go (nat_lt actor (length w.actors)) (actor_at w actor).running w actor granted refl refl)
 go_bound w actor other granted false e =
-    let same = other_go (nat_lt other (length w.actors)) (actor_at w other).running w actor other granted (λ is. eqb-false other actor e (sym is)) in
+    let same = other_go (nat_lt other (length w.actors)) (actor_at w other).running w actor other granted
+    (λ is. eqb-false other actor e (sym is)) in
     omega (arith, same)
 
-pub event_bound : (w : World) (actor : ℕ) (e : Event) → IsNoStart actor e → moves_in actor e (step w e).reply + bound_at (step w e).world actor ≤ bound_at w actor
+pub event_bound : (w : World) (actor : ℕ) (e : Event) → IsNoStart actor e
+    → moves_in actor e (step w e).reply + bound_at (step w e).world actor ≤ bound_at w actor
 event_bound w actor (Start other c) apart =
     let s = starts w other c in
-    let same = same_bound w (step w (Start other c)).world actor other s.others (λ is. apart (sym is)) (ap (λ (t : Shared). length t.lists) s.shared) in
+    let same = same_bound w (step w (Start other c)).world actor other s.others (λ is. apart (sym is))
+    (ap (λ (t : Shared). length t.lists) s.shared) in
     omega (arith, same)
 event_bound w actor (Go other granted) apart = go_bound w actor other granted (other == actor) refl
 
-pub events_bound : (events : List Event) (w : World) (actor : ℕ) → AllByRecursion (IsNoStart actor) events → moves actor w events + bound_at (after w events) actor ≤ bound_at w actor
+pub events_bound : (events : List Event) (w : World) (actor : ℕ) → AllByRecursion (IsNoStart actor) events
+    → moves actor w events + bound_at (after w events) actor ≤ bound_at w actor
 events_bound [] w actor none = omega arith
 events_bound (e ∷ events) w actor none = omega (arith, event_bound w actor e none.0, events_bound events (step w e).world actor none.1)
 
 -- a started call has at most eight rounds
-begun_at : (b : Bool) (running : Option Running) (w : World) (actor : ℕ) (c : Call) → nat_lt actor (length w.actors) ≡ b → (start_step b running actor c w).reply ≡ Started
+begun_at : (b : Bool) (running : Option Running) (w : World) (actor : ℕ) (c : Call) → nat_lt actor (length w.actors) ≡ b
+    → (start_step b running actor c w).reply ≡ Started
     → bound_at (start_step b running actor c w).world actor ≤ most_steps (length w.shared.lists)
 begun_at false running w actor c there e = absurd (refused_started e)
 begun_at true (Some r) w actor c there e = absurd (refused_started e)
 begun_at true None w actor c there e =
-    let set = set_is actor (record { hand = (actor_at w actor).hand; running = Some (begun (beginning c) w.shared c) }) w w.shared (ltb-true actor (length w.actors) there) in
+    let set = set_is actor (record { hand = (actor_at w actor).hand; running = Some (begun (beginning c) w.shared c) }) w
+    w.shared (ltb-true actor (length w.actors) there) in
     rw set (begun_bound (beginning c) w.shared c)
 
-pub start_bound : (w : World) (actor : ℕ) (c : Call) → (step w (Start actor c)).reply ≡ Started → bound_at (step w (Start actor c)).world actor ≤ most_steps (length w.shared.lists)
+pub start_bound : (w : World) (actor : ℕ) (c : Call) → (step w (Start actor c)).reply ≡ Started
+    → bound_at (step w (Start actor c)).world actor ≤ most_steps (length w.shared.lists)
 start_bound w actor c = begun_at (nat_lt actor (length w.actors)) (actor_at w actor).running w actor c refl

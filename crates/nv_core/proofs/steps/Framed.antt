@@ -98,7 +98,8 @@ leave_frame s = record {
 }
 
 -- a cell and the book, and the cell once more
-retired_frame : (ino : ℕ) (book : BookState) (cell : CellState) (s : Shared) → Frame (record nothing_lent { book = true; cell = Some ino }) s (with_cell ino cell (with_book book s))
+retired_frame : (ino : ℕ) (book : BookState) (cell : CellState) (s : Shared)
+    → Frame (record nothing_lent { book = true; cell = Some ino }) s (with_cell ino cell (with_book book s))
 retired_frame ino book cell s = record {
   lists = λ cpu h. refl;
   pool = refl;
@@ -128,7 +129,8 @@ erased_frame ino book cell empty s = record {
 
 -- ---- the last steps, and what grows
 
-rest_framed : (l : Lent) (s t : Shared) (home number : Option ℕ) (h : HandState) (r : Running) → Frame l s t → IsFramed l s (rest_turn home number t h r)
+rest_framed : (l : Lent) (s t : Shared) (home number : Option ℕ) (h : HandState) (r : Running) → Frame l s t
+    → IsFramed l s (rest_turn home number t h r)
 rest_framed l s t (Some cpu) number h r f = f
 rest_framed l s t None (Some ino) h r f = f
 rest_framed l s t None None h r f = f
@@ -142,17 +144,20 @@ over_framed l s t Answers h r f = rest_framed l s t _ h.ino h r f
 over_framed l s t (Refuses fault) h r f = rest_framed l s t _ h.ino h r f
 over_framed l s t Overtaken h r f = again_framed l s t r.rounds h r f
 
-end_framed : (l : Lent) (s t : Shared) (slots : List ℕ) (e : Ending) (h : HandState) (r : Running) → Frame l s t → IsFramed l s (end_turn slots e t h r)
+end_framed : (l : Lent) (s t : Shared) (slots : List ℕ) (e : Ending) (h : HandState) (r : Running) → Frame l s t
+    → IsFramed l s (end_turn slots e t h r)
 end_framed l s t [] e h r f = over_framed l s t e h (record r { ending = e }) f
 end_framed l s t (slot ∷ slots) e h r f = f
 
-grown_framed : (l : Lent) (s t : Shared) (granted : Bool) (turn : Turn) (h : HandState) (r : Running) → Frame l s t → IsFramed l s turn → IsFramed l s (grown granted turn t h r)
+grown_framed : (l : Lent) (s t : Shared) (granted : Bool) (turn : Turn) (h : HandState) (r : Running) → Frame l s t
+    → IsFramed l s turn → IsFramed l s (grown granted turn t h r)
 grown_framed l s t true turn h r f g = g
 grown_framed l s t false turn h r f g = end_framed l s t r.slots _ h r f
 
 -- ---- the kinds
 
-number_framed : (numbers : List ℕ) (s : Shared) (h : HandState) (r : Running) → IsFramed (record nothing_lent { pool = true }) s (number_turn numbers s h r)
+number_framed : (numbers : List ℕ) (s : Shared) (h : HandState) (r : Running)
+    → IsFramed (record nothing_lent { pool = true }) s (number_turn numbers s h r)
 number_framed [] s h r = same_frame _ s
 number_framed (ino ∷ numbers) s h r = record {
   lists = λ cpu h. refl;
@@ -166,12 +171,14 @@ number_framed (ino ∷ numbers) s h r = record {
   locks = refl;
 }
 
-look_framed : (owner : Option ℕ) (tests : Tests) (found : Looked) (place : ℕ) (s : Shared) (h : HandState) (r : Running) → IsFramed nothing_lent s (look_turn owner tests found place s h r)
+look_framed : (owner : Option ℕ) (tests : Tests) (found : Looked) (place : ℕ) (s : Shared) (h : HandState) (r : Running)
+    → IsFramed nothing_lent s (look_turn owner tests found place s h r)
 look_framed (Some other) tests found place s h r = tt
 look_framed None (Err fault) found place s h r = end_framed nothing_lent s s [] (Refuses fault) h r (same_frame _ s)
 look_framed None (Ok passed) found place s h r = same_frame _ s
 
-lock_framed : (owner : Option ℕ) (actor place : ℕ) (s : Shared) (h : HandState) (r : Running) → IsFramed (record nothing_lent { lock = Some (slot_at r.slots place) }) s (lock_turn owner actor place s h r)
+lock_framed : (owner : Option ℕ) (actor place : ℕ) (s : Shared) (h : HandState) (r : Running)
+    → IsFramed (record nothing_lent { lock = Some (slot_at r.slots place) }) s (lock_turn owner actor place s h r)
 lock_framed (Some other) actor place s h r = tt
 lock_framed None actor place s h r = lock_frame (slot_at r.slots place) (Some actor) s
 
@@ -183,16 +190,19 @@ wants_framed : (n block : ℕ) (s : Shared) (h : HandState) (r : Running) → Is
 wants_framed zero block s h r = pages_framed _ _ s s h r (same_frame _ s)
 wants_framed (suc n) block s h r = same_frame _ s
 
-check_framed : (ending : Option Ending) (granted : Bool) (wanted block : ℕ) (s : Shared) (h : HandState) (r : Running) → IsFramed nothing_lent s (check_turn ending granted wanted block s h r)
+check_framed : (ending : Option Ending) (granted : Bool) (wanted block : ℕ) (s : Shared) (h : HandState) (r : Running)
+    → IsFramed nothing_lent s (check_turn ending granted wanted block s h r)
 check_framed (Some e) granted wanted block s h r = end_framed _ s s r.slots e h r (same_frame _ s)
 check_framed None granted wanted block s h r = grown_framed _ s s granted _ h r (same_frame _ s) (wants_framed wanted block s h r)
 
-take_framed : (l : Lent) (left : ℕ) (more : Bool) (asked block : ℕ) (s t : Shared) (h : HandState) (r : Running) → Frame l s t → IsFramed l s (blocks_turn left more asked block t h r)
+take_framed : (l : Lent) (left : ℕ) (more : Bool) (asked block : ℕ) (s t : Shared) (h : HandState) (r : Running) → Frame l s t
+    → IsFramed l s (blocks_turn left more asked block t h r)
 take_framed l zero more asked block s t h r f = pages_framed l _ s t h r f
 take_framed l (suc n) true asked block s t h r f = f
 take_framed l (suc n) false asked block s t h r f = end_framed l s t r.slots _ h r f
 
-take_pages_framed : (l : Lent) (left : ℕ) (more : Bool) (asked : ℕ) (s t : Shared) (h : HandState) (r : Running) → Frame l s t → IsFramed l s (pages_turn left more asked t h r)
+take_pages_framed : (l : Lent) (left : ℕ) (more : Bool) (asked : ℕ) (s t : Shared) (h : HandState) (r : Running) → Frame l s t
+    → IsFramed l s (pages_turn left more asked t h r)
 take_pages_framed l zero more asked s t h r f = f
 take_pages_framed l (suc n) true asked s t h r f = f
 take_pages_framed l (suc n) false asked s t h r f = end_framed l s t r.slots _ h r f
@@ -214,15 +224,18 @@ enter_framed None false granted actor s h r = grown_framed _ s s granted _ h r (
 })
 
 erase_framed : (erases : Bool) (all : Retiring) (ino place : ℕ) (s : Shared) (h : HandState) (r : Running)
-    → IsFramed (record nothing_lent { book = true; cell = Some ino }) s (erase_turn erases ino place (with_cell ino all.cell (with_book all.book s)) h r)
+    → IsFramed (record nothing_lent { book = true; cell = Some ino }) s
+    (erase_turn erases ino place (with_cell ino all.cell (with_book all.book s)) h r)
 erase_framed false all ino place s h r = retired_frame ino all.book all.cell s
 erase_framed true all ino place s h r = erased_frame ino all.book all.cell _ s
 
-unlock_framed : (l : Lent) (more : Bool) (place : ℕ) (s t : Shared) (h : HandState) (r : Running) → Frame l s t → IsFramed l s (unlocked_turn more place t h r)
+unlock_framed : (l : Lent) (more : Bool) (place : ℕ) (s t : Shared) (h : HandState) (r : Running) → Frame l s t
+    → IsFramed l s (unlocked_turn more place t h r)
 unlock_framed l true place s t h r f = f
 unlock_framed l false place s t h r f = over_framed l s t r.ending h r f
 
-back_framed : (number : Option ℕ) (s : Shared) (h : HandState) (r : Running) → IsFramed (record nothing_lent { pool = true }) s (back_turn number s h r)
+back_framed : (number : Option ℕ) (s : Shared) (h : HandState) (r : Running)
+    → IsFramed (record nothing_lent { pool = true }) s (back_turn number s h r)
 back_framed None s h r = same_frame _ s
 back_framed (Some ino) s h r = record {
   lists = λ cpu h. refl;
@@ -236,7 +249,8 @@ back_framed (Some ino) s h r = record {
   locks = refl;
 }
 
-visit_framed : (owner : Option ℕ) (tests : Tests) (granted : Bool) (found : Answer) (s : Shared) (h : HandState) (r : Running) → IsFramed nothing_lent s (visit_turn owner tests granted found s h r)
+visit_framed : (owner : Option ℕ) (tests : Tests) (granted : Bool) (found : Answer) (s : Shared) (h : HandState) (r : Running)
+    → IsFramed nothing_lent s (visit_turn owner tests granted found s h r)
 visit_framed (Some other) tests granted found s h r = tt
 visit_framed None (Err fault) granted found s h r = end_framed _ s s r.slots _ h r (same_frame _ s)
 visit_framed None (Ok passed) granted found s h r = grown_framed _ s s granted _ h r (same_frame _ s) (same_frame _ s)

@@ -23,7 +23,8 @@ use Rattle.nv_core.proofs.steps.Ordered.{EnteredAt, OnOrder, OrderLeft, order_ke
 
 -- ---- what another commit still has to append to is locked by its actor
 
-append_held : (next : Next) (r : Running) (ino : ℕ) → has (to_append next (written_slots r)) ino ≡ true → has (held_at next r.slots) ino ≡ true
+append_held : (next : Next) (r : Running) (ino : ℕ) → has (to_append next (written_slots r)) ino ≡ true
+    → has (held_at next r.slots) ino ≡ true
 append_held (Append place) r ino there = has_filter (is_written r.plan) r.slots ino (has_later place (written_slots r) ino there)
 append_held Number r ino there = absurd (false≢true there)
 append_held (Look place) r ino there = absurd (false≢true there)
@@ -46,7 +47,8 @@ append_held Visit r ino there = absurd (false≢true there)
 some_same : (a b : ℕ) → Some a ≡ Some b → a ≡ b
 some_same a b e = ap (λ (o : Option ℕ). unwrap_or o 0) e
 
-their_commit : (a b : ℕ) (s t : Shared) (l : Lent) (running : Option Running) → b ≢ a → OrderLeft a s t → Frame l s t → ((ino : ℕ) → l.cell ≡ Some ino → slice_index_or s.owners ino None ≡ Some a)
+their_commit : (a b : ℕ) (s t : Shared) (l : Lent) (running : Option Running) → b ≢ a → OrderLeft a s t → Frame l s t
+    → ((ino : ℕ) → l.cell ≡ Some ino → slice_index_or s.owners ino None ≡ Some a)
     → HoldsIts s b running → CommitsIn s running → CommitsIn t running
 their_commit a b s t l None ne left f own holds h = tt
 their_commit a b s t l (Some r) ne left f own holds h = λ e.
@@ -57,21 +59,28 @@ their_commit a b s t l (Some r) ne left f own holds h = λ e.
       epoch = was.epoch ∙ sym kept.epoch;
       earlier = λ ino there.
           let theirs = slot_owned b s r ino holds (append_held r.next r ino there) in
-          subst (λ (x : CellState). IsBefore r.commit r.epoch x.chain.entries) (sym (f.cells ino (λ is. ne (some_same b a (sym theirs ∙ own ino is))))) (was.earlier ino there);
+          subst (λ (x : CellState). IsBefore r.commit r.epoch x.chain.entries)
+          (sym (f.cells ino (λ is. ne (some_same b a (sym theirs ∙ own ino is))))) (was.earlier ino there);
     }
 
 -- all actors, where one has another call
-set_commits : (w : World) (actor : ℕ) (x : Actor) (t : Shared) (l : Lent) → actor < length w.actors → AreLocks w → OrderLeft actor w.shared t → Frame l w.shared t
-    → ((ino : ℕ) → l.cell ≡ Some ino → slice_index_or w.shared.owners ino None ≡ Some actor) → CommitsIn t x.running → ((b : ℕ) → CommitsIn w.shared (actor_at w b).running)
+set_commits : (w : World) (actor : ℕ) (x : Actor) (t : Shared) (l : Lent) → actor < length w.actors → AreLocks w
+    → OrderLeft actor w.shared t → Frame l w.shared t
+    → ((ino : ℕ) → l.cell ≡ Some ino → slice_index_or w.shared.owners ino None ≡ Some actor) → CommitsIn t x.running
+    → ((b : ℕ) → CommitsIn w.shared (actor_at w b).running)
     → (b : ℕ) → CommitsIn t (actor_at (record w { shared = t; actors = set w.actors actor x }) b).running
 set_commits w actor x t l there locks left f lent_own own all b = go (actor == b) refl where
   go : (c : Bool) → (actor == b) ≡ c → CommitsIn t (actor_at (record w { shared = t; actors = set w.actors actor x }) b).running
-  go true e = subst (λ (n : ℕ). CommitsIn t (actor_at (record w { shared = t; actors = set w.actors actor x }) n).running) (eqb-true actor b e)
+  go true e = subst (λ (n : ℕ). CommitsIn t (actor_at (record w { shared = t; actors = set w.actors actor x }) n).running)
+      (eqb-true actor b e)
       (subst (λ (y : Actor). CommitsIn t y.running) (sym (get_or-set_same w.actors actor x idle there)) own)
-  go false e = subst (λ (y : Actor). CommitsIn t y.running) (sym (get_or-set_other w.actors actor b x idle (λ is. eqb-false actor b e (sym is))))
-      (their_commit actor b w.shared t l (actor_at w b).running (λ is. eqb-false actor b e (sym is)) left f lent_own (locks.each b) (all b))
+  go false e = subst (λ (y : Actor). CommitsIn t y.running)
+      (sym (get_or-set_other w.actors actor b x idle (λ is. eqb-false actor b e (sym is))))
+      (their_commit actor b w.shared t l (actor_at w b).running (λ is. eqb-false actor b e (sym is)) left f lent_own
+      (locks.each b) (all b))
 
-turned_order : (t : Turn) (actor : ℕ) (w : World) (l : Lent) → actor < length w.actors → AreLocks w → IsInOrder w → OnOrder actor w.shared t → IsFramed l w.shared t
+turned_order : (t : Turn) (actor : ℕ) (w : World) (l : Lent) → actor < length w.actors → AreLocks w → IsInOrder w
+    → OnOrder actor w.shared t → IsFramed l w.shared t
     → ((ino : ℕ) → l.cell ≡ Some ino → slice_index_or w.shared.owners ino None ≡ Some actor) → IsInOrder (turned t actor w).world
 turned_order (Moves s h r) actor w l there locks order on f own = record {
   logs = on.0.logs;
@@ -88,7 +97,8 @@ turned_order (Ends result s h) actor w l there locks order on f own = record {
 entered_at : (s : Shared) (r : Running) → IsEntered s r → EnteredAt s r.next r
 entered_at s r h = record { commit = h.commit; epoch = h.epoch; earlier = h.earlier }
 
-go_order : (b : Bool) (running : Option Running) (w : World) (actor : ℕ) (granted : Bool) → nat_lt actor (length w.actors) ≡ b → (actor_at w actor).running ≡ running → AreLocks w → IsInOrder w
+go_order : (b : Bool) (running : Option Running) (w : World) (actor : ℕ) (granted : Bool) → nat_lt actor (length w.actors) ≡ b
+    → (actor_at w actor).running ≡ running → AreLocks w → IsInOrder w
     → IsInOrder (go_step b running actor granted w).world
 go_order false running w actor granted e is locks order = order
 go_order true None w actor granted e is locks order = order
@@ -96,7 +106,8 @@ go_order true (Some r) w actor granted e is locks order =
     let h = (actor_at w actor).hand in
     let b = before w actor r locks is in
     let own : CommitsIn w.shared (Some r) = subst (λ (running : Option Running). CommitsIn w.shared running) is (order.each actor) in
-    turned_order (turn w.numbers.block actor granted w.shared h r) actor w (lent r.next (length w.shared.lists) actor r) (ltb-true actor (length w.actors) e) locks order
+    turned_order (turn w.numbers.block actor granted w.shared h r) actor w (lent r.next (length w.shared.lists) actor r)
+    (ltb-true actor (length w.actors) e) locks order
     (order_kept r.next w.numbers.block actor granted w.shared h r b (λ c. entered_at w.shared r (own c)) order.logs)
     (framed r.next w.numbers.block actor granted w.shared h r) (lent_cell r.next (length w.shared.lists) actor w.shared r b)
 
@@ -110,19 +121,24 @@ begun_commits Looks s c = refl
 begun_commits Locks s c = locking_commits 0 (slots_of s None nothing_looked c) (nat_lt 0 (length (slots_of s None nothing_looked c)))
 begun_commits Visits s c = refl
 
-start_order : (b : Bool) (running : Option Running) (w : World) (actor : ℕ) (c : Call) → nat_lt actor (length w.actors) ≡ b → AreLocks w → IsInOrder w → IsInOrder (start_step b running actor c w).world
+start_order : (b : Bool) (running : Option Running) (w : World) (actor : ℕ) (c : Call) → nat_lt actor (length w.actors) ≡ b
+    → AreLocks w → IsInOrder w → IsInOrder (start_step b running actor c w).world
 start_order false running w actor c e locks order = order
 start_order true (Some r) w actor c e locks order = order
 start_order true None w actor c e locks order = record {
   logs = order.logs;
-  each = set_commits w actor (record { hand = (actor_at w actor).hand; running = Some (begun (beginning c) w.shared c) }) w.shared nothing_lent (ltb-true actor (length w.actors) e) locks
-      (stays_order actor w.shared order.logs) (same_frame nothing_lent w.shared) (λ ino is. absurd (false≢true (ap (λ (o : Option ℕ). is_none o) (sym is))))
+  each = set_commits w actor (record { hand = (actor_at w actor).hand; running = Some (begun (beginning c) w.shared c) })
+      w.shared nothing_lent (ltb-true actor (length w.actors) e) locks
+      (stays_order actor w.shared order.logs) (same_frame nothing_lent w.shared)
+      (λ ino is. absurd (false≢true (ap (λ (o : Option ℕ). is_none o) (sym is))))
       (λ k. absurd (false≢true (sym (begun_commits (beginning c) w.shared c) ∙ k))) order.each;
 }
 
 event_order : (w : World) (e : Event) → AreLocks w → IsInOrder w → IsInOrder (step w e).world
-event_order w (Start actor c) locks order = start_order (nat_lt actor (length w.actors)) (actor_at w actor).running w actor c refl locks order
-event_order w (Go actor granted) locks order = go_order (nat_lt actor (length w.actors)) (actor_at w actor).running w actor granted refl refl locks order
+event_order w (Start actor c) locks order = start_order (nat_lt actor (length w.actors)) (actor_at w actor).running w actor c
+    refl locks order
+event_order w (Go actor granted) locks order = go_order (nat_lt actor (length w.actors)) (actor_at w actor).running w actor
+    granted refl refl locks order
 
 pub events_order : (events : List Event) (w : World) → AreLocks w → IsInOrder w → IsInOrder (after w events)
 events_order [] w locks order = order
@@ -130,7 +146,8 @@ events_order (e ∷ events) w locks order = events_order events (step w e).world
 
 -- ---- a new world
 
-new_cells : (g : GeometryNumbers) (n ino : ℕ) → IsBefore 1 1 (slice_index_or (replicate n (empty_cell g.block g.page 1 0)) ino no_cell).chain.entries
+new_cells : (g : GeometryNumbers) (n ino : ℕ)
+    → IsBefore 1 1 (slice_index_or (replicate n (empty_cell g.block g.page 1 0)) ino no_cell).chain.entries
 new_cells g zero ino = record { ordered = tt; earlier = tt }
 new_cells g (suc n) zero = record { ordered = tt; earlier = tt }
 new_cells g (suc n) (suc ino) = new_cells g n ino

@@ -21,14 +21,17 @@ or_false false true = refl
 or_false false false = refl
 
 -- the slots locked once one more is, and those before one is unlocked
-pub has_take : (p : ℕ) (slots : List ℕ) (ino : ℕ) → p < length slots → has (take (p + 1) slots) ino ≡ (has (take p slots) ino || (slot_at slots p == ino))
+pub has_take : (p : ℕ) (slots : List ℕ) (ino : ℕ) → p < length slots
+    → has (take (p + 1) slots) ino ≡ (has (take p slots) ino || (slot_at slots p == ino))
 has_take p slots ino h =
     ap (λ (n : ℕ). has (take n slots) ino) (add-one p) ∙ ap (λ (l : List ℕ). has l ino) (take_more p slots h)
     ∙ list_any-append (λ m. m == ino) (take p slots) (slot_at slots p ∷ []) ∙ or_false (has (take p slots) ino) (slot_at slots p == ino)
 
-pub has_drop : (p : ℕ) (slots : List ℕ) (ino : ℕ) → p < length slots → has (drop p slots) ino ≡ ((slot_at slots p == ino) || has (drop (p + 1) slots) ino)
+pub has_drop : (p : ℕ) (slots : List ℕ) (ino : ℕ) → p < length slots
+    → has (drop p slots) ino ≡ ((slot_at slots p == ino) || has (drop (p + 1) slots) ino)
 has_drop p slots ino h =
-    ap (λ (l : List ℕ). has l ino) (drop-cons slots p 0 h) ∙ ap (λ (n : ℕ). ((slot_at slots p == ino) || has (drop n slots) ino)) (sym (add-one p))
+    ap (λ (l : List ℕ). has l ino) (drop-cons slots p 0 h)
+    ∙ ap (λ (n : ℕ). ((slot_at slots p == ino) || has (drop n slots) ino)) (sym (add-one p))
 
 -- ---- rising lists have each once
 
@@ -80,7 +83,8 @@ take_all (suc p) (x ∷ xs) h = ap (λ (l : List ℕ). x ∷ l) (take_all p xs (
 all_with : (P : ℕ → Type 0) (n : ℕ) (xs : List ℕ) → P n → AllByRecursion P xs → AllByRecursion P (with_slot n xs)
 all_with P n [] new all = (new, tt)
 all_with P n (x ∷ xs) new all = go (n == x) (nat_lt n x) (all_with P n xs new all.1) where
-  go : (b c : Bool) → AllByRecursion P (with_slot n xs) → AllByRecursion P (if b then x ∷ xs else if c then n ∷ x ∷ xs else x ∷ with_slot n xs)
+  go : (b c : Bool) → AllByRecursion P (with_slot n xs)
+      → AllByRecursion P (if b then x ∷ xs else if c then n ∷ x ∷ xs else x ∷ with_slot n xs)
   go true c more = all
   go false true more = (new, all)
   go false false more = (all.0, more)
@@ -92,7 +96,8 @@ all_over n m (x ∷ xs) h all = (omega (arith, h, all.0), all_over n m xs h all.
 rising_with : (n : ℕ) (xs : List ℕ) → IsRising xs → IsRising (with_slot n xs)
 rising_with n [] r = (tt, tt)
 rising_with n (x ∷ xs) r = go (n == x) (nat_lt n x) refl refl (rising_with n xs r.1) where
-  go : (b c : Bool) → (n == x) ≡ b → nat_lt n x ≡ c → IsRising (with_slot n xs) → IsRising (if b then x ∷ xs else if c then n ∷ x ∷ xs else x ∷ with_slot n xs)
+  go : (b c : Bool) → (n == x) ≡ b → nat_lt n x ≡ c → IsRising (with_slot n xs)
+      → IsRising (if b then x ∷ xs else if c then n ∷ x ∷ xs else x ∷ with_slot n xs)
   go true c e f more = r
   go false true e f more = ((ltb-true n x f, all_over n x xs (ltb-true n x f) r.0), r)
   go false false e f more =
@@ -103,7 +108,8 @@ rising_with n (x ∷ xs) r = go (n == x) (nat_lt n x) refl refl (rising_with n x
 pub slots_are : (many : ℕ) (list : List ℕ) → AreSlots many (slots_in many list)
 slots_are many [] = record { rising = tt; inside = tt }
 slots_are many (ino ∷ rest) = go (nat_lt ino many) refl (slots_are many rest) where
-  go : (b : Bool) → nat_lt ino many ≡ b → AreSlots many (slots_in many rest) → AreSlots many (if b then with_slot ino (slots_in many rest) else slots_in many rest)
+  go : (b : Bool) → nat_lt ino many ≡ b → AreSlots many (slots_in many rest)
+      → AreSlots many (if b then with_slot ino (slots_in many rest) else slots_in many rest)
   go true e more = record {
     rising = rising_with ino (slots_in many rest) more.rising;
     inside = all_with (λ k. k < many) ino (slots_in many rest) (ltb-true ino many e) more.inside;
@@ -141,7 +147,8 @@ has_at (x ∷ xs) (suc p) h = or_right (x == get_or xs p 0) (has xs (get_or xs p
 pub has_filter : (f : ℕ → Bool) (xs : List ℕ) (n : ℕ) → has (filter f xs) n ≡ true → has xs n ≡ true
 has_filter f [] n h = h
 has_filter f (x ∷ xs) n h = go (f x) (has_filter f xs n) h where
-  go : (b : Bool) → (has (filter f xs) n ≡ true → has xs n ≡ true) → has (if b then x ∷ filter f xs else filter f xs) n ≡ true → has (x ∷ xs) n ≡ true
+  go : (b : Bool) → (has (filter f xs) n ≡ true → has xs n ≡ true) → has (if b then x ∷ filter f xs else filter f xs) n ≡ true
+      → has (x ∷ xs) n ≡ true
   go true more e = or_more (x == n) (has (filter f xs) n) (has xs n) more e
   go false more e = or_right (x == n) (has xs n) (more e)
 

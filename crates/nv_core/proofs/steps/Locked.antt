@@ -39,7 +39,8 @@ pub same_locks : (a : ℕ) (s : Shared) → LocksLeft a s s
 same_locks a s = record { owners = λ b h ino. refl; holder = λ b h. refl; wide = refl }
 
 -- a call whose next step holds these
-pub holds_as : (s : Shared) (a : ℕ) (q : Running) (slots : List ℕ) (commits : Bool) → Holds s a slots commits → held_at q.next q.slots ≡ slots → commits_at q.next ≡ commits
+pub holds_as : (s : Shared) (a : ℕ) (q : Running) (slots : List ℕ) (commits : Bool) → Holds s a slots commits
+    → held_at q.next q.slots ≡ slots → commits_at q.next ≡ commits
     → AreSlots (length s.owners) q.slots → IsInside q.next q → HoldsIts s a (Some q)
 holds_as s a q slots commits h e f are inside = record {
   owners = λ ino. h.owners ino ∙ ap (λ (l : List ℕ). has l ino) (sym e);
@@ -52,43 +53,57 @@ idle_as s a h = record { owners = h.owners; holder = h.holder; slots = tt }
 
 -- ---- the last steps
 
-rest_locks : (a : ℕ) (s t : Shared) (w : Type 0) (home number : Option ℕ) (h : HandState) (r : Running) → LocksLeft a s t → Holds t a [] false → AreSlots (length t.owners) r.slots
+rest_locks : (a : ℕ) (s t : Shared) (w : Type 0) (home number : Option ℕ) (h : HandState) (r : Running) → LocksLeft a s t
+    → Holds t a [] false → AreSlots (length t.owners) r.slots
     → OnLocks a s w (rest_turn home number t h r)
 rest_locks a s t w (Some cpu) number h r left mine are = (left, holds_as t a (go_to (Give cpu) r) [] false mine refl refl are tt)
 rest_locks a s t w None (Some ino) h r left mine are = (left, holds_as t a (go_to Back r) [] false mine refl refl are tt)
 rest_locks a s t w None None h r left mine are = (left, idle_as t a mine)
 
-again_locks : (a : ℕ) (s t : Shared) (w : Type 0) (rounds : ℕ) (h : HandState) (r : Running) → LocksLeft a s t → Holds t a [] false → AreSlots (length t.owners) r.slots
+again_locks : (a : ℕ) (s t : Shared) (w : Type 0) (rounds : ℕ) (h : HandState) (r : Running) → LocksLeft a s t
+    → Holds t a [] false → AreSlots (length t.owners) r.slots
     → OnLocks a s w (again_turn rounds t h r)
 again_locks a s t w zero h r left mine are = (left, idle_as t a mine)
-again_locks a s t w (suc n) h r left mine are = (left, holds_as t a (record r { ending = Answers; rounds = n; next = Look 0 }) [] false mine refl refl are tt)
+again_locks a s t w (suc n) h r left mine
+    are = (left, holds_as t a (record r { ending = Answers; rounds = n; next = Look 0 }) [] false mine refl refl are tt)
 
-over_locks : (a : ℕ) (s t : Shared) (w : Type 0) (e : Ending) (h : HandState) (r : Running) → LocksLeft a s t → Holds t a [] false → AreSlots (length t.owners) r.slots
+over_locks : (a : ℕ) (s t : Shared) (w : Type 0) (e : Ending) (h : HandState) (r : Running) → LocksLeft a s t
+    → Holds t a [] false → AreSlots (length t.owners) r.slots
     → OnLocks a s w (over_turn e t h r)
 over_locks a s t w Answers h r left mine are = rest_locks a s t w _ h.ino h r left mine are
 over_locks a s t w (Refuses fault) h r left mine are = rest_locks a s t w _ h.ino h r left mine are
 over_locks a s t w Overtaken h r left mine are = again_locks a s t w r.rounds h r left mine are
 
-end_locks : (a : ℕ) (s t : Shared) (w : Type 0) (slots : List ℕ) (e : Ending) (h : HandState) (r : Running) → r.slots ≡ slots → LocksLeft a s t → Holds t a r.slots false
+end_locks : (a : ℕ) (s t : Shared) (w : Type 0) (slots : List ℕ) (e : Ending) (h : HandState) (r : Running) → r.slots ≡ slots
+    → LocksLeft a s t → Holds t a r.slots false
     → AreSlots (length t.owners) r.slots → OnLocks a s w (end_turn slots e t h r)
-end_locks a s t w [] e h r is left mine are = over_locks a s t w e h (record r { ending = e }) left (subst (λ (l : List ℕ). Holds t a l false) is mine) are
-end_locks a s t w (slot ∷ slots) e h r is left mine are =
-    (left, holds_as t a (record r { ending = e; next = Unlock 0 }) r.slots false mine refl refl are (omega (arith, ap (λ (l : List ℕ). length l) is)))
+end_locks a s t w [] e h r is left mine are = over_locks a s t w e h (record r { ending = e }) left
+    (subst (λ (l : List ℕ). Holds t a l false) is mine) are
+end_locks a s t w (slot ∷ slots) e h r is left mine are = (
+  left,
+  holds_as t a (record r { ending = e; next = Unlock 0 }) r.slots false mine refl refl are
+      (omega (arith, ap (λ (l : List ℕ). length l) is)),
+)
 
-grown_locks : (a : ℕ) (s t : Shared) (w : Type 0) (granted : Bool) (turn : Turn) (h : HandState) (r : Running) → LocksLeft a s t → Holds t a r.slots false
+grown_locks : (a : ℕ) (s t : Shared) (w : Type 0) (granted : Bool) (turn : Turn) (h : HandState) (r : Running) → LocksLeft a s t
+    → Holds t a r.slots false
     → AreSlots (length t.owners) r.slots → OnLocks a s w turn → OnLocks a s w (grown granted turn t h r)
 grown_locks a s t w true turn h r left mine are on = on
 grown_locks a s t w false turn h r left mine are on = end_locks a s t w r.slots _ h r refl left mine are
 
 -- ---- loops
 
-lock_here : (s : Shared) (a place : ℕ) (r : Running) (b : Bool) → nat_lt place (length r.slots) ≡ b → Holds s a (take place r.slots) false → AreSlots (length s.owners) r.slots
+lock_here : (s : Shared) (a place : ℕ) (r : Running) (b : Bool) → nat_lt place (length r.slots) ≡ b
+    → Holds s a (take place r.slots) false → AreSlots (length s.owners) r.slots
     → HoldsIts s a (Some (go_to (if b then Lock place else Check) r))
-lock_here s a place r true e mine are = holds_as s a (go_to (Lock place) r) (take place r.slots) false mine refl refl are (ltb-true place (length r.slots) e)
+lock_here s a place r true e mine are = holds_as s a (go_to (Lock place) r) (take place r.slots) false mine refl refl are
+    (ltb-true place (length r.slots) e)
 lock_here s a place r false e mine are =
-    holds_as s a (go_to Check r) (take place r.slots) false mine (sym (take_all place r.slots (ltb-false place (length r.slots) e))) refl are tt
+    holds_as s a (go_to Check r) (take place r.slots) false mine
+    (sym (take_all place r.slots (ltb-false place (length r.slots) e))) refl are tt
 
-pub locking_holds : (s : Shared) (a place : ℕ) (r : Running) → Holds s a (take place r.slots) false → AreSlots (length s.owners) r.slots → HoldsIts s a (Some (go_to (locking place r.slots) r))
+pub locking_holds : (s : Shared) (a place : ℕ) (r : Running) → Holds s a (take place r.slots) false
+    → AreSlots (length s.owners) r.slots → HoldsIts s a (Some (go_to (locking place r.slots) r))
 locking_holds s a place r mine are = lock_here s a place r (nat_lt place (length r.slots)) refl mine are
 
 look_here : (s : Shared) (a place : ℕ) (r : Running) (b : Bool) → Holds s a [] false → AreSlots (length s.owners) r.slots
@@ -156,22 +171,27 @@ or_not true = refl
 or_not false = refl
 
 -- the owner of a slot where one slot has another owner
-owner_set : (s : Shared) (slot : ℕ) (owner : Option ℕ) (ino : ℕ) (P : Option ℕ → Type 0) (b : Bool) → (slot == ino) ≡ b → slot < length s.owners
+owner_set : (s : Shared) (slot : ℕ) (owner : Option ℕ) (ino : ℕ) (P : Option ℕ → Type 0) (b : Bool) → (slot == ino) ≡ b
+    → slot < length s.owners
     → (slot ≡ ino → P owner) → (slot ≢ ino → P (owner_at s ino)) → P (owner_at (with_owner slot owner s) ino)
 owner_set s slot owner ino P true e h here there =
-    subst (λ (n : ℕ). P (owner_at (with_owner slot owner s) n)) (eqb-true slot ino e) (subst P (sym (get_or-set_same s.owners slot owner None h)) (here (eqb-true slot ino e)))
+    subst (λ (n : ℕ). P (owner_at (with_owner slot owner s) n)) (eqb-true slot ino e)
+    (subst P (sym (get_or-set_same s.owners slot owner None h)) (here (eqb-true slot ino e)))
 owner_set s slot owner ino P false e h here there =
     subst P (sym (get_or-set_other s.owners slot ino owner None (λ is. eqb-false slot ino e (sym is)))) (there (eqb-false slot ino e))
 
-locked_left : (a : ℕ) (s : Shared) (slot : ℕ) → slot < length s.owners → owner_at s slot ≡ None → LocksLeft a s (with_owner slot (Some a) s)
+locked_left : (a : ℕ) (s : Shared) (slot : ℕ) → slot < length s.owners → owner_at s slot ≡ None
+    → LocksLeft a s (with_owner slot (Some a) s)
 locked_left a s slot h free = record {
   owners = λ b ne ino. owner_set s slot (Some a) ino (λ (o : Option ℕ). is_owner b o ≡ is_owner b (owner_at s ino)) (slot == ino) refl h
-      (λ is. apart a b (a == b) refl (λ e. ne (sym e)) ∙ sym (ap (is_owner b) (subst (λ (n : ℕ). owner_at s n ≡ None) is free))) (λ ne. refl);
+      (λ is. apart a b (a == b) refl (λ e. ne (sym e)) ∙ sym (ap (is_owner b) (subst (λ (n : ℕ). owner_at s n ≡ None) is free)))
+      (λ ne. refl);
   holder = λ b ne. refl;
   wide = length-set s.owners slot (Some a);
 }
 
-unlocked_left : (a : ℕ) (s : Shared) (slot : ℕ) → slot < length s.owners → is_owner a (owner_at s slot) ≡ true → LocksLeft a s (with_owner slot None s)
+unlocked_left : (a : ℕ) (s : Shared) (slot : ℕ) → slot < length s.owners → is_owner a (owner_at s slot) ≡ true
+    → LocksLeft a s (with_owner slot None s)
 unlocked_left a s slot h own = record {
   owners = λ b ne ino. owner_set s slot None ino (λ (o : Option ℕ). is_owner b o ≡ is_owner b (owner_at s ino)) (slot == ino) refl h
       (λ is. sym (subst (λ (n : ℕ). is_owner b (owner_at s n) ≡ false) is (others_not a b (owner_at s slot) ne own))) (λ ne. refl);
@@ -179,24 +199,33 @@ unlocked_left a s slot h own = record {
   wide = length-set s.owners slot None;
 }
 
-locked_holds : (a : ℕ) (s : Shared) (place : ℕ) (slots : List ℕ) → place < length slots → slot_at slots place < length s.owners → Holds s a (take place slots) false
+locked_holds : (a : ℕ) (s : Shared) (place : ℕ) (slots : List ℕ) → place < length slots → slot_at slots place < length s.owners
+    → Holds s a (take place slots) false
     → Holds (with_owner (slot_at slots place) (Some a) s) a (take (place + 1) slots) false
 locked_holds a s place slots inside h mine = record {
-  owners = λ ino. owner_set s (slot_at slots place) (Some a) ino (λ (o : Option ℕ). is_owner a o ≡ has (take (place + 1) slots) ino) (slot_at slots place == ino) refl h
-      (λ is. self a ∙ sym (has_take place slots ino inside ∙ ap (λ (b : Bool). (has (take place slots) ino || b)) (subst (λ (n : ℕ). (slot_at slots place == n) ≡ true) is (self (slot_at slots place)))
+  owners = λ ino. owner_set s (slot_at slots place) (Some a) ino
+      (λ (o : Option ℕ). is_owner a o ≡ has (take (place + 1) slots) ino) (slot_at slots place == ino) refl h
+      (λ is. self a ∙ sym (has_take place slots ino inside
+      ∙ ap (λ (b : Bool). (has (take place slots) ino || b))
+      (subst (λ (n : ℕ). (slot_at slots place == n) ≡ true) is (self (slot_at slots place)))
       ∙ or_true (has (take place slots) ino)))
-      (λ ne. mine.owners ino ∙ sym (has_take place slots ino inside ∙ ap (λ (b : Bool). (has (take place slots) ino || b)) (apart (slot_at slots place) ino (slot_at slots place == ino) refl ne)
+      (λ ne. mine.owners ino ∙ sym (has_take place slots ino inside
+      ∙ ap (λ (b : Bool). (has (take place slots) ino || b)) (apart (slot_at slots place) ino (slot_at slots place == ino) refl ne)
       ∙ or_not (has (take place slots) ino)));
   holder = mine.holder;
 }
 
-unlocked_holds : (a : ℕ) (s : Shared) (place : ℕ) (slots : List ℕ) → place < length slots → AreSlots (length s.owners) slots → Holds s a (drop place slots) false
+unlocked_holds : (a : ℕ) (s : Shared) (place : ℕ) (slots : List ℕ) → place < length slots → AreSlots (length s.owners) slots
+    → Holds s a (drop place slots) false
     → Holds (with_owner (slot_at slots place) None s) a (drop (place + 1) slots) false
 unlocked_holds a s place slots inside are mine = record {
-  owners = λ ino. owner_set s (slot_at slots place) None ino (λ (o : Option ℕ). is_owner a o ≡ has (drop (place + 1) slots) ino) (slot_at slots place == ino) refl
+  owners = λ ino. owner_set s (slot_at slots place) None ino (λ (o : Option ℕ). is_owner a o ≡ has (drop (place + 1) slots) ino)
+      (slot_at slots place == ino) refl
       (slot_inside (length s.owners) slots place are inside)
       (λ is. sym (subst (λ (n : ℕ). has (drop (place + 1) slots) n ≡ false) is (drop_apart place slots are.rising inside)))
-      (λ ne. mine.owners ino ∙ has_drop place slots ino inside ∙ ap (λ (b : Bool). (b || has (drop (place + 1) slots) ino)) (apart (slot_at slots place) ino (slot_at slots place == ino) refl ne));
+      (λ ne. mine.owners ino ∙ has_drop place slots ino inside
+      ∙ ap (λ (b : Bool). (b || has (drop (place + 1) slots) ino))
+      (apart (slot_at slots place) ino (slot_at slots place == ino) refl ne));
   holder = mine.holder;
 }
 
@@ -209,64 +238,91 @@ pub record Before (a : ℕ) (s : Shared) (k : Next) (r : Running) : Type 0 where
   pub inside : IsInside k r
   pub wide : length s.owners ≡ length s.cells
 
-pub new_slots : (s : Shared) (number : Option ℕ) (looked : Looked) (r : Running) → length s.owners ≡ length s.cells → AreSlots (length s.owners) (slots_of s number looked r.call)
+pub new_slots : (s : Shared) (number : Option ℕ) (looked : Looked) (r : Running) → length s.owners ≡ length s.cells
+    → AreSlots (length s.owners) (slots_of s number looked r.call)
 new_slots s number looked r e = subst (λ (n : ℕ). AreSlots n (slots_of s number looked r.call)) (sym e) (slots_are (length s.cells) _)
 
 not_mine : (a : ℕ) (owner : Option ℕ) (other : ℕ) → owner ≡ Some other → is_owner a owner ≡ false → IsHeldByOther a owner
 not_mine a owner other e no-own = (other, e, λ is. eqb-false other a (sym (ap (is_owner a) e) ∙ no-own) is)
 
-number_locks : (a : ℕ) (numbers : List ℕ) (s : Shared) (h : HandState) (r : Running) → Before a s Number r → OnLocks a s ⊥ (number_turn numbers s h r)
-number_locks a [] s h r b =
-    (same_locks a s, locking_holds s a 0 (record r { slots = slots_of s None r.looked r.call }) b.mine (new_slots s None r.looked r b.wide))
+number_locks : (a : ℕ) (numbers : List ℕ) (s : Shared) (h : HandState) (r : Running) → Before a s Number r
+    → OnLocks a s ⊥ (number_turn numbers s h r)
+number_locks a [] s h r b = (
+  same_locks a s,
+  locking_holds s a 0 (record r { slots = slots_of s None r.looked r.call }) b.mine
+      (new_slots s None r.looked r b.wide),
+)
 number_locks a (ino ∷ numbers) s h r b =
-    let m : Holds (record s { pool = record s.pool { numbers = numbers } }) a [] false = record { owners = b.mine.owners; holder = b.mine.holder } in (
+    let m : Holds (record s { pool = record s.pool { numbers = numbers } }) a [] false = record
+    { owners = b.mine.owners; holder = b.mine.holder } in (
       record { owners = λ o ne n. refl; holder = λ o ne. refl; wide = refl },
-      locking_holds (record s { pool = record s.pool { numbers = numbers } }) a 0 (record r { slots = slots_of s (Some ino) r.looked r.call }) m (new_slots s (Some ino) r.looked r b.wide),
+      locking_holds (record s { pool = record s.pool { numbers = numbers } }) a 0
+          (record r { slots = slots_of s (Some ino) r.looked r.call }) m (new_slots s (Some ino) r.looked r b.wide),
     )
 
-look_locks : (a : ℕ) (owner : Option ℕ) (slot : ℕ) (tests : Tests) (found : Looked) (place : ℕ) (s : Shared) (h : HandState) (r : Running) → owner_at s slot ≡ owner → Before a s (Look place) r
+look_locks : (a : ℕ) (owner : Option ℕ) (slot : ℕ) (tests : Tests) (found : Looked) (place : ℕ) (s : Shared) (h : HandState)
+    (r : Running) → owner_at s slot ≡ owner → Before a s (Look place) r
     → OnLocks a s (IsHeldByOther a (owner_at s slot)) (look_turn owner tests found place s h r)
 look_locks a (Some other) slot tests found place s h r e b = not_mine a (owner_at s slot) other e (b.mine.owners slot)
-look_locks a None slot (Err fault) found place s h r e b = over_locks a s s _ (Refuses fault) h (record r { ending = Refuses fault }) (same_locks a s) b.mine b.are
-look_locks a None slot (Ok passed) found place s h r e b =
-    (same_locks a s, look_here s a (place + 1) (record r { looked = found; slots = slots_of s None found r.call }) (nat_lt (place + 1) (length (directories r.call))) b.mine (new_slots s None found r b.wide))
+look_locks a None slot (Err fault) found place s h r e b = over_locks a s s _ (Refuses fault) h
+    (record r { ending = Refuses fault }) (same_locks a s) b.mine b.are
+look_locks a None slot (Ok passed) found place s h r e b = (
+  same_locks a s,
+  look_here s a (place + 1) (record r { looked = found; slots = slots_of s None found r.call })
+      (nat_lt (place + 1) (length (directories r.call))) b.mine (new_slots s None found r b.wide),
+)
 
-lock_locks : (a : ℕ) (owner : Option ℕ) (place : ℕ) (s : Shared) (h : HandState) (r : Running) → owner_at s (slot_at r.slots place) ≡ owner → Before a s (Lock place) r
+lock_locks : (a : ℕ) (owner : Option ℕ) (place : ℕ) (s : Shared) (h : HandState) (r : Running)
+    → owner_at s (slot_at r.slots place) ≡ owner → Before a s (Lock place) r
     → OnLocks a s (IsHeldByOther a (owner_at s (slot_at r.slots place))) (lock_turn owner a place s h r)
 lock_locks a (Some other) place s h r e b =
-    not_mine a (owner_at s (slot_at r.slots place)) other e (b.mine.owners (slot_at r.slots place) ∙ take_apart place r.slots b.are.rising b.inside)
+    not_mine a (owner_at s (slot_at r.slots place)) other e
+    (b.mine.owners (slot_at r.slots place) ∙ take_apart place r.slots b.are.rising b.inside)
 lock_locks a None place s h r e b =
     let in-range = slot_inside (length s.owners) r.slots place b.are b.inside in
     let left = locked_left a s (slot_at r.slots place) in-range e in (
       left,
-      locking_holds (with_owner (slot_at r.slots place) (Some a) s) a (place + 1) r (locked_holds a s place r.slots b.inside in-range b.mine)
+      locking_holds (with_owner (slot_at r.slots place) (Some a) s) a (place + 1) r
+          (locked_holds a s place r.slots b.inside in-range b.mine)
           (subst (λ (n : ℕ). AreSlots n r.slots) (sym left.wide) b.are),
     )
 
-pages_locks : (a : ℕ) (n : ℕ) (s t : Shared) (h : HandState) (r : Running) → LocksLeft a s t → Holds t a r.slots false → AreSlots (length t.owners) r.slots
+pages_locks : (a : ℕ) (n : ℕ) (s t : Shared) (h : HandState) (r : Running) → LocksLeft a s t → Holds t a r.slots false
+    → AreSlots (length t.owners) r.slots
     → OnLocks a s ⊥ (wants_pages n t h r)
-pages_locks a zero s t h r left mine are = (left, holds_as t a (record r { wanted = 0; next = Ready }) r.slots false mine refl refl are tt)
-pages_locks a (suc n) s t h r left mine are = (left, holds_as t a (record r { wanted = suc n; next = TakePages 0 }) r.slots false mine refl refl are tt)
+pages_locks a zero s t h r left mine
+    are = (left, holds_as t a (record r { wanted = 0; next = Ready }) r.slots false mine refl refl are tt)
+pages_locks a (suc n) s t h r left mine
+    are = (left, holds_as t a (record r { wanted = suc n; next = TakePages 0 }) r.slots false mine refl refl are tt)
 
-wants_locks : (a : ℕ) (n block : ℕ) (s : Shared) (h : HandState) (r : Running) → Holds s a r.slots false → AreSlots (length s.owners) r.slots → OnLocks a s ⊥ (wants_blocks n block s h r)
+wants_locks : (a : ℕ) (n block : ℕ) (s : Shared) (h : HandState) (r : Running) → Holds s a r.slots false
+    → AreSlots (length s.owners) r.slots → OnLocks a s ⊥ (wants_blocks n block s h r)
 wants_locks a zero block s h r mine are = pages_locks a _ s s h r (same_locks a s) mine are
-wants_locks a (suc n) block s h r mine are = (same_locks a s, holds_as s a (record r { wanted = suc n; next = TakeBlocks 0 }) r.slots false mine refl refl are tt)
+wants_locks a (suc n) block s h r mine
+    are = (same_locks a s, holds_as s a (record r { wanted = suc n; next = TakeBlocks 0 }) r.slots false mine refl refl are tt)
 
-check_locks : (a : ℕ) (e : Option Ending) (granted : Bool) (wanted block : ℕ) (s : Shared) (h : HandState) (r : Running) → Holds s a r.slots false → AreSlots (length s.owners) r.slots
+check_locks : (a : ℕ) (e : Option Ending) (granted : Bool) (wanted block : ℕ) (s : Shared) (h : HandState) (r : Running)
+    → Holds s a r.slots false → AreSlots (length s.owners) r.slots
     → OnLocks a s ⊥ (check_turn e granted wanted block s h r)
 check_locks a (Some e) granted wanted block s h r mine are = end_locks a s s _ r.slots e h r refl (same_locks a s) mine are
-check_locks a None granted wanted block s h r mine are = grown_locks a s s _ granted (wants_blocks wanted block s h r) h r (same_locks a s) mine are (wants_locks a wanted block s h r mine are)
+check_locks a None granted wanted block s h r mine are = grown_locks a s s _ granted (wants_blocks wanted block s h r) h r
+    (same_locks a s) mine are (wants_locks a wanted block s h r mine are)
 
-blocks_locks : (a : ℕ) (left : ℕ) (more : Bool) (asked block : ℕ) (s t : Shared) (h : HandState) (r : Running) → LocksLeft a s t → Holds t a r.slots false → AreSlots (length t.owners) r.slots
+blocks_locks : (a : ℕ) (left : ℕ) (more : Bool) (asked block : ℕ) (s t : Shared) (h : HandState) (r : Running) → LocksLeft a s t
+    → Holds t a r.slots false → AreSlots (length t.owners) r.slots
     → OnLocks a s ⊥ (blocks_turn left more asked block t h r)
 blocks_locks a zero more asked block s t h r left mine are = pages_locks a _ s t h r left mine are
-blocks_locks a (suc n) true asked block s t h r left mine are = (left, holds_as t a (record r { wanted = suc n; next = TakeBlocks (asked + 1) }) r.slots false mine refl refl are tt)
+blocks_locks a (suc n) true asked block s t h r left mine
+    are = (left, holds_as t a (record r { wanted = suc n; next = TakeBlocks (asked + 1) }) r.slots false mine refl refl are tt)
 blocks_locks a (suc n) false asked block s t h r left mine are = end_locks a s t _ r.slots _ h r refl left mine are
 
-taken_locks : (a : ℕ) (left : ℕ) (more : Bool) (asked : ℕ) (s t : Shared) (h : HandState) (r : Running) → LocksLeft a s t → Holds t a r.slots false → AreSlots (length t.owners) r.slots
+taken_locks : (a : ℕ) (left : ℕ) (more : Bool) (asked : ℕ) (s t : Shared) (h : HandState) (r : Running) → LocksLeft a s t
+    → Holds t a r.slots false → AreSlots (length t.owners) r.slots
     → OnLocks a s ⊥ (pages_turn left more asked t h r)
-taken_locks a zero more asked s t h r left mine are = (left, holds_as t a (record r { wanted = 0; next = Ready }) r.slots false mine refl refl are tt)
-taken_locks a (suc n) true asked s t h r left mine are = (left, holds_as t a (record r { wanted = suc n; next = TakePages (asked + 1) }) r.slots false mine refl refl are tt)
+taken_locks a zero more asked s t h r left mine
+    are = (left, holds_as t a (record r { wanted = 0; next = Ready }) r.slots false mine refl refl are tt)
+taken_locks a (suc n) true asked s t h r left mine
+    are = (left, holds_as t a (record r { wanted = suc n; next = TakePages (asked + 1) }) r.slots false mine refl refl are tt)
 taken_locks a (suc n) false asked s t h r left mine are = end_locks a s t _ r.slots _ h r refl left mine are
 
 -- the commit lock is taken, and given up
@@ -280,16 +336,19 @@ entered_left a s t e f same = record {
 left_left : (a : ℕ) (s : Shared) → is_owner a s.holder ≡ true → LocksLeft a s (record s { holder = None })
 left_left a s own = record { owners = λ b ne ino. refl; holder = λ b ne. sym (others_not a b s.holder ne own); wide = refl }
 
-enter_locks : (a : ℕ) (holder : Option ℕ) (last granted : Bool) (s : Shared) (h : HandState) (r : Running) → s.holder ≡ holder → Before a s Enter r
+enter_locks : (a : ℕ) (holder : Option ℕ) (last granted : Bool) (s : Shared) (h : HandState) (r : Running) → s.holder ≡ holder
+    → Before a s Enter r
     → OnLocks a s (IsHeldByOther a s.holder) (enter_turn holder last granted a s h r)
 enter_locks a (Some other) last granted s h r e b = not_mine a s.holder other e b.mine.holder
 enter_locks a None true granted s h r e b = end_locks a s s _ r.slots _ h r refl (same_locks a s) b.mine b.are
 enter_locks a None false granted s h r e b = grown_locks a s s _ granted _ h r (same_locks a s) b.mine b.are (
   entered_left a s _ e refl refl,
-  appending_holds _ a 0 (record r { commit = s.book.commit + 1; epoch = s.book.snaps.epoch }) (record { owners = b.mine.owners; holder = self a }) b.are,
+  appending_holds _ a 0 (record r { commit = s.book.commit + 1; epoch = s.book.snaps.epoch })
+      (record { owners = b.mine.owners; holder = self a }) b.are,
 )
 
-retired_locks : (a : ℕ) (erases : Bool) (all : Retiring) (ino place : ℕ) (s t : Shared) (h : HandState) (r : Running) → LocksLeft a s t → Holds t a r.slots true → AreSlots (length t.owners) r.slots
+retired_locks : (a : ℕ) (erases : Bool) (all : Retiring) (ino place : ℕ) (s t : Shared) (h : HandState) (r : Running)
+    → LocksLeft a s t → Holds t a r.slots true → AreSlots (length t.owners) r.slots
     → OnLocks a s ⊥ (erase_turn erases ino place t h r)
 retired_locks a false all ino place s t h r left mine are = (left, retiring_holds t a (place + 1) r mine are)
 retired_locks a true all ino place s t h r left mine are = (
@@ -297,24 +356,36 @@ retired_locks a true all ino place s t h r left mine are = (
   retiring_holds _ a (place + 1) r (record { owners = mine.owners; holder = mine.holder }) are,
 )
 
-unlock_locks : (a : ℕ) (more : Bool) (place : ℕ) (s t : Shared) (h : HandState) (r : Running) → nat_lt (place + 1) (length r.slots) ≡ more → LocksLeft a s t → Holds t a (drop (place + 1) r.slots) false
+unlock_locks : (a : ℕ) (more : Bool) (place : ℕ) (s t : Shared) (h : HandState) (r : Running)
+    → nat_lt (place + 1) (length r.slots) ≡ more → LocksLeft a s t → Holds t a (drop (place + 1) r.slots) false
     → AreSlots (length t.owners) r.slots → OnLocks a s ⊥ (unlocked_turn more place t h r)
-unlock_locks a true place s t h r e left mine are =
-    (left, holds_as t a (go_to (Unlock (place + 1)) r) (drop (place + 1) r.slots) false mine refl refl are (ltb-true (place + 1) (length r.slots) e))
+unlock_locks a true place s t h r e left mine are = (
+  left,
+  holds_as t a (go_to (Unlock (place + 1)) r) (drop (place + 1) r.slots) false mine refl refl are
+      (ltb-true (place + 1) (length r.slots) e),
+)
 unlock_locks a false place s t h r e left mine are =
-    over_locks a s t _ r.ending h r left (subst (λ (l : List ℕ). Holds t a l false) (drop_all (place + 1) r.slots (ltb-false (place + 1) (length r.slots) e)) mine) are
+    over_locks a s t _ r.ending h r left
+    (subst (λ (l : List ℕ). Holds t a l false) (drop_all (place + 1) r.slots (ltb-false (place + 1) (length r.slots) e)) mine) are
 
-back_locks : (a : ℕ) (number : Option ℕ) (s : Shared) (h : HandState) (r : Running) → Before a s Back r → OnLocks a s ⊥ (back_turn number s h r)
+back_locks : (a : ℕ) (number : Option ℕ) (s : Shared) (h : HandState) (r : Running) → Before a s Back r
+    → OnLocks a s ⊥ (back_turn number s h r)
 back_locks a None s h r b = (same_locks a s, idle_as s a b.mine)
-back_locks a (Some ino) s h r b = (record { owners = λ o ne n. refl; holder = λ o ne. refl; wide = refl }, idle_as _ a (record { owners = b.mine.owners; holder = b.mine.holder }))
+back_locks a (Some ino) s h r b = (
+  record { owners = λ o ne n. refl; holder = λ o ne. refl; wide = refl },
+  idle_as _ a (record { owners = b.mine.owners; holder = b.mine.holder }),
+)
 
-visit_locks : (a : ℕ) (owner : Option ℕ) (slot : ℕ) (tests : Tests) (granted : Bool) (found : Answer) (s : Shared) (h : HandState) (r : Running) → owner_at s slot ≡ owner → Before a s Visit r
+visit_locks : (a : ℕ) (owner : Option ℕ) (slot : ℕ) (tests : Tests) (granted : Bool) (found : Answer) (s : Shared)
+    (h : HandState) (r : Running) → owner_at s slot ≡ owner → Before a s Visit r
     → OnLocks a s (IsHeldByOther a (owner_at s slot)) (visit_turn owner tests granted found s h r)
 visit_locks a (Some other) slot tests granted found s h r e b = not_mine a (owner_at s slot) other e (b.mine.owners slot)
 visit_locks a None slot (Err fault) granted found s h r e b =
-    end_locks a s s _ r.slots (Refuses fault) h r refl (same_locks a s) (subst (λ (l : List ℕ). Holds s a l false) (sym b.inside) b.mine) b.are
+    end_locks a s s _ r.slots (Refuses fault) h r refl (same_locks a s)
+    (subst (λ (l : List ℕ). Holds s a l false) (sym b.inside) b.mine) b.are
 visit_locks a None slot (Ok passed) granted found s h r e b =
-    grown_locks a s s _ granted (Ends (Ok found) s h) h r (same_locks a s) (subst (λ (l : List ℕ). Holds s a l false) (sym b.inside) b.mine) b.are (same_locks a s, idle_as s a b.mine)
+    grown_locks a s s _ granted (Ends (Ok found) s h) h r (same_locks a s)
+    (subst (λ (l : List ℕ). Holds s a l false) (sym b.inside) b.mine) b.are (same_locks a s, idle_as s a b.mine)
 
 -- owners and holder are as before
 as_before : (a : ℕ) (s t : Shared) → t.owners ≡ s.owners → t.holder ≡ s.holder → LocksLeft a s t
@@ -324,24 +395,31 @@ as_before a s t e f = record {
   wide = ap (λ (l : List (Option ℕ)). length l) e;
 }
 
-pub locks_kept : (k : Next) (block a : ℕ) (granted : Bool) (s : Shared) (h : HandState) (r : Running) → Before a s k r → OnLocks a s (WaitsFor s a r k) (kind_turn k block a granted s h r)
+pub locks_kept : (k : Next) (block a : ℕ) (granted : Bool) (s : Shared) (h : HandState) (r : Running) → Before a s k r
+    → OnLocks a s (WaitsFor s a r k) (kind_turn k block a granted s h r)
 locks_kept Number block a granted s h r b = number_locks a s.pool.numbers s h r b
 locks_kept (Look place) block a granted s h r b = look_locks a _ _ _ _ place s h r refl b
 locks_kept (Lock place) block a granted s h r b = lock_locks a _ place s h r refl b
 locks_kept Check block a granted s h r b = check_locks a (ending_at block s h r) granted _ block s h (with_made s h r) b.mine b.are
-locks_kept (TakeBlocks asked) block a granted s h r b = blocks_locks a _ _ asked block s _ _ r (as_before a s _ refl refl) (record { owners = b.mine.owners; holder = b.mine.holder }) b.are
-locks_kept (TakePages asked) block a granted s h r b = taken_locks a _ _ asked s _ _ r (as_before a s _ refl refl) (record { owners = b.mine.owners; holder = b.mine.holder }) b.are
+locks_kept (TakeBlocks asked) block a granted s h r b = blocks_locks a _ _ asked block s _ _ r (as_before a s _ refl refl)
+    (record { owners = b.mine.owners; holder = b.mine.holder }) b.are
+locks_kept (TakePages asked) block a granted s h r b = taken_locks a _ _ asked s _ _ r (as_before a s _ refl refl)
+    (record { owners = b.mine.owners; holder = b.mine.holder }) b.are
 locks_kept Ready block a granted s h r b =
-    grown_locks a s s _ granted _ h r (same_locks a s) b.mine b.are (same_locks a s, holds_as s a _ r.slots false b.mine refl refl b.are tt)
+    grown_locks a s s _ granted _ h r (same_locks a s) b.mine b.are
+    (same_locks a s, holds_as s a _ r.slots false b.mine refl refl b.are tt)
 locks_kept Enter block a granted s h r b = enter_locks a s.holder _ granted s h r refl b
 locks_kept (Append place) block a granted s h r b =
     (as_before a s _ refl refl, appending_holds _ a (place + 1) r (record { owners = b.mine.owners; holder = b.mine.holder }) b.are)
-locks_kept Open block a granted s h r b = (as_before a s _ refl refl, publishing_holds _ a 0 r (record { owners = b.mine.owners; holder = b.mine.holder }) b.are)
+locks_kept Open block a granted s h r
+    b = (as_before a s _ refl refl, publishing_holds _ a 0 r (record { owners = b.mine.owners; holder = b.mine.holder }) b.are)
 locks_kept (Publish place) block a granted s h r b =
     (as_before a s _ refl refl, publishing_holds _ a (place + 1) r (record { owners = b.mine.owners; holder = b.mine.holder }) b.are)
-locks_kept Close block a granted s h r b = (as_before a s _ refl refl, retiring_holds _ a 0 r (record { owners = b.mine.owners; holder = b.mine.holder }) b.are)
+locks_kept Close block a granted s h r
+    b = (as_before a s _ refl refl, retiring_holds _ a 0 r (record { owners = b.mine.owners; holder = b.mine.holder }) b.are)
 locks_kept (Retire place) block a granted s h r b =
-    retired_locks a _ (retired_by (slot_at (written_slots r) place) s h r) _ place s _ _ r (as_before a s _ refl refl) (record { owners = b.mine.owners; holder = b.mine.holder }) b.are
+    retired_locks a _ (retired_by (slot_at (written_slots r) place) s h r) _ place s _ _ r (as_before a s _ refl refl)
+    (record { owners = b.mine.owners; holder = b.mine.holder }) b.are
 locks_kept Leave block a granted s h r b =
     end_locks a s _ _ r.slots _ h r refl (left_left a s b.mine.holder) (record { owners = b.mine.owners; holder = refl }) b.are
 locks_kept (Unlock place) block a granted s h r b =
@@ -350,7 +428,8 @@ locks_kept (Unlock place) block a granted s h r b =
     ∙ ap (λ (c : Bool). (c || has (drop (place + 1) r.slots) (slot_at r.slots place))) (self (slot_at r.slots place))) in
     unlock_locks a (nat_lt (place + 1) (length r.slots)) place s (with_owner (slot_at r.slots place) None s) h r refl left
     (unlocked_holds a s place r.slots b.inside b.are b.mine) (subst (λ (n : ℕ). AreSlots n r.slots) (sym left.wide) b.are)
-locks_kept (Give cpu) block a granted s h r b = rest_locks a s _ _ _ h.ino _ r (as_before a s _ refl refl) (record { owners = b.mine.owners; holder = b.mine.holder }) b.are
+locks_kept (Give cpu) block a granted s h r b = rest_locks a s _ _ _ h.ino _ r (as_before a s _ refl refl)
+    (record { owners = b.mine.owners; holder = b.mine.holder }) b.are
 locks_kept Back block a granted s h r b = back_locks a h.ino s h r b
 locks_kept Visit block a granted s h r b = visit_locks a _ _ _ _ _ s h r refl b
 
@@ -360,18 +439,22 @@ owner_is : (a : ℕ) (owner : Option ℕ) → is_owner a owner ≡ true → owne
 owner_is a None e = absurd (false≢true e)
 owner_is a (Some o) e = ap (λ (n : ℕ). Some n) (eqb-true o a e)
 
-written_owned : (a place : ℕ) (s : Shared) (r : Running) → Holds s a r.slots true → place < length (written_slots r) → owner_at s (slot_at (written_slots r) place) ≡ Some a
+written_owned : (a place : ℕ) (s : Shared) (r : Running) → Holds s a r.slots true → place < length (written_slots r)
+    → owner_at s (slot_at (written_slots r) place) ≡ Some a
 written_owned a place s r mine inside =
     owner_is a (owner_at s (slot_at (written_slots r) place))
-    (mine.owners (slot_at (written_slots r) place) ∙ has_filter (is_written r.plan) r.slots (slot_at (written_slots r) place) (has_at (written_slots r) place inside))
+    (mine.owners (slot_at (written_slots r) place)
+    ∙ has_filter (is_written r.plan) r.slots (slot_at (written_slots r) place) (has_at (written_slots r) place inside))
 
-pub slot_owned : (a : ℕ) (s : Shared) (r : Running) (ino : ℕ) → HoldsIts s a (Some r) → has (held_at r.next r.slots) ino ≡ true → owner_at s ino ≡ Some a
+pub slot_owned : (a : ℕ) (s : Shared) (r : Running) (ino : ℕ) → HoldsIts s a (Some r) → has (held_at r.next r.slots) ino ≡ true
+    → owner_at s ino ≡ Some a
 slot_owned a s r ino mine there = owner_is a (owner_at s ino) (mine.owners ino ∙ there)
 
 some_cell : (a n ino : ℕ) (s : Shared) → owner_at s n ≡ Some a → Some n ≡ Some ino → owner_at s ino ≡ Some a
 some_cell a n ino s own e = subst (λ (m : ℕ). owner_at s m ≡ Some a) (ap (λ (o : Option ℕ). unwrap_or o 0) e) own
 
-pub lent_cell : (k : Next) (cpus a : ℕ) (s : Shared) (r : Running) → Before a s k r → (ino : ℕ) → (lent k cpus a r).cell ≡ Some ino → owner_at s ino ≡ Some a
+pub lent_cell : (k : Next) (cpus a : ℕ) (s : Shared) (r : Running) → Before a s k r → (ino : ℕ)
+    → (lent k cpus a r).cell ≡ Some ino → owner_at s ino ≡ Some a
 lent_cell Number cpus a s r b ino e = absurd (none-some ino e)
 lent_cell (Look place) cpus a s r b ino e = absurd (none-some ino e)
 lent_cell (Lock place) cpus a s r b ino e = absurd (none-some ino e)
@@ -380,11 +463,14 @@ lent_cell (TakeBlocks asked) cpus a s r b ino e = absurd (none-some ino e)
 lent_cell (TakePages asked) cpus a s r b ino e = absurd (none-some ino e)
 lent_cell Ready cpus a s r b ino e = absurd (none-some ino e)
 lent_cell Enter cpus a s r b ino e = absurd (none-some ino e)
-lent_cell (Append place) cpus a s r b ino e = some_cell a (slot_at (written_slots r) place) ino s (written_owned a place s r b.mine b.inside) e
+lent_cell (Append place) cpus a s r b ino e = some_cell a (slot_at (written_slots r) place) ino s
+    (written_owned a place s r b.mine b.inside) e
 lent_cell Open cpus a s r b ino e = absurd (none-some ino e)
-lent_cell (Publish place) cpus a s r b ino e = some_cell a (slot_at (written_slots r) place) ino s (written_owned a place s r b.mine b.inside) e
+lent_cell (Publish place) cpus a s r b ino e = some_cell a (slot_at (written_slots r) place) ino s
+    (written_owned a place s r b.mine b.inside) e
 lent_cell Close cpus a s r b ino e = absurd (none-some ino e)
-lent_cell (Retire place) cpus a s r b ino e = some_cell a (slot_at (written_slots r) place) ino s (written_owned a place s r b.mine b.inside) e
+lent_cell (Retire place) cpus a s r b ino e = some_cell a (slot_at (written_slots r) place) ino s
+    (written_owned a place s r b.mine b.inside) e
 lent_cell Leave cpus a s r b ino e = absurd (none-some ino e)
 lent_cell (Unlock place) cpus a s r b ino e = absurd (none-some ino e)
 lent_cell (Give cpu) cpus a s r b ino e = absurd (none-some ino e)

@@ -30,7 +30,8 @@ not_waiting no-wait e = true≢false (sym (ap waits_by e) ∙ no-wait)
 
 pub before : (w : World) (actor : ℕ) (r : Running) → AreLocks w → (actor_at w actor).running ≡ Some r → Before actor w.shared r.next r
 before w actor r locks is =
-    let own : HoldsIts w.shared actor (Some r) = subst (λ (running : Option Running). HoldsIts w.shared actor running) is (locks.each actor) in
+    let own : HoldsIts w.shared actor (Some r) = subst (λ (running : Option Running). HoldsIts w.shared actor running) is
+    (locks.each actor) in
     record { mine = record { owners = own.owners; holder = own.holder }; are = own.slots.0; inside = own.slots.1; wide = locks.wide }
 
 -- ---- what others hold
@@ -46,13 +47,17 @@ theirs a b s t running left ne h = record {
 }
 
 -- all actors, where one has another call
-set_each : (w : World) (actor : ℕ) (x : Actor) (t : Shared) → actor < length w.actors → LocksLeft actor w.shared t → HoldsIts t actor x.running
-    → ((b : ℕ) → HoldsIts w.shared b (actor_at w b).running) → (b : ℕ) → HoldsIts t b (actor_at (record w { shared = t; actors = set w.actors actor x }) b).running
+set_each : (w : World) (actor : ℕ) (x : Actor) (t : Shared) → actor < length w.actors → LocksLeft actor w.shared t
+    → HoldsIts t actor x.running
+    → ((b : ℕ) → HoldsIts w.shared b (actor_at w b).running) → (b : ℕ)
+    → HoldsIts t b (actor_at (record w { shared = t; actors = set w.actors actor x }) b).running
 set_each w actor x t there left own all b = go (actor == b) refl where
   go : (c : Bool) → (actor == b) ≡ c → HoldsIts t b (actor_at (record w { shared = t; actors = set w.actors actor x }) b).running
-  go true e = subst (λ (n : ℕ). HoldsIts t n (actor_at (record w { shared = t; actors = set w.actors actor x }) n).running) (eqb-true actor b e)
+  go true e = subst (λ (n : ℕ). HoldsIts t n (actor_at (record w { shared = t; actors = set w.actors actor x }) n).running)
+      (eqb-true actor b e)
       (subst (λ (y : Actor). HoldsIts t actor y.running) (sym (get_or-set_same w.actors actor x idle there)) own)
-  go false e = subst (λ (y : Actor). HoldsIts t b y.running) (sym (get_or-set_other w.actors actor b x idle (λ is. eqb-false actor b e (sym is))))
+  go false e = subst (λ (y : Actor). HoldsIts t b y.running)
+      (sym (get_or-set_other w.actors actor b x idle (λ is. eqb-false actor b e (sym is))))
       (theirs actor b w.shared t (actor_at w b).running left (λ is. eqb-false actor b e (sym is)) (all b))
 
 turned_locks : (t : Turn) (actor : ℕ) (w : World) (waits : Type 0) → actor < length w.actors → AreLocks w → OnLocks actor w.shared waits t
@@ -67,7 +72,8 @@ turned_locks (Ends result s h) actor w waits there locks on e = record {
   wide = on.0.wide ∙ locks.wide ∙ sym e;
 }
 
-go_locks : (b : Bool) (running : Option Running) (w : World) (actor : ℕ) (granted : Bool) → nat_lt actor (length w.actors) ≡ b → (actor_at w actor).running ≡ running → AreLocks w
+go_locks : (b : Bool) (running : Option Running) (w : World) (actor : ℕ) (granted : Bool) → nat_lt actor (length w.actors) ≡ b
+    → (actor_at w actor).running ≡ running → AreLocks w
     → AreLocks (go_step b running actor granted w).world
 go_locks false running w actor granted e is locks = locks
 go_locks true None w actor granted e is locks = locks
@@ -75,34 +81,43 @@ go_locks true (Some r) w actor granted e is locks =
     let t = turn w.numbers.block actor granted w.shared (actor_at w actor).hand r in
     turned_locks t actor w (WaitsFor w.shared actor r r.next) (ltb-true actor (length w.actors) e) locks
     (locks_kept r.next w.numbers.block actor granted w.shared (actor_at w actor).hand r (before w actor r locks is))
-    (turned_frame (lent r.next (length w.shared.lists) actor r) t actor w (framed r.next w.numbers.block actor granted w.shared (actor_at w actor).hand r)).slots
+    (turned_frame (lent r.next (length w.shared.lists) actor r) t actor w
+    (framed r.next w.numbers.block actor granted w.shared (actor_at w actor).hand r)).slots
 
 no_slots : (n : ℕ) → AreSlots n []
 no_slots n = record { rising = tt; inside = tt }
 
-begun_locks : (b : Beginning) (w : World) (actor : ℕ) (c : Call) → AreLocks w → Holds w.shared actor [] false → HoldsIts w.shared actor (Some (begun b w.shared c))
-begun_locks Numbers w actor c locks h = holds_as w.shared actor (begun Numbers w.shared c) [] false h refl refl (no_slots (length w.shared.owners)) tt
-begun_locks Looks w actor c locks h = holds_as w.shared actor (begun Looks w.shared c) [] false h refl refl (no_slots (length w.shared.owners)) tt
+begun_locks : (b : Beginning) (w : World) (actor : ℕ) (c : Call) → AreLocks w → Holds w.shared actor [] false
+    → HoldsIts w.shared actor (Some (begun b w.shared c))
+begun_locks Numbers w actor c locks h = holds_as w.shared actor (begun Numbers w.shared c) [] false h refl refl
+    (no_slots (length w.shared.owners)) tt
+begun_locks Looks w actor c locks h = holds_as w.shared actor (begun Looks w.shared c) [] false h refl refl
+    (no_slots (length w.shared.owners)) tt
 begun_locks Locks w actor c locks h =
     let slots = slots_of w.shared None nothing_looked c in
     locking_holds w.shared actor 0 (started c Check slots) h (new_slots w.shared None nothing_looked (started c Check slots) locks.wide)
-begun_locks Visits w actor c locks h = holds_as w.shared actor (begun Visits w.shared c) [] false h refl refl (no_slots (length w.shared.owners)) refl
+begun_locks Visits w actor c locks h = holds_as w.shared actor (begun Visits w.shared c) [] false h refl refl
+    (no_slots (length w.shared.owners)) refl
 
-start_locks : (b : Bool) (running : Option Running) (w : World) (actor : ℕ) (c : Call) → nat_lt actor (length w.actors) ≡ b → (actor_at w actor).running ≡ running → AreLocks w
+start_locks : (b : Bool) (running : Option Running) (w : World) (actor : ℕ) (c : Call) → nat_lt actor (length w.actors) ≡ b
+    → (actor_at w actor).running ≡ running → AreLocks w
     → AreLocks (start_step b running actor c w).world
 start_locks false running w actor c e is locks = locks
 start_locks true (Some r) w actor c e is locks = locks
 start_locks true None w actor c e is locks =
-    let idle_now : HoldsIts w.shared actor None = subst (λ (running : Option Running). HoldsIts w.shared actor running) is (locks.each actor) in
+    let idle_now : HoldsIts w.shared actor None = subst (λ (running : Option Running). HoldsIts w.shared actor running) is
+    (locks.each actor) in
     let own = begun_locks (beginning c) w actor c locks (record { owners = idle_now.owners; holder = idle_now.holder }) in
     record {
-      each = set_each w actor (record { hand = (actor_at w actor).hand; running = Some (begun (beginning c) w.shared c) }) w.shared (ltb-true actor (length w.actors) e) (same_locks actor w.shared) own locks.each;
+      each = set_each w actor (record { hand = (actor_at w actor).hand; running = Some (begun (beginning c) w.shared c) })
+          w.shared (ltb-true actor (length w.actors) e) (same_locks actor w.shared) own locks.each;
       wide = locks.wide;
     }
 
 pub event_locks : (w : World) (e : Event) → AreLocks w → AreLocks (step w e).world
 event_locks w (Start actor c) locks = start_locks (nat_lt actor (length w.actors)) (actor_at w actor).running w actor c refl refl locks
-event_locks w (Go actor granted) locks = go_locks (nat_lt actor (length w.actors)) (actor_at w actor).running w actor granted refl refl locks
+event_locks w (Go actor granted) locks = go_locks (nat_lt actor (length w.actors)) (actor_at w actor).running w actor granted
+    refl refl locks
 
 pub events_locks : (events : List Event) (w : World) → AreLocks w → AreLocks (after w events)
 events_locks [] w locks = locks
@@ -138,25 +153,31 @@ new_locks g within = record {
 
 -- ---- who waits
 
-turned_waits : (t : Turn) (actor : ℕ) (w : World) (waits : Type 0) → OnLocks actor w.shared waits t → (turned t actor w).reply ≡ Waiting → ((turned t actor w).world ≡ w) × waits
+turned_waits : (t : Turn) (actor : ℕ) (w : World) (waits : Type 0) → OnLocks actor w.shared waits t
+    → (turned t actor w).reply ≡ Waiting → ((turned t actor w).world ≡ w) × waits
 turned_waits (Moves s h r) actor w waits on e = absurd (not_waiting refl e)
 turned_waits Waits actor w waits on e = (refl, on)
 turned_waits (Ends (Ok found) s h) actor w waits on e = absurd (not_waiting refl e)
 turned_waits (Ends (Err fault) s h) actor w waits on e = absurd (not_waiting refl e)
 
-go_waits : (b : Bool) (running : Option Running) (w : World) (actor : ℕ) (granted : Bool) (r : Running) → AreLocks w → (actor_at w actor).running ≡ Some r → b ≡ true → running ≡ Some r
-    → (go_step b running actor granted w).reply ≡ Waiting → ((go_step b running actor granted w).world ≡ w) × WaitsFor w.shared actor r r.next
+go_waits : (b : Bool) (running : Option Running) (w : World) (actor : ℕ) (granted : Bool) (r : Running) → AreLocks w
+    → (actor_at w actor).running ≡ Some r → b ≡ true → running ≡ Some r
+    → (go_step b running actor granted w).reply ≡ Waiting
+    → ((go_step b running actor granted w).world ≡ w) × WaitsFor w.shared actor r r.next
 go_waits b running w actor granted r locks is there same e =
     let t = turn w.numbers.block actor granted w.shared (actor_at w actor).hand r in
     let found = go_is_turn b running w actor granted r there same in
     let waited = turned_waits t actor w (WaitsFor w.shared actor r r.next)
-    (locks_kept r.next w.numbers.block actor granted w.shared (actor_at w actor).hand r (before w actor r locks is)) (subst (λ (x : Step). x.reply ≡ Waiting) found e) in
+    (locks_kept r.next w.numbers.block actor granted w.shared (actor_at w actor).hand r (before w actor r locks is))
+    (subst (λ (x : Step). x.reply ≡ Waiting) found e) in
     (ap (λ (x : Step). x.world) found ∙ waited.0, waited.1)
 
-pub waits : (w : World) (actor : ℕ) (granted : Bool) (r : Running) → AreLocks w → actor < length w.actors → (actor_at w actor).running ≡ Some r
+pub waits : (w : World) (actor : ℕ) (granted : Bool) (r : Running) → AreLocks w → actor < length w.actors
+    → (actor_at w actor).running ≡ Some r
     → (step w (Go actor granted)).reply ≡ Waiting → ((step w (Go actor granted)).world ≡ w) × WaitsFor w.shared actor r r.next
 waits w actor granted r locks there is e =
-    go_waits (nat_lt actor (length w.actors)) (actor_at w actor).running w actor granted r locks is (lt-ltb actor (length w.actors) there) is e
+    go_waits (nat_lt actor (length w.actors)) (actor_at w actor).running w actor granted r locks is
+    (lt-ltb actor (length w.actors) there) is e
 
 pub has_lent : (w : World) (actor : ℕ) (r : Running) → AreLocks w → (actor_at w actor).running ≡ Some r → HasLent w.shared actor r
 has_lent w actor r locks is = record {

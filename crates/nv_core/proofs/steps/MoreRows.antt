@@ -31,7 +31,8 @@ abbrev pub first_four : List Line
 first_four = DoCall 0 (call.Create (handle 0 1) (97 ∷ []) 420) ∷ unlink_a ∷ anew ++ anew ++ anew ++ anew
 
 retried : play (formatted device) (first_four ++ anew ++ anew ++ anew ++ anew ++ DoCall 0 (call.Lookup (handle 0 1) (97 ∷ [])) ∷ [])
-    ≡ Done (answer.Made (handle 1 1)) ∷ Started ∷ said 2 Moved ++ said 3 Moved ++ said 4 Moved ++ said 5 Moved ++ said 6 Moved ++ said 7 Moved ++ said 8 Moved
+    ≡ Done (answer.Made (handle 1 1)) ∷ Started ∷ said 2 Moved ++ said 3 Moved ++ said 4 Moved ++ said 5 Moved ++ said 6 Moved
+    ++ said 7 Moved ++ said 8 Moved
     ++ said 9 (Refused fault.Contended) ++ Done (answer.Made (handle 1 9)) ∷ []
 retried = refl
 

@@ -41,7 +41,8 @@ all_weaker : (P Q : Entry → Type 0) → ((e : Entry) → P e → Q e) → (xs 
 all_weaker P Q f [] h = tt
 all_weaker P Q f (x ∷ xs) h = (f x h.0, all_weaker P Q f xs h.1)
 
-own_entries : (commit epoch place : ℕ) (items : List Item) → AllByRecursion (λ (e : Entry). (e.id.commit < commit + 1) × (e.epoch ≤ epoch)) (entries_of commit epoch place items)
+own_entries : (commit epoch place : ℕ) (items : List Item)
+    → AllByRecursion (λ (e : Entry). (e.id.commit < commit + 1) × (e.epoch ≤ epoch)) (entries_of commit epoch place items)
 own_entries commit epoch place [] = tt
 own_entries commit epoch place (item ∷ items) = ((omega arith, omega arith), own_entries commit epoch (place + 1) items)
 
@@ -49,21 +50,25 @@ own_entries commit epoch place (item ∷ items) = ((omega arith, omega arith), o
 later_too : (commit epoch : ℕ) (log : List Entry) → IsBefore commit epoch log → IsBefore (commit + 1) epoch log
 later_too commit epoch log h = record {
   ordered = h.ordered;
-  earlier = all_weaker (λ (e : Entry). (e.id.commit < commit) × (e.epoch ≤ epoch)) (λ (e : Entry). (e.id.commit < commit + 1) × (e.epoch ≤ epoch))
+  earlier = all_weaker (λ (e : Entry). (e.id.commit < commit) × (e.epoch ≤ epoch))
+      (λ (e : Entry). (e.id.commit < commit + 1) × (e.epoch ≤ epoch))
       (λ e b. let low = b.0 in (omega (arith, low), b.1)) log h.earlier;
 }
 
-appended_log : (commit epoch place : ℕ) (items : List Item) (log : List Entry) → IsBefore commit epoch log → IsBefore (commit + 1) epoch (log ++ entries_of commit epoch place items)
+appended_log : (commit epoch place : ℕ) (items : List Item) (log : List Entry) → IsBefore commit epoch log
+    → IsBefore (commit + 1) epoch (log ++ entries_of commit epoch place items)
 appended_log commit epoch place items log h = record {
   ordered = log_rises commit epoch place items log h.ordered h.earlier;
-  earlier = all_more (λ (e : Entry). (e.id.commit < commit + 1) × (e.epoch ≤ epoch)) log (entries_of commit epoch place items) (later_too commit epoch log h).earlier (own_entries commit epoch place items);
+  earlier = all_more (λ (e : Entry). (e.id.commit < commit + 1) × (e.epoch ≤ epoch)) log (entries_of commit epoch place items)
+      (later_too commit epoch log h).earlier (own_entries commit epoch place items);
 }
 
 pages_keep : (pages : List BlockValue) (cell : CellState) → (with_pages pages cell).chain.entries ≡ cell.chain.entries
 pages_keep [] cell = refl
 pages_keep (b ∷ pages) cell = pages_keep pages _
 
-entries_more : (entries : List Entry) (blocks : List BlockValue) (cell : CellState) → (with_entries entries blocks cell).chain.entries ≡ cell.chain.entries ++ entries
+entries_more : (entries : List Entry) (blocks : List BlockValue) (cell : CellState)
+    → (with_entries entries blocks cell).chain.entries ≡ cell.chain.entries ++ entries
 entries_more [] blocks cell = sym (append_nil cell.chain.entries) where
   append_nil : (l : List Entry) → l ++ [] ≡ l
   append_nil [] = refl
@@ -73,18 +78,23 @@ entries_more (e ∷ entries) blocks cell = entries_more entries _ _ ∙ append_a
 -- ---- what a retire leaves
 
 retire_one_keeps : (kept : Retired) (killed : Record) (part : PartId) (all : Retiring)
-    → ((retire_one kept killed part all).book.commit ≡ all.book.commit) × ((retire_one kept killed part all).book.snaps.epoch ≡ all.book.snaps.epoch)
+    → ((retire_one kept killed part all).book.commit ≡ all.book.commit) ×
+    ((retire_one kept killed part all).book.snaps.epoch ≡ all.book.snaps.epoch)
     × ((retire_one kept killed part all).cell.chain.entries ≡ all.cell.chain.entries)
 retire_one_keeps Kept killed part all = (refl, refl, refl)
 retire_one_keeps Free killed part all = (refl, refl, refl)
 
 retire_keeps : (ino death : ℕ) (parts : List KilledPart) (all : Retiring)
-    → ((retire_all ino death parts all).book.commit ≡ all.book.commit) × ((retire_all ino death parts all).book.snaps.epoch ≡ all.book.snaps.epoch)
+    → ((retire_all ino death parts all).book.commit ≡ all.book.commit) ×
+    ((retire_all ino death parts all).book.snaps.epoch ≡ all.book.snaps.epoch)
     × ((retire_all ino death parts all).cell.chain.entries ≡ all.cell.chain.entries)
 retire_keeps ino death [] all = (refl, refl, refl)
 retire_keeps ino death (killed ∷ rest) all =
-    let one = retire_one_keeps (retired_as (holder_of (ids all.book.snaps) (record_of ino death killed))) (record_of ino death killed) killed.part all in
-    let more = retire_keeps ino death rest (retire_one (retired_as (holder_of (ids all.book.snaps) (record_of ino death killed))) (record_of ino death killed) killed.part all) in
+    let one = retire_one_keeps (retired_as (holder_of (ids all.book.snaps) (record_of ino death killed)))
+    (record_of ino death killed) killed.part all in
+    let more = retire_keeps ino death rest
+    (retire_one (retired_as (holder_of (ids all.book.snaps) (record_of ino death killed))) (record_of ino death killed)
+    killed.part all) in
     (more.0 ∙ one.0, more.1 ∙ one.1, more.2 ∙ one.2)
 
 -- ---- what a turn leaves of the order
@@ -128,7 +138,8 @@ none_some ino e = true≢false (ap (λ (o : Option ℕ). is_none o) e)
 abbrev some_lent : Option ℕ → Bool → Option ℕ → Lent
 some_lent list pool lock = record { list = list; pool = pool; cell = None; lock = lock; book = false; commit_lock = false }
 
-quiet : (a : ℕ) (s : Shared) (w : Type 0) (list : Option ℕ) (pool : Bool) (lock : Option ℕ) (t : Turn) → AreLogsOrdered s → is_owner a s.holder ≡ false
+quiet : (a : ℕ) (s : Shared) (w : Type 0) (list : Option ℕ) (pool : Bool) (lock : Option ℕ) (t : Turn) → AreLogsOrdered s
+    → is_owner a s.holder ≡ false
     → IsFramed (some_lent list pool lock) s t → OnLocks a s w t → OnOrder a s t
 quiet a s w list pool lock (Moves t h q) logs out f on =
     (same_order a s t logs f.book (λ ino. f.cells ino (none_some ino)), not_committing t a q on.1 (ap (is_owner a) f.holder ∙ out))
@@ -136,9 +147,12 @@ quiet a s w list pool lock Waits logs out f on = tt
 quiet a s w list pool lock (Ends result t h) logs out f on = same_order a s t logs f.book (λ ino. f.cells ino (none_some ino))
 
 -- the last steps of a call keep what is shared as it is
-left_order : (a : ℕ) (s t : Shared) (w : Type 0) (turn : Turn) → OrderLeft a s t → is_owner a t.holder ≡ false → OnShared t turn → OnLocks a s w turn → OnOrder a s turn
-left_order a s t w (Moves u h q) left out same on =
-    (subst (λ (x : Shared). OrderLeft a s x) (sym same) left, not_committing u a q on.1 (subst (λ (x : Shared). is_owner a x.holder ≡ false) (sym same) out))
+left_order : (a : ℕ) (s t : Shared) (w : Type 0) (turn : Turn) → OrderLeft a s t → is_owner a t.holder ≡ false → OnShared t turn
+    → OnLocks a s w turn → OnOrder a s turn
+left_order a s t w (Moves u h q) left out same on = (
+  subst (λ (x : Shared). OrderLeft a s x) (sym same) left,
+  not_committing u a q on.1 (subst (λ (x : Shared). is_owner a x.holder ≡ false) (sym same) out),
+)
 left_order a s t w Waits left out same on = tt
 left_order a s t w (Ends result u h) left out same on = subst (λ (x : Shared). OrderLeft a s x) (sym same) left
 
@@ -181,9 +195,11 @@ none_opening : (written : List ℕ) (b : Bool) → to_append (if b then Open els
 none_opening written true = refl
 none_opening written false = none_publishing 0 written (nat_lt 0 (length written))
 
-still_left : (place : ℕ) (written : List ℕ) (b : Bool) (ino : ℕ) → has (to_append (if b then Append place else opening written) written) ino ≡ true → has (drop place written) ino ≡ true
+still_left : (place : ℕ) (written : List ℕ) (b : Bool) (ino : ℕ)
+    → has (to_append (if b then Append place else opening written) written) ino ≡ true → has (drop place written) ino ≡ true
 still_left place written true ino there = there
-still_left place written false ino there = absurd (nothing_left (opening written) written ino (none_opening written (nat_lt 1 (length written))) there)
+still_left place written false ino there = absurd
+    (nothing_left (opening written) written ino (none_opening written (nat_lt 1 (length written))) there)
 
 -- ---- the kinds of a commit
 
@@ -194,7 +210,8 @@ pub record EnteredAt (s : Shared) (k : Next) (r : Running) : Type 0 where
   pub earlier : (ino : ℕ) → has (to_append k (written_slots r)) ino ≡ true → IsBefore r.commit r.epoch (entries_at s ino)
 
 -- a commit that has appended all
-entered_on : (s t : Shared) (k next : Next) (r : Running) → EnteredAt s k r → KeepsNumber s t → to_append next (written_slots r) ≡ [] → CommitsIn t (Some (go_to next r))
+entered_on : (s t : Shared) (k next : Next) (r : Running) → EnteredAt s k r → KeepsNumber s t
+    → to_append next (written_slots r) ≡ [] → CommitsIn t (Some (go_to next r))
 entered_on s t k next r own kept none e = record {
   commit = own.commit ∙ sym kept.commit;
   epoch = own.epoch ∙ sym kept.epoch;
@@ -205,28 +222,35 @@ same_number : (s : Shared) → KeepsNumber s s
 same_number s = record { commit = refl; epoch = refl }
 
 -- a cell with other entries, in order, in a world whose book keeps number and epoch
-changed_logs : (s : Shared) (slot : ℕ) (book : BookState) (cell : CellState) → AreLogsOrdered s → book.commit ≡ s.book.commit → book.snaps.epoch ≡ s.book.snaps.epoch
+changed_logs : (s : Shared) (slot : ℕ) (book : BookState) (cell : CellState) → AreLogsOrdered s → book.commit ≡ s.book.commit
+    → book.snaps.epoch ≡ s.book.snaps.epoch
     → IsBefore (s.book.commit + 1) s.book.snaps.epoch cell.chain.entries → AreLogsOrdered (with_cell slot cell (with_book book s))
 changed_logs s slot book cell logs c e new ino = go (slot == ino) refl where
   in_order : List Entry → Type 0
   in_order entries = IsBefore (s.book.commit + 1) s.book.snaps.epoch entries
 
-  here : slot ≡ ino → (b : Bool) → nat_lt slot (length s.cells) ≡ b → IsBefore (s.book.commit + 1) s.book.snaps.epoch (entries_at (with_cell slot cell s) ino)
+  here : slot ≡ ino → (b : Bool) → nat_lt slot (length s.cells) ≡ b
+      → IsBefore (s.book.commit + 1) s.book.snaps.epoch (entries_at (with_cell slot cell s) ino)
   here is true inside = subst (λ (n : ℕ). IsBefore (s.book.commit + 1) s.book.snaps.epoch (entries_at (with_cell slot cell s) n)) is
-      (subst (λ (x : CellState). IsBefore (s.book.commit + 1) s.book.snaps.epoch x.chain.entries) (sym (get_or-set_same s.cells slot cell no_cell (ltb-true slot (length s.cells) inside))) new)
-  here is false outside = subst (λ (l : List CellState). IsBefore (s.book.commit + 1) s.book.snaps.epoch (slice_index_or l ino no_cell).chain.entries)
+      (subst (λ (x : CellState). IsBefore (s.book.commit + 1) s.book.snaps.epoch x.chain.entries)
+      (sym (get_or-set_same s.cells slot cell no_cell (ltb-true slot (length s.cells) inside))) new)
+  here is false outside = subst (λ (l : List CellState). IsBefore (s.book.commit + 1) s.book.snaps.epoch
+      (slice_index_or l ino no_cell).chain.entries)
       (sym (set_past s.cells slot cell (ltb-false slot (length s.cells) outside))) (logs ino)
 
   found : (b : Bool) → (slot == ino) ≡ b → IsBefore (s.book.commit + 1) s.book.snaps.epoch (entries_at (with_cell slot cell s) ino)
   found true is = here (eqb-true slot ino is) (nat_lt slot (length s.cells)) refl
-  found false is = subst (λ (x : CellState). IsBefore (s.book.commit + 1) s.book.snaps.epoch x.chain.entries) (sym (get_or-set_other s.cells slot ino cell no_cell (λ e2. eqb-false slot ino is (sym e2)))) (logs ino)
+  found false is = subst (λ (x : CellState). IsBefore (s.book.commit + 1) s.book.snaps.epoch x.chain.entries)
+      (sym (get_or-set_other s.cells slot ino cell no_cell (λ e2. eqb-false slot ino is (sym e2)))) (logs ino)
 
-  go : (b : Bool) → (slot == ino) ≡ b → IsBefore (book.commit + 1) book.snaps.epoch (entries_at (with_cell slot cell (with_book book s)) ino)
+  go : (b : Bool) → (slot == ino) ≡ b
+      → IsBefore (book.commit + 1) book.snaps.epoch (entries_at (with_cell slot cell (with_book book s)) ino)
   go b is = subst (λ (n : ℕ). IsBefore (n + 1) book.snaps.epoch (entries_at (with_cell slot cell s) ino)) (sym c)
       (subst (λ (n : ℕ). IsBefore (s.book.commit + 1) n (entries_at (with_cell slot cell s) ino)) (sym e) (found b is))
 
 -- the same where the book stays
-changed_cell : (s : Shared) (slot : ℕ) (cell : CellState) → AreLogsOrdered s → IsBefore (s.book.commit + 1) s.book.snaps.epoch cell.chain.entries → AreLogsOrdered (with_cell slot cell s)
+changed_cell : (s : Shared) (slot : ℕ) (cell : CellState) → AreLogsOrdered s
+    → IsBefore (s.book.commit + 1) s.book.snaps.epoch cell.chain.entries → AreLogsOrdered (with_cell slot cell s)
 changed_cell s slot cell logs new = changed_logs s slot s.book cell logs refl refl new
 
 or_first : (b c : Bool) → b ≡ true → (b || c) ≡ true
@@ -237,60 +261,76 @@ or_second true c e = refl
 or_second false c e = e
 
 -- one cell gets its entries
-appended_cell : (s : Shared) (r : Running) (slot : ℕ) (blocks pages : List BlockValue) → r.commit ≡ s.book.commit → r.epoch ≡ s.book.snaps.epoch → IsBefore r.commit r.epoch (entries_at s slot)
-    → IsBefore (s.book.commit + 1) s.book.snaps.epoch (with_entries (entries_for r slot) blocks (with_pages pages (cell_at s slot))).chain.entries
+appended_cell : (s : Shared) (r : Running) (slot : ℕ) (blocks pages : List BlockValue) → r.commit ≡ s.book.commit
+    → r.epoch ≡ s.book.snaps.epoch → IsBefore r.commit r.epoch (entries_at s slot)
+    → IsBefore (s.book.commit + 1) s.book.snaps.epoch
+    (with_entries (entries_for r slot) blocks (with_pages pages (cell_at s slot))).chain.entries
 appended_cell s r slot blocks pages c e early =
-    let same : (with_entries (entries_for r slot) blocks (with_pages pages (cell_at s slot))).chain.entries ≡ entries_at s slot ++ entries_for r slot =
-    entries_more (entries_for r slot) blocks (with_pages pages (cell_at s slot)) ∙ ap (λ (l : List Entry). l ++ entries_for r slot) (pages_keep pages (cell_at s slot)) in
+    let same : (with_entries (entries_for r slot) blocks (with_pages pages (cell_at s slot))).chain.entries
+    ≡ entries_at s slot ++ entries_for r slot =
+    entries_more (entries_for r slot) blocks (with_pages pages (cell_at s slot))
+    ∙ ap (λ (l : List Entry). l ++ entries_for r slot) (pages_keep pages (cell_at s slot)) in
     subst (λ (l : List Entry). IsBefore (s.book.commit + 1) s.book.snaps.epoch l) (sym same)
     (subst (λ (n : ℕ). IsBefore (n + 1) s.book.snaps.epoch (entries_at s slot ++ entries_for r slot)) c
     (subst (λ (n : ℕ). IsBefore (r.commit + 1) n (entries_at s slot ++ entries_for r slot)) e
     (appended_log r.commit r.epoch (place_in r.plan slot) (items_for r.plan slot) (entries_at s slot) early)))
 
 -- and those that are yet to be appended to have none of its commit
-others_early : (s : Shared) (k : Next) (r : Running) (place slot : ℕ) (cell : CellState) → slot_at (written_slots r) place ≡ slot → IsRising (written_slots r) → place < length (written_slots r)
+others_early : (s : Shared) (k : Next) (r : Running) (place slot : ℕ) (cell : CellState)
+    → slot_at (written_slots r) place ≡ slot → IsRising (written_slots r) → place < length (written_slots r)
     → ((ino : ℕ) → has (drop place (written_slots r)) ino ≡ true → IsBefore r.commit r.epoch (entries_at s ino))
     → (ino : ℕ) → has (drop (place + 1) (written_slots r)) ino ≡ true → IsBefore r.commit r.epoch (entries_at (with_cell slot cell s) ino)
 others_early s k r place slot cell is rising inside early ino there =
-    let other : ino ≢ slot = λ same. false≢true (sym (drop_apart place (written_slots r) rising inside) ∙ ap (λ (n : ℕ). has (drop (place + 1) (written_slots r)) n) (is ∙ sym same) ∙ there) in
+    let other : ino ≢ slot = λ same. false≢true
+    (sym (drop_apart place (written_slots r) rising inside)
+    ∙ ap (λ (n : ℕ). has (drop (place + 1) (written_slots r)) n) (is ∙ sym same) ∙ there) in
     subst (λ (x : CellState). IsBefore r.commit r.epoch x.chain.entries) (sym (get_or-set_other s.cells slot ino cell no_cell other))
-    (early ino (has_drop place (written_slots r) ino inside ∙ or_second (slot_at (written_slots r) place == ino) (has (drop (place + 1) (written_slots r)) ino) there))
+    (early ino (has_drop place (written_slots r) ino inside
+    ∙ or_second (slot_at (written_slots r) place == ino) (has (drop (place + 1) (written_slots r)) ino) there))
 
-append_order : (a place pages : ℕ) (s : Shared) (h : HandState) (r : Running) → Before a s (Append place) r → EnteredAt s (Append place) r → AreLogsOrdered s
+append_order : (a place pages : ℕ) (s : Shared) (h : HandState) (r : Running) → Before a s (Append place) r
+    → EnteredAt s (Append place) r → AreLogsOrdered s
     → OnOrder a s (append_turn (slot_at (written_slots r) place) pages place s h r)
 append_order a place pages s h r b own logs =
     let slot = slot_at (written_slots r) place in
     let here : has (drop place (written_slots r)) slot ≡ true =
-    has_drop place (written_slots r) slot b.inside ∙ or_first (slot == slot) (has (drop (place + 1) (written_slots r)) slot) (self slot) in
+    has_drop place (written_slots r) slot b.inside
+    ∙ or_first (slot == slot) (has (drop (place + 1) (written_slots r)) slot) (self slot) in
     let cell = with_entries (entries_for r slot) h.blocks (with_pages (take pages h.pages) (cell_at s slot)) in (
       record {
-        logs = changed_cell s slot cell logs (appended_cell s r slot h.blocks (take pages h.pages) own.commit own.epoch (own.earlier slot here));
+        logs = changed_cell s slot cell logs
+            (appended_cell s r slot h.blocks (take pages h.pages) own.commit own.epoch (own.earlier slot here));
         others = λ o ne e. record { commit = refl; epoch = refl };
       },
       λ e. record {
         commit = own.commit;
         epoch = own.epoch;
-        earlier = λ ino there. others_early s (Append place) r place slot cell refl (rising_filter (is_written r.plan) r.slots b.are.rising) b.inside own.earlier ino
+        earlier = λ ino there. others_early s (Append place) r place slot cell refl
+            (rising_filter (is_written r.plan) r.slots b.are.rising) b.inside own.earlier ino
             (still_left (place + 1) (written_slots r) (nat_lt (place + 1) (length (written_slots r))) ino there);
       },
     )
 
-publish_order : (a place : ℕ) (s : Shared) (h : HandState) (r : Running) → EnteredAt s (Publish place) r → AreLogsOrdered s → OnOrder a s (publish_turn (slot_at (written_slots r) place) place s h r)
+publish_order : (a place : ℕ) (s : Shared) (h : HandState) (r : Running) → EnteredAt s (Publish place) r → AreLogsOrdered s
+    → OnOrder a s (publish_turn (slot_at (written_slots r) place) place s h r)
 publish_order a place s h r own logs = (
   record {
-    logs = changed_cell s (slot_at (written_slots r) place) (published (cell_at s (slot_at (written_slots r) place))) logs (logs (slot_at (written_slots r) place));
+    logs = changed_cell s (slot_at (written_slots r) place) (published (cell_at s (slot_at (written_slots r) place))) logs
+        (logs (slot_at (written_slots r) place));
     others = λ o ne e. record { commit = refl; epoch = refl };
   },
   entered_on s _ (Publish place) (publishing (place + 1) (written_slots r)) r own (record { commit = refl; epoch = refl })
       (none_publishing (place + 1) (written_slots r) (nat_lt (place + 1) (length (written_slots r)))),
 )
 
-erase_order : (a : ℕ) (erases : Bool) (all : Retiring) (place slot : ℕ) (s : Shared) (h : HandState) (r : Running) → EnteredAt s (Retire place) r
+erase_order : (a : ℕ) (erases : Bool) (all : Retiring) (place slot : ℕ) (s : Shared) (h : HandState) (r : Running)
+    → EnteredAt s (Retire place) r
     → KeepsNumber s (with_cell slot all.cell (with_book all.book s)) → AreLogsOrdered (with_cell slot all.cell (with_book all.book s))
     → OnOrder a s (erase_turn erases slot place (with_cell slot all.cell (with_book all.book s)) h r)
 erase_order a false all place slot s h r own kept logs = (
   record { logs = logs; others = λ o ne e. kept },
-  entered_on s _ (Retire place) (retiring (place + 1) (written_slots r)) r own kept (none_retiring (place + 1) (written_slots r) (nat_lt (place + 1) (length (written_slots r)))),
+  entered_on s _ (Retire place) (retiring (place + 1) (written_slots r)) r own kept
+      (none_retiring (place + 1) (written_slots r) (nat_lt (place + 1) (length (written_slots r)))),
 )
 erase_order a true all place slot s h r own kept logs = (
   record {
@@ -301,13 +341,15 @@ erase_order a true all place slot s h r own kept logs = (
       (none_retiring (place + 1) (written_slots r) (nat_lt (place + 1) (length (written_slots r)))),
 )
 
-retire_order : (a place : ℕ) (s : Shared) (h : HandState) (r : Running) → EnteredAt s (Retire place) r → AreLogsOrdered s → OnOrder a s (retire_turn (slot_at (written_slots r) place) place s h r)
+retire_order : (a place : ℕ) (s : Shared) (h : HandState) (r : Running) → EnteredAt s (Retire place) r → AreLogsOrdered s
+    → OnOrder a s (retire_turn (slot_at (written_slots r) place) place s h r)
 retire_order a place s h r own logs =
     let slot = slot_at (written_slots r) place in
     let all = retired_by slot s h r in
     let keeps = retire_keeps slot r.epoch (first_killed h.killed) (record { book = s.book; cell = cell_at s slot; freed = [] }) in
     erase_order a _ all place slot s _ r own (record { commit = keeps.0; epoch = keeps.1 })
-    (changed_logs s slot all.book all.cell logs keeps.0 keeps.1 (subst (λ (l : List Entry). IsBefore (s.book.commit + 1) s.book.snaps.epoch l) (sym keeps.2) (logs slot)))
+    (changed_logs s slot all.book all.cell logs keeps.0 keeps.1
+    (subst (λ (l : List Entry). IsBefore (s.book.commit + 1) s.book.snaps.epoch l) (sym keeps.2) (logs slot)))
 
 -- the commit lock is nobody's before an enter that goes on
 not_held : (a : ℕ) (s : Shared) → s.holder ≡ None → is_owner a s.holder ≡ false
@@ -316,11 +358,14 @@ not_held a s e = ap (is_owner a) e
 pub stays_order : (a : ℕ) (s : Shared) → AreLogsOrdered s → OrderLeft a s s
 stays_order a s logs = same_order a s s logs refl (λ ino. refl)
 
-enter_order : (a : ℕ) (holder : Option ℕ) (last granted : Bool) (s : Shared) (h : HandState) (r : Running) (w : Type 0) → s.holder ≡ holder → AreLogsOrdered s
+enter_order : (a : ℕ) (holder : Option ℕ) (last granted : Bool) (s : Shared) (h : HandState) (r : Running) (w : Type 0)
+    → s.holder ≡ holder → AreLogsOrdered s
     → OnLocks a s w (enter_turn holder last granted a s h r) → OnOrder a s (enter_turn holder last granted a s h r)
 enter_order a (Some other) last granted s h r w e logs on = tt
-enter_order a None true granted s h r w e logs on = left_order a s s w _ (stays_order a s logs) (not_held a s e) (end_shared r.slots _ s h r) on
-enter_order a None false false s h r w e logs on = left_order a s s w _ (stays_order a s logs) (not_held a s e) (end_shared r.slots _ s h r) on
+enter_order a None true granted s h r w e logs on = left_order a s s w _ (stays_order a s logs) (not_held a s e)
+    (end_shared r.slots _ s h r) on
+enter_order a None false false s h r w e logs on = left_order a s s w _ (stays_order a s logs) (not_held a s e)
+    (end_shared r.slots _ s h r) on
 enter_order a None false true s h r w e logs on = (
   record {
     logs = λ ino. later_too (s.book.commit + 1) s.book.snaps.epoch (entries_at s ino) (logs ino);
@@ -331,36 +376,53 @@ enter_order a None false true s h r w e logs on = (
 
 -- ---- every kind
 
-pub order_kept : (k : Next) (block a : ℕ) (granted : Bool) (s : Shared) (h : HandState) (r : Running) → Before a s k r → (commits_at k ≡ true → EnteredAt s k r) → AreLogsOrdered s
+pub order_kept : (k : Next) (block a : ℕ) (granted : Bool) (s : Shared) (h : HandState) (r : Running) → Before a s k r
+    → (commits_at k ≡ true → EnteredAt s k r) → AreLogsOrdered s
     → OnOrder a s (kind_turn k block a granted s h r)
-order_kept Number block a granted s h r b own logs = quiet a s _ None true None _ logs b.mine.holder (framed Number block a granted s h r) (locks_kept Number block a granted s h r b)
+order_kept Number block a granted s h r b own logs = quiet a s _ None true None _ logs b.mine.holder
+    (framed Number block a granted s h r) (locks_kept Number block a granted s h r b)
 order_kept (Look place) block a granted s h r b own logs =
-    quiet a s _ None false None _ logs b.mine.holder (framed (Look place) block a granted s h r) (locks_kept (Look place) block a granted s h r b)
+    quiet a s _ None false None _ logs b.mine.holder (framed (Look place) block a granted s h r)
+    (locks_kept (Look place) block a granted s h r b)
 order_kept (Lock place) block a granted s h r b own logs =
-    quiet a s _ None false (Some (slot_at r.slots place)) _ logs b.mine.holder (framed (Lock place) block a granted s h r) (locks_kept (Lock place) block a granted s h r b)
-order_kept Check block a granted s h r b own logs = quiet a s _ None false None _ logs b.mine.holder (framed Check block a granted s h r) (locks_kept Check block a granted s h r b)
+    quiet a s _ None false (Some (slot_at r.slots place)) _ logs b.mine.holder (framed (Lock place) block a granted s h r)
+    (locks_kept (Lock place) block a granted s h r b)
+order_kept Check block a granted s h r b own logs = quiet a s _ None false None _ logs b.mine.holder
+    (framed Check block a granted s h r) (locks_kept Check block a granted s h r b)
 order_kept (TakeBlocks asked) block a granted s h r b own logs =
-    quiet a s _ (Some (asked_list (length s.lists) a asked)) false None _ logs b.mine.holder (framed (TakeBlocks asked) block a granted s h r) (locks_kept (TakeBlocks asked) block a granted s h r b)
+    quiet a s _ (Some (asked_list (length s.lists) a asked)) false None _ logs b.mine.holder
+    (framed (TakeBlocks asked) block a granted s h r) (locks_kept (TakeBlocks asked) block a granted s h r b)
 order_kept (TakePages asked) block a granted s h r b own logs =
-    quiet a s _ (Some (asked_list (length s.lists) a asked)) false None _ logs b.mine.holder (framed (TakePages asked) block a granted s h r) (locks_kept (TakePages asked) block a granted s h r b)
-order_kept Ready block a granted s h r b own logs = quiet a s _ None false None _ logs b.mine.holder (framed Ready block a granted s h r) (locks_kept Ready block a granted s h r b)
-order_kept Enter block a granted s h r b own logs = enter_order a s.holder _ granted s h r _ refl logs (locks_kept Enter block a granted s h r b)
+    quiet a s _ (Some (asked_list (length s.lists) a asked)) false None _ logs b.mine.holder
+    (framed (TakePages asked) block a granted s h r) (locks_kept (TakePages asked) block a granted s h r b)
+order_kept Ready block a granted s h r b own logs = quiet a s _ None false None _ logs b.mine.holder
+    (framed Ready block a granted s h r) (locks_kept Ready block a granted s h r b)
+order_kept Enter block a granted s h r b own logs = enter_order a s.holder _ granted s h r _ refl logs
+    (locks_kept Enter block a granted s h r b)
 order_kept (Append place) block a granted s h r b own logs = append_order a place _ s h r b (own refl) logs
 order_kept Open block a granted s h r b own logs = (
   record { logs = logs; others = λ o ne e. record { commit = refl; epoch = refl } },
-  entered_on s _ Open (publishing 0 (written_slots r)) r (own refl) (record { commit = refl; epoch = refl }) (none_publishing 0 (written_slots r) (nat_lt 0 (length (written_slots r)))),
+  entered_on s _ Open (publishing 0 (written_slots r)) r (own refl) (record { commit = refl; epoch = refl })
+      (none_publishing 0 (written_slots r) (nat_lt 0 (length (written_slots r)))),
 )
 order_kept (Publish place) block a granted s h r b own logs = publish_order a place s h r (own refl) logs
 order_kept Close block a granted s h r b own logs = (
   record { logs = logs; others = λ o ne e. record { commit = refl; epoch = refl } },
-  entered_on s _ Close (retiring 0 (written_slots r)) r (own refl) (record { commit = refl; epoch = refl }) (none_retiring 0 (written_slots r) (nat_lt 0 (length (written_slots r)))),
+  entered_on s _ Close (retiring 0 (written_slots r)) r (own refl) (record { commit = refl; epoch = refl })
+      (none_retiring 0 (written_slots r) (nat_lt 0 (length (written_slots r)))),
 )
 order_kept (Retire place) block a granted s h r b own logs = retire_order a place s h r (own refl) logs
 order_kept Leave block a granted s h r b own logs =
-    left_order a s (record s { holder = None }) _ _ (record { logs = logs; others = λ o ne e. record { commit = refl; epoch = refl } }) refl (end_shared r.slots _ _ h r) (locks_kept Leave block a granted s h r b)
+    left_order a s (record s { holder = None }) _ _
+    (record { logs = logs; others = λ o ne e. record { commit = refl; epoch = refl } }) refl (end_shared r.slots _ _ h r)
+    (locks_kept Leave block a granted s h r b)
 order_kept (Unlock place) block a granted s h r b own logs =
-    quiet a s _ None false (Some (slot_at r.slots place)) _ logs b.mine.holder (framed (Unlock place) block a granted s h r) (locks_kept (Unlock place) block a granted s h r b)
+    quiet a s _ None false (Some (slot_at r.slots place)) _ logs b.mine.holder (framed (Unlock place) block a granted s h r)
+    (locks_kept (Unlock place) block a granted s h r b)
 order_kept (Give cpu) block a granted s h r b own logs =
-    quiet a s _ (Some cpu) false None _ logs b.mine.holder (framed (Give cpu) block a granted s h r) (locks_kept (Give cpu) block a granted s h r b)
-order_kept Back block a granted s h r b own logs = quiet a s _ None true None _ logs b.mine.holder (framed Back block a granted s h r) (locks_kept Back block a granted s h r b)
-order_kept Visit block a granted s h r b own logs = quiet a s _ None false None _ logs b.mine.holder (framed Visit block a granted s h r) (locks_kept Visit block a granted s h r b)
+    quiet a s _ (Some cpu) false None _ logs b.mine.holder (framed (Give cpu) block a granted s h r)
+    (locks_kept (Give cpu) block a granted s h r b)
+order_kept Back block a granted s h r b own logs = quiet a s _ None true None _ logs b.mine.holder
+    (framed Back block a granted s h r) (locks_kept Back block a granted s h r b)
+order_kept Visit block a granted s h r b own logs = quiet a s _ None false None _ logs b.mine.holder
+    (framed Visit block a granted s h r) (locks_kept Visit block a granted s h r b)

@@ -10,7 +10,8 @@ use Rattle.nv_core.specs.machine.World.{Done, Go, Moved, Refused, Start, Started
 use Rattle.nv_core.proofs.steps.Scripts.{DoCall, Goes, Line, StartCall, chain_count, device, free_count, handle, line, play, played, shown}
 
 -- a create with one taking has eighteen steps
-created : replies (formatted device) (Start 0 (call.Create (handle 0 1) (97 ∷ []) 420) ∷ replicate 18 (Go 0 true)) ≡ Started ∷ replicate 17 Moved ++ Done (answer.Made (handle 1 1)) ∷ []
+created : replies (formatted device) (Start 0 (call.Create (handle 0 1) (97 ∷ []) 420) ∷ replicate 18 (Go 0 true))
+    ≡ Started ∷ replicate 17 Moved ++ Done (answer.Made (handle 1 1)) ∷ []
 created = refl
 
 -- ---- events and lines
@@ -109,7 +110,8 @@ after_the_close : map shown (tree_of (line (played (formatted device) renames) (
 after_the_close = refl
 
 -- the replaced file is erased
-at_the_end : line (played (formatted device) renames) (Goes 0 99) ≡ stays (Done answer.Nothing) (line (played (formatted device) renames) (Goes 0 99)).world
+at_the_end : line (played (formatted device) renames) (Goes 0 99)
+    ≡ stays (Done answer.Nothing) (line (played (formatted device) renames) (Goes 0 99)).world
 at_the_end = refl
 
 erased_free : free_count (line (played (formatted device) renames) (Goes 0 99)).world.shared ≡ 11

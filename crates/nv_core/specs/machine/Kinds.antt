@@ -33,7 +33,7 @@ use Rattle.nv_journal.specs.declared.old_tail.OldTail.{OldTail}
 use Rattle.nv_log.specs.Chain.{with_page}
 use Rattle.nv_core.specs.machine.Reads.{copies, filled, fresh_pages, home_from, pages_wanted, plan_by, slot_at, slots_of, written_slots}
 use Rattle.nv_core.specs.machine.Sequence.{sequel}
-use Rattle.nv_core.specs.machine.World.{Answers, Append, Back, Close, Ending, Ends, Enter, Give, HandState, Lock, Look, Moves, Next, Number, Open, Overtaken, Publish, Ready, Refuses, Retire, Running, Shared, TakeBlocks, TakePages, Turn, Unlock, Waits, cell_at, go_to, list_at, with_book, with_cell, with_list, with_owner}
+use Rattle.nv_core.specs.machine.World.{Answers, Append, Back, Close, Ending, Ends, Enter, Give, HandState, Lock, Look, Moves, Next, Number, Open, Overtaken, Publish, Ready, Refuses, Retire, Running, Shared, TakeBlocks, TakePages, Turn, Unlock, Waits, cell_at, go_to, list_at, with_book, with_cell, with_list, with_numbers, with_owner}
 
 -- ---- how a call ends
 
@@ -84,7 +84,7 @@ go_on done s h r = Moves s h (go_to (sequel r done) r)
 abbrev pub number_turn : List ℕ → Shared → HandState → Running → Turn
 number_turn [] s h r = go_on Number s h (record r { slots = slots_of s None r.looked r.call })
 number_turn (ino ∷ numbers) s h r =
-    go_on Number (record s { pool = record s.pool { numbers = numbers } }) (record h { ino = Some ino }) (record r { slots = slots_of s (Some ino) r.looked r.call })
+    go_on Number (with_numbers numbers s) (record h { ino = Some ino }) (record r { slots = slots_of s (Some ino) r.looked r.call })
 
 -- ---- look: what the names of one directory are bound to
 
@@ -167,9 +167,12 @@ take_pages_turn cpu asked s h r =
 
 -- ---- ready: all growths; then the fresh blocks have their bytes
 
+abbrev pub with_bytes : ℕ → Shared → Running → HandState → HandState
+with_bytes block s r h = record h { blocks = filled (fresh_pages block (copies s) r.call) h.blocks }
+
 abbrev pub ready_turn : Bool → ℕ → Shared → HandState → Running → Turn
 ready_turn granted block s h r =
-    grown granted (go_on Ready s (record h { blocks = filled (fresh_pages block (copies s) r.call) h.blocks }) (record r { plan = plan_by block s h r })) s h r
+    grown granted (go_on Ready s (with_bytes block s r h) (record r { plan = plan_by block s h r })) s h r
 
 -- ---- enter: the commit lock, and the commit's number and epoch
 
@@ -190,7 +193,8 @@ with_pages (b ∷ blocks) cell = with_pages blocks (record cell { chain = with_p
 -- a cell with more entries, each with the blocks of its pages from the front of these
 abbrev pub with_entries : List Entry → List BlockValue → CellState → CellState
 with_entries [] blocks cell = cell
-with_entries (e ∷ entries) blocks cell = with_entries entries (drop (length (item_blocks e.item)) blocks) (appended e (blocks_for e.item blocks) cell)
+with_entries (e ∷ entries) blocks cell =
+    with_entries entries (drop (length (item_blocks e.item)) blocks) (appended e (blocks_for e.item blocks) cell)
 
 -- what these leave of the blocks
 abbrev pub blocks_left : List Entry → List BlockValue → List BlockValue
@@ -227,9 +231,12 @@ if_part (Some part) = part ∷ []
 abbrev pub killed_by_publish : CellState → List KilledPart
 killed_by_publish cell = flat_map (λ n. if_part (killed_part cell.chain.entries n)) (killed_of cell)
 
+abbrev pub with_killed : List KilledPart → HandState → HandState
+with_killed parts h = record h { killed = h.killed ++ parts ∷ [] }
+
 abbrev pub publish_turn : ℕ → ℕ → Shared → HandState → Running → Turn
 publish_turn ino place s h r =
-    go_on (Publish place) (with_cell ino (published (cell_at s ino)) s) (record h { killed = h.killed ++ killed_by_publish (cell_at s ino) ∷ [] }) r
+    go_on (Publish place) (with_cell ino (published (cell_at s ino)) s) (with_killed (killed_by_publish (cell_at s ino)) h) r
 
 -- ---- retire: the killed parts of one inode, in order
 
@@ -247,17 +254,23 @@ if_block None = []
 if_block (Some b) = b ∷ []
 
 abbrev pub retire_one : Retired → Record → PartId → Retiring → Retiring
-retire_one Kept killed part all = record all { book = after_retire killed all.book; cell = with_mark all.cell (number_in all.cell part) mark.Kept }
+retire_one Kept killed part all = record all {
+  book = after_retire killed all.book;
+  cell = with_mark all.cell (number_in all.cell part) mark.Kept;
+}
 retire_one Free killed part all = record {
   book = after_retire killed all.book;
   cell = without_part all.cell (number_in all.cell part);
   freed = all.freed ++ if_block (slice_index_or all.cell.blocks (number_in all.cell part) None);
 }
 
+abbrev pub retire_next : ℕ → ℕ → KilledPart → Retiring → Retiring
+retire_next ino death killed all =
+    retire_one (retired_as (holder_of (ids all.book.snaps) (record_of ino death killed))) (record_of ino death killed) killed.part all
+
 abbrev pub retire_all : ℕ → ℕ → List KilledPart → Retiring → Retiring
 retire_all ino death [] all = all
-retire_all ino death (killed ∷ rest) all =
-    retire_all ino death rest (retire_one (retired_as (holder_of (ids all.book.snaps) (record_of ino death killed))) (record_of ino death killed) killed.part all)
+retire_all ino death (killed ∷ rest) all = retire_all ino death rest (retire_next ino death killed all)
 
 -- what was killed first
 abbrev pub first_killed : List (List KilledPart) → List KilledPart
@@ -270,12 +283,18 @@ abbrev pub number_left : Bool → ℕ → Option ℕ → Option ℕ
 number_left true ino number = Some ino
 number_left false ino number = number
 
+abbrev pub erased : CellState → CellState
+erased cell = empty_cell cell.block cell.chain.page (cell.generation + 1) cell.version
+
+abbrev pub with_erased : ℕ → CellState → HandState → HandState
+with_erased ino cell h = record h {
+  chain = h.chain ++ cell.chain.blocks;
+  ino = number_left (nat_lt (cell.generation + 1) NUMBER) ino h.ino;
+}
+
 abbrev pub erase_turn : Bool → ℕ → ℕ → Shared → HandState → Running → Turn
 erase_turn false ino place s h r = go_on (Retire place) s h r
-erase_turn true ino place s h r =
-    go_on (Retire place)
-    (with_cell ino (empty_cell (cell_at s ino).block (cell_at s ino).chain.page ((cell_at s ino).generation + 1) (cell_at s ino).version) s)
-    (record h { chain = h.chain ++ (cell_at s ino).chain.blocks; ino = number_left (nat_lt ((cell_at s ino).generation + 1) NUMBER) ino h.ino }) r
+erase_turn true ino place s h r = go_on (Retire place) (with_cell ino (erased (cell_at s ino)) s) (with_erased ino (cell_at s ino) h) r
 
 abbrev pub retired_turn : Retiring → ℕ → ℕ → Shared → HandState → Running → Turn
 retired_turn all ino place s h r =
@@ -312,16 +331,18 @@ given cpu s h = record h {
   chain = kept_of (after_giving (list_at s cpu) (h.blocks ++ h.pages)) h.chain;
 }
 
+abbrev pub with_given : ℕ → HandState → Shared → Shared
+with_given cpu h s = with_list cpu (after_giving (list_at s cpu) (blocks_in h)) s
+
 abbrev pub give_turn : ℕ → Shared → HandState → Running → Turn
 give_turn cpu s h r =
-    rest_turn (home_from (cpu + 1) 0 s.lists (blocks_in (given cpu s h))) h.ino (with_list cpu (after_giving (list_at s cpu) (blocks_in h)) s) (given cpu s h) r
+    rest_turn (home_from (cpu + 1) 0 s.lists (blocks_in (given cpu s h))) h.ino (with_given cpu h s) (given cpu s h) r
 
 -- ---- back: the number in the hand goes to the pool
 
 abbrev pub back_turn : Option ℕ → Shared → HandState → Running → Turn
 back_turn None s h r = Ends (result_by r.ending r) s h
-back_turn (Some ino) s h r =
-    Ends (result_by r.ending r) (record s { pool = record s.pool { numbers = put_by (λ n. n) ino s.pool.numbers } }) (record h { ino = None })
+back_turn (Some ino) s h r = Ends (result_by r.ending r) (with_numbers (put_by (λ n. n) ino s.pool.numbers) s) (record h { ino = None })
 
 -- ---- visit
 

@@ -108,14 +108,18 @@ taken_by block s h r = record { made = r.made; runs = runs_of (numbers_of h.bloc
 abbrev pub plan_by : ℕ → Shared → HandState → Running → List Planned
 plan_by block s h r = plan block (copies s) (taken_by block s h r) r.call
 
--- how many log pages a plan's entries need, over these slots
+-- how many log pages a plan's entries for a slot need, and those for several
+abbrev pub pages_needed : Shared → List Planned → ℕ → ℕ
+pages_needed s plan ino = pages_for (cell_at s ino).chain (length (items_for plan ino))
+
 abbrev pub pages_wanted : Shared → List ℕ → List Planned → ℕ
-pages_wanted s slots plan = sum_by (λ ino. pages_for (cell_at s ino).chain (length (items_for plan ino))) slots
+pages_wanted s slots plan = sum_by (pages_needed s plan) slots
 
 -- the bytes of a call's fresh pages: of each page that a text touches, and of one that is cut, after the call
 abbrev pub fresh_pages : ℕ → (Handle → Option NodeCopy) → Call → List (List ℕ)
 fresh_pages block nodes (call.Write file offset text) =
-    map (λ page. page_of block page (written offset text (bytes_of (nodes file)))) (range_with_len (offset / block) (pages_touched block offset (length text)))
+    map (λ page. page_of block page (written offset text (bytes_of (nodes file))))
+    (range_with_len (offset / block) (pages_touched block offset (length text)))
 fresh_pages block nodes (call.Size file size) = page_of block (size / block) (resized size (bytes_of (nodes file))) ∷ []
 fresh_pages block nodes other = []
 

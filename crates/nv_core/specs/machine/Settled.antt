@@ -3,6 +3,7 @@ use Rattle.std.specs.Prelude.{ℕ, ◌==◌, if◌then◌else◌, List, [], ◌�
 use Rattle.nv_base.specs.declared.numbers.Handle.{Handle}
 use Rattle.nv_calls.specs.Plain.{PlainNode, node_in, stamped}
 use Rattle.nv_calls.specs.Slots.{last_commit}
+use Rattle.nv_cell.specs.Cell.{CellState}
 use Rattle.nv_entry.specs.Node.{node_now}
 use Rattle.nv_entry.specs.Tree.{root, tree_from}
 use Rattle.nv_entry.specs.declared.item.Entry.{Entry}
@@ -25,12 +26,13 @@ settled_tail (tails ∷ journals) ino tail = noted_or (tail_noted tails ino) (se
 abbrev pub settled : Shared → ℕ → List Entry
 settled s ino = take (settled_tail s.book.journals ino (cell_at s ino).chain.tail) (cell_at s ino).chain.entries
 
--- the node under a handle, by settled logs
+-- the node of a cell by such a log, and the node under a handle
+abbrev pub node_by : CellState → List Entry → Option PlainNode
+node_by cell log = stamped (last_commit log) (node_now (bytes_among cell.blocks) cell.block log)
+
 abbrev pub settled_nodes : Shared → Handle → Option PlainNode
 settled_nodes s handle =
-    if handle.generation == (cell_at s handle.ino).generation
-    then stamped (last_commit (settled s handle.ino)) (node_now (bytes_among (cell_at s handle.ino).blocks) (cell_at s handle.ino).block (settled s handle.ino))
-    else None
+    if handle.generation == (cell_at s handle.ino).generation then node_by (cell_at s handle.ino) (settled s handle.ino) else None
 
 abbrev pub tree_of : World → List TreeNode
 tree_of w = tree_from (node_in (settled_nodes w.shared)) (length w.shared.cells) [] root

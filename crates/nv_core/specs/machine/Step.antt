@@ -8,14 +8,12 @@ use Rattle.nv_base.specs.declared.limits.TheConstants.{NUMBER}
 use Rattle.nv_base.specs.declared.numbers.Handle.{Handle}
 use Rattle.nv_calls.specs.AllCalls.{answer, blocks_wanted, early, effect, look_refusal, looked, refusal}
 use Rattle.nv_calls.specs.Plain.{same_handle}
-use Rattle.nv_calls.specs.Slots.{items_for}
 use Rattle.nv_calls.specs.declared.answer.Answer.{Answer}
 use Rattle.nv_calls.specs.declared.call.Call.{Call}
 use Rattle.nv_calls.specs.declared.call.Call.TheVariants as call
 use Rattle.nv_entry.specs.Tree.{root}
-use Rattle.nv_log.specs.Chain.{pages_for}
 use Rattle.nv_core.specs.machine.Kinds.{append_turn, asked_list, back_turn, check_ending, check_turn, close_turn, enter_turn, give_turn, leave_turn, lock_turn, look_tests, look_turn, number_turn, open_turn, publish_turn, ready_turn, retire_turn, seen_at, take_blocks_turn, take_pages_turn, unlock_turn, visit_turn}
-use Rattle.nv_core.specs.machine.Reads.{copies, has_last_page, nodes, slot_at, written_slots}
+use Rattle.nv_core.specs.machine.Reads.{copies, has_last_page, nodes, pages_needed, slot_at, written_slots}
 use Rattle.nv_core.specs.machine.Sequence.{Beginning, Looks, Locks, Numbers, Visits, beginning, begun, directories, nothing_looked}
 use Rattle.nv_core.specs.machine.World.{Actor, Append, Back, Check, Close, Done, Ending, Ends, Enter, Event, Give, Go, HandState, Leave, Lock, Look, Moved, Moves, Next, Number, Open, Publish, Ready, Refused, Reply, Retire, Running, Shared, Start, Started, TakeBlocks, TakePages, Turn, Unlock, Visit, Waiting, Waits, World, actor_at, cell_at, owner_at}
 
@@ -70,14 +68,14 @@ kind_turn (Look place) block actor granted s h r =
     (seen_at (directories r.call) place (looked (copies s) r.call) r.looked) place s h r
 kind_turn (Lock place) block actor granted s h r = lock_turn (owner_at s (slot_at r.slots place)) actor place s h r
 kind_turn Check block actor granted s h r =
-    check_turn (ending_at block s h r) granted (blocks_wanted block (copies s) (has_last_page block s r.call) r.call) block s h (with_made s h r)
+    check_turn (ending_at block s h r) granted (blocks_wanted block (copies s) (has_last_page block s r.call) r.call) block s h
+    (with_made s h r)
 kind_turn (TakeBlocks asked) block actor granted s h r = take_blocks_turn (asked_list (length s.lists) actor asked) asked block s h r
 kind_turn (TakePages asked) block actor granted s h r = take_pages_turn (asked_list (length s.lists) actor asked) asked s h r
 kind_turn Ready block actor granted s h r = ready_turn granted block s h r
 kind_turn Enter block actor granted s h r = enter_turn s.holder (nat_le NUMBER s.book.commit) granted actor s h r
 kind_turn (Append place) block actor granted s h r =
-    append_turn (slot_at (written_slots r) place)
-    (pages_for (cell_at s (slot_at (written_slots r) place)).chain (length (items_for r.plan (slot_at (written_slots r) place)))) place s h r
+    append_turn (slot_at (written_slots r) place) (pages_needed s r.plan (slot_at (written_slots r) place)) place s h r
 kind_turn Open block actor granted s h r = open_turn (actor % length s.lists) s h r
 kind_turn (Publish place) block actor granted s h r = publish_turn (slot_at (written_slots r) place) place s h r
 kind_turn Close block actor granted s h r = close_turn (actor % length s.lists) s h r
@@ -87,16 +85,17 @@ kind_turn (Unlock place) block actor granted s h r = unlock_turn place s h r
 kind_turn (Give cpu) block actor granted s h r = give_turn cpu s h r
 kind_turn Back block actor granted s h r = back_turn h.ino s h r
 kind_turn Visit block actor granted s h r =
-    visit_turn (owner_at s (handle_at (handles nothing_looked r.call) 0).ino) (refusal block (copies s) r.call) (granted || not (visit_grows r.call))
-    (answer (nodes s) r.made r.call) s h r
+    visit_turn (owner_at s (handle_at (handles nothing_looked r.call) 0).ino) (refusal block (copies s) r.call)
+    (granted || not (visit_grows r.call)) (answer (nodes s) r.made r.call) s h r
 
 abbrev pub turn : ℕ → ℕ → Bool → Shared → HandState → Running → Turn
 turn block actor granted s h r = kind_turn r.next block actor granted s h r
 
 -- ---- events
 
-abbrev pub with_actor : ℕ → HandState → Option Running → List Actor → List Actor
-with_actor actor h running actors = slice_set actors actor (record { hand = h; running = running })
+-- a world with this shared, and with this hand and call of an actor
+abbrev pub changed : Shared → HandState → Option Running → ℕ → World → World
+changed s h running actor w = record w { shared = s; actors = slice_set w.actors actor (record { hand = h; running = running }) }
 
 -- a reply, and the world after it
 pub record Step : Type 0 where
@@ -111,16 +110,16 @@ reply_of (Ok found) = Done found
 reply_of (Err fault) = Refused fault
 
 abbrev pub turned : Turn → ℕ → World → Step
-turned (Moves s h r) actor w = record { reply = Moved; world = record w { shared = s; actors = with_actor actor h (Some r) w.actors } }
+turned (Moves s h r) actor w = record { reply = Moved; world = changed s h (Some r) actor w }
 turned Waits actor w = stays Waiting w
-turned (Ends result s h) actor w = record { reply = reply_of result; world = record w { shared = s; actors = with_actor actor h None w.actors } }
+turned (Ends result s h) actor w = record { reply = reply_of result; world = changed s h None actor w }
 
 -- a start changes its actor alone
 abbrev pub start_step : Bool → Option Running → ℕ → Call → World → Step
 start_step false running actor c w = stays (Refused NoActor) w
 start_step true (Some r) actor c w = stays (Refused ActorBusy) w
 start_step true None actor c w =
-    record { reply = Started; world = record w { actors = with_actor actor (actor_at w actor).hand (Some (begun (beginning c) w.shared c)) w.actors } }
+    record { reply = Started; world = changed w.shared (actor_at w actor).hand (Some (begun (beginning c) w.shared c)) actor w }
 
 abbrev pub go_step : Bool → Option Running → ℕ → Bool → World → Step
 go_step false running actor granted w = stays (Refused NoActor) w

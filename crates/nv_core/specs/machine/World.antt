@@ -144,6 +144,9 @@ with_cell ino cell s = record s { cells = slice_set s.cells ino cell }
 abbrev pub with_owner : ℕ → Option ℕ → Shared → Shared
 with_owner ino owner s = record s { owners = slice_set s.owners ino owner }
 
+abbrev pub with_numbers : List ℕ → Shared → Shared
+with_numbers numbers s = record s { pool = record s.pool { numbers = numbers } }
+
 abbrev pub with_book : BookState → Shared → Shared
 with_book book s = record s { book = book }
 
