@@ -1,5 +1,5 @@
 -- A book after each call.
-use Rattle.std.proofs.Common.{◌≡◌, ℕ, suc, ◌+◌, ◌<◌, ◌≤◌, ◌==◌, Bool, true, false, cond, List, [], ◌∷◌, ◌++◌, length, Some, arith, refl, ap, sym, ◌∙◌, subst}
+use Rattle.std.proofs.Common.{◌≡◌, ℕ, suc, ◌+◌, ◌<◌, ◌≤◌, ◌==◌, Bool, true, false, cond, List, [], ◌∷◌, ◌++◌, length, Some, arith, refl, ap, sym, subst}
 use Rattle.std.specs.List.{Contains}
 use Rattle.std.proofs.lemmas.Bool.{eqb-true}
 use Rattle.std.proofs.lemmas.List.{length-map, map-append}
@@ -12,7 +12,7 @@ use Rattle.nv_book.specs.declared.event.Event.TheVariants.{Made}
 use Rattle.nv_book.specs.declared.manifest.Manifest.{Manifest}
 use Rattle.nv_book.specs.declared.record.Record.{Record}
 use Rattle.nv_book.specs.Book.{IsBook}
-use Rattle.nv_book.specs.History.{State, IsHistory, IsLegal, IsNext, after, replay, state_now, undone}
+use Rattle.nv_book.specs.History.{IsHistory, IsLegal, IsNext, after, replay, state_now, undone}
 use Rattle.nv_book.specs.Manifests.{AreFiled, snapshots, put_to, records_at, after_drop, after_make}
 use Rattle.nv_book.specs.Records.{holder_of, let_go}
 use Rattle.nv_book.specs.Store.{Store}
@@ -26,12 +26,13 @@ made-next snaps commit s same room =
     let few = room.1 in
     (same, omega (arith, lt, same), omega (arith, few, length-map snaps.living (λ (t : Snapshot). t.number)))
 
+ids-made : (snaps : Snapshots) → ids (after_making snaps) ≡ ids snaps ++ snaps.epoch ∷ []
+ids-made snaps = map-append (λ (s : Snapshot). s.number) snaps.living ((record { number = snaps.epoch; pins = 0 }) ∷ [])
+
 pub made-leads : (snaps : Snapshots) (commit : ℕ) →
     after (state_now snaps commit) (Made snaps.epoch) ≡ state_now (after_making snaps) commit
 made-leads snaps commit =
-    let made : Snapshot = record { number = snaps.epoch; pins = 0 } in
-    ap (λ (l : List ℕ). record { epoch = snaps.epoch + 1; commit = commit; living = l })
-    (sym (map-append (λ (s : Snapshot). s.number) snaps.living (made ∷ [])))
+    ap (λ (l : List ℕ). record { epoch = snaps.epoch + 1; commit = commit; living = l }) (sym (ids-made snaps))
 
 module _ (snaps : Snapshots) (commit : ℕ) (store : Store) (latest : List Event) (book : IsBook snaps commit store latest) where
   pub book-retired : (s room : ℕ) (r : Record) → holder_of (ids snaps) r ≡ Some s → r.death ≤ snaps.epoch →
@@ -48,11 +49,8 @@ module _ (snaps : Snapshots) (commit : ℕ) (store : Store) (latest : List Event
       IsHistory snaps.most (state_now (after_making snaps) commit) new →
       IsBook (after_making snaps) commit (record store { manifests = after_make snaps.epoch store.manifests }) new
   book-made new filed history =
-      let made : Snapshot = record { number = snaps.epoch; pins = 0 } in
-      let same : ids (after_making snaps) ≡ ids snaps ++ snaps.epoch ∷ [] =
-      map-append (λ (s : Snapshot). s.number) snaps.living (made ∷ []) in
       record {
-        filed = subst (λ l. AreFiled l (after_make snaps.epoch store.manifests) store.deferred) (sym same) filed;
+        filed = subst (λ l. AreFiled l (after_make snaps.epoch store.manifests) store.deferred) (sym (ids-made snaps)) filed;
         dead = dead-made snaps.epoch store.manifests store.deferred book.dead;
         history = history;
         commit_fits = book.commit_fits;
@@ -102,8 +100,3 @@ book-empty snaps epoch commit fits = record {
   commit_fits = fits;
   places_fit = omega arith;
 }
-
--- a book without events has no others before them
-pub none-undone : (now : State) → undone now [] ≡ now
-unfolding undone
-none-undone now = refl

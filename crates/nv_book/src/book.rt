@@ -182,7 +182,6 @@ impl Book {
             record self.old { state = after_make_snapshot self.old.state }) }
         ensures same { KeepsOnErr result self.old self.new }
     {
-        laws::making_keeps_holders();
         crate::laws::making_files();
         let s = self.snaps.make()?;
         self.store.make(self.alloc, s);
@@ -192,7 +191,8 @@ impl Book {
 
     /// Drops the snapshot `s`: in order, its records move to the end of the next older snapshot's manifest where they
     /// were born by then, and to the end of the deferred list where they were not. It takes no memory, and time by the
-    /// runs of the manifest of `s` and, for the places that it leaves in lists, by the number of snapshots.
+    /// runs of the manifest of `s`, a look-up, and two moves: of what stands behind `s` in the list of snapshots and in
+    /// that of manifests, at most [`limits::SNAPS`] places each. It goes over no other snapshot.
     ///
     /// `NoSnapshot` where it doesn't live, before `Pinned`.
     pub fn drop_snapshot(&mut self, s: Epoch) -> Result<(), Fault>
@@ -208,7 +208,6 @@ impl Book {
             + gain_of s (next_older (ids self.old.state.snaps) s) self.old.state.manifests) }
         ensures same { KeepsOnErr result self.old self.new }
     {
-        laws::removal_moves_holders_down();
         laws::pins_stay_with_their_snapshot();
         crate::laws::dropping_files();
         // It tells that the numbers of the living snapshots rise.

@@ -114,7 +114,7 @@ impl RecordStore {
     }
 
     /// Removes the manifest of the snapshot `s`, which stands at `place`, where the next older snapshot is `older`. It
-    /// takes no memory, and time by the runs of that manifest and the number of manifests.
+    /// takes no memory, and time by the runs of that manifest and a move of the manifests behind it.
     pub fn drop_at(&mut self, alloc: Global, place: usize, s: Epoch, older: &Option<Epoch>)
         requires rising { IsRising (snapshots self.old.manifests) }
         requires within { place < length self.old.manifests }

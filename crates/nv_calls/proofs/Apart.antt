@@ -10,7 +10,8 @@ use Rattle.nv_entry.specs.declared.names.BoundName.{BoundName}
 use Rattle.nv_entry.specs.declared.node.NodeCopy.{NodeCopy}
 use Rattle.nv_entry.specs.Index.{bound_to}
 use Rattle.nv_entry.specs.Tree.{names_of_node}
-use Rattle.nv_calls.specs.AllCalls.{IsReady, Taken, plan, refusal}
+use Rattle.nv_calls.specs.AllCalls.{IsReady, plan, refusal}
+use Rattle.nv_calls.specs.declared.taken.Taken.{Taken}
 use Rattle.nv_calls.specs.declared.call.Call.{Call}
 use Rattle.nv_calls.specs.declared.call.Call.TheVariants as call
 use Rattle.nv_calls.specs.declared.plan.Planned.{Planned}
@@ -20,7 +21,8 @@ use Rattle.nv_calls.specs.Refusals.{Check, and_find, found, found_by, is_directo
 use Rattle.nv_calls.specs.Slots.{Slot, node_under}
 use Rattle.nv_calls.specs.calls.Lookup.{lookup_refusal}
 use Rattle.nv_calls.specs.calls.Rename.{bound_plan, move_plan, moved_refusal, own_place, pass_if, replaced_plan, replaced_refusal}
-use Rattle.nv_calls.specs.calls.Unlink.{leave_plan}
+use Rattle.nv_calls.specs.calls.Rmdir.{rmdir_late}
+use Rattle.nv_calls.specs.calls.Unlink.{leave_plan, unlink_late}
 use Rattle.nv_calls.proofs.Passed.{HasKind, IsThere, both_passed, directory_passed, file_passed, if_passed, look_passed, node_passed, there}
 use Rattle.nv_calls.proofs.Standing.{free_apart, kinds_apart, one_handle}
 use Rattle.nv_calls.proofs.fits.Rename.{elsewhere, moved_passed, names_passed}
@@ -74,12 +76,12 @@ module _ (bytes : ℕ → List ℕ) (block : ℕ) (slots : ℕ → Slot) (some :
   -- ---- unlink and rmdir
 
   unlink_apart : (dir : Handle) (name : List ℕ) (bound : Option Handle) → HasKind Dir (nodes dir)
-      → want_bound bound (λ to. want_file (kind_of (nodes to)) passes) ≡ passes → AreFewApart (leave_plan dir name bound)
+      → unlink_late nodes bound ≡ passes → AreFewApart (leave_plan dir name bound)
   unlink_apart dir name None d h = few_none
   unlink_apart dir name (Some to) d h = few_two _ _ (kinds_apart bytes block slots to dir (file_passed (nodes to) passes h).0 d)
 
   rmdir_apart : (dir : Handle) (name : List ℕ) (bound : Option Handle) → HasKind Dir (nodes dir) → found nodes dir name ≡ bound
-      → want_bound bound (λ to. want_directory (kind_of (nodes to)) (refuse_if (nat_lt 0 (length (names_of_node (nodes to)))) fault.NotEmpty passes)) ≡ passes
+      → rmdir_late nodes bound ≡ passes
       → AreFewApart (leave_plan dir name bound)
   rmdir_apart dir name None d is h = few_none
   rmdir_apart dir name (Some to) d is h = few_two _ _ apart where
@@ -87,7 +89,9 @@ module _ (bytes : ℕ → List ℕ) (block : ℕ) (slots : ℕ → Slot) (some :
     t = directory_passed (nodes to) _ h
 
     none : length (names_of_node (nodes to)) ≤ 0
-    none = ltb-false 0 (length (names_of_node (nodes to))) (if_passed (nat_lt 0 (length (names_of_node (nodes to)))) fault.NotEmpty passes t.1).0
+    none =
+        ltb-false 0 (length (names_of_node (nodes to)))
+        (if_passed (nat_lt 0 (length (names_of_node (nodes to)))) fault.NotEmpty passes t.1).0
 
     one : 0 < length (names_of_node (nodes dir))
     one = found_name (want_directory (kind_of (nodes dir)) (want_lawful name passes)) name (names_of_node (nodes dir)) to is
@@ -134,11 +138,13 @@ module _ (bytes : ℕ → List ℕ) (block : ℕ) (slots : ℕ → Slot) (some :
     bound_apart true bound other is h = few_none
     bound_apart false None other is h = few_none
     bound_apart false (Some moved) other is h =
-        let last = elsewhere bytes block slots some from old to new (own_place from old to new) (moved_refusal nodes from to other moved) is h in
+        let last =
+        elsewhere bytes block slots some from old to new (own_place from old to new) (moved_refusal nodes from to other moved) is h in
         let m = moved_passed bytes block slots some from old to new moved other last in
         move_apart (same_handle from to) moved (kind_of (nodes moved)) other refl m.1
 
-  pub few_apart : (c : Call) → refusal block nodes c ≡ passes → IsReady bytes block slots nodes taken c → AreFewApart (plan block nodes taken c)
+  pub few_apart : (c : Call) → refusal block nodes c ≡ passes → IsReady bytes block slots nodes taken c
+      → AreFewApart (plan block nodes taken c)
   few_apart (call.Create dir name mode) h r =
       few_two _ _ (free_apart bytes block slots taken.made dir r (there Dir (nodes dir) (directory_passed (nodes dir) _ h).0))
   few_apart (call.Mkdir dir name mode) h r =

@@ -21,8 +21,8 @@ use Rattle.nv_cell.specs.Reading.{stat_by, stat_now}
 use Rattle.nv_cell.specs.declared.stat.Stat.{Stat}
 use Rattle.nv_calls.specs.Plain.{PlainNode, stamped}
 use Rattle.nv_calls.specs.Slots.{last_commit}
-use Rattle.nv_calls.specs.Refusals.{Check, bytes_of, kind_of, lookup, passes, want_directory, want_file, want_lawful}
-use Rattle.nv_calls.specs.Views.{and_gives, copy_of, look, stat_of}
+use Rattle.nv_calls.specs.Refusals.{Check, and_find, bytes_of, kind_of, look, lookup, passes, want_directory, want_file, want_lawful}
+use Rattle.nv_calls.specs.Views.{copy_of, stat_of}
 use Rattle.nv_calls.proofs.Passed.{directory_passed, file_passed}
 
 abbrev commit_of : Entry → ℕ
@@ -114,5 +114,5 @@ look_passes bytes cell dir name h =
     let d = directory_passed (copy_of bytes cell dir) (want_lawful name passes) h in
     let names : names_of_node (copy_of bytes cell dir) ≡ names_of (log_of cell) =
     ap names_of_node d.0.is ∙ (of_log bytes cell dir d.0.node d.0.is).names in
-    ap (λ (check : Check). and_gives check (lookup (copy_of bytes cell) dir name)) h
+    ap (λ (check : Check). and_find check (lookup (copy_of bytes cell) dir name)) h
     ∙ ap (λ (list : List BoundName). let r : Result (Option Handle) Fault = Ok (bound_to name list) in r) names

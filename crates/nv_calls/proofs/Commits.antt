@@ -170,7 +170,10 @@ module _ (bytes : ℕ → List ℕ) (block : ℕ) (slots : ℕ → Slot) where
 
     -- the slots after the commit
     abbrev slots_with : List Planned → ℕ → Slot
-    slots_with plan ino = record { generation = (slots ino).generation; log = (slots ino).log ++ entries_of commit epoch (place ino) (items_for plan ino) }
+    slots_with plan ino = record {
+      generation = (slots ino).generation;
+      log = (slots ino).log ++ entries_of commit epoch (place ino) (items_for plan ino);
+    }
 
     pub node_after : (plan : List Planned) (effect : List Change) → IsPlan bytes block slots plan effect → (handle : Handle)
         → node_under bytes block (slots_with plan) handle ≡ nodes_after commit effect nodes handle

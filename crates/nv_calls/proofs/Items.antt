@@ -41,7 +41,8 @@ module _ (bytes : ℕ → List ℕ) (block : ℕ) (slots : ℕ → Slot) (some :
 
   -- one more inode that has a node
   pub and_node : (handle : Handle) (items : List Item) (becomes : Option NodeCopy → Option NodeCopy) (plan : List Planned)
-      (effect : List Change) → 0 < length items → (there : IsThere (nodes handle)) → MakesAll bytes block items (Some there.node) (becomes (Some there.node))
+      (effect : List Change) → 0 < length items → (there : IsThere (nodes handle))
+      → MakesAll bytes block items (Some there.node) (becomes (Some there.node))
       → IsPlanOf plan effect → IsPlanOf (planned handle items ∷ plan) (change handle becomes ∷ effect)
   and_node handle items becomes plan effect any there makes rest =
       and_plan handle items becomes plan effect any (own_handle bytes block slots handle there)

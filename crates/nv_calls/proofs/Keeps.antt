@@ -8,13 +8,15 @@ use Rattle.nv_entry.specs.declared.item.Item.TheVariants.{SetSize}
 use Rattle.nv_entry.specs.declared.item.Run.{Run}
 use Rattle.nv_entry.specs.declared.node.NodeCopy.{NodeCopy}
 use Rattle.nv_entry.specs.Sound.{blocks_of, write_items}
-use Rattle.nv_calls.specs.AllCalls.{Taken, looked, plan}
+use Rattle.nv_calls.specs.AllCalls.{looked, plan}
+use Rattle.nv_calls.specs.declared.taken.Taken.{Taken}
 use Rattle.nv_calls.specs.declared.call.Call.{Call}
 use Rattle.nv_calls.specs.declared.call.Call.TheVariants as call
 use Rattle.nv_calls.specs.Locked.{KeepsToIts, if_any, locks}
 use Rattle.nv_calls.specs.Plain.{same_handle}
 use Rattle.nv_calls.specs.declared.plan.Planned.{Planned}
-use Rattle.nv_calls.specs.Plan.{item_blocks, plan_blocks}
+use Rattle.nv_entry.specs.Blocks.{item_blocks}
+use Rattle.nv_calls.specs.Plan.{plan_blocks}
 use Rattle.nv_calls.specs.Refusals.{found}
 use Rattle.nv_calls.specs.calls.Rename.{bound_plan, move_plan, own_place, replaced_plan}
 use Rattle.nv_calls.specs.calls.Unlink.{leave_plan}
@@ -76,7 +78,8 @@ module _ (block : ℕ) (nodes : Handle → Option NodeCopy) (taken : Taken) wher
   leave_none dir name None = refl
   leave_none dir name (Some to) = refl
 
-  replaced_among : (list : List Handle) (bound : Option Handle) → ((handle : Handle) → Contains (if_any bound) handle → Contains list handle)
+  replaced_among : (list : List Handle) (bound : Option Handle)
+      → ((handle : Handle) → Contains (if_any bound) handle → Contains list handle)
       → Among list (replaced_plan bound)
   replaced_among list None each = tt
   replaced_among list (Some to) each = (each to (at_first to []), tt)

@@ -1,10 +1,8 @@
 -- The items of a plan are such that the logs can take them.
-use Rattle.std.proofs.Common.{◌≡◌, ℕ, ◌+◌, ◌-◌, ◌*◌, ◌/◌, ◌%◌, ◌<◌, ◌≤◌, ◌⊎◌, inl, inr, ◌==◌, ◌&&◌, not, nat_lt, Bool, true, false, cond, List, [], ◌∷◌, ◌++◌, length, suc, Option, Some, None, arith, refl, ap, sym, ◌∙◌, subst}
+use Rattle.std.proofs.Common.{◌≡◌, ℕ, ◌+◌, ◌*◌, ◌/◌, ◌<◌, ◌≤◌, ◌&&◌, nat_lt, Bool, true, false, cond, List, [], ◌∷◌, ◌++◌, length, suc, Option, Some, None, arith, refl, ap, sym, ◌∙◌, subst}
 use Rattle.std.specs.Prelude.{IsTrue}
 use Rattle.std.specs.List.{AllByRecursion, range_with_len}
-use Rattle.std.proofs.Math.Nat.{div-mul-le_self, mul-le-mul_right}
-use Rattle.std.proofs.lemmas.Bool.{and_parts, cases_lt, ltb-true, ltb-false}
-use Rattle.std.proofs.lemmas.Nat.{le-div}
+use Rattle.std.proofs.lemmas.Bool.{ltb-false}
 use Rattle.std.proofs.lemmas.List.{append-nil, length-append}
 use Rattle.std.proofs.lemmas.List.FromFn.{length-range_with_len}
 use Rattle.nv_base.specs.Names.{is_lawful_name, same_name}
@@ -16,11 +14,12 @@ use Rattle.nv_entry.specs.declared.item.Item.{Item}
 use Rattle.nv_entry.specs.declared.item.Item.TheVariants.{Init, Write, SetSize, SetMode, Bind, Unbind, Gone}
 use Rattle.nv_entry.specs.declared.item.Run.{Run}
 use Rattle.nv_entry.specs.declared.node.NodeCopy.{NodeCopy}
-use Rattle.nv_entry.specs.Bytes.{pages_touched, written}
+use Rattle.nv_entry.specs.Bytes.{written}
 use Rattle.nv_entry.specs.Sound.{IsSound, blocks_of, write_items}
 use Rattle.nv_entry.proofs.PageBytes.{length-written}
 use Rattle.nv_cell.specs.Effects.{BindOne, LeavesName}
-use Rattle.nv_calls.specs.AllCalls.{IsReady, Taken, plan, refusal}
+use Rattle.nv_calls.specs.AllCalls.{IsReady, plan, refusal}
+use Rattle.nv_calls.specs.declared.taken.Taken.{Taken}
 use Rattle.nv_calls.specs.Lawful.{AreLawful, IsLawfulFor, IsLawfulPlan}
 use Rattle.nv_calls.specs.declared.call.Call.{Call}
 use Rattle.nv_calls.specs.declared.call.Call.TheVariants as call
@@ -29,7 +28,7 @@ use Rattle.nv_calls.specs.Plain.{node_in, same_handle}
 use Rattle.nv_calls.specs.Plan.{AreMaximal, planned}
 use Rattle.nv_calls.specs.Refusals.{Check, bytes_of, found, kind_of, passes, refuse_if, want_bound}
 use Rattle.nv_calls.specs.Slots.{IsFree, Slot, node_under}
-use Rattle.nv_calls.specs.calls.Create.{create_plan, create_refusal}
+use Rattle.nv_calls.specs.calls.Create.{begin_plan, create_refusal}
 use Rattle.nv_calls.specs.calls.Lookup.{lookup_refusal}
 use Rattle.nv_calls.specs.calls.Rename.{bound_plan, move_plan, moved_refusal, own_place, pass_if, replaced_plan, replaced_refusal}
 use Rattle.nv_calls.specs.calls.Size.{IsCutPage, cuts_page}
@@ -38,7 +37,7 @@ use Rattle.nv_calls.specs.calls.Write.{text_refusal}
 use Rattle.nv_calls.proofs.Passed.{HasKind, IsThere, both_passed, directory_passed, file_passed, if_passed, lawful_passed, look_passed, node_passed, there}
 use Rattle.nv_calls.proofs.Standing.{no_node, stands}
 use Rattle.nv_calls.proofs.fits.Rename.{elsewhere, moved_passed, names_passed}
-use Rattle.nv_calls.proofs.fits.Write.{count_passed}
+use Rattle.nv_calls.proofs.Within.{count_passed, cut_within, touched_within}
 
 -- ---- items of writes
 
@@ -65,6 +64,15 @@ module _ (block size : ℕ) (few : size ≤ 65536 * block) (tail : List Item) (l
     writes_lawful (first + run.len) runs some.1 (omega (arith, count-cons run runs, fits)),
   )
 
+-- as many items as runs, and no more runs than blocks
+one_item_a_run : (first size : ℕ) (runs : List Run) → length (write_items first runs size) ≡ length runs
+one_item_a_run first size [] = refl
+one_item_a_run first size (run ∷ runs) = omega (arith, one_item_a_run (first + run.len) size runs)
+
+few_runs : (runs : List Run) → HaveBlocks runs → length runs ≤ length (blocks_of runs)
+few_runs [] some = omega arith
+few_runs (run ∷ runs) some = omega (arith, count-cons run runs, few_runs runs some.1, some.0)
+
 -- writes and a size bind no name
 leave_all : (item : Item) (first size : ℕ) (runs : List Run) (tail : List Item) → AllByRecursion (LeavesName item) tail
     → AllByRecursion (LeavesName item) (write_items first runs size ++ tail)
@@ -78,20 +86,6 @@ writes_bind_none first size (run ∷ runs) tail each last = (
   leave_all (Write first run size) (first + run.len) size runs tail (each (Write first run size)),
   writes_bind_none (first + run.len) size runs tail each last,
 )
-
--- the pages that a text touches are pages that a file can have
-touched_within : (block offset count : ℕ) → 0 < block → 0 < count → offset + count ≤ 65536 * block
-    → offset / block + pages_touched block offset count ≤ 65536
-touched_within block offset count some any fits = go (cases_lt ((offset + count - 1) / block) 65536) where
-  rises : offset / block ≤ (offset + count - 1) / block
-  rises = le-div (offset / block) (offset + count - 1) block some (omega (arith, div-mul-le_self offset block))
-
-  go : ((offset + count - 1) / block < 65536) ⊎ (65536 ≤ (offset + count - 1) / block)
-      → offset / block + pages_touched block offset count ≤ 65536
-  go (inl lt) = omega (arith, rises, lt)
-  go (inr le) =
-      let whole : 65536 * block ≤ (offset + count - 1) / block * block = mul-le-mul_right block le in
-      absurd (omega (arith, whole, div-mul-le_self (offset + count - 1) block))
 
 -- ---- kinds
 
@@ -114,35 +108,38 @@ module _ (bytes : ℕ → List ℕ) (block : ℕ) (slots : ℕ → Slot) (some :
 
   -- items that are lawful for a kind, for a node of that kind
   good : (handle : Handle) (items : List Item) (kind : Option Kind) → kind_of (nodes handle) ≡ kind → AreLawful block items kind
-      → BindOne items → IsGood (planned handle items)
-  good handle items kind is lawful one = record { lawful = subst (AreLawful block items) (sym is) lawful; one = one }
+      → BindOne items → length items ≤ 1024 → IsGood (planned handle items)
+  good handle items kind is lawful one few = record { lawful = subst (AreLawful block items) (sym is) lawful; one = one; few = few }
 
   bind_good : (dir : Handle) (name : List ℕ) (to : Handle) → HasKind Dir (nodes dir) → IsTrue (is_lawful_name name)
       → IsGood (planned dir (Bind name to ∷ []))
-  bind_good dir name to d lawful = good dir (Bind name to ∷ []) (Some Dir) (kind_there Dir (nodes dir) d) (lawful, tt) (tt, tt)
+  bind_good dir name to d lawful =
+      good dir (Bind name to ∷ []) (Some Dir) (kind_there Dir (nodes dir) d) (lawful, tt) (tt, tt) (omega arith)
 
   unbind_good : (dir : Handle) (name : List ℕ) → HasKind Dir (nodes dir) → IsTrue (is_lawful_name name)
       → IsGood (planned dir (Unbind name ∷ []))
-  unbind_good dir name d lawful = good dir (Unbind name ∷ []) (Some Dir) (kind_there Dir (nodes dir) d) (lawful, tt) (tt, tt)
+  unbind_good dir name d lawful = good dir (Unbind name ∷ []) (Some Dir) (kind_there Dir (nodes dir) d) (lawful, tt) (tt, tt) (omega arith)
 
   gone_good : (handle : Handle) → IsThere (nodes handle) → IsGood (planned handle (Gone ∷ []))
-  gone_good handle h = good handle (Gone ∷ []) (Some h.node.kind) (some_kind (nodes handle) h) (tt, tt) (tt, tt)
+  gone_good handle h = good handle (Gone ∷ []) (Some h.node.kind) (some_kind (nodes handle) h) (tt, tt) (tt, tt) (omega arith)
 
   -- both names of one directory, which differ
   move_good : (dir : Handle) (old new : List ℕ) (to : Handle) → HasKind Dir (nodes dir) → IsTrue (is_lawful_name old)
       → IsTrue (is_lawful_name new) → same_name old new ≡ false → IsGood (planned dir (Unbind old ∷ Bind new to ∷ []))
   move_good dir old new to d o n differ =
-      good dir (Unbind old ∷ Bind new to ∷ []) (Some Dir) (kind_there Dir (nodes dir) d) (o, (n, tt)) ((rw differ refl, tt), (tt, tt))
+      good dir (Unbind old ∷ Bind new to ∷ []) (Some Dir) (kind_there Dir (nodes dir) d) (o, (n, tt))
+      ((rw differ refl, tt), (tt, tt)) (omega arith)
 
   -- ---- calls
 
   create_good : (kind : Kind) (dir : Handle) (name : List ℕ) (mode : ℕ) → create_refusal nodes dir name ≡ passes → IsFree slots taken.made
-      → AllGood (create_plan kind dir name mode taken.made)
+      → AllGood (begin_plan kind dir name mode taken.made)
   create_good kind dir name mode h free =
       let d = directory_passed (nodes dir) _ h in (
         bind_good dir name taken.made d.0 (lawful_passed name _ d.1).0,
         (
-          good taken.made (Init kind mode ∷ []) None (ap kind_of (no_node bytes block slots taken.made free)) (tt, tt) (tt, tt),
+          good taken.made (Init kind mode ∷ []) None (ap kind_of (no_node bytes block slots taken.made free)) (tt, tt) (tt, tt)
+              (omega arith),
           tt,
         ),
       )
@@ -159,7 +156,7 @@ module _ (bytes : ℕ → List ℕ) (block : ℕ) (slots : ℕ → Slot) (some :
     good file items (Some File) (kind_there File (nodes file) f.0)
         (subst (λ (xs : List Item). AreLawful block xs (Some File)) (append-nil items)
         (writes_lawful block size few [] tt (offset / block) taken.runs (have_blocks taken.runs r.maximal) fits))
-        (subst BindOne (append-nil items) (writes_bind_none (offset / block) size taken.runs [] (λ item. tt) tt)),
+        (subst BindOne (append-nil items) (writes_bind_none (offset / block) size taken.runs [] (λ item. tt) tt)) short,
     tt,
   ) where
     text : List ℕ
@@ -175,12 +172,23 @@ module _ (bytes : ℕ → List ℕ) (block : ℕ) (slots : ℕ → Slot) (some :
     items = write_items (offset / block) taken.runs size
 
     ends : offset + length text ≤ 65536 * block
-    ends = count_passed block offset (length text) f.1
+    ends = (count_passed block offset (length text) f.1).1
 
     few : size ≤ 65536 * block
     few =
         let before : length (bytes_of (nodes file)) ≡ length f.0.node.bytes = ap (λ (n : Option NodeCopy). length (bytes_of n)) f.0.is in
         omega (arith, before, size_within file f.0, ends, length-written offset text (bytes_of (nodes file)))
+
+    short : length items ≤ 1024
+    short =
+        let each = few_runs taken.runs (have_blocks taken.runs r.maximal) in
+        omega (
+          arith,
+          one_item_a_run (offset / block) size taken.runs,
+          each,
+          (r.filled (omega arith)).count,
+          (count_passed block offset (length text) f.1).0,
+        )
 
     fits : offset / block + length (blocks_of taken.runs) ≤ 65536
     fits = omega (arith, (r.filled (omega arith)).count, touched_within block offset (length text) some (omega arith) ends)
@@ -190,7 +198,8 @@ module _ (bytes : ℕ → List ℕ) (block : ℕ) (slots : ℕ → Slot) (some :
   size_good file size h r = (
     good file (write_items (size / block) taken.runs size ++ SetSize size ∷ []) (Some File) (kind_there File (nodes file) f.0)
         (lawful taken.runs r.cut.filled r.cut.count)
-        (writes_bind_none (size / block) size taken.runs (SetSize size ∷ []) (λ item. (tt, tt)) (tt, tt)),
+        (writes_bind_none (size / block) size taken.runs (SetSize size ∷ []) (λ item. (tt, tt)) (tt, tt))
+        (short (cuts_page block size taken.present before) r.cut.count),
     tt,
   ) where
     f : HasKind File (nodes file) × (refuse_if (nat_lt (65536 * block) size) fault.FileTooBig passes ≡ passes)
@@ -202,32 +211,20 @@ module _ (bytes : ℕ → List ℕ) (block : ℕ) (slots : ℕ → Slot) (some :
     before : List ℕ
     before = bytes_of (nodes file)
 
-    is_cut : (b : Bool) (n : ℕ) → n ≡ 1 → n ≡ cond b 1 0 → b ≡ true
-    is_cut true n one h = refl
-    is_cut false n one h = absurd (omega arith)
-
-    cut_within : cuts_page block size taken.present before ≡ true → size / block + 1 ≤ 65536
-    cut_within cuts = go (cases_lt (size / block) 65536) where
-      old : length before ≡ length f.0.node.bytes
-      old = ap (λ (n : Option NodeCopy). length (bytes_of n)) f.0.is
-
-      below : size < length before
-      below = ltb-true size (length before)
-          (and_parts (nat_lt size (length before)) (not (size % block == 0))
-          (and_parts (nat_lt size (length before) && not (size % block == 0)) taken.present cuts).0).0
-
-      go : (size / block < 65536) ⊎ (65536 ≤ size / block) → size / block + 1 ≤ 65536
-      go (inl lt) = omega (arith, lt)
-      go (inr le) =
-          let whole : 65536 * block ≤ size / block * block = mul-le-mul_right block le in
-          absurd (omega (arith, whole, div-mul-le_self size block, below, old, size_within file f.0))
+    short : (b : Bool) → length taken.runs ≡ cond b 1 0 → length (write_items (size / block) taken.runs size ++ SetSize size ∷ []) ≤ 1024
+    short b is =
+        let items : List Item = write_items (size / block) taken.runs size in
+        omega (arith, length-append items (SetSize size ∷ []), one_item_a_run (size / block) size taken.runs, most b is) where
+          most : (b : Bool) → length taken.runs ≡ cond b 1 0 → length taken.runs ≤ 1
+          most true h = omega arith
+          most false h = omega arith
 
     lawful : (runs : List Run) → AllByRecursion (IsCutPage bytes block size before) runs
         → length runs ≡ cond (cuts_page block size taken.present before) 1 0
         → AreLawful block (write_items (size / block) runs size ++ SetSize size ∷ []) (Some File)
     lawful [] filled count = (few, tt)
     lawful (run ∷ []) filled count =
-        let within = cut_within (is_cut (cuts_page block size taken.present before) 1 refl count) in
+        let within = cut_within block size taken.present before 1 some few count in
         ((omega (arith, filled.0.0), omega (arith, filled.0.0, within), few), (few, tt))
     lawful (run ∷ next ∷ runs) filled count = absurd (most (cuts_page block size taken.present before) (length runs) count) where
       most : (b : Bool) (n : ℕ) → suc (suc n) ≡ cond b 1 0 → ⊥
@@ -262,7 +259,8 @@ module _ (bytes : ℕ → List ℕ) (block : ℕ) (slots : ℕ → Slot) (some :
     bound_good true bound other is h = tt
     bound_good false None other is h = tt
     bound_good false (Some moved) other is h =
-        let last = elsewhere bytes block slots some from old to new (own_place from old to new) (moved_refusal nodes from to other moved) is h in
+        let last =
+        elsewhere bytes block slots some from old to new (own_place from old to new) (moved_refusal nodes from to other moved) is h in
         let m = moved_passed bytes block slots some from old to new moved other last in
         moves_good (same_handle from to) moved (replaced_plan other) refl is (replaced_good (kind_of (nodes moved)) other m.1)
 
@@ -274,7 +272,7 @@ module _ (bytes : ℕ → List ℕ) (block : ℕ) (slots : ℕ → Slot) (some :
   plan_good (call.Size file size) h r = size_good file size h r
   plan_good (call.Mode handle mode) h r =
       let m = (node_passed (nodes handle) passes h).0 in
-      (good handle (SetMode mode ∷ []) (Some m.node.kind) (some_kind (nodes handle) m) (tt, tt) (tt, tt), tt)
+      (good handle (SetMode mode ∷ []) (Some m.node.kind) (some_kind (nodes handle) m) (tt, tt) (tt, tt) (omega arith), tt)
   plan_good (call.Stat handle) h r = tt
   plan_good (call.List dir) h r = tt
   plan_good (call.Lookup dir name) h r = tt

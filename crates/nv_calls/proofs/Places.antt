@@ -36,7 +36,8 @@ none_for (p ∷ plan) ino all = go (p.handle.ino == ino) refl (none_for plan ino
 
 before-next : (p : Planned) (ino : ℕ) → p.handle.ino ≢ ino → before (ino + 1) p ≡ before ino p
 before-next p ino apart = go (nat_lt p.handle.ino ino) (nat_lt p.handle.ino (ino + 1)) refl refl where
-  go : (a b : Bool) → nat_lt p.handle.ino ino ≡ a → nat_lt p.handle.ino (ino + 1) ≡ b → cond b (length p.items) 0 ≡ cond a (length p.items) 0
+  go : (a b : Bool) → nat_lt p.handle.ino ino ≡ a → nat_lt p.handle.ino (ino + 1) ≡ b
+      → cond b (length p.items) 0 ≡ cond a (length p.items) 0
   go true true q r = refl
   go false false q r = refl
   go true false q r = absurd (omega (arith, ltb-true p.handle.ino ino q, ltb-false p.handle.ino (ino + 1) r))
@@ -55,7 +56,8 @@ before-own p ino own = (after (nat_lt p.handle.ino (ino + 1)) refl, at (nat_lt p
 place-next : (plan : List Planned) (ino : ℕ) → AreApart plan → place_in plan (ino + 1) ≡ place_in plan ino + length (items_for plan ino)
 place-next [] ino apart = omega arith
 place-next (p ∷ plan) ino apart = go (p.handle.ino == ino) refl (place-next plan ino apart.1) where
-  whole : (place_in (p ∷ plan) (ino + 1) ≡ before (ino + 1) p + place_in plan (ino + 1)) × (place_in (p ∷ plan) ino ≡ before ino p + place_in plan ino)
+  whole : (place_in (p ∷ plan) (ino + 1) ≡ before (ino + 1) p + place_in plan (ino + 1))
+      × (place_in (p ∷ plan) ino ≡ before ino p + place_in plan ino)
   whole = (place-cons p plan (ino + 1), place-cons p plan ino)
 
   others : p.handle.ino ≡ ino → (list : List Planned) → AllByRecursion (λ (other : Planned). other.handle.ino ≢ p.handle.ino) list

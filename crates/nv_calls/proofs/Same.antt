@@ -5,7 +5,8 @@ use Rattle.nv_base.specs.declared.fault.Fault.TheVariants as fault
 use Rattle.nv_base.specs.declared.node.Kind.{Kind}
 use Rattle.nv_base.specs.declared.numbers.Handle.{Handle}
 use Rattle.nv_entry.specs.declared.node.NodeCopy.{NodeCopy}
-use Rattle.nv_calls.specs.AllCalls.{Taken, looked, plan}
+use Rattle.nv_calls.specs.AllCalls.{looked, plan}
+use Rattle.nv_calls.specs.declared.taken.Taken.{Taken}
 use Rattle.nv_calls.specs.declared.call.Call.{Call}
 use Rattle.nv_calls.specs.declared.call.Call.TheVariants as call
 use Rattle.nv_calls.specs.declared.looked.Looked.{Looked}
@@ -66,7 +67,8 @@ module _ (nodes other : Handle → Option NodeCopy) where
   late_same from old to new l h =
       bound_same l.first (λ moved. pass_if (own_place from old to new) (moved_refusal nodes from to l.second moved))
       (λ moved. pass_if (own_place from old to new) (moved_refusal other from to l.second moved))
-      (λ moved e. ap (pass_if (own_place from old to new)) (moved_same from to l.second (right (if_any l.first) (if_any l.second) h) moved e))
+      (λ moved e. ap (pass_if (own_place from old to new))
+      (moved_same from to l.second (right (if_any l.first) (if_any l.second) h) moved e))
       (left (if_any l.first) (if_any l.second) h)
 
   early_same : (from : Handle) (old : List ℕ) (to : Handle) (new : List ℕ) → other from ≡ nodes from → other to ≡ nodes to
@@ -134,10 +136,28 @@ module _ (block : ℕ) (plain others : Handle → Option PlainNode) (taken : Tak
       }
   call_same (call.Read file offset count) h =
       let e = same_node file h.0 in
-      record { found = refl; early = refl; refusal = rw e refl; effect = refl; plan = refl; answer = rw e refl; handles = refl; wanted = refl }
+      record {
+        found = refl;
+        early = refl;
+        refusal = rw e refl;
+        effect = refl;
+        plan = refl;
+        answer = rw e refl;
+        handles = refl;
+        wanted = refl;
+      }
   call_same (call.Size file size) h =
       let e = same_node file h.0 in
-      record { found = refl; early = refl; refusal = rw e refl; effect = refl; plan = refl; answer = refl; handles = refl; wanted = rw e refl }
+      record {
+        found = refl;
+        early = refl;
+        refusal = rw e refl;
+        effect = refl;
+        plan = refl;
+        answer = refl;
+        handles = refl;
+        wanted = rw e refl;
+      }
   call_same (call.Mode handle mode) h =
       let e = same_node handle h.0 in
       record { found = refl; early = refl; refusal = rw e refl; effect = refl; plan = refl; answer = refl; handles = refl; wanted = refl }
@@ -155,7 +175,16 @@ module _ (block : ℕ) (plain others : Handle → Option PlainNode) (taken : Tak
       }
   call_same (call.List dir) h =
       let e = same_node dir h.0 in
-      record { found = refl; early = refl; refusal = rw e refl; effect = refl; plan = refl; answer = rw e refl; handles = refl; wanted = refl }
+      record {
+        found = refl;
+        early = refl;
+        refusal = rw e refl;
+        effect = refl;
+        plan = refl;
+        answer = rw e refl;
+        handles = refl;
+        wanted = refl;
+      }
   call_same (call.Lookup dir name) h =
       let e = same_node dir h.0 in
       record {

@@ -1,11 +1,9 @@
 -- The file calls of the plain world, by the step that decides: what its looks find, refusal at the check, effect at the
 -- commit, and answer; and the plan of each. No changes: no commit.
-use Rattle.std.specs.Prelude.{◌≡◌, ℕ, ◌/◌, ◌<◌, Bool, List, [], length, Option, None, is_some}
-use Rattle.nv_base.specs.declared.node.Kind.TheVariants.{File, Dir}
+use Rattle.std.specs.Prelude.{◌≡◌, ℕ, ◌/◌, ◌<◌, ◌&&◌, nat_lt, Bool, true, false, List, [], ◌∷◌, length, Option, None, is_some}
+use Rattle.nv_base.specs.declared.limits.TheConstants.{FILE_PAGES}
 use Rattle.nv_base.specs.declared.numbers.Handle.{Handle}
-use Rattle.nv_entry.specs.declared.item.Run.{Run}
 use Rattle.nv_entry.specs.declared.node.NodeCopy.{NodeCopy}
-use Rattle.nv_entry.specs.Bytes.{read_at}
 use Rattle.nv_entry.specs.Node.{block_now}
 use Rattle.nv_entry.specs.Sound.{HaveText, blocks_of}
 use Rattle.nv_calls.specs.declared.answer.Answer.{Answer}
@@ -13,16 +11,20 @@ use Rattle.nv_calls.specs.declared.answer.Answer.TheVariants as answers
 use Rattle.nv_calls.specs.declared.call.Call.{Call}
 use Rattle.nv_calls.specs.declared.call.Call.TheVariants as call
 use Rattle.nv_calls.specs.declared.looked.Looked.{Looked}
+use Rattle.nv_calls.specs.declared.plan.Plan.{Plan}
 use Rattle.nv_calls.specs.declared.plan.Planned.{Planned}
+use Rattle.nv_calls.specs.declared.taken.Taken.{Taken}
 use Rattle.nv_calls.specs.Plain.{Change, PlainNode, node_in}
 use Rattle.nv_calls.specs.Plan.{AreMaximal}
-use Rattle.nv_calls.specs.Refusals.{Check, and_then, bytes_of, found, kind_of, lookup, passes, want_directory, want_file}
-use Rattle.nv_entry.specs.Tree.{names_of_node}
+use Rattle.nv_calls.specs.Refusals.{Check, and_then, bytes_of, found, lookup, passes}
 use Rattle.nv_calls.specs.Slots.{IsFree, Slot}
 use Rattle.nv_calls.specs.calls.Create.{create_effect, create_plan, create_refusal}
+use Rattle.nv_calls.specs.calls.List.{list_answer, list_refusal}
 use Rattle.nv_calls.specs.calls.Lookup.{lookup_answer, lookup_refusal}
+use Rattle.nv_calls.specs.calls.Mkdir.{mkdir_effect, mkdir_plan, mkdir_refusal}
 use Rattle.nv_calls.specs.calls.Mode.{mode_effect, mode_plan, mode_refusal}
-use Rattle.nv_calls.specs.calls.Rename.{rename_early, rename_effect, rename_late, rename_plan}
+use Rattle.nv_calls.specs.calls.Read.{read_answer, read_refusal}
+use Rattle.nv_calls.specs.calls.Rename.{own_place, rename_early, rename_effect, rename_late, rename_plan}
 use Rattle.nv_calls.specs.calls.Rmdir.{rmdir_late}
 use Rattle.nv_calls.specs.calls.Size.{HaveCut, size_blocks, size_effect, size_plan, size_refusal}
 use Rattle.nv_calls.specs.calls.Stat.{stat_answer, stat_refusal}
@@ -57,13 +59,13 @@ early nodes other = passes
 -- and those behind it, by what the names lead to
 abbrev pub late : ℕ → (Handle → Option NodeCopy) → Looked → Call → Check
 late block nodes looked (call.Create dir name mode) = create_refusal nodes dir name
-late block nodes looked (call.Mkdir dir name mode) = create_refusal nodes dir name
+late block nodes looked (call.Mkdir dir name mode) = mkdir_refusal nodes dir name
 late block nodes looked (call.Write file offset text) = write_refusal block nodes file offset text
-late block nodes looked (call.Read file offset count) = want_file (kind_of (nodes file)) passes
+late block nodes looked (call.Read file offset count) = read_refusal nodes file
 late block nodes looked (call.Size file size) = size_refusal block nodes file size
 late block nodes looked (call.Mode handle mode) = mode_refusal nodes handle
 late block nodes looked (call.Stat handle) = stat_refusal nodes handle
-late block nodes looked (call.List dir) = want_directory (kind_of (nodes dir)) passes
+late block nodes looked (call.List dir) = list_refusal nodes dir
 late block nodes looked (call.Lookup dir name) = lookup_refusal nodes dir name
 late block nodes looked (call.Unlink dir name) = unlink_late nodes looked.first
 late block nodes looked (call.Rmdir dir name) = rmdir_late nodes looked.first
@@ -77,8 +79,8 @@ refusal block nodes c = and_then (early nodes c) (late block nodes (looked nodes
 
 -- what a commit changes, where a new inode has the handle `made`
 abbrev pub effect : (Handle → Option NodeCopy) → Handle → Call → List Change
-effect nodes made (call.Create dir name mode) = create_effect File dir name mode made
-effect nodes made (call.Mkdir dir name mode) = create_effect Dir dir name mode made
+effect nodes made (call.Create dir name mode) = create_effect dir name mode made
+effect nodes made (call.Mkdir dir name mode) = mkdir_effect dir name mode made
 effect nodes made (call.Write file offset text) = write_effect file offset text
 effect nodes made (call.Size file size) = size_effect file size
 effect nodes made (call.Mode handle mode) = mode_effect handle mode
@@ -91,20 +93,34 @@ abbrev pub answer : (Handle → Option PlainNode) → Handle → Call → Answer
 answer nodes made (call.Create dir name mode) = answers.Made made
 answer nodes made (call.Mkdir dir name mode) = answers.Made made
 answer nodes made (call.Write file offset text) = answers.Count (length text)
-answer nodes made (call.Read file offset count) = answers.Bytes (read_at offset count (bytes_of (node_in nodes file)))
+answer nodes made (call.Read file offset count) = read_answer offset count (node_in nodes file)
 answer nodes made (call.Stat handle) = stat_answer (nodes handle)
-answer nodes made (call.List dir) = answers.Names (names_of_node (node_in nodes dir))
+answer nodes made (call.List dir) = list_answer (node_in nodes dir)
 answer nodes made (call.Lookup dir name) = lookup_answer (lookup (node_in nodes) dir name)
 answer nodes made other = answers.Nothing
 
 -- ---- plan
 
--- what a plan is made with: the handle of a new inode, the runs of fresh blocks, and for a size whether the page
--- that it ends in is present
-pub record Taken : Type 0 where
-  pub made : Handle
-  pub runs : List Run
-  pub present : Bool
+abbrev pub is_empty : List ℕ → Bool
+is_empty [] = true
+is_empty (byte ∷ rest) = false
+
+-- a call that commits nothing, where it is not refused
+abbrev pub is_nothing : Call → Bool
+is_nothing (call.Create dir name mode) = false
+is_nothing (call.Mkdir dir name mode) = false
+is_nothing (call.Write file offset text) = is_empty text
+is_nothing (call.Size file size) = false
+is_nothing (call.Mode handle mode) = false
+is_nothing (call.Unlink dir name) = false
+is_nothing (call.Rmdir dir name) = false
+is_nothing (call.Rename from old to new) = own_place from old to new
+is_nothing other = true
+
+-- for a size whether the page that it ends in is present
+abbrev pub ends_in_page : (Handle → ℕ → Bool) → ℕ → Call → Bool
+ends_in_page has_page block (call.Size file size) = nat_lt (size / block) FILE_PAGES && has_page file (size / block)
+ends_in_page has_page block other = false
 
 -- how many data blocks a call takes
 abbrev pub blocks_wanted : ℕ → (Handle → Option NodeCopy) → Bool → Call → ℕ
@@ -112,10 +128,16 @@ blocks_wanted block nodes present (call.Write file offset text) = write_blocks b
 blocks_wanted block nodes present (call.Size file size) = size_blocks block nodes file size present
 blocks_wanted block nodes present other = 0
 
+-- a call that passes its check, with the blocks that it takes
+pub record IsPlanOf (block : ℕ) (nodes : Handle → Option NodeCopy) (has_page : Handle → ℕ → Bool) (c : Call) (p : Plan) : Type 0 where
+  pub passed : refusal block nodes c ≡ passes
+  pub call : p.call ≡ c
+  pub blocks : p.blocks ≡ blocks_wanted block nodes (ends_in_page has_page block c) c
+
 -- the items that a call appends, inode by inode
 abbrev pub plan : ℕ → (Handle → Option NodeCopy) → Taken → Call → List Planned
-plan block nodes taken (call.Create dir name mode) = create_plan File dir name mode taken.made
-plan block nodes taken (call.Mkdir dir name mode) = create_plan Dir dir name mode taken.made
+plan block nodes taken (call.Create dir name mode) = create_plan dir name mode taken.made
+plan block nodes taken (call.Mkdir dir name mode) = mkdir_plan dir name mode taken.made
 plan block nodes taken (call.Write file offset text) = write_plan block nodes file offset text taken.runs
 plan block nodes taken (call.Size file size) = size_plan block file size taken.runs
 plan block nodes taken (call.Mode handle mode) = mode_plan handle mode
@@ -123,6 +145,13 @@ plan block nodes taken (call.Unlink dir name) = leave_plan dir name (found nodes
 plan block nodes taken (call.Rmdir dir name) = leave_plan dir name (found nodes dir name)
 plan block nodes taken (call.Rename from old to new) = rename_plan from old to new (looked nodes (call.Rename from old to new))
 plan block nodes taken other = []
+
+-- a call that commits nothing has no effect and no plan, and any other has both
+pub record IsToldNothing (block : ℕ) (nodes : Handle → Option NodeCopy) (taken : Taken) (c : Call) : Type 0 where
+  pub no_effect : is_nothing c ≡ true → effect nodes taken.made c ≡ []
+  pub no_plan : is_nothing c ≡ true → plan block nodes taken c ≡ []
+  pub some_effect : is_nothing c ≡ false → 0 < length (effect nodes taken.made c)
+  pub some_plan : is_nothing c ≡ false → 0 < length (plan block nodes taken c)
 
 -- maximal runs of blocks, which have the pages that a text touches after the write
 pub record HasPages (bytes : ℕ → List ℕ) (block : ℕ) (taken : Taken) (offset : ℕ) (text before : List ℕ) : Type 0 where

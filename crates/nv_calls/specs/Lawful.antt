@@ -1,8 +1,8 @@
 -- Items that a log can take, one after another, by the kind of its node.
-use Rattle.std.specs.Prelude.{ℕ, ◌+◌, ◌*◌, ◌<◌, ◌≤◌, List, [], ◌∷◌, Option, Some, None, IsTrue}
+use Rattle.std.specs.Prelude.{ℕ, ◌+◌, ◌*◌, ◌<◌, ◌≤◌, List, [], ◌∷◌, length, Option, Some, None, IsTrue}
 use Rattle.std.specs.List.{AllByRecursion}
 use Rattle.nv_base.specs.Names.{is_lawful_name}
-use Rattle.nv_base.specs.declared.limits.TheConstants.{FILE_PAGES}
+use Rattle.nv_base.specs.declared.limits.TheConstants.{FILE_PAGES, WRITE_PAGES}
 use Rattle.nv_base.specs.declared.node.Kind.{Kind}
 use Rattle.nv_base.specs.declared.node.Kind.TheVariants.{File, Dir}
 use Rattle.nv_base.specs.declared.numbers.Handle.{Handle}
@@ -35,10 +35,11 @@ abbrev pub AreLawful : ℕ → List Item → Option Kind → Type 0
 AreLawful block [] before = Unit {0}
 AreLawful block (item ∷ items) before = IsLawful block item before × AreLawful block items (kind_after item before)
 
--- a plan has lawful items for each inode, which bind no more than one name
+-- a plan has lawful items for each inode, no more than a write can have pages, which bind no more than one name
 pub record IsLawfulFor (block : ℕ) (nodes : Handle → Option NodeCopy) (p : Planned) : Type 0 where
   pub lawful : AreLawful block p.items (kind_of (nodes p.handle))
   pub one : BindOne p.items
+  pub few : length p.items ≤ WRITE_PAGES
 
 abbrev pub IsLawfulPlan : ℕ → (Handle → Option NodeCopy) → List Planned → Type 0
 IsLawfulPlan block nodes plan = AllByRecursion (IsLawfulFor block nodes) plan

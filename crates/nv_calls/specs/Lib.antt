@@ -1,10 +1,15 @@
 pub mod AllCalls
-pub mod Lawful
 pub mod Cells
+pub mod Filling
+pub mod Lawful
 pub mod Locked
 pub mod Plain
 pub mod Plan
+pub mod Ready
 pub mod Refusals
+pub mod Retired
+pub mod Retiring
 pub mod Slots
+pub mod Steps
 pub mod Views
 pub mod calls

@@ -1,11 +1,11 @@
 -- Plans: for each inode the items that a call appends to its log.
 use Rattle.std.specs.Prelude.{◌≡◌, ◌≢◌, ℕ, ◌+◌, ◌<◌, ◌≤◌, List, [], ◌∷◌, length, Option}
-use Rattle.std.specs.List.{AllByRecursion, flat_map, range_with_len}
+use Rattle.std.specs.List.{AllByRecursion, flat_map}
 use Rattle.nv_base.specs.declared.numbers.Handle.{Handle}
 use Rattle.nv_entry.specs.declared.item.Item.{Item}
-use Rattle.nv_entry.specs.declared.item.Item.TheVariants.{Write}
 use Rattle.nv_entry.specs.declared.item.Run.{Run}
 use Rattle.nv_entry.specs.declared.node.NodeCopy.{NodeCopy}
+use Rattle.nv_entry.specs.Blocks.{item_blocks}
 use Rattle.nv_entry.specs.Sound.{MakesAll}
 use Rattle.nv_calls.specs.Plain.{Change}
 use Rattle.nv_calls.specs.declared.plan.Planned.{Planned}
@@ -39,11 +39,7 @@ pub record AreFewApart (plan : List Planned) : Type 0 where
 
 -- ---- blocks
 
--- the data blocks that items put pages in, in order
-abbrev pub item_blocks : Item → List ℕ
-item_blocks (Write first run size) = range_with_len run.start run.len
-item_blocks item = []
-
+-- the data blocks that planned items put pages in, in order
 abbrev pub plan_blocks : List Planned → List ℕ
 plan_blocks plan = flat_map (λ (p : Planned). flat_map item_blocks p.items) plan
 

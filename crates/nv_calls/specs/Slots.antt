@@ -58,8 +58,10 @@ pub record ArePlaced (plan : List Planned) : Type 0 where
 
 -- the slots after a commit
 abbrev pub published : ℕ → ℕ → List Planned → (ℕ → Slot) → ℕ → Slot
-published commit epoch plan slots ino =
-    record { generation = (slots ino).generation; log = (slots ino).log ++ entries_of commit epoch (place_in plan ino) (items_for plan ino) }
+published commit epoch plan slots ino = record {
+  generation = (slots ino).generation;
+  log = (slots ino).log ++ entries_of commit epoch (place_in plan ino) (items_for plan ino);
+}
 
 -- there are items, and the handle is that of its slot
 pub record IsPlanned (slots : ℕ → Slot) (p : Planned) : Type 0 where

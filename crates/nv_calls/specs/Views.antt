@@ -10,7 +10,7 @@ use Rattle.nv_calls.specs.declared.call.Call.TheVariants as call
 use Rattle.nv_calls.specs.declared.view.View.{View}
 use Rattle.nv_calls.specs.AllCalls.{answer, refusal}
 use Rattle.nv_calls.specs.Plain.{PlainNode, node_in}
-use Rattle.nv_calls.specs.Refusals.{Check, kind_of, lookup, passes, want_directory, want_lawful}
+use Rattle.nv_calls.specs.Refusals.{Check, passes}
 use Rattle.nv_calls.specs.Slots.{Slot, node_under}
 
 abbrev pub slot_of : CellState → Slot
@@ -28,15 +28,6 @@ abbrev pub stat_of : PlainNode → Stat
 stat_of p = record { kind = p.node.kind; mode = p.node.mode; size = p.node.size; commit = p.changed }
 
 -- ---- looks
-
--- what follows tests that pass
-abbrev pub and_gives : {T : Type 0} → Check → T → Result T Fault
-and_gives (Ok nothing) found = Ok found
-and_gives (Err fault) found = Err fault
-
--- what a name of a directory leads to, where the handle is one of a directory and the name is lawful
-abbrev pub look : (Handle → Option NodeCopy) → Handle → List ℕ → Result (Option Handle) Fault
-look nodes dir name = and_gives (want_directory (kind_of (nodes dir)) (want_lawful name passes)) (lookup nodes dir name)
 
 -- what a check says that looks for something
 abbrev pub check_of : {T : Type 0} → Result T Fault → Check

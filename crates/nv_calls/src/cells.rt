@@ -11,20 +11,23 @@ use nv_log::Chain;
 ///
 /// Each method that changes a cell does so as the cell's own method of that name.
 pub trait Cells {
-    ghost use Rattle.std.specs.Prelude.{◌≡◌, ℕ, ◌+◌, ◌-◌, ◌<◌, ◌≤◌, ◌^◌, ◌⊎◌, List, None, OnErr, OnOk, IsOk, Some, drop, length, map, slice_index_or, true};
+    ghost use Rattle.std.specs.Prelude.{◌≡◌, ℕ, ◌+◌, ◌-◌, ◌<◌, ◌≤◌, ◌^◌, ◌⊎◌, List, None, OnErr, OnOk, IsOk, Some, drop, length, map, slice_index_or, true, vec_len};
     ghost use Rattle.nv_base.specs.Refusals.{FailsOnly};
     ghost use Rattle.nv_base.specs.declared.fault.Fault.TheVariants.{OutOfMemory};
     ghost use Rattle.nv_base.specs.declared.limits.TheConstants.{NUMBER};
     ghost use Rattle.nv_alloc.specs.Block.{numbers_of};
     ghost use Rattle.nv_entry.specs.Covered.{part_count};
+    ghost use Rattle.nv_entry.specs.Blocks.{item_blocks};
     ghost use Rattle.nv_log.specs.Chain.{with_page};
     ghost use Rattle.nv_cell.specs.declared.mark.Mark.TheVariants as mark;
-    ghost use Rattle.nv_cell.specs.Append.{MayAppend, after_append, appended, blocks_for, run_numbers};
-    ghost use Rattle.nv_cell.specs.Cell.{CellValue, IsReady, KeepsAppendRoom, empty_cell, killed_of, log_of, mark_named, number_in, published, with_mark, without_part};
-    ghost use Rattle.nv_cell.specs.Effects.{BindOne};
+    ghost use Rattle.nv_cell.specs.Append.{MayAppend, after_append, appended, blocks_for};
+    ghost use Rattle.nv_cell.specs.Cell.{CellValue, IsReady, KeepsAppendRoom, empty_cell, fresh_of, killed_of, log_of, mark_named, number_in, published, with_mark, without_part};
+    ghost use Rattle.nv_cell.specs.Effects.{BindOne, items_of};
+    ghost use Rattle.nv_cell.specs.Killed.{AreKilled};
     ghost use Rattle.nv_cell.specs.Numbers.{killed_part};
     ghost use Rattle.nv_cell.specs.Readers.{is_gone, keeps_nothing};
     ghost use Rattle.nv_cell.specs.Room.{HasNoLess, IsReadyFor};
+    ghost use Rattle.nv_cell.specs.Weights.{weights_in};
     ghost use Rattle.nv_calls.specs.Cells.{OnlyAt, ino_at, state_at, value_at};
 
     ghost cells: { Self → List (ℕ × CellValue) };
@@ -71,6 +74,7 @@ pub trait Cells {
     fn add_page(&mut self, k: usize, block: Block)
         requires within { k < length (cells self.old) }
         requires reserved { 0 < (value_at (cells self.old) k).room.pages }
+        requires sized { length block.bytes ≡ (state_at (cells self.old) k).block }
         ensures cells { OnlyAt k (cells self.old) (cells self.new) }
         ensures state { state_at (cells self.new) k ≡ record (state_at (cells self.old) k) {
           chain = with_page block (state_at (cells self.old) k).chain;
@@ -87,15 +91,15 @@ pub trait Cells {
         requires next { MayAppend entry (value_at (cells self.old) k) }
         requires size { queue.old.size ≡ (state_at (cells self.old) k).block }
         requires blocks { numbers_of (blocks_for entry.item queue.old.blocks)
-            ≡ run_numbers entry.item }
+            ≡ item_blocks entry.item }
         ensures cells { OnlyAt k (cells self.old) (cells self.new) }
         ensures state { state_at (cells self.new) k
             ≡ appended entry (blocks_for entry.item queue.old.blocks) (state_at (cells self.old) k) }
         ensures room { (value_at (cells self.new) k).room
             ≡ after_append (part_count entry) (value_at (cells self.old) k).room }
         ensures queue { queue.new ≡ record queue.old {
-          blocks = drop (length (run_numbers entry.item)) queue.old.blocks;
-          room = queue.old.room + length (run_numbers entry.item);
+          blocks = drop (length (item_blocks entry.item)) queue.old.blocks;
+          room = queue.old.room + length (item_blocks entry.item);
         } }
         ensures places { places self.new ≡ places self.old }
         ensures beside { beside self.new ≡ beside self.old };
@@ -112,6 +116,9 @@ pub trait Cells {
         ensures killed { map Some result.items
             ≡ map (killed_part (state_at (cells self.old) k).chain.entries)
             (killed_of (state_at (cells self.old) k)) }
+        ensures few { vec_len result ≤ weights_in (state_at (cells self.old) k).block
+            (log_of (state_at (cells self.old) k)) (items_of (fresh_of (state_at (cells self.old) k))) }
+        ensures marked { AreKilled (map (λ killed. killed.part) result.items) (state_at (cells self.new) k) }
         ensures room { KeepsAppendRoom (value_at (cells self.old) k).room (value_at (cells self.new) k).room }
         ensures places { places self.new ≡ places self.old }
         ensures beside { beside self.new ≡ beside self.old };

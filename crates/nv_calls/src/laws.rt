@@ -6,7 +6,8 @@ ghost use Rattle.nv_base.specs.declared.numbers.Handle.{Handle};
 ghost use Rattle.nv_entry.specs.Log.{IsLog};
 ghost use Rattle.nv_entry.specs.Sound.{IsSound};
 ghost use Rattle.nv_entry.specs.declared.node.NodeCopy.{NodeCopy};
-ghost use Rattle.nv_calls.specs.AllCalls.{IsReady, Taken, blocks_wanted, effect, look_refusal, looked, plan, refusal};
+ghost use Rattle.nv_calls.specs.AllCalls.{IsReady, IsToldNothing, blocks_wanted, effect, look_refusal, looked, plan, refusal};
+ghost use Rattle.nv_calls.specs.declared.taken.Taken.{Taken};
 ghost use Rattle.nv_calls.specs.Lawful.{IsLawfulPlan};
 ghost use Rattle.nv_calls.specs.Locked.{Agree, KeepsToIts, SameCall, first_look, handles};
 ghost use Rattle.nv_calls.specs.Plain.{Change, PlainNode, node_in};
@@ -67,6 +68,12 @@ pub fn plans_are_of_few_inodes()
         → 0 < block → refusal block (node_in (node_under bytes block slots)) call ≡ passes
         → IsReady bytes block slots (node_in (node_under bytes block slots)) taken call
         → AreFewApart (plan block (node_in (node_under bytes block slots)) taken call) }
+{}
+
+/// It is told of a call whether it commits nothing.
+pub fn calls_of_nothing_are_told()
+    ensures { (block : ℕ) (nodes : Handle → Option NodeCopy) (taken : Taken) (call : Call)
+        → refusal block nodes call ≡ passes → IsToldNothing block nodes taken call }
 {}
 
 /// A call looks up the same, is refused alike, plans alike, has the same effect and is answered alike

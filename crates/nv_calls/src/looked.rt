@@ -2,7 +2,7 @@
 
 ghost use Rattle.std.specs.Prelude.{◌≡◌, ◌↔◌, IsTrue};
 ghost use Rattle.nv_calls.specs.AllCalls.{looked};
-ghost use Rattle.nv_calls.specs.Refusals.{and_find, found, look};
+ghost use Rattle.nv_calls.specs.Refusals.{found, look};
 
 use crate::wants::{want_directory, want_lawful};
 use crate::{Call, Nodes};
@@ -53,5 +53,23 @@ pub fn look_all<N: Nodes>(nodes: &N, call: &Call) -> Looked
             first: None,
             second: None,
         },
+    }
+}
+
+/// Whether the names of a call still lead to what its looks found.
+pub fn is_as_looked<N: Nodes>(nodes: &N, before: &Looked, call: &Call) -> bool
+    ensures { IsTrue result ↔ (looked (N.nodes_of nodes.now) call.now ≡ before.now) }
+{
+    let now = look_all(nodes, call);
+    is_same(now.first, before.first) && is_same(now.second, before.second)
+}
+
+fn is_same(one: Option<Handle>, other: Option<Handle>) -> bool
+    ensures { IsTrue result ↔ (one ≡ other) }
+{
+    match (one, other) {
+        (None, None) => true,
+        (Some(one), Some(other)) => one.ino == other.ino && one.generation == other.generation,
+        _ => false,
     }
 }

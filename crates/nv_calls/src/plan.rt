@@ -1,21 +1,55 @@
-//! Plans: the items that a call appends to the logs of its inodes.
+//! Plans: what a call that passed its check needs, and the items that it appends to the logs of its inodes.
 
-ghost use Rattle.std.specs.Prelude.{◌≡◌, ◌∷◌, [], IfOk};
+ghost use Rattle.std.specs.Prelude.{◌≡◌, ◌<◌, ◌^◌, ◌∷◌, [], IfOk};
+ghost use Rattle.nv_calls.specs.AllCalls.{is_nothing};
 ghost use Rattle.nv_calls.specs.Plan.{planned};
+ghost use Rattle.nv_calls.specs.Slots.{place_in};
 
-use nv_base::{Handle, Items};
+use crate::Call;
+use crate::planning::is_nothing;
+use nv_base::{Handle, Ino, Items};
 use nv_entry::Item;
 use std::alloc::{AllocError, Global};
 
-/// What a plan appends to the log of one inode.
+/// A call that passed its check, and how many blocks it needs for its pages.
+#[derive(Debug, Drop)]
+pub struct Plan {
+    pub call: Call,
+    pub blocks: u64,
+}
+
+impl Plan {
+    /// Whether the call appends nothing, so that it is answered at its check.
+    pub fn nothing(&self) -> bool
+        ensures { result ≡ is_nothing self.now.call }
+    {
+        is_nothing(&self.call)
+    }
+}
+
+/// What a call appends to the log of one inode.
 #[derive(Debug, Drop)]
 pub struct Planned {
     pub handle: Handle,
     pub items: Items<Item>,
 }
 
+/// Where the entries of an inode begin among those of a commit, which go by rising inode number.
+pub fn place_in(plan: &[Planned], ino: Ino) -> u32
+    requires { place_in plan.now ino < 2 ^ 32 }
+    ensures { result ≡ place_in plan.now ino }
+{
+    let mut place = 0;
+    for planned in plan {
+        if planned.handle.ino < ino {
+            place += planned.items.len() as u32;
+        }
+    }
+    place
+}
+
 /// What a call appends, inode by inode.
-pub type Plan = Items<Planned>;
+pub type PlannedItems = Items<Planned>;
 
 impl Planned {
     /// One item for the log of an inode.

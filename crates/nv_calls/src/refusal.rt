@@ -4,9 +4,10 @@ ghost use Rattle.std.specs.Prelude.{◌≡◌, ◌<◌, ◌≤◌};
 ghost use Rattle.nv_base.specs.declared.limits.TheConstants.{BLOCK_BYTES};
 ghost use Rattle.nv_calls.specs.AllCalls.{early, late, look_refusal, refusal};
 
-use crate::calls::{create, lookup, mode, rename, rmdir, size, stat, unlink, write};
+use crate::calls::{
+    create, list, lookup, mkdir, mode, read, rename, rmdir, size, stat, unlink, write,
+};
 use crate::looked::look_all;
-use crate::wants::{want_directory, want_file};
 use crate::{Call, Looked, Nodes};
 use nv_base::Fault;
 
@@ -51,15 +52,15 @@ pub fn check_late<N: Nodes>(
 {
     match call {
         Call::Create { dir, name, .. } => create::check(nodes, dir, name.as_slice()),
-        Call::Mkdir { dir, name, .. } => create::check(nodes, dir, name.as_slice()),
+        Call::Mkdir { dir, name, .. } => mkdir::check(nodes, dir, name.as_slice()),
         Call::Write { file, offset, text } => {
             write::check(block, nodes, file, *offset, text.as_slice())
         }
-        Call::Read { file, .. } => want_file(nodes.kind(file)),
+        Call::Read { file, .. } => read::check(nodes, file),
         Call::Size { file, size } => size::check(block, nodes, file, *size),
         Call::Mode { handle, .. } => mode::check(nodes, handle),
         Call::Stat { handle } => stat::check(nodes, handle),
-        Call::List { dir } => want_directory(nodes.kind(dir)),
+        Call::List { dir } => list::check(nodes, dir),
         Call::Lookup { dir, name } => lookup::check(nodes, dir, name.as_slice()),
         Call::Unlink { .. } => unlink::check_late(nodes, looked.first),
         Call::Rmdir { .. } => rmdir::check_late(nodes, looked.first),

@@ -3,9 +3,9 @@
 ghost use Rattle.std.specs.Prelude.{◌≡◌, ℕ, List, Err, MatchResult, IfOk, Some, option_map, true};
 ghost use Rattle.nv_base.specs.Refusals.{FailsAsChecked};
 ghost use Rattle.nv_cell.specs.Pages.{AreBytesOf};
-ghost use Rattle.nv_calls.specs.Refusals.{kind_of, lookup};
+ghost use Rattle.nv_calls.specs.Refusals.{kind_of, look, lookup};
 ghost use Rattle.nv_calls.specs.calls.Lookup.{lookup_refusal};
-ghost use Rattle.nv_calls.specs.Views.{IsView, check_of, copy_of, is_list, is_lookup, is_read, is_stat, look, node_of, stat_of, view_refusal};
+ghost use Rattle.nv_calls.specs.Views.{IsView, check_of, copy_of, is_list, is_lookup, is_read, is_stat, node_of, stat_of, view_refusal};
 
 use crate::wants::{want_directory, want_file, want_lawful};
 use crate::{Answer, Call};

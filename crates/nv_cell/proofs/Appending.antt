@@ -17,12 +17,13 @@ use Rattle.nv_entry.specs.declared.key.Datum.TheVariants as datum
 use Rattle.nv_entry.specs.declared.key.Setting.{Setting}
 use Rattle.nv_entry.specs.declared.key.Setting.TheVariants.{Untouched, Absent, Present}
 use Rattle.nv_entry.specs.declared.part.Part.TheVariants as part
+use Rattle.nv_entry.specs.Blocks.{item_blocks}
 use Rattle.nv_entry.specs.Covered.{part_count, part_total}
 use Rattle.nv_entry.specs.Data.{block_in}
 use Rattle.nv_entry.specs.Keys.{Key, KindKey, ModeKey, SizeKey, NameKey, PageKey, in_run, is_page, is_past, key_of, parts_of, sets}
 use Rattle.nv_entry.specs.Log.{value_of}
 use Rattle.nv_cell.specs.declared.mark.Mark.TheVariants.{Current}
-use Rattle.nv_cell.specs.Append.{IsWithinFile, appended, run_numbers, slots_of}
+use Rattle.nv_cell.specs.Append.{IsWithinFile, appended, slots_of}
 use Rattle.nv_cell.specs.Cell.{CellState, HasBlocks, mark_or_fresh, page_block}
 use Rattle.nv_cell.specs.Marks.{is_there}
 use Rattle.nv_cell.proofs.Numbers.{total_append}
@@ -139,7 +140,7 @@ written block first size k run bs within nums lt =
     ∙ sym (rw (low, page_at first size k run within lt, in_file first k run within lt, back) refl)
 
 -- the blocks of an item's parts are those that the item says
-slot_block : (block : ℕ) (item : Item) (bs : List BlockValue) (m : ℕ) → IsWithinFile item → numbers_of bs ≡ run_numbers item
+slot_block : (block : ℕ) (item : Item) (bs : List BlockValue) (m : ℕ) → IsWithinFile item → numbers_of bs ≡ item_blocks item
     → option_map number_of (slice_index_or (slots_of item bs) m None) ≡ own_block block item m
 slot_block block (Write first run size) bs zero within nums =
     let some : nat_lt 0 (length (parts_of (Write first run size))) ≡ true =
@@ -161,7 +162,7 @@ slot_block block (Bind name to) bs m within nums = bare block (Bind name to) m r
 slot_block block (Unbind name) bs m within nums = bare block (Unbind name) m refl
 slot_block block Gone bs m within nums = bare block Gone m refl
 
-pub length_slots : (item : Item) (bs : List BlockValue) → IsWithinFile item → numbers_of bs ≡ run_numbers item
+pub length_slots : (item : Item) (bs : List BlockValue) → IsWithinFile item → numbers_of bs ≡ item_blocks item
     → length (slots_of item bs) ≡ length (parts_of item)
 length_slots (Write first run size) bs within nums =
     ap suc (length-map bs Some ∙ sym (length-map bs number_of) ∙ ap length nums ∙ length-range_with_len run.start run.len)
@@ -204,7 +205,7 @@ back_block block (x ∷ xs) ys n le =
     rw (past, ← back) (back_block block xs ys (n - part_count x) (omega (arith, le)))
 
 pub blocks_append : (cell : CellState) (e : Entry) (bs : List BlockValue) → HasBlocks cell
-    → length cell.marks ≤ part_total cell.chain.entries → IsWithinFile e.item → numbers_of bs ≡ run_numbers e.item → AreSized cell.block bs
+    → length cell.marks ≤ part_total cell.chain.entries → IsWithinFile e.item → numbers_of bs ≡ item_blocks e.item → AreSized cell.block bs
     → HasBlocks (appended e bs cell)
 blocks_append cell e bs h few within nums sized = record { len = len; numbers = numbers; sized = sizes } where
   es : List Entry
@@ -240,6 +241,12 @@ blocks_append cell e bs h few within nums sized = record { len = len; numbers = 
 
 pub log_stays : (t : ℕ) (es : List Entry) (e : Entry) → t ≤ length es → take t (es ++ e ∷ []) ≡ take t es
 log_stays t es e le = take-append-le t es (e ∷ []) le
+
+-- one more block of that size
+pub sized_more : (size : ℕ) (bs : List BlockValue) (b : BlockValue) → AreSized size bs → length b.bytes ≡ size
+    → AreSized size (bs ++ b ∷ [])
+sized_more size [] b all one = (one, tt)
+sized_more size (x ∷ bs) b all one = (all.0, sized_more size bs b all.1 one)
 
 pub sized_front : (size n : ℕ) (bs : List BlockValue) → AreSized size bs → AreSized size (take n bs)
 sized_front size zero bs all = tt

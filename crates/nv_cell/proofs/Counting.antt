@@ -21,24 +21,28 @@ how_many_more test from a b le =
     let s = rw x at (how_many_split test from a (b - a)) in
     omega (arith, s)
 
-pub how_many_same : (test other : ℕ → Bool) → ((page : ℕ) → test page ≡ other page) → (from n : ℕ) → how_many test from n ≡ how_many other from n
+pub how_many_same : (test other : ℕ → Bool) → ((page : ℕ) → test page ≡ other page) → (from n : ℕ)
+    → how_many test from n ≡ how_many other from n
 unfolding how_many
 how_many_same test other same from zero = refl
 how_many_same test other same from (suc n) = rw (same from, how_many_same test other same (from + 1) n) refl
 
 -- one more page passes it, behind a gap or not
-pub how_many_next : (test : ℕ → Bool) (from next page : ℕ) → from ≤ next → next ≤ page → test page ≡ true → how_many test from (next - from) + 1 ≤ how_many test from (page + 1 - from)
+pub how_many_next : (test : ℕ → Bool) (from next page : ℕ) → from ≤ next → next ≤ page → test page ≡ true
+    → how_many test from (next - from) + 1 ≤ how_many test from (page + 1 - from)
 unfolding how_many
 how_many_next test from next page begin le is =
     let x : (page - from) + 1 ≡ page + 1 - from = omega arith in
     let y : from + (page - from) ≡ page = omega arith in
     let one : how_many test page 1 ≡ 1 = rw is refl in
-    let s : how_many test from (page + 1 - from) ≡ how_many test from (page - from) + 1 = rw (← x) (how_many_split test from (page - from) 1 ∙ rw (y, one) refl) in
+    let s : how_many test from (page + 1 - from) ≡ how_many test from (page - from) + 1 =
+    rw (← x) (how_many_split test from (page - from) 1 ∙ rw (y, one) refl) in
     let m = how_many_more test from (next - from) (page - from) (omega arith) in
     omega (arith, s, m)
 
 -- pages of a run are at most as many as the run has
-few_in_run : (first len from n : ℕ) → how_many (λ page. nat_le first page && nat_lt page (first + len)) from n ≤ first + len - max first from
+few_in_run : (first len from n : ℕ)
+    → how_many (λ page. nat_le first page && nat_lt page (first + len)) from n ≤ first + len - max first from
 unfolding how_many
 few_in_run first len from zero = omega arith
 few_in_run first len from (suc n) = go (nat_le first from) refl (nat_lt from (first + len)) refl (few_in_run first len (from + 1) n) where

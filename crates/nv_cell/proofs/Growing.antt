@@ -10,7 +10,7 @@ use Rattle.nv_cell.specs.declared.mark.Mark.{Mark}
 use Rattle.nv_cell.specs.declared.marks.Marks.{Marks}
 use Rattle.nv_cell.specs.Cell.{CellState, HasBlocks, HasMarks, log_of}
 use Rattle.nv_cell.specs.Fields.{AreFields, state_in}
-use Rattle.nv_cell.specs.Index.{IndexValue, bindings_of, ref_of}
+use Rattle.nv_cell.specs.Index.{IndexValue, bindings_of}
 use Rattle.nv_cell.specs.Marks.{is_there}
 use Rattle.nv_cell.specs.Numbers.{part_base}
 use Rattle.nv_cell.specs.Room.{HasGrown, HasSameParts, HaveGrown}
@@ -61,10 +61,13 @@ fields_grown old new h g =
     ap (λ (s : ChainState). length s.entries - s.tail + new.entries) g.chain in
     record {
       some = rw g.block h.some;
+      pages = rw (g.block, g.chain) h.pages;
       marks = subst (λ (s : CellState). HasMarks s) (sym same) h.marks;
       blocks = subst (λ (s : CellState). HasBlocks s) (sym same) h.blocks;
       refs = λ key. g.index.refs key ∙ h.refs key ∙ ap (λ (s : CellState). scan_ref s.block (log_of s) key) (sym same);
-      names = λ name. ap (binding_of name) g.index.names ∙ h.names name ∙ ap (λ (s : CellState). binding_of name (bindings_of (log_of s))) (sym same);
+      names =
+          λ name. ap (binding_of name) g.index.names ∙ h.names name
+          ∙ ap (λ (s : CellState). binding_of name (bindings_of (log_of s))) (sym same);
       ends_len = ap length g.marks.ends.items ∙ h.ends_len ∙ ap (λ (s : ChainState). s.tail) (sym g.chain);
       ends = λ i lt.
           ap (λ (ends : List ℕ). end_at ends i) g.marks.ends.items

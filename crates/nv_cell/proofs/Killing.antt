@@ -10,8 +10,9 @@ use Rattle.nv_entry.specs.declared.part_ref.PartRef.{PartRef}
 use Rattle.nv_entry.specs.Covered.{key_at}
 use Rattle.nv_entry.specs.Keys.{Key, KindKey, ModeKey, SizeKey, NameKey, PageKey}
 use Rattle.nv_entry.proofs.Hiding.{same_name-self, same_name-equal}
+use Rattle.nv_cell.specs.declared.number.NumberedPart.{NumberedPart}
 use Rattle.nv_cell.specs.Index.{IndexValue, ref_of}
-use Rattle.nv_cell.specs.Numbers.{AreNamed, Pushes, times, number, number_at, is_named, is_number, is_page_in, is_key}
+use Rattle.nv_cell.specs.Numbers.{AreNamed, Pushes, times, number, number_at, numbers_in, is_named, is_number, is_page_in, is_key}
 
 pub number_is : (o : Option ℕ) (n : ℕ) → is_number o n ≡ true → o ≡ Some n
 number_is None n h = cc
@@ -66,7 +67,7 @@ at_key o kat h key n = go (is_key key (kat n)) refl where
 
 module _ (es : List Entry) (index : IndexValue) where
   -- nothing is put there
-  pub none_pushed : (test : Key → Bool) (most : ℕ) (list : Vec ℕ) → ((n : ℕ) → (is_named es index n && test (key_at es n)) ≡ false) → Pushes es index test most list list
+  pub none_pushed : (test : Key → Bool) (most : ℕ) (list : Vec NumberedPart) → ((n : ℕ) → (is_named es index n && test (key_at es n)) ≡ false) → Pushes es index test most list list
   none_pushed test most list none = record {
     numbers = λ n. rw (none n) (omega arith);
     len = omega arith;
@@ -74,7 +75,7 @@ module _ (es : List Entry) (index : IndexValue) where
   }
 
   -- the test may be another that tells the same of named parts
-  pub retold : (p q : Key → Bool) (a b : ℕ) (old new : Vec ℕ) → Pushes es index p a old new
+  pub retold : (p q : Key → Bool) (a b : ℕ) (old new : Vec NumberedPart) → Pushes es index p a old new
       → ((n : ℕ) → (is_named es index n && p (key_at es n)) ≡ (is_named es index n && q (key_at es n))) → a ≤ b → Pushes es index q b old new
   retold p q a b old new h same le = record {
     numbers = λ n. rw (← same n) (h.numbers n);
@@ -87,7 +88,7 @@ module _ (es : List Entry) (index : IndexValue) where
   and_sum false x y z h = refl
 
   -- one push after the other
-  pub both : (p q r : Key → Bool) (a b c : ℕ) (old mid new : Vec ℕ) → Pushes es index p a old mid → Pushes es index q b mid new
+  pub both : (p q r : Key → Bool) (a b c : ℕ) (old mid new : Vec NumberedPart) → Pushes es index p a old mid → Pushes es index q b mid new
       → ((k : Key) → cond (p k) 1 0 + cond (q k) 1 0 ≡ cond (r k) 1 0) → a + b ≤ c → Pushes es index r c old new
   both p q r a b c old mid new f g sum le = record {
     numbers = λ n. let s = and_sum (is_named es index n) (p (key_at es n)) (q (key_at es n)) (r (key_at es n)) (sum (key_at es n)) in omega (arith, f.numbers n, g.numbers n, s);
@@ -97,19 +98,19 @@ module _ (es : List Entry) (index : IndexValue) where
 
   module _ (named : AreNamed es index) where
     -- the number of the part that a key has
-    pub key_pushed : (key : Key) (part : PartRef) (old new : Vec ℕ) → ref_of index key ≡ Some part
-        → ((n : ℕ) → times n new.items ≡ times n old.items + cond (number es part == n) 1 0) → vec_len new ≡ vec_len old + 1 → vec_capacity new ≡ vec_capacity old
+    pub key_pushed : (key : Key) (part : PartRef) (old new : Vec NumberedPart) → ref_of index key ≡ Some part
+        → ((n : ℕ) → times n (numbers_in new.items) ≡ times n (numbers_in old.items) + cond (number es part == n) 1 0) → vec_len new ≡ vec_len old + 1 → vec_capacity new ≡ vec_capacity old
         → Pushes es index (is_key key) 1 old new
     key_pushed key part old new at numbers len capacity = record {
       numbers = λ n.
           numbers n
-          ∙ ap (λ (o : Option ℕ). times n old.items + cond (is_number o n) 1 0) (sym (ap (option_map (number es)) at))
-          ∙ ap (λ (b : Bool). times n old.items + cond b 1 0) (at_key (number_at es index) (key_at es) named.keys key n);
+          ∙ ap (λ (o : Option ℕ). times n (numbers_in old.items) + cond (is_number o n) 1 0) (sym (ap (option_map (number es)) at))
+          ∙ ap (λ (b : Bool). times n (numbers_in old.items) + cond b 1 0) (at_key (number_at es index) (key_at es) named.keys key n);
       len = omega (arith, len);
       capacity = capacity;
     }
 
-    pub key_absent : (key : Key) (list : Vec ℕ) → ref_of index key ≡ None → Pushes es index (is_key key) 1 list list
+    pub key_absent : (key : Key) (list : Vec NumberedPart) → ref_of index key ≡ None → Pushes es index (is_key key) 1 list list
     key_absent key list at =
         none_pushed (is_key key) 1 list
         (λ n. sym (at_key (number_at es index) (key_at es) named.keys key n) ∙ ap (λ (o : Option ℕ). is_number o n) (ap (option_map (number es)) at))
@@ -143,14 +144,14 @@ gap_test from next to n o (PageKey p) begin le gap = elim (cases_lt p next) [
   above : to ≤ p → (nat_le from p && nat_lt p next) ≡ (nat_le from p && nat_lt p to)
   above past = grind (arith, nat_tests)
 
-pub skipped : (es : List Entry) (index : IndexValue) (from next to a b : ℕ) (old new : Vec ℕ) → Pushes es index (is_page_in from next) a old new
+pub skipped : (es : List Entry) (index : IndexValue) (from next to a b : ℕ) (old new : Vec NumberedPart) → Pushes es index (is_page_in from next) a old new
     → from ≤ next → next ≤ to → ((p : ℕ) → next ≤ p → p < to → ref_of index (PageKey p) ≡ None) → a ≤ b → Pushes es index (is_page_in from to) b old new
 skipped es index from next to a b old new h begin le gap less =
     retold es index (is_page_in from next) (is_page_in from to) a b old new h
     (λ n. gap_test from next to n (number_at es index) (key_at es n) begin le (λ p ge lt. ap (option_map (number es)) (gap p ge lt))) less
 
 -- one more page, behind a gap
-pub page_pushed : (es : List Entry) (index : IndexValue) → AreNamed es index → (from next page a b : ℕ) (part : PartRef) (old mid new : Vec ℕ)
+pub page_pushed : (es : List Entry) (index : IndexValue) → AreNamed es index → (from next page a b : ℕ) (part : PartRef) (old mid new : Vec NumberedPart)
     → Pushes es index (is_page_in from next) a old mid → from ≤ next → next ≤ page → ((p : ℕ) → next ≤ p → p < page → ref_of index (PageKey p) ≡ None)
     → Pushes es index (is_key (PageKey page)) 1 mid new → a + 1 ≤ b → Pushes es index (is_page_in from (page + 1)) b old new
 page_pushed es index named from next page a b part old mid new h begin le gap one less =

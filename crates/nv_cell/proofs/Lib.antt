@@ -10,6 +10,8 @@ pub mod Cells
 pub mod Publishes
 pub mod Published
 pub mod Naming
+pub mod NamedParts
+pub mod KilledParts
 pub mod Remarking
 pub mod Readied
 pub mod ReadySteps
@@ -19,6 +21,7 @@ pub mod ValuesNow
 pub mod Counting
 pub mod Weighing
 pub mod PageMarks
+pub mod Scanned
 pub mod PagesNow
 pub mod Opening
 pub mod Appending
@@ -27,7 +30,12 @@ pub mod ReadAt
 pub mod Stretches
 pub mod PageBlocks
 pub mod RunFlags
+pub mod Droppable
 pub mod Recounting
+pub mod Sources
+pub mod Leaving
+pub mod NamesLeft
 pub mod Removing
 pub mod PageFlags
 pub mod Growing
+pub mod Numbered

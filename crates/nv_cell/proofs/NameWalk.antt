@@ -22,7 +22,9 @@ pub record Walk (list : List Bound) (i : ℕ) : Type 0 where
   pub bound : binding_of item.0 list ≡ Some item.1
   pub more : (m : List ℕ) → is_some (binding_of m (take (suc i) list)) ≡ (is_some (binding_of m (take i list)) || same_name m item.0)
 
-differ : (name : List ℕ) (list : List Bound) (i : ℕ) (b : Bound) → AllByRecursion (λ y. same_name name y ≡ false) (map (λ (r : Bound). r.0) list) → slice_get list i ≡ Some b → same_name b.0 name ≡ false
+differ : (name : List ℕ) (list : List Bound) (i : ℕ) (b : Bound)
+    → AllByRecursion (λ y. same_name name y ≡ false) (map (λ (r : Bound). r.0) list) → slice_get list i ≡ Some b
+    → same_name b.0 name ≡ false
 differ name [] i b h q = cc
 differ name (x ∷ list) zero b h q = let e : x ≡ b = cc in go (same_name b.0 name) refl where
   go : (t : Bool) → same_name b.0 name ≡ t → same_name b.0 name ≡ false
@@ -45,7 +47,8 @@ walk (x ∷ list) zero d lt = record {
 walk (x ∷ list) (suc i) d lt = on (walk list i (IsDistinct-tail same_name x.0 (map (λ (r : Bound). r.0) list) d) (omega (arith, lt))) where
   on : Walk list i → Walk (x ∷ list) (suc i)
   on w =
-      let n : same_name w.item.0 x.0 ≡ false = differ x.0 list i w.item (IsDistinct-head same_name x.0 (map (λ (r : Bound). r.0) list) d) w.is in
+      let n : same_name w.item.0 x.0 ≡ false =
+      differ x.0 list i w.item (IsDistinct-head same_name x.0 (map (λ (r : Bound). r.0) list) d) w.is in
       record {
         item = w.item;
         is = w.is;
@@ -53,7 +56,8 @@ walk (x ∷ list) (suc i) d lt = on (walk list i (IsDistinct-tail same_name x.0 
         bound = rw n w.bound;
         more = λ m. two m (same_name m x.0) (w.more m);
       } where
-        two : (m : List ℕ) (b : Bool) → is_some (binding_of m (take (suc i) list)) ≡ (is_some (binding_of m (take i list)) || same_name m w.item.0)
+        two : (m : List ℕ) (b : Bool)
+            → is_some (binding_of m (take (suc i) list)) ≡ (is_some (binding_of m (take i list)) || same_name m w.item.0)
             → is_some (cond b (Some x.1) (binding_of m (take (suc i) list))) ≡ (is_some (cond b (Some x.1) (binding_of m (take i list))) || same_name m w.item.0)
         two m true h = refl
         two m false h = h
@@ -86,7 +90,8 @@ name_sum list i w (NameKey m) =
 name_sum list i w k = refl
 
 -- a name that has a part is on the list
-pub names_end : (f : Binding → ℕ) (o : Key → Option ℕ) (list : List Bound) → ((m : List ℕ) → o (NameKey m) ≡ option_map f (binding_of m list)) → (n : ℕ) (k : Key)
+pub names_end : (f : Binding → ℕ) (o : Key → Option ℕ) (list : List Bound)
+    → ((m : List ℕ) → o (NameKey m) ≡ option_map f (binding_of m list)) → (n : ℕ) (k : Key)
     → (is_number (o k) n && is_name_in list k) ≡ (is_number (o k) n && is_any_name k)
 names_end f o list h n KindKey = refl
 names_end f o list h n ModeKey = refl

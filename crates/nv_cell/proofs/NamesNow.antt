@@ -42,7 +42,8 @@ one e (SetMode mode) rest names h = h
 one e (Unbind name) rest names h = h
 one e Gone rest names h = h
 
-each : (es : List Entry) → flat_map (λ (e : Entry). bound_name e.item None) es ≡ map named (flat_map (λ (e : Entry). bound_by e.id e.item) es)
+each : (es : List Entry)
+    → flat_map (λ (e : Entry). bound_name e.item None) es ≡ map named (flat_map (λ (e : Entry). bound_by e.id e.item) es)
 each [] = refl
 each (e ∷ es) =
     flat_map-cons (λ (x : Entry). bound_name x.item None) e es
@@ -69,7 +70,8 @@ pub bound_is : (log : List Entry) (names : List Bound) (name : List ℕ) → Hav
     → bound_to name (names_of log) ≡ option_map to_of (binding_of name names)
 bound_is log names name same = ap (bound_to name) (names_are log) ∙ found name (bindings_of log) ∙ ap (option_map to_of) (sym (same name))
 
-apart : (name : List ℕ) (bs : List Bound) → bound_to name (map named bs) ≡ None → AllByRecursion (λ y. same_name name y ≡ false) (keys_of bs)
+apart : (name : List ℕ) (bs : List Bound) → bound_to name (map named bs) ≡ None
+    → AllByRecursion (λ y. same_name name y ≡ false) (keys_of bs)
 apart name [] h = tt
 apart name (b ∷ bs) h = go (same_name name b.0) refl h (apart name bs) where
   go : (t : Bool) → same_name name b.0 ≡ t → cond t (Some b.1.to) (bound_to name (map named bs)) ≡ None
@@ -86,7 +88,8 @@ distinct (b ∷ bs) h = (apart b.0 bs h.0, distinct bs h.1)
 abbrev bindings_in : List Entry → List Bound
 bindings_in es = flat_map (λ (e : Entry). bound_by e.id e.item) es
 
-behind : (id : EntryId) (e : Entry) (item : Item) (rest : List Bound) → IsIdBefore id e.id → AllByRecursion (λ (next : Bound). IsIdBefore id next.1.entry) rest
+behind : (id : EntryId) (e : Entry) (item : Item) (rest : List Bound) → IsIdBefore id e.id
+    → AllByRecursion (λ (next : Bound). IsIdBefore id next.1.entry) rest
     → AllByRecursion (λ (next : Bound). IsIdBefore id next.1.entry) (bound_by e.id item ++ rest)
 behind id e (Bind name to) rest h all = (h, all)
 behind id e (Init kind mode) rest h all = all
@@ -96,13 +99,15 @@ behind id e (SetMode mode) rest h all = all
 behind id e (Unbind name) rest h all = all
 behind id e Gone rest h all = all
 
-all_behind : (e : Entry) (es : List Entry) → AllByRecursion (MayFollow e) es → AllByRecursion (λ (next : Bound). IsIdBefore e.id next.1.entry) (bindings_in es)
+all_behind : (e : Entry) (es : List Entry) → AllByRecursion (MayFollow e) es
+    → AllByRecursion (λ (next : Bound). IsIdBefore e.id next.1.entry) (bindings_in es)
 all_behind e [] h = tt
 all_behind e (x ∷ es) h =
     subst (λ (bs : List Bound). AllByRecursion (λ (next : Bound). IsIdBefore e.id next.1.entry) bs) (sym (flat_map-cons (λ (y : Entry). bound_by y.id y.item) x es))
     (behind e.id x x.item (bindings_in es) h.0.id_rises (all_behind e es h.1))
 
-first_rising : (e : Entry) (item : Item) (rest : List Bound) → AllByRecursion (λ (next : Bound). IsIdBefore e.id next.1.entry) rest → AreRising rest
+first_rising : (e : Entry) (item : Item) (rest : List Bound) → AllByRecursion (λ (next : Bound). IsIdBefore e.id next.1.entry) rest
+    → AreRising rest
     → AreRising (bound_by e.id item ++ rest)
 first_rising e (Bind name to) rest all h = (all, h)
 first_rising e (Init kind mode) rest all h = h
@@ -119,7 +124,8 @@ rising (e ∷ es) h =
     (first_rising e e.item (bindings_in es) (all_behind e es h.0) (rising es h.1))
 
 -- the list of an index with the bindings of a log has the names of the log
-pub listed_is : (t : ℕ) (es : List Entry) (names listed : List Bound) → IsLog es → HaveSameBindings (bindings_of (take t es)) names → IsListOf names listed
+pub listed_is : (t : ℕ) (es : List Entry) (names listed : List Bound) → IsLog es → HaveSameBindings (bindings_of (take t es)) names
+    → IsListOf names listed
     → map named listed ≡ names_of (take t es)
 listed_is t es names listed is same list =
     let log : List Entry = take t es in
@@ -129,7 +135,8 @@ listed_is t es names listed is same list =
     ∙ sym (names_are log)
 
 -- each name of a list is lawful, so that a copy of it fails for want of memory alone
-pub lawful_at : (bs : List (Bor (List ℕ) × Binding)) (i : ℕ) (b : Bor (List ℕ) × Binding) → AreLawful (map lent bs) → i < length bs → b ≡ slice_index_or bs i b
+pub lawful_at : (bs : List (Bor (List ℕ) × Binding)) (i : ℕ) (b : Bor (List ℕ) × Binding) → AreLawful (map lent bs) → i < length bs
+    → b ≡ slice_index_or bs i b
     → IsTrue (is_lawful_name b.0.now)
 lawful_at [] i b all lt q = absurd (omega arith)
 lawful_at (x ∷ bs) zero b all lt q = subst (λ (g : Bor (List ℕ) × Binding). IsTrue (is_lawful_name g.0.now)) (sym q) all.0
@@ -137,5 +144,6 @@ lawful_at (x ∷ bs) (suc i) b all lt q = lawful_at bs i b all.1 (omega arith) q
 
 pub not_refused : (bytes : List ℕ) (fault : Fault) → IsTrue (is_lawful_name bytes) → (fault ≡ BadName) ⊎ (fault ≡ OutOfMemory)
     → (fault ≡ BadName → is_lawful_name bytes ≡ false) → fault ≡ OutOfMemory
-not_refused bytes fault lawful (inl bad) unlawful = let z : is_lawful_name bytes ≡ false = unlawful bad in let y : IsTrue false = subst IsTrue z lawful in cc
+not_refused bytes fault lawful (inl bad) unlawful =
+    let z : is_lawful_name bytes ≡ false = unlawful bad in let y : IsTrue false = subst IsTrue z lawful in cc
 not_refused bytes fault lawful (inr memory) unlawful = memory

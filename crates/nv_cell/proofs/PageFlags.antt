@@ -152,7 +152,8 @@ log_flags-count stays chain is len =
 
 -- the parts of an entry, with its page's flag
 pub page_parts : (stays : List Bool) (chain : ChainState) (k i : ℕ) (b : Bool) (e : Entry) → IsChain chain
-    → length stays ≡ length chain.ends → i < chain.tail → k < length chain.ends → start_of chain k ≤ i → i < end_of chain k → b ≡ get_or stays k b
+    → length stays ≡ length chain.ends → i < chain.tail → k < length chain.ends → start_of chain k ≤ i → i < end_of chain k
+    → b ≡ get_or stays k b
     → slice_get chain.entries i ≡ Some e → AreNext (log_flags stays chain) (log chain) i b e
 page_parts stays chain k i b e is len lt page from to flag at =
     next_parts (log_flags stays chain) chain.entries chain.tail i b e (omega (arith, log_flags-count stays chain is len, lt)) lt is.within

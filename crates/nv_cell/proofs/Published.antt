@@ -20,7 +20,8 @@ use Rattle.nv_cell.proofs.Publishes.{and_right}
 use Rattle.nv_cell.proofs.Publishing.{total_take}
 
 -- a list is the map of a function over its places
-pub list_from : {X : Type 0} (xs : List X) (f : ℕ → X) (d : X) (k : ℕ) → ((n : ℕ) → n < length xs → slice_index_or xs n d ≡ f (k + n)) → xs ≡ map f (range_with_len k (length xs))
+pub list_from : {X : Type 0} (xs : List X) (f : ℕ → X) (d : X) (k : ℕ) → ((n : ℕ) → n < length xs → slice_index_or xs n d ≡ f (k + n))
+    → xs ≡ map f (range_with_len k (length xs))
 list_from [] f d k h = refl
 list_from (x ∷ xs) f d k h =
     let z : k + 0 ≡ k = omega arith in
@@ -41,15 +42,18 @@ current_there Kept h = cc
 current_there Out h = cc
 
 -- no part goes out, and a fresh one stays
-pub there_stays : (block : ℕ) (es : List Entry) (tail : ℕ) (old new : List Mark) → length old ≡ part_base es tail → length new ≡ part_total es
+pub there_stays : (block : ℕ) (es : List Entry) (tail : ℕ) (old new : List Mark) → length old ≡ part_base es tail
+    → length new ≡ part_total es
     → ((n : ℕ) → n < part_base es tail → is_current (mark_at old n) ≡ not (is_covered block (take tail es) n))
-    → ((n : ℕ) → mark_at new n ≡ published_mark block es tail old n) → (n : ℕ) → is_there (mark_or_fresh new n) ≡ is_there (mark_or_fresh old n)
+    → ((n : ℕ) → mark_at new n ≡ published_mark block es tail old n) → (n : ℕ)
+    → is_there (mark_or_fresh new n) ≡ is_there (mark_or_fresh old n)
 there_stays block es tail old new len more was is n = elim (cases_lt n (part_total es)) [
   | inl lt ↦ ap is_there (fresh_in new n (omega (arith, lt, more)) ∙ is n) ∙ go (dies block es tail n) refl (nat_lt n (part_base es tail)) refl lt
   | inr ge ↦ ap is_there (fresh_out new n (omega (arith, ge, more)) ∙ sym (fresh_out old n (omega (arith, ge, len, total_take es tail))))
 ]
   where
-    go : (d : Bool) → dies block es tail n ≡ d → (b : Bool) → nat_lt n (part_base es tail) ≡ b → n < part_total es → is_there (published_mark block es tail old n) ≡ is_there (mark_or_fresh old n)
+    go : (d : Bool) → dies block es tail n ≡ d → (b : Bool) → nat_lt n (part_base es tail) ≡ b → n < part_total es
+        → is_there (published_mark block es tail old n) ≡ is_there (mark_or_fresh old n)
     go true p true q lt =
         let l = ltb-true n (part_base es tail) q in
         let c = was n l ∙ and_right (nat_lt n (part_total es) && is_covered block es n) (not (is_covered block (take tail es) n)) p in
@@ -61,7 +65,8 @@ there_stays block es tail old new len more was is n = elim (cases_lt n (part_tot
         rw (p, q, l) (ap is_there (sym (fresh_out old n (omega (arith, ltb-false n (part_base es tail) q, len)))))
 
 -- names that are ready by the log's bindings are ready in the index
-ready_same : (item : Item) (old new : Names) → HaveSameBindings old.names new.names → new.reserved ≡ old.reserved → NameReady item old → NameReady item new
+ready_same : (item : Item) (old new : Names) → HaveSameBindings old.names new.names → new.reserved ≡ old.reserved → NameReady item old
+    → NameReady item new
 ready_same (Bind name to) old new same kept h = elim h [
   | inl bound ↦ inl (subst IsSome (sym (same name)) bound)
   | inr reserved ↦ inr (kept ∙ reserved)
@@ -78,5 +83,6 @@ all_ready : (items : List Item) (old new : Names) → HaveSameBindings old.names
 all_ready [] old new same kept h = tt
 all_ready (item ∷ items) old new same kept h = (ready_same item old new same kept h.0, all_ready items old new same kept h.1)
 
-pub names_ready : (items : List Item) (old new : Names) → HaveSameBindings old.names new.names → new.reserved ≡ old.reserved → NamesReady items old → NamesReady items new
+pub names_ready : (items : List Item) (old new : Names) → HaveSameBindings old.names new.names → new.reserved ≡ old.reserved
+    → NamesReady items old → NamesReady items new
 names_ready items old new same kept h = (h.0, all_ready items old new same kept h.1)

@@ -1,10 +1,9 @@
 -- What publishing kills, and where the parts of entries end.
-use Rattle.std.proofs.Common.{◌≡◌, ℕ, zero, suc, ◌+◌, ◌-◌, ◌<◌, ◌≤◌, ◌==◌, ◌&&◌, ◌||◌, Bool, true, false, not, cond, nat_lt, nat_le, List, [], ◌∷◌, length, take, drop, map, filter, Option, Some, None, arith, refl, ap, sym, ◌∙◌, subst, slice_index_or, slice_index, slice_get, get_or, min}
+use Rattle.std.proofs.Common.{◌≡◌, ℕ, zero, suc, ◌+◌, ◌-◌, ◌<◌, ◌≤◌, ◌==◌, ◌&&◌, Bool, true, false, not, cond, nat_lt, nat_le, List, [], ◌∷◌, length, take, filter, Option, arith, refl, ap, ◌∙◌, slice_index_or, slice_get, min}
 use Rattle.std.specs.List.{AllByRecursion, range_with_len}
-use Rattle.std.specs.List.Sorted.{IsNonDecreasingBy, IsPermutation}
+use Rattle.std.specs.List.Sorted.{IsPermutation}
 use Rattle.std.specs.Option.{option_map}
-use Rattle.std.proofs.lemmas.Bool.{ltb-true, ltb-false, lt-ltb, le-ltb, eq-eqb, eqb-false}
-use Rattle.std.proofs.lemmas.List.Sums.{sum_by-cons}
+use Rattle.std.proofs.lemmas.Bool.{ltb-true, lt-ltb, le-ltb, eq-eqb, eqb-false}
 use Rattle.std.proofs.lemmas.Bool.Decides.{nat_tests}
 use Rattle.std.proofs.lemmas.List.Sorted.{sum_by-IsPermutation}
 use Rattle.std.proofs.lemmas.List.FromFn.{length-map-range_with_len}
@@ -21,11 +20,11 @@ use Rattle.nv_log.specs.Chain.{AreEnds as AreChainEnds, ChainState, IsChain}
 use Rattle.nv_log.proofs.Parts.{ends_climb, ends_last}
 use Rattle.nv_cell.specs.declared.killed.KilledPart.{KilledPart}
 use Rattle.nv_cell.specs.declared.mark.Mark.{Mark}
-use Rattle.nv_cell.specs.declared.mark.Mark.TheVariants.{Current, Killed, Out}
-use Rattle.nv_cell.specs.Marks.{is_current, mark_at}
+use Rattle.nv_cell.specs.declared.mark.Mark.TheVariants.{Current, Out}
+use Rattle.nv_cell.specs.Marks.{is_current}
 use Rattle.nv_cell.specs.Numbers.{dies, killed_part, part_base, times}
-use Rattle.nv_cell.specs.Tallies.{AreRuns, end_at, start_at, is_in}
-use Rattle.nv_cell.proofs.Cells.{in_dies, dies_low}
+use Rattle.nv_cell.specs.Tallies.{AreRuns, end_at, start_at}
+use Rattle.nv_cell.proofs.Cells.{in_dies, times_cons}
 
 -- ---- where things end
 
@@ -41,7 +40,8 @@ chain_runs chain h = record {
       (some, (let last = ends_last chain.page chain.ends (length chain.entries) h.parted some in omega (arith, last, lt)));
 }
 
-pub first_base : (ends : List ℕ) (es : List Entry) (len : ℕ) → ((i : ℕ) → i < len → end_at ends i ≡ part_base es (i + 1)) → (i : ℕ) → i < len → start_at ends i ≡ part_base es i
+pub first_base : (ends : List ℕ) (es : List Entry) (len : ℕ) → ((i : ℕ) → i < len → end_at ends i ≡ part_base es (i + 1)) → (i : ℕ)
+    → i < len → start_at ends i ≡ part_base es i
 first_base ends es len h zero lt = refl
 first_base ends es len h (suc i) lt =
     let a : (suc i == 0) ≡ false = grind (arith, nat_tests) in
@@ -54,9 +54,6 @@ first_base ends es len h (suc i) lt =
 pub same_times : (n : ℕ) (xs ys : List ℕ) → IsPermutation xs ys → times n ys ≡ times n xs
 same_times n xs ys h = sum_by-IsPermutation (λ m. cond (m == n) 1 0) xs ys h
 
-times_cons : (m n : ℕ) (ns : List ℕ) → times n (m ∷ ns) ≡ cond (m == n) 1 0 + times n ns
-times_cons m n ns = sum_by-cons (λ k. cond (k == n) 1 0) m ns
-
 above : (x : ℕ) (xs : List ℕ) → ((j : ℕ) → j < length xs → x ≤ slice_index_or xs j 0) → times x xs ≡ 0 → AllByRecursion (λ m. x < m) xs
 above x [] h none = tt
 above x (y ∷ ys) h none =
@@ -68,7 +65,8 @@ above x (y ∷ ys) h none =
     apart true q own le = let k = rw q at own in absurd (omega (arith, k))
     apart false q own le = let ne = eqb-false y x q in omega (arith, ne, le)
 
-pub rising : (xs : List ℕ) → ((i j : ℕ) → i ≤ j → j < length xs → slice_index_or xs i 0 ≤ slice_index_or xs j 0) → ((n : ℕ) → times n xs ≤ 1) → IsRising xs
+pub rising : (xs : List ℕ) → ((i j : ℕ) → i ≤ j → j < length xs → slice_index_or xs i 0 ≤ slice_index_or xs j 0)
+    → ((n : ℕ) → times n xs ≤ 1) → IsRising xs
 rising [] h once = tt
 rising (x ∷ xs) h once =
     let own : times x (x ∷ xs) ≡ 1 + times x xs = times_cons x x xs ∙ ap (λ b. cond b 1 0 + times x xs) (eq-eqb x x refl) in (
@@ -88,13 +86,17 @@ twice_not true = refl
 twice_not false = refl
 
 -- a rising list with exactly the numbers that pass a test is what the test leaves of the range
-pub is_filtered : (test : ℕ → Bool) (len : ℕ) (xs : List ℕ) → IsRising xs → ((n : ℕ) → times n xs ≡ cond (test n) 1 0) → ((n : ℕ) → test n ≡ true → n < len) → xs ≡ filter test (range_with_len 0 len)
+pub is_filtered : (test : ℕ → Bool) (len : ℕ) (xs : List ℕ) → IsRising xs → ((n : ℕ) → times n xs ≡ cond (test n) 1 0)
+    → ((n : ℕ) → test n ≡ true → n < len) → xs ≡ filter test (range_with_len 0 len)
 is_filtered test len xs up count low =
     from_scratch (λ n. not (test n)) 0 len xs up (λ k. in_dies k xs (test k) (count k) ∙ wanted k (test k) refl)
     ∙ same_filter (λ n. not (not (test n))) test (λ n. twice_not (test n)) (range_with_len 0 len)
   where
     wanted : (k : ℕ) (b : Bool) → test k ≡ b → test k ≡ ((nat_le 0 k && nat_lt k (0 + len)) && not (not (test k)))
-    wanted k true q = let l = low k q in let a : nat_le 0 k ≡ true = grind (arith, nat_tests) in let e : nat_lt k (0 + len) ≡ true = lt-ltb k (0 + len) (omega arith) in rw (q, a, e) refl
+    wanted k true q =
+        let l = low k q in
+        let a : nat_le 0 k ≡ true = grind (arith, nat_tests) in
+        let e : nat_lt k (0 + len) ≡ true = lt-ltb k (0 + len) (omega arith) in rw (q, a, e) refl
     wanted k false q = rw q (nothing (nat_le 0 k && nat_lt k (0 + len))) where
       nothing : (b : Bool) → false ≡ (b && false)
       nothing true = refl
@@ -141,7 +143,8 @@ parts_few Gone = omega arith
 abbrev pub named : Entry → Option Part → Option KilledPart
 named e o = option_map (λ part. record { part = record { entry = e.id; part = part }; birth = e.epoch }) o
 
-pub part_at_number : (es : List Entry) (i n : ℕ) (e : Entry) → i < length es → e ≡ slice_index_or es i e → part_base es i ≤ n → n < part_base es (i + 1)
+pub part_at_number : (es : List Entry) (i n : ℕ) (e : Entry) → i < length es → e ≡ slice_index_or es i e → part_base es i ≤ n
+    → n < part_base es (i + 1)
     → killed_part es n ≡ named e (slice_get (parts_of e.item) (n - part_base es i))
 part_at_number [] i n e lt is from to = absurd (omega arith)
 part_at_number (x ∷ es) zero n e lt is from to =
@@ -158,21 +161,24 @@ part_at_number (x ∷ es) (suc i) n e lt is from to =
 -- what a test leaves of a range lies within it
 filter_low : (test : ℕ → Bool) (low len : ℕ) → AllByRecursion (λ x. x < low + len) (filter test (range_with_len low len))
 filter_low test low zero = tt
-filter_low test low (suc len) = go (test low) refl (wider (filter test (range_with_len (low + 1) len)) (filter_low test (low + 1) len)) where
-  wider : (xs : List ℕ) → AllByRecursion (λ x. x < low + 1 + len) xs → AllByRecursion (λ x. x < low + suc len) xs
-  wider [] h = tt
-  wider (x ∷ xs) h = (omega (arith, h.0), wider xs h.1)
+filter_low test low (suc len) =
+    go (test low) refl (wider (filter test (range_with_len (low + 1) len)) (filter_low test (low + 1) len)) where
+      wider : (xs : List ℕ) → AllByRecursion (λ x. x < low + 1 + len) xs → AllByRecursion (λ x. x < low + suc len) xs
+      wider [] h = tt
+      wider (x ∷ xs) h = (omega (arith, h.0), wider xs h.1)
 
-  go : (b : Bool) → test low ≡ b → AllByRecursion (λ x. x < low + suc len) (filter test (range_with_len (low + 1) len)) → AllByRecursion (λ x. x < low + suc len) (filter test (range_with_len low (suc len)))
-  go true q h = rw q (omega arith, h)
-  go false q h = rw q h
+      go : (b : Bool) → test low ≡ b → AllByRecursion (λ x. x < low + suc len) (filter test (range_with_len (low + 1) len))
+          → AllByRecursion (λ x. x < low + suc len) (filter test (range_with_len low (suc len)))
+      go true q h = rw q (omega arith, h)
+      go false q h = rw q h
 
 all_at : (P : ℕ → Type 0) (xs : List ℕ) (i d : ℕ) → AllByRecursion P xs → i < length xs → P (slice_index_or xs i d)
 all_at P [] i d h lt = absurd (omega arith)
 all_at P (x ∷ xs) zero d h lt = h.0
 all_at P (x ∷ xs) (suc i) d h lt = all_at P xs i d h.1 (omega (arith, lt))
 
-pub filtered_low : (test : ℕ → Bool) (len : ℕ) (xs : List ℕ) (i d : ℕ) → xs ≡ filter test (range_with_len 0 len) → i < length xs → slice_index_or xs i d < len
+pub filtered_low : (test : ℕ → Bool) (len : ℕ) (xs : List ℕ) (i d : ℕ) → xs ≡ filter test (range_with_len 0 len) → i < length xs
+    → slice_index_or xs i d < len
 filtered_low test len xs i d is lt =
     let all : AllByRecursion (λ x. x < 0 + len) xs = rw is (filter_low test 0 len) in
     let k = all_at (λ x. x < 0 + len) xs i d all lt in omega (arith, k)

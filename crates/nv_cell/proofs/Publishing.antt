@@ -26,30 +26,39 @@ option_or-none : {T : Type 0} (a : Option T) → option_or a None ≡ a
 option_or-none None = refl
 option_or-none (Some x) = refl
 
-last_append : (block : ℕ) (xs ys : List Entry) (key : Key) → last_cover block (xs ++ ys) key ≡ option_or (last_cover block ys key) (last_cover block xs key)
+last_append : (block : ℕ) (xs ys : List Entry) (key : Key)
+    → last_cover block (xs ++ ys) key ≡ option_or (last_cover block ys key) (last_cover block xs key)
 last_append block [] ys key = sym (option_or-none (last_cover block ys key))
 last_append block (x ∷ xs) ys key =
     ap (λ o. option_or o (cond (covers block x.item key) (Some x) None)) (last_append block xs ys key)
     ∙ sym (option_or-assoc (last_cover block ys key) (last_cover block xs key) (cond (covers block x.item key) (Some x) None))
 
 -- the scan after one more entry
-pub scan_push : (block : ℕ) (log : List Entry) (e : Entry) (key : Key) → scan_ref block (log ++ e ∷ []) key ≡ ref_after block e key (scan_ref block log key)
-scan_push block log e key = ap (option_and_then (λ x. ref_after block x key None)) (last_append block log (e ∷ []) key) ∙ go (sets block e.item key) refl where
-  go : (s : Setting) → sets block e.item key ≡ s → option_and_then (λ x. ref_after block x key None) (option_or (option_or None (cond (covers block e.item key) (Some e) None)) (last_cover block log key)) ≡ ref_after block e key (scan_ref block log key)
-  go Untouched q =
-      let a : covers block e.item key ≡ false = ap touches q in
-      let b : ref_after block e key (scan_ref block log key) ≡ scan_ref block log key = ap (λ (s : Setting). left_by s (record { entry = e.id; place = place_in e.item key }) (scan_ref block log key)) q in
-      rw a (sym b)
-  go Absent q =
-      let a : covers block e.item key ≡ true = ap touches q in
-      let b : ref_after block e key (scan_ref block log key) ≡ None = ap (λ (s : Setting). left_by s (record { entry = e.id; place = place_in e.item key }) (scan_ref block log key)) q in
-      let d : ref_after block e key None ≡ None = ap (λ (s : Setting). left_by s (record { entry = e.id; place = place_in e.item key }) None) q in
-      rw a (d ∙ sym b)
-  go (Present v) q =
-      let a : covers block e.item key ≡ true = ap touches q in
-      let b : ref_after block e key (scan_ref block log key) ≡ Some (record { entry = e.id; place = place_in e.item key }) = ap (λ (s : Setting). left_by s (record { entry = e.id; place = place_in e.item key }) (scan_ref block log key)) q in
-      let d : ref_after block e key None ≡ Some (record { entry = e.id; place = place_in e.item key }) = ap (λ (s : Setting). left_by s (record { entry = e.id; place = place_in e.item key }) None) q in
-      rw a (d ∙ sym b)
+pub scan_push : (block : ℕ) (log : List Entry) (e : Entry) (key : Key)
+    → scan_ref block (log ++ e ∷ []) key ≡ ref_after block e key (scan_ref block log key)
+scan_push block log e key =
+    ap (option_and_then (λ x. ref_after block x key None)) (last_append block log (e ∷ []) key) ∙ go (sets block e.item key) refl where
+      go : (s : Setting) → sets block e.item key ≡ s
+          → option_and_then (λ x. ref_after block x key None) (option_or (option_or None (cond (covers block e.item key) (Some e) None)) (last_cover block log key)) ≡ ref_after block e key (scan_ref block log key)
+      go Untouched q =
+          let a : covers block e.item key ≡ false = ap touches q in
+          let b : ref_after block e key (scan_ref block log key) ≡ scan_ref block log key =
+          ap (λ (s : Setting). left_by s (record { entry = e.id; place = place_in e.item key }) (scan_ref block log key)) q in
+          rw a (sym b)
+      go Absent q =
+          let a : covers block e.item key ≡ true = ap touches q in
+          let b : ref_after block e key (scan_ref block log key) ≡ None =
+          ap (λ (s : Setting). left_by s (record { entry = e.id; place = place_in e.item key }) (scan_ref block log key)) q in
+          let d : ref_after block e key None ≡ None =
+          ap (λ (s : Setting). left_by s (record { entry = e.id; place = place_in e.item key }) None) q in
+          rw a (d ∙ sym b)
+      go (Present v) q =
+          let a : covers block e.item key ≡ true = ap touches q in
+          let b : ref_after block e key (scan_ref block log key) ≡ Some (record { entry = e.id; place = place_in e.item key }) =
+          ap (λ (s : Setting). left_by s (record { entry = e.id; place = place_in e.item key }) (scan_ref block log key)) q in
+          let d : ref_after block e key None ≡ Some (record { entry = e.id; place = place_in e.item key }) =
+          ap (λ (s : Setting). left_by s (record { entry = e.id; place = place_in e.item key }) None) q in
+          rw a (d ∙ sym b)
 
 take_drop : (es : List Entry) (t : ℕ) → take t es ++ drop t es ≡ es
 take_drop [] zero = refl
@@ -66,17 +75,25 @@ pub record IsScan (block : ℕ) (es : List Entry) (t : ℕ) (index : IndexValue)
   pub log : IsLog es
   pub scan : (key : Key) → ref_of index key ≡ scan_ref block (take t es) key
 
-link : (block : ℕ) (es : List Entry) (t : ℕ) (index : IndexValue) → IsScan block es t index → (key : Key) → Linked block es 0 (take t es) key
-link block es t index h key =
-    let i : IsLog (take t es ++ drop t es) = rw (take_drop es t) h.log in
+link : (block : ℕ) (es : List Entry) (t : ℕ) (key : Key) → IsLog es → Linked block es 0 (take t es) key
+link block es t key is =
+    let i : IsLog (take t es ++ drop t es) = rw (take_drop es t) is in
     rw (take_drop es t) at (linked block [] (take t es) (drop t es) key i)
 
-pub by_number : (block : ℕ) (es : List Entry) (t : ℕ) (index : IndexValue) → IsScan block es t index → (key : Key) → number_at es index key ≡ scan_n block (take t es) key
+-- the scan by ids is the scan by numbers
+pub scanned : (block : ℕ) (es : List Entry) (t : ℕ) (key : Key) → IsLog es
+    → option_map (number es) (scan_ref block (take t es) key) ≡ scan_n block (take t es) key
+scanned block es t key is = (link block es t key is).numbers ∙ from_zero (scan_n block (take t es) key)
+
+pub by_number : (block : ℕ) (es : List Entry) (t : ℕ) (index : IndexValue) → IsScan block es t index → (key : Key)
+    → number_at es index key ≡ scan_n block (take t es) key
 by_number block es t index h key =
-    ap (option_map (number es)) (h.scan key) ∙ (link block es t index h key).numbers ∙ from_zero (scan_n block (take t es) key)
+    ap (option_map (number es)) (h.scan key) ∙ scanned block es t key h.log
 
 pub total_take : (es : List Entry) (t : ℕ) → part_total (take t es) ≤ part_total es
-total_take es t = let a : part_total (take t es ++ drop t es) ≡ part_total es = ap part_total (take_drop es t) in omega (arith, a, total_append (take t es) (drop t es))
+total_take es t =
+    let a : part_total (take t es ++ drop t es) ≡ part_total es = ap part_total (take_drop es t) in
+    omega (arith, a, total_append (take t es) (drop t es))
 
 front_key : (es : List Entry) (t n : ℕ) → n < part_total (take t es) → key_at es n ≡ key_at (take t es) n
 front_key es t n lt = ap (λ (xs : List Entry). key_at xs n) (sym (take_drop es t)) ∙ key_front (take t es) (drop t es) n lt
@@ -93,41 +110,54 @@ are_named block es t index h = record {
       let n : scan_n block (take t es) key ≡ Some (number es r) = sym (by_number block es t index h key) ∙ ap (option_map (number es)) q in
       let s = scan_key block (take t es) key (number es r) n in
       record {
-        entry = (link block es t index h key).known r (sym (h.scan key) ∙ q);
+        entry = (link block es t key h.log).known r (sym (h.scan key) ∙ q);
         within = omega (arith, s.0, total_take es t);
       }
 
-pub named_is : (block : ℕ) (es : List Entry) (t : ℕ) (index : IndexValue) → IsScan block es t index → (n : ℕ) → is_named es index n ≡ (nat_lt n (part_total (take t es)) && not (is_covered block (take t es) n))
-named_is block es t index h n = ap (λ (o : Option ℕ). is_number o n) (by_number block es t index h (key_at es n)) ∙ go (nat_lt n (part_total (take t es))) refl where
-  none : part_total (take t es) ≤ n → (b : Bool) → is_number (scan_n block (take t es) (key_at es n)) n ≡ b → b ≡ false
-  none le true q = let s = scan_key block (take t es) (key_at es n) n (number_is (scan_n block (take t es) (key_at es n)) n q) in absurd (omega (arith, s.0))
-  none le false q = refl
+pub named_is : (block : ℕ) (es : List Entry) (t : ℕ) (index : IndexValue) → IsScan block es t index → (n : ℕ)
+    → is_named es index n ≡ (nat_lt n (part_total (take t es)) && not (is_covered block (take t es) n))
+named_is block es t index h n =
+    ap (λ (o : Option ℕ). is_number o n) (by_number block es t index h (key_at es n)) ∙ go (nat_lt n (part_total (take t es))) refl where
+      none : part_total (take t es) ≤ n → (b : Bool) → is_number (scan_n block (take t es) (key_at es n)) n ≡ b → b ≡ false
+      none le true q =
+          let s = scan_key block (take t es) (key_at es n) n (number_is (scan_n block (take t es) (key_at es n)) n q) in
+          absurd (omega (arith, s.0))
+      none le false q = refl
 
-  go : (b : Bool) → nat_lt n (part_total (take t es)) ≡ b → is_number (scan_n block (take t es) (key_at es n)) n ≡ (nat_lt n (part_total (take t es)) && not (is_covered block (take t es) n))
-  go true q = ap (λ (k : Key). is_number (scan_n block (take t es) k) n) (front_key es t n (ltb-true n (part_total (take t es)) q)) ∙ scan_names block (take t es) n
-  go false q = rw q (none (ltb-false n (part_total (take t es)) q) (is_number (scan_n block (take t es) (key_at es n)) n) refl)
+      go : (b : Bool) → nat_lt n (part_total (take t es)) ≡ b
+          → is_number (scan_n block (take t es) (key_at es n)) n ≡ (nat_lt n (part_total (take t es)) && not (is_covered block (take t es) n))
+      go true q =
+          ap (λ (k : Key). is_number (scan_n block (take t es) k) n) (front_key es t n (ltb-true n (part_total (take t es)) q))
+          ∙ scan_names block (take t es) n
+      go false q = rw q (none (ltb-false n (part_total (take t es)) q) (is_number (scan_n block (take t es) (key_at es n)) n) refl)
 
 -- more entries cover no less
-cover_take : (block : ℕ) (es : List Entry) (a b : ℕ) (key : Key) → a ≤ b → any_cover block (take a es) key ≡ true → any_cover block (take b es) key ≡ true
+cover_take : (block : ℕ) (es : List Entry) (a b : ℕ) (key : Key) → a ≤ b → any_cover block (take a es) key ≡ true
+    → any_cover block (take b es) key ≡ true
 cover_take block [] zero b key le h = cc
 cover_take block [] (suc a) b key le h = cc
 cover_take block (x ∷ xs) zero b key le h = cc
 cover_take block (x ∷ xs) (suc a) zero key le h = absurd (omega arith)
-cover_take block (x ∷ xs) (suc a) (suc b) key le h = go (covers block x.item key) (λ k. cover_take block xs a b key (omega (arith, le)) k) h where
-  go : (c : Bool) → (any_cover block (take a xs) key ≡ true → any_cover block (take b xs) key ≡ true) → (c || any_cover block (take a xs) key) ≡ true → (c || any_cover block (take b xs) key) ≡ true
-  go true rec k = refl
-  go false rec k = rec k
+cover_take block (x ∷ xs) (suc a) (suc b) key le h =
+    go (covers block x.item key) (λ k. cover_take block xs a b key (omega (arith, le)) k) h where
+      go : (c : Bool) → (any_cover block (take a xs) key ≡ true → any_cover block (take b xs) key ≡ true)
+          → (c || any_cover block (take a xs) key) ≡ true → (c || any_cover block (take b xs) key) ≡ true
+      go true rec k = refl
+      go false rec k = rec k
 
-pub covered_take : (block : ℕ) (es : List Entry) (a b n : ℕ) → a ≤ b → is_covered block (take a es) n ≡ true → is_covered block (take b es) n ≡ true
+pub covered_take : (block : ℕ) (es : List Entry) (a b n : ℕ) → a ≤ b → is_covered block (take a es) n ≡ true
+    → is_covered block (take b es) n ≡ true
 covered_take block [] zero b n le h = cc
 covered_take block [] (suc a) b n le h = cc
 covered_take block (x ∷ xs) zero b n le h = cc
 covered_take block (x ∷ xs) (suc a) zero n le h = absurd (omega arith)
-covered_take block (x ∷ xs) (suc a) (suc b) n le h = go (nat_lt n (part_count x)) (λ k. covered_take block xs a b (n - part_count x) (omega (arith, le)) k) h where
-  go : (c : Bool) → (is_covered block (take a xs) (n - part_count x) ≡ true → is_covered block (take b xs) (n - part_count x) ≡ true)
-      → cond c (any_cover block (take a xs) (part_key x n)) (is_covered block (take a xs) (n - part_count x)) ≡ true → cond c (any_cover block (take b xs) (part_key x n)) (is_covered block (take b xs) (n - part_count x)) ≡ true
-  go true rec k = cover_take block xs a b (part_key x n) (omega (arith, le)) k
-  go false rec k = rec k
+covered_take block (x ∷ xs) (suc a) (suc b) n le h =
+    go (nat_lt n (part_count x)) (λ k. covered_take block xs a b (n - part_count x) (omega (arith, le)) k) h where
+      go : (c : Bool) → (is_covered block (take a xs) (n - part_count x) ≡ true → is_covered block (take b xs) (n - part_count x) ≡ true)
+          → cond c (any_cover block (take a xs) (part_key x n)) (is_covered block (take a xs) (n - part_count x)) ≡ true
+          → cond c (any_cover block (take b xs) (part_key x n)) (is_covered block (take b xs) (n - part_count x)) ≡ true
+      go true rec k = cover_take block xs a b (part_key x n) (omega (arith, le)) k
+      go false rec k = rec k
 
 pub take_whole : (es : List Entry) → take (length es) es ≡ es
 take_whole [] = refl
@@ -169,11 +199,13 @@ step_bools a false false d d2 f ba dd fc = go a f where
   go false f = refl
 
 -- what one entry more kills
-pub kill_step : (block : ℕ) (es : List Entry) (tail t n : ℕ) (e : Entry) (index : IndexValue) → IsScan block es t index → tail ≤ t → t < length es → e ≡ slice_index_or es t e
+pub kill_step : (block : ℕ) (es : List Entry) (tail t n : ℕ) (e : Entry) (index : IndexValue) → IsScan block es t index → tail ≤ t
+    → t < length es → e ≡ slice_index_or es t e
     → cond ((nat_lt n (part_total es) && is_covered block (take t es) n) && not (is_covered block (take tail es) n)) 1 0 + cond (is_named es index n && covers block e.item (key_at es n)) 1 0
     ≡ cond ((nat_lt n (part_total es) && is_covered block (take (t + 1) es) n) && not (is_covered block (take tail es) n)) 1 0
 kill_step block es tail t n e index h le lt q =
-    let s = step_bools (nat_lt n (part_total es)) (nat_lt n (part_total (take t es))) (is_covered block (take t es) n) (covers block e.item (key_at es n)) (covers block e.item (key_at (take t es) n)) (is_covered block (take tail es) n)
+    let s =
+    step_bools (nat_lt n (part_total es)) (nat_lt n (part_total (take t es))) (is_covered block (take t es) n) (covers block e.item (key_at es n)) (covers block e.item (key_at (take t es) n)) (is_covered block (take tail es) n)
     (λ b. lt-ltb n (part_total es) (omega (arith, ltb-true n (part_total (take t es)) b, total_take es t)))
     (λ b. ap (covers block e.item) (sym (front_key es t n (ltb-true n (part_total (take t es)) b))))
     (λ f. covered_take block es tail t n le f) in

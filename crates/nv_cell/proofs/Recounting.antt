@@ -6,11 +6,10 @@ use Rattle.std.specs.List.{count_by}
 use Rattle.std.specs.Prelude.{slice_range}
 use Rattle.nv_entry.specs.declared.item.Entry.{Entry}
 use Rattle.nv_cell.specs.declared.mark.Mark.{Mark}
-use Rattle.nv_cell.specs.declared.tally.PageCounts.{PageCounts}
 use Rattle.nv_cell.specs.declared.tally.Tally.{Tally}
 use Rattle.nv_cell.specs.Marks.{is_current, is_there}
 use Rattle.nv_cell.specs.Numbers.{part_base}
-use Rattle.nv_cell.specs.Tallies.{AreTallies, count_in, counts_at, end_at, start_at, tally_at}
+use Rattle.nv_cell.specs.Tallies.{AreTallies, count_in, end_at, start_at, tally_at}
 use Rattle.nv_cell.proofs.Cells.{base_rises}
 
 -- where entry `i` of so many begins

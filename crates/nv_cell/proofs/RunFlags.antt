@@ -28,7 +28,7 @@ left_of-stays (suc n) [] [] = refl
 left_of-stays (suc n) (b ∷ flags) [] = refl
 left_of-stays (suc n) flags (x ∷ xs) = ap (λ ys. x ∷ ys) (left_of-stays n flags xs)
 
-gone_of-run : {X : Type 0} (n : ℕ) (b : Bool) (flags : List Bool) (xs : List X)
+pub gone_of-run : {X : Type 0} (n : ℕ) (b : Bool) (flags : List Bool) (xs : List X)
     → gone_of (replicate n b ++ flags) xs ≡ cond b [] (take n xs) ++ gone_of flags (drop n xs)
 gone_of-run zero true flags xs = refl
 gone_of-run zero false flags xs = refl

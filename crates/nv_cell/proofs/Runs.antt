@@ -1,10 +1,9 @@
 -- Counts in runs of a list, where one item changes.
-use Rattle.std.proofs.Common.{◌≡◌, ◌≢◌, ℕ, zero, suc, ◌+◌, ◌-◌, ◌<◌, ◌≤◌, ◌==◌, ◌&&◌, Bool, true, false, cond, nat_lt, nat_le, List, [], ◌∷◌, length, take, drop, arith, refl, ap, sym, ◌∙◌, slice_set, slice_index_or, inl, inr}
+use Rattle.std.proofs.Common.{◌≡◌, ℕ, zero, suc, ◌+◌, ◌-◌, ◌<◌, ◌≤◌, ◌==◌, ◌&&◌, Bool, true, false, cond, nat_lt, nat_le, List, [], ◌∷◌, length, take, arith, refl, sym, ◌∙◌, slice_set, slice_index_or, inl, inr}
 use Rattle.std.specs.Prelude.{count_by}
 use Rattle.std.proofs.lemmas.List.Sums.{sum_by-cons}
-use Rattle.std.proofs.lemmas.Bool.{cases_lt, eqb-true, eqb-false, eq-eqb}
+use Rattle.std.proofs.lemmas.Bool.{cases_lt, eqb-true, eq-eqb}
 use Rattle.std.proofs.lemmas.Bool.Decides.{nat_tests}
-use Rattle.std.proofs.lemmas.Grind.{common_steps}
 use Rattle.std.proofs.Common.{leb}
 use Rattle.std.specs.List.Sorted.{IsNonDecreasingBy, IsPartitionedBy, IsPartitionPoint}
 use Rattle.std.proofs.lemmas.List.Sorted.{IsNonDecreasingBy-from_all_adjacent, IsPartitionedBy-leb}
@@ -46,7 +45,8 @@ count_set test d (y ∷ ys) (suc from) to (suc n) x lt =
     rw (z, ← s) ih
 
 -- a run has an item that another has not
-pub one_run : (ends : List ℕ) (len i j n : ℕ) → AreRuns ends len → i < length ends → j < length ends → start_at ends i ≤ n → n < end_at ends i → in_range (start_at ends j) (end_at ends j) n ≡ (i == j)
+pub one_run : (ends : List ℕ) (len i j n : ℕ) → AreRuns ends len → i < length ends → j < length ends → start_at ends i ≤ n
+    → n < end_at ends i → in_range (start_at ends j) (end_at ends j) n ≡ (i == j)
 one_run ends len i j n h li lj s e = elim (cases_lt i j) [
   | inl lt ↦ let r = h.rising i (j - 1) (omega arith) (omega arith) in
       let z : (j == 0) ≡ false = grind (arith, nat_tests) in
@@ -65,7 +65,8 @@ one_run ends len i j n h li lj s e = elim (cases_lt i j) [
 ]
 
 -- an item that passes is counted
-pub count_some : {X : Type 0} (test : X → Bool) (d : X) (xs : List X) (from to n : ℕ) (fails : X) → test fails ≡ false → n < length xs → from ≤ n → n < to → cond (test (slice_index_or xs n d)) 1 0 ≤ count_in test xs from to
+pub count_some : {X : Type 0} (test : X → Bool) (d : X) (xs : List X) (from to n : ℕ) (fails : X) → test fails ≡ false → n < length xs
+    → from ≤ n → n < to → cond (test (slice_index_or xs n d)) 1 0 ≤ count_in test xs from to
 count_some test d xs from to n fails bad lt le below =
     let c = count_set test d xs from to n fails lt in
     let r : in_range from to n ≡ true = grind (arith, nat_tests) in
@@ -73,7 +74,8 @@ count_some test d xs from to n fails bad lt le below =
     omega (arith, e)
 
 -- the counts of all runs after one item has changed
-pub recount : {X : Type 0} (test : X → Bool) (d : X) (xs : List X) (ends : List ℕ) (i k : ℕ) (x : X) (f g : ℕ → ℕ) → AreRuns ends (length xs) → k < length ends → start_at ends k ≤ i → i < end_at ends k → i < length xs
+pub recount : {X : Type 0} (test : X → Bool) (d : X) (xs : List X) (ends : List ℕ) (i k : ℕ) (x : X) (f g : ℕ → ℕ)
+    → AreRuns ends (length xs) → k < length ends → start_at ends k ≤ i → i < end_at ends k → i < length xs
     → ((j : ℕ) → j < length ends → f j ≡ count_in test xs (start_at ends j) (end_at ends j))
     → cond (test (slice_index_or xs i d)) 1 0 ≤ f k
     → ((j : ℕ) → g j ≡ cond (k == j) (f k - cond (test (slice_index_or xs i d)) 1 0 + cond (test x) 1 0) (f j))
@@ -99,20 +101,26 @@ recount test d xs ends i k x f g runs lk s e li old le new j lj =
           omega (arith, h, n, old j lj)
 
 -- what no test lets through twice is at most the whole
-both_front : {X : Type 0} (one two : X → Bool) → ((x : X) → one x ≡ true → two x ≡ false) → (xs : List X) (len : ℕ) → count_by one (take len xs) + count_by two (take len xs) ≤ length xs
+both_front : {X : Type 0} (one two : X → Bool) → ((x : X) → one x ≡ true → two x ≡ false) → (xs : List X) (len : ℕ)
+    → count_by one (take len xs) + count_by two (take len xs) ≤ length xs
 both_front one two h [] zero = omega arith
 both_front one two h [] (suc len) = omega arith
 both_front one two h (x ∷ xs) zero = omega arith
 both_front one two h (x ∷ xs) (suc len) = go (one x) (two x) refl refl (both_front one two h xs len) where
-  go : (a b : Bool) → one x ≡ a → two x ≡ b → count_by one (take len xs) + count_by two (take len xs) ≤ length xs → count_by one (x ∷ take len xs) + count_by two (x ∷ take len xs) ≤ suc (length xs)
+  go : (a b : Bool) → one x ≡ a → two x ≡ b → count_by one (take len xs) + count_by two (take len xs) ≤ length xs
+      → count_by one (x ∷ take len xs) + count_by two (x ∷ take len xs) ≤ suc (length xs)
   go true true p q ih = let z : true ≡ false = sym q ∙ h x p in cc
-  go true false p q ih = let y = rw p at (count_cons one x (take len xs)) in let z = rw q at (count_cons two x (take len xs)) in omega (arith, y, z, ih)
-  go false b p q ih = let y = rw p at (count_cons one x (take len xs)) in let z = count_cons two x (take len xs) in omega (arith, y, z, ih, bit (two x)) where
-    bit : (c : Bool) → cond c 1 0 ≤ 1
-    bit true = omega arith
-    bit false = omega arith
+  go true false p q ih =
+      let y = rw p at (count_cons one x (take len xs)) in let z = rw q at (count_cons two x (take len xs)) in omega (arith, y, z, ih)
+  go false b p q ih =
+      let y = rw p at (count_cons one x (take len xs)) in
+      let z = count_cons two x (take len xs) in omega (arith, y, z, ih, bit (two x)) where
+        bit : (c : Bool) → cond c 1 0 ≤ 1
+        bit true = omega arith
+        bit false = omega arith
 
-pub both : {X : Type 0} (one two : X → Bool) → ((x : X) → one x ≡ true → two x ≡ false) → (xs : List X) (from to : ℕ) → count_in one xs from to + count_in two xs from to ≤ length xs
+pub both : {X : Type 0} (one two : X → Bool) → ((x : X) → one x ≡ true → two x ≡ false) → (xs : List X) (from to : ℕ)
+    → count_in one xs from to + count_in two xs from to ≤ length xs
 both one two h xs zero to = both_front one two h xs (to - 0)
 both one two h [] (suc from) to = both_front one two h [] (to - suc from)
 both one two h (x ∷ xs) (suc from) to =

@@ -37,13 +37,15 @@ joined : (xs : List Entry) (e : Entry) (ys zs : List Entry) → (xs ++ e ∷ ys)
 joined [] e ys zs = refl
 joined (x ∷ xs) e ys zs = ap (λ (ws : List Entry). x ∷ ws) (joined xs e ys zs)
 
-own : (id : EntryId) (es before : List Entry) (e : Entry) (later : List Entry) → e.id ≡ id → es ≡ before ++ e ∷ later → IsLog es → entry_with id es ≡ Some e
+own : (id : EntryId) (es before : List Entry) (e : Entry) (later : List Entry) → e.id ≡ id → es ≡ before ++ e ∷ later → IsLog es
+    → entry_with id es ≡ Some e
 own id es before e later p q is =
     subst (λ (xs : List Entry). entry_with id xs ≡ Some e) (sym q)
     (subst (λ (i : EntryId). entry_with i (before ++ e ∷ later) ≡ Some e) p (entry_with-own before e later (subst IsLog q is)))
 
 -- a part that holds a key lies in the same entry among all
-found : (block t : ℕ) (es : List Entry) (key : Key) (r : PartRef) → IsLog es → IsCurrentPart block (take t es) key r → entry_with r.entry (take t es) ≡ entry_with r.entry es
+found : (block t : ℕ) (es : List Entry) (key : Key) (r : PartRef) → IsLog es → IsCurrentPart block (take t es) key r
+    → entry_with r.entry (take t es) ≡ entry_with r.entry es
 found block t es key r is c =
     own r.entry (take t es) c.before c.entry c.later c.id c.log_is (IsLog-take t es is)
     ∙ sym (own r.entry es c.before c.entry (c.later ++ drop t es) c.id

@@ -1,6 +1,5 @@
 -- What appending an entry makes of a cell.
 use Rattle.std.specs.Prelude.{ℕ, ◌+◌, ◌-◌, ◌<◌, ◌≤◌, List, [], ◌∷◌, ◌++◌, length, map, replicate, take, Option, Some, None}
-use Rattle.std.specs.List.{range_with_len}
 use Rattle.std.specs.Option.{ForSome}
 use Rattle.nv_alloc.specs.Block.{BlockValue}
 use Rattle.nv_base.specs.Ids.{IsIdBefore}
@@ -8,15 +7,11 @@ use Rattle.nv_base.specs.declared.limits.TheConstants.{FILE_PAGES}
 use Rattle.nv_entry.specs.declared.item.Entry.{Entry}
 use Rattle.nv_entry.specs.declared.item.Item.{Item}
 use Rattle.nv_entry.specs.declared.item.Item.TheVariants.{Write}
+use Rattle.nv_entry.specs.Blocks.{item_blocks}
 use Rattle.nv_entry.specs.Covered.{part_count}
 use Rattle.nv_entry.specs.Keys.{parts_of}
 use Rattle.nv_log.specs.Chain.{appended as appended_chain, last_epoch, last_id, room_of}
 use Rattle.nv_cell.specs.Cell.{CellRoom, CellState, CellValue}
-
--- the numbers of the blocks of an item's pages
-abbrev pub run_numbers : Item → List ℕ
-run_numbers (Write first run size) = range_with_len run.start run.len
-run_numbers item = []
 
 -- the pages of an item are pages that a file can have
 abbrev pub IsWithinFile : Item → Type 0
@@ -25,7 +20,7 @@ IsWithinFile item = Unit {0}
 
 -- the front blocks of a list that has them for an item's pages
 abbrev pub blocks_for : Item → List BlockValue → List BlockValue
-blocks_for item blocks = take (length (run_numbers item)) blocks
+blocks_for item blocks = take (length (item_blocks item)) blocks
 
 -- the block of each part of an item, by place: a page has one, and no other part
 abbrev pub slots_of : Item → List BlockValue → List (Option BlockValue)

@@ -2,7 +2,7 @@
 use Rattle.std.specs.Prelude.{◌≡◌, ℕ, ◌+◌, ◌-◌, ◌<◌, ◌≤◌, drop, not, if◌then◌else◌, nat_lt, List, [], ◌∷◌, length, map, Option, Some, None, slice_get, slice_index_or, option_and_then, slice_set, unwrap_or}
 use Rattle.std.specs.List.{range_with_len, sum_by}
 use Rattle.std.specs.Option.{option_map}
-use Rattle.nv_alloc.specs.Block.{BlockValue, number_of}
+use Rattle.nv_alloc.specs.Block.{AreSized, BlockValue, number_of}
 use Rattle.nv_entry.specs.declared.item.Entry.{Entry}
 use Rattle.nv_entry.specs.declared.item.Item.{Item}
 use Rattle.nv_entry.specs.declared.part.PartId.{PartId}
@@ -44,9 +44,14 @@ pub record CellValue : Type 0 where
   pub state : CellState
   pub room : CellRoom
 
+-- room for nothing
+abbrev pub no_room : CellRoom
+no_room = record { pages = 0; entries = 0; parts = 0; runs = 0; name = None; killed = 0 }
+
 -- an empty slot
 abbrev pub empty_cell : ℕ → ℕ → ℕ → ℕ → CellState
-empty_cell block page generation version = record { block = block; generation = generation; version = version; chain = empty_chain page; marks = []; blocks = [] }
+empty_cell block page generation version =
+    record { block = block; generation = generation; version = version; chain = empty_chain page; marks = []; blocks = [] }
 
 -- the log of a cell
 abbrev pub log_of : CellState → List Entry
@@ -56,17 +61,26 @@ log_of cell = log cell.chain
 abbrev pub page_block : ℕ → List Entry → ℕ → Option ℕ
 page_block block [] n = None
 page_block block (e ∷ later) n =
-    if nat_lt n (part_count e) then option_and_then block_in (value_of (sets block e.item (key_at (e ∷ []) n))) else page_block block later (n - part_count e)
+    if nat_lt n (part_count e)
+    then option_and_then block_in (value_of (sets block e.item (key_at (e ∷ []) n)))
+    else page_block block later (n - part_count e)
 
 -- the mark of a part; one that is not yet published is current
 abbrev pub mark_or_fresh : List Mark → ℕ → Mark
 mark_or_fresh marks n = slice_index_or marks n Current
 
+-- each block has so many bytes
+abbrev pub AreSlotsSized : ℕ → List (Option BlockValue) → Type 0
+AreSlotsSized block slots = (n : ℕ) (b : BlockValue) → slice_index_or slots n None ≡ Some b → length b.bytes ≡ block
+
 -- each page part that is not out has its block, of the right size, and no other part has one
 pub record HasBlocks (cell : CellState) : Type 0 where
   pub len : length cell.blocks ≡ part_total cell.chain.entries
-  pub numbers : (n : ℕ) → option_map number_of (slice_index_or cell.blocks n None) ≡ (if is_there (mark_or_fresh cell.marks n) then page_block cell.block cell.chain.entries n else None)
-  pub sized : (n : ℕ) (b : BlockValue) → slice_index_or cell.blocks n None ≡ Some b → length b.bytes ≡ cell.block
+  pub numbers : (n : ℕ)
+      → option_map number_of (slice_index_or cell.blocks n None) ≡ (if is_there (mark_or_fresh cell.marks n)
+      then page_block cell.block cell.chain.entries n
+      else None)
+  pub sized : AreSlotsSized cell.block cell.blocks
 
 -- each published part has a mark, and is marked current exactly where no later entry covers its key
 pub record HasMarks (cell : CellState) : Type 0 where
@@ -77,6 +91,7 @@ pub record HasMarks (cell : CellState) : Type 0 where
 pub record IsCell (cell : CellState) : Type 0 where
   pub some : 0 < cell.block
   pub chain : IsChain cell.chain
+  pub pages : AreSized cell.block cell.chain.blocks
   pub marks : HasMarks cell
   pub blocks : HasBlocks cell
 
@@ -106,11 +121,12 @@ pub record CanPublish (items : List Item) (cell : CellValue) : Type 0 where
 abbrev pub IsReady : CellValue → Type 0
 IsReady cell = CanPublish (items_of (fresh_of cell.state)) cell
 
--- there is room to append as much as before
+-- there is room to append as much as before, and for no killed part
 pub record KeepsAppendRoom (old new : CellRoom) : Type 0 where
   pub pages : new.pages ≡ old.pages
   pub entries : new.entries ≡ old.entries
   pub parts : new.parts ≡ old.parts
+  pub killed : new.killed ≡ 0
 
 -- the mark of a part of the log, by its name
 abbrev pub mark_named : CellState → PartId → Option Mark

@@ -1,11 +1,10 @@
 -- The index of an inode: which part of which entry holds each key's value.
-use Rattle.std.specs.Prelude.{◌≡◌, ℕ, ◌+◌, ◌<◌, ◌≤◌, ◌⊎◌, if◌then◌else◌, List, [], ◌∷◌, map, Option, Some, None, IsSome}
+use Rattle.std.specs.Prelude.{◌≡◌, ℕ, ◌+◌, ◌<◌, ◌≤◌, ◌⊎◌, List, [], ◌∷◌, Option, Some, None, IsSome}
 use Rattle.std.specs.Option.{option_map}
-use Rattle.nv_base.specs.declared.limits.TheConstants.{FILE_PAGES}
 use Rattle.nv_base.specs.declared.numbers.EntryId.{EntryId}
 use Rattle.nv_entry.specs.declared.item.Entry.{Entry}
 use Rattle.nv_entry.specs.declared.item.Item.{Item}
-use Rattle.nv_entry.specs.declared.item.Item.TheVariants.{Init, Write, SetSize, SetMode, Bind, Unbind, Gone}
+use Rattle.nv_entry.specs.declared.item.Item.TheVariants.{Bind, Unbind, Gone}
 use Rattle.nv_entry.specs.declared.part_ref.PartRef.{PartRef}
 use Rattle.nv_entry.specs.Keys.{Key, KindKey, ModeKey, SizeKey, NameKey, PageKey}
 use Rattle.std.specs.List.{flat_map}

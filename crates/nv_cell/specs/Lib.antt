@@ -3,6 +3,7 @@ pub mod Cell
 pub mod Effects
 pub mod Fields
 pub mod Index
+pub mod Killed
 pub mod Named
 pub mod Numbers
 pub mod Marks
@@ -12,4 +13,5 @@ pub mod Readers
 pub mod Reading
 pub mod Weights
 pub mod Removal
+pub mod Retained
 pub mod Room

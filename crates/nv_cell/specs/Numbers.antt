@@ -1,5 +1,5 @@
 -- The parts of a log by number, and which of them an index names.
-use Rattle.std.specs.Prelude.{◌≡◌, ℕ, ◌+◌, ◌-◌, ◌<◌, if◌then◌else◌, filter, slice_get, ◌≤◌, ◌==◌, ◌&&◌, ◌^◌, Bool, true, false, not, nat_lt, nat_le, List, [], ◌∷◌, take, length, count_by, Option, Some, None, unwrap_or, vec_len, vec_capacity}
+use Rattle.std.specs.Prelude.{◌≡◌, ℕ, ◌+◌, ◌-◌, ◌<◌, if◌then◌else◌, filter, slice_get, ◌≤◌, ◌==◌, ◌&&◌, ◌^◌, Bool, true, false, not, nat_lt, nat_le, List, [], ◌∷◌, take, length, map, count_by, Option, Some, None, unwrap_or, vec_len, vec_capacity}
 use Rattle.std.specs.Global.{Vec}
 use Rattle.std.specs.List.{range_with_len}
 use Rattle.std.specs.Option.{option_map, is_some, IsSome}
@@ -13,6 +13,7 @@ use Rattle.nv_nindex.specs.declared.binding.Binding.{Binding}
 use Rattle.nv_nindex.specs.NameIndex.{binding_of}
 use Rattle.nv_cell.specs.declared.killed.KilledPart.{KilledPart}
 use Rattle.nv_cell.specs.declared.mark.Mark.{Mark}
+use Rattle.nv_cell.specs.declared.number.NumberedPart.{NumberedPart}
 use Rattle.nv_cell.specs.declared.mark.Mark.TheVariants.{Current, Killed, Out}
 use Rattle.nv_cell.specs.Index.{IndexValue, ref_of}
 use Rattle.nv_cell.specs.Marks.{mark_at}
@@ -42,6 +43,10 @@ is_number (Some m) n = m == n
 -- how often a number stands on a list
 abbrev pub times : ℕ → List ℕ → ℕ
 times n list = count_by (λ m. m == n) list
+
+-- the numbers of parts
+abbrev pub numbers_in : List NumberedPart → List ℕ
+numbers_in parts = map (λ p. p.number) parts
 
 -- a part that an index names is one of the log
 pub record IsPart (es : List Entry) (r : PartRef) : Type 0 where
@@ -86,13 +91,13 @@ is_key (NameKey name) (NameKey other) = same_name name other
 is_key (PageKey page) (PageKey other) = page == other
 is_key key other = false
 
--- there is room for so many more numbers on a list
-abbrev pub HasRoomFor : ℕ → Vec ℕ → Type 0
+-- there is room for so many more parts on a list
+abbrev pub HasRoomFor : ℕ → Vec NumberedPart → Type 0
 HasRoomFor count list = vec_len list + count ≤ vec_capacity list
 
--- the numbers of the parts that the index names at the keys which pass a test, at most so many, are put on a list
-pub record Pushes (es : List Entry) (index : IndexValue) (test : Key → Bool) (most : ℕ) (old new : Vec ℕ) : Type 0 where
-  pub numbers : (n : ℕ) → times n new.items ≡ times n old.items + (if is_named es index n && test (key_at es n) then 1 else 0)
+-- the parts that the index names at the keys which pass a test, at most so many, are put on a list
+pub record Pushes (es : List Entry) (index : IndexValue) (test : Key → Bool) (most : ℕ) (old new : Vec NumberedPart) : Type 0 where
+  pub numbers : (n : ℕ) → times n (numbers_in new.items) ≡ times n (numbers_in old.items) + (if is_named es index n && test (key_at es n) then 1 else 0)
   pub len : vec_len new ≤ vec_len old + most
   pub capacity : vec_capacity new ≡ vec_capacity old
 

@@ -1,9 +1,10 @@
 -- The bytes of a file's pages, by the index and the blocks of its cell.
-use Rattle.std.specs.Prelude.{◌≡◌, ℕ, ◌+◌, ◌-◌, ◌<◌, ◌≤◌, ◌^◌, List, length, replicate, Option, Some, None, option_and_then, slice_index_or}
+use Rattle.std.specs.Prelude.{◌≡◌, ℕ, ◌+◌, ◌-◌, ◌<◌, ◌≤◌, ◌^◌, List, replicate, Option, Some, None, option_and_then, slice_index_or, take}
 use Rattle.std.specs.List.{flat_map, range_with_len}
 use Rattle.nv_alloc.specs.Block.{BlockValue}
 use Rattle.nv_entry.specs.declared.item.Entry.{Entry}
-use Rattle.nv_entry.specs.Keys.{PageKey}
+use Rattle.nv_entry.specs.Keys.{PageKey, pages_for}
+use Rattle.nv_entry.specs.Node.{size_now}
 use Rattle.nv_entry.specs.Refs.{scan_ref}
 use Rattle.nv_cell.specs.declared.read.Stretch.{Stretch}
 use Rattle.nv_cell.specs.Cell.{CellState, log_of}
@@ -18,10 +19,6 @@ AreBytesOf cell bytes = (n : ℕ) (b : BlockValue) → slice_index_or cell.block
 abbrev pub slot_bytes : ℕ → Option BlockValue → List ℕ
 slot_bytes block None = replicate block 0
 slot_bytes block (Some b) = b.bytes
-
--- each block has so many bytes
-abbrev pub AreSlotsSized : ℕ → List (Option BlockValue) → Type 0
-AreSlotsSized block slots = (n : ℕ) (b : BlockValue) → slice_index_or slots n None ≡ Some b → length b.bytes ≡ block
 
 -- the number of the part that holds a page
 abbrev pub page_number : List Entry → IndexValue → ℕ → Option ℕ
@@ -39,6 +36,14 @@ page_now block slots numbers page = slot_bytes block (option_and_then (λ n. sli
 -- the first pages of a file, one after another
 abbrev pub pages_now : ℕ → List (Option BlockValue) → (ℕ → Option ℕ) → ℕ → List ℕ
 pages_now block slots numbers count = flat_map (page_now block slots numbers) (range_with_len 0 count)
+
+-- the bytes of the file that a cell holds, by the blocks that it has: page by page, cut at the size
+abbrev pub own_page : CellState → ℕ → List ℕ
+own_page cell page = slot_bytes cell.block (block_at_page cell page)
+
+abbrev pub own_bytes : CellState → List ℕ
+own_bytes cell =
+    let size = size_now cell.block (log_of cell) in take size (flat_map (own_page cell) (range_with_len 0 (pages_for cell.block size)))
 
 -- the pages from `from` on: none before the stretch is present, and those of the stretch have numbers that rise by one
 pub record IsStretch (numbers : ℕ → Option ℕ) (from : ℕ) (s : Stretch) : Type 0 where

@@ -21,7 +21,7 @@ marks_by_entry (e ∷ later) marks = take (part_count e) marks ∷ marks_by_entr
 abbrev pub marks_of_page : CellState → ℕ → List (List Mark)
 marks_of_page cell page = slice_index_or (parts_from 0 cell.chain.ends (marks_by_entry (log_of cell) cell.marks)) page []
 
--- how many published entries of a page have a current part, and how many one that is current, killed or kept
+-- how many published entries of a page have a current part, and how many one that is not out
 abbrev pub counts_of : CellState → ℕ → PageCounts
 counts_of cell page = record {
   live = count_by (list_any is_current) (marks_of_page cell page);

@@ -2,9 +2,8 @@
 use Rattle.std.specs.Prelude.{◌≡◌, ℕ, ◌-◌, ◌≤◌, Bool, true, false, List, [], ◌∷◌, ◌++◌, replicate, slice_index_or, take}
 use Rattle.std.specs.List.{AllByRecursion}
 use Rattle.nv_entry.specs.declared.item.Entry.{Entry}
-use Rattle.nv_entry.specs.declared.key.Setting.TheVariants.{Absent}
-use Rattle.nv_entry.specs.Covered.{any_cover, part_count}
-use Rattle.nv_entry.specs.Keys.{Key, sets}
+use Rattle.nv_entry.specs.Covered.{part_count}
+use Rattle.nv_entry.specs.Leaving.{HidesNone}
 use Rattle.nv_log.specs.Chain.{ChainState, end_of, gone_of, left_of}
 use Rattle.nv_cell.specs.declared.mark.Mark.TheVariants.{Out}
 use Rattle.nv_cell.specs.Cell.{CellState, log_of}
@@ -24,10 +23,6 @@ part_flags (stays ∷ flags) (e ∷ log) = replicate (part_count e) stays ++ par
 -- a flag for each entry of the log, by those of the pages
 abbrev pub log_flags : List Bool → ChainState → List Bool
 log_flags stays chain = take chain.tail (run_flags 0 stays chain.ends)
-
--- no key that an entry sets to absent is covered by these
-abbrev pub HidesNone : ℕ → List Entry → Entry → Type 0
-HidesNone block before e = (key : Key) → sets block e.item key ≡ Absent → any_cover block before key ≡ false
 
 -- no entry that goes hides an earlier one that stays; `before` are those that stay before these
 abbrev pub HideNoneLeft : ℕ → List Entry → List Entry → List Bool → Type 0

@@ -1,5 +1,5 @@
 -- What each entry's tally and each page's counts are.
-use Rattle.std.specs.Prelude.{◌≡◌, ℕ, ◌+◌, ◌-◌, ◌<◌, ◌≤◌, ◌==◌, ◌||◌, Bool, if◌then◌else◌, nat_lt, List, length, take, drop, count_by, slice_index_or, vec_len, vec_capacity}
+use Rattle.std.specs.Prelude.{◌≡◌, ℕ, ◌+◌, ◌-◌, ◌<◌, ◌≤◌, ◌==◌, Bool, if◌then◌else◌, nat_lt, List, length, take, drop, count_by, slice_index_or, vec_len, vec_capacity}
 use Rattle.std.specs.List.{list_any}
 use Rattle.nv_cell.specs.declared.mark.Mark.{Mark}
 use Rattle.nv_cell.specs.declared.marks.Marks.{Marks}

@@ -53,7 +53,7 @@ present_in block log from = how_many (λ page. is_some (scan_ref block log (Page
 abbrev pub weights_in : ℕ → List Entry → List Item → ℕ
 weights_in block log items = weights block (present_in block log) (length (names_of log)) items
 
--- the same for items one after the other
+-- the same by an index
 abbrev pub weights_by : ℕ → IndexValue → List Item → ℕ
 weights_by block index items = weights block (λ from. present_from from index.pages.pages) (length index.names.names) items
 

@@ -2,11 +2,12 @@
 
 ghost use Rattle.std.specs.Prelude.{◌≡◌, ◌+◌, ◌-◌, ◌<◌, ◌≤◌, ◌++◌, ◌∷◌, ◌↔◌, IsTrue, List, [], None, Some, drop, if◌then◌else◌, length, map, nat_lt, replicate, take, vec_capacity, vec_len};
 ghost use Rattle.nv_alloc.specs.Block.{numbers_of};
+ghost use Rattle.nv_entry.specs.Blocks.{item_blocks};
 ghost use Rattle.nv_entry.specs.Covered.{part_count};
 ghost use Rattle.nv_entry.specs.Keys.{parts_of};
 ghost use Rattle.nv_entry.specs.declared.item.Item.{Item as ItemValue};
 ghost use Rattle.nv_log.specs.Chain.{AppendsEntry, with_page};
-ghost use Rattle.nv_cell.specs.Append.{IsWithinFile, MayAppend, after_append, appended, blocks_for, run_numbers, slots_of};
+ghost use Rattle.nv_cell.specs.Append.{IsWithinFile, MayAppend, after_append, appended, blocks_for, slots_of};
 ghost use Rattle.nv_cell.specs.Room.{AddsPage, IsReadyFor};
 ghost use Rattle.nv_cell.specs.Tallies.{no_counts};
 
@@ -16,9 +17,10 @@ use nv_base::limits::FILE_PAGES;
 use nv_entry::{Entry, Item};
 
 impl InodeCell {
-    /// Adds a page of the log behind the others. Takes no memory. What the cell is ready for, it stays ready for.
+    /// Adds a page of the log behind the others: a block of the cell's size. Takes no memory. What the cell is ready for, it stays ready for.
     pub fn add_page(&mut self, block: Block)
         requires reserved { 0 < self.old.room.pages }
+        requires sized { length block.bytes ≡ self.old.state.block }
         ensures state { self.new.state
             ≡ record self.old.state { chain = with_page block self.old.state.chain } }
         ensures room { self.new.room
@@ -54,7 +56,7 @@ impl InodeCell {
         requires next { MayAppend entry self.old }
         requires size { queue.old.size ≡ self.old.state.block }
         requires blocks { numbers_of (blocks_for entry.item queue.old.blocks)
-            ≡ run_numbers entry.item }
+            ≡ item_blocks entry.item }
         ensures state { self.new.state
             ≡ appended entry (blocks_for entry.item queue.old.blocks) self.old.state }
         ensures room { self.new.room ≡ after_append (part_count entry) self.old.room }
@@ -62,8 +64,8 @@ impl InodeCell {
         ensures ready { (later : List ItemValue) → IsReadyFor (entry.item ∷ later) self.old
             → IsReadyFor later self.new }
         ensures queue { queue.new ≡ record queue.old {
-          blocks = drop (length (run_numbers entry.item)) queue.old.blocks;
-          room = queue.old.room + length (run_numbers entry.item);
+          blocks = drop (length (item_blocks entry.item)) queue.old.blocks;
+          room = queue.old.room + length (item_blocks entry.item);
         } }
     {
         // The chain's pages end where its entries say, and each block in the queue has the queue's size.
@@ -121,13 +123,13 @@ fn push_empty(slots: &mut Vec<Option<Block>>, count: u32)
 fn push_slots(slots: &mut Vec<Option<Block>>, item: &Item, queue: &mut BlockQueue)
     requires room { vec_len slots.old + length (parts_of item.now) ≤ vec_capacity slots.old }
     requires within { IsWithinFile item.now }
-    requires there { length (run_numbers item.now) ≤ length queue.old.blocks }
+    requires there { length (item_blocks item.now) ≤ length queue.old.blocks }
     ensures slots { slots.new.items
         ≡ slots.old.items ++ slots_of item.now (blocks_for item.now queue.old.blocks) }
     ensures capacity { vec_capacity slots.new ≡ vec_capacity slots.old }
     ensures queue { queue.new ≡ record queue.old {
-      blocks = drop (length (run_numbers item.now)) queue.old.blocks;
-      room = queue.old.room + length (run_numbers item.now);
+      blocks = drop (length (item_blocks item.now)) queue.old.blocks;
+      room = queue.old.room + length (item_blocks item.now);
     } }
 {
     if let Item::Write { run, .. } = item {

@@ -2,14 +2,15 @@
 
 ghost use Rattle.std.specs.Prelude.{◌≡◌, ◌+◌, ◌<◌, ◌≤◌, ◌^◌, ◌⊎◌, [], None, Some, slice_index_or, length, map, vec_len};
 ghost use Rattle.nv_base.specs.declared.limits.TheConstants.{LEAST_PAGE_ENTRIES, PAGE_ENTRIES};
-ghost use Rattle.nv_cell.specs.Cell.{IsCell, IsReady, KeepsAppendRoom, empty_cell, fresh_of, killed_of, log_of, mark_named, number_in, published, with_mark, without_part};
+ghost use Rattle.nv_cell.specs.Cell.{IsCell, IsReady, KeepsAppendRoom, empty_cell, fresh_of, killed_of, log_of, mark_named, no_room, number_in, published, with_mark, without_part};
 ghost use Rattle.nv_cell.specs.Effects.{items_of};
+ghost use Rattle.nv_cell.specs.Killed.{AreKilled};
 ghost use Rattle.nv_cell.specs.Numbers.{killed_part};
 ghost use Rattle.nv_cell.specs.Weights.{weights_in};
 
-use crate::number::number_of;
+use crate::number::find_part;
 use crate::publish::{name_all, take_effect};
-use crate::{CellIndex, KilledPart, Mark, Marks};
+use crate::{CellIndex, KilledPart, Mark, Marks, NumberedPart};
 use nv_alloc::Block;
 use nv_base::Gen;
 use nv_entry::PartId;
@@ -37,7 +38,7 @@ pub struct InodeCell {
     pub(crate) entries: usize,
     pub(crate) parts: usize,
     // Room for the parts that a publish kills; empty between calls.
-    pub(crate) numbers: Vec<usize>,
+    pub(crate) numbers: Vec<NumberedPart>,
     pub(crate) killed: Vec<KilledPart>,
 }
 
@@ -60,6 +61,7 @@ impl InodeCell {
         requires least { LEAST_PAGE_ENTRIES ≤ page }
         requires most { page ≤ PAGE_ENTRIES }
         ensures state { result.state ≡ empty_cell block page generation version }
+        ensures room { result.room ≡ no_room }
     {
         InodeCell {
             alloc,
@@ -100,7 +102,8 @@ impl InodeCell {
 
     /// Publishes all entries past the tail, and gives the parts that were current, or are newly published, and are not
     /// current after it, by entry in log order and then by part. They are marked killed. Takes no memory; the time is
-    /// that of the entries and parts that change, times a logarithm.
+    /// that of the entries and parts that change, times a logarithm at most, and for each Write after which the file
+    /// has more or fewer runs of pages one move of the runs behind.
     pub fn publish(&mut self) -> Vec<KilledPart>
         requires some { self.old.state.chain.tail < length self.old.state.chain.entries }
         requires version { self.old.state.version < 2 ^ 62 }
@@ -110,8 +113,11 @@ impl InodeCell {
             ≡ map (killed_part self.old.state.chain.entries) (killed_of self.old.state) }
         ensures few { vec_len result ≤ weights_in self.old.state.block (log_of self.old.state)
             (items_of (fresh_of self.old.state)) }
+        ensures marked { AreKilled (map (λ k. k.part) result.items) self.new.state }
         ensures room { KeepsAppendRoom self.old.room self.new.room }
     {
+        // Ids rise along all entries, so that each part has a name of its own.
+        let _ends = self.chain.ends();
         let tail = self.chain.tail();
         take_effect(
             &mut self.index,
@@ -134,8 +140,8 @@ impl InodeCell {
     pub fn mark(&self, part: PartId) -> Option<Mark>
         ensures { result ≡ mark_named self.now.state part }
     {
-        let n = number_of(&self.chain, &self.marks, part)?;
-        self.marks.get(n)
+        let found = find_part(&self.chain, &self.marks, part)?;
+        self.marks.get(found.number)
     }
 
     /// Marks a killed part kept. Takes no memory; the time grows with the logarithm of the entries and pages.
@@ -145,8 +151,8 @@ impl InodeCell {
             ≡ with_mark self.old.state (number_in self.old.state part) Mark.Kept }
         ensures room { self.new.room ≡ self.old.room }
     {
-        let n = number_of(&self.chain, &self.marks, part).unwrap();
-        self.marks.set(self.chain.ends(), n, Mark::Kept);
+        let found = find_part(&self.chain, &self.marks, part).unwrap();
+        self.marks.set(self.chain.ends(), found, Mark::Kept);
     }
 
     /// Puts a killed or kept part out, and hands out its block, which a page has and no other part. Takes no memory; the
@@ -160,9 +166,9 @@ impl InodeCell {
             ≡ without_part self.old.state (number_in self.old.state part) }
         ensures room { self.new.room ≡ self.old.room }
     {
-        let n = number_of(&self.chain, &self.marks, part).unwrap();
-        self.marks.set(self.chain.ends(), n, Mark::Out);
-        let slot = &mut self.blocks[n];
+        let found = find_part(&self.chain, &self.marks, part).unwrap();
+        self.marks.set(self.chain.ends(), found, Mark::Out);
+        let slot = &mut self.blocks[found.number];
         slot.take()
     }
 }

@@ -8,18 +8,17 @@ ghost use Rattle.nv_entry.specs.Refs.{scan_ref};
 ghost use Rattle.nv_cell.specs.Effects.{NamesReady, items_of};
 ghost use Rattle.nv_nindex.specs.NameIndex.{HaveSameBindings};
 ghost use Rattle.nv_cell.specs.Index.{bindings_of, ref_of};
-ghost use Rattle.nv_cell.specs.Numbers.{AreEnds, HasRoomFor, dies, times};
+ghost use Rattle.nv_cell.specs.Numbers.{AreEnds, HasRoomFor, dies, numbers_in, times};
 ghost use Rattle.nv_cell.specs.Weights.{runs_of, weights_in};
 
 use crate::kills::push_covered;
-use crate::{CellIndex, Marks};
+use crate::{CellIndex, Marks, NumberedPart};
 use nv_log::Chain;
 
-/// Brings the index from the entries before the tail up to all entries, and puts the numbers of the parts on the
-/// list that were current, or are newly published, and are not current after it.
+/// Brings the index from the entries before the tail up to all entries, and puts the parts on the list that were current, or are newly published, and are not current after it.
 pub fn apply_all(
     index: &mut CellIndex,
-    killed: &mut Vec<usize>,
+    killed: &mut Vec<NumberedPart>,
     chain: &Chain,
     marks: &Marks,
     block: u64,
@@ -40,8 +39,8 @@ pub fn apply_all(
         (items_of (drop tail chain.now.state.entries))) killed.old }
     ensures scan { (key : Key) → ref_of index.new key ≡ scan_ref block chain.now.state.entries key }
     ensures bound { HaveSameBindings (bindings_of chain.now.state.entries) index.new.names.names }
-    ensures killed { (n : ℕ) → times n killed.new.items ≡ times n killed.old.items
-        + (if dies block chain.now.state.entries tail n then 1 else 0) }
+    ensures killed { (n : ℕ) → times n (numbers_in killed.new.items)
+        ≡ times n (numbers_in killed.old.items) + (if dies block chain.now.state.entries tail n then 1 else 0) }
     ensures len { vec_len killed.new ≤ vec_len killed.old
         + weights_in block (take tail chain.now.state.entries)
         (items_of (drop tail chain.now.state.entries)) }

@@ -3,7 +3,7 @@
 ghost use Rattle.std.specs.Prelude.{◌≡◌, ℕ, ◌+◌, ◌<◌, [], None, length, slice_index_or, true};
 ghost use Rattle.std.specs.Option.{ForSome};
 ghost use Rattle.nv_base.specs.declared.limits.TheConstants.{NUMBER};
-ghost use Rattle.nv_cell.specs.Cell.{empty_cell, log_of};
+ghost use Rattle.nv_cell.specs.Cell.{empty_cell, log_of, no_room};
 ghost use Rattle.nv_cell.specs.Readers.{is_gone, keeps_nothing};
 
 use crate::{CellIndex, InodeCell, Marks};
@@ -12,7 +12,7 @@ use nv_log::Chain;
 use std::mem;
 
 impl InodeCell {
-    /// Hands out the chain of a gone inode of which nothing is kept, and leaves an empty slot of the next generation.
+    /// Hands out the chain of a gone inode whose parts are all out, and leaves an empty slot of the next generation.
     /// The version stays. Takes no memory; the time is that of the parts and entries, which are let go.
     pub fn erase(&mut self) -> Chain
         requires gone { is_gone (log_of self.old.state) ≡ true }
@@ -22,9 +22,7 @@ impl InodeCell {
         ensures chain { result.state ≡ self.old.state.chain }
         ensures state { self.new.state ≡ empty_cell self.old.state.block
             self.old.state.chain.page (self.old.state.generation + 1) self.old.state.version }
-        ensures pages { self.new.room.pages ≡ 0 }
-        ensures entries { self.new.room.entries ≡ 0 }
-        ensures parts { self.new.room.parts ≡ 0 }
+        ensures room { self.new.room ≡ record no_room { killed = self.old.room.killed } }
     {
         clear_slots(&mut self.blocks);
         self.generation = self.generation.next();

@@ -57,7 +57,8 @@ impl CellIndex {
     /// An index without keys.
     pub fn new(alloc: Global) -> CellIndex
         ensures refs { (key : KeyValue) → ref_of result key ≡ None }
-        ensures names { result.names.names ≡ [] }
+        ensures names { result.names ≡ record { names = []; reserved = None } }
+        ensures room { result.pages.room ≡ 0 }
     {
         CellIndex {
             kind: None,

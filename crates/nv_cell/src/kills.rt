@@ -1,33 +1,40 @@
-//! The parts that an entry kills: those whose keys it covers and that the index names, by number.
+//! The parts that an entry kills: those whose keys it covers and that the index names.
 
 ghost use Rattle.std.specs.Prelude.{◌≡◌, ℕ, ◌+◌, ◌<◌, ◌≤◌, ◌==◌, if◌then◌else◌, length, min, vec_capacity, vec_len};
 ghost use Rattle.nv_base.specs.declared.limits.TheConstants.{FILE_PAGES};
 ghost use Rattle.nv_entry.specs.Keys.{covers, key_named};
 ghost use Rattle.nv_findex.specs.Pages.{present_from};
-ghost use Rattle.nv_cell.specs.Numbers.{AreEnds, AreNamed, HasRoomFor, IsPart, Pushes, is_any_name, is_key, is_page_in, is_stat, number, times};
+ghost use Rattle.nv_cell.specs.Numbers.{AreEnds, AreNamed, HasRoomFor, IsPart, Pushes, is_any_name, is_key, is_page_in, is_stat, number, numbers_in, times};
 ghost use Rattle.nv_cell.specs.Weights.{present_between, weight_by};
 
-use crate::{CellIndex, Marks};
+use crate::{CellIndex, Marks, NumberedPart};
 use nv_base::limits::FILE_PAGES;
 use nv_entry::{Item, Key, PartRef};
 use nv_log::Chain;
 
-/// Puts the number of a part on the list.
-fn push_part(killed: &mut Vec<usize>, chain: &Chain, marks: &Marks, part: PartRef)
+/// Puts a part on the list.
+fn push_part(killed: &mut Vec<NumberedPart>, chain: &Chain, marks: &Marks, part: PartRef)
     requires ends { AreEnds marks.now.ends.items chain.now.state.entries }
     requires known { IsPart chain.now.state.entries part }
     requires room { HasRoomFor 1 killed.old }
-    ensures numbers { (n : ℕ) → times n killed.new.items
-        ≡ times n killed.old.items + (if number chain.now.state.entries part == n then 1 else 0) }
+    ensures numbers { (n : ℕ) → times n (numbers_in killed.new.items)
+        ≡ times n (numbers_in killed.old.items) + (if number chain.now.state.entries part == n then 1 else 0) }
     ensures len { vec_len killed.new ≡ vec_len killed.old + 1 }
     ensures capacity { vec_capacity killed.new ≡ vec_capacity killed.old }
 {
-    let place = chain.place_of(part.entry).unwrap();
-    killed.push_reserved(marks.first(place) + part.place as usize);
+    let entry = chain.place_of(part.entry).unwrap();
+    let number = marks.first(entry) + part.place as usize;
+    killed.push_reserved(NumberedPart { number, entry });
 }
 
-/// Puts the number of the part on the list that a key has.
-fn push_key(killed: &mut Vec<usize>, chain: &Chain, marks: &Marks, index: &CellIndex, key: Key<'_>)
+/// Puts the part on the list that a key has.
+fn push_key(
+    killed: &mut Vec<NumberedPart>,
+    chain: &Chain,
+    marks: &Marks,
+    index: &CellIndex,
+    key: Key<'_>,
+)
     requires ends { AreEnds marks.now.ends.items chain.now.state.entries }
     requires named { AreNamed chain.now.state.entries index.now }
     requires room { HasRoomFor 1 killed.old }
@@ -39,9 +46,9 @@ fn push_key(killed: &mut Vec<usize>, chain: &Chain, marks: &Marks, index: &CellI
     }
 }
 
-/// Puts the numbers of the parts on the list that the pages of a range have.
+/// Puts the parts on the list that the pages of a range have.
 fn push_pages(
-    killed: &mut Vec<usize>,
+    killed: &mut Vec<NumberedPart>,
     chain: &Chain,
     marks: &Marks,
     index: &CellIndex,
@@ -68,9 +75,9 @@ fn push_pages(
     }
 }
 
-/// Puts the numbers of the parts on the list that the pages of a run have.
+/// Puts the parts on the list that the pages of a run have.
 fn push_run(
-    killed: &mut Vec<usize>,
+    killed: &mut Vec<NumberedPart>,
     chain: &Chain,
     marks: &Marks,
     index: &CellIndex,
@@ -89,9 +96,9 @@ fn push_run(
     }
 }
 
-/// Puts the numbers of the parts on the list that the pages from one on have.
+/// Puts the parts on the list that the pages from one on have.
 fn push_pages_from(
-    killed: &mut Vec<usize>,
+    killed: &mut Vec<NumberedPart>,
     chain: &Chain,
     marks: &Marks,
     index: &CellIndex,
@@ -108,8 +115,8 @@ fn push_pages_from(
     }
 }
 
-/// Puts the numbers of the parts on the list that names have.
-fn push_names(killed: &mut Vec<usize>, chain: &Chain, marks: &Marks, index: &CellIndex)
+/// Puts the parts on the list that names have.
+fn push_names(killed: &mut Vec<NumberedPart>, chain: &Chain, marks: &Marks, index: &CellIndex)
     requires ends { AreEnds marks.now.ends.items chain.now.state.entries }
     requires named { AreNamed chain.now.state.entries index.now }
     requires room { HasRoomFor (length index.now.names.names) killed.old }
@@ -122,8 +129,8 @@ fn push_names(killed: &mut Vec<usize>, chain: &Chain, marks: &Marks, index: &Cel
     }
 }
 
-/// Puts the numbers of the parts on the list that kind, mode and size have.
-fn push_stat(killed: &mut Vec<usize>, chain: &Chain, marks: &Marks, index: &CellIndex)
+/// Puts the parts on the list that kind, mode and size have.
+fn push_stat(killed: &mut Vec<NumberedPart>, chain: &Chain, marks: &Marks, index: &CellIndex)
     requires ends { AreEnds marks.now.ends.items chain.now.state.entries }
     requires named { AreNamed chain.now.state.entries index.now }
     requires room { HasRoomFor 3 killed.old }
@@ -134,9 +141,9 @@ fn push_stat(killed: &mut Vec<usize>, chain: &Chain, marks: &Marks, index: &Cell
     push_key(killed, chain, marks, index, Key::Size);
 }
 
-/// Puts the numbers of the parts on the list that an item kills.
+/// Puts the parts on the list that an item kills.
 pub fn push_covered(
-    killed: &mut Vec<usize>,
+    killed: &mut Vec<NumberedPart>,
     chain: &Chain,
     marks: &Marks,
     index: &CellIndex,

@@ -30,6 +30,7 @@ pub(crate) use index::CellIndex;
 pub use killed::KilledPart;
 pub use mark::Mark;
 pub(crate) use marks::Marks;
+pub(crate) use number::NumberedPart;
 pub use stat::Stat;
 pub use tally::PageCounts;
 pub(crate) use tally::Tally;

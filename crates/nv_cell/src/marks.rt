@@ -4,11 +4,12 @@ ghost use Rattle.std.specs.Prelude.{◌≡◌, ℕ, ◌+◌, ◌-◌, ◌<◌, �
 ghost use Rattle.nv_base.specs.declared.fault.Fault.TheVariants.{OutOfMemory};
 ghost use Rattle.nv_base.specs.Refusals.{FailsOnly};
 ghost use Rattle.nv_cell.specs.Room.{HaveGrown};
+ghost use Rattle.nv_cell.specs.Numbers.{numbers_in};
 ghost use Rattle.nv_cell.specs.Marks.{bit, is_current, is_there, mark_at};
 ghost use Rattle.nv_cell.specs.Tallies.{AreCounts, AreRuns, AreTallied, HasSpare, IsInRun, SameCapacity, end_at, is_in, moved, start_at, tally_at, counts_at};
 ghost use Rattle.nv_cell.specs.declared.mark.Mark.TheVariants as mark;
 
-use crate::{Mark, PageCounts, Tally};
+use crate::{Mark, NumberedPart, PageCounts, Tally};
 use nv_base::Fault;
 use std::alloc::Global;
 
@@ -24,12 +25,41 @@ pub struct Marks {
     pub(crate) there: usize,
 }
 
-/// The run that an item stands in, found by halving over the ends of the runs.
-fn run_of(ends: &[usize], n: usize) -> usize
+/// Where a run begins.
+fn start_of(ends: &[usize], run: usize) -> usize
+    ensures { result ≡ start_at ends.now run }
+{
+    if run == 0 {
+        return 0;
+    }
+    ends.get(run - 1).copied().unwrap_or(0)
+}
+
+/// Whether an item stands in a run.
+fn is_in_run(ends: &[usize], run: usize, n: usize) -> bool
+    ensures { result ≡ true → IsInRun ends.now n run }
+{
+    run < ends.len() && start_of(ends, run) <= n && n < ends[run]
+}
+
+/// The run that an item stands in: the guessed one, or else found by halving over the ends of the runs.
+fn run_of(ends: &[usize], guess: usize, n: usize) -> usize
     requires { AreRuns ends.now (n + 1) }
     ensures { IsInRun ends.now n result }
 {
+    if is_in_run(ends, guess, n) {
+        return guess;
+    }
     ends.partition_point(|end| *end <= n)
+}
+
+/// The page that an entry stands in. It is guessed as if each page but the last had as many entries as the first.
+fn page_of(page_ends: &[usize], entry: usize) -> usize
+    requires { AreRuns page_ends.now (entry + 1) }
+    ensures { IsInRun page_ends.now entry result }
+{
+    let first = page_ends.first().copied().unwrap_or(1);
+    run_of(page_ends, entry / first.max(1), entry)
 }
 
 /// Adds marks of current parts.
@@ -63,10 +93,7 @@ impl Marks {
     pub fn first(&self, entry: usize) -> usize
         ensures { result ≡ start_at self.now.ends.items entry }
     {
-        if entry == 0 {
-            return 0;
-        }
-        self.ends.get(entry - 1).copied().unwrap_or(0)
+        start_of(&self.ends, entry)
     }
 
     /// The mark of a part, if there are so many parts.
@@ -76,13 +103,13 @@ impl Marks {
         self.marks.get(n).copied()
     }
 
-    /// The place of the entry that a part stands in, by the part's number. The time grows with the logarithm of the
-    /// entries.
-    pub fn entry_of(&self, n: usize) -> usize
-        requires runs { AreRuns self.now.ends.items (n + 1) }
-        ensures { IsInRun self.now.ends.items n result }
+    /// The place of the entry that a part stands in: the one that the part comes with, and if it is not in that one,
+    /// found in the time of the logarithm of the entries.
+    pub fn entry_of(&self, part: NumberedPart) -> usize
+        requires runs { AreRuns self.now.ends.items (part.number + 1) }
+        ensures { IsInRun self.now.ends.items part.number result }
     {
-        run_of(&self.ends, n)
+        run_of(&self.ends, part.entry, part.number)
     }
 
     /// Makes room for the marks of so many parts and entries more, and for so many pages in all.
@@ -120,7 +147,7 @@ impl Marks {
             current: parts,
             there: parts,
         };
-        let k = run_of(page_ends, self.tallies.len());
+        let k = page_of(page_ends, self.tallies.len());
         self.pages[k] = self.pages[k].with_entry(tally);
         self.there += parts;
         push_current(&mut self.marks, parts);
@@ -129,38 +156,40 @@ impl Marks {
     }
 
     /// Marks current parts killed.
-    pub fn kill_all(&mut self, page_ends: &[usize], killed: &[usize])
-        requires current { (i : ℕ) → i < length killed.now
-            → is_current (mark_at self.old.marks.items (slice_index killed.now i)) ≡ true }
+    pub fn kill_all(&mut self, page_ends: &[usize], killed: &[NumberedPart])
+        requires current { (i : ℕ) → i < length killed.now → is_current
+            (mark_at self.old.marks.items (slice_index (numbers_in killed.now) i)) ≡ true }
         requires tallied { AreTallied self.old page_ends.now }
         ensures marks { (n : ℕ) → mark_at self.new.marks.items n
-            ≡ (if is_in n killed.now then mark.Killed else mark_at self.old.marks.items n) }
+            ≡ (if is_in n (numbers_in killed.now) then mark.Killed
+            else mark_at self.old.marks.items n) }
         ensures len { vec_len self.new.marks ≡ vec_len self.old.marks }
         ensures ends { self.new.ends ≡ self.old.ends }
         ensures room { SameCapacity self.old self.new }
         ensures tallied { AreTallied self.new page_ends.now }
     {
-        for n in killed {
-            self.set(page_ends, *n, Mark::Killed);
+        for part in killed {
+            self.set(page_ends, *part, Mark::Killed);
         }
     }
 
     /// Gives a part that is not out another mark than current. Its entry's tally and its page's counts go along. The
-    /// time grows with the logarithms of the entries and the pages.
-    pub fn set(&mut self, page_ends: &[usize], n: usize, mark: Mark)
-        requires there { is_there (mark_at self.old.marks.items n) ≡ true }
+    /// time is that of the searches for its entry and its page.
+    pub fn set(&mut self, page_ends: &[usize], part: NumberedPart, mark: Mark)
+        requires there { is_there (mark_at self.old.marks.items part.number) ≡ true }
         requires ended { is_current mark ≡ false }
         requires tallied { AreTallied self.old page_ends.now }
-        ensures marks { self.new.marks.items ≡ slice_set self.old.marks.items n mark }
+        ensures marks { self.new.marks.items ≡ slice_set self.old.marks.items part.number mark }
         ensures room { SameCapacity self.old self.new }
         ensures ends { self.new.ends ≡ self.old.ends }
         ensures tallied { AreTallied self.new page_ends.now }
     {
-        let i = run_of(&self.ends, n);
+        let n = part.number;
+        let i = self.entry_of(part);
         let was = self.marks[n];
         let old = self.tallies[i];
         let new = old.moved(was, mark);
-        let k = run_of(page_ends, i);
+        let k = page_of(page_ends, i);
         self.pages[k] = self.pages[k].recounted(old, new);
         self.tallies[i] = new;
         self.marks[n] = mark;

@@ -1,6 +1,7 @@
-//! The number of a part that is named by its entry's id.
+//! The parts of a log by number.
 
 ghost use Rattle.std.specs.Prelude.{◌≡◌, ℕ, ◌+◌, ◌-◌, ◌<◌, ◌≤◌, ◌^◌, Some, None, if◌then◌else◌};
+ghost use Rattle.std.specs.Option.{option_map};
 ghost use Rattle.nv_entry.specs.Covered.{part_total};
 ghost use Rattle.nv_entry.specs.Keys.{in_run};
 ghost use Rattle.nv_log.specs.Chain.{log};
@@ -12,6 +13,14 @@ use crate::Marks;
 use nv_base::limits::FILE_PAGES;
 use nv_entry::{Item, Part, PartId, Run};
 use nv_log::Chain;
+
+/// A part by its number among all parts of a log, and where its entry is to be looked for first: at the place in the
+/// log where it was found.
+#[derive(Clone, Copy, Debug, PartialEq, Eq)]
+pub struct NumberedPart {
+    pub number: usize,
+    pub entry: usize,
+}
 
 /// The place of a page among the parts of a Write.
 fn place_in_run(first: u32, run: &Run, page: u32) -> Option<u32>
@@ -55,12 +64,12 @@ fn place_of(item: &Item, part: Part) -> Option<u32>
     }
 }
 
-/// The number of a part of a published entry, if the log has it. The time grows with the logarithm of the entries.
-pub fn number_of(chain: &Chain, marks: &Marks, id: PartId) -> Option<usize>
+/// A part of a published entry by its name, if the log has it. The time is that of the search for the entry.
+pub fn find_part(chain: &Chain, marks: &Marks, id: PartId) -> Option<NumberedPart>
     requires ends { (i : ℕ) → i < chain.now.state.tail
         → start_at marks.now.ends.items i ≡ part_base chain.now.state.entries i }
     requires small { part_total (log chain.now.state) < 2 ^ 64 }
-    ensures { result ≡ number_named (log chain.now.state) id }
+    ensures { option_map (λ p. p.number) result ≡ number_named (log chain.now.state) id }
 {
     let Some(i) = chain.place_of(id.entry) else {
         return None;
@@ -70,6 +79,9 @@ pub fn number_of(chain: &Chain, marks: &Marks, id: PartId) -> Option<usize>
     }
     match place_of(&chain.entry_at(i).item, id.part) {
         None => None,
-        Some(place) => Some(marks.first(i) + place as usize),
+        Some(place) => Some(NumberedPart {
+            number: marks.first(i) + place as usize,
+            entry: i,
+        }),
     }
 }

@@ -5,7 +5,7 @@ ghost use Rattle.std.specs.Option.{option_copied};
 ghost use Rattle.nv_cell.specs.Cell.{block_named, log_of};
 ghost use Rattle.nv_cell.specs.Readers.{has_killed, marks_by_entry};
 
-use crate::number::number_of;
+use crate::number::find_part;
 use crate::{InodeCell, Mark};
 use nv_alloc::Block;
 use nv_entry::PartId;
@@ -29,8 +29,8 @@ impl InodeCell {
     pub fn block_of(&self, part: PartId) -> Option<&Block>
         ensures { option_copied result ≡ block_named self.now.state part }
     {
-        let n = number_of(&self.chain, &self.marks, part)?;
-        self.blocks.get(n)?.as_ref()
+        let found = find_part(&self.chain, &self.marks, part)?;
+        self.blocks.get(found.number)?.as_ref()
     }
 
     /// Whether a part is killed: neither retired nor released since the publish that killed it. The time is linear in

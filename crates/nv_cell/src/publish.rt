@@ -9,13 +9,13 @@ ghost use Rattle.nv_nindex.specs.NameIndex.{HaveSameBindings};
 ghost use Rattle.nv_cell.specs.Effects.{NamesReady, items_of};
 ghost use Rattle.nv_cell.specs.Index.{bindings_of, ref_of};
 ghost use Rattle.nv_cell.specs.Marks.{is_current, mark_at};
-ghost use Rattle.nv_cell.specs.Numbers.{AreEnds, HasRoomFor, killed_numbers, killed_part, part_base, published_mark};
+ghost use Rattle.nv_cell.specs.Numbers.{AreEnds, HasRoomFor, killed_numbers, killed_part, numbers_in, part_base, published_mark};
 ghost use Rattle.nv_cell.specs.Weights.{runs_of, weights_in};
 ghost use Rattle.nv_cell.specs.Tallies.{AreRuns, AreTallied, HasSpare, SameCapacity, end_at};
 ghost use Rattle.nv_cell.specs.declared.mark.Mark.TheVariants as mark;
 
 use crate::effects::apply_all;
-use crate::{CellIndex, KilledPart, Marks};
+use crate::{CellIndex, KilledPart, Marks, NumberedPart};
 use nv_entry::PartId;
 use nv_log::Chain;
 
@@ -45,11 +45,11 @@ fn add_all(marks: &mut Marks, chain: &Chain, tail: usize)
     }
 }
 
-/// Brings index and marks from the entries before the tail up to all entries, and puts the numbers of the parts on
-/// the list that were current, or are newly published, and are not current after it.
+/// Brings index and marks from the entries before the tail up to all entries, and puts the parts on the list that
+/// were current, or are newly published, and are not current after it, by number.
 pub fn take_effect(
     index: &mut CellIndex,
-    numbers: &mut Vec<usize>,
+    numbers: &mut Vec<NumberedPart>,
     marks: &mut Marks,
     chain: &Chain,
     block: u64,
@@ -86,7 +86,8 @@ pub fn take_effect(
     ensures tallied { AreTallied marks.new chain.now.state.ends }
     ensures marks { (n : ℕ) → mark_at marks.new.marks.items n
         ≡ published_mark block chain.now.state.entries tail marks.old.marks.items n }
-    ensures killed { numbers.new.items ≡ killed_numbers block chain.now.state.entries tail }
+    ensures killed { numbers_in numbers.new.items
+        ≡ killed_numbers block chain.now.state.entries tail }
     ensures few { vec_len numbers.new ≤ weights_in block (take tail chain.now.state.entries)
         (items_of (drop tail chain.now.state.entries)) }
     ensures room { SameCapacity marks.old marks.new }
@@ -96,22 +97,23 @@ pub fn take_effect(
     add_all(marks, chain, tail);
     apply_all(index, numbers, chain, marks, block, tail);
     marks.kill_all(ends, numbers);
-    numbers.sort_unstable();
+    numbers.sort_unstable_by_key(|part| part.number);
 }
 
-/// The part of a number, with its birth.
-fn part_of(chain: &Chain, marks: &Marks, n: usize) -> KilledPart
+/// A part by its name, with its birth.
+fn part_of(chain: &Chain, marks: &Marks, part: NumberedPart) -> KilledPart
     requires ends { AreEnds marks.now.ends.items chain.now.state.entries }
     requires counted { length marks.now.ends.items ≡ length chain.now.state.entries }
     requires runs { AreRuns marks.now.ends.items (part_total chain.now.state.entries) }
     requires ended { (i : ℕ) → i < length chain.now.state.entries → end_at marks.now.ends.items i
         ≡ part_base chain.now.state.entries (i + 1) }
-    requires within { n < part_total chain.now.state.entries }
-    ensures { Some result ≡ killed_part chain.now.state.entries n }
+    requires within { part.number < part_total chain.now.state.entries }
+    ensures { Some result ≡ killed_part chain.now.state.entries part.number }
 {
-    let i = marks.entry_of(n);
+    let i = marks.entry_of(part);
     let entry = chain.entry_at(i);
-    let part = entry.item.part_at((n - marks.first(i)) as u32).unwrap();
+    let place = (part.number - marks.first(i)) as u32;
+    let part = entry.item.part_at(place).unwrap();
     KilledPart {
         part: PartId {
             entry: entry.id,
@@ -121,20 +123,26 @@ fn part_of(chain: &Chain, marks: &Marks, n: usize) -> KilledPart
     }
 }
 
-/// Puts the parts of these numbers on the list.
-pub fn name_all(killed: &mut Vec<KilledPart>, numbers: &[usize], chain: &Chain, marks: &Marks)
+/// Puts these parts on the list by their names.
+pub fn name_all(
+    killed: &mut Vec<KilledPart>,
+    numbers: &[NumberedPart],
+    chain: &Chain,
+    marks: &Marks,
+)
     requires ends { AreEnds marks.now.ends.items chain.now.state.entries }
     requires counted { length marks.now.ends.items ≡ length chain.now.state.entries }
     requires runs { AreRuns marks.now.ends.items (part_total chain.now.state.entries) }
     requires ended { (i : ℕ) → i < length chain.now.state.entries → end_at marks.now.ends.items i
         ≡ part_base chain.now.state.entries (i + 1) }
     requires within { (i d : ℕ) → i < length numbers.now
-        → slice_index_or numbers.now i d < part_total chain.now.state.entries }
+        → slice_index_or (numbers_in numbers.now) i d < part_total chain.now.state.entries }
     requires empty { killed.old.items ≡ [] }
     requires room { length numbers.now ≤ vec_capacity killed.old }
-    ensures { map Some killed.new.items ≡ map (killed_part chain.now.state.entries) numbers.now }
+    ensures { map Some killed.new.items
+        ≡ map (killed_part chain.now.state.entries) (numbers_in numbers.now) }
 {
-    for n in numbers {
-        killed.push_reserved(part_of(chain, marks, *n));
+    for part in numbers {
+        killed.push_reserved(part_of(chain, marks, *part));
     }
 }

@@ -8,9 +8,9 @@ ghost use Rattle.nv_entry.specs.Bytes.{read_at};
 ghost use Rattle.nv_entry.specs.Covered.{part_total};
 ghost use Rattle.nv_entry.specs.Node.{block_now, file_bytes};
 ghost use Rattle.nv_log.specs.Chain.{log, place_of};
-ghost use Rattle.nv_cell.specs.Cell.{log_of};
+ghost use Rattle.nv_cell.specs.Cell.{AreSlotsSized, log_of};
 ghost use Rattle.nv_cell.specs.Numbers.{part_base};
-ghost use Rattle.nv_cell.specs.Pages.{AreBytesOf, AreSlotsSized, IsStretch, block_at_page, page_number, pages_now, slot_bytes};
+ghost use Rattle.nv_cell.specs.Pages.{AreBytesOf, IsStretch, block_at_page, own_bytes, page_number, pages_now, slot_bytes};
 ghost use Rattle.nv_cell.specs.Reading.{IsIndexOf};
 ghost use Rattle.nv_cell.specs.Tallies.{start_at};
 
@@ -38,6 +38,7 @@ impl InodeCell {
     /// At most `len` bytes of a file from a place on, none past its end: zeros where it has no page. `OutOfMemory` where
     /// room for them was refused. Costs the pages that it reads, and one look-up for each run of them.
     pub fn read(&self, at: u64, len: u64) -> Result<Bytes, Fault>
+        ensures own { IfOk result (λ read. read ≡ read_at at len (own_bytes self.now.state)) }
         ensures bytes { (bytes : ℕ → List ℕ) → AreBytesOf self.now.state bytes
             → IfOk result (λ read. read ≡ read_at at len
             (file_bytes bytes self.now.state.block (log_of self.now.state))) }

@@ -112,7 +112,7 @@ impl InodeCell {
         self.chain.spare()
     }
 
-    /// How many of a page's published entries have a current part, and how many one that is current, killed or kept.
+    /// How many of a page's published entries have a current part, and how many one that is not out.
     /// No entry is one of a page that is not there.
     pub fn counts(&self, page: usize) -> PageCounts
         ensures { result ≡ counts_of self.now.state page }

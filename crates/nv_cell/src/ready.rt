@@ -13,7 +13,7 @@ ghost use Rattle.nv_cell.specs.Tallies.{HasSpare};
 ghost use Rattle.nv_cell.specs.Weights.{parts_in, runs_of, weights_by, weights_in};
 
 use crate::needs::{most_killed, part_total};
-use crate::{CellIndex, InodeCell, KilledPart, Marks};
+use crate::{CellIndex, InodeCell, KilledPart, Marks, NumberedPart};
 use nv_alloc::Block;
 use nv_base::Fault;
 use nv_entry::Item;
@@ -63,7 +63,7 @@ impl InodeCell {
 
 /// Makes room for so many killed parts.
 fn grow_lists(
-    numbers: &mut Vec<usize>,
+    numbers: &mut Vec<NumberedPart>,
     killed: &mut Vec<KilledPart>,
     count: usize,
 ) -> Result<(), Fault>

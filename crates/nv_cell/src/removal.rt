@@ -103,6 +103,7 @@ impl InodeCell {
         requires pages { vec_len pages ≡ div_ceil
             (length (left_of stays.now self.old.state.chain.entries)) self.old.state.chain.page }
         requires may { MayGo stays.now self.old.state }
+        requires sized { AreSized self.old.state.block pages.items }
         ensures blocks { result.items ≡ self.old.state.chain.blocks }
         ensures state { self.new.state ≡ left_in stays.now
             (compacted stays.now pages.items self.old.state.chain) self.old.state }
@@ -127,7 +128,7 @@ impl InodeCell {
         requires published { ArePublished stays.now self.old.state.chain }
         requires may { MayGo (log_flags stays.now self.old.state.chain) self.old.state }
         requires room { count_by not stays.now ≤ queue.old.room }
-        requires sized { AreSized queue.old.size (gone_of stays.now self.old.state.chain.blocks) }
+        requires size { queue.old.size ≡ self.old.state.block }
         ensures state { self.new.state ≡ left_in (log_flags stays.now self.old.state.chain)
             (with_pages_left stays.now self.old.state.chain) self.old.state }
         ensures log { log_of self.new.state

@@ -10,11 +10,15 @@ use Rattle.nv_entry.specs.Laws.{is_present}
 use Rattle.nv_entry.specs.Log.{value_now}
 use Rattle.nv_entry.specs.Refs.{scan_ref}
 
+-- no key that an entry sets to absent is covered by these
+abbrev pub HidesNone : ℕ → List Entry → Entry → Type 0
+HidesNone block before e = (key : Key) → sets block e.item key ≡ Absent → any_cover block before key ≡ false
+
 -- an entry may leave its log: each key that it sets to a value is covered later, and no earlier entry that is
 -- still there covers a key that it sets to absent
 pub record MayLeave (block : ℕ) (before : List Entry) (e : Entry) (later : List Entry) : Type 0 where
   pub dead : (key : Key) → is_present (sets block e.item key) ≡ true → any_cover block later key ≡ true
-  pub hides_nothing : (key : Key) → sets block e.item key ≡ Absent → any_cover block before key ≡ false
+  pub hides_nothing : HidesNone block before e
 
 -- each of the entries to come that goes may leave, with the earlier ones gone; `before` are those that stay before them
 abbrev pub MayAllLeave : ℕ → List Entry → List Entry → List Bool → Type 0

@@ -1,7 +1,10 @@
+pub mod Counted
+pub mod NodesNow
+pub mod Entered
+pub mod CellBytes
 pub mod PageBytes
 pub mod PageParts
 pub mod Logs
 pub mod Coming
 pub mod Depths
-mod Pushed
 pub mod Ways

@@ -1,5 +1,5 @@
 -- The walk of a tree: the visits that are still to be made, in order.
-use Rattle.std.specs.Prelude.{ℕ, zero, suc, ◌+◌, ◌≡◌, List, [], ◌∷◌, ◌++◌, drop, map, sum_by, Option, Some, None, option_and_then, option_map}
+use Rattle.std.specs.Prelude.{ℕ, zero, suc, ◌+◌, ◌≡◌, List, [], ◌∷◌, ◌++◌, drop, length, map, sum_by, Option, Some, None, option_and_then, option_map}
 use Rattle.std.specs.List.{flat_map}
 use Rattle.std.specs.Option.{option_to_list}
 use Rattle.nv_base.specs.declared.numbers.Handle.{Handle}
@@ -66,3 +66,7 @@ visits_to_come nodes visits = sum_by (λ visit. visit_count nodes (suc visit.bel
 pub record GivesNext (nodes : Handle → Option NodeCopy) (visits : List Visit) (given : Option TreeNode) (left : List Visit) : Type 0 where
   pub next : to_come nodes visits ≡ option_to_list given ++ to_come nodes left
   pub fewer : visits_to_come nodes visits ≡ visits_to_come nodes left + 1
+
+-- how many names the nodes of a tree have together
+abbrev pub name_count : List TreeNode → ℕ
+name_count tree = sum_by (λ (t : TreeNode). length t.node.names) tree

@@ -66,7 +66,8 @@ fn page_in<'a, B: PartBlocks>(
 }
 
 fn push_page(bytes: &mut Vec<u8>, block: u64, page: Option<&[u8]>) -> Result<(), AllocError>
-    ensures { OnOk result (bytes.new.items ≡ bytes.old.items ++ page_text block (option_copied page.entry)) }
+    ensures { OnOk result (bytes.new.items
+        ≡ bytes.old.items ++ page_text block (option_copied page.entry)) }
 {
     match page {
         Some(page) => bytes.extend_from_slice(page),

@@ -1,10 +1,10 @@
 //! Laws of walks and trees. Each is a function that does nothing, whose contract is the law.
 
-ghost use Rattle.std.specs.Prelude.{◌≡◌, ◌≤◌, [], ℕ, List, Option};
+ghost use Rattle.std.specs.Prelude.{◌≡◌, ◌≤◌, ◌+◌, [], ℕ, List, Option, length};
 ghost use Rattle.nv_base.specs.declared.numbers.Handle.{Handle};
 ghost use Rattle.nv_entry.specs.Tree.{CutsNothing, FormTree, root, tree_from};
 ghost use Rattle.nv_entry.specs.declared.node.NodeCopy.{NodeCopy};
-ghost use Rattle.nv_reader.specs.Walk.{root_visit, to_come};
+ghost use Rattle.nv_reader.specs.Walk.{name_count, root_visit, to_come, visits_to_come};
 
 /// What is to come of a new walk is the tree from its root on.
 pub fn walks_give_the_tree()
@@ -23,4 +23,14 @@ pub fn deep_enough_depths_agree()
 pub fn inodes_bound_the_depth()
     ensures { (nodes : Handle → Option NodeCopy) (inodes depth : ℕ) → FormTree nodes inodes → inodes ≤ depth →
         CutsNothing nodes depth root }
+{}
+
+/// A walk makes at most one visit for each name of the nodes that it gives out, and one more, in any world. So the nodes are
+/// no more either.
+pub fn names_bound_the_visits()
+    ensures visits { (nodes : Handle → Option NodeCopy) (depth : ℕ) (root : Handle)
+        → visits_to_come nodes (root_visit depth root)
+        ≤ name_count (tree_from nodes depth [] root) + 1 }
+    ensures nodes { (nodes : Handle → Option NodeCopy) (depth : ℕ) (root : Handle) →
+        length (tree_from nodes depth [] root) ≤ name_count (tree_from nodes depth [] root) + 1 }
 {}

@@ -12,6 +12,10 @@ mod blocks;
 #[cfg(test)]
 mod book;
 #[cfg(test)]
+mod calls;
+#[cfg(test)]
+mod cell;
+#[cfg(test)]
 mod chain;
 #[cfg(test)]
 mod compare;

@@ -4,7 +4,8 @@ use Rattle.nv_base.specs.declared.node.Kind.TheVariants.{File, Dir}
 use Rattle.nv_base.specs.declared.numbers.Handle.{Handle}
 use Rattle.nv_entry.specs.declared.node.NodeCopy.{NodeCopy}
 use Rattle.nv_entry.specs.Sound.{IsSound}
-use Rattle.nv_calls.specs.AllCalls.{IsReady, Taken, effect, plan, refusal}
+use Rattle.nv_calls.specs.AllCalls.{IsReady, effect, plan, refusal}
+use Rattle.nv_calls.specs.declared.taken.Taken.{Taken}
 use Rattle.nv_calls.specs.declared.call.Call.{Call}
 use Rattle.nv_calls.specs.declared.call.Call.TheVariants as call
 use Rattle.nv_calls.specs.Plain.{node_in}

@@ -7,14 +7,15 @@ use Rattle.nv_calls.specs.Plain.{begins, change, node_in}
 use Rattle.nv_calls.specs.Plan.{planned}
 use Rattle.nv_calls.specs.Refusals.{passes}
 use Rattle.nv_calls.specs.Slots.{IsFree, IsPlan, Slot, node_under}
-use Rattle.nv_calls.specs.calls.Create.{create_effect, create_plan, create_refusal}
+use Rattle.nv_calls.specs.calls.Create.{begin_effect, begin_plan, create_refusal}
 use Rattle.nv_calls.proofs.Items.{and_bind, and_init, no_plan}
 use Rattle.nv_calls.proofs.Passed.{directory_passed}
 
-pub create_fits : (bytes : ℕ → List ℕ) (block : ℕ) (slots : ℕ → Slot) (kind : Kind) (dir : Handle) (name : List ℕ) (mode : ℕ) (made : Handle)
+pub create_fits : (bytes : ℕ → List ℕ) (block : ℕ) (slots : ℕ → Slot) (kind : Kind) (dir : Handle) (name : List ℕ) (mode : ℕ)
+    (made : Handle)
     → 0 < block
     → create_refusal (node_in (node_under bytes block slots)) dir name ≡ passes → IsFree slots made
-    → IsPlan bytes block slots (create_plan kind dir name mode made) (create_effect kind dir name mode made)
+    → IsPlan bytes block slots (begin_plan kind dir name mode made) (begin_effect kind dir name mode made)
 create_fits bytes block slots kind dir name mode made some passed free =
     and_bind bytes block slots some dir name made (planned made (Init kind mode ∷ []) ∷ []) (change made (begins kind mode) ∷ [])
     (directory_passed (node_in (node_under bytes block slots) dir) _ passed).0

@@ -67,7 +67,8 @@ module _ (bytes : ℕ → List ℕ) (block : ℕ) (slots : ℕ → Slot) (some :
   bound_fits true (Some moved) other is f t h = no_plan bytes block slots some
   bound_fits false (Some moved) other is f t h =
       let m = moved_passed moved other (elsewhere (own_place from old to new) (moved_refusal nodes from to other moved) is h) in
-      move_fits (same_handle from to) moved (replaced_plan other) (replaced_effect other) f t (replaced_fits (kind_of (nodes moved)) other m.1)
+      move_fits (same_handle from to) moved (replaced_plan other) (replaced_effect other) f t
+      (replaced_fits (kind_of (nodes moved)) other m.1)
 
   -- what is known of a rename that is not refused: both are directories, and the tests of what its names lead to
   pub names_passed : refusal block nodes (call.Rename from old to new) ≡ passes

@@ -17,7 +17,8 @@ use Rattle.nv_entry.specs.Stored.{Stored, block_after, stored, stored_after_all}
 use Rattle.nv_entry.proofs.Hiding.{run_from, run_parts}
 use Rattle.nv_entry.proofs.PageBytes.{page_of-past, pages_for-most}
 use Rattle.nv_entry.proofs.SoundLogs.{one_makes, suits_file}
-use Rattle.nv_calls.specs.AllCalls.{HasCutPage, Taken}
+use Rattle.nv_calls.specs.AllCalls.{HasCutPage}
+use Rattle.nv_calls.specs.declared.taken.Taken.{Taken}
 use Rattle.nv_calls.specs.Plain.{node_in}
 use Rattle.nv_calls.specs.Refusals.{bytes_of, passes, refuse_if}
 use Rattle.nv_calls.specs.Slots.{IsPlan, Slot, node_under}
@@ -131,10 +132,11 @@ module _ (bytes : ℕ → List ℕ) (block size : ℕ) (node : NodeCopy) (some :
         none true n z h = absurd (omega arith)
         none false n z h = refl
   size_makes present (run ∷ []) has absent s st = cut_stands run has.filled.0.0 has.filled.0.1 s st
-  size_makes present (run ∷ next ∷ runs) has absent s st = absurd (most (cuts_page block size present node.bytes) (length runs) has.count) where
-    most : (b : Bool) (n : ℕ) → suc (suc n) ≡ cond b 1 0 → ⊥
-    most true n h = absurd (omega arith)
-    most false n h = absurd (omega arith)
+  size_makes present (run ∷ next ∷ runs) has absent s st =
+      absurd (most (cuts_page block size present node.bytes) (length runs) has.count) where
+        most : (b : Bool) (n : ℕ) → suc (suc n) ≡ cond b 1 0 → ⊥
+        most true n h = absurd (omega arith)
+        most false n h = absurd (omega arith)
 
 some_items : (first : ℕ) (runs : List Run) (size : ℕ) → 0 < length (write_items first runs size ++ SetSize size ∷ [])
 some_items first [] size = omega arith

@@ -1,32 +1,25 @@
 -- A write that is not refused has a plan with its effect.
-use Rattle.std.proofs.Common.{◌≡◌, ℕ, ◌+◌, ◌*◌, ◌/◌, ◌<◌, ◌≤◌, nat_lt, List, [], ◌∷◌, length, Option, arith, subst, sym}
+use Rattle.std.proofs.Common.{◌≡◌, ℕ, ◌+◌, ◌*◌, ◌/◌, ◌<◌, ◌≤◌, List, [], ◌∷◌, length, Option, arith, subst, sym}
 use Rattle.std.specs.Prelude.{option_map}
-use Rattle.std.proofs.lemmas.Bool.{ltb-false}
-use Rattle.nv_base.specs.declared.fault.Fault.TheVariants as fault
 use Rattle.nv_base.specs.declared.node.Kind.TheVariants.{File}
 use Rattle.nv_base.specs.declared.numbers.Handle.{Handle}
 use Rattle.nv_entry.specs.declared.item.Run.{Run}
 use Rattle.nv_entry.specs.declared.node.NodeCopy.{NodeCopy}
-use Rattle.nv_entry.specs.Bytes.{pages_touched, written}
+use Rattle.nv_entry.specs.Bytes.{written}
 use Rattle.nv_entry.specs.Sound.{HaveText, MakesAll, blocks_of, rewritten, write_items}
 use Rattle.nv_entry.proofs.PageBytes.{touches_some}
 use Rattle.nv_entry.proofs.WrittenRuns.{runs_make}
 use Rattle.nv_calls.specs.Plain.{node_in}
-use Rattle.nv_calls.specs.Refusals.{Check, bytes_of, passes, refuse_if}
+use Rattle.nv_calls.specs.Refusals.{bytes_of, passes}
 use Rattle.nv_calls.specs.Slots.{IsPlan, Slot, node_under}
-use Rattle.nv_calls.specs.calls.Write.{count_refusal, text_refusal, write_effect, write_plan, write_refusal}
+use Rattle.nv_calls.specs.calls.Write.{text_refusal, write_effect, write_plan, write_refusal}
 use Rattle.nv_calls.proofs.Items.{and_plan, no_plan}
-use Rattle.nv_calls.proofs.Passed.{HasKind, file_passed, if_passed, own_handle, there}
+use Rattle.nv_calls.proofs.Within.{count_passed}
+use Rattle.nv_calls.proofs.Passed.{HasKind, file_passed, own_handle, there}
 
 some_items : (first : ℕ) (runs : List Run) (size : ℕ) → 0 < length (blocks_of runs) → 0 < length (write_items first runs size)
 some_items first [] size some = absurd (omega arith)
 some_items first (run ∷ runs) size some = omega arith
-
-pub count_passed : (block offset count : ℕ) → count_refusal block offset count ≡ passes → offset + count ≤ 65536 * block
-count_passed block offset count h =
-    let last : Check = refuse_if (nat_lt (65536 * block) (offset + count)) fault.FileTooBig passes in
-    let few = if_passed (nat_lt 1024 (pages_touched block offset count)) fault.WriteTooBig last h in
-    ltb-false (65536 * block) (offset + count) (if_passed (nat_lt (65536 * block) (offset + count)) fault.FileTooBig passes few.1).0
 
 module _ (bytes : ℕ → List ℕ) (block : ℕ) (slots : ℕ → Slot) (some : 0 < block) (file : Handle) (offset : ℕ) (runs : List Run) where
   abbrev nodes : Handle → Option NodeCopy
@@ -51,7 +44,7 @@ module _ (bytes : ℕ → List ℕ) (block : ℕ) (slots : ℕ → Slot) (some :
       let text : List ℕ = byte ∷ rest in
       let any : 0 < length text = omega arith in
       let f = file_passed (nodes file) (text_refusal block offset text) passed in
-      let fits = count_passed block offset (length text) f.1 in
+      let fits = (count_passed block offset (length text) f.1).1 in
       let has = ready any in
       and_plan bytes block slots some file (write_items (offset / block) runs (length (written offset text (bytes_of (nodes file)))))
       (option_map (rewritten offset text)) [] []

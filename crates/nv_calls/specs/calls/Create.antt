@@ -1,7 +1,8 @@
--- create and mkdir: a new empty node, whose name goes last.
+-- create: a new empty file, whose name goes last.
 use Rattle.std.specs.Prelude.{ℕ, is_some, List, [], ◌∷◌, Option}
 use Rattle.nv_base.specs.declared.fault.Fault.TheVariants as fault
 use Rattle.nv_base.specs.declared.node.Kind.{Kind}
+use Rattle.nv_base.specs.declared.node.Kind.TheVariants.{File}
 use Rattle.nv_base.specs.declared.numbers.Handle.{Handle}
 use Rattle.nv_entry.specs.declared.item.Item.TheVariants.{Init, Bind}
 use Rattle.nv_entry.specs.declared.node.NodeCopy.{NodeCopy}
@@ -17,8 +18,18 @@ create_refusal nodes dir name =
     (want_lawful name
     (refuse_if (is_some (lookup nodes dir name)) fault.Exists passes))
 
-abbrev pub create_effect : Kind → Handle → List ℕ → ℕ → Handle → List Change
-create_effect kind dir name mode made = change dir (with_names (with_last name made)) ∷ change made (begins kind mode) ∷ []
+-- ---- a new node of a kind, as mkdir makes one too
 
-abbrev pub create_plan : Kind → Handle → List ℕ → ℕ → Handle → List Planned
-create_plan kind dir name mode made = planned dir (Bind name made ∷ []) ∷ planned made (Init kind mode ∷ []) ∷ []
+abbrev pub begin_effect : Kind → Handle → List ℕ → ℕ → Handle → List Change
+begin_effect kind dir name mode made = change dir (with_names (with_last name made)) ∷ change made (begins kind mode) ∷ []
+
+abbrev pub begin_plan : Kind → Handle → List ℕ → ℕ → Handle → List Planned
+begin_plan kind dir name mode made = planned dir (Bind name made ∷ []) ∷ planned made (Init kind mode ∷ []) ∷ []
+
+-- ---- a new file
+
+abbrev pub create_effect : Handle → List ℕ → ℕ → Handle → List Change
+create_effect dir name mode made = begin_effect File dir name mode made
+
+abbrev pub create_plan : Handle → List ℕ → ℕ → Handle → List Planned
+create_plan dir name mode made = begin_plan File dir name mode made

@@ -1,15 +1,18 @@
 //! Giving a node another name.
 
-ghost use Rattle.std.specs.Prelude.{◌≡◌, [], IfOk, Some};
-ghost use Rattle.nv_base.specs.Names.{same_name};
+ghost use Rattle.std.specs.Prelude.{◌≡◌, [], IfOk, IsTrue};
+ghost use Rattle.nv_base.specs.Names.{is_lawful_name, same_name};
+ghost use Rattle.nv_base.specs.Refusals.{FailsOnly};
+ghost use Rattle.nv_base.specs.declared.fault.Fault.TheVariants.{OutOfMemory};
 ghost use Rattle.nv_calls.specs.Plain.{same_handle};
 ghost use Rattle.nv_calls.specs.Refusals.{is_directory};
-ghost use Rattle.nv_calls.specs.calls.Rename.{bound_plan, move_plan, moved_refusal, own_place, rename_early, rename_late, replaced_refusal};
+ghost use Rattle.nv_calls.specs.calls.Rename.{move_plan, moved_refusal, own_place, rename_early, rename_late, rename_plan, replaced_refusal};
 
 use crate::calls::lookup;
+use crate::names::name_of;
 use crate::wants::{refuse_if, want_bound, want_directory, want_lawful, want_node};
-use crate::{Looked, Nodes, Plan, Planned};
-use nv_base::{Fault, Handle, Kind, Name};
+use crate::{Looked, Nodes, Planned, PlannedItems};
+use nv_base::{Fault, Handle, Items, Kind, Name};
 use nv_entry::Item;
 use std::alloc::{AllocError, Global};
 
@@ -83,23 +86,34 @@ fn check_replaced<N: Nodes>(
     refuse_if(is_dir, Fault::Exists)
 }
 
-/// The first name leaves, the second goes last with what the first led to, and a file at the second goes.
+/// The first name leaves, the second goes last with what the first led to, and a file at the second goes; nothing
+/// where both names are one.
 pub fn plan(
     alloc: Global,
     from: Handle,
-    old: Name,
+    old: &[u8],
     to: Handle,
-    new: Name,
-    moved: Handle,
-    other: Option<Handle>,
-) -> Result<Plan, AllocError>
-    ensures { IfOk result (λ plan. plan ≡ bound_plan from old to new (Some moved) other) }
+    new: &[u8],
+    looked: &Looked,
+) -> Result<PlannedItems, Fault>
+    requires old_lawful { IsTrue (is_lawful_name old.now) }
+    requires new_lawful { IsTrue (is_lawful_name new.now) }
+    ensures ok { IfOk result (λ plan. plan ≡ rename_plan from old.now to new.now looked.now) }
+    ensures err { FailsOnly OutOfMemory result }
 {
+    if is_own_place(&from, old, &to, new) {
+        return Ok(Items::empty(alloc));
+    }
+    let Some(moved) = looked.first else {
+        return Ok(Items::empty(alloc));
+    };
+    let old = name_of(alloc, old)?;
+    let new = name_of(alloc, new)?;
     let mut plan = plan_of_names(alloc, from, old, to, new, moved)?;
-    if let Some(other) = other {
+    if let Some(other) = looked.second {
         plan.push(Planned::one(alloc, other, Item::Gone)?)?;
     }
-    Ok(Plan::from_vec(plan))
+    Ok(Items::from_vec(plan))
 }
 
 /// What the two directories append; within one, both items in one log.

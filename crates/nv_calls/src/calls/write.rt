@@ -1,16 +1,15 @@
 //! Writing into a file.
 
-ghost use Rattle.std.specs.Prelude.{◌≡◌, ◌+◌, ◌-◌, ◌*◌, ◌/◌, ◌<◌, ◌≤◌, ◌^◌, ◌∷◌, [], ℕ, List, IfOk, length, nat_lt};
+ghost use Rattle.std.specs.Prelude.{◌≡◌, ◌+◌, ◌-◌, ◌*◌, ◌/◌, ◌<◌, ◌≤◌, ◌^◌, ℕ, List, IfOk, length, nat_lt};
 ghost use Rattle.nv_base.specs.declared.limits.TheConstants.{BLOCK_BYTES, FILE_PAGES};
 ghost use Rattle.nv_entry.specs.Bytes.{pages_touched, written};
-ghost use Rattle.nv_entry.specs.Sound.{blocks_of, write_items};
-ghost use Rattle.nv_calls.specs.Plan.{planned};
-ghost use Rattle.nv_calls.specs.calls.Write.{count_refusal, write_refusal};
+ghost use Rattle.nv_entry.specs.Sound.{blocks_of};
+ghost use Rattle.nv_calls.specs.calls.Write.{count_refusal, write_blocks, write_plan, write_refusal};
 
 use crate::plan::list_of_one;
 use crate::runs::write_items;
 use crate::wants::{refuse_if, want_file};
-use crate::{Nodes, Plan, Planned};
+use crate::{Nodes, Planned, PlannedItems};
 use nv_base::{Fault, Handle, Items, limits};
 use nv_entry::Run;
 use std::alloc::{AllocError, Global};
@@ -58,30 +57,44 @@ fn ends_past(size: u64, offset: u64, count: u64) -> bool
     count > size - offset
 }
 
+/// How many blocks a write takes: one for each page that the text touches.
+pub fn blocks_wanted(block: u64, offset: u64, text: &[u8]) -> u64
+    requires some_bytes { 0 < block }
+    requires few_bytes { block ≤ BLOCK_BYTES }
+    ensures { result ≡ write_blocks block offset text.now }
+{
+    if text.is_empty() {
+        return 0;
+    }
+    pages_touched(block, offset, text.len() as u64)
+}
+
 /// One item for each run of the blocks that have the text's pages, with the size of the file after
 /// the call.
-pub fn plan(
+pub fn plan<N: Nodes>(
     alloc: Global,
     block: u64,
+    nodes: &N,
     file: Handle,
     offset: u64,
-    size: u64,
+    text: &[u8],
     runs: &[Run],
-) -> Result<Plan, AllocError>
+) -> Result<PlannedItems, AllocError>
     requires some_bytes { 0 < block }
-    requires fits { offset / block + length (blocks_of runs.now) ≤ FILE_PAGES }
+    requires end { offset + length text.now < 2 ^ 64 }
+    requires fits { 0 < length text.now
+        → offset / block + length (blocks_of runs.now) ≤ FILE_PAGES }
     ensures { IfOk result (λ plan. plan
-        ≡ planned file (write_items (offset / block) runs.now size) ∷ []) }
+        ≡ write_plan block (N.nodes_of nodes.now) file offset text.now runs.now) }
 {
+    if text.is_empty() {
+        return Ok(Items::empty(alloc));
+    }
+    let size = size_after(nodes.size(&file), offset, text.len() as u64);
     let first = (offset / block) as u32;
     let items = Items::from_vec(write_items(alloc, first, runs, size)?);
-    list_of_one(
-        alloc,
-        Planned {
-            handle: file,
-            items,
-        },
-    )
+    let handle = file;
+    list_of_one(alloc, Planned { handle, items })
 }
 
 /// The size of a file after a write.

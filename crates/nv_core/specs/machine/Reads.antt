@@ -8,7 +8,8 @@ use Rattle.nv_calls.specs.declared.looked.Looked.{Looked}
 use Rattle.nv_alloc.specs.Block.{BlockValue, numbers_of}
 use Rattle.nv_alloc.specs.FreeList.{FreeBlocks, is_home}
 use Rattle.nv_base.specs.declared.numbers.Handle.{Handle}
-use Rattle.nv_calls.specs.AllCalls.{Taken, plan}
+use Rattle.nv_calls.specs.AllCalls.{plan}
+use Rattle.nv_calls.specs.declared.taken.Taken.{Taken}
 use Rattle.nv_calls.specs.Plain.{PlainNode, node_in, stamped}
 use Rattle.nv_calls.specs.Refusals.{bytes_of}
 use Rattle.nv_calls.specs.Slots.{items_for, last_commit}

@@ -1,9 +1,10 @@
 use Rattle.std.proofs.Common.{◌+◌, ◌≤◌, length, append_assoc, arith, refl, ◌∙◌, subst}
 use Rattle.std.specs.Prelude.{vec_capacity, vec_len}
 use Rattle.std.proofs.lemmas.List.FromFn.{length-range_with_len}
+use Rattle.nv_entry.specs.Blocks.{item_blocks}
 use Rattle.nv_entry.specs.declared.item.Item.{Item}
 use Rattle.nv_entry.specs.Keys.{parts_of}
-use Rattle.nv_cell.specs.Append.{IsWithinFile, run_numbers}
+use Rattle.nv_cell.specs.Append.{IsWithinFile}
 use Rattle.nv_cell.proofs.Appending.{length_parts}
 use Rattle.nv_cell.proofs.append.push_slots.Goals as goal
 
@@ -18,7 +19,7 @@ push_blocks-requires-clause-room c =
 pub push_blocks-requires-clause-there : goal.push_blocks-requires-clause-there
 push_blocks-requires-clause-there c =
     let w = c.in-Write in
-    let there = subst (λ (item : Item). length (run_numbers item) ≤ length c.args.queue.now.blocks) w.is c.requires.there in
+    let there = subst (λ (item : Item). length (item_blocks item) ≤ length c.args.queue.now.blocks) w.is c.requires.there in
     omega (arith, there, length-range_with_len w.run'.start w.run'.len)
 
 pub returns-in-Write-clause-slots : goal.returns-in-Write-clause-slots

@@ -7,7 +7,7 @@ use Rattle.nv_entry.specs.Refs.{scan_ref}
 use Rattle.nv_nindex.specs.NameIndex.{HaveSameBindings}
 use Rattle.nv_cell.specs.Effects.{NamesReady, items_of}
 use Rattle.nv_cell.specs.Index.{bindings_of, ref_of}
-use Rattle.nv_cell.specs.Numbers.{times}
+use Rattle.nv_cell.specs.Numbers.{numbers_in, times}
 use Rattle.nv_cell.specs.Weights.{runs_of, weights_in}
 use Rattle.nv_cell.proofs.effects.apply_all.Given as goal
 
@@ -20,5 +20,5 @@ invariant-loop-t l = record {
   capacity : vec_capacity l.killed ≡ vec_capacity l.fn.killed;
   len : vec_len l.killed + weights_in l.block (take l.t l.chain.state.entries) (items_of (drop l.t l.chain.state.entries))
       ≤ vec_len l.fn.killed + weights_in l.block (take l.tail l.chain.state.entries) (items_of (drop l.tail l.chain.state.entries));
-  killed : (n : ℕ) → times n l.killed.items ≡ times n l.fn.killed.items + (if (nat_lt n (part_total l.chain.state.entries) && is_covered l.block (take l.t l.chain.state.entries) n) && not (is_covered l.block (take l.tail l.chain.state.entries) n) then 1 else 0);
+  killed : (n : ℕ) → times n (numbers_in l.killed.items) ≡ times n (numbers_in l.fn.killed.items) + (if (nat_lt n (part_total l.chain.state.entries) && is_covered l.block (take l.t l.chain.state.entries) n) && not (is_covered l.block (take l.tail l.chain.state.entries) n) then 1 else 0);
 }

@@ -1,10 +1,8 @@
-use Rattle.std.proofs.Common.{◌≡◌, ◌∙◌, ◌<◌, ℕ, arith, ap, sym, take, subst, length, slice_index_or, Some, refl}
-use Rattle.std.specs.List.{AllByRecursion}
-use Rattle.std.specs.Prelude.{Ok, OnOk, Result}
+use Rattle.std.proofs.Common.{◌≡◌, ◌∙◌, arith, ap, sym, take, slice_index_or, Some, refl}
+use Rattle.std.specs.Prelude.{Ok, Result}
 use Rattle.nv_base.specs.declared.fault.Fault.{Fault}
 use Rattle.std.proofs.lemmas.Grind.{common_steps}
 use Rattle.std.proofs.lemmas.List.{get_or_default}
-use Rattle.nv_entry.specs.declared.item.Item.{Item}
 use Rattle.nv_entry.specs.declared.item.Item.TheVariants.{Bind}
 use Rattle.nv_cell.proofs.Readied.{none_ready, one_ready}
 use Rattle.nv_cell.proofs.index.reserve_name.Goals as goal

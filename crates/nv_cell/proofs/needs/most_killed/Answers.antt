@@ -16,7 +16,8 @@ loop-item-preserved c =
     let pages : ℕ → ℕ = λ from. present_from from index.pages.pages in
     let names = length index.names.names in
     let next = weights_next c.args.block pages names items i item (omega arith) c.item-item.is in
-    let capped = weight_capped c.args.block most pages (sum_by pages_added (take i items)) (names + sum_by names_added (take i items)) item in
+    let capped =
+    weight_capped c.args.block most pages (sum_by pages_added (take i items)) (names + sum_by names_added (take i items)) item in
     let own : c.weight_of.result ≡ min (weight c.args.block (λ from. pages from + min (sum_by pages_added (take i items)) most) (min (names + sum_by names_added (take i items)) most) item) most =
     c.weight_of.ensures
     ∙ ap (λ (p : ℕ). min (weight c.args.block (λ from. pages from + p) c.loop-item.names item) most) c.loop-item.invariant.pages

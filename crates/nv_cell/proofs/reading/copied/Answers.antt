@@ -9,5 +9,6 @@ returns-in_err-name-clause-err c =
     let b = c.bound-item.result in
     let lawful = lawful_at c.args.bindings.now c.loop-bound.bound-index b c.requires (omega arith) c.bound-item.is in
     let fault = c.in_err-name.field-0.0 in
-    let memory : fault ≡ OutOfMemory = not_refused b.0.now fault lawful c.in_err-name.ensures.err (λ q. c.read.ensures.unlawful.0 (c.in_err-name.was ∙ ap Err q)) in
+    let memory : fault ≡ OutOfMemory =
+    not_refused b.0.now fault lawful c.in_err-name.ensures.err (λ q. c.read.ensures.unlawful.0 (c.in_err-name.was ∙ ap Err q)) in
     search rules

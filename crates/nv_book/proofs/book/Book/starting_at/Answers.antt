@@ -1,5 +1,6 @@
-use Rattle.std.proofs.Common.{[], refl}
-use Rattle.nv_book.proofs.Books.{book-empty, none-undone}
+use Rattle.std.proofs.Common.{[], arith, refl}
+use Rattle.nv_book.proofs.Books.{book-empty}
+use Rattle.nv_book.proofs.Undoing.{undone-end}
 use Rattle.nv_book.proofs.book.Book.starting_at.Goals as goal
 
 pub invariant_of-result : goal.invariant_of-result
@@ -14,5 +15,5 @@ returns-clause-ok c =
       c.in_ok-new-2.ensures.ok,
       c.in_ok-closed_journals.ensures.ok,
       c.in_ok-new-3.ensures.ok,
-      none-undone (record { epoch = c.args.epoch; commit = c.args.commit; living = [] }),
+      undone-end (record { epoch = c.args.epoch; commit = c.args.commit; living = [] }) [] 0 (omega arith),
     ) refl

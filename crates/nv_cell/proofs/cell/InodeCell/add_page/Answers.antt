@@ -1,8 +1,9 @@
-use Rattle.std.proofs.Common.{◌≡◌, ◌-◌, ◌∷◌, [], arith, length-append, refl, subst, sym}
+use Rattle.std.proofs.Common.{◌≡◌, ◌-◌, ◌∷◌, [], arith, length-append, refl, ap, subst, sym, ◌∙◌}
 use Rattle.nv_log.specs.Chain.{with_page}
 use Rattle.nv_cell.specs.Cell.{CellValue}
 use Rattle.nv_cell.specs.Fields.{value_in}
 use Rattle.nv_cell.specs.Room.{IsReadyFor}
+use Rattle.nv_cell.proofs.Appending.{sized_more}
 use Rattle.nv_cell.proofs.ReadySteps.{adds_page, page_ready}
 use Rattle.nv_cell.proofs.cell.InodeCell.add_page.Goals as goal
 
@@ -11,6 +12,8 @@ invariant_of-self c =
     let inv = c.self.invariant in
     rw c.add_page.ensures.state (record {
       some = inv.some;
+      pages = sized_more c.self.inside.block c.self.inside.chain.state.blocks c.args.block inv.pages
+          (c.requires.sized ∙ sym (ap (λ (v : CellValue). v.state.block) c.self.view_is));
       marks = record { len = inv.marks.len; current = inv.marks.current };
       blocks = record { len = inv.blocks.len; numbers = inv.blocks.numbers; sized = inv.blocks.sized };
       refs = inv.refs;

@@ -2,12 +2,13 @@ use Rattle.std.proofs.Common.{◌≡◌, ℕ, ◌+◌, ◌<◌, ◌≤◌, ◌++
 use Rattle.std.proofs.lemmas.List.{take-append-le}
 use Rattle.nv_alloc.specs.Block.{AreSized, BlockValue}
 use Rattle.nv_entry.specs.declared.item.Entry.{Entry}
+use Rattle.nv_entry.specs.Blocks.{item_blocks}
 use Rattle.nv_entry.specs.Covered.{is_covered, part_count, part_total}
 use Rattle.nv_entry.specs.Refs.{scan_ref}
 use Rattle.nv_log.specs.Chain.{ChainState, IsChain, appended as appended_chain, room_of}
 use Rattle.nv_nindex.specs.NameIndex.{HaveSameBindings}
 use Rattle.nv_cell.specs.declared.tally.PageCounts.{PageCounts}
-use Rattle.nv_cell.specs.Append.{appended, blocks_for, run_numbers}
+use Rattle.nv_cell.specs.Append.{appended, blocks_for}
 use Rattle.nv_cell.specs.Cell.{CellState, CellValue, HasBlocks}
 use Rattle.nv_cell.specs.Fields.{state_in, value_in}
 use Rattle.nv_cell.specs.Index.{bindings_of}
@@ -36,7 +37,7 @@ invariant_of-self c =
     subst (λ (v : CellValue). part_count e ≤ v.room.parts) (sym c.self.view_is) c.requires.next.parts in
     let sized : AreSized s.block bs =
     subst (λ (n : ℕ). AreSized n bs) size
-    (sized_front queue.size (length (run_numbers e.item)) queue.blocks c.block_bytes-size.ensures.sized) in
+    (sized_front queue.size (length (item_blocks e.item)) queue.blocks c.block_bytes-size.ensures.sized) in
     let few : length s.marks ≤ part_total es = omega (arith, inv.marks.len, total_take es s.chain.tail) in
     let blocks : HasBlocks (appended e bs s) = blocks_append s e bs inv.blocks few c.requires.next.within c.requires.blocks sized in
     let after : CellState = appended e bs s in
@@ -52,6 +53,7 @@ invariant_of-self c =
     let grown = counts_grow s.chain e counts c.self.inside.marks.tallies.items old next low inv.tallied.counts in
     rw c.append.ensures.state (record {
       some = inv.some;
+      pages = inv.pages;
       marks = record {
         len = inv.marks.len ∙ ap part_total (sym log);
         current = λ n lt. inv.marks.current n (rw log at lt) ∙ ap (λ (xs : List Entry). not (is_covered s.block xs n)) (sym log);

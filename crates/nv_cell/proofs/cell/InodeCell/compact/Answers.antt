@@ -1,5 +1,6 @@
 use Rattle.std.proofs.Common.{◌≡◌, ◌≤◌, arith, refl, ap, sym, ◌∙◌, subst, length}
 use Rattle.std.specs.Prelude.{vec_len}
+use Rattle.nv_alloc.specs.Block.{AreSized}
 use Rattle.nv_entry.specs.Covered.{part_total}
 use Rattle.std.specs.Int.{div_ceil}
 use Rattle.nv_entry.proofs.Leaving.{keeps_the_rest}
@@ -88,6 +89,7 @@ invariant_of-self c =
     fresh_within stays c.args.pages.items s.chain c.ends-ends.ensures.chain (held ∙ c.requires.pages ∙ wanted) in
     record {
       some = inv.some;
+      pages = rw c.compact-old.ensures.state (subst (λ v. AreSized v.state.block c.args.pages.items) (sym c.self.view_is) c.requires.sized);
       marks = rw (c.compact-old.ensures.state, c.recount.ensures.marks, c.close_entries.ensures.marks)
           (let h = marks_left left inv.marks inv.blocks may in record { len = h.len; current = h.current });
       blocks = rw (c.compact-old.ensures.state, c.recount.ensures.marks, c.close_entries.ensures.marks, c.close_entries.ensures.blocks)

@@ -6,7 +6,6 @@ use Rattle.nv_cell.specs.Fields.{state_in}
 use Rattle.nv_cell.specs.Pages.{page_number}
 use Rattle.nv_cell.proofs.PageBlocks.{page_number_is, page_slot, slot_sized}
 use Rattle.nv_cell.proofs.Publishes.{first_base}
-use Rattle.nv_cell.proofs.Publishing.{IsScan}
 use Rattle.nv_cell.proofs.cell.InodeCell.page_now.Goals as goal
 
 pub stretch_from-stretch-requires-clause-ends : goal.stretch_from-stretch-requires-clause-ends
@@ -30,10 +29,9 @@ pub returns-clause-number : goal.returns-clause-number
 returns-clause-number c =
     let s = state_in c.self.inside in
     let inv = c.self.invariant in
-    let scan : IsScan s.block s.chain.entries s.chain.tail c.self.inside.index =
-    record { log = c.ends-ends.ensures.chain.rising; scan = inv.refs } in
     rw (← c.self.view_is)
-    (ap (option_map number_of) (found c) ∙ page_number_is s c.self.inside.index c.args.page inv.marks inv.blocks scan)
+    (ap (option_map number_of) (found c ∙ page_slot s c.self.inside.index c.args.page inv.refs)
+    ∙ page_number_is s c.args.page c.ends-ends.ensures.chain.rising inv.marks inv.blocks)
 
 pub returns-clause-sized : goal.returns-clause-sized
 returns-clause-sized c =

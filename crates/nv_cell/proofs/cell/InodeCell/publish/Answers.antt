@@ -4,19 +4,20 @@ use Rattle.nv_entry.specs.Covered.{part_total, is_covered}
 use Rattle.nv_entry.specs.Refs.{scan_ref}
 use Rattle.nv_cell.specs.declared.mark.Mark.{Mark}
 use Rattle.nv_cell.specs.declared.mark.Mark.TheVariants.{Out}
-use Rattle.nv_cell.specs.Cell.{log_of, IsReady}
+use Rattle.nv_cell.specs.Cell.{log_of, killed_of, published, IsReady}
 use Rattle.nv_cell.specs.Effects.{items_of}
 use Rattle.nv_cell.specs.Fields.{state_in}
 use Rattle.nv_cell.specs.Marks.{mark_at}
-use Rattle.nv_cell.specs.Numbers.{dies, killed_part, published_mark}
+use Rattle.nv_cell.specs.Numbers.{dies, killed_numbers, killed_part, numbers_in, published_mark}
 use Rattle.std.proofs.Common.{subst, map}
-use Rattle.std.specs.List.{range_with_len}
 use Rattle.std.proofs.lemmas.List.{length-map}
 use Rattle.nv_cell.specs.Cell.{page_block}
 use Rattle.nv_cell.specs.Fields.{value_in}
 use Rattle.nv_cell.specs.Index.{bindings_of}
 use Rattle.nv_nindex.specs.NameIndex.{HaveSameBindings}
 use Rattle.nv_cell.proofs.Cells.{mark_now}
+use Rattle.nv_cell.proofs.Numbered.{length_numbers}
+use Rattle.nv_cell.proofs.KilledParts.{published_killed}
 use Rattle.nv_cell.proofs.Published.{list_from, names_ready, there_stays}
 use Rattle.nv_cell.proofs.Publishes.{filtered_low, first_base}
 use Rattle.nv_cell.proofs.Publishing.{take_whole}
@@ -39,7 +40,8 @@ name_all-requires-clause-ends c =
 pub name_all-requires-clause-within : goal.name_all-requires-clause-within
 name_all-requires-clause-within c i d lt =
     let es = c.self.inside.chain.state.entries in
-    filtered_low (dies c.self.inside.block es c.tail-tail.result) (part_total es) c.deref.result.now i d (c.deref.ensures.value ∙ c.take_effect.ensures.killed) lt
+    filtered_low (dies c.self.inside.block es c.tail-tail.result) (part_total es) (numbers_in c.deref.result.now) i d (ap numbers_in c.deref.ensures.value ∙ c.take_effect.ensures.killed)
+    (omega (arith, lt, length_numbers c.deref.result.now))
 
 pub name_all-requires-clause-room : goal.name_all-requires-clause-room
 name_all-requires-clause-room c =
@@ -69,6 +71,7 @@ invariant_of-self c =
     let r = c.take_effect.ensures.room in
     rw to (record {
       some = inv.some;
+      pages = inv.pages;
       marks = record {
         len = c.take_effect.ensures.len ∙ ap part_total (sym (take_whole es));
         current = λ n lt.
@@ -96,16 +99,24 @@ invariant_of-self c =
       no_killed = rw c.replace-killed.ensures.after c.new.ensures.items;
     })
 
-pub returns-clause-state : goal.returns-clause-state
-returns-clause-state c =
+-- the chain and the marks that are left
+chain_is : (c : goal.After-self-1)
+    → c.publish_to.new.self.state ≡ record c.self.inside.chain.state { tail = length c.self.inside.chain.state.entries }
+chain_is c =
+    c.publish_to.ensures.state ∙ ap (λ (t : ℕ). record c.self.inside.chain.state { tail = t }) c.len.ensures
+
+marks_are : (c : goal.After-self-1) → c.take_effect.new.marks.marks.items ≡ (published (state_in c.self.inside)).marks
+marks_are c =
     let s = state_in c.self.inside in
-    let es = c.self.inside.chain.state.entries in
-    let to : c.publish_to.new.self.state ≡ record c.self.inside.chain.state { tail = length es } = c.publish_to.ensures.state ∙ ap (λ (t : ℕ). record c.self.inside.chain.state { tail = t }) c.len.ensures in
+    let es = s.chain.entries in
     let f : ℕ → Mark = published_mark s.block es s.chain.tail s.marks in
-    let is : (n : ℕ) → mark_at c.take_effect.new.marks.marks.items n ≡ published_mark s.block es s.chain.tail s.marks n = λ n. rw c.tail-tail.ensures.value at (c.take_effect.ensures.marks n) in
-    let all = list_from c.take_effect.new.marks.marks.items f Out 0 (λ n lt. is n ∙ (let z : n ≡ 0 + n = omega arith in ap f z)) in
-    let m : c.take_effect.new.marks.marks.items ≡ map f (range_with_len 0 (part_total es)) = rw c.take_effect.ensures.len at all in
-    rw (← c.self.view_is, to, m) refl
+    let marks = c.take_effect.new.marks.marks.items in
+    let is : (n : ℕ) → mark_at marks n ≡ f n = λ n. rw c.tail-tail.ensures.value at (c.take_effect.ensures.marks n) in
+    let all = list_from marks f Out 0 (λ n lt. is n ∙ (let z : n ≡ 0 + n = omega arith in ap f z)) in
+    rw c.take_effect.ensures.len at all
+
+pub returns-clause-state : goal.returns-clause-state
+returns-clause-state c = rw (← c.self.view_is, chain_is c, marks_are c) refl
 
 pub returns-clause-few : goal.returns-clause-few
 returns-clause-few c =
@@ -113,5 +124,15 @@ returns-clause-few c =
     let es = s.chain.entries in
     let few = rw c.tail-tail.ensures.value at c.take_effect.ensures.few in
     let told : length c.name_all.new.killed.items ≡ length c.deref.result.now =
-    sym (length-map c.name_all.new.killed.items Some) ∙ ap length c.name_all.ensures ∙ length-map c.deref.result.now (killed_part es) in
+    sym (length-map c.name_all.new.killed.items Some) ∙ ap length c.name_all.ensures ∙ length-map (numbers_in c.deref.result.now) (killed_part es) ∙ length_numbers c.deref.result.now in
     rw (← c.self.view_is) (omega (arith, few, told, c.deref.ensures.len, c.name_all.new.killed.ok))
+
+pub returns-clause-marked : goal.returns-clause-marked
+returns-clause-marked c =
+    let s = state_in c.self.inside in
+    let es = s.chain.entries in
+    let tail : c.tail-tail.result ≡ s.chain.tail = c.tail-tail.ensures.value in
+    let told : map Some c.name_all.new.killed.items ≡ map (killed_part es) (killed_of s) =
+    c.name_all.ensures
+    ∙ ap (map (killed_part es)) (ap numbers_in c.deref.ensures.value ∙ c.take_effect.ensures.killed ∙ ap (killed_numbers s.block es) tail) in
+    rw (chain_is c, marks_are c) (published_killed s c.name_all.new.killed.items c.ends-ends.ensures.chain.rising told)

@@ -1,4 +1,4 @@
-use Rattle.std.proofs.Common.{◌≡◌, ℕ, ◌+◌, ◌-◌, ◌*◌, ◌≤◌, List, Option, min, arith, ap, sym, ◌∙◌, subst}
+use Rattle.std.proofs.Common.{◌≡◌, ℕ, ◌+◌, ◌-◌, ◌*◌, ◌≤◌, List, Option, min, arith, ap, sym, ◌∙◌, subst, take}
 use Rattle.std.specs.Prelude.{option_and_then, unwrap_or}
 use Rattle.std.proofs.lemmas.Grind.{div_ceil_times}
 use Rattle.nv_alloc.specs.Block.{BlockValue}
@@ -7,13 +7,12 @@ use Rattle.nv_entry.specs.Bytes.{read_at}
 use Rattle.nv_entry.specs.Data.{size_in}
 use Rattle.nv_entry.specs.Keys.{pages_for}
 use Rattle.nv_entry.specs.Node.{size_now}
-use Rattle.nv_cell.specs.Cell.{CellValue, log_of}
+use Rattle.nv_cell.specs.Cell.{CellValue, IsCell, log_of}
 use Rattle.nv_cell.specs.Fields.{state_in}
-use Rattle.nv_cell.specs.Pages.{AreBytesOf, page_number, pages_now}
+use Rattle.nv_cell.specs.Pages.{AreBytesOf, own_bytes, page_number, pages_now}
 use Rattle.nv_cell.proofs.Publishes.{first_base}
-use Rattle.nv_cell.proofs.Publishing.{IsScan}
 use Rattle.nv_cell.proofs.ReadAt.{read_cut}
-use Rattle.nv_cell.proofs.Stretches.{file_is}
+use Rattle.nv_cell.proofs.PageBlocks.{file_is, pages_are}
 use Rattle.nv_cell.proofs.cell.InodeCell.read.Goals as goal
 
 pub read_pages-requires-clause-ends : goal.read_pages-requires-clause-ends
@@ -21,15 +20,14 @@ read_pages-requires-clause-ends c =
     let i = c.self.inside in
     first_base i.marks.ends.items i.chain.state.entries i.chain.state.tail c.self.invariant.ends
 
-pub returns-clause-bytes : goal.returns-clause-bytes
-returns-clause-bytes c bytes are =
+-- the bytes that were read are the file's, by its blocks
+read : (c : goal.After-from_vec) → c.from_vec.result ≡ read_at c.args.at c.args.len (own_bytes (state_in c.self.inside))
+read c =
     let s = state_in c.self.inside in
     let inv = c.self.invariant in
-    let index = c.self.inside.index in
     let size : ℕ = size_now s.block (log_of s) in
-    let numbers : ℕ → Option ℕ = page_number s.chain.entries index in
+    let numbers : ℕ → Option ℕ = page_number s.chain.entries c.self.inside.index in
     let all : List ℕ = pages_now s.block s.blocks numbers (pages_for s.block size) in
-    let scan : IsScan s.block s.chain.entries s.chain.tail index = record { log = c.ends-ends.ensures.chain.rising; scan = inv.refs } in
     let sized : c.size_by-size.result ≡ size =
     c.size_by-size.ensures ∙ ap (λ (v : Option Datum). unwrap_or (option_and_then size_in v) 0) c.value_by.ensures in
     let ended : c.min-end.result ≡ min size (c.args.at + c.args.len) =
@@ -41,8 +39,17 @@ returns-clause-bytes c bytes are =
     c.in_ok-read_pages.ensures (pages_for s.block size) fits
     ∙ ap (λ (xs : List (Option BlockValue)). read_at c.min-start.result (c.min-end.result - c.min-start.result)
     (pages_now s.block xs numbers (pages_for s.block size))) slots in
-    let file = file_is s index bytes inv.marks inv.blocks scan
-    (subst (λ (v : CellValue). AreBytesOf v.state bytes) (sym c.self.view_is) are) in
+    c.from_vec.ensures ∙ pages ∙ read_cut c.args.at c.args.len size c.min-start.result c.min-end.result all ended begun
+    ∙ ap (λ (xs : List ℕ). read_at c.args.at c.args.len (take size xs)) (pages_are s c.self.inside.index (pages_for s.block size) inv.refs)
+
+pub returns-clause-own : goal.returns-clause-own
+returns-clause-own c = rw (← c.self.view_is) (read c)
+
+pub returns-clause-bytes : goal.returns-clause-bytes
+returns-clause-bytes c bytes are =
+    let s = state_in c.self.inside in
+    let inv = c.self.invariant in
+    let is : IsCell s =
+    record { some = inv.some; chain = c.ends-ends.ensures.chain; pages = inv.pages; marks = inv.marks; blocks = inv.blocks } in
     rw (← c.self.view_is)
-    (c.from_vec.ensures ∙ pages
-    ∙ read_cut c.args.at c.args.len size c.min-start.result c.min-end.result all ended begun ∙ ap (read_at c.args.at c.args.len) (sym file))
+    (read c ∙ ap (read_at c.args.at c.args.len) (file_is s bytes is (subst (λ (v : CellValue). AreBytesOf v.state bytes) (sym c.self.view_is) are)))

@@ -29,7 +29,8 @@ invariant_of-self-in_err-grow_log c =
       index = same_parts i.index;
       numbers = c.grow_lists.ensures.numbers;
       killed = c.grow_lists.ensures.killed;
-      spare = spare_grown i.marks c.grow_log.new.marks (part_total i.chain.state.entries - length i.marks.marks.items + i.parts) (length i.chain.state.entries - i.chain.state.tail + i.entries) c.grow_log.ensures.marks inv.spare;
+      spare =
+          spare_grown i.marks c.grow_log.new.marks (part_total i.chain.state.entries - length i.marks.marks.items + i.parts) (length i.chain.state.entries - i.chain.state.tail + i.entries) c.grow_log.ensures.marks inv.spare;
       places = omega (arith, inv.blocks_room, c.grow_log.ensures.blocks.capacity);
       pages = c.grow_log.ensures.pages;
     })
@@ -48,7 +49,8 @@ invariant_of-self-in_err-reserve c =
       index = c.reserve.ensures.same;
       numbers = c.grow_lists.ensures.numbers;
       killed = c.grow_lists.ensures.killed;
-      spare = spare_grown i.marks c.grow_log.new.marks (part_total i.chain.state.entries - length i.marks.marks.items + i.parts) (length i.chain.state.entries - i.chain.state.tail + i.entries) c.grow_log.ensures.marks inv.spare;
+      spare =
+          spare_grown i.marks c.grow_log.new.marks (part_total i.chain.state.entries - length i.marks.marks.items + i.parts) (length i.chain.state.entries - i.chain.state.tail + i.entries) c.grow_log.ensures.marks inv.spare;
       places = omega (arith, inv.blocks_room, c.grow_log.ensures.blocks.capacity);
       pages = c.grow_log.ensures.pages;
     })
@@ -58,10 +60,13 @@ invariant_of-self-2 c =
     let i = c.self.inside in
     let inv = c.self.invariant in
     let es = i.chain.state.entries in
-    let settled : i.chain.state.tail ≡ length es = subst (λ (v : CellValue). v.state.chain.tail ≡ length v.state.chain.entries) (sym c.self.view_is) c.requires.settled in
-    let whole : part_total (take i.chain.state.tail es) ≡ part_total es = ap (λ (t : ℕ). part_total (take t es)) settled ∙ ap part_total (take_whole es) in
+    let settled : i.chain.state.tail ≡ length es =
+    subst (λ (v : CellValue). v.state.chain.tail ≡ length v.state.chain.entries) (sym c.self.view_is) c.requires.settled in
+    let whole : part_total (take i.chain.state.tail es) ≡ part_total es =
+    ap (λ (t : ℕ). part_total (take t es)) settled ∙ ap part_total (take_whole es) in
     let g = c.grow_log.ensures.marks in
-    let old = spare_grown i.marks c.grow_log.new.marks (part_total es - length i.marks.marks.items + i.parts) (length es - i.chain.state.tail + i.entries) g inv.spare in
+    let old =
+    spare_grown i.marks c.grow_log.new.marks (part_total es - length i.marks.marks.items + i.parts) (length es - i.chain.state.tail + i.entries) g inv.spare in
     let room = c.in_ok-grow_log.ensures.room in
     let entries : c.max-self-inside.result ≡ max i.entries (length c.args.items.now) = c.max-self-inside.ensures in
     let parts : c.max-self-inside-2.result ≡ max i.parts c.part_total-parts.result = c.max-self-inside-2.ensures in
@@ -141,7 +146,8 @@ returns-in_err-grow_lists-clause-enough c ready =
     let p = settled_publish items (value_in i)
     (subst (λ (v : CellValue). v.state.chain.tail ≡ length v.state.chain.entries) (sym c.self.view_is) c.requires.settled) r in
     let less = weights_were i.block (log_of (state_in i)) i.index items inv.refs inv.names c.most_killed-killed.ensures.distinct in
-    let no : false ≡ true = c.in_err-grow_lists.ensures.enough (omega (arith, p.killed, less, c.most_killed-killed.ensures.value, ap length inv.no_numbers))
+    let no : false ≡ true =
+    c.in_err-grow_lists.ensures.enough (omega (arith, p.killed, less, c.most_killed-killed.ensures.value, ap length inv.no_numbers))
     (omega (arith, p.killed, less, c.most_killed-killed.ensures.value, ap length inv.no_killed)) in
     cc
 

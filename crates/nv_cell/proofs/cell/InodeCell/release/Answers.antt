@@ -1,4 +1,5 @@
 use Rattle.std.proofs.Common.{◌≡◌, ◌<◌, Some, None, arith, refl, ap, sym, ◌∙◌, length}
+use Rattle.std.specs.Option.{option_map}
 use Rattle.nv_cell.specs.declared.mark.Mark.TheVariants.{Killed, Kept, Out}
 use Rattle.nv_cell.specs.Cell.{mark_named, number_in}
 use Rattle.nv_cell.specs.Fields.{state_in}
@@ -9,8 +10,8 @@ use Rattle.nv_cell.proofs.Remarking.{block_leaves, is_idle, length_set, marks_st
 use Rattle.nv_cell.proofs.Runs.{at_index}
 use Rattle.nv_cell.proofs.cell.InodeCell.release.Goals as goal
 
-pub number_of-requires-clause-ends : goal.number_of-requires-clause-ends
-number_of-requires-clause-ends c =
+pub find_part-requires-clause-ends : goal.find_part-requires-clause-ends
+find_part-requires-clause-ends c =
     let i = c.self.inside in
     first_base i.marks.ends.items i.chain.state.entries i.chain.state.tail c.self.invariant.ends
 
@@ -19,7 +20,7 @@ set-requires-clause-there c =
     let s = state_in c.self.inside in
     let inv = c.self.invariant in
     let m = is_idle s c.args.part (subst (λ v. (mark_named v.state c.args.part ≡ Some Killed) ⊎ (mark_named v.state c.args.part ≡ Some Kept)) (sym c.self.view_is) c.requires) in
-    let e : c.unwrap-n.result ≡ number_in s c.args.part = some_same (sym c.unwrap-n.ensures ∙ c.number_of.ensures ∙ m.number) in
+    let e : c.unwrap-found.result.number ≡ number_in s c.args.part = some_same (sym (ap (option_map (λ p. p.number)) c.unwrap-found.ensures) ∙ c.find_part.ensures ∙ m.number) in
     rw e m.there
 
 pub index_mut-slot-requires : goal.index_mut-slot-requires
@@ -27,7 +28,7 @@ index_mut-slot-requires c =
     let s = state_in c.self.inside in
     let inv = c.self.invariant in
     let m = is_idle s c.args.part (subst (λ v. (mark_named v.state c.args.part ≡ Some Killed) ⊎ (mark_named v.state c.args.part ≡ Some Kept)) (sym c.self.view_is) c.requires) in
-    let e : c.unwrap-n.result ≡ number_in s c.args.part = some_same (sym c.unwrap-n.ensures ∙ c.number_of.ensures ∙ m.number) in
+    let e : c.unwrap-found.result.number ≡ number_in s c.args.part = some_same (sym (ap (option_map (λ p. p.number)) c.unwrap-found.ensures) ∙ c.find_part.ensures ∙ m.number) in
     omega (arith, e, m.within, inv.marks.len, inv.blocks.len, total_take s.chain.entries s.chain.tail)
 
 pub invariant_of-self : goal.invariant_of-self
@@ -35,12 +36,13 @@ invariant_of-self c =
     let s = state_in c.self.inside in
     let inv = c.self.invariant in
     let m = is_idle s c.args.part (subst (λ v. (mark_named v.state c.args.part ≡ Some Killed) ⊎ (mark_named v.state c.args.part ≡ Some Kept)) (sym c.self.view_is) c.requires) in
-    let e : c.unwrap-n.result ≡ number_in s c.args.part = some_same (sym c.unwrap-n.ensures ∙ c.number_of.ensures ∙ m.number) in
+    let e : c.unwrap-found.result.number ≡ number_in s c.args.part = some_same (sym (ap (option_map (λ p. p.number)) c.unwrap-found.ensures) ∙ c.find_part.ensures ∙ m.number) in
     let lt : number_in s c.args.part < length s.blocks = omega (arith, m.within, inv.marks.len, inv.blocks.len, total_take s.chain.entries s.chain.tail) in
     let r = c.set.ensures.room in
-    let len = length_set s.marks c.unwrap-n.result Out in
+    let len = length_set s.marks c.unwrap-found.result.number Out in
     record {
       some = inv.some;
+      pages = inv.pages;
       marks = (let h = marks_stay s (number_in s c.args.part) Out inv.marks m.within m.idle refl in rw (c.set.ensures.marks, e) (record { len = h.len; current = h.current }));
       blocks = rw (c.set.ensures.marks, c.take.ensures.after, e) (block_leaves s (number_in s c.args.part) inv.blocks m.within lt);
       refs = inv.refs;
@@ -64,14 +66,14 @@ returns-clause-block c =
     let s = state_in c.self.inside in
     let inv = c.self.invariant in
     let m = is_idle s c.args.part (subst (λ v. (mark_named v.state c.args.part ≡ Some Killed) ⊎ (mark_named v.state c.args.part ≡ Some Kept)) (sym c.self.view_is) c.requires) in
-    let e : c.unwrap-n.result ≡ number_in s c.args.part = some_same (sym c.unwrap-n.ensures ∙ c.number_of.ensures ∙ m.number) in
-    let lt : c.unwrap-n.result < length s.blocks = omega (arith, e, m.within, inv.marks.len, inv.blocks.len, total_take s.chain.entries s.chain.tail) in
-    rw (← c.self.view_is) (c.take.ensures.value ∙ at_index s.blocks c.unwrap-n.result c.index_mut-slot.result.now None c.index_mut-slot.ensures.value lt ∙ ap (λ k. slice_index_or s.blocks k None) e)
+    let e : c.unwrap-found.result.number ≡ number_in s c.args.part = some_same (sym (ap (option_map (λ p. p.number)) c.unwrap-found.ensures) ∙ c.find_part.ensures ∙ m.number) in
+    let lt : c.unwrap-found.result.number < length s.blocks = omega (arith, e, m.within, inv.marks.len, inv.blocks.len, total_take s.chain.entries s.chain.tail) in
+    rw (← c.self.view_is) (c.take.ensures.value ∙ at_index s.blocks c.unwrap-found.result.number c.index_mut-slot.result.now None c.index_mut-slot.ensures.value lt ∙ ap (λ k. slice_index_or s.blocks k None) e)
 
 pub returns-clause-state : goal.returns-clause-state
 returns-clause-state c =
     let s = state_in c.self.inside in
     let inv = c.self.invariant in
     let m = is_idle s c.args.part (subst (λ v. (mark_named v.state c.args.part ≡ Some Killed) ⊎ (mark_named v.state c.args.part ≡ Some Kept)) (sym c.self.view_is) c.requires) in
-    let e : c.unwrap-n.result ≡ number_in s c.args.part = some_same (sym c.unwrap-n.ensures ∙ c.number_of.ensures ∙ m.number) in
+    let e : c.unwrap-found.result.number ≡ number_in s c.args.part = some_same (sym (ap (option_map (λ p. p.number)) c.unwrap-found.ensures) ∙ c.find_part.ensures ∙ m.number) in
     rw (← c.self.view_is, c.set.ensures.marks, c.take.ensures.after, e) refl

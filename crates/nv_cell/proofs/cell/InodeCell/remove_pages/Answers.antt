@@ -9,7 +9,7 @@ use Rattle.nv_cell.specs.Removal.{ArePublished, MayGo, log_flags}
 use Rattle.nv_cell.proofs.Publishing.{total_take}
 use Rattle.nv_cell.proofs.Removing.{blocks_left, fewer, marks_count, marks_left, may_leave, names_left, none_gone, refs_left}
 use Rattle.nv_cell.proofs.PageFlags.{pages_fewer, pages_left}
-use Rattle.nv_log.proofs.Flags.{length-left_of}
+use Rattle.nv_log.proofs.Flags.{all_gone, all_left, length-left_of}
 use Rattle.std.proofs.lemmas.List.{length-take}
 use Rattle.nv_cell.proofs.cell.InodeCell.remove_pages.Goals as goal
 
@@ -28,6 +28,12 @@ close_pages-requires-clause-none c =
     let len : length stays ≡ length s.chain.ends = c.requires.flags ∙ sym (ap (λ v. length v.state.chain.ends) c.self.view_is) in
     let published = subst (λ v. ArePublished stays v.state.chain) (sym c.self.view_is) c.requires.published in
     none_gone (pages_left stays s.chain c.ends-ends.ensures.chain len published) inv.marks inv.blocks may
+
+pub unlink_pages-requires-clause-sized : goal.unlink_pages-requires-clause-sized
+unlink_pages-requires-clause-sized c =
+    let s = state_in c.self.inside in
+    let size = c.requires.size ∙ sym (ap (λ v. v.state.block) c.self.view_is) in
+    rw size (all_gone (λ b. length b.bytes ≡ s.block) c.args.stays.now s.chain.blocks c.self.invariant.pages)
 
 pub recount-requires-clause-marks : goal.recount-requires-clause-marks
 recount-requires-clause-marks c =
@@ -93,6 +99,7 @@ invariant_of-self c =
     let within : part_total (log chain) ≤ part_total chain.entries = total_take chain.entries chain.tail in
     record {
       some = inv.some;
+      pages = rw c.unlink_pages.ensures.state (all_left (λ b. length b.bytes ≡ s.block) stays s.chain.blocks inv.pages);
       marks = rw (c.unlink_pages.ensures.state, c.recount.ensures.marks, c.close_pages.ensures.marks)
           (let h = marks_left left inv.marks inv.blocks may in record { len = h.len; current = h.current });
       blocks = rw (c.unlink_pages.ensures.state, c.recount.ensures.marks, c.close_pages.ensures.marks, c.close_pages.ensures.blocks)

@@ -1,4 +1,5 @@
 use Rattle.std.proofs.Common.{◌≡◌, arith, refl, ap, sym, ◌∙◌, length}
+use Rattle.std.specs.Option.{option_map}
 use Rattle.nv_cell.specs.declared.mark.Mark.TheVariants.{Kept}
 use Rattle.nv_cell.specs.Cell.{mark_named, number_in}
 use Rattle.nv_cell.specs.Fields.{state_in}
@@ -6,8 +7,8 @@ use Rattle.nv_cell.proofs.Publishes.{first_base}
 use Rattle.nv_cell.proofs.Remarking.{blocks_stay, is_killed, length_set, marks_stay, some_same}
 use Rattle.nv_cell.proofs.cell.InodeCell.retire.Goals as goal
 
-pub number_of-requires-clause-ends : goal.number_of-requires-clause-ends
-number_of-requires-clause-ends c =
+pub find_part-requires-clause-ends : goal.find_part-requires-clause-ends
+find_part-requires-clause-ends c =
     let i = c.self.inside in
     first_base i.marks.ends.items i.chain.state.entries i.chain.state.tail c.self.invariant.ends
 
@@ -16,7 +17,7 @@ set-requires-clause-there c =
     let s = state_in c.self.inside in
     let inv = c.self.invariant in
     let m = is_killed s c.args.part (ap (λ v. mark_named v.state c.args.part) c.self.view_is ∙ c.requires) in
-    let e : c.unwrap-n.result ≡ number_in s c.args.part = some_same (sym c.unwrap-n.ensures ∙ c.number_of.ensures ∙ m.number) in
+    let e : c.unwrap-found.result.number ≡ number_in s c.args.part = some_same (sym (ap (option_map (λ p. p.number)) c.unwrap-found.ensures) ∙ c.find_part.ensures ∙ m.number) in
     rw e m.there
 
 pub invariant_of-self : goal.invariant_of-self
@@ -24,11 +25,12 @@ invariant_of-self c =
     let s = state_in c.self.inside in
     let inv = c.self.invariant in
     let m = is_killed s c.args.part (ap (λ v. mark_named v.state c.args.part) c.self.view_is ∙ c.requires) in
-    let e : c.unwrap-n.result ≡ number_in s c.args.part = some_same (sym c.unwrap-n.ensures ∙ c.number_of.ensures ∙ m.number) in
+    let e : c.unwrap-found.result.number ≡ number_in s c.args.part = some_same (sym (ap (option_map (λ p. p.number)) c.unwrap-found.ensures) ∙ c.find_part.ensures ∙ m.number) in
     let r = c.set.ensures.room in
-    let len = length_set s.marks c.unwrap-n.result Kept in
+    let len = length_set s.marks c.unwrap-found.result.number Kept in
     record {
       some = inv.some;
+      pages = inv.pages;
       marks = rw (c.set.ensures.marks, e) (marks_stay s (number_in s c.args.part) Kept inv.marks m.within m.idle refl);
       blocks = rw (c.set.ensures.marks, e) (blocks_stay s (number_in s c.args.part) Kept inv.blocks m.within m.there refl);
       refs = inv.refs;
@@ -52,5 +54,5 @@ returns-clause-state c =
     let s = state_in c.self.inside in
     let inv = c.self.invariant in
     let m = is_killed s c.args.part (ap (λ v. mark_named v.state c.args.part) c.self.view_is ∙ c.requires) in
-    let e : c.unwrap-n.result ≡ number_in s c.args.part = some_same (sym c.unwrap-n.ensures ∙ c.number_of.ensures ∙ m.number) in
+    let e : c.unwrap-found.result.number ≡ number_in s c.args.part = some_same (sym (ap (option_map (λ p. p.number)) c.unwrap-found.ensures) ∙ c.find_part.ensures ∙ m.number) in
     rw (← c.self.view_is, c.set.ensures.marks, e) refl

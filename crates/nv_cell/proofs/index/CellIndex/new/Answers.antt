@@ -1,6 +1,6 @@
-use Rattle.std.proofs.Common.{◌≡◌, ℕ, List, Option, Some, None, refl, ap, ◌∙◌}
+use Rattle.std.proofs.Common.{refl, ap}
 use Rattle.std.specs.Option.{option_map}
-use Rattle.nv_entry.specs.Keys.{Key, KindKey, ModeKey, SizeKey, NameKey, PageKey}
+use Rattle.nv_entry.specs.Keys.{KindKey, ModeKey, SizeKey, NameKey, PageKey}
 use Rattle.nv_findex.specs.Pages.{ref_at}
 use Rattle.nv_nindex.specs.NameIndex.{binding_of}
 use Rattle.nv_cell.specs.Index.{name_part, page_part}

@@ -1,31 +1,24 @@
-use Rattle.std.proofs.Common.{◌≡◌, length, ap, arith, refl, reverse, sym, ◌∙◌}
-use Rattle.std.proofs.lemmas.List.{length-reverse}
-use Rattle.nv_reader.specs.declared.levels.Level.{Level}
-use Rattle.nv_reader.specs.Levels.{visits_of}
-use Rattle.nv_reader.proofs.Pushed.{at_limit, gone_down, reverse_push}
+use Rattle.std.proofs.Common.{◌≡◌, ◌+◌, ◌++◌, ◌∷◌, [], List, ℕ, length, reverse, IsSome, arith, ap, subst, sym, ◌∙◌}
+use Rattle.nv_entry.specs.declared.names.BoundName.{BoundName}
+use Rattle.nv_reader.specs.Walk.{Visit, next_handle}
+use Rattle.nv_reader.specs.Ways.{visits_of}
+use Rattle.nv_reader.proofs.Entered.{entered_from}
 use Rattle.nv_reader.proofs.walk.Walk.descend.Goals as goal
-
-pub returns-then-len-self-clause-ok : goal.returns-then-len-self-clause-ok
-returns-then-len-self-clause-ok c =
-    let levels = c.self.inside.levels in
-    let len : length (reverse levels.items) ≡ c.self.inside.depth =
-    omega (arith, length-reverse levels.items, levels.ok, c.if-len-self.true, c.len.ensures) in
-    rw (← c.self.view_is) at c.pass.ensures
-    ∙ sym (rw (← c.self.view_is) (at_limit c.self.inside.depth (reverse levels.items) c.args.names.now (omega (arith, len)) c.self.invariant.0))
 
 pub returns-clause-ok : goal.returns-clause-ok
 returns-clause-ok c =
-    let depth = c.self.inside.depth in
-    let levels = c.self.inside.levels in
-    let taken = c.take_step-step.new.levels in
-    let level : Level = record { name = c.take_step-step.result.name; steps = c.in_ok-steps.steps } in
-    let same = c.in_ok-reserve.ensures.items in
-    let was : length (reverse levels.items) ≡ c.len.result = omega (arith, length-reverse levels.items, levels.ok, c.len.ensures) in
-    let left : length (reverse taken.items) ≡ length (reverse levels.items) =
-    omega (arith, length-reverse taken.items, taken.ok, c.take_step-step.ensures.len, c.in_ok-reserve.ensures.len, c.len.ensures, was) in
-    rw (← c.self.view_is) (c.leave_done.ensures.visits depth ∙ ap (λ ls. visits_of depth (reverse ls)) c.push_reserved.ensures.items
-    ∙ ap (visits_of depth) (reverse_push taken.items level)
-    ∙ gone_down depth (reverse levels.items) (reverse taken.items) level c.take_step-step.result c.args.names.now
-    (omega (arith, was, c.self.invariant.1, levels.ok, c.len.ensures, c.if-len-self.false))
-    (rw same at (c.take_step-step.ensures.visits depth)) (rw same at c.take_step-step.ensures.path)
-    left refl c.in_ok-steps.ensures)
+    let i = c.self.inside in
+    let first = c.in-Some.first in
+    let rest = c.pop.new.self.items in
+    let path : c.push_reserved.new.self.items ≡ i.way.path.items ++ first.name ∷ [] =
+    c.push_reserved.ensures.items ∙ ap (λ (xs : List (List ℕ)). xs ++ first.name ∷ []) c.in_ok-reserve.ensures.items in
+    let left : c.push_reserved-2.new.self.items ≡ i.way.left.items ++ rest ∷ [] =
+    c.push_reserved-2.ensures.items ∙ ap (λ (xs : List (List BoundName)). xs ++ c.from_vec.result ∷ []) c.in_ok-reserve-2.ensures.items
+    ∙ ap (λ (names : List BoundName). i.way.left.items ++ names ∷ []) c.from_vec.ensures in
+    let names : reverse c.args.names ≡ rest ++ first ∷ [] =
+    sym (c.reverse.ensures.items ∙ ap reverse c.into_vec-names.ensures) ∙ c.in-Some.ensures.items in
+    let some : IsSome (next_handle (visits_of i.depth i.next i.way.path.items i.way.left.items)) =
+    subst (λ (vs : List Visit). IsSome (next_handle vs)) (sym c.self.view_is) c.requires in
+    rw (← c.self.view_is, path, left)
+    (entered_from i.depth i.way.path.items i.way.left.items i.next first rest c.args.names some
+    c.self.invariant.within (λ (same : length i.way.path.items + 1 ≡ i.depth). omega (arith, same, c.if-len-self.false, c.len.ensures, i.way.path.ok)) names)

@@ -1,0 +1,26 @@
+-- The tails that a commit notes are of different inodes.
+use Rattle.std.proofs.Common.{◌≡◌, ℕ, ◌<◌, List, [], ◌∷◌, length, get_or, arith, ap, sym, ◌∙◌}
+use Rattle.std.specs.List.{AllPairs}
+use Rattle.std.proofs.lemmas.List.{get_or-map}
+use Rattle.std.proofs.Math.ListN.{length-map}
+use Rattle.nv_cell.specs.Cell.{CellValue}
+use Rattle.nv_journal.specs.Journal.{AreDistinct}
+use Rattle.nv_journal.specs.declared.old_tail.OldTail.{OldTail}
+use Rattle.nv_calls.specs.Cells.{no_cell}
+use Rattle.nv_calls.specs.Ready.{ArePlaced, CellPlanValue, no_plan, old_tail, old_tails}
+
+pub tails_differ : (cells : List (ℕ × CellValue)) (plans : List CellPlanValue) → AllPairs (λ a b. a.0 < b.0) cells → ArePlaced cells plans
+    → AreDistinct (old_tails cells plans)
+tails_differ cells [] rising placed i j d lt within e = absurd (omega (arith, within))
+tails_differ cells (p ∷ plans) rising placed i j d lt within e =
+    let all : List CellPlanValue = p ∷ plans in
+    let low : j < length all = omega (arith, within, length-map all (old_tail cells)) in
+    let a : CellPlanValue = get_or all i no_plan in
+    let b : CellPlanValue = get_or all j no_plan in
+    let ta : get_or (old_tails cells all) i d ≡ old_tail cells a = get_or-map (old_tail cells) all i no_plan d (omega (arith, lt, low)) in
+    let tb : get_or (old_tails cells all) j d ≡ old_tail cells b = get_or-map (old_tail cells) all j no_plan d low in
+    let apart : a.at < b.at = placed.rising i j no_plan lt low in
+    let less = rising a.at b.at no_cell apart (placed.within j low) in
+    let same : (old_tail cells a).ino ≡ (old_tail cells b).ino =
+    ap (λ (t : OldTail). t.ino) (sym ta) ∙ e ∙ ap (λ (t : OldTail). t.ino) tb in
+    absurd (omega (arith, less, same))

@@ -1,0 +1,95 @@
+//! A call that is ready to be committed.
+
+ghost use Rattle.std.specs.Prelude.{◌≡◌, ◌<◌, length};
+ghost use Rattle.nv_calls.specs.Ready.{plan_at};
+
+use crate::Update;
+use nv_alloc::Hand;
+use nv_base::Handle;
+use nv_cell::KilledPart;
+use nv_entry::Item;
+use std::alloc::Global;
+use std::marker::Model;
+
+/// What a call appends to the log of one of its cells, and the parts that the publish of it killed.
+#[derive(Debug, Drop)]
+pub struct CellPlan {
+    // The place of the cell among the call's cells.
+    pub(crate) at: usize,
+    pub(crate) items: Vec<Item>,
+    pub(crate) killed: Vec<KilledPart>,
+}
+
+impl Model for CellPlan {
+    ghost use Rattle.nv_calls.specs.Ready.{CellPlanValue};
+
+    ghost Value = { CellPlanValue };
+
+    ghost view = { λ p. record { at = p.at; items = p.items.items; killed = p.killed.items } };
+}
+
+/// A call that is ready to be committed: every growth is made, and it holds all blocks that it needs. It is no `Drop`,
+/// since it owns these blocks: a commit hands out what is left of them, or [`Ready::into_hand`] all.
+pub struct Ready {
+    pub(crate) alloc: Global,
+    pub(crate) update: Update,
+    pub(crate) made: Option<Handle>,
+    // By rising place of the cells.
+    pub(crate) plans: Vec<CellPlan>,
+    // How many entries are appended.
+    pub(crate) place: u32,
+    pub(crate) hand: Hand,
+}
+
+impl Model for Ready {
+    ghost use Rattle.nv_calls.specs.Ready.{ReadyValue};
+
+    ghost Value = { ReadyValue };
+
+    ghost view = { λ r. record {
+      update = r.update;
+      made = r.made;
+      plans = r.plans.items;
+      place = r.place;
+      hand = r.hand;
+    } };
+}
+
+impl Ready {
+    /// The hand of a call that is given up before its commit. Takes no memory.
+    pub fn into_hand(self) -> Hand
+        ensures { result ≡ self.hand }
+    {
+        let Ready {
+            alloc: _,
+            update: _,
+            made: _,
+            plans: _,
+            place: _,
+            hand,
+        } = self;
+        hand
+    }
+
+    /// The call.
+    pub fn update(&self) -> &Update
+        ensures { result.now ≡ self.now.update }
+    {
+        &self.update
+    }
+
+    /// How many cells get entries.
+    pub fn cells(&self) -> usize
+        ensures { result ≡ length self.now.plans }
+    {
+        self.plans.len()
+    }
+
+    /// The place of a cell that gets entries among the call's cells.
+    pub fn place_of(&self, j: usize) -> usize
+        requires { j < length self.now.plans }
+        ensures { result ≡ (plan_at self.now.plans j).at }
+    {
+        self.plans[j].at
+    }
+}
