@@ -18,7 +18,7 @@ use Rattle.nv_calls.specs.declared.answer.Answer.{Answer}
 use Rattle.nv_calls.specs.declared.call.Call.{Call}
 use Rattle.nv_calls.specs.declared.call.Call.TheVariants as call
 use Rattle.nv_core.specs.machine.Bound.{Falls, bound, most_steps, rank, round}
-use Rattle.nv_core.specs.machine.Kinds.{again_turn, back_turn, blocks_in, blocks_turn, check_turn, end_turn, enter_turn, erase_turn, given, grown, lock_turn, look_turn, number_turn, over_turn, pages_turn, rest_turn, unlocked_turn, visit_turn, wants_blocks, wants_pages}
+use Rattle.nv_core.specs.machine.Kinds.{again_turn, back_turn, blocks_in, blocks_turn, check_turn, end_turn, enter_turn, given, grown, lock_turn, look_turn, number_turn, over_turn, pages_turn, rest_turn, unlocked_turn, visit_turn, wants_blocks, wants_pages}
 use Rattle.nv_core.specs.machine.Reads.{home_from, if_number, is_written, slots_in, slots_of, with_slot, written_slots}
 use Rattle.nv_core.specs.machine.Sequence.{Beginning, Locks, Looks, Numbers, Visits, begun, closing, directories, locking, nothing_looked, opening, publishing, retiring}
 use Rattle.nv_core.specs.machine.Step.{ending_at, kind_turn, with_made}
@@ -261,19 +261,6 @@ enter_falls c None true granted actor s h r = end_falls c _ r.slots _ s h r (ome
 enter_falls c None false granted actor s h r = grown_falls c _ granted _ s h r (omega arith)
     (omega (arith, append_from c (length r.slots) 0 (written_slots r) (nat_lt 0 (length (written_slots r)))))
 
-retired_falls : (c : ℕ) (erases : Bool) (ino place : ℕ) (s : Shared) (h : HandState) (r : Running)
-    → Falls c (r.rounds * round c + (5 + c + length r.slots + (length r.slots - place))) (erase_turn erases ino place s h r)
-retired_falls c false ino place s h r = omega (
-  arith,
-  retire_next c place (length r.slots) (length (written_slots r)) (nat_lt (place + 1) (length (written_slots r))) refl
-      (written-length r),
-)
-retired_falls c true ino place s h r = omega (
-  arith,
-  retire_next c place (length r.slots) (length (written_slots r)) (nat_lt (place + 1) (length (written_slots r))) refl
-      (written-length r),
-)
-
 unlock_falls : (c : ℕ) (more : Bool) (place : ℕ) (s : Shared) (h : HandState) (r : Running) → nat_lt (place + 1) (length r.slots) ≡ more
     → Falls c (r.rounds * round c + (3 + c + (length r.slots - place))) (unlocked_turn more place s h r)
 unlock_falls c true place s h r e = omega (arith, ltb-true (place + 1) (length r.slots) e)
@@ -322,7 +309,12 @@ falls (Publish place) block actor granted s h r =
     )
 falls Close block actor granted s h r =
     omega (arith, retire_from (length s.lists) (length r.slots) 0 (nat_lt 0 (length (written_slots r))))
-falls (Retire place) block actor granted s h r = retired_falls (length s.lists) _ _ place _ _ r
+falls (Retire place) block actor granted s h r =
+    omega (
+      arith,
+      retire_next (length s.lists) place (length r.slots) (length (written_slots r)) (nat_lt (place + 1) (length (written_slots r)))
+          refl (written-length r),
+    )
 falls Leave block actor granted s h r = end_falls (length s.lists) _ r.slots _ _ h r (omega arith)
 falls (Unlock place) block actor granted s h r = unlock_falls (length s.lists) _ place _ h r refl
 falls (Give cpu) block actor granted s h r = give_falls cpu s _ (given cpu s h) r

@@ -1,5 +1,5 @@
 -- A step leaves what it is not lent.
-use Rattle.std.proofs.Common.{ℕ, zero, suc, ◌∙◌, Bool, true, false, List, [], ◌∷◌, length, Option, Some, None, ap, refl, sym, get_or-set_other, length-set}
+use Rattle.std.proofs.Common.{ℕ, zero, suc, Bool, true, false, List, [], ◌∷◌, length, Option, Some, None, ap, refl, sym, get_or-set_other, length-set}
 use Rattle.std.specs.Prelude.{Ok, Err}
 use Rattle.nv_calls.specs.declared.looked.Looked.{Looked}
 use Rattle.nv_alloc.specs.FreeList.{FreeBlocks}
@@ -8,8 +8,8 @@ use Rattle.nv_calls.specs.Refusals.{Check as Tests}
 use Rattle.nv_calls.specs.declared.answer.Answer.{Answer}
 use Rattle.nv_cell.specs.Cell.{CellState}
 use Rattle.nv_core.specs.machine.Frame.{Frame, IsFramed, Lent, Stays, lent, nothing_lent}
-use Rattle.nv_core.specs.machine.Kinds.{Retiring, again_turn, back_turn, blocks_turn, check_turn, end_turn, enter_turn, erase_turn, grown, lock_turn, look_turn, number_turn, over_turn, pages_turn, rest_turn, retired_by, unlocked_turn, visit_turn, wants_blocks, wants_pages}
-use Rattle.nv_core.specs.machine.Reads.{slot_at, written_slots}
+use Rattle.nv_core.specs.machine.Kinds.{again_turn, back_turn, blocks_turn, check_turn, end_turn, enter_turn, grown, lock_turn, look_turn, number_turn, over_turn, pages_turn, rest_turn, unlocked_turn, visit_turn, wants_blocks, wants_pages}
+use Rattle.nv_core.specs.machine.Reads.{slot_at}
 use Rattle.nv_core.specs.machine.Step.{ending_at, kind_turn, with_made}
 use Rattle.nv_core.specs.machine.World.{Answers, Append, Back, Check, Close, Ending, Enter, Give, HandState, Leave, Lock, Look, Next, Number, Open, Overtaken, Publish, Ready, Refuses, Retire, Running, Shared, TakeBlocks, TakePages, Turn, Unlock, Visit, no_cell, no_list, with_book, with_cell, with_list, with_owner}
 
@@ -97,7 +97,7 @@ leave_frame s = record {
   locks = refl;
 }
 
--- a cell and the book, and the cell once more
+-- a cell and the book
 retired_frame : (ino : ℕ) (book : BookState) (cell : CellState) (s : Shared)
     → Frame (record nothing_lent { book = true; cell = Some ino }) s (with_cell ino cell (with_book book s))
 retired_frame ino book cell s = record {
@@ -109,21 +109,6 @@ retired_frame ino book cell s = record {
   holder = refl;
   cpus = refl;
   slots = length-set s.cells ino cell;
-  locks = refl;
-}
-
-erased_frame : (ino : ℕ) (book : BookState) (cell empty : CellState) (s : Shared)
-    → Frame (record nothing_lent { book = true; cell = Some ino }) s (with_cell ino empty (with_cell ino cell (with_book book s)))
-erased_frame ino book cell empty s = record {
-  lists = λ cpu h. refl;
-  pool = refl;
-  cells = λ n h. get_or-set_other (with_cell ino cell s).cells ino n empty no_cell (λ e. h (ap Some (sym e)))
-      ∙ get_or-set_other s.cells ino n cell no_cell (λ e. h (ap Some (sym e)));
-  owners = λ n h. refl;
-  book = tt;
-  holder = refl;
-  cpus = refl;
-  slots = length-set (with_cell ino cell s).cells ino empty ∙ length-set s.cells ino cell;
   locks = refl;
 }
 
@@ -223,12 +208,6 @@ enter_framed None false granted actor s h r = grown_framed _ s s granted _ h r (
   locks = refl;
 })
 
-erase_framed : (erases : Bool) (all : Retiring) (ino place : ℕ) (s : Shared) (h : HandState) (r : Running)
-    → IsFramed (record nothing_lent { book = true; cell = Some ino }) s
-    (erase_turn erases ino place (with_cell ino all.cell (with_book all.book s)) h r)
-erase_framed false all ino place s h r = retired_frame ino all.book all.cell s
-erase_framed true all ino place s h r = erased_frame ino all.book all.cell _ s
-
 unlock_framed : (l : Lent) (more : Bool) (place : ℕ) (s t : Shared) (h : HandState) (r : Running) → Frame l s t
     → IsFramed l s (unlocked_turn more place t h r)
 unlock_framed l true place s t h r f = f
@@ -269,7 +248,7 @@ framed (Append place) block actor granted s h r = cell_frame _ _ s
 framed Open block actor granted s h r = book_frame _ s
 framed (Publish place) block actor granted s h r = cell_frame _ _ s
 framed Close block actor granted s h r = book_frame _ s
-framed (Retire place) block actor granted s h r = erase_framed _ (retired_by (slot_at (written_slots r) place) s h r) _ place s _ r
+framed (Retire place) block actor granted s h r = retired_frame _ _ _ s
 framed Leave block actor granted s h r = end_framed _ s (record s { holder = None }) r.slots _ h r (leave_frame s)
 framed (Unlock place) block actor granted s h r = unlock_framed _ _ place s _ h r (lock_frame _ _ s)
 framed (Give cpu) block actor granted s h r = rest_framed _ s _ _ h.ino _ r (list_frame cpu _ s)

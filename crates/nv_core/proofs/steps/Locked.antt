@@ -7,7 +7,7 @@ use Rattle.nv_alloc.specs.Numbers.{has}
 use Rattle.nv_calls.specs.Refusals.{Check as Tests}
 use Rattle.nv_calls.specs.declared.answer.Answer.{Answer}
 use Rattle.nv_core.specs.machine.Frame.{lent}
-use Rattle.nv_core.specs.machine.Kinds.{Retiring, again_turn, back_turn, blocks_turn, check_turn, end_turn, enter_turn, erase_turn, grown, lock_turn, look_turn, number_turn, over_turn, pages_turn, rest_turn, retired_by, unlocked_turn, visit_turn, wants_blocks, wants_pages}
+use Rattle.nv_core.specs.machine.Kinds.{again_turn, back_turn, blocks_turn, check_turn, end_turn, enter_turn, grown, lock_turn, look_turn, number_turn, over_turn, pages_turn, rest_turn, unlocked_turn, visit_turn, wants_blocks, wants_pages}
 use Rattle.nv_core.specs.machine.Locks.{AreSlots, HoldsIts, IsHeldByOther, IsInside, WaitsFor, commits_at, held_at, is_owner}
 use Rattle.nv_calls.specs.declared.looked.Looked.{Looked}
 use Rattle.nv_core.specs.machine.Reads.{is_written, slot_at, slots_of, written_slots}
@@ -347,15 +347,6 @@ enter_locks a None false granted s h r e b = grown_locks a s s _ granted _ h r (
       (record { owners = b.mine.owners; holder = self a }) b.are,
 )
 
-retired_locks : (a : ℕ) (erases : Bool) (all : Retiring) (ino place : ℕ) (s t : Shared) (h : HandState) (r : Running)
-    → LocksLeft a s t → Holds t a r.slots true → AreSlots (length t.owners) r.slots
-    → OnLocks a s ⊥ (erase_turn erases ino place t h r)
-retired_locks a false all ino place s t h r left mine are = (left, retiring_holds t a (place + 1) r mine are)
-retired_locks a true all ino place s t h r left mine are = (
-  record { owners = left.owners; holder = left.holder; wide = left.wide },
-  retiring_holds _ a (place + 1) r (record { owners = mine.owners; holder = mine.holder }) are,
-)
-
 unlock_locks : (a : ℕ) (more : Bool) (place : ℕ) (s t : Shared) (h : HandState) (r : Running)
     → nat_lt (place + 1) (length r.slots) ≡ more → LocksLeft a s t → Holds t a (drop (place + 1) r.slots) false
     → AreSlots (length t.owners) r.slots → OnLocks a s ⊥ (unlocked_turn more place t h r)
@@ -418,8 +409,7 @@ locks_kept (Publish place) block a granted s h r b =
 locks_kept Close block a granted s h r
     b = (as_before a s _ refl refl, retiring_holds _ a 0 r (record { owners = b.mine.owners; holder = b.mine.holder }) b.are)
 locks_kept (Retire place) block a granted s h r b =
-    retired_locks a _ (retired_by (slot_at (written_slots r) place) s h r) _ place s _ _ r (as_before a s _ refl refl)
-    (record { owners = b.mine.owners; holder = b.mine.holder }) b.are
+    (as_before a s _ refl refl, retiring_holds _ a (place + 1) r (record { owners = b.mine.owners; holder = b.mine.holder }) b.are)
 locks_kept Leave block a granted s h r b =
     end_locks a s _ _ r.slots _ h r refl (left_left a s b.mine.holder) (record { owners = b.mine.owners; holder = refl }) b.are
 locks_kept (Unlock place) block a granted s h r b =

@@ -6,21 +6,17 @@ use Rattle.std.proofs.lemmas.List.{set_past}
 use Rattle.std.specs.List.{AllByRecursion}
 use Rattle.nv_alloc.specs.Block.{BlockValue}
 use Rattle.nv_alloc.specs.Numbers.{IsRising, has}
-use Rattle.nv_book.specs.Book.{BookState, retired_as}
-use Rattle.nv_book.specs.Records.{holder_of}
-use Rattle.nv_book.specs.declared.record.Record.{Record}
-use Rattle.nv_book.specs.declared.retired.Retired.{Retired}
-use Rattle.nv_book.specs.declared.retired.Retired.TheVariants.{Kept, Free}
+use Rattle.nv_book.specs.Book.{BookState}
+use Rattle.nv_calls.specs.Retiring.{erased, is_erased, keeper_of, retired, retired_one, settled}
 use Rattle.nv_calls.proofs.Places.{log_rises}
 use Rattle.nv_calls.specs.Slots.{IsBefore, entries_of, items_for, place_in}
-use Rattle.nv_cell.specs.Cell.{CellState, published}
+use Rattle.nv_cell.specs.Cell.{CellState, empty_cell, number_in, published}
 use Rattle.nv_cell.specs.declared.killed.KilledPart.{KilledPart}
 use Rattle.nv_entry.specs.declared.item.Entry.{Entry}
 use Rattle.nv_entry.specs.declared.item.Item.{Item}
-use Rattle.nv_entry.specs.declared.part.PartId.{PartId}
 use Rattle.nv_epoch.specs.SnapList.{ids}
 use Rattle.nv_core.specs.machine.Frame.{IsFramed, Lent}
-use Rattle.nv_core.specs.machine.Kinds.{Retiring, again_turn, append_turn, asked_list, end_turn, enter_turn, entries_for, erase_turn, first_killed, over_turn, publish_turn, record_of, rest_turn, retire_all, retire_one, retire_turn, retired_by, with_entries, with_pages}
+use Rattle.nv_core.specs.machine.Kinds.{again_turn, append_turn, asked_list, end_turn, enter_turn, entries_for, first_killed, over_turn, publish_turn, rest_turn, retire_turn, retired_book, retired_cell, with_entries, with_pages}
 use Rattle.nv_core.specs.machine.Locks.{HoldsIts, commits_at, is_owner}
 use Rattle.nv_core.specs.machine.Order.{AreLogsOrdered, CommitsIn, entries_at, to_append}
 use Rattle.nv_core.specs.machine.Reads.{is_written, slot_at, written_slots}
@@ -77,25 +73,25 @@ entries_more (e ∷ entries) blocks cell = entries_more entries _ _ ∙ append_a
 
 -- ---- what a retire leaves
 
-retire_one_keeps : (kept : Retired) (killed : Record) (part : PartId) (all : Retiring)
-    → ((retire_one kept killed part all).book.commit ≡ all.book.commit) ×
-    ((retire_one kept killed part all).book.snaps.epoch ≡ all.book.snaps.epoch)
-    × ((retire_one kept killed part all).cell.chain.entries ≡ all.cell.chain.entries)
-retire_one_keeps Kept killed part all = (refl, refl, refl)
-retire_one_keeps Free killed part all = (refl, refl, refl)
+settled_keeps : (keeper : Option ℕ) (n : ℕ) (cell : CellState) → (settled keeper n cell).chain.entries ≡ cell.chain.entries
+settled_keeps None n cell = refl
+settled_keeps (Some s) n cell = refl
 
-retire_keeps : (ino death : ℕ) (parts : List KilledPart) (all : Retiring)
-    → ((retire_all ino death parts all).book.commit ≡ all.book.commit) ×
-    ((retire_all ino death parts all).book.snaps.epoch ≡ all.book.snaps.epoch)
-    × ((retire_all ino death parts all).cell.chain.entries ≡ all.cell.chain.entries)
-retire_keeps ino death [] all = (refl, refl, refl)
-retire_keeps ino death (killed ∷ rest) all =
-    let one = retire_one_keeps (retired_as (holder_of (ids all.book.snaps) (record_of ino death killed)))
-    (record_of ino death killed) killed.part all in
-    let more = retire_keeps ino death rest
-    (retire_one (retired_as (holder_of (ids all.book.snaps) (record_of ino death killed))) (record_of ino death killed)
-    killed.part all) in
-    (more.0 ∙ one.0, more.1 ∙ one.1, more.2 ∙ one.2)
+retired_keeps : (living : List ℕ) (ino epoch : ℕ) (parts : List KilledPart) (cell : CellState)
+    → (retired living ino epoch parts cell).chain.entries ≡ cell.chain.entries
+retired_keeps living ino epoch [] cell = refl
+retired_keeps living ino epoch (killed ∷ later) cell =
+    retired_keeps living ino epoch later (retired_one living ino epoch killed cell)
+    ∙ settled_keeps (keeper_of living ino epoch killed) (number_in cell killed.part) cell
+
+-- an erased cell has no entries
+erased_log : (commit epoch : ℕ) (cell : CellState) → IsBefore commit epoch cell.chain.entries
+    → IsBefore commit epoch (erased cell).chain.entries
+erased_log commit epoch cell h = go (is_erased cell) where
+  go : (b : Bool) → IsBefore commit epoch
+      (if b then empty_cell cell.block cell.chain.page (cell.generation + 1) cell.version else cell).chain.entries
+  go true = record { ordered = tt; earlier = tt }
+  go false = h
 
 -- ---- what a turn leaves of the order
 
@@ -323,33 +319,22 @@ publish_order a place s h r own logs = (
       (none_publishing (place + 1) (written_slots r) (nat_lt (place + 1) (length (written_slots r)))),
 )
 
-erase_order : (a : ℕ) (erases : Bool) (all : Retiring) (place slot : ℕ) (s : Shared) (h : HandState) (r : Running)
-    → EnteredAt s (Retire place) r
-    → KeepsNumber s (with_cell slot all.cell (with_book all.book s)) → AreLogsOrdered (with_cell slot all.cell (with_book all.book s))
-    → OnOrder a s (erase_turn erases slot place (with_cell slot all.cell (with_book all.book s)) h r)
-erase_order a false all place slot s h r own kept logs = (
-  record { logs = logs; others = λ o ne e. kept },
-  entered_on s _ (Retire place) (retiring (place + 1) (written_slots r)) r own kept
-      (none_retiring (place + 1) (written_slots r) (nat_lt (place + 1) (length (written_slots r)))),
-)
-erase_order a true all place slot s h r own kept logs = (
-  record {
-    logs = changed_cell (with_cell slot all.cell (with_book all.book s)) slot _ logs (record { ordered = tt; earlier = tt });
-    others = λ o ne e. record { commit = kept.commit; epoch = kept.epoch };
-  },
-  entered_on s _ (Retire place) (retiring (place + 1) (written_slots r)) r own (record { commit = kept.commit; epoch = kept.epoch })
-      (none_retiring (place + 1) (written_slots r) (nat_lt (place + 1) (length (written_slots r)))),
-)
-
-retire_order : (a place : ℕ) (s : Shared) (h : HandState) (r : Running) → EnteredAt s (Retire place) r → AreLogsOrdered s
-    → OnOrder a s (retire_turn (slot_at (written_slots r) place) place s h r)
-retire_order a place s h r own logs =
+retire_order : (a place : ℕ) (killed : List KilledPart) (s : Shared) (h : HandState) (r : Running)
+    → EnteredAt s (Retire place) r → AreLogsOrdered s
+    → OnOrder a s (retire_turn (slot_at (written_slots r) place) killed place s h r)
+retire_order a place killed s h r own logs =
     let slot = slot_at (written_slots r) place in
-    let all = retired_by slot s h r in
-    let keeps = retire_keeps slot r.epoch (first_killed h.killed) (record { book = s.book; cell = cell_at s slot; freed = [] }) in
-    erase_order a _ all place slot s _ r own (record { commit = keeps.0; epoch = keeps.1 })
-    (changed_logs s slot all.book all.cell logs keeps.0 keeps.1
-    (subst (λ (l : List Entry). IsBefore (s.book.commit + 1) s.book.snaps.epoch l) (sym keeps.2) (logs slot)))
+    let cell = retired_cell slot killed s r in
+    let keeps = retired_keeps (ids s.book.snaps) slot r.epoch killed (cell_at s slot) in (
+      record {
+        logs = changed_logs s slot (retired_book slot killed s r) (erased cell) logs refl refl
+            (erased_log (s.book.commit + 1) s.book.snaps.epoch cell
+            (subst (λ (l : List Entry). IsBefore (s.book.commit + 1) s.book.snaps.epoch l) (sym keeps) (logs slot)));
+        others = λ o ne e. record { commit = refl; epoch = refl };
+      },
+      entered_on s _ (Retire place) (retiring (place + 1) (written_slots r)) r own (record { commit = refl; epoch = refl })
+          (none_retiring (place + 1) (written_slots r) (nat_lt (place + 1) (length (written_slots r)))),
+    )
 
 -- the commit lock is nobody's before an enter that goes on
 not_held : (a : ℕ) (s : Shared) → s.holder ≡ None → is_owner a s.holder ≡ false
@@ -411,7 +396,7 @@ order_kept Close block a granted s h r b own logs = (
   entered_on s _ Close (retiring 0 (written_slots r)) r (own refl) (record { commit = refl; epoch = refl })
       (none_retiring 0 (written_slots r) (nat_lt 0 (length (written_slots r)))),
 )
-order_kept (Retire place) block a granted s h r b own logs = retire_order a place s h r (own refl) logs
+order_kept (Retire place) block a granted s h r b own logs = retire_order a place (first_killed h.killed) s h r (own refl) logs
 order_kept Leave block a granted s h r b own logs =
     left_order a s (record s { holder = None }) _ _
     (record { logs = logs; others = λ o ne e. record { commit = refl; epoch = refl } }) refl (end_shared r.slots _ _ h r)

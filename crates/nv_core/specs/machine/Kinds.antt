@@ -1,5 +1,5 @@
 -- The steps, one function a kind. What decides a step is an argument.
-use Rattle.std.specs.Prelude.{ℕ, zero, suc, ◌+◌, ◌-◌, ◌%◌, ◌&&◌, Bool, true, false, nat_lt, List, [], ◌∷◌, ◌++◌, drop, length, map, take, Option, Some, None, Result, Ok, Err, slice_index_or}
+use Rattle.std.specs.Prelude.{ℕ, zero, suc, ◌+◌, ◌-◌, ◌%◌, Bool, true, false, if◌then◌else◌, nat_lt, List, [], ◌∷◌, ◌++◌, drop, length, map, take, Option, Some, None, Result, Ok, Err}
 use Rattle.std.specs.List.{flat_map}
 use Rattle.nv_calls.specs.declared.looked.Looked.{Looked}
 use Rattle.nv_alloc.specs.Block.{BlockValue}
@@ -7,27 +7,20 @@ use Rattle.nv_alloc.specs.Giving.{after_giving, kept_of}
 use Rattle.nv_alloc.specs.Numbers.{put_by}
 use Rattle.nv_base.specs.declared.fault.Fault.{Fault}
 use Rattle.nv_base.specs.declared.fault.Fault.TheVariants.{CommitLimit, Contended, NoInode, NoSpace, OutOfMemory}
-use Rattle.nv_base.specs.declared.limits.TheConstants.{NUMBER}
 use Rattle.nv_base.specs.declared.numbers.Handle.{Handle}
-use Rattle.nv_book.specs.Book.{BookState, after_enter, after_retire, retired_as, with_journal}
-use Rattle.nv_book.specs.Records.{holder_of}
-use Rattle.nv_book.specs.declared.record.Record.{Record}
-use Rattle.nv_book.specs.declared.retired.Retired.{Retired}
-use Rattle.nv_book.specs.declared.retired.Retired.TheVariants.{Kept, Free}
+use Rattle.nv_book.specs.Book.{BookState, after_enter, with_journal}
 use Rattle.nv_calls.specs.AllCalls.{answer}
 use Rattle.nv_calls.specs.Plain.{Change}
 use Rattle.nv_calls.specs.Refusals.{Check as Tests}
+use Rattle.nv_calls.specs.Retiring.{erased, freed_by, is_erased, number_back, retired, with_records}
 use Rattle.nv_calls.specs.Slots.{entries_of, items_for, place_in}
 use Rattle.nv_calls.specs.declared.answer.Answer.{Answer}
 use Rattle.nv_entry.specs.Blocks.{item_blocks}
 use Rattle.nv_cell.specs.Append.{appended, blocks_for}
-use Rattle.nv_cell.specs.Cell.{CellState, empty_cell, killed_of, log_of, number_in, published, with_mark, without_part}
+use Rattle.nv_cell.specs.Cell.{CellState, killed_of, published}
 use Rattle.nv_cell.specs.Numbers.{killed_part}
-use Rattle.nv_cell.specs.Readers.{is_gone, keeps_nothing}
 use Rattle.nv_cell.specs.declared.killed.KilledPart.{KilledPart}
-use Rattle.nv_cell.specs.declared.mark.Mark.TheVariants as mark
 use Rattle.nv_entry.specs.declared.item.Entry.{Entry}
-use Rattle.nv_entry.specs.declared.part.PartId.{PartId}
 use Rattle.nv_epoch.specs.SnapList.{ids}
 use Rattle.nv_journal.specs.declared.old_tail.OldTail.{OldTail}
 use Rattle.nv_log.specs.Chain.{with_page}
@@ -240,73 +233,34 @@ publish_turn ino place s h r =
 
 -- ---- retire: the killed parts of one inode, in order
 
--- the book and the cell, and the blocks of parts that no living snapshot holds
-pub record Retiring : Type 0 where
-  pub book : BookState
-  pub cell : CellState
-  pub freed : List BlockValue
-
-abbrev pub record_of : ℕ → ℕ → KilledPart → Record
-record_of ino death killed = record { ino = ino; entry = killed.part.entry; part = killed.part.part; birth = killed.birth; death = death }
-
-abbrev pub if_block : Option BlockValue → List BlockValue
-if_block None = []
-if_block (Some b) = b ∷ []
-
-abbrev pub retire_one : Retired → Record → PartId → Retiring → Retiring
-retire_one Kept killed part all = record all {
-  book = after_retire killed all.book;
-  cell = with_mark all.cell (number_in all.cell part) mark.Kept;
-}
-retire_one Free killed part all = record {
-  book = after_retire killed all.book;
-  cell = without_part all.cell (number_in all.cell part);
-  freed = all.freed ++ if_block (slice_index_or all.cell.blocks (number_in all.cell part) None);
-}
-
-abbrev pub retire_next : ℕ → ℕ → KilledPart → Retiring → Retiring
-retire_next ino death killed all =
-    retire_one (retired_as (holder_of (ids all.book.snaps) (record_of ino death killed))) (record_of ino death killed) killed.part all
-
-abbrev pub retire_all : ℕ → ℕ → List KilledPart → Retiring → Retiring
-retire_all ino death [] all = all
-retire_all ino death (killed ∷ rest) all = retire_all ino death rest (retire_next ino death killed all)
-
 -- what was killed first
 abbrev pub first_killed : List (List KilledPart) → List KilledPart
 first_killed [] = []
 first_killed (parts ∷ rest) = parts
 
--- a gone inode that keeps nothing is erased: its chain goes to the hand, and its number too, unless its slot's next
--- generation is the last
-abbrev pub number_left : Bool → ℕ → Option ℕ → Option ℕ
-number_left true ino number = Some ino
-number_left false ino number = number
+-- what a living snapshot holds is kept and recorded, and the rest goes out
+abbrev pub retired_cell : ℕ → List KilledPart → Shared → Running → CellState
+retired_cell ino killed s r = retired (ids s.book.snaps) ino r.epoch killed (cell_at s ino)
 
-abbrev pub erased : CellState → CellState
-erased cell = empty_cell cell.block cell.chain.page (cell.generation + 1) cell.version
+abbrev pub retired_book : ℕ → List KilledPart → Shared → Running → BookState
+retired_book ino killed s r = record s.book { manifests = with_records (ids s.book.snaps) ino r.epoch killed s.book.manifests }
 
-abbrev pub with_erased : ℕ → CellState → HandState → HandState
-with_erased ino cell h = record h {
-  chain = h.chain ++ cell.chain.blocks;
-  ino = number_left (nat_lt (cell.generation + 1) NUMBER) ino h.ino;
+-- the blocks that this sets free go to the hand; a gone inode that keeps nothing is erased, and its chain goes there too, with
+-- its number, unless its slot's next generation is the last
+abbrev pub with_freed : ℕ → List KilledPart → Shared → Running → HandState → HandState
+with_freed ino killed s r h = record h {
+  blocks = h.blocks ++ freed_by (ids s.book.snaps) ino r.epoch killed (cell_at s ino);
+  killed = drop 1 h.killed;
 }
 
-abbrev pub erase_turn : Bool → ℕ → ℕ → Shared → HandState → Running → Turn
-erase_turn false ino place s h r = go_on (Retire place) s h r
-erase_turn true ino place s h r = go_on (Retire place) (with_cell ino (erased (cell_at s ino)) s) (with_erased ino (cell_at s ino) h) r
+abbrev pub with_erased : ℕ → CellState → HandState → HandState
+with_erased ino cell h =
+    if is_erased cell then record h { chain = h.chain ++ cell.chain.blocks; ino = number_back ino cell h.ino } else h
 
-abbrev pub retired_turn : Retiring → ℕ → ℕ → Shared → HandState → Running → Turn
-retired_turn all ino place s h r =
-    erase_turn (is_gone (log_of all.cell) && keeps_nothing all.cell) ino place (with_cell ino all.cell (with_book all.book s))
-    (record h { blocks = h.blocks ++ all.freed; killed = drop 1 h.killed }) r
-
--- the first of the killed parts in the hand, retired
-abbrev pub retired_by : ℕ → Shared → HandState → Running → Retiring
-retired_by ino s h r = retire_all ino r.epoch (first_killed h.killed) (record { book = s.book; cell = cell_at s ino; freed = [] })
-
-abbrev pub retire_turn : ℕ → ℕ → Shared → HandState → Running → Turn
-retire_turn ino place s h r = retired_turn (retired_by ino s h r) ino place s h r
+abbrev pub retire_turn : ℕ → List KilledPart → ℕ → Shared → HandState → Running → Turn
+retire_turn ino killed place s h r =
+    go_on (Retire place) (with_cell ino (erased (retired_cell ino killed s r)) (with_book (retired_book ino killed s r) s))
+    (with_erased ino (retired_cell ino killed s r) (with_freed ino killed s r h)) r
 
 -- ---- leave
 

@@ -12,10 +12,10 @@ use Rattle.nv_calls.specs.declared.answer.Answer.{Answer}
 use Rattle.nv_calls.specs.declared.call.Call.{Call}
 use Rattle.nv_calls.specs.declared.call.Call.TheVariants as call
 use Rattle.nv_entry.specs.Tree.{root}
-use Rattle.nv_core.specs.machine.Kinds.{append_turn, asked_list, back_turn, check_ending, check_turn, close_turn, enter_turn, give_turn, leave_turn, lock_turn, look_tests, look_turn, number_turn, open_turn, publish_turn, ready_turn, retire_turn, seen_at, take_blocks_turn, take_pages_turn, unlock_turn, visit_turn}
+use Rattle.nv_core.specs.machine.Kinds.{append_turn, asked_list, back_turn, check_ending, check_turn, close_turn, enter_turn, first_killed, give_turn, leave_turn, lock_turn, look_tests, look_turn, number_turn, open_turn, publish_turn, ready_turn, retire_turn, seen_at, take_blocks_turn, take_pages_turn, unlock_turn, visit_turn}
 use Rattle.nv_core.specs.machine.Reads.{copies, has_last_page, nodes, pages_needed, slot_at, written_slots}
 use Rattle.nv_core.specs.machine.Sequence.{Beginning, Looks, Locks, Numbers, Visits, beginning, begun, directories, nothing_looked}
-use Rattle.nv_core.specs.machine.World.{Actor, Append, Back, Check, Close, Done, Ending, Ends, Enter, Event, Give, Go, HandState, Leave, Lock, Look, Moved, Moves, Next, Number, Open, Publish, Ready, Refused, Reply, Retire, Running, Shared, Start, Started, TakeBlocks, TakePages, Turn, Unlock, Visit, Waiting, Waits, World, actor_at, cell_at, owner_at}
+use Rattle.nv_core.specs.machine.World.{Append, Back, Check, Close, Done, Ending, Ends, Enter, Event, Give, Go, HandState, Leave, Lock, Look, Moved, Moves, Next, Number, Open, Publish, Ready, Refused, Reply, Retire, Running, Shared, Start, Started, TakeBlocks, TakePages, Turn, Unlock, Visit, Waiting, Waits, World, actor_at, cell_at, owner_at}
 
 -- ---- what decides
 
@@ -79,7 +79,7 @@ kind_turn (Append place) block actor granted s h r =
 kind_turn Open block actor granted s h r = open_turn (actor % length s.lists) s h r
 kind_turn (Publish place) block actor granted s h r = publish_turn (slot_at (written_slots r) place) place s h r
 kind_turn Close block actor granted s h r = close_turn (actor % length s.lists) s h r
-kind_turn (Retire place) block actor granted s h r = retire_turn (slot_at (written_slots r) place) place s h r
+kind_turn (Retire place) block actor granted s h r = retire_turn (slot_at (written_slots r) place) (first_killed h.killed) place s h r
 kind_turn Leave block actor granted s h r = leave_turn s h r
 kind_turn (Unlock place) block actor granted s h r = unlock_turn place s h r
 kind_turn (Give cpu) block actor granted s h r = give_turn cpu s h r
