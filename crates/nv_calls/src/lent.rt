@@ -7,9 +7,12 @@ use nv_cell::{InodeCell, KilledPart};
 use nv_entry::{Entry, Item, PartId};
 use nv_log::Chain;
 
-/// No cells.
-#[derive(Clone, Copy, Drop)]
-pub struct NoCells;
+/// A cell that is lent, with none above it.
+#[derive(Drop)]
+pub struct LastCell<'a> {
+    pub ino: Ino,
+    pub cell: &'a mut InodeCell,
+}
 
 /// A cell that is lent, and the cells above it.
 #[derive(Drop)]
@@ -19,53 +22,53 @@ pub struct LentCell<'a, C> {
     pub higher: C,
 }
 
-impl Cells for NoCells {
-    ghost use Rattle.std.specs.Prelude.{[]};
+impl Cells for LastCell<'_> {
+    ghost use Rattle.std.specs.Prelude.{◌∷◌, []};
 
-    ghost cells = { λ none. [] };
+    ghost cells = { λ lent. (lent.ino, lent.cell.now) ∷ [] };
 
-    ghost places = { λ none. [] };
+    ghost places = { λ lent. lent.cell.ghost_name ∷ [] };
 
-    ghost beside = { λ none. [] };
+    ghost beside = { λ lent. [] };
 
     fn count(&self) -> usize {
-        0
+        1
     }
 
     fn ino(&self, _k: usize) -> Ino {
-        unreachable!()
+        self.ino
     }
 
     fn cell(&self, _k: usize) -> &InodeCell {
-        unreachable!()
+        &*self.cell
     }
 
-    fn ready(&mut self, _k: usize, _items: &[Item]) -> Result<(), Fault> {
-        unreachable!()
+    fn ready(&mut self, _k: usize, items: &[Item]) -> Result<(), Fault> {
+        self.cell.ready(items)
     }
 
-    fn add_page(&mut self, _k: usize, _block: Block) {
-        unreachable!()
+    fn add_page(&mut self, _k: usize, block: Block) {
+        self.cell.add_page(block);
     }
 
-    fn append(&mut self, _k: usize, _entry: Entry, _queue: &mut BlockQueue) {
-        unreachable!()
+    fn append(&mut self, _k: usize, entry: Entry, queue: &mut BlockQueue) {
+        self.cell.append(entry, queue);
     }
 
     fn publish(&mut self, _k: usize) -> Vec<KilledPart> {
-        unreachable!()
+        self.cell.publish()
     }
 
-    fn retire(&mut self, _k: usize, _part: PartId) {
-        unreachable!()
+    fn retire(&mut self, _k: usize, part: PartId) {
+        self.cell.retire(part);
     }
 
-    fn release(&mut self, _k: usize, _part: PartId) -> Option<Block> {
-        unreachable!()
+    fn release(&mut self, _k: usize, part: PartId) -> Option<Block> {
+        self.cell.release(part)
     }
 
     fn erase(&mut self, _k: usize) -> Chain {
-        unreachable!()
+        self.cell.erase()
     }
 }
 

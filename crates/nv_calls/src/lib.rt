@@ -36,7 +36,7 @@ pub use answer::Answer;
 pub use call::Call;
 pub use cells::Cells;
 pub use fill::fill_block;
-pub use lent::{LentCell, NoCells};
+pub use lent::{LastCell, LentCell};
 pub use looked::{Looked, found, is_as_looked, look, look_all};
 pub use nodes::Nodes;
 pub use plan::{Plan, Planned, PlannedItems, place_in};
