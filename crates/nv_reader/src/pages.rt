@@ -10,8 +10,8 @@ use nv_base::EntryId;
 use nv_entry::{Entry, Item};
 use std::alloc::{AllocError, Global};
 
-/// The entries that hold the first `count` pages of a file. Costs one pass over the log from its end, and the pages that it
-/// writes.
+/// The entries that hold the first `count` pages of a file. Costs one pass over the log from its end, and for each entry the
+/// pages that it writes, also where a later entry has them.
 pub(crate) fn page_writers(
     alloc: Global,
     block: u64,
