@@ -24,12 +24,14 @@ use Rattle.nv_cell.proofs.NamedParts.{pair_first, pair_later}
 use Rattle.nv_cell.proofs.RunFlags.{gone_of-run}
 use Rattle.nv_cell.proofs.Scanned.{AreAlike, any_alike, front_mark, later_mark}
 
--- each of the entries to come that goes is not kept, and hides no earlier one that stays
+-- each of the entries to come that goes is not the last, is not kept, and hides no earlier one that stays
 abbrev AllGoBy : Retention → List Entry → List Entry → List Bool → Type 0
-AllGoBy r kept [] flags = Unit {0}
+AllGoBy r kept [] [] = Unit {0}
+AllGoBy r kept [] (stays ∷ flags) = ⊥
 AllGoBy r kept (e ∷ later) [] = Unit {0}
 AllGoBy r kept (e ∷ later) (true ∷ flags) = AllGoBy r (kept ++ e ∷ []) later flags
-AllGoBy r kept (e ∷ later) (false ∷ flags) = (is_kept r e later ≡ false) × HidesNone r.block kept e × AllGoBy r kept later flags
+AllGoBy r kept (e ∷ later) (false ∷ flags) =
+    (0 < length later) × (is_kept r e later ≡ false) × HidesNone r.block kept e × AllGoBy r kept later flags
 
 -- ---- such entries may go
 
@@ -37,7 +39,23 @@ hidden : (r : Retention) (kept rest : List Entry) (flags : List Bool) → AllGoB
 hidden r kept [] flags h = tt
 hidden r kept (e ∷ later) [] h = tt
 hidden r kept (e ∷ later) (true ∷ flags) h = hidden r (kept ++ e ∷ []) later flags h
-hidden r kept (e ∷ later) (false ∷ flags) h = (h.1, hidden r kept later flags h.2)
+hidden r kept (e ∷ later) (false ∷ flags) h = (h.2, hidden r kept later flags h.3)
+
+-- `n` is the place of the last entry
+stays_at : (r : Retention) (kept rest : List Entry) (flags : List Bool) (n : ℕ) → AllGoBy r kept rest flags → n ≡ length rest - 1
+    → slice_index_or flags n true ≡ true
+stays_at r kept rest [] n h at = refl
+stays_at r kept [] (b ∷ flags) n h at = absurd h
+stays_at r kept (e ∷ []) (b ∷ c ∷ flags) n h at = none b h where
+  none : (b : Bool) → AllGoBy r kept (e ∷ []) (b ∷ c ∷ flags) → slice_index_or (b ∷ c ∷ flags) n true ≡ true
+  none true h = absurd h
+  none false h = absurd h.3
+stays_at r kept (e ∷ []) (true ∷ []) zero h at = refl
+stays_at r kept (e ∷ []) (true ∷ []) (suc n) h at = refl
+stays_at r kept (e ∷ []) (false ∷ []) n h at = absurd (omega (arith, h.0))
+stays_at r kept (e ∷ x ∷ later) (b ∷ flags) zero h at = absurd (omega (arith, at))
+stays_at r kept (e ∷ x ∷ later) (true ∷ flags) (suc n) h at = stays_at r (kept ++ e ∷ []) (x ∷ later) flags n h (omega (arith, at))
+stays_at r kept (e ∷ x ∷ later) (false ∷ flags) (suc n) h at = stays_at r kept (x ∷ later) flags n h.3 (omega (arith, at))
 
 all_out : (marks : List Mark) → list_any is_there marks ≡ false → AllByRecursion (λ m. m ≡ Out) marks
 all_out [] h = tt
@@ -86,12 +104,13 @@ out r kept (e ∷ later) (false ∷ flags) marks h len alike =
     let c = part_count e in
     rw (gone_of-run c false (part_flags flags later) marks)
     (all_join (take c marks) (gone_of (part_flags flags later) (drop c marks))
-    (all_out (take c marks) (first_alike r e later marks len alike ∙ h.0))
-    (out r kept later flags (drop c marks) h.2 (omega (arith, length-drop c marks, len)) (later_alike r e later marks alike)))
+    (all_out (take c marks) (first_alike r e later marks len alike ∙ h.1))
+    (out r kept later flags (drop c marks) h.3 (omega (arith, length-drop c marks, len)) (later_alike r e later marks alike)))
 
 may_go : (r : Retention) (cell : CellState) (flags : List Bool) → IsCell cell → AreMarksOf r cell → AllGoBy r [] (log_of cell) flags
     → MayGo flags cell
 may_go r cell flags is are h = record {
+  last = stays_at r [] (log_of cell) flags (length (log_of cell) - 1) h refl;
   out = out r [] (log_of cell) flags cell.marks h is.marks.len are.there;
   hidden = subst (λ (block : ℕ). HideNoneLeft block [] (log_of cell) flags) are.block (hidden r [] (log_of cell) flags h);
 }
@@ -99,10 +118,11 @@ may_go r cell flags is are h = record {
 -- ---- entries
 
 all_go : (r : Retention) (kept rest : List Entry) (flags : List Bool) → GoIfDroppable r kept rest flags → AllGoBy r kept rest flags
-all_go r kept [] flags h = tt
+all_go r kept [] [] h = tt
+all_go r kept [] (b ∷ flags) h = absurd h
 all_go r kept (e ∷ later) [] h = tt
 all_go r kept (e ∷ later) (true ∷ flags) h = all_go r (kept ++ e ∷ []) later flags h.1
-all_go r kept (e ∷ later) (false ∷ flags) h = (h.0.unneeded, h.0.hides_nothing, all_go r kept later flags h.1)
+all_go r kept (e ∷ later) (false ∷ flags) h = (h.0.not_last, h.0.unneeded, h.0.hides_nothing, all_go r kept later flags h.1)
 
 pub entries_may_go : (r : Retention) (cell : CellState) (flags : List Bool) → IsCell cell → AreMarksOf r cell
     → GoIfDroppable r [] (log_of cell) flags
@@ -127,12 +147,14 @@ page_stays r kept (e ∷ page) later flags h =
 page_goes : (r : Retention) (kept page later : List Entry) (flags : List Bool) → AllDroppable r kept page later → AllGoBy r kept later flags
     → AllGoBy r kept (page ++ later) (replicate (length page) false ++ flags)
 page_goes r kept [] later flags all h = h
-page_goes r kept (e ∷ page) later flags all h = (all.0.unneeded, all.0.hides_nothing, page_goes r kept page later flags all.1 h)
+page_goes r kept (e ∷ page) later flags all h =
+    (all.0.not_last, all.0.unneeded, all.0.hides_nothing, page_goes r kept page later flags all.1 h)
 
 pages_go : (r : Retention) (kept : List Entry) (pages : List (List Entry)) (stays : List Bool) → GoIfPageDroppable r kept pages stays
     → AllGoBy r kept (entries_of pages) (entry_flags stays pages)
 unfolding entry_flags
-pages_go r kept [] stays h = tt
+pages_go r kept [] [] h = tt
+pages_go r kept [] (b ∷ stays) h = absurd h
 pages_go r kept (page ∷ pages) [] h = absurd h
 pages_go r kept (page ∷ pages) (true ∷ stays) h =
     page_stays r kept page (entries_of pages) (entry_flags stays pages) (pages_go r (kept ++ page) pages stays h.1)

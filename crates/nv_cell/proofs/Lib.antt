@@ -33,7 +33,8 @@ pub mod RunFlags
 pub mod Droppable
 pub mod Recounting
 pub mod Sources
-pub mod Leaving
+pub mod LastStays
+mod Leaving
 pub mod NamesLeft
 pub mod Removing
 pub mod PageFlags

@@ -1,17 +1,22 @@
 -- What stays of a cell once entries are taken out that may go.
-use Rattle.std.proofs.Common.{◌≡◌, ℕ, zero, suc, ◌+◌, ◌*◌, ◌≤◌, min, Bool, true, false, not, cond, List, [], ◌∷◌, ◌++◌, length, take, replicate, Option, Some, None, arith, refl, ap, sym, ◌∙◌, slice_index_or}
+use Rattle.std.proofs.Common.{◌≡◌, ℕ, zero, suc, ◌+◌, ◌-◌, ◌*◌, ◌≤◌, min, Bool, true, false, not, cond, List, [], ◌∷◌, ◌++◌, length, take, replicate, Option, Some, None, arith, refl, ap, sym, ◌∙◌, subst, slice_index_or}
 use Rattle.std.specs.List.{AllByRecursion}
 use Rattle.std.specs.Option.{option_map}
-use Rattle.std.proofs.lemmas.List.{length-take-le}
+use Rattle.std.specs.Prelude.{option_and_then, unwrap_or}
+use Rattle.std.proofs.lemmas.List.{length-take, length-take-le}
 use Rattle.nv_alloc.specs.Block.{BlockValue, number_of}
 use Rattle.nv_entry.specs.declared.item.Entry.{Entry}
 use Rattle.nv_entry.specs.Clean.{select}
 use Rattle.nv_entry.specs.Covered.{is_covered, part_count, part_total}
-use Rattle.nv_entry.specs.Keys.{Key}
+use Rattle.nv_entry.specs.Keys.{Key, KindKey, ModeKey, SizeKey}
 use Rattle.nv_entry.specs.Leaving.{MayAllLeave}
+use Rattle.nv_entry.specs.Data.{mode_in, size_in}
+use Rattle.nv_entry.specs.declared.key.Datum.{Datum}
+use Rattle.nv_entry.specs.Log.{value_now}
 use Rattle.nv_entry.specs.Refs.{scan_ref}
+use Rattle.nv_entry.specs.Stored.{kind_in}
 use Rattle.nv_entry.proofs.Leaving.{keeps_the_rest}
-use Rattle.nv_log.specs.Chain.{ChainState, IsChain, compacted, gone_of, left_of, log, packed}
+use Rattle.nv_log.specs.Chain.{ChainState, IsChain, compacted, gone_of, last_of, left_of, log, packed}
 use Rattle.nv_log.proofs.Flags.{left_of-select, length-left_of, take-left_of}
 use Rattle.nv_log.proofs.Parts.{div_ceil-le, len_le}
 use Rattle.std.specs.Int.{div_ceil}
@@ -21,7 +26,11 @@ use Rattle.nv_cell.specs.declared.mark.Mark.TheVariants.{Current, Out}
 use Rattle.nv_cell.specs.Cell.{CellState, HasBlocks, HasMarks, log_of, mark_or_fresh, page_block}
 use Rattle.nv_cell.specs.Index.{bindings_of}
 use Rattle.nv_cell.specs.Marks.{is_current, is_there}
-use Rattle.nv_cell.specs.Removal.{MayGo, left_in, part_flags}
+use Rattle.nv_cell.specs.Readers.{is_last_word}
+use Rattle.nv_cell.specs.Reading.{stat_now}
+use Rattle.nv_cell.specs.declared.stat.Stat.{Stat}
+use Rattle.nv_cell.specs.Removal.{KeepsTheLast, MayGo, left_in, part_flags}
+use Rattle.nv_cell.proofs.LastStays.{last_left}
 use Rattle.nv_cell.proofs.Publishing.{total_take}
 use Rattle.nv_cell.proofs.Leaving.{covered_left, cell_may_leave}
 use Rattle.nv_cell.proofs.NamesLeft.{bindings_left}
@@ -62,6 +71,24 @@ all_gone_none (false ∷ fs) (x ∷ bs) (m ∷ ms) page out numbers le = (
   no_number x (numbers 0 ∙ ap (λ k. cond (is_there k) (page 0) None) out.0),
   all_gone_none fs bs ms (λ n. page (suc n)) out.1 (λ n. numbers (suc n)) (omega (arith, le)),
 )
+
+-- what an inode tells of itself, by its values and its last entry
+stat_of : Option Datum → Option Datum → Option Datum → Option Entry → Option Stat
+stat_of kind mode size last = option_and_then (λ k. option_map (λ (e : Entry). record {
+  kind = k;
+  mode = unwrap_or (option_and_then mode_in mode) 0;
+  size = unwrap_or (option_and_then size_in size) 0;
+  commit = e.id.commit;
+}) last) (option_and_then kind_in kind)
+
+stat_kept : (block : ℕ) (new old : List Entry) → ((key : Key) → value_now block new key ≡ value_now block old key)
+    → last_of new ≡ last_of old → stat_now block new ≡ stat_now block old
+unfolding stat_of
+stat_kept block new old values last =
+    ap (λ v. stat_of v (value_now block new ModeKey) (value_now block new SizeKey) (last_of new)) (values KindKey)
+    ∙ ap (λ v. stat_of (value_now block old KindKey) v (value_now block new SizeKey) (last_of new)) (values ModeKey)
+    ∙ ap (λ v. stat_of (value_now block old KindKey) (value_now block old ModeKey) v (last_of new)) (values SizeKey)
+    ∙ ap (stat_of (value_now block old KindKey) (value_now block old ModeKey) (value_now block old SizeKey)) last
 
 module _ {flags : List Bool} {cell : CellState} {chain : ChainState} (left : IsLeft flags cell.chain chain) (marks : HasMarks cell)
     (blocks : HasBlocks cell) (may : MayGo flags cell) where
@@ -111,6 +138,25 @@ module _ {flags : List Bool} {cell : CellState} {chain : ChainState} (left : IsL
 
   pub names_left : bindings_of (log chain) ≡ bindings_of (log_of cell)
   names_left = ap bindings_of left.log_is ∙ bindings_left cell.block (log_of cell) flags may_leave
+
+  at_end : slice_index_or flags (length flags - 1) true ≡ true
+  at_end = subst (λ (n : ℕ). slice_index_or flags (n - 1) true ≡ true) (sym left.flags_len) may.last
+
+  last_is : last_of (log chain) ≡ last_of (log_of cell)
+  last_is = ap last_of (left.log_is ∙ sym (left_of-select flags (log_of cell) left.flags_len))
+      ∙ last_left flags (log_of cell) (omega (arith, left.flags_len)) at_end
+
+  -- the last entry stays, and what the inode tells of itself
+  pub last_stays : KeepsTheLast cell (left_in flags chain cell)
+  last_stays =
+      let values : (key : Key) → value_now cell.block (log chain) key ≡ value_now cell.block (log_of cell) key = λ key.
+      ap (λ es. value_now cell.block es key) left.log_is ∙ (keeps_the_rest cell.block (log_of cell) flags may_leave).values key in
+      record {
+        entry = ap last_of left.entries
+            ∙ last_left flags cell.chain.entries (omega (arith, left.flags_len, length-take cell.chain.tail cell.chain.entries)) at_end;
+        stat = stat_kept cell.block (log chain) (log_of cell) values last_is;
+        gone = ap (λ last. unwrap_or (option_map (λ (e : Entry). is_last_word e.item) last) false) last_is;
+      }
 
   -- the parts that go have no blocks
   pub none_gone : AllByRecursion (λ b. b ≡ None) (gone_of (part_flags flags (log_of cell)) cell.blocks)

@@ -1,12 +1,14 @@
 -- What is left of a cell once entries are taken out of its log.
-use Rattle.std.specs.Prelude.{◌≡◌, ℕ, ◌-◌, ◌≤◌, Bool, true, false, List, [], ◌∷◌, ◌++◌, replicate, slice_index_or, take}
+use Rattle.std.specs.Prelude.{◌≡◌, ℕ, ◌-◌, ◌≤◌, Bool, true, false, List, [], ◌∷◌, ◌++◌, length, replicate, slice_index_or, take}
 use Rattle.std.specs.List.{AllByRecursion}
 use Rattle.nv_entry.specs.declared.item.Entry.{Entry}
 use Rattle.nv_entry.specs.Covered.{part_count}
 use Rattle.nv_entry.specs.Leaving.{HidesNone}
-use Rattle.nv_log.specs.Chain.{ChainState, end_of, gone_of, left_of}
+use Rattle.nv_log.specs.Chain.{ChainState, end_of, gone_of, last_entry, left_of}
 use Rattle.nv_cell.specs.declared.mark.Mark.TheVariants.{Out}
 use Rattle.nv_cell.specs.Cell.{CellState, log_of}
+use Rattle.nv_cell.specs.Readers.{is_gone}
+use Rattle.nv_cell.specs.Reading.{stat_now}
 
 -- a flag for each item of a list, by those of the runs that end at these places
 abbrev pub run_flags : ℕ → List Bool → List ℕ → List Bool
@@ -31,8 +33,10 @@ HideNoneLeft block before (e ∷ later) [] = Unit {0}
 HideNoneLeft block before (e ∷ later) (true ∷ flags) = HideNoneLeft block (before ++ e ∷ []) later flags
 HideNoneLeft block before (e ∷ later) (false ∷ flags) = HidesNone block before e × HideNoneLeft block before later flags
 
--- the entries that flags mark as going may do so: their parts are all out, and none hides an earlier one that stays
+-- the entries that flags mark as going may do so: none is the last one, their parts are all out, and none hides an
+-- earlier one that stays
 pub record MayGo (stays : List Bool) (cell : CellState) : Type 0 where
+  pub last : slice_index_or stays (length (log_of cell) - 1) true ≡ true
   pub out : AllByRecursion (λ mark. mark ≡ Out) (gone_of (part_flags stays (log_of cell)) cell.marks)
   pub hidden : HideNoneLeft cell.block [] (log_of cell) stays
 
@@ -47,3 +51,10 @@ left_in stays chain cell = record cell {
   marks = left_of (part_flags stays (log_of cell)) cell.marks;
   blocks = left_of (part_flags stays (log_of cell)) cell.blocks;
 }
+
+-- the last entry stays, and with it the id and the epoch that the next one has to follow; what the inode tells of itself
+-- stays, and so does whether it is gone
+pub record KeepsTheLast (old new : CellState) : Type 0 where
+  pub entry : last_entry new.chain ≡ last_entry old.chain
+  pub stat : stat_now new.block (log_of new) ≡ stat_now old.block (log_of old)
+  pub gone : is_gone (log_of new) ≡ is_gone (log_of old)

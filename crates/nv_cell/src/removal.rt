@@ -10,7 +10,7 @@ ghost use Rattle.nv_entry.specs.Covered.{part_total};
 ghost use Rattle.nv_entry.specs.Leaving.{KeepsTheRest};
 ghost use Rattle.nv_log.specs.Chain.{compacted, gone_of, left_of, log, with_pages_left};
 ghost use Rattle.nv_cell.specs.Cell.{log_of};
-ghost use Rattle.nv_cell.specs.Removal.{ArePublished, MayGo, left_in, log_flags, part_flags};
+ghost use Rattle.nv_cell.specs.Removal.{ArePublished, KeepsTheLast, MayGo, left_in, log_flags, part_flags};
 
 use crate::closing::{pass_entries, pass_pages};
 use crate::{InodeCell, Mark};
@@ -95,8 +95,8 @@ fn close_pages(
 
 impl InodeCell {
     /// Leaves the entries of the log that are flagged as staying, a flag for each, and those past the tail, and moves
-    /// them to fresh pages, which take the place of the old ones: the blocks of these are handed out. Each part of an
-    /// entry that goes is out, and it hides no earlier one that stays. The index stays as it is. The time is linear in
+    /// them to fresh pages, which take the place of the old ones: the blocks of these are handed out. The last
+    /// published entry stays; each part of an entry that goes is out, and it hides no earlier one that stays. The index stays as it is. The time is linear in
     /// the log's entries and parts, and no memory is taken.
     pub fn compact(&mut self, stays: &[bool], pages: Vec<Block>) -> Vec<Block>
         requires flags { length stays.now ≡ self.old.state.chain.tail }
@@ -109,6 +109,7 @@ impl InodeCell {
             (compacted stays.now pages.items self.old.state.chain) self.old.state }
         ensures log { log_of self.new.state ≡ select stays.now (log_of self.old.state) }
         ensures rest { KeepsTheRest self.old.state.block (log_of self.old.state) stays.now }
+        ensures last { KeepsTheLast self.old.state self.new.state }
         ensures room { self.new.room ≡ record self.old.room { pages = 0 } }
     {
         // The chain is one, so that fresh pages are no more than the old ones.
@@ -120,8 +121,8 @@ impl InodeCell {
     }
 
     /// Leaves the pages with entries that are flagged as staying, a flag for each, and those without an entry. The
-    /// blocks of the others are put into the queue, in order: each of these ends at the tail or before it, each part of
-    /// its entries is out, and none of them hides an earlier entry that stays. The index stays as it is. The time is
+    /// blocks of the others are put into the queue, in order: each of these ends at the tail or before it, none has
+    /// the last published entry, each part of their entries is out, and none hides an earlier entry that stays. The index stays as it is. The time is
     /// linear in the log's entries and parts, and no memory is taken.
     pub fn remove_pages(&mut self, stays: &[bool], queue: &mut BlockQueue)
         requires flags { length stays.now ≡ length self.old.state.chain.ends }
@@ -135,6 +136,7 @@ impl InodeCell {
             ≡ select (log_flags stays.now self.old.state.chain) (log_of self.old.state) }
         ensures rest { KeepsTheRest self.old.state.block (log_of self.old.state)
             (log_flags stays.now self.old.state.chain) }
+        ensures last { KeepsTheLast self.old.state self.new.state }
         ensures room { self.new.room ≡ record self.old.room {
           pages = self.old.room.pages
               + length (gone_of stays.now self.old.state.chain.blocks);

@@ -10,7 +10,7 @@ use Rattle.nv_cell.specs.Cell.{log_of}
 use Rattle.nv_cell.specs.Fields.{state_in}
 use Rattle.nv_cell.specs.Removal.{MayGo}
 use Rattle.nv_cell.proofs.Publishing.{total_take}
-use Rattle.nv_cell.proofs.Removing.{blocks_left, compact_left, fewer, fresh_within, marks_count, marks_left, may_leave, names_left, none_gone, packed_within, refs_left}
+use Rattle.nv_cell.proofs.Removing.{blocks_left, compact_left, fewer, fresh_within, last_stays, marks_count, marks_left, may_leave, names_left, none_gone, packed_within, refs_left}
 use Rattle.nv_cell.proofs.cell.InodeCell.compact.Goals as goal
 
 pub close_entries-requires-clause-blocks_there : goal.close_entries-requires-clause-blocks_there
@@ -164,3 +164,14 @@ returns-clause-rest c =
     let len : length stays ≡ s.chain.tail = c.requires.flags ∙ sym (ap (λ v. v.state.chain.tail) c.self.view_is) in
     let left = compact_left stays c.args.pages.items s.chain len c.ends-ends.ensures.chain.within in
     rw (← c.self.view_is) (keeps_the_rest s.block (log_of s) stays (may_leave left inv.marks inv.blocks may))
+
+pub returns-clause-last : goal.returns-clause-last
+returns-clause-last c =
+    let s = state_in c.self.inside in
+    let inv = c.self.invariant in
+    let stays = c.args.stays.now in
+    let may = subst (λ v. MayGo stays v.state) (sym c.self.view_is) c.requires.may in
+    let len : length stays ≡ s.chain.tail = c.requires.flags ∙ sym (ap (λ v. v.state.chain.tail) c.self.view_is) in
+    let left = compact_left stays c.args.pages.items s.chain len c.ends-ends.ensures.chain.within in
+    let last = last_stays left inv.marks inv.blocks may in
+    rw (← c.self.view_is, c.compact-old.ensures.state) (record { entry = last.entry; stat = last.stat; gone = last.gone })

@@ -7,7 +7,7 @@ use Rattle.nv_cell.specs.Cell.{log_of}
 use Rattle.nv_cell.specs.Fields.{state_in}
 use Rattle.nv_cell.specs.Removal.{ArePublished, MayGo, log_flags}
 use Rattle.nv_cell.proofs.Publishing.{total_take}
-use Rattle.nv_cell.proofs.Removing.{blocks_left, fewer, marks_count, marks_left, may_leave, names_left, none_gone, refs_left}
+use Rattle.nv_cell.proofs.Removing.{blocks_left, fewer, last_stays, marks_count, marks_left, may_leave, names_left, none_gone, refs_left}
 use Rattle.nv_cell.proofs.PageFlags.{pages_fewer, pages_left}
 use Rattle.nv_log.proofs.Flags.{all_gone, all_left, length-left_of}
 use Rattle.std.proofs.lemmas.List.{length-take}
@@ -178,3 +178,15 @@ returns-clause-rest c =
     let inv = c.self.invariant in
     let may = subst (λ v. MayGo (log_flags stays v.state.chain) v.state) (sym c.self.view_is) c.requires.may in
     rw (← c.self.view_is) (keeps_the_rest s.block (log_of s) (log_flags stays s.chain) (may_leave left inv.marks inv.blocks may))
+
+pub returns-clause-last : goal.returns-clause-last
+returns-clause-last c =
+    let s = state_in c.self.inside in
+    let inv = c.self.invariant in
+    let stays = c.args.stays.now in
+    let may = subst (λ v. MayGo (log_flags stays v.state.chain) v.state) (sym c.self.view_is) c.requires.may in
+    let len : length stays ≡ length s.chain.ends = c.requires.flags ∙ sym (ap (λ v. length v.state.chain.ends) c.self.view_is) in
+    let published = subst (λ v. ArePublished stays v.state.chain) (sym c.self.view_is) c.requires.published in
+    let left = pages_left stays s.chain c.ends-ends.ensures.chain len published in
+    let last = last_stays left inv.marks inv.blocks may in
+    rw (← c.self.view_is, c.unlink_pages.ensures.state) (record { entry = last.entry; stat = last.stat; gone = last.gone })
