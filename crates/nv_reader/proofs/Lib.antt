@@ -8,3 +8,4 @@ pub mod Logs
 pub mod Coming
 pub mod Depths
 pub mod Ways
+pub mod Skips

@@ -2,4 +2,5 @@ pub mod Walk
 pub mod Ways
 pub mod Attributes
 pub mod Blocks
+pub mod Writers
 pub mod Cells
