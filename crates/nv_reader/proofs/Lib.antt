@@ -9,3 +9,6 @@ pub mod Coming
 pub mod Depths
 pub mod Ways
 pub mod Skips
+pub mod Elements
+pub mod Reached
+pub mod Worlds

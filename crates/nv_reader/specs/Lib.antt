@@ -1,4 +1,5 @@
 pub mod Walk
+pub mod Worlds
 pub mod Ways
 pub mod Attributes
 pub mod Blocks
