@@ -20,21 +20,24 @@ use Rattle.nv_entry.specs.declared.part.Part.TheVariants.{Page}
 use Rattle.nv_entry.specs.declared.part.PartId.{PartId}
 use Rattle.nv_entry.specs.declared.part_ref.PartRef.{PartRef}
 use Rattle.nv_entry.specs.Covered.{any_cover, part_count}
-use Rattle.nv_entry.specs.Keys.{PageKey, in_run, is_page, is_past, sets}
+use Rattle.nv_entry.specs.Keys.{PageKey, in_run, is_page, is_past, pages_for, sets}
 use Rattle.nv_entry.specs.Data.{block_in}
 use Rattle.nv_entry.specs.Log.{IsLog, MayFollow}
-use Rattle.nv_entry.specs.Node.{block_now}
+use Rattle.nv_entry.specs.Node.{block_now, size_now}
 use Rattle.nv_entry.specs.Refs.{left_by, part_ref, place_in, ref_after, scan_ref, value_in}
 use Rattle.nv_entry.proofs.Refs.{refs_give, scan_ref-cons}
 use Rattle.nv_cell.specs.Cell.{CellState, IsCell, block_named, log_of, mark_or_fresh, page_block}
 use Rattle.nv_cell.specs.Marks.{is_there}
 use Rattle.nv_cell.specs.Named.{number_named, place_of}
-use Rattle.nv_cell.specs.Pages.{AreBytesOf}
+use Rattle.nv_cell.specs.Numbers.{number}
+use Rattle.nv_cell.specs.Pages.{AreBytesOf, own_bytes, own_page, slot_bytes}
 use Rattle.nv_cell.proofs.Numbers.{scan_key, scan_n}
 use Rattle.nv_cell.proofs.PagesNow.{block_scanned, front_block}
+use Rattle.nv_cell.proofs.Publishing.{scanned}
 use Rattle.nv_cell.proofs.ValuesNow.{IsLog-take}
-use Rattle.nv_reader.specs.Blocks.{HaveBytes, page_part, page_writer}
+use Rattle.nv_reader.specs.Blocks.{HaveBytes, page_part, page_text, page_writer, shown_bytes, shown_page}
 use Rattle.nv_reader.specs.Cells.{NoneOut, part_bytes}
+use Rattle.nv_reader.proofs.PageBytes.{pages_same}
 
 -- a part of entries behind one is of a later entry
 ref_behind : (first : Entry) (block : ℕ) (log : List Entry) (p : ℕ) (r : PartRef) → AllByRecursion (MayFollow first) log
@@ -153,6 +156,38 @@ held_block cell t p n b is scanned slot =
         → page_block cell.block cell.chain.entries n ≡ Some b.number
     go true h = sym h
     go false h = cc
+
+-- ---- by the blocks that a cell has
+
+slot_text : (block : ℕ) (slot : Option BlockValue) → slot_bytes block slot ≡ page_text block (option_map (λ (b : BlockValue). b.bytes) slot)
+slot_text block None = refl
+slot_text block (Some b) = refl
+
+page_own : (cell : CellState) (p : ℕ) → IsLog cell.chain.entries → own_page cell p ≡ shown_page (part_bytes cell) cell.block (log_of cell) p
+page_own cell p is = go (scan_ref cell.block (log_of cell) (PageKey p)) refl where
+  es : List Entry
+  es = cell.chain.entries
+
+  go : (o : Option PartRef) → scan_ref cell.block (log_of cell) (PageKey p) ≡ o
+      → own_page cell p ≡ shown_page (part_bytes cell) cell.block (log_of cell) p
+  go None q = rw q refl
+  go (Some r) q =
+      let id = page_part p r.entry in
+      let num = numbered cell.block (log_of cell) p r (IsLog-take cell.chain.tail es is) q in
+      let same : Some (number es r) ≡ Some num.n =
+      ap (option_map (number es)) (sym q) ∙ scanned cell.block es cell.chain.tail (PageKey p) is ∙ num.scanned in
+      let one : slice_index_or cell.blocks (number es r) None ≡ block_named cell id =
+      ap (option_and_then (λ (n : ℕ). slice_index_or cell.blocks n None)) (same ∙ sym num.named) in
+      rw q (ap (slot_bytes cell.block) one ∙ slot_text cell.block (block_named cell id))
+
+-- the bytes of the file that a cell holds are those that it shows of its log
+pub own_shown : (cell : CellState) → IsLog cell.chain.entries → own_bytes cell ≡ shown_bytes (part_bytes cell) cell.block (log_of cell)
+own_shown cell is =
+    ap (take (size_now cell.block (log_of cell)))
+    (pages_same (own_page cell) (shown_page (part_bytes cell) cell.block (log_of cell)) 0 (pages_for cell.block (size_now cell.block (log_of cell)))
+    (λ page le lt. page_own cell page is))
+
+-- ---- by the bytes of blocks
 
 front_of : (t tail : ℕ) (es : List Entry) → t ≤ tail → take t es ++ drop t (take tail es) ≡ take tail es
 front_of t tail es le =

@@ -1,20 +1,12 @@
 -- Depths that cut nothing of a tree.
-use Rattle.std.proofs.Common.{◌≡◌, ℕ, zero, suc, List, [], ◌∷◌, ◌++◌, Option, Some, None, arith, refl, ap, ap₂, sym, subst}
+use Rattle.std.proofs.Common.{◌≡◌, ℕ, zero, suc, List, [], ◌∷◌, ◌++◌, Option, Some, None, refl, ap, ap₂, sym, subst}
 use Rattle.std.specs.List.{Contains, flat_map}
 use Rattle.nv_base.specs.declared.numbers.Handle.{Handle}
 use Rattle.nv_entry.specs.Tree.{CutsNothing, names_of_node, node_and_below, path_below, tree_from}
 use Rattle.nv_entry.specs.declared.names.BoundName.{BoundName}
 use Rattle.nv_entry.specs.declared.node.NodeCopy.{NodeCopy}
 use Rattle.nv_entry.specs.declared.tree.TreeNode.{TreeNode}
-
-contains_first : (bound : BoundName) (names : List BoundName) → Contains (bound ∷ names) bound
-contains_first bound names = (zero, omega arith, refl)
-
-contains_later : (bound other : BoundName) (names : List BoundName) → Contains names bound → Contains (other ∷ names) bound
-contains_later bound other names at = (suc at.0, omega (arith, at.1), at.2)
-
-contains_none : (bound : BoundName) → Contains [] bound → ⊥
-contains_none bound at = omega (arith, at.1)
+use Rattle.nv_reader.proofs.Elements.{contains_first, contains_later, contains_none}
 
 flat_map_same : (f g : BoundName → List TreeNode) (names : List BoundName) → ((bound : BoundName) → Contains names bound → f bound ≡ g bound)
     → flat_map f names ≡ flat_map g names

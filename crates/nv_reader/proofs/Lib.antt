@@ -8,3 +8,7 @@ pub mod Logs
 pub mod Coming
 pub mod Depths
 pub mod Ways
+pub mod Skips
+pub mod Elements
+pub mod Reached
+pub mod Worlds

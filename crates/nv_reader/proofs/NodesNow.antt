@@ -1,5 +1,5 @@
 -- The node now, by what an index tells of it.
-use Rattle.std.proofs.Common.{◌≡◌, ℕ, List, [], ◌∷◌, ◌-◌, ◌<◌, length, zero, suc, Option, Some, None, IsSome, arith, refl, take-take}
+use Rattle.std.proofs.Common.{◌≡◌, ℕ, List, [], ◌∷◌, ◌-◌, ◌<◌, length, zero, suc, Option, Some, None, IsSome, arith, refl, take, take-take}
 use Rattle.std.specs.Prelude.{option_and_then, slice_get}
 use Rattle.std.specs.Option.{option_map}
 use Rattle.nv_base.specs.declared.node.Kind.{Kind}
@@ -9,19 +9,17 @@ use Rattle.nv_entry.specs.declared.key.Datum.TheVariants as datum
 use Rattle.nv_entry.specs.declared.node.NodeCopy.{NodeCopy}
 use Rattle.nv_entry.specs.Bytes.{read_at}
 use Rattle.nv_entry.specs.Index.{names_of}
-use Rattle.nv_entry.specs.Keys.{KindKey, pages_for}
+use Rattle.nv_entry.specs.Keys.{KindKey}
 use Rattle.nv_entry.specs.Log.{value_now}
-use Rattle.nv_entry.specs.Node.{file_bytes, node_now, node_of_kind, pages_bytes, size_now}
+use Rattle.nv_entry.specs.Node.{file_bytes, node_now, node_of_kind, size_now}
 use Rattle.nv_entry.specs.Stored.{kind_in, stored}
 use Rattle.nv_cell.specs.Reading.{stat_by, stat_now}
 use Rattle.nv_cell.specs.declared.stat.Stat.{Stat}
 use Rattle.nv_log.specs.Chain.{last_of}
 
--- all bytes of a file are as many as its size says
-pub whole_read : (bytes : ℕ → List ℕ) (block : ℕ) (log : List Entry) → read_at 0 (size_now block log) (file_bytes bytes block log) ≡ file_bytes bytes block log
-whole_read bytes block log =
-    let size = size_now block log in
-    take-take size size (pages_bytes bytes block log (pages_for block size)) (omega arith)
+-- as many bytes as there are at most are all
+pub whole_read : (size : ℕ) (text : List ℕ) → read_at 0 size (take size text) ≡ take size text
+whole_read size text = take-take size size text (omega arith)
 
 some_at : {X : Type 0} (xs : List X) (i : ℕ) → i < length xs → IsSome (slice_get xs i)
 some_at [] i lt = absurd (omega arith)

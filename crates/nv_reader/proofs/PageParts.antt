@@ -1,6 +1,6 @@
 -- The parts that hold pages, with one more entry in front.
-use Rattle.std.proofs.Common.{◌≡◌, ℕ, ◌+◌, ◌-◌, ◌<◌, ◌&&◌, ◌||◌, not, Bool, true, false, cond, List, ◌∷◌, Option, Some, None, arith, refl, ap, sym, ◌∙◌}
-use Rattle.std.specs.Prelude.{max, min, nat_le, nat_lt}
+use Rattle.std.proofs.Common.{◌≡◌, ℕ, ◌+◌, ◌-◌, ◌<◌, ◌≤◌, ◌&&◌, ◌||◌, not, Bool, true, false, cond, List, [], ◌∷◌, Option, Some, None, arith, refl, ap, sym, ◌∙◌}
+use Rattle.std.specs.Prelude.{min, nat_le, nat_lt}
 use Rattle.std.specs.Int.{div_ceil}
 use Rattle.std.specs.Option.{is_some, option_map, option_or}
 use Rattle.std.proofs.lemmas.Bool.Decides.{nat_tests}
@@ -10,17 +10,35 @@ use Rattle.nv_entry.specs.declared.item.Item.TheVariants.{Write, SetSize}
 use Rattle.nv_entry.specs.declared.item.Run.{Run}
 use Rattle.nv_entry.specs.declared.key.Datum.{Datum}
 use Rattle.nv_entry.specs.declared.key.Datum.TheVariants.{Block}
+use Rattle.nv_entry.specs.declared.key.Setting.{Setting}
 use Rattle.nv_entry.specs.declared.key.Setting.TheVariants.{Untouched, Absent, Present}
 use Rattle.nv_entry.specs.declared.part_ref.PartRef.{PartRef}
 use Rattle.nv_entry.specs.Covered.{any_cover}
-use Rattle.nv_entry.specs.Keys.{PageKey, is_page, touches}
-use Rattle.nv_entry.specs.Refs.{left_by, part_ref, scan_ref}
+use Rattle.nv_entry.specs.Keys.{PageKey, is_page, sets, touches}
+use Rattle.nv_entry.specs.Refs.{left_by, part_ref, place_in, scan_ref}
+use Rattle.nv_entry.proofs.Nodes.{present_in_file}
 use Rattle.nv_entry.proofs.Refs.{scan_ref-cons}
 use Rattle.nv_reader.specs.Blocks.{page_writer}
 
--- a loop from `first` up to `end` has passed what lies between
-pub within_same : (first p at end : ℕ) → at ≡ max first end → (nat_le first p && nat_lt p at) ≡ (nat_le first p && nat_lt p end)
-within_same first p at end is = grind (arith, nat_tests)
+-- no part holds a page that no file has
+ref_past : (block page : ℕ) (log : List Entry) → 65536 ≤ page → scan_ref block log (PageKey page) ≡ None
+ref_past block page [] past = refl
+ref_past block page (e ∷ later) past =
+    scan_ref-cons block e later (PageKey page)
+    ∙ go (any_cover block later (PageKey page)) (sets block e.item (PageKey page)) refl (ref_past block page later past)
+  where
+    own : PartRef
+    own = part_ref e.id (place_in e.item (PageKey page))
+
+    go : (b : Bool) (s : Setting) → sets block e.item (PageKey page) ≡ s → scan_ref block later (PageKey page) ≡ None
+        → cond b (scan_ref block later (PageKey page)) (left_by s own None) ≡ None
+    go true s set rest = rest
+    go false Untouched set rest = refl
+    go false Absent set rest = refl
+    go false (Present value) set rest = absurd (omega (arith, past, present_in_file block e.item (PageKey page) value set))
+
+pub writer_past : (block page : ℕ) (log : List Entry) → 65536 ≤ page → page_writer block log page ≡ None
+writer_past block page log past = ap (option_map (λ (r : PartRef). r.entry)) (ref_past block page log past)
 
 file_page : (p : ℕ) → p < 65536 → is_page p ≡ true
 file_page p lt = grind (arith, nat_tests)

@@ -12,24 +12,24 @@ use Rattle.nv_entry.specs.declared.node.NodeCopy.{NodeCopy}
 use Rattle.nv_reader.proofs.Depths.{none_cut}
 
 -- a name of a directory leads to this handle
-record IsEntered (nodes : Handle → Option NodeCopy) (dir handle : Handle) : Type 0 where
-  place : ℕ
-  bound : BoundName
-  leads : LeadsAt nodes dir place bound
-  there : bound.to ≡ handle
+pub record IsEntered (nodes : Handle → Option NodeCopy) (dir handle : Handle) : Type 0 where
+  pub place : ℕ
+  pub bound : BoundName
+  pub leads : LeadsAt nodes dir place bound
+  pub there : bound.to ≡ handle
 
 -- the handles on a way down from the root, the last one first
-abbrev IsWay : (Handle → Option NodeCopy) → List Handle → Type 0
+abbrev pub IsWay : (Handle → Option NodeCopy) → List Handle → Type 0
 IsWay nodes [] = ⊥
 IsWay nodes (handle ∷ []) = (handle.ino ≡ 0) × IsSome (nodes handle)
 IsWay nodes (handle ∷ dir ∷ above) = IsEntered nodes dir handle × IsWay nodes (dir ∷ above)
 
-last_lives : (nodes : Handle → Option NodeCopy) (handle : Handle) (above : List Handle) → IsWay nodes (handle ∷ above) → IsSome (nodes handle)
+pub last_lives : (nodes : Handle → Option NodeCopy) (handle : Handle) (above : List Handle) → IsWay nodes (handle ∷ above) → IsSome (nodes handle)
 last_lives nodes handle [] way = way.1
 last_lives nodes handle (dir ∷ above) way = subst (λ h. IsSome (nodes h)) way.0.there way.0.leads.2
 
 -- two ways that end in inodes of one number are equally long
-same_end : (nodes : Handle → Option NodeCopy) (inodes : ℕ) → FormTree nodes inodes → (a b : Handle) (above beside : List Handle)
+pub same_end : (nodes : Handle → Option NodeCopy) (inodes : ℕ) → FormTree nodes inodes → (a b : Handle) (above beside : List Handle)
     → IsWay nodes (a ∷ above) → IsWay nodes (b ∷ beside) → a.ino ≡ b.ino → length above ≡ length beside
 same_end nodes inodes tree a b [] [] way other same = refl
 same_end nodes inodes tree a b [] (dir ∷ beside) way other same =
@@ -71,7 +71,7 @@ all_differ nodes inodes tree a (dir ∷ above) way = (
   all_differ nodes inodes tree dir above way.1,
 )
 
-below_if_met : (n q : ℕ) (x : ℕ) (xs : List ℕ) → x < n → (list_any (eqb q) xs ≡ true → q < n) → list_any (eqb q) (x ∷ xs) ≡ true → q < n
+pub below_if_met : (n q : ℕ) (x : ℕ) (xs : List ℕ) → x < n → (list_any (eqb q) xs ≡ true → q < n) → list_any (eqb q) (x ∷ xs) ≡ true → q < n
 below_if_met n q x xs less rest met = go (eqb q x) refl met where
   go : (same : Bool) → eqb q x ≡ same → (same || list_any (eqb q) xs) ≡ true → q < n
   go true is met = omega (arith, less, eqb-true q x is)

@@ -2,15 +2,20 @@
 use Rattle.std.specs.Prelude.{ℕ, ◌<◌, List, Option, IsSome, take, unwrap_or}
 use Rattle.std.specs.Option.{IfSome, option_map}
 use Rattle.nv_entry.specs.declared.item.Entry.{Entry}
+use Rattle.nv_entry.specs.declared.node.NodeCopy.{NodeCopy}
 use Rattle.nv_entry.specs.declared.part.PartId.{PartId}
 use Rattle.nv_entry.specs.Keys.{pages_for}
 use Rattle.nv_entry.specs.Node.{size_now}
 use Rattle.nv_cell.specs.Cell.{CellState, block_named}
-use Rattle.nv_reader.specs.Blocks.{page_part, page_writer}
+use Rattle.nv_reader.specs.Blocks.{page_part, page_writer, shown_node}
 
 -- the bytes of a part's block
 abbrev pub part_bytes : CellState → PartId → Option (List ℕ)
 part_bytes cell id = option_map (λ b. b.bytes) (block_named cell id)
+
+-- the node that a cell shows of some entries of its log, by the blocks that it has of their parts
+abbrev pub own_node : CellState → List Entry → Option NodeCopy
+own_node cell log = shown_node (part_bytes cell) cell.block log
 
 -- no part that holds a page below the size of the first entries is out
 abbrev pub NoneOut : CellState → List Entry → Type 0

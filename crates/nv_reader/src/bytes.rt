@@ -1,15 +1,16 @@
 //! The bytes of a file by its log.
 
-ghost use Rattle.std.specs.Prelude.{◌≡◌, ℕ, ◌<◌, ◌≤◌, ◌++◌, IfOk, length, List, OnOk, Option, slice_index_or, None, option_and_then};
+ghost use Rattle.std.specs.Prelude.{◌≡◌, ℕ, ◌<◌, ◌≤◌, ◌++◌, IfOk, length, List, OnOk, Option, option_and_then};
 ghost use Rattle.std.specs.Option.{option_copied};
 ghost use Rattle.nv_base.specs.declared.limits.TheConstants.{FILE_PAGES};
-ghost use Rattle.nv_entry.specs.Node.{file_bytes, size_now};
+ghost use Rattle.nv_entry.specs.Node.{size_now};
 ghost use Rattle.nv_entry.specs.declared.part.PartId.{PartId};
-ghost use Rattle.nv_reader.specs.Blocks.{HaveBytes, page_part, page_text};
+ghost use Rattle.nv_reader.specs.Blocks.{page_part, page_text, shown_bytes};
+ghost use Rattle.nv_reader.specs.Writers.{entry_at};
 
-use crate::pages::page_writers;
+use crate::pages::{Writer, page_writers};
+use nv_base::Bytes;
 use nv_base::limits::FILE_PAGES;
-use nv_base::{Bytes, EntryId};
 use nv_entry::{Entry, Part, PartId};
 use std::alloc::{AllocError, Global};
 
@@ -22,8 +23,8 @@ pub trait PartBlocks {
         ensures { option_copied result ≡ bytes_of self.now part };
 }
 
-/// The bytes of a file of that size: page by page, zeros where a page is absent, cut at the size. Costs these bytes and one
-/// pass over the log.
+/// The bytes of a file of that size: page by page, zeros where a page is absent or its part has no block, cut at the size.
+/// Costs these bytes, a look-up of a block for each page, and what [`page_writers`] costs.
 pub(crate) fn file_bytes<B: PartBlocks>(
     alloc: Global,
     block: u64,
@@ -33,8 +34,7 @@ pub(crate) fn file_bytes<B: PartBlocks>(
 ) -> Result<Bytes, AllocError>
     requires block { 0 < block }
     requires size { size ≡ size_now block log.now }
-    ensures { (bytes : ℕ → List ℕ) → HaveBytes (B.bytes_of blocks.now) bytes block log.now
-        → IfOk result (λ text. text ≡ file_bytes bytes block log.now) }
+    ensures { IfOk result (λ text. text ≡ shown_bytes (B.bytes_of blocks.now) block log.now) }
 {
     let count = size.div_ceil(block);
     // No page of a file is present from the greatest file's end on.
@@ -49,18 +49,18 @@ pub(crate) fn file_bytes<B: PartBlocks>(
 
 /// The bytes of a page; none where it is absent.
 fn page_in<'a, B: PartBlocks>(
-    writers: &[Option<EntryId>],
+    writers: &[Option<Writer>],
     page: u64,
     blocks: &'a B,
 ) -> Option<&'a [u8]>
     requires { length writers.now ≤ FILE_PAGES }
     ensures { option_copied result
         ≡ option_and_then (λ entry. B.bytes_of blocks.now (page_part page entry))
-        (slice_index_or writers.now page None) }
+        (entry_at writers.now page) }
 {
-    let entry = (*writers.get(page as usize)?)?;
+    let writer = (*writers.get(page as usize)?)?;
     blocks.bytes(PartId {
-        entry,
+        entry: writer.entry,
         part: Part::Page(page as u32),
     })
 }

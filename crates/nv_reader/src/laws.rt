@@ -1,10 +1,11 @@
 //! Laws of walks and trees. Each is a function that does nothing, whose contract is the law.
 
-ghost use Rattle.std.specs.Prelude.{◌≡◌, ◌≤◌, ◌+◌, [], ℕ, List, Option, length};
+ghost use Rattle.std.specs.Prelude.{◌≡◌, ◌≢◌, ◌≤◌, ◌+◌, [], ℕ, AllPairs, List, Option, Some, length, map};
 ghost use Rattle.nv_base.specs.declared.numbers.Handle.{Handle};
 ghost use Rattle.nv_entry.specs.Tree.{CutsNothing, FormTree, root, tree_from};
 ghost use Rattle.nv_entry.specs.declared.node.NodeCopy.{NodeCopy};
 ghost use Rattle.nv_reader.specs.Walk.{name_count, root_visit, to_come, visits_to_come};
+ghost use Rattle.nv_reader.specs.Worlds.{HaveAll, HaveAtMost, handles_from, most_visits, names_of_all};
 
 /// What is to come of a new walk is the tree from its root on.
 pub fn walks_give_the_tree()
@@ -33,4 +34,36 @@ pub fn names_bound_the_visits()
         ≤ name_count (tree_from nodes depth [] root) + 1 }
     ensures nodes { (nodes : Handle → Option NodeCopy) (depth : ℕ) (root : Handle) →
         length (tree_from nodes depth [] root) ≤ name_count (tree_from nodes depth [] root) + 1 }
+{}
+
+/// Where the directories form a tree, no inode is visited twice: the nodes of the tree are those of these handles, whose inodes
+/// differ from one another, and so they are no more than the inodes.
+pub fn no_inode_is_visited_twice()
+    ensures handles { (nodes : Handle → Option NodeCopy) (depth : ℕ) (path : List (List ℕ)) (handle : Handle) →
+        map (λ t. Some t.node) (tree_from nodes depth path handle)
+        ≡ map nodes (handles_from nodes depth handle) }
+    ensures differ { (nodes : Handle → Option NodeCopy) (inodes depth : ℕ) → FormTree nodes inodes →
+        AllPairs (λ one other. one.ino ≢ other.ino) (handles_from nodes depth root) }
+    ensures few { (nodes : Handle → Option NodeCopy) (inodes depth : ℕ) → FormTree nodes inodes →
+        length (tree_from nodes depth [] root) ≤ inodes }
+{}
+
+/// Where the directories form a tree, a walk makes at most as many visits as there are names in the whole world, and one
+/// more for the root; and it gives out at most as many nodes.
+pub fn names_of_the_world_bound_the_visits()
+    ensures visits { (nodes : Handle → Option NodeCopy) (inodes depth : ℕ) (all : List Handle)
+        → FormTree nodes inodes → HaveAll nodes all
+        → visits_to_come nodes (root_visit depth root) ≤ names_of_all nodes all + 1 }
+    ensures nodes { (nodes : Handle → Option NodeCopy) (inodes depth : ℕ) (all : List Handle)
+        → FormTree nodes inodes → HaveAll nodes all
+        → length (tree_from nodes depth [] root) ≤ names_of_all nodes all + 1 }
+{}
+
+/// In any world a walk ends: where no directory has more than so many names, it makes no more visits than a walk of that depth
+/// makes through directories that all have as many; and it gives out no more nodes.
+pub fn walks_end_in_any_world()
+    ensures visits { (nodes : Handle → Option NodeCopy) (most depth : ℕ) (root : Handle) → HaveAtMost nodes most
+        → visits_to_come nodes (root_visit depth root) ≤ most_visits most depth }
+    ensures nodes { (nodes : Handle → Option NodeCopy) (most depth : ℕ) (root : Handle) → HaveAtMost nodes most
+        → length (tree_from nodes depth [] root) ≤ most_visits most depth }
 {}

@@ -1,8 +1,7 @@
 //! The node that an inode is by its log.
 
 ghost use Rattle.std.specs.Prelude.{◌≡◌, ℕ, ◌<◌, IfOk, List};
-ghost use Rattle.nv_entry.specs.Node.{node_now};
-ghost use Rattle.nv_reader.specs.Blocks.{HaveBytes};
+ghost use Rattle.nv_reader.specs.Blocks.{shown_node};
 
 use crate::attributes::attributes_of;
 use crate::bytes::{PartBlocks, file_bytes};
@@ -19,8 +18,7 @@ pub(crate) fn node_by<B: PartBlocks>(
     blocks: &B,
 ) -> Result<Option<NodeCopy>, AllocError>
     requires { 0 < block }
-    ensures { (bytes : ℕ → List ℕ) → HaveBytes (B.bytes_of blocks.now) bytes block log.now
-        → IfOk result (λ node. node ≡ node_now bytes block log.now) }
+    ensures { IfOk result (λ node. node ≡ shown_node (B.bytes_of blocks.now) block log.now) }
 {
     let attributes = attributes_of(log);
     let Some(kind) = attributes.kind else {

@@ -7,7 +7,7 @@ ghost use Rattle.nv_cell.specs.Cell.{log_of};
 ghost use Rattle.nv_cell.specs.Pages.{AreBytesOf};
 ghost use Rattle.nv_entry.specs.Log.{up_to};
 ghost use Rattle.nv_entry.specs.Node.{node_at, node_now};
-ghost use Rattle.nv_reader.specs.Cells.{NoneOut, part_bytes, settled};
+ghost use Rattle.nv_reader.specs.Cells.{NoneOut, own_node, part_bytes, settled};
 
 use crate::bytes::PartBlocks;
 use crate::epochs::entries_to;
@@ -31,6 +31,8 @@ impl PartBlocks for InodeCell {
 /// Costs what it hands out, three passes over the log's entries up to the epoch with the pages that each writes, and for each
 /// page a look-up that grows with the logarithm of the log.
 pub fn show_on(alloc: Global, cell: &InodeCell, epoch: Epoch) -> Result<Option<NodeCopy>, Fault>
+    ensures own { IfOk result (λ node. node
+        ≡ own_node cell.now.state (up_to epoch (log_of cell.now.state))) }
     ensures node { (bytes : ℕ → List ℕ) → AreBytesOf cell.now.state bytes
         → NoneOut cell.now.state (up_to epoch (log_of cell.now.state))
         → IfOk result (λ node. node
@@ -54,6 +56,8 @@ pub fn settled_on(
     noted: Option<usize>,
 ) -> Result<Option<NodeCopy>, Fault>
     requires { ForSome noted (λ tail. tail ≤ cell.now.state.chain.tail) }
+    ensures own { IfOk result (λ node. node
+        ≡ own_node cell.now.state (settled noted cell.now.state)) }
     ensures node { (bytes : ℕ → List ℕ) → AreBytesOf cell.now.state bytes
         → ForSome noted (λ tail. NoneOut cell.now.state (settled noted cell.now.state))
         → IfOk result (λ node. node
@@ -71,10 +75,14 @@ pub fn settled_on(
 
 /// The node now by the cell's index.
 fn node_by_index(cell: &InodeCell) -> Result<Option<NodeCopy>, Fault>
+    ensures own { IfOk result (λ node. node
+        ≡ own_node cell.now.state (log_of cell.now.state)) }
     ensures node { (bytes : ℕ → List ℕ) → AreBytesOf cell.now.state bytes
         → IfOk result (λ node. node ≡ node_now bytes cell.now.state.block (log_of cell.now.state)) }
     ensures err { FailsOnly Fault.OutOfMemory result }
 {
+    // What a cell keeps of its log.
+    cell.known();
     let Some(stat) = cell.stat() else {
         return Ok(None);
     };
