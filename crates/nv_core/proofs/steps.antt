@@ -9,3 +9,7 @@ pub mod Scripts
 pub mod MoreRows
 pub mod Ordered
 pub mod InOrder
+pub mod Counting
+pub mod Kept
+pub mod Counted
+pub mod Parted
