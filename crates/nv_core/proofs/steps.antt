@@ -13,3 +13,7 @@ pub mod Counting
 pub mod Kept
 pub mod Counted
 pub mod Parted
+pub mod Fitting
+pub mod Homes
+pub mod Handed
+pub mod HandedCommits

@@ -1,8 +1,8 @@
 -- What holds of every cell and list, and what an actor's hand has before each step of its call.
 use Rattle.std.specs.Prelude.{◌≡◌, ℕ, ◌+◌, ◌/◌, ◌<◌, ◌≤◌, Bool, true, false, List, [], ◌++◌, drop, length, slice_index_or, take, Option, Some, None}
-use Rattle.std.specs.List.{AllByRecursion, flat_map, list_any}
+use Rattle.std.specs.List.{AllByRecursion, flat_map}
 use Rattle.nv_alloc.specs.Block.{AreSized, BlockValue}
-use Rattle.nv_alloc.specs.FreeList.{FreeBlocks, IsFreeList, is_home}
+use Rattle.nv_alloc.specs.FreeList.{FreeBlocks, IsFreeList}
 use Rattle.nv_alloc.specs.Numbers.{has}
 use Rattle.nv_base.specs.Homes.{home_start}
 use Rattle.nv_base.specs.declared.geometry.GeometryNumbers.{GeometryNumbers}
@@ -98,30 +98,34 @@ pub record HasPlanned (h : HandState) (r : Running) (slots : List ℕ) : Type 0 
   pub enough : length (planned_blocks r.plan slots) ≤ length h.blocks
   pub within : (ino : ℕ) → AllByRecursion IsWithinFile (items_for r.plan ino)
 
--- no block of these is at home on a CPU below one
-abbrev pub AreGiven : List FreeBlocks → ℕ → List BlockValue → Type 0
-AreGiven lists below blocks = (s : Shared) → s.lists ≡ lists → (cpu : ℕ) → cpu < below → cpu < length lists
-    → list_any (λ (b : BlockValue). is_home (list_at s cpu) b.number) blocks ≡ false
+-- all blocks of the hand that were at home on a lower CPU are given
+abbrev pub AreGiven : GeometryNumbers → ℕ → List BlockValue → Type 0
+AreGiven g cpu blocks = AllByRecursion (λ (b : BlockValue). home_start g.blocks g.cpus cpu ≤ b.number) blocks
 
-abbrev pub HandAt : ℕ → List FreeBlocks → Next → HandState → Running → Type 0
-HandAt block lists Number h r = (h ≡ empty_hand) × (makes_inode (beginning r.call) ≡ true) × (r.looked ≡ nothing_looked)
-HandAt block lists (Look place) h r = (h ≡ empty_hand) × (makes_inode (beginning r.call) ≡ false)
-HandAt block lists (Lock place) h r = HasTakenNone h r
-HandAt block lists Check h r = HasTakenNone h r
-HandAt block lists (TakeBlocks asked) h r = HasFitting block h r (length h.blocks + r.wanted)
-HandAt block lists (TakePages asked) h r = HasFitting block h r (length h.blocks)
-HandAt block lists Ready h r = HasFitting block h r (length h.blocks)
-HandAt block lists Enter h r = HasPlanned h r (written_slots r)
-HandAt block lists (Append place) h r = HasPlanned h r (drop place (written_slots r))
-HandAt block lists Open h r = h.killed ≡ []
-HandAt block lists (Publish place) h r = length h.killed ≡ place
-HandAt block lists Close h r = length h.killed ≡ length (written_slots r)
-HandAt block lists (Retire place) h r = length h.killed + place ≡ length (written_slots r)
-HandAt block lists Leave h r = h.killed ≡ []
-HandAt block lists (Unlock place) h r = (h.killed ≡ []) × (r.ending ≡ Overtaken → h ≡ empty_hand)
-HandAt block lists (Give cpu) h r = (h.killed ≡ []) × AreGiven lists cpu (blocks_in h)
-HandAt block lists Back h r = (h.killed ≡ []) × (blocks_in h ≡ [])
-HandAt block lists Visit h r = h ≡ empty_hand
+-- a call that begins anew has an empty hand
+pub record IsOvertaken (h : HandState) (r : Running) : Type 0 where
+  pub empty : h ≡ empty_hand
+  pub looks : makes_inode (beginning r.call) ≡ false
+
+abbrev pub HandAt : GeometryNumbers → Next → HandState → Running → Type 0
+HandAt g Number h r = (h ≡ empty_hand) × (makes_inode (beginning r.call) ≡ true) × (r.looked ≡ nothing_looked)
+HandAt g (Look place) h r = (h ≡ empty_hand) × (makes_inode (beginning r.call) ≡ false)
+HandAt g (Lock place) h r = HasTakenNone h r
+HandAt g Check h r = HasTakenNone h r
+HandAt g (TakeBlocks asked) h r = HasFitting g.block h r (length h.blocks + r.wanted)
+HandAt g (TakePages asked) h r = HasFitting g.block h r (length h.blocks)
+HandAt g Ready h r = HasFitting g.block h r (length h.blocks)
+HandAt g Enter h r = HasPlanned h r (written_slots r)
+HandAt g (Append place) h r = HasPlanned h r (drop place (written_slots r))
+HandAt g Open h r = h.killed ≡ []
+HandAt g (Publish place) h r = length h.killed ≡ place
+HandAt g Close h r = length h.killed ≡ length (written_slots r)
+HandAt g (Retire place) h r = length h.killed + place ≡ length (written_slots r)
+HandAt g Leave h r = h.killed ≡ []
+HandAt g (Unlock place) h r = (h.killed ≡ []) × (r.ending ≡ Overtaken → IsOvertaken h r)
+HandAt g (Give cpu) h r = (h.killed ≡ []) × AreGiven g cpu (blocks_in h)
+HandAt g Back h r = (h.killed ≡ []) × (blocks_in h ≡ [])
+HandAt g Visit h r = h ≡ empty_hand
 
 -- until its last steps a call is to be answered
 abbrev pub is_going : Next → Bool
@@ -130,9 +134,9 @@ is_going (Give cpu) = false
 is_going Back = false
 is_going other = true
 
-abbrev pub HandOf : ℕ → List FreeBlocks → HandState → Option Running → Type 0
-HandOf block lists h None = h ≡ empty_hand
-HandOf block lists h (Some r) = HandAt block lists r.next h r × (is_going r.next ≡ true → r.ending ≡ Answers)
+abbrev pub HandOf : GeometryNumbers → HandState → Option Running → Type 0
+HandOf g h None = h ≡ empty_hand
+HandOf g h (Some r) = HandAt g r.next h r × (is_going r.next ≡ true → r.ending ≡ Answers)
 
 -- ---- the whole
 
@@ -141,7 +145,7 @@ pub record AreNumbers (g : GeometryNumbers) (w : World) : Type 0 where
   pub numbers : w.numbers ≡ g
   pub once : IsEachOnce g.blocks (all_blocks w)
   pub lists : AreLists g w.shared
-  pub cells : (ino : ℕ) → ino < length w.shared.cells → IsParted g.block (cell_at w.shared ino)
+  pub cells : (ino : ℕ) → IsParted g.block (cell_at w.shared ino)
   pub tails : AreTailsLast w
   pub sized : (actor : ℕ) → AreSized g.block (blocks_in (actor_at w actor).hand)
-  pub hands : (actor : ℕ) → HandOf g.block w.shared.lists (actor_at w actor).hand (actor_at w actor).running
+  pub hands : (actor : ℕ) → HandOf g (actor_at w actor).hand (actor_at w actor).running
