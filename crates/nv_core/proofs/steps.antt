@@ -17,3 +17,6 @@ pub mod Fitting
 pub mod Homes
 pub mod Handed
 pub mod HandedCommits
+pub mod Sound
+pub mod Tails
+pub mod Numbered

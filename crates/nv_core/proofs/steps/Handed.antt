@@ -75,7 +75,7 @@ pub rest_hand : (g : GeometryNumbers) (from : ℕ) (s t : Shared) (home number :
     → h.killed ≡ [] → OnHand g (rest_turn home number t h r)
 rest_hand g from s t (Some cpu) number h r goes is same few given killed =
     let found = subst (λ (o : Option ℕ). IsFound g g.cpus (blocks_in h) o) is (found_home g from s (blocks_in h) goes.lists few given) in
-    ((killed, found), λ e. absurd (false≢true e))
+    ((killed, found.0, found.1), λ e. absurd (false≢true e))
 rest_hand g from s t None (Some ino) h r goes is same few given killed =
     let found = subst (λ (o : Option ℕ). IsFound g g.cpus (blocks_in h) o) is (found_home g from s (blocks_in h) goes.lists few given) in
     ((killed, given_all_home g (blocks_in h) goes.some goes.below found), λ e. absurd (false≢true e))
@@ -125,7 +125,7 @@ locking_hand g place t h r none going = go (nat_lt place (length r.slots)) where
   go true = (record { blocks = none.blocks; killed = none.killed; number = none.number; looked = none.looked }, λ e. going)
   go false = (record { blocks = none.blocks; killed = none.killed; number = none.number; looked = none.looked }, λ e. going)
 
-taken_none : (h : HandState) (r : Running) → h ≡ empty_hand → makes_inode (beginning r.call) ≡ false → HasTakenNone h r
+pub taken_none : (h : HandState) (r : Running) → h ≡ empty_hand → makes_inode (beginning r.call) ≡ false → HasTakenNone h r
 taken_none h r empty looks = record {
   blocks = no_blocks h empty;
   killed = ap (λ (x : HandState). x.killed) empty;

@@ -261,7 +261,7 @@ AllGoHome g k s h r block a =
 
 -- blocks at home on a CPU are taken there
 abbrev pub CanGive : GeometryNumbers → Next → Shared → HandState → Type 0
-CanGive g (Give cpu) s h = (cpu < g.cpus) × AreSized g.block (blocks_in h)
+CanGive g (Give cpu) s h = AreSized g.block (blocks_in h)
     × ((n : ℕ) → times n (numbers_of (blocks_in h)) + times n (numbers_of (list_at s cpu).blocks) ≤ 1)
 CanGive g other s h = Unit {0}
 
@@ -309,10 +309,10 @@ hand_kept g Leave a granted s h r some b goes give at going =
 hand_kept g (Unlock place) a granted s h r some b goes give at going = unlock_hand g _ place _ h r goes.1 at.0 at.1
 hand_kept g (Give cpu) a granted s h r some b goes give at going =
     let list = list_at s cpu in
-    let kept = all_given g cpu list (blocks_in h) (goes.0.lists.each cpu give.0) give.1 give.2 at.1 in
+    let kept = all_given g cpu list (blocks_in h) (goes.0.lists.each cpu at.1) give.0 give.1 at.2 in
     let same = given_all cpu s h in
     rest_hand g (cpu + 1) s _ _ h.ino (given cpu s h) r (record { some = goes.1.some; lists = goes.0.lists; below = goes.1.below })
-    refl refl (let inside = give.0 in omega (arith, inside))
+    refl refl (let inside = at.1 in omega (arith, inside))
     (subst (λ (l : List BlockValue). AreGiven g (cpu + 1) l) (sym same) kept) at.0
 hand_kept g Back a granted s h r some b goes give at going = back_hand g h.ino s h r refl at.0 at.1
 hand_kept g Visit a granted s h r some b goes give at going = visit_hand g _ _ _ _ s h r goes.0 at

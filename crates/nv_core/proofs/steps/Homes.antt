@@ -78,7 +78,7 @@ next_given g cpu list (b ∷ bs) start end given none =
 
 -- what is found: a CPU up to which all are given, or none, where all are
 abbrev pub IsFound : GeometryNumbers → ℕ → List BlockValue → Option ℕ → Type 0
-IsFound g cpus bs (Some cpu) = AreGiven g cpu bs
+IsFound g cpus bs (Some cpu) = (cpu < cpus) × AreGiven g cpu bs
 IsFound g cpus bs None = AreGiven g cpus bs
 
 found_from : (g : GeometryNumbers) (from cpu cpus : ℕ) (lists : List FreeBlocks) (bs : List BlockValue) → AreHomes g cpu lists
@@ -99,7 +99,7 @@ found_from g from cpu cpus (list ∷ lists) bs homes many few before behind =
           more (λ le. before (omega (arith, low)))
           (λ le. let same : from ≡ cpu + 1 = omega (arith, le, low) in
             subst (λ (n : ℕ). AreGiven g n bs) same (before (omega (arith, low))))
-      go false q true r more = behind (ltb-false cpu from q)
+      go false q true r more = (omega (arith, many), behind (ltb-false cpu from q))
       go false q false r more =
           let high = ltb-false cpu from q in
           let next = next_given g cpu list bs homes.0.0 homes.0.1 (behind high) r in

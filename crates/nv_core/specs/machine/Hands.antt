@@ -123,7 +123,7 @@ HandAt g Close h r = length h.killed ≡ length (written_slots r)
 HandAt g (Retire place) h r = length h.killed + place ≡ length (written_slots r)
 HandAt g Leave h r = h.killed ≡ []
 HandAt g (Unlock place) h r = (h.killed ≡ []) × (r.ending ≡ Overtaken → IsOvertaken h r)
-HandAt g (Give cpu) h r = (h.killed ≡ []) × AreGiven g cpu (blocks_in h)
+HandAt g (Give cpu) h r = (h.killed ≡ []) × (cpu < g.cpus) × AreGiven g cpu (blocks_in h)
 HandAt g Back h r = (h.killed ≡ []) × (blocks_in h ≡ [])
 HandAt g Visit h r = h ≡ empty_hand
 
