@@ -9,3 +9,14 @@ pub mod Scripts
 pub mod MoreRows
 pub mod Ordered
 pub mod InOrder
+pub mod Counting
+pub mod Kept
+pub mod Counted
+pub mod Parted
+pub mod Fitting
+pub mod Homes
+pub mod Handed
+pub mod HandedCommits
+pub mod Sound
+pub mod Tails
+pub mod Numbered
