@@ -1,5 +1,5 @@
 -- One page or entry more in a cell, in the course of a commit.
-use Rattle.std.proofs.Common.{◌≡◌, ℕ, zero, suc, ◌+◌, ◌-◌, ◌<◌, ◌≤◌, List, [], ◌∷◌, ◌++◌, length, take, drop, Option, Some, inr, arith, refl, ap, ap₂, sym, ◌∙◌, subst, append_assoc, slice_get}
+use Rattle.std.proofs.Common.{◌≡◌, ℕ, zero, suc, ◌+◌, ◌-◌, ◌<◌, ◌≤◌, List, [], ◌∷◌, ◌++◌, length, take, drop, Option, Some, inl, inr, arith, refl, ap, ap₂, sym, ◌∙◌, subst, append_assoc, slice_get}
 use Rattle.std.specs.Prelude.{option_to_list}
 use Rattle.std.specs.Option.{option_map}
 use Rattle.std.proofs.lemmas.List.{append-nil, length-append, drop-drop}
@@ -17,7 +17,7 @@ use Rattle.nv_cell.specs.Append.{MayAppend, blocks_for}
 use Rattle.nv_cell.specs.Cell.{CellState, CellValue}
 use Rattle.nv_cell.specs.Room.{IsReadyFor}
 use Rattle.nv_cell.proofs.ReadySteps.{adds_page, first_may, others_ready, page_ready}
-use Rattle.nv_calls.specs.Steps.{HaveBlocks, MayFollow, id_at, numbers_in, stamped_entry, with_entry, with_pages, without_front}
+use Rattle.nv_calls.specs.Steps.{HaveBlocks, IsLater, MayFollow, id_at, numbers_in, stamped_entry, with_entry, with_pages, without_front}
 use Rattle.nv_calls.proofs.CellLists.{value_is}
 use Rattle.nv_calls.specs.declared.stamp.Stamp.{Stamp}
 
@@ -195,3 +195,7 @@ page_added n v0 now new bs b here is now_is state room = record {
   ready = λ items h. page_ready b items now new is state room h;
   fewer = λ entries. ap (λ (s : CellState). pages_for s.chain entries) state ∙ (adds_page b now.state.chain is).pages_fall entries;
 }
+
+-- entries of a later commit may follow, from any place in it on
+pub later_follows : (stamp : Stamp) (place : ℕ) (cell : CellValue) → IsLater stamp cell → MayFollow stamp place cell
+later_follows stamp place cell later = record { id = λ last is. inl (later.commit last is); epoch = later.epoch }

@@ -1,7 +1,8 @@
 -- Lists of cells of which one changes.
-use Rattle.std.proofs.Common.{◌≡◌, ℕ, zero, suc, ◌<◌, List, [], ◌∷◌, length, arith, refl, ap, ap₂, ◌∙◌}
+use Rattle.std.proofs.Common.{◌≡◌, ℕ, zero, suc, ◌<◌, List, [], ◌∷◌, length, arith, refl, ap, ap₂, sym, ◌∙◌}
+use Rattle.std.proofs.lemmas.List.{get_or-set_other}
 use Rattle.nv_cell.specs.Cell.{CellRoom, CellState, CellValue}
-use Rattle.nv_calls.specs.Cells.{OnlyAt, ino_at, value_at, with_value}
+use Rattle.nv_calls.specs.Cells.{OnlyAt, ino_at, no_cell, value_at, with_value}
 
 pub value_with : (cells : List (ℕ × CellValue)) (k : ℕ) (v : CellValue) → k < length cells → value_at (with_value cells k v) k ≡ v
 value_with [] k v lt = absurd (omega (arith, lt))
@@ -37,10 +38,30 @@ only_again cells now new k v w is only value =
 pub only_along : (cells now new : List (ℕ × CellValue)) (k : ℕ) → OnlyAt k cells now → OnlyAt k now new → OnlyAt k cells new
 only_along cells now new k first second = only_again cells now new k (value_at now k) (value_at new k) first second refl
 
-pub ino_with : (cells : List (ℕ × CellValue)) (k : ℕ) (v : CellValue) → k < length cells → ino_at (with_value cells k v) k ≡ ino_at cells k
-ino_with [] k v lt = absurd (omega (arith, lt))
-ino_with (x ∷ xs) zero v lt = refl
-ino_with (x ∷ xs) (suc k) v lt = ino_with xs k v (omega (arith, lt))
+-- the other cells stay, and all numbers
+pub value_other : (cells : List (ℕ × CellValue)) (k other : ℕ) (v : CellValue) → (other ≡ k → ⊥)
+    → value_at (with_value cells k v) other ≡ value_at cells other
+value_other cells k other v apart = ap (λ (c : ℕ × CellValue). c.1) (get_or-set_other cells k other (ino_at cells k, v) no_cell apart)
+
+pub ino_stays : (cells : List (ℕ × CellValue)) (k other : ℕ) (v : CellValue) → ino_at (with_value cells k v) other ≡ ino_at cells other
+ino_stays [] k other v = refl
+ino_stays (x ∷ xs) zero zero v = refl
+ino_stays (x ∷ xs) zero (suc other) v = refl
+ino_stays (x ∷ xs) (suc k) zero v = refl
+ino_stays (x ∷ xs) (suc k) (suc other) v = ino_stays xs k other v
+
+pub other-only : (cells now : List (ℕ × CellValue)) (k other : ℕ) → OnlyAt k cells now → (other ≡ k → ⊥) → value_at now other ≡ value_at cells other
+other-only cells now k other only apart =
+    ap (λ (cs : List (ℕ × CellValue)). value_at cs other) only ∙ value_other cells k other (value_at now k) apart
+
+pub ino-only : (cells now : List (ℕ × CellValue)) (k other : ℕ) → OnlyAt k cells now → ino_at now other ≡ ino_at cells other
+ino-only cells now k other only =
+    ap (λ (cs : List (ℕ × CellValue)). ino_at cs other) only ∙ ino_stays cells k other (value_at now k)
+
+-- a cell that has a new value is all that changes
+pub only_value : (cells now : List (ℕ × CellValue)) (k : ℕ) (v : CellValue) → k < length cells → now ≡ with_value cells k v → OnlyAt k cells now
+only_value cells now k v lt is =
+    is ∙ ap (with_value cells k) (sym (ap (λ (cs : List (ℕ × CellValue)). value_at cs k) is ∙ value_with cells k v lt))
 
 pub length-only : (cells now : List (ℕ × CellValue)) (k : ℕ) → OnlyAt k cells now → length now ≡ length cells
 length-only cells now k only = ap length only ∙ length-with cells k (value_at now k)

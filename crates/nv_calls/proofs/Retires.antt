@@ -1,14 +1,23 @@
 -- One killed part after another is kept or goes out.
-use Rattle.std.proofs.Common.{◌≡◌, ℕ, zero, suc, ◌+◌, ◌<◌, List, [], ◌∷◌, length, map, drop, get_or, Bool, true, false, cond, Option, Some, None, add-one, arith, refl, ap, ◌∙◌}
+use Rattle.std.proofs.Common.{◌≡◌, ℕ, ◌+◌, ◌-◌, ◌<◌, ◌≤◌, List, [], ◌∷◌, ◌++◌, length, map, drop, get_or, Bool, true, false, cond, Option, Some, None, add-one, append_assoc, arith, refl, ap, ap₂, subst, sym, ◌∙◌}
+use Rattle.std.specs.Prelude.{option_to_list, slice_index_or}
+use Rattle.std.specs.List.{flat_map}
+use Rattle.std.proofs.lemmas.List.{append-nil, length-append}
+use Rattle.std.proofs.lemmas.List.Concat.{flat_map-cons}
 use Rattle.std.proofs.Math.Seq.{drop-cons}
+use Rattle.nv_alloc.specs.Block.{BlockValue}
+use Rattle.nv_alloc.specs.Queue.{QueueValue}
 use Rattle.nv_alloc.specs.declared.hand.Hand.{Hand}
-use Rattle.nv_cell.specs.Cell.{CellState, number_in}
+use Rattle.nv_base.specs.declared.limits.TheConstants.{NUMBER}
+use Rattle.nv_log.specs.Chain.{ChainState, log}
+use Rattle.nv_cell.specs.Cell.{CellState, log_of, number_in}
+use Rattle.nv_cell.specs.Readers.{is_gone}
 use Rattle.nv_cell.specs.Killed.{AreKilled}
 use Rattle.nv_cell.specs.declared.killed.KilledPart.{KilledPart}
 use Rattle.nv_cell.specs.declared.mark.Mark.TheVariants.{Killed, Kept, Out}
 use Rattle.nv_cell.proofs.KilledParts.{gone_out, marked_anew, others_killed}
-use Rattle.nv_calls.specs.Ready.{CellPlanValue, no_plan, plan_at}
-use Rattle.nv_calls.specs.Retiring.{hand_with, is_erased, keeper_of, number_back, part_in, retired, retired_one, settled}
+use Rattle.nv_calls.specs.Retired.{CanTakeGone}
+use Rattle.nv_calls.specs.Retiring.{freed, freed_by, freed_one, hand_with, is_erased, keeper_of, number_back, part_in, retired, retired_one, settled, with_back}
 
 -- the parts from a place on
 pub rest_is : (all : List KilledPart) (i : ℕ) (d : KilledPart) → i < length all → drop i all ≡ get_or all i d ∷ drop (i + 1) all
@@ -58,14 +67,66 @@ generation_stays living ino epoch (killed ∷ later) cell =
     generation_stays living ino epoch later (retired_one living ino epoch killed cell)
     ∙ one_generation (keeper_of living ino epoch killed) (number_in cell killed.part) cell
 
--- the place of the plan that was read
-same_default : (xs : List CellPlanValue) (k : ℕ) (a b : CellPlanValue) → k < length xs → get_or xs k a ≡ get_or xs k b
-same_default [] k a b lt = absurd (omega (arith, lt))
-same_default (x ∷ xs) zero a b lt = refl
-same_default (x ∷ xs) (suc k) a b lt = same_default xs k a b (omega (arith, lt))
+-- ---- blocks behind the others of a queue
 
-pub at_is : (inside plans : List CellPlanValue) (j at : ℕ) (read : CellPlanValue) → inside ≡ plans → at ≡ read.at → read ≡ get_or inside j read
-    → j < length plans → at ≡ (plan_at plans j).at
-at_is inside plans j at read same own is lt =
-    own ∙ ap (λ (p : CellPlanValue). p.at) is ∙ ap (λ (xs : List CellPlanValue). (get_or xs j read).at) same
-    ∙ ap (λ (p : CellPlanValue). p.at) (same_default plans j read no_plan lt)
+pub back_none : (queue : QueueValue) → queue ≡ with_back [] queue
+back_none queue =
+    let room : queue.room ≡ queue.room - 0 = omega arith in
+    ap₂ (λ (bs : List BlockValue) (r : ℕ). let q : QueueValue = record { blocks = bs; size = queue.size; room = r } in q)
+    (sym (append-nil queue.blocks)) room
+
+pub back_more : (xs ys : List BlockValue) (queue : QueueValue) → with_back ys (with_back xs queue) ≡ with_back (xs ++ ys) queue
+back_more xs ys queue =
+    let room : queue.room - length xs - length ys ≡ queue.room - length (xs ++ ys) = omega (arith, length-append xs ys) in
+    ap₂ (λ (bs : List BlockValue) (r : ℕ). let q : QueueValue = record { blocks = bs; size = queue.size; room = r } in q)
+    (append_assoc queue.blocks xs ys) room
+
+-- a part sets at most one block free
+pub freed_few : (living : List ℕ) (ino epoch : ℕ) (killed : KilledPart) (cell : CellState) → length (freed_one living ino epoch killed cell) ≤ 1
+freed_few living ino epoch killed cell = go (keeper_of living ino epoch killed) where
+  one : (b : Option BlockValue) → length (option_to_list b) ≤ 1
+  one (Some b) = omega arith
+  one None = omega arith
+
+  go : (keeper : Option ℕ) → length (freed keeper (number_in cell killed.part) cell) ≤ 1
+  go (Some s) = omega arith
+  go None = one (slice_index_or cell.blocks (number_in cell killed.part) None)
+
+pub freed_within : (living : List ℕ) (ino epoch : ℕ) (all : List KilledPart) (cell : CellState)
+    → length (freed_by living ino epoch all cell) ≤ length all
+freed_within living ino epoch [] cell = omega arith
+freed_within living ino epoch (killed ∷ later) cell =
+    let after : CellState = retired_one living ino epoch killed cell in
+    omega (
+      arith,
+      length-append (freed_one living ino epoch killed cell) (freed_by living ino epoch later after),
+      freed_few living ino epoch killed cell,
+      freed_within living ino epoch later after,
+    )
+
+-- ---- the killed parts of a publish are told by their numbers
+
+pub killed_list : (f : ℕ → Option KilledPart) (ns : List ℕ) (ks : List KilledPart) → map Some ks ≡ map f ns
+    → ks ≡ flat_map (λ n. option_to_list (f n)) ns
+killed_list f [] [] h = refl
+killed_list f [] (k ∷ ks) h = cc
+killed_list f (n ∷ ns) [] h = cc
+killed_list f (n ∷ ns) (k ∷ ks) h =
+    let first : Some k ≡ f n = cc in
+    let rest : map Some ks ≡ map f ns = cc in
+    ap (λ (xs : List KilledPart). k ∷ xs) (killed_list f ns ks rest)
+    ∙ ap (λ (o : Option KilledPart). option_to_list o ++ flat_map (λ m. option_to_list (f m)) ns) first
+    ∙ sym (flat_map-cons (λ m. option_to_list (f m)) n ns)
+
+-- ---- an inode that is gone stays so, and can go to the hand still
+
+pub gone_fits : (hand later : Hand) (cell mid : CellState) → mid.chain ≡ cell.chain → mid.generation ≡ cell.generation
+    → later.chain ≡ hand.chain → later.ino ≡ hand.ino → (is_gone (log_of cell) ≡ true → CanTakeGone hand cell)
+    → is_gone (log_of mid) ≡ true → CanTakeGone later mid
+gone_fits hand later cell mid chain generation pages number may gone =
+    let can : CanTakeGone hand cell = may (sym (ap (λ (c : ChainState). is_gone (log c)) chain) ∙ gone) in
+    record {
+      generation = subst (λ (n : ℕ). n < NUMBER) (sym generation) can.generation;
+      chain = ap length pages ∙ can.chain;
+      number = number ∙ can.number;
+    }

@@ -1,5 +1,7 @@
 pub mod AllCalls
 pub mod Cells
+pub mod Commit
+pub mod Committed
 pub mod Filling
 pub mod Lawful
 pub mod Locked

@@ -1,6 +1,8 @@
 -- What becomes of the parts that a commit killed: a snapshot keeps a part, or its block is free.
-use Rattle.std.specs.Prelude.{ℕ, ◌+◌, ◌&&◌, Bool, if◌then◌else◌, nat_le, List, [], ◌∷◌, ◌++◌, Option, Some, None, option_to_list, slice_index_or}
+use Rattle.std.specs.Prelude.{ℕ, ◌+◌, ◌-◌, ◌&&◌, Bool, if◌then◌else◌, nat_le, List, [], ◌∷◌, ◌++◌, Option, Some, None, length, option_to_list, slice_index_or}
+use Rattle.std.specs.List.{flat_map}
 use Rattle.nv_alloc.specs.Block.{BlockValue}
+use Rattle.nv_alloc.specs.Queue.{QueueValue}
 use Rattle.nv_alloc.specs.declared.hand.Hand.{Hand}
 use Rattle.nv_base.specs.declared.limits.TheConstants.{NUMBER}
 use Rattle.nv_book.specs.Manifests.{put_to}
@@ -8,10 +10,15 @@ use Rattle.nv_book.specs.Records.{holder_of}
 use Rattle.nv_book.specs.declared.manifest.Manifest.{Manifest}
 use Rattle.nv_book.specs.declared.record.Record.{Record}
 use Rattle.nv_entry.specs.declared.part.PartId.{PartId}
-use Rattle.nv_cell.specs.Cell.{CellState, empty_cell, log_of, number_in, with_mark, without_part}
+use Rattle.nv_cell.specs.Cell.{CellState, empty_cell, killed_of, log_of, number_in, with_mark, without_part}
+use Rattle.nv_cell.specs.Numbers.{killed_part}
 use Rattle.nv_cell.specs.Readers.{is_gone, keeps_nothing}
 use Rattle.nv_cell.specs.declared.killed.KilledPart.{KilledPart}
 use Rattle.nv_cell.specs.declared.mark.Mark.TheVariants.{Kept}
+
+-- the parts that a publish of all entries of a cell kills
+abbrev pub killed_by : CellState → List KilledPart
+killed_by cell = flat_map (λ n. option_to_list (killed_part cell.chain.entries n)) (killed_of cell)
 
 abbrev pub part_in : KilledPart → PartId
 part_in killed = killed.part
@@ -72,3 +79,13 @@ number_back ino cell number = if nat_le NUMBER (cell.generation + 1) then number
 abbrev pub hand_with : ℕ → CellState → Hand → Hand
 hand_with ino cell hand =
     if is_erased cell then record hand { chain = cell.chain.blocks; ino = number_back ino cell hand.ino } else hand
+
+-- a queue with more blocks behind the others
+abbrev pub with_back : List BlockValue → QueueValue → QueueValue
+with_back blocks queue = record queue { blocks = queue.blocks ++ blocks; room = queue.room - length blocks }
+
+-- a hand, once killed parts are retired and the inode is erased where it is gone and nothing is kept
+abbrev pub hand_retired : List ℕ → ℕ → ℕ → List KilledPart → CellState → Hand → Hand
+hand_retired living ino epoch killed cell hand =
+    hand_with ino (retired living ino epoch killed cell)
+    (record hand { «data» = with_back (freed_by living ino epoch killed cell) hand.data })

@@ -50,6 +50,11 @@ id_at stamp place = record { commit = stamp.commit; place = place }
 abbrev pub stamped_entry : Stamp → ℕ → Item → Entry
 stamped_entry stamp place item = record { id = id_at stamp place; epoch = stamp.epoch; item = item }
 
+-- the entries of a cell are of earlier commits, and of no later epoch
+pub record IsLater (stamp : Stamp) (cell : CellValue) : Type 0 where
+  pub commit : ForSome (last_id cell.state.chain) (λ last. last.commit < stamp.commit)
+  pub epoch : ForSome (last_epoch cell.state.chain) (λ last. last ≤ stamp.epoch)
+
 -- entries of a commit may follow those of a cell, from a place in it on
 pub record MayFollow (stamp : Stamp) (place : ℕ) (cell : CellValue) : Type 0 where
   pub id : ForSome (last_id cell.state.chain) (λ last. IsIdBefore last (id_at stamp place))
@@ -69,7 +74,7 @@ without_front n queue = record queue { blocks = drop n queue.blocks; room = queu
 -- cell is ready for them, and the hand has the pages that the log needs, and in front the blocks of the items' pages
 pub record CanAppendPlan (stamp : Stamp) (place : ℕ) (items : List Item) (hand : Hand) (cell : CellValue) : Type 0 where
   pub ready : IsReadyFor items cell
-  pub follow : MayFollow stamp place cell
+  pub later : IsLater stamp cell
   pub pages : pages_for cell.state.chain (length items) ≤ length hand.pages.blocks
   pub page_size : hand.pages.size ≡ cell.state.block
   pub blocks : HaveBlocks items cell.state.block hand.data

@@ -105,8 +105,6 @@ pub(crate) fn append_plan<C: Cells>(
     ensures cells { C.cells cells.new ≡ with_value (C.cells cells.old) k
         (with_plan stamp.now place items.items hand.old (value_at (C.cells cells.old) k)) }
     ensures ready { IsReadyFor [] (value_at (C.cells cells.new) k) }
-    ensures follow { MayFollow stamp.now (place + length items.items)
-        (value_at (C.cells cells.new) k) }
     ensures hand { hand.new
         ≡ hand_after items.items (state_at (C.cells cells.old) k).chain hand.old }
     ensures places { C.places cells.new ≡ C.places cells.old }

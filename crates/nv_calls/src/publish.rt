@@ -1,15 +1,15 @@
 //! The tails of a commit, moved cell by cell, and the journal round them.
 
-ghost use Rattle.std.specs.Prelude.{◌≡◌, ◌<◌, ◌≤◌, ◌^◌, [], Some, length, map, slice_index_or, vec_len};
+ghost use Rattle.std.specs.Prelude.{◌≡◌, ◌<◌, ◌≤◌, ◌^◌, [], length, map, slice_index_or, vec_len};
 ghost use Rattle.nv_book.specs.Book.{with_journal};
-ghost use Rattle.nv_cell.specs.Cell.{KeepsAppendRoom, fresh_of, killed_of, log_of, published};
+ghost use Rattle.nv_cell.specs.Cell.{KeepsAppendRoom, fresh_of, log_of, published};
 ghost use Rattle.nv_cell.specs.Effects.{items_of};
 ghost use Rattle.nv_cell.specs.Killed.{AreKilled};
-ghost use Rattle.nv_cell.specs.Numbers.{killed_part};
 ghost use Rattle.nv_cell.specs.Room.{IsReadyFor};
 ghost use Rattle.nv_cell.specs.Weights.{weights_in};
 ghost use Rattle.nv_calls.specs.Cells.{AreCells, OnlyAt, state_at, value_at};
 ghost use Rattle.nv_calls.specs.Ready.{ArePlaced, old_tails};
+ghost use Rattle.nv_calls.specs.Retiring.{killed_by, part_in};
 
 use crate::{CellPlan, Cells};
 use nv_book::Book;
@@ -27,13 +27,11 @@ pub(crate) fn publish_cell<C: Cells>(cells: &mut C, k: usize) -> Vec<KilledPart>
     requires ready { IsReadyFor [] (value_at (C.cells cells.old) k) }
     ensures cells { OnlyAt k (C.cells cells.old) (C.cells cells.new) }
     ensures state { state_at (C.cells cells.new) k ≡ published (state_at (C.cells cells.old) k) }
-    ensures killed { map Some result.items
-        ≡ map (killed_part (state_at (C.cells cells.old) k).chain.entries)
-        (killed_of (state_at (C.cells cells.old) k)) }
+    ensures killed { result.items ≡ killed_by (state_at (C.cells cells.old) k) }
     ensures few { vec_len result ≤ weights_in (state_at (C.cells cells.old) k).block
         (log_of (state_at (C.cells cells.old) k))
         (items_of (fresh_of (state_at (C.cells cells.old) k))) }
-    ensures marked { AreKilled (map (λ killed. killed.part) result.items)
+    ensures marked { AreKilled (map part_in result.items)
         (state_at (C.cells cells.new) k) }
     ensures room { KeepsAppendRoom (value_at (C.cells cells.old) k).room
         (value_at (C.cells cells.new) k).room }

@@ -1,9 +1,11 @@
 //! A call that is ready to be committed.
 
-ghost use Rattle.std.specs.Prelude.{◌≡◌, ◌<◌, length};
-ghost use Rattle.nv_calls.specs.Ready.{plan_at};
+ghost use Rattle.std.specs.Prelude.{◌≡◌, ◌-◌, ◌<◌, ◌^◌, length, min};
+ghost use Rattle.nv_calls.specs.Cells.{AreCells};
+ghost use Rattle.nv_calls.specs.Commit.{begun};
+ghost use Rattle.nv_calls.specs.Ready.{ArePlaced, need_of, plan_at};
 
-use crate::Update;
+use crate::{Cells, Commit, Stamp, Update};
 use nv_alloc::Hand;
 use nv_base::Handle;
 use nv_cell::KilledPart;
@@ -36,8 +38,6 @@ pub struct Ready {
     pub(crate) made: Option<Handle>,
     // By rising place of the cells.
     pub(crate) plans: Vec<CellPlan>,
-    // How many entries are appended.
-    pub(crate) place: u32,
     pub(crate) hand: Hand,
 }
 
@@ -50,7 +50,6 @@ impl Model for Ready {
       update = r.update;
       made = r.made;
       plans = r.plans.items;
-      place = r.place;
       hand = r.hand;
     } };
 }
@@ -65,7 +64,6 @@ impl Ready {
             update: _,
             made: _,
             plans: _,
-            place: _,
             hand,
         } = self;
         hand
@@ -91,5 +89,45 @@ impl Ready {
         ensures { result ≡ (plan_at self.now.plans j).at }
     {
         self.plans[j].at
+    }
+
+    /// For how many records the commit needs room in the book, as [`nv_book::Book::enter`] is told: one for each part
+    /// that it may kill, up to the greatest number. The time is that of the items, and for each cut that of the runs of
+    /// pages that it takes out.
+    pub fn need<C: Cells>(&self, cells: &C) -> u64
+        requires { ArePlaced (C.cells cells.now) self.now.plans }
+        ensures { result ≡ min (need_of (C.cells cells.now) self.now.plans) (2 ^ 64 - 1) }
+    {
+        let mut need: usize = 0;
+        for plan in &self.plans {
+            need = need.saturating_add(cells.cell(plan.at).most_killed(&plan.items));
+        }
+        need as u64
+    }
+
+    /// Begins the commit that has this number and epoch. Takes no memory.
+    pub(crate) fn begin(self, stamp: Stamp) -> Commit
+        ensures { result ≡ begun stamp self }
+    {
+        let Ready {
+            alloc,
+            update,
+            made,
+            plans,
+            hand,
+        } = self;
+        Commit {
+            alloc,
+            update,
+            made,
+            plans,
+            hand,
+            stamp,
+            place: 0,
+            appended: 0,
+            published: 0,
+            retired: 0,
+            journal_open: false,
+        }
     }
 }

@@ -2,12 +2,13 @@
 
 ghost use Rattle.std.specs.Prelude.{◌≡◌, ◌+◌, ◌<◌, ◌≤◌, ◌++◌, ◌∷◌, [], None, Some, length, map, true};
 ghost use Rattle.nv_epoch.specs.SnapList.{ids};
-ghost use Rattle.nv_base.specs.declared.limits.TheConstants.{NUMBER};
-ghost use Rattle.nv_cell.specs.Cell.{mark_named};
+ghost use Rattle.nv_cell.specs.Cell.{log_of, mark_named};
 ghost use Rattle.nv_cell.specs.Killed.{AreKilled};
+ghost use Rattle.nv_cell.specs.Readers.{is_gone};
 ghost use Rattle.nv_cell.specs.declared.mark.Mark.TheVariants as mark;
 ghost use Rattle.nv_calls.specs.Cells.{OnlyAt, ino_at, state_at, value_at, with_value};
-ghost use Rattle.nv_calls.specs.Retiring.{erased, freed_by, freed_one, hand_with, is_erased, part_in, record_of, retired, retired_one, with_records};
+ghost use Rattle.nv_calls.specs.Retired.{CanTakeGone};
+ghost use Rattle.nv_calls.specs.Retiring.{erased, freed_by, freed_one, hand_with, part_in, record_of, retired, retired_one, with_back, with_records};
 
 use crate::Cells;
 use nv_alloc::{BlockQueue, Hand};
@@ -55,10 +56,8 @@ fn retire_part<C: Cells>(
           (killed ∷ []) book.old.state.manifests;
     } }
     ensures room { book.old.room ≤ book.new.room + 1 }
-    ensures free { free.new.blocks ≡ free.old.blocks ++ freed_one (ids book.old.state.snaps)
-        (ino_at (C.cells cells.old) k) epoch killed (state_at (C.cells cells.old) k) }
-    ensures size { free.new.size ≡ free.old.size }
-    ensures places { free.old.room ≤ free.new.room + 1 }
+    ensures free { free.new ≡ with_back (freed_one (ids book.old.state.snaps)
+        (ino_at (C.cells cells.old) k) epoch killed (state_at (C.cells cells.old) k)) free.old }
     ensures lent { C.places cells.new ≡ C.places cells.old }
     ensures beside { C.beside cells.new ≡ C.beside cells.old }
 {
@@ -100,10 +99,8 @@ pub(crate) fn retire_parts<C: Cells>(
           killed.now book.old.state.manifests;
     } }
     ensures room { book.old.room ≤ book.new.room + length killed.now }
-    ensures free { free.new.blocks ≡ free.old.blocks ++ freed_by (ids book.old.state.snaps)
-        (ino_at (C.cells cells.old) k) epoch killed.now (state_at (C.cells cells.old) k) }
-    ensures size { free.new.size ≡ free.old.size }
-    ensures places { free.old.room ≤ free.new.room + length killed.now }
+    ensures free { free.new ≡ with_back (freed_by (ids book.old.state.snaps)
+        (ino_at (C.cells cells.old) k) epoch killed.now (state_at (C.cells cells.old) k)) free.old }
     ensures lent { C.places cells.new ≡ C.places cells.old }
     ensures beside { C.beside cells.new ≡ C.beside cells.old }
 {
@@ -118,9 +115,8 @@ pub(crate) fn erase_gone<C: Cells>(cells: &mut C, k: usize, hand: &mut Hand)
     requires within { k < length (C.cells cells.old) }
     requires published { (state_at (C.cells cells.old) k).chain.tail
         ≡ length (state_at (C.cells cells.old) k).chain.entries }
-    requires generation { (state_at (C.cells cells.old) k).generation < NUMBER }
-    requires chain { is_erased (state_at (C.cells cells.old) k) ≡ true → length hand.old.chain ≡ 0 }
-    requires number { is_erased (state_at (C.cells cells.old) k) ≡ true → hand.old.ino ≡ None }
+    requires gone { is_gone (log_of (state_at (C.cells cells.old) k)) ≡ true
+        → CanTakeGone hand.old (state_at (C.cells cells.old) k) }
     ensures cells { OnlyAt k (C.cells cells.old) (C.cells cells.new) }
     ensures state { state_at (C.cells cells.new) k ≡ erased (state_at (C.cells cells.old) k) }
     ensures hand { hand.new

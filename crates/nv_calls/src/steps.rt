@@ -1,166 +1,164 @@
 //! The steps of a commit, cell by cell.
 
-ghost use Rattle.std.specs.Prelude.{◌≡◌, ◌+◌, ◌<◌, ◌≤◌, ◌^◌, ◌++◌, [], Some, length, map, slice_index_or};
+ghost use Rattle.std.specs.Prelude.{◌≡◌, ◌<◌, ◌≤◌, ◌+◌, ◌^◌, [], false, length, map, slice_index_or, true};
+ghost use Rattle.std.specs.Option.{option_map};
+ghost use Rattle.nv_base.specs.declared.numbers.Handle.{Handle};
 ghost use Rattle.nv_book.specs.Book.{with_journal};
-ghost use Rattle.nv_cell.specs.Cell.{KeepsAppendRoom, killed_of, published};
+ghost use Rattle.nv_cell.specs.Cell.{KeepsAppendRoom, fresh_of, log_of, published};
+ghost use Rattle.nv_cell.specs.Effects.{items_of};
 ghost use Rattle.nv_cell.specs.Killed.{AreKilled};
-ghost use Rattle.nv_cell.specs.Numbers.{killed_part};
 ghost use Rattle.nv_cell.specs.Room.{IsReadyFor};
+ghost use Rattle.nv_cell.specs.Weights.{weights_in};
 ghost use Rattle.nv_epoch.specs.SnapList.{ids};
 ghost use Rattle.nv_calls.specs.Cells.{AreCells, OnlyAt, ino_at, state_at, value_at, with_value};
-ghost use Rattle.nv_calls.specs.Ready.{ArePlaced, is_made, old_tails, plan_at, ready_appended, ready_published};
+ghost use Rattle.nv_calls.specs.Commit.{after_append, after_close, after_open, after_publish, after_retire, to_append, to_publish, to_retire};
+ghost use Rattle.nv_calls.specs.Ready.{ArePlaced, old_tails};
 ghost use Rattle.nv_calls.specs.Retired.{CanRetire};
-ghost use Rattle.nv_calls.specs.Retiring.{erased, freed_by, hand_with, part_in, retired, with_records};
-ghost use Rattle.nv_calls.specs.Steps.{CanAppendPlan, MayFollow, with_plan};
+ghost use Rattle.nv_calls.specs.Retiring.{erased, killed_by, part_in, retired, with_records};
+ghost use Rattle.nv_calls.specs.Steps.{CanAppendPlan, with_plan};
 
 use crate::append::append_plan;
 use crate::publish::{open_journal, publish_cell};
 use crate::retire::{erase_gone, retire_parts};
-use crate::{Cells, Ready, Stamp};
-use nv_base::{Handle, Ino};
+use crate::{Cells, Commit};
 use nv_book::Book;
-use std::mem;
 
-/// Appends the entries of one cell past its tail, with pages of the log and the blocks of their pages from the call's
-/// hand. Takes no memory.
-pub fn append_on<C: Cells>(cells: &mut C, ready: &mut Ready, j: usize, stamp: &Stamp)
-    requires planned { j < length ready.old.plans }
-    requires within { (plan_at ready.old.plans j).at < length (C.cells cells.old) }
-    requires can { let plan = plan_at ready.old.plans j in
-        CanAppendPlan stamp.now ready.old.place plan.items ready.old.hand (value_at (C.cells cells.old) plan.at) }
-    ensures cells { let plan = plan_at ready.old.plans j in
-        C.cells cells.new ≡ with_value (C.cells cells.old) plan.at (with_plan stamp.now ready.old.place
-        plan.items ready.old.hand (value_at (C.cells cells.old) plan.at)) }
-    ensures ready { ready.new ≡ ready_appended j
-        (state_at (C.cells cells.old) (plan_at ready.old.plans j).at).chain ready.old }
-    ensures can_publish { IsReadyFor [] (value_at (C.cells cells.new) (plan_at ready.old.plans j).at) }
-    ensures follow { MayFollow stamp.now ready.new.place
-        (value_at (C.cells cells.new) (plan_at ready.old.plans j).at) }
+/// Appends the entries of the next cell past its tail, with pages of the log and the blocks of their pages from the
+/// call's hand. Takes no memory.
+pub fn append_on<C: Cells>(cells: &mut C, commit: &mut Commit)
+    requires turn { commit.old.appended < length commit.old.plans }
+    requires within { (to_append commit.old).at < length (C.cells cells.old) }
+    requires can { let plan = to_append commit.old in
+        CanAppendPlan commit.old.stamp commit.old.place plan.items commit.old.hand
+        (value_at (C.cells cells.old) plan.at) }
+    ensures cells { let plan = to_append commit.old in
+        C.cells cells.new ≡ with_value (C.cells cells.old) plan.at
+        (with_plan commit.old.stamp commit.old.place plan.items commit.old.hand
+        (value_at (C.cells cells.old) plan.at)) }
+    ensures commit { commit.new
+        ≡ after_append (state_at (C.cells cells.old) (to_append commit.old).at).chain commit.old }
+    ensures can_publish { IsReadyFor [] (value_at (C.cells cells.new) (to_append commit.old).at) }
     ensures places { C.places cells.new ≡ C.places cells.old }
     ensures beside { C.beside cells.new ≡ C.beside cells.old }
 {
-    let plan = &mut ready.plans[j];
-    let k = plan.at;
-    let items = mem::replace(&mut plan.items, Vec::new(ready.alloc));
+    let j = commit.appended;
+    let k = commit.place_of(j);
+    let items = commit.take_items(j);
     let count = items.len() as u32;
-    append_plan(cells, k, stamp, ready.place, items, &mut ready.hand);
-    ready.place += count;
+    append_plan(
+        cells,
+        k,
+        &commit.stamp,
+        commit.place,
+        items,
+        &mut commit.hand,
+    );
+    commit.place += count;
+    commit.appended += 1;
 }
 
-/// Opens a CPU's journal with the cells that get entries and their tails, where they are two or more. Takes no memory.
-pub fn open_on<C: Cells>(book: &mut Book, cells: &C, ready: &Ready, cpu: u64)
+/// Opens a CPU's journal with the cells that get entries and their tails, where they are two or more and all entries are
+/// appended. Takes no memory.
+pub fn open_on<C: Cells>(book: &mut Book, cells: &C, commit: &mut Commit, cpu: u64)
+    requires turn { commit.old.appended ≡ length commit.old.plans }
+    requires first { commit.old.published ≡ 0 }
     requires cells { AreCells (C.cells cells.now) }
-    requires placed { ArePlaced (C.cells cells.now) ready.now.plans }
-    requires two { 2 ≤ length ready.now.plans }
-    requires four { length ready.now.plans ≤ 4 }
+    requires placed { ArePlaced (C.cells cells.now) commit.old.plans }
+    requires two { 2 ≤ length commit.old.plans }
+    requires four { length commit.old.plans ≤ 4 }
     requires cpu { cpu < length book.old.state.journals }
     requires closed { slice_index_or book.old.state.journals cpu [] ≡ [] }
-    ensures { book.new ≡ record book.old {
-      state = with_journal cpu (old_tails (C.cells cells.now) ready.now.plans) book.old.state;
+    ensures book { book.new ≡ record book.old {
+      state = with_journal cpu (old_tails (C.cells cells.now) commit.old.plans) book.old.state;
     } }
+    ensures commit { commit.new ≡ after_open commit.old }
 {
-    open_journal(ready.alloc, book, cells, &ready.plans, cpu);
+    open_journal(commit.alloc, book, cells, &commit.plans, cpu);
+    commit.journal_open = true;
 }
 
-/// Publishes the entries of one cell, which moves its tail, and keeps the parts that this kills. The number of a new inode
-/// leaves the call's hand then. Takes no memory.
-pub fn publish_on<C: Cells>(cells: &mut C, ready: &mut Ready, j: usize)
-    requires planned { j < length ready.old.plans }
-    requires within { (plan_at ready.old.plans j).at < length (C.cells cells.old) }
-    requires some { let cell = state_at (C.cells cells.old) (plan_at ready.old.plans j).at in
+/// Publishes the entries of the next cell, which moves its tail, and keeps the parts that this kills. All entries are
+/// appended, and of two or more cells the journal is open. Takes no memory.
+pub fn publish_on<C: Cells>(cells: &mut C, commit: &mut Commit)
+    requires turn { commit.old.published < length commit.old.plans }
+    requires appended { commit.old.appended ≡ length commit.old.plans }
+    requires journal { 2 ≤ length commit.old.plans → commit.old.journal_open ≡ true }
+    requires within { (to_publish commit.old).at < length (C.cells cells.old) }
+    requires some { let cell = state_at (C.cells cells.old) (to_publish commit.old).at in
         cell.chain.tail < length cell.chain.entries }
-    requires version { (state_at (C.cells cells.old) (plan_at ready.old.plans j).at).version < 2 ^ 62 }
-    requires ready { IsReadyFor [] (value_at (C.cells cells.old) (plan_at ready.old.plans j).at) }
-    ensures cells { OnlyAt (plan_at ready.old.plans j).at (C.cells cells.old) (C.cells cells.new) }
-    ensures state { let k = (plan_at ready.old.plans j).at in
+    requires version { (state_at (C.cells cells.old) (to_publish commit.old).at).version < 2 ^ 62 }
+    requires ready { IsReadyFor [] (value_at (C.cells cells.old) (to_publish commit.old).at) }
+    ensures cells { OnlyAt (to_publish commit.old).at (C.cells cells.old) (C.cells cells.new) }
+    ensures state { let k = (to_publish commit.old).at in
         state_at (C.cells cells.new) k ≡ published (state_at (C.cells cells.old) k) }
-    ensures ready { ready.new ≡ ready_published j (ino_at (C.cells cells.old) (plan_at ready.old.plans j).at)
-        (plan_at ready.new.plans j).killed ready.old }
-    ensures killed { let cell = state_at (C.cells cells.old) (plan_at ready.old.plans j).at in
-        map Some (plan_at ready.new.plans j).killed
-        ≡ map (killed_part cell.chain.entries) (killed_of cell) }
-    ensures marked { AreKilled (map part_in (plan_at ready.new.plans j).killed)
-        (state_at (C.cells cells.new) (plan_at ready.old.plans j).at) }
-    ensures room { let k = (plan_at ready.old.plans j).at in
+    ensures commit { let cell = state_at (C.cells cells.old) (to_publish commit.old).at in
+        commit.new ≡ after_publish (killed_by cell) commit.old }
+    ensures few { let cell = state_at (C.cells cells.old) (to_publish commit.old).at in
+        length (killed_by cell) ≤ weights_in cell.block (log_of cell) (items_of (fresh_of cell)) }
+    ensures marked { let k = (to_publish commit.old).at in
+        AreKilled (map part_in (killed_by (state_at (C.cells cells.old) k)))
+        (state_at (C.cells cells.new) k) }
+    ensures room { let k = (to_publish commit.old).at in
         KeepsAppendRoom (value_at (C.cells cells.old) k).room (value_at (C.cells cells.new) k).room }
     ensures places { C.places cells.new ≡ C.places cells.old }
     ensures beside { C.beside cells.new ≡ C.beside cells.old }
 {
-    let plan = &mut ready.plans[j];
-    let k = plan.at;
-    plan.killed = publish_cell(cells, k);
-    if is_made(cells.ino(k), &ready.made) {
-        let _number = ready.hand.take_ino();
-    }
+    let j = commit.published;
+    let killed = publish_cell(cells, commit.place_of(j));
+    commit.keep_killed(j, killed);
+    commit.published += 1;
 }
 
-/// Whether the made inode is this one.
-fn is_made(ino: Ino, made: &Option<Handle>) -> bool
-    ensures { result ≡ is_made ino made.now }
-{
-    match made {
-        Some(made) => made.ino == ino,
-        None => false,
-    }
-}
-
-/// Closes the journal that a commit opened. Takes no memory.
-pub fn close_on(book: &mut Book, cpu: u64)
-    requires { cpu < length book.old.state.journals }
-    ensures { book.new ≡ record book.old { state = with_journal cpu [] book.old.state } }
+/// Closes the journal that a commit opened, once all entries are published. From here on a new inode has its number: it
+/// leaves the call's hand. Takes no memory.
+pub fn close_on(book: &mut Book, commit: &mut Commit, cpu: u64)
+    requires turn { commit.old.published ≡ length commit.old.plans }
+    requires journal { commit.old.journal_open ≡ true }
+    requires number { commit.old.hand.ino ≡ option_map (λ (h : Handle). h.ino) commit.old.made }
+    requires cpu { cpu < length book.old.state.journals }
+    ensures book { book.new ≡ record book.old { state = with_journal cpu [] book.old.state } }
+    ensures commit { commit.new ≡ after_close commit.old }
 {
     book.close_journal(cpu);
+    let _number = commit.hand.take_ino();
+    commit.journal_open = false;
 }
 
-/// Retires the parts that the publish of one cell killed: each is recorded for the youngest living snapshot that holds it,
-/// or else goes out, and its block to the call's hand. A gone inode of which nothing is kept is erased, and its chain and
-/// number go to the hand. Takes no memory.
-pub fn retire_on<C: Cells>(
-    book: &mut Book,
-    cells: &mut C,
-    ready: &mut Ready,
-    j: usize,
-    stamp: &Stamp,
-)
-    requires planned { j < length ready.old.plans }
-    requires within { (plan_at ready.old.plans j).at < length (C.cells cells.old) }
-    requires dead { stamp.now.epoch ≤ book.old.state.snaps.epoch }
-    requires room { length (plan_at ready.old.plans j).killed ≤ book.old.room }
-    requires free { length (plan_at ready.old.plans j).killed ≤ ready.old.hand.data.room }
-    requires can { let plan = plan_at ready.old.plans j in CanRetire (ids book.old.state.snaps)
-        (ino_at (C.cells cells.old) plan.at) stamp.now.epoch plan.killed ready.old.hand
-        (state_at (C.cells cells.old) plan.at) }
-    ensures cells { OnlyAt (plan_at ready.old.plans j).at (C.cells cells.old) (C.cells cells.new) }
-    ensures state { let plan = plan_at ready.old.plans j in
+/// Retires the parts that the publish of the next cell killed: each is recorded for the youngest living snapshot that
+/// holds it, or else goes out, and its block to the call's hand. A gone inode of which nothing is kept is erased, and its
+/// chain and number go to the hand. All entries are published, and the journal is closed. Takes no memory.
+pub fn retire_on<C: Cells>(book: &mut Book, cells: &mut C, commit: &mut Commit)
+    requires turn { commit.old.retired < length commit.old.plans }
+    requires published { commit.old.published ≡ length commit.old.plans }
+    requires closed { commit.old.journal_open ≡ false }
+    requires within { (to_retire commit.old).at < length (C.cells cells.old) }
+    requires dead { commit.old.stamp.epoch ≤ book.old.state.snaps.epoch }
+    requires room { length (to_retire commit.old).killed ≤ book.old.room }
+    requires free { length (to_retire commit.old).killed ≤ commit.old.hand.data.room }
+    requires can { let plan = to_retire commit.old in
+        CanRetire plan.killed commit.old.hand (state_at (C.cells cells.old) plan.at) }
+    ensures cells { OnlyAt (to_retire commit.old).at (C.cells cells.old) (C.cells cells.new) }
+    ensures state { let plan = to_retire commit.old in
         state_at (C.cells cells.new) plan.at ≡ erased (retired (ids book.old.state.snaps)
-        (ino_at (C.cells cells.old) plan.at) stamp.now.epoch plan.killed (state_at (C.cells cells.old) plan.at)) }
-    ensures book { let plan = plan_at ready.old.plans j in
+        (ino_at (C.cells cells.old) plan.at) commit.old.stamp.epoch plan.killed
+        (state_at (C.cells cells.old) plan.at)) }
+    ensures book { let plan = to_retire commit.old in
         book.new.state ≡ record book.old.state {
           manifests = with_records (ids book.old.state.snaps) (ino_at (C.cells cells.old) plan.at)
-              stamp.now.epoch plan.killed book.old.state.manifests;
+              commit.old.stamp.epoch plan.killed book.old.state.manifests;
         } }
-    ensures room { book.old.room ≤ book.new.room + length (plan_at ready.old.plans j).killed }
-    ensures ready { ready.new ≡ record ready.old { hand = ready.new.hand } }
-    ensures hand { let plan = plan_at ready.old.plans j in ready.new.hand
-        ≡ hand_with (ino_at (C.cells cells.old) plan.at) (retired (ids book.old.state.snaps)
-        (ino_at (C.cells cells.old) plan.at) stamp.now.epoch plan.killed (state_at (C.cells cells.old) plan.at))
-        (record ready.old.hand { «data» = ready.new.hand.data }) }
-    ensures freed { let plan = plan_at ready.old.plans j in
-        ready.new.hand.data.blocks ≡ ready.old.hand.data.blocks ++ freed_by (ids book.old.state.snaps)
-        (ino_at (C.cells cells.old) plan.at) stamp.now.epoch plan.killed (state_at (C.cells cells.old) plan.at) }
-    ensures size { ready.new.hand.data.size ≡ ready.old.hand.data.size }
+    ensures room { book.old.room ≤ book.new.room + length (to_retire commit.old).killed }
+    ensures commit { let plan = to_retire commit.old in
+        commit.new ≡ after_retire (ids book.old.state.snaps) (ino_at (C.cells cells.old) plan.at)
+        (state_at (C.cells cells.old) plan.at) commit.old }
     ensures places { C.places cells.new ≡ C.places cells.old }
     ensures beside { C.beside cells.new ≡ C.beside cells.old }
 {
-    let plan = &ready.plans[j];
-    let k = plan.at;
-    retire_parts(
-        book,
-        cells,
-        k,
-        stamp.epoch,
-        &plan.killed,
-        &mut ready.hand.data,
-    );
-    erase_gone(cells, k, &mut ready.hand);
+    let j = commit.retired;
+    let k = commit.place_of(j);
+    let epoch = commit.stamp.epoch;
+    let killed = commit.take_killed(j);
+    retire_parts(book, cells, k, epoch, &killed, &mut commit.hand.data);
+    erase_gone(cells, k, &mut commit.hand);
+    commit.retired += 1;
 }

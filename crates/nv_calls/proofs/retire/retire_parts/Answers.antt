@@ -1,5 +1,6 @@
-use Rattle.std.proofs.Common.{◌≡◌, ℕ, ◌+◌, ◌<◌, List, [], ◌∷◌, ◌++◌, length, map, drop, ap, ap₂, sym, ◌∙◌, arith, subst, append_assoc}
-use Rattle.nv_alloc.specs.Block.{BlockValue}
+use Rattle.std.proofs.Common.{◌≡◌, ℕ, ◌+◌, ◌-◌, ◌<◌, List, [], ◌∷◌, length, map, drop, ap, ap₂, sym, ◌∙◌, arith, subst}
+use Rattle.std.proofs.lemmas.List.{drop_all}
+use Rattle.nv_alloc.specs.Queue.{QueueValue}
 use Rattle.nv_book.specs.Book.{BookState}
 use Rattle.nv_book.specs.declared.manifest.Manifest.{Manifest}
 use Rattle.nv_cell.specs.Cell.{CellState, CellValue}
@@ -7,9 +8,9 @@ use Rattle.nv_cell.specs.Killed.{AreKilled}
 use Rattle.nv_cell.specs.declared.killed.KilledPart.{KilledPart}
 use Rattle.nv_epoch.specs.SnapList.{ids}
 use Rattle.nv_calls.specs.Cells.{ino_at, state_at, value_at, with_value}
-use Rattle.nv_calls.specs.Retiring.{freed_by, freed_one, part_in, retired, retired_one, with_records}
-use Rattle.nv_calls.proofs.CellLists.{ino_with, length-only, only_along, value_with}
-use Rattle.nv_calls.proofs.Retires.{block_stays, others_wait, rest_is}
+use Rattle.nv_calls.specs.Retiring.{freed_by, freed_one, part_in, retired, retired_one, with_back, with_records}
+use Rattle.nv_calls.proofs.CellLists.{ino_stays, length-only, only_along, value_with}
+use Rattle.nv_calls.proofs.Retires.{back_more, back_none, block_stays, freed_few, others_wait, rest_is}
 use Rattle.nv_calls.proofs.retire.retire_parts.Goals as goal
 
 pub retire_part-requires-clause-within : goal.retire_part-requires-clause-within
@@ -63,11 +64,12 @@ loop-part-preserved g c =
     let manifests : c.retire_part.new.book.state.manifests ≡ with_records living ino epoch (d ∷ []) l.book.state.manifests =
     ap (λ (b : BookState). b.manifests) c.retire_part.ensures.book
     ∙ ap₂ (λ (xs : List ℕ) (m : ℕ). with_records xs m epoch (d ∷ []) l.book.state.manifests) lives i.number in
-    let freed : c.retire_part.new.free.blocks ≡ l.free.blocks ++ freed_one living ino epoch d s =
-    c.retire_part.ensures.free ∙ ap₂ (λ (xs : List ℕ) (m : ℕ). l.free.blocks ++ freed_one xs m epoch d s) lives i.number in
+    let freed : c.retire_part.new.free ≡ with_back (freed_one living ino epoch d s) l.free =
+    c.retire_part.ensures.free ∙ ap₂ (λ (xs : List ℕ) (m : ℕ). with_back (freed_one xs m epoch d s) l.free) lives i.number in
+    let room : c.retire_part.new.free.room ≡ l.free.room - length (freed_one living ino epoch d s) = ap (λ (q : QueueValue). q.room) freed in
     record {
       only = only_along cells now new k i.only (changed ∙ ap (with_value now k) (sym value_is));
-      number = ap (λ (xs : List (ℕ × CellValue)). ino_at xs k) changed ∙ ino_with now k value within ∙ i.number;
+      number = ap (λ (xs : List (ℕ × CellValue)). ino_at xs k) changed ∙ ino_stays now k k value ∙ i.number;
       cell_room = ap (λ (v : CellValue). v.room) value_is ∙ i.cell_room;
       block = ap (λ (v : CellValue). v.state.block) value_is ∙ block_stays living ino epoch d s ∙ i.block;
       state = ap (λ (v : CellValue). retired living ino epoch later v.state) value_is
@@ -82,11 +84,22 @@ loop-part-preserved g c =
       manifests = ap (with_records living ino epoch later) manifests
           ∙ sym (ap (λ (xs : List KilledPart). with_records living ino epoch xs l.book.state.manifests) rest) ∙ i.manifests;
       room = omega (arith, i.room, c.retire_part.ensures.room);
-      free = ap₂ (λ (bs : List BlockValue) (v : CellValue). bs ++ freed_by living ino epoch later v.state) freed value_is
-          ∙ append_assoc l.free.blocks (freed_one living ino epoch d s) (freed_by living ino epoch later after)
-          ∙ sym (ap (λ (xs : List KilledPart). l.free.blocks ++ freed_by living ino epoch xs s) rest) ∙ i.free;
-      size = c.retire_part.ensures.size ∙ i.size;
-      places = omega (arith, i.places, c.retire_part.ensures.places);
+      free = ap₂ (λ (q : QueueValue) (v : CellValue). with_back (freed_by living ino epoch later v.state) q) freed value_is
+          ∙ back_more (freed_one living ino epoch d s) (freed_by living ino epoch later after) l.free
+          ∙ sym (ap (λ (xs : List KilledPart). with_back (freed_by living ino epoch xs s) l.free) rest) ∙ i.free;
+      size = ap (λ (q : QueueValue). q.size) freed ∙ i.size;
+      places = omega (arith, i.places, room, freed_few living ino epoch d s);
       lent = c.retire_part.ensures.lent ∙ i.lent;
       beside = c.retire_part.ensures.beside ∙ i.beside;
     }
+
+pub returns-clause-free : goal.returns-clause-free
+returns-clause-free g c =
+    let l = c.loop-part in
+    let none : drop l.part-index c.args.killed.now ≡ [] = drop_all l.part-index c.args.killed.now (omega arith) in
+    let cells = g.C.Cells.cells c.args.cells.now in
+    let now = g.C.Cells.cells l.cells in
+    let living = ids c.args.book.now.state.snaps in
+    back_none l.free
+    ∙ sym (ap (λ (xs : List KilledPart). with_back (freed_by living (ino_at cells c.args.k) c.args.epoch xs (state_at now c.args.k)) l.free) none)
+    ∙ l.invariant.free

@@ -1,8 +1,8 @@
-use Rattle.std.proofs.Common.{◌≡◌, ◌+◌, ◌≤◌, ◌++◌, drop, map}
+use Rattle.std.proofs.Common.{◌≡◌, ◌+◌, ◌≤◌, drop, map}
 use Rattle.nv_epoch.specs.SnapList.{ids}
 use Rattle.nv_cell.specs.Killed.{AreKilled}
 use Rattle.nv_calls.specs.Cells.{OnlyAt, ino_at, state_at, value_at}
-use Rattle.nv_calls.specs.Retiring.{freed_by, part_in, retired, with_records}
+use Rattle.nv_calls.specs.Retiring.{freed_by, part_in, retired, with_back, with_records}
 use Rattle.nv_calls.proofs.retire.retire_parts.Given as goal
 
 abbrev pub invariant-loop-part : goal.invariant-loop-part
@@ -23,8 +23,8 @@ invariant-loop-part g l =
       manifests : with_records living ino l.epoch rest l.book.state.manifests
           ≡ with_records living ino l.epoch l.killed l.fn.book.state.manifests;
       room : l.fn.book.room ≤ l.book.room + l.part-index;
-      free : l.free.blocks ++ freed_by living ino l.epoch rest (state_at now l.k)
-          ≡ l.fn.free.blocks ++ freed_by living ino l.epoch l.killed (state_at cells l.k);
+      free : with_back (freed_by living ino l.epoch rest (state_at now l.k)) l.free
+          ≡ with_back (freed_by living ino l.epoch l.killed (state_at cells l.k)) l.fn.free;
       size : l.free.size ≡ l.fn.free.size;
       places : l.fn.free.room ≤ l.free.room + l.part-index;
       lent : g.C.Cells.places l.cells ≡ g.C.Cells.places l.fn.cells;

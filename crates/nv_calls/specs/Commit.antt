@@ -1,0 +1,87 @@
+-- A commit on its way, and what each of its steps leaves of it.
+use Rattle.std.specs.Prelude.{ℕ, ◌+◌, Bool, true, false, List, [], length, Option, None, slice_set}
+use Rattle.nv_alloc.specs.declared.hand.Hand.{Hand}
+use Rattle.nv_base.specs.declared.numbers.Handle.{Handle}
+use Rattle.nv_book.specs.Book.{BookState}
+use Rattle.nv_log.specs.Chain.{ChainState}
+use Rattle.nv_cell.specs.Cell.{CellState}
+use Rattle.nv_cell.specs.declared.killed.KilledPart.{KilledPart}
+use Rattle.nv_calls.specs.declared.stamp.Stamp.{Stamp}
+use Rattle.nv_calls.specs.declared.update.Update.{Update}
+use Rattle.nv_calls.specs.Ready.{CellPlanValue, ReadyValue, plan_at}
+use Rattle.nv_calls.specs.Retiring.{hand_retired}
+use Rattle.nv_calls.specs.Steps.{hand_after}
+
+-- what was ready; number and epoch of the commit; how many entries are appended; of how many inodes the entries are
+-- appended, of how many they are published, and of how many what they killed is retired; and whether the journal is open
+pub record CommitValue : Type 0 where
+  pub update : Update
+  pub made : Option Handle
+  pub plans : List CellPlanValue
+  pub hand : Hand
+  pub stamp : Stamp
+  pub place : ℕ
+  pub appended : ℕ
+  pub published : ℕ
+  pub retired : ℕ
+  pub journal_open : Bool
+
+-- number and epoch of a book's latest commit
+abbrev pub stamp_of : BookState → Stamp
+stamp_of book = record { commit = book.commit; epoch = book.snaps.epoch }
+
+-- before its first step
+abbrev pub begun : Stamp → ReadyValue → CommitValue
+begun stamp ready = record {
+  update = ready.update;
+  made = ready.made;
+  plans = ready.plans;
+  hand = ready.hand;
+  stamp = stamp;
+  place = 0;
+  appended = 0;
+  published = 0;
+  retired = 0;
+  journal_open = false;
+}
+
+-- the plan whose turn it is to be appended, to be published, and to have its killed parts retired
+abbrev pub to_append : CommitValue → CellPlanValue
+to_append commit = plan_at commit.plans commit.appended
+
+abbrev pub to_publish : CommitValue → CellPlanValue
+to_publish commit = plan_at commit.plans commit.published
+
+abbrev pub to_retire : CommitValue → CellPlanValue
+to_retire commit = plan_at commit.plans commit.retired
+
+-- once the items of a plan are appended to a log with that chain
+abbrev pub after_append : ChainState → CommitValue → CommitValue
+after_append chain commit = record commit {
+  plans = slice_set commit.plans commit.appended (record (to_append commit) { items = [] });
+  hand = hand_after (to_append commit).items chain commit.hand;
+  place = commit.place + length (to_append commit).items;
+  appended = commit.appended + 1;
+}
+
+abbrev pub after_open : CommitValue → CommitValue
+after_open commit = record commit { journal_open = true }
+
+-- once they are published, which killed these parts
+abbrev pub after_publish : List KilledPart → CommitValue → CommitValue
+after_publish killed commit = record commit {
+  plans = slice_set commit.plans commit.published (record (to_publish commit) { killed = killed });
+  published = commit.published + 1;
+}
+
+-- a new inode has its number from here on
+abbrev pub after_close : CommitValue → CommitValue
+after_close commit = record commit { hand = record commit.hand { ino = None }; journal_open = false }
+
+-- once these are retired in such a cell
+abbrev pub after_retire : List ℕ → ℕ → CellState → CommitValue → CommitValue
+after_retire living ino cell commit = record commit {
+  plans = slice_set commit.plans commit.retired (record (to_retire commit) { killed = [] });
+  hand = hand_retired living ino commit.stamp.epoch (to_retire commit).killed cell commit.hand;
+  retired = commit.retired + 1;
+}
