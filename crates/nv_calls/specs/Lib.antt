@@ -3,6 +3,7 @@ pub mod Cells
 pub mod Filling
 pub mod Lawful
 pub mod Locked
+pub mod Nodes
 pub mod Plain
 pub mod Plan
 pub mod Ready
