@@ -17,7 +17,7 @@ use Rattle.nv_calls.specs.declared.call.Call.TheVariants as call
 use Rattle.nv_calls.specs.declared.plan.Planned.{Planned}
 use Rattle.nv_calls.specs.Plain.{node_in, same_handle}
 use Rattle.nv_calls.specs.Plan.{AreFewApart}
-use Rattle.nv_calls.specs.Refusals.{Check, and_find, found, found_by, is_directory, kind_of, passes, refuse_if, want_bound, want_directory, want_file, want_lawful}
+use Rattle.nv_calls.specs.Refusals.{Check, and_find, found, found_by, is_directory, kind_of, passes, refuse_if, want_bound, want_directory, want_lawful}
 use Rattle.nv_calls.specs.Slots.{Slot, node_under}
 use Rattle.nv_calls.specs.calls.Lookup.{lookup_refusal}
 use Rattle.nv_calls.specs.calls.Rename.{bound_plan, move_plan, moved_refusal, own_place, pass_if, replaced_plan, replaced_refusal}

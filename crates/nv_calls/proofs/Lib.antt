@@ -7,6 +7,7 @@ pub mod Fills
 pub mod Items
 pub mod Keeps
 pub mod Lawful
+pub mod NodesHeld
 pub mod Nothing
 pub mod Passed
 pub mod Places

@@ -5,6 +5,7 @@ pub mod Committed
 pub mod Filling
 pub mod Lawful
 pub mod Locked
+pub mod Nodes
 pub mod Plain
 pub mod Plan
 pub mod Ready

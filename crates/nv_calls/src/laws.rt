@@ -1,15 +1,18 @@
 //! Laws of plans and effects, each the contract of a function that does nothing.
 
-ghost use Rattle.std.specs.Prelude.{◌≡◌, ◌<◌, ℕ, Err, List, Option, length};
+ghost use Rattle.std.specs.Prelude.{◌≡◌, ◌<◌, ℕ, Err, List, Option, is_some, length};
 ghost use Rattle.nv_base.specs.declared.fault.Fault.{Fault};
 ghost use Rattle.nv_base.specs.declared.numbers.Handle.{Handle};
+ghost use Rattle.nv_cell.specs.Cell.{CellValue};
 ghost use Rattle.nv_entry.specs.Log.{IsLog};
+ghost use Rattle.nv_entry.specs.Node.{block_now};
 ghost use Rattle.nv_entry.specs.Sound.{IsSound};
 ghost use Rattle.nv_entry.specs.declared.node.NodeCopy.{NodeCopy};
 ghost use Rattle.nv_calls.specs.AllCalls.{IsReady, IsToldNothing, blocks_wanted, effect, look_refusal, looked, plan, refusal};
 ghost use Rattle.nv_calls.specs.declared.taken.Taken.{Taken};
 ghost use Rattle.nv_calls.specs.Lawful.{IsLawfulPlan};
 ghost use Rattle.nv_calls.specs.Locked.{Agree, KeepsToIts, SameCall, first_look, handles};
+ghost use Rattle.nv_calls.specs.Nodes.{HaveBytes, has_page_in, plain_nodes, slots_by};
 ghost use Rattle.nv_calls.specs.Plain.{Change, PlainNode, node_in};
 ghost use Rattle.nv_calls.specs.Plan.{AreApart, AreFewApart, plan_blocks};
 ghost use Rattle.nv_calls.specs.Refusals.{passes};
@@ -104,4 +107,14 @@ pub fn plans_use_the_blocks_wanted()
         (taken : Taken) (call : Call) → IsReady bytes block slots nodes taken call
         → length (plan_blocks (plan block nodes taken call))
         ≡ blocks_wanted block nodes taken.present call }
+{}
+
+/// The nodes that cells hold are those of their slots, whatever gives the bytes of their blocks.
+pub fn cells_hold_the_nodes_of_their_slots()
+    ensures nodes { (bytes : ℕ → List ℕ) (block : ℕ) (cells : List (ℕ × CellValue)) (handle : Handle)
+        → HaveBytes bytes block cells
+        → plain_nodes cells handle ≡ node_under bytes block (slots_by cells) handle }
+    ensures pages { (bytes : ℕ → List ℕ) (block : ℕ) (cells : List (ℕ × CellValue)) (handle : Handle)
+        (page : ℕ) → HaveBytes bytes block cells → has_page_in cells handle page
+        ≡ is_some (block_now block (slots_by cells handle.ino).log page) }
 {}

@@ -50,7 +50,7 @@ impl View {
 }
 
 /// What the node under a handle of the cell's slot tells of itself, if there is one.
-fn stat_in(cell: &InodeCell, handle: &Handle) -> Option<Stat>
+pub(crate) fn stat_in(cell: &InodeCell, handle: &Handle) -> Option<Stat>
     ensures { (bytes : ℕ → List ℕ) → result
         ≡ option_map stat_of (node_of bytes cell.now.state handle.now) }
 {
@@ -61,7 +61,7 @@ fn stat_in(cell: &InodeCell, handle: &Handle) -> Option<Stat>
 }
 
 /// The kind of the node under a handle of the cell's slot.
-fn kind_in(cell: &InodeCell, handle: &Handle) -> Option<Kind>
+pub(crate) fn kind_in(cell: &InodeCell, handle: &Handle) -> Option<Kind>
     ensures { (bytes : ℕ → List ℕ) → result
         ≡ kind_of (copy_of bytes cell.now.state handle.now) }
 {

@@ -1,0 +1,87 @@
+//! The nodes that the cells of a call hold.
+
+ghost use Rattle.std.specs.Prelude.{◌≡◌, ◌≤◌, length, option_map};
+ghost use Rattle.nv_calls.specs.Nodes.{cell_of};
+
+use crate::view::{kind_in, stat_in};
+use crate::{Cells, Nodes};
+use nv_base::{Handle, Ino, Kind};
+use nv_cell::InodeCell;
+
+/// The nodes of a call's cells, of any generation. A handle whose number is none of the cells' has no node.
+///
+/// Each question costs a search among the cells and one look-up. None takes memory.
+#[derive(Drop)]
+pub struct HeldNodes<'a, C: Cells> {
+    cells: &'a C,
+    ghost few: { length (C.cells cells.now) ≤ 4 },
+}
+
+impl<'a, C: Cells> HeldNodes<'a, C> {
+    pub fn new(cells: &'a C) -> HeldNodes<'a, C>
+        requires { length (C.cells cells.now) ≤ 4 }
+        ensures { result.cells.now ≡ cells.now }
+    {
+        HeldNodes { cells }
+    }
+
+    /// The cell of an inode.
+    fn cell_of(&self, ino: Ino) -> Option<&InodeCell>
+        ensures { option_map (λ cell. cell.now) result ≡ cell_of (C.cells self.now.cells.now) ino }
+    {
+        for k in 0..self.cells.count() {
+            if self.cells.ino(k) == ino {
+                return Some(self.cells.cell(k));
+            }
+        }
+        None
+    }
+}
+
+impl<C: Cells> Nodes for HeldNodes<'_, C> {
+    ghost use Rattle.nv_calls.specs.Nodes.{has_page_in, nodes_in};
+
+    ghost nodes_of = { λ all. nodes_in (C.cells all.cells.now) };
+
+    ghost has_page = { λ all. has_page_in (C.cells all.cells.now) };
+
+    fn kind(&self, handle: &Handle) -> Option<Kind> {
+        let cell = self.cell_of(handle.ino)?;
+        kind_in(cell, handle)
+    }
+
+    fn lookup(&self, dir: &Handle, name: &[u8]) -> Option<Handle> {
+        let cell = self.cell_of(dir.ino)?;
+        let _kind = kind_in(cell, dir)?;
+        cell.lookup(name)
+    }
+
+    fn names(&self, dir: &Handle) -> usize {
+        let Some(cell) = self.cell_of(dir.ino) else {
+            return 0;
+        };
+        match kind_in(cell, dir) {
+            Some(_) => cell.name_count(),
+            None => 0,
+        }
+    }
+
+    fn size(&self, file: &Handle) -> u64 {
+        let Some(cell) = self.cell_of(file.ino) else {
+            return 0;
+        };
+        // Each block that the cell has is of the size that it says.
+        cell.known();
+        match stat_in(cell, file) {
+            Some(stat) => stat.size,
+            None => 0,
+        }
+    }
+
+    fn has_page(&self, file: &Handle, page: u32) -> bool {
+        match self.cell_of(file.ino) {
+            Some(cell) => cell.page_now(page).is_some(),
+            None => false,
+        }
+    }
+}
