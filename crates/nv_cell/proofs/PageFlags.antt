@@ -1,12 +1,10 @@
 -- Flags of pages as flags of the log's entries.
 use Rattle.std.proofs.Common.{◌≡◌, ℕ, zero, suc, ◌+◌, ◌-◌, ◌<◌, ◌≤◌, Bool, true, false, List, [], ◌∷◌, ◌++◌, length, take, replicate, get_or, inl, inr, arith, refl, ap, sym, ◌∙◌, length-append, add-one, subst}
-use Rattle.std.specs.Prelude.{slice_get}
 use Rattle.std.proofs.lemmas.Bool.{cases_lt}
 use Rattle.std.proofs.lemmas.List.{get_or_default, length-take, get_or-take}
-use Rattle.nv_entry.specs.declared.item.Entry.{Entry}
 use Rattle.nv_log.specs.Chain.{AreEnds, ChainState, IsChain, end_of, joined, left_of, log, log_pages, pages_of, start_in, start_of, with_pages_left}
 use Rattle.nv_log.proofs.Flags.{joined-left_of, left_of-none, length-left_of, left_of-select, take-joined_left}
-use Rattle.nv_log.proofs.Parts.{length-ends_from, length-parts, part_at, start_past}
+use Rattle.nv_log.proofs.Parts.{length-ends_from, length-parts, part_at}
 use Rattle.nv_cell.specs.Removal.{AreFlags, ArePublished, flags_of, log_flags, run_flags}
 use Rattle.nv_cell.specs.Tallies.{IsInRun, end_at, start_at}
 use Rattle.nv_cell.specs.declared.stays.Stays.{Stays}

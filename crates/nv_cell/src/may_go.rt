@@ -1,6 +1,6 @@
 //! Which entries may go. None of these takes memory.
 
-ghost use Rattle.std.specs.Prelude.{◌≡◌, ◌-◌, ◌<◌, ◌↔◌, IsTrue, length, slice_index_or, take};
+ghost use Rattle.std.specs.Prelude.{◌≡◌, ◌-◌, ◌<◌, ◌↔◌, IsTrue, length, slice_index_or, take, true};
 ghost use Rattle.std.specs.List.{list_any};
 ghost use Rattle.nv_entry.specs.Clean.{hides, select};
 ghost use Rattle.nv_entry.specs.declared.item.Entry.{Entry};
@@ -54,7 +54,8 @@ fn hides_left(block: u64, item: &Item, chain: &Chain, stays: Stays<'_>, place: u
 {
     let _ends = chain.ends();
     for i in 0..place {
-        if stays.at(chain, i) && hides(block, item, &chain.entry_at(i).item) {
+        let earlier = &chain.entry_at(i).item;
+        if stays.at(chain, i) && hides(block, item, earlier) {
             return true;
         }
     }
