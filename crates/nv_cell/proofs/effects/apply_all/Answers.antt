@@ -5,7 +5,7 @@ use Rattle.nv_entry.specs.declared.item.Entry.{Entry}
 use Rattle.nv_entry.specs.Refs.{ref_after, scan_ref}
 use Rattle.nv_cell.specs.Effects.{items_of}
 use Rattle.nv_cell.specs.Weights.{runs_of}
-use Rattle.nv_cell.proofs.Readied.{ready_after}
+use Rattle.nv_cell.proofs.Readied.{ready_after, reserved_after}
 use Rattle.nv_cell.proofs.Bound.{bound_push}
 use Rattle.nv_cell.proofs.Publishing.{IsScan, are_named, kill_step, scan_push, take_next, drop_next}
 use Rattle.nv_cell.proofs.Weighing.{weight_is, weights_push}
@@ -41,6 +41,12 @@ loop-t-preserved c =
     let w = weight_is c.args.block (take t es) c.loop-t.index e.item c.loop-t.invariant.scan c.loop-t.invariant.bound c.name_count-names.ensures.distinct in
     let p = rw (← take_next es t e lt is) at (weights_push c.args.block (take t es) e (items_of (drop (t + 1) es))) in
     record {
+      room =
+          let room = rw (drop_next es t e lt is) at c.loop-t.invariant.room in
+          omega (arith, c.put.ensures.room, room, sum_by-cons runs_of e.item (items_of (drop (t + 1) es)));
+      reserved = λ none.
+          let h = rw (drop_next es t e lt is) at (c.loop-t.invariant.reserved none) in
+          (h.0.1, reserved_after e.id e.item c.loop-t.index.names c.put.new.self.names c.put.ensures.names h.0.0 ∙ h.1);
       pages = omega (arith, c.put.ensures.room, pages, sum_by-cons runs_of e.item (items_of (drop (t + 1) es)));
       names = ready_after e.id e.item (items_of (drop (t + 1) es)) c.loop-t.index.names c.put.new.self.names c.put.ensures.names ready;
       bound = rw (take_next es t e lt is) (bound_push (take t es) e c.loop-t.index.names c.put.new.self.names c.put.ensures.names c.loop-t.invariant.bound);
