@@ -190,7 +190,8 @@ has_some : (start : ℕ) (ends : List ℕ) (xs : List Entry) → 0 < length (ent
 has_some start [] xs some = absurd (omega arith)
 has_some start (end ∷ ends) xs some =
     let k = end - start in
-    let both : length (entries_of (parts_from start (end ∷ ends) xs)) ≡ length (take k xs) + length (entries_of (parts_from end ends (drop k xs))) =
+    let both : length (entries_of (parts_from start (end ∷ ends) xs))
+    ≡ length (take k xs) + length (entries_of (parts_from end ends (drop k xs))) =
     length-append (take k xs) (entries_of (parts_from end ends (drop k xs))) in
     go (length (entries_of (parts_from end ends (drop k xs)))) (λ more. has_some end ends (drop k xs) more) both
   where

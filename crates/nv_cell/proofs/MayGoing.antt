@@ -70,7 +70,8 @@ module _ (block : ℕ) (flags : List Bool) (es : List Entry) (marks : List Mark)
       ≡ HideNoneLeft block (select (take (i + 1) flags) es) (drop (i + 1) es) (drop (i + 1) flags)
   stays_hidden is =
       ahead true is
-      ∙ ap (λ (xs : List Entry). HideNoneLeft block xs (drop (i + 1) es) (drop (i + 1) flags)) (sym (select_next flags es i true e lf le is at))
+      ∙ ap (λ (xs : List Entry). HideNoneLeft block xs (drop (i + 1) es) (drop (i + 1) flags))
+      (sym (select_next flags es i true e lf le is at))
 
   goes_hidden : false ≡ get_or flags i false
       → HideNoneLeft block (select (take i flags) es) (drop i es) (drop i flags)
@@ -80,7 +81,8 @@ module _ (block : ℕ) (flags : List Bool) (es : List Entry) (marks : List Mark)
       let same : select (take i flags) es ≡ select (take (i + 1) flags) es =
       sym (select_next flags es i false e lf le is at ∙ append-nil (select (take i flags) es)) in
       ahead false is
-      ∙ ap (λ (xs : List Entry). HidesNone block (select (take i flags) es) e × HideNoneLeft block xs (drop (i + 1) es) (drop (i + 1) flags)) same
+      ∙ ap (λ (xs : List Entry). HidesNone block (select (take i flags) es) e
+      × HideNoneLeft block xs (drop (i + 1) es) (drop (i + 1) flags)) same
 
   next : (b : Bool) → b ≡ get_or flags i b → AreNext flags es i b e
   next b is = record { ahead = flags_next flags es i b e lf le is at; to = base_next es i e le at; within = total_take es (i + 1) }

@@ -136,7 +136,8 @@ flags-count (Pages stays) chain is are = log_flags-count stays.now chain is are
 start_is : (ends : List ℕ) (len k : ℕ) → k < length ends → start_in ends len k ≡ start_at ends k
 start_is ends len zero lt = refl
 start_is ends len (suc k) lt =
-    get_or_default ends k len 0 (omega (arith, lt)) ∙ sym (subst (λ (n : ℕ). start_at ends n ≡ end_at ends k) (add-one k) (start_next ends k))
+    get_or_default ends k len 0 (omega (arith, lt))
+    ∙ sym (subst (λ (n : ℕ). start_at ends n ≡ end_at ends k) (add-one k) (start_next ends k))
 
 -- the flag of an entry, by the run of its page
 pub flag_in : (stays : List Bool) (chain : ChainState) (k i : ℕ) (b : Bool) → IsChain chain → i < chain.tail

@@ -4,9 +4,7 @@ use super::entries::Says;
 use super::steps::{End, Step, play};
 use End::{Kept, Out};
 use Says::{Bind, Directory, File, Mode, Unbind, Write};
-use Step::{
-    Commit, Counts, Fast, Free, MayGo, Names, PagesMayGo, Read, Release, Stat, Thorough,
-};
+use Step::{Commit, Counts, Fast, Free, MayGo, Names, PagesMayGo, Read, Release, Stat, Thorough};
 use nv_base::Kind;
 use nv_entry::Part;
 

@@ -18,7 +18,8 @@ pass-requires-clause-marks_there c =
     let fits : i < length flags = omega (arith, flags-count c.args.stays chain c.ends-ends.ensures.chain c.requires.flags, lt) in
     let next = next_parts flags chain.entries chain.tail i c.at.result c.entry_at.result.now fits lt (omega (arith, c.tail-i-end.ensures))
     c.at.ensures c.entry_at.ensures in
-    entry_there c.args.marks.now.items c.loop-i.marks.items flags (log chain) i c.part_count-count.result c.at.result c.entry_at.result.now next
+    entry_there c.args.marks.now.items c.loop-i.marks.items flags
+    (log chain) i c.part_count-count.result c.at.result c.entry_at.result.now next
     c.part_count-count.ensures (omega (arith, c.requires.marks_there)) c.loop-i.invariant.marks
 
 pub pass-requires-clause-blocks_there : goal.pass-requires-clause-blocks_there

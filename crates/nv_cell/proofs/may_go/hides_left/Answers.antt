@@ -45,7 +45,8 @@ loop-i-preserved c =
     let flag = get_or_default kept i false c.at.result lf ∙ get_or-take c.args.place all i c.at.result lt ∙ sym c.at.ensures in
     elim c.else-at.branch [
       | else-at-via-then-at+else-hides w ↦
-          any-step test kept (log chain) i true e lf le (flag ∙ w.if-at.true) at (sym w.hides.ensures ∙ w.if-hides.false) ∙ c.loop-i.invariant
+          any-step test kept (log chain) i true e lf le (flag ∙ w.if-at.true) at (sym w.hides.ensures ∙ w.if-hides.false)
+          ∙ c.loop-i.invariant
       | else-at-via-else-at w ↦
           any-step test kept (log chain) i false e lf le (flag ∙ w.if-at.false) at refl ∙ c.loop-i.invariant
     ]
