@@ -42,7 +42,8 @@ one_at : (item : Item) (m : List ℕ) (x : Entry)
     → (binding_of m (bound_by x.id x.item) ≡ None) ⊎ (keeps_name item x ≡ not (covers 1 item (NameKey m)))
 one_at item m x = by x.item where
   named : (name : List ℕ) (to : Handle) (b : Bool) → same_name m name ≡ b
-      → (cond b (Some (record { to = to; entry = x.id })) no_binding ≡ None) ⊎ (not (covers 1 item (NameKey name)) ≡ not (covers 1 item (NameKey m)))
+      → (cond b (Some (record { to = to; entry = x.id })) no_binding ≡ None) ⊎
+      (not (covers 1 item (NameKey name)) ≡ not (covers 1 item (NameKey m)))
   named name to true q = inr (ap (λ (k : List ℕ). not (covers 1 item (NameKey k))) (sym (same_name-equal m name q)))
   named name to false q = inl refl
 
@@ -66,7 +67,8 @@ kept_at item m (x ∷ es) = go (keeps_name item x) refl (covers 1 item (NameKey 
   whole : binding_of m (all_of (x ∷ es)) ≡ option_or (binding_of m (bound_by x.id x.item)) (binding_of m (all_of es))
   whole = ap (binding_of m) (flat_map-cons (λ (e : Entry). bound_by e.id e.item) x es) ∙ append_at m (bound_by x.id x.item) (all_of es)
 
-  more : binding_of m (all_of (x ∷ filter (keeps_name item) es)) ≡ option_or (binding_of m (bound_by x.id x.item)) (binding_of m (all_of (filter (keeps_name item) es)))
+  more : binding_of m (all_of (x ∷ filter (keeps_name item) es))
+      ≡ option_or (binding_of m (bound_by x.id x.item)) (binding_of m (all_of (filter (keeps_name item) es)))
   more =
       ap (binding_of m) (flat_map-cons (λ (e : Entry). bound_by e.id e.item) x (filter (keeps_name item) es))
       ∙ append_at m (bound_by x.id x.item) (all_of (filter (keeps_name item) es))
@@ -93,7 +95,8 @@ after_push : (log : List Entry) (e : Entry) (m : List ℕ)
     → binding_of m (bindings_of (log ++ e ∷ [])) ≡ bound_after e.id e.item m (binding_of m (bindings_of log))
 after_push log e m =
     ap (λ (es : List Entry). binding_of m (all_of es)) (one_more_ref 1 log e).binders
-    ∙ ap (binding_of m) (flat_map-append (λ (x : Entry). bound_by x.id x.item) (filter (keeps_name e.item) (binders_of log)) (cond (is_bind e.item) (e ∷ []) []))
+    ∙ ap (binding_of m) (flat_map-append (λ (x : Entry). bound_by x.id x.item) (filter (keeps_name e.item) (binders_of log))
+    (cond (is_bind e.item) (e ∷ []) []))
     ∙ append_at m (all_of (filter (keeps_name e.item) (binders_of log))) (all_of (cond (is_bind e.item) (e ∷ []) []))
     ∙ ap (λ o. option_or o (binding_of m (all_of (cond (is_bind e.item) (e ∷ []) [])))) (kept_at e.item m (binders_of log))
     ∙ ap (option_or (cond (covers 1 e.item (NameKey m)) None (binding_of m (bindings_of log)))) (own e.item refl)
@@ -115,7 +118,8 @@ names_after : (id : EntryId) (item : Item) (old new : Names) (m : List ℕ) → 
     → binding_of m new.names ≡ bound_after id item m (binding_of m old.names)
 names_after id (Bind name to) old new m h = h m ∙ go (same_name name m) refl (same_name m name) refl where
   go : (a : Bool) → same_name name m ≡ a → (b : Bool) → same_name m name ≡ b
-      → cond (same_name name m) (Some (record { to = to; entry = id })) (binding_of m old.names) ≡ bound_after id (Bind name to) m (binding_of m old.names)
+      → cond (same_name name m) (Some (record { to = to; entry = id })) (binding_of m old.names)
+      ≡ bound_after id (Bind name to) m (binding_of m old.names)
   go true p true q = rw (p, q) refl
   go true p false q = let z : true ≡ false = sym (same_name-self name) ∙ ap (λ k. same_name k name) (same_name-equal name m p) ∙ q in cc
   go false p true q =

@@ -17,7 +17,8 @@ use Rattle.nv_cell.specs.Tallies.{end_at, is_in}
 pub base_next : (es : List Entry) (t : ℕ) (e : Entry) → t < length es → e ≡ slice_index_or es t e
     → part_base es (t + 1) ≡ part_base es t + part_count e
 base_next es t e lt q =
-    rw (take_next es t e lt q, total_append (take t es) (e ∷ [])) (let z : part_total (take t es) + (part_count e + 0) ≡ part_total (take t es) + part_count e = omega arith in z)
+    rw (take_next es t e lt q, total_append (take t es) (e ∷ []))
+    (let z : part_total (take t es) + (part_count e + 0) ≡ part_total (take t es) + part_count e = omega arith in z)
 
 pub base_rises : (es : List Entry) (a b : ℕ) → a ≤ b → part_base es a ≤ part_base es b
 base_rises [] zero b le = omega arith
@@ -35,7 +36,8 @@ mark_fresh (suc c) zero = let z : nat_lt 0 (suc c) ≡ true = grind (arith, nat_
 mark_fresh (suc c) (suc n) = let z : nat_lt (suc n) (suc c) ≡ nat_lt n c = grind (arith, nat_tests) in rw z (mark_fresh c n)
 
 mark_push : (marks : List Mark) (count n : ℕ)
-    → mark_at (marks ++ replicate count Current) n ≡ cond (nat_lt n (length marks)) (mark_at marks n) (cond (nat_lt n (length marks + count)) Current Out)
+    → mark_at (marks ++ replicate count Current) n
+    ≡ cond (nat_lt n (length marks)) (mark_at marks n) (cond (nat_lt n (length marks + count)) Current Out)
 mark_push [] count n =
     let z : nat_lt n 0 ≡ false = grind (arith, nat_tests) in
     let y : 0 + count ≡ count = omega arith in
@@ -54,7 +56,8 @@ pub mark_step : (marks new : List Mark) (old : Mark) (base below above count n :
 mark_step marks new old base below above count n is len up le h =
     rw is (mark_push marks count n ∙ rw (len, ← up, h) (go (nat_lt n base) refl (nat_lt n below) refl (nat_lt n above) refl)) where
       go : (a : Bool) → nat_lt n base ≡ a → (b : Bool) → nat_lt n below ≡ b → (d : Bool) → nat_lt n above ≡ d
-          → cond (nat_lt n below) (cond (nat_lt n base) old (cond (nat_lt n below) Current Out)) (cond (nat_lt n above) Current Out) ≡ cond (nat_lt n base) old (cond (nat_lt n above) Current Out)
+          → cond (nat_lt n below) (cond (nat_lt n base) old (cond (nat_lt n below) Current Out)) (cond (nat_lt n above) Current Out)
+          ≡ cond (nat_lt n base) old (cond (nat_lt n above) Current Out)
       go true p true q d r = rw (p, q) refl
       go true p false q d r = absurd (omega (arith, ltb-true n base p, ltb-false n below q))
       go false p true q true r = rw (p, q, r) refl
@@ -101,7 +104,8 @@ pub dies_low : (block : ℕ) (es : List Entry) (tail n : ℕ) → 1 ≤ cond (di
 dies_low block es tail n h = go (dies block es tail n) refl h where
   go : (b : Bool) → dies block es tail n ≡ b → 1 ≤ cond b 1 0 → n < part_total es
   go true q k =
-      ltb-true n (part_total es) (and_left (nat_lt n (part_total es)) (is_covered block es n) (and_left (nat_lt n (part_total es) && is_covered block es n) (not (is_covered block (take tail es) n)) q))
+      ltb-true n (part_total es) (and_left (nat_lt n (part_total es)) (is_covered block es n)
+      (and_left (nat_lt n (part_total es) && is_covered block es n) (not (is_covered block (take tail es) n)) q))
   go false q k = absurd (omega arith)
 
 covered_beyond : (block : ℕ) (log : List Entry) (n : ℕ) → part_total log ≤ n → is_covered block log n ≡ false
@@ -129,7 +133,8 @@ mark_now block es tail n old new lt le was is =
       go true p true q true r =
           let k : new ≡ old = rw (low, p, q, r) at is in
           rw (k, p) (was (ltb-true n (part_base es tail) r) ∙ rw q refl)
-      go true p true q false r = let z : true ≡ false = sym q ∙ covered_beyond block (take tail es) n (ltb-false n (part_base es tail) r) in cc
+      go true p true q false r = let z : true ≡ false = sym q
+          ∙ covered_beyond block (take tail es) n (ltb-false n (part_base es tail) r) in cc
       go false p true q a r = let z : true ≡ false = sym (more q) ∙ p in cc
       go false p false q true r =
           let k : new ≡ old = rw (low, p, r) at is in

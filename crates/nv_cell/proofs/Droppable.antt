@@ -57,14 +57,14 @@ stays_at r kept (e ∷ x ∷ later) (b ∷ flags) zero h at = absurd (omega (ari
 stays_at r kept (e ∷ x ∷ later) (true ∷ flags) (suc n) h at = stays_at r (kept ++ e ∷ []) (x ∷ later) flags n h (omega (arith, at))
 stays_at r kept (e ∷ x ∷ later) (false ∷ flags) (suc n) h at = stays_at r kept (x ∷ later) flags n h.3 (omega (arith, at))
 
-all_out : (marks : List Mark) → list_any is_there marks ≡ false → AllByRecursion (λ m. m ≡ Out) marks
+pub all_out : (marks : List Mark) → list_any is_there marks ≡ false → AllByRecursion (λ m. m ≡ Out) marks
 all_out [] h = tt
 all_out (Out ∷ marks) h = (refl, all_out marks h)
 all_out (Current ∷ marks) h = cc
 all_out (Killed ∷ marks) h = cc
 all_out (Kept ∷ marks) h = cc
 
-all_join : (xs ys : List Mark) → AllByRecursion (λ m. m ≡ Out) xs → AllByRecursion (λ m. m ≡ Out) ys
+pub all_join : (xs ys : List Mark) → AllByRecursion (λ m. m ≡ Out) xs → AllByRecursion (λ m. m ≡ Out) ys
     → AllByRecursion (λ m. m ≡ Out) (xs ++ ys)
 all_join [] ys all more = more
 all_join (x ∷ xs) ys all more = (all.0, all_join xs ys all.1 more)
@@ -190,7 +190,8 @@ has_some : (start : ℕ) (ends : List ℕ) (xs : List Entry) → 0 < length (ent
 has_some start [] xs some = absurd (omega arith)
 has_some start (end ∷ ends) xs some =
     let k = end - start in
-    let both : length (entries_of (parts_from start (end ∷ ends) xs)) ≡ length (take k xs) + length (entries_of (parts_from end ends (drop k xs))) =
+    let both : length (entries_of (parts_from start (end ∷ ends) xs))
+    ≡ length (take k xs) + length (entries_of (parts_from end ends (drop k xs))) =
     length-append (take k xs) (entries_of (parts_from end ends (drop k xs))) in
     go (length (entries_of (parts_from end ends (drop k xs)))) (λ more. has_some end ends (drop k xs) more) both
   where

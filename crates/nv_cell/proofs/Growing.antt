@@ -44,7 +44,8 @@ pub record Grows (old new : Inside) : Type 0 where
   pub index : HasSameParts old.index new.index
   pub numbers : HasGrown old.numbers new.numbers
   pub killed : HasGrown old.killed new.killed
-  pub spare : HasSpare new.marks (part_total old.chain.state.entries - length old.marks.marks.items + new.parts) (length old.chain.state.entries - old.chain.state.tail + new.entries)
+  pub spare : HasSpare new.marks (part_total old.chain.state.entries - length old.marks.marks.items + new.parts)
+      (length old.chain.state.entries - old.chain.state.tail + new.entries)
   pub places : part_total old.chain.state.entries + new.parts ≤ vec_capacity new.blocks
   pub pages : length new.chain.state.blocks + new.chain.spare ≤ vec_capacity new.marks.pages
 
@@ -54,10 +55,12 @@ same_state old new g = rw (g.block, g.generation, g.version, g.chain, g.marks.ma
 pub fields_grown : (old new : Inside) → AreFields old → Grows old new → AreFields new
 fields_grown old new h g =
     let same = same_state old new g in
-    let parts : part_total new.chain.state.entries - length new.marks.marks.items + new.parts ≡ part_total old.chain.state.entries - length old.marks.marks.items + new.parts =
+    let parts : part_total new.chain.state.entries - length new.marks.marks.items + new.parts
+    ≡ part_total old.chain.state.entries - length old.marks.marks.items + new.parts =
     ap (λ (s : ChainState). part_total s.entries - length new.marks.marks.items + new.parts) g.chain
     ∙ ap (λ (marks : List Mark). part_total old.chain.state.entries - length marks + new.parts) g.marks.marks.items in
-    let entries : length new.chain.state.entries - new.chain.state.tail + new.entries ≡ length old.chain.state.entries - old.chain.state.tail + new.entries =
+    let entries : length new.chain.state.entries - new.chain.state.tail + new.entries
+    ≡ length old.chain.state.entries - old.chain.state.tail + new.entries =
     ap (λ (s : ChainState). length s.entries - s.tail + new.entries) g.chain in
     record {
       some = rw g.block h.some;

@@ -82,7 +82,8 @@ without_block cell id was h =
     record {
       own = ap (option_and_then (λ k. slice_index_or (slice_set cell.blocks n None) k None)) m.number ∙ empty_own cell.blocks n;
       others = λ other apart.
-          apart_by (log_of cell) id other n (λ k. slice_index_or cell.blocks k None) (λ k. slice_index_or (slice_set cell.blocks n None) k None)
+          apart_by (log_of cell) id other n (λ k. slice_index_or cell.blocks k None)
+          (λ k. slice_index_or (slice_set cell.blocks n None) k None)
           m.number apart (λ k differ. empty_other cell.blocks n k differ);
     }
 

@@ -22,7 +22,8 @@ number_is (Some m) n h = ap Some (eqb-true m n h)
 abbrev pub AtKeys : (Key → Option ℕ) → (ℕ → Key) → Type 0
 AtKeys o kat = (key : Key) (m : ℕ) → o key ≡ Some m → kat m ≡ key
 
-pub differs : (o : Key → Option ℕ) (kat : ℕ → Key) → AtKeys o kat → (key k : Key) (n : ℕ) → kat n ≡ k → k ≢ key → is_number (o key) n ≡ false
+pub differs : (o : Key → Option ℕ) (kat : ℕ → Key) → AtKeys o kat → (key k : Key) (n : ℕ) → kat n ≡ k → k ≢ key → is_number (o key) n
+    ≡ false
 differs o kat h key k n q ne = go (is_number (o key) n) refl where
   go : (b : Bool) → is_number (o key) n ≡ b → is_number (o key) n ≡ false
   go true p = absurd (ne (sym q ∙ h key n (number_is (o key) n p)))
@@ -52,7 +53,8 @@ no_test a true h = h
 no_test a false h = h
 
 -- a part has the number of a key exactly where it is named at its own key, which is that one
-pub at_key : (o : Key → Option ℕ) (kat : ℕ → Key) → AtKeys o kat → (key : Key) (n : ℕ) → is_number (o key) n ≡ (is_number (o (kat n)) n && is_key key (kat n))
+pub at_key : (o : Key → Option ℕ) (kat : ℕ → Key) → AtKeys o kat → (key : Key) (n : ℕ) → is_number (o key) n
+    ≡ (is_number (o (kat n)) n && is_key key (kat n))
 at_key o kat h key n = go (is_key key (kat n)) refl where
   go : (b : Bool) → is_key key (kat n) ≡ b → is_number (o key) n ≡ (is_number (o (kat n)) n && is_key key (kat n))
   go true q =
@@ -67,7 +69,8 @@ at_key o kat h key n = go (is_key key (kat n)) refl where
 
 module _ (es : List Entry) (index : IndexValue) where
   -- nothing is put there
-  pub none_pushed : (test : Key → Bool) (most : ℕ) (list : Vec NumberedPart) → ((n : ℕ) → (is_named es index n && test (key_at es n)) ≡ false) → Pushes es index test most list list
+  pub none_pushed : (test : Key → Bool) (most : ℕ) (list : Vec NumberedPart)
+      → ((n : ℕ) → (is_named es index n && test (key_at es n)) ≡ false) → Pushes es index test most list list
   none_pushed test most list none = record {
     numbers = λ n. rw (none n) (omega arith);
     len = omega arith;
@@ -76,7 +79,8 @@ module _ (es : List Entry) (index : IndexValue) where
 
   -- the test may be another that tells the same of named parts
   pub retold : (p q : Key → Bool) (a b : ℕ) (old new : Vec NumberedPart) → Pushes es index p a old new
-      → ((n : ℕ) → (is_named es index n && p (key_at es n)) ≡ (is_named es index n && q (key_at es n))) → a ≤ b → Pushes es index q b old new
+      → ((n : ℕ) → (is_named es index n && p (key_at es n)) ≡ (is_named es index n && q (key_at es n))) → a ≤ b
+      → Pushes es index q b old new
   retold p q a b old new h same le = record {
     numbers = λ n. rw (← same n) (h.numbers n);
     len = omega (arith, h.len, le);
@@ -91,7 +95,8 @@ module _ (es : List Entry) (index : IndexValue) where
   pub both : (p q r : Key → Bool) (a b c : ℕ) (old mid new : Vec NumberedPart) → Pushes es index p a old mid → Pushes es index q b mid new
       → ((k : Key) → cond (p k) 1 0 + cond (q k) 1 0 ≡ cond (r k) 1 0) → a + b ≤ c → Pushes es index r c old new
   both p q r a b c old mid new f g sum le = record {
-    numbers = λ n. let s = and_sum (is_named es index n) (p (key_at es n)) (q (key_at es n)) (r (key_at es n)) (sum (key_at es n)) in omega (arith, f.numbers n, g.numbers n, s);
+    numbers = λ n. let s = and_sum (is_named es index n) (p (key_at es n)) (q (key_at es n)) (r (key_at es n)) (sum (key_at es n)) in omega
+        (arith, f.numbers n, g.numbers n, s);
     len = omega (arith, f.len, g.len, le);
     capacity = g.capacity ∙ f.capacity;
   }
@@ -99,7 +104,8 @@ module _ (es : List Entry) (index : IndexValue) where
   module _ (named : AreNamed es index) where
     -- the number of the part that a key has
     pub key_pushed : (key : Key) (part : PartRef) (old new : Vec NumberedPart) → ref_of index key ≡ Some part
-        → ((n : ℕ) → times n (numbers_in new.items) ≡ times n (numbers_in old.items) + cond (number es part == n) 1 0) → vec_len new ≡ vec_len old + 1 → vec_capacity new ≡ vec_capacity old
+        → ((n : ℕ) → times n (numbers_in new.items) ≡ times n (numbers_in old.items) + cond (number es part == n) 1 0) → vec_len new
+        ≡ vec_len old + 1 → vec_capacity new ≡ vec_capacity old
         → Pushes es index (is_key key) 1 old new
     key_pushed key part old new at numbers len capacity = record {
       numbers = λ n.
@@ -113,11 +119,13 @@ module _ (es : List Entry) (index : IndexValue) where
     pub key_absent : (key : Key) (list : Vec NumberedPart) → ref_of index key ≡ None → Pushes es index (is_key key) 1 list list
     key_absent key list at =
         none_pushed (is_key key) 1 list
-        (λ n. sym (at_key (number_at es index) (key_at es) named.keys key n) ∙ ap (λ (o : Option ℕ). is_number o n) (ap (option_map (number es)) at))
+        (λ n. sym (at_key (number_at es index) (key_at es) named.keys key n)
+        ∙ ap (λ (o : Option ℕ). is_number o n) (ap (option_map (number es)) at))
 
 -- ---- pages
 
-page_sum : (from page : ℕ) → from ≤ page → (k : Key) → cond (is_page_in from page k) 1 0 + cond (is_key (PageKey page) k) 1 0 ≡ cond (is_page_in from (page + 1) k) 1 0
+page_sum : (from page : ℕ) → from ≤ page → (k : Key) → cond (is_page_in from page k) 1 0 + cond (is_key (PageKey page) k) 1 0
+    ≡ cond (is_page_in from (page + 1) k) 1 0
 page_sum from page le KindKey = refl
 page_sum from page le ModeKey = refl
 page_sum from page le SizeKey = refl
@@ -125,7 +133,8 @@ page_sum from page le (NameKey m) = refl
 page_sum from page le (PageKey p) = grind (arith, nat_tests)
 
 -- no page is there from `next` up to `to`
-gap_test : (from next to n : ℕ) (o : Key → Option ℕ) (k : Key) → from ≤ next → next ≤ to → ((p : ℕ) → next ≤ p → p < to → o (PageKey p) ≡ None)
+gap_test : (from next to n : ℕ) (o : Key → Option ℕ) (k : Key) → from ≤ next → next ≤ to
+    → ((p : ℕ) → next ≤ p → p < to → o (PageKey p) ≡ None)
     → (is_number (o k) n && is_page_in from next k) ≡ (is_number (o k) n && is_page_in from to k)
 gap_test from next to n o KindKey begin le gap = refl
 gap_test from next to n o ModeKey begin le gap = refl
@@ -144,15 +153,19 @@ gap_test from next to n o (PageKey p) begin le gap = elim (cases_lt p next) [
   above : to ≤ p → (nat_le from p && nat_lt p next) ≡ (nat_le from p && nat_lt p to)
   above past = grind (arith, nat_tests)
 
-pub skipped : (es : List Entry) (index : IndexValue) (from next to a b : ℕ) (old new : Vec NumberedPart) → Pushes es index (is_page_in from next) a old new
-    → from ≤ next → next ≤ to → ((p : ℕ) → next ≤ p → p < to → ref_of index (PageKey p) ≡ None) → a ≤ b → Pushes es index (is_page_in from to) b old new
+pub skipped : (es : List Entry) (index : IndexValue) (from next to a b : ℕ) (old new : Vec NumberedPart)
+    → Pushes es index (is_page_in from next) a old new
+    → from ≤ next → next ≤ to → ((p : ℕ) → next ≤ p → p < to → ref_of index (PageKey p) ≡ None) → a ≤ b
+    → Pushes es index (is_page_in from to) b old new
 skipped es index from next to a b old new h begin le gap less =
     retold es index (is_page_in from next) (is_page_in from to) a b old new h
     (λ n. gap_test from next to n (number_at es index) (key_at es n) begin le (λ p ge lt. ap (option_map (number es)) (gap p ge lt))) less
 
 -- one more page, behind a gap
-pub page_pushed : (es : List Entry) (index : IndexValue) → AreNamed es index → (from next page a b : ℕ) (part : PartRef) (old mid new : Vec NumberedPart)
-    → Pushes es index (is_page_in from next) a old mid → from ≤ next → next ≤ page → ((p : ℕ) → next ≤ p → p < page → ref_of index (PageKey p) ≡ None)
+pub page_pushed : (es : List Entry) (index : IndexValue) → AreNamed es index
+    → (from next page a b : ℕ) (part : PartRef) (old mid new : Vec NumberedPart)
+    → Pushes es index (is_page_in from next) a old mid → from ≤ next → next ≤ page
+    → ((p : ℕ) → next ≤ p → p < page → ref_of index (PageKey p) ≡ None)
     → Pushes es index (is_key (PageKey page)) 1 mid new → a + 1 ≤ b → Pushes es index (is_page_in from (page + 1)) b old new
 page_pushed es index named from next page a b part old mid new h begin le gap one less =
     both es index (is_page_in from page) (is_key (PageKey page)) (is_page_in from (page + 1)) a 1 b old mid new

@@ -40,3 +40,4 @@ pub mod Removing
 pub mod PageFlags
 pub mod Growing
 pub mod Numbered
+pub mod MayGoing

@@ -28,7 +28,8 @@ differ : (name : List ℕ) (list : List Bound) (i : ℕ) (b : Bound)
 differ name [] i b h q = cc
 differ name (x ∷ list) zero b h q = let e : x ≡ b = cc in go (same_name b.0 name) refl where
   go : (t : Bool) → same_name b.0 name ≡ t → same_name b.0 name ≡ false
-  go true p = let e : x ≡ b = cc in let z : true ≡ false = sym (same_name-self name) ∙ ap (same_name name) (sym (same_name-equal b.0 name p) ∙ ap (λ (r : Bound). r.0) (sym e)) ∙ h.0 in cc
+  go true p = let e : x ≡ b = cc in let z : true ≡ false = sym (same_name-self name)
+      ∙ ap (same_name name) (sym (same_name-equal b.0 name p) ∙ ap (λ (r : Bound). r.0) (sym e)) ∙ h.0 in cc
   go false p = p
 differ name (x ∷ list) (suc i) b h q = differ name list i b h.1 q
 
@@ -58,7 +59,8 @@ walk (x ∷ list) (suc i) d lt = on (walk list i (IsDistinct-tail same_name x.0 
       } where
         two : (m : List ℕ) (b : Bool)
             → is_some (binding_of m (take (suc i) list)) ≡ (is_some (binding_of m (take i list)) || same_name m w.item.0)
-            → is_some (cond b (Some x.1) (binding_of m (take (suc i) list))) ≡ (is_some (cond b (Some x.1) (binding_of m (take i list))) || same_name m w.item.0)
+            → is_some (cond b (Some x.1) (binding_of m (take (suc i) list)))
+            ≡ (is_some (cond b (Some x.1) (binding_of m (take i list))) || same_name m w.item.0)
         two m true h = refl
         two m false h = h
 
@@ -71,7 +73,8 @@ one_more false false z h q = rw q refl
 pub name_sum : (list : List Bound) (i : ℕ) → (w : Walk list i) → (k : Key)
     → cond (is_name_in (take i list) k) 1 0 + cond (is_key (NameKey w.item.0) k) 1 0 ≡ cond (is_name_in (take (suc i) list) k) 1 0
 name_sum list i w (NameKey m) =
-    one_more (is_some (binding_of m (take i list))) (same_name w.item.0 m) (is_some (binding_of m (take (suc i) list))) (apart m (same_name w.item.0 m) refl)
+    one_more (is_some (binding_of m (take i list))) (same_name w.item.0 m) (is_some (binding_of m (take (suc i) list)))
+    (apart m (same_name w.item.0 m) refl)
     (w.more m ∙ ap (λ b. is_some (binding_of m (take i list)) || b) (turn m w.item.0)) where
       apart : (m : List ℕ) (b : Bool) → same_name w.item.0 m ≡ b → (is_some (binding_of m (take i list)) && b) ≡ false
       apart m true q = let e : w.item.0 ≡ m = same_name-equal w.item.0 m q in rw (← e, w.fresh) refl
@@ -85,7 +88,8 @@ name_sum list i w (NameKey m) =
         by : (x y : Bool) → same_name a b ≡ x → same_name b a ≡ y → same_name a b ≡ same_name b a
         by true true p q = p ∙ sym q
         by false false p q = p ∙ sym q
-        by true false p q = let z : true ≡ false = sym (same_name-self a) ∙ ap (λ (k : List ℕ). same_name k a) (same_name-equal a b p) ∙ q in cc
+        by true false p q = let z : true ≡ false = sym (same_name-self a) ∙ ap (λ (k : List ℕ). same_name k a) (same_name-equal a b p)
+            ∙ q in cc
         by false true p q = let z : true ≡ false = sym (same_name-self a) ∙ ap (same_name a) (sym (same_name-equal b a q)) ∙ p in cc
 name_sum list i w k = refl
 

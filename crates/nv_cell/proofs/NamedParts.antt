@@ -284,7 +284,8 @@ dies_at block es tail epoch all n pair h p = go es tail n all (covered h) (uncov
   go [] tail n all with without p = cc
   go (e ∷ es) zero n all with without p = at (nat_lt n (part_count e)) refl (λ w r. go es zero (n - part_count e) all.1 w refl r) where
     at : (b : Bool) → nat_lt n (part_count e) ≡ b
-        → (is_covered block es (n - part_count e) ≡ true → slice_get (pairs block es) (n - part_count e) ≡ Some pair → pair.death ≡ Some epoch)
+        → (is_covered block es (n - part_count e) ≡ true → slice_get (pairs block es) (n - part_count e) ≡ Some pair → pair.death
+        ≡ Some epoch)
         → pair.death ≡ Some epoch
     at true q rec = own e es 0 n (ltb-true n (part_count e) q) refl (rw q at with) all.1 p
     at false q rec = rec (rw q at with) (sym (pair_later block e es n (ltb-false n (part_count e) q)) ∙ p)

@@ -103,7 +103,8 @@ all_behind : (e : Entry) (es : List Entry) → AllByRecursion (MayFollow e) es
     → AllByRecursion (λ (next : Bound). IsIdBefore e.id next.1.entry) (bindings_in es)
 all_behind e [] h = tt
 all_behind e (x ∷ es) h =
-    subst (λ (bs : List Bound). AllByRecursion (λ (next : Bound). IsIdBefore e.id next.1.entry) bs) (sym (flat_map-cons (λ (y : Entry). bound_by y.id y.item) x es))
+    subst (λ (bs : List Bound). AllByRecursion (λ (next : Bound). IsIdBefore e.id next.1.entry) bs)
+    (sym (flat_map-cons (λ (y : Entry). bound_by y.id y.item) x es))
     (behind e.id x x.item (bindings_in es) h.0.id_rises (all_behind e es h.1))
 
 first_rising : (e : Entry) (item : Item) (rest : List Bound) → AllByRecursion (λ (next : Bound). IsIdBefore e.id next.1.entry) rest

@@ -52,10 +52,12 @@ number_at_entry (x ∷ es) (suc tail) zero e id lt li is same others = rw (← i
   from_zero None = refl
   from_zero (Some n) = ap Some (omega arith)
 number_at_entry (x ∷ es) (suc tail) (suc i) e id lt li is same others =
-    rw (others 0 (omega arith)) (ap (option_map (λ n. part_count x + n)) (number_at_entry es tail i e id (omega (arith, lt)) (omega (arith, li)) is same (λ k l. others (suc k) (omega (arith, l))))
+    rw (others 0 (omega arith)) (ap (option_map (λ n. part_count x + n))
+    (number_at_entry es tail i e id (omega (arith, lt)) (omega (arith, li)) is same (λ k l. others (suc k) (omega (arith, l))))
     ∙ more (place_of e.item id.part)) where
       more : (o : Option ℕ)
-          → option_map (λ n. part_count x + n) (option_map (λ n. part_base es i + n) o) ≡ option_map (λ n. part_count x + part_base es i + n) o
+          → option_map (λ n. part_count x + n) (option_map (λ n. part_base es i + n) o)
+          ≡ option_map (λ n. part_count x + part_base es i + n) o
       more None = refl
       more (Some n) = ap Some (omega arith)
 
@@ -65,7 +67,8 @@ number_nowhere [] zero d id others = refl
 number_nowhere [] (suc tail) d id others = refl
 number_nowhere (x ∷ es) zero d id others = refl
 number_nowhere (x ∷ es) (suc tail) d id others =
-    rw (others 0 (omega arith) (omega arith), number_nowhere es tail d id (λ k l m. others (suc k) (omega (arith, l)) (omega (arith, m)))) refl
+    rw (others 0 (omega arith) (omega arith), number_nowhere es tail d id (λ k l m. others (suc k) (omega (arith, l)) (omega (arith, m))))
+    refl
 
 -- the entry of that id is published
 pub named_here : (es : List Entry) (tail i : ℕ) (e : Entry) (id : PartId) → chain_place_of es id.entry ≡ Some i → i < tail
@@ -106,7 +109,15 @@ place_low (Write first run size) (part.Page page) n h = go (in_run first run pag
       let e : page - first + 1 ≡ n = cc in
       let p = and_parts (nat_le first page && nat_lt page (first + run.len)) (is_page page) q in
       let r = and_parts (nat_le first page) (nat_lt page (first + run.len)) p.0 in
-      omega (arith, e, leb-true first page r.0, ltb-true page (first + run.len) r.1, ltb-true page 65536 p.1, length-map-range_with_len part.Page first (min run.len (65536 - first)))
+      omega (
+        arith,
+        e,
+        leb-true first page r.0,
+        ltb-true page
+            (first + run.len) r.1,
+        ltb-true page 65536 p.1,
+        length-map-range_with_len part.Page first (min run.len (65536 - first)),
+      )
   go false q k = cc
 place_low (Write first run size) part.Kind n h = cc
 place_low (Write first run size) part.Mode n h = cc

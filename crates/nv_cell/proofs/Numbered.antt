@@ -15,7 +15,8 @@ use Rattle.nv_cell.proofs.Publishes.{same_times}
 pub length_numbers : (parts : List NumberedPart) → length (numbers_in parts) ≡ length parts
 length_numbers parts = length-map parts (λ p. p.number)
 
-pub number_at_place : (parts : List NumberedPart) (i d : ℕ) (e : NumberedPart) → i < length parts → slice_index_or (numbers_in parts) i d ≡ (slice_index_or parts i e).number
+pub number_at_place : (parts : List NumberedPart) (i d : ℕ) (e : NumberedPart) → i < length parts → slice_index_or (numbers_in parts) i d
+    ≡ (slice_index_or parts i e).number
 number_at_place parts i d e lt = get_or-map (λ p. p.number) parts i e d lt
 
 pub same_numbers : (n : ℕ) (old new : List NumberedPart) → IsPermutation old new → times n (numbers_in new) ≡ times n (numbers_in old)
@@ -55,7 +56,8 @@ either : (a b : Bool) (old : Mark) → cond a Killed (cond b Killed old) ≡ con
 either true b old = refl
 either false b old = refl
 
-pub killed_more : (marks : List Mark) (parts : List NumberedPart) (i k : ℕ) (part : NumberedPart) (old : Mark) → i < length parts → (get_or parts i part).number < length marks
+pub killed_more : (marks : List Mark) (parts : List NumberedPart) (i k : ℕ) (part : NumberedPart) (old : Mark) → i < length parts
+    → (get_or parts i part).number < length marks
     → mark_at marks k ≡ cond (is_in k (numbers_in (take i parts))) Killed old
     → mark_at (slice_set marks (get_or parts i part).number Killed) k ≡ cond (is_in k (numbers_in (take (i + 1) parts))) Killed old
 killed_more marks parts i k part old lt within h =

@@ -51,7 +51,8 @@ all_at P (x ∷ xs) (suc i) d h lt = all_at P xs i d h.1 (omega (arith, lt))
 
 part_set : (block : ℕ) (e : Entry) (n : ℕ) → n < part_count e → is_present (sets block e.item (part_key e n)) ≡ true
 part_set block e n lt =
-    all_at (λ (r : Part). is_present (sets block e.item (key_of e.item r)) ≡ true) (parts_of e.item) n part.Kind (parts_are_set block e.item) lt
+    all_at (λ (r : Part). is_present (sets block e.item (key_of e.item r)) ≡ true) (parts_of e.item) n part.Kind
+    (parts_are_set block e.item) lt
 
 present_touches : (s : Setting) → is_present s ≡ true → touches s ≡ true
 present_touches Untouched h = cc
@@ -70,10 +71,13 @@ own_covered block (e ∷ later) n lt = go (nat_lt n (part_count e)) refl (λ l. 
       → (n - part_count e < part_total later → any_cover block later (key_at later (n - part_count e)) ≡ true)
       → any_cover block (e ∷ later) (key_at (e ∷ later) n) ≡ true
   go true q rec =
-      rw q (let c : covers block e.item (part_key e n) ≡ true = present_touches (sets block e.item (part_key e n)) (part_set block e n (ltb-true n (part_count e) q)) in rw c refl)
+      rw q (let c : covers block e.item (part_key e n) ≡ true =
+      present_touches (sets block e.item (part_key e n)) (part_set block e n (ltb-true n (part_count e) q)) in rw c refl)
   go false q rec =
       let k : key_at (e ∷ later) n ≡ key_at later (n - part_count e) = rw q refl in
-      subst (λ (key : Key). any_cover block (e ∷ later) key ≡ true) (sym k) (ap (λ (b : Bool). covers block e.item (key_at later (n - part_count e)) || b) (rec (omega (arith, lt, ltb-false n (part_count e) q))) ∙ or_true (covers block e.item (key_at later (n - part_count e))))
+      subst (λ (key : Key). any_cover block (e ∷ later) key ≡ true) (sym k)
+      (ap (λ (b : Bool). covers block e.item (key_at later (n - part_count e)) || b)
+      (rec (omega (arith, lt, ltb-false n (part_count e) q))) ∙ or_true (covers block e.item (key_at later (n - part_count e))))
 
 -- ---- the scan by number
 
@@ -113,7 +117,8 @@ pub scan_names : (block : ℕ) (log : List Entry) (n : ℕ)
 scan_names block [] n = let z : nat_lt n 0 ≡ false = grind (arith, nat_tests) in rw z refl
 scan_names block (e ∷ later) n = go (nat_lt n (part_count e)) refl (scan_names block later (n - part_count e)) where
   front : n < part_count e → (b : Bool) → any_cover block later (part_key e n) ≡ b
-      → is_number (cond b (option_map (λ m. part_count e + m) (scan_n block later (part_key e n))) (own_place block e (part_key e n))) n ≡ (nat_lt n (part_count e + part_total later) && not b)
+      → is_number (cond b (option_map (λ m. part_count e + m) (scan_n block later (part_key e n))) (own_place block e (part_key e n))) n
+      ≡ (nat_lt n (part_count e + part_total later) && not b)
   front lt true q =
       not_shifted (scan_n block later (part_key e n)) (part_count e) n lt ∙ sym (and_not (nat_lt n (part_count e + part_total later)))
   front lt false q =
@@ -121,8 +126,11 @@ scan_names block (e ∷ later) n = go (nat_lt n (part_count e)) refl (scan_names
       rw (part_set block e n lt, key_place e.item n lt, eq-eqb n n refl, a) refl
 
   back : part_count e ≤ n → (b : Bool) → any_cover block later (key_at later (n - part_count e)) ≡ b
-      → is_number (scan_n block later (key_at later (n - part_count e))) (n - part_count e) ≡ (nat_lt (n - part_count e) (part_total later) && not (is_covered block later (n - part_count e)))
-      → is_number (cond b (option_map (λ m. part_count e + m) (scan_n block later (key_at later (n - part_count e)))) (own_place block e (key_at later (n - part_count e)))) n ≡ (nat_lt n (part_count e + part_total later) && not (is_covered block later (n - part_count e)))
+      → is_number (scan_n block later (key_at later (n - part_count e))) (n - part_count e)
+      ≡ (nat_lt (n - part_count e) (part_total later) && not (is_covered block later (n - part_count e)))
+      → is_number (cond b (option_map (λ m. part_count e + m) (scan_n block later (key_at later (n - part_count e))))
+      (own_place block e (key_at later (n - part_count e)))) n
+      ≡ (nat_lt n (part_count e + part_total later) && not (is_covered block later (n - part_count e)))
   back le true q ih =
       let t : nat_lt (n - part_count e) (part_total later) ≡ nat_lt n (part_count e + part_total later) = grind (arith, nat_tests) in
       shifted (scan_n block later (key_at later (n - part_count e))) (part_count e) n le ∙ ih ∙ rw t refl
@@ -134,8 +142,10 @@ scan_names block (e ∷ later) n = go (nat_lt n (part_count e)) refl (scan_names
     ]
 
   go : (b : Bool) → nat_lt n (part_count e) ≡ b
-      → is_number (scan_n block later (key_at later (n - part_count e))) (n - part_count e) ≡ (nat_lt (n - part_count e) (part_total later) && not (is_covered block later (n - part_count e)))
-      → is_number (scan_n block (e ∷ later) (key_at (e ∷ later) n)) n ≡ (nat_lt n (part_total (e ∷ later)) && not (is_covered block (e ∷ later) n))
+      → is_number (scan_n block later (key_at later (n - part_count e))) (n - part_count e)
+      ≡ (nat_lt (n - part_count e) (part_total later) && not (is_covered block later (n - part_count e)))
+      → is_number (scan_n block (e ∷ later) (key_at (e ∷ later) n)) n
+      ≡ (nat_lt n (part_total (e ∷ later)) && not (is_covered block (e ∷ later) n))
   go true q ih = rw q (front (ltb-true n (part_count e) q) (any_cover block later (part_key e n)) refl)
   go false q ih = rw q (back (ltb-false n (part_count e) q) (any_cover block later (key_at later (n - part_count e))) refl ih)
 
@@ -182,8 +192,11 @@ covered_push block [] e n = let z : nat_lt n 0 ≡ false = grind (arith, nat_tes
   one false = refl
 covered_push block (x ∷ xs) e n = go (nat_lt n (part_count x)) refl (covered_push block xs e (n - part_count x)) where
   go : (b : Bool) → nat_lt n (part_count x) ≡ b
-      → is_covered block (xs ++ e ∷ []) (n - part_count x) ≡ (is_covered block xs (n - part_count x) || (nat_lt (n - part_count x) (part_total xs) && covers block e.item (key_at xs (n - part_count x))))
-      → is_covered block (x ∷ (xs ++ e ∷ [])) n ≡ (is_covered block (x ∷ xs) n || (nat_lt n (part_total (x ∷ xs)) && covers block e.item (key_at (x ∷ xs) n)))
+      → is_covered block (xs ++ e ∷ []) (n - part_count x)
+      ≡ (is_covered block xs (n - part_count x) ||
+      (nat_lt (n - part_count x) (part_total xs) && covers block e.item (key_at xs (n - part_count x))))
+      → is_covered block (x ∷ (xs ++ e ∷ [])) n
+      ≡ (is_covered block (x ∷ xs) n || (nat_lt n (part_total (x ∷ xs)) && covers block e.item (key_at (x ∷ xs) n)))
   go true q ih =
       let a : nat_lt n (part_count x + part_total xs) ≡ true =
       lt-ltb n (part_count x + part_total xs) (omega (arith, ltb-true n (part_count x) q)) in
@@ -223,7 +236,9 @@ own_id a = grind (arith, nat_tests)
 pub own_place_of : (es : List Entry) (k : ℕ) (d : Entry) → IsLog es → k < length es → place_of es (get_or es k d).id ≡ Some k
 own_place_of es k d is within =
     let at : position_or_len (has_id (get_or es k d).id) es ≡ k =
-    position_or_len_is (has_id (get_or es k d).id) es k d (omega arith) (λ j lt. other_id (get_or es j d).id (get_or es k d).id (ordered_at es j k d is lt within).id_rises) (λ _. own_id (get_or es k d).id) in
+    position_or_len_is (has_id (get_or es k d).id) es k d (omega arith)
+    (λ j lt. other_id (get_or es j d).id (get_or es k d).id (ordered_at es j k d is lt within).id_rises)
+    (λ _. own_id (get_or es k d).id) in
     rw at (rw (lt-ltb k (length es) within) refl)
 
 at_split : (pre : List Entry) (x : Entry) (post : List Entry) (d : Entry) → get_or (pre ++ x ∷ post) (length pre) d ≡ x
@@ -271,7 +286,8 @@ scan_here : (block : ℕ) (x : Entry) (later : List Entry) (key : Key) → any_c
     → scan_ref block (x ∷ later) key ≡ ref_after block x key None
 scan_here block x later key h = rw (no_last block later key h) (go (sets block x.item key) refl) where
   go : (s : Setting) → sets block x.item key ≡ s
-      → option_and_then (λ e. ref_after block e key None) (option_or None (cond (covers block x.item key) (Some x) None)) ≡ ref_after block x key None
+      → option_and_then (λ e. ref_after block e key None) (option_or None (cond (covers block x.item key) (Some x) None))
+      ≡ ref_after block x key None
   go Untouched q =
       let a : covers block x.item key ≡ false = ap touches q in
       let b : ref_after block x key None ≡ None =
@@ -310,14 +326,18 @@ linked block pre (x ∷ later) post key is = go (any_cover block later key) refl
       let p : place_of (pre ++ (x ∷ (later ++ post))) x.id ≡ Some (length pre) = place_split pre x (later ++ post) is in
       record {
         numbers = rw (scan_here block x later key n, n, q) (ap Some (rw (p, take_split pre (x ∷ (later ++ post))) refl));
-        known = λ r h. let z : Some (record { entry = x.id; place = place_in x.item key }) ≡ Some r = sym (scan_here block x later key n ∙ rw q refl) ∙ h in let e : x.id ≡ r.entry = ap (λ (o : Option PartRef). entry_in o) z in rw (← e, p) refl;
+        known = λ r h. let z : Some (record { entry = x.id; place = place_in x.item key }) ≡ Some r =
+            sym (scan_here block x later key n ∙ rw q refl) ∙ h in let e : x.id ≡ r.entry =
+            ap (λ (o : Option PartRef). entry_in o) z in rw (← e, p) refl;
       } where
         entry_in : Option PartRef → EntryId
         entry_in None = x.id
         entry_in (Some r) = r.entry
 
   go : (b : Bool) → any_cover block later key ≡ b
-      → (IsLog ((pre ++ x ∷ []) ++ (later ++ post)) → Linked block ((pre ++ x ∷ []) ++ (later ++ post)) (part_total (pre ++ x ∷ [])) later key) → Linked block (pre ++ (x ∷ (later ++ post))) (part_total pre) (x ∷ later) key
+      → (IsLog ((pre ++ x ∷ []) ++ (later ++ post))
+      → Linked block ((pre ++ x ∷ []) ++ (later ++ post)) (part_total (pre ++ x ∷ [])) later key)
+      → Linked block (pre ++ (x ∷ (later ++ post))) (part_total pre) (x ∷ later) key
   go true q rec =
       let i : IsLog ((pre ++ x ∷ []) ++ (later ++ post)) = rw same is in
       let l = rw same at (rec i) in

@@ -1,14 +1,16 @@
 -- Flags of pages as flags of the log's entries.
-use Rattle.std.proofs.Common.{◌≡◌, ℕ, zero, suc, ◌+◌, ◌-◌, ◌<◌, ◌≤◌, Bool, true, false, List, [], ◌∷◌, ◌++◌, length, take, replicate, get_or, inl, inr, arith, refl, ap, sym, ◌∙◌, length-append, add-one, Some}
-use Rattle.std.specs.Prelude.{slice_get}
+use Rattle.std.proofs.Common.{◌≡◌, ℕ, zero, suc, ◌+◌, ◌-◌, ◌<◌, ◌≤◌, Bool, true, false, List, [], ◌∷◌, ◌++◌, length, take, replicate, get_or, inl, inr, arith, refl, ap, sym, ◌∙◌, length-append, add-one, subst}
 use Rattle.std.proofs.lemmas.Bool.{cases_lt}
-use Rattle.std.proofs.lemmas.List.{length-take, get_or-take}
-use Rattle.nv_entry.specs.declared.item.Entry.{Entry}
-use Rattle.nv_log.specs.Chain.{AreEnds, ChainState, IsChain, end_of, joined, left_of, log, log_pages, pages_of, start_of, with_pages_left}
+use Rattle.std.proofs.lemmas.List.{get_or_default, length-take, get_or-take}
+use Rattle.nv_log.specs.Chain.{AreEnds, ChainState, IsChain, end_of, joined, left_of, log, log_pages, pages_of, start_in, start_of, with_pages_left}
 use Rattle.nv_log.proofs.Flags.{joined-left_of, left_of-none, length-left_of, left_of-select, take-joined_left}
-use Rattle.nv_log.proofs.Parts.{length-ends_from, length-parts, part_at, start_past}
-use Rattle.nv_cell.specs.Removal.{ArePublished, log_flags, run_flags}
-use Rattle.nv_cell.proofs.RunFlags.{AreNext, next_parts, spread_is, stays_on}
+use Rattle.nv_log.proofs.Parts.{length-ends_from, length-parts, part_at}
+use Rattle.nv_cell.specs.Removal.{AreFlags, ArePublished, flags_of, log_flags, run_flags}
+use Rattle.nv_cell.specs.Tallies.{IsInRun, end_at, start_at}
+use Rattle.nv_cell.specs.declared.stays.Stays.{Stays}
+use Rattle.nv_cell.specs.declared.stays.Stays.TheVariants.{Entries, Pages}
+use Rattle.nv_cell.proofs.Recounting.{start_next}
+use Rattle.nv_cell.proofs.RunFlags.{spread_is, stays_on}
 use Rattle.nv_cell.proofs.Removing.{IsLeft}
 
 in_front : (n m : ℕ) (b : Bool) (flags : List Bool) (d : Bool) → m < n → get_or (replicate n b ++ flags) m d ≡ b
@@ -106,31 +108,6 @@ pages_left stays chain is len published =
         let z : i - 0 ≡ i = omega arith in
         rw z at (fresh_stay chain.page 0 chain.ends (length chain.entries) stays chain.tail i is.parted published le (omega arith))
 
--- a walk along the entries: the page that entry `i` stands on, or the next one
-pub here : (chain : ChainState) (k i : ℕ) → IsChain chain → i < length chain.entries → k ≤ length chain.ends → start_of chain k ≤ i
-    → k < length chain.ends
-here chain k i is lt le from = elim (cases_lt k (length chain.ends)) [
-  | inl l ↦ l
-  | inr ge ↦ let past = start_past chain.page 0 chain.ends (length chain.entries) k is.parted ge in absurd (omega (arith, past, from, lt))
-]
-
-pub starts_next : (chain : ChainState) (k i : ℕ) → end_of chain k ≤ i → start_of chain (k + 1) ≤ i
-starts_next chain k i to = rw add-one to
-
-pub there : (chain : ChainState) (k i : ℕ) → IsChain chain → i < length chain.entries → k ≤ length chain.ends → start_of chain k ≤ i
-    → end_of chain k ≤ i
-    → k + 1 < length chain.ends
-there chain k i is lt le from to = here chain (k + 1) i is lt (omega (arith, here chain k i is lt le from)) (starts_next chain k i to)
-
-pub ends_next : (chain : ChainState) (k i : ℕ) → IsChain chain → i < length chain.entries → k ≤ length chain.ends → start_of chain k ≤ i
-    → end_of chain k ≤ i
-    → i ≤ end_of chain k → i < end_of chain (k + 1)
-ends_next chain k i is lt le from to within =
-    let at = part_at chain.page 0 chain.ends (length chain.entries) (k + 1) (length chain.entries) is.parted
-    (there chain k i is lt le from to) in
-    let same : start_of chain (k + 1) ≡ end_of chain k = rw add-one refl in
-    omega (arith, at.some, same, within)
-
 -- the flag of an entry of the log, by its page
 flag_is : (stays : List Bool) (chain : ChainState) (k i : ℕ) (b : Bool) → IsChain chain → i < chain.tail → k < length chain.ends
     → start_of chain k ≤ i
@@ -150,14 +127,26 @@ log_flags-count stays chain is len =
       is.within,
     )
 
--- the parts of an entry, with its page's flag
-pub page_parts : (stays : List Bool) (chain : ChainState) (k i : ℕ) (b : Bool) (e : Entry) → IsChain chain
-    → length stays ≡ length chain.ends → i < chain.tail → k < length chain.ends → start_of chain k ≤ i → i < end_of chain k
-    → b ≡ get_or stays k b
-    → slice_get chain.entries i ≡ Some e → AreNext (log_flags stays chain) (log chain) i b e
-page_parts stays chain k i b e is len lt page from to flag at =
-    next_parts (log_flags stays chain) chain.entries chain.tail i b e (omega (arith, log_flags-count stays chain is len, lt)) lt is.within
-    (flag_is stays chain k i b is lt page from to flag) at
+pub flags-count : (stays : Stays) (chain : ChainState) → IsChain chain → AreFlags stays chain
+    → length (flags_of stays chain) ≡ chain.tail
+flags-count (Entries stays) chain is are = are
+flags-count (Pages stays) chain is are = log_flags-count stays.now chain is are
+
+-- pages as runs of entries
+start_is : (ends : List ℕ) (len k : ℕ) → k < length ends → start_in ends len k ≡ start_at ends k
+start_is ends len zero lt = refl
+start_is ends len (suc k) lt =
+    get_or_default ends k len 0 (omega (arith, lt))
+    ∙ sym (subst (λ (n : ℕ). start_at ends n ≡ end_at ends k) (add-one k) (start_next ends k))
+
+-- the flag of an entry, by the run of its page
+pub flag_in : (stays : List Bool) (chain : ChainState) (k i : ℕ) (b : Bool) → IsChain chain → i < chain.tail
+    → IsInRun chain.ends i k → b ≡ get_or stays k b → b ≡ get_or (log_flags stays chain) i b
+flag_in stays chain k i b is lt run same =
+    let len = length chain.entries in
+    let from : start_of chain k ≡ start_at chain.ends k = start_is chain.ends len k run.within in
+    let to : end_of chain k ≡ end_at chain.ends k = get_or_default chain.ends k len 0 run.within in
+    flag_is stays chain k i b is lt run.within (omega (arith, from, run.start)) (omega (arith, to, run.end)) same
 
 -- no more pages have entries than before
 pub pages_fewer : (stays : List Bool) (chain : ChainState) → length (with_pages_left stays chain).ends ≤ length chain.ends

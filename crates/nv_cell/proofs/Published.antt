@@ -48,7 +48,8 @@ pub there_stays : (block : ℕ) (es : List Entry) (tail : ℕ) (old new : List M
     → ((n : ℕ) → mark_at new n ≡ published_mark block es tail old n) → (n : ℕ)
     → is_there (mark_or_fresh new n) ≡ is_there (mark_or_fresh old n)
 there_stays block es tail old new len more was is n = elim (cases_lt n (part_total es)) [
-  | inl lt ↦ ap is_there (fresh_in new n (omega (arith, lt, more)) ∙ is n) ∙ go (dies block es tail n) refl (nat_lt n (part_base es tail)) refl lt
+  | inl lt ↦ ap is_there (fresh_in new n (omega (arith, lt, more)) ∙ is n)
+      ∙ go (dies block es tail n) refl (nat_lt n (part_base es tail)) refl lt
   | inr ge ↦ ap is_there (fresh_out new n (omega (arith, ge, more)) ∙ sym (fresh_out old n (omega (arith, ge, len, total_take es tail))))
 ]
   where

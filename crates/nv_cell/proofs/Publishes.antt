@@ -118,7 +118,8 @@ dying_is_current block es tail n old mark h lt was is = go (nat_lt n (part_base 
   go : (b : Bool) → nat_lt n (part_base es tail) ≡ b → is_current mark ≡ true
   go true q =
       let k : mark ≡ old = rw q at is in
-      rw k (was (ltb-true n (part_base es tail) q) ∙ and_right (nat_lt n (part_total es) && is_covered block es n) (not (is_covered block (take tail es) n)) h)
+      rw k (was (ltb-true n (part_base es tail) q)
+      ∙ and_right (nat_lt n (part_total es) && is_covered block es n) (not (is_covered block (take tail es) n)) h)
   go false q = let k : mark ≡ Current = rw (q, low) at is in rw k refl
 
 pub dies_when : (b : Bool) (k : ℕ) → k ≡ cond b 1 0 → 1 ≤ k → b ≡ true

@@ -39,7 +39,9 @@ pub scan_push : (block : ℕ) (log : List Entry) (e : Entry) (key : Key)
 scan_push block log e key =
     ap (option_and_then (λ x. ref_after block x key None)) (last_append block log (e ∷ []) key) ∙ go (sets block e.item key) refl where
       go : (s : Setting) → sets block e.item key ≡ s
-          → option_and_then (λ x. ref_after block x key None) (option_or (option_or None (cond (covers block e.item key) (Some e) None)) (last_cover block log key)) ≡ ref_after block e key (scan_ref block log key)
+          → option_and_then (λ x. ref_after block x key None)
+          (option_or (option_or None (cond (covers block e.item key) (Some e) None)) (last_cover block log key))
+          ≡ ref_after block e key (scan_ref block log key)
       go Untouched q =
           let a : covers block e.item key ≡ false = ap touches q in
           let b : ref_after block e key (scan_ref block log key) ≡ scan_ref block log key =
@@ -125,7 +127,8 @@ named_is block es t index h n =
       none le false q = refl
 
       go : (b : Bool) → nat_lt n (part_total (take t es)) ≡ b
-          → is_number (scan_n block (take t es) (key_at es n)) n ≡ (nat_lt n (part_total (take t es)) && not (is_covered block (take t es) n))
+          → is_number (scan_n block (take t es) (key_at es n)) n
+          ≡ (nat_lt n (part_total (take t es)) && not (is_covered block (take t es) n))
       go true q =
           ap (λ (k : Key). is_number (scan_n block (take t es) k) n) (front_key es t n (ltb-true n (part_total (take t es)) q))
           ∙ scan_names block (take t es) n
@@ -201,11 +204,13 @@ step_bools a false false d d2 f ba dd fc = go a f where
 -- what one entry more kills
 pub kill_step : (block : ℕ) (es : List Entry) (tail t n : ℕ) (e : Entry) (index : IndexValue) → IsScan block es t index → tail ≤ t
     → t < length es → e ≡ slice_index_or es t e
-    → cond ((nat_lt n (part_total es) && is_covered block (take t es) n) && not (is_covered block (take tail es) n)) 1 0 + cond (is_named es index n && covers block e.item (key_at es n)) 1 0
+    → cond ((nat_lt n (part_total es) && is_covered block (take t es) n) && not (is_covered block (take tail es) n)) 1 0 + cond
+    (is_named es index n && covers block e.item (key_at es n)) 1 0
     ≡ cond ((nat_lt n (part_total es) && is_covered block (take (t + 1) es) n) && not (is_covered block (take tail es) n)) 1 0
 kill_step block es tail t n e index h le lt q =
     let s =
-    step_bools (nat_lt n (part_total es)) (nat_lt n (part_total (take t es))) (is_covered block (take t es) n) (covers block e.item (key_at es n)) (covers block e.item (key_at (take t es) n)) (is_covered block (take tail es) n)
+    step_bools (nat_lt n (part_total es)) (nat_lt n (part_total (take t es))) (is_covered block (take t es) n)
+    (covers block e.item (key_at es n)) (covers block e.item (key_at (take t es) n)) (is_covered block (take tail es) n)
     (λ b. lt-ltb n (part_total es) (omega (arith, ltb-true n (part_total (take t es)) b, total_take es t)))
     (λ b. ap (covers block e.item) (sym (front_key es t n (ltb-true n (part_total (take t es)) b))))
     (λ f. covered_take block es tail t n le f) in

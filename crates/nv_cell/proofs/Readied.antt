@@ -1,5 +1,5 @@
 -- What names ask for stays ready while entries take effect.
-use Rattle.std.proofs.Common.{◌≡◌, ℕ, zero, suc, ◌<◌, arith, length, take, slice_index_or, Option, Bool, true, false, List, [], ◌∷◌, Some, None, inl, inr, refl, sym, ◌∙◌, subst}
+use Rattle.std.proofs.Common.{◌≡◌, ℕ, zero, suc, ◌<◌, arith, length, take, slice_index_or, Option, Bool, true, false, List, [], ◌∷◌, Some, None, inl, inr, refl, ap, sym, ◌∙◌, subst}
 use Rattle.std.specs.Prelude.{Result, Ok, Err, OnOk}
 use Rattle.nv_base.specs.declared.fault.Fault.{Fault}
 use Rattle.nv_nindex.specs.declared.binding.Binding.{Binding}
@@ -21,6 +21,17 @@ apart m name h = go (same_name m name) refl where
   go : (b : Bool) → same_name m name ≡ b → same_name m name ≡ false
   go true q = let z : true ≡ false = rw q at h in cc
   go false q = q
+
+-- the reserved name stays where none is bound
+pub reserved_after : (id : EntryId) (item : Item) (old new : Names) → NamesAfter id item old new → is_bind item ≡ false
+    → new.reserved ≡ old.reserved
+reserved_after id (Bind name to) old new h none = cc
+reserved_after id (Unbind name) old new h none = h.1
+reserved_after id Gone old new h none = h.1
+reserved_after id (Init kind mode) old new h none = ap (λ names. names.reserved) h
+reserved_after id (Write first run size) old new h none = ap (λ names. names.reserved) h
+reserved_after id (SetSize size) old new h none = ap (λ names. names.reserved) h
+reserved_after id (SetMode mode) old new h none = ap (λ names. names.reserved) h
 
 stays : (id : EntryId) (item other : Item) (old new : Names) → NamesAfter id item old new → LeavesName item other → NameReady other old
     → NameReady other new

@@ -60,7 +60,8 @@ blocks_stay cell n mark h lt was now = record {
   go : (k : ℕ) (b : Bool) → (n == k) ≡ b → is_there (cond b mark (mark_or_fresh cell.marks k)) ≡ is_there (mark_or_fresh cell.marks k)
   go k true q =
       now
-      ∙ sym (ap (λ (i : ℕ). is_there (mark_or_fresh cell.marks i)) (sym (eqb-true n k q)) ∙ ap is_there (default cell.marks n Current Out lt) ∙ was)
+      ∙ sym (ap (λ (i : ℕ). is_there (mark_or_fresh cell.marks i)) (sym (eqb-true n k q))
+      ∙ ap is_there (default cell.marks n Current Out lt) ∙ was)
   go k false q = refl
 
   same : (k : ℕ) → is_there (mark_or_fresh (slice_set cell.marks n mark) k) ≡ is_there (mark_or_fresh cell.marks k)
@@ -77,11 +78,13 @@ block_leaves cell n h lt in_blocks = record {
   len = (let z : length (slice_set cell.blocks n None) ≡ length cell.blocks = grind (arith, common_steps) in z) ∙ h.len;
   numbers =
       λ k. ap (option_map number_of) (block_set cell.blocks n k None in_blocks) ∙ go k (n == k) refl
-      ∙ ap (λ (m : Mark). cond (is_there m) (page_block cell.block cell.chain.entries k) None) (sym (mark_set cell.marks n k Out Current lt));
+      ∙ ap (λ (m : Mark). cond (is_there m) (page_block cell.block cell.chain.entries k) None)
+      (sym (mark_set cell.marks n k Out Current lt));
   sized = λ k b q. size k b (n == k) refl (sym (block_set cell.blocks n k None in_blocks) ∙ q);
 } where
   go : (k : ℕ) (b : Bool) → (n == k) ≡ b
-      → option_map number_of (cond b None (slice_index_or cell.blocks k None)) ≡ cond (is_there (cond b Out (mark_or_fresh cell.marks k))) (page_block cell.block cell.chain.entries k) None
+      → option_map number_of (cond b None (slice_index_or cell.blocks k None))
+      ≡ cond (is_there (cond b Out (mark_or_fresh cell.marks k))) (page_block cell.block cell.chain.entries k) None
   go k true q = refl
   go k false q = h.numbers k
 

@@ -18,7 +18,8 @@ count_cons test x xs = sum_by-cons (λ y. cond (test y) 1 0) x xs
 
 -- of the first `len` items
 count_front : {X : Type 0} (test : X → Bool) (d : X) (xs : List X) (len n : ℕ) (x : X) → n < length xs
-    → count_by test (take len (slice_set xs n x)) + cond (nat_lt n len && test (slice_index_or xs n d)) 1 0 ≡ count_by test (take len xs) + cond (nat_lt n len && test x) 1 0
+    → count_by test (take len (slice_set xs n x)) + cond (nat_lt n len && test (slice_index_or xs n d)) 1 0
+    ≡ count_by test (take len xs) + cond (nat_lt n len && test x) 1 0
 count_front test d [] len n x lt = absurd (omega arith)
 count_front test d (y ∷ ys) zero n x lt = let z : nat_lt n 0 ≡ false = grind (arith, nat_tests) in rw z refl
 count_front test d (y ∷ ys) (suc len) zero x lt =
@@ -30,7 +31,8 @@ count_front test d (y ∷ ys) (suc len) (suc n) x lt =
     rw z (omega (arith, ih, count_cons test y (take len (slice_set ys n x)), count_cons test y (take len ys)))
 
 pub count_set : {X : Type 0} (test : X → Bool) (d : X) (xs : List X) (from to n : ℕ) (x : X) → n < length xs
-    → count_in test (slice_set xs n x) from to + cond (in_range from to n && test (slice_index_or xs n d)) 1 0 ≡ count_in test xs from to + cond (in_range from to n && test x) 1 0
+    → count_in test (slice_set xs n x) from to + cond (in_range from to n && test (slice_index_or xs n d)) 1 0
+    ≡ count_in test xs from to + cond (in_range from to n && test x) 1 0
 count_set test d [] from to n x lt = absurd (omega arith)
 count_set test d (y ∷ ys) zero to n x lt =
     let z : in_range 0 to n ≡ nat_lt n (to - 0) = grind (arith, nat_tests) in
@@ -85,7 +87,8 @@ recount test d xs ends i k x f g runs lk s e li old le new j lj =
     let r = one_run ends (length xs) k j i runs lk lj s e in
     go (k == j) refl (rw r at c) where
       go : (b : Bool) → (k == j) ≡ b
-          → count_in test (slice_set xs i x) (start_at ends j) (end_at ends j) + cond ((k == j) && test (slice_index_or xs i d)) 1 0 ≡ count_in test xs (start_at ends j) (end_at ends j) + cond ((k == j) && test x) 1 0
+          → count_in test (slice_set xs i x) (start_at ends j) (end_at ends j) + cond ((k == j) && test (slice_index_or xs i d)) 1 0
+          ≡ count_in test xs (start_at ends j) (end_at ends j) + cond ((k == j) && test x) 1 0
           → g j ≡ count_in test (slice_set xs i x) (start_at ends j) (end_at ends j)
       go true q c =
           let same : k ≡ j = eqb-true k j q in

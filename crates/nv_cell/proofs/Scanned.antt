@@ -141,7 +141,8 @@ take_same (suc n) (x ∷ xs) (y ∷ ys) len = ap (λ zs. x ∷ zs) (take_same n 
 page_flags : (test : Mark → Bool) (by : Pair → Bool) (cell : CellState) (block page : ℕ) → IsChain cell.chain
     → length cell.marks ≡ part_total (log_of cell) → AreAlike test by block (log_of cell) cell.marks → page < length cell.chain.ends
     → count_by (list_any test) (slice_index_or (parts_from 0 cell.chain.ends (marks_by_entry (log_of cell) cell.marks)) page [])
-    ≡ count_by is (take (length (slice_index_or (log_pages cell.chain) page [])) (flags by block (drop (start_of cell.chain page) (log_of cell))))
+    ≡ count_by is (take (length (slice_index_or (log_pages cell.chain) page []))
+    (flags by block (drop (start_of cell.chain page) (log_of cell))))
 page_flags test by cell block page chain len alike lt =
     let es = log_of cell in
     let marked = marks_by_entry es cell.marks in

@@ -67,7 +67,15 @@ reads m n i ends was old h there same at was_at old_at =
     let li : i < length m.tallies.items = omega (arith, run.within, h.len) in
     let w : was ≡ mark_at m.marks.items n = at_index m.marks.items n was Out was_at lt in
     let o : old ≡ tally_at m.tallies.items i = at_index m.tallies.items i old no_tally old_at li in
-    record { run = run; part = lt; entry = li; was_is = w; old_is = o; counts = rw (w, o) (counts m.tallies.items m.ends.items m.marks.items i n h run lt) }
+    record {
+      run = run;
+      part = lt;
+      entry = li;
+      was_is = w;
+      old_is = o;
+      counts =
+          rw (w, o) (counts m.tallies.items m.ends.items m.marks.items i n h run lt);
+    }
 
 -- a part gets another mark, and its entry's tally and its page's counts go along
 pub set_tallied : (m : Marks) (page_ends : List ℕ) (n i k : ℕ) (mark was : Mark) (old t : Tally) (before c : PageCounts) (there : ℕ)
@@ -75,7 +83,13 @@ pub set_tallied : (m : Marks) (page_ends : List ℕ) (n i k : ℕ) (mark was : M
     → IsRead m n i was old → is_there (mark_at m.marks.items n) ≡ true → IsInRun page_ends i k
     → t ≡ moved old was mark → before ≡ slice_index_or m.pages.items k before → c ≡ recounted before old t
     → there + 1 ≡ m.there + bit (is_there mark)
-    → AreTallied (record m { marks = with_item m.marks n mark; tallies = with_item m.tallies i t; pages = with_item m.pages k c; there = there }) page_ends
+    → AreTallied (record m {
+      marks = with_item m.marks n mark;
+      tallies = with_item m.tallies i t;
+      pages = with_item m.pages k c;
+      there =
+          there;
+    }) page_ends
 set_tallied m page_ends n i k mark was old t before c there h r lives at t_is before_at c_is there_is =
     let lk : k < length m.pages.items = omega (arith, at.within, h.counts.len) in
     let b : before ≡ counts_at m.pages.items k = at_index m.pages.items k before no_counts before_at lk in
@@ -92,19 +106,30 @@ count_append test [] ys = omega arith
 count_append test (x ∷ xs) ys = omega (arith, count_cons test x (xs ++ ys), count_cons test x xs, count_append test xs ys)
 
 -- one more entry, with parts that are all current
-pub add_tallied : (m : Marks) (page_ends : List ℕ) (k parts : ℕ) (before c : PageCounts) (marks : Vec Mark) (ends : Vec ℕ) (tallies : Vec Tally) → AreTallied m page_ends
+pub add_tallied : (m : Marks) (page_ends : List ℕ) (k parts : ℕ) (before c : PageCounts) (marks : Vec Mark) (ends : Vec ℕ)
+    (tallies : Vec Tally) → AreTallied m page_ends
     → IsInRun page_ends (length m.tallies.items) k → AreRuns page_ends (length m.tallies.items + 1)
     → marks.items ≡ m.marks.items ++ replicate parts Current → ends.items ≡ m.ends.items ++ (length m.marks.items + parts) ∷ []
     → tallies.items ≡ m.tallies.items ++ (record { current = parts; there = parts }) ∷ []
     → before ≡ slice_index_or m.pages.items k before → c ≡ with_entry before (record { current = parts; there = parts })
-    → AreTallied (record { marks = marks; ends = ends; tallies = tallies; pages = with_item m.pages k c; there = m.there + parts }) page_ends
+    → AreTallied (record { marks = marks; ends = ends; tallies = tallies; pages = with_item m.pages k c; there = m.there + parts })
+    page_ends
 add_tallied m page_ends k parts before c marks ends tallies h at runs marks_is ends_is tallies_is before_at c_is =
     let lk : k < length m.pages.items = omega (arith, at.within, h.counts.len) in
     let b : before ≡ counts_at m.pages.items k = at_index m.pages.items k before no_counts before_at lk in
     record {
       tallies = rw (marks_is, ends_is, tallies_is) (add_tallies m.tallies.items m.ends.items m.marks.items parts h.tallies);
       counts =
-          rw tallies_is (add_counts m.tallies.items page_ends m.pages.items k (record { current = parts; there = parts }) c h.counts at.within at.start at.end runs (rw (c_is, b) refl) (rw (c_is, b) refl));
+          rw tallies_is (add_counts m.tallies.items page_ends m.pages.items k
+          (record { current = parts; there = parts }) c h.counts at.within at.start at.end runs (rw (c_is, b) refl)
+          (rw (c_is, b) refl));
       there =
-          omega (arith, ap (count_by is_there) marks_is, count_append is_there m.marks.items (replicate parts Current), count_all is_there Current parts refl, h.there);
+          omega (
+            arith,
+            ap (count_by is_there) marks_is,
+            count_append is_there m.marks.items
+                (replicate parts Current),
+            count_all is_there Current parts refl,
+            h.there,
+          );
     }

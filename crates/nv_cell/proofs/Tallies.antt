@@ -32,7 +32,8 @@ counts_set : (pages : List PageCounts) (k j : ℕ) (c : PageCounts) → k < leng
 counts_set pages k j c lt = grind (arith, common_steps)
 
 -- one of the two counts of each page, after one entry's tally has changed
-new_count : (f : PageCounts → ℕ) (test : Tally → Bool) (tallies : List Tally) (pages : List PageCounts) (ends : List ℕ) (i k : ℕ) (t : Tally) (c : PageCounts) → AreRuns ends (length tallies) → length pages ≡ length ends
+new_count : (f : PageCounts → ℕ) (test : Tally → Bool) (tallies : List Tally) (pages : List PageCounts) (ends : List ℕ) (i k : ℕ)
+    (t : Tally) (c : PageCounts) → AreRuns ends (length tallies) → length pages ≡ length ends
     → k < length ends → start_at ends k ≤ i → i < end_at ends k → i < length tallies → test no_tally ≡ false
     → ((j : ℕ) → j < length ends → f (counts_at pages j) ≡ count_in test tallies (start_at ends j) (end_at ends j))
     → f c ≡ f (counts_at pages k) - bit (test (tally_at tallies i)) + bit (test t)
@@ -40,8 +41,14 @@ new_count : (f : PageCounts → ℕ) (test : Tally → Bool) (tallies : List Tal
     → f (counts_at (slice_set pages k c) j) ≡ count_in test (slice_set tallies i t) (start_at ends j) (end_at ends j)
 new_count f test tallies pages ends i k t c runs len lk s e li fails old is =
     recount test no_tally tallies ends i k t (λ j. f (counts_at pages j)) (λ j. f (counts_at (slice_set pages k c) j)) runs lk s e li old
-    (omega (arith, counted test no_tally tallies ends k i (f (counts_at pages k)) fails (old k lk) li s e, bit_cond (test (tally_at tallies i))))
-    (λ j. ap f (counts_set pages k j c (omega arith)) ∙ pick (k == j) (counts_at pages j) ∙ rw (← bit_cond (test (tally_at tallies i)), ← bit_cond (test t), is) refl) where
+    (omega (
+      arith,
+      counted test no_tally tallies ends k i (f (counts_at pages k)) fails (old k lk) li s e,
+      bit_cond
+          (test (tally_at tallies i)),
+    ))
+    (λ j. ap f (counts_set pages k j c (omega arith)) ∙ pick (k == j) (counts_at pages j)
+    ∙ rw (← bit_cond (test (tally_at tallies i)), ← bit_cond (test t), is) refl) where
       pick : (b : Bool) (d : PageCounts) → f (cond b c d) ≡ cond b (f c) (f d)
       pick true d = refl
       pick false d = refl
@@ -55,9 +62,11 @@ new_counts tallies ends pages i k t h lk s e li =
       runs = subst (λ (n : ℕ). AreRuns ends n) (sym len) h.runs;
       len = grind (arith, common_steps, h.len);
       live =
-          new_count (λ c. c.live) is_live tallies pages ends i k t (recounted (counts_at pages k) (tally_at tallies i) t) h.runs h.len lk s e li refl h.live refl;
+          new_count (λ c. c.live) is_live tallies pages ends i k t
+          (recounted (counts_at pages k) (tally_at tallies i) t) h.runs h.len lk s e li refl h.live refl;
       valid =
-          new_count (λ c. c.valid) is_valid tallies pages ends i k t (recounted (counts_at pages k) (tally_at tallies i) t) h.runs h.len lk s e li refl h.valid refl;
+          new_count (λ c. c.valid) is_valid tallies pages ends i k t
+          (recounted (counts_at pages k) (tally_at tallies i) t) h.runs h.len lk s e li refl h.valid refl;
     }
 
 tally_set : (tallies : List Tally) (i j : ℕ) (t : Tally) → i < length tallies
@@ -85,13 +94,27 @@ new_tallies tallies ends marks i n m h li s e ln =
       whole = h.whole ∙ sym len;
       len = grind (arith, common_steps, h.len);
       current =
-          recount is_current Out marks ends n i m (λ j. (tally_at tallies j).current) (λ j. (tally_at (slice_set tallies i (moved (tally_at tallies i) (mark_at marks n) m)) j).current) h.runs li s e ln h.current
-          (omega (arith, counted is_current Out marks ends i n (tally_at tallies i).current refl (h.current i li) ln s e, bit_cond (is_current (mark_at marks n))))
-          (λ j. ap (λ (x : Tally). x.current) (tally_set tallies i j t lt) ∙ pick_current (i == j) t (tally_at tallies j) ∙ rw (bit_cond (is_current (mark_at marks n)), bit_cond (is_current m)) refl);
+          recount is_current Out marks ends n i m (λ j. (tally_at tallies j).current)
+          (λ j. (tally_at (slice_set tallies i (moved (tally_at tallies i) (mark_at marks n) m)) j).current) h.runs li s e ln h.current
+          (omega (
+            arith,
+            counted is_current Out marks ends i n (tally_at tallies i).current refl (h.current i li) ln s e,
+            bit_cond
+                (is_current (mark_at marks n)),
+          ))
+          (λ j. ap (λ (x : Tally). x.current) (tally_set tallies i j t lt) ∙ pick_current (i == j) t (tally_at tallies j)
+          ∙ rw (bit_cond (is_current (mark_at marks n)), bit_cond (is_current m)) refl);
       there =
-          recount is_there Out marks ends n i m (λ j. (tally_at tallies j).there) (λ j. (tally_at (slice_set tallies i (moved (tally_at tallies i) (mark_at marks n) m)) j).there) h.runs li s e ln h.there
-          (omega (arith, counted is_there Out marks ends i n (tally_at tallies i).there refl (h.there i li) ln s e, bit_cond (is_there (mark_at marks n))))
-          (λ j. ap (λ (x : Tally). x.there) (tally_set tallies i j t lt) ∙ pick_there (i == j) t (tally_at tallies j) ∙ rw (bit_cond (is_there (mark_at marks n)), bit_cond (is_there m)) refl);
+          recount is_there Out marks ends n i m (λ j. (tally_at tallies j).there)
+          (λ j. (tally_at (slice_set tallies i (moved (tally_at tallies i) (mark_at marks n) m)) j).there) h.runs li s e ln h.there
+          (omega (
+            arith,
+            counted is_there Out marks ends i n (tally_at tallies i).there refl (h.there i li) ln s e,
+            bit_cond
+                (is_there (mark_at marks n)),
+          ))
+          (λ j. ap (λ (x : Tally). x.there) (tally_set tallies i j t lt) ∙ pick_there (i == j) t (tally_at tallies j)
+          ∙ rw (bit_cond (is_there (mark_at marks n)), bit_cond (is_there m)) refl);
     }
 
 pub same_mark : (marks : List Mark) (n : ℕ) → n < length marks → slice_index_or marks n Current ≡ mark_at marks n
@@ -152,11 +175,14 @@ push_front : {X : Type 0} (test : X → Bool) (xs : List X) (x : X) (len : ℕ)
 push_front test [] x zero = refl
 push_front test [] x (suc len) =
     let z : nat_lt 0 (suc len) ≡ true = grind (arith, nat_tests) in
-    rw z (let e : count_by test (x ∷ take len []) ≡ 0 + cond (test x) 1 0 = omega (arith, count_cons2 test x (take len []), taken_none test len) in e)
+    rw z (let e : count_by test (x ∷ take len []) ≡ 0 + cond (test x) 1 0 =
+    omega (arith, count_cons2 test x (take len []), taken_none test len) in e)
 push_front test (y ∷ ys) x zero = let z : nat_lt (suc (length ys)) 0 ≡ false = grind (arith, nat_tests) in rw z refl
 push_front test (y ∷ ys) x (suc len) =
     let z : nat_lt (suc (length ys)) (suc len) ≡ nat_lt (length ys) len = grind (arith, nat_tests) in
-    rw z (let i = push_front test ys x len in let e : count_by test (y ∷ take len (ys ++ x ∷ [])) ≡ count_by test (y ∷ take len ys) + cond (nat_lt (length ys) len && test x) 1 0 = omega (arith, i, count_cons2 test y (take len (ys ++ x ∷ [])), count_cons2 test y (take len ys)) in e)
+    rw z (let i = push_front test ys x len in let e : count_by test (y ∷ take len (ys ++ x ∷ []))
+    ≡ count_by test (y ∷ take len ys) + cond (nat_lt (length ys) len && test x) 1 0 =
+    omega (arith, i, count_cons2 test y (take len (ys ++ x ∷ [])), count_cons2 test y (take len ys)) in e)
 
 pub push_count : {X : Type 0} (test : X → Bool) (xs : List X) (x : X) (from to : ℕ)
     → count_in test (xs ++ x ∷ []) from to ≡ count_in test xs from to + cond (in_range from to (length xs) && test x) 1 0
@@ -164,14 +190,16 @@ push_count test xs x zero to =
     let z : in_range 0 to (length xs) ≡ nat_lt (length xs) (to - 0) = grind (arith, nat_tests) in rw z (push_front test xs x (to - 0))
 push_count test [] x (suc from) to =
     let z : in_range (suc from) to 0 ≡ false = grind (arith, nat_tests) in
-    rw z (let e : count_by test (take (to - suc from) (drop from [])) ≡ count_by test (take (to - suc from) []) + 0 = omega (arith, dropped_none test (to - suc from) from, taken_none test (to - suc from)) in e)
+    rw z (let e : count_by test (take (to - suc from) (drop from [])) ≡ count_by test (take (to - suc from) []) + 0 =
+    omega (arith, dropped_none test (to - suc from) from, taken_none test (to - suc from)) in e)
 push_count test (y ∷ ys) x (suc from) to =
     let s : to - 1 - from ≡ to - suc from = omega arith in
     let z : in_range (suc from) to (suc (length ys)) ≡ in_range from (to - 1) (length ys) = grind (arith, nat_tests) in
     rw z (rw s at (push_count test ys x from (to - 1)))
 
 -- one of the two counts of each page, after one more entry
-push_counts : (f : PageCounts → ℕ) (test : Tally → Bool) (tallies : List Tally) (t : Tally) (pages : List PageCounts) (ends : List ℕ) (k : ℕ) (c : PageCounts) → AreRuns ends (length tallies) → length pages ≡ length ends
+push_counts : (f : PageCounts → ℕ) (test : Tally → Bool) (tallies : List Tally) (t : Tally) (pages : List PageCounts) (ends : List ℕ)
+    (k : ℕ) (c : PageCounts) → AreRuns ends (length tallies) → length pages ≡ length ends
     → k < length ends → start_at ends k ≤ length tallies → length tallies < end_at ends k
     → ((j : ℕ) → j < length ends → f (counts_at pages j) ≡ count_in test tallies (start_at ends j) (end_at ends j))
     → f c ≡ f (counts_at pages k) + bit (test t)
@@ -179,9 +207,12 @@ push_counts : (f : PageCounts → ℕ) (test : Tally → Bool) (tallies : List T
     → f (counts_at (slice_set pages k c) j) ≡ count_in test (tallies ++ t ∷ []) (start_at ends j) (end_at ends j)
 push_counts f test tallies t pages ends k c runs len lk s e old is j lj =
     ap f (counts_set pages k j c (omega arith))
-    ∙ go (k == j) refl (push_count test tallies t (start_at ends j) (end_at ends j)) (one_run ends (length tallies) k j (length tallies) runs lk lj s e) where
+    ∙ go (k == j) refl (push_count test tallies t (start_at ends j) (end_at ends j))
+    (one_run ends (length tallies) k j (length tallies) runs lk lj s e) where
       go : (b : Bool) → (k == j) ≡ b
-          → count_in test (tallies ++ t ∷ []) (start_at ends j) (end_at ends j) ≡ count_in test tallies (start_at ends j) (end_at ends j) + cond (in_range (start_at ends j) (end_at ends j) (length tallies) && test t) 1 0
+          → count_in test (tallies ++ t ∷ []) (start_at ends j) (end_at ends j)
+          ≡ count_in test tallies (start_at ends j) (end_at ends j) + cond
+          (in_range (start_at ends j) (end_at ends j) (length tallies) && test t) 1 0
           → in_range (start_at ends j) (end_at ends j) (length tallies) ≡ (k == j)
           → f (cond (k == j) c (counts_at pages j)) ≡ count_in test (tallies ++ t ∷ []) (start_at ends j) (end_at ends j)
       go true q p r =
@@ -265,26 +296,38 @@ each_old test f tallies t ends marks fresh x j len lt le h =
 each_new : (test : Mark → Bool) (f : Tally → ℕ) (tallies : List Tally) (t : Tally) (ends : List ℕ) (marks : List Mark) (count : ℕ)
     → length tallies ≡ length ends → start_at ends (length ends) ≡ length marks
     → f t ≡ count_by test (replicate count Current)
-    → f (tally_at (tallies ++ t ∷ []) (length ends)) ≡ count_in test (marks ++ replicate count Current) (start_at (ends ++ (length marks + count) ∷ []) (length ends)) (end_at (ends ++ (length marks + count) ∷ []) (length ends))
+    → f (tally_at (tallies ++ t ∷ []) (length ends))
+    ≡ count_in test (marks ++ replicate count Current) (start_at (ends ++ (length marks + count) ∷ []) (length ends))
+    (end_at (ends ++ (length marks + count) ∷ []) (length ends))
 each_new test f tallies t ends marks count len whole h =
-    let n : count_in test (marks ++ replicate count Current) (length marks) (length marks + count) ≡ count_by test (replicate count Current) = rw (fresh_length count) at (new_run test marks (replicate count Current)) in
+    let n : count_in test (marks ++ replicate count Current) (length marks) (length marks + count)
+    ≡ count_by test (replicate count Current) = rw (fresh_length count) at (new_run test marks (replicate count Current)) in
     ap (λ (i : ℕ). f (tally_at (tallies ++ t ∷ []) i)) (sym len) ∙ ap f (tally_new tallies t) ∙ h
     ∙ rw (start_old ends (length marks + count) (length ends) (omega arith), whole, end_new ends (length marks + count)) (sym n)
 
 pub add_tallies : (tallies : List Tally) (ends : List ℕ) (marks : List Mark) (count : ℕ) → AreTallies tallies ends marks
-    → AreTallies (tallies ++ (record { current = count; there = count }) ∷ []) (ends ++ (length marks + count) ∷ []) (marks ++ replicate count Current)
+    → AreTallies (tallies ++ (record { current = count; there = count }) ∷ []) (ends ++ (length marks + count) ∷ [])
+    (marks ++ replicate count Current)
 add_tallies tallies ends marks count h = record {
   runs = rw size (add_runs ends (length marks) count h.runs h.within);
   within = λ j lj. within j lj;
   whole = rw more (start_end ends (length marks + count)) ∙ sym size;
   len = omega (arith, length-append tallies ((record { current = count; there = count }) ∷ []), more, h.len);
   current = λ j lj. elim (cases_lt j (length ends)) [
-    | inl l ↦ each_old is_current (λ t. t.current) tallies (record { current = count; there = count }) ends marks (replicate count Current) (length marks + count) j h.len l (h.within j l) (h.current j l)
-    | inr g ↦ let same : j ≡ length ends = omega (arith, lj, more, g) in rw same (each_new is_current (λ t. t.current) tallies (record { current = count; there = count }) ends marks count h.len h.whole (sym (count_all is_current Current count refl)))
+    | inl l ↦ each_old is_current (λ t. t.current) tallies (record { current = count; there = count }) ends marks (replicate count Current)
+        (length marks + count) j h.len l (h.within j l) (h.current j l)
+    | inr g ↦ let same : j ≡ length ends =
+        omega (arith, lj, more, g) in rw same
+        (each_new is_current (λ t. t.current) tallies (record { current = count; there = count }) ends marks count h.len h.whole
+        (sym (count_all is_current Current count refl)))
   ];
   there = λ j lj. elim (cases_lt j (length ends)) [
-    | inl l ↦ each_old is_there (λ t. t.there) tallies (record { current = count; there = count }) ends marks (replicate count Current) (length marks + count) j h.len l (h.within j l) (h.there j l)
-    | inr g ↦ let same : j ≡ length ends = omega (arith, lj, more, g) in rw same (each_new is_there (λ t. t.there) tallies (record { current = count; there = count }) ends marks count h.len h.whole (sym (count_all is_there Current count refl)))
+    | inl l ↦ each_old is_there (λ t. t.there) tallies (record { current = count; there = count }) ends marks (replicate count Current)
+        (length marks + count) j h.len l (h.within j l) (h.there j l)
+    | inr g ↦ let same : j ≡ length ends =
+        omega (arith, lj, more, g) in rw same
+        (each_new is_there (λ t. t.there) tallies (record { current = count; there = count }) ends marks count h.len h.whole
+        (sym (count_all is_there Current count refl)))
   ];
 } where
   size : length (marks ++ replicate count Current) ≡ length marks + count
@@ -333,4 +376,8 @@ pub few_live : (tallies : List Tally) (ends : List ℕ) (pages : List PageCounts
     → (c.live ≤ length tallies) × (c.valid ≤ length tallies)
 few_live tallies ends pages k c h lk is =
     let b : c ≡ counts_at pages k = at_index pages k c no_counts is (omega (arith, lk, h.len)) in
-    rw b (few is_live tallies (start_at ends k) (end_at ends k) (counts_at pages k).live (h.live k lk), few is_valid tallies (start_at ends k) (end_at ends k) (counts_at pages k).valid (h.valid k lk))
+    rw b (
+      few is_live tallies (start_at ends k) (end_at ends k) (counts_at pages k).live (h.live k lk),
+      few is_valid tallies
+          (start_at ends k) (end_at ends k) (counts_at pages k).valid (h.valid k lk),
+    )

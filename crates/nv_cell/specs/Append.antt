@@ -1,5 +1,5 @@
 -- What appending an entry makes of a cell.
-use Rattle.std.specs.Prelude.{ℕ, ◌+◌, ◌-◌, ◌<◌, ◌≤◌, List, [], ◌∷◌, ◌++◌, length, map, replicate, take, Option, Some, None}
+use Rattle.std.specs.Prelude.{ℕ, ◌+◌, ◌-◌, ◌<◌, ◌≤◌, List, ◌∷◌, ◌++◌, length, map, replicate, take, Option, Some, None}
 use Rattle.std.specs.Option.{ForSome}
 use Rattle.nv_alloc.specs.Block.{BlockValue}
 use Rattle.nv_base.specs.Ids.{IsIdBefore}

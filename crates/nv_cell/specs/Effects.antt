@@ -22,6 +22,10 @@ abbrev pub BindOne : List Item → Type 0
 BindOne [] = Unit {0}
 BindOne (item ∷ later) = AllByRecursion (LeavesName item) later × BindOne later
 
+-- the items bind no name
+abbrev pub BindNone : List Item → Type 0
+BindNone items = AllByRecursion (λ item. is_bind item ≡ false) items
+
 -- the name that the items bind, if any, is bound or reserved
 abbrev pub NamesReady : List Item → Names → Type 0
 NamesReady items names = BindOne items × AllByRecursion (λ item. NameReady item names) items

@@ -6,6 +6,8 @@ use Rattle.nv_entry.specs.Covered.{part_count}
 use Rattle.nv_entry.specs.Leaving.{HidesNone}
 use Rattle.nv_log.specs.Chain.{ChainState, end_of, gone_of, last_entry, left_of}
 use Rattle.nv_cell.specs.declared.mark.Mark.TheVariants.{Out}
+use Rattle.nv_cell.specs.declared.stays.Stays.{Stays}
+use Rattle.nv_cell.specs.declared.stays.Stays.TheVariants.{Entries, Pages}
 use Rattle.nv_cell.specs.Cell.{CellState, log_of}
 use Rattle.nv_cell.specs.Readers.{is_gone}
 use Rattle.nv_cell.specs.Reading.{stat_now}
@@ -25,6 +27,15 @@ part_flags (stays ∷ flags) (e ∷ log) = replicate (part_count e) stays ++ par
 -- a flag for each entry of the log, by those of the pages
 abbrev pub log_flags : List Bool → ChainState → List Bool
 log_flags stays chain = take chain.tail (run_flags 0 stays chain.ends)
+
+-- what the code flags: each entry of the log, or each page with entries
+abbrev pub AreFlags : Stays → ChainState → Type 0
+AreFlags (Entries stays) chain = length stays.now ≡ chain.tail
+AreFlags (Pages stays) chain = length stays.now ≡ length chain.ends
+
+abbrev pub flags_of : Stays → ChainState → List Bool
+flags_of (Entries stays) chain = stays.now
+flags_of (Pages stays) chain = log_flags stays.now chain
 
 -- no entry that goes hides an earlier one that stays; `before` are those that stay before these
 abbrev pub HideNoneLeft : ℕ → List Entry → List Entry → List Bool → Type 0

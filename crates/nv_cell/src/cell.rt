@@ -1,12 +1,13 @@
 //! The inode cell.
 
 ghost use Rattle.std.specs.Prelude.{◌≡◌, ◌+◌, ◌<◌, ◌≤◌, ◌^◌, ◌⊎◌, [], None, Some, slice_index_or, length, map, vec_len};
+ghost use Rattle.std.specs.List.{sum_by};
 ghost use Rattle.nv_base.specs.declared.limits.TheConstants.{LEAST_PAGE_ENTRIES, PAGE_ENTRIES};
 ghost use Rattle.nv_cell.specs.Cell.{IsCell, IsReady, KeepsAppendRoom, empty_cell, fresh_of, killed_of, log_of, mark_named, no_room, number_in, published, with_mark, without_part};
-ghost use Rattle.nv_cell.specs.Effects.{items_of};
+ghost use Rattle.nv_cell.specs.Effects.{BindNone, items_of};
 ghost use Rattle.nv_cell.specs.Killed.{AreKilled};
 ghost use Rattle.nv_cell.specs.Numbers.{killed_part};
-ghost use Rattle.nv_cell.specs.Weights.{weights_in};
+ghost use Rattle.nv_cell.specs.Weights.{runs_of, weights_in};
 
 use crate::number::find_part;
 use crate::publish::{name_all, take_effect};
@@ -101,7 +102,8 @@ impl InodeCell {
     }
 
     /// Publishes all entries past the tail, and gives the parts that were current, or are newly published, and are not
-    /// current after it, by entry in log order and then by part. They are marked killed. Takes no memory; the time is
+    /// current after it, by entry in log order and then by part. They are marked killed. The entries use up at most the
+    /// room for runs of pages that they ask for, and the reserved name only where they bind one. Takes no memory; the time is
     /// that of the entries and parts that change, times a logarithm at most, and for each Write after which the file
     /// has more or fewer runs of pages one move of the runs behind.
     pub fn publish(&mut self) -> Vec<KilledPart>
@@ -115,6 +117,10 @@ impl InodeCell {
             (items_of (fresh_of self.old.state)) }
         ensures marked { AreKilled (map (λ k. k.part) result.items) self.new.state }
         ensures room { KeepsAppendRoom self.old.room self.new.room }
+        ensures runs { self.old.room.runs ≤ self.new.room.runs
+            + sum_by runs_of (items_of (fresh_of self.old.state)) }
+        ensures name { BindNone (items_of (fresh_of self.old.state))
+            → self.new.room.name ≡ self.old.room.name }
     {
         // Ids rise along all entries, so that each part has a name of its own.
         let _ends = self.chain.ends();

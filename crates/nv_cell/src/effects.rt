@@ -5,7 +5,7 @@ ghost use Rattle.std.specs.List.{sum_by};
 ghost use Rattle.nv_entry.specs.Keys.{Key};
 ghost use Rattle.nv_entry.specs.Log.{IsLog};
 ghost use Rattle.nv_entry.specs.Refs.{scan_ref};
-ghost use Rattle.nv_cell.specs.Effects.{NamesReady, items_of};
+ghost use Rattle.nv_cell.specs.Effects.{BindNone, NamesReady, items_of};
 ghost use Rattle.nv_nindex.specs.NameIndex.{HaveSameBindings};
 ghost use Rattle.nv_cell.specs.Index.{bindings_of, ref_of};
 ghost use Rattle.nv_cell.specs.Numbers.{AreEnds, HasRoomFor, dies, numbers_in, times};
@@ -45,6 +45,10 @@ pub fn apply_all(
         + weights_in block (take tail chain.now.state.entries)
         (items_of (drop tail chain.now.state.entries)) }
     ensures capacity { vec_capacity killed.new ≡ vec_capacity killed.old }
+    ensures room { index.old.pages.room ≤ index.new.pages.room
+        + sum_by runs_of (items_of (drop tail chain.now.state.entries)) }
+    ensures reserved { BindNone (items_of (drop tail chain.now.state.entries))
+        → index.new.names.reserved ≡ index.old.names.reserved }
 {
     for t in tail..chain.len() {
         let entry = chain.entry_at(t);

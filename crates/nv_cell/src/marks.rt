@@ -6,7 +6,7 @@ ghost use Rattle.nv_base.specs.Refusals.{FailsOnly};
 ghost use Rattle.nv_cell.specs.Room.{HaveGrown};
 ghost use Rattle.nv_cell.specs.Numbers.{numbers_in};
 ghost use Rattle.nv_cell.specs.Marks.{bit, is_current, is_there, mark_at};
-ghost use Rattle.nv_cell.specs.Tallies.{AreCounts, AreRuns, AreTallied, HasSpare, IsInRun, SameCapacity, end_at, is_in, moved, start_at, tally_at, counts_at};
+ghost use Rattle.nv_cell.specs.Tallies.{AreCounts, AreRuns, AreTallied, HasSpare, IsInRun, SameCapacity, end_at, is_in, is_valid, moved, start_at, tally_at, counts_at};
 ghost use Rattle.nv_cell.specs.declared.mark.Mark.TheVariants as mark;
 
 use crate::{Mark, NumberedPart, PageCounts, Tally};
@@ -54,7 +54,7 @@ fn run_of(ends: &[usize], guess: usize, n: usize) -> usize
 }
 
 /// The page that an entry stands in. It is guessed as if each page but the last had as many entries as the first.
-fn page_of(page_ends: &[usize], entry: usize) -> usize
+pub fn page_of(page_ends: &[usize], entry: usize) -> usize
     requires { AreRuns page_ends.now (entry + 1) }
     ensures { IsInRun page_ends.now entry result }
 {
@@ -101,6 +101,14 @@ impl Marks {
         ensures { result ≡ slice_get self.now.marks.items n }
     {
         self.marks.get(n).copied()
+    }
+
+    /// Whether a part of an entry is not out, by the entry's place in the log.
+    pub fn has_there(&self, entry: usize) -> bool
+        requires { entry < length self.now.tallies.items }
+        ensures { result ≡ is_valid (tally_at self.now.tallies.items entry) }
+    {
+        self.tallies[entry].is_valid()
     }
 
     /// The place of the entry that a part stands in: the one that the part comes with, and if it is not in that one,

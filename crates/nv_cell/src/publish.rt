@@ -6,7 +6,7 @@ ghost use Rattle.nv_entry.specs.Covered.{is_covered, part_total};
 ghost use Rattle.nv_entry.specs.Keys.{Key};
 ghost use Rattle.nv_entry.specs.Refs.{scan_ref};
 ghost use Rattle.nv_nindex.specs.NameIndex.{HaveSameBindings};
-ghost use Rattle.nv_cell.specs.Effects.{NamesReady, items_of};
+ghost use Rattle.nv_cell.specs.Effects.{BindNone, NamesReady, items_of};
 ghost use Rattle.nv_cell.specs.Index.{bindings_of, ref_of};
 ghost use Rattle.nv_cell.specs.Marks.{is_current, mark_at};
 ghost use Rattle.nv_cell.specs.Numbers.{AreEnds, HasRoomFor, killed_numbers, killed_part, numbers_in, part_base, published_mark};
@@ -92,6 +92,10 @@ pub fn take_effect(
         (items_of (drop tail chain.now.state.entries)) }
     ensures room { SameCapacity marks.old marks.new }
     ensures capacity { vec_capacity numbers.new ≡ vec_capacity numbers.old }
+    ensures runs { index.old.pages.room ≤ index.new.pages.room
+        + sum_by runs_of (items_of (drop tail chain.now.state.entries)) }
+    ensures reserved { BindNone (items_of (drop tail chain.now.state.entries))
+        → index.new.names.reserved ≡ index.old.names.reserved }
 {
     let ends = chain.ends();
     add_all(marks, chain, tail);

@@ -10,10 +10,10 @@ ghost use Rattle.nv_entry.specs.Covered.{part_total};
 ghost use Rattle.nv_entry.specs.Leaving.{KeepsTheRest};
 ghost use Rattle.nv_log.specs.Chain.{compacted, gone_of, left_of, log, with_pages_left};
 ghost use Rattle.nv_cell.specs.Cell.{log_of};
-ghost use Rattle.nv_cell.specs.Removal.{ArePublished, KeepsTheLast, MayGo, left_in, log_flags, part_flags};
+ghost use Rattle.nv_cell.specs.Removal.{AreFlags, ArePublished, KeepsTheLast, MayGo, flags_of, left_in, log_flags, part_flags};
 
-use crate::closing::{pass_entries, pass_pages};
-use crate::{InodeCell, Mark};
+use crate::closing::pass_parts;
+use crate::{InodeCell, Mark, Stays};
 use nv_alloc::{Block, BlockQueue};
 use nv_log::Chain;
 use std::collections::VecDeque;
@@ -39,56 +39,30 @@ fn put_back<T>(items: &mut Vec<T>, queue: VecDeque<T>)
 }
 
 /// Leaves the marks and blocks of the entries that stay.
-fn close_entries(
+fn close_parts(
     marks: &mut Vec<Mark>,
     blocks: &mut Vec<Option<Block>>,
     chain: &Chain,
-    stays: &[bool],
+    stays: Stays<'_>,
 )
-    requires flags { length stays.now ≡ chain.now.state.tail }
+    requires flags { AreFlags stays chain.now.state }
     requires marks_there { length marks.old.items ≡ part_total (log chain.now.state) }
     requires blocks_there { length marks.old.items ≤ length blocks.old.items }
     requires none { AllByRecursion (λ block. block ≡ None)
-        (gone_of (part_flags stays.now (log chain.now.state)) blocks.old.items) }
-    ensures marks { marks.new.items
-        ≡ left_of (part_flags stays.now (log chain.now.state)) marks.old.items }
-    ensures blocks { blocks.new.items
-        ≡ left_of (part_flags stays.now (log chain.now.state)) blocks.old.items }
-    ensures marks_room { vec_capacity marks.new ≡ vec_capacity marks.old }
-    ensures blocks_room { vec_capacity blocks.new ≡ vec_capacity blocks.old }
-{
-    let mut mark_queue = queue_of(marks);
-    let mut block_queue = queue_of(blocks);
-    pass_entries(&mut mark_queue, &mut block_queue, chain, stays);
-    put_back(marks, mark_queue);
-    put_back(blocks, block_queue);
-}
-
-/// Leaves the marks and blocks of the entries whose pages stay.
-fn close_pages(
-    marks: &mut Vec<Mark>,
-    blocks: &mut Vec<Option<Block>>,
-    chain: &Chain,
-    stays: &[bool],
-)
-    requires flags { length stays.now ≡ length chain.now.state.ends }
-    requires marks_there { length marks.old.items ≡ part_total (log chain.now.state) }
-    requires blocks_there { length marks.old.items ≤ length blocks.old.items }
-    requires none { AllByRecursion (λ block. block ≡ None)
-        (gone_of (part_flags (log_flags stays.now chain.now.state) (log chain.now.state))
+        (gone_of (part_flags (flags_of stays chain.now.state) (log chain.now.state))
         blocks.old.items) }
     ensures marks { marks.new.items
-        ≡ left_of (part_flags (log_flags stays.now chain.now.state) (log chain.now.state))
+        ≡ left_of (part_flags (flags_of stays.entry chain.now.state) (log chain.now.state))
         marks.old.items }
     ensures blocks { blocks.new.items
-        ≡ left_of (part_flags (log_flags stays.now chain.now.state) (log chain.now.state))
+        ≡ left_of (part_flags (flags_of stays.entry chain.now.state) (log chain.now.state))
         blocks.old.items }
     ensures marks_room { vec_capacity marks.new ≡ vec_capacity marks.old }
     ensures blocks_room { vec_capacity blocks.new ≡ vec_capacity blocks.old }
 {
     let mut mark_queue = queue_of(marks);
     let mut block_queue = queue_of(blocks);
-    pass_pages(&mut mark_queue, &mut block_queue, chain, stays);
+    pass_parts(&mut mark_queue, &mut block_queue, chain, stays);
     put_back(marks, mark_queue);
     put_back(blocks, block_queue);
 }
@@ -114,7 +88,12 @@ impl InodeCell {
     {
         // The chain is one, so that fresh pages are no more than the old ones.
         let _ends = self.chain.ends();
-        close_entries(&mut self.marks.marks, &mut self.blocks, &self.chain, stays);
+        close_parts(
+            &mut self.marks.marks,
+            &mut self.blocks,
+            &self.chain,
+            Stays::Entries(stays),
+        );
         let old = self.chain.compact(stays, pages);
         self.marks.recount(&self.chain);
         old
@@ -148,7 +127,12 @@ impl InodeCell {
     {
         // The chain is one, so that each page has an end.
         let _ends = self.chain.ends();
-        close_pages(&mut self.marks.marks, &mut self.blocks, &self.chain, stays);
+        close_parts(
+            &mut self.marks.marks,
+            &mut self.blocks,
+            &self.chain,
+            Stays::Pages(stays),
+        );
         self.chain.unlink_pages(stays, queue);
         self.marks.recount(&self.chain);
     }

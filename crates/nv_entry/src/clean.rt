@@ -44,7 +44,7 @@ fn hides_any(block: u64, item: &Item, before: &[Entry]) -> bool
 }
 
 /// Whether the item sets a key to absent that the earlier item covers.
-pub(crate) fn hides(block: u64, item: &Item, earlier: &Item) -> bool
+pub fn hides(block: u64, item: &Item, earlier: &Item) -> bool
     requires { 0 < block }
     ensures { result ≡ hides block item.now earlier.now }
 {

@@ -25,7 +25,7 @@ mod tree;
 mod value;
 mod walk;
 
-pub use clean::is_droppable;
+pub use clean::{hides, is_droppable};
 pub use counts::{live, valid};
 pub use held::{Pair, is_kept};
 pub use index::{PageSource, page_source};

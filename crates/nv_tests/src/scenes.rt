@@ -1,6 +1,8 @@
 //! What several modules start from: geometries, ids and handles by their numbers, free lists and queues of blocks.
 //! Where a growth is refused nothing has changed, and the call is made once more.
 
+ghost use Rattle.std.specs.Prelude.{◌<◌};
+
 use crate::compare::same;
 use nv_alloc::{Block, BlockQueue, FreeList};
 use nv_base::{
@@ -26,6 +28,22 @@ pub fn numbers([blocks, cpus, block, page, inodes, snaps, actors]: Row) -> Geome
 
 pub fn geometry(row: Row) -> Result<Geometry, Fault> {
     Geometry::checked(numbers(row))
+}
+
+/// The next of a row of numbers without a pattern.
+pub fn next_number(seed: &mut u64) -> u64 {
+    *seed = seed
+        .wrapping_mul(6364136223846793005)
+        .wrapping_add(1442695040888963407);
+    *seed >> 33
+}
+
+/// The next of these numbers, below a bound.
+pub fn below(seed: &mut u64, bound: u64) -> u64
+    requires { 0 < bound }
+    ensures { result < bound }
+{
+    next_number(seed) % bound
 }
 
 pub fn id(commit: u64, place: u32) -> EntryId {

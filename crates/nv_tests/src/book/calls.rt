@@ -2,6 +2,7 @@
 use crate::book::slow::{SlowBook, compare};
 use crate::book::{enter, new_book, record, retire};
 use crate::compare::{same, same_for};
+use crate::scenes::next_number;
 use nv_base::{Epoch, Fault};
 use nv_book::{Book, Retired};
 use nv_entry::Part;
@@ -123,14 +124,6 @@ fn drops_in_each_order(rt: HostRuntime) {
         }
         assert!(rt; !both.pick(&rt));
     }
-}
-
-// The next of a row of numbers without a pattern.
-fn next_number(seed: &mut u64) -> u64 {
-    *seed = seed
-        .wrapping_mul(6364136223846793005)
-        .wrapping_add(1442695040888963407);
-    *seed >> 33
 }
 
 // One call, chosen by the numbers.

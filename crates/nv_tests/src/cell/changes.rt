@@ -1,13 +1,11 @@
 //! A thousand changes without a pattern, of a cell and of a slow one.
 
-ghost use Rattle.std.specs.Prelude.{◌<◌};
-
 use super::entries::Says;
 use super::scene::Scene;
 use super::slow::SlowCell;
 use super::told::{is_empty, list, read};
 use crate::compare::{same, same_for};
-use crate::scenes::id;
+use crate::scenes::{below, id};
 use nv_base::Epoch;
 use nv_cell::{InodeCell, Mark, Stat};
 use nv_entry::NodeCopy;
@@ -19,17 +17,6 @@ const BLOCKS: u64 = 400;
 static TEXT: [u8; 32] = *b"abcdefghijklmnopqrstuvwxyzABCDEF";
 
 static NAMES: [&[u8]; 4] = [b"a", b"ab", b"b", b"c"];
-
-/// The next of a row of numbers without a pattern, below a bound.
-fn below(seed: &mut u64, bound: u64) -> u64
-    requires { 0 < bound }
-    ensures { result < bound }
-{
-    *seed = seed
-        .wrapping_mul(6364136223846793005)
-        .wrapping_add(1442695040888963407);
-    (*seed >> 33) % bound
-}
 
 /// Two cells that take the same changes and tell the same.
 struct Both {

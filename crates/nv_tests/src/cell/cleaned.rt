@@ -4,7 +4,7 @@ use super::entries::Says;
 use super::steps::{End, Step, play};
 use End::{Kept, Out};
 use Says::{Bind, Directory, File, Mode, Unbind, Write};
-use Step::{Commit, Counts, Fast, Free, Names, Read, Release, Stat, Thorough};
+use Step::{Commit, Counts, Fast, Free, MayGo, Names, PagesMayGo, Read, Release, Stat, Thorough};
 use nv_base::Kind;
 use nv_entry::Part;
 
@@ -37,6 +37,9 @@ const KILLER: &[Step] = &[
         ],
     ),
     Counts(&[(2, 3)]),
+    MayGo(&[true, true, false, true], true),
+    MayGo(&[true, false, true, true], false),
+    MayGo(&[true, true, true, false], false),
     Fast(Some(1), 0, 0),
     Thorough(Some(1), 1, 0),
     Counts(&[(2, 3)]),
@@ -71,7 +74,12 @@ const TOMBSTONE: &[Step] = &[
     Commit(3, 0, 2, &[Bind(b"b", 2)], &[]),
     Thorough(Some(1), 0, 0),
     Names(&[(b"b", 2)]),
+    MayGo(&[true, false, false, true], false),
     Release(1, 0, Part::Bound, None),
+    MayGo(&[true, true, false, true], false),
+    MayGo(&[true, false, false, true], true),
+    PagesMayGo(&[true], true),
+    PagesMayGo(&[false], false),
     Thorough(None, 2, 0),
     Names(&[(b"b", 2)]),
     Counts(&[(2, 2)]),
@@ -90,6 +98,9 @@ const MODES: &[Step] = &[
     Commit(8, 0, 1, &[Mode(7)], &[(7, 0, Part::Mode, 1, Out(None))]),
     Commit(9, 0, 1, &[Mode(8)], &[(8, 0, Part::Mode, 1, Out(None))]),
     Counts(&[(1, 1), (0, 0), (0, 0), (0, 0), (1, 1)]),
+    PagesMayGo(&[true, false, true, false, true], true),
+    PagesMayGo(&[true, true, true, true, false], false),
+    PagesMayGo(&[false, true, true, true, true], false),
     Fast(None, 6, 3),
     Counts(&[(1, 1), (1, 1)]),
     Free(&[(2, 4), (6, 7)]),

@@ -45,6 +45,10 @@ pub enum Step {
     Thorough(Option<u64>, usize, usize),
     /// The same of fast cleaning.
     Fast(Option<u64>, usize, usize),
+    /// Whether the entries may go that are not flagged as staying.
+    MayGo(&'static [bool], bool),
+    /// The same of pages.
+    PagesMayGo(&'static [bool], bool),
     /// The slot is emptied, and the pages of its log are free.
     Erase,
     /// The runs of free blocks.
@@ -89,9 +93,21 @@ fn make(rt: &impl Abort, scene: &mut Scene, step: &Step) {
         Step::Fast(snapshot, entries, pages) => {
             cleans(rt, scene, false, *snapshot, (*entries, *pages))
         }
+        Step::MayGo(stays, want) => may_go(rt, &scene.cell, stays, *want),
+        Step::PagesMayGo(stays, want) => pages_may_go(rt, &scene.cell, stays, *want),
         Step::Erase => scene.erase(rt),
         Step::Free(want) => scene.device.has_free(rt, want),
     }
+}
+
+fn may_go(rt: &impl Abort, cell: &InodeCell, stays: &[bool], want: bool) {
+    assert!(rt; stays.len() == cell.tail());
+    same_for(rt, &stays, cell.may_go(stays), want);
+}
+
+fn pages_may_go(rt: &impl Abort, cell: &InodeCell, stays: &[bool], want: bool) {
+    assert!(rt; stays.len() == cell.log().ends().len());
+    same_for(rt, &stays, cell.pages_may_go(stays), want);
 }
 
 fn cleans(

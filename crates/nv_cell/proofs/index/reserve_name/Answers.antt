@@ -13,7 +13,8 @@ returns-in-Bind-clause-ready c =
     let i = c.loop-item.item-index in
     let is : slice_index_or items i (Bind c.in-Bind.name c.in-Bind.to) ≡ Bind c.in-Bind.name c.in-Bind.to =
     get_or_default items i (Bind c.in-Bind.name c.in-Bind.to) c.item-item.result (omega arith) ∙ sym c.item-item.is ∙ c.in-Bind.is in
-    one_ready items i c.in-Bind.name c.in-Bind.to c.loop-item.names c.reserve_one.new.self c.reserve_one.result c.requires.one (omega arith) is c.loop-item.invariant.plain
+    one_ready items i c.in-Bind.name c.in-Bind.to c.loop-item.names c.reserve_one.new.self c.reserve_one.result c.requires.one
+    (omega arith) is c.loop-item.invariant.plain
     c.reserve_one.ensures.names c.reserve_one.ensures.reserved
 
 pub returns-clause-ready : goal.returns-clause-ready
@@ -29,5 +30,6 @@ returns-then-is_reserved-clause-ready c =
     let is : slice_index_or items i (Bind c.in-Bind.name c.in-Bind.to) ≡ Bind c.in-Bind.name c.in-Bind.to =
     get_or_default items i (Bind c.in-Bind.name c.in-Bind.to) c.item-item.result (omega arith) ∙ sym c.item-item.is ∙ c.in-Bind.is in
     let done : Result (Unit {0}) Fault = Ok tt in
-    one_ready items i c.in-Bind.name c.in-Bind.to c.loop-item.names c.loop-item.names done c.requires.one (omega arith) is c.loop-item.invariant.plain
+    one_ready items i c.in-Bind.name c.in-Bind.to c.loop-item.names c.loop-item.names done c.requires.one
+    (omega arith) is c.loop-item.invariant.plain
     refl (λ none. c.is_reserved.ensures.value.0 c.if-is_reserved.true ∙ ap Some c.bytes.ensures.value)

@@ -8,5 +8,6 @@ push_part-requires-clause-known c = c.requires.named.parts (key_named c.args.key
 
 pub returns-in-Some : goal.returns-in-Some
 returns-in-Some c =
-    key_pushed c.args.chain.now.state.entries c.args.index.now c.requires.named (key_named c.args.key) c.in-Some.part c.args.killed.now c.push_part.new.killed
+    key_pushed c.args.chain.now.state.entries c.args.index.now c.requires.named
+    (key_named c.args.key) c.in-Some.part c.args.killed.now c.push_part.new.killed
     (sym c.in-Some.ensures) c.push_part.ensures.numbers c.push_part.ensures.len c.push_part.ensures.capacity

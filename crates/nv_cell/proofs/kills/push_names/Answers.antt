@@ -28,6 +28,8 @@ loop-i-preserved c =
     let w = walk list i c.name_count-i-end.ensures.distinct (omega arith) in
     let r : c.name_part_at.result ≡ Some (name_part w.item.1) = c.name_part_at.ensures ∙ rw w.is refl in
     let o : ref_of idx (NameKey w.item.0) ≡ Some (name_part w.item.1) = rw w.bound refl in
-    let one = key_pushed es idx c.requires.named (NameKey w.item.0) c.unwrap-part.result c.loop-i.killed c.push_part.new.killed (o ∙ sym r ∙ c.unwrap-part.ensures) c.push_part.ensures.numbers c.push_part.ensures.len c.push_part.ensures.capacity in
-    rw add-one (both es idx (is_name_in (take i list)) (is_key (NameKey w.item.0)) (is_name_in (take (suc i) list)) i 1 (suc i) c.args.killed.now c.loop-i.killed c.push_part.new.killed
+    let one = key_pushed es idx c.requires.named (NameKey w.item.0) c.unwrap-part.result c.loop-i.killed c.push_part.new.killed
+    (o ∙ sym r ∙ c.unwrap-part.ensures) c.push_part.ensures.numbers c.push_part.ensures.len c.push_part.ensures.capacity in
+    rw add-one (both es idx (is_name_in (take i list)) (is_key (NameKey w.item.0)) (is_name_in (take (suc i) list)) i 1
+    (suc i) c.args.killed.now c.loop-i.killed c.push_part.new.killed
     c.loop-i.invariant one (name_sum list i w) (omega arith))

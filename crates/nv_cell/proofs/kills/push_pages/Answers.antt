@@ -26,16 +26,21 @@ push_part-requires-clause-room c =
 pub returns-in_default : goal.returns-in_default
 returns-in_default c =
     let idx = c.args.index.now in
-    let more = how_many_more (λ page. is_some (ref_at idx.pages.pages page)) c.args.from (c.loop-step.next - c.args.from) (c.args.to - c.args.from) (omega arith) in
-    skipped c.args.chain.now.state.entries idx c.args.from c.loop-step.next c.args.to (present_between idx c.args.from c.loop-step.next) (present_between idx c.args.from c.args.to) c.args.killed.now c.loop-step.killed
-    c.loop-step.invariant.pushed c.loop-step.invariant.begin c.loop-step.invariant.high (λ p le lt. c.in-Some.ensures.next.2 p le (omega (arith, lt))) more
+    let more = how_many_more (λ page. is_some (ref_at idx.pages.pages page)) c.args.from (c.loop-step.next - c.args.from)
+    (c.args.to - c.args.from) (omega arith) in
+    skipped c.args.chain.now.state.entries idx c.args.from c.loop-step.next c.args.to (present_between idx c.args.from c.loop-step.next)
+    (present_between idx c.args.from c.args.to) c.args.killed.now c.loop-step.killed
+    c.loop-step.invariant.pushed c.loop-step.invariant.begin c.loop-step.invariant.high
+    (λ p le lt. c.in-Some.ensures.next.2 p le (omega (arith, lt))) more
 
 pub returns-in_default-2 : goal.returns-in_default-2
 returns-in_default-2 c =
     let idx = c.args.index.now in
-    let more = how_many_more (λ page. is_some (ref_at idx.pages.pages page)) c.args.from (c.loop-step.next - c.args.from) (c.args.to - c.args.from) (omega arith) in
+    let more = how_many_more (λ page. is_some (ref_at idx.pages.pages page)) c.args.from (c.loop-step.next - c.args.from)
+    (c.args.to - c.args.from) (omega arith) in
     let none = rw c.in_default.is at c.page_from.ensures.next in
-    skipped c.args.chain.now.state.entries idx c.args.from c.loop-step.next c.args.to (present_between idx c.args.from c.loop-step.next) (present_between idx c.args.from c.args.to) c.args.killed.now c.loop-step.killed
+    skipped c.args.chain.now.state.entries idx c.args.from c.loop-step.next c.args.to (present_between idx c.args.from c.loop-step.next)
+    (present_between idx c.args.from c.args.to) c.args.killed.now c.loop-step.killed
     c.loop-step.invariant.pushed c.loop-step.invariant.begin c.loop-step.invariant.high (λ p le lt. none p le) more
 
 pub loop-step-preserved : goal.loop-step-preserved
@@ -47,11 +52,14 @@ loop-step-preserved c =
     let test : ℕ → Bool = λ page. is_some (ref_at idx.pages.pages page) in
     let is : test page ≡ true = page_some (ref_at idx.pages.pages page) ∙ ap (λ (o : Option PartRef). is_some o) next.1 in
     let more = how_many_next test c.args.from c.loop-step.next page c.loop-step.invariant.begin next.0 is in
-    let one = key_pushed es idx c.requires.named (PageKey page) c.in-Some.part c.loop-step.killed c.push_part.new.killed next.1 c.push_part.ensures.numbers c.push_part.ensures.len c.push_part.ensures.capacity in
+    let one = key_pushed es idx c.requires.named
+    (PageKey page) c.in-Some.part c.loop-step.killed c.push_part.new.killed next.1 c.push_part.ensures.numbers c.push_part.ensures.len
+    c.push_part.ensures.capacity in
     record {
       low = omega (arith, next.0);
       begin = omega (arith, next.0);
       high = omega arith;
-      pushed = page_pushed es idx c.requires.named c.args.from c.loop-step.next page (present_between idx c.args.from c.loop-step.next) (present_between idx c.args.from (page + 1)) c.in-Some.part c.args.killed.now c.loop-step.killed c.push_part.new.killed
+      pushed = page_pushed es idx c.requires.named c.args.from c.loop-step.next page (present_between idx c.args.from c.loop-step.next)
+          (present_between idx c.args.from (page + 1)) c.in-Some.part c.args.killed.now c.loop-step.killed c.push_part.new.killed
           c.loop-step.invariant.pushed c.loop-step.invariant.begin next.0 next.2 one more;
     }

@@ -20,6 +20,7 @@ returns-then-first-end c =
     let end = c.min-end.result in
     let few = how_many_le (λ page. is_some (ref_at idx.pages.pages page)) c.args.first (end - c.args.first) in
     let is : end ≡ min (c.args.first + c.args.len) 65536 = omega (arith, c.min-end.ensures, c.saturating_add.ensures) in
-    retold es idx (is_page_in c.args.first end) (is_page_in c.args.first (min (c.args.first + c.args.len) 65536)) (present_between idx c.args.first end) c.args.len c.args.killed.now c.push_pages.new.killed
+    retold es idx (is_page_in c.args.first end) (is_page_in c.args.first (min (c.args.first + c.args.len) 65536))
+    (present_between idx c.args.first end) c.args.len c.args.killed.now c.push_pages.new.killed
     c.push_pages.ensures (λ n. ap (λ (to : ℕ). is_named es idx n && is_page_in c.args.first to (key_at es n)) is)
     (omega (arith, few, c.min-end.ensures, c.saturating_add.ensures))

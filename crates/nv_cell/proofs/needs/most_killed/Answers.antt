@@ -18,10 +18,13 @@ loop-item-preserved c =
     let next = weights_next c.args.block pages names items i item (omega arith) c.item-item.is in
     let capped =
     weight_capped c.args.block most pages (sum_by pages_added (take i items)) (names + sum_by names_added (take i items)) item in
-    let own : c.weight_of.result ≡ min (weight c.args.block (λ from. pages from + min (sum_by pages_added (take i items)) most) (min (names + sum_by names_added (take i items)) most) item) most =
+    let own : c.weight_of.result ≡ min
+    (weight c.args.block (λ from. pages from + min (sum_by pages_added (take i items)) most)
+    (min (names + sum_by names_added (take i items)) most) item) most =
     c.weight_of.ensures
     ∙ ap (λ (p : ℕ). min (weight c.args.block (λ from. pages from + p) c.loop-item.names item) most) c.loop-item.invariant.pages
-    ∙ ap (λ (n : ℕ). min (weight c.args.block (λ from. pages from + min (sum_by pages_added (take i items)) most) n item) most) c.loop-item.invariant.names in
+    ∙ ap (λ (n : ℕ). min (weight c.args.block (λ from. pages from + min (sum_by pages_added (take i items)) most) n item) most)
+    c.loop-item.invariant.names in
     let p = sum_by_more pages_added items i item (omega arith) in
     let n = sum_by_more names_added items i item (omega arith) in
     let pis : pages_added item ≡ c.pages_added.result = sym c.pages_added.ensures in

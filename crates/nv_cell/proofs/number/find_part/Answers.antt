@@ -21,7 +21,8 @@ overflow_add-result c =
 
 pub returns-then-i-tail : goal.returns-then-i-tail
 returns-then-i-tail c =
-    sym (named_past c.args.chain.now.state.entries c.args.chain.now.state.tail c.in-Some.i c.args.id (sym c.in-Some.ensures.value) (omega (arith, c.tail.ensures.value)))
+    sym (named_past c.args.chain.now.state.entries c.args.chain.now.state.tail c.in-Some.i c.args.id (sym c.in-Some.ensures.value)
+    (omega (arith, c.tail.ensures.value)))
 
 pub returns-in-Some-place_of : goal.returns-in-Some-place_of
 returns-in-Some-place_of c =

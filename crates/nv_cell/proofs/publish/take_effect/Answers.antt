@@ -12,7 +12,8 @@ use Rattle.nv_cell.proofs.Publishes.{dies_when, dying_is_current, first_base, is
 use Rattle.nv_cell.proofs.publish.take_effect.Goals as goal
 
 -- behind an empty list stand the parts that die, each once
-only : (n d : ℕ) (old new : List NumberedPart) → old ≡ [] → times n (numbers_in new) ≡ times n (numbers_in old) + d → times n (numbers_in new) ≡ d
+only : (n d : ℕ) (old new : List NumberedPart) → old ≡ [] → times n (numbers_in new) ≡ times n (numbers_in old) + d
+    → times n (numbers_in new) ≡ d
 only n d old new empty h = omega (arith, h, ap (λ (parts : List NumberedPart). times n (numbers_in parts)) empty)
 
 pub apply_all-requires-clause-ends : goal.apply_all-requires-clause-ends
@@ -32,9 +33,11 @@ kill_all-requires-clause-current c i lt =
     let k : times n (numbers_in parts) ≡ cond d 1 0 =
     ap (λ (ps : List NumberedPart). times n (numbers_in ps)) c.deref.ensures.value
     ∙ only n (cond d 1 0) c.args.numbers.now.items c.apply_all.new.killed.items c.requires.empty (c.apply_all.ensures.killed n) in
-    let dead : d ≡ true = dies_when d (times n (numbers_in parts)) k (times_at (numbers_in parts) i (omega (arith, lt, length_numbers parts))) in
+    let dead : d ≡ true = dies_when d (times n (numbers_in parts)) k
+    (times_at (numbers_in parts) i (omega (arith, lt, length_numbers parts))) in
     let low : n < part_total es = dies_low c.args.block es c.args.tail n (rw dead (omega arith)) in
-    dying_is_current c.args.block es c.args.tail n (mark_at c.args.marks.now.marks.items n) (mark_at c.add_all.new.marks.marks.items n) dead low (c.requires.current n) (c.add_all.ensures.marks n)
+    dying_is_current c.args.block es c.args.tail n (mark_at c.args.marks.now.marks.items n)
+    (mark_at c.add_all.new.marks.marks.items n) dead low (c.requires.current n) (c.add_all.ensures.marks n)
 
 pub returns-clause-marks : goal.returns-clause-marks
 returns-clause-marks c n =
@@ -58,7 +61,8 @@ returns-clause-killed c =
     let count : (n : ℕ) → times n (numbers_in sorted) ≡ cond (dead n) 1 0 = λ n.
     same_numbers n c.apply_all.new.killed.items sorted c.sort_unstable_by_key.ensures.permutation
     ∙ only n (cond (dead n) 1 0) c.args.numbers.now.items c.apply_all.new.killed.items c.requires.empty (c.apply_all.ensures.killed n) in
-    let up = IsNonDecreasingBy-from_sort_by_key (λ (p : NumberedPart). p.number) sorted c.sort_unstable_by_key.ensures.sorted (λ a r q k. search rules) in
+    let up = IsNonDecreasingBy-from_sort_by_key (λ (p : NumberedPart). p.number) sorted c.sort_unstable_by_key.ensures.sorted
+    (λ a r q k. search rules) in
     is_filtered dead (part_total es) (numbers_in sorted)
     (rising (numbers_in sorted)
     (λ i j le lt.
@@ -71,4 +75,10 @@ returns-clause-killed c =
 
 pub returns-clause-few : goal.returns-clause-few
 returns-clause-few c =
-    omega (arith, c.apply_all.ensures.len, length_permutation c.apply_all.new.killed.items c.sort_unstable_by_key.new.self.items c.sort_unstable_by_key.ensures.permutation, ap length c.requires.empty)
+    omega (
+      arith,
+      c.apply_all.ensures.len,
+      length_permutation c.apply_all.new.killed.items c.sort_unstable_by_key.new.self.items
+          c.sort_unstable_by_key.ensures.permutation,
+      ap length c.requires.empty,
+    )

@@ -12,7 +12,8 @@ stretch_of-requires-clause-known c =
     let scan : IsScan c.args.block chain.entries chain.tail index =
     record { log = c.ends-ends.ensures.chain.rising; scan = c.requires.index } in
     let run : IsRunFrom c.min-from.result (ref_at index.pages.pages) (Some c.in-Some.run') =
-    subst (λ (v : IndexValue). IsRunFrom c.min-from.result (ref_at v.pages.pages) (Some c.in-Some.run')) c.index.view_is c.in-Some.ensures.run in
+    subst (λ (v : IndexValue). IsRunFrom c.min-from.result (ref_at v.pages.pages) (Some c.in-Some.run')) c.index.view_is
+    c.in-Some.ensures.run in
     run_known c.args.block chain.entries chain.tail index c.in-Some.run' scan run.0
 
 pub stretch_of-requires-clause-small : goal.stretch_of-requires-clause-small

@@ -13,14 +13,14 @@ use Rattle.nv_cell.proofs.Publishing.{total_take}
 use Rattle.nv_cell.proofs.Removing.{blocks_left, compact_left, fewer, fresh_within, last_stays, marks_count, marks_left, may_leave, names_left, none_gone, packed_within, refs_left}
 use Rattle.nv_cell.proofs.cell.InodeCell.compact.Goals as goal
 
-pub close_entries-requires-clause-blocks_there : goal.close_entries-requires-clause-blocks_there
-close_entries-requires-clause-blocks_there c =
+pub close_parts-requires-clause-blocks_there : goal.close_parts-requires-clause-blocks_there
+close_parts-requires-clause-blocks_there c =
     let s = state_in c.self.inside in
     let inv = c.self.invariant in
     omega (arith, inv.marks.len, inv.blocks.len, total_take s.chain.entries s.chain.tail)
 
-pub close_entries-requires-clause-none : goal.close_entries-requires-clause-none
-close_entries-requires-clause-none c =
+pub close_parts-requires-clause-none : goal.close_parts-requires-clause-none
+close_parts-requires-clause-none c =
     let s = state_in c.self.inside in
     let inv = c.self.invariant in
     let stays = c.args.stays.now in
@@ -36,7 +36,7 @@ recount-requires-clause-marks c =
     let may = subst (λ v. MayGo stays v.state) (sym c.self.view_is) c.requires.may in
     let len : length stays ≡ s.chain.tail = c.requires.flags ∙ sym (ap (λ v. v.state.chain.tail) c.self.view_is) in
     let left = compact_left stays c.args.pages.items s.chain len c.ends-ends.ensures.chain.within in
-    rw (c.compact-old.ensures.state, c.close_entries.ensures.marks) (marks_count left inv.marks inv.blocks may)
+    rw (c.compact-old.ensures.state, c.close_parts.ensures.marks) (marks_count left inv.marks inv.blocks may)
 
 pub recount-requires-clause-ends_room : goal.recount-requires-clause-ends_room
 recount-requires-clause-ends_room c =
@@ -78,7 +78,7 @@ invariant_of-self c =
     let chain = compacted stays c.args.pages.items s.chain in
     let r = c.recount.ensures.room in
     let count : length c.recount.new.self.marks.items ≡ part_total (log chain) =
-    ap (λ v. length v.items) c.recount.ensures.marks ∙ ap length c.close_entries.ensures.marks
+    ap (λ v. length v.items) c.recount.ensures.marks ∙ ap length c.close_parts.ensures.marks
     ∙ marks_count left inv.marks inv.blocks may in
     let ends : length c.recount.new.self.ends.items ≡ chain.tail = c.recount.ensures.len ∙ ap (λ ch. ch.tail) c.compact-old.ensures.state in
     let tallies : length c.recount.new.self.tallies.items ≡ length c.recount.new.self.ends.items = c.recount.ensures.tallied.tallies.len in
@@ -90,9 +90,9 @@ invariant_of-self c =
     record {
       some = inv.some;
       pages = rw c.compact-old.ensures.state (subst (λ v. AreSized v.state.block c.args.pages.items) (sym c.self.view_is) c.requires.sized);
-      marks = rw (c.compact-old.ensures.state, c.recount.ensures.marks, c.close_entries.ensures.marks)
+      marks = rw (c.compact-old.ensures.state, c.recount.ensures.marks, c.close_parts.ensures.marks)
           (let h = marks_left left inv.marks inv.blocks may in record { len = h.len; current = h.current });
-      blocks = rw (c.compact-old.ensures.state, c.recount.ensures.marks, c.close_entries.ensures.marks, c.close_entries.ensures.blocks)
+      blocks = rw (c.compact-old.ensures.state, c.recount.ensures.marks, c.close_parts.ensures.marks, c.close_parts.ensures.blocks)
           (record { len = blocks.len; numbers = blocks.numbers; sized = blocks.sized });
       refs = λ key. rw c.compact-old.ensures.state (inv.refs key ∙ sym (refs_left left inv.marks inv.blocks may key));
       names = rw c.compact-old.ensures.state
@@ -108,7 +108,7 @@ invariant_of-self c =
           few.parts,
           inv.spare.marks,
           r.marks,
-          c.close_entries.ensures.marks_room,
+          c.close_parts.ensures.marks_room,
           inv.marks.len,
           total_take s.chain.entries s.chain.tail,
         );
@@ -127,7 +127,7 @@ invariant_of-self c =
           r.tallies,
         );
       });
-      blocks_room = rw c.compact-old.ensures.state (omega (arith, few.parts, inv.blocks_room, c.close_entries.ensures.blocks_room));
+      blocks_room = rw c.compact-old.ensures.state (omega (arith, few.parts, inv.blocks_room, c.close_parts.ensures.blocks_room));
       pages_room = rw (c.compact-old.ensures.state, c.compact-old.ensures.spare)
           (omega (arith, inv.pages_room, r.pages, size, c.ends-ends.ensures.chain.paged));
       no_numbers = inv.no_numbers;
@@ -140,8 +140,8 @@ returns-clause-state c =
       ← c.self.view_is,
       c.compact-old.ensures.state,
       c.recount.ensures.marks,
-      c.close_entries.ensures.marks,
-      c.close_entries.ensures.blocks,
+      c.close_parts.ensures.marks,
+      c.close_parts.ensures.blocks,
     ) refl
 
 pub returns-clause-room : goal.returns-clause-room

@@ -27,7 +27,9 @@ pub take_effect-requires-clause-names : goal.take_effect-requires-clause-names
 take_effect-requires-clause-names c =
     let s = state_in c.self.inside in
     let ready : IsReady (value_in c.self.inside) = subst (λ v. IsReady v) (sym c.self.view_is) c.requires.ready in
-    rw c.tail-tail.ensures.value (names_ready (items_of (drop s.chain.tail s.chain.entries)) (record { names = bindings_of (log_of s); reserved = c.self.inside.index.names.reserved }) c.self.inside.index.names c.self.invariant.names refl ready.names)
+    rw c.tail-tail.ensures.value (names_ready (items_of (drop s.chain.tail s.chain.entries))
+    (record { names = bindings_of (log_of s); reserved = c.self.inside.index.names.reserved }) c.self.inside.index.names
+    c.self.invariant.names refl ready.names)
 
 pub name_all-requires-clause-ends : goal.name_all-requires-clause-ends
 name_all-requires-clause-ends c =
@@ -40,7 +42,8 @@ name_all-requires-clause-ends c =
 pub name_all-requires-clause-within : goal.name_all-requires-clause-within
 name_all-requires-clause-within c i d lt =
     let es = c.self.inside.chain.state.entries in
-    filtered_low (dies c.self.inside.block es c.tail-tail.result) (part_total es) (numbers_in c.deref.result.now) i d (ap numbers_in c.deref.ensures.value ∙ c.take_effect.ensures.killed)
+    filtered_low (dies c.self.inside.block es c.tail-tail.result) (part_total es) (numbers_in c.deref.result.now) i d
+    (ap numbers_in c.deref.ensures.value ∙ c.take_effect.ensures.killed)
     (omega (arith, lt, length_numbers c.deref.result.now))
 
 pub name_all-requires-clause-room : goal.name_all-requires-clause-room
@@ -65,9 +68,11 @@ invariant_of-self c =
     let s = state_in c.self.inside in
     let es = c.self.inside.chain.state.entries in
     let inv = c.self.invariant in
-    let to : c.publish_to.new.self.state ≡ record c.self.inside.chain.state { tail = length es } = c.publish_to.ensures.state ∙ ap (λ (t : ℕ). record c.self.inside.chain.state { tail = t }) c.len.ensures in
+    let to : c.publish_to.new.self.state ≡ record c.self.inside.chain.state { tail = length es } = c.publish_to.ensures.state
+    ∙ ap (λ (t : ℕ). record c.self.inside.chain.state { tail = t }) c.len.ensures in
     let marks = c.take_effect.new.marks.marks.items in
-    let is : (n : ℕ) → mark_at marks n ≡ published_mark s.block es s.chain.tail s.marks n = λ n. rw c.tail-tail.ensures.value at (c.take_effect.ensures.marks n) in
+    let is : (n : ℕ) → mark_at marks n ≡ published_mark s.block es s.chain.tail s.marks n =
+    λ n. rw c.tail-tail.ensures.value at (c.take_effect.ensures.marks n) in
     let r = c.take_effect.ensures.room in
     rw to (record {
       some = inv.some;
@@ -75,23 +80,35 @@ invariant_of-self c =
       marks = record {
         len = c.take_effect.ensures.len ∙ ap part_total (sym (take_whole es));
         current = λ n lt.
-            mark_now s.block es s.chain.tail n (mark_at s.marks n) (mark_at marks n) (rw (take_whole es) at lt) (omega (arith, c.tail-tail.ensures.value, c.tail-tail.ensures.within)) (λ l. inv.marks.current n l) (is n)
+            mark_now s.block es s.chain.tail n (mark_at s.marks n) (mark_at marks n) (rw (take_whole es) at lt)
+            (omega (arith, c.tail-tail.ensures.value, c.tail-tail.ensures.within)) (λ l. inv.marks.current n l) (is n)
             ∙ ap (λ (xs : List Entry). not (is_covered s.block xs n)) (sym (take_whole es));
       };
       blocks = record {
         len = inv.blocks.len;
-        numbers = λ n. inv.blocks.numbers n ∙ ap (λ (b : Bool). cond b (page_block s.block es n) None) (sym (there_stays s.block es s.chain.tail s.marks marks inv.marks.len c.take_effect.ensures.len inv.marks.current is n));
+        numbers = λ n. inv.blocks.numbers n
+            ∙ ap (λ (b : Bool). cond b (page_block s.block es n) None)
+            (sym (there_stays s.block es s.chain.tail s.marks marks inv.marks.len c.take_effect.ensures.len inv.marks.current is n));
         sized = inv.blocks.sized;
       };
       refs = λ key. c.take_effect.ensures.scan key ∙ ap (λ (xs : List Entry). scan_ref s.block xs key) (sym (take_whole es));
-      names = subst (λ (xs : List Entry). HaveSameBindings (bindings_of xs) c.take_effect.new.index.names.names) (sym (take_whole es)) c.take_effect.ensures.bound;
+      names = subst (λ (xs : List Entry). HaveSameBindings (bindings_of xs) c.take_effect.new.index.names.names)
+          (sym (take_whole es)) c.take_effect.ensures.bound;
       ends_len = c.take_effect.ensures.counted;
       ends = c.take_effect.ensures.ended;
       tallied = c.take_effect.ensures.tallied;
       spare = record {
         marks = omega (arith, inv.spare.marks, r.marks, c.take_effect.ensures.len, inv.marks.len);
         ends = omega (arith, inv.spare.ends, r.ends, c.take_effect.ensures.counted, inv.ends_len);
-        tallies = omega (arith, inv.spare.tallies, r.tallies, c.take_effect.ensures.counted, inv.ends_len, inv.tallied.tallies.len, c.take_effect.ensures.tallied.tallies.len);
+        tallies = omega (
+          arith,
+          inv.spare.tallies,
+          r.tallies,
+          c.take_effect.ensures.counted,
+          inv.ends_len,
+          inv.tallied.tallies.len,
+          c.take_effect.ensures.tallied.tallies.len,
+        );
       };
       blocks_room = inv.blocks_room;
       pages_room = omega (arith, inv.pages_room, r.pages, c.publish_to.ensures.spare);
@@ -124,7 +141,8 @@ returns-clause-few c =
     let es = s.chain.entries in
     let few = rw c.tail-tail.ensures.value at c.take_effect.ensures.few in
     let told : length c.name_all.new.killed.items ≡ length c.deref.result.now =
-    sym (length-map c.name_all.new.killed.items Some) ∙ ap length c.name_all.ensures ∙ length-map (numbers_in c.deref.result.now) (killed_part es) ∙ length_numbers c.deref.result.now in
+    sym (length-map c.name_all.new.killed.items Some) ∙ ap length c.name_all.ensures
+    ∙ length-map (numbers_in c.deref.result.now) (killed_part es) ∙ length_numbers c.deref.result.now in
     rw (← c.self.view_is) (omega (arith, few, told, c.deref.ensures.len, c.name_all.new.killed.ok))
 
 pub returns-clause-marked : goal.returns-clause-marked
@@ -134,5 +152,6 @@ returns-clause-marked c =
     let tail : c.tail-tail.result ≡ s.chain.tail = c.tail-tail.ensures.value in
     let told : map Some c.name_all.new.killed.items ≡ map (killed_part es) (killed_of s) =
     c.name_all.ensures
-    ∙ ap (map (killed_part es)) (ap numbers_in c.deref.ensures.value ∙ c.take_effect.ensures.killed ∙ ap (killed_numbers s.block es) tail) in
+    ∙ ap (map (killed_part es)) (ap numbers_in c.deref.ensures.value ∙ c.take_effect.ensures.killed
+    ∙ ap (killed_numbers s.block es) tail) in
     rw (chain_is c, marks_are c) (published_killed s c.name_all.new.killed.items c.ends-ends.ensures.chain.rising told)

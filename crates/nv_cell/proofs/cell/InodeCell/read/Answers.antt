@@ -52,4 +52,5 @@ returns-clause-bytes c bytes are =
     let is : IsCell s =
     record { some = inv.some; chain = c.ends-ends.ensures.chain; pages = inv.pages; marks = inv.marks; blocks = inv.blocks } in
     rw (← c.self.view_is)
-    (read c ∙ ap (read_at c.args.at c.args.len) (file_is s bytes is (subst (λ (v : CellValue). AreBytesOf v.state bytes) (sym c.self.view_is) are)))
+    (read c ∙ ap (read_at c.args.at c.args.len)
+    (file_is s bytes is (subst (λ (v : CellValue). AreBytesOf v.state bytes) (sym c.self.view_is) are)))

@@ -30,7 +30,8 @@ invariant_of-self-in_err-grow_log c =
       numbers = c.grow_lists.ensures.numbers;
       killed = c.grow_lists.ensures.killed;
       spare =
-          spare_grown i.marks c.grow_log.new.marks (part_total i.chain.state.entries - length i.marks.marks.items + i.parts) (length i.chain.state.entries - i.chain.state.tail + i.entries) c.grow_log.ensures.marks inv.spare;
+          spare_grown i.marks c.grow_log.new.marks (part_total i.chain.state.entries - length i.marks.marks.items + i.parts)
+          (length i.chain.state.entries - i.chain.state.tail + i.entries) c.grow_log.ensures.marks inv.spare;
       places = omega (arith, inv.blocks_room, c.grow_log.ensures.blocks.capacity);
       pages = c.grow_log.ensures.pages;
     })
@@ -50,7 +51,8 @@ invariant_of-self-in_err-reserve c =
       numbers = c.grow_lists.ensures.numbers;
       killed = c.grow_lists.ensures.killed;
       spare =
-          spare_grown i.marks c.grow_log.new.marks (part_total i.chain.state.entries - length i.marks.marks.items + i.parts) (length i.chain.state.entries - i.chain.state.tail + i.entries) c.grow_log.ensures.marks inv.spare;
+          spare_grown i.marks c.grow_log.new.marks (part_total i.chain.state.entries - length i.marks.marks.items + i.parts)
+          (length i.chain.state.entries - i.chain.state.tail + i.entries) c.grow_log.ensures.marks inv.spare;
       places = omega (arith, inv.blocks_room, c.grow_log.ensures.blocks.capacity);
       pages = c.grow_log.ensures.pages;
     })
@@ -66,7 +68,8 @@ invariant_of-self-2 c =
     ap (λ (t : ℕ). part_total (take t es)) settled ∙ ap part_total (take_whole es) in
     let g = c.grow_log.ensures.marks in
     let old =
-    spare_grown i.marks c.grow_log.new.marks (part_total es - length i.marks.marks.items + i.parts) (length es - i.chain.state.tail + i.entries) g inv.spare in
+    spare_grown i.marks c.grow_log.new.marks (part_total es - length i.marks.marks.items + i.parts)
+    (length es - i.chain.state.tail + i.entries) g inv.spare in
     let room = c.in_ok-grow_log.ensures.room in
     let entries : c.max-self-inside.result ≡ max i.entries (length c.args.items.now) = c.max-self-inside.ensures in
     let parts : c.max-self-inside-2.result ≡ max i.parts c.part_total-parts.result = c.max-self-inside-2.ensures in
@@ -110,9 +113,11 @@ returns-clause-ok c =
     let all : c.part_total-parts.result ≡ parts_in items = omega (arith, c.part_total-parts.ensures, real) in
     let kills : c.most_killed-killed.result ≡ weights_by i.block i.index items = omega (arith, c.most_killed-killed.ensures.value, few) in
     let room : (vec_len c.grow_lists.new.numbers + c.most_killed-killed.result ≤ vec_capacity c.grow_lists.new.numbers)
-    × (vec_len c.grow_lists.new.killed + c.most_killed-killed.result ≤ vec_capacity c.grow_lists.new.killed) = c.in_ok-grow_lists.ensures.ok in
+    × (vec_len c.grow_lists.new.killed + c.most_killed-killed.result ≤ vec_capacity c.grow_lists.new.killed) =
+    c.in_ok-grow_lists.ensures.ok in
     let bound = weights_are i.block (log_of (state_in i)) i.index items inv.refs inv.names c.most_killed-killed.ensures.distinct in
-    let same : weights_in i.block (take c.grow_log.new.chain.state.tail c.grow_log.new.chain.state.entries) items ≡ weights_in i.block (log_of (state_in i)) items =
+    let same : weights_in i.block (take c.grow_log.new.chain.state.tail c.grow_log.new.chain.state.entries) items
+    ≡ weights_in i.block (log_of (state_in i)) items =
     ap (λ (s : ChainState). weights_in i.block (take s.tail s.entries) items) c.grow_log.ensures.chain in
     let settled : i.chain.state.tail ≡ length i.chain.state.entries =
     subst (λ (v : CellValue). v.state.chain.tail ≡ length v.state.chain.entries) (sym c.self.view_is) c.requires.settled in
@@ -175,5 +180,6 @@ returns-in_err-reserve-clause-enough c ready =
     let p = settled_publish items (value_in i)
     (subst (λ (v : CellValue). v.state.chain.tail ≡ length v.state.chain.entries) (sym c.self.view_is) c.requires.settled) r in
     let no : false ≡ true = c.in_err-reserve.ensures.enough p.runs
-    (names_ready items (record { names = bindings_of (log_of (state_in i)); reserved = i.index.names.reserved }) i.index.names inv.names refl p.names) in
+    (names_ready items (record { names = bindings_of (log_of (state_in i)); reserved = i.index.names.reserved }) i.index.names inv.names
+    refl p.names) in
     cc

@@ -13,14 +13,14 @@ use Rattle.nv_log.proofs.Flags.{all_gone, all_left, length-left_of}
 use Rattle.std.proofs.lemmas.List.{length-take}
 use Rattle.nv_cell.proofs.cell.InodeCell.remove_pages.Goals as goal
 
-pub close_pages-requires-clause-blocks_there : goal.close_pages-requires-clause-blocks_there
-close_pages-requires-clause-blocks_there c =
+pub close_parts-requires-clause-blocks_there : goal.close_parts-requires-clause-blocks_there
+close_parts-requires-clause-blocks_there c =
     let s = state_in c.self.inside in
     let inv = c.self.invariant in
     omega (arith, inv.marks.len, inv.blocks.len, total_take s.chain.entries s.chain.tail)
 
-pub close_pages-requires-clause-none : goal.close_pages-requires-clause-none
-close_pages-requires-clause-none c =
+pub close_parts-requires-clause-none : goal.close_parts-requires-clause-none
+close_parts-requires-clause-none c =
     let s = state_in c.self.inside in
     let inv = c.self.invariant in
     let stays = c.args.stays.now in
@@ -44,7 +44,7 @@ recount-requires-clause-marks c =
     let len : length stays ≡ length s.chain.ends = c.requires.flags ∙ sym (ap (λ v. length v.state.chain.ends) c.self.view_is) in
     let published = subst (λ v. ArePublished stays v.state.chain) (sym c.self.view_is) c.requires.published in
     let left = pages_left stays s.chain c.ends-ends.ensures.chain len published in
-    rw (c.unlink_pages.ensures.state, c.close_pages.ensures.marks) (marks_count left inv.marks inv.blocks may)
+    rw (c.unlink_pages.ensures.state, c.close_parts.ensures.marks) (marks_count left inv.marks inv.blocks may)
 
 pub recount-requires-clause-ends_room : goal.recount-requires-clause-ends_room
 recount-requires-clause-ends_room c =
@@ -92,7 +92,7 @@ invariant_of-self c =
     let chain = with_pages_left stays s.chain in
     let r = c.recount.ensures.room in
     let count : length c.recount.new.self.marks.items ≡ part_total (log chain) =
-    ap (λ v. length v.items) c.recount.ensures.marks ∙ ap length c.close_pages.ensures.marks ∙ marks_count left inv.marks inv.blocks may in
+    ap (λ v. length v.items) c.recount.ensures.marks ∙ ap length c.close_parts.ensures.marks ∙ marks_count left inv.marks inv.blocks may in
     let ends : length c.recount.new.self.ends.items ≡ chain.tail = c.recount.ensures.len
     ∙ ap (λ ch. ch.tail) c.unlink_pages.ensures.state in
     let tallies : length c.recount.new.self.tallies.items ≡ length c.recount.new.self.ends.items = c.recount.ensures.tallied.tallies.len in
@@ -100,9 +100,9 @@ invariant_of-self c =
     record {
       some = inv.some;
       pages = rw c.unlink_pages.ensures.state (all_left (λ b. length b.bytes ≡ s.block) stays s.chain.blocks inv.pages);
-      marks = rw (c.unlink_pages.ensures.state, c.recount.ensures.marks, c.close_pages.ensures.marks)
+      marks = rw (c.unlink_pages.ensures.state, c.recount.ensures.marks, c.close_parts.ensures.marks)
           (let h = marks_left left inv.marks inv.blocks may in record { len = h.len; current = h.current });
-      blocks = rw (c.unlink_pages.ensures.state, c.recount.ensures.marks, c.close_pages.ensures.marks, c.close_pages.ensures.blocks)
+      blocks = rw (c.unlink_pages.ensures.state, c.recount.ensures.marks, c.close_parts.ensures.marks, c.close_parts.ensures.blocks)
           (record { len = blocks.len; numbers = blocks.numbers; sized = blocks.sized });
       refs = λ key. rw c.unlink_pages.ensures.state (inv.refs key ∙ sym (refs_left left inv.marks inv.blocks may key));
       names = rw c.unlink_pages.ensures.state
@@ -118,7 +118,7 @@ invariant_of-self c =
           few.parts,
           inv.spare.marks,
           r.marks,
-          c.close_pages.ensures.marks_room,
+          c.close_parts.ensures.marks_room,
           inv.marks.len,
           total_take s.chain.entries s.chain.tail,
         );
@@ -136,7 +136,7 @@ invariant_of-self c =
           r.tallies,
         );
       });
-      blocks_room = rw c.unlink_pages.ensures.state (omega (arith, few.parts, inv.blocks_room, c.close_pages.ensures.blocks_room));
+      blocks_room = rw c.unlink_pages.ensures.state (omega (arith, few.parts, inv.blocks_room, c.close_parts.ensures.blocks_room));
       pages_room = rw (c.unlink_pages.ensures.state, c.unlink_pages.ensures.spare)
           (omega (arith, inv.pages_room, r.pages, length-left_of stays s.chain.blocks));
       no_numbers = inv.no_numbers;
@@ -149,8 +149,8 @@ returns-clause-state c =
       ← c.self.view_is,
       c.unlink_pages.ensures.state,
       c.recount.ensures.marks,
-      c.close_pages.ensures.marks,
-      c.close_pages.ensures.blocks,
+      c.close_parts.ensures.marks,
+      c.close_parts.ensures.blocks,
     ) refl
 
 pub returns-clause-room : goal.returns-clause-room

@@ -17,7 +17,8 @@ set-requires-clause-there c =
     let s = state_in c.self.inside in
     let inv = c.self.invariant in
     let m = is_killed s c.args.part (ap (λ v. mark_named v.state c.args.part) c.self.view_is ∙ c.requires) in
-    let e : c.unwrap-found.result.number ≡ number_in s c.args.part = some_same (sym (ap (option_map (λ p. p.number)) c.unwrap-found.ensures) ∙ c.find_part.ensures ∙ m.number) in
+    let e : c.unwrap-found.result.number ≡ number_in s c.args.part =
+    some_same (sym (ap (option_map (λ p. p.number)) c.unwrap-found.ensures) ∙ c.find_part.ensures ∙ m.number) in
     rw e m.there
 
 pub invariant_of-self : goal.invariant_of-self
@@ -25,7 +26,8 @@ invariant_of-self c =
     let s = state_in c.self.inside in
     let inv = c.self.invariant in
     let m = is_killed s c.args.part (ap (λ v. mark_named v.state c.args.part) c.self.view_is ∙ c.requires) in
-    let e : c.unwrap-found.result.number ≡ number_in s c.args.part = some_same (sym (ap (option_map (λ p. p.number)) c.unwrap-found.ensures) ∙ c.find_part.ensures ∙ m.number) in
+    let e : c.unwrap-found.result.number ≡ number_in s c.args.part =
+    some_same (sym (ap (option_map (λ p. p.number)) c.unwrap-found.ensures) ∙ c.find_part.ensures ∙ m.number) in
     let r = c.set.ensures.room in
     let len = length_set s.marks c.unwrap-found.result.number Kept in
     record {
@@ -41,7 +43,15 @@ invariant_of-self c =
       spare = record {
         marks = omega (arith, inv.spare.marks, r.marks, ap length c.set.ensures.marks, len);
         ends = omega (arith, inv.spare.ends, r.ends, ap (λ v. length v.items) c.set.ensures.ends);
-        tallies = omega (arith, inv.spare.tallies, r.tallies, inv.tallied.tallies.len, c.set.ensures.tallied.tallies.len, ap (λ v. length v.items) c.set.ensures.ends);
+        tallies = omega (
+          arith,
+          inv.spare.tallies,
+          r.tallies,
+          inv.tallied.tallies.len,
+          c.set.ensures.tallied.tallies.len,
+          ap
+              (λ v. length v.items) c.set.ensures.ends,
+        );
       };
       blocks_room = inv.blocks_room;
       pages_room = omega (arith, inv.pages_room, r.pages);
@@ -54,5 +64,6 @@ returns-clause-state c =
     let s = state_in c.self.inside in
     let inv = c.self.invariant in
     let m = is_killed s c.args.part (ap (λ v. mark_named v.state c.args.part) c.self.view_is ∙ c.requires) in
-    let e : c.unwrap-found.result.number ≡ number_in s c.args.part = some_same (sym (ap (option_map (λ p. p.number)) c.unwrap-found.ensures) ∙ c.find_part.ensures ∙ m.number) in
+    let e : c.unwrap-found.result.number ≡ number_in s c.args.part =
+    some_same (sym (ap (option_map (λ p. p.number)) c.unwrap-found.ensures) ∙ c.find_part.ensures ∙ m.number) in
     rw (← c.self.view_is, c.set.ensures.marks, e) refl

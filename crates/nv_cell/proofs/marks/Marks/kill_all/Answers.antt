@@ -14,7 +14,8 @@ none = record { number = 0; entry = 0 }
 pub set-requires-clause-there : goal.set-requires-clause-there
 unfolding none
 set-requires-clause-there c =
-    next_there c.args.self.now.marks.items c.loop-part.self.marks.items c.args.killed.now c.loop-part.part-index none c.loop-part-test.true c.requires.current c.loop-part.invariant.marks
+    next_there c.args.self.now.marks.items c.loop-part.self.marks.items c.args.killed.now c.loop-part.part-index none c.loop-part-test.true
+    c.requires.current c.loop-part.invariant.marks
 
 pub loop-part-preserved : goal.loop-part-preserved
 unfolding none
@@ -25,7 +26,13 @@ loop-part-preserved c =
     let i = c.loop-part.part-index in
     let there = next_there old marks parts i none c.loop-part-test.true c.requires.current c.loop-part.invariant.marks in
     record {
-      len = omega (arith, ap (λ (ms : List Mark). length ms) c.set.ensures.marks, length_set marks (get_or parts i none).number Killed, c.loop-part.invariant.len);
+      len = omega (
+        arith,
+        ap (λ (ms : List Mark). length ms) c.set.ensures.marks,
+        length_set marks
+            (get_or parts i none).number Killed,
+        c.loop-part.invariant.len,
+      );
       ends = c.set.ensures.ends ∙ c.loop-part.invariant.ends;
       room = record {
         marks = c.set.ensures.room.marks ∙ c.loop-part.invariant.room.marks;
@@ -35,5 +42,6 @@ loop-part-preserved c =
       };
       tallied = c.set.ensures.tallied;
       marks = λ k. ap (λ (ms : List Mark). mark_at ms k) c.set.ensures.marks
-          ∙ killed_more marks parts i k none (mark_at old k) c.loop-part-test.true (there_within marks _ there) (c.loop-part.invariant.marks k);
+          ∙ killed_more marks parts i k none (mark_at old k) c.loop-part-test.true (there_within marks _ there)
+          (c.loop-part.invariant.marks k);
     }

@@ -12,5 +12,6 @@ invariant-loop-part l = record {
   ends : l.self.ends ≡ l.fn.self.ends;
   room : SameCapacity l.fn.self l.self;
   tallied : AreTallied l.self l.page_ends;
-  marks : (n : ℕ) → mark_at l.self.marks.items n ≡ (if is_in n (numbers_in (take l.part-index l.killed)) then Killed else mark_at l.fn.self.marks.items n);
+  marks : (n : ℕ) → mark_at l.self.marks.items n
+      ≡ (if is_in n (numbers_in (take l.part-index l.killed)) then Killed else mark_at l.fn.self.marks.items n);
 }
