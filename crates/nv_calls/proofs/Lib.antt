@@ -15,6 +15,7 @@ pub mod Nothing
 pub mod Passed
 pub mod Places
 pub mod PublishAll
+pub mod Published
 pub mod Resized
 pub mod RetireAll
 pub mod Retires

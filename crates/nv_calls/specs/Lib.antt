@@ -8,6 +8,7 @@ pub mod Lawful
 pub mod Locked
 pub mod Plain
 pub mod Plan
+pub mod PublishedSlots
 pub mod Ready
 pub mod Refusals
 pub mod Retired
