@@ -1,9 +1,13 @@
+pub mod AppendAll
 pub mod Appends
 pub mod CellLists
+pub mod Changes
 pub mod Apart
 pub mod CellNodes
 pub mod Commits
+pub mod Composed
 pub mod Fills
+pub mod Grown
 pub mod Items
 pub mod Keeps
 pub mod Lawful
@@ -11,7 +15,10 @@ pub mod NodesHeld
 pub mod Nothing
 pub mod Passed
 pub mod Places
+pub mod PublishAll
+pub mod Published
 pub mod Resized
+pub mod RetireAll
 pub mod Retires
 pub mod RunLists
 pub mod Same

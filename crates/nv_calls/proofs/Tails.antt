@@ -1,5 +1,6 @@
 -- The tails that a commit notes are of different inodes.
-use Rattle.std.proofs.Common.{◌≡◌, ℕ, ◌<◌, List, [], ◌∷◌, length, get_or, arith, ap, sym, ◌∙◌}
+use Rattle.std.proofs.Common.{◌≡◌, ℕ, zero, suc, ◌<◌, List, [], ◌∷◌, length, get_or, arith, refl, ap, sym, ◌∙◌}
+use Rattle.std.specs.Prelude.{slice_index_or, slice_set}
 use Rattle.std.specs.List.{AllPairs}
 use Rattle.std.proofs.lemmas.List.{get_or-map}
 use Rattle.std.proofs.Math.ListN.{length-map}
@@ -24,3 +25,10 @@ tails_differ cells (p ∷ plans) rising placed i j d lt within e =
     let same : (old_tail cells a).ino ≡ (old_tail cells b).ino =
     ap (λ (t : OldTail). t.ino) (sym ta) ∙ e ∙ ap (λ (t : OldTail). t.ino) tb in
     absurd (omega (arith, less, same))
+
+-- a closed journal that is opened and closed is as it was
+pub journal_back : (journals : List (List OldTail)) (cpu : ℕ) (tails : List OldTail) → slice_index_or journals cpu [] ≡ []
+    → slice_set (slice_set journals cpu tails) cpu [] ≡ journals
+journal_back [] cpu tails closed = refl
+journal_back (j ∷ journals) zero tails closed = ap (λ (x : List OldTail). x ∷ journals) (sym closed)
+journal_back (j ∷ journals) (suc cpu) tails closed = ap (λ (xs : List (List OldTail)). j ∷ xs) (journal_back journals cpu tails closed)

@@ -85,3 +85,12 @@ after_retire living ino cell commit = record commit {
   hand = hand_retired living ino commit.stamp.epoch (to_retire commit).killed cell commit.hand;
   retired = commit.retired + 1;
 }
+
+-- the call, the number and epoch of its commit, and the handle of a new inode
+pub record ReceiptValue : Type 0 where
+  pub update : Update
+  pub stamp : Stamp
+  pub made : Option Handle
+
+abbrev pub receipt_of : CommitValue → ReceiptValue
+receipt_of commit = record { update = commit.update; stamp = commit.stamp; made = commit.made }

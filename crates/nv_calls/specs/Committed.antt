@@ -1,4 +1,4 @@
--- What a whole commit makes of what was ready: of each planned cell, of the manifests and of the hand.
+-- What a whole commit makes of its cells, of the manifests and of the hand, by what stood when it began.
 use Rattle.std.specs.Prelude.{◌≡◌, ℕ, zero, suc, ◌<◌, List, length, None, take}
 use Rattle.std.specs.List.{sum_by}
 use Rattle.nv_alloc.specs.declared.hand.Hand.{Hand}
@@ -6,11 +6,32 @@ use Rattle.nv_book.specs.declared.manifest.Manifest.{Manifest}
 use Rattle.nv_cell.specs.Cell.{CellState, CellValue, published}
 use Rattle.nv_cell.specs.declared.killed.KilledPart.{KilledPart}
 use Rattle.nv_log.specs.Chain.{pages_for}
-use Rattle.nv_calls.specs.declared.stamp.Stamp.{Stamp}
 use Rattle.nv_calls.specs.Cells.{ino_at, state_at, value_at}
-use Rattle.nv_calls.specs.Ready.{CellPlanValue, ReadyValue, plan_at}
+use Rattle.nv_calls.specs.Commit.{CommitValue}
+use Rattle.nv_calls.specs.Ready.{CellPlanValue, plan_at}
 use Rattle.nv_calls.specs.Retiring.{erased, hand_retired, killed_by, retired, with_records}
 use Rattle.nv_calls.specs.Steps.{numbers_in, with_plan, without_front}
+
+-- the place of the j-th plan's cell; and a place that no plan is for
+abbrev pub place_of : List CellPlanValue → ℕ → ℕ
+place_of plans j = (plan_at plans j).at
+
+abbrev pub IsUnplanned : List CellPlanValue → ℕ → Type 0
+IsUnplanned plans k = (j : ℕ) → j < length plans → place_of plans j ≡ k → ⊥
+
+-- the planned cells have new states, and nothing else of the cells changes
+pub record ChangesPlanned (plans : List CellPlanValue) (becomes : ℕ → CellState) (old new : List (ℕ × CellValue)) : Type 0 where
+  pub count : length new ≡ length old
+  pub numbers : (k : ℕ) → ino_at new k ≡ ino_at old k
+  pub planned : (j : ℕ) → j < length plans → state_at new (place_of plans j) ≡ becomes j
+  pub others : (k : ℕ) → IsUnplanned plans k → value_at new k ≡ value_at old k
+
+-- plans of the same cells
+pub record HaveSamePlaces (old new : List CellPlanValue) : Type 0 where
+  pub count : length new ≡ length old
+  pub places : (j : ℕ) → place_of new j ≡ place_of old j
+
+-- ---- appending
 
 -- how many entries a plan has, how many blocks for the pages of its items, and how many pages its log needs
 abbrev pub entry_count : CellPlanValue → ℕ
@@ -22,56 +43,72 @@ block_count plan = length (numbers_in plan.items)
 abbrev pub page_count : List (ℕ × CellValue) → CellPlanValue → ℕ
 page_count cells plan = pages_for (state_at cells plan.at).chain (length plan.items)
 
--- where the entries of the j-th plan begin among those of the commit
+-- where the entries of the j-th plan begin among those of the commit, and what the plans before it leave in the hand
 abbrev pub place_before : List CellPlanValue → ℕ → ℕ
 place_before plans j = sum_by entry_count (take j plans)
 
--- what the plans before the j-th leave in the hand
-abbrev pub hand_before : List (ℕ × CellValue) → ReadyValue → ℕ → Hand
-hand_before cells ready j = record ready.hand {
-  «data» = without_front (sum_by block_count (take j ready.plans)) ready.hand.data;
-  pages = without_front (sum_by (page_count cells) (take j ready.plans)) ready.hand.pages;
+abbrev pub hand_before : List (ℕ × CellValue) → CommitValue → ℕ → Hand
+hand_before cells commit j = record commit.hand {
+  «data» = without_front (sum_by block_count (take j commit.plans)) commit.hand.data;
+  pages = without_front (sum_by (page_count cells) (take j commit.plans)) commit.hand.pages;
 }
 
--- the cell of the j-th plan as it was, with its entries appended, and with them published; and what this kills
-abbrev pub place_of : ReadyValue → ℕ → ℕ
-place_of ready j = (plan_at ready.plans j).at
+-- the cell of the j-th plan with its entries appended
+abbrev pub grown : List (ℕ × CellValue) → CommitValue → ℕ → CellValue
+grown cells commit j =
+    with_plan commit.stamp (place_before commit.plans j) (plan_at commit.plans j).items (hand_before cells commit j)
+    (value_at cells (place_of commit.plans j))
 
-abbrev pub grown : Stamp → List (ℕ × CellValue) → ReadyValue → ℕ → CellValue
-grown stamp cells ready j =
-    with_plan stamp (place_before ready.plans j) (plan_at ready.plans j).items (hand_before cells ready j) (value_at cells (place_of ready j))
+-- ---- retiring
 
-abbrev pub published_at : Stamp → List (ℕ × CellValue) → ReadyValue → ℕ → CellState
-published_at stamp cells ready j = published (grown stamp cells ready j).state
+-- the number of an inode, parts of it that were killed, and its cell
+pub record Killing : Type 0 where
+  pub ino : ℕ
+  pub parts : List KilledPart
+  pub cell : CellState
 
-abbrev pub killed_at : Stamp → List (ℕ × CellValue) → ReadyValue → ℕ → List KilledPart
-killed_at stamp cells ready j = killed_by (grown stamp cells ready j).state
+-- how many parts a plan notes as killed, and what it notes
+abbrev pub killed_count : CellPlanValue → ℕ
+killed_count plan = length plan.killed
 
--- it once what was killed is retired; an inode that is gone and of which nothing is kept is erased
-abbrev pub committed_at : List ℕ → Stamp → List (ℕ × CellValue) → ReadyValue → ℕ → CellState
-committed_at living stamp cells ready j =
-    erased (retired living (ino_at cells (place_of ready j)) stamp.epoch (killed_at stamp cells ready j) (published_at stamp cells ready j))
+abbrev pub noted_killing : List (ℕ × CellValue) → CommitValue → ℕ → Killing
+noted_killing cells commit j = record {
+  ino = ino_at cells (place_of commit.plans j);
+  parts = (plan_at commit.plans j).killed;
+  cell = state_at cells (place_of commit.plans j);
+}
 
--- the manifests, and what the hand holds, once the killed parts of the first plans are retired; a new inode has its number
-abbrev pub manifests_after : List ℕ → Stamp → List (ℕ × CellValue) → ReadyValue → ℕ → List Manifest → List Manifest
-manifests_after living stamp cells ready zero manifests = manifests
-manifests_after living stamp cells ready (suc j) manifests =
-    with_records living (ino_at cells (place_of ready j)) stamp.epoch (killed_at stamp cells ready j)
-    (manifests_after living stamp cells ready j manifests)
+-- what is killed once the entries of the j-th plan are published
+abbrev pub killing : List (ℕ × CellValue) → CommitValue → ℕ → Killing
+killing cells commit j = record {
+  ino = ino_at cells (place_of commit.plans j);
+  parts = killed_by (grown cells commit j).state;
+  cell = published (grown cells commit j).state;
+}
 
-abbrev pub hand_after_plans : List ℕ → Stamp → List (ℕ × CellValue) → ReadyValue → ℕ → Hand
-hand_after_plans living stamp cells ready zero = record (hand_before cells ready (length ready.plans)) { ino = None }
-hand_after_plans living stamp cells ready (suc j) =
-    hand_retired living (ino_at cells (place_of ready j)) stamp.epoch (killed_at stamp cells ready j) (published_at stamp cells ready j)
-    (hand_after_plans living stamp cells ready j)
+-- the cell once it is retired, erased where the inode is gone and nothing is kept
+abbrev pub settled_cell : List ℕ → ℕ → Killing → CellState
+settled_cell living epoch k = erased (retired living k.ino epoch k.parts k.cell)
 
--- a place that no plan is for
-abbrev pub IsUnplanned : ReadyValue → ℕ → Type 0
-IsUnplanned ready k = (j : ℕ) → j < length ready.plans → place_of ready j ≡ k → ⊥
+-- the manifests, and a hand, once the first of several killings are retired
+abbrev pub manifests_after : List ℕ → ℕ → (ℕ → Killing) → ℕ → List Manifest → List Manifest
+manifests_after living epoch killings zero manifests = manifests
+manifests_after living epoch killings (suc j) manifests =
+    with_records living (killings j).ino epoch (killings j).parts (manifests_after living epoch killings j manifests)
 
--- the cells of a call, after its commit
-pub record AreCommitted (living : List ℕ) (stamp : Stamp) (ready : ReadyValue) (old new : List (ℕ × CellValue)) : Type 0 where
-  pub count : length new ≡ length old
-  pub numbers : (k : ℕ) → ino_at new k ≡ ino_at old k
-  pub planned : (j : ℕ) → j < length ready.plans → state_at new (place_of ready j) ≡ committed_at living stamp old ready j
-  pub others : (k : ℕ) → IsUnplanned ready k → value_at new k ≡ value_at old k
+abbrev pub hand_after_killings : List ℕ → ℕ → (ℕ → Killing) → ℕ → Hand → Hand
+hand_after_killings living epoch killings zero hand = hand
+hand_after_killings living epoch killings (suc j) hand =
+    hand_retired living (killings j).ino epoch (killings j).parts (killings j).cell (hand_after_killings living epoch killings j hand)
+
+-- ---- a whole commit
+
+-- the cell of the j-th plan after the commit
+abbrev pub committed : List ℕ → List (ℕ × CellValue) → CommitValue → ℕ → CellState
+committed living cells commit j = settled_cell living commit.stamp.epoch (killing cells commit j)
+
+-- what the hand then holds: what appending left of it, without the number of a new inode, and what is free
+abbrev pub hand_left : List ℕ → List (ℕ × CellValue) → CommitValue → Hand
+hand_left living cells commit =
+    hand_after_killings living commit.stamp.epoch (killing cells commit) (length commit.plans)
+    (record (hand_before cells commit (length commit.plans)) { ino = None })

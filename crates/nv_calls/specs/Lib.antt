@@ -1,4 +1,5 @@
 pub mod AllCalls
+pub mod CanCommit
 pub mod Cells
 pub mod Commit
 pub mod Committed
@@ -8,6 +9,7 @@ pub mod Locked
 pub mod Nodes
 pub mod Plain
 pub mod Plan
+pub mod PublishedSlots
 pub mod Ready
 pub mod Refusals
 pub mod Retired

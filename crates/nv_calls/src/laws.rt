@@ -1,20 +1,25 @@
 //! Laws of plans and effects, each the contract of a function that does nothing.
 
 ghost use Rattle.std.specs.Prelude.{◌≡◌, ◌<◌, ℕ, Err, List, Option, is_some, length};
+ghost use Rattle.nv_book.specs.Book.{BookValue};
+ghost use Rattle.nv_cell.specs.Cell.{CellValue};
 ghost use Rattle.nv_base.specs.declared.fault.Fault.{Fault};
 ghost use Rattle.nv_base.specs.declared.numbers.Handle.{Handle};
-ghost use Rattle.nv_cell.specs.Cell.{CellValue};
 ghost use Rattle.nv_entry.specs.Log.{IsLog};
 ghost use Rattle.nv_entry.specs.Node.{block_now};
 ghost use Rattle.nv_entry.specs.Sound.{IsSound};
 ghost use Rattle.nv_entry.specs.declared.node.NodeCopy.{NodeCopy};
 ghost use Rattle.nv_calls.specs.AllCalls.{IsReady, IsToldNothing, blocks_wanted, effect, look_refusal, looked, plan, refusal};
 ghost use Rattle.nv_calls.specs.declared.taken.Taken.{Taken};
+ghost use Rattle.nv_calls.specs.CanCommit.{CanCommit};
+ghost use Rattle.nv_calls.specs.Commit.{begun, stamp_of};
 ghost use Rattle.nv_calls.specs.Lawful.{IsLawfulPlan};
 ghost use Rattle.nv_calls.specs.Locked.{Agree, KeepsToIts, SameCall, first_look, handles};
 ghost use Rattle.nv_calls.specs.Nodes.{HaveBytes, has_page_in, plain_nodes, slots_by};
 ghost use Rattle.nv_calls.specs.Plain.{Change, PlainNode, node_in};
 ghost use Rattle.nv_calls.specs.Plan.{AreApart, AreFewApart, plan_blocks};
+ghost use Rattle.nv_calls.specs.PublishedSlots.{AreOfSlots, PublishesPlans};
+ghost use Rattle.nv_calls.specs.Ready.{ReadyValue};
 ghost use Rattle.nv_calls.specs.Refusals.{passes};
 ghost use Rattle.nv_calls.specs.Slots.{ArePlaced, Commits, IsBefore, IsPlan, Slot, node_under, published};
 ghost use Rattle.nv_calls.specs.declared.call.Call.{Call};
@@ -117,4 +122,12 @@ pub fn cells_hold_the_nodes_of_their_slots()
     ensures pages { (bytes : ℕ → List ℕ) (block : ℕ) (cells : List (ℕ × CellValue)) (handle : Handle)
         (page : ℕ) → HaveBytes bytes block cells → has_page_in cells handle page
         ≡ is_some (block_now block (slots_by cells handle.ino).log page) }
+{}
+
+/// A commit over cells publishes the items of its plans, each at its place in the commit: the slots are then those that
+/// the commit makes, up to the erasing of an inode of which nothing is kept.
+pub fn commits_publish_their_plans()
+    ensures { (cells : List (ℕ × CellValue)) (book : BookValue) (cpu : ℕ) (ready : ReadyValue)
+        (slots : ℕ → Slot) → CanCommit cells book cpu ready → AreOfSlots cells slots
+        → PublishesPlans cells (begun (stamp_of book.state) ready) slots }
 {}

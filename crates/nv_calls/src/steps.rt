@@ -65,7 +65,6 @@ pub fn open_on<C: Cells>(book: &mut Book, cells: &C, commit: &mut Commit, cpu: u
     requires cells { AreCells (C.cells cells.now) }
     requires placed { ArePlaced (C.cells cells.now) commit.old.plans }
     requires two { 2 ≤ length commit.old.plans }
-    requires four { length commit.old.plans ≤ 4 }
     requires cpu { cpu < length book.old.state.journals }
     requires closed { slice_index_or book.old.state.journals cpu [] ≡ [] }
     ensures book { book.new ≡ record book.old {

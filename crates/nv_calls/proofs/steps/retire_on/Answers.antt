@@ -2,10 +2,9 @@ use Rattle.std.proofs.Common.{◌≡◌, ℕ, ◌<◌, List, length, ap, arith, 
 use Rattle.nv_epoch.specs.SnapList.{ids}
 use Rattle.nv_log.specs.Chain.{ChainState}
 use Rattle.nv_cell.specs.Cell.{CellState, CellValue}
-use Rattle.nv_calls.specs.Cells.{OnlyAt, ino_at, state_at, value_at, with_value}
+use Rattle.nv_calls.specs.Cells.{OnlyAt, ino_at, state_at, value_at}
 use Rattle.nv_calls.specs.Commit.{CommitValue}
 use Rattle.nv_calls.specs.Ready.{plan_at}
-use Rattle.nv_calls.specs.Retired.{CanTakeGone}
 use Rattle.nv_calls.specs.Retiring.{retired}
 use Rattle.nv_calls.proofs.CellLists.{only_along, only_value, value_with}
 use Rattle.nv_calls.proofs.Retires.{chain_stays, generation_stays, gone_fits}

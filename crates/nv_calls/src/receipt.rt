@@ -1,0 +1,87 @@
+//! What a commit tells of itself.
+
+ghost use Rattle.std.specs.Prelude.{◌≡◌, length};
+ghost use Rattle.nv_calls.specs.Commit.{receipt_of};
+
+use crate::{Commit, Stamp, Update};
+use nv_alloc::Hand;
+use nv_base::{CommitNo, Epoch, Handle};
+use std::marker::Model;
+
+/// That a call was committed, with the number and the epoch of its commit. Only a commit makes one, and there is one a
+/// commit.
+#[derive(Debug, Drop)]
+pub struct Receipt {
+    update: Update,
+    stamp: Stamp,
+    made: Option<Handle>,
+}
+
+impl Model for Receipt {
+    ghost use Rattle.nv_calls.specs.Commit.{ReceiptValue};
+
+    ghost Value = { ReceiptValue };
+
+    ghost view = { λ r. record { update = r.update; stamp = r.stamp; made = r.made } };
+}
+
+impl Receipt {
+    /// The call.
+    pub fn update(&self) -> &Update
+        ensures { result.now ≡ self.now.update }
+    {
+        &self.update
+    }
+
+    /// The number of the commit.
+    pub fn commit(&self) -> CommitNo
+        ensures { result ≡ self.now.stamp.commit }
+    {
+        self.stamp.commit
+    }
+
+    /// The epoch of its entries.
+    pub fn epoch(&self) -> Epoch
+        ensures { result ≡ self.now.stamp.epoch }
+    {
+        self.stamp.epoch
+    }
+
+    /// The handle of the inode that the call made, if it made one.
+    pub fn made(&self) -> Option<Handle>
+        ensures { result ≡ self.now.made }
+    {
+        self.made
+    }
+}
+
+impl Commit {
+    /// The receipt of a commit that is done, and what the hand still holds.
+    pub(crate) fn finish(self) -> (Receipt, Hand)
+        requires { self.retired ≡ length self.plans }
+        ensures receipt { result.0 ≡ receipt_of self }
+        ensures hand { result.1 ≡ self.hand }
+    {
+        let Commit {
+            alloc: _,
+            update,
+            made,
+            plans: _,
+            hand,
+            stamp,
+            place: _,
+            appended: _,
+            published: _,
+            retired: _,
+            journal_open: _,
+        } = self;
+        (
+            Receipt {
+                update,
+                stamp,
+                made,
+            },
+            hand,
+        )
+    }
+}
