@@ -20,3 +20,6 @@ pub mod HandedCommits
 pub mod Sound
 pub mod Tails
 pub mod Numbered
+pub mod NumberedRuns
+pub mod NewNumbers
+pub mod FromScratch

@@ -90,7 +90,7 @@ rising_put b (c ∷ bs) h absent =
           let ge = ltb-false b.number c.number q in
           (all_put (λ k. c.number < k) b bs (omega (arith, ge, apart)) h.0, more)
 
-less_free : (g : GeometryNumbers) (cpu n : ℕ) (list : FreeBlocks) → IsHomeList g cpu list
+pub less_free : (g : GeometryNumbers) (cpu n : ℕ) (list : FreeBlocks) → IsHomeList g cpu list
     → IsHomeList g cpu (record list { blocks = drop n list.blocks })
 less_free g cpu n list h = record {
   start = h.start;

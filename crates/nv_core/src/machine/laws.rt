@@ -10,9 +10,11 @@ ghost use Rattle.nv_core.specs.machine.Bound.{IsNoStart, bound_at, most_steps, m
 ghost use Rattle.nv_core.specs.machine.Format.{formatted};
 ghost use Rattle.nv_core.specs.machine.Frame.{IsOneStep, IsStart};
 ghost use Rattle.nv_core.specs.machine.Locks.{AreLocks, HasLent, WaitsFor};
+ghost use Rattle.nv_core.specs.machine.Hands.{AreLists};
+ghost use Rattle.nv_core.specs.machine.Numbers.{IdleHaveNothing, IsEachOnce, all_blocks, free_from_scratch, free_of};
 ghost use Rattle.nv_core.specs.machine.Order.{IsInOrder};
 ghost use Rattle.nv_core.specs.machine.Step.{after, stays, step};
-ghost use Rattle.nv_core.specs.machine.World.{Event, Go, Refused, Running, Start, Started, Waiting, World, actor_at};
+ghost use Rattle.nv_core.specs.machine.World.{Event, Go, Refused, Running, Start, Started, Waiting, World, actor_at, list_at};
 
 /// A `Go` of an actor whose call runs makes the one step that comes next, and changes only its actor and the
 /// parts that the step is lent. A start changes its actor alone. What is refused for its actor changes
@@ -68,4 +70,33 @@ pub fn ids_rise()
     ensures new { (g : GeometryNumbers) → IsInOrder (formatted g) }
     ensures stays { (events : List Event) (w : World) → AreLocks w → IsInOrder w
         → IsInOrder (after w events) }
+{}
+
+/// From a new world on, whatever events come, each block number stands exactly once among the free lists, the
+/// cells (pages of chains and blocks of parts) and the hands of actors, and no other number stands there.
+pub fn blocks_stand_once()
+    ensures { (g : GeometryNumbers) (events : List Event) → IsWithinLimits g
+        → IsEachOnce g.blocks (all_blocks (after (formatted g) events)) }
+{}
+
+/// Each CPU's free list has its blocks in rising order, all of them at home there and of one size, so that the
+/// first is the lowest.
+pub fn lists_are_sorted()
+    ensures { (g : GeometryNumbers) (events : List Event) → IsWithinLimits g
+        → AreLists g (after (formatted g) events).shared }
+{}
+
+/// Each CPU's free list is what one scan leaves: the numbers of its home range that no page of a chain, no part
+/// and no hand has.
+pub fn lists_are_from_scratch()
+    ensures { (g : GeometryNumbers) (events : List Event) (cpu : ℕ) → IsWithinLimits g → cpu < g.cpus
+        → free_of (list_at (after (formatted g) events).shared cpu)
+        ≡ free_from_scratch g (after (formatted g) events) cpu }
+{}
+
+/// An actor without a call has an empty hand and no lock: what its call took and did not place is given back
+/// before the last reply, also where it was refused.
+pub fn idle_hands_are_empty()
+    ensures { (g : GeometryNumbers) (events : List Event) → IsWithinLimits g
+        → IdleHaveNothing (after (formatted g) events) }
 {}
