@@ -68,8 +68,13 @@ unfolding weight
 runs_few [] = omega arith
 runs_few (run ∷ runs) =
     let both = ap length (flat_map-append (λ (x : Run). range_with_len x.start x.len) (made_run run) (flat_map made_run runs)) in
-    omega (arith, both, length-append (blocks_of (made_run run)) (blocks_of (flat_map made_run runs)), runs_few runs,
-    one_run run.0 run.1 (nat_lt (run.0 + run.1) (2 ^ 64)) refl)
+    omega (
+      arith,
+      both,
+      length-append (blocks_of (made_run run)) (blocks_of (flat_map made_run runs)),
+      runs_few runs,
+      one_run run.0 run.1 (nat_lt (run.0 + run.1) (2 ^ 64)) refl,
+    )
 
 pub runs_short : (numbers : List ℕ) → length (blocks_of (runs_of numbers)) ≤ length numbers
 runs_short numbers = omega (arith, runs_few (stretches numbers), weight_is numbers)
@@ -132,8 +137,13 @@ no_costs (m ∷ slots) = omega (arith, sum_by-cons (cost []) m slots, no_costs s
 costs_few : (plan : List Planned) (slots : List ℕ) → IsRising slots → sum_by (cost plan) slots ≤ length (plan_blocks plan)
 costs_few [] slots r = omega (arith, no_costs slots)
 costs_few (p ∷ plan) slots r =
-    omega (arith, costs p plan slots, own_once p slots r, costs_few plan slots r,
-    length-append (flat_map item_blocks p.items) (plan_blocks plan))
+    omega (
+      arith,
+      costs p plan slots,
+      own_once p slots r,
+      costs_few plan slots r,
+      length-append (flat_map item_blocks p.items) (plan_blocks plan),
+    )
 
 pub planned_few : (plan : List Planned) (slots : List ℕ) → IsRising slots → length (planned_blocks plan slots) ≤ length (plan_blocks plan)
 planned_few plan slots r =

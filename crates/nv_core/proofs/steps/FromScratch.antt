@@ -89,9 +89,9 @@ elsewhere g w cpu j n some lists inside small low high ne = elim (cases_lt j (le
       let there : j < g.cpus = omega (arith, lt, lists.cpus) in
       let one = (cuts g.blocks g.cpus some).once n small in
       not_counted n (free_of (list_at w.shared j)) (none_true (has (free_of (list_at w.shared j)) n) (λ h.
-        let home = at_home g w j n lists there h in
-        ne (one.only j there (record { from = home.0; below = home.1 })
-        ∙ sym (one.only cpu inside (record { from = low; below = high })))))
+      let home = at_home g w j n lists there h in
+      ne (one.only j there (record { from = home.0; below = home.1 })
+      ∙ sym (one.only cpu inside (record { from = low; below = high })))))
   | inr ge ↦ ap (λ (l : FreeBlocks). times n (free_of l)) (get_or_past w.shared.lists j no_list ge)
 ]
 

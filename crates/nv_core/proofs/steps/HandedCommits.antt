@@ -115,8 +115,14 @@ ready_planned g a s h r fits b =
     let same = ap length (filled_numbers (fresh_pages g.block (copies s) r.call) h.blocks) in
     record {
       killed = fits.killed;
-      enough = omega (arith, few, rising, same, length-map h.blocks number_of,
-          length-map (filled (fresh_pages g.block (copies s) r.call) h.blocks) number_of);
+      enough = omega (
+        arith,
+        few,
+        rising,
+        same,
+        length-map h.blocks number_of,
+        length-map (filled (fresh_pages g.block (copies s) r.call) h.blocks) number_of,
+      );
       within = plan_within g.block (copies s) (taken_by g.block s h r) r.call (numbers_of h.blocks) refl
           (subst (λ (n : ℕ). FitsFile g.block r.call n) (sym (length-map h.blocks number_of)) fits.fits);
     }
@@ -207,8 +213,12 @@ pub slot_enough : (place : ℕ) (h : HandState) (r : Running) → place < length
     → length (entry_blocks (entries_for r (slot_at (written_slots r) place))) ≤ length h.blocks
 slot_enough place h r inside planned =
     let ino = slot_at (written_slots r) place in
-    omega (arith, planned.enough, planned_next r.plan place (written_slots r) inside,
-    ap length (entry_blocks_are r.commit r.epoch (place_in r.plan ino) (items_for r.plan ino)))
+    omega (
+      arith,
+      planned.enough,
+      planned_next r.plan place (written_slots r) inside,
+      ap length (entry_blocks_are r.commit r.epoch (place_in r.plan ino) (items_for r.plan ino)),
+    )
 
 append_planned : (place pages : ℕ) (h : HandState) (r : Running) → place < length (written_slots r)
     → HasPlanned h r (drop place (written_slots r))
@@ -218,8 +228,13 @@ append_planned place pages h r inside planned =
     let ino = slot_at (written_slots r) place in
     record {
       killed = planned.killed;
-      enough = omega (arith, planned.enough, planned_next r.plan place (written_slots r) inside,
-          ap length (entry_blocks_are r.commit r.epoch (place_in r.plan ino) (items_for r.plan ino)), left_count (entries_for r ino) h.blocks);
+      enough = omega (
+        arith,
+        planned.enough,
+        planned_next r.plan place (written_slots r) inside,
+        ap length (entry_blocks_are r.commit r.epoch (place_in r.plan ino) (items_for r.plan ino)),
+        left_count (entries_for r ino) h.blocks,
+      );
       within = planned.within;
     }
 

@@ -91,8 +91,12 @@ lists_times g n cpu zero some =
 lists_times g n cpu (suc k) some =
     let next : cpu + 1 + k ≡ cpu + suc k = omega arith in
     let all = lists_times g n (cpu + 1) k some ∙ ap (λ (c : ℕ). below n (home_start g.blocks g.cpus c)) next in
-    omega (arith, all, full_times g n cpu some,
-    times-append n (free_of (full_list g cpu)) (flat_map free_of (map (full_list g) (range_with_len (cpu + 1) k))))
+    omega (
+      arith,
+      all,
+      full_times g n cpu some,
+      times-append n (free_of (full_list g cpu)) (flat_map free_of (map (full_list g) (range_with_len (cpu + 1) k))),
+    )
 
 -- block 0 is the lowest of the first list
 zero_first : (size low len : ℕ) → low ≡ 0 → 0 < len → (n : ℕ)

@@ -110,8 +110,13 @@ pub appended_parted : (block : ℕ) (e : Entry) (bs : List BlockValue) (cell : C
 appended_parted block e bs cell within many sized h = record {
   within = omega (arith, h.within, length-append cell.chain.entries (e ∷ []));
   marks = h.marks ∙ sym (ap part_total (log_stays cell.chain.tail cell.chain.entries e h.within));
-  places = omega (arith, length-append cell.blocks slots, h.places, slot_count e.item bs within many,
-      total_append cell.chain.entries (e ∷ []));
+  places = omega (
+    arith,
+    length-append cell.blocks slots,
+    h.places,
+    slot_count e.item bs within many,
+    total_append cell.chain.entries (e ∷ []),
+  );
   out = outs;
   sized = both_sized block cell.blocks slots h.sized (slots_sized block e.item bs sized);
   pages = h.pages;
