@@ -24,7 +24,7 @@ use Rattle.nv_core.specs.machine.World.{Actor, cell_at, empty_hand, idle, list_a
 use Rattle.nv_core.proofs.steps.Locks.{all_same}
 use Rattle.nv_core.proofs.steps.Numbered.{all_times}
 use Rattle.nv_core.proofs.steps.Parted.{empty_parted}
-use Rattle.nv_core.proofs.steps.Sound.{less_free}
+use Rattle.nv_core.proofs.steps.Sorted.{less_free}
 
 -- ---- how often a number stands in ranges that go on from one another
 
