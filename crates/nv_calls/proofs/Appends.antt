@@ -30,7 +30,7 @@ pub record IsUnderway (stamp : Stamp) (place : ℕ) (items : List Item) (queue :
 
 -- ---- blocks
 
-front : (xs ys ns : List ℕ) → take (length (xs ++ ys)) ns ≡ xs ++ ys → (take (length xs) ns ≡ xs) × (take (length ys) (drop (length xs) ns) ≡ ys)
+pub front : (xs ys ns : List ℕ) → take (length (xs ++ ys)) ns ≡ xs ++ ys → (take (length xs) ns ≡ xs) × (take (length ys) (drop (length xs) ns) ≡ ys)
 front [] ys ns h = (refl, h)
 front (x ∷ xs) ys [] h = cc
 front (x ∷ xs) ys (n ∷ ns) h =
@@ -39,12 +39,12 @@ front (x ∷ xs) ys (n ∷ ns) h =
     let f = front xs ys ns rest in
     (ap₂ (λ (m : ℕ) (ms : List ℕ). m ∷ ms) head f.0, f.1)
 
-map-take : (n : ℕ) (bs : List BlockValue) → numbers_of (take n bs) ≡ take n (numbers_of bs)
+pub map-take : (n : ℕ) (bs : List BlockValue) → numbers_of (take n bs) ≡ take n (numbers_of bs)
 map-take zero bs = refl
 map-take (suc n) [] = refl
 map-take (suc n) (b ∷ bs) = ap (λ (ms : List ℕ). b.number ∷ ms) (map-take n bs)
 
-map-drop : (n : ℕ) (bs : List BlockValue) → numbers_of (drop n bs) ≡ drop n (numbers_of bs)
+pub map-drop : (n : ℕ) (bs : List BlockValue) → numbers_of (drop n bs) ≡ drop n (numbers_of bs)
 map-drop zero bs = refl
 map-drop (suc n) [] = refl
 map-drop (suc n) (b ∷ bs) = map-drop n bs

@@ -14,11 +14,11 @@ use Rattle.nv_base.specs.Limits.{IsWithinLimits}
 use Rattle.nv_base.specs.declared.geometry.GeometryNumbers.{GeometryNumbers}
 use Rattle.nv_base.proofs.HomeRanges.{cuts}
 use Rattle.nv_core.specs.machine.Format.{formatted}
-use Rattle.nv_core.specs.machine.Hands.{AreLists, AreNumbers, HandOf, IsHomeList}
+use Rattle.nv_core.specs.machine.Hands.{AreLists, AreNumbers, ArePagesTold, HandOf, IsHomeList}
 use Rattle.nv_core.specs.machine.Locks.{AreLocks, commits_by, held_by}
 use Rattle.nv_core.specs.machine.Numbers.{HasNothing, IdleHaveNothing, IsEachOnce, all_blocks, free_from_scratch, free_of, used_blocks}
 use Rattle.nv_core.specs.machine.Step.{after}
-use Rattle.nv_core.specs.machine.World.{Event, Running, World, actor_at, empty_hand, list_at, no_list}
+use Rattle.nv_core.specs.machine.World.{Event, Running, World, actor_at, cell_at, empty_hand, list_at, no_list}
 use Rattle.nv_core.proofs.steps.Locks.{events_locks, new_locks}
 use Rattle.nv_core.proofs.steps.NewNumbers.{new_numbers}
 use Rattle.nv_core.proofs.steps.NumberedRuns.{events_numbers}
@@ -168,7 +168,7 @@ is_scan g w cpu n some all inside = elim (cases_lt n low) [
 
 pub all_numbers : (g : GeometryNumbers) (events : List Event) → IsWithinLimits g → AreNumbers g (after (formatted g) events)
 all_numbers g events within =
-    events_numbers g events (formatted g) (omega (arith, within.some_cpus)) (omega (arith, within.some_bytes)) (new_locks g within)
+    events_numbers g events (formatted g) (omega (arith, within.some_cpus)) (omega (arith, within.some_bytes)) (omega (arith, within.blocks_fit)) (new_locks g within)
     (new_numbers g within)
 
 pub each_once : (g : GeometryNumbers) (events : List Event) → IsWithinLimits g → IsEachOnce g.blocks (all_blocks (after (formatted g) events))
@@ -199,3 +199,7 @@ idle_nothing g events within actor is =
       locks = λ ino. held.owners ino ∙ ap (λ (o : Option Running). has (held_by o) ino) is;
       commit_lock = held.holder ∙ ap commits_by is;
     }
+
+pub told : (g : GeometryNumbers) (events : List Event) (ino : ℕ) → IsWithinLimits g
+    → ArePagesTold g.block (cell_at (after (formatted g) events).shared ino)
+told g events ino within = ((all_numbers g events within).cells ino).told

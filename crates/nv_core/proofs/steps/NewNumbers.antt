@@ -222,6 +222,7 @@ root_parted g = record {
   marks = refl;
   places = refl;
   out = λ n gone. root_out n;
+  told = λ n b e. let z : None ≡ Some b = sym (root_out n) ∙ e in cc;
   sized = λ n b e. let z : None ≡ Some b = sym (root_out n) ∙ e in cc;
   pages = (length-replicate g.block 0, tt);
 }

@@ -1,5 +1,5 @@
 -- Whatever events come, each block number stands once, lists are in order, and idle hands are empty.
-use Rattle.std.proofs.Common.{◌≡◌, ◌≢◌, ◌⊎◌, ℕ, zero, suc, ◌+◌, ◌<◌, ◌≤◌, ◌==◌, ◌∙◌, Bool, true, false, List, [], ◌∷◌, Option, Some, None, ap, arith, if◌then◌else◌, inl, inr, length, nat_lt, refl, set, subst, sym}
+use Rattle.std.proofs.Common.{◌≡◌, ◌≢◌, ◌⊎◌, ℕ, zero, suc, ◌+◌, ◌^◌, ◌<◌, ◌≤◌, ◌==◌, ◌∙◌, Bool, true, false, List, [], ◌∷◌, Option, Some, None, ap, arith, if◌then◌else◌, inl, inr, length, nat_lt, refl, set, subst, sym}
 use Rattle.std.specs.Prelude.{slice_index_or}
 use Rattle.std.proofs.lemmas.Bool.{false≢true, ltb-true}
 use Rattle.std.proofs.lemmas.Option.{none-some}
@@ -38,10 +38,10 @@ record IsKnown (g : GeometryNumbers) (w : World) (actor : ℕ) (r : Running) (t 
   tail : (ino : ℕ) → (lent r.next (length w.shared.lists) actor r).cell ≡ Some ino
       → (has (unpublished_at r.next (written_slots r)) ino ≡ false → IsTailLast (cell_at w.shared ino)) → LeavesTail ino t
 
-known : (g : GeometryNumbers) (w : World) (actor : ℕ) (granted : Bool) (r : Running) → 0 < g.cpus → 0 < g.block → AreLocks w
+known : (g : GeometryNumbers) (w : World) (actor : ℕ) (granted : Bool) (r : Running) → 0 < g.cpus → 0 < g.block → g.blocks < 2 ^ 64 → AreLocks w
     → AreNumbers g w → (actor_at w actor).running ≡ Some r
     → IsKnown g w actor r (kind_turn r.next g.block actor granted w.shared (actor_at w actor).hand r)
-known g w actor granted r some bytes locks all is =
+known g w actor granted r some bytes small locks all is =
     let s = w.shared in
     let h = (actor_at w actor).hand in
     let b = before w actor r locks is in
@@ -53,7 +53,7 @@ known g w actor granted r some bytes locks all is =
     } in
     record {
       kept = turn_keeps (IsKept g w actor) r.next g.block actor granted s h r was done;
-      hand = hand_kept g r.next actor granted s h r bytes b (
+      hand = hand_kept g r.next actor granted s h r bytes small b (
         goes_home g w actor s h some all was,
         goes_home g w actor (deed r.next g.block actor s h r).shared (deed r.next g.block actor s h r).hand some all done,
       ) (can_give g w actor r.next all) own.0 own.1;
@@ -99,17 +99,17 @@ turned_numbers g w actor r (Ends result t h) there locks all is owned k = record
 }
 
 go_numbers : (g : GeometryNumbers) (b : Bool) (running : Option Running) (w : World) (actor : ℕ) (granted : Bool) → 0 < g.cpus
-    → 0 < g.block → nat_lt actor (length w.actors) ≡ b → (actor_at w actor).running ≡ running → AreLocks w → AreNumbers g w
+    → 0 < g.block → g.blocks < 2 ^ 64 → nat_lt actor (length w.actors) ≡ b → (actor_at w actor).running ≡ running → AreLocks w → AreNumbers g w
     → AreNumbers g (go_step b running actor granted w).world
-go_numbers g false running w actor granted some bytes e is locks all = all
-go_numbers g true None w actor granted some bytes e is locks all = all
-go_numbers g true (Some r) w actor granted some bytes e is locks all =
+go_numbers g false running w actor granted some bytes small e is locks all = all
+go_numbers g true None w actor granted some bytes small e is locks all = all
+go_numbers g true (Some r) w actor granted some bytes small e is locks all =
     let h = (actor_at w actor).hand in
     subst (λ (n : GeometryNumbers). AreNumbers g (turned (kind_turn r.next n.block actor granted w.shared h r) actor w).world)
     (sym all.numbers)
     (turned_numbers g w actor r (kind_turn r.next g.block actor granted w.shared h r) (ltb-true actor (length w.actors) e) locks all is
     (λ ino here. lent_cell r.next (length w.shared.lists) actor w.shared r (before w actor r locks is) ino here)
-    (known g w actor granted r some bytes locks all is))
+    (known g w actor granted r some bytes small locks all is))
 
 -- ---- a Start
 
@@ -162,15 +162,15 @@ start_numbers g true None w actor c e is locks all =
 
 -- ---- events
 
-event_numbers : (g : GeometryNumbers) (w : World) (e : Event) → 0 < g.cpus → 0 < g.block → AreLocks w → AreNumbers g w
+event_numbers : (g : GeometryNumbers) (w : World) (e : Event) → 0 < g.cpus → 0 < g.block → g.blocks < 2 ^ 64 → AreLocks w → AreNumbers g w
     → AreNumbers g (step w e).world
-event_numbers g w (Start actor c) some bytes locks all =
+event_numbers g w (Start actor c) some bytes small locks all =
     start_numbers g (nat_lt actor (length w.actors)) (actor_at w actor).running w actor c refl refl locks all
-event_numbers g w (Go actor granted) some bytes locks all =
-    go_numbers g (nat_lt actor (length w.actors)) (actor_at w actor).running w actor granted some bytes refl refl locks all
+event_numbers g w (Go actor granted) some bytes small locks all =
+    go_numbers g (nat_lt actor (length w.actors)) (actor_at w actor).running w actor granted some bytes small refl refl locks all
 
-pub events_numbers : (g : GeometryNumbers) (events : List Event) (w : World) → 0 < g.cpus → 0 < g.block → AreLocks w → AreNumbers g w
+pub events_numbers : (g : GeometryNumbers) (events : List Event) (w : World) → 0 < g.cpus → 0 < g.block → g.blocks < 2 ^ 64 → AreLocks w → AreNumbers g w
     → AreNumbers g (after w events)
-events_numbers g [] w some bytes locks all = all
-events_numbers g (e ∷ events) w some bytes locks all =
-    events_numbers g events (step w e).world some bytes (event_locks w e locks) (event_numbers g w e some bytes locks all)
+events_numbers g [] w some bytes small locks all = all
+events_numbers g (e ∷ events) w some bytes small locks all =
+    events_numbers g events (step w e).world some bytes small (event_locks w e locks) (event_numbers g w e some bytes small locks all)

@@ -28,7 +28,6 @@ use Rattle.nv_core.specs.machine.Kinds.{asked_list, blocks_in, blocks_left, entr
 use Rattle.nv_core.specs.machine.Reads.{copies, filled, fresh_pages, pages_needed, slot_at, written_slots}
 use Rattle.nv_core.specs.machine.World.{Append, Back, Check, Close, Enter, Give, HandState, Leave, Lock, Look, Next, Number, Open, Publish, Ready, Retire, Running, Shared, TakeBlocks, TakePages, Unlock, Visit, cell_at, list_at, no_cell, no_list, with_cell, with_list}
 use Rattle.nv_core.proofs.steps.Counted.{given_all}
-use Rattle.nv_core.proofs.steps.HandedCommits.{slot_enough}
 use Rattle.nv_core.proofs.steps.Kept.{append_deed, back_deed, deed, number_deed, retire_deed}
 use Rattle.nv_core.proofs.steps.Locked.{Before}
 use Rattle.nv_core.proofs.steps.Parted.{entries_parted, erased_parted, freed_by_sized, paged_parted, published_parted, retired_parted, sized_both, sized_first, sized_later}

@@ -28,7 +28,7 @@ use Rattle.nv_core.specs.machine.Kinds.{asked_list, blocks_in, blocks_left, entr
 use Rattle.nv_core.specs.machine.Reads.{copies, filled, fresh_pages, pages_needed, slot_at, written_slots}
 use Rattle.nv_core.specs.machine.World.{Append, Back, Check, Close, Enter, Give, HandState, Leave, Lock, Look, Next, Number, Open, Publish, Ready, Retire, Running, Shared, TakeBlocks, TakePages, Unlock, Visit, cell_at, list_at, no_cell, no_list, with_cell, with_list}
 use Rattle.nv_core.proofs.steps.Counted.{given_all}
-use Rattle.nv_core.proofs.steps.HandedCommits.{slot_enough}
+use Rattle.nv_core.proofs.steps.HandedCommits.{slot_first}
 use Rattle.nv_core.proofs.steps.Kept.{append_deed, back_deed, deed, number_deed, retire_deed}
 use Rattle.nv_core.proofs.steps.Locked.{Before}
 use Rattle.nv_core.proofs.steps.Parted.{entries_parted, erased_parted, freed_by_sized, paged_parted, published_parted, retired_parted, sized_both, sized_first, sized_later}
@@ -160,7 +160,7 @@ append_sound g place pages s h r inside planned sound =
     let paged = paged_parted g.block (take pages h.pages) (cell_at s ino) (sized_first g.block pages h.pages all.pages) (sound.cells ino) in
     let parted = entries_parted g.block entries h.blocks more
     (entries_within r.commit r.epoch (place_in r.plan ino) (items_for r.plan ino) (planned.within ino))
-    (slot_enough place h r inside planned) all.blocks paged in
+    (slot_first place h r inside planned) all.blocks paged in
     let hand = (append_deed ino pages s h r).hand in
     record {
       lists = record { cpus = sound.lists.cpus; each = sound.lists.each };

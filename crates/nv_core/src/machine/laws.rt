@@ -9,11 +9,11 @@ ghost use Rattle.nv_core.specs.machine.Bound.{AreNoStarts, bound_at, most_steps,
 ghost use Rattle.nv_core.specs.machine.Format.{formatted};
 ghost use Rattle.nv_core.specs.machine.Frame.{IsOneStep, IsStart};
 ghost use Rattle.nv_core.specs.machine.Locks.{AreLocks, HasLent, WaitsFor};
-ghost use Rattle.nv_core.specs.machine.Hands.{AreLists};
+ghost use Rattle.nv_core.specs.machine.Hands.{AreLists, ArePagesTold};
 ghost use Rattle.nv_core.specs.machine.Numbers.{IdleHaveNothing, IsEachOnce, all_blocks, free_from_scratch, free_of};
 ghost use Rattle.nv_core.specs.machine.Order.{IsInOrder};
 ghost use Rattle.nv_core.specs.machine.Step.{after, stays, step};
-ghost use Rattle.nv_core.specs.machine.World.{Event, Go, Refused, Running, Start, Started, Waiting, World, actor_at, list_at};
+ghost use Rattle.nv_core.specs.machine.World.{Event, Go, Refused, Running, Start, Started, Waiting, World, actor_at, cell_at, list_at};
 
 /// A `Go` of an actor whose call runs makes the one step that comes next, and changes only its actor and the
 /// parts that the step is lent. A start changes its actor alone: one without a call has the call now, before its
@@ -98,4 +98,11 @@ pub fn lists_are_from_scratch()
 pub fn idle_hands_are_empty()
     ensures { (g : GeometryNumbers) (events : List Event) → IsWithinLimits g
         → IdleHaveNothing (after (formatted g) events) }
+{}
+
+/// A block that a cell has for a part is that of a page of the log, and of the number that the page's entry says.
+/// So no two pages of any logs that still have their blocks stand in one block.
+pub fn blocks_are_told()
+    ensures { (g : GeometryNumbers) (events : List Event) (ino : ℕ) → IsWithinLimits g
+        → ArePagesTold g.block (cell_at (after (formatted g) events).shared ino) }
 {}
