@@ -1,5 +1,6 @@
 pub mod Rows
 pub mod Lists
+pub mod Holding
 pub mod Locked
 pub mod Framed
 pub mod Bounded
@@ -7,6 +8,7 @@ pub mod Events
 pub mod Locks
 pub mod Scripts
 pub mod MoreRows
+pub mod Entered
 pub mod Ordered
 pub mod InOrder
 pub mod Counting
@@ -17,6 +19,10 @@ pub mod Fitting
 pub mod Homes
 pub mod Handed
 pub mod HandedCommits
+pub mod Sorted
 pub mod Sound
 pub mod Tails
 pub mod Numbered
+pub mod NumberedRuns
+pub mod NewNumbers
+pub mod FromScratch

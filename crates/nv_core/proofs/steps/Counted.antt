@@ -107,8 +107,14 @@ paged : (n : ℕ) (pages : List BlockValue) (cell : CellState)
 paged n [] cell = omega arith
 paged n (b ∷ pages) cell =
     let one : CellState = record cell { chain = record cell.chain { blocks = cell.chain.blocks ++ b ∷ [] } } in
-    omega (arith, paged n pages one, stored_times n cell, stored_times n one, times-blocks n cell.chain.blocks (b ∷ []),
-    times-blocks n (b ∷ []) pages)
+    omega (
+      arith,
+      paged n pages one,
+      stored_times n cell,
+      stored_times n one,
+      times-blocks n cell.chain.blocks (b ∷ []),
+      times-blocks n (b ∷ []) pages,
+    )
 
 some_slots : (bs : List BlockValue) → flat_map of_part (map Some bs) ≡ numbers_of bs
 some_slots [] = refl
@@ -135,8 +141,14 @@ one_appended n e bs cell =
     let taken = blocks_for e.item bs in
     let parts = ap (times n) (flat_more cell.blocks (slots_of e.item taken)) in
     let own = ap (times n) (slot_numbers e.item bs) in
-    omega (arith, stored_times n cell, stored_times n (appended e taken cell), parts, own,
-    times-append n (flat_map of_part cell.blocks) (flat_map of_part (slots_of e.item taken)))
+    omega (
+      arith,
+      stored_times n cell,
+      stored_times n (appended e taken cell),
+      parts,
+      own,
+      times-append n (flat_map of_part cell.blocks) (flat_map of_part (slots_of e.item taken)),
+    )
 
 appended_times : (n : ℕ) (entries : List Entry) (bs : List BlockValue) (cell : CellState)
     → times n (stored_in (with_entries entries bs cell)) + times n (numbers_of (blocks_left entries bs))
@@ -153,8 +165,15 @@ append_times n ino pages s h r inside =
     let more = with_pages (take pages h.pages) (cell_at s ino) in
     let new = with_entries (entries_for r ino) h.blocks more in
     let e = set_times stored_in n s.cells ino new no_cell (λ past. absurd (omega (arith, past, inside))) in
-    omega (arith, e, appended_times n (entries_for r ino) h.blocks more, paged n (take pages h.pages) (cell_at s ino),
-    cut_times n pages h.pages, held_times n h, held_times n (append_deed ino pages s h r).hand)
+    omega (
+      arith,
+      e,
+      appended_times n (entries_for r ino) h.blocks more,
+      paged n (take pages h.pages) (cell_at s ino),
+      cut_times n pages h.pages,
+      held_times n h,
+      held_times n (append_deed ino pages s h r).hand,
+    )
 
 -- ---- retire: what is set free goes to the hand
 

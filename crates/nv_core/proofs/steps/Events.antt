@@ -1,6 +1,7 @@
 -- What single events leave, and how lists of them go.
-use Rattle.std.proofs.Common.{◌≡◌, ◌≢◌, ℕ, ◌+◌, ◌<◌, ◌≤◌, ◌==◌, Bool, true, false, List, [], ◌∷◌, length, Option, Some, None, ap, arith, get_or-set_other, get_or-set_same, if◌then◌else◌, length-set, nat_lt, refl, set, subst, sym}
+use Rattle.std.proofs.Common.{◌≡◌, ◌≢◌, ℕ, ◌+◌, ◌<◌, ◌≤◌, ◌==◌, ◌∙◌, Bool, true, false, List, [], ◌∷◌, length, Option, Some, None, ap, arith, get_or-set_other, get_or-set_same, if◌then◌else◌, length-set, nat_lt, refl, set, subst, sym}
 use Rattle.std.proofs.lemmas.Bool.{eqb-false, eqb-true, false_from_ne_true, false≢true, lt-ltb, ltb-true}
+use Rattle.std.proofs.lemmas.Option.{none-some}
 use Rattle.std.specs.List.{AllByRecursion}
 use Rattle.std.specs.Prelude.{Result, Ok, Err}
 use Rattle.nv_base.specs.declared.fault.Fault.{Fault}
@@ -68,13 +69,28 @@ goes w actor granted r there is =
       others = subst (λ (made : Step). LeavesOthers actor w made.world) (sym same) (turned_others t actor w);
     }
 
-start_at : (b : Bool) (running : Option Running) (w : World) (actor : ℕ) (c : Call) → IsStart w actor (start_step b running actor c w)
-start_at false running w actor c = record { shared = refl; others = same_others actor w }
-start_at true (Some r) w actor c = record { shared = refl; others = same_others actor w }
-start_at true None w actor c = record { shared = refl; others = set_others actor _ w w.shared }
+start_at : (b : Bool) (running : Option Running) (w : World) (actor : ℕ) (c : Call) → nat_lt actor (length w.actors) ≡ b
+    → (actor_at w actor).running ≡ running → IsStart w actor c (start_step b running actor c w)
+start_at false running w actor c e is = record {
+  shared = refl;
+  others = same_others actor w;
+  own = λ there none. absurd (false≢true (sym e ∙ lt-ltb actor (length w.actors) there));
+}
+start_at true (Some r) w actor c e is = record {
+  shared = refl;
+  others = same_others actor w;
+  own = λ there none. absurd (none-some r (sym none ∙ is));
+}
+start_at true None w actor c e is =
+    let x : Actor = record { hand = (actor_at w actor).hand; running = Some (begun (beginning c) w.shared c) } in
+    record {
+      shared = refl;
+      others = set_others actor x w w.shared;
+      own = λ there none. (refl, get_or-set_same w.actors actor x idle there);
+    }
 
-pub starts : (w : World) (actor : ℕ) (c : Call) → IsStart w actor (step w (Start actor c))
-starts w actor c = start_at _ _ w actor c
+pub starts : (w : World) (actor : ℕ) (c : Call) → IsStart w actor c (step w (Start actor c))
+starts w actor c = start_at (nat_lt actor (length w.actors)) (actor_at w actor).running w actor c refl refl
 
 -- ---- who is refused an event
 

@@ -1,6 +1,6 @@
 -- The blocks of a plan are in the hand, for pages that a file can have.
-use Rattle.std.proofs.Common.{◌≡◌, ◌≢◌, ℕ, zero, suc, ◌+◌, ◌^◌, ◌<◌, ◌≤◌, ◌==◌, ◌/◌, ◌++◌, ◌∙◌, Bool, true, false, List, [], ◌∷◌, Option, Some, None, ap, arith, cond, if◌then◌else◌, inl, inr, length, length-append, map, nat_lt, refl, rules, subst, sym}
-use Rattle.std.proofs.lemmas.Bool.{eqb-false, eqb-true}
+use Rattle.std.proofs.Common.{◌≡◌, ◌≢◌, ◌⊎◌, ℕ, zero, suc, ◌+◌, ◌^◌, ◌<◌, ◌≤◌, ◌==◌, ◌/◌, ◌++◌, ◌∙◌, Bool, true, false, List, [], ◌∷◌, Option, Some, None, add-one, ap, arith, cond, if◌then◌else◌, inl, inr, length, length-append, map, nat_lt, refl, rules, subst, sym, take}
+use Rattle.std.proofs.lemmas.Bool.{eqb-false, eqb-true, ltb-false}
 use Rattle.std.proofs.lemmas.List.{append-nil, length-map}
 use Rattle.std.proofs.lemmas.List.Concat.{flat_map-append, length-flat_map}
 use Rattle.std.proofs.lemmas.List.FromFn.{length-range_with_len}
@@ -68,11 +68,69 @@ unfolding weight
 runs_few [] = omega arith
 runs_few (run ∷ runs) =
     let both = ap length (flat_map-append (λ (x : Run). range_with_len x.start x.len) (made_run run) (flat_map made_run runs)) in
-    omega (arith, both, length-append (blocks_of (made_run run)) (blocks_of (flat_map made_run runs)), runs_few runs,
-    one_run run.0 run.1 (nat_lt (run.0 + run.1) (2 ^ 64)) refl)
+    omega (
+      arith,
+      both,
+      length-append (blocks_of (made_run run)) (blocks_of (flat_map made_run runs)),
+      runs_few runs,
+      one_run run.0 run.1 (nat_lt (run.0 + run.1) (2 ^ 64)) refl,
+    )
 
 pub runs_short : (numbers : List ℕ) → length (blocks_of (runs_of numbers)) ≤ length numbers
 runs_short numbers = omega (arith, runs_few (stretches numbers), weight_is numbers)
+
+-- ---- where they fit, runs have just the blocks that were taken
+
+expand : List (ℕ × ℕ) → List ℕ
+expand [] = []
+expand (run ∷ runs) = range_with_len run.0 run.1 ++ expand runs
+
+expand_more : (n : ℕ) (runs : List (ℕ × ℕ)) → expand (with_number n runs) ≡ n ∷ expand runs
+unfolding expand
+expand_more n [] = refl
+expand_more n (run ∷ runs) = go (n + 1 == run.0) refl where
+  go : (b : Bool) → (n + 1 == run.0) ≡ b
+      → expand (if b then (n, run.1 + 1) ∷ runs else (n, 1) ∷ run ∷ runs) ≡ n ∷ (range_with_len run.0 run.1 ++ expand runs)
+  go true q =
+      ap (λ (k : ℕ). range_with_len n k ++ expand runs) (add-one run.1)
+      ∙ ap (λ (k : ℕ). n ∷ (range_with_len k run.1 ++ expand runs)) (eqb-true (n + 1) run.0 q)
+  go false q = refl
+
+expand_is : (numbers : List ℕ) → expand (stretches numbers) ≡ numbers
+unfolding expand
+expand_is [] = refl
+expand_is (n ∷ numbers) = expand_more n (stretches numbers) ∙ ap (λ (l : List ℕ). n ∷ l) (expand_is numbers)
+
+abbrev EndBelow : ℕ → List (ℕ × ℕ) → Type 0
+EndBelow many runs = AllByRecursion (λ (run : ℕ × ℕ). run.0 + run.1 ≤ many) runs
+
+end_more : (many n : ℕ) (runs : List (ℕ × ℕ)) → n < many → EndBelow many runs → EndBelow many (with_number n runs)
+end_more many n [] lt h = (omega (arith, lt), tt)
+end_more many n (run ∷ runs) lt h = go (n + 1 == run.0) refl where
+  go : (b : Bool) → (n + 1 == run.0) ≡ b → EndBelow many (if b then (n, run.1 + 1) ∷ runs else (n, 1) ∷ run ∷ runs)
+  go true q = let same = eqb-true (n + 1) run.0 q in (omega (arith, same, h.0), h.1)
+  go false q = (omega (arith, lt), h)
+
+ends_below : (many : ℕ) (numbers : List ℕ) → AllByRecursion (λ n. n < many) numbers → EndBelow many (stretches numbers)
+ends_below many [] h = tt
+ends_below many (n ∷ numbers) h = end_more many n (stretches numbers) h.0 (ends_below many numbers h.1)
+
+one_fits : (start len : ℕ) (b : Bool) (is : nat_lt (start + len) (2 ^ 64) ≡ b) → start + len < 2 ^ 64
+    → blocks_of (run_if start len b is) ≡ range_with_len start len
+one_fits start len true is lt = append-nil (range_with_len start len)
+one_fits start len false is lt = absurd (omega (arith, lt, ltb-false (start + len) (2 ^ 64) is))
+
+runs_fit : (many : ℕ) (runs : List (ℕ × ℕ)) → many < 2 ^ 64 → EndBelow many runs → blocks_of (flat_map made_run runs) ≡ expand runs
+unfolding expand
+runs_fit many [] small h = refl
+runs_fit many (run ∷ runs) small h =
+    flat_map-append (λ (x : Run). range_with_len x.start x.len) (made_run run) (flat_map made_run runs)
+    ∙ ap (λ (l : List ℕ). l ++ blocks_of (flat_map made_run runs))
+    (one_fits run.0 run.1 (nat_lt (run.0 + run.1) (2 ^ 64)) refl (omega (arith, small, h.0)))
+    ∙ ap (λ (l : List ℕ). range_with_len run.0 run.1 ++ l) (runs_fit many runs small h.1)
+
+runs_same : (many : ℕ) (numbers : List ℕ) → many < 2 ^ 64 → AllByRecursion (λ n. n < many) numbers → blocks_of (runs_of numbers) ≡ numbers
+runs_same many numbers small h = runs_fit many (stretches numbers) small (ends_below many numbers h) ∙ expand_is numbers
 
 -- ---- slots that rise have no more of a plan's blocks than the plan
 
@@ -132,8 +190,13 @@ no_costs (m ∷ slots) = omega (arith, sum_by-cons (cost []) m slots, no_costs s
 costs_few : (plan : List Planned) (slots : List ℕ) → IsRising slots → sum_by (cost plan) slots ≤ length (plan_blocks plan)
 costs_few [] slots r = omega (arith, no_costs slots)
 costs_few (p ∷ plan) slots r =
-    omega (arith, costs p plan slots, own_once p slots r, costs_few plan slots r,
-    length-append (flat_map item_blocks p.items) (plan_blocks plan))
+    omega (
+      arith,
+      costs p plan slots,
+      own_once p slots r,
+      costs_few plan slots r,
+      length-append (flat_map item_blocks p.items) (plan_blocks plan),
+    )
 
 pub planned_few : (plan : List Planned) (slots : List ℕ) → IsRising slots → length (planned_blocks plan slots) ≤ length (plan_blocks plan)
 planned_few plan slots r =
@@ -147,6 +210,69 @@ plan_few block nodes taken c numbers is =
     elim keeps.blocks [
       | inl same ↦ omega (arith, short, ap length same, ap (λ (l : List Run). length (blocks_of l)) is)
       | inr none ↦ omega (arith, ap length none)
+    ]
+
+-- ---- a plan's blocks are those that were taken, in order
+
+none_for : (p : Planned) (slots : List ℕ) → AllByRecursion (λ m. p.handle.ino < m) slots → planned_blocks (p ∷ []) slots ≡ []
+none_for p [] h = refl
+none_for p (m ∷ slots) h = go (p.handle.ino == m) refl (none_for p slots h.1) where
+  go : (b : Bool) → (p.handle.ino == m) ≡ b → planned_blocks (p ∷ []) slots ≡ []
+      → flat_map item_blocks (if b then p.items else []) ++ planned_blocks (p ∷ []) slots ≡ []
+  go true e more = let is = eqb-true p.handle.ino m e in absurd (omega (arith, is, h.0))
+  go false e more = more
+
+one_planned : (p : Planned) (slots : List ℕ) → IsRising slots
+    → (planned_blocks (p ∷ []) slots ≡ []) ⊎ (planned_blocks (p ∷ []) slots ≡ flat_map item_blocks p.items)
+one_planned p [] r = inl refl
+one_planned p (m ∷ slots) r = go (p.handle.ino == m) refl (one_planned p slots r.1) where
+  go : (b : Bool) → (p.handle.ino == m) ≡ b
+      → (planned_blocks (p ∷ []) slots ≡ []) ⊎ (planned_blocks (p ∷ []) slots ≡ flat_map item_blocks p.items)
+      → (flat_map item_blocks (if b then p.items else []) ++ planned_blocks (p ∷ []) slots ≡ [])
+      ⊎ (flat_map item_blocks (if b then p.items else []) ++ planned_blocks (p ∷ []) slots ≡ flat_map item_blocks p.items)
+  go true e more =
+      let none = none_for p slots (subst (λ (n : ℕ). AllByRecursion (λ k. n < k) slots) (sym (eqb-true p.handle.ino m e)) r.0) in
+      inr (ap (λ (l : List ℕ). flat_map item_blocks p.items ++ l) none ∙ append-nil (flat_map item_blocks p.items))
+  go false e more = more
+
+empty_by_length : (xs : List ℕ) → length xs ≤ 0 → xs ≡ []
+empty_by_length [] h = refl
+empty_by_length (x ∷ xs) h = absurd (omega (arith, h))
+
+whole : (xs : List ℕ) → take (length xs) xs ≡ xs
+whole [] = refl
+whole (x ∷ xs) = ap (λ (l : List ℕ). x ∷ l) (whole xs)
+
+is_first : (xs ns : List ℕ) → (xs ≡ []) ⊎ (xs ≡ ns) → take (length xs) ns ≡ xs
+is_first xs ns (inl e) = subst (λ (l : List ℕ). take (length l) ns ≡ l) (sym e) refl
+is_first xs ns (inr e) = subst (λ (l : List ℕ). take (length l) ns ≡ l) (sym e) (whole ns)
+
+by_plan : (plan : List Planned) (slots numbers : List ℕ) → IsRising slots → (1 < length plan → plan_blocks plan ≡ [])
+    → plan_blocks plan ≡ numbers → (planned_blocks plan slots ≡ []) ⊎ (planned_blocks plan slots ≡ numbers)
+by_plan [] slots numbers r several same =
+    inl (empty_by_length (planned_blocks [] slots) (planned_few [] slots r))
+by_plan (p ∷ []) slots numbers r several same = elim (one_planned p slots r) [
+  | inl none ↦ inl none
+  | inr all ↦ inr (all ∙ sym (append-nil (flat_map item_blocks p.items)) ∙ same)
+]
+by_plan (p ∷ q ∷ plan) slots numbers r several same =
+    let few = planned_few (p ∷ q ∷ plan) slots r in
+    let none = ap length (several (omega arith)) in
+    inl (empty_by_length (planned_blocks (p ∷ q ∷ plan) slots) (omega (arith, few, none)))
+
+pub plan_first : (block many : ℕ) (nodes : Handle → Option NodeCopy) (taken : Taken) (c : Call) (numbers slots : List ℕ)
+    → taken.runs ≡ runs_of numbers → many < 2 ^ 64 → AllByRecursion (λ n. n < many) numbers → IsRising slots
+    → take (length (planned_blocks (plan block nodes taken c) slots)) numbers ≡ planned_blocks (plan block nodes taken c) slots
+plan_first block many nodes taken c numbers slots is small below r =
+    let keeps : KeepsToIts nodes c taken (plan block nodes taken c) = keeps_to_its block nodes taken c in
+    elim keeps.blocks [
+      | inl same ↦ is_first (planned_blocks (plan block nodes taken c) slots) numbers
+          (by_plan (plan block nodes taken c) slots numbers r keeps.several
+          (same ∙ ap blocks_of is ∙ runs_same many numbers small below))
+      | inr none ↦
+          let few = planned_few (plan block nodes taken c) slots r in
+          is_first (planned_blocks (plan block nodes taken c) slots) numbers
+          (inl (empty_by_length (planned_blocks (plan block nodes taken c) slots) (omega (arith, few, ap length none))))
     ]
 
 -- ---- pages that a file can have

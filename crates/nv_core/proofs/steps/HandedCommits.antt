@@ -1,9 +1,9 @@
 -- What the hand of an actor has along a commit, and after every kind of step.
-use Rattle.std.proofs.Common.{◌≡◌, ◌≢◌, ℕ, zero, suc, ◌+◌, ◌-◌, ◌<◌, ◌≤◌, ◌==◌, ◌++◌, ◌∙◌, Bool, true, false, List, [], ◌∷◌, Option, Some, None, add-one, ap, arith, cond, drop, drop-cons, get_or, if◌then◌else◌, length, length-append, nat_lt, refl, rules, subst, sym, take}
+use Rattle.std.proofs.Common.{◌≡◌, ◌≢◌, ℕ, zero, suc, ◌+◌, ◌-◌, ◌^◌, ◌<◌, ◌≤◌, ◌==◌, ◌++◌, ◌∙◌, Bool, true, false, List, [], ◌∷◌, Option, Some, None, add-one, ap, arith, cond, drop, drop-cons, get_or, if◌then◌else◌, length, length-append, nat_lt, refl, rules, subst, sym, take}
 use Rattle.std.specs.Prelude.{Ok, Err, is_none}
 use Rattle.std.specs.List.{AllByRecursion, flat_map}
 use Rattle.std.proofs.lemmas.Bool.{false≢true, ltb-false, ltb-true, true≢false}
-use Rattle.std.proofs.lemmas.List.{length-map}
+use Rattle.std.proofs.lemmas.List.{drop-drop, length-map}
 use Rattle.nv_alloc.specs.Block.{AreSized, BlockValue, number_of, numbers_of}
 use Rattle.nv_alloc.specs.Numbers.{times}
 use Rattle.nv_base.specs.declared.geometry.GeometryNumbers.{GeometryNumbers}
@@ -12,9 +12,11 @@ use Rattle.nv_calls.specs.Refusals.{Check as Tests}
 use Rattle.nv_calls.specs.Retiring.{is_erased, number_back}
 use Rattle.nv_calls.specs.Slots.{entries_of, items_for, place_in}
 use Rattle.nv_calls.specs.declared.answer.Answer.{Answer}
+use Rattle.nv_calls.proofs.Appends.{front, map-drop}
 use Rattle.nv_cell.specs.Cell.{CellState}
 use Rattle.nv_cell.specs.declared.killed.KilledPart.{KilledPart}
 use Rattle.nv_entry.specs.Blocks.{item_blocks}
+use Rattle.nv_entry.specs.declared.item.Entry.{Entry}
 use Rattle.nv_entry.specs.declared.item.Item.{Item}
 use Rattle.nv_core.specs.machine.Hands.{AreGiven, AreLists, FitsFile, HandAt, HandOf, HasFitting, HasPlanned, HasTakenNone, IsOvertaken, is_going, makes_inode, planned_blocks}
 use Rattle.nv_core.specs.machine.Kinds.{asked_list, back_turn, blocks_in, blocks_left, blocks_turn, check_ending, enter_turn, entries_for, first_killed, given, less_list, pages_turn, retired_cell, unlocked_turn, visit_turn, with_bytes, with_erased, with_freed, with_given, with_killed}
@@ -23,9 +25,9 @@ use Rattle.nv_core.specs.machine.Sequence.{appending, beginning, closing, nothin
 use Rattle.nv_core.specs.machine.Step.{ending_at, is_numbered, kind_turn, made_in, same_looked, with_made}
 use Rattle.nv_core.specs.machine.World.{Answers, Append, Back, Check, Close, Ending, Ends, Enter, Give, HandState, Leave, Lock, Look, Moves, Next, Number, Open, Overtaken, Publish, Ready, Refuses, Retire, Running, Shared, TakeBlocks, TakePages, Turn, Unlock, Visit, Waits, empty_hand, go_to, list_at}
 use Rattle.nv_core.proofs.steps.Counted.{filled_numbers, given_all}
-use Rattle.nv_core.proofs.steps.Fitting.{IsChecked, checked, plan_few, plan_within, planned_few, wants_fitting}
+use Rattle.nv_core.proofs.steps.Fitting.{IsChecked, checked, plan_few, plan_first, plan_within, planned_few, wants_fitting}
 use Rattle.nv_core.proofs.steps.Handed.{GoesHome, OnHand, check_hand, end_hand, grown_hand, is_empty, lock_hand, look_hand, not_overtaken, number_hand, over_hand, rest_hand, same_nothing, wants_pages_hand}
-use Rattle.nv_core.proofs.steps.Homes.{all_given}
+use Rattle.nv_core.proofs.steps.Homes.{AreBelow, all_given}
 use Rattle.nv_core.proofs.steps.Kept.{deed}
 use Rattle.nv_core.proofs.steps.Lists.{drop_all, rising_filter}
 use Rattle.nv_core.proofs.steps.Locked.{Before}
@@ -105,18 +107,41 @@ pages_hand g (suc n) false asked s h r goes fits going =
 
 -- ---- ready
 
+numbers_below : (many : ℕ) (bs : List BlockValue) → AreBelow many bs → AllByRecursion (λ n. n < many) (numbers_of bs)
+numbers_below many [] h = tt
+numbers_below many (b ∷ bs) h = (h.0, numbers_below many bs h.1)
+
+below_front : (many : ℕ) (xs ys : List BlockValue) → AreBelow many (xs ++ ys) → AreBelow many xs
+below_front many [] ys h = tt
+below_front many (x ∷ xs) ys h = (h.0, below_front many xs ys h.1)
+
+first_below : (many : ℕ) (h : HandState) → AreBelow many (blocks_in h) → AreBelow many h.blocks
+first_below many h below = below_front many h.blocks h.pages (below_front many (h.blocks ++ h.pages) h.chain below)
+
 ready_planned : (g : GeometryNumbers) (a : ℕ) (s : Shared) (h : HandState) (r : Running) → HasFitting g.block h r (length h.blocks)
-    → Before a s Ready r → HasPlanned (with_bytes g.block s r h) (record r { plan = plan_by g.block s h r; next = Enter })
+    → g.blocks < 2 ^ 64 → AreBelow g.blocks h.blocks → Before a s Ready r → HasPlanned (with_bytes g.block s r h) (record r { plan = plan_by g.block s h r; next = Enter })
     (written_slots (record r { plan = plan_by g.block s h r }))
-ready_planned g a s h r fits b =
+ready_planned g a s h r fits small below b =
     let plan = plan_by g.block s h r in
     let few = plan_few g.block (copies s) (taken_by g.block s h r) r.call (numbers_of h.blocks) refl in
     let rising = planned_few plan (written_slots (record r { plan = plan })) (rising_filter (is_written plan) r.slots b.are.rising) in
     let same = ap length (filled_numbers (fresh_pages g.block (copies s) r.call) h.blocks) in
     record {
       killed = fits.killed;
-      enough = omega (arith, few, rising, same, length-map h.blocks number_of,
-          length-map (filled (fresh_pages g.block (copies s) r.call) h.blocks) number_of);
+      enough = omega (
+        arith,
+        few,
+        rising,
+        same,
+        length-map h.blocks number_of,
+        length-map (filled (fresh_pages g.block (copies s) r.call) h.blocks) number_of,
+      );
+      first = subst (λ (l : List ℕ). take (length (planned_blocks plan (written_slots (record r { plan = plan })))) l
+          ≡ planned_blocks plan (written_slots (record r { plan = plan })))
+          (sym (filled_numbers (fresh_pages g.block (copies s) r.call) h.blocks))
+          (plan_first g.block g.blocks (copies s) (taken_by g.block s h r) r.call (numbers_of h.blocks)
+          (written_slots (record r { plan = plan })) refl small (numbers_below g.blocks h.blocks below)
+          (rising_filter (is_written plan) r.slots b.are.rising));
       within = plan_within g.block (copies s) (taken_by g.block s h r) r.call (numbers_of h.blocks) refl
           (subst (λ (n : ℕ). FitsFile g.block r.call n) (sym (length-map h.blocks number_of)) fits.fits);
     }
@@ -162,7 +187,7 @@ appending_hand : (g : GeometryNumbers) (place : ℕ) (h : HandState) (r : Runnin
     → r.ending ≡ Answers → Goes g h (appending place (written_slots r)) r
 appending_hand g place h r planned going = go (nat_lt place (length (written_slots r))) where
   go : (b : Bool) → Goes g h (if b then Append place else opening (written_slots r)) r
-  go true = (record { killed = planned.killed; enough = planned.enough; within = planned.within }, λ e. going)
+  go true = (record { killed = planned.killed; enough = planned.enough; first = planned.first; within = planned.within }, λ e. going)
   go false = opening_hand g h r planned.killed going
 
 enter_hand : (g : GeometryNumbers) (holder : Option ℕ) (last granted : Bool) (actor : ℕ) (s : Shared) (h : HandState) (r : Running)
@@ -173,7 +198,7 @@ enter_hand g None true granted actor s h r goes planned going =
 enter_hand g None false granted actor s h r goes planned going =
     grown_hand g granted _ s h r goes planned.killed
     (appending_hand g 0 h (record r { commit = s.book.commit + 1; epoch = s.book.snaps.epoch })
-    (record { killed = planned.killed; enough = planned.enough; within = planned.within }) going)
+    (record { killed = planned.killed; enough = planned.enough; first = planned.first; within = planned.within }) going)
 
 -- what an append leaves in the hand
 pub entry_blocks_are : (commit epoch place : ℕ) (items : List Item) → entry_blocks (entries_of commit epoch place items) ≡ flat_map item_blocks items
@@ -192,23 +217,50 @@ left_count (e ∷ entries) bs =
       later (suc n) [] = omega arith
       later (suc n) (x ∷ xs) = later n xs ∙ (let e : length xs - n ≡ suc (length xs) - suc n = omega arith in e)
 
--- the blocks of the slot at a place, and of those behind it
-planned_next : (plan : List _) (place : ℕ) (slots : List ℕ) → place < length slots
-    → length (planned_blocks plan (drop place slots))
-    ≡ length (flat_map item_blocks (items_for plan (slot_at slots place))) + length (planned_blocks plan (drop (place + 1) slots))
-planned_next plan place slots inside =
-    ap (λ (l : List ℕ). length (planned_blocks plan l)) (drop-cons slots place 0 inside)
-    ∙ length-append (flat_map item_blocks (items_for plan (slot_at slots place))) (planned_blocks plan (drop (suc place) slots))
-    ∙ ap (λ (n : ℕ). length (flat_map item_blocks (items_for plan (slot_at slots place))) + length (planned_blocks plan (drop n slots)))
-    (sym (add-one place))
+-- what is left are the blocks behind those
+left_numbers : (entries : List Entry) (bs : List BlockValue)
+    → numbers_of (blocks_left entries bs) ≡ drop (length (entry_blocks entries)) (numbers_of bs)
+left_numbers [] bs = refl
+left_numbers (e ∷ entries) bs =
+    let k = length (item_blocks e.item) in
+    let total : length (item_blocks e.item ++ entry_blocks entries) ≡ k + length (entry_blocks entries) =
+    length-append (item_blocks e.item) (entry_blocks entries) in
+    left_numbers entries (drop k bs) ∙ ap (drop (length (entry_blocks entries))) (map-drop k bs)
+    ∙ drop-drop (length (entry_blocks entries)) k (numbers_of bs) ∙ ap (λ (n : ℕ). drop n (numbers_of bs)) (sym total)
 
-pub slot_enough : (place : ℕ) (h : HandState) (r : Running) → place < length (written_slots r)
+-- the blocks of the slot at a place, and of those behind it
+planned_next : (r : Running) (place : ℕ) → place < length (written_slots r)
+    → planned_blocks r.plan (drop place (written_slots r))
+    ≡ entry_blocks (entries_for r (slot_at (written_slots r) place)) ++ planned_blocks r.plan (drop (place + 1) (written_slots r))
+planned_next r place inside =
+    let slots = written_slots r in
+    let ino = slot_at slots place in
+    ap (planned_blocks r.plan) (drop-cons slots place 0 inside)
+    ∙ ap (λ (l : List ℕ). l ++ planned_blocks r.plan (drop (suc place) slots))
+    (sym (entry_blocks_are r.commit r.epoch (place_in r.plan ino) (items_for r.plan ino)))
+    ∙ ap (λ (n : ℕ). entry_blocks (entries_for r ino) ++ planned_blocks r.plan (drop n slots)) (sym (add-one place))
+
+abbrev Cut : ℕ → HandState → Running → Type 0
+Cut place h r =
+    (take (length (entry_blocks (entries_for r (slot_at (written_slots r) place)))) (numbers_of h.blocks)
+    ≡ entry_blocks (entries_for r (slot_at (written_slots r) place)))
+    × (take (length (planned_blocks r.plan (drop (place + 1) (written_slots r))))
+    (drop (length (entry_blocks (entries_for r (slot_at (written_slots r) place)))) (numbers_of h.blocks))
+    ≡ planned_blocks r.plan (drop (place + 1) (written_slots r)))
+
+cut_at : (place : ℕ) (h : HandState) (r : Running) → place < length (written_slots r) → HasPlanned h r (drop place (written_slots r))
+    → Cut place h r
+cut_at place h r inside planned =
+    let own = entry_blocks (entries_for r (slot_at (written_slots r) place)) in
+    let rest = planned_blocks r.plan (drop (place + 1) (written_slots r)) in
+    front own rest (numbers_of h.blocks)
+    (subst (λ (l : List ℕ). take (length l) (numbers_of h.blocks) ≡ l) (planned_next r place inside) planned.first)
+
+pub slot_first : (place : ℕ) (h : HandState) (r : Running) → place < length (written_slots r)
     → HasPlanned h r (drop place (written_slots r))
-    → length (entry_blocks (entries_for r (slot_at (written_slots r) place))) ≤ length h.blocks
-slot_enough place h r inside planned =
-    let ino = slot_at (written_slots r) place in
-    omega (arith, planned.enough, planned_next r.plan place (written_slots r) inside,
-    ap length (entry_blocks_are r.commit r.epoch (place_in r.plan ino) (items_for r.plan ino)))
+    → take (length (entry_blocks (entries_for r (slot_at (written_slots r) place)))) (numbers_of h.blocks)
+    ≡ entry_blocks (entries_for r (slot_at (written_slots r) place))
+slot_first place h r inside planned = (cut_at place h r inside planned).0
 
 append_planned : (place pages : ℕ) (h : HandState) (r : Running) → place < length (written_slots r)
     → HasPlanned h r (drop place (written_slots r))
@@ -216,10 +268,13 @@ append_planned : (place pages : ℕ) (h : HandState) (r : Running) → place < l
     (drop (place + 1) (written_slots r))
 append_planned place pages h r inside planned =
     let ino = slot_at (written_slots r) place in
+    let rest = planned_blocks r.plan (drop (place + 1) (written_slots r)) in
+    let own = entry_blocks (entries_for r ino) in
+    let all = ap length (planned_next r place inside) in
     record {
       killed = planned.killed;
-      enough = omega (arith, planned.enough, planned_next r.plan place (written_slots r) inside,
-          ap length (entry_blocks_are r.commit r.epoch (place_in r.plan ino) (items_for r.plan ino)), left_count (entries_for r ino) h.blocks);
+      enough = omega (arith, planned.enough, all, length-append own rest, left_count (entries_for r ino) h.blocks);
+      first = ap (take (length rest)) (left_numbers (entries_for r ino) h.blocks) ∙ (cut_at place h r inside planned).1;
       within = planned.within;
     }
 
@@ -266,53 +321,53 @@ CanGive g (Give cpu) s h = AreSized g.block (blocks_in h)
 CanGive g other s h = Unit {0}
 
 pub hand_kept : (g : GeometryNumbers) (k : Next) (a : ℕ) (granted : Bool) (s : Shared) (h : HandState) (r : Running) → 0 < g.block
-    → Before a s k r → AllGoHome g k s h r g.block a → CanGive g k s h → HandAt g k h r → (is_going k ≡ true → r.ending ≡ Answers)
+    → g.blocks < 2 ^ 64 → Before a s k r → AllGoHome g k s h r g.block a → CanGive g k s h → HandAt g k h r → (is_going k ≡ true → r.ending ≡ Answers)
     → OnHand g (kind_turn k g.block a granted s h r)
-hand_kept g Number a granted s h r some b goes give at going = number_hand g s.pool.numbers s h r at.0 at.1 at.2 (going refl)
-hand_kept g (Look place) a granted s h r some b goes give at going = look_hand g _ _ _ place s h r goes.0 at.0 at.1 (going refl)
-hand_kept g (Lock place) a granted s h r some b goes give at going = lock_hand g _ a place s h r at (going refl)
-hand_kept g Check a granted s h r some b goes give at going =
+hand_kept g Number a granted s h r some small b goes give at going = number_hand g s.pool.numbers s h r at.0 at.1 at.2 (going refl)
+hand_kept g (Look place) a granted s h r some small b goes give at going = look_hand g _ _ _ place s h r goes.0 at.0 at.1 (going refl)
+hand_kept g (Lock place) a granted s h r some small b goes give at going = lock_hand g _ a place s h r at (going refl)
+hand_kept g Check a granted s h r some small b goes give at going =
     check_hand g (ending_at g.block s h r) granted _ g.block s h (with_made s h r) goes.0 at.killed
     (λ is. let o = check_overtaken g.block s h r at is in record { empty = o.empty; looks = o.looks })
     (λ is. let f = check_fits g s h r some at is in record { killed = f.killed; fits = f.fits }) (going refl)
-hand_kept g (TakeBlocks asked) a granted s h r some b goes give at going =
+hand_kept g (TakeBlocks asked) a granted s h r some small b goes give at going =
     let cpu = asked_list (length s.lists) a asked in
     let taken = (list_at s cpu).blocks in
     blocks_hand g _ _ asked g.block _ (record h { blocks = h.blocks ++ take r.wanted taken }) r goes.1 (record {
       killed = at.killed;
       fits = subst (λ (n : ℕ). FitsFile g.block r.call n) (sym (taken_count r.wanted h.blocks taken)) at.fits;
     }) (going refl)
-hand_kept g (TakePages asked) a granted s h r some b goes give at going =
+hand_kept g (TakePages asked) a granted s h r some small b goes give at going =
     pages_hand g _ _ asked _ _ r goes.1 (record { killed = at.killed; fits = at.fits }) (going refl)
-hand_kept g Ready a granted s h r some b goes give at going =
-    grown_hand g granted _ s h r goes.0 at.killed (ready_planned g a s h r at b, going)
-hand_kept g Enter a granted s h r some b goes give at going = enter_hand g s.holder _ granted a s h r goes.0 at (going refl)
-hand_kept g (Append place) a granted s h r some b goes give at going =
+hand_kept g Ready a granted s h r some small b goes give at going =
+    grown_hand g granted _ s h r goes.0 at.killed (ready_planned g a s h r at small (first_below g.blocks h goes.0.below) b, going)
+hand_kept g Enter a granted s h r some small b goes give at going = enter_hand g s.holder _ granted a s h r goes.0 at (going refl)
+hand_kept g (Append place) a granted s h r some small b goes give at going =
     appending_hand g (place + 1) (deed (Append place) g.block a s h r).hand r (append_planned place _ h r b.inside at) (going refl)
-hand_kept g Open a granted s h r some b goes give at going =
+hand_kept g Open a granted s h r some small b goes give at going =
     publishing_hand g 0 h r (ap length at) (omega arith) (going refl)
-hand_kept g (Publish place) a granted s h r some b goes give at going =
+hand_kept g (Publish place) a granted s h r some small b goes give at going =
     let hand = (deed (Publish place) g.block a s h r).hand in
     publishing_hand g (place + 1) hand r (length-append h.killed _ ∙ ap (λ (n : ℕ). n + 1) at)
     (let inside = b.inside in omega (arith, inside)) (going refl)
-hand_kept g Close a granted s h r some b goes give at going =
+hand_kept g Close a granted s h r some small b goes give at going =
     retiring_hand g 0 (record h { ino = None }) r (omega (arith, at)) (going refl)
-hand_kept g (Retire place) a granted s h r some b goes give at going =
+hand_kept g (Retire place) a granted s h r some small b goes give at going =
     let hand = (deed (Retire place) g.block a s h r).hand in
     let cell = retired_cell (slot_at (written_slots r) place) (first_killed h.killed) s r in
     let freed = with_freed (slot_at (written_slots r) place) (first_killed h.killed) s r h in
     let same = ap length (erased_killed (slot_at (written_slots r) place) cell freed) in
     retiring_hand g (place + 1) hand r (omega (arith, same, dropped h.killed place (length (written_slots r)) at b.inside)) (going refl)
-hand_kept g Leave a granted s h r some b goes give at going =
+hand_kept g Leave a granted s h r some small b goes give at going =
     end_hand g r.slots r.ending _ h r goes.1 at
     (λ is. not_overtaken Answers refl (sym (going refl) ∙ is))
-hand_kept g (Unlock place) a granted s h r some b goes give at going = unlock_hand g _ place _ h r goes.1 at.0 at.1
-hand_kept g (Give cpu) a granted s h r some b goes give at going =
+hand_kept g (Unlock place) a granted s h r some small b goes give at going = unlock_hand g _ place _ h r goes.1 at.0 at.1
+hand_kept g (Give cpu) a granted s h r some small b goes give at going =
     let list = list_at s cpu in
     let kept = all_given g cpu list (blocks_in h) (goes.0.lists.each cpu at.1) give.0 give.1 at.2 in
     let same = given_all cpu s h in
     rest_hand g (cpu + 1) s _ _ h.ino (given cpu s h) r (record { some = goes.1.some; lists = goes.0.lists; below = goes.1.below })
     refl refl (let inside = at.1 in omega (arith, inside))
     (subst (λ (l : List BlockValue). AreGiven g (cpu + 1) l) (sym same) kept) at.0
-hand_kept g Back a granted s h r some b goes give at going = back_hand g h.ino s h r refl at.0 at.1
-hand_kept g Visit a granted s h r some b goes give at going = visit_hand g _ _ _ _ s h r goes.0 at
+hand_kept g Back a granted s h r some small b goes give at going = back_hand g h.ino s h r refl at.0 at.1
+hand_kept g Visit a granted s h r some small b goes give at going = visit_hand g _ _ _ _ s h r goes.0 at

@@ -45,11 +45,11 @@ homes_from g cpu (list ∷ lists) each =
 pub are_homes : (g : GeometryNumbers) (s : Shared) → AreLists g s → AreHomes g 0 s.lists
 are_homes g s lists =
     homes_from g 0 s.lists (λ k lt.
-      let home = lists.each k (omega (arith, lt, lists.cpus)) in
-      let same : k ≡ 0 + k = omega arith in (
-        home.start ∙ ap (home_start g.blocks g.cpus) same,
-        home.end ∙ ap (λ (n : ℕ). home_start g.blocks g.cpus (n + 1)) same,
-      ))
+    let home = lists.each k (omega (arith, lt, lists.cpus)) in
+    let same : k ≡ 0 + k = omega arith in (
+      home.start ∙ ap (home_start g.blocks g.cpus) same,
+      home.end ∙ ap (λ (n : ℕ). home_start g.blocks g.cpus (n + 1)) same,
+    ))
 
 -- ---- what is given
 
@@ -98,7 +98,7 @@ found_from g from cpu cpus (list ∷ lists) bs homes many few before behind =
           let low = ltb-true cpu from q in
           more (λ le. before (omega (arith, low)))
           (λ le. let same : from ≡ cpu + 1 = omega (arith, le, low) in
-            subst (λ (n : ℕ). AreGiven g n bs) same (before (omega (arith, low))))
+          subst (λ (n : ℕ). AreGiven g n bs) same (before (omega (arith, low))))
       go false q true r more = (omega (arith, many), behind (ltb-false cpu from q))
       go false q false r more =
           let high = ltb-false cpu from q in

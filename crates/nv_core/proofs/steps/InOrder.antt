@@ -19,7 +19,8 @@ use Rattle.nv_core.proofs.steps.Framed.{framed, same_frame}
 use Rattle.nv_core.proofs.steps.Lists.{has_filter, has_later}
 use Rattle.nv_core.proofs.steps.Locked.{lent_cell, slot_owned}
 use Rattle.nv_core.proofs.steps.Locks.{all_same, before, event_locks}
-use Rattle.nv_core.proofs.steps.Ordered.{EnteredAt, OnOrder, OrderLeft, order_kept, stays_order}
+use Rattle.nv_core.proofs.steps.Entered.{OnOrder, OrderLeft}
+use Rattle.nv_core.proofs.steps.Ordered.{EnteredAt, order_kept, stays_order}
 
 -- ---- what another commit still has to append to is locked by its actor
 

@@ -15,7 +15,8 @@ use Rattle.nv_core.specs.machine.Reads.{slots_of}
 use Rattle.nv_core.specs.machine.World.{Actor, Check, Ends, Event, Go, Moves, Reply, Running, Shared, Start, Turn, Waiting, Waits, World, actor_at, idle}
 use Rattle.nv_core.proofs.steps.Events.{go_is_turn, turned_frame}
 use Rattle.nv_core.proofs.steps.Framed.{framed}
-use Rattle.nv_core.proofs.steps.Locked.{lent_cell, lent_holder, Before, Holds, LocksLeft, OnLocks, holds_as, locking_holds, locks_kept, new_slots, same_locks}
+use Rattle.nv_core.proofs.steps.Holding.{Holds, LocksLeft, OnLocks, holds_as, locking_holds, same_locks}
+use Rattle.nv_core.proofs.steps.Locked.{Before, lent_cell, lent_holder, locks_kept, new_slots}
 
 -- ---- replies
 

@@ -148,3 +148,24 @@ full_free = refl
 
 full_chains : chain_count (played (formatted narrow) filling).shared ≡ 4
 full_chains = refl
+
+-- ---- two takings: a data block, and then a log page, since the page of the file's log is full
+
+abbrev pub two_takings : ℕ → List Line
+two_takings steps =
+    DoCall 0 (call.Create (handle 0 1) (97 ∷ []) 420)
+    ∷ DoCall 0 (call.Mode (handle 1 1) 1)
+    ∷ DoCall 0 (call.Mode (handle 1 1) 2)
+    ∷ DoCall 0 (call.Mode (handle 1 1) 3)
+    ∷ StartCall 0 (call.Write (handle 1 1) 0 (97 ∷ []))
+    ∷ Goes 0 steps
+    ∷ []
+
+checked_free : free_count (played (formatted device) (two_takings 2)).shared ≡ 14
+checked_free = refl
+
+block_free : free_count (played (formatted device) (two_takings 3)).shared ≡ 13
+block_free = refl
+
+page_free : free_count (played (formatted device) (two_takings 4)).shared ≡ 12
+page_free = refl

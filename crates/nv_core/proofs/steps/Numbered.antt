@@ -44,7 +44,7 @@ part_times f n [] i d none = omega (arith, none)
 part_times f n (x ∷ xs) zero d none = omega (arith, times-append n (f x) (flat_map f xs))
 part_times f n (x ∷ xs) (suc i) d none = omega (arith, times-append n (f x) (flat_map f xs), part_times f n xs i d none)
 
-all_times : (n : ℕ) (w : World)
+pub all_times : (n : ℕ) (w : World)
     → times n (all_blocks w) ≡ times n (flat_map free_of w.shared.lists) + times n (flat_map stored_in w.shared.cells)
     + times n (flat_map held_by_actor w.actors)
 all_times n w = omega (
@@ -86,7 +86,7 @@ owner_inside a ino s own = elim (cases_lt ino (length s.owners)) [
 ]
 
 -- the cell that an actor is lent, and that no other has appended to its log
-lent_inside : (k : Next) (a : ℕ) (s : Shared) (r : Running) → Before a s k r → (ino : ℕ) → (lent k (length s.lists) a r).cell ≡ Some ino
+pub lent_inside : (k : Next) (a : ℕ) (s : Shared) (r : Running) → Before a s k r → (ino : ℕ) → (lent k (length s.lists) a r).cell ≡ Some ino
     → ino < length s.cells
 lent_inside k a s r b ino is = omega (arith, b.wide, owner_inside a ino s (lent_cell k (length s.lists) a s r b ino is))
 
@@ -103,7 +103,7 @@ lent_settled w actor ino locks tails own mine =
     tails ino (λ b. same_actor actor b (λ c. has (unpublished_by (actor_at w c).running) ino ≡ false) mine
     (λ ne. others_published actor b ino w.shared (actor_at w b).running ne own (locks.each b)))
 
-can_count : (g : GeometryNumbers) (w : World) (actor : ℕ) (r : Running) (k : Next) → r.next ≡ k → AreLocks w → AreNumbers g w
+pub can_count : (g : GeometryNumbers) (w : World) (actor : ℕ) (r : Running) (k : Next) → r.next ≡ k → AreLocks w → AreNumbers g w
     → (actor_at w actor).running ≡ Some r → Before actor w.shared k r → CanCount k w.shared (actor_at w actor).hand r
 can_count g w actor r (Append place) next locks all is b = lent_inside (Append place) actor w.shared r b _ refl
 can_count g w actor r (Publish place) next locks all is b = lent_inside (Publish place) actor w.shared r b _ refl
@@ -137,7 +137,7 @@ can_count g w actor r (Give cpu) next locks all is b = tt
 can_count g w actor r Back next locks all is b = tt
 can_count g w actor r Visit next locks all is b = tt
 
-can_give : (g : GeometryNumbers) (w : World) (actor : ℕ) (k : Next) → AreNumbers g w → CanGive g k w.shared (actor_at w actor).hand
+pub can_give : (g : GeometryNumbers) (w : World) (actor : ℕ) (k : Next) → AreNumbers g w → CanGive g k w.shared (actor_at w actor).hand
 can_give g w actor (Give cpu) all = (
   all.sized actor,
   λ n. omega (arith, once_few g w n all.once, count_few n w actor, part_times free_of n w.shared.lists cpu no_list refl),
@@ -167,13 +167,13 @@ pub record IsKept (g : GeometryNumbers) (w : World) (actor : ℕ) (t : Shared) (
   pub sound : IsSound g t h
   pub same : (n : ℕ) → count n t h ≡ count n w.shared (actor_at w actor).hand
 
-was_kept : (g : GeometryNumbers) (w : World) (actor : ℕ) → AreNumbers g w → IsKept g w actor w.shared (actor_at w actor).hand
+pub was_kept : (g : GeometryNumbers) (w : World) (actor : ℕ) → AreNumbers g w → IsKept g w actor w.shared (actor_at w actor).hand
 was_kept g w actor all = record {
   sound = record { lists = all.lists; cells = all.cells; sized = all.sized actor };
   same = λ n. refl;
 }
 
-goes_home : (g : GeometryNumbers) (w : World) (actor : ℕ) (t : Shared) (h : HandState) → 0 < g.cpus → AreNumbers g w
+pub goes_home : (g : GeometryNumbers) (w : World) (actor : ℕ) (t : Shared) (h : HandState) → 0 < g.cpus → AreNumbers g w
     → IsKept g w actor t h → GoesHome g t h
 goes_home g w actor t h some all kept = record {
   some = some;
@@ -191,7 +191,7 @@ set_actor P w actor x there own all b =
     (subst P (sym (get_or-set_same w.actors actor x idle there)) own)
     (λ ne. subst P (sym (get_or-set_other w.actors actor b x idle ne)) (all b))
 
-new_times : (g : GeometryNumbers) (w : World) (actor : ℕ) (x : Actor) (t : Shared) (n : ℕ) → actor < length w.actors
+pub new_times : (g : GeometryNumbers) (w : World) (actor : ℕ) (x : Actor) (t : Shared) (n : ℕ) → actor < length w.actors
     → count n t x.hand ≡ count n w.shared (actor_at w actor).hand
     → times n (all_blocks (record w { shared = t; actors = set w.actors actor x })) ≡ times n (all_blocks w)
 new_times g w actor x t n there same =
@@ -199,7 +199,7 @@ new_times g w actor x t n there same =
     omega (arith, e, same, all_times n w, all_times n (record w { shared = t; actors = set w.actors actor x }))
 
 -- a cell of the world after a turn, by the turn's own
-tails_after : (w : World) (actor : ℕ) (x : Actor) (t : Shared) (there : actor < length w.actors) → AreLocks w → AreTailsLast w
+pub tails_after : (w : World) (actor : ℕ) (x : Actor) (t : Shared) (there : actor < length w.actors) → AreLocks w → AreTailsLast w
     → (lent_slot : Option ℕ) → ((ino : ℕ) → lent_slot ≢ Some ino → cell_at t ino ≡ cell_at w.shared ino)
     → ((ino : ℕ) → lent_slot ≡ Some ino → owner_at w.shared ino ≡ Some actor)
     → ((ino : ℕ) → lent_slot ≢ Some ino → has (unpublished_by (actor_at w actor).running) ino ≡ true

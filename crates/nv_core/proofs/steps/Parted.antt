@@ -1,30 +1,33 @@
 -- The places of a cell's parts, as its log grows, is published and is retired.
 use Rattle.std.proofs.Common.{◌≡◌, ◌≢◌, ◌⊎◌, ℕ, zero, suc, ◌+◌, ◌-◌, ◌<◌, ◌≤◌, ◌++◌, ◌∙◌, Bool, true, false, List, [], ◌∷◌, Option, Some, None, ap, arith, cond, drop, get_or, get_or-set_other, get_or-set_same, if◌then◌else◌, inl, inr, length, length-append, length-set, map, nat_lt, refl, replicate, rules, set, subst, sym, take}
-use Rattle.std.proofs.lemmas.Bool.{cases_lt, eqb-false, eqb-true, false≢true, lt-ltb, ltb-false, ltb-true}
+use Rattle.std.proofs.lemmas.Bool.{cases_lt, eqb-false, eqb-true, false≢true, le-ltb, lt-ltb, ltb-false, ltb-true}
 use Rattle.std.proofs.lemmas.List.{append-nil, get_or_append_left, get_or-append_right, get_or_default, get_or_past, length-map, set_past}
 use Rattle.std.proofs.lemmas.List.FromFn.{get_or-map-range_with_len, length-map-range_with_len, length-range_with_len}
 use Rattle.std.specs.List.{AllByRecursion, flat_map, range_with_len}
 use Rattle.std.specs.Prelude.{◌==◌, min, option_to_list, slice_index_or}
-use Rattle.nv_alloc.specs.Block.{AreSized, BlockValue}
+use Rattle.std.specs.Option.{option_map}
+use Rattle.nv_alloc.specs.Block.{AreSized, BlockValue, number_of, numbers_of}
 use Rattle.nv_calls.specs.Retiring.{erased, freed, freed_by, freed_one, is_erased, keeper_of, retired, retired_one, settled}
 use Rattle.nv_cell.specs.Append.{IsWithinFile, appended, blocks_for, slots_of}
-use Rattle.nv_cell.specs.Cell.{AreSlotsSized, CellState, empty_cell, log_of, mark_or_fresh, number_in, published}
+use Rattle.nv_cell.specs.Cell.{AreSlotsSized, CellState, HasBlocks, empty_cell, log_of, mark_or_fresh, number_in, page_block, published}
 use Rattle.nv_cell.specs.Marks.{is_there, mark_at}
 use Rattle.nv_cell.specs.Numbers.{dies, part_base, published_mark}
 use Rattle.nv_cell.specs.Readers.{keeps_nothing}
 use Rattle.nv_cell.specs.declared.killed.KilledPart.{KilledPart}
 use Rattle.nv_cell.specs.declared.mark.Mark.{Mark}
 use Rattle.nv_cell.specs.declared.mark.Mark.TheVariants.{Current, Killed, Kept, Out}
-use Rattle.nv_cell.proofs.Appending.{length_parts, log_stays}
+use Rattle.nv_cell.proofs.Appending.{blocks_append, length_parts, log_stays}
+use Rattle.nv_cell.proofs.PagesNow.{front_block}
 use Rattle.nv_cell.proofs.Numbers.{total_append}
 use Rattle.nv_cell.proofs.Publishing.{take_whole, total_take}
 use Rattle.nv_entry.specs.Blocks.{item_blocks}
-use Rattle.nv_entry.specs.Covered.{part_total}
+use Rattle.nv_entry.specs.Covered.{part_count, part_total}
 use Rattle.nv_entry.specs.Keys.{parts_of}
 use Rattle.nv_entry.specs.declared.item.Entry.{Entry}
 use Rattle.nv_entry.specs.declared.item.Item.{Item}
 use Rattle.nv_entry.specs.declared.item.Item.TheVariants.{Init, Write, SetSize, SetMode, Bind, Unbind, Gone}
-use Rattle.nv_core.specs.machine.Hands.{IsParted}
+use Rattle.nv_calls.proofs.Appends.{front, map-drop, map-take}
+use Rattle.nv_core.specs.machine.Hands.{ArePagesTold, IsParted}
 use Rattle.nv_core.specs.machine.Kinds.{with_entries, with_pages}
 use Rattle.nv_core.specs.machine.Numbers.{of_part}
 
@@ -55,6 +58,7 @@ paged_parted block (b ∷ pages) cell sized h =
       marks = h.marks;
       places = h.places;
       out = h.out;
+      told = h.told;
       sized = h.sized;
       pages = sized_both block cell.chain.blocks (b ∷ []) h.pages (sized.0, tt);
     })
@@ -105,19 +109,56 @@ both_sized size xs ys x y n b h = elim (cases_lt n (length xs)) [
   | inr ge ↦ y (n - length xs) b (sym (get_or-append_right xs ys (length xs) n None refl ge) ∙ h)
 ]
 
+-- the block of a part of an entry that stands behind others
+back_block : (block : ℕ) (xs ys : List Entry) (n : ℕ) → part_total xs ≤ n
+    → page_block block (xs ++ ys) n ≡ page_block block ys (n - part_total xs)
+back_block block [] ys n le = let z : n ≡ n - 0 = omega arith in ap (page_block block ys) z
+back_block block (x ∷ xs) ys n le =
+    let past : nat_lt n (part_count x) ≡ false = le-ltb n (part_count x) (omega (arith, le)) in
+    let back : n - part_count x - part_total xs ≡ n - (part_count x + part_total xs) = omega arith in
+    rw (past, ← back) (back_block block xs ys (n - part_count x) (omega (arith, le)))
+
+-- an entry's own: what one more entry in an empty cell has
+own_block : (block : ℕ) (e : Entry) (bs : List BlockValue) → IsWithinFile e.item → numbers_of bs ≡ item_blocks e.item → AreSized block bs
+    → (n : ℕ) (b : BlockValue) → slice_index_or (slots_of e.item bs) n None ≡ Some b → page_block block (e ∷ []) n ≡ Some b.number
+own_block block e bs within nums sized n b is =
+    let empty : CellState = empty_cell block 0 0 0 in
+    let all : HasBlocks (appended e bs empty) =
+    blocks_append empty e bs (record { len = refl; numbers = λ n. refl; sized = λ n b e. cc }) (omega arith) within nums sized in
+    sym (all.numbers n) ∙ ap (option_map number_of) is
+
 pub appended_parted : (block : ℕ) (e : Entry) (bs : List BlockValue) (cell : CellState) → IsWithinFile e.item
-    → length bs ≡ length (item_blocks e.item) → AreSized block bs → IsParted block cell → IsParted block (appended e bs cell)
-appended_parted block e bs cell within many sized h = record {
+    → numbers_of bs ≡ item_blocks e.item → AreSized block bs → IsParted block cell → IsParted block (appended e bs cell)
+appended_parted block e bs cell within nums sized h = record {
   within = omega (arith, h.within, length-append cell.chain.entries (e ∷ []));
   marks = h.marks ∙ sym (ap part_total (log_stays cell.chain.tail cell.chain.entries e h.within));
-  places = omega (arith, length-append cell.blocks slots, h.places, slot_count e.item bs within many,
-      total_append cell.chain.entries (e ∷ []));
+  places = omega (
+    arith,
+    length-append cell.blocks slots,
+    h.places,
+    slot_count e.item bs within many,
+    total_append cell.chain.entries (e ∷ []),
+  );
   out = outs;
+  told = tells;
   sized = both_sized block cell.blocks slots h.sized (slots_sized block e.item bs sized);
   pages = h.pages;
 } where
   slots : List (Option BlockValue)
   slots = slots_of e.item bs
+
+  many : length bs ≡ length (item_blocks e.item)
+  many = sym (length-map bs number_of) ∙ ap length nums
+
+  tells : ArePagesTold block (appended e bs cell)
+  tells n b is = elim (cases_lt n (length cell.blocks)) [
+    | inl lt ↦ front_block block cell.chain.entries (e ∷ []) n (omega (arith, lt, h.places))
+        ∙ h.told n b (sym (get_or_append_left cell.blocks slots None n lt) ∙ is)
+    | inr ge ↦
+        let own = sym (get_or-append_right cell.blocks slots (part_total cell.chain.entries) n None h.places (omega (arith, ge, h.places))) ∙ is in
+        back_block block cell.chain.entries (e ∷ []) n (omega (arith, ge, h.places))
+        ∙ own_block block e bs within nums sized (n - part_total cell.chain.entries) b own
+  ]
 
   few : length cell.marks ≤ length cell.blocks
   few = omega (arith, h.marks, h.places, total_take cell.chain.entries cell.chain.tail)
@@ -143,17 +184,16 @@ long_later (suc n) [] = omega arith
 long_later (suc n) (b ∷ bs) = long_later n bs ∙ (let e : length bs - n ≡ suc (length bs) - suc n = omega arith in e)
 
 pub entries_parted : (block : ℕ) (entries : List Entry) (bs : List BlockValue) (cell : CellState)
-    → AllByRecursion (λ (e : Entry). IsWithinFile e.item) entries → length (entry_blocks entries) ≤ length bs → AreSized block bs
+    → AllByRecursion (λ (e : Entry). IsWithinFile e.item) entries
+    → take (length (entry_blocks entries)) (numbers_of bs) ≡ entry_blocks entries → AreSized block bs
     → IsParted block cell → IsParted block (with_entries entries bs cell)
-entries_parted block [] bs cell within many sized h = h
-entries_parted block (e ∷ entries) bs cell within many sized h =
+entries_parted block [] bs cell within nums sized h = h
+entries_parted block (e ∷ entries) bs cell within nums sized h =
     let k = length (item_blocks e.item) in
-    let total : length (entry_blocks (e ∷ entries)) ≡ k + length (entry_blocks entries) =
-    length-append (item_blocks e.item) (entry_blocks entries) in
+    let cut = front (item_blocks e.item) (entry_blocks entries) (numbers_of bs) nums in
     entries_parted block entries (drop k bs) (appended e (blocks_for e.item bs) cell) within.1
-    (omega (arith, many, total, long_later k bs)) (sized_later block k bs sized)
-    (appended_parted block e (blocks_for e.item bs) cell within.0 (long_first k bs (omega (arith, many, total)))
-    (sized_first block k bs sized) h)
+    (ap (take (length (entry_blocks entries))) (map-drop k bs) ∙ cut.1) (sized_later block k bs sized)
+    (appended_parted block e (blocks_for e.item bs) cell within.0 (map-take k bs ∙ cut.0) (sized_first block k bs sized) h)
 
 -- ---- published
 
@@ -163,6 +203,7 @@ published_parted block cell h = record {
   marks = many ∙ sym (ap part_total (take_whole cell.chain.entries));
   places = h.places;
   out = outs;
+  told = h.told;
   sized = h.sized;
   pages = h.pages;
 } where
@@ -229,6 +270,7 @@ settled_parted block (Some s) k cell h = record {
   places = h.places;
   out = λ n. marked cell.marks k n Kept (λ (m : Mark). is_there m ≡ false → slice_index_or cell.blocks n None ≡ None)
       (λ ne. h.out n) (λ e lt gone. absurd (false≢true (sym gone))) (λ past. h.out n);
+  told = h.told;
   sized = h.sized;
   pages = h.pages;
 }
@@ -240,6 +282,8 @@ settled_parted block None k cell h = record {
       (λ ne gone. set_option (λ (o : Option BlockValue). o ≡ None) cell.blocks k n refl (h.out n gone))
       (λ e lt gone. own n e)
       (λ past gone. set_option (λ (o : Option BlockValue). o ≡ None) cell.blocks k n refl (h.out n gone));
+  told = λ n b. set_option (λ (o : Option BlockValue). o ≡ Some b → page_block block cell.chain.entries n ≡ Some b.number) cell.blocks k n
+      (λ e. cc) (h.told n b);
   sized = λ n b. set_option (λ (o : Option BlockValue). o ≡ Some b → length b.bytes ≡ block) cell.blocks k n (λ e. cc) (h.sized n b);
   pages = h.pages;
 } where
@@ -280,6 +324,7 @@ empty_parted size block page generation version = record {
   marks = refl;
   places = refl;
   out = λ n gone. refl;
+  told = λ n b h. cc;
   sized = λ n b h. cc;
   pages = tt;
 }

@@ -76,9 +76,9 @@ pub others_published : (a b ino : ℕ) (s : Shared) (running : Option Running) �
 others_published a b ino s None ne own holds = refl
 others_published a b ino s (Some r) ne own holds =
     none_true (has (unpublished_at r.next (written_slots r)) ino) (λ h.
-      let held = unpublished_held r.next r ino h in
-      let mine : (a == b) ≡ true = sym (ap (is_owner b) own) ∙ holds.owners ino ∙ held in
-      ne (sym (eqb-true a b mine)))
+    let held = unpublished_held r.next r ino h in
+    let mine : (a == b) ≡ true = sym (ap (is_owner b) own) ∙ holds.owners ino ∙ held in
+    ne (sym (eqb-true a b mine)))
 
 -- ---- what a turn leaves unpublished
 

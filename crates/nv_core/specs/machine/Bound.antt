@@ -1,5 +1,6 @@
 -- How many steps a call has left at most.
 use Rattle.std.specs.Prelude.{ℕ, ◌+◌, ◌-◌, ◌*◌, ◌<◌, ◌≢◌, ◌==◌, if◌then◌else◌, List, [], ◌∷◌, length, Option, Some, None}
+use Rattle.std.specs.List.{AllByRecursion}
 use Rattle.nv_core.specs.machine.Step.{step}
 use Rattle.nv_core.specs.machine.World.{Append, Back, Check, Close, Ends, Enter, Event, Give, Go, Leave, Lock, Look, Moved, Moves, Next, Number, Open, Publish, Ready, Reply, Retire, Running, Start, TakeBlocks, TakePages, Turn, Unlock, Visit, Waits, World, actor_at}
 
@@ -70,3 +71,7 @@ moves actor w (e ∷ events) = moves_in actor e (step w e).reply + moves actor (
 abbrev pub IsNoStart : ℕ → Event → Type 0
 IsNoStart actor (Start other c) = other ≢ actor
 IsNoStart actor (Go other granted) = Unit {0}
+
+-- so in all of them
+abbrev pub AreNoStarts : ℕ → List Event → Type 0
+AreNoStarts actor events = AllByRecursion (IsNoStart actor) events

@@ -1,9 +1,11 @@
 -- What a step is lent of all that is shared, and that it leaves the rest as it is.
-use Rattle.std.specs.Prelude.{◌≡◌, ◌≢◌, ℕ, Bool, true, false, length, Option, Some, None}
+use Rattle.std.specs.Prelude.{◌≡◌, ◌≢◌, ℕ, ◌<◌, Bool, true, false, length, Option, Some, None}
+use Rattle.nv_calls.specs.declared.call.Call.{Call}
 use Rattle.nv_core.specs.machine.Kinds.{asked_list}
 use Rattle.nv_core.specs.machine.Reads.{slot_at, written_slots}
+use Rattle.nv_core.specs.machine.Sequence.{beginning, begun}
 use Rattle.nv_core.specs.machine.Step.{Step, turn, turned}
-use Rattle.nv_core.specs.machine.World.{Append, Back, Check, Close, Ends, Enter, Give, Leave, Lock, Look, Moves, Next, Number, Open, Publish, Ready, Retire, Running, Shared, TakeBlocks, TakePages, Turn, Unlock, Visit, Waits, World, actor_at, cell_at, list_at, owner_at}
+use Rattle.nv_core.specs.machine.World.{Append, Back, Check, Close, Ends, Enter, Give, Leave, Lock, Look, Moves, Next, Number, Open, Publish, Ready, Retire, Running, Shared, Started, TakeBlocks, TakePages, Turn, Unlock, Visit, Waits, World, actor_at, cell_at, list_at, owner_at}
 
 -- the parts that a step may change: the free list of a CPU, the pool, the cell of a slot, the lock of a slot, the book, and
 -- the commit lock
@@ -77,7 +79,9 @@ pub record IsOneStep (w : World) (actor : ℕ) (granted : Bool) (r : Running) (m
   pub frame : Frame (lent r.next (length w.shared.lists) actor r) w.shared made.world.shared
   pub others : LeavesOthers actor w made.world
 
--- a start changes its actor alone
-pub record IsStart (w : World) (actor : ℕ) (made : Step) : Type 0 where
+-- a start changes its actor alone; one without a call has this call now, and its hand as it was
+pub record IsStart (w : World) (actor : ℕ) (c : Call) (made : Step) : Type 0 where
   pub shared : made.world.shared ≡ w.shared
   pub others : LeavesOthers actor w made.world
+  pub own : actor < length w.actors → (actor_at w actor).running ≡ None → (made.reply ≡ Started)
+      × (actor_at made.world actor ≡ record { hand = (actor_at w actor).hand; running = Some (begun (beginning c) w.shared c) })

@@ -1,7 +1,7 @@
 -- What holds of every cell and list, and what an actor's hand has before each step of its call.
 use Rattle.std.specs.Prelude.{◌≡◌, ℕ, ◌+◌, ◌/◌, ◌<◌, ◌≤◌, Bool, true, false, List, [], ◌++◌, drop, length, slice_index_or, take, Option, Some, None}
 use Rattle.std.specs.List.{AllByRecursion, flat_map}
-use Rattle.nv_alloc.specs.Block.{AreSized, BlockValue}
+use Rattle.nv_alloc.specs.Block.{AreSized, BlockValue, numbers_of}
 use Rattle.nv_alloc.specs.FreeList.{FreeBlocks, IsFreeList}
 use Rattle.nv_alloc.specs.Numbers.{has}
 use Rattle.nv_base.specs.Homes.{home_start}
@@ -12,7 +12,7 @@ use Rattle.nv_calls.specs.declared.call.Call.{Call}
 use Rattle.nv_calls.specs.declared.call.Call.TheVariants as call
 use Rattle.nv_calls.specs.declared.plan.Planned.{Planned}
 use Rattle.nv_cell.specs.Append.{IsWithinFile}
-use Rattle.nv_cell.specs.Cell.{AreSlotsSized, CellState, log_of, mark_or_fresh}
+use Rattle.nv_cell.specs.Cell.{AreSlotsSized, CellState, log_of, mark_or_fresh, page_block}
 use Rattle.nv_cell.specs.Marks.{is_there}
 use Rattle.nv_entry.specs.Blocks.{item_blocks}
 use Rattle.nv_entry.specs.Covered.{part_total}
@@ -35,12 +35,18 @@ pub record AreLists (g : GeometryNumbers) (s : Shared) : Type 0 where
   pub cpus : length s.lists ≡ g.cpus
   pub each : (cpu : ℕ) → cpu < g.cpus → IsHomeList g cpu (list_at s cpu)
 
+-- a part that has a block is a page of the log, and the block is the one that its entry says
+abbrev pub ArePagesTold : ℕ → CellState → Type 0
+ArePagesTold block cell = (n : ℕ) (b : BlockValue) → slice_index_or cell.blocks n None ≡ Some b
+    → page_block block cell.chain.entries n ≡ Some b.number
+
 -- each published part of a cell has a mark, each part a place for its block, and one that is out has none there
 pub record IsParted (block : ℕ) (cell : CellState) : Type 0 where
   pub within : cell.chain.tail ≤ length cell.chain.entries
   pub marks : length cell.marks ≡ part_total (log_of cell)
   pub places : length cell.blocks ≡ part_total cell.chain.entries
   pub out : (n : ℕ) → is_there (mark_or_fresh cell.marks n) ≡ false → slice_index_or cell.blocks n None ≡ None
+  pub told : ArePagesTold block cell
   pub sized : AreSlotsSized block cell.blocks
   pub pages : AreSized block cell.chain.blocks
 
@@ -92,10 +98,11 @@ pub record HasFitting (block : ℕ) (h : HandState) (r : Running) (count : ℕ) 
 abbrev pub planned_blocks : List Planned → List ℕ → List ℕ
 planned_blocks plan slots = flat_map (λ ino. flat_map item_blocks (items_for plan ino)) slots
 
--- the hand has as many blocks as a plan has pages for these slots
+-- the blocks of a plan's pages for these slots stand first in the hand, in order
 pub record HasPlanned (h : HandState) (r : Running) (slots : List ℕ) : Type 0 where
   pub killed : h.killed ≡ []
   pub enough : length (planned_blocks r.plan slots) ≤ length h.blocks
+  pub first : take (length (planned_blocks r.plan slots)) (numbers_of h.blocks) ≡ planned_blocks r.plan slots
   pub within : (ino : ℕ) → AllByRecursion IsWithinFile (items_for r.plan ino)
 
 -- all blocks of the hand that were at home on a lower CPU are given
