@@ -2,6 +2,7 @@ pub mod Appends
 pub mod CellLists
 pub mod Apart
 pub mod CellNodes
+pub mod CellPlans
 pub mod Commits
 pub mod Fills
 pub mod Items
@@ -16,7 +17,9 @@ pub mod Retires
 pub mod RunLists
 pub mod Same
 pub mod Standing
+pub mod Stretches
 pub mod Tails
+pub mod TextLengths
 pub mod Touched
 pub mod Wanted
 pub mod Within

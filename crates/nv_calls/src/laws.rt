@@ -1,6 +1,6 @@
 //! Laws of plans and effects, each the contract of a function that does nothing.
 
-ghost use Rattle.std.specs.Prelude.{◌≡◌, ◌<◌, ℕ, Err, List, Option, is_some, length};
+ghost use Rattle.std.specs.Prelude.{◌≡◌, ◌<◌, ℕ, Bool, Err, List, Option, is_some, length};
 ghost use Rattle.nv_base.specs.declared.fault.Fault.{Fault};
 ghost use Rattle.nv_base.specs.declared.numbers.Handle.{Handle};
 ghost use Rattle.nv_cell.specs.Cell.{CellValue};
@@ -17,8 +17,10 @@ ghost use Rattle.nv_calls.specs.Plain.{Change, PlainNode, node_in};
 ghost use Rattle.nv_calls.specs.Plan.{AreApart, AreFewApart, plan_blocks};
 ghost use Rattle.nv_calls.specs.Refusals.{passes};
 ghost use Rattle.nv_calls.specs.Slots.{ArePlaced, Commits, IsBefore, IsPlan, Slot, node_under, published};
+ghost use Rattle.nv_calls.specs.Updates.{SamePlan, blank_call, call_of, text_len};
 ghost use Rattle.nv_calls.specs.declared.call.Call.{Call};
 ghost use Rattle.nv_calls.specs.declared.plan.Planned.{Planned};
+ghost use Rattle.nv_calls.specs.declared.update.Update.{Update};
 
 /// A commit of a plan that fits an effect has that effect on the nodes, leaves each log sound, and changes
 /// none at an earlier epoch.
@@ -117,4 +119,11 @@ pub fn cells_hold_the_nodes_of_their_slots()
     ensures pages { (bytes : ℕ → List ℕ) (block : ℕ) (cells : List (ℕ × CellValue)) (handle : Handle)
         (page : ℕ) → HaveBytes bytes block cells → has_page_in cells handle page
         ≡ is_some (block_now block (slots_by cells handle.ino).log page) }
+{}
+
+/// A call looks up, is checked and planned with any text as with a text of as many zeros.
+pub fn a_write_is_planned_by_its_length()
+    ensures { (block : ℕ) (nodes : Handle → Option NodeCopy) (has_page : Handle → ℕ → Bool) (taken : Taken)
+        (update : Update) (text : List ℕ) → length text ≡ text_len update
+        → SamePlan block nodes has_page taken (blank_call update) (call_of update text) }
 {}
