@@ -5,6 +5,7 @@ pub mod CellNodes
 pub mod CellPlans
 pub mod Commits
 pub mod Fills
+pub mod Fitting
 pub mod Items
 pub mod Keeps
 pub mod Lawful
@@ -12,6 +13,8 @@ pub mod NodesHeld
 pub mod Nothing
 pub mod Passed
 pub mod Places
+pub mod PlansByCell
+pub mod Prepares
 pub mod Resized
 pub mod Retires
 pub mod RunLists

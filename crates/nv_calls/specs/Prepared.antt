@@ -9,15 +9,15 @@ use Rattle.nv_entry.specs.declared.item.Item.{Item}
 use Rattle.nv_cell.specs.Cell.{CellState, CellValue, log_of}
 use Rattle.nv_cell.specs.Room.{HasNoLess, IsReadyFor}
 use Rattle.nv_cell.specs.Weights.{weights_in}
-use Rattle.nv_calls.specs.AllCalls.{ends_in_page, plan}
+use Rattle.nv_calls.specs.AllCalls.{blocks_wanted, ends_in_page, plan, refusal}
 use Rattle.nv_calls.specs.Cells.{AreCells, ino_at, state_at, value_at}
 use Rattle.nv_calls.specs.Nodes.{block_in, has_page_in, nodes_in, slots_by}
 use Rattle.nv_calls.specs.Plan.{runs_of}
 use Rattle.nv_calls.specs.Ready.{CellPlanValue, ReadyValue}
+use Rattle.nv_calls.specs.Refusals.{passes}
 use Rattle.nv_calls.specs.Slots.{items_for}
 use Rattle.nv_calls.specs.Steps.{HaveBlocks}
-use Rattle.nv_calls.specs.Updates.{IsPlanOf, blank_call}
-use Rattle.nv_calls.specs.declared.plan.Plan.{Plan}
+use Rattle.nv_calls.specs.Updates.{blank_call}
 use Rattle.nv_calls.specs.declared.plan.Planned.{Planned}
 use Rattle.nv_calls.specs.declared.taken.Taken.{Taken}
 use Rattle.nv_calls.specs.declared.update.Update.{Update}
@@ -98,13 +98,13 @@ pub record IsStill (block : ℕ) (cell : CellState) : Type 0 where
   pub settled : cell.chain.tail ≡ length cell.chain.entries
 
 -- a call passed its check over these cells, and the hand holds the blocks that it takes
-pub record CanReady (cells : List (ℕ × CellValue)) (hand : Hand) (p : Plan) : Type 0 where
+pub record CanReady (cells : List (ℕ × CellValue)) (hand : Hand) (u : Update) : Type 0 where
   pub lent : AreCells cells
   pub some : 0 < length cells
   pub still : AllByRecursion (λ c. IsStill (block_in cells) c.1.state) cells
   pub few_bytes : block_in cells ≤ BLOCK_BYTES
-  pub passed : IsPlanOf (block_in cells) (nodes_in cells) (has_page_in cells) p.update p
-  pub count : length hand.data.blocks ≡ p.blocks
+  pub passed : refusal (block_in cells) (nodes_in cells) (blank_call u) ≡ passes
+  pub count : length hand.data.blocks ≡ blocks_wanted (block_in cells) (nodes_in cells) (taken_by cells hand u).present (blank_call u)
   pub size : hand.data.size ≡ block_in cells
   pub small : AllByRecursion (λ b. b.number < 2 ^ 32) hand.data.blocks
 
@@ -117,6 +117,6 @@ pub record IsReadyBy (cells : List (ℕ × CellValue)) (hand : Hand) (u : Update
   pub plans : ready.plans ≡ plans_by cells hand u
   pub hand_same : HasMoreRoom hand ready.hand
   pub cells_ready : AreReady now ready.plans
-  pub room : min (most_killed cells ready.plans) (2 ^ 64 - 1) ≤ ready.hand.data.room
+  pub room : min (most_killed now ready.plans) (2 ^ 64 - 1) ≤ ready.hand.data.room
   pub blocks : AllByRecursion (λ p. HaveBlocks p.items (block_in cells) ready.hand.data) ready.plans
   pub few : sum_by (λ p. length p.items) ready.plans < 2 ^ 32

@@ -46,6 +46,7 @@ pub use looked::{Looked, found, is_as_looked, look, look_all};
 pub use nodes::Nodes;
 pub use plan::{Plan, Planned, PlannedItems, place_in};
 pub use planning::{blocks_wanted, ends_in_page, is_nothing, plan_items, plan_of};
+pub use prepare::ready_on;
 pub use ready::{CellPlan, Ready};
 pub use refusal::{check, check_early, check_late, check_look};
 pub use runs::runs_of;

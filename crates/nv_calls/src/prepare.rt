@@ -1,19 +1,26 @@
 //! What makes a call ready to be committed: its items, cell by cell, and all room that they need.
 
-ghost use Rattle.std.specs.Prelude.{◌≡◌, ℕ, ◌-◌, ◌<◌, ◌≤◌, ◌^◌, IfOk, OnOk, length, min};
-ghost use Rattle.std.specs.List.{AllByRecursion};
+ghost use Rattle.std.specs.Prelude.{◌≡◌, ℕ, ◌-◌, ◌<◌, ◌≤◌, ◌^◌, IfErr, IfOk, OnOk, length, min, unwrap_or};
+ghost use Rattle.std.specs.List.{AllByRecursion, sum_by};
 ghost use Rattle.nv_alloc.specs.Block.{numbers_of};
 ghost use Rattle.nv_base.specs.Refusals.{FailsOnly};
 ghost use Rattle.nv_base.specs.declared.fault.Fault.TheVariants.{OutOfMemory};
 ghost use Rattle.nv_cell.specs.Effects.{BindOne};
+ghost use Rattle.nv_entry.specs.Sound.{blocks_of};
 ghost use Rattle.nv_calls.specs.Cells.{AreCells, state_at};
-ghost use Rattle.nv_calls.specs.Prepared.{AreReady, HaveMoreRoom, cell_plans, made_by, most_killed};
+ghost use Rattle.nv_calls.specs.Prepared.{AreReady, CanReady, HasMoreRoom, HaveMoreRoom, IsReadyBy, cell_plans, made_by, most_killed, no_handle, planned_by, plans_by};
+ghost use Rattle.nv_calls.specs.Nodes.{block_in};
+ghost use Rattle.nv_calls.specs.Plan.{AreMaximal, runs_of};
 ghost use Rattle.nv_calls.specs.Ready.{ArePlaced};
 ghost use Rattle.nv_calls.specs.Slots.{items_for};
+ghost use Rattle.nv_calls.specs.Steps.{HaveBlocks};
 
-use crate::{CellPlan, Cells, HeldNodes, Planned, Update};
-use nv_alloc::BlockQueue;
-use nv_base::{BlockNo, Fault, Handle, Ino};
+use crate::checked::block_in;
+use crate::planning::{ends_in_page, plan_items};
+use crate::runs::runs_of;
+use crate::{CellPlan, Cells, HeldNodes, Plan, Planned, Ready, Taken, Update};
+use nv_alloc::{BlockQueue, Hand};
+use nv_base::{BlockNo, Fault, Gen, Handle, Ino, Items};
 use nv_entry::Item;
 use std::alloc::{AllocError, Global};
 
@@ -39,6 +46,49 @@ fn numbers_of(alloc: Global, queue: &BlockQueue) -> Result<Vec<BlockNo>, AllocEr
         numbers.push(block.number())?;
     }
     Ok(numbers)
+}
+
+/// The items of a call, inode by inode, with the blocks of its hand.
+fn planned_by<C: Cells>(
+    alloc: Global,
+    cells: &C,
+    update: &Update,
+    made: &Option<Handle>,
+    hand: &Hand,
+) -> Result<Vec<Planned>, Fault>
+    requires can { CanReady (C.cells cells.now) hand.now update.now }
+    requires made { made.now ≡ made_by (C.cells cells.now) hand.now.ino update.now }
+    ensures ok { IfOk result (λ planned. planned.items
+        ≡ planned_by (C.cells cells.now) hand.now update.now) }
+    ensures runs { IfOk result (λ planned. let numbers = numbers_of hand.now.data.blocks in
+        AreMaximal (runs_of numbers) × (blocks_of (runs_of numbers) ≡ numbers)) }
+    ensures err { FailsOnly OutOfMemory result }
+{
+    let block = block_in(cells);
+    let nodes = HeldNodes::new(cells);
+    let numbers = numbers_of(alloc, &hand.data)?;
+    let runs = Items::from_vec(runs_of(alloc, &numbers)?);
+    let present = ends_in_page(block, &nodes, update);
+    let taken = Taken {
+        made: or_none(made),
+        runs,
+        present,
+    };
+    let planned = plan_items(alloc, block, &nodes, &taken, update)?;
+    Ok(planned.into_vec())
+}
+
+/// A handle that leads nowhere where there is none.
+fn or_none(made: &Option<Handle>) -> Handle
+    ensures { result ≡ unwrap_or made.now no_handle }
+{
+    match made {
+        Some(made) => *made,
+        None => Handle {
+            ino: Ino::new(0),
+            generation: Gen::new(0),
+        },
+    }
 }
 
 /// Takes out what is planned for an inode.
@@ -106,4 +156,65 @@ fn most_killed<C: Cells>(cells: &C, plans: &[CellPlan]) -> u64
         most = most.saturating_add(cell.most_killed(&plan.items) as u64);
     }
     most
+}
+
+/// Makes all growths of a call, and gives what it appends, cell by cell.
+fn prepare<C: Cells>(
+    alloc: Global,
+    cells: &mut C,
+    update: &Update,
+    made: &Option<Handle>,
+    hand: &mut Hand,
+) -> Result<Vec<CellPlan>, Fault>
+    requires can { CanReady (C.cells cells.old) hand.old update.now }
+    requires made { made.now ≡ made_by (C.cells cells.old) hand.old.ino update.now }
+    ensures plans { IfOk result (λ plans. plans.items
+        ≡ plans_by (C.cells cells.old) hand.old update.now) }
+    ensures ready { IfOk result (λ plans. AreReady (C.cells cells.new) plans.items) }
+    ensures room { IfOk result (λ plans. min (most_killed (C.cells cells.new) plans.items) (2 ^ 64 - 1)
+        ≤ hand.new.data.room) }
+    ensures blocks { IfOk result (λ plans. AllByRecursion (λ p. HaveBlocks p.items
+        (block_in (C.cells cells.old)) hand.new.data) plans.items) }
+    ensures few { IfOk result (λ plans. sum_by (λ p. length p.items) plans.items < 2 ^ 32) }
+    ensures hand { HasMoreRoom hand.old hand.new }
+    ensures cells { HaveMoreRoom (C.cells cells.old) (C.cells cells.new) }
+    ensures err { FailsOnly OutOfMemory result }
+    ensures places { C.places cells.new ≡ C.places cells.old }
+    ensures beside { C.beside cells.new ≡ C.beside cells.old }
+{
+    // A block has a byte.
+    let _block = block_in(cells);
+    let planned = planned_by(alloc, cells, update, made, hand)?;
+    let plans = cell_plans(alloc, cells, planned)?;
+    ready_cells(cells, &plans)?;
+    hand.data.reserve(most_killed(cells, &plans))?;
+    Ok(plans)
+}
+
+/// Makes a call ready that passed its check and holds the blocks that it takes: makes every growth of what follows, of
+/// the cells, and of the hand for the blocks that the call may set free, and settles its items.
+///
+/// `OutOfMemory`, with the hand, where a growth was refused: then nothing has changed but room.
+pub fn ready_on<C: Cells>(
+    alloc: Global,
+    cells: &mut C,
+    plan: Plan,
+    hand: Hand,
+) -> Result<Ready, (Fault, Hand)>
+    requires { CanReady (C.cells cells.old) hand plan.update }
+    ensures ok { IfOk result (λ ready. IsReadyBy (C.cells cells.old) hand plan.update
+        (C.cells cells.new) ready) }
+    ensures err { IfErr result (λ refused. (refused.0 ≡ OutOfMemory) × HasMoreRoom hand refused.1) }
+    ensures cells { HaveMoreRoom (C.cells cells.old) (C.cells cells.new) }
+    ensures places { C.places cells.new ≡ C.places cells.old }
+    ensures beside { C.beside cells.new ≡ C.beside cells.old }
+{
+    let Plan { update, blocks: _ } = plan;
+    let made = made_by(cells, hand.ino(), &update);
+    let mut hand = hand;
+    let prepared = prepare(alloc, cells, &update, &made, &mut hand);
+    match prepared {
+        Ok(plans) => Ok(Ready::new(alloc, update, made, plans, hand)),
+        Err(fault) => Err((fault, hand)),
+    }
 }
