@@ -42,15 +42,15 @@ use Rattle.nv_calls.proofs.Within.{count_passed, cut_within, touched_within}
 -- ---- items of writes
 
 -- each run has a block
-abbrev HaveBlocks : List Run → Type 0
+abbrev pub HaveBlocks : List Run → Type 0
 HaveBlocks runs = AllByRecursion (λ (run : Run). 0 < run.len) runs
 
-have_blocks : (runs : List Run) → AreMaximal runs → HaveBlocks runs
+pub have_blocks : (runs : List Run) → AreMaximal runs → HaveBlocks runs
 have_blocks [] h = tt
 have_blocks (run ∷ []) h = (h, tt)
 have_blocks (run ∷ next ∷ runs) h = (h.0, have_blocks (next ∷ runs) h.2)
 
-count-cons : (run : Run) (runs : List Run) → length (blocks_of (run ∷ runs)) ≡ run.len + length (blocks_of runs)
+pub count-cons : (run : Run) (runs : List Run) → length (blocks_of (run ∷ runs)) ≡ run.len + length (blocks_of runs)
 count-cons run runs =
     length-append (range_with_len run.start run.len) (blocks_of runs)
     ∙ ap (λ (n : ℕ). n + length (blocks_of runs)) (length-range_with_len run.start run.len)
@@ -65,11 +65,11 @@ module _ (block size : ℕ) (few : size ≤ 65536 * block) (tail : List Item) (l
   )
 
 -- as many items as runs, and no more runs than blocks
-one_item_a_run : (first size : ℕ) (runs : List Run) → length (write_items first runs size) ≡ length runs
+pub one_item_a_run : (first size : ℕ) (runs : List Run) → length (write_items first runs size) ≡ length runs
 one_item_a_run first size [] = refl
 one_item_a_run first size (run ∷ runs) = omega (arith, one_item_a_run (first + run.len) size runs)
 
-few_runs : (runs : List Run) → HaveBlocks runs → length runs ≤ length (blocks_of runs)
+pub few_runs : (runs : List Run) → HaveBlocks runs → length runs ≤ length (blocks_of runs)
 few_runs [] some = omega arith
 few_runs (run ∷ runs) some = omega (arith, count-cons run runs, few_runs runs some.1, some.0)
 
@@ -79,7 +79,7 @@ leave_all : (item : Item) (first size : ℕ) (runs : List Run) (tail : List Item
 leave_all item first size [] tail last = last
 leave_all item first size (run ∷ runs) tail last = (tt, leave_all item (first + run.len) size runs tail last)
 
-writes_bind_none : (first size : ℕ) (runs : List Run) (tail : List Item) → ((item : Item) → AllByRecursion (LeavesName item) tail)
+pub writes_bind_none : (first size : ℕ) (runs : List Run) (tail : List Item) → ((item : Item) → AllByRecursion (LeavesName item) tail)
     → BindOne tail → BindOne (write_items first runs size ++ tail)
 writes_bind_none first size [] tail each last = last
 writes_bind_none first size (run ∷ runs) tail each last = (

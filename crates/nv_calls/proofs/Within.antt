@@ -45,7 +45,7 @@ touched_within block offset count some any fits = go (cases_lt ((offset + count 
 
 -- ---- sizes
 
-is_one : (b : Bool) (n : ℕ) → n ≡ cond b 1 0 → (n ≡ 0) ⊎ ((n ≡ 1) × (b ≡ true))
+pub is_one : (b : Bool) (n : ℕ) → n ≡ cond b 1 0 → (n ≡ 0) ⊎ ((n ≡ 1) × (b ≡ true))
 is_one true n h = inr (h, refl)
 is_one false n h = inl h
 

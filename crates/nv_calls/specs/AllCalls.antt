@@ -11,7 +11,6 @@ use Rattle.nv_calls.specs.declared.answer.Answer.TheVariants as answers
 use Rattle.nv_calls.specs.declared.call.Call.{Call}
 use Rattle.nv_calls.specs.declared.call.Call.TheVariants as call
 use Rattle.nv_calls.specs.declared.looked.Looked.{Looked}
-use Rattle.nv_calls.specs.declared.plan.Plan.{Plan}
 use Rattle.nv_calls.specs.declared.plan.Planned.{Planned}
 use Rattle.nv_calls.specs.declared.taken.Taken.{Taken}
 use Rattle.nv_calls.specs.Plain.{Change, PlainNode, node_in}
@@ -127,12 +126,6 @@ abbrev pub blocks_wanted : ℕ → (Handle → Option NodeCopy) → Bool → Cal
 blocks_wanted block nodes present (call.Write file offset text) = write_blocks block offset text
 blocks_wanted block nodes present (call.Size file size) = size_blocks block nodes file size present
 blocks_wanted block nodes present other = 0
-
--- a call that passes its check, with the blocks that it takes
-pub record IsPlanOf (block : ℕ) (nodes : Handle → Option NodeCopy) (has_page : Handle → ℕ → Bool) (c : Call) (p : Plan) : Type 0 where
-  pub passed : refusal block nodes c ≡ passes
-  pub call : p.call ≡ c
-  pub blocks : p.blocks ≡ blocks_wanted block nodes (ends_in_page has_page block c) c
 
 -- the items that a call appends, inode by inode
 abbrev pub plan : ℕ → (Handle → Option NodeCopy) → Taken → Call → List Planned

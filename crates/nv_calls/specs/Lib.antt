@@ -10,11 +10,13 @@ pub mod Nodes
 pub mod Plain
 pub mod Plan
 pub mod PublishedSlots
+pub mod Prepared
 pub mod Ready
 pub mod Refusals
 pub mod Retired
 pub mod Retiring
 pub mod Slots
 pub mod Steps
+pub mod Updates
 pub mod Views
 pub mod calls

@@ -6,9 +6,14 @@ use Rattle.nv_entry.specs.declared.node.NodeCopy.{NodeCopy}
 use Rattle.nv_entry.specs.Node.{block_now}
 use Rattle.nv_cell.specs.Cell.{CellState, CellValue, IsCell, log_of}
 use Rattle.nv_cell.specs.Pages.{AreBytesOf, own_bytes}
+use Rattle.nv_calls.specs.Cells.{state_at}
 use Rattle.nv_calls.specs.Plain.{PlainNode, node_in}
 use Rattle.nv_calls.specs.Slots.{Slot}
 use Rattle.nv_calls.specs.Views.{node_of, slot_of}
+
+-- the bytes of a block, which are the same for all cells of a call
+abbrev pub block_in : List (ℕ × CellValue) → ℕ
+block_in cells = (state_at cells 0).block
 
 -- the cell of an inode, if it is one of the call's
 abbrev pub cell_of : List (ℕ × CellValue) → ℕ → Option CellValue

@@ -1,5 +1,7 @@
 -- Plans: for each inode the items that a call appends to its log.
-use Rattle.std.specs.Prelude.{◌≡◌, ◌≢◌, ℕ, ◌+◌, ◌<◌, ◌≤◌, List, [], ◌∷◌, length, Option}
+use Rattle.std.specs.Prelude.{◌≡◌, ◌≢◌, ℕ, ◌+◌, ◌^◌, ◌<◌, ◌≤◌, ◌==◌, if◌then◌else◌, nat_lt, Bool, true, false, List, [], ◌∷◌, length, Option}
+use Rattle.std.proofs.Common.{refl}
+use Rattle.std.proofs.lemmas.Bool.{ltb-true}
 use Rattle.std.specs.List.{AllByRecursion, flat_map}
 use Rattle.nv_base.specs.declared.numbers.Handle.{Handle}
 use Rattle.nv_entry.specs.declared.item.Item.{Item}
@@ -42,6 +44,24 @@ pub record AreFewApart (plan : List Planned) : Type 0 where
 -- the data blocks that planned items put pages in, in order
 abbrev pub plan_blocks : List Planned → List ℕ
 plan_blocks plan = flat_map (λ (p : Planned). flat_map item_blocks p.items) plan
+
+-- consecutive numbers, each stretch by its first and how many they are
+abbrev pub with_number : ℕ → List (ℕ × ℕ) → List (ℕ × ℕ)
+with_number n [] = (n, 1) ∷ []
+with_number n (run ∷ runs) = if n + 1 == run.0 then (n, run.1 + 1) ∷ runs else (n, 1) ∷ run ∷ runs
+
+abbrev pub stretches : List ℕ → List (ℕ × ℕ)
+stretches [] = []
+stretches (n ∷ numbers) = with_number n (stretches numbers)
+
+-- a run of blocks, whose numbers are below 2 ^ 64
+abbrev pub run_if : (start len : ℕ) (fits : Bool) → nat_lt (start + len) (2 ^ 64) ≡ fits → List Run
+run_if start len true is = record { start = start; len = len; in_range = ltb-true (start + len) (2 ^ 64) is } ∷ []
+run_if start len false is = []
+
+-- blocks in the order in which they were taken, as maximal runs
+abbrev pub runs_of : List ℕ → List Run
+runs_of numbers = flat_map (λ (run : ℕ × ℕ). run_if run.0 run.1 (nat_lt (run.0 + run.1) (2 ^ 64)) refl) (stretches numbers)
 
 -- each run has a block, and none goes on where the one before it ends
 abbrev pub AreMaximal : List Run → Type 0

@@ -2,10 +2,11 @@
 
 ghost use Rattle.std.specs.Prelude.{◌≡◌, ◌≤◌, length, option_map};
 ghost use Rattle.nv_calls.specs.Nodes.{cell_of};
+ghost use Rattle.nv_calls.specs.Prepared.{handle_in};
 
 use crate::view::{kind_in, stat_in};
 use crate::{Cells, Nodes};
-use nv_base::{Handle, Ino, Kind};
+use nv_base::{Gen, Handle, Ino, Kind};
 use nv_cell::InodeCell;
 
 /// The nodes of a call's cells, of any generation. A handle whose number is none of the cells' has no node.
@@ -35,6 +36,17 @@ impl<'a, C: Cells> HeldNodes<'a, C> {
             }
         }
         None
+    }
+
+    /// The handle of an inode, with the generation of its cell; 0 where it has none.
+    pub(crate) fn handle_in(&self, ino: Ino) -> Handle
+        ensures { result ≡ handle_in (C.cells self.now.cells.now) ino }
+    {
+        let generation = match self.cell_of(ino) {
+            Some(cell) => cell.generation(),
+            None => Gen::new(0),
+        };
+        Handle { ino, generation }
     }
 }
 

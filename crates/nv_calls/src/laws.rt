@@ -1,6 +1,6 @@
 //! Laws of plans and effects, each the contract of a function that does nothing.
 
-ghost use Rattle.std.specs.Prelude.{◌≡◌, ◌<◌, ℕ, Err, List, Option, is_some, length};
+ghost use Rattle.std.specs.Prelude.{◌≡◌, ◌<◌, ℕ, Err, List, Option, is_some, length, Bool};
 ghost use Rattle.nv_book.specs.Book.{BookValue};
 ghost use Rattle.nv_cell.specs.Cell.{CellValue};
 ghost use Rattle.nv_base.specs.declared.fault.Fault.{Fault};
@@ -22,8 +22,10 @@ ghost use Rattle.nv_calls.specs.PublishedSlots.{AreOfSlots, PublishesPlans};
 ghost use Rattle.nv_calls.specs.Ready.{ReadyValue};
 ghost use Rattle.nv_calls.specs.Refusals.{passes};
 ghost use Rattle.nv_calls.specs.Slots.{ArePlaced, Commits, IsBefore, IsPlan, Slot, node_under, published};
+ghost use Rattle.nv_calls.specs.Updates.{SamePlan, blank_call, call_of, text_len};
 ghost use Rattle.nv_calls.specs.declared.call.Call.{Call};
 ghost use Rattle.nv_calls.specs.declared.plan.Planned.{Planned};
+ghost use Rattle.nv_calls.specs.declared.update.Update.{Update};
 
 /// A commit of a plan that fits an effect has that effect on the nodes, leaves each log sound, and changes
 /// none at an earlier epoch.
@@ -130,4 +132,11 @@ pub fn commits_publish_their_plans()
     ensures { (cells : List (ℕ × CellValue)) (book : BookValue) (cpu : ℕ) (ready : ReadyValue)
         (slots : ℕ → Slot) → CanCommit cells book cpu ready → AreOfSlots cells slots
         → PublishesPlans cells (begun (stamp_of book.state) ready) slots }
+{}
+
+/// A call looks up, is checked and planned with any text as with a text of as many zeros.
+pub fn a_write_is_planned_by_its_length()
+    ensures { (block : ℕ) (nodes : Handle → Option NodeCopy) (has_page : Handle → ℕ → Bool) (taken : Taken)
+        (update : Update) (text : List ℕ) → length text ≡ text_len update
+        → SamePlan block nodes has_page taken (blank_call update) (call_of update text) }
 {}

@@ -3,9 +3,10 @@
 ghost use Rattle.std.specs.Prelude.{◌≡◌, ◌↔◌, IsTrue};
 ghost use Rattle.nv_calls.specs.AllCalls.{looked};
 ghost use Rattle.nv_calls.specs.Refusals.{found, look};
+ghost use Rattle.nv_calls.specs.Updates.{blank_call};
 
 use crate::wants::{want_directory, want_lawful};
-use crate::{Call, Nodes};
+use crate::{Nodes, Update};
 use nv_base::{Fault, Handle};
 
 /// What the names of a call lead to, the first and the second, as its looks found it: none where a name is
@@ -37,15 +38,15 @@ pub fn found<N: Nodes>(nodes: &N, dir: &Handle, name: &[u8]) -> Option<Handle>
 }
 
 /// What the names of a call lead to now.
-pub fn look_all<N: Nodes>(nodes: &N, call: &Call) -> Looked
-    ensures { result ≡ looked (N.nodes_of nodes.now) call.now }
+pub fn look_all<N: Nodes>(nodes: &N, call: &Update) -> Looked
+    ensures { result ≡ looked (N.nodes_of nodes.now) (blank_call call.now) }
 {
     match call {
-        Call::Unlink { dir, name } | Call::Rmdir { dir, name } => Looked {
+        Update::Unlink { dir, name } | Update::Rmdir { dir, name } => Looked {
             first: found(nodes, dir, name.as_slice()),
             second: None,
         },
-        Call::Rename { from, old, to, new } => Looked {
+        Update::Rename { from, old, to, new } => Looked {
             first: found(nodes, from, old.as_slice()),
             second: found(nodes, to, new.as_slice()),
         },
@@ -57,8 +58,8 @@ pub fn look_all<N: Nodes>(nodes: &N, call: &Call) -> Looked
 }
 
 /// Whether the names of a call still lead to what its looks found.
-pub fn is_as_looked<N: Nodes>(nodes: &N, before: &Looked, call: &Call) -> bool
-    ensures { IsTrue result ↔ (looked (N.nodes_of nodes.now) call.now ≡ before.now) }
+pub fn is_as_looked<N: Nodes>(nodes: &N, before: &Looked, call: &Update) -> bool
+    ensures { IsTrue result ↔ (looked (N.nodes_of nodes.now) (blank_call call.now) ≡ before.now) }
 {
     let now = look_all(nodes, call);
     is_same(now.first, before.first) && is_same(now.second, before.second)

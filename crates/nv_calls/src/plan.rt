@@ -4,8 +4,9 @@ ghost use Rattle.std.specs.Prelude.{◌≡◌, ◌<◌, ◌^◌, ◌∷◌, [], 
 ghost use Rattle.nv_calls.specs.AllCalls.{is_nothing};
 ghost use Rattle.nv_calls.specs.Plan.{planned};
 ghost use Rattle.nv_calls.specs.Slots.{place_in};
+ghost use Rattle.nv_calls.specs.Updates.{blank_call};
 
-use crate::Call;
+use crate::Update;
 use crate::planning::is_nothing;
 use nv_base::{Handle, Ino, Items};
 use nv_entry::Item;
@@ -14,16 +15,16 @@ use std::alloc::{AllocError, Global};
 /// A call that passed its check, and how many blocks it needs for its pages.
 #[derive(Debug, Drop)]
 pub struct Plan {
-    pub call: Call,
+    pub update: Update,
     pub blocks: u64,
 }
 
 impl Plan {
     /// Whether the call appends nothing, so that it is answered at its check.
     pub fn nothing(&self) -> bool
-        ensures { result ≡ is_nothing self.now.call }
+        ensures { result ≡ is_nothing (blank_call self.now.update) }
     {
-        is_nothing(&self.call)
+        is_nothing(&self.update)
     }
 }
 

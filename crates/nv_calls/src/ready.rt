@@ -1,6 +1,6 @@
 //! A call that is ready to be committed.
 
-ghost use Rattle.std.specs.Prelude.{◌≡◌, ◌-◌, ◌<◌, ◌^◌, length, min};
+ghost use Rattle.std.specs.Prelude.{◌≡◌, ◌-◌, ◌<◌, ◌^◌, length, min, []};
 ghost use Rattle.nv_calls.specs.Cells.{AreCells};
 ghost use Rattle.nv_calls.specs.Commit.{begun};
 ghost use Rattle.nv_calls.specs.Ready.{ArePlaced, need_of, plan_at};
@@ -54,7 +54,39 @@ impl Model for Ready {
     } };
 }
 
+impl CellPlan {
+    pub(crate) fn new(alloc: Global, at: usize, items: Vec<Item>) -> CellPlan
+        ensures { result ≡ record { at = at; items = items.items; killed = [] } }
+    {
+        let killed = Vec::new(alloc);
+        CellPlan { at, items, killed }
+    }
+}
+
 impl Ready {
+    pub(crate) fn new(
+        alloc: Global,
+        update: Update,
+        made: Option<Handle>,
+        plans: Vec<CellPlan>,
+        hand: Hand,
+    ) -> Ready
+        ensures update { result.update ≡ update }
+        ensures made { result.made ≡ made }
+        ensures plans { result.plans ≡ plans.items }
+        ensures hand { result.hand ≡ hand }
+    {
+        let place = 0;
+        Ready {
+            alloc,
+            update,
+            made,
+            plans,
+            place,
+            hand,
+        }
+    }
+
     /// The hand of a call that is given up before its commit. Takes no memory.
     pub fn into_hand(self) -> Hand
         ensures { result ≡ self.hand }

@@ -3,7 +3,7 @@
 ghost use Rattle.std.specs.Prelude.{◌≡◌, ◌+◌, ◌<◌, ◌≤◌, ◌^◌, ℕ, ◌∷◌, ◌++◌, [], IfOk, OnOk, length, slice_index_or};
 ghost use Rattle.nv_base.specs.declared.limits.TheConstants.{BLOCKS, FILE_PAGES};
 ghost use Rattle.nv_entry.specs.Sound.{blocks_of, write_items};
-ghost use Rattle.nv_calls.specs.Plan.{AreMaximal};
+ghost use Rattle.nv_calls.specs.Plan.{AreMaximal, runs_of};
 
 use nv_base::BlockNo;
 use nv_entry::{Item, Run};
@@ -13,6 +13,7 @@ use std::alloc::{AllocError, Global};
 pub fn runs_of(alloc: Global, blocks: &[BlockNo]) -> Result<Vec<Run>, AllocError>
     requires few { length blocks.now ≤ BLOCKS }
     requires small { (k : ℕ) → k < length blocks.now → slice_index_or blocks.now k 0 < 2 ^ 32 }
+    ensures runs { IfOk result (λ runs. runs.items ≡ runs_of blocks.now) }
     ensures blocks { IfOk result (λ runs. blocks_of runs.items ≡ blocks.now) }
     ensures maximal { IfOk result (λ runs. AreMaximal runs.items) }
 {

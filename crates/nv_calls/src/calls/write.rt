@@ -1,6 +1,6 @@
 //! Writing into a file.
 
-ghost use Rattle.std.specs.Prelude.{◌≡◌, ◌+◌, ◌-◌, ◌*◌, ◌/◌, ◌<◌, ◌≤◌, ◌^◌, ℕ, List, IfOk, length, nat_lt};
+ghost use Rattle.std.specs.Prelude.{◌≡◌, ◌+◌, ◌-◌, ◌*◌, ◌/◌, ◌<◌, ◌≤◌, ◌^◌, ℕ, List, IfOk, length, nat_lt, replicate};
 ghost use Rattle.nv_base.specs.declared.limits.TheConstants.{BLOCK_BYTES, FILE_PAGES};
 ghost use Rattle.nv_entry.specs.Bytes.{pages_touched, written};
 ghost use Rattle.nv_entry.specs.Sound.{blocks_of};
@@ -20,17 +20,18 @@ pub fn check<N: Nodes>(
     nodes: &N,
     file: &Handle,
     offset: u64,
-    text: &[u8],
+    count: u64,
 ) -> Result<(), Fault>
     requires some_bytes { 0 < block }
     requires few_bytes { block ≤ BLOCK_BYTES }
-    ensures { result ≡ write_refusal block (N.nodes_of nodes.now) file.now offset text.now }
+    ensures { result ≡ write_refusal block (N.nodes_of nodes.now) file.now offset
+        (replicate count 0) }
 {
     want_file(nodes.kind(file))?;
-    if text.is_empty() {
+    if count == 0 {
         return Ok(());
     }
-    check_count(block, offset, text.len() as u64)
+    check_count(block, offset, count)
 }
 
 /// Why a write of at least one byte is refused.
@@ -38,7 +39,6 @@ fn check_count(block: u64, offset: u64, count: u64) -> Result<(), Fault>
     requires some_bytes { 0 < block }
     requires few_bytes { block ≤ BLOCK_BYTES }
     requires some_text { 0 < count }
-    requires text_fits { count < 2 ^ 63 }
     ensures { result ≡ count_refusal block offset count }
 {
     let pages = pages_touched(block, offset, count);
@@ -58,15 +58,14 @@ fn ends_past(size: u64, offset: u64, count: u64) -> bool
 }
 
 /// How many blocks a write takes: one for each page that the text touches.
-pub fn blocks_wanted(block: u64, offset: u64, text: &[u8]) -> u64
-    requires some_bytes { 0 < block }
-    requires few_bytes { block ≤ BLOCK_BYTES }
-    ensures { result ≡ write_blocks block offset text.now }
+pub fn blocks_wanted(block: u64, offset: u64, count: u64) -> u64
+    requires { 0 < block }
+    ensures { result ≡ write_blocks block offset (replicate count 0) }
 {
-    if text.is_empty() {
+    if count == 0 {
         return 0;
     }
-    pages_touched(block, offset, text.len() as u64)
+    pages_touched(block, offset, count)
 }
 
 /// One item for each run of the blocks that have the text's pages, with the size of the file after
@@ -77,20 +76,19 @@ pub fn plan<N: Nodes>(
     nodes: &N,
     file: Handle,
     offset: u64,
-    text: &[u8],
+    count: u64,
     runs: &[Run],
 ) -> Result<PlannedItems, AllocError>
     requires some_bytes { 0 < block }
-    requires end { offset + length text.now < 2 ^ 64 }
-    requires fits { 0 < length text.now
-        → offset / block + length (blocks_of runs.now) ≤ FILE_PAGES }
+    requires end { offset + count < 2 ^ 64 }
+    requires fits { 0 < count → offset / block + length (blocks_of runs.now) ≤ FILE_PAGES }
     ensures { IfOk result (λ plan. plan
-        ≡ write_plan block (N.nodes_of nodes.now) file offset text.now runs.now) }
+        ≡ write_plan block (N.nodes_of nodes.now) file offset (replicate count 0) runs.now) }
 {
-    if text.is_empty() {
+    if count == 0 {
         return Ok(Items::empty(alloc));
     }
-    let size = size_after(nodes.size(&file), offset, text.len() as u64);
+    let size = size_after(nodes.size(&file), offset, count);
     let first = (offset / block) as u32;
     let items = Items::from_vec(write_items(alloc, first, runs, size)?);
     let handle = file;
@@ -109,10 +107,9 @@ pub fn size_after(size: u64, offset: u64, count: u64) -> u64
 /// How many pages a text of `count` bytes touches that is written at `offset`.
 pub fn pages_touched(block: u64, offset: u64, count: u64) -> u64
     requires some_bytes { 0 < block }
-    requires few_bytes { block ≤ BLOCK_BYTES }
     requires some_text { 0 < count }
-    requires text_fits { count < 2 ^ 63 }
     ensures { result ≡ pages_touched block offset count }
 {
-    (offset % block + (count - 1)) / block + 1
+    let last = u128::from(offset % block) + u128::from(count - 1);
+    (last / u128::from(block)) as u64 + 1
 }

@@ -1,10 +1,10 @@
 //! What looks find, and the calls that no row makes.
 
 use super::refusals::known;
-use super::says::{Says, call};
+use super::says::{Says, update};
 use crate::compare::{same, same_for};
 use crate::scenes::handle;
-use Says::{Create, Lookup, Rename, Rmdir, Unlink};
+use Says::{Create, Mkdir, Rename, Rmdir, Unlink};
 use nv_base::{Fault, Ino};
 use nv_calls::{Looked, found, is_as_looked, laws, look, look_all, place_in};
 use std::test::Fail;
@@ -12,7 +12,7 @@ use std::test::Fail;
 /// A call, and the inodes that its names lead to. Where a look would be refused it finds nothing.
 const LOOKS: &[(Says, Option<u64>, Option<u64>)] = &[
     (Create(0, "f"), None, None),
-    (Lookup(0, "f"), None, None),
+    (Mkdir(0, "f"), None, None),
     (Unlink(0, "f"), Some(3), None),
     (Unlink(0, "g"), None, None),
     (Unlink(3, "f"), None, None),
@@ -30,7 +30,7 @@ const LOOKS: &[(Says, Option<u64>, Option<u64>)] = &[
 fn looks_find_what_names_lead_to(rt: HostRuntime) -> Result<(), Fail> {
     let nodes = known(rt.alloc())?;
     for (says, first, second) in LOOKS {
-        let call = call(rt.alloc(), *says)?;
+        let call = update(rt.alloc(), *says)?;
         let wanted = Looked {
             first: first.map(handle),
             second: second.map(handle),

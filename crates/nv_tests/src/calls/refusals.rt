@@ -1,13 +1,14 @@
 //! The order in which calls are refused.
 
 use super::known::{Known, KnownNode};
-use super::says::{Says, call};
+use super::says::{Says, update};
 use crate::compare::same_for;
 use crate::entry::logs::mode;
 use crate::scenes::handle;
 use Says::{Create, List, Lookup, Mkdir, Mode, Read, Rename, Rmdir, Size, Stat, Unlink, Write};
 use nv_base::{Bytes, Fault, Kind, Name};
-use nv_calls::{Call, Nodes, check, check_early, check_late, check_look, look_all, plan_of};
+use nv_calls::calls::{list, lookup, read, stat};
+use nv_calls::{Nodes, Update, check, check_early, check_late, check_look, look_all, plan_of};
 use nv_entry::{BoundName, NameList, NodeCopy};
 use std::alloc::Global;
 use std::process::Abort;
@@ -145,9 +146,20 @@ pub fn known(alloc: Global) -> Result<Known, Fail> {
 }
 
 /// The check in its parts: before names are compared with what the looks found, and behind it.
-fn in_parts(nodes: &Known, call: &Call) -> Result<(), Fault> {
+fn in_parts(nodes: &Known, call: &Update) -> Result<(), Fault> {
     check_early(nodes, call)?;
     check_late(BLOCK, nodes, &look_all(nodes, call), call)
+}
+
+/// The check of a call that only reads.
+pub fn of_a_read(nodes: &Known, says: Says) -> Option<Result<(), Fault>> {
+    match says {
+        Read(file, _, _) => Some(read::check(nodes, &handle(file))),
+        Stat(ino) => Some(stat::check(nodes, &handle(ino))),
+        List(dir) => Some(list::check(nodes, &handle(dir))),
+        Lookup(dir, name) => Some(lookup::check(nodes, &handle(dir), name.as_bytes())),
+        _ => None,
+    }
 }
 
 #[test]
@@ -166,7 +178,11 @@ fn is_refused(
     says: Says,
     wanted: Option<Fault>,
 ) -> Result<(), Fail> {
-    let call = call(alloc, says)?;
+    if let Some(found) = of_a_read(nodes, says) {
+        same_for(rt, &says, found.err(), wanted);
+        return Ok(());
+    }
+    let call = update(alloc, says)?;
     let found = check(BLOCK, nodes, &call).err();
     same_for(rt, &says, in_parts(nodes, &call).err(), found);
     // what a look refuses, the check refuses alike

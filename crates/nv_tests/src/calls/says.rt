@@ -3,7 +3,7 @@
 use crate::entry::logs::mode;
 use crate::scenes::handle;
 use nv_base::Bytes;
-use nv_calls::Call;
+use nv_calls::Update;
 use std::alloc::Global;
 use std::test::Fail;
 
@@ -30,65 +30,52 @@ fn bytes(alloc: Global, text: &[u8]) -> Result<Bytes, Fail> {
     Ok(Bytes::from_vec(Vec::from_slice(alloc, text)?))
 }
 
-/// The call: files are made with mode 420 and directories with mode 493.
-pub fn call(alloc: Global, says: Says) -> Result<Call, Fail> {
+/// The call, which changes nodes: files are made with mode 420 and directories with mode 493.
+pub fn update(alloc: Global, says: Says) -> Result<Update, Fail> {
     match says {
-        Says::Create(dir, name) => Ok(Call::Create {
+        Says::Create(dir, name) => Ok(Update::Create {
             dir: handle(dir),
             name: bytes(alloc, name.as_bytes())?,
             mode: mode(420)?,
         }),
-        Says::Mkdir(dir, name) => Ok(Call::Mkdir {
+        Says::Mkdir(dir, name) => Ok(Update::Mkdir {
             dir: handle(dir),
             name: bytes(alloc, name.as_bytes())?,
             mode: mode(493)?,
         }),
-        Says::Lookup(dir, name) => Ok(Call::Lookup {
+        Says::Unlink(dir, name) => Ok(Update::Unlink {
             dir: handle(dir),
             name: bytes(alloc, name.as_bytes())?,
         }),
-        Says::Unlink(dir, name) => Ok(Call::Unlink {
+        Says::Rmdir(dir, name) => Ok(Update::Rmdir {
             dir: handle(dir),
             name: bytes(alloc, name.as_bytes())?,
         }),
-        Says::Rmdir(dir, name) => Ok(Call::Rmdir {
-            dir: handle(dir),
-            name: bytes(alloc, name.as_bytes())?,
-        }),
-        Says::Rename(from, old, to, new) => Ok(Call::Rename {
+        Says::Rename(from, old, to, new) => Ok(Update::Rename {
             from: handle(from),
             old: bytes(alloc, old.as_bytes())?,
             to: handle(to),
             new: bytes(alloc, new.as_bytes())?,
         }),
-        of_one => of_one_inode(alloc, of_one),
+        of_one => of_one_inode(of_one),
     }
 }
 
-fn of_one_inode(alloc: Global, says: Says) -> Result<Call, Fail> {
+fn of_one_inode(says: Says) -> Result<Update, Fail> {
     match says {
-        Says::Write(file, offset, text) => Ok(Call::Write {
+        Says::Write(file, offset, text) => Ok(Update::Write {
             file: handle(file),
             offset,
-            text: bytes(alloc, text)?,
+            count: text.len() as u64,
         }),
-        Says::Read(file, offset, count) => Ok(Call::Read {
-            file: handle(file),
-            offset,
-            count,
-        }),
-        Says::Size(file, size) => Ok(Call::Size {
+        Says::Size(file, size) => Ok(Update::Size {
             file: handle(file),
             size,
         }),
-        Says::Mode(ino, bits) => Ok(Call::Mode {
+        Says::Mode(ino, bits) => Ok(Update::Mode {
             handle: handle(ino),
             mode: mode(bits)?,
         }),
-        Says::Stat(ino) => Ok(Call::Stat {
-            handle: handle(ino),
-        }),
-        Says::List(dir) => Ok(Call::List { dir: handle(dir) }),
-        _ => Err("a call of one inode")?,
+        _ => Err("a call that changes a node")?,
     }
 }

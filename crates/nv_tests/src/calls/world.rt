@@ -3,13 +3,14 @@
 ghost use Rattle.std.specs.Prelude.{◌≡◌, IfOk};
 
 use super::known::{Known, KnownNode};
-use super::says::{Says, call};
+use super::refusals::of_a_read;
+use super::says::{Says, update};
 use crate::compare::same_for;
 use crate::entry::logs::{Device, Says as LogSays, log_of};
 use crate::scenes::{handle, id};
 use nv_base::{BlockNo, Epoch, Fault, Handle, Ino, Items};
 use nv_calls::{
-    Call, Planned, PlannedItems, Taken, blocks_wanted, check, ends_in_page, plan_items, plan_of,
+    Planned, PlannedItems, Taken, Update, blocks_wanted, check, ends_in_page, plan_items, plan_of,
     runs_of,
 };
 use nv_entry::{Entry, Item, When, node_when, page_source};
@@ -83,7 +84,15 @@ impl World {
         let (says, epoch, blocks, wanted) = *row;
         let block = self.block;
         assert!(rt; 0 < block && block <= 4_096);
-        let plan = match plan_of(block, &self.nodes, call(alloc, says)?) {
+        if let Some(found) = of_a_read(&self.nodes, says) {
+            let found = match found {
+                Ok(()) => Outcome::Nothing,
+                Err(fault) => Outcome::Refused(fault),
+            };
+            same_for(rt, row, found, wanted);
+            return Ok(());
+        }
+        let plan = match plan_of(block, &self.nodes, update(alloc, says)?) {
             Ok(plan) => plan,
             Err(fault) => {
                 same_for(rt, row, Outcome::Refused(fault), wanted);
@@ -96,8 +105,8 @@ impl World {
         }
         same_for(rt, row, Outcome::Commits, wanted);
         same_for(rt, row, plan.blocks, blocks.len() as u64);
-        let planned = self.planned(rt, alloc, &plan.call, blocks)?;
-        self.fill(rt, alloc, &plan.call, blocks)?;
+        let planned = self.planned(rt, alloc, &plan.update, blocks)?;
+        self.fill(rt, alloc, says, blocks)?;
         self.append(alloc, planned, epoch)?;
         self.read_all(rt, alloc)
     }
@@ -107,7 +116,7 @@ impl World {
         &self,
         rt: &impl Abort,
         alloc: Global,
-        call: &Call,
+        call: &Update,
         blocks: &[u32],
     ) -> Result<PlannedItems, Fail> {
         let block = self.block;
@@ -133,18 +142,18 @@ impl World {
         &mut self,
         rt: &impl Abort,
         alloc: Global,
-        call: &Call,
+        says: Says,
         blocks: &[u32],
     ) -> Result<(), Fail> {
-        let (after, first) = match call {
-            Call::Write { file, offset, text } => {
-                let before = self.bytes(alloc, file)?;
-                (written(alloc, &before, *offset, text.as_slice())?, *offset)
+        let (after, first) = match says {
+            Says::Write(file, offset, text) => {
+                let before = self.bytes(alloc, &handle(file))?;
+                (written(alloc, &before, offset, text)?, offset)
             }
-            Call::Size { file, size } => {
-                let mut before = self.bytes(alloc, file)?;
-                before.truncate(*size as usize);
-                (before, *size)
+            Says::Size(file, size) => {
+                let mut before = self.bytes(alloc, &handle(file))?;
+                before.truncate(size as usize);
+                (before, size)
             }
             _ => return Ok(()),
         };

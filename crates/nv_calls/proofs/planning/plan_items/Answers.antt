@@ -1,4 +1,5 @@
-use Rattle.std.proofs.Common.{length}
+use Rattle.std.proofs.Common.{ℕ, length, replicate, sym}
+use Rattle.std.proofs.lemmas.List.{length-replicate}
 use Rattle.nv_entry.specs.Sound.{blocks_of}
 use Rattle.nv_calls.proofs.Within.{new_lawful, size_within, write_within}
 use Rattle.nv_calls.proofs.planning.plan_items.Goals as goal
@@ -7,9 +8,9 @@ pub plan-requires-in-Write-clause-fits : goal.plan-requires-in-Write-clause-fits
 plan-requires-in-Write-clause-fits g c any =
     let passed = rw c.in-Write.is at c.requires.passed in
     let wanted = rw c.in-Write.is at c.requires.wanted in
-    let some = rw c.as_slice-in-Write.ensures at any in
+    let some = rw (sym (length-replicate {A = ℕ} c.in-Write.count 0)) at any in
     rw c.as_slice-runs.ensures (write_within c.args.block (g.N.Nodes.nodes_of c.args.nodes.now) c.requires.some_bytes c.in-Write.file
-    c.in-Write.offset c.in-Write.text c.args.taken.now.present (length (blocks_of c.args.taken.now.runs)) passed wanted some)
+    c.in-Write.offset (replicate c.in-Write.count 0) c.args.taken.now.present (length (blocks_of c.args.taken.now.runs)) passed wanted some)
 
 pub plan-requires-in-Size-clause-fits : goal.plan-requires-in-Size-clause-fits
 plan-requires-in-Size-clause-fits g c =
