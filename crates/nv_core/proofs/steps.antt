@@ -9,3 +9,4 @@ pub mod Scripts
 pub mod MoreRows
 pub mod Ordered
 pub mod InOrder
+pub mod CellPages

@@ -9,3 +9,5 @@ pub mod Bound
 pub mod Frame
 pub mod Locks
 pub mod Order
+pub mod Kept
+pub mod PlainRun
