@@ -10,3 +10,6 @@ pub mod MoreRows
 pub mod Ordered
 pub mod InOrder
 pub mod CellPages
+pub mod CellSteps
+pub mod Journals
+pub mod LogsKept
