@@ -19,7 +19,7 @@ use Rattle.nv_calls.specs.Slots.{Commits, IsPlan, IsPlanned, Slot, entries_of, i
 
 -- ---- the entries of a commit
 
-entries-items : (commit epoch place : ℕ) (items : List Item) → map (λ (e : Entry). e.item) (entries_of commit epoch place items) ≡ items
+pub entries-items : (commit epoch place : ℕ) (items : List Item) → map (λ (e : Entry). e.item) (entries_of commit epoch place items) ≡ items
 entries-items commit epoch place [] = refl
 entries-items commit epoch place (item ∷ items) = ap (λ (xs : List Item). item ∷ xs) (entries-items commit epoch (place + 1) items)
 

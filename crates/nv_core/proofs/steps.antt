@@ -13,3 +13,7 @@ pub mod CellPages
 pub mod CellSteps
 pub mod Journals
 pub mod LogsKept
+pub mod CommitKept
+pub mod Planned
+pub mod Knowing
+pub mod Kept

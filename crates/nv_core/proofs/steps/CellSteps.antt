@@ -49,7 +49,7 @@ pub record HaveFront (items : List Item) (numbers : List ℕ) : Type 0 where
   pub rest : List ℕ
   pub is : numbers ≡ flat_map item_blocks items ++ rest
 
-abbrev items_in : List Entry → List Item
+abbrev pub items_in : List Entry → List Item
 items_in entries = map (λ (e : Entry). e.item) entries
 
 take_front : (xs ys : List ℕ) → take (length xs) (xs ++ ys) ≡ xs

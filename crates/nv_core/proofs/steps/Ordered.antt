@@ -152,7 +152,7 @@ left_order a s t w (Moves u h q) left out same on = (
 left_order a s t w Waits left out same on = tt
 left_order a s t w (Ends result u h) left out same on = subst (λ (x : Shared). OrderLeft a s x) (sym same) left
 
-rest_shared : (home number : Option ℕ) (t : Shared) (h : HandState) (r : Running) → OnShared t (rest_turn home number t h r)
+pub rest_shared : (home number : Option ℕ) (t : Shared) (h : HandState) (r : Running) → OnShared t (rest_turn home number t h r)
 rest_shared (Some cpu) number t h r = refl
 rest_shared None (Some ino) t h r = refl
 rest_shared None None t h r = refl
@@ -166,7 +166,7 @@ over_shared Answers t h r = rest_shared _ h.ino t h r
 over_shared (Refuses fault) t h r = rest_shared _ h.ino t h r
 over_shared Overtaken t h r = again_shared r.rounds t h r
 
-end_shared : (slots : List ℕ) (e : Ending) (t : Shared) (h : HandState) (r : Running) → OnShared t (end_turn slots e t h r)
+pub end_shared : (slots : List ℕ) (e : Ending) (t : Shared) (h : HandState) (r : Running) → OnShared t (end_turn slots e t h r)
 end_shared [] e t h r = over_shared e t h (record r { ending = e })
 end_shared (slot ∷ slots) e t h r = refl
 

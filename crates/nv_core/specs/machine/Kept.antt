@@ -102,7 +102,8 @@ Knows Ready block s cpu h r = (h.killed ≡ []) × (r.ending ≡ Answers) × IsI
 Knows Enter block s cpu h r = (h.killed ≡ []) × (r.ending ≡ Answers) × IsPlanFor r.plan (numbers_of h.blocks)
 Knows (Append place) block s cpu h r =
     (h.killed ≡ []) × (r.ending ≡ Answers) × AreClosed s.book.journals × ((numbers : List ℕ) → (place ≡ 0 → numbers ≡ numbers_of h.blocks) → IsPlanFor r.plan numbers)
-Knows Open block s cpu h r = (h.killed ≡ []) × (r.ending ≡ Answers) × AreClosed s.book.journals
+Knows Open block s cpu h r =
+    (h.killed ≡ []) × (r.ending ≡ Answers) × AreClosed s.book.journals × (nat_lt 1 (length (written_slots r)) ≡ true)
 Knows (Publish place) block s cpu h r =
     AreKilledIn s (take place (written_slots r)) h.killed × (r.ending ≡ Answers) × IsNotedIf (nat_lt 1 (length (written_slots r))) s cpu (written_slots r)
 Knows Close block s cpu h r = AreKilledIn s (written_slots r) h.killed × (r.ending ≡ Answers) × HasNoted s cpu (written_slots r)
@@ -110,7 +111,7 @@ Knows (Retire place) block s cpu h r =
     AreKilledIn s (drop place (written_slots r)) h.killed × (r.ending ≡ Answers) × AreClosed s.book.journals
 Knows Leave block s cpu h r = (r.ending ≡ Answers) × AreClosed s.book.journals
 Knows (Unlock place) block s cpu h r = r.ending ≡ Overtaken → HasNothing h
-Knows (Give cpu_) block s cpu h r = Unit {0}
+Knows (Give home) block s cpu h r = Unit {0}
 Knows Back block s cpu h r = Unit {0}
 Knows Visit block s cpu h r = Unit {0}
 

@@ -20,6 +20,11 @@ pub data Deed : Type 0 where
   Numbers : Deed
   Commits : Deed
 
+abbrev pub keeps_nodes : Deed → Bool
+keeps_nodes Nothing = true
+keeps_nodes Numbers = true
+keeps_nodes Commits = false
+
 -- an enter that goes on into its commit fixes the number
 abbrev pub entered : Turn → Deed
 entered (Moves s h r) = if commits_at r.next then Numbers else Nothing
