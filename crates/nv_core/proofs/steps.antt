@@ -17,3 +17,5 @@ pub mod CommitKept
 pub mod Planned
 pub mod Knowing
 pub mod Kept
+pub mod KeptRuns
+pub mod Counted

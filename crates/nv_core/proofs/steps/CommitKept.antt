@@ -126,7 +126,7 @@ within_of (p ∷ plan) ino h = go (p.handle.ino == ino) (within_of plan ino h.1)
 
 -- ---- what publishes have killed
 
-same_killed : (s t : Shared) (slots : List ℕ) (killed : List (List KilledPart))
+pub same_killed : (s t : Shared) (slots : List ℕ) (killed : List (List KilledPart))
     → ((ino : ℕ) → has slots ino ≡ true → cell_at t ino ≡ cell_at s ino) → AreKilledIn s slots killed → AreKilledIn t slots killed
 same_killed s t [] [] same h = tt
 same_killed s t [] (parts ∷ rest) same h = h

@@ -134,7 +134,7 @@ start_order true None w actor c e locks order = record {
       (λ k. absurd (false≢true (sym (begun_commits (beginning c) w.shared c) ∙ k))) order.each;
 }
 
-event_order : (w : World) (e : Event) → AreLocks w → IsInOrder w → IsInOrder (step w e).world
+pub event_order : (w : World) (e : Event) → AreLocks w → IsInOrder w → IsInOrder (step w e).world
 event_order w (Start actor c) locks order = start_order (nat_lt actor (length w.actors)) (actor_at w actor).running w actor c
     refl locks order
 event_order w (Go actor granted) locks order = go_order (nat_lt actor (length w.actors)) (actor_at w actor).running w actor

@@ -48,7 +48,7 @@ ending same block a s t (Moves u h q) left nodes e on =
 ending same block a s t Waits left nodes e on = tt
 ending same block a s t (Ends result u h) left nodes e on = (subst (KeptLeft a s) (sym e) left, (λ is. subst (SameNodes s) (sym e) nodes))
 
-same_still : (s : Shared) → Still s s
+pub same_still : (s : Shared) → Still s s
 same_still s = record { cells = λ ino. refl; journals = refl; cpus = refl }
 
 enter_kept : (same : Bool) (block : ℕ) (holder : Option ℕ) (last granted : Bool) (a : ℕ) (s : Shared) (h : HandState) (r : Running)

@@ -1,16 +1,20 @@
 //! Laws of the machine of steps, for all worlds and events, each the contract of a function that does nothing.
 
-ghost use Rattle.std.specs.Prelude.{◌≡◌, ◌+◌, ◌<◌, ◌≤◌, ℕ, Bool, List, Some, None, length};
+ghost use Rattle.std.specs.Prelude.{◌≡◌, ◌+◌, ◌<◌, ◌≤◌, ℕ, Bool, true, List, Some, None, length};
 ghost use Rattle.std.specs.List.{AllByRecursion};
 ghost use Rattle.nv_base.specs.Limits.{IsWithinLimits};
 ghost use Rattle.nv_base.specs.declared.fault.Fault.TheVariants.{ActorBusy, ActorIdle, NoActor};
 ghost use Rattle.nv_base.specs.declared.geometry.GeometryNumbers.{GeometryNumbers};
+ghost use Rattle.nv_base.specs.declared.numbers.Handle.{Handle};
 ghost use Rattle.nv_calls.specs.declared.call.Call.{Call};
 ghost use Rattle.nv_core.specs.machine.Bound.{IsNoStart, bound_at, most_steps, moves};
 ghost use Rattle.nv_core.specs.machine.Format.{formatted};
 ghost use Rattle.nv_core.specs.machine.Frame.{IsOneStep, IsStart};
+ghost use Rattle.nv_core.specs.machine.Kept.{AreBlocksApart, IsKept};
 ghost use Rattle.nv_core.specs.machine.Locks.{AreLocks, HasLent, WaitsFor};
 ghost use Rattle.nv_core.specs.machine.Order.{IsInOrder};
+ghost use Rattle.nv_core.specs.machine.PlainRun.{Plain, deed_of, keeps_nodes, plain_after};
+ghost use Rattle.nv_core.specs.machine.Settled.{settled_nodes};
 ghost use Rattle.nv_core.specs.machine.Step.{after, stays, step};
 ghost use Rattle.nv_core.specs.machine.World.{Event, Go, Refused, Running, Start, Started, Waiting, World, actor_at};
 
@@ -68,4 +72,25 @@ pub fn ids_rise()
     ensures new { (g : GeometryNumbers) → IsInOrder (formatted g) }
     ensures stays { (events : List Event) (w : World) → AreLocks w → IsInOrder w
         → IsInOrder (after w events) }
+{}
+
+/// Only commit points change nodes. Each settled log has the blocks of its pages, and a journal is open only
+/// within a commit of several inodes, from a new world on and whatever events come, where no block has the
+/// number of another and a call begins with an empty hand. So every event but a commit point leaves every
+/// settled node as it is: a refused call has changed none, and of several inodes that are published one
+/// after another none is seen before the close.
+pub fn only_commits_change_nodes()
+    ensures new { (g : GeometryNumbers) → IsWithinLimits g → IsKept (formatted g) }
+    ensures stays { (events : List Event) (w : World) → AreLocks w → IsInOrder w → IsKept w
+        → ((before : List Event) → AreBlocksApart (after w before)) → IsKept (after w events) }
+    ensures nodes { (w : World) (e : Event) → AreLocks w → IsInOrder w → IsKept w → AreBlocksApart w
+        → keeps_nodes (deed_of w e) ≡ true
+        → (handle : Handle) → settled_nodes (step w e).world.shared handle ≡ settled_nodes w.shared handle }
+{}
+
+/// The number of the last commit is the plain world's after whatever events: it rises by one where an enter
+/// goes on into its commit, and nowhere else.
+pub fn the_plain_world_counts_commits()
+    ensures { (events : List Event) (w : World) (p : Plain) → w.shared.book.commit ≡ p.commit
+        → (after w events).shared.book.commit ≡ (plain_after w events p).commit }
 {}
