@@ -19,3 +19,4 @@ pub mod Knowing
 pub mod Kept
 pub mod KeptRuns
 pub mod Counted
+pub mod Answered

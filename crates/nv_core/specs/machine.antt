@@ -11,3 +11,4 @@ pub mod Locks
 pub mod Order
 pub mod Kept
 pub mod PlainRun
+pub mod Answered

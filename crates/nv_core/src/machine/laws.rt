@@ -1,19 +1,23 @@
 //! Laws of the machine of steps, for all worlds and events, each the contract of a function that does nothing.
 
-ghost use Rattle.std.specs.Prelude.{◌≡◌, ◌+◌, ◌<◌, ◌≤◌, ℕ, Bool, true, List, Some, None, length};
+ghost use Rattle.std.specs.Prelude.{◌≡◌, ◌+◌, ◌<◌, ◌≤◌, ℕ, Bool, true, List, Option, Some, None, length};
 ghost use Rattle.std.specs.List.{AllByRecursion};
 ghost use Rattle.nv_base.specs.Limits.{IsWithinLimits};
 ghost use Rattle.nv_base.specs.declared.fault.Fault.TheVariants.{ActorBusy, ActorIdle, NoActor};
 ghost use Rattle.nv_base.specs.declared.geometry.GeometryNumbers.{GeometryNumbers};
 ghost use Rattle.nv_base.specs.declared.numbers.Handle.{Handle};
+ghost use Rattle.nv_calls.specs.AllCalls.{answer};
+ghost use Rattle.nv_calls.specs.Plain.{PlainNode};
 ghost use Rattle.nv_calls.specs.declared.call.Call.{Call};
+ghost use Rattle.nv_core.specs.machine.Answered.{GoesToAnswer, IsToBeAnswered};
 ghost use Rattle.nv_core.specs.machine.Bound.{IsNoStart, bound_at, most_steps, moves};
 ghost use Rattle.nv_core.specs.machine.Format.{formatted};
 ghost use Rattle.nv_core.specs.machine.Frame.{IsOneStep, IsStart};
 ghost use Rattle.nv_core.specs.machine.Kept.{AreBlocksApart, IsKept};
 ghost use Rattle.nv_core.specs.machine.Locks.{AreLocks, HasLent, WaitsFor};
 ghost use Rattle.nv_core.specs.machine.Order.{IsInOrder};
-ghost use Rattle.nv_core.specs.machine.PlainRun.{Plain, deed_of, keeps_nodes, plain_after};
+ghost use Rattle.nv_core.specs.machine.PlainRun.{Commits, Plain, deed_of, keeps_nodes, plain_after};
+ghost use Rattle.nv_core.specs.machine.Sequence.{Visits, beginning};
 ghost use Rattle.nv_core.specs.machine.Settled.{settled_nodes};
 ghost use Rattle.nv_core.specs.machine.Step.{after, stays, step};
 ghost use Rattle.nv_core.specs.machine.World.{Event, Go, Refused, Running, Start, Started, Waiting, World, actor_at};
@@ -93,4 +97,18 @@ pub fn only_commits_change_nodes()
 pub fn the_plain_world_counts_commits()
     ensures { (events : List Event) (w : World) (p : Plain) → w.shared.book.commit ≡ p.commit
         → (after w events).shared.book.commit ≡ (plain_after w events p).commit }
+{}
+
+/// A call that has made its commit point is answered, whatever follows: from there on each of its steps moves
+/// it on towards that answer, or is its last and replies it. So a call that ends refused has made none. Of
+/// calls that commit no node tells the answer, so that it is the one of the commit point.
+pub fn what_commits_is_answered()
+    ensures commits { (w : World) (actor : ℕ) (granted : Bool) (r : Running) → IsKept w
+        → actor < length w.actors → (actor_at w actor).running ≡ Some r
+        → deed_of w (Go actor granted) ≡ Commits → GoesToAnswer actor r (step w (Go actor granted)) }
+    ensures goes { (w : World) (actor : ℕ) (granted : Bool) (r : Running) → actor < length w.actors
+        → (actor_at w actor).running ≡ Some r → IsToBeAnswered r
+        → GoesToAnswer actor r (step w (Go actor granted)) }
+    ensures same { (nodes other : Handle → Option PlainNode) (made : Handle) (c : Call)
+        → (beginning c ≡ Visits → ⊥) → answer nodes made c ≡ answer other made c }
 {}
