@@ -20,3 +20,6 @@ pub mod Kept
 pub mod KeptRuns
 pub mod Counted
 pub mod Answered
+pub mod Grown
+pub mod Settling
+pub mod GrownRuns

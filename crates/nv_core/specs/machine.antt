@@ -12,3 +12,4 @@ pub mod Order
 pub mod Kept
 pub mod PlainRun
 pub mod Answered
+pub mod Grown

@@ -95,14 +95,14 @@ single place r e one = go (nat_lt (place + 1) (length (written_slots r))) refl w
   go true q = absurd (omega (arith, few, ltb-true (place + 1) (length (written_slots r)) q))
   go false q = close (nat_lt 1 (length (written_slots r))) one
 
-is_single : (b : Bool) → cond b Nothing Commits ≡ Commits → b ≡ false
+pub is_single : (b : Bool) → cond b Nothing Commits ≡ Commits → b ≡ false
 is_single true e = absurd (false≢true (sym (ap keeps_nodes e)))
 is_single false e = refl
 
-no_commit : Nothing ≡ Commits → ⊥
+pub no_commit : Nothing ≡ Commits → ⊥
 no_commit e = false≢true (sym (ap keeps_nodes e))
 
-entered_none : (t : Turn) → entered t ≡ Commits → ⊥
+pub entered_none : (t : Turn) → entered t ≡ Commits → ⊥
 entered_none (Moves s h r) e = go (commits_at r.next) e where
   go : (b : Bool) → (if b then Numbers else Nothing) ≡ Commits → ⊥
   go true q = false≢true (sym (ap keeps_nodes q))
@@ -152,7 +152,7 @@ goes_to_answer w actor granted r there is waits =
     (turned_answer (turn w.numbers.block actor granted w.shared (actor_at w actor).hand r) actor w r there
     (kind_answer r.next w.numbers.block actor granted w.shared (actor_at w actor).hand r waits.answers waits.last))
 
-deed_is : (b : Bool) (running : Option Running) (w : World) (actor : ℕ) (granted : Bool) (r : Running) → b ≡ true → running ≡ Some r
+pub deed_is : (b : Bool) (running : Option Running) (w : World) (actor : ℕ) (granted : Bool) (r : Running) → b ≡ true → running ≡ Some r
     → (if b then deed_by running w actor granted else Nothing)
     ≡ deed r.next (written_slots r) (turn w.numbers.block actor granted w.shared (actor_at w actor).hand r)
 deed_is b running w actor granted r there is = rw there (rw is refl)

@@ -31,7 +31,7 @@ use Rattle.nv_core.specs.machine.Settled.{node_by, settled, settled_tail}
 use Rattle.nv_core.specs.machine.World.{Answers, Append, Close, Ends, HandState, Leave, Moves, Next, Open, Overtaken, Publish, Retire, Running, Shared, Turn, Waits, cell_at, go_to, no_cell, with_book, with_cell}
 use Rattle.nv_core.proofs.steps.CellPages.{later_pages}
 use Rattle.nv_core.proofs.steps.CellSteps.{Grows, HaveFront, Retires, append_grows, empty_pages, erased_none, items_in, killed_covered, retired_is, retired_node, retired_pages}
-use Rattle.nv_core.proofs.steps.Journals.{closed_again, closed_tail, open_same, open_stays}
+use Rattle.nv_core.proofs.steps.Journals.{closed_again, closed_tail, open_free, open_same, open_stays}
 use Rattle.nv_core.proofs.steps.Lists.{drop_all, drop_apart, has_at, has_filter, rising_filter, take_all, take_apart, take_more}
 use Rattle.nv_core.proofs.steps.Locked.{Before}
 use Rattle.nv_core.proofs.steps.LogsKept.{KeptLeft, SameNodes, cell_left, cell_nodes, cell_set, node_at}
@@ -295,6 +295,7 @@ module _ (block a : ℕ) (s : Shared) (h : HandState) (r : Running) (kept : AreL
           (subst (λ (b : Bool). IsNotedIf b after cpu written_) (sym several) (record {
             alone = noted.alone;
             noted = noted.noted;
+            free = noted.free;
             older = λ ino. cell_set s slot (published cell) ino (λ (c : CellState). settled_tail s.book.journals ino c.chain.tail ≤ c.chain.tail) low
                 (λ e. subst (λ (n : ℕ). settled_tail s.book.journals n (length cell.chain.entries) ≤ length cell.chain.entries) e
                 (omega (arith, stays, noted.older slot, (kept.pages slot).within)))
@@ -426,6 +427,7 @@ module _ (block a : ℕ) (s : Shared) (h : HandState) (r : Running) (kept : AreL
     knows_publishing block t cpu h r k.1 0 (none_killed t h.killed k.0) (subst (λ (b : Bool). IsNotedIf b t cpu written_) (sym k.3) (record {
       alone = closed_again s.book.journals cpu (old_tails s written_) k.2;
       noted = open_stays s cpu written_ k.2 inside_cpu;
+      free = open_free s cpu written_ k.2 inside_cpu;
       older = λ ino. omega (arith, open_same s cpu written_ k.2 inside_cpu ino);
     })),
   ) where

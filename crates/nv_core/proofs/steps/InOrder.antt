@@ -115,7 +115,7 @@ locking_commits : (place : ℕ) (slots : List ℕ) (b : Bool) → commits_at (if
 locking_commits place slots true = refl
 locking_commits place slots false = refl
 
-begun_commits : (b : Beginning) (s : Shared) (c : Call) → commits_at (begun b s c).next ≡ false
+pub begun_commits : (b : Beginning) (s : Shared) (c : Call) → commits_at (begun b s c).next ≡ false
 begun_commits Numbers s c = refl
 begun_commits Looks s c = refl
 begun_commits Locks s c = locking_commits 0 (slots_of s None nothing_looked c) (nat_lt 0 (length (slots_of s None nothing_looked c)))

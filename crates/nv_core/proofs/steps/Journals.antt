@@ -79,3 +79,10 @@ module _ (s : Shared) (cpu : ℕ) (slots : List ℕ) (closed : AreClosed s.book.
         → noted_or (cond b (Some (cell_at s ino).chain.tail) None) tail ≡ noted_or (cond b (Some (cell_at s ino).chain.tail) None) other
     go true e = refl
     go false e = cc
+
+  -- no other slot is noted
+  pub open_free : (ino tail : ℕ) → has slots ino ≡ false → settled_tail noted ino tail ≡ tail
+  open_free ino tail out = noted_is ino tail ∙ go (has slots ino) out where
+    go : (b : Bool) → b ≡ false → noted_or (cond b (Some (cell_at s ino).chain.tail) None) tail ≡ tail
+    go true e = cc
+    go false e = refl

@@ -23,10 +23,10 @@ use Rattle.nv_core.proofs.steps.LogsKept.{KeptLeft, SameNodes, Still, still_left
 use Rattle.nv_core.proofs.steps.Ordered.{OnShared, end_shared}
 
 -- what is lent beside cells, the book and the commit lock
-abbrev some_lent : Option ℕ → Bool → Option ℕ → Lent
+abbrev pub some_lent : Option ℕ → Bool → Option ℕ → Lent
 some_lent list pool lock = record { list = list; pool = pool; cell = None; lock = lock; book = false; commit_lock = false }
 
-none_some : (ino : ℕ) → None ≡ Some ino → ⊥
+pub none_some : (ino : ℕ) → None ≡ Some ino → ⊥
 none_some ino e = true≢false (ap (λ (o : Option ℕ). is_none o) e)
 
 -- a step that is lent neither a cell nor the book nor the commit lock

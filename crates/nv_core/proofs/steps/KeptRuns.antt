@@ -48,6 +48,7 @@ their_noted : (s t : Shared) (cpu : ℕ) (written : List ℕ) → SameParts s t 
 their_noted s t cpu written same h = record {
   alone = rw (same.0) h.alone;
   noted = rw (same.0) h.noted;
+  free = rw (same.0) h.free;
   older = λ ino. rw (same.0, same.1 ino) (h.older ino);
 }
 
@@ -186,7 +187,7 @@ start_kept true None w actor c e is locks kept apart = record {
   some = kept.some;
 }
 
-event_kept : (w : World) (e : Event) → AreLocks w → IsInOrder w → IsKept w → AreBlocksApart w → IsKept (step w e).world
+pub event_kept : (w : World) (e : Event) → AreLocks w → IsInOrder w → IsKept w → AreBlocksApart w → IsKept (step w e).world
 event_kept w (Start actor c) locks order kept apart =
     start_kept (nat_lt actor (length w.actors)) (actor_at w actor).running w actor c refl refl locks kept apart
 event_kept w (Go actor granted) locks order kept apart =
@@ -218,7 +219,7 @@ events_kept (e ∷ events) w locks order kept apart =
 
 -- ---- a new world
 
-none_closed : (n : ℕ) → AreClosed (replicate n [])
+pub none_closed : (n : ℕ) → AreClosed (replicate n [])
 none_closed zero = tt
 none_closed (suc n) = (refl, none_closed n)
 

@@ -59,11 +59,11 @@ appended_log commit epoch place items log h = record {
       (later_too commit epoch log h).earlier (own_entries commit epoch place items);
 }
 
-pages_keep : (pages : List BlockValue) (cell : CellState) → (with_pages pages cell).chain.entries ≡ cell.chain.entries
+pub pages_keep : (pages : List BlockValue) (cell : CellState) → (with_pages pages cell).chain.entries ≡ cell.chain.entries
 pages_keep [] cell = refl
 pages_keep (b ∷ pages) cell = pages_keep pages _
 
-entries_more : (entries : List Entry) (blocks : List BlockValue) (cell : CellState)
+pub entries_more : (entries : List Entry) (blocks : List BlockValue) (cell : CellState)
     → (with_entries entries blocks cell).chain.entries ≡ cell.chain.entries ++ entries
 entries_more [] blocks cell = sym (append_nil cell.chain.entries) where
   append_nil : (l : List Entry) → l ++ [] ≡ l
@@ -77,7 +77,7 @@ settled_keeps : (keeper : Option ℕ) (n : ℕ) (cell : CellState) → (settled 
 settled_keeps None n cell = refl
 settled_keeps (Some s) n cell = refl
 
-retired_keeps : (living : List ℕ) (ino epoch : ℕ) (parts : List KilledPart) (cell : CellState)
+pub retired_keeps : (living : List ℕ) (ino epoch : ℕ) (parts : List KilledPart) (cell : CellState)
     → (retired living ino epoch parts cell).chain.entries ≡ cell.chain.entries
 retired_keeps living ino epoch [] cell = refl
 retired_keeps living ino epoch (killed ∷ later) cell =

@@ -47,11 +47,12 @@ pub record AreBlocksApart (w : World) : Type 0 where
 abbrev pub AreClosed : List (List OldTail) → Type 0
 AreClosed journals = AllByRecursion (λ (tails : List OldTail). tails ≡ []) journals
 
--- the journal of one CPU notes a tail for each of these slots, and none past a log's own; no other journal notes anything
+-- the journal of one CPU notes a tail for each of these slots and no other, none past a log's own; no other journal notes anything
 pub record HasNoted (s : Shared) (cpu : ℕ) (written : List ℕ) : Type 0 where
   pub alone : AreClosed (slice_set s.book.journals cpu [])
   pub noted : (ino tail other : ℕ) → has written ino ≡ true
       → settled_tail s.book.journals ino tail ≡ settled_tail s.book.journals ino other
+  pub free : (ino tail : ℕ) → has written ino ≡ false → settled_tail s.book.journals ino tail ≡ tail
   pub older : (ino : ℕ) → settled_tail s.book.journals ino (cell_at s ino).chain.tail ≤ (cell_at s ino).chain.tail
 
 -- a commit of several inodes has noted their tails, and one of a single inode has no journal

@@ -1,7 +1,8 @@
 //! Laws of the machine of steps, for all worlds and events, each the contract of a function that does nothing.
 
-ghost use Rattle.std.specs.Prelude.{◌≡◌, ◌+◌, ◌<◌, ◌≤◌, ℕ, Bool, true, List, Option, Some, None, length};
+ghost use Rattle.std.specs.Prelude.{◌≡◌, ◌++◌, ◌+◌, ◌<◌, ◌≤◌, ℕ, Bool, true, List, Option, Some, None, length};
 ghost use Rattle.std.specs.List.{AllByRecursion};
+ghost use Rattle.nv_alloc.specs.Numbers.{has};
 ghost use Rattle.nv_base.specs.Limits.{IsWithinLimits};
 ghost use Rattle.nv_base.specs.declared.fault.Fault.TheVariants.{ActorBusy, ActorIdle, NoActor};
 ghost use Rattle.nv_base.specs.declared.geometry.GeometryNumbers.{GeometryNumbers};
@@ -13,12 +14,14 @@ ghost use Rattle.nv_core.specs.machine.Answered.{GoesToAnswer, IsToBeAnswered};
 ghost use Rattle.nv_core.specs.machine.Bound.{IsNoStart, bound_at, most_steps, moves};
 ghost use Rattle.nv_core.specs.machine.Format.{formatted};
 ghost use Rattle.nv_core.specs.machine.Frame.{IsOneStep, IsStart};
+ghost use Rattle.nv_core.specs.machine.Grown.{AreGrown, fresh_entries};
 ghost use Rattle.nv_core.specs.machine.Kept.{AreBlocksApart, IsKept};
 ghost use Rattle.nv_core.specs.machine.Locks.{AreLocks, HasLent, WaitsFor};
 ghost use Rattle.nv_core.specs.machine.Order.{IsInOrder};
 ghost use Rattle.nv_core.specs.machine.PlainRun.{Commits, Plain, deed_of, keeps_nodes, plain_after};
+ghost use Rattle.nv_core.specs.machine.Reads.{written_slots};
 ghost use Rattle.nv_core.specs.machine.Sequence.{Visits, beginning};
-ghost use Rattle.nv_core.specs.machine.Settled.{settled_nodes};
+ghost use Rattle.nv_core.specs.machine.Settled.{settled, settled_nodes};
 ghost use Rattle.nv_core.specs.machine.Step.{after, stays, step};
 ghost use Rattle.nv_core.specs.machine.World.{Event, Go, Refused, Running, Start, Started, Waiting, World, actor_at};
 
@@ -111,4 +114,19 @@ pub fn what_commits_is_answered()
         → GoesToAnswer actor r (step w (Go actor granted)) }
     ensures same { (nodes other : Handle → Option PlainNode) (made : Handle) (c : Call)
         → (beginning c ≡ Visits → ⊥) → answer nodes made c ≡ answer other made c }
+{}
+
+/// A commit point settles the entries of all inodes that its call writes, at one stroke, and no other entry.
+/// From a new world on and whatever events come, the log of a slot that nobody holds is settled as a whole,
+/// and past the settled logs of the slots that a call holds stand the entries that its commit has appended.
+/// At the commit point each settled log becomes what it was, followed by the commit's entries for its slot.
+pub fn a_commit_settles_its_entries()
+    ensures new { (g : GeometryNumbers) → AreGrown (formatted g) }
+    ensures stays { (events : List Event) (w : World) → AreLocks w → IsInOrder w → IsKept w → AreGrown w
+        → ((before : List Event) → AreBlocksApart (after w before)) → AreGrown (after w events) }
+    ensures settles { (w : World) (actor : ℕ) (granted : Bool) (r : Running) → AreLocks w → IsKept w → AreGrown w
+        → actor < length w.actors → (actor_at w actor).running ≡ Some r
+        → deed_of w (Go actor granted) ≡ Commits
+        → (ino : ℕ) → settled (step w (Go actor granted)).world.shared ino
+        ≡ settled w.shared ino ++ fresh_entries (has (written_slots r) ino) r ino }
 {}
