@@ -13,6 +13,7 @@ pub mod CellPages
 pub mod CellSteps
 pub mod Journals
 pub mod LogsKept
+pub mod Written
 pub mod CommitKept
 pub mod Planned
 pub mod Knowing
@@ -23,3 +24,4 @@ pub mod Answered
 pub mod Grown
 pub mod Settling
 pub mod GrownRuns
+pub mod Effects

@@ -13,3 +13,4 @@ pub mod Kept
 pub mod PlainRun
 pub mod Answered
 pub mod Grown
+pub mod Effects

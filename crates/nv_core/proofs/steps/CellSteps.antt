@@ -256,7 +256,7 @@ retired_pages old new r h = record {
 }
 
 -- the blocks of its pages are read as before
-same_slot : (o : Option BlockValue) (number : ℕ) → option_map number_of o ≡ Some number → (b : BlockValue) × (o ≡ Some b) × (b.number ≡ number)
+pub same_slot : (o : Option BlockValue) (number : ℕ) → option_map number_of o ≡ Some number → (b : BlockValue) × (o ≡ Some b) × (b.number ≡ number)
 same_slot None number h = cc
 same_slot (Some b) number h = (b, refl, cc)
 

@@ -19,7 +19,6 @@ use Rattle.nv_core.specs.machine.Reads.{is_written, slot_at, written_slots}
 use Rattle.nv_core.specs.machine.Sequence.{appending, closing, opening, publishing, retiring}
 use Rattle.nv_core.specs.machine.Settled.{settled, settled_tail}
 use Rattle.nv_core.specs.machine.World.{Append, Back, Check, Close, Ends, Enter, Give, HandState, Leave, Lock, Look, Moves, Next, Number, Open, Publish, Ready, Retire, Running, Shared, TakeBlocks, TakePages, Turn, Unlock, Visit, Waits, cell_at, go_to, no_cell, owner_at, with_book, with_cell}
-use Rattle.nv_core.proofs.steps.CommitKept.{same_killed, written_inside, written_there}
 use Rattle.nv_core.proofs.steps.Journals.{closed_tail, open_same}
 use Rattle.nv_core.proofs.steps.Lists.{drop_all, drop_apart, has_drop, has_take, rising_filter, take_all, take_apart}
 use Rattle.nv_core.proofs.steps.Locked.{LocksLeft, OnLocks, apart}

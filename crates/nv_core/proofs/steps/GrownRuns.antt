@@ -5,7 +5,7 @@ use Rattle.std.proofs.lemmas.Bool.{eq-eqb, eqb-false, eqb-true, false≢true, lt
 use Rattle.nv_alloc.specs.Numbers.{has}
 use Rattle.nv_base.specs.declared.geometry.GeometryNumbers.{GeometryNumbers}
 use Rattle.nv_calls.specs.declared.call.Call.{Call}
-use Rattle.nv_cell.specs.Cell.{CellState, empty_cell}
+use Rattle.nv_cell.specs.Cell.{CellState, empty_cell, published}
 use Rattle.nv_entry.specs.declared.item.Entry.{Entry}
 use Rattle.nv_core.specs.machine.Format.{formatted}
 use Rattle.nv_core.specs.machine.Frame.{IsFramed}
@@ -21,6 +21,7 @@ use Rattle.nv_core.specs.machine.Settled.{settled}
 use Rattle.nv_core.specs.machine.Step.{Step, after, go_step, kind_turn, start_step, step, turn, turned}
 use Rattle.nv_core.specs.machine.World.{Actor, Append, Back, Check, Close, Ends, Enter, Event, Give, Go, HandState, Leave, Lock, Look, Moves, Next, Number, Open, Publish, Ready, Retire, Running, Shared, Start, TakeBlocks, TakePages, Turn, Unlock, Visit, Waits, World, actor_at, cell_at, idle, no_cell, owner_at}
 use Rattle.nv_core.proofs.steps.Answered.{deed_is, entered_none, is_single, no_commit}
+use Rattle.nv_core.proofs.steps.Written.{written_inside}
 use Rattle.nv_core.proofs.steps.Events.{go_is_turn}
 use Rattle.nv_core.proofs.steps.Framed.{framed}
 use Rattle.nv_core.proofs.steps.Grown.{AllStill, CellsLeft, OnGrown, all_settled, is_settled, not_appended, not_behind, quiet_grown}
@@ -31,7 +32,7 @@ use Rattle.nv_core.proofs.steps.KeptRuns.{event_kept, none_closed}
 use Rattle.nv_core.proofs.steps.Lists.{has_filter}
 use Rattle.nv_core.proofs.steps.Locked.{Before, LocksLeft, OnLocks, locks_kept, owner_is, same_locks}
 use Rattle.nv_core.proofs.steps.Locks.{all_same, before, event_locks}
-use Rattle.nv_core.proofs.steps.LogsKept.{Still}
+use Rattle.nv_core.proofs.steps.LogsKept.{Still, cell_set}
 use Rattle.nv_core.proofs.steps.Ordered.{OnShared, end_shared}
 use Rattle.nv_core.proofs.steps.Settling.{SettlesAll, append_grown, close_grown, close_settles, open_grown, publish_grown, retire_grown, single_grown, single_settles, tests_appending}
 
@@ -156,21 +157,37 @@ grown_turn Visit block a granted s h r st = quiet_grown a s _ _ st.free (mine Vi
 
 -- ---- a commit point
 
--- what the shared parts of a turn are
+-- a cell with the same blocks
+pub record IsSameCell (old new : CellState) : Type 0 where
+  pub generation : new.generation ≡ old.generation
+  pub block : new.block ≡ old.block
+  pub blocks : new.blocks ≡ old.blocks
+
+abbrev pub SameBlocks : Shared → Shared → Type 0
+SameBlocks s t = (ino : ℕ) → IsSameCell (cell_at s ino) (cell_at t ino)
+
 abbrev OnSettling : Shared → Running → Turn → Type 0
-OnSettling s r (Moves t h q) = SettlesAll s t r
+OnSettling s r (Moves t h q) = SettlesAll s t r × SameBlocks s t
 OnSettling s r Waits = ⊥
 OnSettling s r (Ends result t h) = ⊥
 
 commit_settles : (k : Next) (block a : ℕ) (granted : Bool) (s : Shared) (h : HandState) (r : Running) → Standing k block a s h r
     → deed k (written_slots r) (kind_turn k block a granted s h r) ≡ Commits → OnSettling s r (kind_turn k block a granted s h r)
-commit_settles Close block a granted s h r st e =
-    close_settles a s h r st.kept (slots_are Close block a s h r st) (own_slots Close block a s h r st (λ ino. sym (st.before.mine.owners ino))) st.free
-    st.knows.2 st.grown
+commit_settles Close block a granted s h r st e = (
+  close_settles a s h r st.kept (slots_are Close block a s h r st) (own_slots Close block a s h r st (λ ino. sym (st.before.mine.owners ino))) st.free
+      st.knows.2 st.grown,
+  λ ino. record { generation = refl; block = refl; blocks = refl },
+)
 commit_settles (Publish place) block a granted s h r st e =
     let one = is_single (nat_lt 1 (length (written_slots r))) e in
-    single_settles a s h r st.kept (slots_are (Publish place) block a s h r st) (own_slots (Publish place) block a s h r st (λ ino. sym (st.before.mine.owners ino))) st.free
-    place st.before.inside (closed_if _ s _ _ st.knows.2 one) one st.grown
+    let slot = slot_at (written_slots r) place in (
+      single_settles a s h r st.kept (slots_are (Publish place) block a s h r st) (own_slots (Publish place) block a s h r st (λ ino. sym (st.before.mine.owners ino))) st.free
+          place st.before.inside (closed_if _ s _ _ st.knows.2 one) one st.grown,
+      λ ino. cell_set s slot (published (cell_at s slot)) ino (IsSameCell (cell_at s ino))
+          (written_inside (length s.cells) r place (slots_are (Publish place) block a s h r st) st.before.inside)
+          (λ is. subst (λ (n : ℕ). IsSameCell (cell_at s n) (published (cell_at s slot))) is (record { generation = refl; block = refl; blocks = refl }))
+          (λ ne. record { generation = refl; block = refl; blocks = refl }),
+    )
 commit_settles Enter block a granted s h r st e = absurd (entered_none _ e)
 commit_settles Number block a granted s h r st e = absurd (no_commit e)
 commit_settles (Look place) block a granted s h r st e = absurd (no_commit e)
@@ -188,7 +205,8 @@ commit_settles (Give cpu) block a granted s h r st e = absurd (no_commit e)
 commit_settles Back block a granted s h r st e = absurd (no_commit e)
 commit_settles Visit block a granted s h r st e = absurd (no_commit e)
 
-turned_settles : (t : Turn) (actor : ℕ) (w : World) (r : Running) → OnSettling w.shared r t → SettlesAll w.shared (turned t actor w).world.shared r
+turned_settles : (t : Turn) (actor : ℕ) (w : World) (r : Running) → OnSettling w.shared r t
+    → SettlesAll w.shared (turned t actor w).world.shared r × SameBlocks w.shared (turned t actor w).world.shared
 turned_settles (Moves s h q) actor w r on = on
 turned_settles Waits actor w r on = absurd on
 turned_settles (Ends result s h) actor w r on = absurd on
@@ -204,17 +222,22 @@ standing w actor r locks kept grown is = record {
   grown = subst (λ (running : Option Running). HasGrownBy running w.shared actor) is (grown.each actor);
 }
 
+pub point_shared : (w : World) (actor : ℕ) (granted : Bool) (r : Running) → AreLocks w → IsKept w → AreGrown w → actor < length w.actors
+    → (actor_at w actor).running ≡ Some r → deed_of w (Go actor granted) ≡ Commits
+    → SettlesAll w.shared (step w (Go actor granted)).world.shared r × SameBlocks w.shared (step w (Go actor granted)).world.shared
+point_shared w actor granted r locks kept grown there is e =
+    let inside = lt-ltb actor (length w.actors) there in
+    let t = turn w.numbers.block actor granted w.shared (actor_at w actor).hand r in
+    subst (λ (made : Step). SettlesAll w.shared made.world.shared r × SameBlocks w.shared made.world.shared)
+    (sym (go_is_turn (nat_lt actor (length w.actors)) (actor_at w actor).running w actor granted r inside is))
+    (turned_settles t actor w r (commit_settles r.next w.numbers.block actor granted w.shared (actor_at w actor).hand r (standing w actor r locks kept grown is)
+    (sym (deed_is (nat_lt actor (length w.actors)) (actor_at w actor).running w actor granted r inside is) ∙ e)))
+
 pub point_settles : (w : World) (actor : ℕ) (granted : Bool) (r : Running) → AreLocks w → IsKept w → AreGrown w → actor < length w.actors
     → (actor_at w actor).running ≡ Some r → deed_of w (Go actor granted) ≡ Commits
     → (ino : ℕ) → settled (step w (Go actor granted)).world.shared ino
     ≡ settled w.shared ino ++ fresh_entries (has (written_slots r) ino) r ino
-point_settles w actor granted r locks kept grown there is e =
-    let inside = lt-ltb actor (length w.actors) there in
-    let t = turn w.numbers.block actor granted w.shared (actor_at w actor).hand r in
-    subst (λ (made : Step). SettlesAll w.shared made.world.shared r)
-    (sym (go_is_turn (nat_lt actor (length w.actors)) (actor_at w actor).running w actor granted r inside is))
-    (turned_settles t actor w r (commit_settles r.next w.numbers.block actor granted w.shared (actor_at w actor).hand r (standing w actor r locks kept grown is)
-    (sym (deed_is (nat_lt actor (length w.actors)) (actor_at w actor).running w actor granted r inside is) ∙ e)))
+point_settles w actor granted r locks kept grown there is e = (point_shared w actor granted r locks kept grown there is e).0
 
 -- ---- all actors
 

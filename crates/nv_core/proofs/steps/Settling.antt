@@ -22,7 +22,7 @@ use Rattle.nv_core.specs.machine.Reads.{is_written, slot_at, written_slots}
 use Rattle.nv_core.specs.machine.Sequence.{appending, closing, opening, publishing, retiring}
 use Rattle.nv_core.specs.machine.Settled.{settled, settled_tail}
 use Rattle.nv_core.specs.machine.World.{Append, Close, HandState, Leave, Next, Open, Publish, Retire, Running, Shared, cell_at, go_to, no_cell, owner_at, with_book, with_cell}
-use Rattle.nv_core.proofs.steps.CommitKept.{written_inside, written_there}
+use Rattle.nv_core.proofs.steps.Written.{written_inside, written_there}
 use Rattle.nv_core.proofs.steps.Grown.{CellsLeft, OnGrown}
 use Rattle.nv_core.proofs.steps.Journals.{closed_tail, open_same}
 use Rattle.nv_core.proofs.steps.Lists.{drop_all, has_drop, has_later, has_take, rising_filter, take_all, take_apart}

@@ -7,11 +7,13 @@ ghost use Rattle.nv_base.specs.Limits.{IsWithinLimits};
 ghost use Rattle.nv_base.specs.declared.fault.Fault.TheVariants.{ActorBusy, ActorIdle, NoActor};
 ghost use Rattle.nv_base.specs.declared.geometry.GeometryNumbers.{GeometryNumbers};
 ghost use Rattle.nv_base.specs.declared.numbers.Handle.{Handle};
-ghost use Rattle.nv_calls.specs.AllCalls.{answer};
-ghost use Rattle.nv_calls.specs.Plain.{PlainNode};
+ghost use Rattle.nv_calls.specs.AllCalls.{answer, effect};
+ghost use Rattle.nv_calls.specs.Plain.{PlainNode, node_in, nodes_after};
 ghost use Rattle.nv_calls.specs.declared.call.Call.{Call};
+ghost use Rattle.nv_entry.specs.Sound.{IsSound};
 ghost use Rattle.nv_core.specs.machine.Answered.{GoesToAnswer, IsToBeAnswered};
 ghost use Rattle.nv_core.specs.machine.Bound.{IsNoStart, bound_at, most_steps, moves};
+ghost use Rattle.nv_core.specs.machine.Effects.{HasPlanNow};
 ghost use Rattle.nv_core.specs.machine.Format.{formatted};
 ghost use Rattle.nv_core.specs.machine.Frame.{IsOneStep, IsStart};
 ghost use Rattle.nv_core.specs.machine.Grown.{AreGrown, fresh_entries};
@@ -129,4 +131,21 @@ pub fn a_commit_settles_its_entries()
         → deed_of w (Go actor granted) ≡ Commits
         → (ino : ℕ) → settled (step w (Go actor granted)).world.shared ino
         ≡ settled w.shared ino ++ fresh_entries (has (written_slots r) ino) r ino }
+{}
+
+/// A commit point has the effect of its call on the settled nodes, where its plan fits that effect now and
+/// settled logs are sound; and it leaves them sound.
+pub fn a_commit_point_has_its_effect()
+    ensures nodes { (bytes : ℕ → List ℕ) (w : World) (actor : ℕ) (granted : Bool) (r : Running) → AreLocks w
+        → IsInOrder w → IsKept w → AreGrown w → AreBlocksApart w
+        → actor < length w.actors → (actor_at w actor).running ≡ Some r
+        → deed_of w (Go actor granted) ≡ Commits → HasPlanNow bytes w.numbers.block w.shared r
+        → (handle : Handle) → settled_nodes (step w (Go actor granted)).world.shared handle
+        ≡ nodes_after r.commit (effect (node_in (settled_nodes w.shared)) r.made r.call)
+        (settled_nodes w.shared) handle }
+    ensures sound { (bytes : ℕ → List ℕ) (w : World) (actor : ℕ) (granted : Bool) (r : Running) → AreLocks w
+        → IsInOrder w → IsKept w → AreGrown w → AreBlocksApart w
+        → actor < length w.actors → (actor_at w actor).running ≡ Some r
+        → deed_of w (Go actor granted) ≡ Commits → HasPlanNow bytes w.numbers.block w.shared r
+        → (ino : ℕ) → IsSound bytes w.numbers.block (settled (step w (Go actor granted)).world.shared ino) }
 {}
