@@ -32,12 +32,14 @@ rest_answer (Some cpu) number s h r e = (record { answers = e; last = tt }, refl
 rest_answer None (Some ino) s h r e = (record { answers = e; last = tt }, refl)
 rest_answer None None s h r e = rw e refl
 
-over_answer : (e : Ending) (s : Shared) (h : HandState) (r : Running) → e ≡ Answers → r.ending ≡ Answers → OnAnswer (answer_of r) (over_turn e s h r)
+over_answer : (e : Ending) (s : Shared) (h : HandState) (r : Running) → e ≡ Answers → r.ending ≡ Answers
+    → OnAnswer (answer_of r) (over_turn e s h r)
 over_answer Answers s h r e f = rest_answer _ h.ino s h r f
 over_answer (Refuses fault) s h r e f = cc
 over_answer Overtaken s h r e f = cc
 
-end_answer : (slots : List ℕ) (s : Shared) (h : HandState) (r : Running) → r.ending ≡ Answers → OnAnswer (answer_of r) (end_turn slots r.ending s h r)
+end_answer : (slots : List ℕ) (s : Shared) (h : HandState) (r : Running) → r.ending ≡ Answers
+    → OnAnswer (answer_of r) (end_turn slots r.ending s h r)
 end_answer [] s h r e = over_answer r.ending s h (record r { ending = r.ending }) e e
 end_answer (slot ∷ slots) s h r e = (record { answers = e; last = tt }, refl)
 
@@ -52,7 +54,8 @@ unlock_answer : (more : Bool) (place : ℕ) (s : Shared) (h : HandState) (r : Ru
 unlock_answer true place s h r e = (record { answers = e; last = tt }, refl)
 unlock_answer false place s h r e = over_answer r.ending s h r e e
 
-back_answer : (number : Option ℕ) (s : Shared) (h : HandState) (r : Running) → r.ending ≡ Answers → OnAnswer (answer_of r) (back_turn number s h r)
+back_answer : (number : Option ℕ) (s : Shared) (h : HandState) (r : Running) → r.ending ≡ Answers
+    → OnAnswer (answer_of r) (back_turn number s h r)
 back_answer None s h r e = rw e refl
 back_answer (Some ino) s h r e = rw e refl
 
@@ -148,7 +151,8 @@ pub goes_to_answer : (w : World) (actor : ℕ) (granted : Bool) (r : Running) �
     → IsToBeAnswered r → GoesToAnswer actor r (step w (Go actor granted))
 goes_to_answer w actor granted r there is waits =
     subst (GoesToAnswer actor r)
-    (sym (go_is_turn (nat_lt actor (length w.actors)) (actor_at w actor).running w actor granted r (lt-ltb actor (length w.actors) there) is))
+    (sym (go_is_turn (nat_lt actor (length w.actors)) (actor_at w actor).running w actor granted r
+    (lt-ltb actor (length w.actors) there) is))
     (turned_answer (turn w.numbers.block actor granted w.shared (actor_at w actor).hand r) actor w r there
     (kind_answer r.next w.numbers.block actor granted w.shared (actor_at w actor).hand r waits.answers waits.last))
 
@@ -165,7 +169,8 @@ commits_to_answer w actor granted r kept there is e =
     (sym (go_is_turn (nat_lt actor (length w.actors)) (actor_at w actor).running w actor granted r inside is))
     (turned_answer (turn w.numbers.block actor granted w.shared (actor_at w actor).hand r) actor w r there
     (commit_answer r.next w.numbers.block actor (actor % length w.shared.lists) granted w.shared (actor_at w actor).hand r
-    (subst (λ (running : Option Running). KnowsOf running w.numbers.block w.shared (actor % length w.shared.lists) (actor_at w actor).hand) is (kept.each actor))
+    (subst (λ (running : Option Running). KnowsOf running w.numbers.block w.shared (actor % length w.shared.lists)
+    (actor_at w actor).hand) is (kept.each actor))
     (sym (deed_is (nat_lt actor (length w.actors)) (actor_at w actor).running w actor granted r inside is) ∙ e)))
 
 -- ---- the answer of a call that commits is told by no node

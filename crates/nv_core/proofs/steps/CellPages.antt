@@ -77,8 +77,15 @@ found block log page number h = go (scan_n block log (PageKey page)) refl (sym (
   go (Some n) q e =
       let s = scan_key block log (PageKey page) n q in
       let at : is_number (scan_n block log (key_at log n)) n ≡ true =
-      ap (λ (k : Key). is_number (scan_n block log k) n) s.1 ∙ ap (λ (o : Option ℕ). is_number o n) q ∙ eq-eqb n n refl in
-      (n, record { uncovered = low_and (nat_lt n (part_total log)) (is_covered block log n) (sym at ∙ scan_names block log n); low = s.0; says = e })
+      ap (λ (k : Key). is_number (scan_n block log k) n) s.1 ∙ ap (λ (o : Option ℕ). is_number o n) q ∙ eq-eqb n n refl in (
+        n,
+        record {
+          uncovered = low_and (nat_lt n (part_total log)) (is_covered block log n)
+              (sym at ∙ scan_names block log n);
+          low = s.0;
+          says = e;
+        },
+      )
 
 -- ---- the bytes of a block by its number
 

@@ -40,9 +40,11 @@ use Rattle.nv_core.proofs.steps.CellPages.{among_at, appended_node, appended_pag
 -- log pages change no entry and no data block
 pub paged : (pages : List BlockValue) (cell : CellState)
     → with_pages pages cell ≡ record cell { chain = record cell.chain { blocks = cell.chain.blocks ++ pages } }
-paged [] cell = ap (λ (l : List BlockValue). let c : CellState = record cell { chain = record cell.chain { blocks = l } } in c) (sym (append-nil cell.chain.blocks))
+paged [] cell = ap (λ (l : List BlockValue). let c : CellState = record cell { chain = record cell.chain { blocks = l } } in c)
+    (sym (append-nil cell.chain.blocks))
 paged (b ∷ pages) cell = paged pages _
-    ∙ ap (λ (l : List BlockValue). let c : CellState = record cell { chain = record cell.chain { blocks = l } } in c) (append_assoc cell.chain.blocks (b ∷ []) pages)
+    ∙ ap (λ (l : List BlockValue). let c : CellState = record cell { chain = record cell.chain { blocks = l } } in c)
+    (append_assoc cell.chain.blocks (b ∷ []) pages)
 
 -- these items' pages have the blocks at the front of a list
 pub record HaveFront (items : List Item) (numbers : List ℕ) : Type 0 where
@@ -138,7 +140,8 @@ append_grows t entries bs pages cell le within front h =
 
 dies_covered : (block : ℕ) (es : List Entry) (tail n : ℕ) → dies block es tail n ≡ true → is_covered block es n ≡ true
 dies_covered block es tail n h =
-    let a = and_parts (nat_lt n (part_total es) && is_covered block es n) _ h in (and_parts (nat_lt n (part_total es)) (is_covered block es n) a.0).1
+    let a = and_parts (nat_lt n (part_total es) && is_covered block es n) _ h in
+    (and_parts (nat_lt n (part_total es)) (is_covered block es n) a.0).1
 
 module _ (cell : CellState) (is : IsLog cell.chain.entries) where
   abbrev es : List Entry
@@ -151,12 +154,13 @@ module _ (cell : CellState) (is : IsLog cell.chain.entries) where
   covered_one n None q d = tt
   covered_one n (Some k) q d = (
     ap (λ (l : List Entry). is_covered cell.block l (unwrap_or (number_named l k.part) 0)) (take_whole es)
-    ∙ ap (λ (o : Option ℕ). is_covered cell.block es (unwrap_or o 0)) ((names_of_parts es is).number n k q)
-    ∙ dies_covered cell.block es cell.chain.tail n d,
+        ∙ ap (λ (o : Option ℕ). is_covered cell.block es (unwrap_or o 0)) ((names_of_parts es is).number n k q)
+        ∙ dies_covered cell.block es cell.chain.tail n d,
     tt,
   )
 
-  covered_more : (xs ys : List KilledPart) → AreCovered (published cell) xs → AreCovered (published cell) ys → AreCovered (published cell) (xs ++ ys)
+  covered_more : (xs ys : List KilledPart) → AreCovered (published cell) xs → AreCovered (published cell) ys
+      → AreCovered (published cell) (xs ++ ys)
   covered_more [] ys h more = more
   covered_more (x ∷ xs) ys h more = (h.0, covered_more xs ys h.1 more)
 
@@ -220,7 +224,8 @@ one_retires None n cell h = record {
   chain = refl;
   generation = refl;
   len = length_set cell.blocks n;
-  less = λ m b. slot_set cell.blocks n m (λ (o : Option BlockValue). o ≡ Some b → slice_index_or cell.blocks m None ≡ Some b) (λ e q. cc) (λ e. e);
+  less = λ m b. slot_set cell.blocks n m (λ (o : Option BlockValue). o ≡ Some b → slice_index_or cell.blocks m None ≡ Some b) (λ e q. cc)
+      (λ e. e);
   kept = λ m unc. slot_set cell.blocks n m (λ (o : Option BlockValue). o ≡ slice_index_or cell.blocks m None)
       (λ e. absurd (true≢false (sym h ∙ ap (is_covered cell.block (log_of cell)) e ∙ unc))) refl;
 }
@@ -256,7 +261,8 @@ retired_pages old new r h = record {
 }
 
 -- the blocks of its pages are read as before
-pub same_slot : (o : Option BlockValue) (number : ℕ) → option_map number_of o ≡ Some number → (b : BlockValue) × (o ≡ Some b) × (b.number ≡ number)
+pub same_slot : (o : Option BlockValue) (number : ℕ) → option_map number_of o ≡ Some number
+    → (b : BlockValue) × (o ≡ Some b) × (b.number ≡ number)
 same_slot None number h = cc
 same_slot (Some b) number h = (b, refl, cc)
 
@@ -287,14 +293,16 @@ one_less n = omega arith
 abbrev word_of : Option Entry → Bool
 word_of o = unwrap_or (option_map (λ (e : Entry). is_last_word e.item) o) false
 
-gone_last : (block : ℕ) (e : Entry) (log : List Entry) → word_of (slice_get (e ∷ log) (length log)) ≡ true → last_setting block (e ∷ log) KindKey ≡ Absent
+gone_last : (block : ℕ) (e : Entry) (log : List Entry) → word_of (slice_get (e ∷ log) (length log)) ≡ true
+    → last_setting block (e ∷ log) KindKey ≡ Absent
 gone_last block e [] h = ap (λ (s : Setting). later_of s Untouched) (last_word block e.item h)
 gone_last block e (f ∷ log) h = ap (later_of (sets block e.item KindKey)) (gone_last block f log h)
 
 gone_node : (bytes : ℕ → List ℕ) (block : ℕ) (log : List Entry) → is_gone log ≡ true → node_now bytes block log ≡ None
 gone_node bytes block [] h = refl
 gone_node bytes block (e ∷ log) h =
-    let z : word_of (slice_get (e ∷ log) (length log)) ≡ true = ap (λ (n : ℕ). word_of (slice_get (e ∷ log) n)) (sym (one_less (length log))) ∙ h in
+    let z : word_of (slice_get (e ∷ log) (length log))
+    ≡ true = ap (λ (n : ℕ). word_of (slice_get (e ∷ log) n)) (sym (one_less (length log))) ∙ h in
     rw (gone_last block e log z) refl
 
 pub erased_none : (cell : CellState) → is_erased cell ≡ true → node_by cell (log_of cell) ≡ None

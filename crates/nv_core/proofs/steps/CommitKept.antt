@@ -83,7 +83,8 @@ module _ (block : ℕ) (t : Shared) (cpu : ℕ) (h : HandState) (r : Running) (a
   abbrev written : List ℕ
   written = written_slots r
 
-  pub knows_retiring : (place : ℕ) → AreKilledIn t (drop place written) h.killed → AreClosed t.book.journals → Next_ (retiring place written)
+  pub knows_retiring : (place : ℕ) → AreKilledIn t (drop place written) h.killed → AreClosed t.book.journals
+      → Next_ (retiring place written)
   knows_retiring place killed closed = go (nat_lt place (length written)) where
     go : (b : Bool) → Next_ (if b then Retire place else Leave)
     go true = (killed, answers, closed)
@@ -100,7 +101,8 @@ module _ (block : ℕ) (t : Shared) (cpu : ℕ) (h : HandState) (r : Running) (a
   knows_publishing place killed noted = go (nat_lt place (length written)) refl where
     go : (b : Bool) → nat_lt place (length written) ≡ b → Next_ (if b then Publish place else closing written)
     go true e = (killed, answers, noted)
-    go false e = knows_closing (subst (λ (l : List ℕ). AreKilledIn t l h.killed) (take_all place written (ltb-false place (length written) e)) killed) noted
+    go false e = knows_closing (subst (λ (l : List ℕ). AreKilledIn t l h.killed)
+        (take_all place written (ltb-false place (length written) e)) killed) noted
 
   pub knows_opening : h.killed ≡ [] → AreClosed t.book.journals → Next_ (opening written)
   knows_opening killed closed = go (nat_lt 1 (length written)) refl where
@@ -141,7 +143,8 @@ module _ (block a : ℕ) (s : Shared) (h : HandState) (r : Running) (kept : AreL
 
   -- the settled log of a slot where no journal is open
   closed_log : (ino : ℕ) → AreClosed s.book.journals → settled s ino ≡ log_of (cell_at s ino)
-  closed_log ino closed = ap (λ (n : ℕ). take n (cell_at s ino).chain.entries) (closed_tail s.book.journals ino (cell_at s ino).chain.tail closed)
+  closed_log ino closed = ap (λ (n : ℕ). take n (cell_at s ino).chain.entries)
+      (closed_tail s.book.journals ino (cell_at s ino).chain.tail closed)
 
   module _ (place : ℕ) (inside : place < length written_) where
     abbrev slot : ℕ
@@ -160,7 +163,12 @@ module _ (block a : ℕ) (s : Shared) (h : HandState) (r : Running) (kept : AreL
           (λ generation. rw (log, g.generation) (ap (λ (n : _). cond (generation == cell.generation) n None) g.node))),
       knows_appending block _ cpu _ r k.1 (place + 1) k.0 k.2
           (λ lt numbers at. let p = k.3 (numbers_of h.blocks) (λ e. refl) in
-          record { within = p.within; blocks = inr (p.several (many_planned r.plan r.slots are.rising (omega (arith, lt)))); several = p.several }),
+          record {
+            within = p.within;
+            blocks = inr (p.several
+                (many_planned r.plan r.slots are.rising (omega (arith, lt))));
+            several = p.several;
+          }),
     ) where
       t : ℕ
       t = settled_tail s.book.journals slot cell.chain.tail
@@ -185,7 +193,8 @@ module _ (block a : ℕ) (s : Shared) (h : HandState) (r : Running) (kept : AreL
       log = ap (λ (n : ℕ). take (settled_tail s.book.journals slot n) new.chain.entries) g.tail ∙ g.log
 
     -- the log that a publish makes settled, where no journal is open
-    settles_all : AreClosed s.book.journals → take (settled_tail s.book.journals slot (published cell).chain.tail) (published cell).chain.entries
+    settles_all : AreClosed s.book.journals → take (settled_tail s.book.journals slot (published cell).chain.tail)
+        (published cell).chain.entries
         ≡ take (length cell.chain.entries) cell.chain.entries
     settles_all closed = ap (λ (n : ℕ). take n cell.chain.entries) (closed_tail s.book.journals slot (length cell.chain.entries) closed)
 
@@ -207,14 +216,16 @@ module _ (block a : ℕ) (s : Shared) (h : HandState) (r : Running) (kept : AreL
     pub publish_kept : IsLog cell.chain.entries → (several : Bool) → nat_lt 1 (length written_) ≡ several
         → Knows (Publish place) block s cpu h r → OnKept several block a s (publish_turn slot place s h r)
     publish_kept is true several k = (
-      cell_left a s kept slot (published cell) s.book low refl own held (subst (λ (l : List Entry). HasPages l (published cell)) (sym log) pages),
+      cell_left a s kept slot (published cell) s.book low refl own held
+          (subst (λ (l : List Entry). HasPages l (published cell)) (sym log) pages),
       (λ e. cell_nodes a s kept slot (published cell) s.book low refl (λ generation. rw log refl)),
       knows_publishing block after cpu _ r k.1 (place + 1) (publish_killed refl is k.0)
           (subst (λ (b : Bool). IsNotedIf b after cpu written_) (sym several) (record {
             alone = noted.alone;
             noted = noted.noted;
             free = noted.free;
-            older = λ ino. cell_set s slot (published cell) ino (λ (c : CellState). settled_tail s.book.journals ino c.chain.tail ≤ c.chain.tail) low
+            older = λ ino. cell_set s slot (published cell) ino
+                (λ (c : CellState). settled_tail s.book.journals ino c.chain.tail ≤ c.chain.tail) low
                 (λ e. subst (λ (n : ℕ). settled_tail s.book.journals n (length cell.chain.entries) ≤ length cell.chain.entries) e
                 (omega (arith, stays, noted.older slot, (kept.pages slot).within)))
                 (λ e. noted.older ino);
@@ -233,9 +244,11 @@ module _ (block a : ℕ) (s : Shared) (h : HandState) (r : Running) (kept : AreL
       pages = record { pages = (kept.pages slot).pages; len = (kept.pages slot).len; within = omega arith }
     publish_kept is false several k = (
       cell_left a s kept slot (published cell) s.book low refl own held
-          (subst (λ (l : List Entry). HasPages l (published cell)) (sym (settles_all closed)) (record { pages = pages.pages; len = pages.len; within = omega arith })),
+          (subst (λ (l : List Entry). HasPages l (published cell)) (sym (settles_all closed))
+          (record { pages = pages.pages; len = pages.len; within = omega arith })),
       (λ e. absurd (false≢true e)),
-      knows_publishing block after cpu _ r k.1 (place + 1) (publish_killed refl is k.0) (subst (λ (b : Bool). IsNotedIf b after cpu written_) (sym several) closed),
+      knows_publishing block after cpu _ r k.1 (place + 1) (publish_killed refl is k.0)
+          (subst (λ (b : Bool). IsNotedIf b after cpu written_) (sym several) closed),
     ) where
       closed : AreClosed s.book.journals
       closed = subst (λ (b : Bool). IsNotedIf b s cpu written_) several k.2
@@ -276,12 +289,14 @@ module _ (block a : ℕ) (s : Shared) (h : HandState) (r : Running) (kept : AreL
         → OnKept true block a s (retire_turn slot parts place s h r)
     retire_kept apart k = (
       cell_left a s kept slot (erased retired_) (retired_book slot parts s r) low refl own held (pages (is_erased retired_)),
-      (λ e. cell_nodes a s kept slot (erased retired_) (retired_book slot parts s r) low refl (λ generation. nodes generation (is_erased retired_) refl)),
+      (λ e. cell_nodes a s kept slot (erased retired_) (retired_book slot parts s r) low refl
+          (λ generation. nodes generation (is_erased retired_) refl)),
       knows_retiring block retired_after cpu _ r k.1 (place + 1)
           (subst (AreKilledIn retired_after (drop (place + 1) written_)) (sym (hand_killed (is_erased retired_) _ _ _))
           (same_killed s retired_after (drop (place + 1) written_) (drop 1 h.killed)
           (λ ino there. get_or-set_other s.cells slot ino (erased retired_) no_cell
-          (λ e. absurd (true≢false (sym there ∙ ap (has (drop (place + 1) written_)) e ∙ drop_apart place written_ rising inside)))) killed.1)) k.2,
+          (λ e. absurd (true≢false (sym there ∙ ap (has (drop (place + 1) written_)) e
+          ∙ drop_apart place written_ rising inside)))) killed.1)) k.2,
     ) where
       killed : AreCovered cell parts × AreKilledIn s (drop (place + 1) written_) (drop 1 h.killed)
       killed = here_killed (drop (place + 1) written_) h.killed
@@ -321,7 +336,8 @@ module _ (block a : ℕ) (s : Shared) (h : HandState) (r : Running) (kept : AreL
           → node_at (by b) (take (settled_tail s.book.journals slot (by b).chain.tail) (by b).chain.entries) generation
           ≡ node_at cell (settled s slot) generation
       nodes generation true e =
-          either (generation == (retired_.generation + 1)) (generation == cell.generation) (ap (node_by (by true)) (take_none _)) (ap (node_by cell) log ∙ none e)
+          either (generation == (retired_.generation + 1)) (generation == cell.generation) (ap (node_by (by true)) (take_none _))
+          (ap (node_by cell) log ∙ none e)
       nodes generation false e = rw (same_log, is.generation, log) (ap (λ (n : _). cond (generation == cell.generation) n None) node)
 
   -- ---- open and close
@@ -342,12 +358,13 @@ module _ (block a : ℕ) (s : Shared) (h : HandState) (r : Running) (kept : AreL
       cpus = refl;
     },
     (λ e ino generation. ap (λ (l : List Entry). node_at (cell_at s ino) l generation) (same ino)),
-    knows_publishing block t cpu h r k.1 0 (none_killed t h.killed k.0) (subst (λ (b : Bool). IsNotedIf b t cpu written_) (sym k.3) (record {
-      alone = closed_again s.book.journals cpu (old_tails s written_) k.2;
-      noted = open_stays s cpu written_ k.2 inside_cpu;
-      free = open_free s cpu written_ k.2 inside_cpu;
-      older = λ ino. omega (arith, open_same s cpu written_ k.2 inside_cpu ino);
-    })),
+    knows_publishing block t cpu h r k.1 0 (none_killed t h.killed k.0)
+        (subst (λ (b : Bool). IsNotedIf b t cpu written_) (sym k.3) (record {
+          alone = closed_again s.book.journals cpu (old_tails s written_) k.2;
+          noted = open_stays s cpu written_ k.2 inside_cpu;
+          free = open_free s cpu written_ k.2 inside_cpu;
+          older = λ ino. omega (arith, open_same s cpu written_ k.2 inside_cpu ino);
+        })),
   ) where
     t : Shared
     t = with_book (with_journal cpu (old_tails s written_) s.book) s
@@ -362,7 +379,8 @@ module _ (block a : ℕ) (s : Shared) (h : HandState) (r : Running) (kept : AreL
         pages = λ ino. subst (λ (l : List Entry). HasPages l (cell_at s ino))
             (sym (ap (λ (n : ℕ). take n (cell_at s ino).chain.entries)
             (closed_tail (set s.book.journals cpu []) ino (cell_at s ino).chain.tail k.2.alone)))
-            (later_pages (cell_at s ino) (settled_tail s.book.journals ino (cell_at s ino).chain.tail) (cell_at s ino).chain.tail (k.2.older ino) (kept.pages ino));
+            (later_pages (cell_at s ino) (settled_tail s.book.journals ino (cell_at s ino).chain.tail) (cell_at s ino).chain.tail
+            (k.2.older ino) (kept.pages ino));
         closed = λ e. absurd (held e);
         wide = length-set s.book.journals cpu [] ∙ kept.wide;
         some = kept.some;
@@ -371,5 +389,6 @@ module _ (block a : ℕ) (s : Shared) (h : HandState) (r : Running) (kept : AreL
       cpus = refl;
     },
     (λ e. absurd (false≢true e)),
-    knows_retiring block (with_book (with_journal cpu [] s.book) s) cpu _ r k.1 0 (same_killed s (with_book (with_journal cpu [] s.book) s) written_ h.killed (λ ino there. refl) k.0) k.2.alone,
+    knows_retiring block (with_book (with_journal cpu [] s.book) s) cpu _ r k.1 0
+        (same_killed s (with_book (with_journal cpu [] s.book) s) written_ h.killed (λ ino there. refl) k.0) k.2.alone,
   )

@@ -31,9 +31,11 @@ OnNumber d s (Ends result t h) = t.book.commit ≡ counted d s.book.commit
 
 -- a step that is not lent the book
 same_book : (l : Lent) (d : Deed) (s : Shared) (t : Turn) → l.book ≡ false → ((n : ℕ) → n ≡ counted d n) → IsFramed l s t → OnNumber d s t
-same_book l d s (Moves t h q) e same f = ap (λ (b : BookState). b.commit) (subst (λ (b : Bool). Stays b (t.book ≡ s.book)) e f.book) ∙ same s.book.commit
+same_book l d s (Moves t h q) e same f = ap (λ (b : BookState). b.commit) (subst (λ (b : Bool). Stays b (t.book ≡ s.book)) e f.book)
+    ∙ same s.book.commit
 same_book l d s Waits e same f = same s.book.commit
-same_book l d s (Ends result t h) e same f = ap (λ (b : BookState). b.commit) (subst (λ (b : Bool). Stays b (t.book ≡ s.book)) e f.book) ∙ same s.book.commit
+same_book l d s (Ends result t h) e same f = ap (λ (b : BookState). b.commit) (subst (λ (b : Bool). Stays b (t.book ≡ s.book)) e f.book)
+    ∙ same s.book.commit
 
 -- ---- enter
 
@@ -108,8 +110,10 @@ kind_counted Number block a granted s h r = same_book _ Nothing s _ refl (λ n. 
 kind_counted (Look place) block a granted s h r = same_book _ Nothing s _ refl (λ n. refl) (framed (Look place) block a granted s h r)
 kind_counted (Lock place) block a granted s h r = same_book _ Nothing s _ refl (λ n. refl) (framed (Lock place) block a granted s h r)
 kind_counted Check block a granted s h r = same_book _ Nothing s _ refl (λ n. refl) (framed Check block a granted s h r)
-kind_counted (TakeBlocks asked) block a granted s h r = same_book _ Nothing s _ refl (λ n. refl) (framed (TakeBlocks asked) block a granted s h r)
-kind_counted (TakePages asked) block a granted s h r = same_book _ Nothing s _ refl (λ n. refl) (framed (TakePages asked) block a granted s h r)
+kind_counted (TakeBlocks asked) block a granted s h r = same_book _ Nothing s _ refl (λ n. refl)
+    (framed (TakeBlocks asked) block a granted s h r)
+kind_counted (TakePages asked) block a granted s h r = same_book _ Nothing s _ refl (λ n. refl)
+    (framed (TakePages asked) block a granted s h r)
 kind_counted Ready block a granted s h r = same_book _ Nothing s _ refl (λ n. refl) (framed Ready block a granted s h r)
 kind_counted Enter block a granted s h r = enter_counted s.holder _ granted a s h r
 kind_counted (Append place) block a granted s h r = refl

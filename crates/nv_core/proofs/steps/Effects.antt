@@ -55,7 +55,8 @@ module _ (bytes : ℕ → List ℕ) (block : ℕ) (s : Shared) (is : IsRead byte
       let cell = cell_at s ino in
       let p = page_there cell (settled_tail s.book.journals ino cell.chain.tail) page number (is.pages ino) h in
       let b = same_slot (slice_index_or cell.blocks p.0 None) number p.2 in
-      ap bytes (sym b.2) ∙ is.blocks ino p.0 b.0 b.1 ∙ sym (among_at cell.blocks (is.apart ino) p.0 b.0 b.1) ∙ ap (bytes_among cell.blocks) b.2
+      ap bytes (sym b.2) ∙ is.blocks ino p.0 b.0 b.1 ∙ sym (among_at cell.blocks (is.apart ino) p.0 b.0 b.1)
+      ∙ ap (bytes_among cell.blocks) b.2
 
   outside : (ino : ℕ) → length s.cells ≤ ino → settled s ino ≡ []
   outside ino past =
@@ -99,7 +100,8 @@ module _ (bytes : ℕ → List ℕ) (block : ℕ) (s t : Shared) (r : Running) (
       sym (read_nodes bytes block t there handle)
       ∙ ap (λ (slots : ℕ → Slot). node_under bytes block slots handle) published_is
       ∙ does.nodes handle
-      ∙ ap (λ (nodes : Handle → Option PlainNode). nodes_after r.commit changes nodes handle) (fun_ext (λ (h : Handle). read_nodes bytes block s here h))
+      ∙ ap (λ (nodes : Handle → Option PlainNode). nodes_after r.commit changes nodes handle)
+      (fun_ext (λ (h : Handle). read_nodes bytes block s here h))
 
   sound_is : (ino : ℕ) → IsSound bytes block (settled t ino)
   sound_is ino = subst (IsSound bytes block) (sym (published_log ino (has (written_slots r) ino) refl)) (does.sound ino)
@@ -108,7 +110,8 @@ read_before : (bytes : ℕ → List ℕ) (block : ℕ) (w : World) (r : Running)
     → IsRead bytes block w.shared
 read_before bytes block w r kept apart plan = record { pages = kept.logs.pages; apart = apart.cells; blocks = plan.blocks; sizes = plan.sizes }
 
-module _ (bytes : ℕ → List ℕ) (w : World) (actor : ℕ) (granted : Bool) (r : Running) (locks : AreLocks w) (order : IsInOrder w) (kept : IsKept w)
+module _ (bytes : ℕ → List ℕ) (w : World) (actor : ℕ) (granted : Bool) (r : Running) (locks : AreLocks w) (order : IsInOrder w)
+    (kept : IsKept w)
     (grown : AreGrown w) (apart : AreBlocksApart w) (there : actor < length w.actors) (is : (actor_at w actor).running ≡ Some r)
     (e : deed_of w (Go actor granted) ≡ Commits) (plan : HasPlanNow bytes w.numbers.block w.shared r) where
   abbrev v : World
@@ -127,7 +130,8 @@ module _ (bytes : ℕ → List ℕ) (w : World) (actor : ℕ) (granted : Bool) (
   read_after = record {
     pages = kept_after.logs.pages;
     apart = λ ino. subst AreApart (sym (both.1 ino).blocks) (apart.cells ino);
-    blocks = λ ino n b q. plan.blocks ino n b (subst (λ (l : List (Option BlockValue)). slice_index_or l n None ≡ Some b) (both.1 ino).blocks q);
+    blocks = λ ino n b q. plan.blocks ino n b
+        (subst (λ (l : List (Option BlockValue)). slice_index_or l n None ≡ Some b) (both.1 ino).blocks q);
     sizes = λ ino lt. (both.1 ino).block ∙ plan.sizes ino (omega (arith, lt, cells_after));
   }
 

@@ -103,7 +103,8 @@ still_settled s t ino h is = record { entries = rw (h.cells ino, h.journals) is.
 
 -- whose slots are nobody's or the actor's afterwards, were so before
 was_mine : (a : ℕ) (s t : Shared) (ino : ℕ) (o : Option ℕ) → LocksLeft a s t → owner_at s ino ≡ o
-    → ((b : ℕ) → b ≢ a → is_owner b (owner_at t ino) ≡ false) → (o ≡ None → IsAllSettled s ino) → (o ≡ Some a → IsAllSettled s ino) → IsAllSettled s ino
+    → ((b : ℕ) → b ≢ a → is_owner b (owner_at t ino) ≡ false) → (o ≡ None → IsAllSettled s ino) → (o ≡ Some a → IsAllSettled s ino)
+    → IsAllSettled s ino
 was_mine a s t ino None left e out free mine = free refl
 was_mine a s t ino (Some b) left e out free mine = go (b == a) refl where
   go : (c : Bool) → (b == a) ≡ c → IsAllSettled s ino
@@ -137,12 +138,14 @@ AllStill a s (Moves t h q) = Still s t × (is_owner a t.holder ≡ false)
 AllStill a s Waits = Unit {0}
 AllStill a s (Ends result t h) = Still s t × (is_owner a t.holder ≡ false)
 
-pub quiet_grown : (a : ℕ) (s : Shared) (waits : Type 0) (turn : Turn) → AllFree s → ((ino : ℕ) → owner_at s ino ≡ Some a → IsAllSettled s ino)
+pub quiet_grown : (a : ℕ) (s : Shared) (waits : Type 0) (turn : Turn) → AllFree s
+    → ((ino : ℕ) → owner_at s ino ≡ Some a → IsAllSettled s ino)
     → AllStill a s turn → OnLocks a s waits turn → OnGrown a s turn
 quiet_grown a s waits (Moves t h q) free mine still on = (
   still_cells a s t still.0 on.0 free mine,
   still_free a s t still.0 on.0 free mine,
-  all_settled q.next t a q (λ ino. not_appended q.next (written_slots q) ino (sym on.1.holder ∙ still.1)) (still_mine a s t still.0 on.0 free mine),
+  all_settled q.next t a q (λ ino. not_appended q.next (written_slots q) ino (sym on.1.holder ∙ still.1))
+      (still_mine a s t still.0 on.0 free mine),
 )
 quiet_grown a s waits Waits free mine still on = tt
 quiet_grown a s waits (Ends result t h) free mine still on =

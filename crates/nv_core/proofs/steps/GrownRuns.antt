@@ -58,7 +58,8 @@ module _ (k : Next) (block a : ℕ) (s : Shared) (h : HandState) (r : Running) (
   mine e ino q = is_settled k s a r st.grown ino (not_appended k (written_slots r) ino e) (not_behind k (written_slots r) ino e) q
 
   -- what is written is locked
-  own_slots : ((ino : ℕ) → has r.slots ino ≡ is_owner a (owner_at s ino)) → (ino : ℕ) → has (written_slots r) ino ≡ true → owner_at s ino ≡ Some a
+  own_slots : ((ino : ℕ) → has r.slots ino ≡ is_owner a (owner_at s ino)) → (ino : ℕ) → has (written_slots r) ino ≡ true
+      → owner_at s ino ≡ Some a
   own_slots held ino there = owner_is a (owner_at s ino) (sym (held ino) ∙ has_filter (is_written r.plan) r.slots ino there)
 
 quiet_still : (a : ℕ) (s : Shared) (list : Option ℕ) (pool : Bool) (lock : Option ℕ) (t : Turn) → is_owner a s.holder ≡ false
@@ -70,11 +71,14 @@ quiet_still a s list pool lock (Ends result t h) out f =
     (record { cells = λ ino. f.cells ino (none_some ino); journals = rw (f.book) refl; cpus = f.cpus }, ap (is_owner a) f.holder ∙ out)
 
 shared_still : (a : ℕ) (s t : Shared) (turn : Turn) → Still s t → is_owner a t.holder ≡ false → OnShared t turn → AllStill a s turn
-shared_still a s t (Moves u h q) still out e = (subst (Still s) (sym e) still, subst (λ (x : Shared). is_owner a x.holder ≡ false) (sym e) out)
+shared_still a s t (Moves u h q) still out e =
+    (subst (Still s) (sym e) still, subst (λ (x : Shared). is_owner a x.holder ≡ false) (sym e) out)
 shared_still a s t Waits still out e = tt
-shared_still a s t (Ends result u h) still out e = (subst (Still s) (sym e) still, subst (λ (x : Shared). is_owner a x.holder ≡ false) (sym e) out)
+shared_still a s t (Ends result u h) still out e =
+    (subst (Still s) (sym e) still, subst (λ (x : Shared). is_owner a x.holder ≡ false) (sym e) out)
 
-enter_grown : (holder : Option ℕ) (last granted : Bool) (a : ℕ) (s : Shared) (h : HandState) (r : Running) (waits : Type 0) → s.holder ≡ holder
+enter_grown : (holder : Option ℕ) (last granted : Bool) (a : ℕ) (s : Shared) (h : HandState) (r : Running) (waits : Type 0)
+    → s.holder ≡ holder
     → ((ino : ℕ) → owner_at s ino ≡ None → IsAllSettled s ino) → ((ino : ℕ) → owner_at s ino ≡ Some a → IsAllSettled s ino)
     → OnLocks a s waits (enter_turn holder last granted a s h r) → OnGrown a s (enter_turn holder last granted a s h r)
 enter_grown (Some other) last granted a s h r waits e free own on = tt
@@ -101,59 +105,75 @@ closed_if false s cpu written n e = n
 publish_either : (b : Bool) (place block a : ℕ) (s : Shared) (h : HandState) (r : Running) (st : Standing (Publish place) block a s h r)
     → nat_lt 1 (length (written_slots r)) ≡ b → OnGrown a s (kind_turn (Publish place) block a true s h r)
 publish_either true place block a s h r st e =
-    publish_grown a s h r st.kept (slots_are (Publish place) block a s h r st) (own_slots (Publish place) block a s h r st (λ ino. sym (st.before.mine.owners ino))) st.free
+    publish_grown a s h r st.kept (slots_are (Publish place) block a s h r st)
+    (own_slots (Publish place) block a s h r st (λ ino. sym (st.before.mine.owners ino))) st.free
     place st.before.inside (noted_if _ s _ _ st.knows.2 e) e st.grown
 publish_either false place block a s h r st e =
-    single_grown a s h r st.kept (slots_are (Publish place) block a s h r st) (own_slots (Publish place) block a s h r st (λ ino. sym (st.before.mine.owners ino))) st.free
+    single_grown a s h r st.kept (slots_are (Publish place) block a s h r st)
+    (own_slots (Publish place) block a s h r st (λ ino. sym (st.before.mine.owners ino))) st.free
     place st.before.inside (closed_if _ s _ _ st.knows.2 e) e st.grown
 
 pub grown_turn : (k : Next) (block a : ℕ) (granted : Bool) (s : Shared) (h : HandState) (r : Running) → Standing k block a s h r
     → OnGrown a s (kind_turn k block a granted s h r)
 grown_turn Number block a granted s h r st = quiet_grown a s _ _ st.free (mine Number block a s h r st refl)
-    (quiet_still a s None true None _ st.before.mine.holder (framed Number block a granted s h r)) (locks_kept Number block a granted s h r st.before)
+    (quiet_still a s None true None _ st.before.mine.holder (framed Number block a granted s h r))
+    (locks_kept Number block a granted s h r st.before)
 grown_turn (Look place) block a granted s h r st = quiet_grown a s _ _ st.free (mine (Look place) block a s h r st refl)
-    (quiet_still a s None false None _ st.before.mine.holder (framed (Look place) block a granted s h r)) (locks_kept (Look place) block a granted s h r st.before)
+    (quiet_still a s None false None _ st.before.mine.holder (framed (Look place) block a granted s h r))
+    (locks_kept (Look place) block a granted s h r st.before)
 grown_turn (Lock place) block a granted s h r st = quiet_grown a s _ _ st.free (mine (Lock place) block a s h r st refl)
     (quiet_still a s None false (Some (slot_at r.slots place)) _ st.before.mine.holder (framed (Lock place) block a granted s h r))
     (locks_kept (Lock place) block a granted s h r st.before)
 grown_turn Check block a granted s h r st = quiet_grown a s _ _ st.free (mine Check block a s h r st refl)
-    (quiet_still a s None false None _ st.before.mine.holder (framed Check block a granted s h r)) (locks_kept Check block a granted s h r st.before)
+    (quiet_still a s None false None _ st.before.mine.holder (framed Check block a granted s h r))
+    (locks_kept Check block a granted s h r st.before)
 grown_turn (TakeBlocks asked) block a granted s h r st = quiet_grown a s _ _ st.free (mine (TakeBlocks asked) block a s h r st refl)
-    (quiet_still a s (Some (asked_list (length s.lists) a asked)) false None _ st.before.mine.holder (framed (TakeBlocks asked) block a granted s h r))
+    (quiet_still a s (Some (asked_list (length s.lists) a asked)) false None _ st.before.mine.holder
+    (framed (TakeBlocks asked) block a granted s h r))
     (locks_kept (TakeBlocks asked) block a granted s h r st.before)
 grown_turn (TakePages asked) block a granted s h r st = quiet_grown a s _ _ st.free (mine (TakePages asked) block a s h r st refl)
-    (quiet_still a s (Some (asked_list (length s.lists) a asked)) false None _ st.before.mine.holder (framed (TakePages asked) block a granted s h r))
+    (quiet_still a s (Some (asked_list (length s.lists) a asked)) false None _ st.before.mine.holder
+    (framed (TakePages asked) block a granted s h r))
     (locks_kept (TakePages asked) block a granted s h r st.before)
 grown_turn Ready block a granted s h r st = quiet_grown a s _ _ st.free (mine Ready block a s h r st refl)
-    (quiet_still a s None false None _ st.before.mine.holder (framed Ready block a granted s h r)) (locks_kept Ready block a granted s h r st.before)
+    (quiet_still a s None false None _ st.before.mine.holder (framed Ready block a granted s h r))
+    (locks_kept Ready block a granted s h r st.before)
 grown_turn Enter block a granted s h r st = enter_grown s.holder _ granted a s h r _ refl st.free (mine Enter block a s h r st refl)
     (locks_kept Enter block a granted s h r st.before)
 grown_turn (Append place) block a granted s h r st =
-    append_grown a s h r st.kept (slots_are (Append place) block a s h r st) (own_slots (Append place) block a s h r st (λ ino. sym (st.before.mine.owners ino))) st.free
+    append_grown a s h r st.kept (slots_are (Append place) block a s h r st)
+    (own_slots (Append place) block a s h r st (λ ino. sym (st.before.mine.owners ino))) st.free
     place st.before.inside _ st.knows.2 st.grown
 grown_turn Open block a granted s h r st =
-    open_grown a s h r st.kept (slots_are Open block a s h r st) (own_slots Open block a s h r st (λ ino. sym (st.before.mine.owners ino))) st.free
+    open_grown a s h r st.kept (slots_are Open block a s h r st)
+    (own_slots Open block a s h r st (λ ino. sym (st.before.mine.owners ino))) st.free
     st.knows.2 st.knows.3 (inside_cpu Open block a s h r st) st.grown
 grown_turn (Publish place) block a granted s h r st = publish_either (nat_lt 1 (length (written_slots r))) place block a s h r st refl
 grown_turn Close block a granted s h r st =
-    close_grown a s h r st.kept (slots_are Close block a s h r st) (own_slots Close block a s h r st (λ ino. sym (st.before.mine.owners ino))) st.free
+    close_grown a s h r st.kept (slots_are Close block a s h r st)
+    (own_slots Close block a s h r st (λ ino. sym (st.before.mine.owners ino))) st.free
     st.knows.2 st.grown
 grown_turn (Retire place) block a granted s h r st =
-    retire_grown a s h r st.kept (slots_are (Retire place) block a s h r st) (own_slots (Retire place) block a s h r st (λ ino. sym (st.before.mine.owners ino))) st.free
+    retire_grown a s h r st.kept (slots_are (Retire place) block a s h r st)
+    (own_slots (Retire place) block a s h r st (λ ino. sym (st.before.mine.owners ino))) st.free
     place st.before.inside (first_killed h.killed) st.grown
 grown_turn Leave block a granted s h r st = quiet_grown a s _ _ st.free
     (λ ino q. is_settled Leave s a r st.grown ino refl refl q)
-    (shared_still a s (record s { holder = None }) _ (record { cells = λ ino. refl; journals = refl; cpus = refl }) refl (end_shared r.slots _ _ h r))
+    (shared_still a s (record s { holder = None }) _ (record { cells = λ ino. refl; journals = refl; cpus = refl }) refl
+    (end_shared r.slots _ _ h r))
     (locks_kept Leave block a granted s h r st.before)
 grown_turn (Unlock place) block a granted s h r st = quiet_grown a s _ _ st.free (mine (Unlock place) block a s h r st refl)
     (quiet_still a s None false (Some (slot_at r.slots place)) _ st.before.mine.holder (framed (Unlock place) block a granted s h r))
     (locks_kept (Unlock place) block a granted s h r st.before)
 grown_turn (Give cpu) block a granted s h r st = quiet_grown a s _ _ st.free (mine (Give cpu) block a s h r st refl)
-    (quiet_still a s (Some cpu) false None _ st.before.mine.holder (framed (Give cpu) block a granted s h r)) (locks_kept (Give cpu) block a granted s h r st.before)
+    (quiet_still a s (Some cpu) false None _ st.before.mine.holder (framed (Give cpu) block a granted s h r))
+    (locks_kept (Give cpu) block a granted s h r st.before)
 grown_turn Back block a granted s h r st = quiet_grown a s _ _ st.free (mine Back block a s h r st refl)
-    (quiet_still a s None true None _ st.before.mine.holder (framed Back block a granted s h r)) (locks_kept Back block a granted s h r st.before)
+    (quiet_still a s None true None _ st.before.mine.holder (framed Back block a granted s h r))
+    (locks_kept Back block a granted s h r st.before)
 grown_turn Visit block a granted s h r st = quiet_grown a s _ _ st.free (mine Visit block a s h r st refl)
-    (quiet_still a s None false None _ st.before.mine.holder (framed Visit block a granted s h r)) (locks_kept Visit block a granted s h r st.before)
+    (quiet_still a s None false None _ st.before.mine.holder (framed Visit block a granted s h r))
+    (locks_kept Visit block a granted s h r st.before)
 
 -- ---- a commit point
 
@@ -174,18 +194,21 @@ OnSettling s r (Ends result t h) = ⊥
 commit_settles : (k : Next) (block a : ℕ) (granted : Bool) (s : Shared) (h : HandState) (r : Running) → Standing k block a s h r
     → deed k (written_slots r) (kind_turn k block a granted s h r) ≡ Commits → OnSettling s r (kind_turn k block a granted s h r)
 commit_settles Close block a granted s h r st e = (
-  close_settles a s h r st.kept (slots_are Close block a s h r st) (own_slots Close block a s h r st (λ ino. sym (st.before.mine.owners ino))) st.free
+  close_settles a s h r st.kept (slots_are Close block a s h r st)
+      (own_slots Close block a s h r st (λ ino. sym (st.before.mine.owners ino))) st.free
       st.knows.2 st.grown,
   λ ino. record { generation = refl; block = refl; blocks = refl },
 )
 commit_settles (Publish place) block a granted s h r st e =
     let one = is_single (nat_lt 1 (length (written_slots r))) e in
     let slot = slot_at (written_slots r) place in (
-      single_settles a s h r st.kept (slots_are (Publish place) block a s h r st) (own_slots (Publish place) block a s h r st (λ ino. sym (st.before.mine.owners ino))) st.free
+      single_settles a s h r st.kept (slots_are (Publish place) block a s h r st)
+          (own_slots (Publish place) block a s h r st (λ ino. sym (st.before.mine.owners ino))) st.free
           place st.before.inside (closed_if _ s _ _ st.knows.2 one) one st.grown,
       λ ino. cell_set s slot (published (cell_at s slot)) ino (IsSameCell (cell_at s ino))
           (written_inside (length s.cells) r place (slots_are (Publish place) block a s h r st) st.before.inside)
-          (λ is. subst (λ (n : ℕ). IsSameCell (cell_at s n) (published (cell_at s slot))) is (record { generation = refl; block = refl; blocks = refl }))
+          (λ is. subst (λ (n : ℕ). IsSameCell (cell_at s n) (published (cell_at s slot))) is
+          (record { generation = refl; block = refl; blocks = refl }))
           (λ ne. record { generation = refl; block = refl; blocks = refl }),
     )
 commit_settles Enter block a granted s h r st e = absurd (entered_none _ e)
@@ -216,7 +239,8 @@ standing : (w : World) (actor : ℕ) (r : Running) → AreLocks w → IsKept w �
 standing w actor r locks kept grown is = record {
   before = before w actor r locks is;
   kept = kept.logs;
-  knows = subst (λ (running : Option Running). KnowsOf running w.numbers.block w.shared (actor % length w.shared.lists) (actor_at w actor).hand) is
+  knows = subst (λ (running : Option Running). KnowsOf running w.numbers.block w.shared (actor % length w.shared.lists)
+      (actor_at w actor).hand) is
       (kept.each actor);
   free = grown.free;
   grown = subst (λ (running : Option Running). HasGrownBy running w.shared actor) is (grown.each actor);
@@ -230,7 +254,8 @@ point_shared w actor granted r locks kept grown there is e =
     let t = turn w.numbers.block actor granted w.shared (actor_at w actor).hand r in
     subst (λ (made : Step). SettlesAll w.shared made.world.shared r × SameBlocks w.shared made.world.shared)
     (sym (go_is_turn (nat_lt actor (length w.actors)) (actor_at w actor).running w actor granted r inside is))
-    (turned_settles t actor w r (commit_settles r.next w.numbers.block actor granted w.shared (actor_at w actor).hand r (standing w actor r locks kept grown is)
+    (turned_settles t actor w r (commit_settles r.next w.numbers.block actor granted w.shared (actor_at w actor).hand r
+    (standing w actor r locks kept grown is)
     (sym (deed_is (nat_lt actor (length w.actors)) (actor_at w actor).running w actor granted r inside is) ∙ e)))
 
 pub point_settles : (w : World) (actor : ℕ) (granted : Bool) (r : Running) → AreLocks w → IsKept w → AreGrown w → actor < length w.actors
@@ -260,14 +285,16 @@ their_grown a b s t (Some r) ne locks left g = record {
   other : (ino : ℕ) → owner_at s ino ≡ Some b → owner_at s ino ≢ Some a
   other ino o e = ne (same_owner b a (sym o ∙ e))
 
-set_grown : (w : World) (actor : ℕ) (x : Actor) (t : Shared) → actor < length w.actors → LocksLeft actor w.shared t → CellsLeft actor w.shared t
+set_grown : (w : World) (actor : ℕ) (x : Actor) (t : Shared) → actor < length w.actors → LocksLeft actor w.shared t
+    → CellsLeft actor w.shared t
     → HasGrownBy x.running t actor → ((b : ℕ) → HasGrownBy (actor_at w b).running w.shared b)
     → (b : ℕ) → HasGrownBy (actor_at (record w { shared = t; actors = set w.actors actor x }) b).running t b
 set_grown w actor x t there locks left own all b = go (actor == b) refl where
   go : (c : Bool) → (actor == b) ≡ c → HasGrownBy (slice_index_or (set w.actors actor x) b idle).running t b
   go true e = subst (λ (n : ℕ). HasGrownBy (slice_index_or (set w.actors actor x) n idle).running t n) (eqb-true actor b e)
       (subst (λ (y : Actor). HasGrownBy y.running t actor) (sym (get_or-set_same w.actors actor x idle there)) own)
-  go false e = subst (λ (y : Actor). HasGrownBy y.running t b) (sym (get_or-set_other w.actors actor b x idle (λ is. eqb-false actor b e (sym is))))
+  go false e = subst (λ (y : Actor). HasGrownBy y.running t b)
+      (sym (get_or-set_other w.actors actor b x idle (λ is. eqb-false actor b e (sym is))))
       (their_grown actor b w.shared t (actor_at w b).running (λ is. eqb-false actor b e (sym is)) locks left (all b))
 
 turned_grown : (t : Turn) (actor : ℕ) (w : World) (waits : Type 0) → actor < length w.actors → AreGrown w → OnLocks actor w.shared waits t
@@ -287,7 +314,8 @@ go_grown : (b : Bool) (running : Option Running) (w : World) (actor : ℕ) (gran
 go_grown false running w actor granted e is locks kept grown = grown
 go_grown true None w actor granted e is locks kept grown = grown
 go_grown true (Some r) w actor granted e is locks kept grown =
-    turned_grown (turn w.numbers.block actor granted w.shared (actor_at w actor).hand r) actor w _ (ltb-true actor (length w.actors) e) grown
+    turned_grown (turn w.numbers.block actor granted w.shared (actor_at w actor).hand r) actor w _
+    (ltb-true actor (length w.actors) e) grown
     (locks_kept r.next w.numbers.block actor granted w.shared (actor_at w actor).hand r (before w actor r locks is))
     (grown_turn r.next w.numbers.block actor granted w.shared (actor_at w actor).hand r (standing w actor r locks kept grown is))
 
@@ -300,7 +328,8 @@ start_grown : (b : Bool) (running : Option Running) (w : World) (actor : ℕ) (c
 start_grown false running w actor c e is locks grown = grown
 start_grown true (Some r) w actor c e is locks grown = grown
 start_grown true None w actor c e is locks grown =
-    let holds : HoldsIts w.shared actor None = subst (λ (running : Option Running). HoldsIts w.shared actor running) is (locks.each actor) in
+    let holds : HoldsIts w.shared actor None = subst (λ (running : Option Running). HoldsIts w.shared actor running) is
+    (locks.each actor) in
     record {
       free = grown.free;
       each = set_grown w actor (record { hand = (actor_at w actor).hand; running = Some (begun (beginning c) w.shared c) }) w.shared
@@ -312,7 +341,8 @@ start_grown true None w actor c e is locks grown =
     }
 
 event_grown : (w : World) (e : Event) → AreLocks w → IsKept w → AreGrown w → AreGrown (step w e).world
-event_grown w (Start actor c) locks kept grown = start_grown (nat_lt actor (length w.actors)) (actor_at w actor).running w actor c refl refl locks grown
+event_grown w (Start actor c) locks kept grown = start_grown (nat_lt actor (length w.actors))
+    (actor_at w actor).running w actor c refl refl locks grown
 event_grown w (Go actor granted) locks kept grown =
     go_grown (nat_lt actor (length w.actors)) (actor_at w actor).running w actor granted refl refl locks kept grown
 

@@ -90,7 +90,8 @@ abbrev Keeps : Next → ℕ → ℕ → Bool → Shared → HandState → Runnin
 Keeps k block a granted s h r =
     OnKept (keeps_nodes (deed k (written_slots r) (kind_turn k block a granted s h r))) block a s (kind_turn k block a granted s h r)
 
-slots_of_cells : (k : Next) (block a : ℕ) (s : Shared) (h : HandState) (r : Running) → Standing k block a s h r → AreSlots (length s.cells) r.slots
+slots_of_cells : (k : Next) (block a : ℕ) (s : Shared) (h : HandState) (r : Running) → Standing k block a s h r
+    → AreSlots (length s.cells) r.slots
 slots_of_cells k block a s h r st = subst (λ (n : ℕ). AreSlots n r.slots) st.before.wide st.before.are
 
 pub kept_turn : (k : Next) (block a : ℕ) (granted : Bool) (s : Shared) (h : HandState) (r : Running) → Standing k block a s h r
@@ -115,18 +116,22 @@ kept_turn Ready block a granted s h r st = quiet true block a s None false None 
 kept_turn Enter block a granted s h r st = enter_kept _ block s.holder _ granted a s h r refl st.kept
     (enter_knows block _ s.holder _ granted a s h r refl st.kept.closed st.knows.0 st.knows.1 st.knows.2)
 kept_turn (Append place) block a granted s h r st =
-    append_kept block a s h r st.kept (slots_of_cells (Append place) block a s h r st) (lent_holder (Append place) a s r st.before refl) place
+    append_kept block a s h r st.kept (slots_of_cells (Append place) block a s h r st)
+    (lent_holder (Append place) a s r st.before refl) place
     st.before.inside _ st.knows
 kept_turn Open block a granted s h r st =
     open_kept block a s h r st.kept (slots_of_cells Open block a s h r st) (lent_holder Open a s r st.before refl) st.knows
 kept_turn (Publish place) block a granted s h r st =
-    subst (λ (same : Bool). OnKept same block a s (kind_turn (Publish place) block a granted s h r)) (keeps_if (nat_lt 1 (length (written_slots r))))
-    (publish_kept block a s h r st.kept (slots_of_cells (Publish place) block a s h r st) (lent_holder (Publish place) a s r st.before refl) place
+    subst (λ (same : Bool). OnKept same block a s (kind_turn (Publish place) block a granted s h r))
+    (keeps_if (nat_lt 1 (length (written_slots r))))
+    (publish_kept block a s h r st.kept (slots_of_cells (Publish place) block a s h r st)
+    (lent_holder (Publish place) a s r st.before refl) place
     st.before.inside (st.logs (slot_at (written_slots r) place)).ordered _ refl st.knows)
 kept_turn Close block a granted s h r st =
     close_kept block a s h r st.kept (slots_of_cells Close block a s h r st) (lent_holder Close a s r st.before refl) st.knows
 kept_turn (Retire place) block a granted s h r st =
-    retire_kept block a s h r st.kept (slots_of_cells (Retire place) block a s h r st) (lent_holder (Retire place) a s r st.before refl) place
+    retire_kept block a s h r st.kept (slots_of_cells (Retire place) block a s h r st)
+    (lent_holder (Retire place) a s r st.before refl) place
     st.before.inside (st.apart (slot_at (written_slots r) place)) st.knows
 kept_turn Leave block a granted s h r st =
     ending true block a s (record s { holder = None }) _
@@ -136,7 +141,8 @@ kept_turn Leave block a granted s h r st =
 kept_turn (Unlock place) block a granted s h r st =
     quiet true block a s None false (Some (slot_at r.slots place)) _ st.kept (framed (Unlock place) block a granted s h r)
     (unlock_knows block _ _ place _ h r st.knows)
-kept_turn (Give cpu) block a granted s h r st = quiet true block a s (Some cpu) false None _ st.kept (framed (Give cpu) block a granted s h r)
+kept_turn (Give cpu) block a granted s h r st = quiet true block a s (Some cpu) false None _ st.kept
+    (framed (Give cpu) block a granted s h r)
     (give_knows block _ cpu s h r)
 kept_turn Back block a granted s h r st = quiet true block a s None true None _ st.kept (framed Back block a granted s h r)
     (back_knows block _ h.ino s h r)

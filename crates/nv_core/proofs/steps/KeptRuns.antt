@@ -41,7 +41,8 @@ use Rattle.nv_core.proofs.steps.LogsKept.{KeptLeft, SameNodes, same_nodes, still
 abbrev SameParts : Shared → Shared → Type 0
 SameParts s t = (t.book.journals ≡ s.book.journals) × ((ino : ℕ) → cell_at t ino ≡ cell_at s ino)
 
-their_killed : (s t : Shared) (slots : List ℕ) (killed : List (List KilledPart)) → SameParts s t → AreKilledIn s slots killed → AreKilledIn t slots killed
+their_killed : (s t : Shared) (slots : List ℕ) (killed : List (List KilledPart)) → SameParts s t → AreKilledIn s slots killed
+    → AreKilledIn t slots killed
 their_killed s t slots killed same h = same_killed s t slots killed (λ ino there. same.1 ino) h
 
 their_noted : (s t : Shared) (cpu : ℕ) (written : List ℕ) → SameParts s t → HasNoted s cpu written → HasNoted t cpu written
@@ -68,8 +69,12 @@ module _ (block : ℕ) (s t : Shared) (cpu : ℕ) (h : HandState) (r : Running) 
   their_knows Enter same k = k
   their_knows (Append place) same k = (k.0, k.1, rw ((same refl).0) k.2, k.3)
   their_knows Open same k = (k.0, k.1, rw ((same refl).0) k.2, k.3)
-  their_knows (Publish place) same k =
-      (their_killed s t _ h.killed (same refl) k.0, k.1, their_if (nat_lt 1 (length (written_slots r))) s t cpu (written_slots r) (same refl) k.2)
+  their_knows (Publish place) same k = (
+    their_killed s t _ h.killed (same refl) k.0,
+    k.1,
+    their_if (nat_lt 1 (length (written_slots r))) s t cpu (written_slots r)
+        (same refl) k.2,
+  )
   their_knows Close same k = (their_killed s t _ h.killed (same refl) k.0, k.1, their_noted s t cpu (written_slots r) (same refl) k.2)
   their_knows (Retire place) same k = (their_killed s t _ h.killed (same refl) k.0, k.1, rw ((same refl).0) k.2)
   their_knows Leave same k = (k.0, rw ((same refl).0) k.1)
@@ -130,7 +135,8 @@ turned_nodes (Ends result s h) block actor w on = on.1 refl
 
 -- ---- one event
 
-standing : (w : World) (actor : ℕ) (r : Running) → AreLocks w → IsInOrder w → IsKept w → AreBlocksApart w → (actor_at w actor).running ≡ Some r
+standing : (w : World) (actor : ℕ) (r : Running) → AreLocks w → IsInOrder w → IsKept w → AreBlocksApart w
+    → (actor_at w actor).running ≡ Some r
     → Standing r.next w.numbers.block actor w.shared (actor_at w actor).hand r
 standing w actor r locks order kept apart is = record {
   before = before w actor r locks is;
@@ -139,7 +145,8 @@ standing w actor r locks order kept apart is = record {
   apart = apart.cells;
   small = apart.small actor;
   some = kept.some;
-  knows = subst (λ (running : Option Running). KnowsOf running w.numbers.block w.shared (actor % length w.shared.lists) (actor_at w actor).hand) is
+  knows = subst (λ (running : Option Running). KnowsOf running w.numbers.block w.shared (actor % length w.shared.lists)
+      (actor_at w actor).hand) is
       (kept.each actor);
 }
 
@@ -149,7 +156,8 @@ go_kept : (b : Bool) (running : Option Running) (w : World) (actor : ℕ) (grant
 go_kept false running w actor granted e is locks order kept apart = kept
 go_kept true None w actor granted e is locks order kept apart = kept
 go_kept true (Some r) w actor granted e is locks order kept apart =
-    turned_kept _ (turn w.numbers.block actor granted w.shared (actor_at w actor).hand r) actor w (ltb-true actor (length w.actors) e) locks kept
+    turned_kept _ (turn w.numbers.block actor granted w.shared (actor_at w actor).hand r) actor w
+    (ltb-true actor (length w.actors) e) locks kept
     (kept_turn r.next w.numbers.block actor granted w.shared (actor_at w actor).hand r (standing w actor r locks order kept apart is))
 
 go_nodes : (b : Bool) (running : Option Running) (w : World) (actor : ℕ) (granted : Bool) → (actor_at w actor).running ≡ running
@@ -182,7 +190,8 @@ start_kept true None w actor c e is locks kept apart = record {
   logs = kept.logs;
   each = set_knows w actor (record { hand = (actor_at w actor).hand; running = Some (begun (beginning c) w.shared c) }) w.shared
       (ltb-true actor (length w.actors) e) locks (still_left actor w.shared w.shared kept.logs (same_still w.shared) kept.logs.closed)
-      (begun_knows (beginning c) w.numbers.block _ w.shared c (actor_at w actor).hand (empty_nothing (actor_at w actor).hand (apart.idle actor is)))
+      (begun_knows (beginning c) w.numbers.block _ w.shared c (actor_at w actor).hand
+      (empty_nothing (actor_at w actor).hand (apart.idle actor is)))
       kept.each;
   some = kept.some;
 }
@@ -193,14 +202,16 @@ event_kept w (Start actor c) locks order kept apart =
 event_kept w (Go actor granted) locks order kept apart =
     go_kept (nat_lt actor (length w.actors)) (actor_at w actor).running w actor granted refl refl locks order kept apart
 
-start_shared : (b : Bool) (running : Option Running) (w : World) (actor : ℕ) (c : Call) → SameNodes w.shared (start_step b running actor c w).world.shared
+start_shared : (b : Bool) (running : Option Running) (w : World) (actor : ℕ) (c : Call)
+    → SameNodes w.shared (start_step b running actor c w).world.shared
 start_shared false running w actor c = λ ino generation. refl
 start_shared true (Some r) w actor c = λ ino generation. refl
 start_shared true None w actor c = λ ino generation. refl
 
 event_nodes : (w : World) (e : Event) → AreLocks w → IsInOrder w → IsKept w → AreBlocksApart w → keeps_nodes (deed_of w e) ≡ true
     → SameNodes w.shared (step w e).world.shared
-event_nodes w (Start actor c) locks order kept apart same = start_shared (nat_lt actor (length w.actors)) (actor_at w actor).running w actor c
+event_nodes w (Start actor c) locks order kept apart same = start_shared (nat_lt actor (length w.actors))
+    (actor_at w actor).running w actor c
 event_nodes w (Go actor granted) locks order kept apart same =
     go_nodes (nat_lt actor (length w.actors)) (actor_at w actor).running w actor granted refl locks order kept apart same
 

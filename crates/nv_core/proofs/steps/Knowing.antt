@@ -51,7 +51,8 @@ module _ (block cpu : ℕ) where
   again_knows zero s h r none = tt
   again_knows (suc rounds) s h r none = (none, refl)
 
-  over_knows : (e : Ending) (s : Shared) (h : HandState) (r : Running) → (e ≡ Overtaken → HasNothing h) → OnKnows block cpu (over_turn e s h r)
+  over_knows : (e : Ending) (s : Shared) (h : HandState) (r : Running) → (e ≡ Overtaken → HasNothing h)
+      → OnKnows block cpu (over_turn e s h r)
   over_knows Answers s h r none = rest_knows _ h.ino s h r
   over_knows (Refuses fault) s h r none = rest_knows _ h.ino s h r
   over_knows Overtaken s h r none = again_knows r.rounds s h r (none refl)
@@ -90,7 +91,8 @@ module _ (block cpu : ℕ) where
   look_knows None (Err fault) found place s h r none answers = end_knows [] (Refuses fault) s h r (λ e. none)
   look_knows None (Ok passed) found place s h r none answers = go (nat_lt (place + 1) (length (directories r.call))) where
     go : (b : Bool) → Knows (if b then Look (place + 1) else locking 0 (slots_of s None found r.call)) block s cpu h
-        (go_to (if b then Look (place + 1) else locking 0 (slots_of s None found r.call)) (record r { looked = found; slots = slots_of s None found r.call }))
+        (go_to (if b then Look (place + 1) else locking 0 (slots_of s None found r.call))
+        (record r { looked = found; slots = slots_of s None found r.call }))
     go true = (none, answers)
     go false = locking_knows 0 (slots_of s None found r.call) s h _ none answers
 
@@ -135,7 +137,8 @@ module _ (block cpu : ℕ) where
   taken_knows (suc n) false asked s h r killed answers fits = refuse_knows _ s h r
 
   -- what is taken and what is wanted yet are what was wanted
-  pub take_sum : (had taken : List BlockValue) (wanted : ℕ) → length (had ++ take wanted taken) + (wanted - length taken) ≡ length had + wanted
+  pub take_sum : (had taken : List BlockValue) (wanted : ℕ)
+      → length (had ++ take wanted taken) + (wanted - length taken) ≡ length had + wanted
   take_sum had taken wanted = omega (arith, length-append had (take wanted taken), length-take wanted taken)
 
   pub take_knows : (asked cpu_ : ℕ) (s : Shared) (h : HandState) (r : Running) → h.killed ≡ [] → r.ending ≡ Answers
@@ -146,13 +149,15 @@ module _ (block cpu : ℕ) where
 
   -- ---- ready and enter
 
-  pub ready_knows : (granted : Bool) (s : Shared) (h : HandState) (r : Running) → AllByRecursion (λ (b : BlockValue). b.number < 2 ^ 32) h.blocks
+  pub ready_knows : (granted : Bool) (s : Shared) (h : HandState) (r : Running)
+      → AllByRecursion (λ (b : BlockValue). b.number < 2 ^ 32) h.blocks
       → h.killed ≡ [] → r.ending ≡ Answers → IsInFile block r.call (length h.blocks) → OnKnows block cpu (ready_turn granted block s h r)
   ready_knows granted s h r small killed answers fits = grown_knows granted _ s h r (
     killed,
     answers,
     subst (IsPlanFor (plan_by block s h r)) (sym (filled_numbers (fresh_pages block (copies s) r.call) h.blocks))
-        (plan_fits block (copies s) (taken_by block s h r) r.call (numbers_of h.blocks) (runs_are (numbers_of h.blocks) (small_numbers h.blocks small))
+        (plan_fits block (copies s) (taken_by block s h r) r.call (numbers_of h.blocks)
+        (runs_are (numbers_of h.blocks) (small_numbers h.blocks small))
         (subst (IsInFile block r.call) (sym (length_numbers h.blocks)) fits)),
   )
 

@@ -83,7 +83,8 @@ module _ (a : ℕ) (s : Shared) (kept : AreLogsKept s) (slot : ℕ) (cell : Cell
   log_with c ino = take (settled_tail s.book.journals ino c.chain.tail) c.chain.entries
 
   settled_is : (ino : ℕ) → settled t ino ≡ log_with (cell_at t ino) ino
-  settled_is ino = ap (λ (l : List (List OldTail)). take (settled_tail l ino (cell_at t ino).chain.tail) (cell_at t ino).chain.entries) journals
+  settled_is ino = ap (λ (l : List (List OldTail)). take (settled_tail l ino (cell_at t ino).chain.tail)
+      (cell_at t ino).chain.entries) journals
 
   pub cell_left : is_owner a s.holder ≡ true → s.holder ≢ None → HasPages (log_with cell slot) cell → KeptLeft a s t
   cell_left own held pages = record {
@@ -105,5 +106,6 @@ module _ (a : ℕ) (s : Shared) (kept : AreLogsKept s) (slot : ℕ) (cell : Cell
       ≡ node_at (cell_at s slot) (settled s slot) generation) → SameNodes s t
   cell_nodes same ino generation = rw (journals) (cell_set s slot cell ino
       (λ (c : CellState). node_at c (log_with c ino) generation ≡ node_at (cell_at s ino) (settled s ino) generation) inside
-      (λ e. subst (λ (n : ℕ). node_at cell (log_with cell n) generation ≡ node_at (cell_at s n) (settled s n) generation) e (same generation))
+      (λ e. subst (λ (n : ℕ). node_at cell (log_with cell n) generation ≡ node_at (cell_at s n) (settled s n) generation) e
+      (same generation))
       (λ e. refl))

@@ -41,7 +41,8 @@ more_numbers n (run ∷ runs) = go (n + 1 == run.0) refl where
   go true e = rw add-one (ap (λ (m : ℕ). n ∷ (range_with_len m run.1 ++ numbers_in runs)) (eqb-true (n + 1) run.0 e))
   go false e = refl
 
-more_end : (most n : ℕ) (runs : List (ℕ × ℕ)) → n < most → AllByRecursion (Ends_ most) runs → AllByRecursion (Ends_ most) (with_number n runs)
+more_end : (most n : ℕ) (runs : List (ℕ × ℕ)) → n < most → AllByRecursion (Ends_ most) runs
+    → AllByRecursion (Ends_ most) (with_number n runs)
 more_end most n [] lt all = (omega (arith, lt), tt)
 more_end most n (run ∷ runs) lt all = go (n + 1 == run.0) refl where
   go : (b : Bool) → (n + 1 == run.0) ≡ b → AllByRecursion (Ends_ most) (cond b ((n, run.1 + 1) ∷ runs) ((n, 1) ∷ run ∷ runs))
@@ -142,6 +143,7 @@ module _ (block : ℕ) (nodes : Handle → Option NodeCopy) (taken : Taken) wher
       let k = keeps_to_its block nodes taken c in
       record {
         within = all_within c (subst (λ (n : ℕ). IsInFile block c n) (sym (ap length e)) h);
-        blocks = subst (λ (l : List ℕ). (plan_blocks (plan block nodes taken c) ≡ l) ⊎ (plan_blocks (plan block nodes taken c) ≡ [])) e k.blocks;
+        blocks = subst (λ (l : List ℕ). (plan_blocks (plan block nodes taken c) ≡ l) ⊎
+            (plan_blocks (plan block nodes taken c) ≡ [])) e k.blocks;
         several = k.several;
       }

@@ -48,7 +48,6 @@ as_next k s a r appended behind tests h = record {
   tails = λ ino own e. h.tails ino own (sym (tests.behind ino) ∙ e);
 }
 
-
 none_written : (written : List ℕ) → length written ≤ 0 → written ≡ []
 none_written [] le = refl
 none_written (x ∷ written) le = absurd (omega (arith, le))
@@ -81,11 +80,16 @@ tests_several place written several = go (nat_lt place (length written)) refl wh
 
 tests_opening : (written : List ℕ) → AreTests (opening written) written (has written) (has written)
 tests_opening written = go (nat_lt 1 (length written)) refl where
-  empty : (b : Bool) → nat_lt 1 (length written) ≡ b → written ≡ [] → AreTests (if b then Close else retiring 0 written) written (has written) (has written)
+  empty : (b : Bool) → nat_lt 1 (length written) ≡ b → written ≡ []
+      → AreTests (if b then Close else retiring 0 written) written (has written) (has written)
   empty true e none = absurd (omega (arith, ltb-true 1 (length written) e, ap (λ (l : List ℕ). length l) none))
   empty false e none =
       let t = tests_retiring 0 written in
-      record { appended = λ ino. t.appended ino ∙ sym (ap (λ (l : List ℕ). has l ino) none); behind = λ ino. t.behind ino ∙ sym (ap (λ (l : List ℕ). has l ino) none) }
+      record {
+        appended = λ ino. t.appended ino ∙ sym (ap (λ (l : List ℕ). has l ino) none);
+        behind = λ ino. t.behind ino
+            ∙ sym (ap (λ (l : List ℕ). has l ino) none);
+      }
 
   one : (b : Bool) → nat_lt 0 (length written) ≡ b → AreTests (if b then Publish 0 else closing written) written (has written) (has written)
   one true e = record { appended = λ ino. refl; behind = λ ino. refl }
@@ -126,7 +130,8 @@ or_false : (b : Bool) → (b || false) ≡ b
 or_false true = refl
 or_false false = refl
 
-tail_keeps : (entries : List Entry) (blocks : List BlockValue) (cell : CellState) → (with_entries entries blocks cell).chain.tail ≡ cell.chain.tail
+tail_keeps : (entries : List Entry) (blocks : List BlockValue) (cell : CellState)
+    → (with_entries entries blocks cell).chain.tail ≡ cell.chain.tail
 tail_keeps [] blocks cell = refl
 tail_keeps (e ∷ entries) blocks cell = tail_keeps entries _ _
 
@@ -156,7 +161,8 @@ SettlesAll s t r = (ino : ℕ) → settled t ino ≡ settled s ino ++ fresh_entr
 -- ---- the kinds
 
 module _ (a : ℕ) (s : Shared) (h : HandState) (r : Running) (kept : AreLogsKept s) (are : AreSlots (length s.cells) r.slots)
-    (own : (ino : ℕ) → has (written_slots r) ino ≡ true → owner_at s ino ≡ Some a) (free : (ino : ℕ) → owner_at s ino ≡ None → IsAllSettled s ino) where
+    (own : (ino : ℕ) → has (written_slots r) ino ≡ true → owner_at s ino ≡ Some a)
+    (free : (ino : ℕ) → owner_at s ino ≡ None → IsAllSettled s ino) where
   abbrev written : List ℕ
   written = written_slots r
 
@@ -168,7 +174,8 @@ module _ (a : ℕ) (s : Shared) (h : HandState) (r : Running) (kept : AreLogsKep
 
   -- a log of which nothing is noted
   closed_is : (ino : ℕ) → AreClosed s.book.journals → settled s ino ≡ take (cell_at s ino).chain.tail (cell_at s ino).chain.entries
-  closed_is ino closed = ap (λ (n : ℕ). take n (cell_at s ino).chain.entries) (closed_tail s.book.journals ino (cell_at s ino).chain.tail closed)
+  closed_is ino closed = ap (λ (n : ℕ). take n (cell_at s ino).chain.entries)
+      (closed_tail s.book.journals ino (cell_at s ino).chain.tail closed)
 
   module _ (place : ℕ) (inside : place < length written) where
     abbrev slot : ℕ
@@ -208,21 +215,28 @@ module _ (a : ℕ) (s : Shared) (h : HandState) (r : Running) (kept : AreLogsKep
             none_owned q = cc
 
       -- what is so of the new cell and of the others is so of all
-      each_slot : (P : ℕ → CellState → Type 0) → P slot new → ((ino : ℕ) → slot ≢ ino → P ino (cell_at s ino)) → (ino : ℕ) → P ino (cell_at t ino)
+      each_slot : (P : ℕ → CellState → Type 0) → P slot new → ((ino : ℕ) → slot ≢ ino → P ino (cell_at s ino)) → (ino : ℕ)
+          → P ino (cell_at t ino)
       each_slot P here there ino = cell_set s slot new ino (P ino) low (λ e. subst (λ (n : ℕ). P n new) e here) (λ ne. there ino ne)
 
-      settled_is : (ino : ℕ) → settled t ino ≡ take (settled_tail s.book.journals ino (cell_at t ino).chain.tail) (cell_at t ino).chain.entries
-      settled_is ino = ap (λ (l : List (List OldTail)). take (settled_tail l ino (cell_at t ino).chain.tail) (cell_at t ino).chain.entries) journals
+      settled_is : (ino : ℕ) → settled t ino ≡ take (settled_tail s.book.journals ino (cell_at t ino).chain.tail)
+          (cell_at t ino).chain.entries
+      settled_is ino = ap (λ (l : List (List OldTail)). take (settled_tail l ino (cell_at t ino).chain.tail)
+          (cell_at t ino).chain.entries) journals
 
       grown_by : (appended behind : ℕ → Bool)
-          → new.chain.entries ≡ take (settled_tail s.book.journals slot new.chain.tail) new.chain.entries ++ fresh_entries (appended slot) r slot
+          → new.chain.entries ≡ take (settled_tail s.book.journals slot new.chain.tail) new.chain.entries ++ fresh_entries
+          (appended slot) r slot
           → (behind slot ≡ false → new.chain.tail ≡ length new.chain.entries)
-          → ((ino : ℕ) → slot ≢ ino → owner_at s ino ≡ Some a → (cell_at s ino).chain.entries ≡ settled s ino ++ fresh_entries (appended ino) r ino)
-          → ((ino : ℕ) → slot ≢ ino → owner_at s ino ≡ Some a → behind ino ≡ false → (cell_at s ino).chain.tail ≡ length (cell_at s ino).chain.entries)
+          → ((ino : ℕ) → slot ≢ ino → owner_at s ino ≡ Some a
+          → (cell_at s ino).chain.entries ≡ settled s ino ++ fresh_entries (appended ino) r ino)
+          → ((ino : ℕ) → slot ≢ ino → owner_at s ino ≡ Some a → behind ino ≡ false
+          → (cell_at s ino).chain.tail ≡ length (cell_at s ino).chain.entries)
           → GrownBy t a r appended behind
       grown_by appended behind here tail there tails = record {
         entries = λ ino q.
-            each_slot (λ n c. owner_at s n ≡ Some a → c.chain.entries ≡ take (settled_tail s.book.journals n c.chain.tail) c.chain.entries ++ fresh_entries (appended n) r n)
+            each_slot (λ n c. owner_at s n ≡ Some a → c.chain.entries
+            ≡ take (settled_tail s.book.journals n c.chain.tail) c.chain.entries ++ fresh_entries (appended n) r n)
             (λ o. here) there ino q
             ∙ ap (λ (l : List Entry). l ++ fresh_entries (appended ino) r ino) (sym (settled_is ino));
         tails = λ ino q.
@@ -230,13 +244,16 @@ module _ (a : ℕ) (s : Shared) (h : HandState) (r : Running) (kept : AreLogsKep
       }
 
     -- append
-    pub append_grown : (pages : ℕ) → AreClosed s.book.journals → HasGrown (Append place) s a r → OnGrown a s (append_turn slot pages place s h r)
+    pub append_grown : (pages : ℕ) → AreClosed s.book.journals → HasGrown (Append place) s a r
+        → OnGrown a s (append_turn slot pages place s h r)
     append_grown pages closed g = (
       one_left new s.book refl,
       one_free new s.book refl,
-      as_next (appending (place + 1) written) _ a r (has (take (place + 1) written)) (has (take (place + 1) written)) (tests_appending (place + 1) written)
+      as_next (appending (place + 1) written) _ a r (has (take (place + 1) written)) (has (take (place + 1) written))
+          (tests_appending (place + 1) written)
           (grown_by new s.book refl (has (take (place + 1) written)) (has (take (place + 1) written))
-          (more ∙ ap (λ (b : Bool). take (settled_tail s.book.journals slot new.chain.tail) new.chain.entries ++ fresh_entries b r slot) (sym here))
+          (more ∙ ap (λ (b : Bool). take (settled_tail s.book.journals slot new.chain.tail) new.chain.entries ++ fresh_entries b r slot)
+          (sym here))
           (λ e. absurd (false≢true (sym e ∙ here)))
           (λ ino ne q. g.entries ino q ∙ ap (λ (b : Bool). settled s ino ++ fresh_entries b r ino) (sym (there ino ne)))
           (λ ino ne q e. g.tails ino q (sym (there ino ne) ∙ e))),
@@ -245,11 +262,13 @@ module _ (a : ℕ) (s : Shared) (h : HandState) (r : Running) (kept : AreLogsKep
       new = with_entries (entries_for r slot) h.blocks (with_pages (take pages h.pages) cell)
 
       here : has (take (place + 1) written) slot ≡ true
-      here = has_take place written slot inside ∙ ap (λ (b : Bool). (has (take place written) slot || b)) (self slot) ∙ or_true (has (take place written) slot)
+      here = has_take place written slot inside ∙ ap (λ (b : Bool). (has (take place written) slot || b)) (self slot)
+          ∙ or_true (has (take place written) slot)
 
       there : (ino : ℕ) → slot ≢ ino → has (take (place + 1) written) ino ≡ has (take place written) ino
       there ino ne = has_take place written ino inside
-          ∙ ap (λ (b : Bool). (has (take place written) ino || b)) (other_test slot ino (slot == ino) refl ne) ∙ or_false (has (take place written) ino)
+          ∙ ap (λ (b : Bool). (has (take place written) ino || b)) (other_test slot ino (slot == ino) refl ne)
+          ∙ or_false (has (take place written) ino)
 
       tail : new.chain.tail ≡ cell.chain.tail
       tail = tail_keeps (entries_for r slot) h.blocks (with_pages (take pages h.pages) cell) ∙ paged_tail (take pages h.pages) cell
@@ -259,7 +278,8 @@ module _ (a : ℕ) (s : Shared) (h : HandState) (r : Running) (kept : AreLogsKep
           ∙ ap (λ (l : List Entry). l ++ entries_for r slot) (pages_keep (take pages h.pages) cell)
 
       before : cell.chain.entries ≡ settled s slot
-      before = g.entries slot mine ∙ ap (λ (b : Bool). settled s slot ++ fresh_entries b r slot) (take_apart place written rising inside) ∙ append-nil (settled s slot)
+      before = g.entries slot mine ∙ ap (λ (b : Bool). settled s slot ++ fresh_entries b r slot) (take_apart place written rising inside)
+          ∙ append-nil (settled s slot)
 
       log : take (settled_tail s.book.journals slot new.chain.tail) new.chain.entries ≡ settled s slot
       log = rw (tail, entries) (take-append-le (settled_tail s.book.journals slot cell.chain.tail) cell.chain.entries (entries_for r slot)
@@ -274,7 +294,8 @@ module _ (a : ℕ) (s : Shared) (h : HandState) (r : Running) (kept : AreLogsKep
     publish_grown noted several g = (
       one_left (published cell) s.book refl,
       one_free (published cell) s.book refl,
-      as_next (publishing (place + 1) written) _ a r (has written) (has (drop (place + 1) written)) (tests_several (place + 1) written several)
+      as_next (publishing (place + 1) written) _ a r (has written) (has (drop (place + 1) written))
+          (tests_several (place + 1) written several)
           (grown_by (published cell) s.book refl (has written) (has (drop (place + 1) written))
           (g.entries slot mine ∙ ap (λ (n : ℕ). take n cell.chain.entries ++ fresh_entries (has written slot) r slot)
           (noted.noted slot cell.chain.tail (length cell.chain.entries) (written_there r place inside)))
@@ -293,7 +314,8 @@ module _ (a : ℕ) (s : Shared) (h : HandState) (r : Running) (kept : AreLogsKep
       alone ino ne = not_has written ino (has written ino) refl (λ e. ne (only_slot written place ino few inside e))
 
       all : take (settled_tail s.book.journals slot (length cell.chain.entries)) cell.chain.entries ≡ cell.chain.entries
-      all = ap (λ (n : ℕ). take n cell.chain.entries) (closed_tail s.book.journals slot (length cell.chain.entries) closed) ∙ take_whole cell.chain.entries
+      all = ap (λ (n : ℕ). take n cell.chain.entries) (closed_tail s.book.journals slot (length cell.chain.entries) closed)
+          ∙ take_whole cell.chain.entries
 
       pub single_grown : OnGrown a s (publish_turn slot place s h r)
       single_grown = (
@@ -336,10 +358,12 @@ module _ (a : ℕ) (s : Shared) (h : HandState) (r : Running) (kept : AreLogsKep
       chain = chain_stays (ids s.book.snaps) slot r.epoch parts cell
 
       entries : (b : Bool) → (if b then empty_cell old.block old.chain.page (old.generation + 1) old.version else old).chain.entries
-          ≡ take (settled_tail s.book.journals slot (if b then empty_cell old.block old.chain.page (old.generation + 1) old.version else old).chain.tail)
+          ≡ take (settled_tail s.book.journals slot
+          (if b then empty_cell old.block old.chain.page (old.generation + 1) old.version else old).chain.tail)
           (if b then empty_cell old.block old.chain.page (old.generation + 1) old.version else old).chain.entries ++ []
       entries true = sym (append-nil _ ∙ take_none _)
-      entries false = subst (λ (c : ChainState). c.entries ≡ take (settled_tail s.book.journals slot c.tail) c.entries ++ []) (sym chain) (g.entries slot mine)
+      entries false = subst (λ (c : ChainState). c.entries ≡ take (settled_tail s.book.journals slot c.tail) c.entries ++ []) (sym chain)
+          (g.entries slot mine)
 
       tail : (b : Bool) → (if b then empty_cell old.block old.chain.page (old.generation + 1) old.version else old).chain.tail
           ≡ length (if b then empty_cell old.block old.chain.page (old.generation + 1) old.version else old).chain.entries
@@ -373,10 +397,12 @@ module _ (a : ℕ) (s : Shared) (h : HandState) (r : Running) (kept : AreLogsKep
         (closed_tail (set s.book.journals cpu []) ino (cell_at s ino).chain.tail noted.alone)
 
     out_is : (ino : ℕ) → has written ino ≡ false → settled closed_after ino ≡ settled s ino
-    out_is ino out = tail_is ino ∙ ap (λ (n : ℕ). take n (cell_at s ino).chain.entries) (sym (noted.free ino (cell_at s ino).chain.tail out))
+    out_is ino out = tail_is ino ∙ ap (λ (n : ℕ). take n (cell_at s ino).chain.entries)
+        (sym (noted.free ino (cell_at s ino).chain.tail out))
 
     own_is : (ino : ℕ) → owner_at s ino ≡ Some a → settled closed_after ino ≡ (cell_at s ino).chain.entries
-    own_is ino q = tail_is ino ∙ ap (λ (n : ℕ). take n (cell_at s ino).chain.entries) (g.tails ino q refl) ∙ take_whole (cell_at s ino).chain.entries
+    own_is ino q = tail_is ino ∙ ap (λ (n : ℕ). take n (cell_at s ino).chain.entries) (g.tails ino q refl)
+        ∙ take_whole (cell_at s ino).chain.entries
 
     not_written : (ino : ℕ) → owner_at s ino ≢ Some a → has written ino ≡ false
     not_written ino out = not_has written ino (has written ino) refl (λ e. out (own ino e))
@@ -384,7 +410,11 @@ module _ (a : ℕ) (s : Shared) (h : HandState) (r : Running) (kept : AreLogsKep
     pub close_grown : OnGrown a s (close_turn cpu s h r)
     close_grown = (
       record { cells = λ ino out. refl; logs = λ ino out. out_is ino (not_written ino out) },
-      (λ ino e. record { entries = (free ino e).entries ∙ sym (out_is ino (not_written ino (λ q. none_owned (sym e ∙ q)))); tail = (free ino e).tail }),
+      (λ ino e. record {
+        entries = (free ino e).entries
+            ∙ sym (out_is ino (not_written ino (λ q. none_owned (sym e ∙ q))));
+        tail = (free ino e).tail;
+      }),
       as_next (retiring 0 written) closed_after a r (λ ino. false) (λ ino. false) (tests_retiring 0 written) (record {
         entries = λ ino q. sym (append-nil _ ∙ own_is ino q);
         tails = λ ino q e. g.tails ino q refl;

@@ -25,7 +25,8 @@ all_has P (x ∷ xs) n all h = go (x == n) refl (λ k. all_has P xs n all.1 k) h
   go true e more k = subst P (eqb-true x n e) all.0
   go false e more k = more k
 
-pub written_there : (r : Running) (place : ℕ) → place < length (written_slots r) → has (written_slots r) (slot_at (written_slots r) place) ≡ true
+pub written_there : (r : Running) (place : ℕ) → place < length (written_slots r)
+    → has (written_slots r) (slot_at (written_slots r) place) ≡ true
 written_there r place lt = has_at (written_slots r) place lt
 
 pub written_inside : (many : ℕ) (r : Running) (place : ℕ) → AreSlots many r.slots → place < length (written_slots r)
@@ -88,7 +89,8 @@ front_of plan numbers ino p = go plan p.blocks p.several where
     one : (b : Bool) → HaveFront (cond b q.items []) numbers
     one true = record { rest = []; is = sym all }
     one false = no_front [] numbers refl
-  go (q ∷ o ∷ plan) (inl all) several = no_front (items_for (q ∷ o ∷ plan) ino) numbers (none_for (q ∷ o ∷ plan) ino (several (omega arith)))
+  go (q ∷ o ∷ plan) (inl all) several = no_front (items_for (q ∷ o ∷ plan) ino) numbers
+      (none_for (q ∷ o ∷ plan) ino (several (omega arith)))
 
 pub within_of : (plan : List Planned) (ino : ℕ) → AllByRecursion (λ (p : Planned). AllByRecursion IsWithinFile p.items) plan
     → AllByRecursion IsWithinFile (items_for plan ino)

@@ -102,11 +102,13 @@ Knows (TakePages asked) block s cpu h r = (h.killed ≡ []) × (r.ending ≡ Ans
 Knows Ready block s cpu h r = (h.killed ≡ []) × (r.ending ≡ Answers) × IsInFile block r.call (length h.blocks)
 Knows Enter block s cpu h r = (h.killed ≡ []) × (r.ending ≡ Answers) × IsPlanFor r.plan (numbers_of h.blocks)
 Knows (Append place) block s cpu h r =
-    (h.killed ≡ []) × (r.ending ≡ Answers) × AreClosed s.book.journals × ((numbers : List ℕ) → (place ≡ 0 → numbers ≡ numbers_of h.blocks) → IsPlanFor r.plan numbers)
+    (h.killed ≡ []) × (r.ending ≡ Answers) × AreClosed s.book.journals
+    × ((numbers : List ℕ) → (place ≡ 0 → numbers ≡ numbers_of h.blocks) → IsPlanFor r.plan numbers)
 Knows Open block s cpu h r =
     (h.killed ≡ []) × (r.ending ≡ Answers) × AreClosed s.book.journals × (nat_lt 1 (length (written_slots r)) ≡ true)
 Knows (Publish place) block s cpu h r =
-    AreKilledIn s (take place (written_slots r)) h.killed × (r.ending ≡ Answers) × IsNotedIf (nat_lt 1 (length (written_slots r))) s cpu (written_slots r)
+    AreKilledIn s (take place (written_slots r)) h.killed × (r.ending ≡ Answers)
+    × IsNotedIf (nat_lt 1 (length (written_slots r))) s cpu (written_slots r)
 Knows Close block s cpu h r = AreKilledIn s (written_slots r) h.killed × (r.ending ≡ Answers) × HasNoted s cpu (written_slots r)
 Knows (Retire place) block s cpu h r =
     AreKilledIn s (drop place (written_slots r)) h.killed × (r.ending ≡ Answers) × AreClosed s.book.journals
@@ -130,5 +132,6 @@ pub record AreLogsKept (s : Shared) : Type 0 where
 
 pub record IsKept (w : World) : Type 0 where
   pub logs : AreLogsKept w.shared
-  pub each : (actor : ℕ) → KnowsOf (actor_at w actor).running w.numbers.block w.shared (actor % length w.shared.lists) (actor_at w actor).hand
+  pub each : (actor : ℕ) → KnowsOf (actor_at w actor).running w.numbers.block w.shared (actor % length w.shared.lists)
+      (actor_at w actor).hand
   pub some : 0 < w.numbers.block

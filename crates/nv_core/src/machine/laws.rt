@@ -92,9 +92,9 @@ pub fn only_commits_change_nodes()
     ensures new { (g : GeometryNumbers) → IsWithinLimits g → IsKept (formatted g) }
     ensures stays { (events : List Event) (w : World) → AreLocks w → IsInOrder w → IsKept w
         → ((before : List Event) → AreBlocksApart (after w before)) → IsKept (after w events) }
-    ensures nodes { (w : World) (e : Event) → AreLocks w → IsInOrder w → IsKept w → AreBlocksApart w
-        → keeps_nodes (deed_of w e) ≡ true
-        → (handle : Handle) → settled_nodes (step w e).world.shared handle ≡ settled_nodes w.shared handle }
+    ensures nodes { (w : World) (e : Event) → AreLocks w → IsInOrder w → IsKept w
+        → AreBlocksApart w → keeps_nodes (deed_of w e) ≡ true → (handle : Handle)
+        → settled_nodes (step w e).world.shared handle ≡ settled_nodes w.shared handle }
 {}
 
 /// The number of the last commit is the plain world's after whatever events: it rises by one where an enter
@@ -110,7 +110,8 @@ pub fn the_plain_world_counts_commits()
 pub fn what_commits_is_answered()
     ensures commits { (w : World) (actor : ℕ) (granted : Bool) (r : Running) → IsKept w
         → actor < length w.actors → (actor_at w actor).running ≡ Some r
-        → deed_of w (Go actor granted) ≡ Commits → GoesToAnswer actor r (step w (Go actor granted)) }
+        → deed_of w (Go actor granted) ≡ Commits
+        → GoesToAnswer actor r (step w (Go actor granted)) }
     ensures goes { (w : World) (actor : ℕ) (granted : Bool) (r : Running) → actor < length w.actors
         → (actor_at w actor).running ≡ Some r → IsToBeAnswered r
         → GoesToAnswer actor r (step w (Go actor granted)) }
@@ -124,10 +125,10 @@ pub fn what_commits_is_answered()
 /// At the commit point each settled log becomes what it was, followed by the commit's entries for its slot.
 pub fn a_commit_settles_its_entries()
     ensures new { (g : GeometryNumbers) → AreGrown (formatted g) }
-    ensures stays { (events : List Event) (w : World) → AreLocks w → IsInOrder w → IsKept w → AreGrown w
-        → ((before : List Event) → AreBlocksApart (after w before)) → AreGrown (after w events) }
-    ensures settles { (w : World) (actor : ℕ) (granted : Bool) (r : Running) → AreLocks w → IsKept w → AreGrown w
-        → actor < length w.actors → (actor_at w actor).running ≡ Some r
+    ensures stays { (events : List Event) (w : World) → AreLocks w → IsInOrder w → IsKept w
+        → AreGrown w → ((before : List Event) → AreBlocksApart (after w before)) → AreGrown (after w events) }
+    ensures settles { (w : World) (actor : ℕ) (granted : Bool) (r : Running) → AreLocks w
+        → IsKept w → AreGrown w → actor < length w.actors → (actor_at w actor).running ≡ Some r
         → deed_of w (Go actor granted) ≡ Commits
         → (ino : ℕ) → settled (step w (Go actor granted)).world.shared ino
         ≡ settled w.shared ino ++ fresh_entries (has (written_slots r) ino) r ino }
@@ -136,16 +137,17 @@ pub fn a_commit_settles_its_entries()
 /// A commit point has the effect of its call on the settled nodes, where its plan fits that effect now and
 /// settled logs are sound; and it leaves them sound.
 pub fn a_commit_point_has_its_effect()
-    ensures nodes { (bytes : ℕ → List ℕ) (w : World) (actor : ℕ) (granted : Bool) (r : Running) → AreLocks w
-        → IsInOrder w → IsKept w → AreGrown w → AreBlocksApart w
+    ensures nodes { (bytes : ℕ → List ℕ) (w : World) (actor : ℕ) (granted : Bool) (r : Running)
+        → AreLocks w → IsInOrder w → IsKept w → AreGrown w → AreBlocksApart w
         → actor < length w.actors → (actor_at w actor).running ≡ Some r
         → deed_of w (Go actor granted) ≡ Commits → HasPlanNow bytes w.numbers.block w.shared r
         → (handle : Handle) → settled_nodes (step w (Go actor granted)).world.shared handle
         ≡ nodes_after r.commit (effect (node_in (settled_nodes w.shared)) r.made r.call)
         (settled_nodes w.shared) handle }
-    ensures sound { (bytes : ℕ → List ℕ) (w : World) (actor : ℕ) (granted : Bool) (r : Running) → AreLocks w
-        → IsInOrder w → IsKept w → AreGrown w → AreBlocksApart w
+    ensures sound { (bytes : ℕ → List ℕ) (w : World) (actor : ℕ) (granted : Bool) (r : Running)
+        → AreLocks w → IsInOrder w → IsKept w → AreGrown w → AreBlocksApart w
         → actor < length w.actors → (actor_at w actor).running ≡ Some r
         → deed_of w (Go actor granted) ≡ Commits → HasPlanNow bytes w.numbers.block w.shared r
-        → (ino : ℕ) → IsSound bytes w.numbers.block (settled (step w (Go actor granted)).world.shared ino) }
+        → (ino : ℕ)
+        → IsSound bytes w.numbers.block (settled (step w (Go actor granted)).world.shared ino) }
 {}
