@@ -22,6 +22,7 @@ pub mod KeptRuns
 pub mod Counted
 pub mod Answered
 pub mod Grown
+pub mod Appended
 pub mod Settling
 pub mod GrownRuns
 pub mod Effects

@@ -34,7 +34,8 @@ use Rattle.nv_core.proofs.steps.Locked.{Before, LocksLeft, OnLocks, locks_kept, 
 use Rattle.nv_core.proofs.steps.Locks.{all_same, before, event_locks}
 use Rattle.nv_core.proofs.steps.LogsKept.{Still, cell_set}
 use Rattle.nv_core.proofs.steps.Ordered.{OnShared, end_shared}
-use Rattle.nv_core.proofs.steps.Settling.{SettlesAll, append_grown, close_grown, close_settles, open_grown, publish_grown, retire_grown, single_grown, single_settles, tests_appending}
+use Rattle.nv_core.proofs.steps.Settling.{SettlesAll, append_grown, close_grown, close_settles, open_grown, publish_grown, retire_grown, single_grown, single_settles}
+use Rattle.nv_core.proofs.steps.Appended.{tests_appending}
 
 -- ---- every kind
 

@@ -126,7 +126,8 @@ pub fn what_commits_is_answered()
 pub fn a_commit_settles_its_entries()
     ensures new { (g : GeometryNumbers) → AreGrown (formatted g) }
     ensures stays { (events : List Event) (w : World) → AreLocks w → IsInOrder w → IsKept w
-        → AreGrown w → ((before : List Event) → AreBlocksApart (after w before)) → AreGrown (after w events) }
+        → AreGrown w → ((before : List Event) → AreBlocksApart (after w before))
+        → AreGrown (after w events) }
     ensures settles { (w : World) (actor : ℕ) (granted : Bool) (r : Running) → AreLocks w
         → IsKept w → AreGrown w → actor < length w.actors → (actor_at w actor).running ≡ Some r
         → deed_of w (Go actor granted) ≡ Commits
