@@ -17,9 +17,9 @@ pub mod Written
 pub mod CommitKept
 pub mod Planned
 pub mod Knowing
-pub mod Kept
+pub mod KeptTurns
 pub mod KeptRuns
-pub mod Counted
+pub mod CommitNumbers
 pub mod Answered
 pub mod Grown
 pub mod Appended

@@ -27,7 +27,7 @@ use Rattle.nv_core.proofs.steps.Framed.{framed}
 use Rattle.nv_core.proofs.steps.Grown.{AllStill, CellsLeft, OnGrown, all_settled, is_settled, not_appended, not_behind, quiet_grown}
 use Rattle.nv_core.proofs.steps.InOrder.{begun_commits, event_order}
 use Rattle.nv_core.proofs.steps.Journals.{closed_tail}
-use Rattle.nv_core.proofs.steps.Kept.{none_some, same_still, some_lent}
+use Rattle.nv_core.proofs.steps.KeptTurns.{none_some, same_still, some_lent}
 use Rattle.nv_core.proofs.steps.KeptRuns.{event_kept, none_closed}
 use Rattle.nv_core.proofs.steps.Lists.{has_filter}
 use Rattle.nv_core.proofs.steps.Locked.{Before, LocksLeft, OnLocks, locks_kept, owner_is, same_locks}

@@ -30,7 +30,7 @@ use Rattle.nv_core.proofs.steps.CellSteps.{empty_pages}
 use Rattle.nv_core.proofs.steps.CommitKept.{OnKept, same_killed}
 use Rattle.nv_core.proofs.steps.Events.{turned_others}
 use Rattle.nv_core.proofs.steps.InOrder.{events_order, event_order}
-use Rattle.nv_core.proofs.steps.Kept.{Standing, kept_turn, same_still}
+use Rattle.nv_core.proofs.steps.KeptTurns.{Standing, kept_turn, same_still}
 use Rattle.nv_core.proofs.steps.Knowing.{locking_knows}
 use Rattle.nv_core.proofs.steps.Locks.{all_same, before, event_locks, many_same}
 use Rattle.nv_core.proofs.steps.LogsKept.{KeptLeft, SameNodes, same_nodes, still_left}

@@ -1,4 +1,4 @@
-use Rattle.nv_core.proofs.steps.Counted.{events_counted}
+use Rattle.nv_core.proofs.steps.CommitNumbers.{events_counted}
 use Rattle.nv_core.proofs.machine.laws.the_plain_world_counts_commits.Goals as goal
 
 pub returns : goal.returns
