@@ -140,7 +140,7 @@ written block first size k run bs within nums lt =
     ∙ sym (rw (low, page_at first size k run within lt, in_file first k run within lt, back) refl)
 
 -- the blocks of an item's parts are those that the item says
-slot_block : (block : ℕ) (item : Item) (bs : List BlockValue) (m : ℕ) → IsWithinFile item → numbers_of bs ≡ item_blocks item
+pub slot_block : (block : ℕ) (item : Item) (bs : List BlockValue) (m : ℕ) → IsWithinFile item → numbers_of bs ≡ item_blocks item
     → option_map number_of (slice_index_or (slots_of item bs) m None) ≡ own_block block item m
 slot_block block (Write first run size) bs zero within nums =
     let some : nat_lt 0 (length (parts_of (Write first run size))) ≡ true =
@@ -196,7 +196,7 @@ slot_sized size Gone bs m b all h = none_of size 0 m b h
 
 -- ---- the blocks of all parts
 
-back_block : (block : ℕ) (xs ys : List Entry) (n : ℕ) → part_total xs ≤ n
+pub back_block : (block : ℕ) (xs ys : List Entry) (n : ℕ) → part_total xs ≤ n
     → page_block block (xs ++ ys) n ≡ page_block block ys (n - part_total xs)
 back_block block [] ys n le = let z : n ≡ n - 0 = omega arith in ap (page_block block ys) z
 back_block block (x ∷ xs) ys n le =

@@ -11,3 +11,8 @@ pub mod Locks
 pub mod Order
 pub mod Numbers
 pub mod Hands
+pub mod Kept
+pub mod PlainRun
+pub mod Answered
+pub mod Grown
+pub mod Effects

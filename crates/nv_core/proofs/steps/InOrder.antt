@@ -116,7 +116,7 @@ locking_commits : (place : ℕ) (slots : List ℕ) (b : Bool) → commits_at (if
 locking_commits place slots true = refl
 locking_commits place slots false = refl
 
-begun_commits : (b : Beginning) (s : Shared) (c : Call) → commits_at (begun b s c).next ≡ false
+pub begun_commits : (b : Beginning) (s : Shared) (c : Call) → commits_at (begun b s c).next ≡ false
 begun_commits Numbers s c = refl
 begun_commits Looks s c = refl
 begun_commits Locks s c = locking_commits 0 (slots_of s None nothing_looked c) (nat_lt 0 (length (slots_of s None nothing_looked c)))
@@ -135,7 +135,7 @@ start_order true None w actor c e locks order = record {
       (λ k. absurd (false≢true (sym (begun_commits (beginning c) w.shared c) ∙ k))) order.each;
 }
 
-event_order : (w : World) (e : Event) → AreLocks w → IsInOrder w → IsInOrder (step w e).world
+pub event_order : (w : World) (e : Event) → AreLocks w → IsInOrder w → IsInOrder (step w e).world
 event_order w (Start actor c) locks order = start_order (nat_lt actor (length w.actors)) (actor_at w actor).running w actor c
     refl locks order
 event_order w (Go actor granted) locks order = go_order (nat_lt actor (length w.actors)) (actor_at w actor).running w actor

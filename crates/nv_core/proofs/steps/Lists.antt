@@ -10,7 +10,7 @@ use Rattle.nv_core.specs.machine.Reads.{slot_at, slots_in, with_slot}
 
 -- ---- one more of a list
 
-take_more : (p : ℕ) (xs : List ℕ) → p < length xs → take (suc p) xs ≡ take p xs ++ get_or xs p 0 ∷ []
+pub take_more : (p : ℕ) (xs : List ℕ) → p < length xs → take (suc p) xs ≡ take p xs ++ get_or xs p 0 ∷ []
 take_more p [] h = absurd (omega (arith, h))
 take_more zero (x ∷ xs) h = refl
 take_more (suc p) (x ∷ xs) h = ap (λ (l : List ℕ). x ∷ l) (take_more p xs (omega (arith, h)))

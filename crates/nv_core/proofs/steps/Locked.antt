@@ -213,7 +213,7 @@ locks_kept Visit block a granted s h r b = visit_locks a _ _ _ _ _ s h r refl b
 
 -- ---- what a step is lent is its actor's
 
-owner_is : (a : ℕ) (owner : Option ℕ) → is_owner a owner ≡ true → owner ≡ Some a
+pub owner_is : (a : ℕ) (owner : Option ℕ) → is_owner a owner ≡ true → owner ≡ Some a
 owner_is a None e = absurd (false≢true e)
 owner_is a (Some o) e = ap (λ (n : ℕ). Some n) (eqb-true o a e)
 

@@ -131,7 +131,7 @@ all_same zero i x = refl
 all_same (suc n) zero x = refl
 all_same (suc n) (suc i) x = all_same n i x
 
-many_same : {X : Type 0} (n : ℕ) (x : X) → length (replicate n x) ≡ n
+pub many_same : {X : Type 0} (n : ℕ) (x : X) → length (replicate n x) ≡ n
 many_same zero x = refl
 many_same (suc n) x = ap suc (many_same n x)
 

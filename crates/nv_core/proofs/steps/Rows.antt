@@ -100,6 +100,16 @@ before_the_close : map shown (tree_of (played (formatted device) renames)) ≡
     ∷ []
 before_the_close = refl
 
+-- all tails have moved, and the journal is open still
+all_are_published : map shown (tree_of (line (played (formatted device) renames) (Goes 0 2)).world) ≡
+    ([], [])
+    ∷ ((100 ∷ []) ∷ [], [])
+    ∷ ((100 ∷ []) ∷ (120 ∷ []) ∷ [], 110 ∷ 101 ∷ 119 ∷ [])
+    ∷ ((101 ∷ []) ∷ [], [])
+    ∷ ((101 ∷ []) ∷ (121 ∷ []) ∷ [], 111 ∷ 108 ∷ 100 ∷ [])
+    ∷ []
+all_are_published = refl
+
 -- the journal is closed
 after_the_close : map shown (tree_of (line (played (formatted device) renames) (Goes 0 3)).world) ≡
     ([], [])

@@ -1,17 +1,31 @@
 //! Laws of the machine of steps, for all worlds and events, each the contract of a function that does nothing.
 
-ghost use Rattle.std.specs.Prelude.{◌≡◌, ◌+◌, ◌<◌, ◌≤◌, ℕ, Bool, List, Some, None, length};
+ghost use Rattle.std.specs.Prelude.{◌≡◌, ◌+◌, ◌<◌, ◌≤◌, ℕ, Bool, List, Some, None, length, ◌++◌, true, Option};
+ghost use Rattle.std.specs.List.{AllByRecursion};
+ghost use Rattle.nv_alloc.specs.Numbers.{has};
 ghost use Rattle.nv_base.specs.Limits.{IsWithinLimits};
 ghost use Rattle.nv_base.specs.declared.fault.Fault.TheVariants.{ActorBusy, ActorIdle, NoActor};
 ghost use Rattle.nv_base.specs.declared.geometry.GeometryNumbers.{GeometryNumbers};
+ghost use Rattle.nv_base.specs.declared.numbers.Handle.{Handle};
+ghost use Rattle.nv_calls.specs.AllCalls.{answer, effect};
+ghost use Rattle.nv_calls.specs.Plain.{PlainNode, node_in, nodes_after};
 ghost use Rattle.nv_calls.specs.declared.call.Call.{Call};
 ghost use Rattle.nv_core.specs.machine.Bound.{AreNoStarts, bound_at, most_steps, moves};
+ghost use Rattle.nv_entry.specs.Sound.{IsSound};
+ghost use Rattle.nv_core.specs.machine.Answered.{GoesToAnswer, IsToBeAnswered};
+ghost use Rattle.nv_core.specs.machine.Effects.{HasPlanNow};
 ghost use Rattle.nv_core.specs.machine.Format.{formatted};
 ghost use Rattle.nv_core.specs.machine.Frame.{IsOneStep, IsStart};
+ghost use Rattle.nv_core.specs.machine.Grown.{AreGrown, fresh_entries};
+ghost use Rattle.nv_core.specs.machine.Kept.{AreBlocksApart, IsKept};
 ghost use Rattle.nv_core.specs.machine.Locks.{AreLocks, HasLent, WaitsFor};
 ghost use Rattle.nv_core.specs.machine.Hands.{AreLists, ArePagesTold};
 ghost use Rattle.nv_core.specs.machine.Numbers.{IdleHaveNothing, IsEachOnce, all_blocks, free_from_scratch, free_of};
 ghost use Rattle.nv_core.specs.machine.Order.{IsInOrder};
+ghost use Rattle.nv_core.specs.machine.PlainRun.{Commits, Plain, deed_of, keeps_nodes, plain_after};
+ghost use Rattle.nv_core.specs.machine.Reads.{written_slots};
+ghost use Rattle.nv_core.specs.machine.Sequence.{Visits, beginning};
+ghost use Rattle.nv_core.specs.machine.Settled.{settled, settled_nodes};
 ghost use Rattle.nv_core.specs.machine.Step.{after, stays, step};
 ghost use Rattle.nv_core.specs.machine.World.{Event, Go, Refused, Running, Start, Started, Waiting, World, actor_at, cell_at, list_at};
 
@@ -105,4 +119,74 @@ pub fn idle_hands_are_empty()
 pub fn blocks_are_told()
     ensures { (g : GeometryNumbers) (events : List Event) (ino : ℕ) → IsWithinLimits g
         → ArePagesTold g.block (cell_at (after (formatted g) events).shared ino) }
+{}
+
+/// Only commit points change nodes. Each settled log has the blocks of its pages, and a journal is open only
+/// within a commit of several inodes, from a new world on and whatever events come, where no block has the
+/// number of another and a call begins with an empty hand. So every event but a commit point leaves every
+/// settled node as it is: a refused call has changed none, and of several inodes that are published one
+/// after another none is seen before the close.
+pub fn only_commits_change_nodes()
+    ensures new { (g : GeometryNumbers) → IsWithinLimits g → IsKept (formatted g) }
+    ensures stays { (events : List Event) (w : World) → AreLocks w → IsInOrder w → IsKept w
+        → ((before : List Event) → AreBlocksApart (after w before)) → IsKept (after w events) }
+    ensures nodes { (w : World) (e : Event) → AreLocks w → IsInOrder w → IsKept w
+        → AreBlocksApart w → keeps_nodes (deed_of w e) ≡ true → (handle : Handle)
+        → settled_nodes (step w e).world.shared handle ≡ settled_nodes w.shared handle }
+{}
+
+/// The number of the last commit is the plain world's after whatever events: it rises by one where an enter
+/// goes on into its commit, and nowhere else.
+pub fn the_plain_world_counts_commits()
+    ensures { (events : List Event) (w : World) (p : Plain) → w.shared.book.commit ≡ p.commit
+        → (after w events).shared.book.commit ≡ (plain_after w events p).commit }
+{}
+
+/// A call that has made its commit point is answered, whatever follows: from there on each of its steps moves
+/// it on towards that answer, or is its last and replies it. So a call that ends refused has made none. Of
+/// calls that commit no node tells the answer, so that it is the one of the commit point.
+pub fn what_commits_is_answered()
+    ensures commits { (w : World) (actor : ℕ) (granted : Bool) (r : Running) → IsKept w
+        → actor < length w.actors → (actor_at w actor).running ≡ Some r
+        → deed_of w (Go actor granted) ≡ Commits
+        → GoesToAnswer actor r (step w (Go actor granted)) }
+    ensures goes { (w : World) (actor : ℕ) (granted : Bool) (r : Running) → actor < length w.actors
+        → (actor_at w actor).running ≡ Some r → IsToBeAnswered r
+        → GoesToAnswer actor r (step w (Go actor granted)) }
+    ensures same { (nodes other : Handle → Option PlainNode) (made : Handle) (c : Call)
+        → (beginning c ≡ Visits → ⊥) → answer nodes made c ≡ answer other made c }
+{}
+
+/// A commit point settles the entries of all inodes that its call writes, at one stroke, and no other entry.
+/// From a new world on and whatever events come, the log of a slot that nobody holds is settled as a whole,
+/// and past the settled logs of the slots that a call holds stand the entries that its commit has appended.
+/// At the commit point each settled log becomes what it was, followed by the commit's entries for its slot.
+pub fn a_commit_settles_its_entries()
+    ensures new { (g : GeometryNumbers) → AreGrown (formatted g) }
+    ensures stays { (events : List Event) (w : World) → AreLocks w → IsInOrder w → IsKept w
+        → AreGrown w → ((before : List Event) → AreBlocksApart (after w before))
+        → AreGrown (after w events) }
+    ensures settles { (w : World) (actor : ℕ) (granted : Bool) (r : Running) → AreLocks w
+        → IsKept w → AreGrown w → actor < length w.actors → (actor_at w actor).running ≡ Some r
+        → deed_of w (Go actor granted) ≡ Commits
+        → (ino : ℕ) → settled (step w (Go actor granted)).world.shared ino
+        ≡ settled w.shared ino ++ fresh_entries (has (written_slots r) ino) r ino }
+{}
+
+/// A commit point has the effect of its call on the settled nodes, where its plan fits that effect now and
+/// settled logs are sound; and it leaves them sound.
+pub fn a_commit_point_has_its_effect()
+    ensures nodes { (bytes : ℕ → List ℕ) (w : World) (actor : ℕ) (granted : Bool) (r : Running)
+        → AreLocks w → IsInOrder w → IsKept w → AreGrown w → AreBlocksApart w
+        → actor < length w.actors → (actor_at w actor).running ≡ Some r
+        → deed_of w (Go actor granted) ≡ Commits → HasPlanNow bytes w.numbers.block w.shared r
+        → (handle : Handle) → settled_nodes (step w (Go actor granted)).world.shared handle
+        ≡ nodes_after r.commit (effect (node_in (settled_nodes w.shared)) r.made r.call)
+        (settled_nodes w.shared) handle }
+    ensures sound { (bytes : ℕ → List ℕ) (w : World) (actor : ℕ) (granted : Bool) (r : Running)
+        → AreLocks w → IsInOrder w → IsKept w → AreGrown w → AreBlocksApart w
+        → actor < length w.actors → (actor_at w actor).running ≡ Some r
+        → deed_of w (Go actor granted) ≡ Commits → HasPlanNow bytes w.numbers.block w.shared r
+        → (ino : ℕ)
+        → IsSound bytes w.numbers.block (settled (step w (Go actor granted)).world.shared ino) }
 {}
