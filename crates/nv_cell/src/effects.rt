@@ -15,7 +15,8 @@ use crate::kills::push_covered;
 use crate::{CellIndex, Marks, NumberedPart};
 use nv_log::Chain;
 
-/// Brings the index from the entries before the tail up to all entries, and puts the parts on the list that were current, or are newly published, and are not current after it.
+/// Brings the index from the entries before the tail up to all entries, and puts the parts on the list that were current,
+/// or are newly published, and are not current after it.
 pub fn apply_all(
     index: &mut CellIndex,
     killed: &mut Vec<NumberedPart>,
