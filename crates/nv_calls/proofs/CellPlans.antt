@@ -1,5 +1,5 @@
 -- What is planned, cell by cell, and cells that get more room.
-use Rattle.std.proofs.Common.{◌≡◌, ◌≢◌, ℕ, zero, suc, ◌+◌, ◌<◌, ◌≤◌, ◌==◌, Bool, true, false, cond, List, [], ◌∷◌, ◌++◌, length, drop, map, arith, refl, ap, subst, sym, ◌∙◌, append_assoc, eq-eqb, get_or, slice_index_or}
+use Rattle.std.proofs.Common.{◌≡◌, ◌≢◌, ℕ, zero, suc, ◌+◌, ◌<◌, ◌==◌, Bool, true, false, cond, List, [], ◌∷◌, ◌++◌, length, drop, map, arith, refl, ap, subst, sym, ◌∙◌, append_assoc, eq-eqb, get_or, slice_index_or}
 use Rattle.std.specs.List.{AllByRecursion, AllPairs, remove}
 use Rattle.std.proofs.lemmas.Bool.{eqb-false, eqb-true}
 use Rattle.nv_entry.specs.declared.item.Item.{Item}

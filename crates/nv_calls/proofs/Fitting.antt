@@ -1,5 +1,5 @@
 -- The items that a call plans fit the blocks taken, and are few; each inode's bind no more than one name.
-use Rattle.std.proofs.Common.{◌≡◌, ℕ, zero, suc, ◌+◌, ◌*◌, ◌/◌, ◌<◌, ◌≤◌, ◌⊎◌, inl, inr, ◌&&◌, Bool, true, false, cond, List, [], ◌∷◌, ◌++◌, length, Option, Some, None, arith, refl, ap, subst, sym, ◌∙◌}
+use Rattle.std.proofs.Common.{◌≡◌, ℕ, ◌+◌, ◌/◌, ◌<◌, ◌≤◌, ◌⊎◌, inl, inr, ◌&&◌, Bool, true, false, cond, List, [], ◌∷◌, ◌++◌, length, Option, Some, None, arith, refl, subst}
 use Rattle.std.specs.List.{AllByRecursion}
 use Rattle.std.proofs.lemmas.List.{append-nil, length-append}
 use Rattle.nv_base.specs.Names.{same_name}
@@ -10,7 +10,7 @@ use Rattle.nv_entry.specs.declared.item.Item.{Item}
 use Rattle.nv_entry.specs.declared.item.Item.TheVariants.{SetSize}
 use Rattle.nv_entry.specs.declared.item.Run.{Run}
 use Rattle.nv_entry.specs.declared.node.NodeCopy.{NodeCopy}
-use Rattle.nv_entry.specs.Bytes.{pages_touched, written}
+use Rattle.nv_entry.specs.Bytes.{written}
 use Rattle.nv_entry.specs.Sound.{blocks_of, write_items}
 use Rattle.nv_cell.specs.Append.{IsWithinFile}
 use Rattle.nv_cell.specs.Effects.{BindOne}
@@ -31,7 +31,7 @@ use Rattle.nv_calls.specs.declared.taken.Taken.{Taken}
 use Rattle.nv_calls.proofs.Keeps.{cut_blocks-are, write_blocks-are}
 use Rattle.nv_calls.proofs.Lawful.{count-cons, few_runs, have_blocks, one_item_a_run, writes_bind_none}
 use Rattle.nv_calls.proofs.Passed.{file_passed}
-use Rattle.nv_calls.proofs.Within.{count_passed, is_one, size_within, touched_within}
+use Rattle.nv_calls.proofs.Within.{count_passed, size_within, touched_within}
 
 -- the items bind at most one name, are few, of pages that a file can have, and use all of these blocks or none
 pub record AreFit (blocks : List ℕ) (items : List Item) : Type 0 where

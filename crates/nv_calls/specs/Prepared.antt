@@ -1,7 +1,7 @@
 -- What a call is made ready with: the runs of its blocks, and its items, cell by cell.
 use Rattle.std.specs.Prelude.{◌≡◌, ℕ, ◌+◌, ◌-◌, ◌<◌, ◌≤◌, ◌^◌, if◌then◌else◌, Bool, true, false, List, [], ◌∷◌, length, min, Option, None, option_map, unwrap_or}
 use Rattle.std.specs.List.{AllByRecursion, sum_by}
-use Rattle.nv_alloc.specs.Block.{BlockValue, numbers_of}
+use Rattle.nv_alloc.specs.Block.{numbers_of}
 use Rattle.nv_alloc.specs.declared.hand.Hand.{Hand}
 use Rattle.nv_base.specs.declared.limits.TheConstants.{BLOCK_BYTES}
 use Rattle.nv_base.specs.declared.numbers.Handle.{Handle}
