@@ -1,5 +1,5 @@
 -- Each free list is what one scan of all cells and hands leaves.
-use Rattle.std.proofs.Common.{◌≡◌, ◌≢◌, ℕ, zero, suc, ◌+◌, ◌-◌, ◌<◌, ◌≤◌, ◌==◌, ◌∙◌, Bool, true, false, List, [], ◌∷◌, Option, None, ap, arith, inl, inr, length, nat_lt, not, refl, subst, sym}
+use Rattle.std.proofs.Common.{◌≡◌, ◌≢◌, ℕ, zero, suc, ◌+◌, ◌-◌, ◌^◌, ◌<◌, ◌≤◌, ◌==◌, ◌∙◌, Bool, true, false, List, [], ◌∷◌, Option, None, ap, arith, inl, inr, length, nat_lt, not, refl, subst, sym}
 use Rattle.std.specs.Prelude.{◌&&◌, ◌||◌, nat_le, slice_index_or}
 use Rattle.std.specs.List.{AllByRecursion, flat_map}
 use Rattle.std.proofs.lemmas.Bool.{cases_lt, eqb-true, false≢true, le-leb, le-ltb, lt-leb, lt-ltb, true≢false}
@@ -167,9 +167,9 @@ is_scan g w cpu n some all inside = elim (cases_lt n low) [
 
 pub all_numbers : (g : GeometryNumbers) (events : List Event) → IsWithinLimits g → AreNumbers g (after (formatted g) events)
 all_numbers g events within =
-    events_numbers g events (formatted g) (omega (arith, within.some_cpus)) (omega (arith, within.some_bytes)) (omega (arith, within.blocks_fit))
-    (new_locks g within)
-    (new_numbers g within)
+    let small : g.blocks < 2 ^ 64 = omega (arith, within.blocks_fit) in
+    events_numbers g events (formatted g) (omega (arith, within.some_cpus)) (omega (arith, within.some_bytes)) small
+    (new_locks g within) (new_numbers g within)
 
 pub each_once : (g : GeometryNumbers) (events : List Event) → IsWithinLimits g
     → IsEachOnce g.blocks (all_blocks (after (formatted g) events))
