@@ -1,9 +1,8 @@
 -- A step moves blocks between the hand and what it is lent: each number stands as often as before.
-use Rattle.std.proofs.Common.{◌≡◌, ℕ, zero, suc, ◌+◌, ◌<◌, ◌≤◌, ◌++◌, ◌∙◌, Bool, true, false, List, [], ◌∷◌, Option, Some, None, ap, arith, drop, get_or, if◌then◌else◌, length, map, refl, replicate, rules, set, sym, take}
+use Rattle.std.proofs.Common.{◌≡◌, ℕ, zero, suc, ◌+◌, ◌<◌, ◌≤◌, ◌++◌, ◌∙◌, Bool, true, false, List, [], ◌∷◌, Option, Some, None, ap, arith, drop, length, map, refl, set, sym, take}
 use Rattle.std.proofs.lemmas.Bool.{le-leb, le-ltb}
-use Rattle.std.proofs.lemmas.List.{append-nil, get_or_past, set_past}
+use Rattle.std.proofs.lemmas.List.{get_or_past}
 use Rattle.std.specs.List.{flat_map}
-use Rattle.std.specs.Prelude.{option_to_list, slice_index_or}
 use Rattle.nv_alloc.specs.Block.{BlockValue, numbers_of}
 use Rattle.nv_alloc.specs.FreeList.{FreeBlocks}
 use Rattle.nv_alloc.specs.Giving.{after_giving, kept_of, takes}
@@ -121,7 +120,8 @@ some_slots [] = refl
 some_slots (b ∷ bs) = ap (λ (l : List ℕ). b.number ∷ l) (some_slots bs)
 
 -- an item's slots have the blocks of its pages
-slot_numbers : (item : Item) (bs : List BlockValue) → flat_map of_part (slots_of item (blocks_for item bs)) ≡ numbers_of (blocks_for item bs)
+slot_numbers : (item : Item) (bs : List BlockValue)
+    → flat_map of_part (slots_of item (blocks_for item bs)) ≡ numbers_of (blocks_for item bs)
 slot_numbers (Write first run size) bs = some_slots (blocks_for (Write first run size) bs)
 slot_numbers (Init kind mode) bs = refl
 slot_numbers (SetSize size) bs = refl

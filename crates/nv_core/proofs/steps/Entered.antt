@@ -1,32 +1,25 @@
 -- What a turn leaves of the order of logs, and what a commit has yet to append.
-use Rattle.std.proofs.Common.{◌≡◌, ◌≢◌, ℕ, zero, suc, ◌+◌, ◌<◌, ◌≤◌, ◌==◌, ◌++◌, ◌∙◌, Bool, true, false, List, [], ◌∷◌, Option, Some, None, ap, arith, append_assoc, drop, get_or-set_other, get_or-set_same, if◌then◌else◌, length, nat_lt, refl, subst, sym, take}
-use Rattle.std.specs.Prelude.{◌||◌, is_none, slice_index_or}
-use Rattle.std.proofs.lemmas.Bool.{eqb-false, eqb-true, false≢true, ltb-false, ltb-true, true≢false}
-use Rattle.std.proofs.lemmas.List.{set_past}
+use Rattle.std.proofs.Common.{◌≡◌, ◌≢◌, ℕ, zero, suc, ◌+◌, ◌<◌, ◌≤◌, ◌++◌, ◌∙◌, Bool, true, false, List, [], ◌∷◌, Option, Some, None, ap, arith, append_assoc, drop, if◌then◌else◌, length, nat_lt, refl, subst, sym}
+use Rattle.std.specs.Prelude.{is_none}
+use Rattle.std.proofs.lemmas.Bool.{false≢true, true≢false}
 use Rattle.std.specs.List.{AllByRecursion}
 use Rattle.nv_alloc.specs.Block.{BlockValue}
-use Rattle.nv_alloc.specs.Numbers.{IsRising, has}
+use Rattle.nv_alloc.specs.Numbers.{has}
 use Rattle.nv_book.specs.Book.{BookState}
 use Rattle.nv_calls.specs.Retiring.{erased, is_erased, keeper_of, retired, retired_one, settled}
 use Rattle.nv_calls.proofs.Places.{log_rises}
-use Rattle.nv_calls.specs.Slots.{IsBefore, entries_of, items_for, place_in}
-use Rattle.nv_cell.specs.Cell.{CellState, empty_cell, number_in, published}
+use Rattle.nv_calls.specs.Slots.{IsBefore, entries_of}
+use Rattle.nv_cell.specs.Cell.{CellState, empty_cell, number_in}
 use Rattle.nv_cell.specs.declared.killed.KilledPart.{KilledPart}
 use Rattle.nv_entry.specs.declared.item.Entry.{Entry}
 use Rattle.nv_entry.specs.declared.item.Item.{Item}
-use Rattle.nv_epoch.specs.SnapList.{ids}
 use Rattle.nv_core.specs.machine.Frame.{IsFramed, Lent}
-use Rattle.nv_core.specs.machine.Kinds.{again_turn, append_turn, asked_list, end_turn, enter_turn, entries_for, first_killed, over_turn, publish_turn, rest_turn, retire_turn, retired_book, retired_cell, with_entries, with_pages}
-use Rattle.nv_core.specs.machine.Locks.{HoldsIts, commits_at, is_owner}
+use Rattle.nv_core.specs.machine.Kinds.{again_turn, end_turn, over_turn, rest_turn, with_entries, with_pages}
+use Rattle.nv_core.specs.machine.Locks.{HoldsIts, is_owner}
 use Rattle.nv_core.specs.machine.Order.{AreLogsOrdered, CommitsIn, entries_at, to_append}
-use Rattle.nv_core.specs.machine.Reads.{is_written, slot_at, written_slots}
 use Rattle.nv_core.specs.machine.Sequence.{closing, opening, publishing, retiring}
-use Rattle.nv_core.specs.machine.Step.{kind_turn}
-use Rattle.nv_core.specs.machine.World.{Answers, Append, Back, Check, Close, Ending, Ends, Enter, Give, HandState, Leave, Lock, Look, Moves, Next, Number, Open, Overtaken, Publish, Ready, Refuses, Retire, Running, Shared, TakeBlocks, TakePages, Turn, Unlock, Visit, Waits, cell_at, go_to, no_cell, with_book, with_cell}
-use Rattle.nv_core.proofs.steps.Framed.{framed}
-use Rattle.nv_core.proofs.steps.Lists.{drop_apart, has_drop, rising_filter, self}
+use Rattle.nv_core.specs.machine.World.{Answers, Append, Close, Ending, Ends, HandState, Leave, Moves, Next, Open, Overtaken, Publish, Refuses, Retire, Running, Shared, Turn, Waits, cell_at}
 use Rattle.nv_core.proofs.steps.Holding.{OnLocks}
-use Rattle.nv_core.proofs.steps.Locked.{Before, locks_kept}
 
 -- ---- entries of one commit
 

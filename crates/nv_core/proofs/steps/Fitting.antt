@@ -1,13 +1,12 @@
 -- The blocks of a plan are in the hand, for pages that a file can have.
-use Rattle.std.proofs.Common.{◌≡◌, ◌≢◌, ◌⊎◌, ℕ, zero, suc, ◌+◌, ◌^◌, ◌<◌, ◌≤◌, ◌==◌, ◌/◌, ◌++◌, ◌∙◌, Bool, true, false, List, [], ◌∷◌, Option, Some, None, add-one, ap, arith, cond, if◌then◌else◌, inl, inr, length, length-append, map, nat_lt, refl, rules, subst, sym, take}
-use Rattle.std.proofs.lemmas.Bool.{eqb-false, eqb-true, ltb-false}
-use Rattle.std.proofs.lemmas.List.{append-nil, length-map}
+use Rattle.std.proofs.Common.{◌≡◌, ◌⊎◌, ℕ, ◌+◌, ◌^◌, ◌<◌, ◌≤◌, ◌==◌, ◌/◌, ◌++◌, ◌∙◌, Bool, true, false, List, [], ◌∷◌, Option, Some, None, add-one, ap, arith, cond, if◌then◌else◌, inl, inr, length, length-append, nat_lt, refl, subst, sym, take}
+use Rattle.std.proofs.lemmas.Bool.{eqb-true, ltb-false}
+use Rattle.std.proofs.lemmas.List.{append-nil}
 use Rattle.std.proofs.lemmas.List.Concat.{flat_map-append, length-flat_map}
 use Rattle.std.proofs.lemmas.List.FromFn.{length-range_with_len}
 use Rattle.std.proofs.lemmas.List.Sums.{sum_by-cons}
 use Rattle.std.specs.List.{AllByRecursion, flat_map, range_with_len, sum_by}
 use Rattle.std.specs.Prelude.{Ok, Err}
-use Rattle.nv_alloc.specs.Block.{BlockValue, number_of, numbers_of}
 use Rattle.nv_alloc.specs.Numbers.{IsRising}
 use Rattle.nv_base.specs.declared.limits.TheConstants.{FILE_PAGES}
 use Rattle.nv_base.specs.declared.numbers.Handle.{Handle}
@@ -35,7 +34,6 @@ use Rattle.nv_entry.specs.declared.node.NodeCopy.{NodeCopy}
 use Rattle.nv_core.specs.machine.Hands.{FitsFile, planned_blocks}
 use Rattle.nv_core.specs.machine.Kinds.{check_ending}
 use Rattle.nv_core.specs.machine.Reads.{run_if, runs_of, stretches, with_number}
-use Rattle.nv_core.specs.machine.World.{Ending}
 
 -- ---- runs have no more blocks than were taken
 

@@ -1,24 +1,23 @@
 -- Each free list is what one scan of all cells and hands leaves.
-use Rattle.std.proofs.Common.{◌≡◌, ◌≢◌, ◌⊎◌, ℕ, zero, suc, ◌+◌, ◌-◌, ◌<◌, ◌≤◌, ◌==◌, ◌++◌, ◌∙◌, Bool, true, false, List, [], ◌∷◌, Option, Some, None, ap, arith, get_or, if◌then◌else◌, inl, inr, length, nat_lt, not, refl, subst, sym}
+use Rattle.std.proofs.Common.{◌≡◌, ◌≢◌, ℕ, zero, suc, ◌+◌, ◌-◌, ◌^◌, ◌<◌, ◌≤◌, ◌==◌, ◌∙◌, Bool, true, false, List, [], ◌∷◌, Option, None, ap, arith, inl, inr, length, nat_lt, not, refl, subst, sym}
 use Rattle.std.specs.Prelude.{◌&&◌, ◌||◌, nat_le, slice_index_or}
 use Rattle.std.specs.List.{AllByRecursion, flat_map}
-use Rattle.std.proofs.lemmas.Bool.{cases_lt, eqb-false, eqb-true, false≢true, le-leb, le-ltb, leb-true, lt-leb, lt-ltb, ltb-true, true≢false}
+use Rattle.std.proofs.lemmas.Bool.{cases_lt, eqb-true, false≢true, le-leb, le-ltb, lt-leb, lt-ltb, true≢false}
 use Rattle.std.proofs.lemmas.List.{get_or_past}
-use Rattle.nv_alloc.specs.Block.{BlockValue, numbers_of}
 use Rattle.nv_alloc.specs.FreeList.{FreeBlocks}
-use Rattle.nv_alloc.specs.Numbers.{IsRising, has, times, unused}
+use Rattle.nv_alloc.specs.Numbers.{has, times}
 use Rattle.nv_alloc.proofs.FromScratch.{from_scratch}
-use Rattle.nv_alloc.proofs.Lists.{has-times, times-append, times-no, times-rising, times-yes}
-use Rattle.nv_base.specs.Homes.{CutsBlocks, home_start}
+use Rattle.nv_alloc.proofs.Lists.{times-append, times-no, times-yes}
+use Rattle.nv_base.specs.Homes.{home_start}
 use Rattle.nv_base.specs.Limits.{IsWithinLimits}
 use Rattle.nv_base.specs.declared.geometry.GeometryNumbers.{GeometryNumbers}
 use Rattle.nv_base.proofs.HomeRanges.{cuts}
 use Rattle.nv_core.specs.machine.Format.{formatted}
-use Rattle.nv_core.specs.machine.Hands.{AreLists, AreNumbers, ArePagesTold, HandOf, IsHomeList}
-use Rattle.nv_core.specs.machine.Locks.{AreLocks, commits_by, held_by}
-use Rattle.nv_core.specs.machine.Numbers.{HasNothing, IdleHaveNothing, IsEachOnce, all_blocks, free_from_scratch, free_of, used_blocks}
+use Rattle.nv_core.specs.machine.Hands.{AreLists, AreNumbers, ArePagesTold, HandOf}
+use Rattle.nv_core.specs.machine.Locks.{commits_by, held_by}
+use Rattle.nv_core.specs.machine.Numbers.{IdleHaveNothing, IsEachOnce, all_blocks, free_from_scratch, free_of, used_blocks}
 use Rattle.nv_core.specs.machine.Step.{after}
-use Rattle.nv_core.specs.machine.World.{Event, Running, World, actor_at, cell_at, empty_hand, list_at, no_list}
+use Rattle.nv_core.specs.machine.World.{Event, Running, World, actor_at, cell_at, list_at, no_list}
 use Rattle.nv_core.proofs.steps.Locks.{events_locks, new_locks}
 use Rattle.nv_core.proofs.steps.NewNumbers.{new_numbers}
 use Rattle.nv_core.proofs.steps.NumberedRuns.{events_numbers}
@@ -168,10 +167,12 @@ is_scan g w cpu n some all inside = elim (cases_lt n low) [
 
 pub all_numbers : (g : GeometryNumbers) (events : List Event) → IsWithinLimits g → AreNumbers g (after (formatted g) events)
 all_numbers g events within =
-    events_numbers g events (formatted g) (omega (arith, within.some_cpus)) (omega (arith, within.some_bytes)) (omega (arith, within.blocks_fit)) (new_locks g within)
-    (new_numbers g within)
+    let small : g.blocks < 2 ^ 64 = omega (arith, within.blocks_fit) in
+    events_numbers g events (formatted g) (omega (arith, within.some_cpus)) (omega (arith, within.some_bytes)) small
+    (new_locks g within) (new_numbers g within)
 
-pub each_once : (g : GeometryNumbers) (events : List Event) → IsWithinLimits g → IsEachOnce g.blocks (all_blocks (after (formatted g) events))
+pub each_once : (g : GeometryNumbers) (events : List Event) → IsWithinLimits g
+    → IsEachOnce g.blocks (all_blocks (after (formatted g) events))
 each_once g events within = (all_numbers g events within).once
 
 pub sorted : (g : GeometryNumbers) (events : List Event) → IsWithinLimits g → AreLists g (after (formatted g) events).shared

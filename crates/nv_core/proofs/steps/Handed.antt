@@ -1,38 +1,22 @@
 -- What the hand of an actor has after a step, and that it is empty at the end of a call.
-use Rattle.std.proofs.Common.{◌≡◌, ◌≢◌, ℕ, zero, suc, ◌+◌, ◌-◌, ◌<◌, ◌≤◌, ◌==◌, ◌++◌, ◌∙◌, Bool, true, false, List, [], ◌∷◌, Option, Some, None, ap, arith, cond, drop, drop-cons, filter, get_or, if◌then◌else◌, length, length-append, map, nat_lt, refl, rules, subst, sym, take}
-use Rattle.std.specs.Prelude.{Ok, Err, ◌&&◌, is_some}
-use Rattle.std.specs.List.{AllByRecursion, flat_map}
-use Rattle.std.proofs.lemmas.Bool.{false≢true, ltb-false, ltb-true, true≢false}
-use Rattle.std.proofs.lemmas.List.{length-map}
-use Rattle.nv_alloc.specs.Block.{AreSized, BlockValue, number_of, numbers_of}
-use Rattle.nv_alloc.specs.Numbers.{times}
+use Rattle.std.proofs.Common.{◌≡◌, ℕ, zero, suc, ◌+◌, ◌<◌, ◌≤◌, ◌++◌, ◌∙◌, Bool, true, false, List, [], ◌∷◌, Option, Some, None, ap, arith, if◌then◌else◌, length, nat_lt, refl, subst, sym}
+use Rattle.std.specs.Prelude.{Ok, Err}
+use Rattle.std.proofs.lemmas.Bool.{false≢true}
+use Rattle.nv_alloc.specs.Block.{BlockValue}
 use Rattle.nv_base.specs.declared.geometry.GeometryNumbers.{GeometryNumbers}
-use Rattle.nv_calls.specs.AllCalls.{blocks_wanted, early, effect, looked, plan, refusal}
-use Rattle.nv_calls.specs.Plain.{same_handle}
+use Rattle.nv_calls.specs.AllCalls.{looked}
 use Rattle.nv_calls.specs.Refusals.{Check as Tests}
-use Rattle.nv_calls.specs.Retiring.{is_erased}
-use Rattle.nv_calls.specs.Slots.{entries_of, items_for}
-use Rattle.nv_calls.specs.declared.answer.Answer.{Answer}
 use Rattle.nv_calls.specs.declared.call.Call.{Call}
 use Rattle.nv_calls.specs.declared.call.Call.TheVariants as call
 use Rattle.nv_calls.specs.declared.looked.Looked.{Looked}
-use Rattle.nv_cell.specs.Append.{IsWithinFile}
-use Rattle.nv_cell.specs.Cell.{CellState}
 use Rattle.nv_cell.specs.declared.killed.KilledPart.{KilledPart}
-use Rattle.nv_entry.specs.Blocks.{item_blocks}
-use Rattle.nv_entry.specs.declared.item.Entry.{Entry}
-use Rattle.nv_entry.specs.declared.item.Item.{Item}
-use Rattle.nv_core.specs.machine.Hands.{AreGiven, AreLists, FitsFile, HandAt, HandOf, HasFitting, HasPlanned, HasTakenNone, IsOvertaken, is_going, makes_inode, planned_blocks}
-use Rattle.nv_core.specs.machine.Kinds.{again_turn, asked_list, back_turn, blocks_in, blocks_left, blocks_turn, check_turn, end_turn, enter_turn, entries_for, given, grown, less_list, lock_turn, look_turn, number_turn, over_turn, pages_turn, rest_turn, retired_cell, unlocked_turn, visit_turn, wants_blocks, wants_pages, with_bytes, with_erased, with_freed, with_given}
-use Rattle.nv_core.specs.machine.Reads.{copies, filled, fresh_pages, has_last_page, home_from, is_written, plan_by, slot_at, slots_of, taken_by, written_slots}
-use Rattle.nv_core.specs.machine.Sequence.{Beginning, Looks, Locks, Numbers, Visits, appending, beginning, begun, closing, directories, locking, looking, nothing_looked, opening, publishing, retiring}
-use Rattle.nv_core.specs.machine.Step.{ending_at, is_numbered, kind_turn, made_in, same_looked, with_made}
-use Rattle.nv_core.specs.machine.World.{Answers, Append, Back, Check, Close, Ending, Ends, Enter, Give, HandState, Leave, Lock, Look, Moves, Next, Number, Open, Overtaken, Publish, Ready, Refuses, Retire, Running, Shared, TakeBlocks, TakePages, Turn, Unlock, Visit, Waits, empty_hand, go_to, list_at}
-use Rattle.nv_core.proofs.steps.Counted.{filled_numbers, given_all}
-use Rattle.nv_core.proofs.steps.Fitting.{IsChecked, checked, plan_few, plan_within, planned_few, wants_fitting}
-use Rattle.nv_core.proofs.steps.Homes.{AreBelow, IsFound, all_given, found_home, given_all_home, given_none}
-use Rattle.nv_core.proofs.steps.Lists.{rising_filter}
-use Rattle.nv_core.proofs.steps.Locked.{Before}
+use Rattle.nv_core.specs.machine.Hands.{AreGiven, AreLists, FitsFile, HandOf, HasFitting, HasTakenNone, IsOvertaken, makes_inode}
+use Rattle.nv_core.specs.machine.Kinds.{again_turn, blocks_in, check_turn, end_turn, given, grown, lock_turn, look_turn, number_turn, over_turn, rest_turn, wants_blocks, wants_pages}
+use Rattle.nv_core.specs.machine.Reads.{home_from, slots_of}
+use Rattle.nv_core.specs.machine.Sequence.{beginning, directories, locking, looking, nothing_looked}
+use Rattle.nv_core.specs.machine.Step.{same_looked}
+use Rattle.nv_core.specs.machine.World.{Answers, Check, Ending, Ends, HandState, Lock, Look, Moves, Overtaken, Refuses, Running, Shared, Turn, Waits, empty_hand, go_to}
+use Rattle.nv_core.proofs.steps.Homes.{AreBelow, IsFound, found_home, given_all_home, given_none}
 
 -- ---- hands
 

@@ -1,8 +1,8 @@
 -- What the hand of an actor has along a commit, and after every kind of step.
-use Rattle.std.proofs.Common.{◌≡◌, ◌≢◌, ℕ, zero, suc, ◌+◌, ◌-◌, ◌^◌, ◌<◌, ◌≤◌, ◌==◌, ◌++◌, ◌∙◌, Bool, true, false, List, [], ◌∷◌, Option, Some, None, add-one, ap, arith, cond, drop, drop-cons, get_or, if◌then◌else◌, length, length-append, nat_lt, refl, rules, subst, sym, take}
+use Rattle.std.proofs.Common.{◌≡◌, ℕ, zero, suc, ◌+◌, ◌-◌, ◌^◌, ◌<◌, ◌≤◌, ◌++◌, ◌∙◌, Bool, true, false, List, [], ◌∷◌, Option, Some, None, add-one, ap, arith, drop, drop-cons, if◌then◌else◌, length, length-append, nat_lt, refl, subst, sym, take}
 use Rattle.std.specs.Prelude.{Ok, Err, is_none}
 use Rattle.std.specs.List.{AllByRecursion, flat_map}
-use Rattle.std.proofs.lemmas.Bool.{false≢true, ltb-false, ltb-true, true≢false}
+use Rattle.std.proofs.lemmas.Bool.{false≢true, ltb-false, true≢false}
 use Rattle.std.proofs.lemmas.List.{drop-drop, length-map}
 use Rattle.nv_alloc.specs.Block.{AreSized, BlockValue, number_of, numbers_of}
 use Rattle.nv_alloc.specs.Numbers.{times}
@@ -14,22 +14,21 @@ use Rattle.nv_calls.specs.Slots.{entries_of, items_for, place_in}
 use Rattle.nv_calls.specs.declared.answer.Answer.{Answer}
 use Rattle.nv_calls.proofs.Appends.{front, map-drop}
 use Rattle.nv_cell.specs.Cell.{CellState}
-use Rattle.nv_cell.specs.declared.killed.KilledPart.{KilledPart}
 use Rattle.nv_entry.specs.Blocks.{item_blocks}
 use Rattle.nv_entry.specs.declared.item.Entry.{Entry}
 use Rattle.nv_entry.specs.declared.item.Item.{Item}
-use Rattle.nv_core.specs.machine.Hands.{AreGiven, AreLists, FitsFile, HandAt, HandOf, HasFitting, HasPlanned, HasTakenNone, IsOvertaken, is_going, makes_inode, planned_blocks}
-use Rattle.nv_core.specs.machine.Kinds.{asked_list, back_turn, blocks_in, blocks_left, blocks_turn, check_ending, enter_turn, entries_for, first_killed, given, less_list, pages_turn, retired_cell, unlocked_turn, visit_turn, with_bytes, with_erased, with_freed, with_given, with_killed}
-use Rattle.nv_core.specs.machine.Reads.{copies, filled, fresh_pages, has_last_page, home_from, is_written, plan_by, slot_at, taken_by, written_slots}
-use Rattle.nv_core.specs.machine.Sequence.{appending, beginning, closing, nothing_looked, opening, publishing, retiring}
+use Rattle.nv_core.specs.machine.Hands.{AreGiven, FitsFile, HandAt, HandOf, HasFitting, HasPlanned, HasTakenNone, IsOvertaken, is_going, makes_inode, planned_blocks}
+use Rattle.nv_core.specs.machine.Kinds.{asked_list, back_turn, blocks_in, blocks_left, blocks_turn, check_ending, enter_turn, entries_for, first_killed, given, pages_turn, retired_cell, unlocked_turn, visit_turn, with_bytes, with_erased, with_freed}
+use Rattle.nv_core.specs.machine.Reads.{copies, filled, fresh_pages, has_last_page, is_written, plan_by, slot_at, taken_by, written_slots}
+use Rattle.nv_core.specs.machine.Sequence.{appending, beginning, closing, opening, publishing, retiring}
 use Rattle.nv_core.specs.machine.Step.{ending_at, is_numbered, kind_turn, made_in, same_looked, with_made}
-use Rattle.nv_core.specs.machine.World.{Answers, Append, Back, Check, Close, Ending, Ends, Enter, Give, HandState, Leave, Lock, Look, Moves, Next, Number, Open, Overtaken, Publish, Ready, Refuses, Retire, Running, Shared, TakeBlocks, TakePages, Turn, Unlock, Visit, Waits, empty_hand, go_to, list_at}
+use Rattle.nv_core.specs.machine.World.{Answers, Append, Back, Check, Close, Enter, Give, HandState, Leave, Lock, Look, Next, Number, Open, Overtaken, Publish, Ready, Retire, Running, Shared, TakeBlocks, TakePages, Unlock, Visit, empty_hand, go_to, list_at}
 use Rattle.nv_core.proofs.steps.Counted.{filled_numbers, given_all}
-use Rattle.nv_core.proofs.steps.Fitting.{IsChecked, checked, plan_few, plan_first, plan_within, planned_few, wants_fitting}
+use Rattle.nv_core.proofs.steps.Fitting.{checked, plan_few, plan_first, plan_within, planned_few, wants_fitting}
 use Rattle.nv_core.proofs.steps.Handed.{GoesHome, OnHand, check_hand, end_hand, grown_hand, is_empty, lock_hand, look_hand, not_overtaken, number_hand, over_hand, rest_hand, same_nothing, wants_pages_hand}
 use Rattle.nv_core.proofs.steps.Homes.{AreBelow, all_given}
 use Rattle.nv_core.proofs.steps.Kept.{deed}
-use Rattle.nv_core.proofs.steps.Lists.{drop_all, rising_filter}
+use Rattle.nv_core.proofs.steps.Lists.{rising_filter}
 use Rattle.nv_core.proofs.steps.Locked.{Before}
 use Rattle.nv_core.proofs.steps.Parted.{entry_blocks}
 
@@ -119,7 +118,8 @@ first_below : (many : ℕ) (h : HandState) → AreBelow many (blocks_in h) → A
 first_below many h below = below_front many h.blocks h.pages (below_front many (h.blocks ++ h.pages) h.chain below)
 
 ready_planned : (g : GeometryNumbers) (a : ℕ) (s : Shared) (h : HandState) (r : Running) → HasFitting g.block h r (length h.blocks)
-    → g.blocks < 2 ^ 64 → AreBelow g.blocks h.blocks → Before a s Ready r → HasPlanned (with_bytes g.block s r h) (record r { plan = plan_by g.block s h r; next = Enter })
+    → g.blocks < 2 ^ 64 → AreBelow g.blocks h.blocks → Before a s Ready r
+    → HasPlanned (with_bytes g.block s r h) (record r { plan = plan_by g.block s h r; next = Enter })
     (written_slots (record r { plan = plan_by g.block s h r }))
 ready_planned g a s h r fits small below b =
     let plan = plan_by g.block s h r in
@@ -201,7 +201,8 @@ enter_hand g None false granted actor s h r goes planned going =
     (record { killed = planned.killed; enough = planned.enough; first = planned.first; within = planned.within }) going)
 
 -- what an append leaves in the hand
-pub entry_blocks_are : (commit epoch place : ℕ) (items : List Item) → entry_blocks (entries_of commit epoch place items) ≡ flat_map item_blocks items
+pub entry_blocks_are : (commit epoch place : ℕ) (items : List Item)
+    → entry_blocks (entries_of commit epoch place items) ≡ flat_map item_blocks items
 entry_blocks_are commit epoch place [] = refl
 entry_blocks_are commit epoch place (item ∷ items) =
     ap (λ (l : List ℕ). item_blocks item ++ l) (entry_blocks_are commit epoch (place + 1) items)
@@ -264,7 +265,8 @@ slot_first place h r inside planned = (cut_at place h r inside planned).0
 
 append_planned : (place pages : ℕ) (h : HandState) (r : Running) → place < length (written_slots r)
     → HasPlanned h r (drop place (written_slots r))
-    → HasPlanned (record h { blocks = blocks_left (entries_for r (slot_at (written_slots r) place)) h.blocks; pages = drop pages h.pages }) r
+    → HasPlanned
+    (record h { blocks = blocks_left (entries_for r (slot_at (written_slots r) place)) h.blocks; pages = drop pages h.pages }) r
     (drop (place + 1) (written_slots r))
 append_planned place pages h r inside planned =
     let ino = slot_at (written_slots r) place in
@@ -321,7 +323,8 @@ CanGive g (Give cpu) s h = AreSized g.block (blocks_in h)
 CanGive g other s h = Unit {0}
 
 pub hand_kept : (g : GeometryNumbers) (k : Next) (a : ℕ) (granted : Bool) (s : Shared) (h : HandState) (r : Running) → 0 < g.block
-    → g.blocks < 2 ^ 64 → Before a s k r → AllGoHome g k s h r g.block a → CanGive g k s h → HandAt g k h r → (is_going k ≡ true → r.ending ≡ Answers)
+    → g.blocks < 2 ^ 64 → Before a s k r → AllGoHome g k s h r g.block a → CanGive g k s h → HandAt g k h r → (is_going k ≡ true
+    → r.ending ≡ Answers)
     → OnHand g (kind_turn k g.block a granted s h r)
 hand_kept g Number a granted s h r some small b goes give at going = number_hand g s.pool.numbers s h r at.0 at.1 at.2 (going refl)
 hand_kept g (Look place) a granted s h r some small b goes give at going = look_hand g _ _ _ place s h r goes.0 at.0 at.1 (going refl)

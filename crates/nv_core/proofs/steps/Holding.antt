@@ -1,20 +1,14 @@
 -- What an actor holds, along the last steps and the loops of its call.
 use Rattle.std.proofs.Common.{◌≡◌, ◌≢◌, ℕ, zero, suc, ◌+◌, ◌<◌, ◌==◌, ◌∙◌, Bool, true, false, List, [], ◌∷◌, Option, Some, None, ap, arith, drop, get_or-set_other, get_or-set_same, if◌then◌else◌, length, length-set, nat_lt, refl, subst, sym, take}
-use Rattle.std.proofs.lemmas.Option.{none-some}
-use Rattle.std.specs.Prelude.{unwrap_or, ◌||◌, Ok, Err, slice_index_or}
-use Rattle.std.proofs.lemmas.Bool.{eqb-false, eqb-true, false≢true, ltb-false, ltb-true}
+use Rattle.std.specs.Prelude.{◌||◌}
+use Rattle.std.proofs.lemmas.Bool.{eqb-false, eqb-true, ltb-false, ltb-true}
 use Rattle.nv_alloc.specs.Numbers.{has}
-use Rattle.nv_calls.specs.Refusals.{Check as Tests}
-use Rattle.nv_calls.specs.declared.answer.Answer.{Answer}
-use Rattle.nv_core.specs.machine.Frame.{lent}
-use Rattle.nv_core.specs.machine.Kinds.{again_turn, back_turn, blocks_turn, check_turn, end_turn, enter_turn, grown, lock_turn, look_turn, number_turn, over_turn, pages_turn, rest_turn, unlocked_turn, visit_turn, wants_blocks, wants_pages}
-use Rattle.nv_core.specs.machine.Locks.{AreSlots, HoldsIts, IsHeldByOther, IsInside, WaitsFor, commits_at, held_at, is_owner}
-use Rattle.nv_calls.specs.declared.looked.Looked.{Looked}
-use Rattle.nv_core.specs.machine.Reads.{is_written, slot_at, slots_of, written_slots}
-use Rattle.nv_core.specs.machine.Sequence.{appending, closing, directories, locking, opening, publishing, retiring}
-use Rattle.nv_core.specs.machine.Step.{ending_at, kind_turn, with_made}
-use Rattle.nv_core.specs.machine.World.{Answers, Append, Back, Check, Close, Ending, Ends, Enter, Give, HandState, Leave, Lock, Look, Moves, Next, Number, Open, Overtaken, Publish, Ready, Refuses, Retire, Running, Shared, TakeBlocks, TakePages, Turn, Unlock, Visit, Waits, go_to, owner_at, with_owner}
-use Rattle.nv_core.proofs.steps.Lists.{drop_all, drop_apart, has_at, has_drop, has_filter, has_take, self, slot_inside, slots_are, take_all, take_apart}
+use Rattle.nv_core.specs.machine.Kinds.{again_turn, end_turn, grown, over_turn, rest_turn}
+use Rattle.nv_core.specs.machine.Locks.{AreSlots, HoldsIts, IsInside, commits_at, held_at, is_owner}
+use Rattle.nv_core.specs.machine.Reads.{slot_at, written_slots}
+use Rattle.nv_core.specs.machine.Sequence.{appending, closing, locking, opening, publishing, retiring}
+use Rattle.nv_core.specs.machine.World.{Answers, Append, Back, Check, Close, Ending, Ends, Give, HandState, Leave, Lock, Look, Moves, Open, Overtaken, Publish, Refuses, Retire, Running, Shared, Turn, Unlock, Waits, go_to, owner_at, with_owner}
+use Rattle.nv_core.proofs.steps.Lists.{drop_apart, has_drop, has_take, self, slot_inside, take_all}
 
 -- ---- what a turn leaves of the locks
 

@@ -1,19 +1,19 @@
 -- Blocks that go home, CPU by CPU, until none is left.
-use Rattle.std.proofs.Common.{◌≡◌, ℕ, zero, suc, ◌+◌, ◌<◌, ◌≤◌, ◌++◌, ◌∙◌, Bool, true, false, List, [], ◌∷◌, Option, Some, None, ap, arith, cond, filter, get_or, if◌then◌else◌, length, nat_lt, not, refl, rules, subst, sym}
-use Rattle.std.specs.Prelude.{◌&&◌, ◌||◌, nat_le, slice_index_or}
+use Rattle.std.proofs.Common.{◌≡◌, ℕ, suc, ◌+◌, ◌<◌, ◌≤◌, ◌∙◌, Bool, true, false, List, [], ◌∷◌, Option, Some, None, ap, arith, filter, if◌then◌else◌, length, nat_lt, not, refl, subst, sym}
+use Rattle.std.specs.Prelude.{◌||◌, nat_le, slice_index_or}
 use Rattle.std.specs.List.{AllByRecursion, list_any}
-use Rattle.std.proofs.lemmas.Bool.{leb-true, leb-false, le-leb, lt-ltb, ltb-false, ltb-true, false≢true}
+use Rattle.std.proofs.lemmas.Bool.{le-leb, ltb-false, ltb-true, false≢true}
 use Rattle.nv_alloc.specs.Block.{AreSized, BlockValue, numbers_of}
 use Rattle.nv_alloc.specs.FreeList.{FreeBlocks, is_home}
-use Rattle.nv_alloc.specs.Giving.{after_giving, kept_of}
+use Rattle.nv_alloc.specs.Giving.{kept_of}
 use Rattle.nv_alloc.specs.Numbers.{times}
 use Rattle.nv_alloc.proofs.GivingLemmas.{goes_home}
-use Rattle.nv_base.specs.Homes.{CutsBlocks, home_start}
+use Rattle.nv_base.specs.Homes.{home_start}
 use Rattle.nv_base.specs.declared.geometry.GeometryNumbers.{GeometryNumbers}
 use Rattle.nv_base.proofs.HomeRanges.{cuts}
 use Rattle.nv_core.specs.machine.Hands.{AreGiven, AreLists, IsHomeList}
 use Rattle.nv_core.specs.machine.Reads.{home_from}
-use Rattle.nv_core.specs.machine.World.{Shared, list_at, no_list}
+use Rattle.nv_core.specs.machine.World.{Shared, no_list}
 
 -- ---- homes along the lists
 

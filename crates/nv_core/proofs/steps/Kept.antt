@@ -1,5 +1,5 @@
 -- What each kind makes of what is shared and of the hand, where it does its work; and that a turn keeps what this keeps.
-use Rattle.std.proofs.Common.{ℕ, zero, suc, ◌+◌, ◌++◌, Bool, true, false, List, [], ◌∷◌, Option, Some, None, drop, length, nat_lt, take}
+use Rattle.std.proofs.Common.{ℕ, zero, suc, ◌++◌, Bool, true, false, List, [], ◌∷◌, Option, Some, None, drop, length, take}
 use Rattle.std.specs.Prelude.{◌%◌, Ok, Err}
 use Rattle.nv_alloc.specs.Numbers.{put_by}
 use Rattle.nv_book.specs.Book.{after_enter, with_journal}
@@ -12,7 +12,7 @@ use Rattle.nv_cell.specs.declared.killed.KilledPart.{KilledPart}
 use Rattle.nv_core.specs.machine.Kinds.{again_turn, asked_list, back_turn, blocks_left, blocks_turn, check_turn, end_turn, enter_turn, entries_for, first_killed, given, grown, killed_by_publish, less_list, lock_turn, look_turn, number_turn, old_tails, over_turn, pages_turn, rest_turn, retired_book, retired_cell, unlocked_turn, visit_turn, wants_blocks, wants_pages, with_bytes, with_entries, with_erased, with_freed, with_given, with_killed, with_pages}
 use Rattle.nv_core.specs.machine.Reads.{pages_needed, slot_at, written_slots}
 use Rattle.nv_core.specs.machine.Step.{ending_at, kind_turn, with_made}
-use Rattle.nv_core.specs.machine.World.{Answers, Append, Back, Check, Close, Ending, Ends, Enter, Give, HandState, Leave, Lock, Look, Moves, Next, Number, Open, Overtaken, Publish, Ready, Refuses, Retire, Running, Shared, TakeBlocks, TakePages, Turn, Unlock, Visit, Waits, cell_at, list_at, with_book, with_cell, with_list, with_numbers, with_owner}
+use Rattle.nv_core.specs.machine.World.{Answers, Append, Back, Check, Close, Ending, Ends, Enter, Give, HandState, Leave, Lock, Look, Moves, Next, Number, Open, Overtaken, Publish, Ready, Refuses, Retire, Running, Shared, TakeBlocks, TakePages, Turn, Unlock, Visit, Waits, cell_at, list_at, with_book, with_cell, with_numbers, with_owner}
 
 -- ---- what a kind does
 

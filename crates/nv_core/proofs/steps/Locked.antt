@@ -1,5 +1,5 @@
 -- Each actor holds exactly the locks of its call, and waits for another's alone.
-use Rattle.std.proofs.Common.{◌≡◌, ◌≢◌, ℕ, zero, suc, ◌+◌, ◌<◌, ◌==◌, ◌∙◌, Bool, true, false, List, [], ◌∷◌, Option, Some, None, ap, arith, drop, get_or-set_other, get_or-set_same, if◌then◌else◌, length, length-set, nat_lt, refl, subst, sym, take}
+use Rattle.std.proofs.Common.{◌≡◌, ℕ, zero, suc, ◌+◌, ◌<◌, ◌==◌, ◌∙◌, Bool, true, false, List, [], ◌∷◌, Option, Some, None, ap, drop, length, nat_lt, refl, subst, sym}
 use Rattle.std.proofs.lemmas.Option.{none-some}
 use Rattle.std.specs.Prelude.{unwrap_or, ◌||◌, Ok, Err, slice_index_or}
 use Rattle.std.proofs.lemmas.Bool.{eqb-false, eqb-true, false≢true, ltb-false, ltb-true}
@@ -7,14 +7,14 @@ use Rattle.nv_alloc.specs.Numbers.{has}
 use Rattle.nv_calls.specs.Refusals.{Check as Tests}
 use Rattle.nv_calls.specs.declared.answer.Answer.{Answer}
 use Rattle.nv_core.specs.machine.Frame.{lent}
-use Rattle.nv_core.specs.machine.Kinds.{again_turn, back_turn, blocks_turn, check_turn, end_turn, enter_turn, grown, lock_turn, look_turn, number_turn, over_turn, pages_turn, rest_turn, unlocked_turn, visit_turn, wants_blocks, wants_pages}
+use Rattle.nv_core.specs.machine.Kinds.{back_turn, blocks_turn, check_turn, enter_turn, lock_turn, look_turn, number_turn, pages_turn, unlocked_turn, visit_turn, wants_blocks, wants_pages}
 use Rattle.nv_core.specs.machine.Locks.{AreSlots, HoldsIts, IsHeldByOther, IsInside, WaitsFor, commits_at, held_at, is_owner}
 use Rattle.nv_calls.specs.declared.looked.Looked.{Looked}
 use Rattle.nv_core.specs.machine.Reads.{is_written, slot_at, slots_of, written_slots}
-use Rattle.nv_core.specs.machine.Sequence.{appending, closing, directories, locking, opening, publishing, retiring}
+use Rattle.nv_core.specs.machine.Sequence.{directories}
 use Rattle.nv_core.specs.machine.Step.{ending_at, kind_turn, with_made}
-use Rattle.nv_core.specs.machine.World.{Answers, Append, Back, Check, Close, Ending, Ends, Enter, Give, HandState, Leave, Lock, Look, Moves, Next, Number, Open, Overtaken, Publish, Ready, Refuses, Retire, Running, Shared, TakeBlocks, TakePages, Turn, Unlock, Visit, Waits, go_to, owner_at, with_owner}
-use Rattle.nv_core.proofs.steps.Lists.{drop_all, drop_apart, has_at, has_drop, has_filter, has_take, self, slot_inside, slots_are, take_all, take_apart}
+use Rattle.nv_core.specs.machine.World.{Append, Back, Check, Close, Ending, Ends, Enter, Give, HandState, Leave, Lock, Look, Next, Number, Open, Publish, Ready, Refuses, Retire, Running, Shared, TakeBlocks, TakePages, Unlock, Visit, go_to, owner_at, with_owner}
+use Rattle.nv_core.proofs.steps.Lists.{drop_all, has_at, has_drop, has_filter, self, slot_inside, slots_are, take_apart}
 use Rattle.nv_core.proofs.steps.Holding.{Holds, LocksLeft, OnLocks, apart, appending_holds, end_locks, grown_locks, holds_as, idle_as, locked_holds, locked_left, locking_holds, look_here, others_not, over_locks, publishing_holds, rest_locks, retiring_holds, same_locks, unlocked_holds, unlocked_left}
 
 -- ---- the kinds

@@ -1,26 +1,26 @@
 -- A new world: each block number stands once, lists are in order, and hands are empty.
-use Rattle.std.proofs.Common.{◌≡◌, ◌≢◌, ◌⊎◌, ℕ, zero, suc, ◌+◌, ◌-◌, ◌*◌, ◌<◌, ◌≤◌, ◌==◌, ◌++◌, ◌∙◌, Bool, true, false, List, [], ◌∷◌, Option, Some, None, ap, arith, drop, get_or, if◌then◌else◌, inl, inr, length, map, nat_lt, refl, replicate, subst, sym}
+use Rattle.std.proofs.Common.{◌≡◌, ℕ, zero, suc, ◌+◌, ◌-◌, ◌*◌, ◌<◌, ◌≤◌, ◌==◌, ◌∙◌, Bool, true, false, List, [], ◌∷◌, Option, Some, None, ap, arith, drop, if◌then◌else◌, inl, inr, length, map, nat_lt, refl, replicate, subst, sym}
 use Rattle.std.specs.Prelude.{slice_index_or}
 use Rattle.std.specs.List.{AllByRecursion, flat_map, range_with_len}
-use Rattle.std.proofs.lemmas.Bool.{cases_lt, eq-eqb, eqb-false, eqb-true, false≢true, le-ltb, lt-ltb, ltb-false, ltb-true, ne_eqb}
+use Rattle.std.proofs.lemmas.Bool.{cases_lt, eqb-false, eqb-true, le-ltb, lt-ltb}
 use Rattle.std.proofs.Math.Nat.{one-mul}
 use Rattle.std.proofs.lemmas.Nat.{le-div}
-use Rattle.std.proofs.lemmas.List.{length-map, length-replicate}
-use Rattle.std.proofs.lemmas.List.FromFn.{get_or-map-range_with_len, length-map-range_with_len, length-range_with_len}
-use Rattle.nv_alloc.specs.Block.{AreSized, BlockValue, number_of, numbers_of, zero_block, zero_blocks}
+use Rattle.std.proofs.lemmas.List.{length-replicate}
+use Rattle.std.proofs.lemmas.List.FromFn.{get_or-map-range_with_len, length-map-range_with_len}
+use Rattle.nv_alloc.specs.Block.{AreSized, BlockValue, numbers_of, zero_block, zero_blocks}
 use Rattle.nv_alloc.specs.FreeList.{FreeBlocks}
-use Rattle.nv_alloc.specs.Numbers.{IsRising, has, times}
+use Rattle.nv_alloc.specs.Numbers.{IsRising, times}
 use Rattle.nv_alloc.proofs.Lists.{times-append, times-cons, times-no, times-yes}
-use Rattle.nv_base.specs.Homes.{CutsBlocks, home_start}
+use Rattle.nv_base.specs.Homes.{home_start}
 use Rattle.nv_base.specs.Limits.{IsWithinLimits}
 use Rattle.nv_base.specs.declared.geometry.GeometryNumbers.{GeometryNumbers}
 use Rattle.nv_base.proofs.HomeRanges.{cuts}
-use Rattle.nv_cell.specs.Cell.{CellState, empty_cell}
+use Rattle.nv_cell.specs.Cell.{empty_cell}
 use Rattle.nv_core.specs.machine.Format.{formatted, full_list, root_cell, without_lowest}
 use Rattle.nv_core.specs.machine.Hands.{AreLists, AreNumbers, HandOf, IsHomeList, IsParted}
 use Rattle.nv_core.specs.machine.Kinds.{blocks_in}
 use Rattle.nv_core.specs.machine.Numbers.{IsEachOnce, all_blocks, free_of, held_by_actor, stored_in}
-use Rattle.nv_core.specs.machine.World.{Actor, cell_at, empty_hand, idle, list_at, no_cell, no_list}
+use Rattle.nv_core.specs.machine.World.{Actor, cell_at, idle, no_cell, no_list}
 use Rattle.nv_core.proofs.steps.Locks.{all_same}
 use Rattle.nv_core.proofs.steps.Numbered.{all_times}
 use Rattle.nv_core.proofs.steps.Parted.{empty_parted}

@@ -1,38 +1,31 @@
 -- What holds of the numbers of each world, over events.
-use Rattle.std.proofs.Common.{◌≡◌, ◌≢◌, ◌⊎◌, ℕ, zero, suc, ◌+◌, ◌<◌, ◌≤◌, ◌==◌, ◌∙◌, Bool, true, false, List, [], ◌∷◌, Option, Some, None, ap, arith, cond, get_or, get_or-set_other, get_or-set_same, if◌then◌else◌, inl, inr, length, nat_lt, refl, rules, set, subst, sym}
+use Rattle.std.proofs.Common.{◌≡◌, ◌≢◌, ◌⊎◌, ℕ, zero, suc, ◌+◌, ◌<◌, ◌≤◌, ◌==◌, ◌∙◌, Bool, true, false, List, [], ◌∷◌, Option, Some, None, ap, arith, get_or, get_or-set_other, get_or-set_same, if◌then◌else◌, inl, inr, length, nat_lt, refl, set, subst, sym}
 use Rattle.std.specs.Prelude.{slice_index_or, unwrap_or}
-use Rattle.std.specs.List.{AllByRecursion, flat_map}
-use Rattle.std.proofs.lemmas.Bool.{cases_lt, eqb-false, eqb-true, false≢true, le-ltb, lt-ltb, ltb-true}
+use Rattle.std.specs.List.{flat_map}
+use Rattle.std.proofs.lemmas.Bool.{cases_lt, eqb-false, eqb-true, false≢true, le-ltb}
 use Rattle.std.proofs.lemmas.List.{get_or_past}
 use Rattle.std.proofs.lemmas.Option.{none-some}
-use Rattle.nv_alloc.specs.Block.{AreSized, BlockValue, numbers_of}
+use Rattle.nv_alloc.specs.Block.{BlockValue, numbers_of}
 use Rattle.nv_alloc.specs.Numbers.{has, times}
 use Rattle.nv_alloc.proofs.Lists.{times-append, times-cons, times-yes}
-use Rattle.nv_base.specs.Limits.{IsWithinLimits}
 use Rattle.nv_base.specs.declared.geometry.GeometryNumbers.{GeometryNumbers}
-use Rattle.nv_calls.specs.declared.call.Call.{Call}
-use Rattle.nv_core.specs.machine.Frame.{IsFramed, lent}
-use Rattle.nv_core.specs.machine.Hands.{AreLists, AreNumbers, AreTailsLast, HandAt, HandOf, is_going, makes_inode, unpublished_at, unpublished_by}
+use Rattle.nv_core.specs.machine.Frame.{lent}
+use Rattle.nv_core.specs.machine.Hands.{AreNumbers, AreTailsLast, unpublished_at, unpublished_by}
 use Rattle.nv_core.specs.machine.Kinds.{blocks_in, first_killed, retired_cell}
 use Rattle.nv_core.specs.machine.Locks.{AreLocks}
-use Rattle.nv_core.specs.machine.Numbers.{IsEachOnce, all_blocks, free_of, held_by_actor, held_in, stored_in, used_blocks}
-use Rattle.nv_core.specs.machine.Reads.{slot_at, slots_of, written_slots}
-use Rattle.nv_core.specs.machine.Sequence.{Beginning, Looks, Locks, Numbers, Visits, beginning, begun, nothing_looked}
-use Rattle.nv_core.specs.machine.Step.{after, go_step, kind_turn, start_step, step, turn, turned}
-use Rattle.nv_core.specs.machine.World.{Actor, Answers, Append, Back, Check, Close, Ends, Enter, Event, Give, Go, HandState, Leave, Lock, Look, Moves, Next, Number, Open, Publish, Ready, Retire, Running, Shared, Start, TakeBlocks, TakePages, Turn, Unlock, Visit, Waits, World, actor_at, cell_at, empty_hand, idle, list_at, no_list, owner_at}
-use Rattle.nv_core.proofs.steps.Counted.{CanCount, count, deed_times}
+use Rattle.nv_core.specs.machine.Numbers.{IsEachOnce, all_blocks, free_of, held_by_actor, stored_in, used_blocks}
+use Rattle.nv_core.specs.machine.Reads.{slot_at, written_slots}
+use Rattle.nv_core.specs.machine.World.{Actor, Append, Back, Check, Close, Enter, Give, HandState, Leave, Lock, Look, Next, Number, Open, Publish, Ready, Retire, Running, Shared, TakeBlocks, TakePages, Unlock, Visit, World, actor_at, cell_at, idle, no_list, owner_at}
+use Rattle.nv_core.proofs.steps.Counted.{CanCount, count}
 use Rattle.nv_core.proofs.steps.Counting.{set_times}
-use Rattle.nv_core.proofs.steps.Framed.{framed}
-use Rattle.nv_core.proofs.steps.Handed.{GoesHome, OnHand, taken_none}
-use Rattle.nv_core.proofs.steps.HandedCommits.{AllGoHome, CanGive, hand_kept}
+use Rattle.nv_core.proofs.steps.Handed.{GoesHome}
+use Rattle.nv_core.proofs.steps.HandedCommits.{CanGive}
 use Rattle.nv_core.proofs.steps.Homes.{AreBelow}
-use Rattle.nv_core.proofs.steps.Kept.{AfterTurn, deed, turn_keeps}
 use Rattle.nv_core.proofs.steps.Lists.{self}
 use Rattle.nv_core.proofs.steps.Locked.{Before, lent_cell}
-use Rattle.nv_core.proofs.steps.Locks.{before, event_locks}
 use Rattle.nv_core.proofs.steps.Parted.{retired_parted}
-use Rattle.nv_core.proofs.steps.Sound.{IsSound, deed_sound}
-use Rattle.nv_core.proofs.steps.Tails.{HasLeft, IsTailLast, LeavesTail, erased_none, left_unpublished, lent_tail, others_published, retired_tail}
+use Rattle.nv_core.proofs.steps.Sound.{IsSound}
+use Rattle.nv_core.proofs.steps.Tails.{IsTailLast, erased_none, others_published, retired_tail}
 use Rattle.nv_epoch.specs.SnapList.{ids}
 
 -- ---- how often a number stands

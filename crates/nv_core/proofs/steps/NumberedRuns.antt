@@ -1,26 +1,25 @@
 -- Whatever events come, each block number stands once, lists are in order, and idle hands are empty.
-use Rattle.std.proofs.Common.{◌≡◌, ◌≢◌, ◌⊎◌, ℕ, zero, suc, ◌+◌, ◌^◌, ◌<◌, ◌≤◌, ◌==◌, ◌∙◌, Bool, true, false, List, [], ◌∷◌, Option, Some, None, ap, arith, if◌then◌else◌, inl, inr, length, nat_lt, refl, set, subst, sym}
-use Rattle.std.specs.Prelude.{slice_index_or}
+use Rattle.std.proofs.Common.{◌≡◌, ◌≢◌, ℕ, ◌^◌, ◌<◌, ◌∙◌, Bool, true, false, List, [], ◌∷◌, Option, Some, None, ap, if◌then◌else◌, inr, length, nat_lt, refl, subst, sym}
 use Rattle.std.proofs.lemmas.Bool.{false≢true, ltb-true}
 use Rattle.std.proofs.lemmas.Option.{none-some}
 use Rattle.nv_alloc.specs.Block.{AreSized}
-use Rattle.nv_alloc.specs.Numbers.{has, times}
+use Rattle.nv_alloc.specs.Numbers.{has}
 use Rattle.nv_base.specs.declared.geometry.GeometryNumbers.{GeometryNumbers}
 use Rattle.nv_calls.specs.declared.call.Call.{Call}
-use Rattle.nv_core.specs.machine.Frame.{IsFramed, Lent, lent}
-use Rattle.nv_core.specs.machine.Hands.{AreNumbers, AreTailsLast, HandOf, is_going, makes_inode, unpublished_at, unpublished_by}
+use Rattle.nv_core.specs.machine.Frame.{IsFramed, lent}
+use Rattle.nv_core.specs.machine.Hands.{AreNumbers, HandOf, makes_inode, unpublished_at, unpublished_by}
 use Rattle.nv_core.specs.machine.Kinds.{blocks_in}
 use Rattle.nv_core.specs.machine.Locks.{AreLocks}
 use Rattle.nv_core.specs.machine.Reads.{slots_of, written_slots}
 use Rattle.nv_core.specs.machine.Sequence.{Beginning, Looks, Locks, Numbers, Visits, beginning, begun, nothing_looked, started}
 use Rattle.nv_core.specs.machine.Step.{after, go_step, kind_turn, start_step, step, turned}
-use Rattle.nv_core.specs.machine.World.{Actor, Answers, Check, Ends, Event, Go, HandState, Lock, Moves, Next, Running, Shared, Start, Turn, Waits, World, actor_at, cell_at, empty_hand, idle, owner_at}
-use Rattle.nv_core.proofs.steps.Counted.{count, deed_times}
+use Rattle.nv_core.specs.machine.World.{Actor, Check, Ends, Event, Go, HandState, Lock, Moves, Running, Shared, Start, Turn, Waits, World, actor_at, cell_at, empty_hand, owner_at}
+use Rattle.nv_core.proofs.steps.Counted.{deed_times}
 use Rattle.nv_core.proofs.steps.Framed.{framed}
 use Rattle.nv_core.proofs.steps.Handed.{OnHand, taken_none}
 use Rattle.nv_core.proofs.steps.HandedCommits.{hand_kept}
 use Rattle.nv_core.proofs.steps.Kept.{AfterTurn, deed, turn_keeps}
-use Rattle.nv_core.proofs.steps.Locked.{Before, lent_cell}
+use Rattle.nv_core.proofs.steps.Locked.{lent_cell}
 use Rattle.nv_core.proofs.steps.Locks.{before, event_locks}
 use Rattle.nv_core.proofs.steps.Numbered.{IsKept, can_count, can_give, goes_home, lent_inside, new_times, set_actor, tails_after, was_kept}
 use Rattle.nv_core.proofs.steps.Sound.{deed_sound}
@@ -38,7 +37,8 @@ record IsKnown (g : GeometryNumbers) (w : World) (actor : ℕ) (r : Running) (t 
   tail : (ino : ℕ) → (lent r.next (length w.shared.lists) actor r).cell ≡ Some ino
       → (has (unpublished_at r.next (written_slots r)) ino ≡ false → IsTailLast (cell_at w.shared ino)) → LeavesTail ino t
 
-known : (g : GeometryNumbers) (w : World) (actor : ℕ) (granted : Bool) (r : Running) → 0 < g.cpus → 0 < g.block → g.blocks < 2 ^ 64 → AreLocks w
+known : (g : GeometryNumbers) (w : World) (actor : ℕ) (granted : Bool) (r : Running) → 0 < g.cpus → 0 < g.block → g.blocks < 2 ^ 64
+    → AreLocks w
     → AreNumbers g w → (actor_at w actor).running ≡ Some r
     → IsKnown g w actor r (kind_turn r.next g.block actor granted w.shared (actor_at w actor).hand r)
 known g w actor granted r some bytes small locks all is =
@@ -99,7 +99,8 @@ turned_numbers g w actor r (Ends result t h) there locks all is owned k = record
 }
 
 go_numbers : (g : GeometryNumbers) (b : Bool) (running : Option Running) (w : World) (actor : ℕ) (granted : Bool) → 0 < g.cpus
-    → 0 < g.block → g.blocks < 2 ^ 64 → nat_lt actor (length w.actors) ≡ b → (actor_at w actor).running ≡ running → AreLocks w → AreNumbers g w
+    → 0 < g.block → g.blocks < 2 ^ 64 → nat_lt actor (length w.actors) ≡ b → (actor_at w actor).running ≡ running → AreLocks w
+    → AreNumbers g w
     → AreNumbers g (go_step b running actor granted w).world
 go_numbers g false running w actor granted some bytes small e is locks all = all
 go_numbers g true None w actor granted some bytes small e is locks all = all
@@ -169,7 +170,8 @@ event_numbers g w (Start actor c) some bytes small locks all =
 event_numbers g w (Go actor granted) some bytes small locks all =
     go_numbers g (nat_lt actor (length w.actors)) (actor_at w actor).running w actor granted some bytes small refl refl locks all
 
-pub events_numbers : (g : GeometryNumbers) (events : List Event) (w : World) → 0 < g.cpus → 0 < g.block → g.blocks < 2 ^ 64 → AreLocks w → AreNumbers g w
+pub events_numbers : (g : GeometryNumbers) (events : List Event) (w : World) → 0 < g.cpus → 0 < g.block → g.blocks < 2 ^ 64
+    → AreLocks w → AreNumbers g w
     → AreNumbers g (after w events)
 events_numbers g [] w some bytes small locks all = all
 events_numbers g (e ∷ events) w some bytes small locks all =

@@ -1,21 +1,20 @@
 -- The places of a cell's parts, as its log grows, is published and is retired.
-use Rattle.std.proofs.Common.{◌≡◌, ◌≢◌, ◌⊎◌, ℕ, zero, suc, ◌+◌, ◌-◌, ◌<◌, ◌≤◌, ◌++◌, ◌∙◌, Bool, true, false, List, [], ◌∷◌, Option, Some, None, ap, arith, cond, drop, get_or, get_or-set_other, get_or-set_same, if◌then◌else◌, inl, inr, length, length-append, length-set, map, nat_lt, refl, replicate, rules, set, subst, sym, take}
-use Rattle.std.proofs.lemmas.Bool.{cases_lt, eqb-false, eqb-true, false≢true, le-ltb, lt-ltb, ltb-false, ltb-true}
-use Rattle.std.proofs.lemmas.List.{append-nil, get_or_append_left, get_or-append_right, get_or_default, get_or_past, length-map, set_past}
+use Rattle.std.proofs.Common.{◌≡◌, ◌≢◌, ◌⊎◌, ℕ, zero, suc, ◌+◌, ◌-◌, ◌<◌, ◌≤◌, ◌++◌, ◌∙◌, Bool, true, false, List, [], ◌∷◌, Option, Some, None, ap, arith, drop, get_or-set_other, get_or-set_same, if◌then◌else◌, inl, inr, length, length-append, length-set, map, nat_lt, refl, replicate, set, subst, sym, take}
+use Rattle.std.proofs.lemmas.Bool.{cases_lt, eqb-false, eqb-true, false≢true, le-ltb, lt-ltb, ltb-true}
+use Rattle.std.proofs.lemmas.List.{get_or_append_left, get_or-append_right, get_or_default, get_or_past, length-map, set_past}
 use Rattle.std.proofs.lemmas.List.FromFn.{get_or-map-range_with_len, length-map-range_with_len, length-range_with_len}
 use Rattle.std.specs.List.{AllByRecursion, flat_map, range_with_len}
-use Rattle.std.specs.Prelude.{◌==◌, min, option_to_list, slice_index_or}
+use Rattle.std.specs.Prelude.{◌==◌, option_to_list, slice_index_or}
 use Rattle.std.specs.Option.{option_map}
 use Rattle.nv_alloc.specs.Block.{AreSized, BlockValue, number_of, numbers_of}
 use Rattle.nv_calls.specs.Retiring.{erased, freed, freed_by, freed_one, is_erased, keeper_of, retired, retired_one, settled}
 use Rattle.nv_cell.specs.Append.{IsWithinFile, appended, blocks_for, slots_of}
-use Rattle.nv_cell.specs.Cell.{AreSlotsSized, CellState, HasBlocks, empty_cell, log_of, mark_or_fresh, number_in, page_block, published}
+use Rattle.nv_cell.specs.Cell.{AreSlotsSized, CellState, HasBlocks, empty_cell, mark_or_fresh, number_in, page_block, published}
 use Rattle.nv_cell.specs.Marks.{is_there, mark_at}
 use Rattle.nv_cell.specs.Numbers.{dies, part_base, published_mark}
-use Rattle.nv_cell.specs.Readers.{keeps_nothing}
 use Rattle.nv_cell.specs.declared.killed.KilledPart.{KilledPart}
 use Rattle.nv_cell.specs.declared.mark.Mark.{Mark}
-use Rattle.nv_cell.specs.declared.mark.Mark.TheVariants.{Current, Killed, Kept, Out}
+use Rattle.nv_cell.specs.declared.mark.Mark.TheVariants.{Current, Kept, Out}
 use Rattle.nv_cell.proofs.Appending.{blocks_append, length_parts, log_stays}
 use Rattle.nv_cell.proofs.PagesNow.{front_block}
 use Rattle.nv_cell.proofs.Numbers.{total_append}
@@ -29,7 +28,6 @@ use Rattle.nv_entry.specs.declared.item.Item.TheVariants.{Init, Write, SetSize, 
 use Rattle.nv_calls.proofs.Appends.{front, map-drop, map-take}
 use Rattle.nv_core.specs.machine.Hands.{ArePagesTold, IsParted}
 use Rattle.nv_core.specs.machine.Kinds.{with_entries, with_pages}
-use Rattle.nv_core.specs.machine.Numbers.{of_part}
 
 -- ---- sizes
 
@@ -155,7 +153,8 @@ appended_parted block e bs cell within nums sized h = record {
     | inl lt ↦ front_block block cell.chain.entries (e ∷ []) n (omega (arith, lt, h.places))
         ∙ h.told n b (sym (get_or_append_left cell.blocks slots None n lt) ∙ is)
     | inr ge ↦
-        let own = sym (get_or-append_right cell.blocks slots (part_total cell.chain.entries) n None h.places (omega (arith, ge, h.places))) ∙ is in
+        let own = sym (get_or-append_right cell.blocks slots (part_total cell.chain.entries) n None h.places
+        (omega (arith, ge, h.places))) ∙ is in
         back_block block cell.chain.entries (e ∷ []) n (omega (arith, ge, h.places))
         ∙ own_block block e bs within nums sized (n - part_total cell.chain.entries) b own
   ]
@@ -224,7 +223,8 @@ published_parted block cell h = record {
   was_out n lt true p b q gone = absurd (false≢true (sym gone ∙ rw p refl))
   was_out n lt false p true q gone =
       let low = ltb-true n (part_base es cell.chain.tail) q in
-      let same : mark_or_fresh cell.marks n ≡ mark_at cell.marks n = get_or_default cell.marks n Current Out (omega (arith, low, h.marks)) in
+      let same : mark_or_fresh cell.marks n ≡ mark_at cell.marks n =
+      get_or_default cell.marks n Current Out (omega (arith, low, h.marks)) in
       let is : mark n ≡ mark_at cell.marks n = rw (p, q) refl in
       h.out n (ap is_there same ∙ sym (ap is_there is) ∙ gone)
   was_out n lt false p false q gone =

@@ -1,36 +1,16 @@
 -- Free lists stay in rising order and at home.
-use Rattle.std.proofs.Common.{◌≡◌, ◌≢◌, ◌⊎◌, ℕ, zero, suc, ◌+◌, ◌*◌, ◌/◌, ◌<◌, ◌≤◌, ◌==◌, ◌||◌, ◌++◌, ◌∙◌, Bool, true, false, List, [], ◌∷◌, Option, Some, None, ap, arith, cond, drop, get_or, get_or-set_other, get_or-set_same, if◌then◌else◌, inl, inr, length, length-set, map, nat_lt, refl, rules, set, subst, sym, take}
-use Rattle.std.specs.Prelude.{◌&&◌, ◌%◌, nat_le, not, slice_index_or}
-use Rattle.std.specs.List.{AllByRecursion, range_with_len}
-use Rattle.std.proofs.lemmas.Bool.{and_parts, cases_lt, eqb-false, eqb-true, leb-true, lt-ltb, ltb-false, ltb-true}
-use Rattle.std.proofs.lemmas.List.{get_or_past, set_past}
-use Rattle.std.proofs.lemmas.List.FromFn.{length-map-range_with_len}
-use Rattle.nv_alloc.specs.Block.{AreSized, BlockValue, number_of, numbers_of, put_block}
-use Rattle.nv_alloc.specs.FreeList.{FreeBlocks, IsFreeList, is_home}
-use Rattle.nv_alloc.specs.Giving.{after_giving, after_offer, kept_of, takes}
-use Rattle.nv_alloc.specs.Numbers.{IsRising, has, put_by}
-use Rattle.nv_alloc.proofs.GivingLemmas.{AreSized-kept}
-use Rattle.nv_base.specs.Homes.{home_start}
+use Rattle.std.proofs.Common.{◌≡◌, ◌≢◌, ℕ, zero, suc, ◌<◌, ◌≤◌, ◌==◌, ◌||◌, ◌∙◌, Bool, true, false, List, [], ◌∷◌, arith, drop, get_or-set_other, get_or-set_same, if◌then◌else◌, length, length-set, nat_lt, refl, set, subst, sym}
+use Rattle.std.specs.Prelude.{◌&&◌, nat_le, not, slice_index_or}
+use Rattle.std.specs.List.{AllByRecursion}
+use Rattle.std.proofs.lemmas.Bool.{and_parts, eqb-false, eqb-true, leb-true, ltb-false, ltb-true}
+use Rattle.nv_alloc.specs.Block.{AreSized, BlockValue, numbers_of, put_block}
+use Rattle.nv_alloc.specs.FreeList.{FreeBlocks, is_home}
+use Rattle.nv_alloc.specs.Giving.{after_giving, after_offer, takes}
+use Rattle.nv_alloc.specs.Numbers.{IsRising, has}
 use Rattle.nv_base.specs.declared.geometry.GeometryNumbers.{GeometryNumbers}
-use Rattle.nv_calls.specs.Retiring.{erased, freed_by, is_erased, number_back}
-use Rattle.nv_calls.specs.Slots.{entries_of, items_for, place_in}
-use Rattle.nv_calls.specs.declared.call.Call.{Call}
-use Rattle.nv_calls.specs.declared.call.Call.TheVariants as call
-use Rattle.nv_cell.specs.Append.{IsWithinFile}
-use Rattle.nv_cell.specs.Cell.{CellState, published}
-use Rattle.nv_cell.specs.declared.killed.KilledPart.{KilledPart}
-use Rattle.nv_entry.specs.Bytes.{page_of}
-use Rattle.nv_entry.specs.declared.item.Entry.{Entry}
-use Rattle.nv_entry.specs.declared.item.Item.{Item}
-use Rattle.nv_epoch.specs.SnapList.{ids}
-use Rattle.nv_core.specs.machine.Hands.{AreLists, HandAt, HasPlanned, IsHomeList, IsParted}
-use Rattle.nv_core.specs.machine.Kinds.{asked_list, blocks_in, blocks_left, entries_for, first_killed, given, less_list, retired_cell, with_bytes, with_entries, with_erased, with_freed, with_given, with_pages}
-use Rattle.nv_core.specs.machine.Reads.{copies, filled, fresh_pages, pages_needed, slot_at, written_slots}
-use Rattle.nv_core.specs.machine.World.{Append, Back, Check, Close, Enter, Give, HandState, Leave, Lock, Look, Next, Number, Open, Publish, Ready, Retire, Running, Shared, TakeBlocks, TakePages, Unlock, Visit, cell_at, list_at, no_cell, no_list, with_cell, with_list}
-use Rattle.nv_core.proofs.steps.Counted.{given_all}
-use Rattle.nv_core.proofs.steps.Kept.{append_deed, back_deed, deed, number_deed, retire_deed}
-use Rattle.nv_core.proofs.steps.Locked.{Before}
-use Rattle.nv_core.proofs.steps.Parted.{entries_parted, erased_parted, freed_by_sized, paged_parted, published_parted, retired_parted, sized_both, sized_first, sized_later}
+use Rattle.nv_core.specs.machine.Hands.{AreLists, IsHomeList}
+use Rattle.nv_core.specs.machine.World.{Shared, no_list, with_list}
+use Rattle.nv_core.proofs.steps.Parted.{sized_later}
 
 -- ---- a free list
 

@@ -1,16 +1,14 @@
 -- Free lists stay in order, cells have a place for each part, and all blocks have one size.
-use Rattle.std.proofs.Common.{◌≡◌, ◌≢◌, ◌⊎◌, ℕ, zero, suc, ◌+◌, ◌*◌, ◌/◌, ◌<◌, ◌≤◌, ◌==◌, ◌||◌, ◌++◌, ◌∙◌, Bool, true, false, List, [], ◌∷◌, Option, Some, None, ap, arith, cond, drop, get_or, get_or-set_other, get_or-set_same, if◌then◌else◌, inl, inr, length, length-set, map, nat_lt, refl, rules, set, subst, sym, take}
-use Rattle.std.specs.Prelude.{◌&&◌, ◌%◌, nat_le, not, slice_index_or}
-use Rattle.std.specs.List.{AllByRecursion, range_with_len}
-use Rattle.std.proofs.lemmas.Bool.{and_parts, cases_lt, eqb-false, eqb-true, leb-true, lt-ltb, ltb-false, ltb-true}
+use Rattle.std.proofs.Common.{◌≡◌, ◌⊎◌, ℕ, zero, suc, ◌+◌, ◌*◌, ◌/◌, ◌<◌, ◌≤◌, ◌==◌, ◌++◌, ◌∙◌, Bool, true, false, List, [], ◌∷◌, Option, Some, None, ap, arith, drop, get_or-set_other, get_or-set_same, if◌then◌else◌, inl, inr, length, map, refl, set, subst, sym, take}
+use Rattle.std.specs.Prelude.{slice_index_or}
+use Rattle.std.specs.List.{AllByRecursion}
+use Rattle.std.proofs.lemmas.Bool.{cases_lt, eqb-false, eqb-true}
 use Rattle.std.proofs.lemmas.List.{get_or_past, set_past}
 use Rattle.std.proofs.lemmas.List.FromFn.{length-map-range_with_len}
-use Rattle.nv_alloc.specs.Block.{AreSized, BlockValue, number_of, numbers_of, put_block}
-use Rattle.nv_alloc.specs.FreeList.{FreeBlocks, IsFreeList, is_home}
-use Rattle.nv_alloc.specs.Giving.{after_giving, after_offer, kept_of, takes}
-use Rattle.nv_alloc.specs.Numbers.{IsRising, has, put_by}
+use Rattle.nv_alloc.specs.Block.{AreSized, BlockValue}
+use Rattle.nv_alloc.specs.FreeList.{FreeBlocks}
+use Rattle.nv_alloc.specs.Giving.{after_giving}
 use Rattle.nv_alloc.proofs.GivingLemmas.{AreSized-kept}
-use Rattle.nv_base.specs.Homes.{home_start}
 use Rattle.nv_base.specs.declared.geometry.GeometryNumbers.{GeometryNumbers}
 use Rattle.nv_calls.specs.Retiring.{erased, freed_by, is_erased, number_back}
 use Rattle.nv_calls.specs.Slots.{entries_of, items_for, place_in}
@@ -23,10 +21,10 @@ use Rattle.nv_entry.specs.Bytes.{page_of}
 use Rattle.nv_entry.specs.declared.item.Entry.{Entry}
 use Rattle.nv_entry.specs.declared.item.Item.{Item}
 use Rattle.nv_epoch.specs.SnapList.{ids}
-use Rattle.nv_core.specs.machine.Hands.{AreLists, HandAt, HasPlanned, IsHomeList, IsParted}
-use Rattle.nv_core.specs.machine.Kinds.{asked_list, blocks_in, blocks_left, entries_for, first_killed, given, less_list, retired_cell, with_bytes, with_entries, with_erased, with_freed, with_given, with_pages}
+use Rattle.nv_core.specs.machine.Hands.{AreLists, HandAt, HasPlanned, IsParted}
+use Rattle.nv_core.specs.machine.Kinds.{asked_list, blocks_in, blocks_left, entries_for, first_killed, less_list, retired_cell, with_entries, with_freed, with_pages}
 use Rattle.nv_core.specs.machine.Reads.{copies, filled, fresh_pages, pages_needed, slot_at, written_slots}
-use Rattle.nv_core.specs.machine.World.{Append, Back, Check, Close, Enter, Give, HandState, Leave, Lock, Look, Next, Number, Open, Publish, Ready, Retire, Running, Shared, TakeBlocks, TakePages, Unlock, Visit, cell_at, list_at, no_cell, no_list, with_cell, with_list}
+use Rattle.nv_core.specs.machine.World.{Append, Back, Check, Close, Enter, Give, HandState, Leave, Lock, Look, Next, Number, Open, Publish, Ready, Retire, Running, Shared, TakeBlocks, TakePages, Unlock, Visit, cell_at, list_at, no_cell, no_list, with_cell}
 use Rattle.nv_core.proofs.steps.Counted.{given_all}
 use Rattle.nv_core.proofs.steps.HandedCommits.{slot_first}
 use Rattle.nv_core.proofs.steps.Kept.{append_deed, back_deed, deed, number_deed, retire_deed}
@@ -47,7 +45,8 @@ with_parted g ino cell s cells new n = go (ino == n) refl (cases_lt ino (length 
   go true q (inl lt) =
       subst (λ (m : ℕ). IsParted g.block (slice_index_or (set s.cells ino cell) m no_cell)) (eqb-true ino n q)
       (subst (λ (c : CellState). IsParted g.block c) (sym (get_or-set_same s.cells ino cell no_cell lt)) new)
-  go b q (inr ge) = subst (λ (l : List CellState). IsParted g.block (slice_index_or l n no_cell)) (sym (set_past s.cells ino cell ge)) (cells n)
+  go b q (inr ge) = subst (λ (l : List CellState). IsParted g.block (slice_index_or l n no_cell))
+      (sym (set_past s.cells ino cell ge)) (cells n)
   go false q (inl lt) = subst (λ (c : CellState). IsParted g.block c)
       (sym (get_or-set_other s.cells ino n cell no_cell (λ e. eqb-false ino n q (sym e)))) (cells n)
 
@@ -151,7 +150,8 @@ entries_within commit epoch place (item ∷ items) h = (h.0, entries_within comm
 
 append_sound : (g : GeometryNumbers) (place pages : ℕ) (s : Shared) (h : HandState) (r : Running) → place < length (written_slots r)
     → HasPlanned h r (drop place (written_slots r)) → IsSound g s h
-    → IsSound g (append_deed (slot_at (written_slots r) place) pages s h r).shared (append_deed (slot_at (written_slots r) place) pages s h r).hand
+    → IsSound g (append_deed (slot_at (written_slots r) place) pages s h r).shared
+    (append_deed (slot_at (written_slots r) place) pages s h r).hand
 append_sound g place pages s h r inside planned sound =
     let ino = slot_at (written_slots r) place in
     let all = all_sized g.block h sound.sized in

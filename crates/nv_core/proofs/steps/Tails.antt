@@ -1,15 +1,14 @@
 -- Which logs end at their tails: all but those that a commit under way has appended to and not yet published.
-use Rattle.std.proofs.Common.{◌≡◌, ◌≢◌, ◌⊎◌, ℕ, zero, suc, ◌+◌, ◌<◌, ◌≤◌, ◌==◌, ◌∙◌, Bool, true, false, List, [], ◌∷◌, Option, Some, None, ap, arith, cond, drop, get_or-set_other, get_or-set_same, if◌then◌else◌, inl, inr, length, nat_lt, refl, rules, set, subst, sym, take}
-use Rattle.std.specs.Prelude.{◌&&◌, ◌||◌, not, slice_index_or, unwrap_or}
+use Rattle.std.proofs.Common.{◌≡◌, ◌≢◌, ◌⊎◌, ℕ, zero, suc, ◌+◌, ◌<◌, ◌==◌, ◌∙◌, Bool, true, false, List, [], ◌∷◌, Option, Some, None, ap, arith, drop, get_or-set_same, if◌then◌else◌, inl, inr, length, nat_lt, refl, set, subst, sym, take}
+use Rattle.std.specs.Prelude.{◌||◌, not, slice_index_or, unwrap_or}
 use Rattle.std.specs.List.{flat_map, list_any}
-use Rattle.std.proofs.lemmas.Bool.{and_parts, cases_lt, eqb-false, eqb-true, false≢true, ltb-false, ltb-true}
-use Rattle.std.proofs.lemmas.List.{get_or_past}
+use Rattle.std.proofs.lemmas.Bool.{and_parts, eqb-true, false≢true, ltb-false}
 use Rattle.std.proofs.lemmas.Option.{none-some}
 use Rattle.nv_alloc.specs.Block.{BlockValue}
 use Rattle.nv_alloc.specs.Numbers.{has}
-use Rattle.nv_calls.specs.Retiring.{erased, is_erased, keeper_of, retired, retired_one, settled}
+use Rattle.nv_calls.specs.Retiring.{erased, is_erased}
 use Rattle.nv_calls.proofs.Retires.{chain_stays}
-use Rattle.nv_cell.specs.Cell.{CellState, empty_cell, mark_or_fresh, number_in, published}
+use Rattle.nv_cell.specs.Cell.{CellState, empty_cell, mark_or_fresh, published}
 use Rattle.nv_cell.specs.Marks.{is_there}
 use Rattle.nv_cell.specs.Readers.{is_gone, keeps_nothing}
 use Rattle.nv_cell.specs.Cell.{log_of}
@@ -19,17 +18,16 @@ use Rattle.nv_cell.proofs.Publishing.{take_whole}
 use Rattle.nv_entry.specs.Covered.{part_total}
 use Rattle.nv_entry.specs.declared.item.Entry.{Entry}
 use Rattle.nv_epoch.specs.SnapList.{ids}
-use Rattle.nv_core.specs.machine.Frame.{IsFramed, lent}
+use Rattle.nv_core.specs.machine.Frame.{lent}
 use Rattle.nv_core.specs.machine.Hands.{IsParted, unpublished_at, unpublished_by}
 use Rattle.nv_core.specs.machine.Kinds.{first_killed, retired_cell}
-use Rattle.nv_core.specs.machine.Locks.{HoldsIts, held_at, held_by, is_owner}
+use Rattle.nv_core.specs.machine.Locks.{HoldsIts, held_at, is_owner}
 use Rattle.nv_core.specs.machine.Numbers.{of_part}
 use Rattle.nv_core.specs.machine.Reads.{is_written, slot_at, written_slots}
-use Rattle.nv_core.specs.machine.Sequence.{appending, closing, opening, publishing, retiring}
+use Rattle.nv_core.specs.machine.Sequence.{appending, closing, opening, publishing}
 use Rattle.nv_core.specs.machine.Step.{kind_turn}
 use Rattle.nv_core.specs.machine.World.{Append, Back, Check, Close, Ends, Enter, Give, HandState, Leave, Lock, Look, Moves, Next, Number, Open, Publish, Ready, Retire, Running, Shared, TakeBlocks, TakePages, Turn, Unlock, Visit, Waits, cell_at, no_cell, owner_at}
-use Rattle.nv_core.proofs.steps.Framed.{framed}
-use Rattle.nv_core.proofs.steps.Lists.{drop_all, has_at, has_drop, has_filter, has_later, has_take, self, take_all}
+use Rattle.nv_core.proofs.steps.Lists.{drop_all, has_drop, has_filter, has_later, has_take, self}
 use Rattle.nv_core.proofs.steps.Locked.{Before}
 
 -- ---- what is unpublished is held
