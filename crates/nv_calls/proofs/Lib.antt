@@ -6,6 +6,7 @@ pub mod Apart
 pub mod CellNodes
 pub mod Commits
 pub mod Composed
+pub mod Effective
 pub mod Fills
 pub mod Grown
 pub mod Items
