@@ -45,7 +45,8 @@ begins cells start none first = record {
   plans = plans_none start.plans;
   is =
       let hand : start.hand ≡ hand_before cells start 0 =
-      ap₂ (λ (d p : QueueValue). let h : Hand = record start.hand { «data» = d; pages = p } in h) (none_front start.hand.data) (none_front start.hand.pages) in
+      ap₂ (λ (d p : QueueValue). let h : Hand = record start.hand { «data» = d; pages = p } in h)
+      (none_front start.hand.data) (none_front start.hand.pages) in
       ap (λ (n : ℕ). let c : CommitValue = record start { appended = n } in c) none
       ∙ ap₂ (λ (h : Hand) (n : ℕ). let c : CommitValue = record start { hand = h; place = n; appended = 0 } in c) hand first;
   ready = λ i lt. absurd (omega (arith, lt));

@@ -126,6 +126,18 @@ module _ (cells : List (ℕ × CellValue)) (book : BookValue) (cpu : ℕ) (ready
   abbrev pub AreAppended : Type 0
   AreAppended = AreAppendedTo start
 
+  pub appended_by : (before : CommitValue) → before ≡ start → ChangesPlanned before.plans (λ j. (grown cells before j).state) cells full
+      → ((j : ℕ) → j < length before.plans → IsReadyFor [] (value_at full (place_of before.plans j)))
+      → HaveSamePlaces before.plans appended.plans
+      → appended ≡ (let c : CommitValue = record before {
+        plans = appended.plans;
+        hand = hand_before cells before (length before.plans);
+        place = place_before before.plans (length before.plans);
+        appended = length before.plans;
+      } in c) → AreAppended
+  appended_by before same changes fit plans is =
+      subst AreAppendedTo same (record { changes = changes; fit = fit; plans = plans; is = is })
+
   pub own_grown : (j : ℕ) → j < count → IsGrown (stamped_entries start.stamp (place_before start.plans j) (plan_at start.plans j).items)
       (plan_at start.plans j).items (state_at cells (place_of start.plans j)) (grown cells start j).state
   own_grown j lt =
@@ -172,6 +184,17 @@ module _ (cells : List (ℕ × CellValue)) (book : BookValue) (cpu : ℕ) (ready
           published = length appended.plans;
         } in c)
 
+      pub published_by : ChangesPlanned appended.plans (λ j. published (state_at full (place_of appended.plans j))) full now
+          → ((j : ℕ) → j < length appended.plans → (plan_at done.plans j).killed ≡ killed_by (state_at full (place_of appended.plans j)))
+          → ((j : ℕ) → j < length appended.plans → KillsAsTold (state_at full (place_of appended.plans j)))
+          → HaveSamePlaces appended.plans done.plans
+          → done ≡ (let c : CommitValue = record appended {
+            plans = done.plans;
+            hand = record appended.hand { ino = None };
+            published = length appended.plans;
+          } in c) → ArePublished
+      published_by changes killed told plans is = record { changes = changes; killed = killed; told = told; plans = plans; is = is }
+
       module _ (p : ArePublished) where
         pub same_places : HaveSamePlaces start.plans done.plans
         same_places = places_again start.plans appended.plans done.plans a.plans p.plans
@@ -214,7 +237,8 @@ module _ (cells : List (ℕ × CellValue)) (book : BookValue) (cpu : ℕ) (ready
         few j lt =
             let g = own_grown j lt in
             let told : KillsAsTold (grown cells start j).state = subst KillsAsTold (full_is j lt) (p.told j (inner j lt)) in
-            let weights : weights_in (grown cells start j).state.block (log_of (grown cells start j).state) (items_of (fresh_of (grown cells start j).state))
+            let weights : weights_in (grown cells start j).state.block (log_of (grown cells start j).state)
+            (items_of (fresh_of (grown cells start j).state))
             ≡ kills_of cells (plan_at start.plans j) =
             ap₂ (λ (b : ℕ) (l : List Entry). weights_in b l (items_of (fresh_of (grown cells start j).state))) g.grows.block g.log
             ∙ ap (weights_in (state_at cells (place_of start.plans j)).block (log_of (state_at cells (place_of start.plans j)))) g.fresh in

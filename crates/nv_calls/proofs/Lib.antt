@@ -7,6 +7,7 @@ pub mod CellNodes
 pub mod CellPlans
 pub mod Commits
 pub mod Composed
+pub mod Effective
 pub mod Fills
 pub mod Grown
 pub mod Fitting

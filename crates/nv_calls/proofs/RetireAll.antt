@@ -173,7 +173,8 @@ module _ (j : ℕ) (cells : List (ℕ × CellValue)) (start : CommitValue) (shel
         size = way.size ∙ each.size;
         published = each.published;
         gone = λ gone.
-            let before : NoneGone j cells start = λ i li other. let e : i ≡ j = can.one i j (omega (arith, li, lt)) lt other gone in omega (arith, li, e) in
+            let before : NoneGone j cells start =
+            λ i li other. let e : i ≡ j = can.one i j (omega (arith, li, lt)) lt other gone in omega (arith, li, e) in
             let free : IsFree commit.hand = way.free start_free before in
             record { generation = each.generation gone; chain = free.chain; number = free.number };
       } in
@@ -205,7 +206,8 @@ module _ (j : ℕ) (cells : List (ℕ × CellValue)) (start : CommitValue) (shel
       let count : later.retired ≡ j + 1 = ap (λ (c : CommitValue). c.retired) is ∙ ap (λ (n : ℕ). n + 1) retired_is in
       let own_hand : later.hand ≡ hand_retired living noted.ino start.stamp.epoch plan.killed (cell_of cells start j) commit.hand =
       ap (λ (c : CommitValue). c.hand) is
-      ∙ ap₂ (λ (l : List ℕ) (m : ℕ). hand_retired l m commit.stamp.epoch (to_retire commit).killed (state_at now (to_retire commit).at) commit.hand) lives ino_is
+      ∙ ap₂ (λ (l : List ℕ) (m : ℕ). hand_retired l m commit.stamp.epoch (to_retire commit).killed (state_at now (to_retire commit).at) commit.hand)
+      lives ino_is
       ∙ ap₂ (λ (e : ℕ) (ks : List KilledPart). hand_retired living noted.ino e ks (state_at now (to_retire commit).at) commit.hand) epoch_is killed_is
       ∙ ap (λ (c : CellState). hand_retired living noted.ino start.stamp.epoch plan.killed c commit.hand) cell_is in
       let hand : later.hand ≡ hand_after_killings living start.stamp.epoch (noted_killing cells start) (j + 1) start.hand =

@@ -2,12 +2,14 @@
 use Rattle.std.specs.Prelude.{◌≡◌, ℕ, ◌<◌, false, List, length, map}
 use Rattle.nv_base.specs.declared.numbers.Handle.{Handle}
 use Rattle.nv_cell.specs.Cell.{CellValue, published}
+use Rattle.nv_book.specs.Book.{BookValue}
 use Rattle.nv_calls.specs.declared.plan.Planned.{Planned}
+use Rattle.nv_calls.specs.CanCommit.{CanCommit}
 use Rattle.nv_calls.specs.Cells.{ino_at, state_at}
-use Rattle.nv_calls.specs.Commit.{CommitValue}
-use Rattle.nv_calls.specs.Committed.{IsUnplanned, committed, grown, killing, place_of}
+use Rattle.nv_calls.specs.Commit.{CommitValue, begun, stamp_of}
+use Rattle.nv_calls.specs.Committed.{ChangesPlanned, IsUnplanned, committed, grown, killing, place_of}
 use Rattle.nv_calls.specs.Plan.{planned}
-use Rattle.nv_calls.specs.Ready.{CellPlanValue}
+use Rattle.nv_calls.specs.Ready.{CellPlanValue, ReadyValue}
 use Rattle.nv_calls.specs.Retiring.{is_erased, retired}
 use Rattle.nv_calls.specs.Slots.{Slot, published as published_slots}
 use Rattle.nv_calls.specs.Views.{slot_of}
@@ -42,3 +44,12 @@ pub record PublishesPlans (cells : List (ℕ × CellValue)) (commit : CommitValu
   pub kept : (living : List ℕ) (j : ℕ) → j < length commit.plans
       → (let k = killing cells commit j in is_erased (retired living k.ino commit.stamp.epoch k.parts k.cell)) ≡ false
       → slot_of (committed living cells commit j) ≡ slots_after cells commit slots (ino_at cells (place_of commit.plans j))
+
+-- a commit of what was ready took the cells of some slots to those of others, and touched no other slot
+pub record IsCommitted (living : List ℕ) (cells : List (ℕ × CellValue)) (book : BookValue) (cpu : ℕ) (ready : ReadyValue)
+    (slots : ℕ → Slot) (now : List (ℕ × CellValue)) (later : ℕ → Slot) : Type 0 where
+  pub can : CanCommit cells book cpu ready
+  pub before : AreOfSlots cells slots
+  pub changes : ChangesPlanned ready.plans (committed living cells (begun (stamp_of book.state) ready)) cells now
+  pub after : AreOfSlots now later
+  pub others : (ino : ℕ) → IsOfNone cells ino → later ino ≡ slots ino

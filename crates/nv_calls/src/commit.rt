@@ -123,7 +123,8 @@ impl Commit {
     pub(crate) fn keep_killed(&mut self, j: usize, killed: Vec<KilledPart>)
         requires { j < length self.old.plans }
         ensures { self.new ≡ record self.old {
-          plans = slice_set self.old.plans j (record (plan_at self.old.plans j) { killed = killed.items });
+          plans = slice_set self.old.plans j
+              (record (plan_at self.old.plans j) { killed = killed.items });
         } }
     {
         let plan = &mut self.plans[j];

@@ -16,9 +16,9 @@ ghost use Rattle.nv_calls.specs.Commit.{begun, stamp_of};
 ghost use Rattle.nv_calls.specs.Lawful.{IsLawfulPlan};
 ghost use Rattle.nv_calls.specs.Locked.{Agree, KeepsToIts, SameCall, first_look, handles};
 ghost use Rattle.nv_calls.specs.Nodes.{HaveBytes, has_page_in, plain_nodes, slots_by};
-ghost use Rattle.nv_calls.specs.Plain.{Change, PlainNode, node_in};
+ghost use Rattle.nv_calls.specs.Plain.{Change, PlainNode, node_in, nodes_after};
 ghost use Rattle.nv_calls.specs.Plan.{AreApart, AreFewApart, plan_blocks};
-ghost use Rattle.nv_calls.specs.PublishedSlots.{AreOfSlots, PublishesPlans};
+ghost use Rattle.nv_calls.specs.PublishedSlots.{AreOfSlots, IsCommitted, PublishesPlans, planned_in};
 ghost use Rattle.nv_calls.specs.Ready.{ReadyValue};
 ghost use Rattle.nv_calls.specs.Refusals.{passes};
 ghost use Rattle.nv_calls.specs.Slots.{ArePlaced, Commits, IsBefore, IsPlan, Slot, node_under, published};
@@ -139,4 +139,17 @@ pub fn a_write_is_planned_by_its_length()
     ensures { (block : ℕ) (nodes : Handle → Option NodeCopy) (has_page : Handle → ℕ → Bool) (taken : Taken)
         (update : Update) (text : List ℕ) → length text ≡ text_len update
         → SamePlan block nodes has_page taken (blank_call update) (call_of update text) }
+{}
+
+/// A commit over cells has the effect that its plan fits: the nodes of the slots are afterwards those of the effect, also
+/// where an inode was erased.
+pub fn commits_have_their_effect()
+    ensures { (bytes : ℕ → List ℕ) (block : ℕ) (living : List ℕ) (cells : List (ℕ × CellValue))
+        (book : BookValue) (cpu : ℕ) (ready : ReadyValue) (slots : ℕ → Slot)
+        (now : List (ℕ × CellValue)) (later : ℕ → Slot) (effect : List Change) → 0 < block
+        → ((ino : ℕ) → IsSound bytes block (slots ino).log)
+        → IsCommitted living cells book cpu ready slots now later
+        → IsPlan bytes block slots (planned_in cells ready.plans) effect
+        → (handle : Handle) → node_under bytes block later handle
+        ≡ nodes_after book.state.commit effect (node_under bytes block slots) handle }
 {}

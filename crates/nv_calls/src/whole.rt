@@ -25,7 +25,8 @@ fn append_all<C: Cells>(cells: &mut C, commit: &mut Commit)
     requires placed { ArePlaced (C.cells cells.old) commit.old.plans }
     requires can { CanAppendAll (C.cells cells.old) commit.old }
     ensures cells { ChangesPlanned commit.old.plans
-        (λ j. (grown (C.cells cells.old) commit.old j).state) (C.cells cells.old) (C.cells cells.new) }
+        (λ j. (grown (C.cells cells.old) commit.old j).state)
+        (C.cells cells.old) (C.cells cells.new) }
     ensures ready { (j : ℕ) → j < length commit.old.plans
         → IsReadyFor [] (value_at (C.cells cells.new) (place_of commit.old.plans j)) }
     ensures plans { HaveSamePlaces commit.old.plans commit.new.plans }

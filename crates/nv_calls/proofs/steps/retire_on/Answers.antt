@@ -49,7 +49,12 @@ erase_gone-requires-clause-gone g c =
     ap (λ (xs : List (ℕ × CellValue)). state_at xs k) c.retire_parts.ensures.cells
     ∙ ap (λ (v : CellValue). v.state) (value_with cells k value within) in
     let at : state_at cells k ≡ state_at cells (plan_at commit.plans commit.retired).at = ap (state_at cells) same in
-    gone_fits commit.hand (record { «data» = c.retire_parts.new.free; pages = c.commit-2.inside.hand.pages; chain = c.commit-2.inside.hand.chain; ino = c.commit-2.inside.hand.ino })
+    gone_fits commit.hand (record {
+      «data» = c.retire_parts.new.free;
+      pages = c.commit-2.inside.hand.pages;
+      chain = c.commit-2.inside.hand.chain;
+      ino = c.commit-2.inside.hand.ino;
+    })
     (state_at cells (plan_at commit.plans commit.retired).at) (state_at mid k)
     (ap (λ (s : CellState). s.chain) now ∙ chain_stays living (ino_at cells k) epoch killed (state_at cells k) ∙ ap (λ (s : CellState). s.chain) at)
     (ap (λ (s : CellState). s.generation) now ∙ generation_stays living (ino_at cells k) epoch killed (state_at cells k)

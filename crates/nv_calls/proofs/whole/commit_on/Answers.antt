@@ -5,145 +5,88 @@ use Rattle.nv_epoch.specs.SnapList.{ids}
 use Rattle.nv_calls.specs.CanCommit.{CanRetireAll}
 use Rattle.nv_calls.specs.Commit.{CommitValue}
 use Rattle.nv_calls.specs.Committed.{ChangesPlanned, hand_after_killings, manifests_after, noted_killing, settled_cell}
-use Rattle.nv_calls.proofs.Composed.{AreAppended, AreAppendedTo, ArePublished, all_changes, all_hand, all_manifests, can_publish, can_retire, done_placed, full_cells, full_placed}
+use Rattle.nv_calls.proofs.Composed.{all_changes, all_hand, all_manifests, appended_by, can_publish, can_retire, done_placed, full_cells, full_placed, published_by}
 use Rattle.nv_calls.proofs.whole.commit_on.Goals as goal
 
 pub publish_noted-requires-clause-cells : goal.publish_noted-requires-clause-cells
 publish_noted-requires-clause-cells g c =
     let cells = g.C.Cells.cells c.args.cells.now in
     let full = g.C.Cells.cells c.append_all.new.cells in
-    let a : AreAppended cells c.args.book.now c.args.cpu c.args.ready c.requires full c.append_all.new.commit =
-    subst (AreAppendedTo cells c.args.book.now c.args.cpu c.args.ready c.requires full c.append_all.new.commit) c.begin-commit.ensures
-    (record {
-      changes = c.append_all.ensures.cells;
-      fit = c.append_all.ensures.ready;
-      plans = c.append_all.ensures.plans;
-      is = c.append_all.ensures.commit;
-    }) in
+    let a = appended_by cells c.args.book.now c.args.cpu c.args.ready c.requires full c.append_all.new.commit c.begin-commit.result
+    c.begin-commit.ensures c.append_all.ensures.cells c.append_all.ensures.ready c.append_all.ensures.plans c.append_all.ensures.commit in
     full_cells cells c.args.book.now c.args.cpu c.args.ready c.requires full c.append_all.new.commit a
 
 pub publish_noted-requires-clause-placed : goal.publish_noted-requires-clause-placed
 publish_noted-requires-clause-placed g c =
     let cells = g.C.Cells.cells c.args.cells.now in
     let full = g.C.Cells.cells c.append_all.new.cells in
-    let a : AreAppended cells c.args.book.now c.args.cpu c.args.ready c.requires full c.append_all.new.commit =
-    subst (AreAppendedTo cells c.args.book.now c.args.cpu c.args.ready c.requires full c.append_all.new.commit) c.begin-commit.ensures
-    (record {
-      changes = c.append_all.ensures.cells;
-      fit = c.append_all.ensures.ready;
-      plans = c.append_all.ensures.plans;
-      is = c.append_all.ensures.commit;
-    }) in
+    let a = appended_by cells c.args.book.now c.args.cpu c.args.ready c.requires full c.append_all.new.commit c.begin-commit.result
+    c.begin-commit.ensures c.append_all.ensures.cells c.append_all.ensures.ready c.append_all.ensures.plans c.append_all.ensures.commit in
     full_placed cells c.args.book.now c.args.cpu c.args.ready c.requires full c.append_all.new.commit a
 
 pub publish_noted-requires-clause-can : goal.publish_noted-requires-clause-can
 publish_noted-requires-clause-can g c =
     let cells = g.C.Cells.cells c.args.cells.now in
     let full = g.C.Cells.cells c.append_all.new.cells in
-    let a : AreAppended cells c.args.book.now c.args.cpu c.args.ready c.requires full c.append_all.new.commit =
-    subst (AreAppendedTo cells c.args.book.now c.args.cpu c.args.ready c.requires full c.append_all.new.commit) c.begin-commit.ensures
-    (record {
-      changes = c.append_all.ensures.cells;
-      fit = c.append_all.ensures.ready;
-      plans = c.append_all.ensures.plans;
-      is = c.append_all.ensures.commit;
-    }) in
+    let a = appended_by cells c.args.book.now c.args.cpu c.args.ready c.requires full c.append_all.new.commit c.begin-commit.result
+    c.begin-commit.ensures c.append_all.ensures.cells c.append_all.ensures.ready c.append_all.ensures.plans c.append_all.ensures.commit in
     can_publish cells c.args.book.now c.args.cpu c.args.ready c.requires full c.append_all.new.commit a
 
 pub retire_all-requires-clause-placed : goal.retire_all-requires-clause-placed
 retire_all-requires-clause-placed g c =
     let cells = g.C.Cells.cells c.args.cells.now in
     let full = g.C.Cells.cells c.append_all.new.cells in
+    let a = appended_by cells c.args.book.now c.args.cpu c.args.ready c.requires full c.append_all.new.commit c.begin-commit.result
+    c.begin-commit.ensures c.append_all.ensures.cells c.append_all.ensures.ready c.append_all.ensures.plans c.append_all.ensures.commit in
     let now = g.C.Cells.cells c.publish_noted.new.cells in
-    let a : AreAppended cells c.args.book.now c.args.cpu c.args.ready c.requires full c.append_all.new.commit =
-    subst (AreAppendedTo cells c.args.book.now c.args.cpu c.args.ready c.requires full c.append_all.new.commit) c.begin-commit.ensures
-    (record {
-      changes = c.append_all.ensures.cells;
-      fit = c.append_all.ensures.ready;
-      plans = c.append_all.ensures.plans;
-      is = c.append_all.ensures.commit;
-    }) in
-    let p : ArePublished cells c.args.book.now c.args.cpu c.args.ready c.requires full c.append_all.new.commit a now c.publish_noted.new.commit = record {
-      changes = c.publish_noted.ensures.cells;
-      killed = c.publish_noted.ensures.killed;
-      told = c.publish_noted.ensures.told;
-      plans = c.publish_noted.ensures.plans;
-      is = c.publish_noted.ensures.commit;
-    } in
-    done_placed cells c.args.book.now c.args.cpu c.args.ready c.requires full c.append_all.new.commit a now c.publish_noted.new.commit p
+    let done = c.publish_noted.new.commit in
+    let p = published_by cells c.args.book.now c.args.cpu c.args.ready c.requires full c.append_all.new.commit a now done
+    c.publish_noted.ensures.cells c.publish_noted.ensures.killed c.publish_noted.ensures.told c.publish_noted.ensures.plans
+    c.publish_noted.ensures.commit in
+    done_placed cells c.args.book.now c.args.cpu c.args.ready c.requires full c.append_all.new.commit a now done p
 
 pub retire_all-requires-clause-can : goal.retire_all-requires-clause-can
 retire_all-requires-clause-can g c =
     let cells = g.C.Cells.cells c.args.cells.now in
     let full = g.C.Cells.cells c.append_all.new.cells in
+    let a = appended_by cells c.args.book.now c.args.cpu c.args.ready c.requires full c.append_all.new.commit c.begin-commit.result
+    c.begin-commit.ensures c.append_all.ensures.cells c.append_all.ensures.ready c.append_all.ensures.plans c.append_all.ensures.commit in
     let now = g.C.Cells.cells c.publish_noted.new.cells in
-    let a : AreAppended cells c.args.book.now c.args.cpu c.args.ready c.requires full c.append_all.new.commit =
-    subst (AreAppendedTo cells c.args.book.now c.args.cpu c.args.ready c.requires full c.append_all.new.commit) c.begin-commit.ensures
-    (record {
-      changes = c.append_all.ensures.cells;
-      fit = c.append_all.ensures.ready;
-      plans = c.append_all.ensures.plans;
-      is = c.append_all.ensures.commit;
-    }) in
-    let p : ArePublished cells c.args.book.now c.args.cpu c.args.ready c.requires full c.append_all.new.commit a now c.publish_noted.new.commit = record {
-      changes = c.publish_noted.ensures.cells;
-      killed = c.publish_noted.ensures.killed;
-      told = c.publish_noted.ensures.told;
-      plans = c.publish_noted.ensures.plans;
-      is = c.publish_noted.ensures.commit;
-    } in
-    subst (λ (b : BookValue). CanRetireAll b.room now c.publish_noted.new.commit) (sym c.publish_noted.ensures.book)
-    (can_retire cells c.args.book.now c.args.cpu c.args.ready c.requires full c.append_all.new.commit a now c.publish_noted.new.commit p)
+    let done = c.publish_noted.new.commit in
+    let p = published_by cells c.args.book.now c.args.cpu c.args.ready c.requires full c.append_all.new.commit a now done
+    c.publish_noted.ensures.cells c.publish_noted.ensures.killed c.publish_noted.ensures.told c.publish_noted.ensures.plans
+    c.publish_noted.ensures.commit in
+    subst (λ (b : BookValue). CanRetireAll b.room now done) (sym c.publish_noted.ensures.book)
+    (can_retire cells c.args.book.now c.args.cpu c.args.ready c.requires full c.append_all.new.commit a now done p)
 
 pub returns-clause-cells : goal.returns-clause-cells
 returns-clause-cells g c =
     let cells = g.C.Cells.cells c.args.cells.now in
     let full = g.C.Cells.cells c.append_all.new.cells in
+    let a = appended_by cells c.args.book.now c.args.cpu c.args.ready c.requires full c.append_all.new.commit c.begin-commit.result
+    c.begin-commit.ensures c.append_all.ensures.cells c.append_all.ensures.ready c.append_all.ensures.plans c.append_all.ensures.commit in
     let now = g.C.Cells.cells c.publish_noted.new.cells in
-    let last = g.C.Cells.cells c.retire_all.new.cells in
-    let a : AreAppended cells c.args.book.now c.args.cpu c.args.ready c.requires full c.append_all.new.commit =
-    subst (AreAppendedTo cells c.args.book.now c.args.cpu c.args.ready c.requires full c.append_all.new.commit) c.begin-commit.ensures
-    (record {
-      changes = c.append_all.ensures.cells;
-      fit = c.append_all.ensures.ready;
-      plans = c.append_all.ensures.plans;
-      is = c.append_all.ensures.commit;
-    }) in
-    let p : ArePublished cells c.args.book.now c.args.cpu c.args.ready c.requires full c.append_all.new.commit a now c.publish_noted.new.commit = record {
-      changes = c.publish_noted.ensures.cells;
-      killed = c.publish_noted.ensures.killed;
-      told = c.publish_noted.ensures.told;
-      plans = c.publish_noted.ensures.plans;
-      is = c.publish_noted.ensures.commit;
-    } in
     let done = c.publish_noted.new.commit in
-    all_changes cells c.args.book.now c.args.cpu c.args.ready c.requires full c.append_all.new.commit a now done p last
-    (ids c.args.book.now.state.snaps)
+    let p = published_by cells c.args.book.now c.args.cpu c.args.ready c.requires full c.append_all.new.commit a now done
+    c.publish_noted.ensures.cells c.publish_noted.ensures.killed c.publish_noted.ensures.told c.publish_noted.ensures.plans
+    c.publish_noted.ensures.commit in
+    all_changes cells c.args.book.now c.args.cpu c.args.ready c.requires full c.append_all.new.commit a now done p
+    (g.C.Cells.cells c.retire_all.new.cells) (ids c.args.book.now.state.snaps)
     (subst (λ (b : BookValue). ChangesPlanned done.plans
-    (λ j. settled_cell (ids b.state.snaps) done.stamp.epoch (noted_killing now done j)) now last) c.publish_noted.ensures.book
-    c.retire_all.ensures.cells)
+    (λ j. settled_cell (ids b.state.snaps) done.stamp.epoch (noted_killing now done j)) now (g.C.Cells.cells c.retire_all.new.cells))
+    c.publish_noted.ensures.book c.retire_all.ensures.cells)
 
 pub returns-clause-book : goal.returns-clause-book
 returns-clause-book g c =
     let cells = g.C.Cells.cells c.args.cells.now in
     let full = g.C.Cells.cells c.append_all.new.cells in
+    let a = appended_by cells c.args.book.now c.args.cpu c.args.ready c.requires full c.append_all.new.commit c.begin-commit.result
+    c.begin-commit.ensures c.append_all.ensures.cells c.append_all.ensures.ready c.append_all.ensures.plans c.append_all.ensures.commit in
     let now = g.C.Cells.cells c.publish_noted.new.cells in
-    let a : AreAppended cells c.args.book.now c.args.cpu c.args.ready c.requires full c.append_all.new.commit =
-    subst (AreAppendedTo cells c.args.book.now c.args.cpu c.args.ready c.requires full c.append_all.new.commit) c.begin-commit.ensures
-    (record {
-      changes = c.append_all.ensures.cells;
-      fit = c.append_all.ensures.ready;
-      plans = c.append_all.ensures.plans;
-      is = c.append_all.ensures.commit;
-    }) in
-    let p : ArePublished cells c.args.book.now c.args.cpu c.args.ready c.requires full c.append_all.new.commit a now c.publish_noted.new.commit = record {
-      changes = c.publish_noted.ensures.cells;
-      killed = c.publish_noted.ensures.killed;
-      told = c.publish_noted.ensures.told;
-      plans = c.publish_noted.ensures.plans;
-      is = c.publish_noted.ensures.commit;
-    } in
     let done = c.publish_noted.new.commit in
+    let p = published_by cells c.args.book.now c.args.cpu c.args.ready c.requires full c.append_all.new.commit a now done
+    c.publish_noted.ensures.cells c.publish_noted.ensures.killed c.publish_noted.ensures.told c.publish_noted.ensures.plans
+    c.publish_noted.ensures.commit in
     c.retire_all.ensures.book
     ∙ ap (λ (b : BookValue). let s : BookState = record b.state {
       manifests = manifests_after (ids b.state.snaps) done.stamp.epoch (noted_killing now done) (length done.plans) b.state.manifests;
@@ -155,23 +98,13 @@ pub returns-clause-hand : goal.returns-clause-hand
 returns-clause-hand g c =
     let cells = g.C.Cells.cells c.args.cells.now in
     let full = g.C.Cells.cells c.append_all.new.cells in
+    let a = appended_by cells c.args.book.now c.args.cpu c.args.ready c.requires full c.append_all.new.commit c.begin-commit.result
+    c.begin-commit.ensures c.append_all.ensures.cells c.append_all.ensures.ready c.append_all.ensures.plans c.append_all.ensures.commit in
     let now = g.C.Cells.cells c.publish_noted.new.cells in
-    let a : AreAppended cells c.args.book.now c.args.cpu c.args.ready c.requires full c.append_all.new.commit =
-    subst (AreAppendedTo cells c.args.book.now c.args.cpu c.args.ready c.requires full c.append_all.new.commit) c.begin-commit.ensures
-    (record {
-      changes = c.append_all.ensures.cells;
-      fit = c.append_all.ensures.ready;
-      plans = c.append_all.ensures.plans;
-      is = c.append_all.ensures.commit;
-    }) in
-    let p : ArePublished cells c.args.book.now c.args.cpu c.args.ready c.requires full c.append_all.new.commit a now c.publish_noted.new.commit = record {
-      changes = c.publish_noted.ensures.cells;
-      killed = c.publish_noted.ensures.killed;
-      told = c.publish_noted.ensures.told;
-      plans = c.publish_noted.ensures.plans;
-      is = c.publish_noted.ensures.commit;
-    } in
     let done = c.publish_noted.new.commit in
+    let p = published_by cells c.args.book.now c.args.cpu c.args.ready c.requires full c.append_all.new.commit a now done
+    c.publish_noted.ensures.cells c.publish_noted.ensures.killed c.publish_noted.ensures.told c.publish_noted.ensures.plans
+    c.publish_noted.ensures.commit in
     c.finish.ensures.hand ∙ ap (λ (v : CommitValue). v.hand) c.retire_all.ensures.commit
     ∙ ap (λ (b : BookValue). hand_after_killings (ids b.state.snaps) done.stamp.epoch (noted_killing now done) (length done.plans) done.hand)
     c.publish_noted.ensures.book
