@@ -7,8 +7,9 @@ use crate::entry::logs::mode;
 use crate::scenes::handle;
 use Says::{Create, List, Lookup, Mkdir, Mode, Read, Rename, Rmdir, Size, Stat, Unlink, Write};
 use nv_base::{Bytes, Fault, Kind, Name};
-use nv_calls::calls::{list, lookup, read, stat};
-use nv_calls::{Nodes, Update, check, check_early, check_late, check_look, look_all, plan_of};
+use nv_calls::{
+    Nodes, Update, calls, check, check_early, check_late, check_look, look_all, plan_of,
+};
 use nv_entry::{BoundName, NameList, NodeCopy};
 use std::alloc::Global;
 use std::process::Abort;
@@ -154,10 +155,10 @@ fn in_parts(nodes: &Known, call: &Update) -> Result<(), Fault> {
 /// The check of a call that only reads.
 pub fn of_a_read(nodes: &Known, says: Says) -> Option<Result<(), Fault>> {
     match says {
-        Read(file, _, _) => Some(read::check(nodes, &handle(file))),
-        Stat(ino) => Some(stat::check(nodes, &handle(ino))),
-        List(dir) => Some(list::check(nodes, &handle(dir))),
-        Lookup(dir, name) => Some(lookup::check(nodes, &handle(dir), name.as_bytes())),
+        Read(file, _, _) => Some(calls::read::check(nodes, &handle(file))),
+        Stat(ino) => Some(calls::stat::check(nodes, &handle(ino))),
+        List(dir) => Some(calls::list::check(nodes, &handle(dir))),
+        Lookup(dir, name) => Some(calls::lookup::check(nodes, &handle(dir), name.as_bytes())),
         _ => None,
     }
 }

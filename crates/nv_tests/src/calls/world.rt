@@ -134,7 +134,13 @@ impl World {
             runs: Items::from_vec(runs_of(alloc, &numbers)?),
             present,
         };
-        Ok(plan_items(alloc, block, &self.nodes, &taken, call)?)
+        match plan_items(alloc, block, &self.nodes, &taken, call) {
+            Ok(planned) => Ok(planned),
+            Err(fault) => {
+                same_for(rt, &wanted, fault, Fault::OutOfMemory);
+                Ok(plan_items(alloc, block, &self.nodes, &taken, call)?)
+            }
+        }
     }
 
     /// Fills the blocks with the pages of a file after a call.
