@@ -4,13 +4,24 @@ ghost use Rattle.std.specs.Prelude.{◌≡◌, ◌≢◌, ◌≤◌, ◌+◌, []
 ghost use Rattle.nv_base.specs.declared.numbers.Handle.{Handle};
 ghost use Rattle.nv_entry.specs.Tree.{CutsNothing, FormTree, root, tree_from};
 ghost use Rattle.nv_entry.specs.declared.node.NodeCopy.{NodeCopy};
-ghost use Rattle.nv_reader.specs.Walk.{name_count, root_visit, to_come, visits_to_come};
+ghost use Rattle.nv_reader.specs.Walk.{given_in, left_after, name_count, root_visit, to_come, visits_to_come};
 ghost use Rattle.nv_reader.specs.Worlds.{HaveAll, HaveAtMost, handles_from, most_visits, names_of_all};
 
 /// What is to come of a new walk is the tree from its root on.
 pub fn walks_give_the_tree()
     ensures { (nodes : Handle → Option NodeCopy) (depth : ℕ) (root : Handle) →
         to_come nodes (root_visit depth root) ≡ tree_from nodes depth [] root }
+{}
+
+/// A walk into which the node of each visit is handed gives out the tree, and is at its end once it has made the visits that
+/// it had to make.
+pub fn a_whole_walk_gives_the_tree()
+    ensures tree { (nodes : Handle → Option NodeCopy) (depth visits : ℕ) (root : Handle)
+        → visits_to_come nodes (root_visit depth root) ≤ visits
+        → given_in nodes visits (root_visit depth root) ≡ tree_from nodes depth [] root }
+    ensures end { (nodes : Handle → Option NodeCopy) (depth visits : ℕ) (root : Handle)
+        → visits_to_come nodes (root_visit depth root) ≤ visits
+        → left_after nodes visits (root_visit depth root) ≡ [] }
 {}
 
 /// Two depths that cut nothing give the same tree.
