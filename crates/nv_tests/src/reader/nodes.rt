@@ -237,10 +237,18 @@ fn nodes(rt: HostRuntime) {
             let _killed = scene.commit(&rt, at, slice::from_ref(says));
         }
         for (place, want) in epochs.iter().enumerate() {
-            is_node(&rt, node_at(&rt, alloc, &scene.cell, place as u64 + 1), *want);
+            is_node(
+                &rt,
+                node_at(&rt, alloc, &scene.cell, place as u64 + 1),
+                *want,
+            );
         }
         for (tail, want) in *noted {
-            is_node(&rt, settled_node(&rt, alloc, &scene.cell, Some(*tail)), *want);
+            is_node(
+                &rt,
+                settled_node(&rt, alloc, &scene.cell, Some(*tail)),
+                *want,
+            );
         }
         is_node(&rt, settled_node(&rt, alloc, &scene.cell, None), *now);
         scene.dismantle();
@@ -263,6 +271,10 @@ fn settled_nodes_are_read_by_the_index(rt: HostRuntime) {
     let before = scene.cell.reads();
     let node = settled_node(&rt, alloc, &scene.cell, None);
     assert!(rt; scene.cell.reads().saturating_sub(before) <= 8);
-    is_node(&rt, node, Shown::File(32, b"zzzzzzzzzzzzzzzzzzzzzzzzzzzzzzzz"));
+    is_node(
+        &rt,
+        node,
+        Shown::File(32, b"zzzzzzzzzzzzzzzzzzzzzzzzzzzzzzzz"),
+    );
     scene.dismantle();
 }
