@@ -50,8 +50,8 @@ pub fn names_bound_the_visits()
 /// Where the directories form a tree, no inode is visited twice: the nodes of the tree are those of these handles, whose inodes
 /// differ from one another, and so they are no more than the inodes.
 pub fn no_inode_is_visited_twice()
-    ensures handles { (nodes : Handle → Option NodeCopy) (depth : ℕ) (path : List (List ℕ)) (handle : Handle) →
-        map (λ t. Some t.node) (tree_from nodes depth path handle)
+    ensures handles { (nodes : Handle → Option NodeCopy) (depth : ℕ) (path : List (List ℕ))
+        (handle : Handle) → map (λ t. Some t.node) (tree_from nodes depth path handle)
         ≡ map nodes (handles_from nodes depth handle) }
     ensures differ { (nodes : Handle → Option NodeCopy) (inodes depth : ℕ) → FormTree nodes inodes →
         AllPairs (λ one other. one.ino ≢ other.ino) (handles_from nodes depth root) }
@@ -73,8 +73,10 @@ pub fn names_of_the_world_bound_the_visits()
 /// In any world a walk ends: where no directory has more than so many names, it makes no more visits than a walk of that depth
 /// makes through directories that all have as many; and it gives out no more nodes.
 pub fn walks_end_in_any_world()
-    ensures visits { (nodes : Handle → Option NodeCopy) (most depth : ℕ) (root : Handle) → HaveAtMost nodes most
+    ensures visits { (nodes : Handle → Option NodeCopy) (most depth : ℕ) (root : Handle)
+        → HaveAtMost nodes most
         → visits_to_come nodes (root_visit depth root) ≤ most_visits most depth }
-    ensures nodes { (nodes : Handle → Option NodeCopy) (most depth : ℕ) (root : Handle) → HaveAtMost nodes most
+    ensures nodes { (nodes : Handle → Option NodeCopy) (most depth : ℕ) (root : Handle)
+        → HaveAtMost nodes most
         → length (tree_from nodes depth [] root) ≤ most_visits most depth }
 {}
