@@ -11,7 +11,7 @@ use Rattle.nv_entry.specs.declared.key.Datum.{Datum}
 use Rattle.nv_entry.specs.declared.key.Setting.TheVariants.{Untouched, Absent, Present}
 use Rattle.nv_entry.specs.Keys.{IsFileKey, Key, KindKey, ModeKey, NameKey, PageKey, SizeKey, is_page, in_run, is_past, pages_for, sets}
 use Rattle.nv_entry.specs.Log.{last_setting}
-use Rattle.nv_entry.specs.Node.{block_now, page_bytes, pages_bytes}
+use Rattle.nv_entry.specs.Node.{block_now}
 
 choice_false : {A : Type 0} (b : Bool) (x y : A) → b ≡ false → cond b x y ≡ y
 choice_false true x y h = cc
@@ -51,11 +51,9 @@ range-suc : (a n : ℕ) → range_with_len a (suc n) ≡ range_with_len a n ++ (
 range-suc a zero = ap (λ x. x ∷ []) (sym (add-zero a))
 range-suc a (suc n) = ap (λ xs. a ∷ xs) (range-suc (a + 1) n ∙ ap (λ x. range_with_len (a + 1) n ++ x ∷ []) (omega arith))
 
--- the bytes of one more page
-pub pages_bytes-more : (bytes : ℕ → List ℕ) (block : ℕ) (log : List Entry) (count : ℕ)
-    → pages_bytes bytes block log (count + 1) ≡ pages_bytes bytes block log count ++ page_bytes bytes block (block_now block log count)
-pages_bytes-more bytes block log count =
-    let page = λ (n : ℕ). page_bytes bytes block (block_now block log n) in
+-- one more page, behind the others
+pub pages-more : (page : ℕ → List ℕ) (count : ℕ) → flat_map page (range_with_len 0 (count + 1)) ≡ flat_map page (range_with_len 0 count) ++ page count
+pages-more page count =
     rw add-one (ap (flat_map page) (range-suc 0 count)
     ∙ flat_map-append page (range_with_len 0 count) ((0 + count) ∷ [])
-    ∙ ap (λ xs. pages_bytes bytes block log count ++ xs) (append-nil (page (0 + count)) ∙ ap page (zero-add count)))
+    ∙ ap (λ xs. flat_map page (range_with_len 0 count) ++ xs) (append-nil (page (0 + count)) ∙ ap page (zero-add count)))

@@ -1,5 +1,5 @@
 -- What is still to come of a tree, as the next visit's node is handed in.
-use Rattle.std.proofs.Common.{◌≡◌, ℕ, zero, suc, ◌+◌, List, [], ◌∷◌, ◌++◌, map, Option, Some, None, IsSome, arith, refl, ap, sym, ◌∙◌}
+use Rattle.std.proofs.Common.{◌≡◌, ℕ, zero, suc, ◌+◌, ◌≤◌, List, [], ◌∷◌, ◌++◌, map, Option, Some, None, IsSome, arith, refl, ap, sym, ◌∙◌}
 use Rattle.std.proofs.lemmas.Grind.{flat_map-append}
 use Rattle.std.proofs.lemmas.List.{append-nil}
 use Rattle.std.proofs.lemmas.List.Sums.{sum_by-append, sum_by-cons}
@@ -10,7 +10,7 @@ use Rattle.nv_entry.specs.Tree.{names_of_node, node_and_below, path_below, tree_
 use Rattle.nv_entry.specs.declared.names.BoundName.{BoundName}
 use Rattle.nv_entry.specs.declared.node.NodeCopy.{NodeCopy}
 use Rattle.nv_entry.specs.declared.tree.TreeNode.{TreeNode}
-use Rattle.nv_reader.specs.Walk.{GivesNext, Visit, given_for, name_visits, next_handle, root_visit, to_come, visit_count, visits_after, visits_to_come, wanted_node}
+use Rattle.nv_reader.specs.Walk.{GivesNext, Visit, given_for, given_in, left_after, name_visits, next_handle, root_visit, to_come, visit_count, visits_after, visits_to_come, wanted_node}
 
 pub whole : (nodes : Handle → Option NodeCopy) (depth : ℕ) (root : Handle) → to_come nodes (root_visit depth root) ≡ tree_from nodes depth [] root
 whole nodes zero root = refl
@@ -75,3 +75,39 @@ pub handed_next : (nodes : Handle → Option NodeCopy) (visits : List Visit) (no
 handed_next nodes [] _ given left some found is rest = cc
 handed_next nodes (visit ∷ later) _ given left some found is rest =
     rw (is, rest, found) (gives_next nodes visit later)
+
+-- ---- whole walks
+
+none_to_come : (nodes : Handle → Option NodeCopy) (visits : List Visit) → visits_to_come nodes visits ≡ 0 → visits ≡ []
+none_to_come nodes [] none = refl
+none_to_come nodes (visit ∷ later) none =
+    absurd (omega (arith, none, sum_by-cons (λ (v : Visit). visit_count nodes (suc v.below) v.handle) visit later))
+
+-- a walk that makes as many visits as it has to make, or more
+pub record IsWhole (nodes : Handle → Option NodeCopy) (count : ℕ) (visits : List Visit) : Type 0 where
+  pub given : given_in nodes count visits ≡ to_come nodes visits
+  pub left : left_after nodes count visits ≡ []
+
+pub whole_walk : (nodes : Handle → Option NodeCopy) (count : ℕ) (visits : List Visit) → visits_to_come nodes visits ≤ count → IsWhole nodes count visits
+whole_walk nodes zero visits enough =
+    let none : visits ≡ [] = none_to_come nodes visits (omega (arith, enough)) in
+    record { given = sym (ap (to_come nodes) none); left = none }
+whole_walk nodes (suc count) [] enough =
+    let rest = whole_walk nodes count [] (omega arith) in
+    record { given = rest.given; left = rest.left }
+whole_walk nodes (suc count) (visit ∷ later) enough =
+    let next = gives_next nodes visit later in
+    let left = visits_after (visit ∷ later) (nodes visit.handle) in
+    let rest = whole_walk nodes count left (omega (arith, enough, next.fewer)) in
+    record {
+      given = ap (λ trees. option_to_list (given_for (visit ∷ later) (nodes visit.handle)) ++ trees) rest.given ∙ sym next.next;
+      left = rest.left;
+    }
+
+pub whole_tree : (nodes : Handle → Option NodeCopy) (depth count : ℕ) (root : Handle) → visits_to_come nodes (root_visit depth root) ≤ count
+    → given_in nodes count (root_visit depth root) ≡ tree_from nodes depth [] root
+whole_tree nodes depth count root enough = (whole_walk nodes count (root_visit depth root) enough).given ∙ whole nodes depth root
+
+pub whole_end : (nodes : Handle → Option NodeCopy) (depth count : ℕ) (root : Handle) → visits_to_come nodes (root_visit depth root) ≤ count
+    → left_after nodes count (root_visit depth root) ≡ []
+whole_end nodes depth count root enough = (whole_walk nodes count (root_visit depth root) enough).left

@@ -1,8 +1,7 @@
 -- The bytes of a file by the blocks of its pages.
-use Rattle.std.proofs.Common.{◌≡◌, ℕ, zero, suc, ◌+◌, ◌<◌, ◌≤◌, ◌++◌, [], List, Option, Some, None, add-one, append_assoc, arith, refl, ap, sym, take, zero-add, ◌∙◌}
+use Rattle.std.proofs.Common.{◌≡◌, ℕ, zero, suc, ◌+◌, ◌<◌, ◌≤◌, ◌++◌, [], List, Option, Some, None, arith, refl, ap, take, ◌∙◌}
 use Rattle.std.specs.List.{flat_map, range_with_len}
 use Rattle.std.specs.Option.{option_map}
-use Rattle.std.proofs.lemmas.List.{append-nil}
 use Rattle.nv_entry.specs.declared.item.Entry.{Entry}
 use Rattle.nv_entry.specs.declared.key.Datum.{Datum}
 use Rattle.nv_entry.specs.declared.key.Datum.TheVariants as datum
@@ -19,21 +18,6 @@ page_shown bytes block number page is = ap (page_text block) is ∙ go number wh
   go : (o : Option ℕ) → page_text block (option_map bytes o) ≡ page_bytes bytes block o
   go None = refl
   go (Some n) = refl
-
--- one page more
-more_from : (page : ℕ → List ℕ) (from count : ℕ)
-    → flat_map page (range_with_len from (suc count)) ≡ flat_map page (range_with_len from count) ++ page (from + count)
-more_from page from zero = append-nil (page from) ∙ ap page (let same : from ≡ from + 0 = omega arith in same)
-more_from page from (suc count) =
-    ap (λ (xs : List ℕ). page from ++ xs) (more_from page (from + 1) count)
-    ∙ sym (append_assoc (page from) (flat_map page (range_with_len (from + 1) count)) (page (from + 1 + count)))
-    ∙ ap (λ (n : ℕ). (page from ++ flat_map page (range_with_len (from + 1) count)) ++ page n)
-    (let same : from + 1 + count ≡ from + suc count = omega arith in same)
-
-pub pages_more : (page : ℕ → List ℕ) (count : ℕ)
-    → flat_map page (range_with_len 0 (count + 1)) ≡ flat_map page (range_with_len 0 count) ++ page count
-pages_more page count =
-    rw add-one (more_from page 0 count ∙ ap (λ (n : ℕ). flat_map page (range_with_len 0 count) ++ page n) (zero-add count))
 
 -- pages that are the same one by one are the same together
 pub pages_same : (one other : ℕ → List ℕ) (from count : ℕ) → ((page : ℕ) → from ≤ page → page < from + count → one page ≡ other page)

@@ -67,6 +67,16 @@ pub record GivesNext (nodes : Handle → Option NodeCopy) (visits : List Visit) 
   pub next : to_come nodes visits ≡ option_to_list given ++ to_come nodes left
   pub fewer : visits_to_come nodes visits ≡ visits_to_come nodes left + 1
 
+-- what a walk gives out in so many visits, and the visits that are left then, where the node of each is handed in
+abbrev pub given_in : (Handle → Option NodeCopy) → ℕ → List Visit → List TreeNode
+given_in nodes zero visits = []
+given_in nodes (suc count) visits =
+    let node = wanted_node nodes visits in option_to_list (given_for visits node) ++ given_in nodes count (visits_after visits node)
+
+abbrev pub left_after : (Handle → Option NodeCopy) → ℕ → List Visit → List Visit
+left_after nodes zero visits = visits
+left_after nodes (suc count) visits = left_after nodes count (visits_after visits (wanted_node nodes visits))
+
 -- how many names the nodes of a tree have together
 abbrev pub name_count : List TreeNode → ℕ
 name_count tree = sum_by (λ (t : TreeNode). length t.node.names) tree

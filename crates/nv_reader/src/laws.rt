@@ -4,13 +4,24 @@ ghost use Rattle.std.specs.Prelude.{◌≡◌, ◌≢◌, ◌≤◌, ◌+◌, []
 ghost use Rattle.nv_base.specs.declared.numbers.Handle.{Handle};
 ghost use Rattle.nv_entry.specs.Tree.{CutsNothing, FormTree, root, tree_from};
 ghost use Rattle.nv_entry.specs.declared.node.NodeCopy.{NodeCopy};
-ghost use Rattle.nv_reader.specs.Walk.{name_count, root_visit, to_come, visits_to_come};
+ghost use Rattle.nv_reader.specs.Walk.{given_in, left_after, name_count, root_visit, to_come, visits_to_come};
 ghost use Rattle.nv_reader.specs.Worlds.{HaveAll, HaveAtMost, handles_from, most_visits, names_of_all};
 
 /// What is to come of a new walk is the tree from its root on.
 pub fn walks_give_the_tree()
     ensures { (nodes : Handle → Option NodeCopy) (depth : ℕ) (root : Handle) →
         to_come nodes (root_visit depth root) ≡ tree_from nodes depth [] root }
+{}
+
+/// A walk into which the node of each visit is handed gives out the tree, and is at its end once it has made the visits that
+/// it had to make.
+pub fn a_whole_walk_gives_the_tree()
+    ensures tree { (nodes : Handle → Option NodeCopy) (depth visits : ℕ) (root : Handle)
+        → visits_to_come nodes (root_visit depth root) ≤ visits
+        → given_in nodes visits (root_visit depth root) ≡ tree_from nodes depth [] root }
+    ensures end { (nodes : Handle → Option NodeCopy) (depth visits : ℕ) (root : Handle)
+        → visits_to_come nodes (root_visit depth root) ≤ visits
+        → left_after nodes visits (root_visit depth root) ≡ [] }
 {}
 
 /// Two depths that cut nothing give the same tree.
@@ -39,8 +50,8 @@ pub fn names_bound_the_visits()
 /// Where the directories form a tree, no inode is visited twice: the nodes of the tree are those of these handles, whose inodes
 /// differ from one another, and so they are no more than the inodes.
 pub fn no_inode_is_visited_twice()
-    ensures handles { (nodes : Handle → Option NodeCopy) (depth : ℕ) (path : List (List ℕ)) (handle : Handle) →
-        map (λ t. Some t.node) (tree_from nodes depth path handle)
+    ensures handles { (nodes : Handle → Option NodeCopy) (depth : ℕ) (path : List (List ℕ))
+        (handle : Handle) → map (λ t. Some t.node) (tree_from nodes depth path handle)
         ≡ map nodes (handles_from nodes depth handle) }
     ensures differ { (nodes : Handle → Option NodeCopy) (inodes depth : ℕ) → FormTree nodes inodes →
         AllPairs (λ one other. one.ino ≢ other.ino) (handles_from nodes depth root) }
@@ -62,8 +73,10 @@ pub fn names_of_the_world_bound_the_visits()
 /// In any world a walk ends: where no directory has more than so many names, it makes no more visits than a walk of that depth
 /// makes through directories that all have as many; and it gives out no more nodes.
 pub fn walks_end_in_any_world()
-    ensures visits { (nodes : Handle → Option NodeCopy) (most depth : ℕ) (root : Handle) → HaveAtMost nodes most
+    ensures visits { (nodes : Handle → Option NodeCopy) (most depth : ℕ) (root : Handle)
+        → HaveAtMost nodes most
         → visits_to_come nodes (root_visit depth root) ≤ most_visits most depth }
-    ensures nodes { (nodes : Handle → Option NodeCopy) (most depth : ℕ) (root : Handle) → HaveAtMost nodes most
+    ensures nodes { (nodes : Handle → Option NodeCopy) (most depth : ℕ) (root : Handle)
+        → HaveAtMost nodes most
         → length (tree_from nodes depth [] root) ≤ most_visits most depth }
 {}

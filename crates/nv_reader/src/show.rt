@@ -28,8 +28,9 @@ impl PartBlocks for InodeCell {
 /// The node at the end of an epoch, where none of the parts that hold its pages is out. None where the inode has no kind
 /// there. `OutOfMemory` where room for it was refused.
 ///
-/// Costs what it hands out, three passes over the log's entries up to the epoch with the pages that each writes, and for each
-/// page a look-up that grows with the logarithm of the log.
+/// Costs what it hands out, and three passes over the log's entries up to the epoch, however many pages they write: one of
+/// these passes takes for each entry and each page at most as many steps as the logarithm of the file's pages. The block of
+/// each page is looked up, which grows with the logarithm of the log.
 pub fn show_on(alloc: Global, cell: &InodeCell, epoch: Epoch) -> Result<Option<NodeCopy>, Fault>
     ensures own { IfOk result (λ node. node
         ≡ own_node cell.now.state (up_to epoch (log_of cell.now.state))) }

@@ -7,7 +7,7 @@ use Rattle.nv_base.specs.declared.numbers.EntryId.{EntryId}
 use Rattle.nv_reader.specs.Blocks.{page_part, page_text, page_writer, shown_page}
 use Rattle.nv_reader.specs.Writers.{entry_at}
 use Rattle.nv_reader.specs.declared.pages.Writer.{Writer}
-use Rattle.nv_reader.proofs.PageBytes.{pages_more}
+use Rattle.nv_entry.proofs.Nodes.{pages-more}
 use Rattle.nv_reader.proofs.PageParts.{writer_past}
 use Rattle.nv_reader.proofs.bytes.file_bytes.Goals as goal
 
@@ -30,4 +30,4 @@ loop-page-preserved g c =
     ∙ ap (λ (o : Option (List ℕ)). c.loop-page.text.items ++ page_text block o) (c.page_in.ensures ∙ lent)
     ∙ ap (λ (o : Option EntryId). c.loop-page.text.items ++ page_text block (option_and_then (λ (entry : EntryId). parts (page_part page entry)) o)) held
     ∙ ap (λ (xs : List ℕ). xs ++ shown_page parts block log page) c.loop-page.invariant
-    ∙ sym (pages_more (shown_page parts block log) page)
+    ∙ sym (pages-more (shown_page parts block log) page)
