@@ -12,3 +12,5 @@ pub mod Skips
 pub mod Elements
 pub mod Reached
 pub mod Worlds
+pub mod Settled
+pub mod Handles

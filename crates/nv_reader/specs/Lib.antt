@@ -5,3 +5,4 @@ pub mod Attributes
 pub mod Blocks
 pub mod Writers
 pub mod Cells
+pub mod Nodes

@@ -1,14 +1,48 @@
 //! Laws of walks and trees. Each is a function that does nothing, whose contract is the law.
 
-ghost use Rattle.std.specs.Prelude.{◌≡◌, ◌≢◌, ◌≤◌, ◌+◌, [], ℕ, AllPairs, List, Option, Some, length, map};
+ghost use Rattle.std.specs.Prelude.{◌≡◌, ◌≢◌, ◌<◌, ◌≤◌, ◌+◌, [], ℕ, AllPairs, List, None, Option, Some, length, map};
+ghost use Rattle.std.specs.List.{All};
+ghost use Rattle.std.specs.Option.{ForSome};
 ghost use Rattle.nv_base.specs.declared.numbers.Handle.{Handle};
+ghost use Rattle.nv_cell.specs.Cell.{CellState, log_of};
+ghost use Rattle.nv_entry.specs.Log.{up_to};
 ghost use Rattle.nv_entry.specs.Tree.{CutsNothing, FormTree, root, tree_from};
+ghost use Rattle.nv_entry.specs.declared.item.Entry.{Entry};
 ghost use Rattle.nv_entry.specs.declared.node.NodeCopy.{NodeCopy};
+ghost use Rattle.nv_reader.specs.Cells.{settled};
+ghost use Rattle.nv_reader.specs.Nodes.{node_under, nodes_at, settled_nodes, unsettled};
 ghost use Rattle.nv_reader.specs.Walk.{given_in, left_after, name_count, root_visit, to_come, visits_to_come};
 ghost use Rattle.nv_reader.specs.Worlds.{HaveAll, HaveAtMost, handles_from, most_visits, names_of_all};
 
+/// Where every entry that counts and is not settled is of a later epoch, the settled log says of an epoch what the whole log
+/// says. So what [`show_on`](crate::show_on) gives of that epoch does not depend on calls that are under way.
+pub fn settled_logs_tell_earlier_epochs()
+    ensures { (cell : CellState) (noted : Option ℕ) (epoch : ℕ)
+        → ForSome noted (λ tail. tail ≤ cell.chain.tail)
+        → All (λ e. epoch < e.epoch) (unsettled noted cell)
+        → up_to epoch (log_of cell) ≡ up_to epoch (settled noted cell) }
+{}
+
+/// The node under a handle is what its slot's cell gives, where that is of the handle's generation: at an epoch as
+/// [`show_on`](crate::show_on) says, and now as [`settled_on`](crate::settled_on) says. In any other generation there is none.
+pub fn handles_lead_to_their_generation()
+    ensures then { (node : CellState → List Entry → Option NodeCopy) (cells : ℕ → CellState)
+        → (epoch : ℕ) (handle : Handle) → handle.generation ≡ (cells handle.ino).generation
+        → nodes_at node cells epoch handle
+        ≡ node (cells handle.ino) (up_to epoch (log_of (cells handle.ino))) }
+    ensures now { (node : CellState → List Entry → Option NodeCopy) (cells : ℕ → CellState)
+        → (noted : ℕ → Option ℕ) (handle : Handle)
+        → handle.generation ≡ (cells handle.ino).generation
+        → settled_nodes node cells noted handle
+        ≡ node (cells handle.ino) (settled (noted handle.ino) (cells handle.ino)) }
+    ensures other { (node : CellState → List Entry → Option NodeCopy) (cells : ℕ → CellState)
+        → (logs : ℕ → List Entry) (handle : Handle)
+        → handle.generation ≢ (cells handle.ino).generation
+        → node_under node cells logs handle ≡ None }
+{}
+
 /// What is to come of a new walk is the tree from its root on.
-pub fn walks_give_the_tree()
+pub fn to_come_is_the_tree()
     ensures { (nodes : Handle → Option NodeCopy) (depth : ℕ) (root : Handle) →
         to_come nodes (root_visit depth root) ≡ tree_from nodes depth [] root }
 {}
@@ -71,7 +105,8 @@ pub fn names_of_the_world_bound_the_visits()
 {}
 
 /// In any world a walk ends: where no directory has more than so many names, it makes no more visits than a walk of that depth
-/// makes through directories that all have as many; and it gives out no more nodes.
+/// makes through directories that all have as many; and it gives out no more nodes. That number grows exponentially with the
+/// depth: who cannot tell that the directories form a tree has to find that out before the walk.
 pub fn walks_end_in_any_world()
     ensures visits { (nodes : Handle → Option NodeCopy) (most depth : ℕ) (root : Handle)
         → HaveAtMost nodes most

@@ -17,6 +17,9 @@ use std::marker::Model;
 /// to be made.
 ///
 /// It keeps the path of the next visit and the names that are still to be followed in each directory on the way, and no node.
+///
+/// Where the directories form no tree, the visits may grow exponentially with the depth: who cannot tell that they do has to
+/// find that out first.
 #[derive(Drop)]
 pub struct Walk {
     alloc: Global,
@@ -45,7 +48,7 @@ impl Walk {
         ensures ok { IfOk result (λ walk. walk ≡ root_visit depth root) }
         ensures err { FailsOnly Fault.OutOfMemory result }
     {
-        // The first step down takes no memory then.
+        // Room for one level: entering a root that has no directories below it takes no more.
         Ok(Walk {
             alloc,
             depth,
