@@ -76,13 +76,11 @@ impl Ready {
         ensures plans { result.plans ≡ plans.items }
         ensures hand { result.hand ≡ hand }
     {
-        let place = 0;
         Ready {
             alloc,
             update,
             made,
             plans,
-            place,
             hand,
         }
     }
