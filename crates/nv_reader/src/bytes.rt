@@ -15,7 +15,7 @@ use nv_entry::{Entry, Part, PartId};
 use std::alloc::{AllocError, Global};
 
 /// The blocks of the parts of a log.
-pub trait PartBlocks {
+pub(crate) trait PartBlocks {
     ghost bytes_of: { Self → PartId → Option (List ℕ) };
 
     /// The bytes of a part's block; none where it has no block.

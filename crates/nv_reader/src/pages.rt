@@ -67,7 +67,7 @@ fn find_writers(writers: &mut [Option<Writer>], block: u64, log: &[Entry])
 fn lower(cut: usize, end: u64) -> usize
     ensures { result ≡ min cut end }
 {
-    if end < cut as u64 { end as usize } else { cut }
+    cut.min(end as usize)
 }
 
 /// An entry holds the pages of its run below `cut` that no later entry holds.

@@ -125,12 +125,12 @@ impl Walk {
         ensures ok { OnOk result (self.new ≡ visits_below self.old names) }
         ensures same { KeepsOnErr result self.old self.new }
     {
-        let mut names = names.into_vec();
-        names.reverse();
         if self.way.path.len() + 1 == self.depth {
             self.pass();
             return Ok(());
         }
+        let mut names = names.into_vec();
+        names.reverse();
         let Some(first) = names.pop() else {
             self.pass();
             return Ok(());
