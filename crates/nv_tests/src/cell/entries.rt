@@ -1,6 +1,6 @@
 //! Entries of a log by what they say.
 
-use crate::scenes::{handle, name, push};
+use crate::scenes::{handle, handle_of, name, push};
 use nv_base::{BlockNo, Kind, Mode};
 use nv_entry::{Item, Run};
 use std::alloc::Global;
@@ -17,6 +17,8 @@ pub enum Says {
     Mode(u16),
     /// A name, and the inode that it leads to.
     Bind(&'static [u8], u64),
+    /// A name, and the inode and the generation that it leads to.
+    BindTo(&'static [u8], u64, u64),
     Unbind(&'static [u8]),
     Gone,
 }
@@ -42,6 +44,10 @@ impl Says {
             Says::Bind(bytes, ino) => Item::Bind {
                 name: name(rt, alloc, bytes),
                 to: handle(ino),
+            },
+            Says::BindTo(bytes, ino, generation) => Item::Bind {
+                name: name(rt, alloc, bytes),
+                to: handle_of(ino, generation),
             },
             Says::Unbind(bytes) => Item::Unbind {
                 name: name(rt, alloc, bytes),

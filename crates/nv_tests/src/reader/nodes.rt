@@ -73,7 +73,7 @@ const THE_OLD_BYTES: Case = (
     Shown::File(12, b"cccc\0\0\0\0dddd"),
 );
 
-/// Runs of three and four pages that overlap at their begins and ends, a cut in the middle of one, a hole, and a page behind
+/// Runs of three and four pages that overlap at their beginnings and ends, a cut in the middle of one, a hole, and a page behind
 /// a cut to nothing.
 const LONG_RUNS: Case = (
     &[
@@ -104,7 +104,7 @@ const LONG_RUNS: Case = (
     Shown::File(8, b"\0\0\0\0zzzz"),
 );
 
-/// Runs inside others and around them, so that what a later entry holds stands at the begin, in the middle and at the end.
+/// Runs inside others and around them, so that what a later entry holds stands at the beginning, in the middle and at the end.
 const RUNS_IN_RUNS: Case = (
     &[
         (1, File),
@@ -167,7 +167,7 @@ fn new_scene(rt: &impl Abort, alloc: Global) -> Scene {
     Scene::new(rt, alloc, 1, 4, 96)
 }
 
-fn node_at(rt: &impl Abort, alloc: Global, cell: &InodeCell, epoch: u64) -> Option<NodeCopy> {
+pub fn node_at(rt: &impl Abort, alloc: Global, cell: &InodeCell, epoch: u64) -> Option<NodeCopy> {
     match show_on(alloc, cell, Epoch::new(epoch)) {
         Ok(node) => node,
         Err(fault) => {
@@ -177,7 +177,7 @@ fn node_at(rt: &impl Abort, alloc: Global, cell: &InodeCell, epoch: u64) -> Opti
     }
 }
 
-fn settled_node(
+pub fn settled_node(
     rt: &impl Abort,
     alloc: Global,
     cell: &InodeCell,
