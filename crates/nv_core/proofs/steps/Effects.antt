@@ -156,7 +156,8 @@ module _ (bytes : ℕ → List ℕ) (w : World) (actor : ℕ) (granted : Bool) (
       (λ page number h. sym (read_page bytes w.numbers.block v.shared read_after ino page number h))
       (subst (λ (n : ℕ). IsSound bytes n (settled v.shared ino)) (sym size) (point_sound ino))
   sound_in ino false out =
-      subst (IsSoundIn (cell_at v.shared ino)) (sym (outside bytes w.numbers.block v.shared read_after ino (ltb-false ino (length v.shared.cells) out)))
+      subst (IsSoundIn (cell_at v.shared ino)) (sym
+      (outside bytes w.numbers.block v.shared read_after ino (ltb-false ino (length v.shared.cells) out)))
       (empty_sound (bytes_among (cell_at v.shared ino).blocks) (cell_at v.shared ino).block)
 
   pub point_is_sound : AreSound v.shared
@@ -172,7 +173,8 @@ new_slot : (g : GeometryNumbers) (n ino tail : ℕ)
     → IsSoundIn (slice_index_or (replicate n (empty_cell g.block g.page 1 0)) ino no_cell)
     (take tail (slice_index_or (replicate n (empty_cell g.block g.page 1 0)) ino no_cell).chain.entries)
 new_slot g zero ino tail = subst (IsSoundIn no_cell) (sym (take_none tail)) (empty_sound (bytes_among []) 0)
-new_slot g (suc n) zero tail = subst (IsSoundIn (empty_cell g.block g.page 1 0)) (sym (take_none tail)) (empty_sound (bytes_among []) g.block)
+new_slot g (suc n) zero tail = subst (IsSoundIn (empty_cell g.block g.page 1 0)) (sym (take_none tail))
+    (empty_sound (bytes_among []) g.block)
 new_slot g (suc n) (suc ino) tail = new_slot g n ino tail
 
 new_in : (g : GeometryNumbers) → 0 < g.block → (ino : ℕ) → IsSoundIn (cell_at (formatted g).shared ino) (settled (formatted g).shared ino)

@@ -56,9 +56,11 @@ enter_kept : (same : Bool) (block : ℕ) (holder : Option ℕ) (last granted : B
     → OnKept same block a s (enter_turn holder last granted a s h r)
 enter_kept same block (Some other) last granted a s h r e kept on = tt
 enter_kept same block None true granted a s h r e kept on =
-    ending same block a s s _ (still_left a s s kept (same_still s) kept.closed) (still_nodes s s (same_still s)) (end_shared r.slots _ s h r) on
+    ending same block a s s _ (still_left a s s kept (same_still s) kept.closed) (still_nodes s s (same_still s))
+    (end_shared r.slots _ s h r) on
 enter_kept same block None false false a s h r e kept on =
-    ending same block a s s _ (still_left a s s kept (same_still s) kept.closed) (still_nodes s s (same_still s)) (end_shared r.slots _ s h r) on
+    ending same block a s s _ (still_left a s s kept (same_still s) kept.closed) (still_nodes s s (same_still s))
+    (end_shared r.slots _ s h r) on
 enter_kept same block None false true a s h r e kept on =
     let still : Still s _ = record { cells = λ ino. refl; journals = refl; cpus = refl } in
     (still_left a s _ kept still (λ held. kept.closed e), (λ is. still_nodes s _ still), on)

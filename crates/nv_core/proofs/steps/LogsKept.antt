@@ -117,7 +117,8 @@ module _ (a : ℕ) (s : Shared) (kept : AreLogsKept s) (slot : ℕ) (cell : Cell
   cell_nodes same sounds = record {
     nodes = λ ino generation. rw (journals) (cell_set s slot cell ino
         (λ (c : CellState). node_at c (log_with c ino) generation ≡ node_at (cell_at s ino) (settled s ino) generation) inside
-        (λ e. subst (λ (n : ℕ). node_at cell (log_with cell n) generation ≡ node_at (cell_at s n) (settled s n) generation) e (same generation))
+        (λ e. subst (λ (n : ℕ). node_at cell (log_with cell n) generation ≡ node_at (cell_at s n) (settled s n) generation) e
+        (same generation))
         (λ e. refl));
     sound = λ sound ino. rw (journals) (cell_set s slot cell ino (λ (c : CellState). IsSoundIn c (log_with c ino)) inside
         (λ e. subst (λ (n : ℕ). IsSoundIn cell (log_with cell n)) e (sounds (sound slot))) (λ e. sound ino));
