@@ -27,6 +27,9 @@ use Rattle.nv_entry.specs.declared.item.Entry.{Entry}
 use Rattle.nv_entry.specs.declared.key.Datum.{Datum}
 use Rattle.nv_entry.specs.declared.key.Datum.TheVariants as datum
 use Rattle.nv_entry.specs.declared.node.NodeCopy.{NodeCopy}
+use Rattle.nv_entry.specs.Sound.{IsSound, Stands, Tied}
+use Rattle.nv_entry.specs.Stored.{Stored, stored}
+use Rattle.nv_core.specs.machine.Effects.{IsSoundIn}
 use Rattle.nv_core.specs.machine.Kept.{AreApart, HasPages}
 use Rattle.nv_core.specs.machine.Reads.{bytes_among}
 use Rattle.nv_core.specs.machine.Settled.{node_by}
@@ -55,6 +58,29 @@ pub node_read : (bytes other : ℕ → List ℕ) (block : ℕ) (log : List Entry
 node_read bytes other block log same = kind_read (value_now block log KindKey) bytes other block log
     (ap (λ (f : ℕ → List ℕ). take (size_now block log) (flat_map f (range_with_len 0 (pages_for block (size_now block log)))))
     (fun_ext (λ (page : ℕ). page_read bytes other block (block_now block log page) (same page))))
+
+-- so does its being sound
+tied_read : (bytes other : ℕ → List ℕ) (block : ℕ) (s : Stored) (node : Option NodeCopy)
+    → ((page number : ℕ) → s.blocks page ≡ Some number → other number ≡ bytes number) → Tied bytes block s node → Tied other block s node
+tied_read bytes other block s None same t = t
+tied_read bytes other block s (Some node) same t = record {
+  kind = t.kind;
+  mode = t.mode;
+  size = t.size;
+  length = t.length;
+  fits = t.fits;
+  pages = λ page. page_read bytes other block (s.blocks page) (same page) ∙ t.pages page;
+  within = t.within;
+  names = t.names;
+  suits = t.suits;
+}
+
+pub sound_read : (bytes other : ℕ → List ℕ) (block : ℕ) (log : List Entry)
+    → ((page number : ℕ) → block_now block log page ≡ Some number → other number ≡ bytes number)
+    → IsSound bytes block log → IsSound other block log
+sound_read bytes other block log same sound =
+    subst (Tied other block (stored block log)) (sym (node_read bytes other block log same))
+    (tied_read bytes other block (stored block log) (node_now bytes block log) same sound)
 
 -- ---- the part of a page
 
@@ -148,6 +174,14 @@ same_node old new t e same =
     (ap (λ (block : ℕ). node_now (bytes_among new.blocks) block log) e
     ∙ node_read (bytes_among old.blocks) (bytes_among new.blocks) old.block log same)
 
+pub same_sound : (old new : CellState) (t : ℕ) → new.block ≡ old.block
+    → ((page number : ℕ) → block_now old.block (take t old.chain.entries) page ≡ Some number
+    → bytes_among new.blocks number ≡ bytes_among old.blocks number)
+    → IsSoundIn old (take t old.chain.entries) → IsSoundIn new (take t old.chain.entries)
+same_sound old new t e same sound =
+    subst (λ (block : ℕ). IsSound (bytes_among new.blocks) block (take t old.chain.entries)) (sym e)
+    (sound_read (bytes_among old.blocks) (bytes_among new.blocks) old.block (take t old.chain.entries) same sound)
+
 -- ---- more of a log
 
 pub later_pages : (cell : CellState) (a b : ℕ) → a ≤ b → HasPages (take a cell.chain.entries) cell
@@ -193,4 +227,9 @@ module _ (log : List Entry) (cell : CellState) (h : HasPages log cell) (e : Entr
 pub appended_node : (cell : CellState) (t : ℕ) (e : Entry) (bs : List BlockValue) → HasPages (take t cell.chain.entries) cell
     → node_by (appended e bs cell) (take t cell.chain.entries) ≡ node_by cell (take t cell.chain.entries)
 appended_node cell t e bs h = same_node cell (appended e bs cell) t refl
+    (λ page number is. let p = page_there cell t page number h is in among_more cell.blocks (slots_of e.item bs) p.0 number p.2)
+
+pub appended_sound : (cell : CellState) (t : ℕ) (e : Entry) (bs : List BlockValue) → HasPages (take t cell.chain.entries) cell
+    → IsSoundIn cell (take t cell.chain.entries) → IsSoundIn (appended e bs cell) (take t cell.chain.entries)
+appended_sound cell t e bs h = same_sound cell (appended e bs cell) t refl
     (λ page number is. let p = page_there cell t page number h is in among_more cell.blocks (slots_of e.item bs) p.0 number p.2)

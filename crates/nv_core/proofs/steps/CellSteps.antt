@@ -29,11 +29,12 @@ use Rattle.nv_entry.specs.declared.item.Item.TheVariants.{Init, Write, SetSize, 
 use Rattle.nv_entry.specs.declared.key.Setting.{Setting}
 use Rattle.nv_entry.specs.declared.key.Setting.TheVariants.{Untouched, Absent, Present}
 use Rattle.nv_log.specs.Chain.{last_of}
+use Rattle.nv_core.specs.machine.Effects.{IsSoundIn}
 use Rattle.nv_core.specs.machine.Kept.{AreApart, AreCovered, HasPages}
 use Rattle.nv_core.specs.machine.Kinds.{if_part, killed_by_publish, with_entries, with_pages}
 use Rattle.nv_core.specs.machine.Reads.{bytes_among}
 use Rattle.nv_core.specs.machine.Settled.{node_by}
-use Rattle.nv_core.proofs.steps.CellPages.{among_at, appended_node, appended_pages, page_there, same_node}
+use Rattle.nv_core.proofs.steps.CellPages.{among_at, appended_node, appended_pages, appended_sound, page_there, same_node, same_sound}
 
 -- ---- append
 
@@ -92,6 +93,7 @@ pub record Grows (t : ℕ) (old new : CellState) : Type 0 where
   pub log : take t new.chain.entries ≡ take t old.chain.entries
   pub pages : HasPages (take t old.chain.entries) new
   pub node : node_by new (take t old.chain.entries) ≡ node_by old (take t old.chain.entries)
+  pub sound : IsSoundIn old (take t old.chain.entries) → IsSoundIn new (take t old.chain.entries)
   pub tail : new.chain.tail ≡ old.chain.tail
   pub generation : new.generation ≡ old.generation
 
@@ -102,6 +104,8 @@ grows_on t a b c g f =
       log = n.log ∙ g.log;
       pages = subst (λ (l : List Entry). HasPages l c) g.log n.pages;
       node = subst (λ (l : List Entry). node_by c l ≡ node_by b l) g.log n.node ∙ g.node;
+      sound = λ x.
+          subst (IsSoundIn c) g.log (n.sound (subst (IsSoundIn b) (sym g.log) (g.sound x)));
       tail = n.tail ∙ g.tail;
       generation = n.generation ∙ g.generation;
     }
@@ -112,6 +116,7 @@ one_grows t cell e bs le within nums h = record {
   log = take-append-le t cell.chain.entries (e ∷ []) le;
   pages = appended_pages (take t cell.chain.entries) cell h e bs within nums;
   node = appended_node cell t e bs h;
+  sound = appended_sound cell t e bs h;
   tail = refl;
   generation = refl;
 }
@@ -119,7 +124,7 @@ one_grows t cell e bs le within nums h = record {
 entries_grow : (t : ℕ) (entries : List Entry) (bs : List BlockValue) (cell : CellState) → t ≤ length cell.chain.entries
     → AllByRecursion IsWithinFile (items_in entries) → HaveFront (items_in entries) (numbers_of bs)
     → HasPages (take t cell.chain.entries) cell → Grows t cell (with_entries entries bs cell)
-entries_grow t [] bs cell le within front h = record { log = refl; pages = h; node = refl; tail = refl; generation = refl }
+entries_grow t [] bs cell le within front h = record { log = refl; pages = h; node = refl; sound = λ x. x; tail = refl; generation = refl }
 entries_grow t (e ∷ entries) bs cell le within front h =
     let first = appended e (blocks_for e.item bs) cell in
     grows_on t cell first (with_entries entries (drop (length (item_blocks e.item)) bs) first)
@@ -133,7 +138,7 @@ pub append_grows : (t : ℕ) (entries : List Entry) (bs pages : List BlockValue)
     → HasPages (take t cell.chain.entries) cell → Grows t cell (with_entries entries bs (with_pages pages cell))
 append_grows t entries bs pages cell le within front h =
     rw (paged pages cell)
-    (grows_on t cell _ _ (record { log = refl; pages = record { pages = h.pages; len = h.len; within = h.within }; node = refl; tail = refl; generation = refl })
+    (grows_on t cell _ _ (record { log = refl; pages = record { pages = h.pages; len = h.len; within = h.within }; node = refl; sound = λ x. x; tail = refl; generation = refl })
     (λ h. entries_grow t entries bs _ le within front h))
 
 -- ---- what a publish kills is covered
@@ -266,14 +271,23 @@ pub same_slot : (o : Option BlockValue) (number : ℕ) → option_map number_of 
 same_slot None number h = cc
 same_slot (Some b) number h = (b, refl, cc)
 
-pub retired_node : (old new : CellState) → Retires old new → AreApart old.blocks → HasPages (log_of old) old
-    → node_by new (log_of old) ≡ node_by old (log_of old)
-retired_node old new r apart h = same_node old new old.chain.tail r.block (λ page number is.
+-- the bytes of a page are there still
+retired_bytes : (old new : CellState) → Retires old new → AreApart old.blocks → HasPages (log_of old) old → (page number : ℕ)
+    → block_now old.block (log_of old) page ≡ Some number → bytes_among new.blocks number ≡ bytes_among old.blocks number
+retired_bytes old new r apart h page number is =
     let p = page_there old old.chain.tail page number h is in
     let b = same_slot (slice_index_or old.blocks p.0 None) number p.2 in
     let here = among_at old.blocks apart p.0 b.0 b.1 in
     let there = among_at new.blocks (λ n m x y e f. apart n m x y (r.less n x e) (r.less m y f)) p.0 b.0 (r.kept p.0 p.1 ∙ b.1) in
-    ap (bytes_among new.blocks) (sym b.2) ∙ there ∙ sym here ∙ ap (bytes_among old.blocks) b.2)
+    ap (bytes_among new.blocks) (sym b.2) ∙ there ∙ sym here ∙ ap (bytes_among old.blocks) b.2
+
+pub retired_node : (old new : CellState) → Retires old new → AreApart old.blocks → HasPages (log_of old) old
+    → node_by new (log_of old) ≡ node_by old (log_of old)
+retired_node old new r apart h = same_node old new old.chain.tail r.block (retired_bytes old new r apart h)
+
+pub retired_sound : (old new : CellState) → Retires old new → AreApart old.blocks → HasPages (log_of old) old
+    → IsSoundIn old (log_of old) → IsSoundIn new (log_of old)
+retired_sound old new r apart h = same_sound old new old.chain.tail r.block (retired_bytes old new r apart h)
 
 -- ---- erase
 

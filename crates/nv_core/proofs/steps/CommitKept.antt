@@ -21,26 +21,28 @@ use Rattle.nv_entry.specs.declared.item.Entry.{Entry}
 use Rattle.nv_entry.specs.declared.item.Item.{Item}
 use Rattle.nv_epoch.specs.SnapList.{ids}
 use Rattle.nv_journal.specs.declared.old_tail.OldTail.{OldTail}
+use Rattle.nv_entry.proofs.SoundLogs.{empty_sound}
+use Rattle.nv_core.specs.machine.Effects.{IsSoundIn}
 use Rattle.nv_core.specs.machine.Kept.{AreApart, AreClosed, AreCovered, AreKilledIn, AreLogsKept, HasNoted, HasPages, IsNotedIf, IsPlanFor, Knows}
 use Rattle.nv_core.specs.machine.Kinds.{append_turn, close_turn, entries_for, first_killed, killed_by_publish, old_tails, open_turn, publish_turn, retire_turn, retired_book, retired_cell, with_entries, with_erased, with_freed, with_pages}
 use Rattle.nv_core.specs.machine.Locks.{AreSlots, is_owner}
 use Rattle.nv_core.specs.machine.PlainRun.{Deed, deed, keeps_nodes}
-use Rattle.nv_core.specs.machine.Reads.{is_written, slot_at, written_slots}
+use Rattle.nv_core.specs.machine.Reads.{bytes_among, is_written, slot_at, written_slots}
 use Rattle.nv_core.specs.machine.Sequence.{appending, closing, opening, publishing, retiring}
 use Rattle.nv_core.specs.machine.Settled.{node_by, settled, settled_tail}
 use Rattle.nv_core.specs.machine.World.{Answers, Append, Close, Ends, HandState, Leave, Moves, Next, Open, Overtaken, Publish, Retire, Running, Shared, Turn, Waits, cell_at, go_to, no_cell, with_book, with_cell}
 use Rattle.nv_core.proofs.steps.CellPages.{later_pages}
-use Rattle.nv_core.proofs.steps.CellSteps.{Grows, HaveFront, Retires, append_grows, empty_pages, erased_none, items_in, killed_covered, retired_is, retired_node, retired_pages}
+use Rattle.nv_core.proofs.steps.CellSteps.{Grows, HaveFront, Retires, append_grows, empty_pages, erased_none, items_in, killed_covered, retired_is, retired_node, retired_pages, retired_sound}
 use Rattle.nv_core.proofs.steps.Journals.{closed_again, closed_tail, open_free, open_same, open_stays}
 use Rattle.nv_core.proofs.steps.Lists.{drop_all, drop_apart, has_at, has_filter, rising_filter, take_all, take_apart, take_more}
 use Rattle.nv_core.proofs.steps.Written.{front_of, many_planned, within_of, written_inside, written_there}
-use Rattle.nv_core.proofs.steps.LogsKept.{KeptLeft, SameNodes, cell_left, cell_nodes, cell_set, node_at}
+use Rattle.nv_core.proofs.steps.LogsKept.{KeptLeft, SameLogs, cell_left, cell_nodes, cell_set, node_at}
 
 -- what a turn owes: settled logs are kept, nodes stay but at a commit point, and the call knows what it is to know
 abbrev pub OnKept : Bool → ℕ → ℕ → Shared → Turn → Type 0
-OnKept same block a s (Moves t h q) = KeptLeft a s t × (same ≡ true → SameNodes s t) × Knows q.next block t (a % length s.lists) h q
+OnKept same block a s (Moves t h q) = KeptLeft a s t × (same ≡ true → SameLogs s t) × Knows q.next block t (a % length s.lists) h q
 OnKept same block a s Waits = Unit {0}
-OnKept same block a s (Ends result t h) = KeptLeft a s t × (same ≡ true → SameNodes s t)
+OnKept same block a s (Ends result t h) = KeptLeft a s t × (same ≡ true → SameLogs s t)
 
 -- ---- what publishes have killed
 
@@ -160,7 +162,8 @@ module _ (block a : ℕ) (s : Shared) (h : HandState) (r : Running) (kept : AreL
     append_kept pages k = (
       cell_left a s kept slot new s.book low refl own held (subst (λ (l : List Entry). HasPages l new) (sym log) g.pages),
       (λ e. cell_nodes a s kept slot new s.book low refl
-          (λ generation. rw (log, g.generation) (ap (λ (n : _). cond (generation == cell.generation) n None) g.node))),
+          (λ generation. rw (log, g.generation) (ap (λ (n : _). cond (generation == cell.generation) n None) g.node))
+          (λ x. subst (IsSoundIn new) (sym log) (g.sound x))),
       knows_appending block _ cpu _ r k.1 (place + 1) k.0 k.2
           (λ lt numbers at. let p = k.3 (numbers_of h.blocks) (λ e. refl) in
           record {
@@ -218,7 +221,8 @@ module _ (block a : ℕ) (s : Shared) (h : HandState) (r : Running) (kept : AreL
     publish_kept is true several k = (
       cell_left a s kept slot (published cell) s.book low refl own held
           (subst (λ (l : List Entry). HasPages l (published cell)) (sym log) pages),
-      (λ e. cell_nodes a s kept slot (published cell) s.book low refl (λ generation. rw log refl)),
+      (λ e. cell_nodes a s kept slot (published cell) s.book low refl (λ generation. rw log refl)
+          (λ x. subst (IsSoundIn (published cell)) (sym log) x)),
       knows_publishing block after cpu _ r k.1 (place + 1) (publish_killed refl is k.0)
           (subst (λ (b : Bool). IsNotedIf b after cpu written_) (sym several) (record {
             alone = noted.alone;
@@ -290,7 +294,7 @@ module _ (block a : ℕ) (s : Shared) (h : HandState) (r : Running) (kept : AreL
     retire_kept apart k = (
       cell_left a s kept slot (erased retired_) (retired_book slot parts s r) low refl own held (pages (is_erased retired_)),
       (λ e. cell_nodes a s kept slot (erased retired_) (retired_book slot parts s r) low refl
-          (λ generation. nodes generation (is_erased retired_) refl)),
+          (λ generation. nodes generation (is_erased retired_) refl) (sounds (is_erased retired_))),
       knows_retiring block retired_after cpu _ r k.1 (place + 1)
           (subst (AreKilledIn retired_after (drop (place + 1) written_)) (sym (hand_killed (is_erased retired_) _ _ _))
           (same_killed s retired_after (drop (place + 1) written_) (drop 1 h.killed)
@@ -319,6 +323,11 @@ module _ (block a : ℕ) (s : Shared) (h : HandState) (r : Running) (kept : AreL
       pages : (b : Bool) → HasPages (take (settled_tail s.book.journals slot (by b).chain.tail) (by b).chain.entries) (by b)
       pages true = empty_pages _ _ _ _ _
       pages false = subst (λ (l : List Entry). HasPages l retired_) (sym same_log) (retired_pages cell retired_ is had)
+
+      sounds : (b : Bool) → IsSoundIn cell (settled s slot)
+          → IsSoundIn (by b) (take (settled_tail s.book.journals slot (by b).chain.tail) (by b).chain.entries)
+      sounds true x = subst (IsSoundIn (by true)) (sym (take_none _)) (empty_sound (bytes_among (by true).blocks) (by true).block)
+      sounds false x = subst (IsSoundIn retired_) (sym same_log) (retired_sound cell retired_ is apart had (subst (IsSoundIn cell) log x))
 
       node : node_by retired_ (log_of cell) ≡ node_by cell (log_of cell)
       node = retired_node cell retired_ is apart had
@@ -357,7 +366,10 @@ module _ (block a : ℕ) (s : Shared) (h : HandState) (r : Running) (kept : AreL
       others = λ b ne e. absurd (alone b ne e);
       cpus = refl;
     },
-    (λ e ino generation. ap (λ (l : List Entry). node_at (cell_at s ino) l generation) (same ino)),
+    (λ e. record {
+      nodes = λ ino generation. ap (λ (l : List Entry). node_at (cell_at s ino) l generation) (same ino);
+      sound = λ sound ino. subst (IsSoundIn (cell_at s ino)) (sym (same ino)) (sound ino);
+    }),
     knows_publishing block t cpu h r k.1 0 (none_killed t h.killed k.0)
         (subst (λ (b : Bool). IsNotedIf b t cpu written_) (sym k.3) (record {
           alone = closed_again s.book.journals cpu (old_tails s written_) k.2;

@@ -1,5 +1,5 @@
 -- A commit point has the effect that its plan fits.
-use Rattle.std.proofs.Common.{◌≡◌, ℕ, zero, suc, ◌<◌, ◌≤◌, ◌==◌, ◌++◌, ◌∙◌, Bool, true, false, cond, List, [], ◌∷◌, Option, Some, None, ap, ap₂, append-nil, arith, if◌then◌else◌, length, nat_lt, refl, slice_index_or, subst, sym, take}
+use Rattle.std.proofs.Common.{◌≡◌, ℕ, zero, suc, ◌-◌, ◌<◌, ◌≤◌, ◌==◌, ◌++◌, ◌∙◌, Bool, true, false, cond, List, [], ◌∷◌, Option, Some, None, ap, ap₂, append-nil, arith, if◌then◌else◌, length, nat_lt, refl, replicate, slice_index_or, subst, sym, take}
 use Rattle.std.specs.Option.{option_map}
 use Rattle.std.proofs.Math.Path.{fun_ext}
 use Rattle.std.proofs.lemmas.Bool.{false≢true, ltb-false, ltb-true}
@@ -11,13 +11,18 @@ use Rattle.nv_calls.proofs.Commits.{commits}
 use Rattle.nv_calls.specs.AllCalls.{effect}
 use Rattle.nv_calls.specs.Plain.{Change, PlainNode, node_in, nodes_after, stamped}
 use Rattle.nv_calls.specs.Slots.{Commits as DoesAll, IsPlan, Slot, entries_of, items_for, last_commit, node_under, place_in, published as published_slots}
-use Rattle.nv_cell.specs.Cell.{CellState}
+use Rattle.nv_cell.specs.Cell.{CellState, empty_cell}
 use Rattle.nv_entry.specs.Node.{block_now, node_now}
-use Rattle.nv_entry.specs.Sound.{IsSound}
+use Rattle.nv_entry.specs.Sound.{IsSound, empty_node}
+use Rattle.nv_base.specs.Limits.{IsWithinLimits}
+use Rattle.nv_base.specs.declared.geometry.GeometryNumbers.{GeometryNumbers}
+use Rattle.nv_base.specs.declared.node.Kind.TheVariants.{Dir}
+use Rattle.nv_core.specs.machine.Format.{formatted, root_cell, root_entry}
 use Rattle.nv_entry.specs.declared.item.Entry.{Entry}
 use Rattle.nv_entry.specs.declared.item.Item.{Item}
 use Rattle.nv_entry.specs.declared.node.NodeCopy.{NodeCopy}
-use Rattle.nv_core.specs.machine.Effects.{HasPlanNow, settled_slots}
+use Rattle.nv_entry.proofs.SoundLogs.{empty_sound, lawful_gives}
+use Rattle.nv_core.specs.machine.Effects.{AreSound, HasPlanNow, IsSoundIn, settled_slots}
 use Rattle.nv_core.specs.machine.Grown.{AreGrown, fresh_entries}
 use Rattle.nv_core.specs.machine.Kept.{AreApart, AreBlocksApart, HasPages, IsKept}
 use Rattle.nv_core.specs.machine.Kinds.{entries_for}
@@ -28,11 +33,12 @@ use Rattle.nv_core.specs.machine.Reads.{bytes_among, written_slots}
 use Rattle.nv_core.specs.machine.Settled.{settled, settled_nodes, settled_tail}
 use Rattle.nv_core.specs.machine.Step.{step}
 use Rattle.nv_core.specs.machine.World.{Go, Running, Shared, World, actor_at, cell_at, no_cell}
-use Rattle.nv_core.proofs.steps.CellPages.{among_at, node_read, page_there}
+use Rattle.nv_core.proofs.steps.CellPages.{among_at, node_read, page_there, sound_read}
 use Rattle.nv_core.proofs.steps.CellSteps.{same_slot}
 use Rattle.nv_core.proofs.steps.Events.{goes}
 use Rattle.nv_core.proofs.steps.GrownRuns.{SameBlocks, point_shared}
-use Rattle.nv_core.proofs.steps.KeptRuns.{event_kept}
+use Rattle.nv_core.proofs.steps.Journals.{closed_tail}
+use Rattle.nv_core.proofs.steps.KeptRuns.{event_kept, none_closed}
 use Rattle.nv_core.proofs.steps.Settling.{SettlesAll}
 
 take_none : (n : ℕ) → take {A = Entry} n [] ≡ []
@@ -142,3 +148,39 @@ module _ (bytes : ℕ → List ℕ) (w : World) (actor : ℕ) (granted : Bool) (
 
   pub point_sound : (ino : ℕ) → IsSound bytes w.numbers.block (settled v.shared ino)
   point_sound = sound_is bytes w.numbers.block w.shared v.shared r plan both.0 both.1
+
+  sound_in : (ino : ℕ) (b : Bool) → nat_lt ino (length v.shared.cells) ≡ b → IsSoundIn (cell_at v.shared ino) (settled v.shared ino)
+  sound_in ino true lt =
+      let size = read_after.sizes ino (ltb-true ino (length v.shared.cells) lt) in
+      sound_read bytes (bytes_among (cell_at v.shared ino).blocks) (cell_at v.shared ino).block (settled v.shared ino)
+      (λ page number h. sym (read_page bytes w.numbers.block v.shared read_after ino page number h))
+      (subst (λ (n : ℕ). IsSound bytes n (settled v.shared ino)) (sym size) (point_sound ino))
+  sound_in ino false out =
+      subst (IsSoundIn (cell_at v.shared ino)) (sym
+      (outside bytes w.numbers.block v.shared read_after ino (ltb-false ino (length v.shared.cells) out)))
+      (empty_sound (bytes_among (cell_at v.shared ino).blocks) (cell_at v.shared ino).block)
+
+  pub point_is_sound : AreSound v.shared
+  point_is_sound ino = sound_in ino (nat_lt ino (length v.shared.cells)) refl
+
+-- ---- a new world
+
+new_root : (g : GeometryNumbers) → 0 < g.block → IsSound (bytes_among (root_cell g).blocks) g.block (root_entry ∷ [])
+new_root g some = (lawful_gives (bytes_among (root_cell g).blocks) g.block [] root_entry (Some (empty_node Dir 493)) some
+    (empty_sound (bytes_among (root_cell g).blocks) g.block) refl).sound
+
+new_slot : (g : GeometryNumbers) (n ino tail : ℕ)
+    → IsSoundIn (slice_index_or (replicate n (empty_cell g.block g.page 1 0)) ino no_cell)
+    (take tail (slice_index_or (replicate n (empty_cell g.block g.page 1 0)) ino no_cell).chain.entries)
+new_slot g zero ino tail = subst (IsSoundIn no_cell) (sym (take_none tail)) (empty_sound (bytes_among []) 0)
+new_slot g (suc n) zero tail = subst (IsSoundIn (empty_cell g.block g.page 1 0)) (sym (take_none tail))
+    (empty_sound (bytes_among []) g.block)
+new_slot g (suc n) (suc ino) tail = new_slot g n ino tail
+
+new_in : (g : GeometryNumbers) → 0 < g.block → (ino : ℕ) → IsSoundIn (cell_at (formatted g).shared ino) (settled (formatted g).shared ino)
+new_in g some zero = subst (IsSoundIn (root_cell g)) (sym (ap (λ (n : ℕ). take n (root_cell g).chain.entries)
+    (closed_tail (formatted g).shared.book.journals 0 1 (none_closed g.cpus)))) (new_root g some)
+new_in g some (suc ino) = new_slot g (g.inodes - 1) ino _
+
+pub new_sound : (g : GeometryNumbers) → IsWithinLimits g → AreSound (formatted g).shared
+new_sound g within ino = new_in g (omega (arith, within.some_bytes)) ino

@@ -17,6 +17,7 @@ use Rattle.nv_entry.specs.declared.item.Entry.{Entry}
 use Rattle.nv_cell.specs.declared.killed.KilledPart.{KilledPart}
 use Rattle.nv_core.specs.machine.Format.{formatted, full_list, root_cell, without_lowest}
 use Rattle.nv_core.specs.machine.Frame.{LeavesOthers}
+use Rattle.nv_core.specs.machine.Effects.{AreSound}
 use Rattle.nv_core.specs.machine.Kept.{AreBlocksApart, AreClosed, AreCovered, AreKilledIn, AreLogsKept, HasNoted, HasNothing, HasPages, IsKept, IsNotedIf, Knows, KnowsOf}
 use Rattle.nv_core.specs.machine.Locks.{AreLocks, HoldsIts, commits_at, is_owner}
 use Rattle.nv_core.specs.machine.Order.{IsInOrder}
@@ -33,7 +34,7 @@ use Rattle.nv_core.proofs.steps.InOrder.{events_order, event_order}
 use Rattle.nv_core.proofs.steps.KeptTurns.{Standing, kept_turn, same_still}
 use Rattle.nv_core.proofs.steps.Knowing.{locking_knows}
 use Rattle.nv_core.proofs.steps.Locks.{all_same, before, event_locks, many_same}
-use Rattle.nv_core.proofs.steps.LogsKept.{KeptLeft, SameNodes, same_nodes, still_left}
+use Rattle.nv_core.proofs.steps.LogsKept.{KeptLeft, SameLogs, same_nodes, still_left}
 
 -- ---- what another actor knows stays
 
@@ -127,10 +128,13 @@ turned_kept same (Ends result s h) actor w there locks kept on = record {
   some = kept.some;
 }
 
+same_logs : (s : Shared) → SameLogs s s
+same_logs s = record { nodes = λ ino generation. refl; sound = λ sound. sound }
+
 turned_nodes : (t : Turn) (block actor : ℕ) (w : World) → OnKept true block actor w.shared t
-    → SameNodes w.shared (turned t actor w).world.shared
+    → SameLogs w.shared (turned t actor w).world.shared
 turned_nodes (Moves s h r) block actor w on = on.1 refl
-turned_nodes Waits block actor w on = λ ino generation. refl
+turned_nodes Waits block actor w on = same_logs _
 turned_nodes (Ends result s h) block actor w on = on.1 refl
 
 -- ---- one event
@@ -162,9 +166,9 @@ go_kept true (Some r) w actor granted e is locks order kept apart =
 
 go_nodes : (b : Bool) (running : Option Running) (w : World) (actor : ℕ) (granted : Bool) → (actor_at w actor).running ≡ running
     → AreLocks w → IsInOrder w → IsKept w → AreBlocksApart w → keeps_nodes (if b then deed_by running w actor granted else Nothing) ≡ true
-    → SameNodes w.shared (go_step b running actor granted w).world.shared
-go_nodes false running w actor granted is locks order kept apart same = λ ino generation. refl
-go_nodes true None w actor granted is locks order kept apart same = λ ino generation. refl
+    → SameLogs w.shared (go_step b running actor granted w).world.shared
+go_nodes false running w actor granted is locks order kept apart same = same_logs _
+go_nodes true None w actor granted is locks order kept apart same = same_logs _
 go_nodes true (Some r) w actor granted is locks order kept apart same =
     let t = turn w.numbers.block actor granted w.shared (actor_at w actor).hand r in
     turned_nodes t w.numbers.block actor w
@@ -203,13 +207,13 @@ event_kept w (Go actor granted) locks order kept apart =
     go_kept (nat_lt actor (length w.actors)) (actor_at w actor).running w actor granted refl refl locks order kept apart
 
 start_shared : (b : Bool) (running : Option Running) (w : World) (actor : ℕ) (c : Call)
-    → SameNodes w.shared (start_step b running actor c w).world.shared
-start_shared false running w actor c = λ ino generation. refl
-start_shared true (Some r) w actor c = λ ino generation. refl
-start_shared true None w actor c = λ ino generation. refl
+    → SameLogs w.shared (start_step b running actor c w).world.shared
+start_shared false running w actor c = same_logs _
+start_shared true (Some r) w actor c = same_logs _
+start_shared true None w actor c = same_logs _
 
 event_nodes : (w : World) (e : Event) → AreLocks w → IsInOrder w → IsKept w → AreBlocksApart w → keeps_nodes (deed_of w e) ≡ true
-    → SameNodes w.shared (step w e).world.shared
+    → SameLogs w.shared (step w e).world.shared
 event_nodes w (Start actor c) locks order kept apart same = start_shared (nat_lt actor (length w.actors))
     (actor_at w actor).running w actor c
 event_nodes w (Go actor granted) locks order kept apart same =
@@ -217,7 +221,12 @@ event_nodes w (Go actor granted) locks order kept apart same =
 
 pub nodes_stay : (w : World) (e : Event) → AreLocks w → IsInOrder w → IsKept w → AreBlocksApart w → keeps_nodes (deed_of w e) ≡ true
     → (handle : Handle) → settled_nodes (step w e).world.shared handle ≡ settled_nodes w.shared handle
-nodes_stay w e locks order kept apart same = same_nodes w.shared (step w e).world.shared (event_nodes w e locks order kept apart same)
+nodes_stay w e locks order kept apart same = same_nodes w.shared (step w e).world.shared
+    (event_nodes w e locks order kept apart same).nodes
+
+pub sound_stays : (w : World) (e : Event) → AreLocks w → IsInOrder w → IsKept w → AreBlocksApart w → keeps_nodes (deed_of w e) ≡ true
+    → AreSound w.shared → AreSound (step w e).world.shared
+sound_stays w e locks order kept apart same = (event_nodes w e locks order kept apart same).sound
 
 -- ---- all events
 

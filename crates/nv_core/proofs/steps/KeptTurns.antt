@@ -19,7 +19,7 @@ use Rattle.nv_core.proofs.steps.CommitKept.{OnKept, append_kept, close_kept, ope
 use Rattle.nv_core.proofs.steps.Framed.{framed}
 use Rattle.nv_core.proofs.steps.Knowing.{OnKnows, back_knows, check_knows, end_knows, enter_knows, give_knows, lock_knows, look_knows, not_overtaken, number_knows, passed_check, ready_knows, take_knows, taken_knows, unlock_knows, visit_knows, wanted_in_file}
 use Rattle.nv_core.proofs.steps.Locked.{Before, lent_holder}
-use Rattle.nv_core.proofs.steps.LogsKept.{KeptLeft, SameNodes, Still, still_left, still_nodes}
+use Rattle.nv_core.proofs.steps.LogsKept.{KeptLeft, SameLogs, Still, still_left, still_nodes}
 use Rattle.nv_core.proofs.steps.Entered.{OnShared, end_shared}
 
 -- what is lent beside cells, the book and the commit lock
@@ -41,12 +41,12 @@ quiet same block a s list pool lock (Ends result t h) kept f on =
     (still_left a s t kept still (λ e. kept.closed (sym f.holder ∙ e)), (λ e. still_nodes s t still))
 
 -- a turn whose world is this one
-ending : (same : Bool) (block a : ℕ) (s t : Shared) (turn : Turn) → KeptLeft a s t → SameNodes s t → OnShared t turn
+ending : (same : Bool) (block a : ℕ) (s t : Shared) (turn : Turn) → KeptLeft a s t → SameLogs s t → OnShared t turn
     → OnKnows block (a % length s.lists) turn → OnKept same block a s turn
 ending same block a s t (Moves u h q) left nodes e on =
-    (subst (KeptLeft a s) (sym e) left, (λ is. subst (SameNodes s) (sym e) nodes), on)
+    (subst (KeptLeft a s) (sym e) left, (λ is. subst (SameLogs s) (sym e) nodes), on)
 ending same block a s t Waits left nodes e on = tt
-ending same block a s t (Ends result u h) left nodes e on = (subst (KeptLeft a s) (sym e) left, (λ is. subst (SameNodes s) (sym e) nodes))
+ending same block a s t (Ends result u h) left nodes e on = (subst (KeptLeft a s) (sym e) left, (λ is. subst (SameLogs s) (sym e) nodes))
 
 pub same_still : (s : Shared) → Still s s
 same_still s = record { cells = λ ino. refl; journals = refl; cpus = refl }
@@ -56,9 +56,11 @@ enter_kept : (same : Bool) (block : ℕ) (holder : Option ℕ) (last granted : B
     → OnKept same block a s (enter_turn holder last granted a s h r)
 enter_kept same block (Some other) last granted a s h r e kept on = tt
 enter_kept same block None true granted a s h r e kept on =
-    ending same block a s s _ (still_left a s s kept (same_still s) kept.closed) (λ ino generation. refl) (end_shared r.slots _ s h r) on
+    ending same block a s s _ (still_left a s s kept (same_still s) kept.closed) (still_nodes s s (same_still s))
+    (end_shared r.slots _ s h r) on
 enter_kept same block None false false a s h r e kept on =
-    ending same block a s s _ (still_left a s s kept (same_still s) kept.closed) (λ ino generation. refl) (end_shared r.slots _ s h r) on
+    ending same block a s s _ (still_left a s s kept (same_still s) kept.closed) (still_nodes s s (same_still s))
+    (end_shared r.slots _ s h r) on
 enter_kept same block None false true a s h r e kept on =
     let still : Still s _ = record { cells = λ ino. refl; journals = refl; cpus = refl } in
     (still_left a s _ kept still (λ held. kept.closed e), (λ is. still_nodes s _ still), on)
@@ -136,7 +138,7 @@ kept_turn (Retire place) block a granted s h r st =
 kept_turn Leave block a granted s h r st =
     ending true block a s (record s { holder = None }) _
     (still_left a s (record s { holder = None }) st.kept (record { cells = λ ino. refl; journals = refl; cpus = refl }) (λ e. st.knows.1))
-    (λ ino generation. refl) (end_shared r.slots _ _ h r)
+    (still_nodes s (record s { holder = None }) (record { cells = λ ino. refl; journals = refl; cpus = refl })) (end_shared r.slots _ _ h r)
     (end_knows block _ r.slots r.ending _ h r (λ e. absurd (not_overtaken r.ending st.knows.0 e)))
 kept_turn (Unlock place) block a granted s h r st =
     quiet true block a s None false (Some (slot_at r.slots place)) _ st.kept (framed (Unlock place) block a granted s h r)

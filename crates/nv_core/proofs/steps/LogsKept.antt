@@ -9,6 +9,7 @@ use Rattle.nv_calls.specs.Retiring.{erased, is_erased}
 use Rattle.nv_cell.specs.Cell.{CellState, empty_cell, log_of, published}
 use Rattle.nv_entry.specs.declared.item.Entry.{Entry}
 use Rattle.nv_journal.specs.declared.old_tail.OldTail.{OldTail}
+use Rattle.nv_core.specs.machine.Effects.{AreSound, IsSoundIn}
 use Rattle.nv_core.specs.machine.Kept.{AreApart, AreClosed, AreLogsKept, HasNoted, HasPages}
 use Rattle.nv_core.specs.machine.Kinds.{old_tails}
 use Rattle.nv_core.specs.machine.Locks.{is_owner}
@@ -31,6 +32,11 @@ SameNodes s t = (ino generation : ℕ)
 pub same_nodes : (s t : Shared) → SameNodes s t → (handle : Handle) → settled_nodes t handle ≡ settled_nodes s handle
 same_nodes s t h handle = h handle.ino handle.generation
 
+-- and what is sound stays so
+pub record SameLogs (s t : Shared) : Type 0 where
+  pub nodes : SameNodes s t
+  pub sound : AreSound s → AreSound t
+
 -- ---- what a turn leaves
 
 -- settled logs are kept, and whoever else commits finds journals and cells as they were
@@ -46,8 +52,11 @@ pub record Still (s t : Shared) : Type 0 where
   pub journals : t.book.journals ≡ s.book.journals
   pub cpus : length t.lists ≡ length s.lists
 
-pub still_nodes : (s t : Shared) → Still s t → SameNodes s t
-still_nodes s t h ino generation = rw (h.cells ino, h.journals) refl
+pub still_nodes : (s t : Shared) → Still s t → SameLogs s t
+still_nodes s t h = record {
+  nodes = λ ino generation. rw (h.cells ino, h.journals) refl;
+  sound = λ sound ino. rw (h.cells ino, h.journals) (sound ino);
+}
 
 pub still_left : (a : ℕ) (s t : Shared) → AreLogsKept s → Still s t → (t.holder ≡ None → AreClosed s.book.journals) → KeptLeft a s t
 still_left a s t k h closed = record {
@@ -103,9 +112,14 @@ module _ (a : ℕ) (s : Shared) (kept : AreLogsKept s) (slot : ℕ) (cell : Cell
     same_owner b (Some o) e f = sym (eqb-true o b e) ∙ eqb-true o a f
 
   pub cell_nodes : ((generation : ℕ) → node_at cell (log_with cell slot) generation
-      ≡ node_at (cell_at s slot) (settled s slot) generation) → SameNodes s t
-  cell_nodes same ino generation = rw (journals) (cell_set s slot cell ino
-      (λ (c : CellState). node_at c (log_with c ino) generation ≡ node_at (cell_at s ino) (settled s ino) generation) inside
-      (λ e. subst (λ (n : ℕ). node_at cell (log_with cell n) generation ≡ node_at (cell_at s n) (settled s n) generation) e
-      (same generation))
-      (λ e. refl))
+      ≡ node_at (cell_at s slot) (settled s slot) generation)
+      → (IsSoundIn (cell_at s slot) (settled s slot) → IsSoundIn cell (log_with cell slot)) → SameLogs s t
+  cell_nodes same sounds = record {
+    nodes = λ ino generation. rw (journals) (cell_set s slot cell ino
+        (λ (c : CellState). node_at c (log_with c ino) generation ≡ node_at (cell_at s ino) (settled s ino) generation) inside
+        (λ e. subst (λ (n : ℕ). node_at cell (log_with cell n) generation ≡ node_at (cell_at s n) (settled s n) generation) e
+        (same generation))
+        (λ e. refl));
+    sound = λ sound ino. rw (journals) (cell_set s slot cell ino (λ (c : CellState). IsSoundIn c (log_with c ino)) inside
+        (λ e. subst (λ (n : ℕ). IsSoundIn cell (log_with cell n)) e (sounds (sound slot))) (λ e. sound ino));
+  }

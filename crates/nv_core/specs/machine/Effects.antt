@@ -5,10 +5,20 @@ use Rattle.nv_alloc.specs.Numbers.{has}
 use Rattle.nv_calls.specs.AllCalls.{effect}
 use Rattle.nv_calls.specs.Plain.{node_in}
 use Rattle.nv_calls.specs.Slots.{IsPlan, Slot, items_for}
+use Rattle.nv_cell.specs.Cell.{CellState}
 use Rattle.nv_entry.specs.Sound.{IsSound}
-use Rattle.nv_core.specs.machine.Reads.{written_slots}
+use Rattle.nv_entry.specs.declared.item.Entry.{Entry}
+use Rattle.nv_core.specs.machine.Reads.{bytes_among, written_slots}
 use Rattle.nv_core.specs.machine.Settled.{settled, settled_nodes}
 use Rattle.nv_core.specs.machine.World.{Running, Shared, cell_at}
+
+-- a log is sound by the blocks of its cell
+abbrev pub IsSoundIn : CellState → List Entry → Type 0
+IsSoundIn cell log = IsSound (bytes_among cell.blocks) cell.block log
+
+-- each settled log is
+abbrev pub AreSound : Shared → Type 0
+AreSound s = (ino : ℕ) → IsSoundIn (cell_at s ino) (settled s ino)
 
 -- slots by their settled logs
 abbrev pub settled_slots : Shared → ℕ → Slot

@@ -13,7 +13,7 @@ ghost use Rattle.nv_calls.specs.declared.call.Call.{Call};
 ghost use Rattle.nv_core.specs.machine.Bound.{AreNoStarts, bound_at, most_steps, moves};
 ghost use Rattle.nv_entry.specs.Sound.{IsSound};
 ghost use Rattle.nv_core.specs.machine.Answered.{GoesToAnswer, IsToBeAnswered};
-ghost use Rattle.nv_core.specs.machine.Effects.{HasPlanNow};
+ghost use Rattle.nv_core.specs.machine.Effects.{AreSound, HasPlanNow};
 ghost use Rattle.nv_core.specs.machine.Format.{formatted};
 ghost use Rattle.nv_core.specs.machine.Frame.{IsOneStep, IsStart};
 ghost use Rattle.nv_core.specs.machine.Grown.{AreGrown, fresh_entries};
@@ -189,4 +189,19 @@ pub fn a_commit_point_has_its_effect()
         → deed_of w (Go actor granted) ≡ Commits → HasPlanNow bytes w.numbers.block w.shared r
         → (ino : ℕ)
         → IsSound bytes w.numbers.block (settled (step w (Go actor granted)).world.shared ino) }
+{}
+
+/// Settled logs are sound in a new world, and stay sound at every event but a commit point, and at each commit
+/// point where the plan of its call fits the effect that the call has then: each log's pages store the bytes
+/// of its node.
+pub fn settled_logs_stay_sound()
+    ensures new { (g : GeometryNumbers) → IsWithinLimits g → AreSound (formatted g).shared }
+    ensures stays { (w : World) (e : Event) → AreLocks w → IsInOrder w → IsKept w
+        → AreBlocksApart w → keeps_nodes (deed_of w e) ≡ true
+        → AreSound w.shared → AreSound (step w e).world.shared }
+    ensures commits { (bytes : ℕ → List ℕ) (w : World) (actor : ℕ) (granted : Bool) (r : Running)
+        → AreLocks w → IsInOrder w → IsKept w → AreGrown w → AreBlocksApart w
+        → actor < length w.actors → (actor_at w actor).running ≡ Some r
+        → deed_of w (Go actor granted) ≡ Commits → HasPlanNow bytes w.numbers.block w.shared r
+        → AreSound (step w (Go actor granted)).world.shared }
 {}
