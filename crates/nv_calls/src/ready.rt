@@ -1,7 +1,6 @@
 //! A call that is ready to be committed.
 
 ghost use Rattle.std.specs.Prelude.{◌≡◌, ◌-◌, ◌<◌, ◌^◌, length, min, []};
-ghost use Rattle.nv_calls.specs.Cells.{AreCells};
 ghost use Rattle.nv_calls.specs.Commit.{begun};
 ghost use Rattle.nv_calls.specs.Ready.{ArePlaced, need_of, plan_at};
 

@@ -1,3 +1,4 @@
+pub mod Reached
 pub mod Rows
 pub mod Lists
 pub mod Holding

@@ -9,6 +9,7 @@ pub mod Bound
 pub mod Frame
 pub mod Locks
 pub mod Order
+pub mod Reached
 pub mod Numbers
 pub mod Hands
 pub mod Kept

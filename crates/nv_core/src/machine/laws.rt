@@ -22,6 +22,7 @@ ghost use Rattle.nv_core.specs.machine.Locks.{AreLocks, HasLent, WaitsFor};
 ghost use Rattle.nv_core.specs.machine.Hands.{AreLists, ArePagesTold};
 ghost use Rattle.nv_core.specs.machine.Numbers.{IdleHaveNothing, IsEachOnce, all_blocks, free_from_scratch, free_of};
 ghost use Rattle.nv_core.specs.machine.Order.{IsInOrder};
+ghost use Rattle.nv_core.specs.machine.Reached.{IsReached};
 ghost use Rattle.nv_core.specs.machine.PlainRun.{Commits, Plain, deed_of, keeps_nodes, plain_after};
 ghost use Rattle.nv_core.specs.machine.Reads.{written_slots};
 ghost use Rattle.nv_core.specs.machine.Sequence.{Visits, beginning};
@@ -107,8 +108,8 @@ pub fn lists_are_from_scratch()
         ≡ free_from_scratch g (after (formatted g) events) cpu }
 {}
 
-/// An actor without a call has an empty hand and no lock: what its call took and did not place is given back
-/// before the last reply, also where it was refused.
+/// An actor without a call has an empty hand and no lock, also where its last call was refused: with
+/// [`blocks_stand_once`], the blocks that it took and did not place are in the free lists again.
 pub fn idle_hands_are_empty()
     ensures { (g : GeometryNumbers) (events : List Event) → IsWithinLimits g
         → IdleHaveNothing (after (formatted g) events) }
@@ -121,11 +122,11 @@ pub fn blocks_are_told()
         → ArePagesTold g.block (cell_at (after (formatted g) events).shared ino) }
 {}
 
-/// Only commit points change nodes. Each settled log has the blocks of its pages, and a journal is open only
-/// within a commit of several inodes, from a new world on and whatever events come, where no block has the
-/// number of another and a call begins with an empty hand. So every event but a commit point leaves every
-/// settled node as it is: a refused call has changed none, and of several inodes that are published one
-/// after another none is seen before the close.
+/// Only commit points change nodes. Each settled log has the blocks of its pages, but of those that a later
+/// entry covers, and a journal is open only within a commit of several inodes, from a new world on and whatever
+/// events come, where no block has the number of another and a call begins with an empty hand. So every event
+/// but a commit point leaves every settled node as it is: a refused call has changed none, and of several
+/// inodes that are published one after another none is seen before the close.
 pub fn only_commits_change_nodes()
     ensures new { (g : GeometryNumbers) → IsWithinLimits g → IsKept (formatted g) }
     ensures stays { (events : List Event) (w : World) → AreLocks w → IsInOrder w → IsKept w
@@ -204,4 +205,13 @@ pub fn settled_logs_stay_sound()
         → actor < length w.actors → (actor_at w actor).running ≡ Some r
         → deed_of w (Go actor granted) ≡ Commits → HasPlanNow bytes w.numbers.block w.shared r
         → AreSound (step w (Go actor granted)).world.shared }
+{}
+
+/// What the laws of nodes and commits ask of a world holds of every world that events lead to from a new one. So
+/// of those each event but a commit point leaves every settled node as it is, with no premise.
+pub fn new_worlds_lead_where_laws_hold()
+    ensures reached { (g : GeometryNumbers) (events : List Event) → IsWithinLimits g
+        → IsReached (after (formatted g) events) }
+    ensures nodes { (w : World) (e : Event) → IsReached w → keeps_nodes (deed_of w e) ≡ true
+        → (handle : Handle) → settled_nodes (step w e).world.shared handle ≡ settled_nodes w.shared handle }
 {}
