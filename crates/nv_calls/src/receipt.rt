@@ -8,8 +8,8 @@ use nv_alloc::Hand;
 use nv_base::{CommitNo, Epoch, Handle};
 use std::marker::Model;
 
-/// That a call was committed, with the number and the epoch of its commit. Only a commit makes one, and there is one a
-/// commit.
+/// That a call was committed, with the number and the epoch of its commit. Only a commit makes one, and it can't be
+/// copied.
 #[derive(Debug, Drop)]
 pub struct Receipt {
     update: Update,
