@@ -20,29 +20,32 @@ enum Shown {
     Directory(&'static [(&'static [u8], u64)]),
 }
 
-/// The entries, each with its epoch and a commit of its own; what is shown at epochs 1, 2, ..; what is shown where a journal
-/// has noted so many entries; and what is shown now.
-type Case = (
-    &'static [(u64, Says)],
-    &'static [Shown],
-    &'static [(usize, Shown)],
-    Shown,
-);
+/// A log, and what is shown of it.
+#[derive(Clone, Copy)]
+struct Case {
+    /// Each with its epoch, and a commit of its own.
+    entries: &'static [(u64, Says)],
+    /// What is shown at epochs 1, 2, ..
+    epochs: &'static [Shown],
+    /// What is shown where a journal has noted so many entries.
+    noted: &'static [(usize, Shown)],
+    now: Shown,
+}
 
 /// Ten bytes, and after a snapshot a cut to five and a growth to twelve.
-const CUT_INSIDE_A_BLOCK: Case = (
-    &[
+const CUT_INSIDE_A_BLOCK: Case = Case {
+    entries: &[
         (1, File),
         (1, Write(0, 2, b"abcdefghij\0\0", 10)),
         (2, Write(1, 5, b"e\0\0\0", 5)),
         (2, Size(5)),
         (2, Size(12)),
     ],
-    &[
+    epochs: &[
         Shown::File(10, b"abcdefghij"),
         Shown::File(12, b"abcde\0\0\0\0\0\0\0"),
     ],
-    &[
+    noted: &[
         (0, Shown::Nothing),
         (1, Shown::File(0, b"")),
         (2, Shown::File(10, b"abcdefghij")),
@@ -50,32 +53,32 @@ const CUT_INSIDE_A_BLOCK: Case = (
         (4, Shown::File(5, b"abcde")),
         (5, Shown::File(12, b"abcde\0\0\0\0\0\0\0")),
     ],
-    Shown::File(12, b"abcde\0\0\0\0\0\0\0"),
-);
+    now: Shown::File(12, b"abcde\0\0\0\0\0\0\0"),
+};
 
 /// A page that is overwritten after each snapshot.
-const THE_OLD_BYTES: Case = (
-    &[
+const THE_OLD_BYTES: Case = Case {
+    entries: &[
         (1, File),
         (1, Write(0, 2, b"aaaa", 4)),
         (2, Write(0, 3, b"bbbb", 4)),
         (2, Write(0, 4, b"cccc", 4)),
         (4, Write(2, 5, b"dddd", 12)),
     ],
-    &[
+    epochs: &[
         Shown::File(4, b"aaaa"),
         Shown::File(4, b"cccc"),
         Shown::File(4, b"cccc"),
         Shown::File(12, b"cccc\0\0\0\0dddd"),
     ],
-    &[(3, Shown::File(4, b"bbbb"))],
-    Shown::File(12, b"cccc\0\0\0\0dddd"),
-);
+    noted: &[(3, Shown::File(4, b"bbbb"))],
+    now: Shown::File(12, b"cccc\0\0\0\0dddd"),
+};
 
 /// Runs of three and four pages that overlap at their beginnings and ends, a cut in the middle of one, a hole, and a page behind
 /// a cut to nothing.
-const LONG_RUNS: Case = (
-    &[
+const LONG_RUNS: Case = Case {
+    entries: &[
         (1, File),
         (1, Write(0, 2, b"aaaabbbbcccc", 12)),
         (1, Write(2, 5, b"CCCCddddeeee", 20)),
@@ -86,7 +89,7 @@ const LONG_RUNS: Case = (
         (6, Size(0)),
         (6, Write(1, 19, b"zzzz", 8)),
     ],
-    &[
+    epochs: &[
         Shown::File(20, b"aaaabbbbCCCCddddeeee"),
         Shown::File(20, b"aaaaBBBBxxxxyyyyeeee"),
         Shown::File(9, b"aaaaBBBBx"),
@@ -94,18 +97,18 @@ const LONG_RUNS: Case = (
         Shown::File(30, b"aaaaBBBBxxxxDDDDEEEEFFFFGGGGhh"),
         Shown::File(8, b"\0\0\0\0zzzz"),
     ],
-    &[
+    noted: &[
         (2, Shown::File(12, b"aaaabbbbcccc")),
         (4, Shown::File(20, b"aaaaBBBBxxxxyyyyeeee")),
         (7, Shown::File(30, b"aaaaBBBBxxxxDDDDEEEEFFFFGGGGhh")),
         (8, Shown::File(0, b"")),
     ],
-    Shown::File(8, b"\0\0\0\0zzzz"),
-);
+    now: Shown::File(8, b"\0\0\0\0zzzz"),
+};
 
 /// Runs inside others and around them, so that what a later entry holds stands at the beginning, in the middle and at the end.
-const RUNS_IN_RUNS: Case = (
-    &[
+const RUNS_IN_RUNS: Case = Case {
+    entries: &[
         (1, File),
         (1, Write(0, 2, b"aaaabbbbccccddddeeee", 20)),
         (2, Write(1, 7, b"BBBBCCCCDDDD", 20)),
@@ -113,20 +116,20 @@ const RUNS_IN_RUNS: Case = (
         (4, Write(0, 11, b"AAAABBBBCCCCDDDD", 17)),
         (5, Write(4, 16, b"EEEEFFFF", 24)),
     ],
-    &[
+    epochs: &[
         Shown::File(20, b"aaaabbbbccccddddeeee"),
         Shown::File(20, b"aaaaBBBBCCCCDDDDeeee"),
         Shown::File(20, b"aaaaBBBBzzzzDDDDeeee"),
         Shown::File(17, b"AAAABBBBCCCCDDDDe"),
         Shown::File(24, b"AAAABBBBCCCCDDDDEEEEFFFF"),
     ],
-    &[(3, Shown::File(20, b"aaaaBBBBCCCCDDDDeeee"))],
-    Shown::File(24, b"AAAABBBBCCCCDDDDEEEEFFFF"),
-);
+    noted: &[(3, Shown::File(20, b"aaaaBBBBCCCCDDDDeeee"))],
+    now: Shown::File(24, b"AAAABBBBCCCCDDDDEEEEFFFF"),
+};
 
 /// A name that is unbound after a snapshot, and others that are bound, one of them once more.
-const THE_TOMBSTONE: Case = (
-    &[
+const THE_TOMBSTONE: Case = Case {
+    entries: &[
         (1, Directory),
         (1, Bind(b"a", 1)),
         (1, Bind(b"c", 3)),
@@ -135,22 +138,22 @@ const THE_TOMBSTONE: Case = (
         (3, Bind(b"c", 4)),
         (3, Bind(b"a", 5)),
     ],
-    &[
+    epochs: &[
         Shown::Directory(&[(b"a", 1), (b"c", 3)]),
         Shown::Directory(&[(b"c", 3), (b"b", 2)]),
         Shown::Directory(&[(b"b", 2), (b"c", 4), (b"a", 5)]),
     ],
-    &[(4, Shown::Directory(&[(b"c", 3)]))],
-    Shown::Directory(&[(b"b", 2), (b"c", 4), (b"a", 5)]),
-);
+    noted: &[(4, Shown::Directory(&[(b"c", 3)]))],
+    now: Shown::Directory(&[(b"b", 2), (b"c", 4), (b"a", 5)]),
+};
 
 /// A file that is gone after a snapshot.
-const GONE: Case = (
-    &[(2, File), (2, Write(0, 2, b"aaaa", 3)), (3, Gone)],
-    &[Shown::Nothing, Shown::File(3, b"aaa"), Shown::Nothing],
-    &[(1, Shown::File(0, b""))],
-    Shown::Nothing,
-);
+const GONE: Case = Case {
+    entries: &[(2, File), (2, Write(0, 2, b"aaaa", 3)), (3, Gone)],
+    epochs: &[Shown::Nothing, Shown::File(3, b"aaa"), Shown::Nothing],
+    noted: &[(1, Shown::File(0, b""))],
+    now: Shown::Nothing,
+};
 
 const CASES: &[Case] = &[
     CUT_INSIDE_A_BLOCK,
@@ -229,27 +232,27 @@ fn is_directory(rt: &impl Abort, node: &NodeCopy, names: &[(&[u8], u64)]) {
 #[test]
 fn nodes(rt: HostRuntime) {
     let alloc = rt.alloc();
-    for (entries, epochs, noted, now) in CASES {
+    for case in CASES {
         let mut scene = new_scene(&rt, alloc);
-        for (place, (epoch, says)) in entries.iter().enumerate() {
+        for (place, (epoch, says)) in case.entries.iter().enumerate() {
             let at = (id(place as u64, 0), Epoch::new(*epoch));
             let _killed = scene.commit(&rt, at, slice::from_ref(says));
         }
-        for (place, want) in epochs.iter().enumerate() {
+        for (place, want) in case.epochs.iter().enumerate() {
             is_node(
                 &rt,
                 node_at(&rt, alloc, &scene.cell, place as u64 + 1),
                 *want,
             );
         }
-        for (tail, want) in *noted {
+        for (tail, want) in case.noted {
             is_node(
                 &rt,
                 settled_node(&rt, alloc, &scene.cell, Some(*tail)),
                 *want,
             );
         }
-        is_node(&rt, settled_node(&rt, alloc, &scene.cell, None), *now);
+        is_node(&rt, settled_node(&rt, alloc, &scene.cell, None), case.now);
         scene.dismantle();
     }
 }
