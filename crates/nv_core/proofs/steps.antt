@@ -44,3 +44,4 @@ pub mod Appended
 pub mod Settling
 pub mod GrownRuns
 pub mod Effects
+pub mod Caused

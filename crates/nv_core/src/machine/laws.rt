@@ -13,6 +13,7 @@ ghost use Rattle.nv_calls.specs.declared.call.Call.{Call};
 ghost use Rattle.nv_core.specs.machine.Bound.{AreNoStarts, bound_at, most_steps, moves};
 ghost use Rattle.nv_entry.specs.Sound.{IsSound};
 ghost use Rattle.nv_core.specs.machine.Answered.{GoesToAnswer, IsToBeAnswered};
+ghost use Rattle.nv_core.specs.machine.Causes.{IsCause, RefusesFor};
 ghost use Rattle.nv_core.specs.machine.Effects.{AreSound, HasPlanNow};
 ghost use Rattle.nv_core.specs.machine.Format.{formatted};
 ghost use Rattle.nv_core.specs.machine.Frame.{IsOneStep, IsStart};
@@ -27,8 +28,8 @@ ghost use Rattle.nv_core.specs.machine.PlainRun.{Commits, Plain, deed_of, keeps_
 ghost use Rattle.nv_core.specs.machine.Reads.{written_slots};
 ghost use Rattle.nv_core.specs.machine.Sequence.{Visits, beginning};
 ghost use Rattle.nv_core.specs.machine.Settled.{settled, settled_nodes};
-ghost use Rattle.nv_core.specs.machine.Step.{after, stays, step};
-ghost use Rattle.nv_core.specs.machine.World.{Event, Go, Refused, Running, Start, Started, Waiting, World, actor_at, cell_at, list_at};
+ghost use Rattle.nv_core.specs.machine.Step.{after, stays, step, turn};
+ghost use Rattle.nv_core.specs.machine.World.{Answers, Event, Go, HandState, Refused, Running, Shared, Start, Started, Waiting, World, actor_at, cell_at, list_at};
 
 /// A `Go` of an actor whose call runs makes the one step that comes next, and changes only its actor and the
 /// parts that the step is lent. A start changes its actor alone: one without a call has the call now, before its
@@ -214,4 +215,14 @@ pub fn new_worlds_lead_where_laws_hold()
         → IsReached (after (formatted g) events) }
     ensures nodes { (w : World) (e : Event) → IsReached w → keeps_nodes (deed_of w e) ≡ true
         → (handle : Handle) → settled_nodes (step w e).world.shared handle ≡ settled_nodes w.shared handle }
+{}
+
+/// A step that refuses a call not yet refused does so for a fault whose cause is there at that step: what the plain
+/// world refuses at the look, the check or the visit; no number was free; the last list was asked and is short; no
+/// further commit number is there; names were bound anew and no round is left; or memory that the step asks for was
+/// not granted.
+pub fn refusals_have_causes()
+    ensures { (block actor : ℕ) (granted : Bool) (s : Shared) (h : HandState) (r : Running)
+        → r.ending ≡ Answers
+        → RefusesFor (IsCause r.next block actor granted s h r) (turn block actor granted s h r) }
 {}

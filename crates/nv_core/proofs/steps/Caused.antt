@@ -1,0 +1,223 @@
+-- Each refusal has its cause at the step that refuses.
+use Rattle.std.proofs.Common.{◌≡◌, ℕ, zero, suc, ◌+◌, ◌-◌, ◌<◌, ◌≤◌, ◌⊎◌, inl, inr, Bool, true, false, ◌&&◌, ◌||◌, not, List, [], ◌∷◌, Option, Some, None, ap, arith, length, nat_le, nat_lt, refl, sym, ◌∙◌}
+use Rattle.std.specs.Prelude.{Result, Ok, Err}
+use Rattle.std.proofs.lemmas.Bool.{leb-true, ltb-false}
+use Rattle.nv_base.specs.declared.fault.Fault.{Fault}
+use Rattle.nv_base.specs.declared.fault.Fault.TheVariants.{CommitLimit, Contended, NoInode, NoSpace, OutOfMemory}
+use Rattle.nv_base.specs.declared.limits.TheConstants.{NUMBER}
+use Rattle.nv_calls.specs.AllCalls.{answer, early, effect, late, look_refusal, looked, refusal}
+use Rattle.nv_calls.specs.Plain.{Change}
+use Rattle.nv_calls.specs.Refusals.{Check as Tests, and_then}
+use Rattle.nv_calls.specs.declared.answer.Answer.{Answer}
+use Rattle.nv_calls.specs.declared.looked.Looked.{Looked}
+use Rattle.nv_core.specs.machine.Causes.{EndsFor, IsAtLimit, IsCause, IsDenied, IsLastRound, IsOvertaken, IsRefusal, IsShort, IsWithoutNumber, RefusesFor, ResultFor}
+use Rattle.nv_core.specs.machine.Kinds.{again_turn, asked_list, back_turn, blocks_in, blocks_turn, check_ending, check_turn, end_turn, enter_turn, give_turn, grown, lock_turn, look_tests, look_turn, number_turn, over_turn, pages_turn, rest_turn, unlocked_turn, visit_turn, wants_blocks, wants_pages}
+use Rattle.nv_core.specs.machine.Reads.{copies, home_from}
+use Rattle.nv_core.specs.machine.Sequence.{beginning}
+use Rattle.nv_core.specs.machine.Step.{ending_at, is_numbered, kind_turn, made_in, same_looked, visit_grows, with_made}
+use Rattle.nv_core.specs.machine.World.{Answers, Append, Back, Check, Close, Ending, Ends, Enter, Give, HandState, Leave, Lock, Look, Moves, Next, Number, Open, Overtaken, Publish, Ready, Refuses, Retire, Running, Shared, TakeBlocks, TakePages, Turn, Unlock, Visit, Waits, list_at}
+
+-- ---- a call that goes on or is answered
+
+unrefused : (P : Fault → Type 0) (e : Ending) → e ≡ Answers → EndsFor P e
+unrefused P Answers e = tt
+unrefused P (Refuses fault) e = cc
+unrefused P Overtaken e = tt
+
+rest_unrefused : (P : Fault → Type 0) (home number : Option ℕ) (s : Shared) (h : HandState) (r : Running) → r.ending ≡ Answers
+    → RefusesFor P (rest_turn home number s h r)
+rest_unrefused P (Some cpu) number s h r e = unrefused P r.ending e
+rest_unrefused P None (Some ino) s h r e = unrefused P r.ending e
+rest_unrefused P None None s h r e = rw e tt
+
+over_unrefused : (P : Fault → Type 0) (e : Ending) (s : Shared) (h : HandState) (r : Running) → e ≡ Answers → r.ending ≡ Answers
+    → RefusesFor P (over_turn e s h r)
+over_unrefused P Answers s h r e f = rest_unrefused P _ h.ino s h r f
+over_unrefused P (Refuses fault) s h r e f = cc
+over_unrefused P Overtaken s h r e f = cc
+
+end_unrefused : (P : Fault → Type 0) (slots : List ℕ) (s : Shared) (h : HandState) (r : Running) → r.ending ≡ Answers
+    → RefusesFor P (end_turn slots r.ending s h r)
+end_unrefused P [] s h r e = over_unrefused P r.ending s h (record r { ending = r.ending }) e e
+end_unrefused P (slot ∷ slots) s h r e = unrefused P r.ending e
+
+-- ---- a call that is refused
+
+rest_refused : (P : Fault → Type 0) (fault : Fault) (home number : Option ℕ) (s : Shared) (h : HandState) (r : Running) → P fault
+    → RefusesFor P (rest_turn home number s h (record r { ending = Refuses fault }))
+rest_refused P fault (Some cpu) number s h r p = p
+rest_refused P fault None (Some ino) s h r p = p
+rest_refused P fault None None s h r p = p
+
+pub refused : (P : Fault → Type 0) (fault : Fault) (slots : List ℕ) (s : Shared) (h : HandState) (r : Running) → P fault
+    → RefusesFor P (end_turn slots (Refuses fault) s h r)
+refused P fault [] s h r p = rest_refused P fault (home_from 0 0 s.lists (blocks_in h)) h.ino s h r p
+refused P fault (slot ∷ slots) s h r p = p
+
+denied : (P : Fault → Type 0) (granted : Bool) (t : Turn) (s : Shared) (h : HandState) (r : Running)
+    → (granted ≡ false → P OutOfMemory) → RefusesFor P t → RefusesFor P (grown granted t s h r)
+denied P true t s h r lack rest = rest
+denied P false t s h r lack rest = refused P OutOfMemory r.slots s h r (lack refl)
+
+-- ---- kind by kind
+
+number_caused : (P : Fault → Type 0) (numbers : List ℕ) (s : Shared) (h : HandState) (r : Running) → r.ending ≡ Answers
+    → RefusesFor P (number_turn numbers s h r)
+number_caused P [] s h r e = unrefused P r.ending e
+number_caused P (ino ∷ numbers) s h r e = unrefused P r.ending e
+
+look_told : (place : ℕ) (tests : Tests) (fault : Fault) → look_tests place tests ≡ Err fault → tests ≡ Err fault
+look_told zero tests fault e = e
+look_told (suc place) tests fault e = cc
+
+look_caused : (P : Fault → Type 0) (owner : Option ℕ) (tests : Tests) (found : Looked) (place : ℕ) (s : Shared) (h : HandState) (r : Running)
+    → ((fault : Fault) → tests ≡ Err fault → P fault) → r.ending ≡ Answers → RefusesFor P (look_turn owner tests found place s h r)
+look_caused P (Some other) tests found place s h r told e = tt
+look_caused P None (Err fault) found place s h r told e = refused P fault [] s h r (told fault refl)
+look_caused P None (Ok passed) found place s h r told e = unrefused P r.ending e
+
+lock_caused : (P : Fault → Type 0) (owner : Option ℕ) (actor place : ℕ) (s : Shared) (h : HandState) (r : Running) → r.ending ≡ Answers
+    → RefusesFor P (lock_turn owner actor place s h r)
+lock_caused P (Some other) actor place s h r e = tt
+lock_caused P None actor place s h r e = unrefused P r.ending e
+
+pages_unrefused : (P : Fault → Type 0) (n : ℕ) (s : Shared) (h : HandState) (r : Running) → r.ending ≡ Answers
+    → RefusesFor P (wants_pages n s h r)
+pages_unrefused P zero s h r e = unrefused P r.ending e
+pages_unrefused P (suc n) s h r e = unrefused P r.ending e
+
+blocks_unrefused : (P : Fault → Type 0) (n block : ℕ) (s : Shared) (h : HandState) (r : Running) → r.ending ≡ Answers
+    → RefusesFor P (wants_blocks n block s h r)
+blocks_unrefused P zero block s h r e = pages_unrefused P _ s h r e
+blocks_unrefused P (suc n) block s h r e = unrefused P r.ending e
+
+again_caused : (P : Fault → Type 0) (rounds : ℕ) (s : Shared) (h : HandState) (r : Running) → (rounds ≡ 0 → P Contended)
+    → RefusesFor P (again_turn rounds s h r)
+again_caused P zero s h r none = none refl
+again_caused P (suc rounds) s h r none = tt
+
+overtaken_caused : (P : Fault → Type 0) (slots : List ℕ) (s : Shared) (h : HandState) (r : Running)
+    → (slots ≡ [] → r.rounds ≡ 0 → P Contended) → RefusesFor P (end_turn slots Overtaken s h r)
+overtaken_caused P [] s h r none = again_caused P r.rounds s h (record r { ending = Overtaken }) (none refl)
+overtaken_caused P (slot ∷ slots) s h r none = tt
+
+-- how a check ends a call, with its cause
+abbrev CheckCause : Tests → Bool → Tests → Bool → Option Ending → Type 0
+CheckCause first same all numbered None = Unit {0}
+CheckCause first same all numbered (Some Answers) = Unit {0}
+CheckCause first same all numbered (Some Overtaken) = same ≡ false
+CheckCause first same all numbered (Some (Refuses fault)) =
+    (first ≡ Err fault) ⊎ (all ≡ Err fault) ⊎ ((fault ≡ NoInode) × (numbered ≡ false))
+
+check_told : (first : Tests) (same : Bool) (all : Tests) (numbered : Bool) (changes : List Change)
+    → CheckCause first same all numbered (check_ending first same all numbered changes)
+check_told (Err fault) same all numbered changes = inl refl
+check_told (Ok passed) false all numbered changes = refl
+check_told (Ok passed) true (Err fault) numbered changes = inr (inl refl)
+check_told (Ok passed) true (Ok rest) false changes = inr (inr (refl, refl))
+check_told (Ok passed) true (Ok rest) true [] = tt
+check_told (Ok passed) true (Ok rest) true (change ∷ changes) = tt
+
+-- what is tested first refuses the call
+first_refuses : (block : ℕ) (s : Shared) (r : Running) (fault : Fault) → early (copies s) r.call ≡ Err fault → IsRefusal block s r fault
+first_refuses block s r fault e = ap (λ tests. and_then tests (late block (copies s) (looked (copies s) r.call) r.call)) e
+
+check_caused : (ending : Option Ending) (granted : Bool) (wanted block actor : ℕ) (s : Shared) (h : HandState) (r q : Running)
+    → CheckCause (early (copies s) r.call) (same_looked (looked (copies s) r.call) r.looked) (refusal block (copies s) r.call)
+        (is_numbered (beginning r.call) h.ino) ending
+    → q.slots ≡ r.slots → q.rounds ≡ r.rounds → q.ending ≡ Answers
+    → RefusesFor (IsCause Check block actor granted s h r) (check_turn ending granted wanted block s h q)
+check_caused None granted wanted block actor s h r q told slots rounds e =
+    denied _ granted (wants_blocks wanted block s h q) s h q (λ lack. inr (inr (inl (refl, lack)))) (blocks_unrefused _ wanted block s h q e)
+check_caused (Some Answers) granted wanted block actor s h r q told slots rounds e =
+    rw (sym e) (end_unrefused _ q.slots s h q e)
+check_caused (Some Overtaken) granted wanted block actor s h r q told slots rounds e =
+    overtaken_caused _ q.slots s h q (λ none over. inr (inr (inr (refl, told, sym slots ∙ none, sym rounds ∙ over))))
+check_caused (Some (Refuses fault)) granted wanted block actor s h r q told slots rounds e = refused _ fault q.slots s h q (go told) where
+  go : (early (copies s) r.call ≡ Err fault) ⊎ (refusal block (copies s) r.call ≡ Err fault)
+      ⊎ ((fault ≡ NoInode) × (is_numbered (beginning r.call) h.ino ≡ false)) → IsCause Check block actor granted s h r fault
+  go (inl first) = inl (first_refuses block s r fault first)
+  go (inr (inl all)) = inl all
+  go (inr (inr number)) = inr (inl number)
+
+blocks_caused : (P : Fault → Type 0) (left : ℕ) (more : Bool) (asked block : ℕ) (s : Shared) (h : HandState) (r : Running)
+    → (0 < left → more ≡ false → P NoSpace) → r.ending ≡ Answers → RefusesFor P (blocks_turn left more asked block s h r)
+blocks_caused P zero more asked block s h r short e = pages_unrefused P _ s h r e
+blocks_caused P (suc n) true asked block s h r short e = unrefused P r.ending e
+blocks_caused P (suc n) false asked block s h r short e = refused P NoSpace r.slots s h r (short (omega arith) refl)
+
+pages_caused : (P : Fault → Type 0) (left : ℕ) (more : Bool) (asked : ℕ) (s : Shared) (h : HandState) (r : Running)
+    → (0 < left → more ≡ false → P NoSpace) → r.ending ≡ Answers → RefusesFor P (pages_turn left more asked s h r)
+pages_caused P zero more asked s h r short e = unrefused P r.ending e
+pages_caused P (suc n) true asked s h r short e = unrefused P r.ending e
+pages_caused P (suc n) false asked s h r short e = refused P NoSpace r.slots s h r (short (omega arith) refl)
+
+short_list : (s : Shared) (cpu asked : ℕ) (r : Running) → 0 < r.wanted - length (list_at s cpu).blocks
+    → nat_lt (asked + 1) (length s.lists) ≡ false → IsShort s cpu asked r NoSpace
+short_list s cpu asked r left none = record {
+  is = refl;
+  last = ltb-false (asked + 1) (length s.lists) none;
+  short = omega (arith, left);
+}
+
+enter_caused : (holder : Option ℕ) (block actor a : ℕ) (last granted : Bool) (s : Shared) (h : HandState) (r : Running)
+    → (last ≡ true → NUMBER ≤ s.book.commit) → r.ending ≡ Answers
+    → RefusesFor (IsCause Enter block actor granted s h r) (enter_turn holder last granted a s h r)
+enter_caused (Some other) block actor a last granted s h r limit e = tt
+enter_caused None block actor a true granted s h r limit e = refused _ CommitLimit r.slots s h r (inl (refl, limit refl))
+enter_caused None block actor a false granted s h r limit e =
+    denied _ granted _ s h r (λ lack. inr (refl, lack)) (unrefused _ r.ending e)
+
+unlocked_caused : (P : Fault → Type 0) (more : Bool) (place : ℕ) (s : Shared) (h : HandState) (r : Running) → r.ending ≡ Answers
+    → RefusesFor P (unlocked_turn more place s h r)
+unlocked_caused P true place s h r e = unrefused P r.ending e
+unlocked_caused P false place s h r e = over_unrefused P r.ending s h r e e
+
+back_caused : (P : Fault → Type 0) (number : Option ℕ) (s : Shared) (h : HandState) (r : Running) → r.ending ≡ Answers
+    → RefusesFor P (back_turn number s h r)
+back_caused P None s h r e = rw e tt
+back_caused P (Some ino) s h r e = rw e tt
+
+no_growth : (granted grows : Bool) → (granted || not grows) ≡ false → (granted ≡ false) × (grows ≡ true)
+no_growth true grows e = cc
+no_growth false true e = (refl, refl)
+no_growth false false e = cc
+
+visit_caused : (owner : Option ℕ) (tests : Tests) (block actor : ℕ) (given granted : Bool) (found : Answer) (s : Shared) (h : HandState)
+    (r : Running) → tests ≡ refusal block (copies s) r.call → (given ≡ false → (granted ≡ false) × (visit_grows r.call ≡ true))
+    → RefusesFor (IsCause Visit block actor granted s h r) (visit_turn owner tests given found s h r)
+visit_caused (Some other) tests block actor given granted found s h r is lack = tt
+visit_caused None (Err fault) block actor given granted found s h r is lack = refused _ fault r.slots s h r (inl (sym is))
+visit_caused None (Ok passed) block actor given granted found s h r is lack =
+    denied _ given (Ends (Ok found) s h) s h r (λ e. inr ((refl, (lack e).0), (lack e).1)) tt
+
+-- ---- all kinds
+
+pub caused : (k : Next) (block actor : ℕ) (granted : Bool) (s : Shared) (h : HandState) (r : Running) → r.ending ≡ Answers
+    → RefusesFor (IsCause k block actor granted s h r) (kind_turn k block actor granted s h r)
+caused Number block actor granted s h r e = number_caused _ s.pool.numbers s h r e
+caused (Look place) block actor granted s h r e =
+    look_caused _ _ _ _ place s h r (λ fault told. look_told place (look_refusal (copies s) r.call) fault told) e
+caused (Lock place) block actor granted s h r e = lock_caused _ _ actor place s h r e
+caused Check block actor granted s h r e =
+    check_caused (ending_at block s h r) granted _ block actor s h r (with_made s h r)
+    (check_told (early (copies s) r.call) (same_looked (looked (copies s) r.call) r.looked) (refusal block (copies s) r.call)
+    (is_numbered (beginning r.call) h.ino) (effect (copies s) (made_in s h.ino r.made) r.call)) refl refl e
+caused (TakeBlocks asked) block actor granted s h r e =
+    blocks_caused _ _ _ asked block _ _ r (short_list s (asked_list (length s.lists) actor asked) asked r) e
+caused (TakePages asked) block actor granted s h r e =
+    pages_caused _ _ _ asked _ _ r (short_list s (asked_list (length s.lists) actor asked) asked r) e
+caused Ready block actor granted s h r e = denied _ granted _ s h r (λ lack. (refl, lack)) (unrefused _ r.ending e)
+caused Enter block actor granted s h r e =
+    enter_caused s.holder block actor actor (nat_le NUMBER s.book.commit) granted s h r (leb-true NUMBER s.book.commit) e
+caused (Append place) block actor granted s h r e = unrefused _ r.ending e
+caused Open block actor granted s h r e = unrefused _ r.ending e
+caused (Publish place) block actor granted s h r e = unrefused _ r.ending e
+caused Close block actor granted s h r e = unrefused _ r.ending e
+caused (Retire place) block actor granted s h r e = unrefused _ r.ending e
+caused Leave block actor granted s h r e = end_unrefused _ r.slots _ h r e
+caused (Unlock place) block actor granted s h r e = unlocked_caused _ _ place _ h r e
+caused (Give cpu) block actor granted s h r e = rest_unrefused _ _ h.ino _ _ r e
+caused Back block actor granted s h r e = back_caused _ h.ino s h r e
+caused Visit block actor granted s h r e =
+    visit_caused _ (refusal block (copies s) r.call) block actor _ granted _ s h r refl (no_growth granted (visit_grows r.call))

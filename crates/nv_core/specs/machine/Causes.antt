@@ -1,0 +1,74 @@
+-- For what a step refuses its call.
+use Rattle.std.specs.Prelude.{◌≡◌, ℕ, ◌+◌, ◌<◌, ◌≤◌, ◌⊎◌, Bool, true, false, List, [], length, Option, Result, Ok, Err}
+use Rattle.nv_base.specs.declared.fault.Fault.{Fault}
+use Rattle.nv_base.specs.declared.fault.Fault.TheVariants.{CommitLimit, Contended, NoInode, NoSpace, OutOfMemory}
+use Rattle.nv_base.specs.declared.limits.TheConstants.{NUMBER}
+use Rattle.nv_calls.specs.AllCalls.{look_refusal, looked, refusal}
+use Rattle.nv_calls.specs.declared.answer.Answer.{Answer}
+use Rattle.nv_core.specs.machine.Kinds.{asked_list}
+use Rattle.nv_core.specs.machine.Reads.{copies}
+use Rattle.nv_core.specs.machine.Sequence.{beginning}
+use Rattle.nv_core.specs.machine.Step.{is_numbered, same_looked, visit_grows}
+use Rattle.nv_core.specs.machine.World.{Answers, Back, Check, Ending, Ends, Enter, Give, HandState, Look, Moves, Next, Overtaken, Ready, Refuses, Running, Shared, TakeBlocks, TakePages, Turn, Unlock, Visit, Waits, list_at}
+
+-- ---- causes
+
+-- the call is one that the plain world refuses
+abbrev pub IsRefusal : ℕ → Shared → Running → Fault → Type 0
+IsRefusal block s r fault = refusal block (copies s) r.call ≡ Err fault
+
+-- memory that the step asks for is not granted
+abbrev pub IsDenied : Bool → Fault → Type 0
+IsDenied granted fault = (fault ≡ OutOfMemory) × (granted ≡ false)
+
+-- the call makes an inode, and its number step found none free
+abbrev pub IsWithoutNumber : HandState → Running → Fault → Type 0
+IsWithoutNumber h r fault = (fault ≡ NoInode) × (is_numbered (beginning r.call) h.ino ≡ false)
+
+-- the last list is asked, and has fewer blocks than are wanted yet
+pub record IsShort (s : Shared) (cpu asked : ℕ) (r : Running) (fault : Fault) : Type 0 where
+  pub is : fault ≡ NoSpace
+  pub last : length s.lists ≤ asked + 1
+  pub short : length (list_at s cpu).blocks < r.wanted
+
+-- no further commit number is there
+abbrev pub IsAtLimit : Shared → Fault → Type 0
+IsAtLimit s fault = (fault ≡ CommitLimit) × (NUMBER ≤ s.book.commit)
+
+-- a name is bound anew since the looks
+abbrev pub IsOvertaken : Shared → Running → Type 0
+IsOvertaken s r = same_looked (looked (copies s) r.call) r.looked ≡ false
+
+-- that is so, nothing is locked, and no round of looks is left
+abbrev pub IsLastRound : Shared → Running → Fault → Type 0
+IsLastRound s r fault = (fault ≡ Contended) × IsOvertaken s r × (r.slots ≡ []) × (r.rounds ≡ 0)
+
+-- for what each step refuses its call; the others refuse nothing
+abbrev pub IsCause : Next → ℕ → ℕ → Bool → Shared → HandState → Running → Fault → Type 0
+IsCause (Look place) block actor granted s h r fault = look_refusal (copies s) r.call ≡ Err fault
+IsCause Check block actor granted s h r fault =
+    IsRefusal block s r fault ⊎ IsWithoutNumber h r fault ⊎ IsDenied granted fault ⊎ IsLastRound s r fault
+IsCause (TakeBlocks asked) block actor granted s h r fault = IsShort s (asked_list (length s.lists) actor asked) asked r fault
+IsCause (TakePages asked) block actor granted s h r fault = IsShort s (asked_list (length s.lists) actor asked) asked r fault
+IsCause Ready block actor granted s h r fault = IsDenied granted fault
+IsCause Enter block actor granted s h r fault = IsAtLimit s fault ⊎ IsDenied granted fault
+IsCause Visit block actor granted s h r fault = IsRefusal block s r fault ⊎ (IsDenied granted fault × (visit_grows r.call ≡ true))
+IsCause other block actor granted s h r fault = ⊥
+
+-- ---- a step that refuses its call
+
+-- whatever fault a call is to end with meets this
+abbrev pub EndsFor : (Fault → Type 0) → Ending → Type 0
+EndsFor P (Refuses fault) = P fault
+EndsFor P Answers = Unit {0}
+EndsFor P Overtaken = Unit {0}
+
+abbrev pub ResultFor : (Fault → Type 0) → Result Answer Fault → Type 0
+ResultFor P (Ok found) = Unit {0}
+ResultFor P (Err fault) = P fault
+
+-- whatever fault a turn refuses its call for meets this: the call is to end with it, or ends with it now
+abbrev pub RefusesFor : (Fault → Type 0) → Turn → Type 0
+RefusesFor P (Moves s h r) = EndsFor P r.ending
+RefusesFor P Waits = Unit {0}
+RefusesFor P (Ends result s h) = ResultFor P result
