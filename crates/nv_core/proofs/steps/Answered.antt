@@ -1,4 +1,4 @@
--- A call that has committed is answered, whatever follows.
+-- A call that is to end so ends so, whatever follows; and one that has committed is to be answered.
 use Rattle.std.proofs.Common.{◌≡◌, ℕ, zero, suc, ◌+◌, ◌%◌, ◌<◌, ◌≤◌, ◌∙◌, ◌⊎◌, inl, inr, Bool, true, false, cond, List, [], ◌∷◌, Option, Some, None, ap, arith, get_or-set_same, if◌then◌else◌, length, nat_lt, refl, set, subst, sym}
 use Rattle.std.specs.Prelude.{Result, Ok, Err}
 use Rattle.std.proofs.lemmas.Bool.{false≢true, lt-ltb, ltb-false, ltb-true}
@@ -9,92 +9,96 @@ use Rattle.nv_calls.specs.Plain.{PlainNode}
 use Rattle.nv_calls.specs.declared.answer.Answer.{Answer}
 use Rattle.nv_calls.specs.declared.call.Call.{Call}
 use Rattle.nv_calls.specs.declared.call.Call.TheVariants as call
-use Rattle.nv_core.specs.machine.Answered.{GoesToAnswer, IsAnsweredAs, IsLast, IsMovedTo, IsToBeAnswered, answer_of}
+use Rattle.nv_core.specs.machine.Answered.{GoesTo, IsFinal, IsLast, IsMovedOn, IsMovedTo, IsToEnd, answer_of}
 use Rattle.nv_core.specs.machine.Kept.{IsKept, Knows, KnowsOf}
-use Rattle.nv_core.specs.machine.Kinds.{back_turn, end_turn, over_turn, rest_turn, unlocked_turn}
+use Rattle.nv_core.specs.machine.Kinds.{back_turn, end_turn, over_turn, rest_turn, result_by, unlocked_turn}
 use Rattle.nv_core.specs.machine.Locks.{AreLocks, commits_at}
 use Rattle.nv_core.specs.machine.PlainRun.{Commits, Deed, Nothing, Numbers, deed, deed_by, deed_of, entered, keeps_nodes}
 use Rattle.nv_core.specs.machine.Reads.{written_slots}
 use Rattle.nv_core.specs.machine.Sequence.{Visits, beginning, closing, publishing, retiring}
-use Rattle.nv_core.specs.machine.Step.{Step, go_step, kind_turn, step, turn, turned}
+use Rattle.nv_core.specs.machine.Step.{Step, go_step, kind_turn, reply_of, step, turn, turned}
 use Rattle.nv_core.specs.machine.World.{Actor, Answers, Append, Back, Check, Close, Done, Ending, Ends, Enter, Give, Go, HandState, Leave, Lock, Look, Moved, Moves, Next, Number, Open, Overtaken, Publish, Ready, Refuses, Retire, Running, Shared, TakeBlocks, TakePages, Turn, Unlock, Visit, Waits, World, actor_at, go_to, idle}
 use Rattle.nv_core.proofs.steps.Events.{go_is_turn}
 
--- a turn goes towards the answer of a call
-abbrev OnAnswer : Answer → Turn → Type 0
-OnAnswer found (Moves t h q) = IsToBeAnswered q × (answer_of q ≡ found)
-OnAnswer found Waits = ⊥
-OnAnswer found (Ends result t h) = result ≡ Ok found
+-- a turn goes towards an end of a call
+abbrev OnEnd : Ending → Running → Turn → Type 0
+OnEnd e r (Moves t h q) = IsToEnd e q × (answer_of q ≡ answer_of r)
+OnEnd e r Waits = ⊥
+OnEnd e r (Ends result t h) = result ≡ result_by e r
 
-rest_answer : (home number : Option ℕ) (s : Shared) (h : HandState) (r : Running) → r.ending ≡ Answers
-    → OnAnswer (answer_of r) (rest_turn home number s h r)
-rest_answer (Some cpu) number s h r e = (record { answers = e; last = tt }, refl)
-rest_answer None (Some ino) s h r e = (record { answers = e; last = tt }, refl)
-rest_answer None None s h r e = rw e refl
+rest_end : (e : Ending) (home number : Option ℕ) (s : Shared) (h : HandState) (r : Running) → r.ending ≡ e
+    → OnEnd e r (rest_turn home number s h r)
+rest_end e (Some cpu) number s h r is = (record { ends = is; last = tt }, refl)
+rest_end e None (Some ino) s h r is = (record { ends = is; last = tt }, refl)
+rest_end e None None s h r is = rw is refl
 
-over_answer : (e : Ending) (s : Shared) (h : HandState) (r : Running) → e ≡ Answers → r.ending ≡ Answers
-    → OnAnswer (answer_of r) (over_turn e s h r)
-over_answer Answers s h r e f = rest_answer _ h.ino s h r f
-over_answer (Refuses fault) s h r e f = cc
-over_answer Overtaken s h r e f = cc
+over_end : (e : Ending) (s : Shared) (h : HandState) (r : Running) → IsFinal e → r.ending ≡ e
+    → OnEnd e r (over_turn e s h r)
+over_end Answers s h r final is = rest_end Answers _ h.ino s h r is
+over_end (Refuses fault) s h r final is = rest_end (Refuses fault) _ h.ino s h r is
+over_end Overtaken s h r final is = absurd final
 
-end_answer : (slots : List ℕ) (s : Shared) (h : HandState) (r : Running) → r.ending ≡ Answers
-    → OnAnswer (answer_of r) (end_turn slots r.ending s h r)
-end_answer [] s h r e = over_answer r.ending s h (record r { ending = r.ending }) e e
-end_answer (slot ∷ slots) s h r e = (record { answers = e; last = tt }, refl)
+unlocked_end : (e : Ending) (s : Shared) (h : HandState) (r : Running) → IsFinal e → r.ending ≡ e
+    → OnEnd e r (over_turn r.ending s h r)
+unlocked_end e s h r final is = subst (λ x. OnEnd e r (over_turn x s h r)) (sym is) (over_end e s h r final is)
 
-retiring_answer : (place : ℕ) (r : Running) → r.ending ≡ Answers → IsToBeAnswered (go_to (retiring place (written_slots r)) r)
-retiring_answer place r e = record { answers = e; last = go (nat_lt place (length (written_slots r))) } where
+end_end : (e : Ending) (slots : List ℕ) (s : Shared) (h : HandState) (r : Running) → IsFinal e → r.ending ≡ e
+    → OnEnd e r (end_turn slots r.ending s h r)
+end_end e [] s h r final is = unlocked_end e s h (record r { ending = r.ending }) final is
+end_end e (slot ∷ slots) s h r final is = (record { ends = is; last = tt }, refl)
+
+retiring_end : (e : Ending) (place : ℕ) (r : Running) → r.ending ≡ e → IsToEnd e (go_to (retiring place (written_slots r)) r)
+retiring_end e place r is = record { ends = is; last = go (nat_lt place (length (written_slots r))) } where
   go : (b : Bool) → IsLast (if b then Retire place else Leave)
   go true = tt
   go false = tt
 
-unlock_answer : (more : Bool) (place : ℕ) (s : Shared) (h : HandState) (r : Running) → r.ending ≡ Answers
-    → OnAnswer (answer_of r) (unlocked_turn more place s h r)
-unlock_answer true place s h r e = (record { answers = e; last = tt }, refl)
-unlock_answer false place s h r e = over_answer r.ending s h r e e
+unlock_end : (e : Ending) (more : Bool) (place : ℕ) (s : Shared) (h : HandState) (r : Running) → IsFinal e → r.ending ≡ e
+    → OnEnd e r (unlocked_turn more place s h r)
+unlock_end e true place s h r final is = (record { ends = is; last = tt }, refl)
+unlock_end e false place s h r final is = unlocked_end e s h r final is
 
-back_answer : (number : Option ℕ) (s : Shared) (h : HandState) (r : Running) → r.ending ≡ Answers
-    → OnAnswer (answer_of r) (back_turn number s h r)
-back_answer None s h r e = rw e refl
-back_answer (Some ino) s h r e = rw e refl
+back_end : (e : Ending) (number : Option ℕ) (s : Shared) (h : HandState) (r : Running) → r.ending ≡ e
+    → OnEnd e r (back_turn number s h r)
+back_end e None s h r is = rw is refl
+back_end e (Some ino) s h r is = rw is refl
 
-kind_answer : (k : Next) (block a : ℕ) (granted : Bool) (s : Shared) (h : HandState) (r : Running) → r.ending ≡ Answers → IsLast k
-    → OnAnswer (answer_of r) (kind_turn k block a granted s h r)
-kind_answer (Retire place) block a granted s h r e last = (retiring_answer (place + 1) r e, refl)
-kind_answer Leave block a granted s h r e last = end_answer r.slots _ h r e
-kind_answer (Unlock place) block a granted s h r e last = unlock_answer _ place _ h r e
-kind_answer (Give cpu) block a granted s h r e last = rest_answer _ h.ino _ _ r e
-kind_answer Back block a granted s h r e last = back_answer h.ino s h r e
-kind_answer Number block a granted s h r e last = absurd last
-kind_answer (Look place) block a granted s h r e last = absurd last
-kind_answer (Lock place) block a granted s h r e last = absurd last
-kind_answer Check block a granted s h r e last = absurd last
-kind_answer (TakeBlocks asked) block a granted s h r e last = absurd last
-kind_answer (TakePages asked) block a granted s h r e last = absurd last
-kind_answer Ready block a granted s h r e last = absurd last
-kind_answer Enter block a granted s h r e last = absurd last
-kind_answer (Append place) block a granted s h r e last = absurd last
-kind_answer Open block a granted s h r e last = absurd last
-kind_answer (Publish place) block a granted s h r e last = absurd last
-kind_answer Close block a granted s h r e last = absurd last
-kind_answer Visit block a granted s h r e last = absurd last
+kind_end : (e : Ending) (k : Next) (block a : ℕ) (granted : Bool) (s : Shared) (h : HandState) (r : Running) → IsFinal e
+    → r.ending ≡ e → IsLast k → OnEnd e r (kind_turn k block a granted s h r)
+kind_end e (Retire place) block a granted s h r final is last = (retiring_end e (place + 1) r is, refl)
+kind_end e Leave block a granted s h r final is last = end_end e r.slots _ h r final is
+kind_end e (Unlock place) block a granted s h r final is last = unlock_end e _ place _ h r final is
+kind_end e (Give cpu) block a granted s h r final is last = rest_end e _ h.ino _ _ r is
+kind_end e Back block a granted s h r final is last = back_end e h.ino s h r is
+kind_end e Number block a granted s h r final is last = absurd last
+kind_end e (Look place) block a granted s h r final is last = absurd last
+kind_end e (Lock place) block a granted s h r final is last = absurd last
+kind_end e Check block a granted s h r final is last = absurd last
+kind_end e (TakeBlocks asked) block a granted s h r final is last = absurd last
+kind_end e (TakePages asked) block a granted s h r final is last = absurd last
+kind_end e Ready block a granted s h r final is last = absurd last
+kind_end e Enter block a granted s h r final is last = absurd last
+kind_end e (Append place) block a granted s h r final is last = absurd last
+kind_end e Open block a granted s h r final is last = absurd last
+kind_end e (Publish place) block a granted s h r final is last = absurd last
+kind_end e Close block a granted s h r final is last = absurd last
+kind_end e Visit block a granted s h r final is last = absurd last
 
 -- ---- commit points
 
 -- the one publish of a commit of one inode leads to its retire
 single : (place : ℕ) (r : Running) → r.ending ≡ Answers → nat_lt 1 (length (written_slots r)) ≡ false
-    → IsToBeAnswered (go_to (publishing (place + 1) (written_slots r)) r)
+    → IsToEnd Answers (go_to (publishing (place + 1) (written_slots r)) r)
 single place r e one = go (nat_lt (place + 1) (length (written_slots r))) refl where
   few : length (written_slots r) ≤ 1
   few = ltb-false 1 (length (written_slots r)) one
 
-  close : (b : Bool) → b ≡ false → IsToBeAnswered (go_to (if b then Close else retiring 0 (written_slots r)) r)
+  close : (b : Bool) → b ≡ false → IsToEnd Answers (go_to (if b then Close else retiring 0 (written_slots r)) r)
   close true q = cc
-  close false q = retiring_answer 0 r e
+  close false q = retiring_end Answers 0 r e
 
   go : (b : Bool) → nat_lt (place + 1) (length (written_slots r)) ≡ b
-      → IsToBeAnswered (go_to (if b then Publish (place + 1) else closing (written_slots r)) r)
+      → IsToEnd Answers (go_to (if b then Publish (place + 1) else closing (written_slots r)) r)
   go true q = absurd (omega (arith, few, ltb-true (place + 1) (length (written_slots r)) q))
   go false q = close (nat_lt 1 (length (written_slots r))) one
 
@@ -114,8 +118,8 @@ entered_none Waits e = no_commit e
 entered_none (Ends result s h) e = no_commit e
 
 commit_answer : (k : Next) (block a cpu : ℕ) (granted : Bool) (s : Shared) (h : HandState) (r : Running) → Knows k block s cpu h r
-    → deed k (written_slots r) (kind_turn k block a granted s h r) ≡ Commits → OnAnswer (answer_of r) (kind_turn k block a granted s h r)
-commit_answer Close block a cpu granted s h r knows e = (retiring_answer 0 r knows.1, refl)
+    → deed k (written_slots r) (kind_turn k block a granted s h r) ≡ Commits → OnEnd Answers r (kind_turn k block a granted s h r)
+commit_answer Close block a cpu granted s h r knows e = (retiring_end Answers 0 r knows.1, refl)
 commit_answer (Publish place) block a cpu granted s h r knows e =
     (single place r knows.1 (is_single (nat_lt 1 (length (written_slots r))) e), refl)
 commit_answer Enter block a cpu granted s h r knows e = absurd (entered_none _ e)
@@ -137,24 +141,24 @@ commit_answer Visit block a cpu granted s h r knows e = absurd (no_commit e)
 
 -- ---- events
 
-turned_answer : (t : Turn) (actor : ℕ) (w : World) (r : Running) → actor < length w.actors → OnAnswer (answer_of r) t
-    → GoesToAnswer actor r (turned t actor w)
-turned_answer (Moves s h q) actor w r there on = inl (
+turned_end : (e : Ending) (t : Turn) (actor : ℕ) (w : World) (r : Running) → actor < length w.actors → OnEnd e r t
+    → GoesTo e actor r (turned t actor w)
+turned_end e (Moves s h q) actor w r there on = inl (
   refl,
-  subst (λ (x : Actor). IsMovedTo r x.running) (sym (get_or-set_same w.actors actor (record { hand = h; running = Some q }) idle there))
+  subst (λ (x : Actor). IsMovedTo e r x.running) (sym (get_or-set_same w.actors actor (record { hand = h; running = Some q }) idle there))
       (record { waits = on.0; answer = on.1 }),
 )
-turned_answer Waits actor w r there on = absurd on
-turned_answer (Ends result s h) actor w r there on = inr (rw on refl)
+turned_end e Waits actor w r there on = absurd on
+turned_end e (Ends result s h) actor w r there on = inr (ap reply_of on)
 
-pub goes_to_answer : (w : World) (actor : ℕ) (granted : Bool) (r : Running) → actor < length w.actors → (actor_at w actor).running ≡ Some r
-    → IsToBeAnswered r → GoesToAnswer actor r (step w (Go actor granted))
-goes_to_answer w actor granted r there is waits =
-    subst (GoesToAnswer actor r)
+pub goes_to_end : (e : Ending) (w : World) (actor : ℕ) (granted : Bool) (r : Running) → IsFinal e → actor < length w.actors
+    → (actor_at w actor).running ≡ Some r → IsToEnd e r → GoesTo e actor r (step w (Go actor granted))
+goes_to_end e w actor granted r final there is waits =
+    subst (GoesTo e actor r)
     (sym (go_is_turn (nat_lt actor (length w.actors)) (actor_at w actor).running w actor granted r
     (lt-ltb actor (length w.actors) there) is))
-    (turned_answer (turn w.numbers.block actor granted w.shared (actor_at w actor).hand r) actor w r there
-    (kind_answer r.next w.numbers.block actor granted w.shared (actor_at w actor).hand r waits.answers waits.last))
+    (turned_end e (turn w.numbers.block actor granted w.shared (actor_at w actor).hand r) actor w r there
+    (kind_end e r.next w.numbers.block actor granted w.shared (actor_at w actor).hand r final waits.ends waits.last))
 
 pub deed_is : (b : Bool) (running : Option Running) (w : World) (actor : ℕ) (granted : Bool) (r : Running) → b ≡ true → running ≡ Some r
     → (if b then deed_by running w actor granted else Nothing)
@@ -162,12 +166,12 @@ pub deed_is : (b : Bool) (running : Option Running) (w : World) (actor : ℕ) (g
 deed_is b running w actor granted r there is = rw there (rw is refl)
 
 pub commits_to_answer : (w : World) (actor : ℕ) (granted : Bool) (r : Running) → IsKept w → actor < length w.actors
-    → (actor_at w actor).running ≡ Some r → deed_of w (Go actor granted) ≡ Commits → GoesToAnswer actor r (step w (Go actor granted))
+    → (actor_at w actor).running ≡ Some r → deed_of w (Go actor granted) ≡ Commits → GoesTo Answers actor r (step w (Go actor granted))
 commits_to_answer w actor granted r kept there is e =
     let inside = lt-ltb actor (length w.actors) there in
-    subst (GoesToAnswer actor r)
+    subst (GoesTo Answers actor r)
     (sym (go_is_turn (nat_lt actor (length w.actors)) (actor_at w actor).running w actor granted r inside is))
-    (turned_answer (turn w.numbers.block actor granted w.shared (actor_at w actor).hand r) actor w r there
+    (turned_end Answers (turn w.numbers.block actor granted w.shared (actor_at w actor).hand r) actor w r there
     (commit_answer r.next w.numbers.block actor (actor % length w.shared.lists) granted w.shared (actor_at w actor).hand r
     (subst (λ (running : Option Running). KnowsOf running w.numbers.block w.shared (actor % length w.shared.lists)
     (actor_at w actor).hand) is (kept.each actor))

@@ -12,22 +12,22 @@ use Rattle.nv_calls.specs.declared.answer.Answer.{Answer}
 use Rattle.nv_calls.specs.declared.looked.Looked.{Looked}
 use Rattle.nv_core.specs.machine.Causes.{EndsFor, IsAtLimit, IsCause, IsDenied, IsLastRound, IsOvertaken, IsRefusal, IsShort, IsWithoutNumber, RefusesFor, ResultFor}
 use Rattle.nv_core.specs.machine.Kinds.{again_turn, asked_list, back_turn, blocks_in, blocks_turn, check_ending, check_turn, end_turn, enter_turn, give_turn, grown, lock_turn, look_tests, look_turn, number_turn, over_turn, pages_turn, rest_turn, unlocked_turn, visit_turn, wants_blocks, wants_pages}
-use Rattle.nv_core.specs.machine.Reads.{copies, home_from}
-use Rattle.nv_core.specs.machine.Sequence.{beginning}
+use Rattle.nv_core.specs.machine.Reads.{copies, home_from, slots_of, written_slots}
+use Rattle.nv_core.specs.machine.Sequence.{appending, beginning, locking, looking, publishing, retiring}
 use Rattle.nv_core.specs.machine.Step.{ending_at, is_numbered, kind_turn, made_in, same_looked, visit_grows, with_made}
 use Rattle.nv_core.specs.machine.World.{Answers, Append, Back, Check, Close, Ending, Ends, Enter, Give, HandState, Leave, Lock, Look, Moves, Next, Number, Open, Overtaken, Publish, Ready, Refuses, Retire, Running, Shared, TakeBlocks, TakePages, Turn, Unlock, Visit, Waits, list_at}
 
 -- ---- a call that goes on or is answered
 
-unrefused : (P : Fault → Type 0) (e : Ending) → e ≡ Answers → EndsFor P e
-unrefused P Answers e = tt
-unrefused P (Refuses fault) e = cc
-unrefused P Overtaken e = tt
+unrefused : (P : Fault → Type 0) (next : Next) (e : Ending) → e ≡ Answers → EndsFor P next e
+unrefused P next Answers e = tt
+unrefused P next (Refuses fault) e = cc
+unrefused P next Overtaken e = tt
 
 rest_unrefused : (P : Fault → Type 0) (home number : Option ℕ) (s : Shared) (h : HandState) (r : Running) → r.ending ≡ Answers
     → RefusesFor P (rest_turn home number s h r)
-rest_unrefused P (Some cpu) number s h r e = unrefused P r.ending e
-rest_unrefused P None (Some ino) s h r e = unrefused P r.ending e
+rest_unrefused P (Some cpu) number s h r e = unrefused P (Give cpu) r.ending e
+rest_unrefused P None (Some ino) s h r e = unrefused P Back r.ending e
 rest_unrefused P None None s h r e = rw e tt
 
 over_unrefused : (P : Fault → Type 0) (e : Ending) (s : Shared) (h : HandState) (r : Running) → e ≡ Answers → r.ending ≡ Answers
@@ -39,20 +39,20 @@ over_unrefused P Overtaken s h r e f = cc
 end_unrefused : (P : Fault → Type 0) (slots : List ℕ) (s : Shared) (h : HandState) (r : Running) → r.ending ≡ Answers
     → RefusesFor P (end_turn slots r.ending s h r)
 end_unrefused P [] s h r e = over_unrefused P r.ending s h (record r { ending = r.ending }) e e
-end_unrefused P (slot ∷ slots) s h r e = unrefused P r.ending e
+end_unrefused P (slot ∷ slots) s h r e = unrefused P (Unlock 0) r.ending e
 
 -- ---- a call that is refused
 
 rest_refused : (P : Fault → Type 0) (fault : Fault) (home number : Option ℕ) (s : Shared) (h : HandState) (r : Running) → P fault
     → RefusesFor P (rest_turn home number s h (record r { ending = Refuses fault }))
-rest_refused P fault (Some cpu) number s h r p = p
-rest_refused P fault None (Some ino) s h r p = p
+rest_refused P fault (Some cpu) number s h r p = (p, tt)
+rest_refused P fault None (Some ino) s h r p = (p, tt)
 rest_refused P fault None None s h r p = p
 
 pub refused : (P : Fault → Type 0) (fault : Fault) (slots : List ℕ) (s : Shared) (h : HandState) (r : Running) → P fault
     → RefusesFor P (end_turn slots (Refuses fault) s h r)
 refused P fault [] s h r p = rest_refused P fault (home_from 0 0 s.lists (blocks_in h)) h.ino s h r p
-refused P fault (slot ∷ slots) s h r p = p
+refused P fault (slot ∷ slots) s h r p = (p, tt)
 
 denied : (P : Fault → Type 0) (granted : Bool) (t : Turn) (s : Shared) (h : HandState) (r : Running)
     → (granted ≡ false → P OutOfMemory) → RefusesFor P t → RefusesFor P (grown granted t s h r)
@@ -63,8 +63,8 @@ denied P false t s h r lack rest = refused P OutOfMemory r.slots s h r (lack ref
 
 number_caused : (P : Fault → Type 0) (numbers : List ℕ) (s : Shared) (h : HandState) (r : Running) → r.ending ≡ Answers
     → RefusesFor P (number_turn numbers s h r)
-number_caused P [] s h r e = unrefused P r.ending e
-number_caused P (ino ∷ numbers) s h r e = unrefused P r.ending e
+number_caused P [] s h r e = unrefused P (locking 0 (slots_of s None r.looked r.call)) r.ending e
+number_caused P (ino ∷ numbers) s h r e = unrefused P (locking 0 (slots_of s (Some ino) r.looked r.call)) r.ending e
 
 look_told : (place : ℕ) (tests : Tests) (fault : Fault) → look_tests place tests ≡ Err fault → tests ≡ Err fault
 look_told zero tests fault e = e
@@ -74,22 +74,23 @@ look_caused : (P : Fault → Type 0) (owner : Option ℕ) (tests : Tests) (found
     → ((fault : Fault) → tests ≡ Err fault → P fault) → r.ending ≡ Answers → RefusesFor P (look_turn owner tests found place s h r)
 look_caused P (Some other) tests found place s h r told e = tt
 look_caused P None (Err fault) found place s h r told e = refused P fault [] s h r (told fault refl)
-look_caused P None (Ok passed) found place s h r told e = unrefused P r.ending e
+look_caused P None (Ok passed) found place s h r told e =
+    unrefused P (looking (place + 1) (record r { looked = found; slots = slots_of s None found r.call })) r.ending e
 
 lock_caused : (P : Fault → Type 0) (owner : Option ℕ) (actor place : ℕ) (s : Shared) (h : HandState) (r : Running) → r.ending ≡ Answers
     → RefusesFor P (lock_turn owner actor place s h r)
 lock_caused P (Some other) actor place s h r e = tt
-lock_caused P None actor place s h r e = unrefused P r.ending e
+lock_caused P None actor place s h r e = unrefused P (locking (place + 1) r.slots) r.ending e
 
 pages_unrefused : (P : Fault → Type 0) (n : ℕ) (s : Shared) (h : HandState) (r : Running) → r.ending ≡ Answers
     → RefusesFor P (wants_pages n s h r)
-pages_unrefused P zero s h r e = unrefused P r.ending e
-pages_unrefused P (suc n) s h r e = unrefused P r.ending e
+pages_unrefused P zero s h r e = unrefused P Ready r.ending e
+pages_unrefused P (suc n) s h r e = unrefused P (TakePages 0) r.ending e
 
 blocks_unrefused : (P : Fault → Type 0) (n block : ℕ) (s : Shared) (h : HandState) (r : Running) → r.ending ≡ Answers
     → RefusesFor P (wants_blocks n block s h r)
 blocks_unrefused P zero block s h r e = pages_unrefused P _ s h r e
-blocks_unrefused P (suc n) block s h r e = unrefused P r.ending e
+blocks_unrefused P (suc n) block s h r e = unrefused P (TakeBlocks 0) r.ending e
 
 again_caused : (P : Fault → Type 0) (rounds : ℕ) (s : Shared) (h : HandState) (r : Running) → (rounds ≡ 0 → P Contended)
     → RefusesFor P (again_turn rounds s h r)
@@ -124,7 +125,7 @@ first_refuses block s r fault e = ap (λ tests. and_then tests (late block (copi
 
 check_caused : (ending : Option Ending) (granted : Bool) (wanted block actor : ℕ) (s : Shared) (h : HandState) (r q : Running)
     → CheckCause (early (copies s) r.call) (same_looked (looked (copies s) r.call) r.looked) (refusal block (copies s) r.call)
-        (is_numbered (beginning r.call) h.ino) ending
+    (is_numbered (beginning r.call) h.ino) ending
     → q.slots ≡ r.slots → q.rounds ≡ r.rounds → q.ending ≡ Answers
     → RefusesFor (IsCause Check block actor granted s h r) (check_turn ending granted wanted block s h q)
 check_caused None granted wanted block actor s h r q told slots rounds e =
@@ -143,13 +144,13 @@ check_caused (Some (Refuses fault)) granted wanted block actor s h r q told slot
 blocks_caused : (P : Fault → Type 0) (left : ℕ) (more : Bool) (asked block : ℕ) (s : Shared) (h : HandState) (r : Running)
     → (0 < left → more ≡ false → P NoSpace) → r.ending ≡ Answers → RefusesFor P (blocks_turn left more asked block s h r)
 blocks_caused P zero more asked block s h r short e = pages_unrefused P _ s h r e
-blocks_caused P (suc n) true asked block s h r short e = unrefused P r.ending e
+blocks_caused P (suc n) true asked block s h r short e = unrefused P (TakeBlocks (asked + 1)) r.ending e
 blocks_caused P (suc n) false asked block s h r short e = refused P NoSpace r.slots s h r (short (omega arith) refl)
 
 pages_caused : (P : Fault → Type 0) (left : ℕ) (more : Bool) (asked : ℕ) (s : Shared) (h : HandState) (r : Running)
     → (0 < left → more ≡ false → P NoSpace) → r.ending ≡ Answers → RefusesFor P (pages_turn left more asked s h r)
-pages_caused P zero more asked s h r short e = unrefused P r.ending e
-pages_caused P (suc n) true asked s h r short e = unrefused P r.ending e
+pages_caused P zero more asked s h r short e = unrefused P Ready r.ending e
+pages_caused P (suc n) true asked s h r short e = unrefused P (TakePages (asked + 1)) r.ending e
 pages_caused P (suc n) false asked s h r short e = refused P NoSpace r.slots s h r (short (omega arith) refl)
 
 short_list : (s : Shared) (cpu asked : ℕ) (r : Running) → 0 < r.wanted - length (list_at s cpu).blocks
@@ -166,11 +167,11 @@ enter_caused : (holder : Option ℕ) (block actor a : ℕ) (last granted : Bool)
 enter_caused (Some other) block actor a last granted s h r limit e = tt
 enter_caused None block actor a true granted s h r limit e = refused _ CommitLimit r.slots s h r (inl (refl, limit refl))
 enter_caused None block actor a false granted s h r limit e =
-    denied _ granted _ s h r (λ lack. inr (refl, lack)) (unrefused _ r.ending e)
+    denied _ granted _ s h r (λ lack. inr (refl, lack)) (unrefused _ (appending 0 (written_slots r)) r.ending e)
 
 unlocked_caused : (P : Fault → Type 0) (more : Bool) (place : ℕ) (s : Shared) (h : HandState) (r : Running) → r.ending ≡ Answers
     → RefusesFor P (unlocked_turn more place s h r)
-unlocked_caused P true place s h r e = unrefused P r.ending e
+unlocked_caused P true place s h r e = unrefused P (Unlock (place + 1)) r.ending e
 unlocked_caused P false place s h r e = over_unrefused P r.ending s h r e e
 
 back_caused : (P : Fault → Type 0) (number : Option ℕ) (s : Shared) (h : HandState) (r : Running) → r.ending ≡ Answers
@@ -207,14 +208,14 @@ caused (TakeBlocks asked) block actor granted s h r e =
     blocks_caused _ _ _ asked block _ _ r (short_list s (asked_list (length s.lists) actor asked) asked r) e
 caused (TakePages asked) block actor granted s h r e =
     pages_caused _ _ _ asked _ _ r (short_list s (asked_list (length s.lists) actor asked) asked r) e
-caused Ready block actor granted s h r e = denied _ granted _ s h r (λ lack. (refl, lack)) (unrefused _ r.ending e)
+caused Ready block actor granted s h r e = denied _ granted _ s h r (λ lack. (refl, lack)) (unrefused _ Enter r.ending e)
 caused Enter block actor granted s h r e =
     enter_caused s.holder block actor actor (nat_le NUMBER s.book.commit) granted s h r (leb-true NUMBER s.book.commit) e
-caused (Append place) block actor granted s h r e = unrefused _ r.ending e
-caused Open block actor granted s h r e = unrefused _ r.ending e
-caused (Publish place) block actor granted s h r e = unrefused _ r.ending e
-caused Close block actor granted s h r e = unrefused _ r.ending e
-caused (Retire place) block actor granted s h r e = unrefused _ r.ending e
+caused (Append place) block actor granted s h r e = unrefused _ (appending (place + 1) (written_slots r)) r.ending e
+caused Open block actor granted s h r e = unrefused _ (publishing 0 (written_slots r)) r.ending e
+caused (Publish place) block actor granted s h r e = unrefused _ (publishing (place + 1) (written_slots r)) r.ending e
+caused Close block actor granted s h r e = unrefused _ (retiring 0 (written_slots r)) r.ending e
+caused (Retire place) block actor granted s h r e = unrefused _ (retiring (place + 1) (written_slots r)) r.ending e
 caused Leave block actor granted s h r e = end_unrefused _ r.slots _ h r e
 caused (Unlock place) block actor granted s h r e = unlocked_caused _ _ place _ h r e
 caused (Give cpu) block actor granted s h r e = rest_unrefused _ _ h.ino _ _ r e

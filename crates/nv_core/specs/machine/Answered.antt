@@ -2,8 +2,9 @@
 use Rattle.std.specs.Prelude.{◌≡◌, ◌⊎◌, ℕ, Option, Some, None}
 use Rattle.nv_calls.specs.AllCalls.{answer}
 use Rattle.nv_calls.specs.declared.answer.Answer.{Answer}
-use Rattle.nv_core.specs.machine.Step.{Step}
-use Rattle.nv_core.specs.machine.World.{Answers, Back, Done, Give, Leave, Moved, Next, Retire, Running, Unlock, World, actor_at}
+use Rattle.nv_core.specs.machine.Kinds.{result_by}
+use Rattle.nv_core.specs.machine.Step.{Step, reply_of}
+use Rattle.nv_core.specs.machine.World.{Answers, Back, Ending, Give, Leave, Moved, Next, Overtaken, Refuses, Retire, Running, Unlock, World, actor_at}
 
 -- no step is left that decides anything: parts are retired, and what is locked or in the hand is given up
 abbrev pub IsLast : Next → Type 0
@@ -14,9 +15,15 @@ IsLast (Give cpu) = Unit {0}
 IsLast Back = Unit {0}
 IsLast other = ⊥
 
--- a call is to be answered, and has only such steps left
-pub record IsToBeAnswered (r : Running) : Type 0 where
-  pub answers : r.ending ≡ Answers
+-- how a call may end that has only such steps left: there is no further round
+abbrev pub IsFinal : Ending → Type 0
+IsFinal Answers = Unit {0}
+IsFinal (Refuses fault) = Unit {0}
+IsFinal Overtaken = ⊥
+
+-- a call is to end so, and has only such steps left
+pub record IsToEnd (e : Ending) (r : Running) : Type 0 where
+  pub ends : r.ending ≡ e
   pub last : IsLast r.next
 
 -- what a call is answered that makes a commit, which no node tells
@@ -24,15 +31,15 @@ abbrev pub answer_of : Running → Answer
 answer_of r = answer (λ handle. None) r.made r.call
 
 -- the same call, with the same answer
-pub record IsAnsweredAs (before after : Running) : Type 0 where
-  pub waits : IsToBeAnswered after
+pub record IsMovedOn (e : Ending) (before after : Running) : Type 0 where
+  pub waits : IsToEnd e after
   pub answer : answer_of after ≡ answer_of before
 
-abbrev pub IsMovedTo : Running → Option Running → Type 0
-IsMovedTo before None = ⊥
-IsMovedTo before (Some after) = IsAnsweredAs before after
+abbrev pub IsMovedTo : Ending → Running → Option Running → Type 0
+IsMovedTo e before None = ⊥
+IsMovedTo e before (Some after) = IsMovedOn e before after
 
--- a step moves the call on towards its answer, or is its last and answers it
-abbrev pub GoesToAnswer : ℕ → Running → Step → Type 0
-GoesToAnswer actor r made =
-    ((made.reply ≡ Moved) × IsMovedTo r (actor_at made.world actor).running) ⊎ (made.reply ≡ Done (answer_of r))
+-- a step moves the call on towards its end, or is its last and replies that
+abbrev pub GoesTo : Ending → ℕ → Running → Step → Type 0
+GoesTo e actor r made =
+    ((made.reply ≡ Moved) × IsMovedTo e r (actor_at made.world actor).running) ⊎ (made.reply ≡ reply_of (result_by e r))

@@ -5,11 +5,12 @@ use Rattle.nv_base.specs.declared.fault.Fault.TheVariants.{CommitLimit, Contende
 use Rattle.nv_base.specs.declared.limits.TheConstants.{NUMBER}
 use Rattle.nv_calls.specs.AllCalls.{look_refusal, looked, refusal}
 use Rattle.nv_calls.specs.declared.answer.Answer.{Answer}
+use Rattle.nv_core.specs.machine.Answered.{IsLast}
 use Rattle.nv_core.specs.machine.Kinds.{asked_list}
 use Rattle.nv_core.specs.machine.Reads.{copies}
 use Rattle.nv_core.specs.machine.Sequence.{beginning}
 use Rattle.nv_core.specs.machine.Step.{is_numbered, same_looked, visit_grows}
-use Rattle.nv_core.specs.machine.World.{Answers, Back, Check, Ending, Ends, Enter, Give, HandState, Look, Moves, Next, Overtaken, Ready, Refuses, Running, Shared, TakeBlocks, TakePages, Turn, Unlock, Visit, Waits, list_at}
+use Rattle.nv_core.specs.machine.World.{Answers, Check, Ending, Ends, Enter, HandState, Look, Moves, Next, Overtaken, Ready, Refuses, Running, Shared, TakeBlocks, TakePages, Turn, Visit, Waits, list_at}
 
 -- ---- causes
 
@@ -57,11 +58,11 @@ IsCause other block actor granted s h r fault = ⊥
 
 -- ---- a step that refuses its call
 
--- whatever fault a call is to end with meets this
-abbrev pub EndsFor : (Fault → Type 0) → Ending → Type 0
-EndsFor P (Refuses fault) = P fault
-EndsFor P Answers = Unit {0}
-EndsFor P Overtaken = Unit {0}
+-- whatever fault a call is to end with meets this, and the call has only its last steps left
+abbrev pub EndsFor : (Fault → Type 0) → Next → Ending → Type 0
+EndsFor P next (Refuses fault) = P fault × IsLast next
+EndsFor P next Answers = Unit {0}
+EndsFor P next Overtaken = Unit {0}
 
 abbrev pub ResultFor : (Fault → Type 0) → Result Answer Fault → Type 0
 ResultFor P (Ok found) = Unit {0}
@@ -69,6 +70,6 @@ ResultFor P (Err fault) = P fault
 
 -- whatever fault a turn refuses its call for meets this: the call is to end with it, or ends with it now
 abbrev pub RefusesFor : (Fault → Type 0) → Turn → Type 0
-RefusesFor P (Moves s h r) = EndsFor P r.ending
+RefusesFor P (Moves s h r) = EndsFor P r.next r.ending
 RefusesFor P Waits = Unit {0}
 RefusesFor P (Ends result s h) = ResultFor P result

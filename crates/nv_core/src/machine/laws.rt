@@ -12,7 +12,7 @@ ghost use Rattle.nv_calls.specs.Plain.{PlainNode, node_in, nodes_after};
 ghost use Rattle.nv_calls.specs.declared.call.Call.{Call};
 ghost use Rattle.nv_core.specs.machine.Bound.{AreNoStarts, bound_at, most_steps, moves};
 ghost use Rattle.nv_entry.specs.Sound.{IsSound};
-ghost use Rattle.nv_core.specs.machine.Answered.{GoesToAnswer, IsToBeAnswered};
+ghost use Rattle.nv_core.specs.machine.Answered.{GoesTo, IsFinal, IsToEnd};
 ghost use Rattle.nv_core.specs.machine.Causes.{IsCause, RefusesFor};
 ghost use Rattle.nv_core.specs.machine.Effects.{AreSound, HasPlanNow};
 ghost use Rattle.nv_core.specs.machine.Format.{formatted};
@@ -29,7 +29,7 @@ ghost use Rattle.nv_core.specs.machine.Reads.{written_slots};
 ghost use Rattle.nv_core.specs.machine.Sequence.{Visits, beginning};
 ghost use Rattle.nv_core.specs.machine.Settled.{settled, settled_nodes};
 ghost use Rattle.nv_core.specs.machine.Step.{after, stays, step, turn};
-ghost use Rattle.nv_core.specs.machine.World.{Answers, Event, Go, HandState, Refused, Running, Shared, Start, Started, Waiting, World, actor_at, cell_at, list_at};
+ghost use Rattle.nv_core.specs.machine.World.{Answers, Ending, Event, Go, HandState, Refused, Running, Shared, Start, Started, Waiting, World, actor_at, cell_at, list_at};
 
 /// A `Go` of an actor whose call runs makes the one step that comes next, and changes only its actor and the
 /// parts that the step is lent. A start changes its actor alone: one without a call has the call now, before its
@@ -144,17 +144,17 @@ pub fn the_plain_world_counts_commits()
         → (after w events).shared.book.commit ≡ (plain_after w events p).commit }
 {}
 
-/// A call that has made its commit point is answered, whatever follows: from there on each of its steps moves
-/// it on towards that answer, or is its last and replies it. So a call that ends refused has made none. Of
+/// A call that has made its commit point is answered, whatever follows, and one that was refused is answered that
+/// refusal: from there on each of its steps moves it on towards that end, or is its last and replies it. So a call that ends refused has made none. Of
 /// calls that commit no node tells the answer, so that it is the one of the commit point.
 pub fn what_commits_is_answered()
     ensures commits { (w : World) (actor : ℕ) (granted : Bool) (r : Running) → IsKept w
         → actor < length w.actors → (actor_at w actor).running ≡ Some r
         → deed_of w (Go actor granted) ≡ Commits
-        → GoesToAnswer actor r (step w (Go actor granted)) }
-    ensures goes { (w : World) (actor : ℕ) (granted : Bool) (r : Running) → actor < length w.actors
-        → (actor_at w actor).running ≡ Some r → IsToBeAnswered r
-        → GoesToAnswer actor r (step w (Go actor granted)) }
+        → GoesTo Answers actor r (step w (Go actor granted)) }
+    ensures goes { (e : Ending) (w : World) (actor : ℕ) (granted : Bool) (r : Running) → IsFinal e
+        → actor < length w.actors → (actor_at w actor).running ≡ Some r → IsToEnd e r
+        → GoesTo e actor r (step w (Go actor granted)) }
     ensures same { (nodes other : Handle → Option PlainNode) (made : Handle) (c : Call)
         → (beginning c ≡ Visits → ⊥) → answer nodes made c ≡ answer other made c }
 {}
@@ -217,10 +217,10 @@ pub fn new_worlds_lead_where_laws_hold()
         → (handle : Handle) → settled_nodes (step w e).world.shared handle ≡ settled_nodes w.shared handle }
 {}
 
-/// A step that refuses a call not yet refused does so for a fault whose cause is there at that step: what the plain
-/// world refuses at the look, the check or the visit; no number was free; the last list was asked and is short; no
-/// further commit number is there; names were bound anew and no round is left; or memory that the step asks for was
-/// not granted.
+/// A step that refuses a call does so for a fault whose cause is there at that step: the plain world refuses the call at
+/// the look, the check or the visit; no number was free; the last list was asked and is short; no further commit
+/// number is there; names were bound anew and no round is left; or memory that the step asks for was not granted. The
+/// call has only its last steps left then, which lead to that refusal ([`what_commits_is_answered`]).
 pub fn refusals_have_causes()
     ensures { (block actor : ℕ) (granted : Bool) (s : Shared) (h : HandState) (r : Running)
         → r.ending ≡ Answers
