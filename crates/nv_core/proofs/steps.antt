@@ -44,3 +44,6 @@ pub mod Appended
 pub mod Settling
 pub mod GrownRuns
 pub mod Effects
+pub mod FitsCalls
+pub mod FitsRuns
+pub mod FitsStages

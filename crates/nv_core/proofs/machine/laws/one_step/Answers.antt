@@ -1,3 +1,6 @@
+use Rattle.nv_core.proofs.steps.FitsCalls.{plan_all}
+use Rattle.nv_core.proofs.steps.FitsStages.{fits_still}
+use Rattle.nv_core.proofs.steps.FitsRuns.{is_ready}
 use Rattle.nv_core.proofs.steps.Events.{busy, goes, idles, nobody, starts}
 use Rattle.nv_core.proofs.machine.laws.one_step.Goals as goal
 
