@@ -47,3 +47,5 @@ pub mod Effects
 pub mod FitsCalls
 pub mod FitsRuns
 pub mod FitsStages
+pub mod FitsCells
+pub mod FitsTurns

@@ -1,3 +1,5 @@
+use Rattle.nv_core.proofs.steps.FitsTurns.{single_fits}
+use Rattle.nv_core.proofs.steps.FitsCells.{publish_logs}
 use Rattle.nv_core.proofs.steps.FitsCalls.{plan_all}
 use Rattle.nv_core.proofs.steps.FitsStages.{fits_still}
 use Rattle.nv_core.proofs.steps.FitsRuns.{is_ready}
