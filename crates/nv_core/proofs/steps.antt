@@ -49,3 +49,4 @@ pub mod FitsRuns
 pub mod FitsStages
 pub mod FitsCells
 pub mod FitsTurns
+pub mod FitsOwn

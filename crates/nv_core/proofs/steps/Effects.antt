@@ -41,7 +41,7 @@ use Rattle.nv_core.proofs.steps.Journals.{closed_tail}
 use Rattle.nv_core.proofs.steps.KeptRuns.{event_kept, none_closed}
 use Rattle.nv_core.proofs.steps.Settling.{SettlesAll}
 
-take_none : (n : ℕ) → take {A = Entry} n [] ≡ []
+pub take_none : (n : ℕ) → take {A = Entry} n [] ≡ []
 take_none zero = refl
 take_none (suc n) = refl
 

@@ -1,3 +1,4 @@
+use Rattle.nv_core.proofs.steps.FitsOwn.{same_stored}
 use Rattle.nv_core.proofs.steps.FitsTurns.{single_fits}
 use Rattle.nv_core.proofs.steps.FitsCells.{publish_logs}
 use Rattle.nv_core.proofs.steps.FitsCalls.{plan_all}
