@@ -50,3 +50,5 @@ pub mod FitsStages
 pub mod FitsCells
 pub mod FitsTurns
 pub mod FitsOwn
+pub mod FitsKinds
+pub mod FitsBytes

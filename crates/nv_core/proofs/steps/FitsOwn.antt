@@ -96,11 +96,11 @@ last_page block s (call.Rename from old to new) = refl
 
 -- ---- what is locked
 
-or_first : (b c : Bool) → b ≡ true → (b || c) ≡ true
+pub or_first : (b c : Bool) → b ≡ true → (b || c) ≡ true
 or_first true c e = refl
 or_first false c e = cc
 
-or_then : (b c : Bool) → c ≡ true → (b || c) ≡ true
+pub or_then : (b c : Bool) → c ≡ true → (b || c) ≡ true
 or_then true c e = refl
 or_then false c e = e
 

@@ -1,3 +1,5 @@
+use Rattle.nv_core.proofs.steps.FitsBytes.{point_fits}
+use Rattle.nv_core.proofs.steps.FitsKinds.{their_fits}
 use Rattle.nv_core.proofs.steps.FitsOwn.{same_stored}
 use Rattle.nv_core.proofs.steps.FitsTurns.{single_fits}
 use Rattle.nv_core.proofs.steps.FitsCells.{publish_logs}
