@@ -52,3 +52,4 @@ pub mod FitsTurns
 pub mod FitsOwn
 pub mod FitsKinds
 pub mod FitsBytes
+pub mod FitsEvents

@@ -26,6 +26,7 @@ use Rattle.nv_entry.specs.Blocks.{item_blocks}
 use Rattle.nv_entry.specs.Sound.{blocks_of}
 use Rattle.nv_entry.specs.declared.item.Entry.{Entry}
 use Rattle.nv_entry.specs.declared.item.Item.{Item}
+use Rattle.nv_core.specs.machine.FitsNumbers.{IsNumberFree}
 use Rattle.nv_core.specs.machine.Hands.{makes_inode}
 use Rattle.nv_core.specs.machine.Kinds.{check_ending, entries_for, ready_turn, with_entries}
 use Rattle.nv_core.specs.machine.Reads.{copies, filled, fresh_pages, has_last_page, if_number, is_written, nodes, plan_by, runs_of, slot_at, slots_in, slots_of, with_slot, written_slots}
@@ -186,11 +187,6 @@ passed_all (Ok passed) true (Err fault) numbered effect e = cc
 passed_all (Ok passed) true (Ok all) false effect e = cc
 passed_all (Ok passed) true (Ok all) true [] e = cc
 passed_all (Ok passed) true (Ok all) true (change ∷ effect) e = (refl, refl, refl)
-
--- a number whose slot has no entry
-pub record IsNumberFree (s : Shared) (ino : ℕ) : Type 0 where
-  pub inside : ino < length s.cells
-  pub empty : (cell_at s ino).chain.entries ≡ []
 
 module _ (block : ℕ) (s : Shared) (h : HandState) (r : Running)
     (logs : (ino : ℕ) → has r.slots ino ≡ true → settled s ino ≡ log_of (cell_at s ino)) where

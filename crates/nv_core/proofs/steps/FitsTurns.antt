@@ -90,7 +90,7 @@ module _ (block : ℕ) where
 
   -- ---- before the check
 
-  locking_fits : (place : ℕ) (slots : List ℕ) (s : Shared) (h : HandState) (r : Running) → r.slots ≡ slots_of s h.ino r.looked r.call
+  pub locking_fits : (place : ℕ) (slots : List ℕ) (s : Shared) (h : HandState) (r : Running) → r.slots ≡ slots_of s h.ino r.looked r.call
       → FitsAt (locking place slots) block s h r
   locking_fits place slots s h r e = go (nat_lt place (length slots)) where
     go : (b : Bool) → FitsAt (if b then Lock place else Check) block s h r
