@@ -53,3 +53,4 @@ pub mod FitsOwn
 pub mod FitsKinds
 pub mod FitsBytes
 pub mod FitsEvents
+pub mod FitsPlain

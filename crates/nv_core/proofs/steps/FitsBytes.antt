@@ -31,6 +31,7 @@ use Rattle.nv_entry.proofs.SoundLogs.{empty_sound}
 use Rattle.nv_core.specs.machine.Effects.{AreSound, HasPlanNow, settled_slots}
 use Rattle.nv_core.specs.machine.Hands.{makes_inode}
 use Rattle.nv_core.specs.machine.Kept.{AreApart, AreBlocksApart, HasPages, IsKept}
+use Rattle.nv_core.specs.machine.Locks.{commits_at}
 use Rattle.nv_core.specs.machine.Numbers.{IsEachOnce, all_blocks, free_of, held_by_actor, of_part, stored_in, used_blocks}
 use Rattle.nv_core.specs.machine.PlainRun.{Commits, deed}
 use Rattle.nv_core.specs.machine.Reads.{bytes_among, is_written, written_slots}
@@ -243,9 +244,9 @@ module _ (bytes : ℕ → List ℕ) (block : ℕ) (s : Shared) (is : IsRead byte
 -- a commit point is a step at which this is known
 pub point_fits : (k : Next) (block a : ℕ) (granted : Bool) (s : Shared) (h : HandState) (r : Running)
     → deed k (written_slots r) (kind_turn k block a granted s h r) ≡ Commits → FitsAt k block s h r
-    → Passed block s r × Drawn block s r (AllByRecursion (IsStored s r.slots))
-point_fits Close block a granted s h r e f = f
-point_fits (Publish place) block a granted s h r e f = f
+    → (commits_at k ≡ true) × Passed block s r × Drawn block s r (AllByRecursion (IsStored s r.slots))
+point_fits Close block a granted s h r e f = (refl, f.0, f.1)
+point_fits (Publish place) block a granted s h r e f = (refl, f.0, f.1)
 point_fits Enter block a granted s h r e f = absurd (entered_none _ e)
 point_fits Number block a granted s h r e f = absurd (no_commit e)
 point_fits (Look place) block a granted s h r e f = absurd (no_commit e)

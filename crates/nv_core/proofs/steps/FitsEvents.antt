@@ -3,6 +3,7 @@ use Rattle.std.proofs.Common.{◌≡◌, ◌≢◌, ℕ, zero, suc, ◌+◌, ◌
 use Rattle.std.specs.Prelude.{slice_index_or, unwrap_or}
 use Rattle.std.proofs.lemmas.Bool.{cases_lt, eqb-false, eqb-true, false≢true, lt-ltb, ltb-true, true≢false}
 use Rattle.std.proofs.lemmas.List.{get_or_past}
+use Rattle.std.specs.List.{AllByRecursion}
 use Rattle.nv_alloc.specs.Numbers.{has}
 use Rattle.nv_base.specs.declared.geometry.GeometryNumbers.{GeometryNumbers}
 use Rattle.nv_base.specs.declared.numbers.Handle.{Handle}
@@ -21,7 +22,8 @@ use Rattle.nv_core.specs.machine.Format.{formatted}
 use Rattle.nv_core.specs.machine.Frame.{IsFramed, Lent, lent}
 use Rattle.nv_core.specs.machine.Hands.{AreNumbers, HandAt, HandOf}
 use Rattle.nv_core.specs.machine.Kinds.{entries_for, first_killed, retired_cell, with_entries, with_pages}
-use Rattle.nv_core.specs.machine.Locks.{AreLocks, AreSlots, HoldsIts, held_at, is_owner}
+use Rattle.nv_core.specs.machine.Locks.{AreLocks, AreSlots, HoldsIts, commits_at, held_at, is_owner}
+use Rattle.nv_core.specs.machine.Order.{CommitsIn}
 use Rattle.nv_core.specs.machine.PlainRun.{Commits, Deed, Nothing, Numbers as FixesNumber, deed_by, deed_of, keeps_nodes}
 use Rattle.nv_core.specs.machine.Reached.{IsReached}
 use Rattle.nv_core.specs.machine.Reads.{pages_needed, slot_at, slots_of, written_slots}
@@ -34,7 +36,7 @@ use Rattle.nv_core.proofs.steps.Effects.{IsRead, new_sound, point_effect, point_
 use Rattle.nv_core.proofs.steps.FitsBytes.{all_read, bytes_in, plan_now, point_fits}
 use Rattle.nv_core.proofs.steps.FitsCells.{append_wider, erased_block, retired_block}
 use Rattle.nv_core.proofs.steps.FitsKinds.{own_turn, their_fits}
-use Rattle.nv_core.proofs.steps.FitsStages.{FitsAt, FitsOf, IsLocked, SameStored}
+use Rattle.nv_core.proofs.steps.FitsStages.{Drawn, FitsAt, FitsOf, IsLocked, IsStored, Passed, SameStored}
 use Rattle.nv_core.proofs.steps.FitsTurns.{OnFits, locking_fits}
 use Rattle.nv_core.proofs.steps.Framed.{framed}
 use Rattle.nv_core.proofs.steps.FromScratch.{all_numbers}
@@ -228,22 +230,29 @@ module _ (g : GeometryNumbers) (w : World) (known : IsKnown g w) (fit : AreFit w
         (turn_keeps (λ (t : Shared) (h : HandState). AreSizes block t) r.next block actor granted s h r fit.sizes
         (deed_sizes r.next block actor s h r b fit.sizes))
 
-    -- at a commit point the plan fits
-    pub fits_now : actor < length w.actors → deed_of w (Go actor granted) ≡ Commits
-        → HasPlanNow (bytes_in w.shared) block w.shared r
-    fits_now there e =
+    module _ (there : actor < length w.actors) (e : deed_of w (Go actor granted) ≡ Commits) where
+      at : (commits_at r.next ≡ true) × Passed block w.shared r × Drawn block w.shared r (AllByRecursion (IsStored w.shared r.slots))
+      at = point_fits r.next block actor granted w.shared (actor_at w actor).hand r
+          (sym (deed_is (nat_lt actor (length w.actors)) (actor_at w actor).running w actor granted r
+          (lt-ltb actor (length w.actors) there) is) ∙ e) own_fits
+
+      -- at a commit point the plan fits
+      pub fits_now : HasPlanNow (bytes_in w.shared) block w.shared r
+      fits_now =
         let s = w.shared in
-        let h = (actor_at w actor).hand in
         let k = known.reached in
-        let at = point_fits r.next block actor granted s h r
-        (sym (deed_is (nat_lt actor (length w.actors)) (actor_at w actor).running w actor granted r (lt-ltb actor (length w.actors) there) is)
-        ∙ e) own_fits in
         plan_now (bytes_in s) block s (record {
           pages = k.kept.logs.pages;
           apart = k.apart.cells;
           blocks = all_read g.blocks w known.numbers.once;
           sizes = fit.sizes;
-        }) fit.sound r k.kept.some at.0 at.1
+        }) fit.sound r k.kept.some at.1 at.2
+
+      -- and its commit is the last that was entered
+      pub number_now : r.commit ≡ w.shared.book.commit
+      number_now =
+          let entered : CommitsIn w.shared (Some r) =
+          subst (λ (o : Option Running). CommitsIn w.shared o) is (known.reached.order.each actor) in (entered at.0).commit
 
   go_each : (b : Bool) (running : Option Running) (granted : Bool) → nat_lt actor (length w.actors) ≡ b
       → (actor_at w actor).running ≡ running → Each (go_step b running actor granted w).world
@@ -270,7 +279,7 @@ module _ (g : GeometryNumbers) (w : World) (known : IsKnown g w) (fit : AreFit w
         (begun_fits (beginning c) c (actor_at w actor).hand (known.reached.apart.idle actor is)),
   )
 
-commits_if : (d : Deed) → keeps_nodes d ≡ false → d ≡ Commits
+pub commits_if : (d : Deed) → keeps_nodes d ≡ false → d ≡ Commits
 commits_if Nothing e = cc
 commits_if FixesNumber e = cc
 commits_if Commits e = refl

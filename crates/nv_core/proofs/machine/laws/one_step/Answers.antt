@@ -1,3 +1,4 @@
+use Rattle.nv_core.proofs.steps.FitsPlain.{plain_nodes}
 use Rattle.nv_core.proofs.steps.FitsEvents.{has_effect}
 use Rattle.nv_core.proofs.steps.FitsBytes.{point_fits}
 use Rattle.nv_core.proofs.steps.FitsKinds.{their_fits}
