@@ -18,3 +18,4 @@ pub mod Answered
 pub mod Grown
 pub mod Effects
 pub mod FitsNumbers
+pub mod FitsNow

@@ -29,6 +29,7 @@ use Rattle.nv_entry.specs.declared.item.Item.{Item}
 use Rattle.nv_entry.specs.declared.node.NodeCopy.{NodeCopy}
 use Rattle.nv_entry.proofs.SoundLogs.{empty_sound}
 use Rattle.nv_core.specs.machine.Effects.{AreSound, HasPlanNow, settled_slots}
+use Rattle.nv_core.specs.machine.FitsNow.{all_parts, bytes_in}
 use Rattle.nv_core.specs.machine.Hands.{makes_inode}
 use Rattle.nv_core.specs.machine.Kept.{AreApart, AreBlocksApart, HasPages, IsKept}
 use Rattle.nv_core.specs.machine.Locks.{commits_at}
@@ -50,12 +51,6 @@ use Rattle.nv_core.proofs.steps.Lists.{self}
 use Rattle.nv_core.proofs.steps.Reached.{most_once, twice}
 
 -- ---- one reading of all blocks
-
-abbrev all_parts : List CellState → List (Option BlockValue)
-all_parts cells = flat_map (λ (c : CellState). c.blocks) cells
-
-abbrev pub bytes_in : Shared → ℕ → List ℕ
-bytes_in s number = bytes_among (all_parts s.cells) number
 
 of_cells : (k : ℕ) (cells : List CellState) → times k (flat_map of_part (all_parts cells)) ≤ times k (flat_map stored_in cells)
 of_cells k [] = omega arith

@@ -17,6 +17,7 @@ use Rattle.nv_calls.specs.Retiring.{erased}
 use Rattle.nv_entry.specs.declared.item.Entry.{Entry}
 use Rattle.nv_epoch.specs.SnapList.{ids}
 use Rattle.nv_core.specs.machine.Effects.{AreSound, HasPlanNow}
+use Rattle.nv_core.specs.machine.FitsNow.{bytes_in}
 use Rattle.nv_core.specs.machine.FitsNumbers.{HaveFreeNumbers, IsNumberFree}
 use Rattle.nv_core.specs.machine.Format.{formatted}
 use Rattle.nv_core.specs.machine.Frame.{IsFramed, Lent, lent}
@@ -33,7 +34,7 @@ use Rattle.nv_core.specs.machine.Step.{after, go_step, kind_turn, start_step, st
 use Rattle.nv_core.specs.machine.World.{Actor, Append, Back, Check, Close, Ends, Enter, Event, Give, Go, HandState, Leave, Lock, Look, Moves, Next, Number, Open, Publish, Ready, Retire, Running, Shared, Start, TakeBlocks, TakePages, Turn, Unlock, Visit, Waits, World, actor_at, cell_at, empty_hand, idle, no_cell, owner_at, with_cell}
 use Rattle.nv_core.proofs.steps.Answered.{deed_is}
 use Rattle.nv_core.proofs.steps.Effects.{IsRead, new_sound, point_effect, point_is_sound, take_none}
-use Rattle.nv_core.proofs.steps.FitsBytes.{all_read, bytes_in, plan_now, point_fits}
+use Rattle.nv_core.proofs.steps.FitsBytes.{all_read, plan_now, point_fits}
 use Rattle.nv_core.proofs.steps.FitsCells.{append_wider, erased_block, retired_block}
 use Rattle.nv_core.proofs.steps.FitsKinds.{own_turn, their_fits}
 use Rattle.nv_core.proofs.steps.FitsStages.{Drawn, FitsAt, FitsOf, IsLocked, IsStored, Passed, SameStored}
@@ -359,17 +360,19 @@ pub all_fit : (g : GeometryNumbers) → IsWithinLimits g → ((before : List Eve
     → (events : List Event) → AreFit (after (formatted g) events)
 all_fit g within free events = events_fit g events (formatted g) (all_known g within free) (new_fit g within)
 
--- a commit point has the effect of its call
-pub has_effect : (g : GeometryNumbers) (events : List Event) (actor : ℕ) (granted : Bool) (r : Running) → IsWithinLimits g
-    → ((before : List Event) → HaveFreeNumbers (after (formatted g) before))
-    → actor < length (after (formatted g) events).actors → (actor_at (after (formatted g) events) actor).running ≡ Some r
-    → deed_of (after (formatted g) events) (Go actor granted) ≡ Commits → (handle : Handle)
-    → settled_nodes (step (after (formatted g) events) (Go actor granted)).world.shared handle
-    ≡ nodes_after r.commit (effect (node_in (settled_nodes (after (formatted g) events).shared)) r.made r.call)
-    (settled_nodes (after (formatted g) events).shared) handle
-has_effect g events actor granted r within free there is e =
-    let w = after (formatted g) events in
-    let known = all_known g within free events in
-    let k = known.reached in
-    point_effect (bytes_in w.shared) w actor granted r k.locks k.order k.kept k.grown k.apart there is e
-    (fits_now g w known (all_fit g within free events) actor granted r is there e)
+module _ (g : GeometryNumbers) (events : List Event) (actor : ℕ) (granted : Bool) (r : Running) (within : IsWithinLimits g)
+    (free : (before : List Event) → HaveFreeNumbers (after (formatted g) before)) where
+  abbrev w : World
+  w = after (formatted g) events
+
+  module _ (there : actor < length w.actors) (is : (actor_at w actor).running ≡ Some r) (e : deed_of w (Go actor granted) ≡ Commits) where
+    -- at a commit point the plan fits the effect of its call
+    pub has_plan : HasPlanNow (bytes_in w.shared) w.numbers.block w.shared r
+    has_plan = fits_now g w (all_known g within free events) (all_fit g within free events) actor granted r is there e
+
+    -- so it has this effect
+    pub has_effect : (handle : Handle) → settled_nodes (step w (Go actor granted)).world.shared handle
+        ≡ nodes_after r.commit (effect (node_in (settled_nodes w.shared)) r.made r.call) (settled_nodes w.shared) handle
+    has_effect =
+        let k = (all_known g within free events).reached in
+        point_effect (bytes_in w.shared) w actor granted r k.locks k.order k.kept k.grown k.apart there is e has_plan

@@ -8,6 +8,8 @@ use Rattle.nv_base.specs.declared.numbers.Handle.{Handle}
 use Rattle.nv_calls.specs.AllCalls.{effect}
 use Rattle.nv_calls.specs.Plain.{PlainNode, node_in, nodes_after}
 use Rattle.nv_calls.specs.declared.call.Call.{Call}
+use Rattle.nv_core.specs.machine.Effects.{AreSound}
+use Rattle.nv_core.specs.machine.FitsNow.{bytes_in}
 use Rattle.nv_core.specs.machine.FitsNumbers.{HaveFreeNumbers}
 use Rattle.nv_core.specs.machine.Format.{formatted}
 use Rattle.nv_core.specs.machine.PlainRun.{Commits, Deed, Nothing, Numbers as FixesNumber, Plain, deed_by, deed_of, done, keeps_nodes, nodes_by, plain_after, plain_of, plain_step}
@@ -16,8 +18,7 @@ use Rattle.nv_core.specs.machine.Step.{after, step}
 use Rattle.nv_core.specs.machine.World.{Event, Go, Running, Shared, Start, World, actor_at}
 use Rattle.nv_core.proofs.steps.CommitNumbers.{events_counted}
 use Rattle.nv_core.proofs.steps.Effects.{point_effect}
-use Rattle.nv_core.proofs.steps.FitsBytes.{bytes_in}
-use Rattle.nv_core.proofs.steps.FitsEvents.{AreFit, IsKnown, all_known, commits_if, event_fits, fits_now, new_fit, number_now}
+use Rattle.nv_core.proofs.steps.FitsEvents.{AreFit, IsKnown, all_fit, all_known, commits_if, event_fits, fits_now, new_fit, number_now}
 use Rattle.nv_core.proofs.steps.KeptRuns.{nodes_stay}
 
 same_done : (d : Deed) (running : Option Running) (p : Plain) → keeps_nodes d ≡ true → (done d running p).nodes ≡ p.nodes
@@ -77,3 +78,8 @@ pub plain_nodes : (g : GeometryNumbers) (events : List Event) → IsWithinLimits
 plain_nodes g events within free handle =
     sym (ap (λ (f : Handle → Option PlainNode). f handle)
     (events_plain g events (formatted g) (plain_of (formatted g)) (all_known g within free) (new_fit g within) refl refl))
+
+-- and all settled logs are sound
+pub all_sound : (g : GeometryNumbers) (events : List Event) → IsWithinLimits g
+    → ((before : List Event) → HaveFreeNumbers (after (formatted g) before)) → AreSound (after (formatted g) events).shared
+all_sound g events within free = (all_fit g within free events).sound

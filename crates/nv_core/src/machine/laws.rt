@@ -14,6 +14,8 @@ ghost use Rattle.nv_core.specs.machine.Bound.{AreNoStarts, bound_at, most_steps,
 ghost use Rattle.nv_entry.specs.Sound.{IsSound};
 ghost use Rattle.nv_core.specs.machine.Answered.{GoesToAnswer, IsToBeAnswered};
 ghost use Rattle.nv_core.specs.machine.Effects.{AreSound, HasPlanNow};
+ghost use Rattle.nv_core.specs.machine.FitsNow.{bytes_in};
+ghost use Rattle.nv_core.specs.machine.FitsNumbers.{HaveFreeNumbers};
 ghost use Rattle.nv_core.specs.machine.Format.{formatted};
 ghost use Rattle.nv_core.specs.machine.Frame.{IsOneStep, IsStart};
 ghost use Rattle.nv_core.specs.machine.Grown.{AreGrown, fresh_entries};
@@ -23,7 +25,7 @@ ghost use Rattle.nv_core.specs.machine.Hands.{AreLists, ArePagesTold};
 ghost use Rattle.nv_core.specs.machine.Numbers.{IdleHaveNothing, IsEachOnce, all_blocks, free_from_scratch, free_of};
 ghost use Rattle.nv_core.specs.machine.Order.{IsInOrder};
 ghost use Rattle.nv_core.specs.machine.Reached.{IsReached};
-ghost use Rattle.nv_core.specs.machine.PlainRun.{Commits, Plain, deed_of, keeps_nodes, plain_after};
+ghost use Rattle.nv_core.specs.machine.PlainRun.{Commits, Plain, deed_of, keeps_nodes, plain_after, plain_of};
 ghost use Rattle.nv_core.specs.machine.Reads.{written_slots};
 ghost use Rattle.nv_core.specs.machine.Sequence.{Visits, beginning};
 ghost use Rattle.nv_core.specs.machine.Settled.{settled, settled_nodes};
@@ -214,4 +216,38 @@ pub fn new_worlds_lead_where_laws_hold()
         → IsReached (after (formatted g) events) }
     ensures nodes { (w : World) (e : Event) → IsReached w → keeps_nodes (deed_of w e) ≡ true
         → (handle : Handle) → settled_nodes (step w e).world.shared handle ≡ settled_nodes w.shared handle }
+{}
+
+/// At each commit point, whatever events come from a new world on, the plan that stands fits the effect that its
+/// call has on the nodes of now, and so the commit point has that effect, where calls come to their checks with
+/// free numbers; `bytes_in` gives the bytes of all blocks of all cells.
+pub fn plans_fit_at_commit_points()
+    ensures fits { (g : GeometryNumbers) (events : List Event) (actor : ℕ) (granted : Bool) (r : Running)
+        → IsWithinLimits g → ((before : List Event) → HaveFreeNumbers (after (formatted g) before))
+        → actor < length (after (formatted g) events).actors
+        → (actor_at (after (formatted g) events) actor).running ≡ Some r
+        → deed_of (after (formatted g) events) (Go actor granted) ≡ Commits
+        → HasPlanNow (bytes_in (after (formatted g) events).shared)
+        (after (formatted g) events).numbers.block (after (formatted g) events).shared r }
+    ensures nodes { (g : GeometryNumbers) (events : List Event) (actor : ℕ) (granted : Bool) (r : Running)
+        → IsWithinLimits g → ((before : List Event) → HaveFreeNumbers (after (formatted g) before))
+        → actor < length (after (formatted g) events).actors
+        → (actor_at (after (formatted g) events) actor).running ≡ Some r
+        → deed_of (after (formatted g) events) (Go actor granted) ≡ Commits → (handle : Handle)
+        → settled_nodes (step (after (formatted g) events) (Go actor granted)).world.shared handle
+        ≡ nodes_after r.commit
+        (effect (node_in (settled_nodes (after (formatted g) events).shared)) r.made r.call)
+        (settled_nodes (after (formatted g) events).shared) handle }
+{}
+
+/// The plain world's nodes are those of the settled logs after every list of events, and these logs are sound,
+/// where calls come to their checks with free numbers.
+pub fn the_plain_world_is_that_of_settled_logs()
+    ensures nodes { (g : GeometryNumbers) (events : List Event) → IsWithinLimits g
+        → ((before : List Event) → HaveFreeNumbers (after (formatted g) before)) → (handle : Handle)
+        → settled_nodes (after (formatted g) events).shared handle
+        ≡ (plain_after (formatted g) events (plain_of (formatted g))).nodes handle }
+    ensures sound { (g : GeometryNumbers) (events : List Event) → IsWithinLimits g
+        → ((before : List Event) → HaveFreeNumbers (after (formatted g) before))
+        → AreSound (after (formatted g) events).shared }
 {}

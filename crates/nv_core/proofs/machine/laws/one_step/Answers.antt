@@ -1,13 +1,3 @@
-use Rattle.nv_core.proofs.steps.FitsPlain.{plain_nodes}
-use Rattle.nv_core.proofs.steps.FitsEvents.{has_effect}
-use Rattle.nv_core.proofs.steps.FitsBytes.{point_fits}
-use Rattle.nv_core.proofs.steps.FitsKinds.{their_fits}
-use Rattle.nv_core.proofs.steps.FitsOwn.{same_stored}
-use Rattle.nv_core.proofs.steps.FitsTurns.{single_fits}
-use Rattle.nv_core.proofs.steps.FitsCells.{publish_logs}
-use Rattle.nv_core.proofs.steps.FitsCalls.{plan_all}
-use Rattle.nv_core.proofs.steps.FitsStages.{fits_still}
-use Rattle.nv_core.proofs.steps.FitsRuns.{is_ready}
 use Rattle.nv_core.proofs.steps.Events.{busy, goes, idles, nobody, starts}
 use Rattle.nv_core.proofs.machine.laws.one_step.Goals as goal
 
