@@ -44,3 +44,14 @@ pub mod Appended
 pub mod Settling
 pub mod GrownRuns
 pub mod Effects
+pub mod PoolChecked
+pub mod PoolSlots
+pub mod PoolPlans
+pub mod PoolCells
+pub mod PoolTally
+pub mod PoolKnown
+pub mod PoolTurns
+pub mod PoolCommits
+pub mod PoolSteps
+pub mod PoolRuns
+pub mod PoolLaw

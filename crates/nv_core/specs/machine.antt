@@ -17,3 +17,4 @@ pub mod PlainRun
 pub mod Answered
 pub mod Grown
 pub mod Effects
+pub mod PoolScan

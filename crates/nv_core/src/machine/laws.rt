@@ -22,6 +22,7 @@ ghost use Rattle.nv_core.specs.machine.Locks.{AreLocks, HasLent, WaitsFor};
 ghost use Rattle.nv_core.specs.machine.Hands.{AreLists, ArePagesTold};
 ghost use Rattle.nv_core.specs.machine.Numbers.{IdleHaveNothing, IsEachOnce, all_blocks, free_from_scratch, free_of};
 ghost use Rattle.nv_core.specs.machine.Order.{IsInOrder};
+ghost use Rattle.nv_core.specs.machine.PoolScan.{pool_from_scratch};
 ghost use Rattle.nv_core.specs.machine.Reached.{IsReached};
 ghost use Rattle.nv_core.specs.machine.PlainRun.{Commits, Plain, deed_of, keeps_nodes, plain_after};
 ghost use Rattle.nv_core.specs.machine.Reads.{written_slots};
@@ -106,6 +107,13 @@ pub fn lists_are_from_scratch()
     ensures { (g : GeometryNumbers) (events : List Event) (cpu : ℕ) → IsWithinLimits g → cpu < g.cpus
         → free_of (list_at (after (formatted g) events).shared cpu)
         ≡ free_from_scratch g (after (formatted g) events) cpu }
+{}
+
+/// The pool of inode numbers is what one scan leaves, in rising order: the numbers whose slots have no entry in
+/// their logs and are not of the last generation, and that no hand has.
+pub fn pool_is_from_scratch()
+    ensures { (g : GeometryNumbers) (events : List Event) → IsWithinLimits g
+        → (after (formatted g) events).shared.pool.numbers ≡ pool_from_scratch g (after (formatted g) events) }
 {}
 
 /// An actor without a call has an empty hand and no lock, also where its last call was refused: with
