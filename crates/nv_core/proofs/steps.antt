@@ -54,3 +54,15 @@ pub mod FitsKinds
 pub mod FitsBytes
 pub mod FitsEvents
 pub mod FitsPlain
+pub mod PoolChecked
+pub mod PoolSlots
+pub mod PoolPlans
+pub mod PoolCells
+pub mod PoolTally
+pub mod PoolKnown
+pub mod PoolTurns
+pub mod PoolCommits
+pub mod PoolSteps
+pub mod PoolRuns
+pub mod PoolLaw
+pub mod FitsPooled

@@ -17,5 +17,5 @@ pub mod PlainRun
 pub mod Answered
 pub mod Grown
 pub mod Effects
-pub mod FitsNumbers
 pub mod FitsNow
+pub mod PoolScan

@@ -18,7 +18,6 @@ use Rattle.nv_entry.specs.declared.item.Entry.{Entry}
 use Rattle.nv_epoch.specs.SnapList.{ids}
 use Rattle.nv_core.specs.machine.Effects.{AreSound, HasPlanNow}
 use Rattle.nv_core.specs.machine.FitsNow.{bytes_in}
-use Rattle.nv_core.specs.machine.FitsNumbers.{HaveFreeNumbers, IsNumberFree}
 use Rattle.nv_core.specs.machine.Format.{formatted}
 use Rattle.nv_core.specs.machine.Frame.{IsFramed, Lent, lent}
 use Rattle.nv_core.specs.machine.Hands.{AreNumbers, HandAt, HandOf}
@@ -36,6 +35,7 @@ use Rattle.nv_core.proofs.steps.Answered.{deed_is}
 use Rattle.nv_core.proofs.steps.Effects.{IsRead, new_sound, point_effect, point_is_sound, take_none}
 use Rattle.nv_core.proofs.steps.FitsBytes.{all_read, plan_now, point_fits}
 use Rattle.nv_core.proofs.steps.FitsCells.{append_wider, erased_block, retired_block}
+use Rattle.nv_core.proofs.steps.FitsPooled.{HaveFreeNumbers, free_numbers}
 use Rattle.nv_core.proofs.steps.FitsKinds.{own_turn, their_fits}
 use Rattle.nv_core.proofs.steps.FitsStages.{Drawn, FitsAt, FitsOf, IsLocked, IsStored, Passed, SameStored}
 use Rattle.nv_core.proofs.steps.FitsTurns.{OnFits, locking_fits}
@@ -352,27 +352,28 @@ new_fit g within = record {
 
 -- ---- the laws
 
-pub all_known : (g : GeometryNumbers) → IsWithinLimits g → ((before : List Event) → HaveFreeNumbers (after (formatted g) before))
-    → (events : List Event) → IsKnown g (after (formatted g) events)
-all_known g within free events = record { reached = reached g events within; numbers = all_numbers g events within; free = free events }
+pub all_known : (g : GeometryNumbers) → IsWithinLimits g → (events : List Event) → IsKnown g (after (formatted g) events)
+all_known g within events = record {
+  reached = reached g events within;
+  numbers = all_numbers g events within;
+  free = free_numbers g within events;
+}
 
-pub all_fit : (g : GeometryNumbers) → IsWithinLimits g → ((before : List Event) → HaveFreeNumbers (after (formatted g) before))
-    → (events : List Event) → AreFit (after (formatted g) events)
-all_fit g within free events = events_fit g events (formatted g) (all_known g within free) (new_fit g within)
+pub all_fit : (g : GeometryNumbers) → IsWithinLimits g → (events : List Event) → AreFit (after (formatted g) events)
+all_fit g within events = events_fit g events (formatted g) (all_known g within) (new_fit g within)
 
-module _ (g : GeometryNumbers) (events : List Event) (actor : ℕ) (granted : Bool) (r : Running) (within : IsWithinLimits g)
-    (free : (before : List Event) → HaveFreeNumbers (after (formatted g) before)) where
+module _ (g : GeometryNumbers) (events : List Event) (actor : ℕ) (granted : Bool) (r : Running) (within : IsWithinLimits g) where
   abbrev w : World
   w = after (formatted g) events
 
   module _ (there : actor < length w.actors) (is : (actor_at w actor).running ≡ Some r) (e : deed_of w (Go actor granted) ≡ Commits) where
     -- at a commit point the plan fits the effect of its call
     pub has_plan : HasPlanNow (bytes_in w.shared) w.numbers.block w.shared r
-    has_plan = fits_now g w (all_known g within free events) (all_fit g within free events) actor granted r is there e
+    has_plan = fits_now g w (all_known g within events) (all_fit g within events) actor granted r is there e
 
     -- so it has this effect
     pub has_effect : (handle : Handle) → settled_nodes (step w (Go actor granted)).world.shared handle
         ≡ nodes_after r.commit (effect (node_in (settled_nodes w.shared)) r.made r.call) (settled_nodes w.shared) handle
     has_effect =
-        let k = (all_known g within free events).reached in
+        let k = (all_known g within events).reached in
         point_effect (bytes_in w.shared) w actor granted r k.locks k.order k.kept k.grown k.apart there is e has_plan

@@ -11,7 +11,6 @@ use Rattle.nv_calls.specs.Locked.{handles}
 use Rattle.nv_calls.specs.declared.plan.Planned.{Planned}
 use Rattle.nv_cell.specs.Cell.{CellState, log_of, published}
 use Rattle.nv_cell.proofs.Publishing.{take_whole}
-use Rattle.nv_core.specs.machine.FitsNumbers.{IsNumberFree}
 use Rattle.nv_core.specs.machine.Grown.{HasGrown, is_appended, is_behind}
 use Rattle.nv_core.specs.machine.Hands.{HandAt}
 use Rattle.nv_core.specs.machine.Kept.{AreClosed, HasNoted, IsNotedIf}
@@ -25,7 +24,7 @@ use Rattle.nv_core.specs.machine.Step.{ending_at, kind_turn, with_made}
 use Rattle.nv_core.specs.machine.World.{Append, Back, Check, Close, Enter, Give, HandState, Leave, Lock, Look, Next, Number, Open, Publish, Ready, Retire, Running, Shared, TakeBlocks, TakePages, Unlock, Visit, cell_at, go_to, owner_at, with_book, with_cell}
 use Rattle.nv_core.proofs.steps.Answered.{entered_none, is_single, no_commit}
 use Rattle.nv_core.proofs.steps.FitsCells.{IsIn, append_logs, append_wider, publish_logs, same_wider, wider_cells}
-use Rattle.nv_core.proofs.steps.FitsOwn.{all_in, all_stored, passed_check, ready_fits, same_stored, wanted_check}
+use Rattle.nv_core.proofs.steps.FitsOwn.{IsNumberFree, all_in, all_stored, passed_check, ready_fits, same_stored, wanted_check}
 use Rattle.nv_core.proofs.steps.FitsStages.{Drawn, FitsAt, HasDrawn, IsDrawn, IsStored, Passed, SameStored, drawn_on, fits_still, passed_on, stored_on, view}
 use Rattle.nv_core.proofs.steps.FitsTurns.{OnFits, appending_fits, back_fits, check_fits, end_fits, enter_fits, lock_fits, look_fits, number_fits, publishing_fits, rest_fits, retiring_fits, single_fits, take_fits, taken_fits, unlock_fits, visit_fits}
 use Rattle.nv_core.proofs.steps.Grown.{is_settled}

@@ -26,7 +26,6 @@ use Rattle.nv_entry.specs.Blocks.{item_blocks}
 use Rattle.nv_entry.specs.Sound.{blocks_of}
 use Rattle.nv_entry.specs.declared.item.Entry.{Entry}
 use Rattle.nv_entry.specs.declared.item.Item.{Item}
-use Rattle.nv_core.specs.machine.FitsNumbers.{IsNumberFree}
 use Rattle.nv_core.specs.machine.Hands.{makes_inode}
 use Rattle.nv_core.specs.machine.Kinds.{check_ending, entries_for, ready_turn, with_entries}
 use Rattle.nv_core.specs.machine.Reads.{copies, filled, fresh_pages, has_last_page, if_number, is_written, nodes, plan_by, runs_of, slot_at, slots_in, slots_of, with_slot, written_slots}
@@ -188,6 +187,11 @@ passed_all (Ok passed) true (Ok all) false effect e = cc
 passed_all (Ok passed) true (Ok all) true [] e = cc
 passed_all (Ok passed) true (Ok all) true (change ∷ effect) e = (refl, refl, refl)
 
+-- a number whose slot has no inode
+pub record IsNumberFree (s : Shared) (ino : ℕ) : Type 0 where
+  pub inside : ino < length s.cells
+  pub empty : log_of (cell_at s ino) ≡ []
+
 module _ (block : ℕ) (s : Shared) (h : HandState) (r : Running)
     (logs : (ino : ℕ) → has r.slots ino ≡ true → settled s ino ≡ log_of (cell_at s ino)) where
   module _ (slots : r.slots ≡ slots_of s h.ino r.looked r.call) (free : (ino : ℕ) → h.ino ≡ Some ino → IsNumberFree s ino)
@@ -220,7 +224,7 @@ module _ (block : ℕ) (s : Shared) (h : HandState) (r : Running)
           subst (λ (o : Option ℕ). (made_in s o r.made).ino < length s.cells) (sym m.1) (free m.0 m.1).inside;
       free = λ makes. let m = number makes in
           subst (λ (o : Option ℕ). IsFree (now s).slots (made_in s o r.made)) (sym m.1) (record {
-            empty = ap (take (cell_at s m.0).chain.tail) (free m.0 m.1).empty ∙ take_none (cell_at s m.0).chain.tail;
+            empty = (free m.0 m.1).empty;
             own = refl;
           });
     }

@@ -10,7 +10,6 @@ use Rattle.nv_calls.specs.Plain.{PlainNode, node_in, nodes_after}
 use Rattle.nv_calls.specs.declared.call.Call.{Call}
 use Rattle.nv_core.specs.machine.Effects.{AreSound}
 use Rattle.nv_core.specs.machine.FitsNow.{bytes_in}
-use Rattle.nv_core.specs.machine.FitsNumbers.{HaveFreeNumbers}
 use Rattle.nv_core.specs.machine.Format.{formatted}
 use Rattle.nv_core.specs.machine.PlainRun.{Commits, Deed, Nothing, Numbers as FixesNumber, Plain, deed_by, deed_of, done, keeps_nodes, nodes_by, plain_after, plain_of, plain_step}
 use Rattle.nv_core.specs.machine.Settled.{settled_nodes}
@@ -72,14 +71,12 @@ events_plain g (e ∷ events) w p known fit nodes number =
     (event_fits g w (known []) fit e ((known (e ∷ [])).numbers.numbers ∙ sym (known []).numbers.numbers))
     (event_plain g w (known []) fit p nodes number e) (events_counted (e ∷ []) w p number)
 
-pub plain_nodes : (g : GeometryNumbers) (events : List Event) → IsWithinLimits g
-    → ((before : List Event) → HaveFreeNumbers (after (formatted g) before)) → (handle : Handle)
+pub plain_nodes : (g : GeometryNumbers) (events : List Event) → IsWithinLimits g → (handle : Handle)
     → settled_nodes (after (formatted g) events).shared handle ≡ (plain_after (formatted g) events (plain_of (formatted g))).nodes handle
-plain_nodes g events within free handle =
+plain_nodes g events within handle =
     sym (ap (λ (f : Handle → Option PlainNode). f handle)
-    (events_plain g events (formatted g) (plain_of (formatted g)) (all_known g within free) (new_fit g within) refl refl))
+    (events_plain g events (formatted g) (plain_of (formatted g)) (all_known g within) (new_fit g within) refl refl))
 
 -- and all settled logs are sound
-pub all_sound : (g : GeometryNumbers) (events : List Event) → IsWithinLimits g
-    → ((before : List Event) → HaveFreeNumbers (after (formatted g) before)) → AreSound (after (formatted g) events).shared
-all_sound g events within free = (all_fit g within free events).sound
+pub all_sound : (g : GeometryNumbers) (events : List Event) → IsWithinLimits g → AreSound (after (formatted g) events).shared
+all_sound g events within = (all_fit g within events).sound
