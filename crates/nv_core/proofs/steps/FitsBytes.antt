@@ -1,11 +1,10 @@
 -- One reading of all blocks of all cells, and the plan of a call at its commit point.
-use Rattle.std.proofs.Common.{◌≡◌, ◌≢◌, ◌⊎◌, ℕ, zero, suc, ◌+◌, ◌<◌, ◌≤◌, ◌==◌, ◌||◌, ◌++◌, ◌∙◌, Bool, true, false, cond, List, [], ◌∷◌, Option, Some, None, ap, arith, filter, flat_map, if◌then◌else◌, inl, inr, length, nat_lt, refl, slice_index_or, subst, sym}
+use Rattle.std.proofs.Common.{◌≡◌, ℕ, zero, suc, ◌<◌, ◌≤◌, ◌==◌, ◌||◌, ◌++◌, ◌∙◌, Bool, true, false, cond, List, [], ◌∷◌, Option, Some, None, ap, arith, filter, flat_map, if◌then◌else◌, inl, inr, length, refl, slice_index_or, subst, sym}
 use Rattle.std.specs.List.{AllByRecursion}
 use Rattle.std.specs.Option.{option_map}
 use Rattle.std.specs.Prelude.{Contains}
 use Rattle.std.proofs.Math.Path.{fun_ext}
 use Rattle.std.proofs.lemmas.Bool.{cases_lt, eqb-true, false≢true, ltb-false, ltb-true, true≢false}
-use Rattle.std.proofs.lemmas.List.{get_or_past}
 use Rattle.std.proofs.lemmas.List.Concat.{flat_map-append}
 use Rattle.nv_alloc.specs.Block.{BlockValue, numbers_of}
 use Rattle.nv_alloc.specs.Numbers.{has, times}
@@ -31,7 +30,7 @@ use Rattle.nv_entry.proofs.SoundLogs.{empty_sound}
 use Rattle.nv_core.specs.machine.Effects.{AreSound, HasPlanNow, settled_slots}
 use Rattle.nv_core.specs.machine.FitsNow.{all_parts, bytes_in}
 use Rattle.nv_core.specs.machine.Hands.{makes_inode}
-use Rattle.nv_core.specs.machine.Kept.{AreApart, AreBlocksApart, HasPages, IsKept}
+use Rattle.nv_core.specs.machine.Kept.{AreApart}
 use Rattle.nv_core.specs.machine.Locks.{commits_at}
 use Rattle.nv_core.specs.machine.Numbers.{IsEachOnce, all_blocks, free_of, held_by_actor, of_part, stored_in, used_blocks}
 use Rattle.nv_core.specs.machine.PlainRun.{Commits, deed}
@@ -39,15 +38,15 @@ use Rattle.nv_core.specs.machine.Reads.{bytes_among, is_written, written_slots}
 use Rattle.nv_core.specs.machine.Sequence.{beginning}
 use Rattle.nv_core.specs.machine.Settled.{settled, settled_nodes}
 use Rattle.nv_core.specs.machine.Step.{kind_turn}
-use Rattle.nv_core.specs.machine.World.{Append, Back, Check, Close, Enter, Give, HandState, Leave, Lock, Look, Next, Number, Open, Publish, Ready, Retire, Running, Shared, TakeBlocks, TakePages, Turn, Unlock, Visit, World, cell_at, no_cell}
+use Rattle.nv_core.specs.machine.World.{Append, Back, Check, Close, Enter, Give, HandState, Leave, Lock, Look, Next, Number, Open, Publish, Ready, Retire, Running, Shared, TakeBlocks, TakePages, Unlock, Visit, World, cell_at, no_cell}
 use Rattle.nv_core.proofs.steps.Answered.{entered_none, no_commit}
 use Rattle.nv_core.proofs.steps.CellPages.{among_at, sound_read}
 use Rattle.nv_core.proofs.steps.Effects.{IsRead, outside, read_nodes, read_page}
 use Rattle.nv_core.proofs.steps.FitsCalls.{IsOfNode, planned_there}
-use Rattle.nv_core.proofs.steps.FitsOwn.{or_first, or_then}
+use Rattle.nv_core.proofs.steps.FitsCells.{behind, longer}
 use Rattle.nv_core.proofs.steps.FitsRuns.{AreRead, is_ready, present_in, taken_of}
-use Rattle.nv_core.proofs.steps.FitsStages.{Drawn, FitsAt, IsLocked, IsStored, Passed, view}
-use Rattle.nv_core.proofs.steps.Lists.{self}
+use Rattle.nv_core.proofs.steps.FitsStages.{Drawn, FitsAt, IsLocked, IsStored, Passed}
+use Rattle.nv_core.proofs.steps.PoolSlots.{filter_has}
 use Rattle.nv_core.proofs.steps.Reached.{most_once, twice}
 
 -- ---- one reading of all blocks
@@ -85,22 +84,11 @@ all_apart many w each n m b c e f same = elim (cases_lt n m) [
   parts : List (Option BlockValue)
   parts = all_parts w.shared.cells
 
-front_at : (xs ys : List (Option BlockValue)) (n : ℕ) (b : BlockValue) → slice_index_or xs n None ≡ Some b
-    → slice_index_or (xs ++ ys) n None ≡ Some b
-front_at [] ys n b e = cc
-front_at (x ∷ xs) ys zero b e = e
-front_at (x ∷ xs) ys (suc n) b e = front_at xs ys n b e
-
-back_at : (xs ys : List (Option BlockValue)) (b : BlockValue) → (n : ℕ) × (slice_index_or ys n None ≡ Some b)
-    → (n : ℕ) × (slice_index_or (xs ++ ys) n None ≡ Some b)
-back_at [] ys b at = at
-back_at (x ∷ xs) ys b at = let m = back_at xs ys b at in (suc m.0, m.1)
-
 part_at : (cells : List CellState) (ino n : ℕ) (b : BlockValue) → slice_index_or (slice_index_or cells ino no_cell).blocks n None ≡ Some b
     → (m : ℕ) × (slice_index_or (all_parts cells) m None ≡ Some b)
 part_at [] ino n b e = cc
-part_at (c ∷ cells) zero n b e = (n, front_at c.blocks (all_parts cells) n b e)
-part_at (c ∷ cells) (suc ino) n b e = back_at c.blocks (all_parts cells) b (part_at cells ino n b e)
+part_at (c ∷ cells) zero n b e = (n, longer c.blocks (all_parts cells) n b e)
+part_at (c ∷ cells) (suc ino) n b e = let m = part_at cells ino n b e in behind c.blocks (all_parts cells) m.0 b m.1
 
 pub all_read : (many : ℕ) (w : World) → IsEachOnce many (all_blocks w) → (ino n : ℕ) (b : BlockValue)
     → slice_index_or (cell_at w.shared ino).blocks n None ≡ Some b → bytes_in w.shared b.number ≡ b.bytes
@@ -206,22 +194,6 @@ module _ (bytes : ℕ → List ℕ) (block : ℕ) (s : Shared) (is : IsRead byte
       go true e lt more = subst (λ (n : ℕ). has r.slots n ≡ true) (eqb-true q.handle.ino ino e) all.0
       go false e lt more = more lt
 
-    kept_by : (f : ℕ → Bool) (xs : List ℕ) (n : ℕ) → has xs n ≡ true → f n ≡ true → has (filter f xs) n ≡ true
-    kept_by f [] n e is = cc
-    kept_by f (x ∷ xs) n e is = go (x == n) refl e (kept_by f xs n) where
-      keep : (b : Bool) → has (filter f xs) n ≡ true → has (if b then x ∷ filter f xs else filter f xs) n ≡ true
-      keep true k = or_then (x == n) (has (filter f xs) n) k
-      keep false k = k
-
-      own : (b : Bool) → f x ≡ b → x ≡ n → has (if b then x ∷ filter f xs else filter f xs) n ≡ true
-      own true q same = or_first (x == n) (has (filter f xs) n) (subst (λ (m : ℕ). (x == m) ≡ true) same (self x))
-      own false q same = absurd (false≢true (sym q ∙ ap f same ∙ is))
-
-      go : (c : Bool) → (x == n) ≡ c → (c || has xs n) ≡ true → (has xs n ≡ true → f n ≡ true → has (filter f xs) n ≡ true)
-          → has (if f x then x ∷ filter f xs else filter f xs) n ≡ true
-      go true q k more = own (f x) refl (eqb-true x n q)
-      go false q k more = keep (f x) (more k is)
-
     no_items : (items : List Item) → length items ≤ 0 → items ≡ []
     no_items [] le = refl
     no_items (x ∷ items) le = absurd (omega (arith, le))
@@ -230,7 +202,7 @@ module _ (bytes : ℕ → List ℕ) (block : ℕ) (s : Shared) (is : IsRead byte
     written ino out = go (is_written r.plan ino) refl where
       go : (b : Bool) → is_written r.plan ino ≡ b → items_for r.plan ino ≡ []
       go false e = no_items (items_for r.plan ino) (ltb-false 0 (length (items_for r.plan ino)) e)
-      go true e = absurd (true≢false (sym (kept_by (is_written r.plan) r.slots ino
+      go true e = absurd (true≢false (sym (filter_has (is_written r.plan) r.slots ino
           (items_held r.plan (held_all r.plan plan_there plan_among) ino (ltb-true 0 (length (items_for r.plan ino)) e)) e) ∙ out))
 
     pub plan_now : HasPlanNow bytes block s r

@@ -1,18 +1,15 @@
 -- What a call that passes its check plans, of which nodes, and when what it has taken is what it needs.
-use Rattle.std.proofs.Common.{◌≡◌, ◌⊎◌, ℕ, zero, suc, ◌+◌, ◌^◌, ◌/◌, ◌<◌, ◌≤◌, ◌==◌, ◌&&◌, ◌++◌, ◌∙◌, Bool, true, false, cond, not, nat_lt, List, [], ◌∷◌, Option, Some, None, ap, arith, flat_map, if◌then◌else◌, inl, inr, length, map, refl, slice_index_or, subst, sym}
-use Rattle.std.specs.List.{AllByRecursion, range_with_len}
-use Rattle.std.specs.Prelude.{is_some}
-use Rattle.std.proofs.lemmas.Bool.{and_parts, eqb-false, eqb-true, lt-ltb}
-use Rattle.nv_alloc.specs.Block.{BlockValue, numbers_of}
+use Rattle.std.proofs.Common.{◌≡◌, ◌⊎◌, ℕ, ◌<◌, ◌==◌, ◌∙◌, Bool, true, false, cond, List, [], ◌∷◌, Option, Some, None, ap, inl, inr, length, refl, sym}
+use Rattle.std.specs.List.{AllByRecursion}
+use Rattle.std.proofs.lemmas.Bool.{and_parts, eqb-true}
 use Rattle.nv_base.specs.declared.node.Kind.TheVariants.{File, Dir}
 use Rattle.nv_base.specs.declared.numbers.Handle.{Handle}
-use Rattle.nv_calls.specs.AllCalls.{IsReady, blocks_wanted, looked, plan, refusal}
-use Rattle.nv_calls.specs.Locked.{Agree, handles}
-use Rattle.nv_calls.specs.Plain.{PlainNode, node_in, same_handle}
+use Rattle.nv_calls.specs.AllCalls.{blocks_wanted, plan, refusal}
+use Rattle.nv_calls.specs.Plain.{node_in, same_handle}
 use Rattle.nv_calls.specs.Plan.{plan_blocks}
-use Rattle.nv_calls.specs.Refusals.{Check, bytes_of, found, kind_of, passes, want_bound}
-use Rattle.nv_calls.specs.Slots.{IsFree, Slot, node_under}
-use Rattle.nv_calls.specs.calls.Rename.{bound_plan, move_plan, moved_refusal, own_place, pass_if, rename_plan, replaced_plan, replaced_refusal}
+use Rattle.nv_calls.specs.Refusals.{Check, found, kind_of, passes, want_bound}
+use Rattle.nv_calls.specs.Slots.{Slot, node_under}
+use Rattle.nv_calls.specs.calls.Rename.{bound_plan, move_plan, moved_refusal, own_place, pass_if, replaced_plan, replaced_refusal}
 use Rattle.nv_calls.specs.calls.Unlink.{leave_plan}
 use Rattle.nv_calls.specs.declared.call.Call.{Call}
 use Rattle.nv_calls.specs.declared.call.Call.TheVariants as call
@@ -21,7 +18,7 @@ use Rattle.nv_calls.specs.declared.plan.Planned.{Planned}
 use Rattle.nv_calls.specs.declared.taken.Taken.{Taken}
 use Rattle.nv_calls.proofs.Commits.{handle-same}
 use Rattle.nv_calls.proofs.Keeps.{bound_none, cut_blocks-are, leave_none, write_blocks-are}
-use Rattle.nv_calls.proofs.Passed.{HasKind, IsThere, both_passed, directory_passed, file_passed, look_passed, node_passed, there}
+use Rattle.nv_calls.proofs.Passed.{IsThere, both_passed, directory_passed, file_passed, look_passed, node_passed, there}
 use Rattle.nv_calls.proofs.fits.Rename.{elsewhere, moved_passed, names_passed}
 use Rattle.nv_entry.specs.Sound.{blocks_of}
 use Rattle.std.proofs.lemmas.List.{append-nil}

@@ -1,5 +1,5 @@
 -- What the steps of a commit before its commit point leave of the cells that it locks.
-use Rattle.std.proofs.Common.{◌≡◌, ◌≢◌, ℕ, zero, suc, ◌+◌, ◌<◌, ◌≤◌, ◌++◌, ◌∙◌, Bool, true, false, List, [], ◌∷◌, Option, Some, None, ap, arith, append-nil, drop, flat_map, if◌then◌else◌, length, map, refl, slice_index_or, subst, sym, take}
+use Rattle.std.proofs.Common.{◌≡◌, ℕ, zero, suc, ◌+◌, ◌<◌, ◌≤◌, ◌++◌, ◌∙◌, Bool, true, false, List, [], ◌∷◌, Option, Some, None, ap, arith, drop, if◌then◌else◌, length, map, refl, slice_index_or, subst, sym, take}
 use Rattle.std.specs.List.{AllByRecursion}
 use Rattle.std.proofs.lemmas.List.{take-append-drop, take-append-le}
 use Rattle.nv_alloc.specs.Block.{BlockValue, numbers_of}
@@ -12,11 +12,10 @@ use Rattle.nv_entry.specs.Blocks.{item_blocks}
 use Rattle.nv_entry.specs.declared.item.Entry.{Entry}
 use Rattle.nv_entry.specs.declared.item.Item.{Item}
 use Rattle.nv_entry.specs.declared.item.Item.TheVariants.{Init, Write, SetSize, SetMode, Bind, Unbind, Gone}
-use Rattle.nv_journal.specs.declared.old_tail.OldTail.{OldTail}
 use Rattle.nv_core.specs.machine.Kept.{AreClosed, HasNoted}
 use Rattle.nv_core.specs.machine.Kinds.{with_entries, with_pages}
 use Rattle.nv_core.specs.machine.Settled.{settled, settled_tail}
-use Rattle.nv_core.specs.machine.World.{Shared, cell_at, no_cell, with_cell}
+use Rattle.nv_core.specs.machine.World.{Shared, cell_at, with_cell}
 use Rattle.nv_core.proofs.steps.CellSteps.{HaveFront, first_blocks, items_in, later_blocks, later_rest}
 use Rattle.nv_core.proofs.steps.Entered.{entries_more, pages_keep}
 use Rattle.nv_core.proofs.steps.Journals.{closed_tail}
@@ -40,7 +39,7 @@ wider_on a b c f g = record {
   blocks = λ n x e. g.blocks n x (f.blocks n x e);
 }
 
-longer : (xs ys : List (Option BlockValue)) (n : ℕ) (b : BlockValue) → slice_index_or xs n None ≡ Some b
+pub longer : (xs ys : List (Option BlockValue)) (n : ℕ) (b : BlockValue) → slice_index_or xs n None ≡ Some b
     → slice_index_or (xs ++ ys) n None ≡ Some b
 longer [] ys n b e = cc
 longer (x ∷ xs) ys zero b e = e
@@ -75,7 +74,7 @@ all_both : (P : BlockValue → Type 0) (xs ys : List BlockValue) → AllByRecurs
 all_both P [] ys all more = more
 all_both P (x ∷ xs) ys all more = (all.0, all_both P xs ys all.1 more)
 
-behind : (xs ys : List (Option BlockValue)) (n : ℕ) (b : BlockValue) → slice_index_or ys n None ≡ Some b
+pub behind : (xs ys : List (Option BlockValue)) (n : ℕ) (b : BlockValue) → slice_index_or ys n None ≡ Some b
     → (m : ℕ) × (slice_index_or (xs ++ ys) m None ≡ Some b)
 behind [] ys n b e = (n, e)
 behind (x ∷ xs) ys n b e = let m = behind xs ys n b e in (suc m.0, m.1)

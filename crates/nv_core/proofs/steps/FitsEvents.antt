@@ -1,7 +1,7 @@
 -- Plans fit at their commit points, whatever events come.
-use Rattle.std.proofs.Common.{◌≡◌, ◌≢◌, ℕ, zero, suc, ◌+◌, ◌-◌, ◌%◌, ◌<◌, ◌≤◌, ◌==◌, ◌∙◌, Bool, true, false, cond, List, [], ◌∷◌, Option, Some, None, ap, ap₂, arith, get_or-set_other, get_or-set_same, if◌then◌else◌, inl, inr, length, length-set, nat_lt, refl, replicate, set, subst, sym, take}
+use Rattle.std.proofs.Common.{◌≡◌, ◌≢◌, ℕ, zero, suc, ◌-◌, ◌<◌, ◌≤◌, ◌==◌, ◌∙◌, Bool, true, false, cond, List, [], ◌∷◌, Option, Some, None, ap, ap₂, arith, get_or-set_other, get_or-set_same, inl, inr, length, length-set, nat_lt, refl, replicate, set, subst, sym, take}
 use Rattle.std.specs.Prelude.{slice_index_or, unwrap_or}
-use Rattle.std.proofs.lemmas.Bool.{cases_lt, eqb-false, eqb-true, false≢true, lt-ltb, ltb-true, true≢false}
+use Rattle.std.proofs.lemmas.Bool.{cases_lt, eqb-false, eqb-true, lt-ltb, ltb-true, true≢false}
 use Rattle.std.proofs.lemmas.List.{get_or_past}
 use Rattle.std.specs.List.{AllByRecursion}
 use Rattle.nv_alloc.specs.Numbers.{has}
@@ -22,17 +22,17 @@ use Rattle.nv_core.specs.machine.Format.{formatted}
 use Rattle.nv_core.specs.machine.Frame.{IsFramed, Lent, lent}
 use Rattle.nv_core.specs.machine.Hands.{AreNumbers, HandAt, HandOf}
 use Rattle.nv_core.specs.machine.Kinds.{entries_for, first_killed, retired_cell, with_entries, with_pages}
-use Rattle.nv_core.specs.machine.Locks.{AreLocks, AreSlots, HoldsIts, commits_at, held_at, is_owner}
+use Rattle.nv_core.specs.machine.Locks.{AreSlots, HoldsIts, commits_at}
 use Rattle.nv_core.specs.machine.Order.{CommitsIn}
 use Rattle.nv_core.specs.machine.PlainRun.{Commits, Deed, Nothing, Numbers as FixesNumber, deed_by, deed_of, keeps_nodes}
 use Rattle.nv_core.specs.machine.Reached.{IsReached}
 use Rattle.nv_core.specs.machine.Reads.{pages_needed, slot_at, slots_of, written_slots}
 use Rattle.nv_core.specs.machine.Sequence.{Beginning, Looks, Locks, Numbers, Visits, beginning, begun, nothing_looked}
 use Rattle.nv_core.specs.machine.Settled.{node_by, settled, settled_nodes, settled_tail}
-use Rattle.nv_core.specs.machine.Step.{after, go_step, kind_turn, start_step, step, turn, turned}
+use Rattle.nv_core.specs.machine.Step.{after, go_step, start_step, step, turn, turned}
 use Rattle.nv_core.specs.machine.World.{Actor, Append, Back, Check, Close, Ends, Enter, Event, Give, Go, HandState, Leave, Lock, Look, Moves, Next, Number, Open, Publish, Ready, Retire, Running, Shared, Start, TakeBlocks, TakePages, Turn, Unlock, Visit, Waits, World, actor_at, cell_at, empty_hand, idle, no_cell, owner_at, with_cell}
 use Rattle.nv_core.proofs.steps.Answered.{deed_is}
-use Rattle.nv_core.proofs.steps.Effects.{IsRead, new_sound, point_effect, point_is_sound, take_none}
+use Rattle.nv_core.proofs.steps.Effects.{new_sound, point_effect, point_is_sound, take_none}
 use Rattle.nv_core.proofs.steps.FitsBytes.{all_read, plan_now, point_fits}
 use Rattle.nv_core.proofs.steps.FitsCells.{append_wider, erased_block, retired_block}
 use Rattle.nv_core.proofs.steps.FitsPooled.{HaveFreeNumbers, free_numbers}
@@ -240,14 +240,14 @@ module _ (g : GeometryNumbers) (w : World) (known : IsKnown g w) (fit : AreFit w
       -- at a commit point the plan fits
       pub fits_now : HasPlanNow (bytes_in w.shared) block w.shared r
       fits_now =
-        let s = w.shared in
-        let k = known.reached in
-        plan_now (bytes_in s) block s (record {
-          pages = k.kept.logs.pages;
-          apart = k.apart.cells;
-          blocks = all_read g.blocks w known.numbers.once;
-          sizes = fit.sizes;
-        }) fit.sound r k.kept.some at.1 at.2
+          let s = w.shared in
+          let k = known.reached in
+          plan_now (bytes_in s) block s (record {
+            pages = k.kept.logs.pages;
+            apart = k.apart.cells;
+            blocks = all_read g.blocks w known.numbers.once;
+            sizes = fit.sizes;
+          }) fit.sound r k.kept.some at.1 at.2
 
       -- and its commit is the last that was entered
       pub number_now : r.commit ≡ w.shared.book.commit

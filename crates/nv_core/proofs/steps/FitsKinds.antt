@@ -1,31 +1,28 @@
 -- What a call knows between its check and its commit point, at every kind of step.
-use Rattle.std.proofs.Common.{◌≡◌, ◌≢◌, ℕ, zero, suc, ◌+◌, ◌%◌, ◌^◌, ◌<◌, ◌≤◌, ◌++◌, ◌∙◌, Bool, true, false, List, [], ◌∷◌, Option, Some, None, add-one, ap, arith, drop, if◌then◌else◌, length, length-set, map, mod-lt, nat_lt, refl, subst, sym, take}
+use Rattle.std.proofs.Common.{◌≡◌, ℕ, zero, suc, ◌+◌, ◌%◌, ◌<◌, ◌++◌, ◌∙◌, Bool, true, false, List, Some, add-one, ap, arith, drop, if◌then◌else◌, length, length-set, map, mod-lt, nat_lt, refl, subst, sym, take}
 use Rattle.std.specs.List.{AllByRecursion}
 use Rattle.nv_alloc.specs.Block.{BlockValue}
 use Rattle.nv_alloc.specs.Numbers.{has}
 use Rattle.nv_base.specs.declared.geometry.GeometryNumbers.{GeometryNumbers}
 use Rattle.nv_base.specs.declared.numbers.Handle.{Handle}
 use Rattle.nv_book.specs.Book.{with_journal}
-use Rattle.nv_calls.specs.AllCalls.{blocks_wanted}
 use Rattle.nv_calls.specs.Locked.{handles}
-use Rattle.nv_calls.specs.declared.plan.Planned.{Planned}
 use Rattle.nv_cell.specs.Cell.{CellState, log_of, published}
 use Rattle.nv_cell.proofs.Publishing.{take_whole}
 use Rattle.nv_core.specs.machine.Grown.{HasGrown, is_appended, is_behind}
 use Rattle.nv_core.specs.machine.Hands.{HandAt}
-use Rattle.nv_core.specs.machine.Kept.{AreClosed, HasNoted, IsNotedIf}
+use Rattle.nv_core.specs.machine.Kept.{HasNoted, IsNotedIf}
 use Rattle.nv_core.specs.machine.Kinds.{asked_list, blocks_left, entries_for, killed_by_publish, old_tails, with_entries, with_killed, with_pages}
-use Rattle.nv_core.specs.machine.Locks.{AreSlots, held_at, is_owner}
-use Rattle.nv_core.specs.machine.PlainRun.{Commits, Nothing, deed, keeps_nodes}
-use Rattle.nv_core.specs.machine.Reads.{copies, has_last_page, if_number, is_written, pages_needed, slot_at, slots_in, slots_of, written_slots}
+use Rattle.nv_core.specs.machine.Locks.{AreSlots, held_at}
+use Rattle.nv_core.specs.machine.PlainRun.{Commits, Nothing, keeps_nodes}
+use Rattle.nv_core.specs.machine.Reads.{if_number, is_written, pages_needed, slot_at, slots_in, written_slots}
 use Rattle.nv_core.specs.machine.Sequence.{appending, publishing}
-use Rattle.nv_core.specs.machine.Settled.{settled, settled_nodes}
+use Rattle.nv_core.specs.machine.Settled.{settled}
 use Rattle.nv_core.specs.machine.Step.{ending_at, kind_turn, with_made}
 use Rattle.nv_core.specs.machine.World.{Append, Back, Check, Close, Enter, Give, HandState, Leave, Lock, Look, Next, Number, Open, Publish, Ready, Retire, Running, Shared, TakeBlocks, TakePages, Unlock, Visit, cell_at, go_to, owner_at, with_book, with_cell}
-use Rattle.nv_core.proofs.steps.Answered.{entered_none, is_single, no_commit}
-use Rattle.nv_core.proofs.steps.FitsCells.{IsIn, append_logs, append_wider, publish_logs, same_wider, wider_cells}
+use Rattle.nv_core.proofs.steps.FitsCells.{append_logs, append_wider, publish_logs, same_wider, wider_cells}
 use Rattle.nv_core.proofs.steps.FitsOwn.{IsNumberFree, all_in, all_stored, passed_check, ready_fits, same_stored, wanted_check}
-use Rattle.nv_core.proofs.steps.FitsStages.{Drawn, FitsAt, HasDrawn, IsDrawn, IsStored, Passed, SameStored, drawn_on, fits_still, passed_on, stored_on, view}
+use Rattle.nv_core.proofs.steps.FitsStages.{Drawn, FitsAt, IsDrawn, IsStored, Passed, SameStored, drawn_on, fits_still, passed_on, stored_on, view}
 use Rattle.nv_core.proofs.steps.FitsTurns.{OnFits, appending_fits, back_fits, check_fits, end_fits, enter_fits, lock_fits, look_fits, number_fits, publishing_fits, rest_fits, retiring_fits, single_fits, take_fits, taken_fits, unlock_fits, visit_fits}
 use Rattle.nv_core.proofs.steps.Grown.{is_settled}
 use Rattle.nv_core.proofs.steps.Journals.{closed_tail, open_same}
@@ -116,56 +113,56 @@ module _ (g : GeometryNumbers) (a : ℕ) (s : Shared) (h : HandState) (r : Runni
   open_own st = publishing_fits g.block t h (go_to (publishing 0 written) r) (passed_on g.block s t h r same st.fits.0) 0 written
       (drawn_on g.block s t h r same (AllByRecursion (IsStored s r.slots)) (AllByRecursion (IsStored t r.slots))
       (stored_on g.block s t h r same) st.fits.0 st.fits.1) where
-    cpu : ℕ
-    cpu = a % length s.lists
+        cpu : ℕ
+        cpu = a % length s.lists
 
-    t : Shared
-    t = with_book (with_journal (a % length s.lists) (old_tails s written) s.book) s
+        t : Shared
+        t = with_book (with_journal (a % length s.lists) (old_tails s written) s.book) s
 
-    inside : a % length s.lists < length s.book.journals
-    inside = omega (arith, st.kept.kept.wide, mod-lt a st.kept.kept.some)
+        inside : a % length s.lists < length s.book.journals
+        inside = omega (arith, st.kept.kept.wide, mod-lt a st.kept.kept.some)
 
-    logs : (ino : ℕ) → settled t ino ≡ settled s ino
-    logs ino = ap (λ (n : ℕ). take n (cell_at s ino).chain.entries)
-        (open_same s (a % length s.lists) written st.kept.knows.2 inside ino
-        ∙ sym (closed_tail s.book.journals ino (cell_at s ino).chain.tail st.kept.knows.2))
+        logs : (ino : ℕ) → settled t ino ≡ settled s ino
+        logs ino = ap (λ (n : ℕ). take n (cell_at s ino).chain.entries)
+            (open_same s (a % length s.lists) written st.kept.knows.2 inside ino
+            ∙ sym (closed_tail s.book.journals ino (cell_at s ino).chain.tail st.kept.knows.2))
 
-    same : SameStored s t r.slots
-    same = same_stored s t r.slots refl (same_nodes s t ((kept_turn Open g.block a true s h r st.kept).1 refl).nodes) logs
-        (λ ino. same_wider (cell_at s ino))
+        same : SameStored s t r.slots
+        same = same_stored s t r.slots refl (same_nodes s t ((kept_turn Open g.block a true s h r st.kept).1 refl).nodes) logs
+            (λ ino. same_wider (cell_at s ino))
 
   publish_own : (place : ℕ) → Own g (Publish place) a s h r → (b : Bool) → nat_lt 1 (length written) ≡ b
       → OnFits g.block (kind_turn (Publish place) g.block a true s h r)
   publish_own place st false one =
       single_fits g.block place written (with_cell slot_ (published (cell_at s slot_)) s)
       (with_killed (killed_by_publish (cell_at s slot_)) h) (go_to (publishing (place + 1) written) r) one where
-    slot_ : ℕ
-    slot_ = slot_at (written_slots r) place
+        slot_ : ℕ
+        slot_ = slot_at (written_slots r) place
   publish_own place st true several =
       publishing_fits g.block t_ (with_killed (killed_by_publish (cell_at s slot_)) h) (go_to (publishing (place + 1) written) r)
       (passed_on g.block s t_ h r same st.fits.0) (place + 1) written
       (drawn_on g.block s t_ h r same (AllByRecursion (IsStored s r.slots)) (AllByRecursion (IsStored t_ r.slots))
       (stored_on g.block s t_ h r same) st.fits.0 st.fits.1) where
-    slot_ : ℕ
-    slot_ = slot_at (written_slots r) place
+        slot_ : ℕ
+        slot_ = slot_at (written_slots r) place
 
-    t_ : Shared
-    t_ = with_cell (slot_at (written_slots r) place) (published (cell_at s (slot_at (written_slots r) place))) s
+        t_ : Shared
+        t_ = with_cell (slot_at (written_slots r) place) (published (cell_at s (slot_at (written_slots r) place))) s
 
-    low_ : slot_at (written_slots r) place < length s.cells
-    low_ = written_inside (length s.cells) r place (slots_of_cells (Publish place) st) st.kept.before.inside
+        low_ : slot_at (written_slots r) place < length s.cells
+        low_ = written_inside (length s.cells) r place (slots_of_cells (Publish place) st) st.kept.before.inside
 
-    noted : (b : Bool) → b ≡ true → IsNotedIf b s (a % length s.lists) (written_slots r) → HasNoted s (a % length s.lists) (written_slots r)
-    noted true e n = n
-    noted false e n = cc
+        noted : (b : Bool) → b ≡ true → IsNotedIf b s (a % length s.lists) (written_slots r) → HasNoted s (a % length s.lists) (written_slots r)
+        noted true e n = n
+        noted false e n = cc
 
-    same : SameStored s t_ r.slots
-    same = same_stored s t_ r.slots (length-set s.cells slot_ (published (cell_at s slot_)))
-        (same_nodes s t_ ((kept_turn (Publish place) g.block a true s h r st.kept).1
-        (ap (λ (b : Bool). keeps_nodes (if b then Nothing else Commits)) several)).nodes)
-        (publish_logs s slot_ (a % length s.lists) (written_slots r) low_ (noted (nat_lt 1 (length (written_slots r))) several st.kept.knows.2)
-        (written_there r place st.kept.before.inside))
-        (wider_cells s slot_ (published (cell_at s slot_)) low_ (record { generation = refl; block = refl; blocks = λ n b e. e }))
+        same : SameStored s t_ r.slots
+        same = same_stored s t_ r.slots (length-set s.cells slot_ (published (cell_at s slot_)))
+            (same_nodes s t_ ((kept_turn (Publish place) g.block a true s h r st.kept).1
+            (ap (λ (b : Bool). keeps_nodes (if b then Nothing else Commits)) several)).nodes)
+            (publish_logs s slot_ (a % length s.lists) (written_slots r) low_ (noted (nat_lt 1 (length (written_slots r))) several st.kept.knows.2)
+            (written_there r place st.kept.before.inside))
+            (wider_cells s slot_ (published (cell_at s slot_)) low_ (record { generation = refl; block = refl; blocks = λ n b e. e }))
 
   logs_at_check : Own g Check a s h r → (ino : ℕ) → has r.slots ino ≡ true → settled s ino ≡ log_of (cell_at s ino)
   logs_at_check st ino held = logs_of Check s a r st.grown ino refl refl (owner_is a (owner_at s ino) (st.kept.before.mine.owners ino ∙ held))

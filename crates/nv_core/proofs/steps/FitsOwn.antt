@@ -1,7 +1,7 @@
 -- A call that passes its check knows so, and keeps its plan up to its commit point, at each step of its own.
-use Rattle.std.proofs.Common.{◌≡◌, ◌⊎◌, ℕ, zero, suc, ◌+◌, ◌%◌, ◌^◌, ◌<◌, ◌≤◌, ◌==◌, ◌||◌, ◌++◌, ◌∙◌, Bool, true, false, cond, List, [], ◌∷◌, Option, Some, None, add-one, ap, ap₂, arith, filter, flat_map, get_or-set_same, if◌then◌else◌, inl, inr, length, length-set, map, nat_lt, refl, slice_index_or, subst, sym, take}
+use Rattle.std.proofs.Common.{◌≡◌, ◌⊎◌, ℕ, ◌^◌, ◌<◌, ◌==◌, ◌||◌, ◌++◌, ◌∙◌, Bool, true, false, cond, List, [], ◌∷◌, Option, Some, None, ap, ap₂, arith, filter, flat_map, get_or-set_same, if◌then◌else◌, inl, inr, length, map, nat_lt, refl, slice_index_or, subst, sym, take}
 use Rattle.std.specs.List.{AllByRecursion}
-use Rattle.std.specs.Prelude.{Ok, Err, is_some}
+use Rattle.std.specs.Prelude.{Ok, Err}
 use Rattle.std.proofs.lemmas.Bool.{cases_lt, eqb-true, false≢true, ltb-false}
 use Rattle.std.proofs.lemmas.List.{append-nil, get_or_past}
 use Rattle.nv_alloc.specs.Block.{BlockValue, numbers_of}
@@ -10,37 +10,35 @@ use Rattle.nv_base.specs.declared.numbers.Handle.{Handle}
 use Rattle.nv_calls.proofs.Commits.{entries-items}
 use Rattle.nv_calls.proofs.Keeps.{keeps_to_its}
 use Rattle.nv_calls.specs.AllCalls.{blocks_wanted, early, effect, looked, plan, refusal}
-use Rattle.nv_calls.specs.Locked.{KeepsToIts, handles, locks, made_by}
+use Rattle.nv_calls.specs.Locked.{KeepsToIts, handles, made_by}
 use Rattle.nv_calls.specs.Plain.{Change, node_in}
 use Rattle.nv_calls.specs.Plan.{plan_blocks}
 use Rattle.nv_calls.specs.Refusals.{Check as Tests, passes}
 use Rattle.nv_calls.specs.Slots.{IsFree, Slot, items_for, place_in}
 use Rattle.nv_calls.specs.declared.call.Call.{Call}
 use Rattle.nv_calls.specs.declared.call.Call.TheVariants as call
-use Rattle.nv_calls.specs.declared.looked.Looked.{Looked}
 use Rattle.nv_calls.specs.declared.plan.Planned.{Planned}
 use Rattle.nv_calls.specs.declared.taken.Taken.{Taken}
-use Rattle.nv_cell.specs.Cell.{CellState, log_of, published}
-use Rattle.nv_cell.proofs.Publishing.{take_whole}
+use Rattle.nv_cell.specs.Cell.{CellState, log_of}
 use Rattle.nv_entry.specs.Blocks.{item_blocks}
 use Rattle.nv_entry.specs.Sound.{blocks_of}
 use Rattle.nv_entry.specs.declared.item.Entry.{Entry}
-use Rattle.nv_entry.specs.declared.item.Item.{Item}
 use Rattle.nv_core.specs.machine.Hands.{makes_inode}
 use Rattle.nv_core.specs.machine.Kinds.{check_ending, entries_for, ready_turn, with_entries}
-use Rattle.nv_core.specs.machine.Reads.{copies, filled, fresh_pages, has_last_page, if_number, is_written, nodes, plan_by, runs_of, slot_at, slots_in, slots_of, with_slot, written_slots}
+use Rattle.nv_core.specs.machine.Reads.{copies, filled, fresh_pages, has_last_page, if_number, is_written, nodes, plan_by, runs_of, slots_in, slots_of, with_slot, written_slots}
 use Rattle.nv_core.specs.machine.Sequence.{Beginning, Looks, Locks, Numbers, Visits, beginning}
 use Rattle.nv_core.specs.machine.Settled.{node_by, settled, settled_nodes, settled_tail}
 use Rattle.nv_core.specs.machine.Step.{ending_at, is_numbered, made_in, same_looked}
 use Rattle.nv_core.specs.machine.World.{HandState, Running, Shared, cell_at, no_cell, with_cell}
-use Rattle.nv_core.proofs.steps.CellSteps.{HaveFront, items_in}
+use Rattle.nv_core.proofs.steps.CellSteps.{items_in}
 use Rattle.nv_core.proofs.steps.Effects.{take_none}
 use Rattle.nv_core.proofs.steps.FitsCalls.{looked_is, plan_all}
 use Rattle.nv_core.proofs.steps.FitsCells.{IsIn, IsWider, entries_stored}
-use Rattle.nv_core.proofs.steps.FitsRuns.{AreFilled, filled_length, present_in, taken_of}
-use Rattle.nv_core.proofs.steps.FitsStages.{Drawn, IsDrawn, IsLocked, IsPassed, IsStored, Passed, SameFor, SameStored, View, drawn_still, passed_still, view, wanted_in, wanted_still}
+use Rattle.nv_core.proofs.steps.FitsRuns.{filled_length, present_in, taken_of}
+use Rattle.nv_core.proofs.steps.FitsStages.{IsDrawn, IsLocked, IsPassed, IsStored, Passed, SameFor, SameStored, View, drawn_still, passed_still, view, wanted_in, wanted_still}
 use Rattle.nv_core.proofs.steps.FitsTurns.{OnFits, grown_fits}
-use Rattle.nv_core.proofs.steps.Lists.{self}
+use Rattle.nv_core.proofs.steps.Lists.{or_left, or_right, self}
+use Rattle.nv_core.proofs.steps.PoolSlots.{filtered, in_range}
 use Rattle.nv_core.proofs.steps.Planned.{filled_numbers, length_numbers, runs_are, small_numbers}
 
 -- ---- a call that does not commit reads the settled logs of what it has locked
@@ -96,48 +94,9 @@ last_page block s (call.Rename from old to new) = refl
 
 -- ---- what is locked
 
-pub or_first : (b c : Bool) → b ≡ true → (b || c) ≡ true
-or_first true c e = refl
-or_first false c e = cc
-
-pub or_then : (b c : Bool) → c ≡ true → (b || c) ≡ true
-or_then true c e = refl
-or_then false c e = e
-
-has_with : (n : ℕ) (xs : List ℕ) → has (with_slot n xs) n ≡ true
-has_with n [] = or_first (n == n) false (self n)
-has_with n (x ∷ xs) = go (n == x) (nat_lt n x) refl (has_with n xs) where
-  go : (b c : Bool) → (n == x) ≡ b → has (with_slot n xs) n ≡ true
-      → has (if b then x ∷ xs else if c then n ∷ x ∷ xs else x ∷ with_slot n xs) n ≡ true
-  go true c e more = or_first (x == n) (has xs n) (subst (λ (k : ℕ). (k == n) ≡ true) (eqb-true n x e) (self n))
-  go false true e more = or_first (n == n) (has (x ∷ xs) n) (self n)
-  go false false e more = or_then (x == n) (has (with_slot n xs) n) more
-
-more_with : (n m : ℕ) (xs : List ℕ) → has xs m ≡ true → has (with_slot n xs) m ≡ true
-more_with n m [] e = cc
-more_with n m (x ∷ xs) e = go (n == x) (nat_lt n x) (x == m) refl e (more_with n m xs) where
-  go : (b c d : Bool) → (x == m) ≡ d → (d || has xs m) ≡ true → (has xs m ≡ true → has (with_slot n xs) m ≡ true)
-      → has (if b then x ∷ xs else if c then n ∷ x ∷ xs else x ∷ with_slot n xs) m ≡ true
-  go true c d q k more = ap (λ (z : Bool). (z || has xs m)) q ∙ k
-  go false true d q k more = or_then (n == m) (has (x ∷ xs) m) (ap (λ (z : Bool). (z || has xs m)) q ∙ k)
-  go false false true q k more = or_first (x == m) (has (with_slot n xs) m) q
-  go false false false q k more = or_then (x == m) (has (with_slot n xs) m) (more k)
-
-has_slots : (many : ℕ) (inos : List ℕ) (ino : ℕ) → ino < many → has inos ino ≡ true → has (slots_in many inos) ino ≡ true
-has_slots many [] ino lt e = cc
-has_slots many (x ∷ inos) ino lt e = go (nat_lt x many) refl (x == ino) refl e (has_slots many inos ino lt) where
-  go : (b : Bool) → nat_lt x many ≡ b → (d : Bool) → (x == ino) ≡ d → (d || has inos ino) ≡ true
-      → (has inos ino ≡ true → has (slots_in many inos) ino ≡ true)
-      → has (if b then with_slot x (slots_in many inos) else slots_in many inos) ino ≡ true
-  go true low true q k more =
-      subst (λ (n : ℕ). has (with_slot x (slots_in many inos)) n ≡ true) (eqb-true x ino q) (has_with x (slots_in many inos))
-  go true low false q k more = more_with x ino (slots_in many inos) (more k)
-  go false past true q k more = absurd (omega (arith, lt, eqb-true x ino q, ltb-false x many past))
-  go false past false q k more = more k
-
 has_back : (xs ys : List ℕ) (n : ℕ) → has ys n ≡ true → has (xs ++ ys) n ≡ true
 has_back [] ys n e = e
-has_back (x ∷ xs) ys n e = or_then (x == n) (has (xs ++ ys) n) (has_back xs ys n e)
+has_back (x ∷ xs) ys n e = or_right (x == n) (has (xs ++ ys) n) (has_back xs ys n e)
 
 abbrev inos : List Handle → List ℕ
 inos list = map (λ (h : Handle). h.ino) list
@@ -146,8 +105,8 @@ cover_each : (many : ℕ) (locked : List ℕ) (list : List Handle)
     → ((n : ℕ) → has (inos list) n ≡ true → n < many → has locked n ≡ true) → AllByRecursion (IsLocked many locked) list
 cover_each many locked [] f = tt
 cover_each many locked (x ∷ list) f = (
-  f x.ino (or_first (x.ino == x.ino) (has (inos list) x.ino) (self x.ino)),
-  cover_each many locked list (λ n e. f n (or_then (x.ino == n) (has (inos list) n) e)),
+  f x.ino (or_left (x.ino == x.ino) (has (inos list) x.ino) (self x.ino)),
+  cover_each many locked list (λ n e. f n (or_right (x.ino == n) (has (inos list) n) e)),
 )
 
 cover_made : (P : Handle → Type 0) (s : Shared) (number : Option ℕ) (made : Handle) (c : Call) (list : List Handle)
@@ -206,7 +165,7 @@ module _ (block : ℕ) (s : Shared) (h : HandState) (r : Running)
 
     listed : (n : ℕ) → has (if_number h.ino ++ inos (handles r.looked r.call)) n ≡ true → n < length s.cells → has r.slots n ≡ true
     listed n there lt = subst (λ (l : List ℕ). has l n ≡ true) (sym slots)
-        (has_slots (length s.cells) (if_number h.ino ++ inos (handles r.looked r.call)) n lt there)
+        (in_range (length s.cells) (if_number h.ino ++ inos (handles r.looked r.call)) n there lt)
 
     number : makes_inode (beginning r.call) ≡ true → (ino : ℕ) × (h.ino ≡ Some ino)
     number makes = makes_number (beginning r.call) h.ino makes tests.2
@@ -215,7 +174,7 @@ module _ (block : ℕ) (s : Shared) (h : HandState) (r : Running)
     passed_now = record {
       covers = cover_made (IsLocked (length s.cells) r.slots) s h.ino r.made r.call (handles r.looked r.call) tests.2
           (λ ino is lt. listed ino (ap (λ (o : Option ℕ). has (if_number o ++ inos (handles r.looked r.call)) ino) is
-          ∙ or_first (ino == ino) (has (inos (handles r.looked r.call)) ino) (self ino)) lt)
+          ∙ or_left (ino == ino) (has (inos (handles r.looked r.call)) ino) (self ino)) lt)
           (cover_each (length s.cells) r.slots (handles r.looked r.call)
           (λ n there lt. listed n (has_back (if_number h.ino) (inos (handles r.looked r.call)) n there) lt));
       found = looked_is (looked (copies s) r.call) r.looked tests.0;
@@ -267,27 +226,17 @@ module _ (block : ℕ) (s : Shared) (h : HandState) (r : Running)
     }
 
     pub ready_fits : (granted : Bool) → OnFits block (ready_turn granted block s h r)
-    ready_fits granted = grown_fits block granted _ s h r (p, record {
-      fresh = fresh;
-      drawn = drawn_still block (now s) (view s) r.call r.looked r.made r.slots (same_now s r.slots logs) passed_then
-          (plan_by block s h r) fresh drawn_now;
-      at = refl;
-    })
+    ready_fits granted = grown_fits block granted _ s h r (
+      p,
+      record {
+        fresh = fresh;
+        drawn = drawn_still block (now s) (view s) r.call r.looked r.made r.slots (same_now s r.slots logs) passed_then
+            (plan_by block s h r) fresh drawn_now;
+        at = refl;
+      },
+    )
 
 -- ---- the first append puts all blocks of the plan into the cell
-
-filter_true : (f : ℕ → Bool) (xs : List ℕ) (n : ℕ) → has (filter f xs) n ≡ true → f n ≡ true
-filter_true f [] n e = cc
-filter_true f (x ∷ xs) n e = go (f x) refl (filter_true f xs n) e where
-  first : (b : Bool) → (x == n) ≡ b → f x ≡ true → (has (filter f xs) n ≡ true → f n ≡ true) → (b || has (filter f xs) n) ≡ true
-      → f n ≡ true
-  first true q is more k = subst (λ (m : ℕ). f m ≡ true) (eqb-true x n q) is
-  first false q is more k = more k
-
-  go : (b : Bool) → f x ≡ b → (has (filter f xs) n ≡ true → f n ≡ true) → has (if b then x ∷ filter f xs else filter f xs) n ≡ true
-      → f n ≡ true
-  go true is more k = first (x == n) refl is more k
-  go false is more k = more k
 
 all_blocks : (plan : List Planned) (numbers : List ℕ) (slot : ℕ) → plan_blocks plan ≡ numbers → (1 < length plan → plan_blocks plan ≡ [])
     → is_written plan slot ≡ true → (numbers ≡ []) ⊎ (numbers ≡ flat_map item_blocks (items_for plan slot))
@@ -320,7 +269,7 @@ module _ (block : ℕ) (s : Shared) (r : Running) (slot : ℕ) (there : has (wri
       ap plan_blocks d.plan ∙ k.several (subst (λ (l : List Planned). 1 < length l) d.plan lt)
 
   pub all_in : AllByRecursion (IsIn new) blocks
-  all_in = elim (all_blocks r.plan (numbers_of blocks) slot plan_has several (filter_true (is_written r.plan) r.slots slot there)) [
+  all_in = elim (all_blocks r.plan (numbers_of blocks) slot plan_has several (filtered (is_written r.plan) r.slots slot there)) [
     | inl none ↦ nothing blocks none
     | inr all ↦ entries_stored (entries_for r slot) blocks old (record { rest = []; is = all ∙ sym (ap (flat_map item_blocks) items) ∙ sym (append-nil _) }) refl
   ] where

@@ -7,14 +7,13 @@ use Rattle.nv_base.specs.declared.geometry.GeometryNumbers.{GeometryNumbers}
 use Rattle.nv_base.specs.declared.numbers.Handle.{Handle}
 use Rattle.nv_calls.specs.AllCalls.{effect}
 use Rattle.nv_calls.specs.Plain.{PlainNode, node_in, nodes_after}
-use Rattle.nv_calls.specs.declared.call.Call.{Call}
 use Rattle.nv_core.specs.machine.Effects.{AreSound}
 use Rattle.nv_core.specs.machine.FitsNow.{bytes_in}
 use Rattle.nv_core.specs.machine.Format.{formatted}
-use Rattle.nv_core.specs.machine.PlainRun.{Commits, Deed, Nothing, Numbers as FixesNumber, Plain, deed_by, deed_of, done, keeps_nodes, nodes_by, plain_after, plain_of, plain_step}
+use Rattle.nv_core.specs.machine.PlainRun.{Commits, Deed, Nothing, Numbers as FixesNumber, Plain, deed_by, deed_of, done, keeps_nodes, plain_after, plain_of, plain_step}
 use Rattle.nv_core.specs.machine.Settled.{settled_nodes}
 use Rattle.nv_core.specs.machine.Step.{after, step}
-use Rattle.nv_core.specs.machine.World.{Event, Go, Running, Shared, Start, World, actor_at}
+use Rattle.nv_core.specs.machine.World.{Event, Go, Running, Start, World, actor_at}
 use Rattle.nv_core.proofs.steps.CommitNumbers.{events_counted}
 use Rattle.nv_core.proofs.steps.Effects.{point_effect}
 use Rattle.nv_core.proofs.steps.FitsEvents.{AreFit, IsKnown, all_fit, all_known, commits_if, event_fits, fits_now, new_fit, number_now}

@@ -1,5 +1,5 @@
 -- The number that a call has in its hand at its check is of a slot without an inode.
-use Rattle.std.proofs.Common.{◌≡◌, ℕ, ◌+◌, ◌<◌, ◌≤◌, ◌∙◌, Bool, true, false, List, [], ◌∷◌, Option, Some, None, ap, ap₂, arith, flat_map, if◌then◌else◌, length, nat_lt, refl, subst, sym}
+use Rattle.std.proofs.Common.{◌≡◌, ℕ, ◌∙◌, Bool, true, false, List, [], ◌∷◌, Option, Some, ap, ap₂, arith, flat_map, if◌then◌else◌, nat_lt, refl}
 use Rattle.std.proofs.lemmas.Bool.{ltb-true, true≢false}
 use Rattle.nv_alloc.specs.Numbers.{times}
 use Rattle.nv_alloc.proofs.Lists.{times-yes}

@@ -1,19 +1,18 @@
 -- Blocks that were taken and filled are what a call needs.
-use Rattle.std.proofs.Common.{◌≡◌, ◌≢◌, ℕ, zero, suc, ◌+◌, ◌^◌, ◌/◌, ◌<◌, ◌≤◌, ◌==◌, ◌++◌, ◌∙◌, Bool, true, false, cond, nat_lt, List, [], ◌∷◌, Option, Some, None, ap, arith, flat_map, if◌then◌else◌, length, map, refl, slice_index_or, subst, sym}
-use Rattle.std.specs.List.{AllByRecursion, range_with_len}
+use Rattle.std.proofs.Common.{◌≡◌, ℕ, zero, suc, ◌+◌, ◌^◌, ◌/◌, ◌<◌, ◌≤◌, ◌==◌, ◌++◌, ◌∙◌, Bool, true, false, cond, nat_lt, List, [], ◌∷◌, Option, ap, arith, flat_map, length, refl, slice_index_or, subst, sym}
+use Rattle.std.specs.List.{AllByRecursion}
 use Rattle.std.specs.Prelude.{is_some}
 use Rattle.std.proofs.lemmas.Bool.{eqb-false, eqb-true, lt-ltb}
-use Rattle.std.proofs.lemmas.List.{length-map}
 use Rattle.std.proofs.lemmas.List.FromFn.{get_or-map-range_with_len, length-map-range_with_len}
 use Rattle.nv_alloc.specs.Block.{BlockValue, numbers_of}
 use Rattle.nv_base.specs.declared.numbers.Handle.{Handle}
-use Rattle.nv_calls.specs.AllCalls.{HasCutPage, HasPages, IsReady, blocks_wanted}
+use Rattle.nv_calls.specs.AllCalls.{IsReady, blocks_wanted}
 use Rattle.nv_calls.specs.Locked.{Agree, handles}
 use Rattle.nv_calls.specs.Plain.{PlainNode, node_in}
 use Rattle.nv_calls.specs.Plan.{AreMaximal}
 use Rattle.nv_calls.specs.Refusals.{bytes_of}
 use Rattle.nv_calls.specs.Slots.{IsFree, Slot}
-use Rattle.nv_calls.specs.calls.Size.{HaveCut, IsCutPage, cuts_page, resized}
+use Rattle.nv_calls.specs.calls.Size.{HaveCut, IsCutPage, cuts_page}
 use Rattle.nv_calls.specs.declared.call.Call.{Call}
 use Rattle.nv_calls.specs.declared.call.Call.TheVariants as call
 use Rattle.nv_calls.specs.declared.looked.Looked.{Looked}

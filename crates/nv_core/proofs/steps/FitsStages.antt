@@ -1,9 +1,7 @@
 -- What a call knows between its check and its commit point, all of it true of now: that it passes, and that its plan is that of
 -- the blocks that it has filled. It is kept wherever the slots that the call locks are kept.
-use Rattle.std.proofs.Common.{◌≡◌, ◌⊎◌, ℕ, zero, suc, ◌+◌, ◌<◌, ◌≤◌, ◌++◌, ◌∙◌, Bool, true, false, List, [], ◌∷◌, Option, Some, None, ap, arith, inl, inr, length, map, nat_lt, refl, slice_index_or, subst, sym}
+use Rattle.std.proofs.Common.{◌≡◌, ℕ, zero, suc, ◌+◌, ◌<◌, ◌++◌, ◌∙◌, Bool, true, false, List, [], ◌∷◌, Option, Some, None, ap, length, map, refl, slice_index_or, subst, sym}
 use Rattle.std.specs.List.{AllByRecursion}
-use Rattle.std.specs.Prelude.{Contains}
-use Rattle.std.proofs.lemmas.Bool.{cases_lt}
 use Rattle.nv_alloc.specs.Block.{BlockValue}
 use Rattle.nv_alloc.specs.Numbers.{has}
 use Rattle.nv_base.specs.declared.numbers.Handle.{Handle}
@@ -20,7 +18,7 @@ use Rattle.nv_calls.specs.declared.taken.Taken.{Taken}
 use Rattle.nv_calls.proofs.Same.{call_same}
 use Rattle.nv_core.specs.machine.Effects.{settled_slots}
 use Rattle.nv_core.specs.machine.Hands.{makes_inode}
-use Rattle.nv_core.specs.machine.Reads.{filled, fresh_pages, if_number, slots_in, slots_of}
+use Rattle.nv_core.specs.machine.Reads.{filled, if_number, slots_in, slots_of}
 use Rattle.nv_core.specs.machine.Sequence.{beginning}
 use Rattle.nv_core.specs.machine.Settled.{settled_nodes}
 use Rattle.nv_core.specs.machine.World.{Append, Back, Check, Close, Enter, Give, HandState, Leave, Lock, Look, Next, Number, Open, Publish, Ready, Retire, Running, Shared, TakeBlocks, TakePages, Unlock, Visit, cell_at}

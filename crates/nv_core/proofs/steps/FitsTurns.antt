@@ -1,47 +1,17 @@
 -- What a call knows between its check and its commit point is there after each step of its own.
-use Rattle.std.proofs.Common.{◌≡◌, ◌⊎◌, ℕ, zero, suc, ◌+◌, ◌-◌, ◌%◌, ◌/◌, ◌^◌, ◌<◌, ◌≤◌, ◌==◌, ◌||◌, ◌++◌, ◌∙◌, Bool, true, false, cond, List, [], ◌∷◌, Option, Some, None, add-one, ap, arith, flat_map, if◌then◌else◌, inl, inr, length, map, nat_lt, refl, slice_index_or, subst, sym, take}
+use Rattle.std.proofs.Common.{◌≡◌, ℕ, zero, suc, ◌+◌, ◌++◌, ◌∙◌, Bool, true, false, List, [], ◌∷◌, Option, Some, None, ap, arith, if◌then◌else◌, length, nat_lt, refl, sym, take}
 use Rattle.std.specs.List.{AllByRecursion}
-use Rattle.std.specs.Prelude.{Ok, Err, is_some}
-use Rattle.std.proofs.lemmas.Bool.{cases_lt, eqb-true, false≢true, ltb-false, ltb-true, true≢false}
-use Rattle.std.proofs.lemmas.List.{append-nil, get_or_past}
-use Rattle.nv_alloc.specs.Block.{BlockValue, numbers_of}
-use Rattle.nv_alloc.specs.Numbers.{has}
-use Rattle.nv_base.specs.declared.numbers.Handle.{Handle}
+use Rattle.std.specs.Prelude.{Ok, Err}
+use Rattle.std.proofs.lemmas.Bool.{ltb-false, ltb-true}
 use Rattle.nv_book.specs.Book.{after_enter}
-use Rattle.nv_calls.proofs.Commits.{entries-items}
-use Rattle.nv_calls.proofs.Keeps.{keeps_to_its}
-use Rattle.nv_calls.specs.AllCalls.{blocks_wanted, early, effect, looked, plan, refusal}
-use Rattle.nv_calls.specs.Locked.{handles, locks, made_by}
-use Rattle.nv_calls.specs.Plain.{Change}
-use Rattle.nv_calls.specs.Plan.{plan_blocks}
-use Rattle.nv_calls.specs.Refusals.{Check as Tests, passes}
-use Rattle.nv_calls.specs.Slots.{IsFree, Slot, items_for, last_commit, place_in}
-use Rattle.nv_calls.specs.declared.call.Call.{Call}
-use Rattle.nv_calls.specs.declared.call.Call.TheVariants as call
+use Rattle.nv_calls.specs.Refusals.{Check as Tests}
 use Rattle.nv_calls.specs.declared.looked.Looked.{Looked}
-use Rattle.nv_calls.specs.declared.plan.Planned.{Planned}
-use Rattle.nv_cell.specs.Cell.{CellState, log_of, published}
-use Rattle.nv_cell.proofs.Publishing.{take_whole}
-use Rattle.nv_entry.specs.Blocks.{item_blocks}
-use Rattle.nv_entry.specs.Node.{block_now}
-use Rattle.nv_entry.specs.declared.item.Entry.{Entry}
-use Rattle.nv_entry.specs.declared.item.Item.{Item}
-use Rattle.nv_core.specs.machine.Effects.{settled_slots}
-use Rattle.nv_core.specs.machine.Hands.{makes_inode}
-use Rattle.nv_core.specs.machine.Kinds.{again_turn, append_turn, back_turn, blocks_turn, check_ending, check_turn, end_turn, enter_turn, entries_for, grown, lock_turn, look_turn, number_turn, open_turn, over_turn, pages_turn, publish_turn, ready_turn, rest_turn, take_blocks_turn, unlocked_turn, visit_turn, wants_blocks, wants_pages, with_entries, with_pages}
-use Rattle.nv_core.specs.machine.Reads.{copies, filled, fresh_pages, has_last_page, if_number, is_written, node_of, nodes, pages_needed, plan_by, slot_at, slots_in, slots_of, with_slot, written_slots}
-use Rattle.nv_core.specs.machine.Sequence.{appending, beginning, closing, directories, locking, looking, opening, publishing, retiring}
-use Rattle.nv_core.specs.machine.Settled.{node_by, settled, settled_nodes, settled_tail}
-use Rattle.nv_core.specs.machine.Step.{ending_at, is_numbered, made_in, same_looked, with_made}
-use Rattle.nv_core.specs.machine.World.{Answers, Append, Back, Check, Close, Ending, Ends, Enter, Give, HandState, Leave, Lock, Look, Moves, Next, Number, Open, Overtaken, Publish, Ready, Refuses, Retire, Running, Shared, TakeBlocks, TakePages, Turn, Unlock, Visit, Waits, cell_at, go_to, list_at, no_cell, with_cell, with_numbers, with_owner}
-use Rattle.nv_core.proofs.steps.CellSteps.{HaveFront, items_in}
-use Rattle.nv_core.proofs.steps.FitsCalls.{looked_is, plan_all}
-use Rattle.nv_core.proofs.steps.FitsCells.{IsIn, entries_stored}
-use Rattle.nv_core.proofs.steps.FitsRuns.{AreFilled, filled_length, present_in, taken_of}
-use Rattle.nv_core.proofs.steps.FitsStages.{Drawn, FitsAt, HasDrawn, IsDrawn, IsLocked, IsPassed, IsStored, Passed, SameFor, SameStored, View, drawn_still, drawn_on, passed_on, passed_still, stored_on, view, wanted_in, wanted_still}
+use Rattle.nv_core.specs.machine.Kinds.{again_turn, back_turn, blocks_turn, check_turn, end_turn, enter_turn, grown, lock_turn, look_turn, number_turn, over_turn, pages_turn, rest_turn, take_blocks_turn, unlocked_turn, visit_turn, wants_blocks, wants_pages}
+use Rattle.nv_core.specs.machine.Reads.{slot_at, slots_of, written_slots}
+use Rattle.nv_core.specs.machine.Sequence.{appending, closing, directories, locking, opening, publishing, retiring}
+use Rattle.nv_core.specs.machine.World.{Answers, Append, Check, Close, Ending, Ends, HandState, Leave, Lock, Look, Moves, Open, Overtaken, Publish, Refuses, Retire, Running, Shared, Turn, Waits, go_to, list_at, with_numbers, with_owner}
+use Rattle.nv_core.proofs.steps.FitsStages.{Drawn, FitsAt, IsStored, Passed, view, wanted_in}
 use Rattle.nv_core.proofs.steps.Knowing.{take_sum}
-use Rattle.nv_core.proofs.steps.Lists.{has_at, self}
-use Rattle.nv_core.proofs.steps.Planned.{filled_numbers, length_numbers, runs_are, small_numbers}
 
 abbrev pub OnFits : ℕ → Turn → Type 0
 OnFits block (Moves t h q) = FitsAt q.next block t h q

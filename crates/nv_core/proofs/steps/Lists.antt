@@ -128,7 +128,7 @@ eqb-self n false e = absurd (eqb-false n n e refl)
 pub self : (n : ℕ) → (n == n) ≡ true
 self n = eqb-self n (n == n) refl
 
-or_left : (b c : Bool) → b ≡ true → (b || c) ≡ true
+pub or_left : (b c : Bool) → b ≡ true → (b || c) ≡ true
 or_left b c e = rw e refl
 
 pub or_right : (b c : Bool) → c ≡ true → (b || c) ≡ true
