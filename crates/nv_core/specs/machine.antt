@@ -18,3 +18,5 @@ pub mod Answered
 pub mod Grown
 pub mod Effects
 pub mod Causes
+pub mod FitsNow
+pub mod PoolScan

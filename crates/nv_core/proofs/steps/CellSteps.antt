@@ -77,16 +77,20 @@ module _ (item : Item) (items : List Item) (bs : List BlockValue) (h : HaveFront
   split : numbers_of bs ≡ item_blocks item ++ (flat_map item_blocks items ++ h.rest)
   split = h.is ∙ append_assoc (item_blocks item) (flat_map item_blocks items) h.rest
 
-  first_blocks : numbers_of (blocks_for item bs) ≡ item_blocks item
+  pub first_blocks : numbers_of (blocks_for item bs) ≡ item_blocks item
   first_blocks = numbers_take (length (item_blocks item)) bs ∙ ap (take (length (item_blocks item))) split
       ∙ take_front (item_blocks item) (flat_map item_blocks items ++ h.rest)
 
-  later_blocks : HaveFront items (numbers_of (drop (length (item_blocks item)) bs))
+  pub later_blocks : HaveFront items (numbers_of (drop (length (item_blocks item)) bs))
   later_blocks = record {
     rest = h.rest;
     is = numbers_drop (length (item_blocks item)) bs ∙ ap (drop (length (item_blocks item))) split
         ∙ drop_front (item_blocks item) (flat_map item_blocks items ++ h.rest);
   }
+
+  pub later_rest : later_blocks.rest ≡ h.rest
+  unfolding later_blocks
+  later_rest = refl
 
 -- a cell with more entries, for a log that ends before them
 pub record Grows (t : ℕ) (old new : CellState) : Type 0 where

@@ -41,7 +41,7 @@ use Rattle.nv_core.proofs.steps.Journals.{closed_tail}
 use Rattle.nv_core.proofs.steps.KeptRuns.{event_kept, none_closed}
 use Rattle.nv_core.proofs.steps.Settling.{SettlesAll}
 
-take_none : (n : ℕ) → take {A = Entry} n [] ≡ []
+pub take_none : (n : ℕ) → take {A = Entry} n [] ≡ []
 take_none zero = refl
 take_none (suc n) = refl
 
@@ -55,7 +55,7 @@ pub record IsRead (bytes : ℕ → List ℕ) (block : ℕ) (s : Shared) : Type 0
   pub sizes : (ino : ℕ) → ino < length s.cells → (cell_at s ino).block ≡ block
 
 module _ (bytes : ℕ → List ℕ) (block : ℕ) (s : Shared) (is : IsRead bytes block s) where
-  read_page : (ino page number : ℕ) → block_now (cell_at s ino).block (settled s ino) page ≡ Some number
+  pub read_page : (ino page number : ℕ) → block_now (cell_at s ino).block (settled s ino) page ≡ Some number
       → bytes number ≡ bytes_among (cell_at s ino).blocks number
   read_page ino page number h =
       let cell = cell_at s ino in
@@ -64,7 +64,7 @@ module _ (bytes : ℕ → List ℕ) (block : ℕ) (s : Shared) (is : IsRead byte
       ap bytes (sym b.2) ∙ is.blocks ino p.0 b.0 b.1 ∙ sym (among_at cell.blocks (is.apart ino) p.0 b.0 b.1)
       ∙ ap (bytes_among cell.blocks) b.2
 
-  outside : (ino : ℕ) → length s.cells ≤ ino → settled s ino ≡ []
+  pub outside : (ino : ℕ) → length s.cells ≤ ino → settled s ino ≡ []
   outside ino past =
       ap (λ (c : CellState). take (settled_tail s.book.journals ino c.chain.tail) c.chain.entries) (get_or_past s.cells ino no_cell past)
       ∙ take_none (settled_tail s.book.journals ino 0)

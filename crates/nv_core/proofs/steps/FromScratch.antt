@@ -24,14 +24,14 @@ use Rattle.nv_core.proofs.steps.NumberedRuns.{events_numbers}
 
 -- ---- what stands in a list is counted
 
-counted : (n : ℕ) (ns : List ℕ) → has ns n ≡ true → 1 ≤ times n ns
+pub counted : (n : ℕ) (ns : List ℕ) → has ns n ≡ true → 1 ≤ times n ns
 counted n [] h = absurd (false≢true h)
 counted n (m ∷ ns) h = go (m == n) refl (counted n ns) h where
   go : (b : Bool) → (m == n) ≡ b → (has ns n ≡ true → 1 ≤ times n ns) → (b || has ns n) ≡ true → 1 ≤ times n (m ∷ ns)
   go true q more h = omega (arith, times-yes n m ns q)
   go false q more h = omega (arith, times-no n m ns q, more h)
 
-not_counted : (n : ℕ) (ns : List ℕ) → has ns n ≡ false → times n ns ≡ 0
+pub not_counted : (n : ℕ) (ns : List ℕ) → has ns n ≡ false → times n ns ≡ 0
 not_counted n [] h = refl
 not_counted n (m ∷ ns) h = go (m == n) refl (not_counted n ns) h where
   go : (b : Bool) → (m == n) ≡ b → (has ns n ≡ false → times n ns ≡ 0) → (b || has ns n) ≡ false → times n (m ∷ ns) ≡ 0
@@ -45,7 +45,7 @@ all_have P n (m ∷ ns) all h = go (m == n) refl (all_have P n ns all.1) h where
   go true q more h = subst P (eqb-true m n q) all.0
   go false q more h = more h
 
-none_true : (b : Bool) → (b ≡ true → ⊥) → b ≡ false
+pub none_true : (b : Bool) → (b ≡ true → ⊥) → b ≡ false
 none_true true h = absurd (h refl)
 none_true false h = refl
 

@@ -236,7 +236,7 @@ turned_settles (Moves s h q) actor w r on = on
 turned_settles Waits actor w r on = absurd on
 turned_settles (Ends result s h) actor w r on = absurd on
 
-standing : (w : World) (actor : ℕ) (r : Running) → AreLocks w → IsKept w → AreGrown w → (actor_at w actor).running ≡ Some r
+pub standing : (w : World) (actor : ℕ) (r : Running) → AreLocks w → IsKept w → AreGrown w → (actor_at w actor).running ≡ Some r
     → Standing r.next w.numbers.block actor w.shared (actor_at w actor).hand r
 standing w actor r locks kept grown is = record {
   before = before w actor r locks is;

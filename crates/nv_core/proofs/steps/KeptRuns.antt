@@ -139,7 +139,7 @@ turned_nodes (Ends result s h) block actor w on = on.1 refl
 
 -- ---- one event
 
-standing : (w : World) (actor : ℕ) (r : Running) → AreLocks w → IsInOrder w → IsKept w → AreBlocksApart w
+pub standing : (w : World) (actor : ℕ) (r : Running) → AreLocks w → IsInOrder w → IsKept w → AreBlocksApart w
     → (actor_at w actor).running ≡ Some r
     → Standing r.next w.numbers.block actor w.shared (actor_at w actor).hand r
 standing w actor r locks order kept apart is = record {

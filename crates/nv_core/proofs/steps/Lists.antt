@@ -128,10 +128,10 @@ eqb-self n false e = absurd (eqb-false n n e refl)
 pub self : (n : ℕ) → (n == n) ≡ true
 self n = eqb-self n (n == n) refl
 
-or_left : (b c : Bool) → b ≡ true → (b || c) ≡ true
+pub or_left : (b c : Bool) → b ≡ true → (b || c) ≡ true
 or_left b c e = rw e refl
 
-or_right : (b c : Bool) → c ≡ true → (b || c) ≡ true
+pub or_right : (b c : Bool) → c ≡ true → (b || c) ≡ true
 or_right true c e = refl
 or_right false c e = e
 

@@ -154,7 +154,7 @@ range_above : (a m k : ℕ) → m < a → AllByRecursion (λ n. m < n) (range_wi
 range_above a m zero lt = tt
 range_above a m (suc k) lt = (lt, range_above (a + 1) m k (omega (arith, lt)))
 
-range_rising : (a k : ℕ) → IsRising (range_with_len a k)
+pub range_rising : (a k : ℕ) → IsRising (range_with_len a k)
 range_rising a zero = tt
 range_rising a (suc k) = (range_above (a + 1) a k (omega arith), range_rising (a + 1) k)
 

@@ -31,7 +31,7 @@ use Rattle.nv_epoch.specs.SnapList.{ids}
 -- ---- how often a number stands
 
 -- in one part of all
-part_times : {X : Type 0} (f : X → List ℕ) (n : ℕ) (xs : List X) (i : ℕ) (d : X) → times n (f d) ≡ 0
+pub part_times : {X : Type 0} (f : X → List ℕ) (n : ℕ) (xs : List X) (i : ℕ) (d : X) → times n (f d) ≡ 0
     → times n (f (get_or xs i d)) ≤ times n (flat_map f xs)
 part_times f n [] i d none = omega (arith, none)
 part_times f n (x ∷ xs) zero d none = omega (arith, times-append n (f x) (flat_map f xs))

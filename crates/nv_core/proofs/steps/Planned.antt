@@ -53,7 +53,7 @@ stretched : (numbers : List ℕ) → numbers_in (stretches numbers) ≡ numbers
 stretched [] = refl
 stretched (n ∷ numbers) = more_numbers n (stretches numbers) ∙ ap (λ (l : List ℕ). n ∷ l) (stretched numbers)
 
-all_end : (most : ℕ) (numbers : List ℕ) → AllByRecursion (λ n. n < most) numbers → AllByRecursion (Ends_ most) (stretches numbers)
+pub all_end : (most : ℕ) (numbers : List ℕ) → AllByRecursion (λ n. n < most) numbers → AllByRecursion (Ends_ most) (stretches numbers)
 all_end most [] all = tt
 all_end most (n ∷ numbers) all = more_end most n (stretches numbers) all.0 (all_end most numbers all.1)
 

@@ -43,7 +43,7 @@ once k (part ∷ slots) zero b e is =
 once k (part ∷ slots) (suc n) b e is =
     omega (arith, once k slots n b e is, times-append k (of_part part) (flat_map of_part slots))
 
-twice : (k : ℕ) (slots : List (Option BlockValue)) (n m : ℕ) (b c : BlockValue) → n < m → slice_index_or slots n None ≡ Some b
+pub twice : (k : ℕ) (slots : List (Option BlockValue)) (n m : ℕ) (b c : BlockValue) → n < m → slice_index_or slots n None ≡ Some b
     → slice_index_or slots m None ≡ Some c → b.number ≡ k → c.number ≡ k → 2 ≤ times k (flat_map of_part slots)
 twice k [] n m b c lt e f is also = absurd (none_some b e)
 twice k (part ∷ slots) n zero b c lt e f is also = absurd (omega (arith, lt))
@@ -60,7 +60,7 @@ one_of f k (x ∷ xs) (suc i) d lt = omega (arith, one_of f k xs i d (omega (ari
 
 -- ---- no number stands twice
 
-most_once : (many : ℕ) (numbers : List ℕ) → IsEachOnce many numbers → (k : ℕ) → times k numbers ≤ 1
+pub most_once : (many : ℕ) (numbers : List ℕ) → IsEachOnce many numbers → (k : ℕ) → times k numbers ≤ 1
 most_once many numbers each k = go (nat_lt k many) (each k) where
   go : (b : Bool) → times k numbers ≡ (if b then 1 else 0) → times k numbers ≤ 1
   go true e = omega (arith, e)

@@ -47,12 +47,12 @@ or_false : (b : Bool) → (b || false) ≡ b
 or_false true = refl
 or_false false = refl
 
-tail_keeps : (entries : List Entry) (blocks : List BlockValue) (cell : CellState)
+pub tail_keeps : (entries : List Entry) (blocks : List BlockValue) (cell : CellState)
     → (with_entries entries blocks cell).chain.tail ≡ cell.chain.tail
 tail_keeps [] blocks cell = refl
 tail_keeps (e ∷ entries) blocks cell = tail_keeps entries _ _
 
-paged_tail : (pages : List BlockValue) (cell : CellState) → (with_pages pages cell).chain.tail ≡ cell.chain.tail
+pub paged_tail : (pages : List BlockValue) (cell : CellState) → (with_pages pages cell).chain.tail ≡ cell.chain.tail
 paged_tail [] cell = refl
 paged_tail (b ∷ pages) cell = paged_tail pages _
 

@@ -32,7 +32,7 @@ use Rattle.nv_core.proofs.steps.Locked.{Before}
 
 -- ---- what is unpublished is held
 
-has_front : (p : ℕ) (xs : List ℕ) (n : ℕ) → has (take p xs) n ≡ true → has xs n ≡ true
+pub has_front : (p : ℕ) (xs : List ℕ) (n : ℕ) → has (take p xs) n ≡ true → has xs n ≡ true
 has_front zero xs n h = absurd (false≢true h)
 has_front (suc p) [] n h = absurd (false≢true h)
 has_front (suc p) (x ∷ xs) n h = go (x == n) (has_front p xs n) h where

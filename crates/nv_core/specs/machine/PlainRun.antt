@@ -1,5 +1,5 @@
 -- The plain world beside the run: what each event does to it.
-use Rattle.std.specs.Prelude.{ℕ, ◌+◌, ◌&&◌, Bool, true, false, if◌then◌else◌, not, nat_lt, List, [], ◌∷◌, length, Option, Some, None}
+use Rattle.std.specs.Prelude.{ℕ, ◌+◌, Bool, true, false, if◌then◌else◌, nat_lt, List, [], ◌∷◌, length, Option, Some, None}
 use Rattle.nv_base.specs.declared.numbers.Handle.{Handle}
 use Rattle.nv_calls.specs.AllCalls.{effect}
 use Rattle.nv_calls.specs.Plain.{PlainNode, node_in, nodes_after}
@@ -47,15 +47,15 @@ abbrev pub deed_of : World → Event → Deed
 deed_of w (Start actor c) = Nothing
 deed_of w (Go actor granted) = if nat_lt actor (length w.actors) then deed_by (actor_at w actor).running w actor granted else Nothing
 
--- a commit has the effect of its call on the nodes as they are
-abbrev pub nodes_by : Option Running → (Handle → Option PlainNode) → Handle → Option PlainNode
-nodes_by None nodes = nodes
-nodes_by (Some r) nodes = nodes_after r.commit (effect (node_in nodes) r.made r.call) nodes
+-- a commit has the effect of its call on the nodes as they are, and the number of the last commit
+abbrev pub nodes_by : Option Running → Plain → Handle → Option PlainNode
+nodes_by None p = p.nodes
+nodes_by (Some r) p = nodes_after p.commit (effect (node_in p.nodes) r.made r.call) p.nodes
 
 abbrev pub done : Deed → Option Running → Plain → Plain
 done Nothing running p = p
 done Numbers running p = record p { commit = p.commit + 1 }
-done Commits running p = record p { nodes = nodes_by running p.nodes }
+done Commits running p = record p { nodes = nodes_by running p }
 
 abbrev pub actor_of : Event → ℕ
 actor_of (Start actor c) = actor

@@ -15,6 +15,7 @@ ghost use Rattle.nv_entry.specs.Sound.{IsSound};
 ghost use Rattle.nv_core.specs.machine.Answered.{GoesTo, IsFinal, IsToEnd};
 ghost use Rattle.nv_core.specs.machine.Causes.{IsCause, RefusesFor};
 ghost use Rattle.nv_core.specs.machine.Effects.{AreSound, HasPlanNow};
+ghost use Rattle.nv_core.specs.machine.FitsNow.{bytes_in};
 ghost use Rattle.nv_core.specs.machine.Format.{formatted};
 ghost use Rattle.nv_core.specs.machine.Frame.{IsOneStep, IsStart};
 ghost use Rattle.nv_core.specs.machine.Grown.{AreGrown, fresh_entries};
@@ -23,8 +24,9 @@ ghost use Rattle.nv_core.specs.machine.Locks.{AreLocks, HasLent, WaitsFor};
 ghost use Rattle.nv_core.specs.machine.Hands.{AreLists, ArePagesTold};
 ghost use Rattle.nv_core.specs.machine.Numbers.{IdleHaveNothing, IsEachOnce, all_blocks, free_from_scratch, free_of};
 ghost use Rattle.nv_core.specs.machine.Order.{IsInOrder};
+ghost use Rattle.nv_core.specs.machine.PoolScan.{pool_from_scratch};
 ghost use Rattle.nv_core.specs.machine.Reached.{IsReached};
-ghost use Rattle.nv_core.specs.machine.PlainRun.{Commits, Plain, deed_of, keeps_nodes, plain_after};
+ghost use Rattle.nv_core.specs.machine.PlainRun.{Commits, Plain, deed_of, keeps_nodes, plain_after, plain_of};
 ghost use Rattle.nv_core.specs.machine.Reads.{written_slots};
 ghost use Rattle.nv_core.specs.machine.Sequence.{Visits, beginning};
 ghost use Rattle.nv_core.specs.machine.Settled.{settled, settled_nodes};
@@ -107,6 +109,13 @@ pub fn lists_are_from_scratch()
     ensures { (g : GeometryNumbers) (events : List Event) (cpu : ℕ) → IsWithinLimits g → cpu < g.cpus
         → free_of (list_at (after (formatted g) events).shared cpu)
         ≡ free_from_scratch g (after (formatted g) events) cpu }
+{}
+
+/// The pool of inode numbers is what one scan leaves, in rising order: the numbers whose slots have no entry in
+/// their logs and are not of the last generation, and that no hand has.
+pub fn pool_is_from_scratch()
+    ensures { (g : GeometryNumbers) (events : List Event) → IsWithinLimits g
+        → (after (formatted g) events).shared.pool.numbers ≡ pool_from_scratch g (after (formatted g) events) }
 {}
 
 /// An actor without a call has an empty hand and no lock, also where its last call was refused: with
@@ -215,6 +224,35 @@ pub fn new_worlds_lead_where_laws_hold()
         → IsReached (after (formatted g) events) }
     ensures nodes { (w : World) (e : Event) → IsReached w → keeps_nodes (deed_of w e) ≡ true
         → (handle : Handle) → settled_nodes (step w e).world.shared handle ≡ settled_nodes w.shared handle }
+{}
+
+/// At each commit point, whatever events come from a new world on, the plan that stands fits the effect that its
+/// call has on the nodes of now, and so the commit point has that effect. `bytes_in` gives the bytes of all blocks
+/// of all cells.
+pub fn plans_fit_at_commit_points()
+    ensures fits { (g : GeometryNumbers) (events : List Event) (actor : ℕ) (granted : Bool) (r : Running)
+        → IsWithinLimits g → actor < length (after (formatted g) events).actors
+        → (actor_at (after (formatted g) events) actor).running ≡ Some r
+        → deed_of (after (formatted g) events) (Go actor granted) ≡ Commits
+        → HasPlanNow (bytes_in (after (formatted g) events).shared)
+        (after (formatted g) events).numbers.block (after (formatted g) events).shared r }
+    ensures nodes { (g : GeometryNumbers) (events : List Event) (actor : ℕ) (granted : Bool) (r : Running)
+        → IsWithinLimits g → actor < length (after (formatted g) events).actors
+        → (actor_at (after (formatted g) events) actor).running ≡ Some r
+        → deed_of (after (formatted g) events) (Go actor granted) ≡ Commits → (handle : Handle)
+        → settled_nodes (step (after (formatted g) events) (Go actor granted)).world.shared handle
+        ≡ nodes_after r.commit
+        (effect (node_in (settled_nodes (after (formatted g) events).shared)) r.made r.call)
+        (settled_nodes (after (formatted g) events).shared) handle }
+{}
+
+/// The plain world's nodes are those of the settled logs after every list of events, and these logs are sound.
+pub fn the_plain_world_is_that_of_settled_logs()
+    ensures nodes { (g : GeometryNumbers) (events : List Event) → IsWithinLimits g → (handle : Handle)
+        → settled_nodes (after (formatted g) events).shared handle
+        ≡ (plain_after (formatted g) events (plain_of (formatted g))).nodes handle }
+    ensures sound { (g : GeometryNumbers) (events : List Event) → IsWithinLimits g
+        → AreSound (after (formatted g) events).shared }
 {}
 
 /// A step that refuses a call does so for a fault whose cause is there at that step: the plain world refuses the call at
