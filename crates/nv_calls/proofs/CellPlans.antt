@@ -68,11 +68,11 @@ plan_step plan at (suc k) (c ∷ cells) lt =
 abbrev pub plan_for : ℕ → List Item → CellPlanValue
 plan_for at items = record { at = at; items = items; killed = [] }
 
-if_some : (at : ℕ) (items : List Item) (plans : List CellPlanValue) → 0 < length items → if_items at items plans ≡ plan_for at items ∷ plans
+pub if_some : (at : ℕ) (items : List Item) (plans : List CellPlanValue) → 0 < length items → if_items at items plans ≡ plan_for at items ∷ plans
 if_some at [] plans some = absurd (omega (arith, some))
 if_some at (item ∷ items) plans some = refl
 
-if_none : (at : ℕ) (items : List Item) (plans : List CellPlanValue) → length items ≡ 0 → if_items at items plans ≡ plans
+pub if_none : (at : ℕ) (items : List Item) (plans : List CellPlanValue) → length items ≡ 0 → if_items at items plans ≡ plans
 if_none at [] plans none = refl
 if_none at (item ∷ items) plans none = absurd (omega (arith, none))
 

@@ -1,6 +1,7 @@
 -- What a call is made ready with: the runs of its blocks, and its items, cell by cell.
-use Rattle.std.specs.Prelude.{◌≡◌, ℕ, ◌+◌, ◌-◌, ◌<◌, ◌≤◌, ◌^◌, if◌then◌else◌, Bool, true, false, List, [], ◌∷◌, length, min, Option, None, option_map, unwrap_or}
+use Rattle.std.specs.Prelude.{◌≡◌, ℕ, ◌+◌, ◌-◌, ◌<◌, ◌≤◌, ◌^◌, if◌then◌else◌, Bool, true, false, List, [], ◌∷◌, length, min, Option, Some, None, option_map, unwrap_or}
 use Rattle.std.specs.List.{AllByRecursion, sum_by}
+use Rattle.std.specs.Option.{IsSome}
 use Rattle.nv_alloc.specs.Block.{numbers_of}
 use Rattle.nv_alloc.specs.declared.hand.Hand.{Hand}
 use Rattle.nv_base.specs.declared.limits.TheConstants.{BLOCK_BYTES}
@@ -9,9 +10,9 @@ use Rattle.nv_entry.specs.declared.item.Item.{Item}
 use Rattle.nv_cell.specs.Cell.{CellState, CellValue, log_of}
 use Rattle.nv_cell.specs.Room.{HasNoLess, IsReadyFor}
 use Rattle.nv_cell.specs.Weights.{weights_in}
-use Rattle.nv_calls.specs.AllCalls.{blocks_wanted, ends_in_page, plan, refusal}
+use Rattle.nv_calls.specs.AllCalls.{blocks_wanted, ends_in_page, is_nothing, plan, refusal}
 use Rattle.nv_calls.specs.Cells.{AreCells, ino_at, state_at, value_at}
-use Rattle.nv_calls.specs.Nodes.{block_in, has_page_in, nodes_in, slots_by}
+use Rattle.nv_calls.specs.Nodes.{block_in, cell_of, has_page_in, nodes_in, slots_by}
 use Rattle.nv_calls.specs.Plan.{runs_of}
 use Rattle.nv_calls.specs.Ready.{CellPlanValue, ReadyValue}
 use Rattle.nv_calls.specs.Refusals.{passes}
@@ -97,13 +98,27 @@ pub record IsStill (block : ℕ) (cell : CellState) : Type 0 where
   pub size : cell.block ≡ block
   pub settled : cell.chain.tail ≡ length cell.chain.entries
 
--- a call passed its check over these cells, and the hand holds the blocks that it takes
+-- a number whose slot is one of the cells, and empty
+pub record IsEmptySlot (cells : List (ℕ × CellValue)) (ino : ℕ) : Type 0 where
+  pub lent : IsSome (cell_of cells ino)
+  pub empty : (slots_by cells ino).log ≡ []
+
+-- the number of an empty slot where an inode is made, and else none
+abbrev pub HasNumberFor : List (ℕ × CellValue) → Bool → Option ℕ → Type 0
+HasNumberFor cells true (Some ino) = IsEmptySlot cells ino
+HasNumberFor cells true None = ⊥
+HasNumberFor cells false number = number ≡ None
+
+-- a call that commits something passed its check over these cells, and the hand holds the blocks that it takes, and the
+-- number of a new inode
 pub record CanReady (cells : List (ℕ × CellValue)) (hand : Hand) (u : Update) : Type 0 where
   pub lent : AreCells cells
   pub some : 0 < length cells
   pub still : AllByRecursion (λ c. IsStill (block_in cells) c.1.state) cells
   pub few_bytes : block_in cells ≤ BLOCK_BYTES
   pub passed : refusal (block_in cells) (nodes_in cells) (blank_call u) ≡ passes
+  pub something : is_nothing (blank_call u) ≡ false
+  pub number : HasNumberFor cells (makes u) hand.ino
   pub count : length hand.data.blocks ≡ blocks_wanted (block_in cells) (nodes_in cells) (taken_by cells hand u).present (blank_call u)
   pub size : hand.data.size ≡ block_in cells
   pub small : AllByRecursion (λ b. b.number < 2 ^ 32) hand.data.blocks

@@ -1,6 +1,7 @@
 //! Laws of plans and effects, each the contract of a function that does nothing.
 
 ghost use Rattle.std.specs.Prelude.{◌≡◌, ◌<◌, ℕ, Err, List, Option, is_some, length, Bool};
+ghost use Rattle.nv_alloc.specs.declared.hand.Hand.{Hand};
 ghost use Rattle.nv_book.specs.Book.{BookValue};
 ghost use Rattle.nv_cell.specs.Cell.{CellValue};
 ghost use Rattle.nv_base.specs.declared.fault.Fault.{Fault};
@@ -18,7 +19,8 @@ ghost use Rattle.nv_calls.specs.Locked.{Agree, KeepsToIts, SameCall, first_look,
 ghost use Rattle.nv_calls.specs.Nodes.{HaveBytes, has_page_in, plain_nodes, slots_by};
 ghost use Rattle.nv_calls.specs.Plain.{Change, PlainNode, node_in, nodes_after};
 ghost use Rattle.nv_calls.specs.Plan.{AreApart, AreFewApart, plan_blocks};
-ghost use Rattle.nv_calls.specs.PublishedSlots.{AreOfSlots, IsCommitted, PublishesPlans, planned_in};
+ghost use Rattle.nv_calls.specs.Prepared.{CanReady, planned_by, plans_by};
+ghost use Rattle.nv_calls.specs.PublishedSlots.{AreOfSlots, IsCommitted, PublishAlike, PublishesPlans, planned_in};
 ghost use Rattle.nv_calls.specs.Ready.{ReadyValue};
 ghost use Rattle.nv_calls.specs.Refusals.{passes};
 ghost use Rattle.nv_calls.specs.Slots.{ArePlaced, Commits, IsBefore, IsPlan, Slot, node_under, published};
@@ -132,6 +134,13 @@ pub fn commits_publish_their_plans()
     ensures { (cells : List (ℕ × CellValue)) (book : BookValue) (cpu : ℕ) (ready : ReadyValue)
         (slots : ℕ → Slot) → CanCommit cells book cpu ready → AreOfSlots cells slots
         → PublishesPlans cells (begun (stamp_of book.state) ready) slots }
+{}
+
+/// What a call publishes cell by cell is what it plans: the same items for each inode, at the same place of the commit.
+pub fn cells_publish_what_is_planned()
+    ensures { (cells : List (ℕ × CellValue)) (hand : Hand) (update : Update)
+        → CanReady cells hand update
+        → PublishAlike (planned_in cells (plans_by cells hand update)) (planned_by cells hand update) }
 {}
 
 /// A call looks up, is checked and planned with any text as with a text of as many zeros.
