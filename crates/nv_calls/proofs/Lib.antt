@@ -21,6 +21,8 @@ pub mod Places
 pub mod PublishAll
 pub mod Published
 pub mod PlannedAlike
+pub mod PlannedCommits
+pub mod PlannedGoes
 pub mod PlannedHeld
 pub mod PlansByCell
 pub mod Prepares

@@ -65,7 +65,7 @@ impl Commit {
     }
 
     /// How many cells get entries.
-    pub fn cells(&self) -> usize
+    pub fn planned(&self) -> usize
         ensures { result ≡ length self.now.plans }
     {
         self.plans.len()

@@ -12,14 +12,14 @@ ghost use Rattle.nv_entry.specs.Sound.{IsSound};
 ghost use Rattle.nv_entry.specs.declared.node.NodeCopy.{NodeCopy};
 ghost use Rattle.nv_calls.specs.AllCalls.{IsReady, IsToldNothing, blocks_wanted, effect, look_refusal, looked, plan, refusal};
 ghost use Rattle.nv_calls.specs.declared.taken.Taken.{Taken};
-ghost use Rattle.nv_calls.specs.CanCommit.{CanCommit};
+ghost use Rattle.nv_calls.specs.CanCommit.{AllowsCommit, CanCommit};
 ghost use Rattle.nv_calls.specs.Commit.{begun, stamp_of};
 ghost use Rattle.nv_calls.specs.Lawful.{IsLawfulPlan};
 ghost use Rattle.nv_calls.specs.Locked.{Agree, KeepsToIts, SameCall, first_look, handles};
 ghost use Rattle.nv_calls.specs.Nodes.{HaveBytes, has_page_in, plain_nodes, slots_by};
 ghost use Rattle.nv_calls.specs.Plain.{Change, PlainNode, node_in, nodes_after};
 ghost use Rattle.nv_calls.specs.Plan.{AreApart, AreFewApart, plan_blocks};
-ghost use Rattle.nv_calls.specs.Prepared.{CanReady, planned_by, plans_by};
+ghost use Rattle.nv_calls.specs.Prepared.{CanReady, HaveNoLessRoom, IsReadyBy, planned_by, plans_by};
 ghost use Rattle.nv_calls.specs.PublishedSlots.{AreOfSlots, IsCommitted, PublishAlike, PublishesPlans, planned_in};
 ghost use Rattle.nv_calls.specs.Ready.{ReadyValue};
 ghost use Rattle.nv_calls.specs.Refusals.{passes};
@@ -126,6 +126,14 @@ pub fn cells_hold_the_nodes_of_their_slots()
     ensures pages { (bytes : ℕ → List ℕ) (block : ℕ) (cells : List (ℕ × CellValue)) (handle : Handle)
         (page : ℕ) → HaveBytes bytes block cells → has_page_in cells handle page
         ≡ is_some (block_now block (slots_by cells handle.ino).log page) }
+{}
+
+/// A call that was made ready can be committed, where its cells, the book, its hand's pages and a CPU's journal allow it.
+pub fn what_is_ready_can_be_committed()
+    ensures { (cells now : List (ℕ × CellValue)) (hand : Hand) (update : Update) (book : BookValue) (cpu : ℕ)
+        (ready : ReadyValue) → CanReady cells hand update → HaveNoLessRoom cells now
+        → IsReadyBy cells hand update now ready → AllowsCommit now book cpu ready
+        → CanCommit now book cpu ready }
 {}
 
 /// A commit over cells publishes the items of its plans, each at its place in the commit: the slots are then those that

@@ -39,7 +39,7 @@ fn append_all<C: Cells>(cells: &mut C, commit: &mut Commit)
     ensures places { C.places cells.new ≡ C.places cells.old }
     ensures beside { C.beside cells.new ≡ C.beside cells.old }
 {
-    for _plan in 0..commit.cells() {
+    for _plan in 0..commit.planned() {
         append_on(cells, commit);
     }
 }
@@ -67,7 +67,7 @@ fn publish_all<C: Cells>(cells: &mut C, commit: &mut Commit)
     ensures places { C.places cells.new ≡ C.places cells.old }
     ensures beside { C.beside cells.new ≡ C.beside cells.old }
 {
-    for _plan in 0..commit.cells() {
+    for _plan in 0..commit.planned() {
         publish_on(cells, commit);
     }
 }
@@ -102,7 +102,7 @@ fn publish_noted<C: Cells>(book: &mut Book, cells: &mut C, commit: &mut Commit, 
     ensures places { C.places cells.new ≡ C.places cells.old }
     ensures beside { C.beside cells.new ≡ C.beside cells.old }
 {
-    if commit.cells() < 2 {
+    if commit.planned() < 2 {
         publish_all(cells, commit);
         return;
     }
@@ -137,7 +137,7 @@ fn retire_all<C: Cells>(book: &mut Book, cells: &mut C, commit: &mut Commit)
     ensures places { C.places cells.new ≡ C.places cells.old }
     ensures beside { C.beside cells.new ≡ C.beside cells.old }
 {
-    for _plan in 0..commit.cells() {
+    for _plan in 0..commit.planned() {
         retire_on(book, cells, commit);
     }
 }
