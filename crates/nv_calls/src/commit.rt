@@ -78,27 +78,6 @@ impl Commit {
         &self.stamp
     }
 
-    /// What the hand still holds, once all is done. Takes no memory.
-    pub fn into_hand(self) -> Hand
-        requires { self.retired ≡ length self.plans }
-        ensures { result ≡ self.hand }
-    {
-        let Commit {
-            alloc: _,
-            update: _,
-            made: _,
-            plans: _,
-            hand,
-            stamp: _,
-            place: _,
-            appended: _,
-            published: _,
-            retired: _,
-            journal_open: _,
-        } = self;
-        hand
-    }
-
     /// The place of a planned cell among the call's cells.
     pub(crate) fn place_of(&self, j: usize) -> usize
         requires { j < length self.now.plans }

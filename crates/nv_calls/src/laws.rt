@@ -158,15 +158,15 @@ pub fn a_write_is_planned_by_its_length()
         → SamePlan block nodes has_page taken (blank_call update) (call_of update text) }
 {}
 
-/// A commit over cells has the effect that its plan fits: the nodes of the slots are afterwards those of the effect, also
+/// A commit over cells has the effect that a plan fits which publishes alike: the nodes of the slots are afterwards those of the effect, also
 /// where an inode was erased.
 pub fn commits_have_their_effect()
     ensures { (bytes : ℕ → List ℕ) (block : ℕ) (living : List ℕ) (cells : List (ℕ × CellValue))
         (book : BookValue) (cpu : ℕ) (ready : ReadyValue) (slots : ℕ → Slot)
-        (now : List (ℕ × CellValue)) (later : ℕ → Slot) (effect : List Change) → 0 < block
+        (now : List (ℕ × CellValue)) (later : ℕ → Slot) (plan : List Planned) (effect : List Change) → 0 < block
         → ((ino : ℕ) → IsSound bytes block (slots ino).log)
         → IsCommitted living cells book cpu ready slots now later
-        → IsPlan bytes block slots (planned_in cells ready.plans) effect
+        → PublishAlike (planned_in cells ready.plans) plan → IsPlan bytes block slots plan effect
         → (handle : Handle) → node_under bytes block later handle
         ≡ nodes_after book.state.commit effect (node_under bytes block slots) handle }
 {}
