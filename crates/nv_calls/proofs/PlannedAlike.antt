@@ -1,5 +1,5 @@
 -- What is planned, cell by cell, is what the call plans.
-use Rattle.std.proofs.Common.{◌≡◌, ◌≢◌, ℕ, zero, suc, ◌+◌, ◌<◌, ◌==◌, Bool, true, false, cond, List, [], ◌∷◌, Option, Some, None, length, map, arith, refl, ap, subst, sym, ◌∙◌}
+use Rattle.std.proofs.Common.{◌≡◌, ◌≢◌, ℕ, zero, suc, ◌+◌, ◌<◌, ◌==◌, Bool, true, false, cond, List, [], ◌∷◌, Option, Some, None, length, arith, refl, ap, subst, sym, ◌∙◌}
 use Rattle.std.specs.Prelude.{option_map, unwrap_or}
 use Rattle.std.specs.List.{AllByRecursion}
 use Rattle.std.specs.Option.{IsSome}
@@ -9,7 +9,7 @@ use Rattle.nv_base.specs.declared.numbers.Handle.{Handle}
 use Rattle.nv_entry.specs.declared.item.Item.{Item}
 use Rattle.nv_cell.specs.Cell.{CellValue, log_of}
 use Rattle.nv_calls.specs.AllCalls.{plan}
-use Rattle.nv_calls.specs.Cells.{AreCells, ino_at, state_at}
+use Rattle.nv_calls.specs.Cells.{AreCells, ino_at}
 use Rattle.nv_calls.specs.Committed.{place_of}
 use Rattle.nv_calls.specs.Locked.{made_by as made_handles}
 use Rattle.nv_calls.specs.Nodes.{block_in, cell_of, nodes_in, slot_by, slots_by}

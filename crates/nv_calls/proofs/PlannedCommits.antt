@@ -1,26 +1,25 @@
 -- A call that is ready can be committed.
-use Rattle.std.proofs.Common.{◌≡◌, ◌≢◌, ℕ, zero, suc, ◌+◌, ◌<◌, ◌≤◌, ◌⊎◌, inl, inr, ◌==◌, nat_lt, Bool, true, false, cond, List, [], ◌∷◌, ◌++◌, Option, Some, None, length, take, arith, refl, ap, subst, sym, ◌∙◌}
-use Rattle.std.specs.List.{AllByRecursion, flat_map}
+use Rattle.std.proofs.Common.{◌≡◌, ◌≢◌, ℕ, ◌<◌, ◌≤◌, ◌⊎◌, inl, inr, ◌==◌, nat_lt, Bool, true, false, cond, List, [], ◌∷◌, ◌++◌, Option, Some, None, length, take, arith, refl, ap, subst, sym, ◌∙◌}
+use Rattle.std.specs.List.{AllByRecursion}
 use Rattle.std.specs.Option.{IsSome, option_map}
-use Rattle.std.proofs.lemmas.Bool.{eq-eqb, eqb-false, eqb-true, ltb-false, ltb-true}
+use Rattle.std.proofs.lemmas.Bool.{eq-eqb, eqb-true, ltb-false, ltb-true}
 use Rattle.std.proofs.lemmas.List.{append-nil}
-use Rattle.nv_alloc.specs.Block.{BlockValue, numbers_of}
+use Rattle.nv_alloc.specs.Block.{numbers_of}
 use Rattle.nv_alloc.specs.Queue.{QueueValue}
 use Rattle.nv_alloc.specs.declared.hand.Hand.{Hand}
 use Rattle.nv_base.specs.declared.numbers.Handle.{Handle}
 use Rattle.nv_book.specs.Book.{BookValue}
-use Rattle.nv_entry.specs.Blocks.{item_blocks}
 use Rattle.nv_entry.specs.declared.item.Item.{Item}
 use Rattle.nv_cell.specs.Cell.{CellState, CellValue}
 use Rattle.nv_cell.specs.Room.{IsReadyFor}
 use Rattle.nv_calls.specs.AllCalls.{plan}
 use Rattle.nv_calls.specs.CanCommit.{AllowsCommit, CanCommit, CanTakeItems, HasNumber, IsSettledFor, TakesCommit, goes, numbers_of_all}
-use Rattle.nv_calls.specs.Cells.{ino_at, no_cell, state_at, value_at}
+use Rattle.nv_calls.specs.Cells.{ino_at, no_cell, value_at}
 use Rattle.nv_calls.specs.Commit.{stamp_of}
 use Rattle.nv_calls.specs.Committed.{place_of}
 use Rattle.nv_calls.specs.Nodes.{block_in, nodes_in}
 use Rattle.nv_calls.specs.Plan.{AreApart, plan_blocks}
-use Rattle.nv_calls.specs.Prepared.{CanReady, HasNumberFor, HaveNoLessRoom, IsReadyBy, IsStill, handle_in, made_by, makes, planned_by, plans_by, taken_by}
+use Rattle.nv_calls.specs.Prepared.{CanReady, HasNumberFor, HaveNoLessRoom, IsReadyBy, IsStill, handle_in, makes, planned_by, plans_by, taken_by}
 use Rattle.nv_calls.specs.Ready.{ArePlaced, CellPlanValue, ReadyValue, no_plan, plan_at}
 use Rattle.nv_calls.specs.Slots.{items_for}
 use Rattle.nv_calls.specs.Steps.{HaveBlocks, numbers_in}
@@ -28,11 +27,11 @@ use Rattle.nv_calls.specs.Updates.{blank_call}
 use Rattle.nv_calls.specs.declared.plan.Planned.{Planned}
 use Rattle.nv_calls.specs.declared.update.Update.{Update}
 use Rattle.nv_calls.specs.declared.update.Update.TheVariants as update
-use Rattle.nv_calls.proofs.CellPlans.{all_at, all_by}
+use Rattle.nv_calls.proofs.CellPlans.{all_at}
 use Rattle.nv_calls.proofs.Composed.{cells_stay, places_stay}
 use Rattle.nv_calls.proofs.Keeps.{keeps_to_its}
-use Rattle.nv_calls.proofs.PlannedAlike.{all_map, few_apart_by, found_for, items_are, placed_by, plans_have_items}
-use Rattle.nv_calls.proofs.PlannedGoes.{OneGoes, goes_for, one_goes}
+use Rattle.nv_calls.proofs.PlannedAlike.{few_apart_by, found_for, items_are, placed_by, plans_have_items}
+use Rattle.nv_calls.proofs.PlannedGoes.{goes_for, one_goes}
 use Rattle.nv_calls.proofs.PlansByCell.{items_all, plans_all}
 use Rattle.nv_calls.proofs.Published.{ino_rises}
 

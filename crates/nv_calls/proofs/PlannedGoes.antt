@@ -11,7 +11,6 @@ use Rattle.nv_entry.specs.declared.item.Run.{Run}
 use Rattle.nv_entry.specs.declared.node.NodeCopy.{NodeCopy}
 use Rattle.nv_entry.specs.Sound.{write_items}
 use Rattle.nv_cell.specs.Readers.{is_last_word}
-use Rattle.nv_log.specs.Chain.{last_of}
 use Rattle.nv_calls.specs.AllCalls.{plan}
 use Rattle.nv_calls.specs.CanCommit.{goes}
 use Rattle.nv_calls.specs.Plain.{same_handle}

@@ -203,7 +203,9 @@ fn prepare<C: Cells>(
 /// Makes a call ready that passed its check and holds the blocks that it takes: makes every growth of what follows, of
 /// the cells, and of the hand for the blocks that the call may set free, and settles its items.
 ///
-/// `OutOfMemory`, with the hand, where a growth was refused: then nothing has changed but room.
+/// `OutOfMemory`, with the hand, where a growth was refused: then nothing has changed but room. The time is that of the
+/// items, of the blocks that were taken, and for each cut that of the runs of pages that it takes out, where no growth
+/// moves anything.
 pub fn ready_on<C: Cells>(
     alloc: Global,
     cells: &mut C,
