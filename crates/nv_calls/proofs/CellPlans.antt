@@ -6,7 +6,7 @@ use Rattle.nv_entry.specs.declared.item.Item.{Item}
 use Rattle.nv_cell.specs.Cell.{CellRoom, CellValue}
 use Rattle.nv_cell.specs.Room.{HasNoLess, IsReadyFor}
 use Rattle.nv_calls.specs.Cells.{OnlyAt, ino_at, state_at, value_at, with_value}
-use Rattle.nv_calls.specs.Prepared.{HaveMoreRoom, cell_plans, if_items}
+use Rattle.nv_calls.specs.Prepared.{HaveNoLessRoom, cell_plans, if_items}
 use Rattle.nv_calls.specs.Ready.{CellPlanValue, no_plan, plan_at}
 use Rattle.nv_calls.specs.Slots.{items_for}
 use Rattle.nv_calls.specs.declared.plan.Planned.{Planned}
@@ -68,11 +68,11 @@ plan_step plan at (suc k) (c ∷ cells) lt =
 abbrev pub plan_for : ℕ → List Item → CellPlanValue
 plan_for at items = record { at = at; items = items; killed = [] }
 
-if_some : (at : ℕ) (items : List Item) (plans : List CellPlanValue) → 0 < length items → if_items at items plans ≡ plan_for at items ∷ plans
+pub if_some : (at : ℕ) (items : List Item) (plans : List CellPlanValue) → 0 < length items → if_items at items plans ≡ plan_for at items ∷ plans
 if_some at [] plans some = absurd (omega (arith, some))
 if_some at (item ∷ items) plans some = refl
 
-if_none : (at : ℕ) (items : List Item) (plans : List CellPlanValue) → length items ≡ 0 → if_items at items plans ≡ plans
+pub if_none : (at : ℕ) (items : List Item) (plans : List CellPlanValue) → length items ≡ 0 → if_items at items plans ≡ plans
 if_none at [] plans none = refl
 if_none at (item ∷ items) plans none = absurd (omega (arith, none))
 
@@ -126,7 +126,7 @@ no_less_more a b c x y = record {
   killed = omega (arith, x.killed, y.killed);
 }
 
-pub more_none : (cells : List (ℕ × CellValue)) → HaveMoreRoom cells cells
+pub more_none : (cells : List (ℕ × CellValue)) → HaveNoLessRoom cells cells
 more_none cells = record { count = refl; inos = λ k. refl; states = λ k. refl; rooms = λ k. no_less (value_at cells k).room }
 
 differ : (b : Bool) → b ≡ true → b ≡ false → ⊥
@@ -154,9 +154,9 @@ ready_more plans now new index k lt is rising only before here j less = go (j ==
       ∙ value_beside now k (plan_at plans j).at (value_at new k) (λ e. omega (arith, e, rises, is))))
       (before j lower)
 
-pub more_again : (cells now new : List (ℕ × CellValue)) (k : ℕ) → HaveMoreRoom cells now → OnlyAt k now new → state_at new k ≡ state_at now k
+pub more_again : (cells now new : List (ℕ × CellValue)) (k : ℕ) → HaveNoLessRoom cells now → OnlyAt k now new → state_at new k ≡ state_at now k
     → HasNoLess (value_at now k).room (value_at new k).room
-    → HaveMoreRoom cells new
+    → HaveNoLessRoom cells new
 more_again cells now new k more only state room = record {
   count = ap length only ∙ count_same now k (value_at new k) ∙ more.count;
   inos = λ j. ap (λ (xs : List (ℕ × CellValue)). ino_at xs j) only ∙ ino_everywhere now k j (value_at new k) ∙ more.inos j;

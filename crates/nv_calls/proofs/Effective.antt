@@ -1,5 +1,5 @@
 -- A commit over cells has the effect that its plan fits.
-use Rattle.std.proofs.Common.{◌≡◌, ℕ, zero, suc, ◌+◌, ◌<◌, ◌==◌, ◌⊎◌, inl, inr, Bool, true, false, cond, Option, None, List, [], ◌∷◌, length, arith, refl, ap, sym, ◌∙◌}
+use Rattle.std.proofs.Common.{◌≡◌, ℕ, zero, suc, ◌+◌, ◌<◌, ◌==◌, ◌⊎◌, inl, inr, Bool, true, false, cond, Option, None, List, [], ◌∷◌, ◌++◌, length, arith, refl, ap, ap₂, sym, ◌∙◌}
 use Rattle.std.proofs.lemmas.Bool.{eqb-false, eqb-true}
 use Rattle.std.specs.Prelude.{◌&&◌, unwrap_or}
 use Rattle.std.specs.Option.{option_map}
@@ -22,10 +22,11 @@ use Rattle.nv_calls.specs.Cells.{ino_at, state_at}
 use Rattle.nv_calls.specs.Commit.{CommitValue, begun, stamp_of}
 use Rattle.nv_calls.specs.Committed.{IsUnplanned, committed, killing, place_of}
 use Rattle.nv_calls.specs.Plain.{Change, PlainNode, nodes_after, stamped}
-use Rattle.nv_calls.specs.PublishedSlots.{IsCommitted, IsOfNone, PublishesPlans, planned_in, slots_after}
+use Rattle.nv_calls.specs.declared.plan.Planned.{Planned}
+use Rattle.nv_calls.specs.PublishedSlots.{IsCommitted, IsOfNone, PublishAlike, PublishesPlans, planned_in, slots_after}
 use Rattle.nv_calls.specs.Ready.{CellPlanValue, ReadyValue}
 use Rattle.nv_calls.specs.Retiring.{is_erased, retired}
-use Rattle.nv_calls.specs.Slots.{IsPlan, Slot, last_commit, node_under}
+use Rattle.nv_calls.specs.Slots.{IsPlan, Slot, entries_of, last_commit, node_under}
 use Rattle.nv_calls.specs.Views.{slot_of}
 use Rattle.nv_calls.proofs.Commits.{commits}
 use Rattle.nv_calls.proofs.Grown.{last_step}
@@ -180,9 +181,14 @@ module _ (bytes : ℕ → List ℕ) (block : ℕ) (living : List ℕ) (cells : L
         ap (λ (s : Slot). node_of_slot s handle) (is.others handle.ino none)
         ∙ sym (ap (λ (s : Slot). node_of_slot s handle) (published_slots.beyond handle.ino none))
 
-  pub has_effect : (effect : List Change) → 0 < block → ((ino : ℕ) → IsSound bytes block (slots ino).log)
-      → IsPlan bytes block slots (planned_in cells ready.plans) effect
+  pub has_effect : (plan : List Planned) (effect : List Change) → 0 < block → ((ino : ℕ) → IsSound bytes block (slots ino).log)
+      → PublishAlike (planned_in cells ready.plans) plan → IsPlan bytes block slots plan effect
       → (handle : Handle) → node_under bytes block later handle ≡ nodes_after book.state.commit effect (node_under bytes block slots) handle
-  has_effect effect some sound plan handle =
+  has_effect plan effect some sound alike fits handle =
       same_node handle
-      ∙ (commits bytes block slots book.state.commit book.state.snaps.epoch some sound (planned_in cells ready.plans) effect plan).nodes handle
+      ∙ ap₂ (λ (place : ℕ) (items : List Item). let slot : Slot = record {
+        generation = (slots handle.ino).generation;
+        log = (slots handle.ino).log ++ entries_of book.state.commit book.state.snaps.epoch place items;
+      } in node_of_slot slot handle)
+      (alike.places handle.ino) (alike.items handle.ino)
+      ∙ (commits bytes block slots book.state.commit book.state.snaps.epoch some sound plan effect fits).nodes handle

@@ -61,7 +61,7 @@ entry_count_is stamp place items =
 pub last_step : {X : Type 0} (x y : X) (ys : List X) → last_of (x ∷ y ∷ ys) ≡ last_of (y ∷ ys)
 last_step x y ys = let e : length (x ∷ y ∷ ys) - 1 ≡ suc (length (y ∷ ys) - 1) = omega arith in rw e refl
 
-last_behind : {X : Type 0} (xs : List X) (y : X) (ys : List X) → last_of (xs ++ y ∷ ys) ≡ last_of (y ∷ ys)
+pub last_behind : {X : Type 0} (xs : List X) (y : X) (ys : List X) → last_of (xs ++ y ∷ ys) ≡ last_of (y ∷ ys)
 last_behind [] y ys = refl
 last_behind (x ∷ []) y ys = last_step x y ys
 last_behind (x ∷ z ∷ xs) y ys = last_step x z (xs ++ y ∷ ys) ∙ last_behind (z ∷ xs) y ys

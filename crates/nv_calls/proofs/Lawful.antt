@@ -34,9 +34,8 @@ use Rattle.nv_calls.specs.calls.Rename.{bound_plan, move_plan, moved_refusal, ow
 use Rattle.nv_calls.specs.calls.Size.{IsCutPage, cuts_page}
 use Rattle.nv_calls.specs.calls.Unlink.{leave_plan}
 use Rattle.nv_calls.specs.calls.Write.{text_refusal}
-use Rattle.nv_calls.proofs.Passed.{HasKind, IsThere, both_passed, directory_passed, file_passed, if_passed, lawful_passed, look_passed, node_passed, there}
+use Rattle.nv_calls.proofs.Passed.{HasKind, IsThere, both_passed, directory_passed, elsewhere, file_passed, if_passed, lawful_passed, look_passed, moved_passed, names_passed, node_passed, there}
 use Rattle.nv_calls.proofs.Standing.{no_node, stands}
-use Rattle.nv_calls.proofs.fits.Rename.{elsewhere, moved_passed, names_passed}
 use Rattle.nv_calls.proofs.Within.{count_passed, cut_within, touched_within}
 
 -- ---- items of writes
@@ -260,8 +259,8 @@ module _ (bytes : ℕ → List ℕ) (block : ℕ) (slots : ℕ → Slot) (some :
     bound_good false None other is h = tt
     bound_good false (Some moved) other is h =
         let last =
-        elsewhere bytes block slots some from old to new (own_place from old to new) (moved_refusal nodes from to other moved) is h in
-        let m = moved_passed bytes block slots some from old to new moved other last in
+        elsewhere (own_place from old to new) (moved_refusal nodes from to other moved) is h in
+        let m = moved_passed block nodes from old to new moved other last in
         moves_good (same_handle from to) moved (replaced_plan other) refl is (replaced_good (kind_of (nodes moved)) other m.1)
 
   pub plan_good : (c : Call) → refusal block nodes c ≡ passes → IsReady bytes block slots nodes taken c → AllGood (plan block nodes taken c)
@@ -285,6 +284,6 @@ module _ (bytes : ℕ → List ℕ) (block : ℕ) (slots : ℕ → Slot) (some :
       let d = look_passed nodes dir name both.0 in
       leave_good dir name (found nodes dir name) _ d.0 d.1 (λ to h. there Dir (nodes to) (directory_passed (nodes to) _ h).0) both.1
   plan_good (call.Rename from old to new) h r =
-      let names = names_passed bytes block slots some from old to new h in
+      let names = names_passed block nodes from old to new h in
       bound_good from old to new names.0 names.1 names.2 names.3 (own_place from old to new) (found nodes from old) (found nodes to new)
       refl names.4

@@ -20,6 +20,10 @@ pub mod Passed
 pub mod Places
 pub mod PublishAll
 pub mod Published
+pub mod PlannedAlike
+pub mod PlannedCommits
+pub mod PlannedGoes
+pub mod PlannedHeld
 pub mod PlansByCell
 pub mod Prepares
 pub mod Resized

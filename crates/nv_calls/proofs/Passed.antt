@@ -1,5 +1,5 @@
 -- What a call knows whose tests it passes.
-use Rattle.std.proofs.Common.{◌≡◌, ℕ, ◌==◌, Bool, true, false, not, cond, List, Option, Some, None, refl}
+use Rattle.std.proofs.Common.{◌≡◌, ℕ, ◌==◌, ◌&&◌, Bool, true, false, not, cond, List, Option, Some, None, refl}
 use Rattle.std.specs.Prelude.{Ok, Err, IsTrue, option_map}
 use Rattle.std.proofs.lemmas.Bool.{eqb-true}
 use Rattle.nv_base.specs.Names.{is_lawful_name}
@@ -9,10 +9,13 @@ use Rattle.nv_base.specs.declared.node.Kind.{Kind}
 use Rattle.nv_base.specs.declared.node.Kind.TheVariants.{File, Dir}
 use Rattle.nv_base.specs.declared.numbers.Handle.{Handle}
 use Rattle.nv_entry.specs.declared.node.NodeCopy.{NodeCopy}
-use Rattle.nv_calls.specs.Plain.{PlainNode, node_in}
-use Rattle.nv_calls.specs.Refusals.{Check, and_then, kind_of, passes, refuse_if, want_directory, want_file, want_lawful, want_node}
+use Rattle.nv_calls.specs.AllCalls.{looked, refusal}
+use Rattle.nv_calls.specs.declared.call.Call.TheVariants as call
+use Rattle.nv_calls.specs.Plain.{PlainNode, node_in, same_handle}
+use Rattle.nv_calls.specs.Refusals.{Check, and_then, is_directory, kind_of, passes, refuse_if, want_directory, want_file, want_lawful, want_node}
 use Rattle.nv_calls.specs.Slots.{Slot, node_under}
 use Rattle.nv_calls.specs.calls.Lookup.{lookup_refusal}
+use Rattle.nv_calls.specs.calls.Rename.{moved_refusal, pass_if, rename_early, rename_late, replaced_refusal}
 
 -- a node that is there
 pub record IsThere (found : Option NodeCopy) : Type 0 where
@@ -79,3 +82,32 @@ own_handle bytes block slots handle there = go (handle.generation == (slots hand
       → option_map (λ (p : PlainNode). p.node) (cond b there_now None) ≡ Some there.node → handle.generation ≡ (slots handle.ino).generation
   go true now q h = eqb-true handle.generation (slots handle.ino).generation q
   go false now q h = cc
+
+-- ---- renames
+
+-- what passes where the two places differ
+pub elsewhere : (own : Bool) (next : Check) → own ≡ false → pass_if own next ≡ passes → next ≡ passes
+elsewhere true next q h = cc
+elsewhere false next q h = h
+
+module _ (block : ℕ) (nodes : Handle → Option NodeCopy) (from : Handle) (old : List ℕ) (to : Handle) (new : List ℕ) where
+  -- what is known of a move that is not refused
+  pub moved_passed : (moved : Handle) (other : Option Handle) → moved_refusal nodes from to other moved ≡ passes
+      → IsThere (nodes moved) × (replaced_refusal nodes (kind_of (nodes moved)) other ≡ passes)
+  moved_passed moved other h =
+      let kind : Option Kind = kind_of (nodes moved) in
+      let last : Check = replaced_refusal nodes kind other in
+      let crosses : Bool = is_directory kind && not (same_handle from to) in
+      let m = node_passed (nodes moved) (refuse_if crosses fault.MoveDirectory last) h in
+      (m.0, (if_passed crosses fault.MoveDirectory last m.1).1)
+
+  -- what is known of a rename that is not refused: both are directories, and the tests of what its names lead to
+  pub names_passed : refusal block nodes (call.Rename from old to new) ≡ passes
+      → HasKind Dir (nodes from) × HasKind Dir (nodes to) × IsTrue (is_lawful_name old) × IsTrue (is_lawful_name new)
+      × (rename_late nodes from old to new (looked nodes (call.Rename from old to new)) ≡ passes)
+  names_passed passed =
+      let both = both_passed (rename_early nodes from old to new) _ passed in
+      let tests = both_passed (lookup_refusal nodes from old) _ both.0 in
+      let f = look_passed nodes from old tests.0 in
+      let t = directory_passed (nodes to) _ tests.1 in
+      (f.0, t.0, f.1, (lawful_passed new _ t.1).0, both.1)

@@ -27,7 +27,7 @@ place-first (p ∷ plan) = omega (arith, place-cons p plan 0, place-first plan, 
   none false q = refl
 
 -- a slot of none of them has no items
-none_for : (plan : List Planned) (ino : ℕ) → AllByRecursion (λ (p : Planned). p.handle.ino ≢ ino) plan → length (items_for plan ino) ≡ 0
+pub none_for : (plan : List Planned) (ino : ℕ) → AllByRecursion (λ (p : Planned). p.handle.ino ≢ ino) plan → length (items_for plan ino) ≡ 0
 none_for [] ino all = refl
 none_for (p ∷ plan) ino all = go (p.handle.ino == ino) refl (none_for plan ino all.1) where
   go : (b : Bool) → (p.handle.ino == ino) ≡ b → length (items_for plan ino) ≡ 0 → length (cond b p.items (items_for plan ino)) ≡ 0

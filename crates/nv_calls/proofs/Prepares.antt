@@ -1,5 +1,5 @@
 -- What a call is made ready with, where it passed its check and holds the blocks that it takes.
-use Rattle.std.proofs.Common.{◌≡◌, ℕ, ◌-◌, ◌^◌, ◌<◌, ◌≤◌, List, length, min, Option, ap, subst, sym, ◌∙◌}
+use Rattle.std.proofs.Common.{◌≡◌, ℕ, ◌^◌, ◌<◌, ◌≤◌, List, length, Option, arith, ap, subst, sym, ◌∙◌}
 use Rattle.std.specs.List.{AllByRecursion, sum_by}
 use Rattle.std.proofs.lemmas.List.{length-map}
 use Rattle.nv_alloc.specs.Block.{BlockValue, numbers_of}
@@ -14,8 +14,8 @@ use Rattle.nv_calls.specs.AllCalls.{blocks_wanted}
 use Rattle.nv_calls.specs.Cells.{ino_at, no_cell, state_at}
 use Rattle.nv_calls.specs.Nodes.{block_in, nodes_in}
 use Rattle.nv_calls.specs.Plan.{AreMaximal, runs_of}
-use Rattle.nv_calls.specs.Prepared.{AreReady, CanReady, HasMoreRoom, IsReadyBy, IsStill, made_by, most_killed, planned_by, plans_by, taken_by}
-use Rattle.nv_calls.specs.Ready.{CellPlanValue, ReadyValue}
+use Rattle.nv_calls.specs.Prepared.{AreReady, CanReady, HasNoLessRoom, IsReadyBy, IsStill, made_by, planned_by, plans_by, taken_by}
+use Rattle.nv_calls.specs.Ready.{CellPlanValue, ReadyValue, need_of}
 use Rattle.nv_calls.specs.Slots.{items_for}
 use Rattle.nv_calls.specs.Steps.{HaveBlocks}
 use Rattle.nv_calls.specs.Updates.{blank_call}
@@ -57,26 +57,30 @@ module _ (cells : List (ℕ × CellValue)) (hand : Hand) (u : Update) (can : Can
 
 -- what is put together is ready, where its parts are
 pub ready_is : (cells now : List (ℕ × CellValue)) (hand : Hand) (u : Update) (made : Option Handle) (plans : List CellPlanValue) (left : Hand)
-    (ready : ReadyValue) → ready.update ≡ u → ready.made ≡ made → ready.plans ≡ plans → ready.hand ≡ left
+    (need : ℕ) (ready : ReadyValue) → ready.update ≡ u → ready.made ≡ made → ready.plans ≡ plans → ready.hand ≡ left → ready.need ≡ need
     → made ≡ made_by cells hand.ino u
+    → AreMaximal (taken_by cells hand u).runs × (blocks_of (taken_by cells hand u).runs ≡ numbers_of hand.«data».blocks)
     → plans ≡ plans_by cells hand u
-    → HasMoreRoom hand left
+    → HasNoLessRoom hand left
     → AreReady now plans
-    → min (most_killed now plans) (2 ^ 64 - 1) ≤ left.«data».room
+    → need ≡ need_of now plans
+    → need ≤ left.«data».room
     → AllByRecursion (λ (p : CellPlanValue). HaveBlocks p.items (block_in cells) left.«data») plans
     → sum_by (λ (p : CellPlanValue). length p.items) plans < 2 ^ 32
     → IsReadyBy cells hand u now ready
-ready_is cells now hand u made plans left ready eu em ep eh made_is plans_are more are room blocks few =
+ready_is cells now hand u made plans left need ready eu em ep eh en made_is runs plans_are more are need_is room blocks few =
     let h : left ≡ ready.hand = sym eh in
     let p : plans ≡ ready.plans = sym ep in
     record {
       update = eu;
       made = em ∙ made_is;
+      maximal = runs.0;
+      whole = runs.1;
       plans = ep ∙ plans_are;
-      hand_same = subst (HasMoreRoom hand) h more;
+      hand_same = subst (HasNoLessRoom hand) h more;
       cells_ready = subst (AreReady now) p are;
-      room = subst (λ (x : Hand). min (most_killed now ready.plans) (2 ^ 64 - 1) ≤ x.«data».room) h
-          (subst (λ (ps : List CellPlanValue). min (most_killed now ps) (2 ^ 64 - 1) ≤ left.«data».room) p room);
+      need = en ∙ need_is ∙ ap (need_of now) p;
+      room = subst (λ (x : Hand). ready.need ≤ x.«data».room) h (omega (arith, en, room));
       blocks = subst (λ (x : Hand). AllByRecursion (λ (q : CellPlanValue). HaveBlocks q.items (block_in cells) x.«data») ready.plans) h
           (subst (AllByRecursion (λ (q : CellPlanValue). HaveBlocks q.items (block_in cells) left.«data»)) p blocks);
       few = subst (λ (ps : List CellPlanValue). sum_by (λ (q : CellPlanValue). length q.items) ps < 2 ^ 32) p few;

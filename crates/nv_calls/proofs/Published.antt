@@ -70,7 +70,7 @@ module _ (cells : List (ℕ × CellValue)) (plans : List CellPlanValue) (are : A
   ino j = ino_at cells (place_of plans j)
 
   -- numbers rise from cell to cell, and so from plan to plan
-  ino_rises : (i j : ℕ) → i < j → j < length plans → ino i < ino j
+  pub ino_rises : (i j : ℕ) → i < j → j < length plans → ino i < ino j
   ino_rises i j lt lj = are.rising (place_of plans i) (place_of plans j) no_cell (placed.rising i j no_plan lt lj) (placed.within j lj)
 
   ino_differs : (i k : ℕ) → i < length cells → k < length cells → (i ≡ k → ⊥) → ino_at cells i ≡ ino_at cells k → ⊥
@@ -117,7 +117,7 @@ module _ (cells : List (ℕ × CellValue)) (plans : List CellPlanValue) (are : A
 
 -- ---- the items of a plan
 
-items_none : (cells : List (ℕ × CellValue)) (plans : List CellPlanValue) (number : ℕ)
+pub items_none : (cells : List (ℕ × CellValue)) (plans : List CellPlanValue) (number : ℕ)
     → ((i : ℕ) → i < length plans → ino_at cells (place_of plans i) ≡ number → ⊥) → items_for (planned_in cells plans) number ≡ []
 items_none cells [] number none = refl
 items_none cells (p ∷ plans) number none =
@@ -128,7 +128,7 @@ items_none cells (p ∷ plans) number none =
       go true q rest = let first : 0 < length (p ∷ plans) = omega arith in absurd (none 0 first (eqb-true (ino_at cells p.at) number q))
       go false q rest = rest
 
-items_at : (cells : List (ℕ × CellValue)) (plans : List CellPlanValue) (number j : ℕ) → j < length plans
+pub items_at : (cells : List (ℕ × CellValue)) (plans : List CellPlanValue) (number j : ℕ) → j < length plans
     → ((i : ℕ) → i < j → ino_at cells (place_of plans i) ≡ number → ⊥) → ino_at cells (place_of plans j) ≡ number
     → items_for (planned_in cells plans) number ≡ (plan_at plans j).items
 items_at cells [] number j lt before own = absurd (omega (arith, lt))

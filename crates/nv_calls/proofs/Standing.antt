@@ -1,6 +1,5 @@
 -- Nodes that are there are stored in the logs of their slots.
 use Rattle.std.proofs.Common.{◌≡◌, ◌≢◌, ℕ, List, [], Option, Some, None, ap, sym, ◌∙◌, subst}
-use Rattle.nv_base.specs.declared.node.Kind.TheVariants.{File, Dir}
 use Rattle.nv_base.specs.declared.numbers.Handle.{Handle}
 use Rattle.nv_entry.specs.declared.item.Entry.{Entry}
 use Rattle.nv_entry.specs.declared.node.NodeCopy.{NodeCopy}
@@ -10,7 +9,7 @@ use Rattle.nv_entry.specs.Stored.{stored}
 use Rattle.nv_calls.specs.Plain.{node_in}
 use Rattle.nv_calls.specs.Slots.{IsFree, Slot, node_under}
 use Rattle.nv_calls.proofs.Commits.{handle-same, own_node}
-use Rattle.nv_calls.proofs.Passed.{HasKind, IsThere, own_handle}
+use Rattle.nv_calls.proofs.Passed.{IsThere, own_handle}
 
 module _ (bytes : ℕ → List ℕ) (block : ℕ) (slots : ℕ → Slot) where
   abbrev nodes : Handle → Option NodeCopy
@@ -25,25 +24,10 @@ module _ (bytes : ℕ → List ℕ) (block : ℕ) (slots : ℕ → Slot) where
   stands handle there sound = subst (Tied bytes block (stored block (slots handle.ino).log)) (log_gives handle there) sound
 
   -- one inode has one handle that leads to a node
-  same_inode : (a b : Handle) → IsThere (nodes a) → IsThere (nodes b) → a.ino ≡ b.ino → a ≡ b
-  same_inode a b x y i =
+  pub one_handle : (a b : Handle) → IsThere (nodes a) → IsThere (nodes b) → a.ino ≡ b.ino → a ≡ b
+  one_handle a b x y i =
       handle-same a b i
       (own_handle bytes block slots a x ∙ ap (λ (ino : ℕ). (slots ino).generation) i ∙ sym (own_handle bytes block slots b y))
-
-  pub one_node : (a b : Handle) (x : IsThere (nodes a)) (y : IsThere (nodes b)) → a.ino ≡ b.ino → x.node ≡ y.node
-  one_node a b x y i = let same : Some x.node ≡ Some y.node = sym x.is ∙ ap nodes (same_inode a b x y i) ∙ y.is in cc
-
-  pub one_handle : (a b : Handle) → IsThere (nodes a) → IsThere (nodes b) → a.ino ≡ b.ino → a ≡ b
-  one_handle a b x y i = same_inode a b x y i
-
-  -- a file and a directory are different inodes
-  pub kinds_apart : (file dir : Handle) → HasKind File (nodes file) → HasKind Dir (nodes dir) → file.ino ≢ dir.ino
-  kinds_apart file dir f d i =
-      let same = one_node file dir (record { node = f.node; is = f.is }) (record { node = d.node; is = d.is }) i in
-      let file_kind = f.kind_is in
-      let dir_kind = d.kind_is in
-      let kinds : f.node.kind ≡ d.node.kind = ap (λ (n : NodeCopy). n.kind) same in
-      let z : File ≡ Dir = sym file_kind ∙ kinds ∙ dir_kind in cc
 
   -- a free slot has none
   pub no_node : (made : Handle) → IsFree slots made → nodes made ≡ None

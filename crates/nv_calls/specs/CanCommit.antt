@@ -21,6 +21,7 @@ use Rattle.nv_calls.specs.Cells.{AreCells, value_at, state_at}
 use Rattle.nv_calls.specs.Commit.{CommitValue, begun, stamp_of}
 use Rattle.nv_calls.specs.Committed.{entry_count, killed_count, page_count, place_of}
 use Rattle.nv_calls.specs.Ready.{ArePlaced, CellPlanValue, ReadyValue, need_of, plan_at}
+use Rattle.nv_calls.specs.Nodes.{block_in}
 use Rattle.nv_calls.specs.Retiring.{killed_by, part_in}
 use Rattle.nv_calls.specs.Steps.{IsLater, numbers_in}
 
@@ -106,5 +107,24 @@ pub record CanCommit (cells : List (ℕ × CellValue)) (book : BookValue) (cpu :
   pub number : HasNumber ready
   pub one_goes : (i j : ℕ) → i < length ready.plans → j < length ready.plans → goes (plan_at ready.plans i).items ≡ true
       → goes (plan_at ready.plans j).items ≡ true → i ≡ j
+  pub cpu_is : cpu < length book.state.journals
+  pub closed : slice_index_or book.state.journals cpu [] ≡ []
+
+-- ---- a call that is ready
+
+-- the entries of a cell are older than a commit, and neither its version nor its generation is the last
+pub record TakesCommit (stamp : Stamp) (cell : CellValue) : Type 0 where
+  pub later : IsLater stamp cell
+  pub version : cell.state.version < 2 ^ 62
+  pub generation : cell.state.generation < NUMBER
+
+-- what a commit asks beside a call that is ready: its cells take a commit of the book's latest number, the book has room
+-- for its records and the hand the pages of the logs, and a CPU's journal is closed
+pub record AllowsCommit (cells : List (ℕ × CellValue)) (book : BookValue) (cpu : ℕ) (ready : ReadyValue) : Type 0 where
+  pub take : AllByRecursion (λ p. TakesCommit (stamp_of book.state) (value_at cells p.at)) ready.plans
+  pub records : ready.need ≤ book.room
+  pub page_size : ready.hand.pages.size ≡ block_in cells
+  pub pages : sum_by (page_count cells) ready.plans ≤ length ready.hand.pages.blocks
+  pub chain : length ready.hand.chain ≡ 0
   pub cpu_is : cpu < length book.state.journals
   pub closed : slice_index_or book.state.journals cpu [] ≡ []

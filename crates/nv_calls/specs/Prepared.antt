@@ -1,19 +1,20 @@
 -- What a call is made ready with: the runs of its blocks, and its items, cell by cell.
-use Rattle.std.specs.Prelude.{◌≡◌, ℕ, ◌+◌, ◌-◌, ◌<◌, ◌≤◌, ◌^◌, if◌then◌else◌, Bool, true, false, List, [], ◌∷◌, length, min, Option, None, option_map, unwrap_or}
+use Rattle.std.specs.Prelude.{◌≡◌, ℕ, ◌+◌, ◌<◌, ◌≤◌, ◌^◌, if◌then◌else◌, Bool, true, false, List, [], ◌∷◌, length, Option, Some, None, option_map, unwrap_or}
 use Rattle.std.specs.List.{AllByRecursion, sum_by}
+use Rattle.std.specs.Option.{IsSome}
 use Rattle.nv_alloc.specs.Block.{numbers_of}
 use Rattle.nv_alloc.specs.declared.hand.Hand.{Hand}
 use Rattle.nv_base.specs.declared.limits.TheConstants.{BLOCK_BYTES}
 use Rattle.nv_base.specs.declared.numbers.Handle.{Handle}
 use Rattle.nv_entry.specs.declared.item.Item.{Item}
-use Rattle.nv_cell.specs.Cell.{CellState, CellValue, log_of}
+use Rattle.nv_entry.specs.Sound.{blocks_of}
+use Rattle.nv_cell.specs.Cell.{CellState, CellValue}
 use Rattle.nv_cell.specs.Room.{HasNoLess, IsReadyFor}
-use Rattle.nv_cell.specs.Weights.{weights_in}
-use Rattle.nv_calls.specs.AllCalls.{blocks_wanted, ends_in_page, plan, refusal}
+use Rattle.nv_calls.specs.AllCalls.{blocks_wanted, ends_in_page, is_nothing, plan, refusal}
 use Rattle.nv_calls.specs.Cells.{AreCells, ino_at, state_at, value_at}
-use Rattle.nv_calls.specs.Nodes.{block_in, has_page_in, nodes_in, slots_by}
-use Rattle.nv_calls.specs.Plan.{runs_of}
-use Rattle.nv_calls.specs.Ready.{CellPlanValue, ReadyValue}
+use Rattle.nv_calls.specs.Nodes.{block_in, cell_of, has_page_in, nodes_in, slots_by}
+use Rattle.nv_calls.specs.Plan.{AreMaximal, runs_of}
+use Rattle.nv_calls.specs.Ready.{CellPlanValue, ReadyValue, need_of}
 use Rattle.nv_calls.specs.Refusals.{passes}
 use Rattle.nv_calls.specs.Slots.{items_for}
 use Rattle.nv_calls.specs.Steps.{HaveBlocks}
@@ -70,25 +71,20 @@ plans_by cells hand u = cell_plans (planned_by cells hand u) 0 cells
 -- ---- room
 
 -- the same cells, with no less room
-pub record HaveMoreRoom (old new : List (ℕ × CellValue)) : Type 0 where
+pub record HaveNoLessRoom (old new : List (ℕ × CellValue)) : Type 0 where
   pub count : length new ≡ length old
   pub inos : (k : ℕ) → ino_at new k ≡ ino_at old k
   pub states : (k : ℕ) → state_at new k ≡ state_at old k
   pub rooms : (k : ℕ) → HasNoLess (value_at old k).room (value_at new k).room
 
 -- the same hand, with no less room for data blocks
-pub record HasMoreRoom (old new : Hand) : Type 0 where
+pub record HasNoLessRoom (old new : Hand) : Type 0 where
   pub same : new ≡ record old { «data» = record old.data { room = new.data.room } }
   pub room : old.data.room ≤ new.data.room
 
 -- the planned cells are ready for their items
 abbrev pub AreReady : List (ℕ × CellValue) → List CellPlanValue → Type 0
 AreReady cells plans = AllByRecursion (λ p. IsReadyFor p.items (value_at cells p.at)) plans
-
--- how many parts the publishes of the plans kill at most
-abbrev pub most_killed : List (ℕ × CellValue) → List CellPlanValue → ℕ
-most_killed cells plans =
-    sum_by (λ p. let cell = state_at cells p.at in weights_in cell.block (log_of cell) p.items) plans
 
 -- ---- a call that is ready
 
@@ -97,26 +93,43 @@ pub record IsStill (block : ℕ) (cell : CellState) : Type 0 where
   pub size : cell.block ≡ block
   pub settled : cell.chain.tail ≡ length cell.chain.entries
 
--- a call passed its check over these cells, and the hand holds the blocks that it takes
+-- a number whose slot is one of the cells, and empty
+pub record IsEmptySlot (cells : List (ℕ × CellValue)) (ino : ℕ) : Type 0 where
+  pub lent : IsSome (cell_of cells ino)
+  pub empty : (slots_by cells ino).log ≡ []
+
+-- the number of an empty slot where an inode is made, and else none
+abbrev pub HasNumberFor : List (ℕ × CellValue) → Bool → Option ℕ → Type 0
+HasNumberFor cells true (Some ino) = IsEmptySlot cells ino
+HasNumberFor cells true None = ⊥
+HasNumberFor cells false number = number ≡ None
+
+-- a call that commits something passed its check over these cells, and the hand holds the blocks that it takes, and the
+-- number of a new inode
 pub record CanReady (cells : List (ℕ × CellValue)) (hand : Hand) (u : Update) : Type 0 where
   pub lent : AreCells cells
   pub some : 0 < length cells
   pub still : AllByRecursion (λ c. IsStill (block_in cells) c.1.state) cells
   pub few_bytes : block_in cells ≤ BLOCK_BYTES
   pub passed : refusal (block_in cells) (nodes_in cells) (blank_call u) ≡ passes
+  pub something : is_nothing (blank_call u) ≡ false
+  pub number : HasNumberFor cells (makes u) hand.ino
   pub count : length hand.data.blocks ≡ blocks_wanted (block_in cells) (nodes_in cells) (taken_by cells hand u).present (blank_call u)
   pub size : hand.data.size ≡ block_in cells
   pub small : AllByRecursion (λ b. b.number < 2 ^ 32) hand.data.blocks
 
--- a call over these cells and with this hand is ready: the cells have room for its items, and the hand for the blocks
--- that it may set free, up to the greatest number
+-- a call over these cells and with this hand is ready: its blocks are maximal runs, none left out; the cells have room for
+-- its items, and the hand for the blocks that it may set free
 pub record IsReadyBy (cells : List (ℕ × CellValue)) (hand : Hand) (u : Update) (now : List (ℕ × CellValue)) (ready : ReadyValue)
     : Type 0 where
   pub update : ready.update ≡ u
   pub made : ready.made ≡ made_by cells hand.ino u
+  pub maximal : AreMaximal (taken_by cells hand u).runs
+  pub whole : blocks_of (taken_by cells hand u).runs ≡ numbers_of hand.data.blocks
   pub plans : ready.plans ≡ plans_by cells hand u
-  pub hand_same : HasMoreRoom hand ready.hand
+  pub hand_same : HasNoLessRoom hand ready.hand
   pub cells_ready : AreReady now ready.plans
-  pub room : min (most_killed now ready.plans) (2 ^ 64 - 1) ≤ ready.hand.data.room
+  pub need : ready.need ≡ need_of now ready.plans
+  pub room : ready.need ≤ ready.hand.data.room
   pub blocks : AllByRecursion (λ p. HaveBlocks p.items (block_in cells) ready.hand.data) ready.plans
   pub few : sum_by (λ p. length p.items) ready.plans < 2 ^ 32

@@ -11,7 +11,7 @@ use Rattle.nv_calls.specs.Committed.{ChangesPlanned, IsUnplanned, committed, gro
 use Rattle.nv_calls.specs.Plan.{planned}
 use Rattle.nv_calls.specs.Ready.{CellPlanValue, ReadyValue}
 use Rattle.nv_calls.specs.Retiring.{is_erased, retired}
-use Rattle.nv_calls.specs.Slots.{Slot, published as published_slots}
+use Rattle.nv_calls.specs.Slots.{Slot, items_for, place_in, published as published_slots}
 use Rattle.nv_calls.specs.Views.{slot_of}
 
 -- the cells are those of these slots
@@ -28,6 +28,11 @@ handle_at cells k = record { ino = ino_at cells k; generation = (state_at cells 
 
 abbrev pub planned_in : List (ℕ × CellValue) → List CellPlanValue → List Planned
 planned_in cells plans = map (λ (p : CellPlanValue). planned (handle_at cells p.at) p.items) plans
+
+-- two plans that publish alike: the same items for each inode, at the same place of the commit
+pub record PublishAlike (one other : List Planned) : Type 0 where
+  pub items : (ino : ℕ) → items_for one ino ≡ items_for other ino
+  pub places : (ino : ℕ) → place_in one ino ≡ place_in other ino
 
 -- the slots once the commit is published
 abbrev pub slots_after : List (ℕ × CellValue) → CommitValue → (ℕ → Slot) → ℕ → Slot

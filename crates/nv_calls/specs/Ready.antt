@@ -17,12 +17,14 @@ pub record CellPlanValue : Type 0 where
   pub items : List Item
   pub killed : List KilledPart
 
--- the call; the handle of a new inode; the plans by rising place of their cells; and what the call holds
+-- the call; the handle of a new inode; the plans by rising place of their cells; what the call holds; and for how many
+-- records its commit needs room
 pub record ReadyValue : Type 0 where
   pub update : Update
   pub made : Option Handle
   pub plans : List CellPlanValue
   pub hand : Hand
+  pub need : ℕ
 
 abbrev pub no_plan : CellPlanValue
 no_plan = record { at = 0; items = []; killed = [] }

@@ -65,7 +65,7 @@ impl Commit {
     }
 
     /// How many cells get entries.
-    pub fn cells(&self) -> usize
+    pub fn planned(&self) -> usize
         ensures { result ≡ length self.now.plans }
     {
         self.plans.len()
@@ -76,27 +76,6 @@ impl Commit {
         ensures { result.now ≡ self.now.stamp }
     {
         &self.stamp
-    }
-
-    /// What the hand still holds, once all is done. Takes no memory.
-    pub fn into_hand(self) -> Hand
-        requires { self.retired ≡ length self.plans }
-        ensures { result ≡ self.hand }
-    {
-        let Commit {
-            alloc: _,
-            update: _,
-            made: _,
-            plans: _,
-            hand,
-            stamp: _,
-            place: _,
-            appended: _,
-            published: _,
-            retired: _,
-            journal_open: _,
-        } = self;
-        hand
     }
 
     /// The place of a planned cell among the call's cells.

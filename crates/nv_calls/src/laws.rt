@@ -1,6 +1,7 @@
 //! Laws of plans and effects, each the contract of a function that does nothing.
 
 ghost use Rattle.std.specs.Prelude.{◌≡◌, ◌<◌, ℕ, Err, List, Option, is_some, length, Bool};
+ghost use Rattle.nv_alloc.specs.declared.hand.Hand.{Hand};
 ghost use Rattle.nv_book.specs.Book.{BookValue};
 ghost use Rattle.nv_cell.specs.Cell.{CellValue};
 ghost use Rattle.nv_base.specs.declared.fault.Fault.{Fault};
@@ -11,14 +12,15 @@ ghost use Rattle.nv_entry.specs.Sound.{IsSound};
 ghost use Rattle.nv_entry.specs.declared.node.NodeCopy.{NodeCopy};
 ghost use Rattle.nv_calls.specs.AllCalls.{IsReady, IsToldNothing, blocks_wanted, effect, look_refusal, looked, plan, refusal};
 ghost use Rattle.nv_calls.specs.declared.taken.Taken.{Taken};
-ghost use Rattle.nv_calls.specs.CanCommit.{CanCommit};
+ghost use Rattle.nv_calls.specs.CanCommit.{AllowsCommit, CanCommit};
 ghost use Rattle.nv_calls.specs.Commit.{begun, stamp_of};
 ghost use Rattle.nv_calls.specs.Lawful.{IsLawfulPlan};
 ghost use Rattle.nv_calls.specs.Locked.{Agree, KeepsToIts, SameCall, first_look, handles};
 ghost use Rattle.nv_calls.specs.Nodes.{HaveBytes, has_page_in, plain_nodes, slots_by};
 ghost use Rattle.nv_calls.specs.Plain.{Change, PlainNode, node_in, nodes_after};
 ghost use Rattle.nv_calls.specs.Plan.{AreApart, AreFewApart, plan_blocks};
-ghost use Rattle.nv_calls.specs.PublishedSlots.{AreOfSlots, IsCommitted, PublishesPlans, planned_in};
+ghost use Rattle.nv_calls.specs.Prepared.{CanReady, HaveNoLessRoom, IsReadyBy, planned_by, plans_by};
+ghost use Rattle.nv_calls.specs.PublishedSlots.{AreOfSlots, IsCommitted, PublishAlike, PublishesPlans, planned_in};
 ghost use Rattle.nv_calls.specs.Ready.{ReadyValue};
 ghost use Rattle.nv_calls.specs.Refusals.{passes};
 ghost use Rattle.nv_calls.specs.Slots.{ArePlaced, Commits, IsBefore, IsPlan, Slot, node_under, published};
@@ -126,12 +128,27 @@ pub fn cells_hold_the_nodes_of_their_slots()
         ≡ is_some (block_now block (slots_by cells handle.ino).log page) }
 {}
 
+/// A call that was made ready can be committed, where its cells, the book, its hand's pages and a CPU's journal allow it.
+pub fn what_is_ready_can_be_committed()
+    ensures { (cells now : List (ℕ × CellValue)) (hand : Hand) (update : Update) (book : BookValue) (cpu : ℕ)
+        (ready : ReadyValue) → CanReady cells hand update → HaveNoLessRoom cells now
+        → IsReadyBy cells hand update now ready → AllowsCommit now book cpu ready
+        → CanCommit now book cpu ready }
+{}
+
 /// A commit over cells publishes the items of its plans, each at its place in the commit: the slots are then those that
 /// the commit makes, up to the erasing of an inode of which nothing is kept.
 pub fn commits_publish_their_plans()
     ensures { (cells : List (ℕ × CellValue)) (book : BookValue) (cpu : ℕ) (ready : ReadyValue)
         (slots : ℕ → Slot) → CanCommit cells book cpu ready → AreOfSlots cells slots
         → PublishesPlans cells (begun (stamp_of book.state) ready) slots }
+{}
+
+/// What a call publishes cell by cell is what it plans: the same items for each inode, at the same place of the commit.
+pub fn cells_publish_what_is_planned()
+    ensures { (cells : List (ℕ × CellValue)) (hand : Hand) (update : Update)
+        → CanReady cells hand update
+        → PublishAlike (planned_in cells (plans_by cells hand update)) (planned_by cells hand update) }
 {}
 
 /// A call looks up, is checked and planned with any text as with a text of as many zeros.
@@ -141,15 +158,15 @@ pub fn a_write_is_planned_by_its_length()
         → SamePlan block nodes has_page taken (blank_call update) (call_of update text) }
 {}
 
-/// A commit over cells has the effect that its plan fits: the nodes of the slots are afterwards those of the effect, also
+/// A commit over cells has the effect that a plan fits which publishes alike: the nodes of the slots are afterwards those of the effect, also
 /// where an inode was erased.
 pub fn commits_have_their_effect()
     ensures { (bytes : ℕ → List ℕ) (block : ℕ) (living : List ℕ) (cells : List (ℕ × CellValue))
         (book : BookValue) (cpu : ℕ) (ready : ReadyValue) (slots : ℕ → Slot)
-        (now : List (ℕ × CellValue)) (later : ℕ → Slot) (effect : List Change) → 0 < block
+        (now : List (ℕ × CellValue)) (later : ℕ → Slot) (plan : List Planned) (effect : List Change) → 0 < block
         → ((ino : ℕ) → IsSound bytes block (slots ino).log)
         → IsCommitted living cells book cpu ready slots now later
-        → IsPlan bytes block slots (planned_in cells ready.plans) effect
+        → PublishAlike (planned_in cells ready.plans) plan → IsPlan bytes block slots plan effect
         → (handle : Handle) → node_under bytes block later handle
         ≡ nodes_after book.state.commit effect (node_under bytes block slots) handle }
 {}

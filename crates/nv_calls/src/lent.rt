@@ -151,3 +151,66 @@ impl<C: Cells> Cells for LentCell<'_, C> {
         self.higher.erase(k - 1)
     }
 }
+
+/// The cells that are lent, if any are: none where no slot has a call's numbers.
+impl<C: Cells> Cells for Option<C> {
+    ghost use Rattle.std.specs.Prelude.{[], option_map, unwrap_or};
+
+    ghost cells = { λ lent. unwrap_or (option_map (λ c. C.cells c) lent) [] };
+
+    ghost places = { λ lent. unwrap_or (option_map (λ c. C.places c) lent) [] };
+
+    ghost beside = { λ lent. unwrap_or (option_map (λ c. C.beside c) lent) [] };
+
+    fn count(&self) -> usize {
+        match self {
+            Some(lent) => lent.count(),
+            None => 0,
+        }
+    }
+
+    fn ino(&self, k: usize) -> Ino {
+        let Some(lent) = self else { unreachable!() };
+        lent.ino(k)
+    }
+
+    fn cell(&self, k: usize) -> &InodeCell {
+        let Some(lent) = self else { unreachable!() };
+        lent.cell(k)
+    }
+
+    fn ready(&mut self, k: usize, items: &[Item]) -> Result<(), Fault> {
+        let Some(lent) = self else { unreachable!() };
+        lent.ready(k, items)
+    }
+
+    fn add_page(&mut self, k: usize, block: Block) {
+        let Some(lent) = self else { unreachable!() };
+        lent.add_page(k, block);
+    }
+
+    fn append(&mut self, k: usize, entry: Entry, queue: &mut BlockQueue) {
+        let Some(lent) = self else { unreachable!() };
+        lent.append(k, entry, queue);
+    }
+
+    fn publish(&mut self, k: usize) -> Vec<KilledPart> {
+        let Some(lent) = self else { unreachable!() };
+        lent.publish(k)
+    }
+
+    fn retire(&mut self, k: usize, part: PartId) {
+        let Some(lent) = self else { unreachable!() };
+        lent.retire(k, part);
+    }
+
+    fn release(&mut self, k: usize, part: PartId) -> Option<Block> {
+        let Some(lent) = self else { unreachable!() };
+        lent.release(k, part)
+    }
+
+    fn erase(&mut self, k: usize) -> Chain {
+        let Some(lent) = self else { unreachable!() };
+        lent.erase(k)
+    }
+}

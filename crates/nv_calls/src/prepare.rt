@@ -1,6 +1,6 @@
 //! What makes a call ready to be committed: its items, cell by cell, and all room that they need.
 
-ghost use Rattle.std.specs.Prelude.{◌≡◌, ℕ, ◌-◌, ◌<◌, ◌≤◌, ◌^◌, IfErr, IfOk, OnOk, length, min, unwrap_or};
+ghost use Rattle.std.specs.Prelude.{◌≡◌, ℕ, ◌<◌, ◌≤◌, ◌^◌, IfErr, IfOk, OnOk, length, unwrap_or};
 ghost use Rattle.std.specs.List.{AllByRecursion, sum_by};
 ghost use Rattle.nv_alloc.specs.Block.{numbers_of};
 ghost use Rattle.nv_base.specs.Refusals.{FailsOnly};
@@ -8,10 +8,10 @@ ghost use Rattle.nv_base.specs.declared.fault.Fault.TheVariants.{OutOfMemory};
 ghost use Rattle.nv_cell.specs.Effects.{BindOne};
 ghost use Rattle.nv_entry.specs.Sound.{blocks_of};
 ghost use Rattle.nv_calls.specs.Cells.{AreCells, state_at};
-ghost use Rattle.nv_calls.specs.Prepared.{AreReady, CanReady, HasMoreRoom, HaveMoreRoom, IsReadyBy, cell_plans, made_by, most_killed, no_handle, planned_by, plans_by};
+ghost use Rattle.nv_calls.specs.Prepared.{AreReady, CanReady, HasNoLessRoom, HaveNoLessRoom, IsReadyBy, cell_plans, made_by, no_handle, planned_by, plans_by, taken_by};
 ghost use Rattle.nv_calls.specs.Nodes.{block_in};
 ghost use Rattle.nv_calls.specs.Plan.{AreMaximal, runs_of};
-ghost use Rattle.nv_calls.specs.Ready.{ArePlaced};
+ghost use Rattle.nv_calls.specs.Ready.{ArePlaced, need_of};
 ghost use Rattle.nv_calls.specs.Slots.{items_for};
 ghost use Rattle.nv_calls.specs.Steps.{HaveBlocks};
 
@@ -133,7 +133,7 @@ fn ready_cells<C: Cells>(cells: &mut C, plans: &[CellPlan]) -> Result<(), Fault>
     requires settled { AllByRecursion (λ p. let chain = (state_at (C.cells cells.old) p.at).chain in
         chain.tail ≡ length chain.entries) plans.now }
     requires one { AllByRecursion (λ p. BindOne p.items) plans.now }
-    ensures cells { HaveMoreRoom (C.cells cells.old) (C.cells cells.new) }
+    ensures cells { HaveNoLessRoom (C.cells cells.old) (C.cells cells.new) }
     ensures ready { OnOk result (AreReady (C.cells cells.new) plans.now) }
     ensures err { FailsOnly OutOfMemory result }
     ensures places { C.places cells.new ≡ C.places cells.old }
@@ -145,39 +145,47 @@ fn ready_cells<C: Cells>(cells: &mut C, plans: &[CellPlan]) -> Result<(), Fault>
     Ok(())
 }
 
-/// How many parts the publishes of the plans kill at most, up to the greatest number.
-fn most_killed<C: Cells>(cells: &C, plans: &[CellPlan]) -> u64
+/// How many parts the publishes of the plans kill at most. `OutOfMemory` where no number is as large: there is no room
+/// for as many blocks.
+fn need_of<C: Cells>(cells: &C, plans: &[CellPlan]) -> Result<u64, Fault>
     requires { AllByRecursion (λ p. p.at < length (C.cells cells.now)) plans.now }
-    ensures { result ≡ min (most_killed (C.cells cells.now) plans.now) (2 ^ 64 - 1) }
+    ensures ok { IfOk result (λ need. need ≡ need_of (C.cells cells.now) plans.now) }
+    ensures err { FailsOnly OutOfMemory result }
 {
-    let mut most = 0u64;
+    let mut need = 0u64;
     for plan in plans {
-        let cell = cells.cell(plan.at);
-        most = most.saturating_add(cell.most_killed(&plan.items) as u64);
+        let most = cells.cell(plan.at).most_killed(&plan.items);
+        need = need.saturating_add(most as u64);
     }
-    most
+    // The greatest number stands for all that are no less.
+    if need == u64::MAX {
+        return Err(Fault::OutOfMemory);
+    }
+    Ok(need)
 }
 
-/// Makes all growths of a call, and gives what it appends, cell by cell.
+/// Makes all growths of a call, and gives what it appends, cell by cell, and how many parts that kills at most.
 fn prepare<C: Cells>(
     alloc: Global,
     cells: &mut C,
     update: &Update,
     made: &Option<Handle>,
     hand: &mut Hand,
-) -> Result<Vec<CellPlan>, Fault>
+) -> Result<(Vec<CellPlan>, u64), Fault>
     requires can { CanReady (C.cells cells.old) hand.old update.now }
     requires made { made.now ≡ made_by (C.cells cells.old) hand.old.ino update.now }
-    ensures plans { IfOk result (λ plans. plans.items
+    ensures runs { let runs = (taken_by (C.cells cells.old) hand.old update.now).runs in
+        IfOk result (λ done. AreMaximal runs × (blocks_of runs ≡ numbers_of hand.old.data.blocks)) }
+    ensures plans { IfOk result (λ done. done.0.items
         ≡ plans_by (C.cells cells.old) hand.old update.now) }
-    ensures ready { IfOk result (λ plans. AreReady (C.cells cells.new) plans.items) }
-    ensures room { IfOk result (λ plans. min (most_killed (C.cells cells.new) plans.items) (2 ^ 64 - 1)
-        ≤ hand.new.data.room) }
-    ensures blocks { IfOk result (λ plans. AllByRecursion (λ p. HaveBlocks p.items
-        (block_in (C.cells cells.old)) hand.new.data) plans.items) }
-    ensures few { IfOk result (λ plans. sum_by (λ p. length p.items) plans.items < 2 ^ 32) }
-    ensures hand { HasMoreRoom hand.old hand.new }
-    ensures cells { HaveMoreRoom (C.cells cells.old) (C.cells cells.new) }
+    ensures ready { IfOk result (λ done. AreReady (C.cells cells.new) done.0.items) }
+    ensures need { IfOk result (λ done. done.1 ≡ need_of (C.cells cells.new) done.0.items) }
+    ensures room { IfOk result (λ done. done.1 ≤ hand.new.data.room) }
+    ensures blocks { IfOk result (λ done. AllByRecursion (λ p. HaveBlocks p.items
+        (block_in (C.cells cells.old)) hand.new.data) done.0.items) }
+    ensures few { IfOk result (λ done. sum_by (λ p. length p.items) done.0.items < 2 ^ 32) }
+    ensures hand { HasNoLessRoom hand.old hand.new }
+    ensures cells { HaveNoLessRoom (C.cells cells.old) (C.cells cells.new) }
     ensures err { FailsOnly OutOfMemory result }
     ensures places { C.places cells.new ≡ C.places cells.old }
     ensures beside { C.beside cells.new ≡ C.beside cells.old }
@@ -187,14 +195,17 @@ fn prepare<C: Cells>(
     let planned = planned_by(alloc, cells, update, made, hand)?;
     let plans = cell_plans(alloc, cells, planned)?;
     ready_cells(cells, &plans)?;
-    hand.data.reserve(most_killed(cells, &plans))?;
-    Ok(plans)
+    let need = need_of(cells, &plans)?;
+    hand.data.reserve(need)?;
+    Ok((plans, need))
 }
 
 /// Makes a call ready that passed its check and holds the blocks that it takes: makes every growth of what follows, of
 /// the cells, and of the hand for the blocks that the call may set free, and settles its items.
 ///
-/// `OutOfMemory`, with the hand, where a growth was refused: then nothing has changed but room.
+/// `OutOfMemory`, with the hand, where a growth was refused: then nothing has changed but room. The time is that of the
+/// items, of the blocks that were taken, and for each cut that of the runs of pages that it takes out, where no growth
+/// moves anything.
 pub fn ready_on<C: Cells>(
     alloc: Global,
     cells: &mut C,
@@ -204,8 +215,8 @@ pub fn ready_on<C: Cells>(
     requires { CanReady (C.cells cells.old) hand plan.update }
     ensures ok { IfOk result (λ ready. IsReadyBy (C.cells cells.old) hand plan.update
         (C.cells cells.new) ready) }
-    ensures err { IfErr result (λ refused. (refused.0 ≡ OutOfMemory) × HasMoreRoom hand refused.1) }
-    ensures cells { HaveMoreRoom (C.cells cells.old) (C.cells cells.new) }
+    ensures err { IfErr result (λ refused. (refused.0 ≡ OutOfMemory) × HasNoLessRoom hand refused.1) }
+    ensures cells { HaveNoLessRoom (C.cells cells.old) (C.cells cells.new) }
     ensures places { C.places cells.new ≡ C.places cells.old }
     ensures beside { C.beside cells.new ≡ C.beside cells.old }
 {
@@ -214,7 +225,7 @@ pub fn ready_on<C: Cells>(
     let mut hand = hand;
     let prepared = prepare(alloc, cells, &update, &made, &mut hand);
     match prepared {
-        Ok(plans) => Ok(Ready::new(alloc, update, made, plans, hand)),
+        Ok((plans, need)) => Ok(Ready::new(alloc, update, made, plans, hand, need)),
         Err(fault) => Err((fault, hand)),
     }
 }

@@ -1,10 +1,10 @@
 //! A call that is ready to be committed.
 
-ghost use Rattle.std.specs.Prelude.{◌≡◌, ◌-◌, ◌<◌, ◌^◌, length, min, []};
+ghost use Rattle.std.specs.Prelude.{◌≡◌, ◌<◌, length, []};
 ghost use Rattle.nv_calls.specs.Commit.{begun};
-ghost use Rattle.nv_calls.specs.Ready.{ArePlaced, need_of, plan_at};
+ghost use Rattle.nv_calls.specs.Ready.{plan_at};
 
-use crate::{Cells, Commit, Stamp, Update};
+use crate::{Commit, Stamp, Update};
 use nv_alloc::Hand;
 use nv_base::Handle;
 use nv_cell::KilledPart;
@@ -38,6 +38,7 @@ pub struct Ready {
     // By rising place of the cells.
     pub(crate) plans: Vec<CellPlan>,
     pub(crate) hand: Hand,
+    pub(crate) need: u64,
 }
 
 impl Model for Ready {
@@ -50,6 +51,7 @@ impl Model for Ready {
       made = r.made;
       plans = r.plans.items;
       hand = r.hand;
+      need = r.need;
     } };
 }
 
@@ -69,11 +71,13 @@ impl Ready {
         made: Option<Handle>,
         plans: Vec<CellPlan>,
         hand: Hand,
+        need: u64,
     ) -> Ready
         ensures update { result.update ≡ update }
         ensures made { result.made ≡ made }
         ensures plans { result.plans ≡ plans.items }
         ensures hand { result.hand ≡ hand }
+        ensures need { result.need ≡ need }
     {
         Ready {
             alloc,
@@ -81,6 +85,7 @@ impl Ready {
             made,
             plans,
             hand,
+            need,
         }
     }
 
@@ -94,6 +99,7 @@ impl Ready {
             made: _,
             plans: _,
             hand,
+            need: _,
         } = self;
         hand
     }
@@ -106,7 +112,7 @@ impl Ready {
     }
 
     /// How many cells get entries.
-    pub fn cells(&self) -> usize
+    pub fn planned(&self) -> usize
         ensures { result ≡ length self.now.plans }
     {
         self.plans.len()
@@ -121,17 +127,11 @@ impl Ready {
     }
 
     /// For how many records the commit needs room in the book, as [`nv_book::Book::enter`] is told: one for each part
-    /// that it may kill, up to the greatest number. The time is that of the items, and for each cut that of the runs of
-    /// pages that it takes out.
-    pub fn need<C: Cells>(&self, cells: &C) -> u64
-        requires { ArePlaced (C.cells cells.now) self.now.plans }
-        ensures { result ≡ min (need_of (C.cells cells.now) self.now.plans) (2 ^ 64 - 1) }
+    /// that it may kill.
+    pub fn need(&self) -> u64
+        ensures { result ≡ self.now.need }
     {
-        let mut need: usize = 0;
-        for plan in &self.plans {
-            need = need.saturating_add(cells.cell(plan.at).most_killed(&plan.items));
-        }
-        need as u64
+        self.need
     }
 
     /// Begins the commit that has this number and epoch. Takes no memory.
@@ -144,6 +144,7 @@ impl Ready {
             made,
             plans,
             hand,
+            need: _,
         } = self;
         Commit {
             alloc,

@@ -56,8 +56,8 @@ impl Receipt {
 }
 
 impl Commit {
-    /// The receipt of a commit that is done, and what the hand still holds.
-    pub(crate) fn finish(self) -> (Receipt, Hand)
+    /// The receipt of a commit whose steps are all done, and what the hand still holds. Takes no memory.
+    pub fn finish(self) -> (Receipt, Hand)
         requires { self.retired ≡ length self.plans }
         ensures receipt { result.0 ≡ receipt_of self }
         ensures hand { result.1 ≡ self.hand }

@@ -24,7 +24,7 @@ use crate::{Cells, Commit};
 use nv_book::Book;
 
 /// Appends the entries of the next cell past its tail, with pages of the log and the blocks of their pages from the
-/// call's hand. Takes no memory.
+/// call's hand. Takes no memory; the time is that of these entries and of the blocks that they take.
 pub fn append_on<C: Cells>(cells: &mut C, commit: &mut Commit)
     requires turn { commit.old.appended < length commit.old.plans }
     requires within { (to_append commit.old).at < length (C.cells cells.old) }
@@ -58,7 +58,7 @@ pub fn append_on<C: Cells>(cells: &mut C, commit: &mut Commit)
 }
 
 /// Opens a CPU's journal with the cells that get entries and their tails, where they are two or more and all entries are
-/// appended. Takes no memory.
+/// appended. Takes no memory; the time is that of at most four cells.
 pub fn open_on<C: Cells>(book: &mut Book, cells: &C, commit: &mut Commit, cpu: u64)
     requires turn { commit.old.appended ≡ length commit.old.plans }
     requires first { commit.old.published ≡ 0 }
@@ -77,7 +77,7 @@ pub fn open_on<C: Cells>(book: &mut Book, cells: &C, commit: &mut Commit, cpu: u
 }
 
 /// Publishes the entries of the next cell, which moves its tail, and keeps the parts that this kills. All entries are
-/// appended, and of two or more cells the journal is open. Takes no memory.
+/// appended, and of two or more cells the journal is open. Takes no memory; the time is that of one publish of a cell.
 pub fn publish_on<C: Cells>(cells: &mut C, commit: &mut Commit)
     requires turn { commit.old.published < length commit.old.plans }
     requires appended { commit.old.appended ≡ length commit.old.plans }
@@ -109,7 +109,7 @@ pub fn publish_on<C: Cells>(cells: &mut C, commit: &mut Commit)
 }
 
 /// Closes the journal that a commit opened, once all entries are published. From here on a new inode has its number: it
-/// leaves the call's hand. Takes no memory.
+/// leaves the call's hand. Takes no memory; the time is that of at most four cells.
 pub fn close_on(book: &mut Book, commit: &mut Commit, cpu: u64)
     requires turn { commit.old.published ≡ length commit.old.plans }
     requires journal { commit.old.journal_open ≡ true }
@@ -125,7 +125,9 @@ pub fn close_on(book: &mut Book, commit: &mut Commit, cpu: u64)
 
 /// Retires the parts that the publish of the next cell killed: each is recorded for the youngest living snapshot that
 /// holds it, or else goes out, and its block to the call's hand. A gone inode of which nothing is kept is erased, and its
-/// chain and number go to the hand. All entries are published, and the journal is closed. Takes no memory.
+/// chain and number go to the hand. All entries are published, and the journal is closed. Takes no memory; the time is
+/// that of the killed parts, each times the logarithms of the snapshots, entries and pages, and where an inode is erased
+/// that of its entries.
 pub fn retire_on<C: Cells>(book: &mut Book, cells: &mut C, commit: &mut Commit)
     requires turn { commit.old.retired < length commit.old.plans }
     requires published { commit.old.published ≡ length commit.old.plans }

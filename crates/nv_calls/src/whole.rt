@@ -39,7 +39,7 @@ fn append_all<C: Cells>(cells: &mut C, commit: &mut Commit)
     ensures places { C.places cells.new ≡ C.places cells.old }
     ensures beside { C.beside cells.new ≡ C.beside cells.old }
 {
-    for _plan in 0..commit.cells() {
+    for _plan in 0..commit.planned() {
         append_on(cells, commit);
     }
 }
@@ -67,7 +67,7 @@ fn publish_all<C: Cells>(cells: &mut C, commit: &mut Commit)
     ensures places { C.places cells.new ≡ C.places cells.old }
     ensures beside { C.beside cells.new ≡ C.beside cells.old }
 {
-    for _plan in 0..commit.cells() {
+    for _plan in 0..commit.planned() {
         publish_on(cells, commit);
     }
 }
@@ -102,7 +102,7 @@ fn publish_noted<C: Cells>(book: &mut Book, cells: &mut C, commit: &mut Commit, 
     ensures places { C.places cells.new ≡ C.places cells.old }
     ensures beside { C.beside cells.new ≡ C.beside cells.old }
 {
-    if commit.cells() < 2 {
+    if commit.planned() < 2 {
         publish_all(cells, commit);
         return;
     }
@@ -137,14 +137,17 @@ fn retire_all<C: Cells>(book: &mut Book, cells: &mut C, commit: &mut Commit)
     ensures places { C.places cells.new ≡ C.places cells.old }
     ensures beside { C.beside cells.new ≡ C.beside cells.old }
 {
-    for _plan in 0..commit.cells() {
+    for _plan in 0..commit.planned() {
         retire_on(book, cells, commit);
     }
 }
 
 /// Commits what is ready as the book's latest commit, which [`Book::enter`] gave last: all entries are appended, and then
 /// published, of two or more cells inside the CPU's journal, and what that kills is retired. Every entry has the number
-/// and the epoch of that commit. Takes no memory.
+/// and the epoch of that commit. Takes no memory; the time is that of its steps: of the entries, the blocks that they take
+/// and the parts that they kill, whatever else the logs hold.
+///
+/// [`crate::laws::what_is_ready_can_be_committed`] gives what it asks, of what was made ready and of what its caller knows.
 pub fn commit_on<C: Cells>(
     book: &mut Book,
     cells: &mut C,

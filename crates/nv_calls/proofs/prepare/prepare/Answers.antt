@@ -37,8 +37,8 @@ ready_cells-requires-clause-one g c =
     subst (AllByRecursion (λ (p : CellPlanValue). BindOne p.items)) (sym is) (planned_one cells c.args.hand.now c.args.update.now c.requires.can (omega (arith, c.block_in-block.ensures.value, c.block_in-block.ensures.some)) c.in_ok-planned.ensures.runs.0
     c.in_ok-planned.ensures.runs.1)
 
-pub most_killed-requires : goal.most_killed-requires
-most_killed-requires g c =
+pub need_of-requires : goal.need_of-requires
+need_of-requires g c =
     let cells = g.C.Cells.cells c.args.cells.now in
     let is : c.deref-2.result.now ≡ plans_by cells c.args.hand.now c.args.update.now = c.deref-2.ensures.value ∙ c.in_ok-plans.ensures ∙ ap (λ (plan : List Planned). cell_plans plan 0 cells) c.in_ok-planned.ensures.ok in
     let within : AllByRecursion (λ (p : CellPlanValue). p.at < length (g.C.Cells.cells c.ready_cells.new.cells))
