@@ -6,13 +6,14 @@ use Rattle.std.proofs.lemmas.List.{drop-drop}
 use Rattle.std.proofs.lemmas.List.{length-replicate}
 use borrow.Rule.Slice.PartMut.{put_mid}
 use Rattle.nv_alloc.specs.Block.{BlockValue}
-use Rattle.nv_calls.specs.Filling.{old_page, overlaid}
+use Rattle.nv_cell.specs.Pages.{slot_bytes}
+use Rattle.nv_calls.specs.Filling.{overlaid}
 
 pub on_ok : {T E : Type 0} (r : Result T E) (P Q : Type 0) → (P → Q) → OnOk r P → OnOk r Q
 on_ok (Ok x) P Q f h = f h
 on_ok (Err e) P Q f h = h
 
-pub old_len : (n : ℕ) (page : Option BlockValue) → ForSome page (λ b. length b.bytes ≡ n) → length (old_page n page) ≡ n
+pub old_len : (n : ℕ) (page : Option BlockValue) → ForSome page (λ b. length b.bytes ≡ n) → length (slot_bytes n page) ≡ n
 old_len n None h = length-replicate n 0
 old_len n (Some b) h = h b refl
 

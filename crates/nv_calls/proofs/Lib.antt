@@ -8,6 +8,9 @@ pub mod CellPlans
 pub mod Commits
 pub mod Composed
 pub mod Effective
+pub mod FillChecked
+pub mod FillFresh
+pub mod FillPages
 pub mod Fills
 pub mod Grown
 pub mod Fitting

@@ -94,7 +94,7 @@ own_is bytes cell handle is are = go (handle.generation == cell.generation) (val
   go true (Some (datum.Node to)) = refl
   go true (Some (datum.Block number)) = refl
 
-found_has : (bytes : ℕ → List ℕ) (block : ℕ) (cells : List (ℕ × CellValue)) (ino : ℕ) (c : CellValue) → HaveBytes bytes block cells
+pub found_has : (bytes : ℕ → List ℕ) (block : ℕ) (cells : List (ℕ × CellValue)) (ino : ℕ) (c : CellValue) → HaveBytes bytes block cells
     → cell_of cells ino ≡ Some c → HasBytes bytes block c.state
 found_has bytes block [] ino c all h = cc
 found_has bytes block (x ∷ cells) ino c all h = go (x.0 == ino) h (found_has bytes block cells ino c all.1) where

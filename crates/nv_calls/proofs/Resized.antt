@@ -19,11 +19,11 @@ length-resized size bytes =
     let zeros : List ℕ = replicate (size - length bytes) 0 in
     omega (arith, length-take size (bytes ++ zeros), length-append bytes zeros, length-replicate {A = ℕ} (size - length bytes) 0)
 
-resized-below : (size : ℕ) (bytes : List ℕ) (k : ℕ) → k < size → slice_index_or (resized size bytes) k 0 ≡ slice_index_or bytes k 0
+pub resized-below : (size : ℕ) (bytes : List ℕ) (k : ℕ) → k < size → slice_index_or (resized size bytes) k 0 ≡ slice_index_or bytes k 0
 resized-below size bytes k lt =
     get_or-take size (bytes ++ replicate (size - length bytes) 0) k 0 lt ∙ padded (size - length bytes) bytes k
 
-resized-past : (size : ℕ) (bytes : List ℕ) (k : ℕ) → size ≤ k → slice_index_or (resized size bytes) k 0 ≡ 0
+pub resized-past : (size : ℕ) (bytes : List ℕ) (k : ℕ) → size ≤ k → slice_index_or (resized size bytes) k 0 ≡ 0
 resized-past size bytes k le = get_or_past (resized size bytes) k 0 (omega (arith, length-resized size bytes))
 
 -- a byte of a page whose bytes are all 0

@@ -3,6 +3,7 @@ pub mod CanCommit
 pub mod Cells
 pub mod Commit
 pub mod Committed
+pub mod FillPages
 pub mod Filling
 pub mod Lawful
 pub mod Locked

@@ -27,7 +27,7 @@ impl<'a, C: Cells> HeldNodes<'a, C> {
     }
 
     /// The cell of an inode.
-    fn cell_of(&self, ino: Ino) -> Option<&InodeCell>
+    pub(crate) fn cell_of(&self, ino: Ino) -> Option<&InodeCell>
         ensures { option_map (λ cell. cell.now) result ≡ cell_of (C.cells self.now.cells.now) ino }
     {
         for k in 0..self.cells.count() {
