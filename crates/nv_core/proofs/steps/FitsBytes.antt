@@ -136,7 +136,8 @@ module _ (bytes : ℕ → List ℕ) (block : ℕ) (s : Shared) (is : IsRead byte
     passed = subst (λ (nodes : Handle → Option PlainNode). refusal block (node_in nodes) r.call ≡ passes) (sym nodes_are) p.passes
 
     ready : IsReady bytes block (settled_slots s) (node_in (node_under bytes block (settled_slots s))) taken r.call
-    ready = subst (λ (nodes : Handle → Option PlainNode). IsReady bytes block (settled_slots s) (node_in nodes) taken r.call) (sym nodes_are)
+    ready = subst (λ (nodes : Handle → Option PlainNode). IsReady bytes block (settled_slots s) (node_in nodes) taken r.call)
+        (sym nodes_are)
         (is_ready bytes block (settled_slots s) (node_in (settled_nodes s)) r.made d.fresh (stored_read d.fresh d.at) r.call p.free
         d.drawn.filled)
 
@@ -164,7 +165,8 @@ module _ (bytes : ℕ → List ℕ) (block : ℕ) (s : Shared) (is : IsRead byte
     abbrev Node : Handle → Option NodeCopy
     Node = node_in (node_under bytes block (settled_slots s))
 
-    held_one : (q : Planned) → IsOfNode Node (makes_inode (beginning r.call)) r.made q → IsLocked (length s.cells) r.slots q.handle → IsHeld q
+    held_one : (q : Planned) → IsOfNode Node (makes_inode (beginning r.call)) r.made q → IsLocked (length s.cells) r.slots q.handle
+        → IsHeld q
     held_one q (inl new) lock = lock (subst (λ (h : Handle). h.ino < length s.cells) (sym new.1) (p.inside new.0))
     held_one q (inr there) lock = lock (inside q.handle there)
 

@@ -115,7 +115,8 @@ entries_stored (e ∷ entries) bs cell front none =
     (all_both (IsIn now) (take k bs) (drop k bs)
     (all_to (IsIn one) (IsIn now) (λ b m. (m.0, (entries_wider entries (drop k bs) one).blocks m.0 b m.1)) (take k bs)
     (one_stored e e.item refl (take k bs) cell (first_blocks e.item (items_in entries) bs front)))
-    (entries_stored entries (drop k bs) one (later_blocks e.item (items_in entries) bs front) (later_rest e.item (items_in entries) bs front ∙ none)))
+    (entries_stored entries (drop k bs) one (later_blocks e.item (items_in entries) bs front)
+    (later_rest e.item (items_in entries) bs front ∙ none)))
 
 -- ---- a retire
 

@@ -152,7 +152,8 @@ module _ (g : GeometryNumbers) (a : ℕ) (s : Shared) (h : HandState) (r : Runni
         low_ : slot_at (written_slots r) place < length s.cells
         low_ = written_inside (length s.cells) r place (slots_of_cells (Publish place) st) st.kept.before.inside
 
-        noted : (b : Bool) → b ≡ true → IsNotedIf b s (a % length s.lists) (written_slots r) → HasNoted s (a % length s.lists) (written_slots r)
+        noted : (b : Bool) → b ≡ true → IsNotedIf b s (a % length s.lists) (written_slots r) → HasNoted s (a % length s.lists)
+            (written_slots r)
         noted true e n = n
         noted false e n = cc
 
@@ -160,15 +161,18 @@ module _ (g : GeometryNumbers) (a : ℕ) (s : Shared) (h : HandState) (r : Runni
         same = same_stored s t_ r.slots (length-set s.cells slot_ (published (cell_at s slot_)))
             (same_nodes s t_ ((kept_turn (Publish place) g.block a true s h r st.kept).1
             (ap (λ (b : Bool). keeps_nodes (if b then Nothing else Commits)) several)).nodes)
-            (publish_logs s slot_ (a % length s.lists) (written_slots r) low_ (noted (nat_lt 1 (length (written_slots r))) several st.kept.knows.2)
+            (publish_logs s slot_ (a % length s.lists) (written_slots r) low_
+            (noted (nat_lt 1 (length (written_slots r))) several st.kept.knows.2)
             (written_there r place st.kept.before.inside))
             (wider_cells s slot_ (published (cell_at s slot_)) low_ (record { generation = refl; block = refl; blocks = λ n b e. e }))
 
   logs_at_check : Own g Check a s h r → (ino : ℕ) → has r.slots ino ≡ true → settled s ino ≡ log_of (cell_at s ino)
-  logs_at_check st ino held = logs_of Check s a r st.grown ino refl refl (owner_is a (owner_at s ino) (st.kept.before.mine.owners ino ∙ held))
+  logs_at_check st ino held = logs_of Check s a r st.grown ino refl refl
+      (owner_is a (owner_at s ino) (st.kept.before.mine.owners ino ∙ held))
 
   logs_at_ready : Own g Ready a s h r → (ino : ℕ) → has r.slots ino ≡ true → settled s ino ≡ log_of (cell_at s ino)
-  logs_at_ready st ino held = logs_of Ready s a r st.grown ino refl refl (owner_is a (owner_at s ino) (st.kept.before.mine.owners ino ∙ held))
+  logs_at_ready st ino held = logs_of Ready s a r st.grown ino refl refl
+      (owner_is a (owner_at s ino) (st.kept.before.mine.owners ino ∙ held))
 
   pub own_turn : (k : Next) (granted : Bool) → Own g k a s h r → OnFits g.block (kind_turn k g.block a granted s h r)
   own_turn Number granted st = number_fits g.block s.pool.numbers s h r (ap (λ (x : HandState). x.ino) st.at.0)

@@ -69,7 +69,12 @@ module _ (s : Shared) (locked : List ℕ) (logs : (ino : ℕ) → has locked ino
       (node_by (cell_at s handle.ino) log) None) (log_here handle is)
 
   pub same_now : SameFor (now s) (view s) locked
-  same_now = record { many = refl; nodes = node_here; slots = λ handle is. slot_log (cell_at s handle.ino).generation _ _ (log_here handle is) }
+  same_now = record {
+    many = refl;
+    nodes = node_here;
+    slots = λ handle is. slot_log (cell_at s handle.ino).generation _ _
+        (log_here handle is);
+  }
 
   pub same_then : SameFor (view s) (now s) locked
   same_then = record {
@@ -265,13 +270,15 @@ module _ (block : ℕ) (s : Shared) (r : Running) (slot : ℕ) (there : has (wri
 
   several : 1 < length r.plan → plan_blocks r.plan ≡ []
   several lt =
-      let k : KeepsToIts (node_in (settled_nodes s)) r.call taken (plan block (node_in (settled_nodes s)) taken r.call) = keeps_to_its block (node_in (settled_nodes s)) taken r.call in
+      let k : KeepsToIts (node_in (settled_nodes s)) r.call taken
+      (plan block (node_in (settled_nodes s)) taken r.call) = keeps_to_its block (node_in (settled_nodes s)) taken r.call in
       ap plan_blocks d.plan ∙ k.several (subst (λ (l : List Planned). 1 < length l) d.plan lt)
 
   pub all_in : AllByRecursion (IsIn new) blocks
   all_in = elim (all_blocks r.plan (numbers_of blocks) slot plan_has several (filtered (is_written r.plan) r.slots slot there)) [
     | inl none ↦ nothing blocks none
-    | inr all ↦ entries_stored (entries_for r slot) blocks old (record { rest = []; is = all ∙ sym (ap (flat_map item_blocks) items) ∙ sym (append-nil _) }) refl
+    | inr all ↦ entries_stored (entries_for r slot) blocks old
+        (record { rest = []; is = all ∙ sym (ap (flat_map item_blocks) items) ∙ sym (append-nil _) }) refl
   ] where
     items : items_in (entries_for r slot) ≡ items_for r.plan slot
     items = entries-items r.commit r.epoch (place_in r.plan slot) (items_for r.plan slot)

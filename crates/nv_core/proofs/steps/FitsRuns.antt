@@ -134,7 +134,8 @@ module _ (bytes : ℕ → List ℕ) (block : ℕ) (slots : ℕ → Slot) (nodes 
         → bytes (slice_index_or (numbers_of fresh) place 0) ≡ slice_index_or (fresh_pages block nodes c) place []
     page_read place lt same =
         ap (λ (l : List BlockValue). bytes (slice_index_or (numbers_of l) place 0)) f.is
-        ∙ filled_at bytes (fresh_pages block nodes c) f.before place (omega (arith, lt, long)) (long ∙ same) (subst (AreRead bytes) f.is read)
+        ∙ filled_at bytes (fresh_pages block nodes c) f.before place (omega (arith, lt, long)) (long ∙ same)
+        (subst (AreRead bytes) f.is read)
 
   write_text : (file : Handle) (offset : ℕ) (text : List ℕ) → AreFilled block nodes false (call.Write file offset text) fresh
       → 0 < length text → HaveText bytes block offset text (bytes_of (nodes file)) (blocks_of (runs_of (numbers_of fresh)))

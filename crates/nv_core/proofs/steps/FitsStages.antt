@@ -94,7 +94,8 @@ module _ (block : ℕ) (v w : View) (c : Call) (seen : Looked) (new : Handle) (l
   agree = agree_on v w locked same (handles seen c) (all_after (IsLocked v.many locked) (made_by new c) (handles seen c) p.covers)
 
   same_call : (taken : Taken) → SameCall block v.nodes w.nodes taken c
-  same_call taken = call_same block v.nodes w.nodes taken c (subst (λ (l : Looked). Agree v.nodes w.nodes (handles l c)) (sym p.found) agree)
+  same_call taken = call_same block v.nodes w.nodes taken c (subst (λ (l : Looked). Agree v.nodes w.nodes (handles l c))
+      (sym p.found) agree)
 
   abbrev nothing_taken : Taken
   nothing_taken = record { made = new; runs = []; present = false }
