@@ -55,3 +55,5 @@ pub mod PoolCommits
 pub mod PoolSteps
 pub mod PoolRuns
 pub mod PoolLaw
+pub mod PoolHands
+pub mod PoolRows
