@@ -67,3 +67,5 @@ pub mod PoolSteps
 pub mod PoolRuns
 pub mod PoolLaw
 pub mod FitsPooled
+pub mod PoolHands
+pub mod PoolRows

@@ -118,6 +118,13 @@ pub fn pool_is_from_scratch()
         → (after (formatted g) events).shared.pool.numbers ≡ pool_from_scratch g (after (formatted g) events) }
 {}
 
+/// No two hands have one inode number; with [`pool_is_from_scratch`], none that a hand has is in the pool.
+pub fn hands_have_own_numbers()
+    ensures { (g : GeometryNumbers) (events : List Event) (actor other ino : ℕ) → IsWithinLimits g
+        → (actor_at (after (formatted g) events) actor).hand.ino ≡ Some ino
+        → (actor_at (after (formatted g) events) other).hand.ino ≡ Some ino → actor ≡ other }
+{}
+
 /// An actor without a call has an empty hand and no lock, also where its last call was refused: with
 /// [`blocks_stand_once`], the blocks that it took and did not place are in the free lists again.
 pub fn idle_hands_are_empty()
