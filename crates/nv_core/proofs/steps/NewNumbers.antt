@@ -29,7 +29,7 @@ use Rattle.nv_core.proofs.steps.Sorted.{less_free}
 -- ---- how often a number stands in ranges that go on from one another
 
 -- once if it is below
-abbrev below : ℕ → ℕ → ℕ
+abbrev pub below : ℕ → ℕ → ℕ
 below n end = if nat_lt n end then 1 else 0
 
 one_more : (n a : ℕ) → below n a + times n (a ∷ []) ≡ below n (a + 1)

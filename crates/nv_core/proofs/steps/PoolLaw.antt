@@ -2,7 +2,7 @@
 use Rattle.std.proofs.Common.{◌≡◌, inl, inr, ℕ, zero, suc, ◌+◌, ◌-◌, ◌<◌, ◌≤◌, ◌==◌, ◌∙◌, Bool, true, false, cond, List, [], ◌∷◌, Option, Some, None, ap, ap₂, arith, if◌then◌else◌, nat_lt, not, refl, replicate, subst, sym}
 use Rattle.std.specs.Prelude.{◌&&◌, ◌||◌, nat_le, slice_index_or}
 use Rattle.std.specs.List.{flat_map}
-use Rattle.std.proofs.lemmas.Bool.{cases_lt, eqb-true, false≢true, le-leb, le-ltb, lt-ltb, true≢false}
+use Rattle.std.proofs.lemmas.Bool.{cases_lt, eqb-true, false≢true, le-leb, le-ltb, lt-ltb, or_parts}
 use Rattle.std.proofs.lemmas.List.Folds.{list_any-append}
 use Rattle.nv_alloc.specs.Numbers.{has, times}
 use Rattle.nv_alloc.proofs.FromScratch.{from_scratch}
@@ -20,7 +20,7 @@ use Rattle.nv_core.specs.machine.Step.{after}
 use Rattle.nv_core.specs.machine.World.{Actor, Event, Running, World, actor_at, cell_at, idle, no_cell}
 use Rattle.nv_core.proofs.steps.FromScratch.{all_numbers, counted, none_true, not_counted}
 use Rattle.nv_core.proofs.steps.Locks.{all_same, many_same}
-use Rattle.nv_core.proofs.steps.NewNumbers.{range_rising, range_times}
+use Rattle.nv_core.proofs.steps.NewNumbers.{below, range_rising, range_times}
 use Rattle.nv_core.proofs.steps.PoolCells.{no_inode, not_taken, taken_once}
 use Rattle.nv_core.proofs.steps.PoolCommits.{begun_inode}
 use Rattle.nv_core.proofs.steps.PoolKnown.{SeesOf}
@@ -45,10 +45,6 @@ new_taken g zero = refl
 new_taken g (suc n) =
     let none : nat_lt (suc n) 1 ≡ false = le-ltb (suc n) 1 (omega arith) in
     empty_taken g (g.inodes - 1) n ∙ sym (rw none refl)
-
--- one if it is below
-abbrev below : ℕ → ℕ → ℕ
-below n end = if nat_lt n end then 1 else 0
 
 new_pooled : (g : GeometryNumbers) → IsWithinLimits g → ArePooled g (formatted g)
 new_pooled g within =
@@ -143,9 +139,10 @@ in_pool g w n locks all grown pooled inside = go (has w.shared.pool.numbers n) r
 
   -- none of three
   unused_parts : (a b c : Bool) → (a || b || c) ≡ false → (a ≡ false) × (b ≡ false) × (c ≡ false)
-  unused_parts true b c e = absurd (true≢false e)
-  unused_parts false true c e = absurd (true≢false e)
-  unused_parts false false c e = (refl, refl, e)
+  unused_parts a b c e =
+      let last = or_parts (a || b) c e in
+      let first = or_parts a b last.0 in
+      (first.0, first.1, last.1)
 
   used_by : (a b c : Bool) → a ≡ false → b ≡ false → c ≡ false → (a || b || c) ≡ false
   used_by a b c p q r = rw (p, q, r) refl

@@ -1,7 +1,8 @@
 -- A step moves inode numbers between the pool, the hand and the slots: each stands as often as before.
-use Rattle.std.proofs.Common.{◌≡◌, ◌≢◌, ℕ, ◌+◌, ◌<◌, ◌≤◌, ◌==◌, ◌∙◌, Bool, true, false, cond, List, [], ◌∷◌, Option, Some, None, ap, arith, length, map, refl, subst, sym, take}
+use Rattle.std.proofs.Common.{◌≡◌, ◌≢◌, ℕ, ◌+◌, ◌<◌, ◌≤◌, ◌==◌, ◌∙◌, Bool, true, false, cond, List, [], ◌∷◌, Option, Some, None, ap, arith, length, refl, subst, sym, take}
 use Rattle.std.specs.Prelude.{nat_le}
 use Rattle.std.proofs.lemmas.Bool.{eqb-true}
+use Rattle.std.proofs.lemmas.List.{map-id}
 use Rattle.nv_alloc.specs.Numbers.{has, put_by, times}
 use Rattle.nv_alloc.proofs.Lists.{times-cons, times-no, times-put_by, times-yes}
 use Rattle.nv_base.specs.declared.limits.TheConstants.{NUMBER}
@@ -62,18 +63,14 @@ number_tally n (ino ∷ numbers) s h is none =
     let hand = ap (λ (o : Option ℕ). times n (if_number o)) none in
     omega (arith, all, hand, times-cons n ino numbers)
 
-same_map : (xs : List ℕ) → map (λ n. n) xs ≡ xs
-same_map [] = refl
-same_map (x ∷ xs) = ap (λ (l : List ℕ). x ∷ l) (same_map xs)
-
 back_tally : (n : ℕ) (number : Option ℕ) (s : Shared) (h : HandState) → h.ino ≡ number
     → tally n (back_deed number s h).shared (if_number (back_deed number s h).hand.ino) ≡ tally n s (if_number h.ino)
 back_tally n None s h is = refl
 back_tally n (Some ino) s h is =
     let numbers = s.pool.numbers in
     let hand = ap (λ (o : Option ℕ). times n (if_number o)) is in
-    let put = ap (times n) (sym (same_map (put_by (λ m. m) ino numbers))) ∙ times-put_by (λ m. m) n ino numbers
-    ∙ ap (λ (l : List ℕ). times n (ino ∷ l)) (same_map numbers) in
+    let put = ap (times n) (sym (map-id (put_by (λ m. m) ino numbers))) ∙ times-put_by (λ m. m) n ino numbers
+    ∙ ap (λ (l : List ℕ). times n (ino ∷ l)) (map-id numbers) in
     omega (arith, hand, put, times-cons n ino numbers)
 
 -- ---- retire: an erased inode's number goes to the hand, or is withheld
