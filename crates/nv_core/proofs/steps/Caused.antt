@@ -1,5 +1,5 @@
 -- Each refusal has its cause at the step that refuses.
-use Rattle.std.proofs.Common.{◌≡◌, ℕ, zero, suc, ◌+◌, ◌-◌, ◌<◌, ◌≤◌, ◌⊎◌, inl, inr, Bool, true, false, ◌&&◌, ◌||◌, not, List, [], ◌∷◌, Option, Some, None, ap, arith, length, nat_le, nat_lt, refl, sym, ◌∙◌}
+use Rattle.std.proofs.Common.{◌≡◌, ℕ, zero, suc, ◌+◌, ◌-◌, ◌<◌, ◌≤◌, ◌⊎◌, inl, inr, Bool, true, false, ◌&&◌, ◌||◌, not, List, [], ◌∷◌, Option, Some, None, ap, arith, length, nat_le, nat_lt, refl, subst, sym, ◌∙◌}
 use Rattle.std.specs.Prelude.{Result, Ok, Err}
 use Rattle.std.proofs.lemmas.Bool.{leb-true, ltb-false}
 use Rattle.nv_base.specs.declared.fault.Fault.{Fault}
@@ -10,7 +10,7 @@ use Rattle.nv_calls.specs.Plain.{Change}
 use Rattle.nv_calls.specs.Refusals.{Check as Tests, and_then}
 use Rattle.nv_calls.specs.declared.answer.Answer.{Answer}
 use Rattle.nv_calls.specs.declared.looked.Looked.{Looked}
-use Rattle.nv_core.specs.machine.Causes.{EndsFor, IsAtLimit, IsCause, IsDenied, IsLastRound, IsOvertaken, IsRefusal, IsShort, IsWithoutNumber, RefusesFor, ResultFor}
+use Rattle.nv_core.specs.machine.Causes.{EndsFor, IsAtLimit, IsCause, IsDenied, IsLastRound, IsOvertaken, IsRefusal, IsRoundless, IsShort, IsWithoutNumber, RefusesFor, ResultFor}
 use Rattle.nv_core.specs.machine.Kinds.{again_turn, asked_list, back_turn, blocks_in, blocks_turn, check_ending, check_turn, end_turn, enter_turn, give_turn, grown, lock_turn, look_tests, look_turn, number_turn, over_turn, pages_turn, rest_turn, unlocked_turn, visit_turn, wants_blocks, wants_pages}
 use Rattle.nv_core.specs.machine.Reads.{copies, home_from, slots_of, written_slots}
 use Rattle.nv_core.specs.machine.Sequence.{appending, beginning, locking, looking, publishing, retiring}
@@ -222,3 +222,16 @@ caused (Give cpu) block actor granted s h r e = rest_unrefused _ _ h.ino _ _ r e
 caused Back block actor granted s h r e = back_caused _ h.ino s h r e
 caused Visit block actor granted s h r e =
     visit_caused _ (refusal block (copies s) r.call) block actor _ granted _ s h r refl (no_growth granted (visit_grows r.call))
+
+-- ---- the last unlock of a call that was overtaken
+
+unlocked_contended : (more : Bool) (e : Ending) (place : ℕ) (s : Shared) (h : HandState) (r : Running) → r.ending ≡ e → e ≡ Overtaken
+    → RefusesFor (IsRoundless r) (unlocked_turn more place s h r)
+unlocked_contended true e place s h r is over = subst (EndsFor (IsRoundless r) (Unlock (place + 1))) (sym (is ∙ over)) tt
+unlocked_contended false e place s h r is over =
+    subst (λ x. RefusesFor (IsRoundless r) (over_turn x s h r)) (sym (is ∙ over))
+    (again_caused (IsRoundless r) r.rounds s h r (λ none. (refl, none)))
+
+pub contended : (place block actor : ℕ) (granted : Bool) (s : Shared) (h : HandState) (r : Running) → r.ending ≡ Overtaken
+    → RefusesFor (IsRoundless r) (kind_turn (Unlock place) block actor granted s h r)
+contended place block actor granted s h r over = unlocked_contended _ r.ending place _ h r refl over

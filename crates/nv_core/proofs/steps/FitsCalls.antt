@@ -18,8 +18,7 @@ use Rattle.nv_calls.specs.declared.plan.Planned.{Planned}
 use Rattle.nv_calls.specs.declared.taken.Taken.{Taken}
 use Rattle.nv_calls.proofs.Commits.{handle-same}
 use Rattle.nv_calls.proofs.Keeps.{bound_none, cut_blocks-are, leave_none, write_blocks-are}
-use Rattle.nv_calls.proofs.Passed.{IsThere, both_passed, directory_passed, file_passed, look_passed, node_passed, there}
-use Rattle.nv_calls.proofs.fits.Rename.{elsewhere, moved_passed, names_passed}
+use Rattle.nv_calls.proofs.Passed.{IsThere, both_passed, directory_passed, elsewhere, file_passed, look_passed, moved_passed, names_passed, node_passed, there}
 use Rattle.nv_entry.specs.Sound.{blocks_of}
 use Rattle.std.proofs.lemmas.List.{append-nil}
 use Rattle.nv_entry.specs.declared.node.NodeCopy.{NodeCopy}
@@ -83,8 +82,8 @@ module _ (bytes : ℕ → List ℕ) (block : ℕ) (slots : ℕ → Slot) (taken 
   bound_there true from old to new bound other is f t h = tt
   bound_there false from old to new None other is f t h = tt
   bound_there false from old to new (Some moved) other is f t h =
-      let m = moved_passed bytes block slots some from old to new moved other
-      (elsewhere bytes block slots some from old to new (own_place from old to new) (moved_refusal nodes from to other moved) is h) in
+      let m = moved_passed block nodes from old to new moved other
+      (elsewhere (own_place from old to new) (moved_refusal nodes from to other moved) is h) in
       move_there (same_handle from to) from old to new moved (replaced_plan other) f t (replaced_there (kind_of (nodes moved)) other m.1)
 
   write_there : (file : Handle) (offset : ℕ) (text : List ℕ) → refusal block nodes (call.Write file offset text) ≡ passes
@@ -111,7 +110,7 @@ module _ (bytes : ℕ → List ℕ) (block : ℕ) (slots : ℕ → Slot) (taken 
       leave_there dir name (found nodes dir name) _ (there Dir (nodes dir) (look_passed nodes dir name both.0).0)
       (λ to next. there Dir (nodes to) (directory_passed (nodes to) _ next).0) both.1
   planned_there (call.Rename from old to new) h =
-      let names = names_passed bytes block slots some from old to new h in
+      let names = names_passed block nodes from old to new h in
       bound_there (own_place from old to new) from old to new (found nodes from old) (found nodes to new) refl
       (there Dir (nodes from) names.0) (there Dir (nodes to) names.1) names.4
 

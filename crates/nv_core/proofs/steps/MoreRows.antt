@@ -169,3 +169,28 @@ block_free = refl
 
 page_free : free_count (played (formatted device) (two_takings 4)).shared ≡ 12
 page_free = refl
+
+-- ---- a second round passes: a name is bound anew after the first look only, and what the second finds is what is unlinked
+
+abbrev pub two_rounds : List Line
+two_rounds =
+    DoCall 0 (call.Create (handle 0 1) (97 ∷ []) 420)
+    ∷ DoCall 0 (call.Create (handle 0 1) (98 ∷ []) 420)
+    ∷ unlink_a
+    ∷ Goes 0 1
+    ∷ DoCall 1 (call.Unlink (handle 0 1) (97 ∷ []))
+    ∷ DoCall 1 (call.Rename (handle 0 1) (98 ∷ []) (handle 0 1) (97 ∷ []))
+    ∷ Goes 0 5
+    ∷ []
+
+-- the inode that had the name first is gone, and the other one is there
+second_round : play (formatted device) (
+    two_rounds
+    ++ DoCall 1 (call.Stat (handle 2 1))
+    ∷ Goes 0 99
+    ∷ DoCall 1 (call.Stat (handle 2 1))
+    ∷ DoCall 1 (call.Lookup (handle 0 1) (97 ∷ []))
+    ∷ [])
+    ≡ Done (answer.Made (handle 1 1)) ∷ Done (answer.Made (handle 2 1)) ∷ Started ∷ Moved ∷ Done answer.Nothing ∷ Done answer.Nothing
+    ∷ Moved ∷ Done (answer.Stat File 420 0 2) ∷ Done answer.Nothing ∷ Refused fault.Stale ∷ Refused fault.Missing ∷ []
+second_round = refl

@@ -44,6 +44,10 @@ IsOvertaken s r = same_looked (looked (copies s) r.call) r.looked ≡ false
 abbrev pub IsLastRound : Shared → Running → Fault → Type 0
 IsLastRound s r fault = (fault ≡ Contended) × IsOvertaken s r × (r.slots ≡ []) × (r.rounds ≡ 0)
 
+-- no round of looks is left
+abbrev pub IsRoundless : Running → Fault → Type 0
+IsRoundless r fault = (fault ≡ Contended) × (r.rounds ≡ 0)
+
 -- for what each step refuses its call; the others refuse nothing
 abbrev pub IsCause : Next → ℕ → ℕ → Bool → Shared → HandState → Running → Fault → Type 0
 IsCause (Look place) block actor granted s h r fault = look_refusal (copies s) r.call ≡ Err fault

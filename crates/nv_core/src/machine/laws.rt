@@ -13,7 +13,7 @@ ghost use Rattle.nv_calls.specs.declared.call.Call.{Call};
 ghost use Rattle.nv_core.specs.machine.Bound.{AreNoStarts, bound_at, most_steps, moves};
 ghost use Rattle.nv_entry.specs.Sound.{IsSound};
 ghost use Rattle.nv_core.specs.machine.Answered.{GoesTo, IsFinal, IsToEnd};
-ghost use Rattle.nv_core.specs.machine.Causes.{IsCause, RefusesFor};
+ghost use Rattle.nv_core.specs.machine.Causes.{IsCause, IsRoundless, RefusesFor};
 ghost use Rattle.nv_core.specs.machine.Effects.{AreSound, HasPlanNow};
 ghost use Rattle.nv_core.specs.machine.FitsNow.{bytes_in};
 ghost use Rattle.nv_core.specs.machine.Format.{formatted};
@@ -30,8 +30,8 @@ ghost use Rattle.nv_core.specs.machine.PlainRun.{Commits, Plain, deed_of, keeps_
 ghost use Rattle.nv_core.specs.machine.Reads.{written_slots};
 ghost use Rattle.nv_core.specs.machine.Sequence.{Visits, beginning};
 ghost use Rattle.nv_core.specs.machine.Settled.{settled, settled_nodes};
-ghost use Rattle.nv_core.specs.machine.Step.{after, stays, step, turn};
-ghost use Rattle.nv_core.specs.machine.World.{Answers, Ending, Event, Go, HandState, Refused, Running, Shared, Start, Started, Waiting, World, actor_at, cell_at, list_at};
+ghost use Rattle.nv_core.specs.machine.Step.{after, kind_turn, stays, step, turn};
+ghost use Rattle.nv_core.specs.machine.World.{Answers, Ending, Event, Go, HandState, Overtaken, Refused, Running, Shared, Start, Started, Unlock, Waiting, World, actor_at, cell_at, list_at};
 
 /// A `Go` of an actor whose call runs makes the one step that comes next, and changes only its actor and the
 /// parts that the step is lent. A start changes its actor alone: one without a call has the call now, before its
@@ -267,7 +267,10 @@ pub fn the_plain_world_is_that_of_settled_logs()
 /// number is there; names were bound anew and no round is left; or memory that the step asks for was not granted. The
 /// call has only its last steps left then, which lead to that refusal ([`what_commits_is_answered`]).
 pub fn refusals_have_causes()
-    ensures { (block actor : ℕ) (granted : Bool) (s : Shared) (h : HandState) (r : Running)
+    ensures causes { (block actor : ℕ) (granted : Bool) (s : Shared) (h : HandState) (r : Running)
         → r.ending ≡ Answers
         → RefusesFor (IsCause r.next block actor granted s h r) (turn block actor granted s h r) }
+    ensures contended { (place block actor : ℕ) (granted : Bool) (s : Shared) (h : HandState) (r : Running)
+        → r.ending ≡ Overtaken
+        → RefusesFor (IsRoundless r) (kind_turn (Unlock place) block actor granted s h r) }
 {}
