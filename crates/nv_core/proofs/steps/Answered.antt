@@ -1,23 +1,20 @@
 -- A call that is to end so ends so, whatever follows; and one that has committed is to be answered.
-use Rattle.std.proofs.Common.{◌≡◌, ℕ, zero, suc, ◌+◌, ◌%◌, ◌<◌, ◌≤◌, ◌∙◌, ◌⊎◌, inl, inr, Bool, true, false, cond, List, [], ◌∷◌, Option, Some, None, ap, arith, get_or-set_same, if◌then◌else◌, length, nat_lt, refl, set, subst, sym}
-use Rattle.std.specs.Prelude.{Result, Ok, Err}
+use Rattle.std.proofs.Common.{◌≡◌, ℕ, ◌+◌, ◌%◌, ◌<◌, ◌≤◌, ◌∙◌, inl, inr, Bool, true, false, cond, List, [], ◌∷◌, Option, Some, None, ap, arith, get_or-set_same, if◌then◌else◌, length, nat_lt, refl, subst, sym}
 use Rattle.std.proofs.lemmas.Bool.{false≢true, lt-ltb, ltb-false, ltb-true}
-use Rattle.nv_base.specs.declared.fault.Fault.{Fault}
 use Rattle.nv_base.specs.declared.numbers.Handle.{Handle}
 use Rattle.nv_calls.specs.AllCalls.{answer}
 use Rattle.nv_calls.specs.Plain.{PlainNode}
-use Rattle.nv_calls.specs.declared.answer.Answer.{Answer}
 use Rattle.nv_calls.specs.declared.call.Call.{Call}
 use Rattle.nv_calls.specs.declared.call.Call.TheVariants as call
-use Rattle.nv_core.specs.machine.Answered.{GoesTo, IsFinal, IsLast, IsMovedOn, IsMovedTo, IsToEnd, answer_of}
+use Rattle.nv_core.specs.machine.Answered.{GoesTo, IsFinal, IsLast, IsMovedTo, IsToEnd, answer_of}
 use Rattle.nv_core.specs.machine.Kept.{IsKept, Knows, KnowsOf}
 use Rattle.nv_core.specs.machine.Kinds.{back_turn, end_turn, over_turn, rest_turn, result_by, unlocked_turn}
-use Rattle.nv_core.specs.machine.Locks.{AreLocks, commits_at}
-use Rattle.nv_core.specs.machine.PlainRun.{Commits, Deed, Nothing, Numbers, deed, deed_by, deed_of, entered, keeps_nodes}
+use Rattle.nv_core.specs.machine.Locks.{commits_at}
+use Rattle.nv_core.specs.machine.PlainRun.{Commits, Nothing, Numbers, deed, deed_by, deed_of, entered, keeps_nodes}
 use Rattle.nv_core.specs.machine.Reads.{written_slots}
 use Rattle.nv_core.specs.machine.Sequence.{Visits, beginning, closing, publishing, retiring}
-use Rattle.nv_core.specs.machine.Step.{Step, go_step, kind_turn, reply_of, step, turn, turned}
-use Rattle.nv_core.specs.machine.World.{Actor, Answers, Append, Back, Check, Close, Done, Ending, Ends, Enter, Give, Go, HandState, Leave, Lock, Look, Moved, Moves, Next, Number, Open, Overtaken, Publish, Ready, Refuses, Retire, Running, Shared, TakeBlocks, TakePages, Turn, Unlock, Visit, Waits, World, actor_at, go_to, idle}
+use Rattle.nv_core.specs.machine.Step.{kind_turn, reply_of, step, turn, turned}
+use Rattle.nv_core.specs.machine.World.{Actor, Answers, Append, Back, Check, Close, Ending, Ends, Enter, Give, Go, HandState, Leave, Lock, Look, Moves, Next, Number, Open, Overtaken, Publish, Ready, Refuses, Retire, Running, Shared, TakeBlocks, TakePages, Turn, Unlock, Visit, Waits, World, actor_at, go_to, idle}
 use Rattle.nv_core.proofs.steps.Events.{go_is_turn}
 
 -- a turn goes towards an end of a call

@@ -1,5 +1,5 @@
 -- What the step that comes next tells of entries that are appended and not yet settled.
-use Rattle.std.proofs.Common.{◌≡◌, ℕ, ◌<◌, ◌≤◌, ◌++◌, ◌∙◌, Bool, true, false, List, [], ◌∷◌, Some, ap, arith, drop, if◌then◌else◌, length, nat_lt, refl, sym, take}
+use Rattle.std.proofs.Common.{◌≡◌, ℕ, ◌≤◌, ◌++◌, ◌∙◌, Bool, true, false, List, [], ◌∷◌, Some, ap, arith, drop, if◌then◌else◌, length, nat_lt, refl, sym, take}
 use Rattle.std.proofs.lemmas.Bool.{ltb-false, ltb-true}
 use Rattle.nv_alloc.specs.Numbers.{has}
 use Rattle.nv_core.specs.machine.Grown.{HasGrown, fresh_entries, is_appended, is_behind}

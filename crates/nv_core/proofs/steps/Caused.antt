@@ -1,21 +1,21 @@
 -- Each refusal has its cause at the step that refuses.
-use Rattle.std.proofs.Common.{◌≡◌, ℕ, zero, suc, ◌+◌, ◌-◌, ◌<◌, ◌≤◌, ◌⊎◌, inl, inr, Bool, true, false, ◌&&◌, ◌||◌, not, List, [], ◌∷◌, Option, Some, None, ap, arith, length, nat_le, nat_lt, refl, subst, sym, ◌∙◌}
-use Rattle.std.specs.Prelude.{Result, Ok, Err}
+use Rattle.std.proofs.Common.{◌≡◌, ℕ, zero, suc, ◌+◌, ◌-◌, ◌<◌, ◌≤◌, ◌⊎◌, inl, inr, Bool, true, false, ◌||◌, not, List, [], ◌∷◌, Option, Some, None, ap, arith, length, nat_le, nat_lt, refl, subst, sym, ◌∙◌}
+use Rattle.std.specs.Prelude.{Ok, Err}
 use Rattle.std.proofs.lemmas.Bool.{leb-true, ltb-false}
 use Rattle.nv_base.specs.declared.fault.Fault.{Fault}
 use Rattle.nv_base.specs.declared.fault.Fault.TheVariants.{CommitLimit, Contended, NoInode, NoSpace, OutOfMemory}
 use Rattle.nv_base.specs.declared.limits.TheConstants.{NUMBER}
-use Rattle.nv_calls.specs.AllCalls.{answer, early, effect, late, look_refusal, looked, refusal}
+use Rattle.nv_calls.specs.AllCalls.{early, effect, late, look_refusal, looked, refusal}
 use Rattle.nv_calls.specs.Plain.{Change}
 use Rattle.nv_calls.specs.Refusals.{Check as Tests, and_then}
 use Rattle.nv_calls.specs.declared.answer.Answer.{Answer}
 use Rattle.nv_calls.specs.declared.looked.Looked.{Looked}
-use Rattle.nv_core.specs.machine.Causes.{EndsFor, IsAtLimit, IsCause, IsDenied, IsLastRound, IsOvertaken, IsRefusal, IsRoundless, IsShort, IsWithoutNumber, RefusesFor, ResultFor}
-use Rattle.nv_core.specs.machine.Kinds.{again_turn, asked_list, back_turn, blocks_in, blocks_turn, check_ending, check_turn, end_turn, enter_turn, give_turn, grown, lock_turn, look_tests, look_turn, number_turn, over_turn, pages_turn, rest_turn, unlocked_turn, visit_turn, wants_blocks, wants_pages}
+use Rattle.nv_core.specs.machine.Causes.{EndsFor, IsCause, IsRefusal, IsRoundless, IsShort, RefusesFor}
+use Rattle.nv_core.specs.machine.Kinds.{again_turn, asked_list, back_turn, blocks_in, blocks_turn, check_ending, check_turn, end_turn, enter_turn, grown, lock_turn, look_tests, look_turn, number_turn, over_turn, pages_turn, rest_turn, unlocked_turn, visit_turn, wants_blocks, wants_pages}
 use Rattle.nv_core.specs.machine.Reads.{copies, home_from, slots_of, written_slots}
 use Rattle.nv_core.specs.machine.Sequence.{appending, beginning, locking, looking, publishing, retiring}
 use Rattle.nv_core.specs.machine.Step.{ending_at, is_numbered, kind_turn, made_in, same_looked, visit_grows, with_made}
-use Rattle.nv_core.specs.machine.World.{Answers, Append, Back, Check, Close, Ending, Ends, Enter, Give, HandState, Leave, Lock, Look, Moves, Next, Number, Open, Overtaken, Publish, Ready, Refuses, Retire, Running, Shared, TakeBlocks, TakePages, Turn, Unlock, Visit, Waits, list_at}
+use Rattle.nv_core.specs.machine.World.{Answers, Append, Back, Check, Close, Ending, Ends, Enter, Give, HandState, Leave, Lock, Look, Next, Number, Open, Overtaken, Publish, Ready, Refuses, Retire, Running, Shared, TakeBlocks, TakePages, Turn, Unlock, Visit, list_at}
 
 -- ---- a call that goes on or is answered
 

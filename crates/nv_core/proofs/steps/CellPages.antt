@@ -1,17 +1,16 @@
 -- The pages of a log are read from its cell's blocks, whatever is appended, published or retired there.
-use Rattle.std.proofs.Common.{◌≡◌, ℕ, zero, suc, ◌+◌, ◌-◌, ◌<◌, ◌≤◌, ◌==◌, ◌&&◌, ◌++◌, ◌∙◌, Bool, true, false, cond, not, List, [], ◌∷◌, Option, Some, None, ap, append-nil, append_assoc, arith, drop, flat_map, get_or-set_other, get_or-set_same, length, length-append, map, nat_lt, refl, set, slice_index_or, subst, sym, take, inl, inr}
+use Rattle.std.proofs.Common.{◌≡◌, ℕ, zero, suc, ◌-◌, ◌<◌, ◌≤◌, ◌==◌, ◌&&◌, ◌++◌, ◌∙◌, Bool, true, false, cond, not, List, [], ◌∷◌, Option, Some, None, ap, arith, drop, flat_map, length-append, nat_lt, refl, slice_index_or, subst, sym, take, inl, inr}
 use Rattle.std.specs.Prelude.{option_and_then}
 use Rattle.std.specs.List.{range_with_len}
 use Rattle.std.specs.Option.{option_map}
 use Rattle.std.proofs.Math.Path.{fun_ext}
-use Rattle.std.proofs.lemmas.Bool.{cases_lt, eq-eqb, eqb-false, eqb-true, false≢true, true≢false}
-use Rattle.std.proofs.lemmas.List.{get_or_append_left, get_or-append_right, set_past, take-append-drop, take-append-le}
+use Rattle.std.proofs.lemmas.Bool.{cases_lt, eq-eqb, eqb-true, true≢false}
+use Rattle.std.proofs.lemmas.List.{get_or_append_left, get_or-append_right, take-append-drop}
 use Rattle.nv_alloc.specs.Block.{BlockValue, number_of, numbers_of}
-use Rattle.nv_base.specs.declared.node.Kind.{Kind}
-use Rattle.nv_calls.specs.Plain.{PlainNode, stamped}
+use Rattle.nv_calls.specs.Plain.{stamped}
 use Rattle.nv_calls.specs.Slots.{last_commit}
 use Rattle.nv_cell.specs.Append.{IsWithinFile, appended, slots_of}
-use Rattle.nv_cell.specs.Cell.{CellState, log_of, page_block}
+use Rattle.nv_cell.specs.Cell.{CellState, page_block}
 use Rattle.nv_cell.specs.Numbers.{is_number}
 use Rattle.nv_cell.proofs.Appending.{back_block, length_slots, slot_block}
 use Rattle.nv_cell.proofs.Numbers.{scan_key, scan_n, scan_names, total_append}
@@ -27,7 +26,7 @@ use Rattle.nv_entry.specs.declared.item.Entry.{Entry}
 use Rattle.nv_entry.specs.declared.key.Datum.{Datum}
 use Rattle.nv_entry.specs.declared.key.Datum.TheVariants as datum
 use Rattle.nv_entry.specs.declared.node.NodeCopy.{NodeCopy}
-use Rattle.nv_entry.specs.Sound.{IsSound, Stands, Tied}
+use Rattle.nv_entry.specs.Sound.{IsSound, Tied}
 use Rattle.nv_entry.specs.Stored.{Stored, stored}
 use Rattle.nv_core.specs.machine.Effects.{IsSoundIn}
 use Rattle.nv_core.specs.machine.Kept.{AreApart, HasPages}

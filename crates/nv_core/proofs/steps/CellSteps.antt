@@ -1,17 +1,16 @@
 -- What the steps of a commit leave of a cell: its pages, and the node of a log that is there already.
-use Rattle.std.proofs.Common.{◌≡◌, ◌≢◌, ℕ, zero, suc, ◌+◌, ◌-◌, ◌<◌, ◌≤◌, ◌==◌, ◌&&◌, ◌++◌, ◌∙◌, Bool, true, false, cond, List, [], ◌∷◌, Option, Some, None, ap, append-nil, append_assoc, arith, drop, filter, flat_map, get_or-set_other, get_or-set_same, length, length-append, map, nat_lt, refl, set, slice_get, slice_index_or, subst, sym, take}
-use Rattle.std.specs.Prelude.{option_and_then, unwrap_or}
+use Rattle.std.proofs.Common.{◌≡◌, ℕ, zero, suc, ◌-◌, ◌≤◌, ◌&&◌, ◌++◌, ◌∙◌, Bool, true, false, cond, List, [], ◌∷◌, Option, Some, None, ap, append-nil, append_assoc, arith, drop, filter, flat_map, length, length-append, map, nat_lt, refl, set, slice_get, slice_index_or, subst, sym, take}
+use Rattle.std.specs.Prelude.{unwrap_or}
 use Rattle.std.specs.List.{AllByRecursion, range_with_len}
 use Rattle.std.specs.Option.{option_map}
-use Rattle.std.proofs.lemmas.Bool.{and_parts, eqb-false, eqb-true, false≢true, ltb-false, ltb-true, true≢false}
-use Rattle.std.proofs.lemmas.List.{set_past, take-append-le}
+use Rattle.std.proofs.lemmas.Bool.{and_parts, true≢false}
+use Rattle.std.proofs.lemmas.List.{take-append-le}
 use Rattle.nv_alloc.specs.Block.{BlockValue, number_of, numbers_of}
-use Rattle.nv_calls.specs.Plain.{PlainNode, stamped}
-use Rattle.nv_calls.specs.Retiring.{erased, is_erased, keeper_of, retired, retired_one, settled as settled_part}
+use Rattle.nv_calls.specs.Plain.{stamped}
+use Rattle.nv_calls.specs.Retiring.{is_erased, keeper_of, retired, retired_one, settled as settled_part}
 use Rattle.nv_calls.specs.Slots.{last_commit}
 use Rattle.nv_cell.specs.Append.{IsWithinFile, appended, blocks_for}
-use Rattle.nv_cell.specs.Cell.{CellState, empty_cell, killed_of, log_of, number_in, page_block, published}
-use Rattle.nv_cell.specs.Killed.{AreNamesOfParts}
+use Rattle.nv_cell.specs.Cell.{CellState, empty_cell, log_of, number_in, published}
 use Rattle.nv_cell.specs.Named.{number_named}
 use Rattle.nv_cell.specs.Numbers.{dies, killed_part}
 use Rattle.nv_cell.specs.Readers.{is_gone, is_last_word, keeps_nothing}
@@ -21,14 +20,13 @@ use Rattle.nv_cell.proofs.Publishing.{take_whole}
 use Rattle.nv_entry.specs.Blocks.{item_blocks}
 use Rattle.nv_entry.specs.Covered.{is_covered, part_total}
 use Rattle.nv_entry.specs.Keys.{KindKey, sets}
-use Rattle.nv_entry.specs.Log.{IsLog, last_setting, later_of, value_now}
+use Rattle.nv_entry.specs.Log.{IsLog, last_setting, later_of}
 use Rattle.nv_entry.specs.Node.{block_now, node_now}
 use Rattle.nv_entry.specs.declared.item.Entry.{Entry}
 use Rattle.nv_entry.specs.declared.item.Item.{Item}
 use Rattle.nv_entry.specs.declared.item.Item.TheVariants.{Init, Write, SetSize, SetMode, Bind, Unbind, Gone}
 use Rattle.nv_entry.specs.declared.key.Setting.{Setting}
-use Rattle.nv_entry.specs.declared.key.Setting.TheVariants.{Untouched, Absent, Present}
-use Rattle.nv_log.specs.Chain.{last_of}
+use Rattle.nv_entry.specs.declared.key.Setting.TheVariants.{Untouched, Absent}
 use Rattle.nv_core.specs.machine.Effects.{IsSoundIn}
 use Rattle.nv_core.specs.machine.Kept.{AreApart, AreCovered, HasPages}
 use Rattle.nv_core.specs.machine.Kinds.{if_part, killed_by_publish, with_entries, with_pages}

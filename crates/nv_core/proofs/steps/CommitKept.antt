@@ -1,40 +1,34 @@
 -- The steps of a commit keep settled logs, and all but its commit point keep every settled node.
-use Rattle.std.proofs.Common.{◌≡◌, ◌≢◌, ℕ, zero, suc, ◌+◌, ◌%◌, ◌<◌, ◌≤◌, ◌==◌, ◌||◌, ◌++◌, ◌∙◌, ◌⊎◌, inl, inr, Bool, true, false, cond, List, [], ◌∷◌, Option, Some, None, add-one, ap, arith, drop, drop-cons, filter, flat_map, get_or-set_other, get_or-set_same, if◌then◌else◌, length, length-set, map, mod-lt, nat_lt, refl, set, slice_index_or, subst, subst₂, sym, take}
+use Rattle.std.proofs.Common.{◌≡◌, ◌≢◌, ℕ, zero, suc, ◌+◌, ◌%◌, ◌<◌, ◌≤◌, ◌==◌, ◌||◌, ◌++◌, ◌∙◌, inr, Bool, true, false, cond, List, [], ◌∷◌, Option, Some, None, add-one, ap, arith, drop, drop-cons, get_or-set_other, get_or-set_same, if◌then◌else◌, length, length-set, mod-lt, nat_lt, refl, set, subst, sym, take}
 use Rattle.std.specs.List.{AllByRecursion}
-use Rattle.std.proofs.lemmas.Bool.{and_parts, eq-eqb, eqb-false, eqb-true, false≢true, ltb-false, ltb-true, lt-ltb, true≢false}
+use Rattle.std.proofs.lemmas.Bool.{eq-eqb, eqb-true, false≢true, ltb-false, ltb-true, true≢false}
 use Rattle.nv_alloc.specs.Block.{BlockValue, numbers_of}
 use Rattle.nv_alloc.specs.Numbers.{IsRising, has}
-use Rattle.nv_book.specs.Book.{BookState, with_journal}
+use Rattle.nv_book.specs.Book.{with_journal}
 use Rattle.nv_calls.proofs.Commits.{entries-items}
 use Rattle.nv_calls.specs.Plain.{PlainNode}
-use Rattle.nv_calls.specs.Plan.{plan_blocks}
-use Rattle.nv_calls.specs.Retiring.{erased, is_erased, number_back}
+use Rattle.nv_calls.specs.Retiring.{erased, is_erased}
 use Rattle.nv_calls.specs.Slots.{items_for, place_in}
-use Rattle.nv_calls.specs.declared.plan.Planned.{Planned}
 use Rattle.nv_cell.specs.Append.{IsWithinFile}
 use Rattle.nv_cell.specs.Cell.{CellState, empty_cell, log_of, published}
 use Rattle.nv_cell.specs.declared.killed.KilledPart.{KilledPart}
-use Rattle.nv_cell.proofs.Publishing.{take_whole}
-use Rattle.nv_entry.specs.Blocks.{item_blocks}
 use Rattle.nv_entry.specs.Log.{IsLog}
 use Rattle.nv_entry.specs.declared.item.Entry.{Entry}
 use Rattle.nv_entry.specs.declared.item.Item.{Item}
 use Rattle.nv_epoch.specs.SnapList.{ids}
-use Rattle.nv_journal.specs.declared.old_tail.OldTail.{OldTail}
 use Rattle.nv_entry.proofs.SoundLogs.{empty_sound}
 use Rattle.nv_core.specs.machine.Effects.{IsSoundIn}
 use Rattle.nv_core.specs.machine.Kept.{AreApart, AreClosed, AreCovered, AreKilledIn, AreLogsKept, HasNoted, HasPages, IsNotedIf, IsPlanFor, Knows}
-use Rattle.nv_core.specs.machine.Kinds.{append_turn, close_turn, entries_for, first_killed, killed_by_publish, old_tails, open_turn, publish_turn, retire_turn, retired_book, retired_cell, with_entries, with_erased, with_freed, with_pages}
+use Rattle.nv_core.specs.machine.Kinds.{append_turn, close_turn, entries_for, first_killed, killed_by_publish, old_tails, open_turn, publish_turn, retire_turn, retired_book, retired_cell, with_entries, with_pages}
 use Rattle.nv_core.specs.machine.Locks.{AreSlots, is_owner}
-use Rattle.nv_core.specs.machine.PlainRun.{Deed, deed, keeps_nodes}
 use Rattle.nv_core.specs.machine.Reads.{bytes_among, is_written, slot_at, written_slots}
 use Rattle.nv_core.specs.machine.Sequence.{appending, closing, opening, publishing, retiring}
 use Rattle.nv_core.specs.machine.Settled.{node_by, settled, settled_tail}
-use Rattle.nv_core.specs.machine.World.{Answers, Append, Close, Ends, HandState, Leave, Moves, Next, Open, Overtaken, Publish, Retire, Running, Shared, Turn, Waits, cell_at, go_to, no_cell, with_book, with_cell}
+use Rattle.nv_core.specs.machine.World.{Answers, Append, Close, Ends, HandState, Leave, Moves, Next, Open, Publish, Retire, Running, Shared, Turn, Waits, cell_at, go_to, no_cell, with_book, with_cell}
 use Rattle.nv_core.proofs.steps.CellPages.{later_pages}
 use Rattle.nv_core.proofs.steps.CellSteps.{Grows, HaveFront, Retires, append_grows, empty_pages, erased_none, items_in, killed_covered, retired_is, retired_node, retired_pages, retired_sound}
 use Rattle.nv_core.proofs.steps.Journals.{closed_again, closed_tail, open_free, open_same, open_stays}
-use Rattle.nv_core.proofs.steps.Lists.{drop_all, drop_apart, has_at, has_filter, rising_filter, take_all, take_apart, take_more}
+use Rattle.nv_core.proofs.steps.Lists.{drop_apart, rising_filter, take_all, take_apart, take_more}
 use Rattle.nv_core.proofs.steps.Written.{front_of, many_planned, within_of, written_inside, written_there}
 use Rattle.nv_core.proofs.steps.LogsKept.{KeptLeft, SameLogs, cell_left, cell_nodes, cell_set, node_at}
 

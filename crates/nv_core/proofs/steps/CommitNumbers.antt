@@ -1,8 +1,8 @@
 -- The number of the last commit is the plain world's.
-use Rattle.std.proofs.Common.{◌≡◌, ℕ, zero, suc, ◌+◌, ◌<◌, ◌∙◌, Bool, true, false, cond, List, [], ◌∷◌, Option, Some, None, ap, if◌then◌else◌, length, nat_lt, refl, subst, sym}
+use Rattle.std.proofs.Common.{◌≡◌, ℕ, zero, suc, ◌+◌, ◌∙◌, Bool, true, false, List, [], ◌∷◌, Option, Some, None, ap, if◌then◌else◌, length, nat_lt, refl, subst, sym}
 use Rattle.nv_book.specs.Book.{BookState}
 use Rattle.nv_calls.specs.declared.call.Call.{Call}
-use Rattle.nv_core.specs.machine.Frame.{IsFramed, Lent, Stays, lent}
+use Rattle.nv_core.specs.machine.Frame.{IsFramed, Lent, Stays}
 use Rattle.nv_core.specs.machine.Kinds.{again_turn, end_turn, enter_turn, over_turn, rest_turn}
 use Rattle.nv_core.specs.machine.Locks.{commits_at}
 use Rattle.nv_core.specs.machine.PlainRun.{Commits, Deed, Nothing, Numbers, Plain, deed, deed_by, deed_of, done, entered, plain_after, plain_step}

@@ -20,7 +20,9 @@ use Rattle.nv_entry.specs.declared.item.Item.TheVariants.{Init, Write, SetSize, 
 use Rattle.nv_epoch.specs.SnapList.{ids}
 use Rattle.nv_core.specs.machine.Kinds.{asked_list, blocks_in, blocks_left, entries_for, first_killed, given, less_list, retired_cell, with_bytes, with_entries, with_erased, with_freed, with_given, with_pages}
 use Rattle.nv_core.specs.machine.Numbers.{free_of, held_in, of_part, stored_in}
-use Rattle.nv_core.specs.machine.Reads.{copies, filled, fresh_pages, pages_needed, slot_at, written_slots}
+use Rattle.nv_calls.proofs.FillPages.{filled_numbers}
+use Rattle.nv_calls.specs.FillPages.{fresh_pages}
+use Rattle.nv_core.specs.machine.Reads.{copies, pages_needed, slot_at, written_slots}
 use Rattle.nv_core.specs.machine.World.{Append, Back, Check, Close, Enter, Give, HandState, Leave, Lock, Look, Next, Number, Open, Publish, Ready, Retire, Running, Shared, TakeBlocks, TakePages, Unlock, Visit, cell_at, list_at, no_cell, no_list}
 use Rattle.nv_core.proofs.steps.Counting.{cut_times, set_times, three_times}
 use Rattle.nv_core.proofs.steps.Kept.{append_deed, back_deed, deed, number_deed, retire_deed}
@@ -93,11 +95,6 @@ given_times n cpu s h =
           ∙ ap (λ (l : FreeBlocks). times n (numbers_of l.blocks)) (none_given (blocks_in h)).0
 
 -- ---- ready: bytes alone change
-
-pub filled_numbers : (pages : List (List ℕ)) (blocks : List BlockValue) → numbers_of (filled pages blocks) ≡ numbers_of blocks
-filled_numbers [] blocks = refl
-filled_numbers (bytes ∷ rest) [] = refl
-filled_numbers (bytes ∷ rest) (b ∷ blocks) = ap (λ (l : List ℕ). b.number ∷ l) (filled_numbers rest blocks)
 
 -- ---- append: log pages and data blocks go to the cell
 

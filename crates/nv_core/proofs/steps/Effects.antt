@@ -1,8 +1,7 @@
 -- A commit point has the effect that its plan fits.
-use Rattle.std.proofs.Common.{◌≡◌, ℕ, zero, suc, ◌-◌, ◌<◌, ◌≤◌, ◌==◌, ◌++◌, ◌∙◌, Bool, true, false, cond, List, [], ◌∷◌, Option, Some, None, ap, ap₂, append-nil, arith, if◌then◌else◌, length, nat_lt, refl, replicate, slice_index_or, subst, sym, take}
-use Rattle.std.specs.Option.{option_map}
+use Rattle.std.proofs.Common.{◌≡◌, ℕ, zero, suc, ◌-◌, ◌<◌, ◌≤◌, ◌==◌, ◌++◌, ◌∙◌, Bool, true, false, cond, List, [], ◌∷◌, Option, Some, None, ap, ap₂, arith, length, nat_lt, refl, replicate, slice_index_or, subst, sym, take}
 use Rattle.std.proofs.Math.Path.{fun_ext}
-use Rattle.std.proofs.lemmas.Bool.{false≢true, ltb-false, ltb-true}
+use Rattle.std.proofs.lemmas.Bool.{ltb-false, ltb-true}
 use Rattle.std.proofs.lemmas.List.{get_or_past}
 use Rattle.nv_alloc.specs.Block.{BlockValue}
 use Rattle.nv_alloc.specs.Numbers.{has}
@@ -10,7 +9,7 @@ use Rattle.nv_base.specs.declared.numbers.Handle.{Handle}
 use Rattle.nv_calls.proofs.Commits.{commits}
 use Rattle.nv_calls.specs.AllCalls.{effect}
 use Rattle.nv_calls.specs.Plain.{Change, PlainNode, node_in, nodes_after, stamped}
-use Rattle.nv_calls.specs.Slots.{Commits as DoesAll, IsPlan, Slot, entries_of, items_for, last_commit, node_under, place_in, published as published_slots}
+use Rattle.nv_calls.specs.Slots.{Commits as DoesAll, Slot, entries_of, items_for, last_commit, node_under, place_in, published as published_slots}
 use Rattle.nv_cell.specs.Cell.{CellState, empty_cell}
 use Rattle.nv_entry.specs.Node.{block_now, node_now}
 use Rattle.nv_entry.specs.Sound.{IsSound, empty_node}
@@ -25,7 +24,6 @@ use Rattle.nv_entry.proofs.SoundLogs.{empty_sound, lawful_gives}
 use Rattle.nv_core.specs.machine.Effects.{AreSound, HasPlanNow, IsSoundIn, settled_slots}
 use Rattle.nv_core.specs.machine.Grown.{AreGrown, fresh_entries}
 use Rattle.nv_core.specs.machine.Kept.{AreApart, AreBlocksApart, HasPages, IsKept}
-use Rattle.nv_core.specs.machine.Kinds.{entries_for}
 use Rattle.nv_core.specs.machine.Locks.{AreLocks}
 use Rattle.nv_core.specs.machine.Order.{IsInOrder}
 use Rattle.nv_core.specs.machine.PlainRun.{Commits, deed_of}

@@ -1,8 +1,8 @@
 -- A call that passes its check knows so, and keeps its plan up to its commit point, at each step of its own.
-use Rattle.std.proofs.Common.{◌≡◌, ◌⊎◌, ℕ, ◌^◌, ◌<◌, ◌==◌, ◌||◌, ◌++◌, ◌∙◌, Bool, true, false, cond, List, [], ◌∷◌, Option, Some, None, ap, ap₂, arith, filter, flat_map, get_or-set_same, if◌then◌else◌, inl, inr, length, map, nat_lt, refl, slice_index_or, subst, sym, take}
+use Rattle.std.proofs.Common.{◌≡◌, ◌⊎◌, ℕ, ◌^◌, ◌<◌, ◌==◌, ◌++◌, ◌∙◌, Bool, true, false, cond, List, [], ◌∷◌, Option, Some, None, ap, ap₂, arith, flat_map, get_or-set_same, inl, inr, length, map, nat_lt, refl, slice_index_or, subst, sym, take}
 use Rattle.std.specs.List.{AllByRecursion}
 use Rattle.std.specs.Prelude.{Ok, Err}
-use Rattle.std.proofs.lemmas.Bool.{cases_lt, eqb-true, false≢true, ltb-false}
+use Rattle.std.proofs.lemmas.Bool.{cases_lt, false≢true}
 use Rattle.std.proofs.lemmas.List.{append-nil, get_or_past}
 use Rattle.nv_alloc.specs.Block.{BlockValue, numbers_of}
 use Rattle.nv_alloc.specs.Numbers.{has}
@@ -25,7 +25,9 @@ use Rattle.nv_entry.specs.Sound.{blocks_of}
 use Rattle.nv_entry.specs.declared.item.Entry.{Entry}
 use Rattle.nv_core.specs.machine.Hands.{makes_inode}
 use Rattle.nv_core.specs.machine.Kinds.{check_ending, entries_for, ready_turn, with_entries}
-use Rattle.nv_core.specs.machine.Reads.{copies, filled, fresh_pages, has_last_page, if_number, is_written, nodes, plan_by, runs_of, slots_in, slots_of, with_slot, written_slots}
+use Rattle.nv_calls.proofs.FillPages.{filled_numbers}
+use Rattle.nv_calls.specs.FillPages.{filled, fresh_pages}
+use Rattle.nv_core.specs.machine.Reads.{copies, has_last_page, if_number, is_written, nodes, plan_by, runs_of, slots_of, written_slots}
 use Rattle.nv_core.specs.machine.Sequence.{Beginning, Looks, Locks, Numbers, Visits, beginning}
 use Rattle.nv_core.specs.machine.Settled.{node_by, settled, settled_nodes, settled_tail}
 use Rattle.nv_core.specs.machine.Step.{ending_at, is_numbered, made_in, same_looked}
@@ -39,7 +41,7 @@ use Rattle.nv_core.proofs.steps.FitsStages.{IsDrawn, IsLocked, IsPassed, IsStore
 use Rattle.nv_core.proofs.steps.FitsTurns.{OnFits, grown_fits}
 use Rattle.nv_core.proofs.steps.Lists.{or_left, or_right, self}
 use Rattle.nv_core.proofs.steps.PoolSlots.{filtered, in_range}
-use Rattle.nv_core.proofs.steps.Planned.{filled_numbers, length_numbers, runs_are, small_numbers}
+use Rattle.nv_core.proofs.steps.Planned.{length_numbers, runs_are, small_numbers}
 
 -- ---- a call that does not commit reads the settled logs of what it has locked
 

@@ -23,7 +23,8 @@ use Rattle.nv_entry.specs.Sound.{HaveText, blocks_of}
 use Rattle.nv_entry.specs.declared.item.Run.{Run}
 use Rattle.nv_entry.specs.declared.node.NodeCopy.{NodeCopy}
 use Rattle.nv_core.specs.machine.Hands.{makes_inode}
-use Rattle.nv_core.specs.machine.Reads.{filled, fresh_pages, run_if, runs_of, stretches, with_number}
+use Rattle.nv_calls.specs.FillPages.{filled, fresh_pages}
+use Rattle.nv_core.specs.machine.Reads.{run_if, runs_of, stretches, with_number}
 use Rattle.nv_core.specs.machine.Sequence.{beginning}
 use Rattle.nv_core.proofs.steps.Planned.{all_end, length_numbers, runs_are, small_numbers}
 

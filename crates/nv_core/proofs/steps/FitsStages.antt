@@ -18,7 +18,8 @@ use Rattle.nv_calls.specs.declared.taken.Taken.{Taken}
 use Rattle.nv_calls.proofs.Same.{call_same}
 use Rattle.nv_core.specs.machine.Effects.{settled_slots}
 use Rattle.nv_core.specs.machine.Hands.{makes_inode}
-use Rattle.nv_core.specs.machine.Reads.{filled, if_number, slots_in, slots_of}
+use Rattle.nv_calls.specs.FillPages.{filled}
+use Rattle.nv_core.specs.machine.Reads.{if_number, slots_in, slots_of}
 use Rattle.nv_core.specs.machine.Sequence.{beginning}
 use Rattle.nv_core.specs.machine.Settled.{settled_nodes}
 use Rattle.nv_core.specs.machine.World.{Append, Back, Check, Close, Enter, Give, HandState, Leave, Lock, Look, Next, Number, Open, Publish, Ready, Retire, Running, Shared, TakeBlocks, TakePages, Unlock, Visit, cell_at}

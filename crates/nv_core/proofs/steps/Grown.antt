@@ -1,30 +1,13 @@
 -- Past settled logs stand the entries of the commit under way, which a commit point settles all at one stroke.
-use Rattle.std.proofs.Common.{◌≡◌, ◌≢◌, ℕ, zero, suc, ◌+◌, ◌%◌, ◌<◌, ◌≤◌, ◌==◌, ◌||◌, ◌++◌, ◌∙◌, Bool, true, false, cond, List, [], ◌∷◌, Option, Some, None, add-one, ap, append-nil, arith, drop, filter, get_or-set_other, get_or-set_same, if◌then◌else◌, length, nat_lt, refl, set, slice_index_or, subst, sym, take}
-use Rattle.std.specs.Prelude.{is_none, unwrap_or}
-use Rattle.std.proofs.lemmas.Bool.{eq-eqb, eqb-false, eqb-true, false≢true, ltb-false, ltb-true, true≢false}
-use Rattle.nv_alloc.specs.Block.{BlockValue}
-use Rattle.nv_alloc.specs.Numbers.{IsRising, has}
-use Rattle.nv_book.specs.Book.{BookState, with_journal}
-use Rattle.nv_calls.specs.Retiring.{erased, is_erased}
-use Rattle.nv_cell.specs.Cell.{CellState, empty_cell, log_of, published}
-use Rattle.nv_cell.proofs.Publishing.{take_whole}
-use Rattle.nv_entry.specs.declared.item.Entry.{Entry}
-use Rattle.nv_epoch.specs.SnapList.{ids}
-use Rattle.nv_journal.specs.declared.old_tail.OldTail.{OldTail}
+use Rattle.std.proofs.Common.{◌≡◌, ◌≢◌, ℕ, ◌==◌, ◌++◌, ◌∙◌, Bool, true, false, List, Option, Some, None, ap, append-nil, refl, sym}
+use Rattle.std.proofs.lemmas.Bool.{eq-eqb, eqb-false, eqb-true, false≢true}
 use Rattle.nv_core.specs.machine.Grown.{HasGrown, IsAllSettled, fresh_entries, is_appended, is_behind}
-use Rattle.nv_core.specs.machine.Kept.{AreClosed, AreLogsKept, HasNoted, IsNotedIf, Knows}
-use Rattle.nv_core.specs.machine.Kinds.{append_turn, close_turn, entries_for, first_killed, old_tails, open_turn, publish_turn, retire_turn, retired_book, retired_cell, with_entries, with_pages}
-use Rattle.nv_core.specs.machine.Locks.{AreSlots, commits_at, is_owner}
-use Rattle.nv_core.specs.machine.Reads.{is_written, slot_at, written_slots}
-use Rattle.nv_core.specs.machine.Sequence.{appending, closing, opening, publishing, retiring}
-use Rattle.nv_core.specs.machine.Settled.{settled, settled_tail}
-use Rattle.nv_core.specs.machine.World.{Append, Back, Check, Close, Ends, Enter, Give, HandState, Leave, Lock, Look, Moves, Next, Number, Open, Publish, Ready, Retire, Running, Shared, TakeBlocks, TakePages, Turn, Unlock, Visit, Waits, cell_at, go_to, no_cell, owner_at, with_book, with_cell}
-use Rattle.nv_core.proofs.steps.Journals.{closed_tail, open_same}
-use Rattle.nv_core.proofs.steps.Lists.{drop_all, drop_apart, has_drop, has_take, rising_filter, take_all, take_apart}
+use Rattle.nv_core.specs.machine.Locks.{commits_at, is_owner}
+use Rattle.nv_core.specs.machine.Reads.{written_slots}
+use Rattle.nv_core.specs.machine.Settled.{settled}
+use Rattle.nv_core.specs.machine.World.{Append, Back, Check, Close, Ends, Enter, Give, Leave, Lock, Look, Moves, Next, Number, Open, Publish, Ready, Retire, Running, Shared, TakeBlocks, TakePages, Turn, Unlock, Visit, Waits, cell_at, owner_at}
 use Rattle.nv_core.proofs.steps.Holding.{LocksLeft, OnLocks, apart}
-use Rattle.nv_core.proofs.steps.LogsKept.{Still, cell_set}
-use Rattle.nv_core.proofs.steps.Entered.{entries_more, pages_keep, retired_keeps}
-use Rattle.nv_calls.proofs.Retires.{chain_stays}
+use Rattle.nv_core.proofs.steps.LogsKept.{Still}
 
 -- the cells of others, and their settled logs
 pub record CellsLeft (a : ℕ) (s t : Shared) : Type 0 where

@@ -1,5 +1,5 @@
 -- What stands past settled logs, over events; and what each commit point settles.
-use Rattle.std.proofs.Common.{◌≡◌, ◌≢◌, ℕ, zero, suc, ◌+◌, ◌-◌, ◌%◌, ◌<◌, ◌==◌, ◌++◌, ◌∙◌, Bool, true, false, cond, List, [], ◌∷◌, Option, Some, None, ap, append-nil, arith, get_or-set_other, get_or-set_same, if◌then◌else◌, length, mod-lt, nat_lt, refl, replicate, set, subst, sym, take}
+use Rattle.std.proofs.Common.{◌≡◌, ◌≢◌, ℕ, zero, suc, ◌-◌, ◌%◌, ◌<◌, ◌==◌, ◌++◌, ◌∙◌, Bool, true, false, List, [], ◌∷◌, Option, Some, None, ap, arith, get_or-set_other, get_or-set_same, length, mod-lt, nat_lt, refl, replicate, set, subst, sym, take}
 use Rattle.std.specs.Prelude.{slice_index_or, unwrap_or}
 use Rattle.std.proofs.lemmas.Bool.{eq-eqb, eqb-false, eqb-true, false≢true, lt-ltb, ltb-true}
 use Rattle.nv_alloc.specs.Numbers.{has}
@@ -15,8 +15,8 @@ use Rattle.nv_core.specs.machine.Kinds.{asked_list, enter_turn, first_killed}
 use Rattle.nv_core.specs.machine.Locks.{AreLocks, AreSlots, HoldsIts, commits_at, is_owner}
 use Rattle.nv_core.specs.machine.Order.{IsInOrder}
 use Rattle.nv_core.specs.machine.PlainRun.{Commits, deed, deed_of}
-use Rattle.nv_core.specs.machine.Reads.{is_written, slot_at, slots_of, written_slots}
-use Rattle.nv_core.specs.machine.Sequence.{Beginning, Looks, Locks, Numbers, Visits, appending, beginning, begun, nothing_looked}
+use Rattle.nv_core.specs.machine.Reads.{is_written, slot_at, written_slots}
+use Rattle.nv_core.specs.machine.Sequence.{appending, beginning, begun}
 use Rattle.nv_core.specs.machine.Settled.{settled}
 use Rattle.nv_core.specs.machine.Step.{Step, after, go_step, kind_turn, start_step, step, turn, turned}
 use Rattle.nv_core.specs.machine.World.{Actor, Append, Back, Check, Close, Ends, Enter, Event, Give, Go, HandState, Leave, Lock, Look, Moves, Next, Number, Open, Publish, Ready, Retire, Running, Shared, Start, TakeBlocks, TakePages, Turn, Unlock, Visit, Waits, World, actor_at, cell_at, idle, no_cell, owner_at}

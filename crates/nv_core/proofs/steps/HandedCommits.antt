@@ -19,11 +19,13 @@ use Rattle.nv_entry.specs.declared.item.Entry.{Entry}
 use Rattle.nv_entry.specs.declared.item.Item.{Item}
 use Rattle.nv_core.specs.machine.Hands.{AreGiven, FitsFile, HandAt, HandOf, HasFitting, HasPlanned, HasTakenNone, IsOvertaken, is_going, makes_inode, planned_blocks}
 use Rattle.nv_core.specs.machine.Kinds.{asked_list, back_turn, blocks_in, blocks_left, blocks_turn, check_ending, enter_turn, entries_for, first_killed, given, pages_turn, retired_cell, unlocked_turn, visit_turn, with_bytes, with_erased, with_freed}
-use Rattle.nv_core.specs.machine.Reads.{copies, filled, fresh_pages, has_last_page, is_written, plan_by, slot_at, taken_by, written_slots}
+use Rattle.nv_calls.proofs.FillPages.{filled_numbers}
+use Rattle.nv_calls.specs.FillPages.{filled, fresh_pages}
+use Rattle.nv_core.specs.machine.Reads.{copies, has_last_page, is_written, plan_by, slot_at, taken_by, written_slots}
 use Rattle.nv_core.specs.machine.Sequence.{appending, beginning, closing, opening, publishing, retiring}
 use Rattle.nv_core.specs.machine.Step.{ending_at, is_numbered, kind_turn, made_in, same_looked, with_made}
 use Rattle.nv_core.specs.machine.World.{Answers, Append, Back, Check, Close, Enter, Give, HandState, Leave, Lock, Look, Next, Number, Open, Overtaken, Publish, Ready, Retire, Running, Shared, TakeBlocks, TakePages, Unlock, Visit, empty_hand, go_to, list_at}
-use Rattle.nv_core.proofs.steps.Counted.{filled_numbers, given_all}
+use Rattle.nv_core.proofs.steps.Counted.{given_all}
 use Rattle.nv_core.proofs.steps.Fitting.{checked, plan_few, plan_first, plan_within, planned_few, wants_fitting}
 use Rattle.nv_core.proofs.steps.Handed.{GoesHome, OnHand, check_hand, end_hand, grown_hand, is_empty, lock_hand, look_hand, not_overtaken, number_hand, over_hand, rest_hand, same_nothing, wants_pages_hand}
 use Rattle.nv_core.proofs.steps.Homes.{AreBelow, all_given}

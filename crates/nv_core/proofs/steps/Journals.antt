@@ -1,12 +1,12 @@
 -- What journals note, and what that leaves of settled logs.
-use Rattle.std.proofs.Common.{◌≡◌, ◌≢◌, ℕ, zero, suc, ◌+◌, ◌<◌, ◌≤◌, ◌==◌, ◌||◌, ◌∙◌, Bool, true, false, cond, List, [], ◌∷◌, Option, Some, None, ap, arith, if◌then◌else◌, length, map, refl, set, set-set, subst, sym}
-use Rattle.std.specs.List.{AllByRecursion, find}
+use Rattle.std.proofs.Common.{◌≡◌, ℕ, zero, suc, ◌<◌, ◌==◌, ◌||◌, ◌∙◌, Bool, true, false, cond, List, [], ◌∷◌, Option, Some, None, ap, arith, if◌then◌else◌, length, refl, set, subst, sym}
+use Rattle.std.specs.List.{find}
 use Rattle.std.specs.Option.{option_map}
 use Rattle.std.proofs.lemmas.Bool.{eqb-true}
 use Rattle.nv_alloc.specs.Numbers.{has}
 use Rattle.nv_journal.specs.Journal.{tail_noted}
 use Rattle.nv_journal.specs.declared.old_tail.OldTail.{OldTail}
-use Rattle.nv_core.specs.machine.Kept.{AreClosed, HasNoted}
+use Rattle.nv_core.specs.machine.Kept.{AreClosed}
 use Rattle.nv_core.specs.machine.Kinds.{old_tails}
 use Rattle.nv_core.specs.machine.Settled.{noted_or, settled_tail}
 use Rattle.nv_core.specs.machine.World.{Shared, cell_at}

@@ -1,36 +1,33 @@
 -- Settled logs are kept whatever events come, and nodes change at commit points alone.
-use Rattle.std.proofs.Common.{◌≡◌, ◌≢◌, ℕ, zero, suc, ◌+◌, ◌-◌, ◌%◌, ◌^◌, ◌<◌, ◌≤◌, ◌==◌, ◌∙◌, Bool, true, false, List, [], ◌∷◌, Option, Some, None, ap, arith, get_or-set_other, get_or-set_same, if◌then◌else◌, length, map, nat_lt, refl, replicate, set, subst, sym}
-use Rattle.std.specs.List.{AllByRecursion, range_with_len}
+use Rattle.std.proofs.Common.{◌≡◌, ◌≢◌, ℕ, zero, suc, ◌-◌, ◌%◌, ◌<◌, ◌==◌, ◌∙◌, Bool, true, false, List, [], ◌∷◌, Option, Some, None, ap, arith, get_or-set_other, get_or-set_same, if◌then◌else◌, length, map, nat_lt, refl, replicate, set, subst, sym}
+use Rattle.std.specs.List.{range_with_len}
 use Rattle.std.specs.Prelude.{slice_index_or}
-use Rattle.std.proofs.lemmas.Bool.{eqb-false, eqb-true, false≢true, le-ltb, ltb-true}
+use Rattle.std.proofs.lemmas.Bool.{eqb-false, eqb-true, le-ltb, ltb-true}
 use Rattle.std.proofs.lemmas.List.{length-map}
 use Rattle.std.proofs.lemmas.List.FromFn.{length-range_with_len}
 use Rattle.std.proofs.lemmas.Option.{none-some}
-use Rattle.nv_alloc.specs.Block.{BlockValue}
 use Rattle.nv_alloc.specs.FreeList.{FreeBlocks}
 use Rattle.nv_base.specs.Limits.{IsWithinLimits}
 use Rattle.nv_base.specs.declared.geometry.GeometryNumbers.{GeometryNumbers}
 use Rattle.nv_base.specs.declared.numbers.Handle.{Handle}
 use Rattle.nv_calls.specs.declared.call.Call.{Call}
-use Rattle.nv_cell.specs.Cell.{CellState, empty_cell, page_block}
+use Rattle.nv_cell.specs.Cell.{empty_cell, page_block}
 use Rattle.nv_entry.specs.declared.item.Entry.{Entry}
 use Rattle.nv_cell.specs.declared.killed.KilledPart.{KilledPart}
 use Rattle.nv_core.specs.machine.Format.{formatted, full_list, root_cell, without_lowest}
-use Rattle.nv_core.specs.machine.Frame.{LeavesOthers}
 use Rattle.nv_core.specs.machine.Effects.{AreSound}
-use Rattle.nv_core.specs.machine.Kept.{AreBlocksApart, AreClosed, AreCovered, AreKilledIn, AreLogsKept, HasNoted, HasNothing, HasPages, IsKept, IsNotedIf, Knows, KnowsOf}
-use Rattle.nv_core.specs.machine.Locks.{AreLocks, HoldsIts, commits_at, is_owner}
+use Rattle.nv_core.specs.machine.Kept.{AreBlocksApart, AreClosed, AreKilledIn, HasNoted, HasNothing, HasPages, IsKept, IsNotedIf, Knows, KnowsOf}
+use Rattle.nv_core.specs.machine.Locks.{AreLocks, HoldsIts, commits_at}
 use Rattle.nv_core.specs.machine.Order.{IsInOrder}
-use Rattle.nv_core.specs.machine.PlainRun.{Deed, Nothing, deed, deed_by, deed_of, keeps_nodes}
+use Rattle.nv_core.specs.machine.PlainRun.{Nothing, deed_by, deed_of, keeps_nodes}
 use Rattle.nv_core.specs.machine.Reads.{slots_of, written_slots}
-use Rattle.nv_core.specs.machine.Sequence.{Beginning, Looks, Locks, Numbers, Visits, beginning, begun, nothing_looked, started}
+use Rattle.nv_core.specs.machine.Sequence.{Beginning, Looks, Locks, Numbers, Visits, beginning, begun, nothing_looked}
 use Rattle.nv_core.specs.machine.Settled.{settled, settled_nodes}
 use Rattle.nv_core.specs.machine.Step.{after, go_step, start_step, step, turn, turned}
-use Rattle.nv_core.specs.machine.World.{Actor, Answers, Append, Back, Check, Close, Ends, Enter, Event, Give, Go, HandState, Leave, Lock, Look, Moves, Next, Number, Open, Publish, Ready, Retire, Running, Shared, Start, TakeBlocks, TakePages, Turn, Unlock, Visit, Waits, World, actor_at, cell_at, empty_hand, idle, no_cell}
+use Rattle.nv_core.specs.machine.World.{Actor, Append, Back, Check, Close, Ends, Enter, Event, Give, Go, HandState, Leave, Lock, Look, Moves, Next, Number, Open, Publish, Ready, Retire, Running, Shared, Start, TakeBlocks, TakePages, Turn, Unlock, Visit, Waits, World, actor_at, cell_at, empty_hand, idle, no_cell}
 use Rattle.nv_core.proofs.steps.CellSteps.{empty_pages}
 use Rattle.nv_core.proofs.steps.CommitKept.{OnKept, same_killed}
-use Rattle.nv_core.proofs.steps.Events.{turned_others}
-use Rattle.nv_core.proofs.steps.InOrder.{events_order, event_order}
+use Rattle.nv_core.proofs.steps.InOrder.{event_order}
 use Rattle.nv_core.proofs.steps.KeptTurns.{Standing, kept_turn, same_still}
 use Rattle.nv_core.proofs.steps.Knowing.{locking_knows}
 use Rattle.nv_core.proofs.steps.Locks.{all_same, before, event_locks, many_same}

@@ -1,14 +1,14 @@
 -- Every kind of step keeps settled logs, and all but commit points keep every settled node.
-use Rattle.std.proofs.Common.{◌≡◌, ◌≢◌, ℕ, zero, suc, ◌+◌, ◌-◌, ◌%◌, ◌^◌, ◌<◌, ◌==◌, ◌∙◌, Bool, true, false, cond, List, [], ◌∷◌, Option, Some, None, ap, arith, if◌then◌else◌, length, nat_lt, refl, subst, sym}
+use Rattle.std.proofs.Common.{◌≡◌, ℕ, ◌%◌, ◌^◌, ◌<◌, ◌∙◌, Bool, true, false, cond, Option, Some, None, ap, length, nat_lt, refl, subst, sym}
 use Rattle.std.specs.List.{AllByRecursion}
 use Rattle.std.specs.Prelude.{is_none}
-use Rattle.std.proofs.lemmas.Bool.{eqb-true, false≢true, true≢false}
+use Rattle.std.proofs.lemmas.Bool.{true≢false}
 use Rattle.nv_alloc.specs.Block.{BlockValue}
 use Rattle.nv_calls.specs.AllCalls.{blocks_wanted, early, effect, looked, refusal}
 use Rattle.nv_core.specs.machine.Frame.{IsFramed, Lent}
-use Rattle.nv_core.specs.machine.Kept.{AreApart, AreClosed, AreLogsKept, IsInFile, Knows}
-use Rattle.nv_core.specs.machine.Kinds.{asked_list, end_turn, enter_turn, first_killed, grown}
-use Rattle.nv_core.specs.machine.Locks.{AreSlots, is_owner}
+use Rattle.nv_core.specs.machine.Kept.{AreApart, AreLogsKept, IsInFile, Knows}
+use Rattle.nv_core.specs.machine.Kinds.{asked_list, enter_turn}
+use Rattle.nv_core.specs.machine.Locks.{AreSlots}
 use Rattle.nv_core.specs.machine.Order.{AreLogsOrdered}
 use Rattle.nv_core.specs.machine.PlainRun.{Commits, Nothing, deed, keeps_nodes}
 use Rattle.nv_core.specs.machine.Reads.{copies, has_last_page, slot_at, written_slots}

@@ -1,8 +1,8 @@
 -- What calls know between the steps outside of commits.
-use Rattle.std.proofs.Common.{◌≡◌, ◌≢◌, ℕ, zero, suc, ◌+◌, ◌-◌, ◌^◌, ◌<◌, ◌≤◌, ◌++◌, ◌∙◌, Bool, true, false, List, [], ◌∷◌, Option, Some, None, ap, arith, if◌then◌else◌, length, length-append, length-take, min, nat_lt, refl, subst, sym, take}
+use Rattle.std.proofs.Common.{◌≡◌, ℕ, zero, suc, ◌+◌, ◌-◌, ◌^◌, ◌<◌, ◌++◌, ◌∙◌, Bool, true, false, List, [], ◌∷◌, Option, Some, None, ap, arith, if◌then◌else◌, length, length-append, length-take, nat_lt, refl, subst, sym, take}
 use Rattle.std.specs.List.{AllByRecursion}
 use Rattle.std.specs.Prelude.{Ok, Err}
-use Rattle.std.proofs.lemmas.Bool.{false≢true, true≢false}
+use Rattle.std.proofs.lemmas.Bool.{false≢true}
 use Rattle.nv_alloc.specs.Block.{BlockValue, numbers_of}
 use Rattle.nv_base.specs.declared.fault.Fault.{Fault}
 use Rattle.nv_calls.proofs.Within.{size_within, write_within}
@@ -16,12 +16,14 @@ use Rattle.nv_calls.specs.declared.looked.Looked.{Looked}
 use Rattle.nv_base.specs.declared.numbers.Handle.{Handle}
 use Rattle.nv_entry.specs.declared.node.NodeCopy.{NodeCopy}
 use Rattle.nv_core.specs.machine.Kept.{AreClosed, HasNothing, IsInFile, IsPlanFor, Knows}
-use Rattle.nv_core.specs.machine.Kinds.{again_turn, asked_list, back_turn, blocks_turn, check_ending, check_turn, end_turn, enter_turn, give_turn, grown, lock_turn, look_turn, number_turn, over_turn, pages_turn, ready_turn, rest_turn, take_blocks_turn, take_pages_turn, unlocked_turn, visit_turn, wants_blocks, wants_pages}
-use Rattle.nv_core.specs.machine.Reads.{copies, filled, fresh_pages, plan_by, slots_of, taken_by}
+use Rattle.nv_core.specs.machine.Kinds.{again_turn, back_turn, blocks_turn, check_ending, check_turn, end_turn, enter_turn, give_turn, grown, lock_turn, look_turn, number_turn, over_turn, pages_turn, ready_turn, rest_turn, take_blocks_turn, unlocked_turn, visit_turn, wants_blocks, wants_pages}
+use Rattle.nv_calls.proofs.FillPages.{filled_numbers}
+use Rattle.nv_calls.specs.FillPages.{fresh_pages}
+use Rattle.nv_core.specs.machine.Reads.{copies, plan_by, slots_of, taken_by}
 use Rattle.nv_core.specs.machine.Sequence.{directories, locking}
-use Rattle.nv_core.specs.machine.World.{Answers, Ending, Ends, Enter, HandState, Lock, Look, Check, Moves, Next, Overtaken, Refuses, Running, Shared, Turn, Waits, go_to, list_at}
+use Rattle.nv_core.specs.machine.World.{Answers, Ending, Ends, HandState, Lock, Look, Check, Moves, Overtaken, Refuses, Running, Shared, Turn, Waits, go_to, list_at}
 use Rattle.nv_core.proofs.steps.CommitKept.{knows_appending}
-use Rattle.nv_core.proofs.steps.Planned.{filled_numbers, length_numbers, plan_fits, runs_are, small_numbers}
+use Rattle.nv_core.proofs.steps.Planned.{length_numbers, plan_fits, runs_are, small_numbers}
 
 abbrev pub OnKnows : ℕ → ℕ → Turn → Type 0
 OnKnows block cpu (Moves t h q) = Knows q.next block t cpu h q

@@ -1,23 +1,17 @@
 -- What a step on the shared parts leaves of settled logs and of the nodes that they give.
-use Rattle.std.proofs.Common.{◌≡◌, ◌≢◌, ℕ, ◌+◌, ◌<◌, ◌≤◌, ◌==◌, ◌∙◌, Bool, true, false, cond, List, [], ◌∷◌, Option, Some, None, ap, arith, get_or-set_other, get_or-set_same, if◌then◌else◌, length, length-set, refl, set, subst, sym, take}
+use Rattle.std.proofs.Common.{◌≡◌, ◌≢◌, ℕ, ◌<◌, ◌==◌, ◌∙◌, Bool, true, false, List, Option, Some, None, ap, get_or-set_other, get_or-set_same, if◌then◌else◌, length, refl, subst, sym, take}
 use Rattle.std.proofs.lemmas.Bool.{eqb-false, eqb-true}
-use Rattle.nv_alloc.specs.Numbers.{has}
 use Rattle.nv_base.specs.declared.numbers.Handle.{Handle}
-use Rattle.nv_book.specs.Book.{BookState, with_journal}
+use Rattle.nv_book.specs.Book.{BookState}
 use Rattle.nv_calls.specs.Plain.{PlainNode}
-use Rattle.nv_calls.specs.Retiring.{erased, is_erased}
-use Rattle.nv_cell.specs.Cell.{CellState, empty_cell, log_of, published}
+use Rattle.nv_cell.specs.Cell.{CellState}
 use Rattle.nv_entry.specs.declared.item.Entry.{Entry}
 use Rattle.nv_journal.specs.declared.old_tail.OldTail.{OldTail}
 use Rattle.nv_core.specs.machine.Effects.{AreSound, IsSoundIn}
-use Rattle.nv_core.specs.machine.Kept.{AreApart, AreClosed, AreLogsKept, HasNoted, HasPages}
-use Rattle.nv_core.specs.machine.Kinds.{old_tails}
+use Rattle.nv_core.specs.machine.Kept.{AreClosed, AreLogsKept, HasPages}
 use Rattle.nv_core.specs.machine.Locks.{is_owner}
 use Rattle.nv_core.specs.machine.Settled.{node_by, settled, settled_nodes, settled_tail}
 use Rattle.nv_core.specs.machine.World.{Shared, cell_at, no_cell, with_book, with_cell}
-use Rattle.nv_core.proofs.steps.CellPages.{later_pages}
-use Rattle.nv_core.proofs.steps.CellSteps.{Grows, Retires, empty_pages, erased_none, retired_node, retired_pages}
-use Rattle.nv_core.proofs.steps.Journals.{closed_again, closed_tail, open_same, open_stays}
 
 -- ---- nodes
 

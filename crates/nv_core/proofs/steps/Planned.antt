@@ -1,13 +1,13 @@
 -- The plan of a call fits the blocks that it has taken: runs have these blocks, and its pages are a file's.
-use Rattle.std.proofs.Common.{◌≡◌, add-one, ◌⊎◌, ℕ, zero, suc, ◌+◌, ◌/◌, ◌^◌, ◌<◌, ◌≤◌, ◌==◌, ◌++◌, ◌∙◌, Bool, true, false, cond, List, [], ◌∷◌, Option, Some, None, ap, append-nil, arith, filter, flat_map, length, length-append, map, nat_lt, refl, subst, sym}
+use Rattle.std.proofs.Common.{◌≡◌, add-one, ◌⊎◌, ℕ, suc, ◌+◌, ◌/◌, ◌^◌, ◌<◌, ◌≤◌, ◌==◌, ◌++◌, ◌∙◌, Bool, true, false, cond, List, [], ◌∷◌, Option, Some, None, ap, append-nil, arith, flat_map, length, length-append, nat_lt, refl, subst, sym}
 use Rattle.std.specs.List.{AllByRecursion, range_with_len}
-use Rattle.std.proofs.lemmas.Bool.{eqb-true, lt-ltb, ltb-false, ltb-true}
+use Rattle.std.proofs.lemmas.Bool.{eqb-true, lt-ltb}
 use Rattle.std.proofs.lemmas.List.FromFn.{length-range_with_len}
 use Rattle.nv_alloc.specs.Block.{BlockValue, numbers_of}
 use Rattle.nv_base.specs.declared.numbers.Handle.{Handle}
 use Rattle.nv_calls.specs.AllCalls.{plan}
 use Rattle.nv_calls.specs.Refusals.{found}
-use Rattle.nv_calls.specs.calls.Rename.{bound_plan, move_plan, own_place, replaced_plan}
+use Rattle.nv_calls.specs.calls.Rename.{bound_plan, own_place, replaced_plan}
 use Rattle.nv_calls.specs.calls.Unlink.{leave_plan}
 use Rattle.nv_calls.specs.Plain.{same_handle}
 use Rattle.nv_calls.specs.Plan.{plan_blocks}
@@ -23,7 +23,7 @@ use Rattle.nv_entry.specs.declared.item.Item.TheVariants.{SetSize}
 use Rattle.nv_entry.specs.declared.item.Run.{Run}
 use Rattle.nv_entry.specs.declared.node.NodeCopy.{NodeCopy}
 use Rattle.nv_core.specs.machine.Kept.{IsInFile, IsPlanFor}
-use Rattle.nv_core.specs.machine.Reads.{filled, run_if, runs_of, stretches, with_number}
+use Rattle.nv_core.specs.machine.Reads.{run_if, runs_of, stretches, with_number}
 
 -- ---- runs of blocks
 
@@ -77,12 +77,6 @@ pub small_numbers : (bs : List BlockValue) → AllByRecursion (λ (b : BlockValu
     → AllByRecursion (λ n. n < 2 ^ 32) (numbers_of bs)
 small_numbers [] all = tt
 small_numbers (b ∷ bs) all = (all.0, small_numbers bs all.1)
-
--- filling keeps numbers
-pub filled_numbers : (pages : List (List ℕ)) (bs : List BlockValue) → numbers_of (filled pages bs) ≡ numbers_of bs
-filled_numbers [] bs = refl
-filled_numbers (page ∷ pages) [] = refl
-filled_numbers (page ∷ pages) (b ∷ bs) = ap (λ (l : List ℕ). b.number ∷ l) (filled_numbers pages bs)
 
 pub length_numbers : (bs : List BlockValue) → length (numbers_of bs) ≡ length bs
 length_numbers [] = refl

@@ -1,10 +1,10 @@
 -- What one scan leaves for the pool of a small world, while a file is made and after it is unlinked.
-use Rattle.std.proofs.Common.{◌≡◌, List, [], ◌∷◌, ℕ, refl}
+use Rattle.std.proofs.Common.{◌≡◌, [], ◌∷◌, ℕ, refl}
 use Rattle.nv_calls.specs.declared.call.Call.TheVariants as call
 use Rattle.nv_core.specs.machine.Format.{formatted}
 use Rattle.nv_core.specs.machine.PoolScan.{numbers_held, pool_from_scratch}
 use Rattle.nv_core.specs.machine.World.{World}
-use Rattle.nv_core.proofs.steps.Scripts.{DoCall, Goes, Line, StartCall, device, handle, played}
+use Rattle.nv_core.proofs.steps.Scripts.{DoCall, Goes, StartCall, device, handle, played}
 
 -- a file is made, up to so many steps of its call
 abbrev making : ℕ → World

@@ -1,6 +1,6 @@
 -- What each kind of step leaves past settled logs, and what a commit point settles.
-use Rattle.std.proofs.Common.{◌≡◌, ◌≢◌, ℕ, zero, suc, ◌+◌, ◌%◌, ◌<◌, ◌≤◌, ◌==◌, ◌||◌, ◌++◌, ◌∙◌, Bool, true, false, cond, List, [], ◌∷◌, Option, Some, None, add-one, ap, append-nil, arith, drop, filter, get_or-set_other, get_or-set_same, if◌then◌else◌, length, nat_lt, refl, set, slice_index_or, subst, sym, take}
-use Rattle.std.proofs.lemmas.Bool.{eq-eqb, eqb-false, eqb-true, false≢true, ltb-false, ltb-true, true≢false}
+use Rattle.std.proofs.Common.{◌≡◌, ◌≢◌, ℕ, zero, suc, ◌+◌, ◌%◌, ◌<◌, ◌≤◌, ◌==◌, ◌||◌, ◌++◌, ◌∙◌, Bool, true, false, List, [], ◌∷◌, Some, None, ap, append-nil, arith, drop, get_or-set_other, if◌then◌else◌, length, nat_lt, refl, set, subst, sym, take}
+use Rattle.std.proofs.lemmas.Bool.{eq-eqb, eqb-true, false≢true, ltb-false, ltb-true}
 use Rattle.std.proofs.lemmas.List.{take-append-le}
 use Rattle.nv_alloc.specs.Block.{BlockValue}
 use Rattle.nv_alloc.specs.Numbers.{IsRising, has}
@@ -14,19 +14,19 @@ use Rattle.nv_entry.specs.declared.item.Entry.{Entry}
 use Rattle.nv_epoch.specs.SnapList.{ids}
 use Rattle.nv_log.specs.Chain.{ChainState}
 use Rattle.nv_journal.specs.declared.old_tail.OldTail.{OldTail}
-use Rattle.nv_core.specs.machine.Grown.{HasGrown, IsAllSettled, fresh_entries, is_appended, is_behind}
-use Rattle.nv_core.specs.machine.Kept.{AreClosed, AreLogsKept, HasNoted, IsNotedIf, Knows}
+use Rattle.nv_core.specs.machine.Grown.{HasGrown, IsAllSettled, fresh_entries}
+use Rattle.nv_core.specs.machine.Kept.{AreClosed, AreLogsKept, HasNoted}
 use Rattle.nv_core.specs.machine.Kinds.{append_turn, close_turn, entries_for, old_tails, open_turn, publish_turn, retire_turn, retired_book, retired_cell, with_entries, with_pages}
 use Rattle.nv_core.specs.machine.Locks.{AreSlots}
 use Rattle.nv_core.specs.machine.Reads.{is_written, slot_at, written_slots}
-use Rattle.nv_core.specs.machine.Sequence.{appending, closing, opening, publishing, retiring}
+use Rattle.nv_core.specs.machine.Sequence.{appending, closing, publishing, retiring}
 use Rattle.nv_core.specs.machine.Settled.{settled, settled_tail}
-use Rattle.nv_core.specs.machine.World.{Append, Close, HandState, Leave, Next, Open, Publish, Retire, Running, Shared, cell_at, go_to, no_cell, owner_at, with_book, with_cell}
+use Rattle.nv_core.specs.machine.World.{Append, Close, HandState, Open, Publish, Retire, Running, Shared, cell_at, no_cell, owner_at, with_book, with_cell}
 use Rattle.nv_core.proofs.steps.Written.{written_inside, written_there}
 use Rattle.nv_core.proofs.steps.Appended.{AreTests, GrownBy, as_next, tests_appending, tests_retiring, tests_several, tests_single}
 use Rattle.nv_core.proofs.steps.Grown.{CellsLeft, OnGrown}
 use Rattle.nv_core.proofs.steps.Journals.{closed_tail, open_same}
-use Rattle.nv_core.proofs.steps.Lists.{drop_all, has_drop, has_later, has_take, rising_filter, take_all, take_apart}
+use Rattle.nv_core.proofs.steps.Lists.{has_drop, has_later, has_take, rising_filter, take_apart}
 use Rattle.nv_core.proofs.steps.LogsKept.{cell_set}
 use Rattle.nv_core.proofs.steps.Entered.{entries_more, pages_keep}
 

@@ -23,7 +23,8 @@ use Rattle.nv_entry.specs.declared.item.Item.{Item}
 use Rattle.nv_epoch.specs.SnapList.{ids}
 use Rattle.nv_core.specs.machine.Hands.{AreLists, HandAt, HasPlanned, IsParted}
 use Rattle.nv_core.specs.machine.Kinds.{asked_list, blocks_in, blocks_left, entries_for, first_killed, less_list, retired_cell, with_entries, with_freed, with_pages}
-use Rattle.nv_core.specs.machine.Reads.{copies, filled, fresh_pages, pages_needed, slot_at, written_slots}
+use Rattle.nv_calls.specs.FillPages.{filled, fresh_pages}
+use Rattle.nv_core.specs.machine.Reads.{copies, pages_needed, slot_at, written_slots}
 use Rattle.nv_core.specs.machine.World.{Append, Back, Check, Close, Enter, Give, HandState, Leave, Lock, Look, Next, Number, Open, Publish, Ready, Retire, Running, Shared, TakeBlocks, TakePages, Unlock, Visit, cell_at, list_at, no_cell, no_list, with_cell}
 use Rattle.nv_core.proofs.steps.Counted.{given_all}
 use Rattle.nv_core.proofs.steps.HandedCommits.{slot_first}

@@ -4,7 +4,7 @@ use Rattle.nv_calls.specs.AllCalls.{answer}
 use Rattle.nv_calls.specs.declared.answer.Answer.{Answer}
 use Rattle.nv_core.specs.machine.Kinds.{result_by}
 use Rattle.nv_core.specs.machine.Step.{Step, reply_of}
-use Rattle.nv_core.specs.machine.World.{Answers, Back, Ending, Give, Leave, Moved, Next, Overtaken, Refuses, Retire, Running, Unlock, World, actor_at}
+use Rattle.nv_core.specs.machine.World.{Answers, Back, Ending, Give, Leave, Moved, Next, Overtaken, Refuses, Retire, Running, Unlock, actor_at}
 
 -- no step is left that decides anything: parts are retired, and what is locked or in the hand is given up
 abbrev pub IsLast : Next → Type 0

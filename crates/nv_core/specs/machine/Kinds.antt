@@ -24,7 +24,8 @@ use Rattle.nv_entry.specs.declared.item.Entry.{Entry}
 use Rattle.nv_epoch.specs.SnapList.{ids}
 use Rattle.nv_journal.specs.declared.old_tail.OldTail.{OldTail}
 use Rattle.nv_log.specs.Chain.{with_page}
-use Rattle.nv_core.specs.machine.Reads.{copies, filled, fresh_pages, home_from, pages_wanted, plan_by, slot_at, slots_of, written_slots}
+use Rattle.nv_calls.specs.FillPages.{filled, fresh_pages}
+use Rattle.nv_core.specs.machine.Reads.{copies, home_from, pages_wanted, plan_by, slot_at, slots_of, written_slots}
 use Rattle.nv_core.specs.machine.Sequence.{sequel}
 use Rattle.nv_core.specs.machine.World.{Answers, Append, Back, Close, Ending, Ends, Enter, Give, HandState, Lock, Look, Moves, Next, Number, Open, Overtaken, Publish, Ready, Refuses, Retire, Running, Shared, TakeBlocks, TakePages, Turn, Unlock, Waits, cell_at, go_to, list_at, with_book, with_cell, with_list, with_numbers, with_owner}
 

@@ -2,7 +2,7 @@
 use Rattle.std.specs.Prelude.{◌≡◌, ℕ, ◌+◌, ◌^◌, ◌/◌, ◌==◌, ◌++◌, if◌then◌else◌, Bool, true, false, is_some, nat_lt, List, [], ◌∷◌, filter, length, map, Option, Some, None, slice_index_or}
 use Rattle.std.proofs.Common.{refl}
 use Rattle.std.proofs.lemmas.Bool.{ltb-true}
-use Rattle.std.specs.List.{flat_map, list_any, range_with_len, sum_by}
+use Rattle.std.specs.List.{flat_map, list_any, sum_by}
 use Rattle.nv_calls.specs.Locked.{handles}
 use Rattle.nv_calls.specs.declared.looked.Looked.{Looked}
 use Rattle.nv_alloc.specs.Block.{BlockValue, numbers_of}
@@ -11,14 +11,11 @@ use Rattle.nv_base.specs.declared.numbers.Handle.{Handle}
 use Rattle.nv_calls.specs.AllCalls.{plan}
 use Rattle.nv_calls.specs.declared.taken.Taken.{Taken}
 use Rattle.nv_calls.specs.Plain.{PlainNode, node_in, stamped}
-use Rattle.nv_calls.specs.Refusals.{bytes_of}
 use Rattle.nv_calls.specs.Slots.{items_for, last_commit}
-use Rattle.nv_calls.specs.calls.Size.{resized}
 use Rattle.nv_calls.specs.declared.call.Call.{Call}
 use Rattle.nv_calls.specs.declared.call.Call.TheVariants as call
 use Rattle.nv_calls.specs.declared.plan.Planned.{Planned}
 use Rattle.nv_cell.specs.Cell.{CellState, log_of}
-use Rattle.nv_entry.specs.Bytes.{page_of, pages_touched, written}
 use Rattle.nv_entry.specs.Node.{block_now, node_now}
 use Rattle.nv_entry.specs.declared.item.Run.{Run}
 use Rattle.nv_entry.specs.declared.node.NodeCopy.{NodeCopy}
@@ -114,20 +111,6 @@ pages_needed s plan ino = pages_for (cell_at s ino).chain (length (items_for pla
 
 abbrev pub pages_wanted : Shared → List ℕ → List Planned → ℕ
 pages_wanted s slots plan = sum_by (pages_needed s plan) slots
-
--- the bytes of a call's fresh pages: of each page that a text touches, and of one that is cut, after the call
-abbrev pub fresh_pages : ℕ → (Handle → Option NodeCopy) → Call → List (List ℕ)
-fresh_pages block nodes (call.Write file offset text) =
-    map (λ page. page_of block page (written offset text (bytes_of (nodes file))))
-    (range_with_len (offset / block) (pages_touched block offset (length text)))
-fresh_pages block nodes (call.Size file size) = page_of block (size / block) (resized size (bytes_of (nodes file))) ∷ []
-fresh_pages block nodes other = []
-
--- blocks with these bytes, one after another
-abbrev pub filled : List (List ℕ) → List BlockValue → List BlockValue
-filled [] blocks = blocks
-filled (bytes ∷ rest) [] = []
-filled (bytes ∷ rest) (b ∷ blocks) = record b { bytes = bytes } ∷ filled rest blocks
 
 -- ---- homes
 
