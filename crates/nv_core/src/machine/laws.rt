@@ -28,6 +28,7 @@ ghost use Rattle.nv_core.specs.machine.PoolScan.{pool_from_scratch};
 ghost use Rattle.nv_core.specs.machine.Reached.{IsReached};
 ghost use Rattle.nv_core.specs.machine.PlainRun.{Commits, Plain, deed_of, keeps_nodes, plain_after, plain_of};
 ghost use Rattle.nv_core.specs.machine.Reads.{written_slots};
+ghost use Rattle.nv_core.specs.machine.Rounds.{HasRounds, failed_checks};
 ghost use Rattle.nv_core.specs.machine.Sequence.{Visits, beginning};
 ghost use Rattle.nv_core.specs.machine.Settled.{settled, settled_nodes};
 ghost use Rattle.nv_core.specs.machine.Step.{after, kind_turn, stays, step, turn};
@@ -273,4 +274,20 @@ pub fn refusals_have_causes()
     ensures contended { (place block actor : ℕ) (granted : Bool) (s : Shared) (h : HandState) (r : Running)
         → r.ending ≡ Overtaken
         → RefusesFor (IsRoundless r) (kind_turn (Unlock place) block actor granted s h r) }
+{}
+
+/// A call is contended only after eight checks that each found a name bound anew: a started call has eight such checks
+/// to fail, each of them takes one, and no other event does. Where a call was overtaken and no round is left,
+/// eight have failed.
+pub fn contended_calls_have_failed_eight_checks()
+    ensures starts { (w : World) (actor : ℕ) (c : Call) → (step w (Start actor c)).reply ≡ Started
+        → HasRounds 8 0 (actor_at (step w (Start actor c)).world actor).running }
+    ensures fails { (events : List Event) (w : World) (actor all failed : ℕ)
+        → AreNoStarts actor events → HasRounds all failed (actor_at w actor).running
+        → HasRounds all (failed + failed_checks actor w events) (actor_at (after w events) actor).running }
+    ensures eight { (w : World) (actor : ℕ) (c : Call) (events : List Event) (r : Running)
+        → (step w (Start actor c)).reply ≡ Started → AreNoStarts actor events
+        → (actor_at (after (step w (Start actor c)).world events) actor).running ≡ Some r
+        → r.ending ≡ Overtaken → r.rounds ≡ 0
+        → 8 ≤ failed_checks actor (step w (Start actor c)).world events }
 {}
