@@ -70,3 +70,4 @@ pub mod FitsPooled
 pub mod PoolHands
 pub mod PoolRows
 pub mod Contended
+pub mod Visiting

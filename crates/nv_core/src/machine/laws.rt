@@ -9,7 +9,10 @@ ghost use Rattle.nv_base.specs.declared.geometry.GeometryNumbers.{GeometryNumber
 ghost use Rattle.nv_base.specs.declared.numbers.Handle.{Handle};
 ghost use Rattle.nv_calls.specs.AllCalls.{answer, effect};
 ghost use Rattle.nv_calls.specs.Plain.{PlainNode, node_in, nodes_after};
+ghost use Rattle.nv_calls.specs.Locked.{SameCall, handles};
+ghost use Rattle.nv_calls.specs.declared.answer.Answer.{Answer};
 ghost use Rattle.nv_calls.specs.declared.call.Call.{Call};
+ghost use Rattle.nv_calls.specs.declared.taken.Taken.{Taken};
 ghost use Rattle.nv_core.specs.machine.Bound.{AreNoStarts, bound_at, most_steps, moves};
 ghost use Rattle.nv_entry.specs.Sound.{IsSound};
 ghost use Rattle.nv_core.specs.machine.Answered.{GoesTo, IsFinal, IsToEnd};
@@ -27,12 +30,12 @@ ghost use Rattle.nv_core.specs.machine.Order.{IsInOrder};
 ghost use Rattle.nv_core.specs.machine.PoolScan.{pool_from_scratch};
 ghost use Rattle.nv_core.specs.machine.Reached.{IsReached};
 ghost use Rattle.nv_core.specs.machine.PlainRun.{Commits, Plain, deed_of, keeps_nodes, plain_after, plain_of};
-ghost use Rattle.nv_core.specs.machine.Reads.{written_slots};
+ghost use Rattle.nv_core.specs.machine.Reads.{nodes, written_slots};
 ghost use Rattle.nv_core.specs.machine.Rounds.{HasRounds, failed_checks};
-ghost use Rattle.nv_core.specs.machine.Sequence.{Visits, beginning};
+ghost use Rattle.nv_core.specs.machine.Sequence.{Visits, beginning, nothing_looked};
 ghost use Rattle.nv_core.specs.machine.Settled.{settled, settled_nodes};
-ghost use Rattle.nv_core.specs.machine.Step.{after, kind_turn, stays, step, turn};
-ghost use Rattle.nv_core.specs.machine.World.{Answers, Ending, Event, Go, HandState, Overtaken, Refused, Running, Shared, Start, Started, Unlock, Waiting, World, actor_at, cell_at, list_at};
+ghost use Rattle.nv_core.specs.machine.Step.{after, handle_at, kind_turn, stays, step, turn};
+ghost use Rattle.nv_core.specs.machine.World.{Answers, Done, Ending, Event, Go, HandState, Overtaken, Refused, Running, Shared, Start, Started, Unlock, Visit, Waiting, World, actor_at, cell_at, list_at, owner_at};
 
 /// A `Go` of an actor whose call runs makes the one step that comes next, and changes only its actor and the
 /// parts that the step is lent. A start changes its actor alone: one without a call has the call now, before its
@@ -290,4 +293,16 @@ pub fn contended_calls_have_failed_eight_checks()
         → (actor_at (after (step w (Start actor c)).world events) actor).running ≡ Some r
         → r.ending ≡ Overtaken → r.rounds ≡ 0
         → 8 ≤ failed_checks actor (step w (Start actor c)).world events }
+{}
+
+/// A visit reads settled nodes, since it waits while its slot is held: what it tests and answers is the same there, so
+/// that its answer is the plain world's.
+pub fn visits_read_settled_nodes()
+    ensures reads { (w : World) (taken : Taken) (c : Call) → AreGrown w → beginning c ≡ Visits
+        → owner_at w.shared (handle_at (handles nothing_looked c) 0).ino ≡ None
+        → SameCall w.numbers.block (settled_nodes w.shared) (nodes w.shared) taken c }
+    ensures answers { (w : World) (actor : ℕ) (granted : Bool) (r : Running) (told : Answer)
+        → AreGrown w → actor < length w.actors → (actor_at w actor).running ≡ Some r
+        → r.next ≡ Visit → beginning r.call ≡ Visits → (step w (Go actor granted)).reply ≡ Done told
+        → told ≡ answer (settled_nodes w.shared) r.made r.call }
 {}
