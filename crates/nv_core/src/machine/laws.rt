@@ -20,7 +20,7 @@ ghost use Rattle.nv_core.specs.machine.Causes.{IsCause, IsRoundless, RefusesFor}
 ghost use Rattle.nv_core.specs.machine.Effects.{AreSound, HasPlanNow};
 ghost use Rattle.nv_core.specs.machine.FitsNow.{bytes_in};
 ghost use Rattle.nv_core.specs.machine.Format.{formatted};
-ghost use Rattle.nv_core.specs.machine.Frame.{IsOneStep, IsStart};
+ghost use Rattle.nv_core.specs.machine.Frame.{IsOneStep, IsStart, lent};
 ghost use Rattle.nv_core.specs.machine.Grown.{AreGrown, fresh_entries};
 ghost use Rattle.nv_core.specs.machine.Kept.{AreBlocksApart, IsKept};
 ghost use Rattle.nv_core.specs.machine.Locks.{AreLocks, HasLent, WaitsFor};
@@ -164,9 +164,11 @@ pub fn the_plain_world_counts_commits()
         → (after w events).shared.book.commit ≡ (plain_after w events p).commit }
 {}
 
-/// A call that has made its commit point is answered, whatever follows, and one that was refused is answered that
-/// refusal: from there on each of its steps moves it on towards that end, or is its last and replies it. So a call that ends refused has made none. Of
-/// calls that commit no node tells the answer, so that it is the one of the commit point.
+/// A call that has begun to append is answered, whatever follows, and one that was refused is answered that
+/// refusal: from there on each of its steps moves it on towards that end, or is its last and replies it. A call whose
+/// step is lent a cell to change is such a call, so that one which ends refused has changed no log
+/// ([`one_step`]) and made no commit. Of calls that commit no node tells the answer, so that it is the one of the
+/// commit point.
 pub fn what_commits_is_answered()
     ensures commits { (w : World) (actor : ℕ) (granted : Bool) (r : Running) → IsKept w
         → actor < length w.actors → (actor_at w actor).running ≡ Some r
@@ -175,6 +177,9 @@ pub fn what_commits_is_answered()
     ensures goes { (e : Ending) (w : World) (actor : ℕ) (granted : Bool) (r : Running) → IsFinal e
         → actor < length w.actors → (actor_at w actor).running ≡ Some r → IsToEnd e r
         → GoesTo e actor r (step w (Go actor granted)) }
+    ensures writes { (w : World) (actor ino : ℕ) (r : Running) → IsKept w
+        → (actor_at w actor).running ≡ Some r
+        → (lent r.next (length w.shared.lists) actor r).cell ≡ Some ino → IsToEnd Answers r }
     ensures same { (nodes other : Handle → Option PlainNode) (made : Handle) (c : Call)
         → (beginning c ≡ Visits → ⊥) → answer nodes made c ≡ answer other made c }
 {}
