@@ -8,7 +8,8 @@ use Rattle.nv_alloc.specs.Numbers.{has}
 use Rattle.nv_base.specs.declared.geometry.GeometryNumbers.{GeometryNumbers}
 use Rattle.nv_base.specs.declared.numbers.Handle.{Handle}
 use Rattle.nv_base.specs.Limits.{IsWithinLimits}
-use Rattle.nv_calls.specs.AllCalls.{effect}
+use Rattle.nv_calls.specs.AllCalls.{effect, refusal}
+use Rattle.nv_calls.specs.Refusals.{passes}
 use Rattle.nv_calls.specs.Plain.{node_in, nodes_after}
 use Rattle.nv_calls.specs.Slots.{Slot}
 use Rattle.nv_calls.specs.declared.call.Call.{Call}
@@ -249,6 +250,10 @@ module _ (g : GeometryNumbers) (w : World) (known : IsKnown g w) (fit : AreFit w
             sizes = fit.sizes;
           }) fit.sound r k.kept.some at.1 at.2
 
+      -- its call passes
+      pub passes_now : refusal block (node_in (settled_nodes w.shared)) r.call ≡ passes
+      passes_now = at.1.passes
+
       -- and its commit is the last that was entered
       pub number_now : r.commit ≡ w.shared.book.commit
       number_now =
@@ -370,6 +375,10 @@ module _ (g : GeometryNumbers) (events : List Event) (actor : ℕ) (granted : Bo
     -- at a commit point the plan fits the effect of its call
     pub has_plan : HasPlanNow (bytes_in w.shared) w.numbers.block w.shared r
     has_plan = fits_now g w (all_known g within events) (all_fit g within events) actor granted r is there e
+
+    -- and the plain world does not refuse the call
+    pub has_passed : refusal w.numbers.block (node_in (settled_nodes w.shared)) r.call ≡ passes
+    has_passed = passes_now g w (all_known g within events) (all_fit g within events) actor granted r is there e
 
     -- so it has this effect
     pub has_effect : (handle : Handle) → settled_nodes (step w (Go actor granted)).world.shared handle

@@ -7,7 +7,8 @@ ghost use Rattle.nv_base.specs.Limits.{IsWithinLimits};
 ghost use Rattle.nv_base.specs.declared.fault.Fault.TheVariants.{ActorBusy, ActorIdle, NoActor};
 ghost use Rattle.nv_base.specs.declared.geometry.GeometryNumbers.{GeometryNumbers};
 ghost use Rattle.nv_base.specs.declared.numbers.Handle.{Handle};
-ghost use Rattle.nv_calls.specs.AllCalls.{answer, effect};
+ghost use Rattle.nv_calls.specs.AllCalls.{answer, effect, refusal};
+ghost use Rattle.nv_calls.specs.Refusals.{passes};
 ghost use Rattle.nv_calls.specs.Plain.{PlainNode, node_in, nodes_after};
 ghost use Rattle.nv_calls.specs.Locked.{SameCall, handles};
 ghost use Rattle.nv_calls.specs.declared.answer.Answer.{Answer};
@@ -242,8 +243,8 @@ pub fn new_worlds_lead_where_laws_hold()
         → (handle : Handle) → settled_nodes (step w e).world.shared handle ≡ settled_nodes w.shared handle }
 {}
 
-/// At each commit point, whatever events come from a new world on, the plan that stands fits the effect that its
-/// call has on the nodes of now, and so the commit point has that effect. `bytes_in` gives the bytes of all blocks
+/// At each commit point, whatever events come from a new world on, the plain world does not refuse the call, the plan
+/// that stands fits the effect that its call has on the nodes of now, and so the commit point has that effect. `bytes_in` gives the bytes of all blocks
 /// of all cells.
 pub fn plans_fit_at_commit_points()
     ensures fits { (g : GeometryNumbers) (events : List Event) (actor : ℕ) (granted : Bool) (r : Running)
@@ -252,6 +253,12 @@ pub fn plans_fit_at_commit_points()
         → deed_of (after (formatted g) events) (Go actor granted) ≡ Commits
         → HasPlanNow (bytes_in (after (formatted g) events).shared)
         (after (formatted g) events).numbers.block (after (formatted g) events).shared r }
+    ensures passes { (g : GeometryNumbers) (events : List Event) (actor : ℕ) (granted : Bool) (r : Running)
+        → IsWithinLimits g → actor < length (after (formatted g) events).actors
+        → (actor_at (after (formatted g) events) actor).running ≡ Some r
+        → deed_of (after (formatted g) events) (Go actor granted) ≡ Commits
+        → refusal (after (formatted g) events).numbers.block
+        (node_in (settled_nodes (after (formatted g) events).shared)) r.call ≡ passes }
     ensures nodes { (g : GeometryNumbers) (events : List Event) (actor : ℕ) (granted : Bool) (r : Running)
         → IsWithinLimits g → actor < length (after (formatted g) events).actors
         → (actor_at (after (formatted g) events) actor).running ≡ Some r
