@@ -18,7 +18,7 @@ use Rattle.nv_calls.specs.Retiring.{erased}
 use Rattle.nv_entry.specs.declared.item.Entry.{Entry}
 use Rattle.nv_epoch.specs.SnapList.{ids}
 use Rattle.nv_core.specs.machine.Effects.{AreSound, HasPlanNow}
-use Rattle.nv_core.specs.machine.FitsNow.{bytes_in}
+use Rattle.nv_core.specs.machine.FitsNow.{bytes_in, is_checked}
 use Rattle.nv_core.specs.machine.Format.{formatted}
 use Rattle.nv_core.specs.machine.Frame.{IsFramed, Lent, lent}
 use Rattle.nv_core.specs.machine.Hands.{AreNumbers, HandAt, HandOf}
@@ -366,6 +366,37 @@ all_known g within events = record {
 
 pub all_fit : (g : GeometryNumbers) → IsWithinLimits g → (events : List Event) → AreFit (after (formatted g) events)
 all_fit g within events = events_fit g events (formatted g) (all_known g within) (new_fit g within)
+
+-- from its check to its commit point
+checked_passed : (k : Next) (block : ℕ) (s : Shared) (h : HandState) (r : Running) → is_checked k ≡ true → FitsAt k block s h r
+    → Passed block s r
+checked_passed (TakeBlocks asked) block s h r e f = f.0
+checked_passed (TakePages asked) block s h r e f = f.0
+checked_passed Ready block s h r e f = f.0
+checked_passed Enter block s h r e f = f.0
+checked_passed (Append place) block s h r e f = f.0
+checked_passed Open block s h r e f = f.0
+checked_passed (Publish place) block s h r e f = f.0
+checked_passed Close block s h r e f = f.0
+checked_passed Number block s h r e f = cc
+checked_passed (Look place) block s h r e f = cc
+checked_passed (Lock place) block s h r e f = cc
+checked_passed Check block s h r e f = cc
+checked_passed (Retire place) block s h r e f = cc
+checked_passed Leave block s h r e f = cc
+checked_passed (Unlock place) block s h r e f = cc
+checked_passed (Give cpu) block s h r e f = cc
+checked_passed Back block s h r e f = cc
+checked_passed Visit block s h r e f = cc
+
+pub still_passes : (g : GeometryNumbers) (events : List Event) (actor : ℕ) (r : Running) → IsWithinLimits g
+    → (actor_at (after (formatted g) events) actor).running ≡ Some r → is_checked r.next ≡ true
+    → Passed (after (formatted g) events).numbers.block (after (formatted g) events).shared r
+still_passes g events actor r within is e =
+    let w : World = after (formatted g) events in
+    checked_passed r.next w.numbers.block w.shared (actor_at w actor).hand r e
+    (subst (λ (running : Option Running). FitsOf running w.numbers.block w.shared (actor_at w actor).hand) is
+    ((all_fit g within events).each actor))
 
 module _ (g : GeometryNumbers) (events : List Event) (actor : ℕ) (granted : Bool) (r : Running) (within : IsWithinLimits g) where
   abbrev w : World

@@ -7,7 +7,7 @@ ghost use Rattle.nv_base.specs.Limits.{IsWithinLimits};
 ghost use Rattle.nv_base.specs.declared.fault.Fault.TheVariants.{ActorBusy, ActorIdle, NoActor};
 ghost use Rattle.nv_base.specs.declared.geometry.GeometryNumbers.{GeometryNumbers};
 ghost use Rattle.nv_base.specs.declared.numbers.Handle.{Handle};
-ghost use Rattle.nv_calls.specs.AllCalls.{answer, effect, refusal};
+ghost use Rattle.nv_calls.specs.AllCalls.{answer, effect, looked, refusal};
 ghost use Rattle.nv_calls.specs.Refusals.{passes};
 ghost use Rattle.nv_calls.specs.Plain.{PlainNode, node_in, nodes_after};
 ghost use Rattle.nv_calls.specs.Locked.{SameCall, handles};
@@ -19,7 +19,7 @@ ghost use Rattle.nv_entry.specs.Sound.{IsSound};
 ghost use Rattle.nv_core.specs.machine.Answered.{GoesTo, IsFinal, IsToEnd};
 ghost use Rattle.nv_core.specs.machine.Causes.{IsCause, IsRoundless, RefusesFor};
 ghost use Rattle.nv_core.specs.machine.Effects.{AreSound, HasPlanNow};
-ghost use Rattle.nv_core.specs.machine.FitsNow.{bytes_in};
+ghost use Rattle.nv_core.specs.machine.FitsNow.{bytes_in, is_checked};
 ghost use Rattle.nv_core.specs.machine.Format.{formatted};
 ghost use Rattle.nv_core.specs.machine.Frame.{IsOneStep, IsStart, lent};
 ghost use Rattle.nv_core.specs.machine.Grown.{AreGrown, fresh_entries};
@@ -267,6 +267,20 @@ pub fn plans_fit_at_commit_points()
         ≡ nodes_after r.commit
         (effect (node_in (settled_nodes (after (formatted g) events).shared)) r.made r.call)
         (settled_nodes (after (formatted g) events).shared) handle }
+{}
+
+/// From its check to its commit point a call passes: whatever events come from a new world on, the plain world does
+/// not refuse it on the nodes of now, and its names are bound as its looks found them.
+pub fn checked_calls_still_pass()
+    ensures passes { (g : GeometryNumbers) (events : List Event) (actor : ℕ) (r : Running)
+        → IsWithinLimits g → (actor_at (after (formatted g) events) actor).running ≡ Some r
+        → is_checked r.next ≡ true
+        → refusal (after (formatted g) events).numbers.block
+        (node_in (settled_nodes (after (formatted g) events).shared)) r.call ≡ passes }
+    ensures found { (g : GeometryNumbers) (events : List Event) (actor : ℕ) (r : Running)
+        → IsWithinLimits g → (actor_at (after (formatted g) events) actor).running ≡ Some r
+        → is_checked r.next ≡ true
+        → looked (node_in (settled_nodes (after (formatted g) events).shared)) r.call ≡ r.looked }
 {}
 
 /// The plain world's nodes are those of the settled logs after every list of events, and these logs are sound.
