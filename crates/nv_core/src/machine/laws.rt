@@ -17,7 +17,7 @@ ghost use Rattle.nv_calls.specs.declared.taken.Taken.{Taken};
 ghost use Rattle.nv_core.specs.machine.Bound.{AreNoStarts, bound_at, most_steps, moves};
 ghost use Rattle.nv_entry.specs.Sound.{IsSound};
 ghost use Rattle.nv_core.specs.machine.Answered.{GoesTo, IsFinal, IsToEnd};
-ghost use Rattle.nv_core.specs.machine.Causes.{IsCause, IsRoundless, RefusesFor};
+ghost use Rattle.nv_core.specs.machine.Causes.{FindsNone, IsCause, IsRoundless, MayBeOvertaken, RefusesFor};
 ghost use Rattle.nv_core.specs.machine.Effects.{AreSound, HasPlanNow};
 ghost use Rattle.nv_core.specs.machine.FitsNow.{bytes_in, is_checked};
 ghost use Rattle.nv_core.specs.machine.Format.{formatted};
@@ -36,7 +36,7 @@ ghost use Rattle.nv_core.specs.machine.Rounds.{HasRounds, failed_checks};
 ghost use Rattle.nv_core.specs.machine.Sequence.{Visits, beginning, nothing_looked};
 ghost use Rattle.nv_core.specs.machine.Settled.{settled, settled_nodes};
 ghost use Rattle.nv_core.specs.machine.Step.{after, handle_at, kind_turn, stays, step, turn};
-ghost use Rattle.nv_core.specs.machine.World.{Answers, Done, Ending, Event, Go, HandState, Overtaken, Refused, Running, Shared, Start, Started, Unlock, Visit, Waiting, World, actor_at, cell_at, list_at, owner_at};
+ghost use Rattle.nv_core.specs.machine.World.{Answers, Done, Ending, Event, Go, HandState, Number, Overtaken, Refused, Running, Shared, Start, Started, Unlock, Visit, Waiting, World, actor_at, cell_at, list_at, owner_at};
 
 /// A `Go` of an actor whose call runs makes the one step that comes next, and changes only its actor and the
 /// parts that the step is lent. A start changes its actor alone: one without a call has the call now, before its
@@ -293,16 +293,20 @@ pub fn the_plain_world_is_that_of_settled_logs()
 {}
 
 /// A step that refuses a call does so for a fault whose cause is there at that step: the plain world refuses the call at
-/// the look, the check or the visit; no number was free; the last list was asked and is short; no further commit
-/// number is there; names were bound anew and no round is left; or memory that the step asks for was not granted. The
-/// call has only its last steps left then, which lead to that refusal ([`what_commits_is_answered`]).
+/// the look, the check or the visit; it does not, and no number was free; the last list was asked and is short; no
+/// further commit number is there; no round of looks is left; or memory that the step asks for was not granted. A call is
+/// overtaken at its check alone, where a name is bound anew. A refused call has only its last steps left, which lead
+/// to that refusal ([`what_commits_is_answered`]).
 pub fn refusals_have_causes()
     ensures causes { (block actor : ℕ) (granted : Bool) (s : Shared) (h : HandState) (r : Running)
         → r.ending ≡ Answers
-        → RefusesFor (IsCause r.next block actor granted s h r) (turn block actor granted s h r) }
+        → RefusesFor (IsCause r.next block actor granted s h r) (MayBeOvertaken r.next s r)
+        (turn block actor granted s h r) }
+    ensures number { (block actor : ℕ) (granted : Bool) (s : Shared) (h : HandState) (r : Running)
+        → FindsNone s (kind_turn Number block actor granted s h r) }
     ensures contended { (place block actor : ℕ) (granted : Bool) (s : Shared) (h : HandState) (r : Running)
         → r.ending ≡ Overtaken
-        → RefusesFor (IsRoundless r) (kind_turn (Unlock place) block actor granted s h r) }
+        → RefusesFor (IsRoundless r) (Unit {0}) (kind_turn (Unlock place) block actor granted s h r) }
 {}
 
 /// A call is contended only after eight checks that each found a name bound anew: a started call has eight such checks
