@@ -69,3 +69,5 @@ pub mod PoolLaw
 pub mod FitsPooled
 pub mod PoolHands
 pub mod PoolRows
+pub mod Contended
+pub mod Visiting

@@ -20,3 +20,4 @@ pub mod Effects
 pub mod Causes
 pub mod FitsNow
 pub mod PoolScan
+pub mod Rounds

@@ -7,12 +7,13 @@ use Rattle.nv_calls.specs.Plain.{PlainNode}
 use Rattle.nv_calls.specs.declared.call.Call.{Call}
 use Rattle.nv_calls.specs.declared.call.Call.TheVariants as call
 use Rattle.nv_core.specs.machine.Answered.{GoesTo, IsFinal, IsLast, IsMovedTo, IsToEnd, answer_of}
+use Rattle.nv_core.specs.machine.Frame.{lent}
 use Rattle.nv_core.specs.machine.Kept.{IsKept, Knows, KnowsOf}
 use Rattle.nv_core.specs.machine.Kinds.{back_turn, end_turn, over_turn, rest_turn, result_by, unlocked_turn}
 use Rattle.nv_core.specs.machine.Locks.{commits_at}
 use Rattle.nv_core.specs.machine.PlainRun.{Commits, Nothing, Numbers, deed, deed_by, deed_of, entered, keeps_nodes}
 use Rattle.nv_core.specs.machine.Reads.{written_slots}
-use Rattle.nv_core.specs.machine.Sequence.{Visits, beginning, closing, publishing, retiring}
+use Rattle.nv_core.specs.machine.Sequence.{Visits, appending, beginning, closing, opening, publishing, retiring}
 use Rattle.nv_core.specs.machine.Step.{kind_turn, reply_of, step, turn, turned}
 use Rattle.nv_core.specs.machine.World.{Actor, Answers, Append, Back, Check, Close, Ending, Ends, Enter, Give, Go, HandState, Leave, Lock, Look, Moves, Next, Number, Open, Overtaken, Publish, Ready, Refuses, Retire, Running, Shared, TakeBlocks, TakePages, Turn, Unlock, Visit, Waits, World, actor_at, go_to, idle}
 use Rattle.nv_core.proofs.steps.Events.{go_is_turn}
@@ -44,11 +45,36 @@ end_end : (e : Ending) (slots : List ℕ) (s : Shared) (h : HandState) (r : Runn
 end_end e [] s h r final is = unlocked_end e s h (record r { ending = r.ending }) final is
 end_end e (slot ∷ slots) s h r final is = (record { ends = is; last = tt }, refl)
 
-retiring_end : (e : Ending) (place : ℕ) (r : Running) → r.ending ≡ e → IsToEnd e (go_to (retiring place (written_slots r)) r)
-retiring_end e place r is = record { ends = is; last = go (nat_lt place (length (written_slots r))) } where
+-- what comes behind each step of a commit is such a step
+retiring_last : (place : ℕ) (written : List ℕ) → IsLast (retiring place written)
+retiring_last place written = go (nat_lt place (length written)) where
   go : (b : Bool) → IsLast (if b then Retire place else Leave)
   go true = tt
   go false = tt
+
+closing_last : (written : List ℕ) → IsLast (closing written)
+closing_last written = go (nat_lt 1 (length written)) where
+  go : (b : Bool) → IsLast (if b then Close else retiring 0 written)
+  go true = tt
+  go false = retiring_last 0 written
+
+publishing_last : (place : ℕ) (written : List ℕ) → IsLast (publishing place written)
+publishing_last place written = go (nat_lt place (length written)) where
+  go : (b : Bool) → IsLast (if b then Publish place else closing written)
+  go true = tt
+  go false = closing_last written
+
+opening_last : (written : List ℕ) → IsLast (opening written)
+opening_last written = go (nat_lt 1 (length written)) where
+  go : (b : Bool) → IsLast (if b then Open else publishing 0 written)
+  go true = tt
+  go false = publishing_last 0 written
+
+pub appending_last : (place : ℕ) (written : List ℕ) → IsLast (appending place written)
+appending_last place written = go (nat_lt place (length written)) where
+  go : (b : Bool) → IsLast (if b then Append place else opening written)
+  go true = tt
+  go false = opening_last written
 
 unlock_end : (e : Ending) (more : Bool) (place : ℕ) (s : Shared) (h : HandState) (r : Running) → IsFinal e → r.ending ≡ e
     → OnEnd e r (unlocked_turn more place s h r)
@@ -62,7 +88,8 @@ back_end e (Some ino) s h r is = rw is refl
 
 kind_end : (e : Ending) (k : Next) (block a : ℕ) (granted : Bool) (s : Shared) (h : HandState) (r : Running) → IsFinal e
     → r.ending ≡ e → IsLast k → OnEnd e r (kind_turn k block a granted s h r)
-kind_end e (Retire place) block a granted s h r final is last = (retiring_end e (place + 1) r is, refl)
+kind_end e (Retire place) block a granted s h r final is last =
+    (record { ends = is; last = retiring_last (place + 1) (written_slots r) }, refl)
 kind_end e Leave block a granted s h r final is last = end_end e r.slots _ h r final is
 kind_end e (Unlock place) block a granted s h r final is last = unlock_end e _ place _ h r final is
 kind_end e (Give cpu) block a granted s h r final is last = rest_end e _ h.ino _ _ r is
@@ -75,29 +102,17 @@ kind_end e (TakeBlocks asked) block a granted s h r final is last = absurd last
 kind_end e (TakePages asked) block a granted s h r final is last = absurd last
 kind_end e Ready block a granted s h r final is last = absurd last
 kind_end e Enter block a granted s h r final is last = absurd last
-kind_end e (Append place) block a granted s h r final is last = absurd last
-kind_end e Open block a granted s h r final is last = absurd last
-kind_end e (Publish place) block a granted s h r final is last = absurd last
-kind_end e Close block a granted s h r final is last = absurd last
+kind_end e (Append place) block a granted s h r final is last =
+    (record { ends = is; last = appending_last (place + 1) (written_slots r) }, refl)
+kind_end e Open block a granted s h r final is last =
+    (record { ends = is; last = publishing_last 0 (written_slots r) }, refl)
+kind_end e (Publish place) block a granted s h r final is last =
+    (record { ends = is; last = publishing_last (place + 1) (written_slots r) }, refl)
+kind_end e Close block a granted s h r final is last =
+    (record { ends = is; last = retiring_last 0 (written_slots r) }, refl)
 kind_end e Visit block a granted s h r final is last = absurd last
 
 -- ---- commit points
-
--- the one publish of a commit of one inode leads to its retire
-single : (place : ℕ) (r : Running) → r.ending ≡ Answers → nat_lt 1 (length (written_slots r)) ≡ false
-    → IsToEnd Answers (go_to (publishing (place + 1) (written_slots r)) r)
-single place r e one = go (nat_lt (place + 1) (length (written_slots r))) refl where
-  few : length (written_slots r) ≤ 1
-  few = ltb-false 1 (length (written_slots r)) one
-
-  close : (b : Bool) → b ≡ false → IsToEnd Answers (go_to (if b then Close else retiring 0 (written_slots r)) r)
-  close true q = cc
-  close false q = retiring_end Answers 0 r e
-
-  go : (b : Bool) → nat_lt (place + 1) (length (written_slots r)) ≡ b
-      → IsToEnd Answers (go_to (if b then Publish (place + 1) else closing (written_slots r)) r)
-  go true q = absurd (omega (arith, few, ltb-true (place + 1) (length (written_slots r)) q))
-  go false q = close (nat_lt 1 (length (written_slots r))) one
 
 pub is_single : (b : Bool) → cond b Nothing Commits ≡ Commits → b ≡ false
 is_single true e = absurd (false≢true (sym (ap keeps_nodes e)))
@@ -116,9 +131,8 @@ entered_none (Ends result s h) e = no_commit e
 
 commit_answer : (k : Next) (block a cpu : ℕ) (granted : Bool) (s : Shared) (h : HandState) (r : Running) → Knows k block s cpu h r
     → deed k (written_slots r) (kind_turn k block a granted s h r) ≡ Commits → OnEnd Answers r (kind_turn k block a granted s h r)
-commit_answer Close block a cpu granted s h r knows e = (retiring_end Answers 0 r knows.1, refl)
-commit_answer (Publish place) block a cpu granted s h r knows e =
-    (single place r knows.1 (is_single (nat_lt 1 (length (written_slots r))) e), refl)
+commit_answer Close block a cpu granted s h r knows e = kind_end Answers Close block a granted s h r tt knows.1 tt
+commit_answer (Publish place) block a cpu granted s h r knows e = kind_end Answers (Publish place) block a granted s h r tt knows.1 tt
 commit_answer Enter block a cpu granted s h r knows e = absurd (entered_none _ e)
 commit_answer Number block a cpu granted s h r knows e = absurd (no_commit e)
 commit_answer (Look place) block a cpu granted s h r knows e = absurd (no_commit e)
@@ -173,6 +187,38 @@ commits_to_answer w actor granted r kept there is e =
     (subst (λ (running : Option Running). KnowsOf running w.numbers.block w.shared (actor % length w.shared.lists)
     (actor_at w actor).hand) is (kept.each actor))
     (sym (deed_is (nat_lt actor (length w.actors)) (actor_at w actor).running w actor granted r inside is) ∙ e)))
+
+-- ---- a step that changes a cell
+
+cell_answers : (k : Next) (block cpus cpu a ino : ℕ) (s : Shared) (h : HandState) (r : Running) → Knows k block s cpu h r
+    → (lent k cpus a r).cell ≡ Some ino → (r.ending ≡ Answers) × IsLast k
+cell_answers (Append place) block cpus cpu a ino s h r knows e = (knows.1, tt)
+cell_answers (Publish place) block cpus cpu a ino s h r knows e = (knows.1, tt)
+cell_answers (Retire place) block cpus cpu a ino s h r knows e = (knows.1, tt)
+cell_answers Number block cpus cpu a ino s h r knows e = cc
+cell_answers (Look place) block cpus cpu a ino s h r knows e = cc
+cell_answers (Lock place) block cpus cpu a ino s h r knows e = cc
+cell_answers Check block cpus cpu a ino s h r knows e = cc
+cell_answers (TakeBlocks asked) block cpus cpu a ino s h r knows e = cc
+cell_answers (TakePages asked) block cpus cpu a ino s h r knows e = cc
+cell_answers Ready block cpus cpu a ino s h r knows e = cc
+cell_answers Enter block cpus cpu a ino s h r knows e = cc
+cell_answers Open block cpus cpu a ino s h r knows e = cc
+cell_answers Close block cpus cpu a ino s h r knows e = cc
+cell_answers Leave block cpus cpu a ino s h r knows e = cc
+cell_answers (Unlock place) block cpus cpu a ino s h r knows e = cc
+cell_answers (Give home) block cpus cpu a ino s h r knows e = cc
+cell_answers Back block cpus cpu a ino s h r knows e = cc
+cell_answers Visit block cpus cpu a ino s h r knows e = cc
+
+pub cells_are_answered : (w : World) (actor ino : ℕ) (r : Running) → IsKept w → (actor_at w actor).running ≡ Some r
+    → (lent r.next (length w.shared.lists) actor r).cell ≡ Some ino → IsToEnd Answers r
+cells_are_answered w actor ino r kept is e =
+    let both = cell_answers r.next w.numbers.block (length w.shared.lists) (actor % length w.shared.lists) actor ino w.shared
+    (actor_at w actor).hand r
+    (subst (λ (running : Option Running). KnowsOf running w.numbers.block w.shared (actor % length w.shared.lists)
+    (actor_at w actor).hand) is (kept.each actor)) e in
+    record { ends = both.0; last = both.1 }
 
 -- ---- the answer of a call that commits is told by no node
 

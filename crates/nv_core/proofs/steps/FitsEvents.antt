@@ -8,7 +8,8 @@ use Rattle.nv_alloc.specs.Numbers.{has}
 use Rattle.nv_base.specs.declared.geometry.GeometryNumbers.{GeometryNumbers}
 use Rattle.nv_base.specs.declared.numbers.Handle.{Handle}
 use Rattle.nv_base.specs.Limits.{IsWithinLimits}
-use Rattle.nv_calls.specs.AllCalls.{effect}
+use Rattle.nv_calls.specs.AllCalls.{effect, refusal}
+use Rattle.nv_calls.specs.Refusals.{passes}
 use Rattle.nv_calls.specs.Plain.{node_in, nodes_after}
 use Rattle.nv_calls.specs.Slots.{Slot}
 use Rattle.nv_calls.specs.declared.call.Call.{Call}
@@ -17,7 +18,7 @@ use Rattle.nv_calls.specs.Retiring.{erased}
 use Rattle.nv_entry.specs.declared.item.Entry.{Entry}
 use Rattle.nv_epoch.specs.SnapList.{ids}
 use Rattle.nv_core.specs.machine.Effects.{AreSound, HasPlanNow}
-use Rattle.nv_core.specs.machine.FitsNow.{bytes_in}
+use Rattle.nv_core.specs.machine.FitsNow.{bytes_in, is_checked}
 use Rattle.nv_core.specs.machine.Format.{formatted}
 use Rattle.nv_core.specs.machine.Frame.{IsFramed, Lent, lent}
 use Rattle.nv_core.specs.machine.Hands.{AreNumbers, HandAt, HandOf}
@@ -249,6 +250,10 @@ module _ (g : GeometryNumbers) (w : World) (known : IsKnown g w) (fit : AreFit w
             sizes = fit.sizes;
           }) fit.sound r k.kept.some at.1 at.2
 
+      -- its call passes
+      pub passes_now : refusal block (node_in (settled_nodes w.shared)) r.call ≡ passes
+      passes_now = at.1.passes
+
       -- and its commit is the last that was entered
       pub number_now : r.commit ≡ w.shared.book.commit
       number_now =
@@ -362,6 +367,37 @@ all_known g within events = record {
 pub all_fit : (g : GeometryNumbers) → IsWithinLimits g → (events : List Event) → AreFit (after (formatted g) events)
 all_fit g within events = events_fit g events (formatted g) (all_known g within) (new_fit g within)
 
+-- from its check to its commit point
+checked_passed : (k : Next) (block : ℕ) (s : Shared) (h : HandState) (r : Running) → is_checked k ≡ true → FitsAt k block s h r
+    → Passed block s r
+checked_passed (TakeBlocks asked) block s h r e f = f.0
+checked_passed (TakePages asked) block s h r e f = f.0
+checked_passed Ready block s h r e f = f.0
+checked_passed Enter block s h r e f = f.0
+checked_passed (Append place) block s h r e f = f.0
+checked_passed Open block s h r e f = f.0
+checked_passed (Publish place) block s h r e f = f.0
+checked_passed Close block s h r e f = f.0
+checked_passed Number block s h r e f = cc
+checked_passed (Look place) block s h r e f = cc
+checked_passed (Lock place) block s h r e f = cc
+checked_passed Check block s h r e f = cc
+checked_passed (Retire place) block s h r e f = cc
+checked_passed Leave block s h r e f = cc
+checked_passed (Unlock place) block s h r e f = cc
+checked_passed (Give cpu) block s h r e f = cc
+checked_passed Back block s h r e f = cc
+checked_passed Visit block s h r e f = cc
+
+pub still_passes : (g : GeometryNumbers) (events : List Event) (actor : ℕ) (r : Running) → IsWithinLimits g
+    → (actor_at (after (formatted g) events) actor).running ≡ Some r → is_checked r.next ≡ true
+    → Passed (after (formatted g) events).numbers.block (after (formatted g) events).shared r
+still_passes g events actor r within is e =
+    let w : World = after (formatted g) events in
+    checked_passed r.next w.numbers.block w.shared (actor_at w actor).hand r e
+    (subst (λ (running : Option Running). FitsOf running w.numbers.block w.shared (actor_at w actor).hand) is
+    ((all_fit g within events).each actor))
+
 module _ (g : GeometryNumbers) (events : List Event) (actor : ℕ) (granted : Bool) (r : Running) (within : IsWithinLimits g) where
   abbrev w : World
   w = after (formatted g) events
@@ -370,6 +406,10 @@ module _ (g : GeometryNumbers) (events : List Event) (actor : ℕ) (granted : Bo
     -- at a commit point the plan fits the effect of its call
     pub has_plan : HasPlanNow (bytes_in w.shared) w.numbers.block w.shared r
     has_plan = fits_now g w (all_known g within events) (all_fit g within events) actor granted r is there e
+
+    -- and the plain world does not refuse the call
+    pub has_passed : refusal w.numbers.block (node_in (settled_nodes w.shared)) r.call ≡ passes
+    has_passed = passes_now g w (all_known g within events) (all_fit g within events) actor granted r is there e
 
     -- so it has this effect
     pub has_effect : (handle : Handle) → settled_nodes (step w (Go actor granted)).world.shared handle

@@ -4,10 +4,14 @@ use Rattle.nv_calls.specs.AllCalls.{answer}
 use Rattle.nv_calls.specs.declared.answer.Answer.{Answer}
 use Rattle.nv_core.specs.machine.Kinds.{result_by}
 use Rattle.nv_core.specs.machine.Step.{Step, reply_of}
-use Rattle.nv_core.specs.machine.World.{Answers, Back, Ending, Give, Leave, Moved, Next, Overtaken, Refuses, Retire, Running, Unlock, actor_at}
+use Rattle.nv_core.specs.machine.World.{Answers, Append, Back, Close, Ending, Give, Leave, Moved, Next, Open, Overtaken, Publish, Refuses, Retire, Running, Unlock, actor_at}
 
--- no step is left that decides anything: parts are retired, and what is locked or in the hand is given up
+-- no step is left that decides anything: a commit is under way, or what is locked or in the hand is given up
 abbrev pub IsLast : Next → Type 0
+IsLast (Append place) = Unit {0}
+IsLast Open = Unit {0}
+IsLast (Publish place) = Unit {0}
+IsLast Close = Unit {0}
 IsLast (Retire place) = Unit {0}
 IsLast Leave = Unit {0}
 IsLast (Unlock place) = Unit {0}

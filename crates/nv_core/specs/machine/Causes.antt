@@ -1,9 +1,10 @@
 -- For what a step refuses its call.
-use Rattle.std.specs.Prelude.{◌≡◌, ℕ, ◌+◌, ◌<◌, ◌≤◌, ◌⊎◌, Bool, true, false, [], length, Result, Ok, Err}
+use Rattle.std.specs.Prelude.{◌≡◌, ℕ, ◌+◌, ◌<◌, ◌≤◌, ◌⊎◌, Bool, true, false, [], length, None, Result, Ok, Err}
 use Rattle.nv_base.specs.declared.fault.Fault.{Fault}
 use Rattle.nv_base.specs.declared.fault.Fault.TheVariants.{CommitLimit, Contended, NoInode, NoSpace, OutOfMemory}
 use Rattle.nv_base.specs.declared.limits.TheConstants.{NUMBER}
-use Rattle.nv_calls.specs.AllCalls.{look_refusal, looked, refusal}
+use Rattle.nv_calls.specs.AllCalls.{early, look_refusal, looked, refusal}
+use Rattle.nv_calls.specs.Refusals.{passes}
 use Rattle.nv_calls.specs.declared.answer.Answer.{Answer}
 use Rattle.nv_core.specs.machine.Answered.{IsLast}
 use Rattle.nv_core.specs.machine.Kinds.{asked_list}
@@ -22,7 +23,11 @@ IsRefusal block s r fault = refusal block (copies s) r.call ≡ Err fault
 abbrev pub IsDenied : Bool → Fault → Type 0
 IsDenied granted fault = (fault ≡ OutOfMemory) × (granted ≡ false)
 
--- the call makes an inode, and its number step found none free
+-- the plain world does not refuse it
+abbrev pub Passes : ℕ → Shared → Running → Type 0
+Passes block s r = refusal block (copies s) r.call ≡ passes
+
+-- the call makes an inode, and has no number: its number step found none free
 abbrev pub IsWithoutNumber : HandState → Running → Fault → Type 0
 IsWithoutNumber h r fault = (fault ≡ NoInode) × (is_numbered (beginning r.call) h.ino ≡ false)
 
@@ -36,9 +41,9 @@ pub record IsShort (s : Shared) (cpu asked : ℕ) (r : Running) (fault : Fault) 
 abbrev pub IsAtLimit : Shared → Fault → Type 0
 IsAtLimit s fault = (fault ≡ CommitLimit) × (NUMBER ≤ s.book.commit)
 
--- a name is bound anew since the looks
+-- the tests before the names pass, and a name is bound anew since the looks
 abbrev pub IsOvertaken : Shared → Running → Type 0
-IsOvertaken s r = same_looked (looked (copies s) r.call) r.looked ≡ false
+IsOvertaken s r = (early (copies s) r.call ≡ passes) × (same_looked (looked (copies s) r.call) r.looked ≡ false)
 
 -- that is so, nothing is locked, and no round of looks is left
 abbrev pub IsLastRound : Shared → Running → Fault → Type 0
@@ -52,28 +57,41 @@ IsRoundless r fault = (fault ≡ Contended) × (r.rounds ≡ 0)
 abbrev pub IsCause : Next → ℕ → ℕ → Bool → Shared → HandState → Running → Fault → Type 0
 IsCause (Look place) block actor granted s h r fault = look_refusal (copies s) r.call ≡ Err fault
 IsCause Check block actor granted s h r fault =
-    IsRefusal block s r fault ⊎ IsWithoutNumber h r fault ⊎ IsDenied granted fault ⊎ IsLastRound s r fault
+    IsRefusal block s r fault ⊎ (IsWithoutNumber h r fault × Passes block s r) ⊎ (IsDenied granted fault × Passes block s r)
+    ⊎ IsLastRound s r fault
 IsCause (TakeBlocks asked) block actor granted s h r fault = IsShort s (asked_list (length s.lists) actor asked) asked r fault
 IsCause (TakePages asked) block actor granted s h r fault = IsShort s (asked_list (length s.lists) actor asked) asked r fault
 IsCause Ready block actor granted s h r fault = IsDenied granted fault
 IsCause Enter block actor granted s h r fault = IsAtLimit s fault ⊎ IsDenied granted fault
-IsCause Visit block actor granted s h r fault = IsRefusal block s r fault ⊎ (IsDenied granted fault × (visit_grows r.call ≡ true))
+IsCause Visit block actor granted s h r fault =
+    IsRefusal block s r fault ⊎ (IsDenied granted fault × (visit_grows r.call ≡ true) × Passes block s r)
 IsCause other block actor granted s h r fault = ⊥
+
+-- a call may be overtaken at its check alone
+abbrev pub MayBeOvertaken : Next → Shared → Running → Type 0
+MayBeOvertaken Check s r = IsOvertaken s r
+MayBeOvertaken other s r = ⊥
 
 -- ---- a step that refuses its call
 
--- whatever fault a call is to end with meets this, and the call has only its last steps left
-abbrev pub EndsFor : (Fault → Type 0) → Next → Ending → Type 0
-EndsFor P next (Refuses fault) = P fault × IsLast next
-EndsFor P next Answers = Unit {0}
-EndsFor P next Overtaken = Unit {0}
+-- whatever fault a call is to end with meets this, and the call has only its last steps left; and this holds where it is overtaken
+abbrev pub EndsFor : (Fault → Type 0) → Type 0 → Next → Ending → Type 0
+EndsFor P Q next (Refuses fault) = P fault × IsLast next
+EndsFor P Q next Answers = Unit {0}
+EndsFor P Q next Overtaken = Q
 
 abbrev pub ResultFor : (Fault → Type 0) → Result Answer Fault → Type 0
 ResultFor P (Ok found) = Unit {0}
 ResultFor P (Err fault) = P fault
 
 -- whatever fault a turn refuses its call for meets this: the call is to end with it, or ends with it now
-abbrev pub RefusesFor : (Fault → Type 0) → Turn → Type 0
-RefusesFor P (Moves s h r) = EndsFor P r.next r.ending
-RefusesFor P Waits = Unit {0}
-RefusesFor P (Ends result s h) = ResultFor P result
+abbrev pub RefusesFor : (Fault → Type 0) → Type 0 → Turn → Type 0
+RefusesFor P Q (Moves s h r) = EndsFor P Q r.next r.ending
+RefusesFor P Q Waits = Unit {0}
+RefusesFor P Q (Ends result s h) = ResultFor P result
+
+-- a step leaves its call without a number only where no number is free
+abbrev pub FindsNone : Shared → Turn → Type 0
+FindsNone s (Moves t h r) = h.ino ≡ None → s.pool.numbers ≡ []
+FindsNone s Waits = Unit {0}
+FindsNone s (Ends result t h) = Unit {0}

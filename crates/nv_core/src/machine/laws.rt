@@ -7,17 +7,21 @@ ghost use Rattle.nv_base.specs.Limits.{IsWithinLimits};
 ghost use Rattle.nv_base.specs.declared.fault.Fault.TheVariants.{ActorBusy, ActorIdle, NoActor};
 ghost use Rattle.nv_base.specs.declared.geometry.GeometryNumbers.{GeometryNumbers};
 ghost use Rattle.nv_base.specs.declared.numbers.Handle.{Handle};
-ghost use Rattle.nv_calls.specs.AllCalls.{answer, effect};
+ghost use Rattle.nv_calls.specs.AllCalls.{answer, effect, looked, refusal};
+ghost use Rattle.nv_calls.specs.Refusals.{passes};
 ghost use Rattle.nv_calls.specs.Plain.{PlainNode, node_in, nodes_after};
+ghost use Rattle.nv_calls.specs.Locked.{SameCall, handles};
+ghost use Rattle.nv_calls.specs.declared.answer.Answer.{Answer};
 ghost use Rattle.nv_calls.specs.declared.call.Call.{Call};
+ghost use Rattle.nv_calls.specs.declared.taken.Taken.{Taken};
 ghost use Rattle.nv_core.specs.machine.Bound.{AreNoStarts, bound_at, most_steps, moves};
 ghost use Rattle.nv_entry.specs.Sound.{IsSound};
 ghost use Rattle.nv_core.specs.machine.Answered.{GoesTo, IsFinal, IsToEnd};
-ghost use Rattle.nv_core.specs.machine.Causes.{IsCause, IsRoundless, RefusesFor};
+ghost use Rattle.nv_core.specs.machine.Causes.{FindsNone, IsCause, IsRoundless, MayBeOvertaken, RefusesFor};
 ghost use Rattle.nv_core.specs.machine.Effects.{AreSound, HasPlanNow};
-ghost use Rattle.nv_core.specs.machine.FitsNow.{bytes_in};
+ghost use Rattle.nv_core.specs.machine.FitsNow.{bytes_in, is_checked};
 ghost use Rattle.nv_core.specs.machine.Format.{formatted};
-ghost use Rattle.nv_core.specs.machine.Frame.{IsOneStep, IsStart};
+ghost use Rattle.nv_core.specs.machine.Frame.{IsOneStep, IsStart, lent};
 ghost use Rattle.nv_core.specs.machine.Grown.{AreGrown, fresh_entries};
 ghost use Rattle.nv_core.specs.machine.Kept.{AreBlocksApart, IsKept};
 ghost use Rattle.nv_core.specs.machine.Locks.{AreLocks, HasLent, WaitsFor};
@@ -27,11 +31,12 @@ ghost use Rattle.nv_core.specs.machine.Order.{IsInOrder};
 ghost use Rattle.nv_core.specs.machine.PoolScan.{pool_from_scratch};
 ghost use Rattle.nv_core.specs.machine.Reached.{IsReached};
 ghost use Rattle.nv_core.specs.machine.PlainRun.{Commits, Plain, deed_of, keeps_nodes, plain_after, plain_of};
-ghost use Rattle.nv_core.specs.machine.Reads.{written_slots};
-ghost use Rattle.nv_core.specs.machine.Sequence.{Visits, beginning};
+ghost use Rattle.nv_core.specs.machine.Reads.{nodes, written_slots};
+ghost use Rattle.nv_core.specs.machine.Rounds.{HasRounds, failed_checks};
+ghost use Rattle.nv_core.specs.machine.Sequence.{Visits, beginning, nothing_looked};
 ghost use Rattle.nv_core.specs.machine.Settled.{settled, settled_nodes};
-ghost use Rattle.nv_core.specs.machine.Step.{after, kind_turn, stays, step, turn};
-ghost use Rattle.nv_core.specs.machine.World.{Answers, Ending, Event, Go, HandState, Overtaken, Refused, Running, Shared, Start, Started, Unlock, Waiting, World, actor_at, cell_at, list_at};
+ghost use Rattle.nv_core.specs.machine.Step.{after, handle_at, kind_turn, stays, step, turn};
+ghost use Rattle.nv_core.specs.machine.World.{Answers, Done, Ending, Event, Go, HandState, Number, Overtaken, Refused, Running, Shared, Start, Started, Unlock, Visit, Waiting, World, actor_at, cell_at, list_at, owner_at};
 
 /// A `Go` of an actor whose call runs makes the one step that comes next, and changes only its actor and the
 /// parts that the step is lent. A start changes its actor alone: one without a call has the call now, before its
@@ -160,9 +165,11 @@ pub fn the_plain_world_counts_commits()
         → (after w events).shared.book.commit ≡ (plain_after w events p).commit }
 {}
 
-/// A call that has made its commit point is answered, whatever follows, and one that was refused is answered that
-/// refusal: from there on each of its steps moves it on towards that end, or is its last and replies it. So a call that ends refused has made none. Of
-/// calls that commit no node tells the answer, so that it is the one of the commit point.
+/// A call that has begun to append is answered, whatever follows, and one that was refused is answered that
+/// refusal: from there on each of its steps moves it on towards that end, or is its last and replies it. A call whose
+/// step is lent a cell to change is such a call, so that one which ends refused has changed no log
+/// ([`one_step`]) and made no commit. Of calls that commit no node tells the answer, so that it is the one of the
+/// commit point.
 pub fn what_commits_is_answered()
     ensures commits { (w : World) (actor : ℕ) (granted : Bool) (r : Running) → IsKept w
         → actor < length w.actors → (actor_at w actor).running ≡ Some r
@@ -171,6 +178,9 @@ pub fn what_commits_is_answered()
     ensures goes { (e : Ending) (w : World) (actor : ℕ) (granted : Bool) (r : Running) → IsFinal e
         → actor < length w.actors → (actor_at w actor).running ≡ Some r → IsToEnd e r
         → GoesTo e actor r (step w (Go actor granted)) }
+    ensures writes { (w : World) (actor ino : ℕ) (r : Running) → IsKept w
+        → (actor_at w actor).running ≡ Some r
+        → (lent r.next (length w.shared.lists) actor r).cell ≡ Some ino → IsToEnd Answers r }
     ensures same { (nodes other : Handle → Option PlainNode) (made : Handle) (c : Call)
         → (beginning c ≡ Visits → ⊥) → answer nodes made c ≡ answer other made c }
 {}
@@ -233,8 +243,8 @@ pub fn new_worlds_lead_where_laws_hold()
         → (handle : Handle) → settled_nodes (step w e).world.shared handle ≡ settled_nodes w.shared handle }
 {}
 
-/// At each commit point, whatever events come from a new world on, the plan that stands fits the effect that its
-/// call has on the nodes of now, and so the commit point has that effect. `bytes_in` gives the bytes of all blocks
+/// At each commit point, whatever events come from a new world on, the plain world does not refuse the call, the plan
+/// that stands fits the effect that its call has on the nodes of now, and so the commit point has that effect. `bytes_in` gives the bytes of all blocks
 /// of all cells.
 pub fn plans_fit_at_commit_points()
     ensures fits { (g : GeometryNumbers) (events : List Event) (actor : ℕ) (granted : Bool) (r : Running)
@@ -243,6 +253,12 @@ pub fn plans_fit_at_commit_points()
         → deed_of (after (formatted g) events) (Go actor granted) ≡ Commits
         → HasPlanNow (bytes_in (after (formatted g) events).shared)
         (after (formatted g) events).numbers.block (after (formatted g) events).shared r }
+    ensures passes { (g : GeometryNumbers) (events : List Event) (actor : ℕ) (granted : Bool) (r : Running)
+        → IsWithinLimits g → actor < length (after (formatted g) events).actors
+        → (actor_at (after (formatted g) events) actor).running ≡ Some r
+        → deed_of (after (formatted g) events) (Go actor granted) ≡ Commits
+        → refusal (after (formatted g) events).numbers.block
+        (node_in (settled_nodes (after (formatted g) events).shared)) r.call ≡ passes }
     ensures nodes { (g : GeometryNumbers) (events : List Event) (actor : ℕ) (granted : Bool) (r : Running)
         → IsWithinLimits g → actor < length (after (formatted g) events).actors
         → (actor_at (after (formatted g) events) actor).running ≡ Some r
@@ -251,6 +267,20 @@ pub fn plans_fit_at_commit_points()
         ≡ nodes_after r.commit
         (effect (node_in (settled_nodes (after (formatted g) events).shared)) r.made r.call)
         (settled_nodes (after (formatted g) events).shared) handle }
+{}
+
+/// From its check to its commit point a call passes: whatever events come from a new world on, the plain world does
+/// not refuse it on the nodes of now, and its names are bound as its looks found them.
+pub fn checked_calls_still_pass()
+    ensures passes { (g : GeometryNumbers) (events : List Event) (actor : ℕ) (r : Running)
+        → IsWithinLimits g → (actor_at (after (formatted g) events) actor).running ≡ Some r
+        → is_checked r.next ≡ true
+        → refusal (after (formatted g) events).numbers.block
+        (node_in (settled_nodes (after (formatted g) events).shared)) r.call ≡ passes }
+    ensures found { (g : GeometryNumbers) (events : List Event) (actor : ℕ) (r : Running)
+        → IsWithinLimits g → (actor_at (after (formatted g) events) actor).running ≡ Some r
+        → is_checked r.next ≡ true
+        → looked (node_in (settled_nodes (after (formatted g) events).shared)) r.call ≡ r.looked }
 {}
 
 /// The plain world's nodes are those of the settled logs after every list of events, and these logs are sound.
@@ -263,14 +293,46 @@ pub fn the_plain_world_is_that_of_settled_logs()
 {}
 
 /// A step that refuses a call does so for a fault whose cause is there at that step: the plain world refuses the call at
-/// the look, the check or the visit; no number was free; the last list was asked and is short; no further commit
-/// number is there; names were bound anew and no round is left; or memory that the step asks for was not granted. The
-/// call has only its last steps left then, which lead to that refusal ([`what_commits_is_answered`]).
+/// the look, the check or the visit; it does not, and no number was free; the last list was asked and is short; no
+/// further commit number is there; no round of looks is left; or memory that the step asks for was not granted. A call is
+/// overtaken at its check alone, where a name is bound anew. A refused call has only its last steps left, which lead
+/// to that refusal ([`what_commits_is_answered`]).
 pub fn refusals_have_causes()
     ensures causes { (block actor : ℕ) (granted : Bool) (s : Shared) (h : HandState) (r : Running)
         → r.ending ≡ Answers
-        → RefusesFor (IsCause r.next block actor granted s h r) (turn block actor granted s h r) }
+        → RefusesFor (IsCause r.next block actor granted s h r) (MayBeOvertaken r.next s r)
+        (turn block actor granted s h r) }
+    ensures number { (block actor : ℕ) (granted : Bool) (s : Shared) (h : HandState) (r : Running)
+        → FindsNone s (kind_turn Number block actor granted s h r) }
     ensures contended { (place block actor : ℕ) (granted : Bool) (s : Shared) (h : HandState) (r : Running)
         → r.ending ≡ Overtaken
-        → RefusesFor (IsRoundless r) (kind_turn (Unlock place) block actor granted s h r) }
+        → RefusesFor (IsRoundless r) (Unit {0}) (kind_turn (Unlock place) block actor granted s h r) }
+{}
+
+/// A call is contended only after eight checks that each found a name bound anew: a started call has eight such checks
+/// to fail, each of them takes one, and no other event does. Where a call was overtaken and no round is left,
+/// eight have failed.
+pub fn contended_calls_have_failed_eight_checks()
+    ensures starts { (w : World) (actor : ℕ) (c : Call) → (step w (Start actor c)).reply ≡ Started
+        → HasRounds 8 0 (actor_at (step w (Start actor c)).world actor).running }
+    ensures fails { (events : List Event) (w : World) (actor all failed : ℕ)
+        → AreNoStarts actor events → HasRounds all failed (actor_at w actor).running
+        → HasRounds all (failed + failed_checks actor w events) (actor_at (after w events) actor).running }
+    ensures eight { (w : World) (actor : ℕ) (c : Call) (events : List Event) (r : Running)
+        → (step w (Start actor c)).reply ≡ Started → AreNoStarts actor events
+        → (actor_at (after (step w (Start actor c)).world events) actor).running ≡ Some r
+        → r.ending ≡ Overtaken → r.rounds ≡ 0
+        → 8 ≤ failed_checks actor (step w (Start actor c)).world events }
+{}
+
+/// A visit reads settled nodes, since it waits while its slot is held: what it tests and answers is the same there, so
+/// that its answer is the plain world's.
+pub fn visits_read_settled_nodes()
+    ensures reads { (w : World) (taken : Taken) (c : Call) → AreGrown w → beginning c ≡ Visits
+        → owner_at w.shared (handle_at (handles nothing_looked c) 0).ino ≡ None
+        → SameCall w.numbers.block (settled_nodes w.shared) (nodes w.shared) taken c }
+    ensures answers { (w : World) (actor : ℕ) (granted : Bool) (r : Running) (told : Answer)
+        → AreGrown w → actor < length w.actors → (actor_at w actor).running ≡ Some r
+        → r.next ≡ Visit → beginning r.call ≡ Visits → (step w (Go actor granted)).reply ≡ Done told
+        → told ≡ answer (settled_nodes w.shared) r.made r.call }
 {}

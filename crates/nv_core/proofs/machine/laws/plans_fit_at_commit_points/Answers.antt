@@ -1,4 +1,4 @@
-use Rattle.nv_core.proofs.steps.FitsEvents.{has_effect, has_plan}
+use Rattle.nv_core.proofs.steps.FitsEvents.{has_effect, has_passed, has_plan}
 use Rattle.nv_core.proofs.machine.laws.plans_fit_at_commit_points.Goals as goal
 
 pub returns-clause-fits : goal.returns-clause-fits
@@ -6,3 +6,6 @@ returns-clause-fits c = has_plan
 
 pub returns-clause-nodes : goal.returns-clause-nodes
 returns-clause-nodes c = has_effect
+
+pub returns-clause-passes : goal.returns-clause-passes
+returns-clause-passes c = has_passed
