@@ -1,16 +1,12 @@
-//! What the tests of the libraries start from, and how they compare: geometries, ids, names, free lists and queues by
-//! their numbers, logs by lines, and the logs of the worked examples.
+//! What the tests of the libraries start from: geometries, ids and handles by their numbers, logs by lines, and the logs of
+//! the worked examples.
 //!
-//! No library stands on this crate but tests alone. Its functions promise nothing to their callers but that they end.
+//! No library stands on this crate but tests alone. What may end a test's process stands in the crates of tests, since a
+//! library may not.
 #![tactic(auto)]
 
-mod compare;
-mod device;
+mod ids;
 pub mod logs;
 pub mod rows;
 
-pub use compare::{crosses_threads, same, same_for};
-pub use device::{
-    Row, below, free_list, geometry, handle, handle_of, has_numbers, id, name, next, next_number,
-    numbers, push, put, queue_for, reserve, take,
-};
+pub use ids::{Row, below, crosses_threads, geometry, handle, handle_of, id, next_number, numbers};

@@ -1,6 +1,6 @@
 //! Logs by lines, and the blocks that they are read with. Blocks have four bytes.
 
-use crate::device::{handle, id};
+use crate::ids::{handle, id};
 use nv_base::{BlockNo, Epoch, Kind, Mode, Name};
 use nv_entry::{BlockBytes, Entry, Item, PartId, Retention, Run, When};
 use std::alloc::Global;

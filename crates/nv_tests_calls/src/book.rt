@@ -3,10 +3,11 @@ mod calls;
 mod rows;
 mod slow;
 
+use crate::compare::same;
 use nv_base::{CommitNo, Epoch, Fault, Geometry, Ino};
 use nv_book::{Book, Record, Retired};
 use nv_entry::Part;
-use nv_scenes::{geometry, id, same};
+use nv_scenes::{geometry, id};
 use std::alloc::Global;
 use std::process::Abort;
 

@@ -1,8 +1,9 @@
 //! A first path through a world, by events and replies.
 
+use crate::compare::same;
 use nv_base::{Bytes, CommitNo, Fault, Mode, limits};
 use nv_core::{Answer, Call, Event, Reply, TreeNode, World};
-use nv_scenes::{Row, geometry, handle, handle_of, same};
+use nv_scenes::{Row, geometry, handle, handle_of};
 use std::alloc::Global;
 use std::process::Abort;
 use std::test::Fail;

@@ -1,11 +1,11 @@
 //! Each call with ample memory, on a device of 16 blocks of 4 bytes, two CPUs and 3 inodes. Where a growth is
 //! refused nothing has changed, and the call is made once more.
 
+use crate::compare::{push, same};
+use crate::device::{free_list, has_numbers, next, put, reserve, take};
 use nv_alloc::{Block, BlockQueue, FreeList, FreeRun, Hand, InodePool};
 use nv_base::{BlockNo, Fault, Geometry, Ino};
-use nv_scenes::{
-    Row, crosses_threads, free_list, geometry, has_numbers, next, push, put, reserve, same, take,
-};
+use nv_scenes::{Row, crosses_threads, geometry};
 use std::alloc::Global;
 use std::process::Abort;
 

@@ -3,11 +3,13 @@
 mod appends;
 mod removal;
 
+use crate::compare::same;
+use crate::device::{free_list, next, queue_for, take};
 use nv_alloc::{Block, BlockQueue, ChainPages, FreeList};
 use nv_base::{BlockNo, Epoch, Fault};
 use nv_entry::{Entry, Item};
 use nv_log::Chain;
-use nv_scenes::{Row, free_list, id, next, queue_for, same, take};
+use nv_scenes::{Row, id};
 use std::alloc::Global;
 use std::process::Abort;
 

@@ -2,10 +2,11 @@
 
 ghost use Rattle.std.specs.Prelude.{◌*◌, ◌≤◌};
 
+use crate::compare::{push, same, same_for};
 use nv_base::limits::FILE_PAGES;
 use nv_base::{EntryId, Fault};
 use nv_findex::{FileIndex, PageRef, PageRun};
-use nv_scenes::{crosses_threads, id, push, same, same_for};
+use nv_scenes::{crosses_threads, id};
 use std::alloc::Global;
 use std::process::Abort;
 

@@ -1,7 +1,8 @@
 //! Each call once.
+use crate::compare::same;
 use nv_base::Ino;
 use nv_journal::{Journal, OldTail, are_distinct};
-use nv_scenes::{crosses_threads, same};
+use nv_scenes::crosses_threads;
 use smallvec::{SmallVec, smallvec};
 use std::test::Fail;
 

@@ -1,9 +1,11 @@
 //! Directories as tables of changes. Each call is made with ample memory; where a growth is refused the names
 //! and the reserved name are as they were, and the call is made once more.
 
+use crate::compare::same;
+use crate::device::name;
 use nv_base::Fault;
 use nv_nindex::{Binding, NameIndex};
-use nv_scenes::{crosses_threads, handle, id, name, same};
+use nv_scenes::{crosses_threads, handle, id};
 use std::alloc::Global;
 use std::process::Abort;
 

@@ -1,7 +1,8 @@
 //! Snapshots: each call in a scene, and the limits.
+use crate::compare::{same, same_for};
 use nv_base::{Epoch, Fault, limits};
 use nv_epoch::{SnapList, Snapshot};
-use nv_scenes::{crosses_threads, same, same_for};
+use nv_scenes::crosses_threads;
 use std::alloc::Global;
 use std::process::Abort;
 use std::test::Fail;

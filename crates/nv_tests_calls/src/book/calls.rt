@@ -1,10 +1,11 @@
 //! The same calls on a book and on a slow one.
 use crate::book::slow::{SlowBook, compare};
 use crate::book::{enter, new_book, record, retire};
+use crate::compare::{same, same_for};
 use nv_base::{Epoch, Fault};
 use nv_book::{Book, Retired};
 use nv_entry::Part;
-use nv_scenes::{next_number, same, same_for};
+use nv_scenes::next_number;
 use std::alloc::Global;
 use std::process::Abort;
 

@@ -1,10 +1,10 @@
 //! Rows worked by hand, and limits.
 use crate::book::{device, enter, new_book, record, retire};
+use crate::compare::{same, same_for};
 use nv_base::{CommitNo, Epoch, Fault, Ino, limits};
 use nv_book::{Base, Book, Event, LATEST, Record, Retired};
 use nv_entry::Part;
 use nv_journal::{OldTail, are_distinct};
-use nv_scenes::{same, same_for};
 use smallvec::{SmallVec, smallvec};
 use std::alloc::Global;
 use std::process::Abort;

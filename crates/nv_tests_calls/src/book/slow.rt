@@ -1,8 +1,8 @@
 //! A slow book: one list of single records, and holders by a scan of the living snapshots.
+use crate::compare::{push, same, same_for};
 use nv_base::{Epoch, Fault};
 use nv_book::{Book, Record};
 use nv_entry::Part;
-use nv_scenes::{push, same, same_for};
 use std::alloc::Global;
 use std::process::Abort;
 

@@ -2,10 +2,11 @@
 
 use super::refusals::known;
 use super::says::{Says, update};
+use crate::compare::{same, same_for};
 use Says::{Create, Mkdir, Rename, Rmdir, Unlink};
 use nv_base::{Fault, Ino};
 use nv_calls::{Looked, found, is_as_looked, laws, look, look_all, place_in};
-use nv_scenes::{handle, same, same_for};
+use nv_scenes::handle;
 use std::test::Fail;
 
 /// A call, and the inodes that its names lead to. Where a look would be refused it finds nothing.

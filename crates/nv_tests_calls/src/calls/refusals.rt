@@ -2,14 +2,15 @@
 
 use super::known::{Known, KnownNode};
 use super::says::{Says, update};
+use crate::compare::same_for;
 use Says::{Create, List, Lookup, Mkdir, Mode, Read, Rename, Rmdir, Size, Stat, Unlink, Write};
 use nv_base::{Bytes, Fault, Kind, Name};
 use nv_calls::{
     Nodes, Update, calls, check, check_early, check_late, check_look, look_all, plan_of,
 };
 use nv_entry::{BoundName, NameList, NodeCopy};
+use nv_scenes::handle;
 use nv_scenes::logs::mode;
-use nv_scenes::{handle, same_for};
 use std::alloc::Global;
 use std::process::Abort;
 use std::test::Fail;

@@ -2,13 +2,14 @@
 
 use super::says::Says;
 use super::world::{Outcome, Row, World};
+use crate::compare::{same, same_for};
 use LogSays::{Bind, Directory, File, Gone, Size, Unbind, Write};
 use Outcome::{Commits, Nothing, Refused};
 use nv_base::Fault;
 use nv_entry::Entry;
+use nv_scenes::handle;
 use nv_scenes::logs::{Line, Says as LogSays, log_of};
 use nv_scenes::rows::{CUT, RUNS};
-use nv_scenes::{handle, same, same_for};
 use std::alloc::Global;
 use std::process::Abort;
 use std::test::Fail;

@@ -5,6 +5,7 @@ ghost use Rattle.std.specs.Prelude.{◌≡◌, IfOk};
 use super::known::{Known, KnownNode};
 use super::refusals::of_a_read;
 use super::says::{Says, update};
+use crate::compare::same_for;
 use nv_base::{BlockNo, Epoch, Fault, Handle, Ino, Items};
 use nv_calls::{
     Planned, PlannedItems, Taken, Update, blocks_wanted, check, ends_in_page, plan_items, plan_of,
@@ -12,7 +13,7 @@ use nv_calls::{
 };
 use nv_entry::{Entry, Item, When, node_when, page_source};
 use nv_scenes::logs::{Device, Says as LogSays, log_of};
-use nv_scenes::{handle, id, same_for};
+use nv_scenes::{handle, id};
 use std::alloc::Global;
 use std::process::Abort;
 use std::test::Fail;

@@ -2,8 +2,8 @@
 
 use super::pieces::{AT_ONCE, play_in_pieces};
 use super::rows::{FORMAT, SCRIPTS};
+use crate::compare::{same, same_for};
 use nv_base::{Fault, ScriptFaultKind};
-use nv_scenes::{same, same_for};
 use nv_script::play;
 use std::alloc::{AllocError, Global};
 use std::process::Abort;

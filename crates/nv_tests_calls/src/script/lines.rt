@@ -2,7 +2,7 @@
 ghost use Rattle.std.specs.Prelude.{◌≤◌};
 ghost use Rattle.std.specs.Vec.{vec_capacity};
 
-use nv_scenes::same;
+use crate::compare::same;
 use nv_script::feed::{Feed, MAX_LINE_BYTES, ReadFailed, Taken};
 use std::alloc::{AllocError, Global};
 use std::io;

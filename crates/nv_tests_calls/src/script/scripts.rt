@@ -2,8 +2,8 @@
 
 use super::pieces::play_in_pieces;
 use super::rows::{FAULTS, FORMAT, SCRIPTS};
+use crate::compare::{same, same_for};
 use nv_base::{Fault, ScriptFaultKind};
-use nv_scenes::{same, same_for};
 use nv_script::{fault_line, fault_text, play};
 use std::alloc::{AllocError, Global};
 use std::cell::Cell;

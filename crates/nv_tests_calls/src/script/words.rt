@@ -1,6 +1,6 @@
 //! Words by worked values.
 
-use nv_scenes::{same, same_for};
+use crate::compare::{same, same_for};
 use nv_script::word::{handle, mode, number, number_up_to, push_escaped, text, words};
 use std::alloc::Global;
 use std::process::Abort;

@@ -1,7 +1,8 @@
 //! Which numbers make a geometry, and the home ranges of two of them.
 
+use crate::compare::same_for;
 use nv_base::{BlockNo, Fault, Geometry, GeometryField, GeometryNumbers};
-use nv_scenes::{Row, geometry, numbers, same_for};
+use nv_scenes::{Row, geometry, numbers};
 use std::process::Abort;
 use std::test::Fail;
 

@@ -1,10 +1,10 @@
 //! The exact texts of faults and of the words in them.
 
+use crate::compare::same;
 use nv_base::{
     Fault, GeometryField as Field, ImageFault as Image, MismatchPart as Part,
     ScriptFaultKind as Kind,
 };
-use nv_scenes::same;
 use std::alloc::Global;
 use std::process::Abort;
 

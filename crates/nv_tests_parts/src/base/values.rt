@@ -1,8 +1,10 @@
 //! Names, modes, items and numbers.
 
+use crate::compare::{push, same, same_for};
+use crate::device::name;
 use nv_base::limits::{is_contended, most_drained};
 use nv_base::{BlockNo, Bytes, CommitNo, Epoch, Fault, Gen, Ino, Kind, Mode, Name};
-use nv_scenes::{id, name, push, same, same_for};
+use nv_scenes::id;
 use std::alloc::Global;
 use std::process::Abort;
 

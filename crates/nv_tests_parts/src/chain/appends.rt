@@ -3,9 +3,10 @@
 use super::{
     append, assert_commits, assert_pages, chain_of, free_blocks, let_go, publish, queue_with, shape,
 };
+use crate::compare::{same, same_for};
 use nv_base::{EntryId, Epoch};
 use nv_log::{Chain, ReadCount};
-use nv_scenes::{crosses_threads, id, same, same_for};
+use nv_scenes::{crosses_threads, id};
 use std::process::Abort;
 
 /// Three pages, without entries.

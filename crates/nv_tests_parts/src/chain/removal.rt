@@ -7,10 +7,11 @@ use super::{
     Page, add_page, append, assert_pages, chain_of, free_blocks, give_pages, let_go, nine_entries,
     publish, queue_with, reserve, shape,
 };
+use crate::compare::same;
+use crate::device::{has_numbers, next, put, queue_for};
 use nv_alloc::{Block, BlockQueue};
 use nv_base::BlockNo;
 use nv_log::Chain;
-use nv_scenes::{has_numbers, next, put, queue_for, same};
 use std::alloc::Global;
 use std::process::Abort;
 

@@ -2,15 +2,16 @@
 
 ghost use Rattle.std.specs.Prelude.{◌≡◌, IfSome, sum};
 
+use crate::compare::same_for;
 use nv_base::Epoch;
 use nv_entry::{
     Entry, Part, PartId, Retention, fast_keeps, is_droppable, is_kept, live, thorough_keeps, valid,
 };
+use nv_scenes::id;
 use nv_scenes::logs::{BLOCK, Line, epochs, log_of, retention};
 use nv_scenes::rows::{
     KILLER, KILLER_GONE, MODES, MODES_LEFT, RUNS, SHORT_LIVED, SIZES, TOMBSTONE, UNBOUND_TWICE,
 };
-use nv_scenes::{id, same_for};
 use std::alloc::Global;
 use std::process::Abort;
 use std::test::Fail;

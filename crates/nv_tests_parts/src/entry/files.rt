@@ -1,5 +1,6 @@
 //! What logs say of their keys, now and at a snapshot.
 
+use crate::compare::{same, same_for};
 use nv_base::{BlockNo, Epoch};
 use nv_entry::{
     Datum, Entry, Key, PageSource, Pair, PartId, first_cover, page_source, value_at, value_now,
@@ -7,7 +8,7 @@ use nv_entry::{
 };
 use nv_scenes::logs::{BLOCK, Line, epochs, log_of, when};
 use nv_scenes::rows::{CUT, KILLER, KILLER_GONE, NAMES, OVERWRITTEN, RUNS, SHORT_LIVED};
-use nv_scenes::{handle, id, same, same_for};
+use nv_scenes::{handle, id};
 use std::alloc::Global;
 use std::process::Abort;
 use std::test::Fail;

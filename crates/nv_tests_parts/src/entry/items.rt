@@ -1,10 +1,11 @@
 //! What each item sets, and its parts.
 
+use crate::compare::{same, same_for};
 use Says::{Bind, Directory, File, Gone, Mode, Size, Unbind, Write};
 use nv_base::{BlockNo, Epoch, Kind};
 use nv_entry::{Datum, Entry, Item, Key, Part, Setting, When};
 use nv_scenes::logs::{BLOCK, Says, item, mode};
-use nv_scenes::{handle, id, same, same_for};
+use nv_scenes::{handle, id};
 use std::process::Abort;
 use std::test::Fail;
 

@@ -1,12 +1,13 @@
 //! The nodes that logs give, now and at a snapshot.
 
+use crate::compare::same;
 use nv_base::{BlockNo, Kind};
 use nv_entry::{
     BlockBytes, BoundName, Entry, NameList, NodeCopy, When, names_when, node_when, size_when,
 };
+use nv_scenes::handle;
 use nv_scenes::logs::{BLOCK, Device, Line, log_of, when};
 use nv_scenes::rows::{CUT, NAMES, OVERWRITTEN, REMOVED, RUNS, SHORT_LIVED};
-use nv_scenes::{handle, same};
 use std::alloc::Global;
 use std::process::Abort;
 use std::test::Fail;

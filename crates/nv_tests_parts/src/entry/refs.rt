@@ -1,9 +1,10 @@
 //! Which part of which entry holds a key.
 
+use crate::compare::same_for;
 use nv_entry::{Key, PartRef, current_part};
+use nv_scenes::id;
 use nv_scenes::logs::{BLOCK, Line, log_of};
 use nv_scenes::rows::{CUT, NAMES, REMOVED, RUNS};
-use nv_scenes::{id, same_for};
 use std::test::Fail;
 
 /// A log, a key, and the part that holds it: commit and place of the entry, and the part's place.
