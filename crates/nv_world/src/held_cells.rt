@@ -25,8 +25,11 @@ impl Cells for HeldCells<'_> {
     ghost use Rattle.std.specs.Prelude.{◌∷◌, [], map, slice_index_or};
     ghost use Rattle.nv_cell.specs.Cell.{no_room, empty_cell};
 
-    ghost cells = { λ held. map (λ ino. (ino, slice_index_or held.cells.now ino
-        (record { state = empty_cell 0 0 0 0; room = no_room }))) held.slots.now };
+    ghost cells = { λ held. map (λ ino. (
+      ino,
+      slice_index_or held.cells.now ino
+          (record { state = empty_cell 0 0 0 0; room = no_room }),
+    )) held.slots.now };
 
     ghost places = { λ held. held.cells.ghost_name ∷ held.slots.now };
 

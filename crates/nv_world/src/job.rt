@@ -113,13 +113,7 @@ pub(crate) fn second_wanted(update: &Update) -> Option<Wanted<'_>> {
 /// In how many directories a call looks names up.
 pub(crate) fn look_count(update: &Update) -> usize {
     match (first_wanted(update), second_wanted(update)) {
-        (Some(first), Some(second)) => {
-            if first.dir == second.dir {
-                1
-            } else {
-                2
-            }
-        }
+        (Some(first), Some(second)) => { if first.dir == second.dir { 1 } else { 2 } }
         (Some(_), None) => 1,
         (None, _) => 0,
     }

@@ -2,7 +2,8 @@
 
 use crate::World;
 use nv_alloc::FreeRun;
-use nv_base::{Fault, Ino, Items};
+use nv_base::{Epoch, Fault, Ino, Items};
+use nv_book::Book;
 use nv_cell::{InodeCell, Mark, PageCounts};
 use nv_entry::{Entry, PartId};
 
@@ -43,7 +44,7 @@ impl World {
         let mut kept = 0;
         for cell in &shared.cells {
             chain += cell.log().blocks().len() as u64;
-            kept += kept_blocks(cell);
+            kept += kept_blocks(cell, &shared.book);
         }
         let pending = shared.book.deferred_blocks();
         let data = kept - pending;
@@ -82,17 +83,17 @@ impl World {
     }
 }
 
-/// How many blocks a cell has for published parts that are current or kept.
-fn kept_blocks(cell: &InodeCell) -> u64 {
+/// How many blocks a cell has for published parts that are current, recorded, or held by a living snapshot.
+fn kept_blocks(cell: &InodeCell, book: &Book) -> u64 {
     let mut count = 0;
     for (place, entry) in cell.log().log().iter().enumerate() {
-        count += kept_of(cell, place, entry);
+        count += kept_of(cell, book, place, entry);
     }
     count
 }
 
 /// How many of them are those of one entry.
-fn kept_of(cell: &InodeCell, place: usize, entry: &Entry) -> u64 {
+fn kept_of(cell: &InodeCell, book: &Book, place: usize, entry: &Entry) -> u64 {
     let marks = cell.marks_of(place);
     let mut count = 0;
     for (k, part) in entry.parts().enumerate() {
@@ -100,9 +101,18 @@ fn kept_of(cell: &InodeCell, place: usize, entry: &Entry) -> u64 {
             entry: entry.id,
             part,
         };
-        if matches!(marks[k], Mark::Current | Mark::Kept) && cell.block_of(id).is_some() {
+        if is_kept(marks[k], book, entry.epoch) && cell.block_of(id).is_some() {
             count += 1;
         }
     }
     count
+}
+
+/// Whether a part counts as data or as pending. What was killed and not yet retired dies in the present epoch.
+fn is_kept(mark: Mark, book: &Book, birth: Epoch) -> bool {
+    match mark {
+        Mark::Current | Mark::Kept => true,
+        Mark::Killed => book.snaps().youngest_in(birth, book.epoch()).is_some(),
+        Mark::Out => false,
+    }
 }

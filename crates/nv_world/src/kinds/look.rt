@@ -11,12 +11,7 @@ use nv_calls::{Looked, Update, look_on};
 
 /// Looks up the names of a call in one of their directories. The first name may be refused here. What is wrong with the
 /// second is told at the check.
-pub(crate) fn look(
-    shared: &Shared,
-    hold: &Hold,
-    running: &mut Running,
-    place: usize,
-) -> Turn {
+pub(crate) fn look(shared: &Shared, hold: &Hold, running: &mut Running, place: usize) -> Turn {
     let update = running.job.update();
     if shared.is_locked(directory(update, place).ino) {
         return Turn::Waits;

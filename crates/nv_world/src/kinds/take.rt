@@ -63,13 +63,7 @@ pub(crate) fn take_pages(
 }
 
 /// Some blocks are still wanted: the next list is asked, if there is one.
-fn ask_on(
-    shared: &Shared,
-    hold: &Hold,
-    running: &mut Running,
-    asked: u64,
-    next: Next,
-) -> Turn {
+fn ask_on(shared: &Shared, hold: &Hold, running: &mut Running, asked: u64, next: Next) -> Turn {
     if asked + 1 < shared.lists.len() as u64 {
         return running.go_to(next);
     }
@@ -77,12 +71,7 @@ fn ask_on(
 }
 
 /// Gives one list all blocks in the hand that are at home there.
-pub(crate) fn give(
-    shared: &mut Shared,
-    hold: &mut Hold,
-    running: &mut Running,
-    cpu: u64,
-) -> Turn {
+pub(crate) fn give(shared: &mut Shared, hold: &mut Hold, running: &mut Running, cpu: u64) -> Turn {
     hold.hand_mut().give_home(&mut shared.lists[cpu as usize]);
     give_back(shared, hold.hand(), running)
 }
