@@ -1,5 +1,7 @@
 //! The cells that a call has locked, lent to it out of the world's slots.
 
+ghost use Rattle.std.specs.Prelude.{◌<◌, length};
+
 use nv_alloc::{Block, BlockQueue};
 use nv_base::{Fault, Ino};
 use nv_calls::Cells;
@@ -16,7 +18,9 @@ pub(crate) struct HeldCells<'a> {
 
 impl HeldCells<'_> {
     /// The place among all cells.
-    fn place(&self, k: usize) -> usize {
+    fn place(&self, k: usize) -> usize
+        requires { k < length self.now.slots.now }
+    {
         self.slots[k].number() as usize
     }
 }

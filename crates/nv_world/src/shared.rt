@@ -1,5 +1,7 @@
 //! What actors share.
 
+ghost use Rattle.std.specs.Prelude.{◌<◌, length};
+
 use crate::held_cells::HeldCells;
 use crate::slots::Slots;
 use nv_alloc::{FreeList, InodePool};
@@ -31,7 +33,9 @@ impl Shared {
     }
 
     /// The CPU of an actor.
-    pub(crate) fn cpu_of(&self, actor: u64) -> u64 {
+    pub(crate) fn cpu_of(&self, actor: u64) -> u64
+        requires { 0 < length self.now.lists.items }
+    {
         actor % self.lists.len() as u64
     }
 
@@ -44,7 +48,9 @@ impl Shared {
     }
 
     /// Gives a slot's lock to an actor, or to nobody.
-    pub(crate) fn set_owner(&mut self, ino: Ino, owner: Option<u64>) {
+    pub(crate) fn set_owner(&mut self, ino: Ino, owner: Option<u64>)
+        requires { ino < length self.old.owners.items }
+    {
         let place = ino.number() as usize;
         self.owners[place] = owner;
     }
@@ -55,7 +61,9 @@ impl Shared {
     }
 
     /// The handle of the inode that a slot has now, or will have.
-    pub(crate) fn handle_of(&self, ino: Ino) -> Handle {
+    pub(crate) fn handle_of(&self, ino: Ino) -> Handle
+        requires { ino < length self.now.cells.items }
+    {
         let generation = self.cells[ino.number() as usize].generation();
         Handle { ino, generation }
     }

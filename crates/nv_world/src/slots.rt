@@ -1,5 +1,7 @@
 //! The slots that a call locks.
 
+ghost use Rattle.std.specs.Prelude.{◌<◌, ◌≤◌};
+
 use nv_base::{Handle, Ino};
 
 /// The most slots of a call: two directories, the inode that moves, and the one that it replaces.
@@ -10,6 +12,7 @@ const PLACES: usize = 4;
 pub(crate) struct Slots {
     inos: [Ino; PLACES],
     count: usize,
+    ghost few: { count ≤ 4 },
 }
 
 impl Slots {
@@ -28,7 +31,10 @@ impl Slots {
         self.count
     }
 
-    pub(crate) fn at(&self, place: usize) -> Ino {
+    /// The number at a place.
+    pub(crate) fn at(&self, place: usize) -> Ino
+        requires { place < self.now.count }
+    {
         self.inos[place]
     }
 
@@ -48,7 +54,9 @@ impl Slots {
     }
 
     /// A number more, which moves the higher ones up by a place.
-    fn with_new(self, ino: Ino) -> Slots {
+    fn with_new(self, ino: Ino) -> Slots
+        requires { self.count < 4 }
+    {
         let Slots { mut inos, count } = self;
         let mut place = count;
         while place > 0 && ino < inos[place - 1] {
