@@ -1,7 +1,8 @@
-//! File calls over plain nodes: the worked rows by their plans, and the order of refusals.
+//! File calls over plain nodes and on cells: the worked rows, and the order of refusals.
 
 mod known;
 mod looks;
+mod on_cells;
 mod refusals;
 mod rows;
 mod says;

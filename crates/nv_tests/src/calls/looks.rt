@@ -30,7 +30,7 @@ const LOOKS: &[(Says, Option<u64>, Option<u64>)] = &[
 fn looks_find_what_names_lead_to(rt: HostRuntime) -> Result<(), Fail> {
     let nodes = known(rt.alloc())?;
     for (says, first, second) in LOOKS {
-        let call = update(rt.alloc(), *says)?;
+        let call = update(&rt, rt.alloc(), *says);
         let wanted = Looked {
             first: first.map(handle),
             second: second.map(handle),

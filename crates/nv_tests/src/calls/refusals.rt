@@ -183,7 +183,7 @@ fn is_refused(
         same_for(rt, &says, found.err(), wanted);
         return Ok(());
     }
-    let call = update(alloc, says)?;
+    let call = update(rt, alloc, says);
     let found = check(BLOCK, nodes, &call).err();
     same_for(rt, &says, in_parts(nodes, &call).err(), found);
     // what a look refuses, the check refuses alike

@@ -92,7 +92,7 @@ impl World {
             same_for(rt, row, found, wanted);
             return Ok(());
         }
-        let plan = match plan_of(block, &self.nodes, update(alloc, says)?) {
+        let plan = match plan_of(block, &self.nodes, update(rt, alloc, says)) {
             Ok(plan) => plan,
             Err(fault) => {
                 same_for(rt, row, Outcome::Refused(fault), wanted);
