@@ -5,5 +5,5 @@ use Rattle.nv_tests.proofs.calls.on_cells.sources.copy_slowly.Given as goal
 abbrev pub invariant-loop-i : goal.invariant-loop-i
 invariant-loop-i l = record {
   count : length l.part ≡ length l.initial.part;
-  done : take l.i l.part ≡ map (λ k. slice_index_or l.text k 0) (range_with_len l.fn.at l.i);
+  done : take l.i l.part ≡ map (λ k. slice_index_or l.fn.text k 0) (range_with_len l.fn.at l.i);
 }
