@@ -46,7 +46,7 @@ fn pages_filled<S: Source>(
     let block = cell.block_bytes();
     assert!(rt; queue.block_bytes() as u64 == block && block <= 4_096);
     for place in 0..queue.len() {
-        let page = offset / block + place;
+        let page = (offset / block).saturating_add(place);
         assert!(rt; page < 65_536);
         let start = page * block;
         let from = offset.saturating_sub(start);
