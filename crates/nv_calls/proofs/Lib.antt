@@ -11,6 +11,7 @@ pub mod Effective
 pub mod FillChecked
 pub mod FillFresh
 pub mod FillPages
+pub mod FillRuns
 pub mod Fills
 pub mod Grown
 pub mod Fitting
