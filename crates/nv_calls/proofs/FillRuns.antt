@@ -44,15 +44,17 @@ stretch_count n (m ∷ numbers) = go (n + 1 == m) refl (begin_at n m (stretches 
       → length (with_number m (stretches numbers)) ≡ 1 + begun (Some (m + 1)) numbers
       → length (with_number n (with_number m (stretches numbers))) ≡ 1 + (cond (n + 1 == m) 0 1 + begun (Some (m + 1)) numbers)
   go true q first more =
+      let shown : 1 + begun (Some (m + 1)) numbers ≡ 1 + (0 + begun (Some (m + 1)) numbers) = omega arith in
       let len : length ((m, first.0) ∷ first.1) ≡ 1 + begun (Some (m + 1)) numbers = ap length (sym first.2) ∙ more in
       ap (λ (t : List (ℕ × ℕ)). length (with_number n t)) first.2
       ∙ ap (λ (b : Bool). length (cond b ((n, first.0 + 1) ∷ first.1) ((n, 1) ∷ (m, first.0) ∷ first.1))) q
-      ∙ len ∙ ap (λ (b : Bool). 1 + (cond b 0 1 + begun (Some (m + 1)) numbers)) (sym q)
+      ∙ len ∙ shown ∙ ap (λ (b : Bool). 1 + (cond b 0 1 + begun (Some (m + 1)) numbers)) (sym q)
   go false q first more =
+      let shown : suc (1 + begun (Some (m + 1)) numbers) ≡ 1 + (1 + begun (Some (m + 1)) numbers) = omega arith in
       let len : length ((m, first.0) ∷ first.1) ≡ 1 + begun (Some (m + 1)) numbers = ap length (sym first.2) ∙ more in
       ap (λ (t : List (ℕ × ℕ)). length (with_number n t)) first.2
       ∙ ap (λ (b : Bool). length (cond b ((n, first.0 + 1) ∷ first.1) ((n, 1) ∷ (m, first.0) ∷ first.1))) q
-      ∙ ap suc len ∙ ap (λ (b : Bool). 1 + (cond b 0 1 + begun (Some (m + 1)) numbers)) (sym q)
+      ∙ ap suc len ∙ shown ∙ ap (λ (b : Bool). 1 + (cond b 0 1 + begun (Some (m + 1)) numbers)) (sym q)
 
 -- stretches of small numbers are runs
 fits_with : (n most : ℕ) (tail : List (ℕ × ℕ)) → n < most → AllByRecursion (λ (t : ℕ × ℕ). t.0 + t.1 ≤ most) tail
@@ -97,9 +99,9 @@ length-write first [] size = refl
 length-write first (run ∷ runs) size = ap suc (length-write (first + run.len) runs size)
 
 module _ (block : ℕ) (nodes : Handle → Option NodeCopy) (taken : Taken) (n : ℕ) (is : length taken.runs ≡ n) where
-  pub write_count : (file : Handle) (offset count ino : ℕ) → (count == 0) ≡ false → (file.ino == ino) ≡ true
+  pub write_count : (file : Handle) (offset count ino : ℕ) → (count ≡ 0 → ⊥) → (file.ino == ino) ≡ true
       → n ≡ length (items_for (plan block nodes taken (blank_call (update.Write file offset count))) ino)
-  write_count file offset zero ino some same = cc
+  write_count file offset zero ino some same = absurd (some refl)
   write_count file offset (suc m) ino some same =
       let items : List Item = write_items (offset / block) taken.runs
       (length (written offset (replicate (suc m) 0) (bytes_of (nodes file)))) in
@@ -109,6 +111,10 @@ module _ (block : ℕ) (nodes : Handle → Option NodeCopy) (taken : Taken) (n :
       → n + 1 ≡ length (items_for (plan block nodes taken (blank_call (update.Size file size))) ino)
   size_count file size ino same =
       let items : List Item = write_items (size / block) taken.runs size in
-      let len : n + 1 ≡ length (items ++ SetSize size ∷ []) = omega (arith, length-append items (SetSize size ∷ []),
-      length-write (size / block) taken.runs size, is) in
+      let len : n + 1 ≡ length (items ++ SetSize size ∷ []) = omega (
+        arith,
+        length-append items (SetSize size ∷ []),
+        length-write (size / block) taken.runs size,
+        is,
+      ) in
       len ∙ ap (λ (b : Bool). length (cond b (items ++ SetSize size ∷ []) [])) (sym same)
