@@ -35,6 +35,7 @@ pub mod Retires
 pub mod RunLists
 pub mod Same
 pub mod Standing
+pub mod LentSlots
 pub mod Stretches
 pub mod Tails
 pub mod TextLengths

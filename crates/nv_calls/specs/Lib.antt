@@ -16,6 +16,7 @@ pub mod Ready
 pub mod Refusals
 pub mod Retired
 pub mod Retiring
+pub mod SlotCells
 pub mod Slots
 pub mod Steps
 pub mod Updates
