@@ -64,6 +64,26 @@ impl Commit {
         ready.begin(Stamp { commit, epoch })
     }
 
+    /// What its steps left in the hand of a commit that is made step by step, or given up on its way. Takes no memory.
+    pub fn into_hand(self) -> Hand
+        ensures { result ≡ self.hand }
+    {
+        let Commit {
+            alloc: _,
+            update: _,
+            made: _,
+            plans: _,
+            hand,
+            stamp: _,
+            place: _,
+            appended: _,
+            published: _,
+            retired: _,
+            journal_open: _,
+        } = self;
+        hand
+    }
+
     /// How many cells get entries.
     pub fn planned(&self) -> usize
         ensures { result ≡ length self.now.plans }
