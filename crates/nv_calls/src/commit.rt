@@ -84,6 +84,12 @@ impl Commit {
         hand
     }
 
+    /// Takes the commit apart with all that its hand holds: for the owner of a whole device that is let go. The blocks
+    /// that its cells took from the hand are theirs.
+    pub fn dismantle(self) {
+        self.into_hand().dismantle();
+    }
+
     /// How many cells get entries.
     pub fn planned(&self) -> usize
         ensures { result ≡ length self.now.plans }
