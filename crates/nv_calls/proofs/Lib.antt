@@ -29,6 +29,7 @@ pub mod PlannedGoes
 pub mod PlannedHeld
 pub mod PlansByCell
 pub mod Prepares
+pub mod Refilled
 pub mod Resized
 pub mod RetireAll
 pub mod Retires

@@ -1,6 +1,7 @@
 //! Laws of plans and effects, each the contract of a function that does nothing.
 
 ghost use Rattle.std.specs.Prelude.{◌≡◌, ◌<◌, ℕ, Err, List, Option, is_some, length, Bool};
+ghost use Rattle.nv_alloc.specs.Queue.{QueueValue};
 ghost use Rattle.nv_alloc.specs.declared.hand.Hand.{Hand};
 ghost use Rattle.nv_book.specs.Book.{BookValue};
 ghost use Rattle.nv_cell.specs.Cell.{CellValue};
@@ -14,6 +15,7 @@ ghost use Rattle.nv_calls.specs.AllCalls.{IsReady, IsToldNothing, blocks_wanted,
 ghost use Rattle.nv_calls.specs.declared.taken.Taken.{Taken};
 ghost use Rattle.nv_calls.specs.CanCommit.{AllowsCommit, CanCommit};
 ghost use Rattle.nv_calls.specs.Commit.{begun, stamp_of};
+ghost use Rattle.nv_calls.specs.FillPages.{CanFill, HasOtherBytes, with_blocks};
 ghost use Rattle.nv_calls.specs.Lawful.{IsLawfulPlan};
 ghost use Rattle.nv_calls.specs.Locked.{Agree, KeepsToIts, SameCall, first_look, handles};
 ghost use Rattle.nv_calls.specs.Nodes.{HaveBytes, has_page_in, plain_nodes, slots_by};
@@ -134,6 +136,21 @@ pub fn what_is_ready_can_be_committed()
         (ready : ReadyValue) → CanReady cells hand update → HaveNoLessRoom cells now
         → IsReadyBy cells hand update now ready → AllowsCommit now book cpu ready
         → CanCommit now book cpu ready }
+{}
+
+/// It can be filled, as long as its cells stay the same but for room.
+pub fn what_is_ready_can_be_filled()
+    ensures { (cells now : List (ℕ × CellValue)) (hand : Hand) (update : Update) (ready : ReadyValue)
+        → CanReady cells hand update → HaveNoLessRoom cells now
+        → IsReadyBy cells hand update now ready → CanFill now ready.update ready.hand.data }
+{}
+
+/// And it stays ready, whatever bytes its blocks are filled with.
+pub fn what_is_filled_stays_ready()
+    ensures { (cells now : List (ℕ × CellValue)) (hand : Hand) (update : Update) (ready : ReadyValue)
+        (blocks : QueueValue) → IsReadyBy cells hand update now ready
+        → HasOtherBytes ready.hand.data blocks
+        → IsReadyBy cells hand update now (with_blocks blocks ready) }
 {}
 
 /// A commit over cells publishes the items of its plans, each at its place in the commit: the slots are then those that

@@ -104,6 +104,11 @@ impl Ready {
         hand
     }
 
+    /// Takes the call apart with all that its hand holds: for the owner of a whole device that is let go.
+    pub fn dismantle(self) {
+        self.into_hand().dismantle();
+    }
+
     /// The call.
     pub fn update(&self) -> &Update
         ensures { result.now ≡ self.now.update }
