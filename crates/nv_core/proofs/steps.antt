@@ -71,3 +71,8 @@ pub mod PoolHands
 pub mod PoolRows
 pub mod Contended
 pub mod Visiting
+pub mod EndsRead
+pub mod EndsWritten
+pub mod EndsTold
+pub mod EndsTurns
+pub mod EndsRuns

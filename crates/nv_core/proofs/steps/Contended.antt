@@ -178,7 +178,7 @@ own_rounds true (Some r) w actor granted all failed there is k =
     (ltb-true actor (length w.actors) there) is k
     (kind_left r.next w.numbers.block actor granted w.shared (actor_at w actor).hand r)
 
-other_rounds : (b : Bool) (running : Option Running) (w : World) (actor other : ℕ) (granted : Bool) → actor ≢ other
+pub other_rounds : (b : Bool) (running : Option Running) (w : World) (actor other : ℕ) (granted : Bool) → actor ≢ other
     → actor_at (go_step b running other granted w).world actor ≡ actor_at w actor
 other_rounds false running w actor other granted h = refl
 other_rounds true None w actor other granted h = refl

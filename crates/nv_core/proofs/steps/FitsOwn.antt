@@ -101,14 +101,14 @@ last_page block s (call.Rename from old to new) = refl
 
 -- ---- what is locked
 
-has_back : (xs ys : List ℕ) (n : ℕ) → has ys n ≡ true → has (xs ++ ys) n ≡ true
+pub has_back : (xs ys : List ℕ) (n : ℕ) → has ys n ≡ true → has (xs ++ ys) n ≡ true
 has_back [] ys n e = e
 has_back (x ∷ xs) ys n e = or_right (x == n) (has (xs ++ ys) n) (has_back xs ys n e)
 
-abbrev inos : List Handle → List ℕ
+abbrev pub inos : List Handle → List ℕ
 inos list = map (λ (h : Handle). h.ino) list
 
-cover_each : (many : ℕ) (locked : List ℕ) (list : List Handle)
+pub cover_each : (many : ℕ) (locked : List ℕ) (list : List Handle)
     → ((n : ℕ) → has (inos list) n ≡ true → n < many → has locked n ≡ true) → AllByRecursion (IsLocked many locked) list
 cover_each many locked [] f = tt
 cover_each many locked (x ∷ list) f = (

@@ -1,9 +1,10 @@
 //! Laws of the machine of steps, for all worlds and events, each the contract of a function that does nothing.
 
-ghost use Rattle.std.specs.Prelude.{◌≡◌, ◌+◌, ◌<◌, ◌≤◌, ℕ, Bool, List, Some, None, length, ◌++◌, true, Option};
+ghost use Rattle.std.specs.Prelude.{◌≡◌, ◌+◌, ◌<◌, ◌≤◌, ℕ, Bool, List, [], ◌∷◌, Some, None, length, ◌++◌, true, Option};
 ghost use Rattle.std.specs.List.{AllByRecursion};
 ghost use Rattle.nv_alloc.specs.Numbers.{has};
 ghost use Rattle.nv_base.specs.Limits.{IsWithinLimits};
+ghost use Rattle.nv_base.specs.declared.fault.Fault.{Fault};
 ghost use Rattle.nv_base.specs.declared.fault.Fault.TheVariants.{ActorBusy, ActorIdle, NoActor};
 ghost use Rattle.nv_base.specs.declared.geometry.GeometryNumbers.{GeometryNumbers};
 ghost use Rattle.nv_base.specs.declared.numbers.Handle.{Handle};
@@ -19,6 +20,7 @@ ghost use Rattle.nv_entry.specs.Sound.{IsSound};
 ghost use Rattle.nv_core.specs.machine.Answered.{GoesTo, IsFinal, IsToEnd};
 ghost use Rattle.nv_core.specs.machine.Causes.{FindsNone, IsCause, IsRoundless, MayBeOvertaken, RefusesFor};
 ghost use Rattle.nv_core.specs.machine.Effects.{AreSound, HasPlanNow};
+ghost use Rattle.nv_core.specs.machine.EndsDecided.{decided};
 ghost use Rattle.nv_core.specs.machine.FitsNow.{bytes_in, is_checked};
 ghost use Rattle.nv_core.specs.machine.Format.{formatted};
 ghost use Rattle.nv_core.specs.machine.Frame.{IsOneStep, IsStart, lent};
@@ -335,4 +337,23 @@ pub fn visits_read_settled_nodes()
         → AreGrown w → actor < length w.actors → (actor_at w actor).running ≡ Some r
         → r.next ≡ Visit → beginning r.call ≡ Visits → (step w (Go actor granted)).reply ≡ Done told
         → told ≡ answer (settled_nodes w.shared) r.made r.call }
+{}
+
+/// A call is answered only where that was decided, and once: whatever events come from a new world on, a call that
+/// is Done has made its commit since it was started, or is a visit, or had nothing to change at its check, and at that
+/// event the plain world does not refuse it; it is told what the plain world answers there, on the settled nodes. Of a
+/// call that is refused nothing was decided. And what commits has something to change.
+pub fn calls_are_decided_once()
+    ensures done { (g : GeometryNumbers) (events : List Event) (actor : ℕ) (granted : Bool) (told : Answer)
+        → IsWithinLimits g → (step (after (formatted g) events) (Go actor granted)).reply ≡ Done told
+        → decided actor (formatted g) (events ++ Go actor granted ∷ []) [] ≡ told ∷ [] }
+    ensures refused { (g : GeometryNumbers) (events : List Event) (actor : ℕ) (granted : Bool) (r : Running) (fault : Fault)
+        → IsWithinLimits g → (actor_at (after (formatted g) events) actor).running ≡ Some r
+        → (step (after (formatted g) events) (Go actor granted)).reply ≡ Refused fault
+        → decided actor (formatted g) (events ++ Go actor granted ∷ []) [] ≡ [] }
+    ensures something { (g : GeometryNumbers) (events : List Event) (actor : ℕ) (granted : Bool) (r : Running)
+        → IsWithinLimits g → actor < length (after (formatted g) events).actors
+        → (actor_at (after (formatted g) events) actor).running ≡ Some r
+        → deed_of (after (formatted g) events) (Go actor granted) ≡ Commits
+        → 0 < length (effect (node_in (settled_nodes (after (formatted g) events).shared)) r.made r.call) }
 {}
