@@ -71,3 +71,8 @@ pub mod PoolHands
 pub mod PoolRows
 pub mod Contended
 pub mod Visiting
+pub mod HeldParts
+pub mod HeldTurns
+pub mod HeldRuns
+pub mod HeldLaw
+pub mod HeldRows

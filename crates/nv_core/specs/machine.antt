@@ -21,3 +21,4 @@ pub mod Causes
 pub mod FitsNow
 pub mod PoolScan
 pub mod Rounds
+pub mod Held
