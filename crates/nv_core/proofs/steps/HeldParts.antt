@@ -65,12 +65,12 @@ and_none false = refl
 
 has_range : (from count n : ℕ) → from ≤ n → n < from + count → has (range_with_len from count) n ≡ true
 has_range from zero n low high = absurd (omega (arith, low, high))
-has_range from (suc count) n low high = go (from == n) refl where
-  go : (b : Bool) → (from == n) ≡ b → (b || has (range_with_len (from + 1) count) n) ≡ true
-  go true q = refl
-  go false q =
-      let ne = eqb-false from n q in
-      has_range (from + 1) count n (omega (arith, low, ne)) (omega (arith, high))
+has_range from (suc count) n low high =
+    go (from == n) refl (λ above. has_range (from + 1) count n above (omega (arith, high))) where
+      go : (b : Bool) → (from == n) ≡ b → (from + 1 ≤ n → has (range_with_len (from + 1) count) n ≡ true)
+          → (b || has (range_with_len (from + 1) count) n) ≡ true
+      go true q more = refl
+      go false q more = more (omega (arith, low, eqb-false from n q))
 
 both_dead : (log : List Entry) (block : ℕ) (xs ys : List KilledPart) → AllByRecursion (IsDead log block) xs
     → AllByRecursion (IsDead log block) ys → AllByRecursion (IsDead log block) (xs ++ ys)
@@ -283,10 +283,9 @@ record GoesOut (parts : List KilledPart) (old new : CellState) : Type 0 where
   slots : (n : ℕ) → slice_index_or new.blocks n None
       ≡ (if is_among (log_of old) parts n then None else slice_index_or old.blocks n None)
 
-retired_out : (ino epoch : ℕ) (parts : List KilledPart) (cell : CellState) → AllByRecursion (IsDead (log_of cell) cell.block) parts
-    → GoesOut parts cell (retired [] ino epoch parts cell)
-retired_out ino epoch [] cell all = record { chain = refl; block = refl; len = refl; slots = λ n. refl }
-retired_out ino epoch (k ∷ parts) cell all = record {
+one_out : (k : KilledPart) (parts : List KilledPart) (cell new : CellState) → IsDead (log_of cell) cell.block k
+    → GoesOut parts (without_part cell (number_in cell k.part)) new → GoesOut (k ∷ parts) cell new
+one_out k parts cell new dead more = record {
   chain = more.chain;
   block = more.block;
   len = more.len ∙ length-set cell.blocks m None;
@@ -297,14 +296,11 @@ retired_out ino epoch (k ∷ parts) cell all = record {
   m : ℕ
   m = number_in cell k.part
 
-  m_is : m ≡ all.0.number
-  m_is = ap (λ (o : Option ℕ). unwrap_or o 0) all.0.named
+  m_is : m ≡ dead.number
+  m_is = ap (λ (o : Option ℕ). unwrap_or o 0) dead.named
 
   is_it : (n : ℕ) → is_number (number_named (log_of cell) k.part) n ≡ (m == n)
-  is_it n = ap (λ (o : Option ℕ). is_number o n) all.0.named ∙ ap (λ (i : ℕ). i == n) (sym m_is)
-
-  more : GoesOut parts (without_part cell m) (retired [] ino epoch parts (without_part cell m))
-  more = retired_out ino epoch parts (without_part cell m) all.1
+  is_it n = ap (λ (o : Option ℕ). is_number o n) dead.named ∙ ap (λ (i : ℕ). i == n) (sym m_is)
 
   either : (b c : Bool) (o : Option BlockValue) → (if b then None else if c then None else o) ≡ (if c || b then None else o)
   either true true o = refl
@@ -312,16 +308,23 @@ retired_out ino epoch (k ∷ parts) cell all = record {
   either false true o = refl
   either false false o = refl
 
+retired_out : (ino epoch : ℕ) (parts : List KilledPart) (cell : CellState) → AllByRecursion (IsDead (log_of cell) cell.block) parts
+    → GoesOut parts cell (retired [] ino epoch parts cell)
+retired_out ino epoch [] cell dead = record { chain = refl; block = refl; len = refl; slots = λ n. refl }
+retired_out ino epoch (k ∷ parts) cell dead =
+    one_out k parts cell (retired [] ino epoch (k ∷ parts) cell) dead.0
+    (retired_out ino epoch parts (without_part cell (number_in cell k.part)) dead.1)
+
 among_covered : (block : ℕ) (log : List Entry) (parts : List KilledPart) (n : ℕ) → AllByRecursion (IsDead log block) parts
     → is_among log parts n ≡ true → is_covered block log n ≡ true
-among_covered block log [] n all h = absurd (false≢true h)
-among_covered block log (k ∷ parts) n all h =
-    go (is_number (number_named log k.part) n) refl h (among_covered block log parts n all.1) where
+among_covered block log [] n dead h = absurd (false≢true h)
+among_covered block log (k ∷ parts) n dead h =
+    go (is_number (number_named log k.part) n) refl h (among_covered block log parts n dead.1) where
       go : (b : Bool) → is_number (number_named log k.part) n ≡ b → (b || is_among log parts n) ≡ true
           → (is_among log parts n ≡ true → is_covered block log n ≡ true) → is_covered block log n ≡ true
       go true q e more =
-          let same : (all.0.number == n) ≡ true = ap (λ (o : Option ℕ). is_number o n) (sym all.0.named) ∙ q in
-          ap (is_covered block log) (sym (eqb-true all.0.number n same)) ∙ all.0.covered
+          let same : (dead.0.number == n) ≡ true = ap (λ (o : Option ℕ). is_number o n) (sym dead.0.named) ∙ q in
+          ap (is_covered block log) (sym (eqb-true dead.0.number n same)) ∙ dead.0.covered
       go false q e more = more e
 
 -- the block of a part in use where nothing is killed

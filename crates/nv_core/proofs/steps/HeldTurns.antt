@@ -1,6 +1,6 @@
 -- Every kind of step of a commit leaves each cell the blocks of its parts in use, and no other.
 use Rattle.std.proofs.Common.{◌≡◌, ◌≢◌, ℕ, zero, suc, ◌+◌, ◌<◌, ◌≤◌, ◌==◌, ◌++◌, ◌∙◌, Bool, true, false, List, [], ◌∷◌, Option, Some, None, add-one, ap, arith, drop, drop-cons, if◌then◌else◌, length, length-take, nat_lt, refl, subst, sym, take}
-use Rattle.std.specs.Prelude.{◌||◌}
+use Rattle.std.specs.Prelude.{◌%◌, ◌||◌}
 use Rattle.std.proofs.lemmas.Bool.{eqb-false, eqb-true, ltb-false, true≢false}
 use Rattle.nv_alloc.specs.Numbers.{IsRising, has}
 use Rattle.nv_alloc.specs.Block.{BlockValue}
@@ -227,7 +227,7 @@ record HasNone (s : Shared) (h : HandState) : Type 0 where
   cells : AllInUse (λ ino. []) s
 
 from_none : (t : Turn) → AfterTurn HasNone t → OnInUse t
-from_none (Moves s h q) n ino =
+from_none (Moves s h q) n = λ ino.
     subst (λ (parts : List KilledPart). HasInUse parts (cell_at s ino))
     (sym (none_for (killed_slots q.next (written_slots q)) h.killed ino n.killed)) (n.cells ino)
 from_none Waits n = tt
@@ -272,7 +272,7 @@ in_use_kept g Open block a granted s h r c b at logs living all =
 in_use_kept g (Publish place) block a granted s h r c b at logs living all =
     publish_in_use s h r (rising_in a (Publish place) s r b) place b.inside
     (lent_inside (Publish place) a s r b (slot_at (written_slots r) place) refl) logs at all
-in_use_kept g Close block a granted s h r c b at logs living all = close_in_use _ s h r all
+in_use_kept g Close block a granted s h r c b at logs living all = close_in_use (a % length s.lists) s h r all
 in_use_kept g (Retire place) block a granted s h r c b at logs living all =
     retire_in_use s h r (rising_in a (Retire place) s r b) place b.inside
     (lent_inside (Retire place) a s r b (slot_at (written_slots r) place) refl) living at all
