@@ -74,5 +74,6 @@ pub mod Visiting
 pub mod HeldParts
 pub mod HeldTurns
 pub mod HeldRuns
+pub mod HeldPairs
 pub mod HeldLaw
 pub mod HeldRows

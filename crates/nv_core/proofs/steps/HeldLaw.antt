@@ -1,5 +1,5 @@
 -- Each free list is what logs, chains and hands leave.
-use Rattle.std.proofs.Common.{◌≡◌, ℕ, zero, suc, ◌+◌, ◌-◌, ◌^◌, ◌<◌, ◌++◌, ◌∙◌, List, [], ◌∷◌, Option, Some, None, ap, arith, flat_map, length, refl, slice_index_or}
+use Rattle.std.proofs.Common.{◌≡◌, ℕ, zero, suc, ◌+◌, ◌-◌, ◌^◌, ◌<◌, ◌++◌, ◌∙◌, List, [], ◌∷◌, Option, Some, None, ap, arith, flat_map, filter, length, map, refl, slice_get, slice_index_or, sym, ◌==◌, ◌||◌}
 use Rattle.std.specs.Prelude.{option_to_list}
 use Rattle.std.specs.List.{range_with_len}
 use Rattle.std.specs.Option.{option_map}
@@ -8,17 +8,24 @@ use Rattle.nv_alloc.specs.Numbers.{has, unused}
 use Rattle.nv_base.specs.Homes.{home_start}
 use Rattle.nv_base.specs.Limits.{IsWithinLimits}
 use Rattle.nv_base.specs.declared.geometry.GeometryNumbers.{GeometryNumbers}
-use Rattle.nv_cell.specs.Cell.{CellState}
+use Rattle.nv_book.specs.declared.record.Record.{Record}
+use Rattle.nv_cell.specs.Cell.{CellState, log_of}
+use Rattle.nv_cell.proofs.ValuesNow.{IsLog-take}
+use Rattle.nv_entry.specs.Held.{is_named, is_needed, keeps}
+use Rattle.nv_entry.specs.Log.{pairs}
+use Rattle.nv_entry.specs.declared.held.Pair.{Pair}
+use Rattle.nv_epoch.specs.SnapList.{ids}
 use Rattle.nv_cell.specs.declared.killed.KilledPart.{KilledPart}
 use Rattle.nv_core.specs.machine.Format.{formatted}
-use Rattle.nv_core.specs.machine.Held.{block_in_use, blocks_in_use, free_by_logs, killed_in, used_by_logs, used_by_slot}
+use Rattle.nv_core.specs.machine.Held.{block_in_use, blocks_in_use, free_by_logs, is_in_use, killed_in, name_of, retention_at, used_by_logs, used_by_slot}
 use Rattle.nv_core.specs.machine.Numbers.{free_of, held_by_actor, of_part, stored_in, used_blocks}
 use Rattle.nv_core.specs.machine.Step.{after}
 use Rattle.nv_core.specs.machine.World.{Event, World, cell_at, list_at, no_cell}
 use Rattle.nv_core.proofs.steps.FromScratch.{all_numbers, scanned}
 use Rattle.nv_core.proofs.steps.HeldParts.{HasInUse}
 use Rattle.nv_core.proofs.steps.HeldRuns.{AreInUse, events_in_use, new_in_use}
-use Rattle.nv_core.proofs.steps.InOrder.{new_order}
+use Rattle.nv_core.proofs.steps.HeldPairs.{pair_in_use}
+use Rattle.nv_core.proofs.steps.InOrder.{events_order, new_order}
 use Rattle.nv_core.proofs.steps.Locks.{new_locks}
 
 -- a list that is gone over by its places
@@ -74,3 +81,21 @@ scanned_by_logs g events cpu within inside =
     ∙ ap (λ (used : List ℕ). unused (has used) (home_start g.blocks g.cpus cpu)
     (home_start g.blocks g.cpus (cpu + 1) - home_start g.blocks g.cpus cpu))
     (used_are (after (formatted g) events) (all_in_use g events within))
+
+pub pairs_told : (g : GeometryNumbers) (events : List Event) (ino n : ℕ) (pair : Pair) → IsWithinLimits g
+    → slice_get (pairs (cell_at (after (formatted g) events).shared ino).block (log_of (cell_at (after (formatted g) events).shared ino))) n
+    ≡ Some pair
+    → is_in_use (killed_in (after (formatted g) events) ino) (cell_at (after (formatted g) events).shared ino) n
+    ≡ keeps (retention_at (after (formatted g) events) ino) pair
+pairs_told g events ino n pair within got =
+    let w = after (formatted g) events in
+    let cell = cell_at w.shared ino in
+    let book = w.shared.book in
+    let h = all_in_use g events within in
+    let order = events_order events (formatted g) (new_locks g within) (new_order g) in
+    let names = map (λ (k : KilledPart). k.part) (killed_in w ino) in
+    pair_in_use cell.block (log_of cell) (IsLog-take cell.chain.tail cell.chain.entries (order.logs ino).ordered) n pair got
+    (killed_in w ino)
+    ∙ ap (λ (snapshots : List ℕ). is_needed snapshots pair || is_named names pair) (sym h.living.0)
+    ∙ ap (λ (deferred : List Record). is_needed (ids book.snaps) pair
+    || is_named (map name_of (filter (λ (d : Record). d.ino == ino) deferred) ++ names) pair) (sym h.living.1)

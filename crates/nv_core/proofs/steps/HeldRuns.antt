@@ -23,7 +23,7 @@ use Rattle.nv_core.specs.machine.Step.{after, go_step, kind_turn, start_step, st
 use Rattle.nv_core.specs.machine.World.{Actor, Append, Back, Check, Close, Ends, Enter, Event, Give, Go, HandState, Leave, Lock, Look, Moves, Next, Number, Open, Publish, Ready, Retire, Running, Shared, Start, TakeBlocks, TakePages, Turn, Unlock, Visit, Waits, World, actor_at, cell_at, idle, no_cell}
 use Rattle.nv_core.proofs.steps.Framed.{framed}
 use Rattle.nv_core.proofs.steps.HeldParts.{HasInUse, empty_in_use}
-use Rattle.nv_core.proofs.steps.HeldTurns.{OnInUse, in_use_kept, none_for, none_killed, none_kept, none_living}
+use Rattle.nv_core.proofs.steps.HeldTurns.{KeepsNothing, OnInUse, in_use_kept, none_for, none_killed, none_kept, none_living}
 use Rattle.nv_core.proofs.steps.InOrder.{event_order}
 use Rattle.nv_core.proofs.steps.Kept.{AfterTurn}
 use Rattle.nv_core.proofs.steps.Locked.{lent_holder}
@@ -32,7 +32,7 @@ use Rattle.nv_core.proofs.steps.Locks.{all_same, before, event_locks}
 -- ---- what holds of each world
 
 pub record AreInUse (w : World) : Type 0 where
-  pub living : ids w.shared.book.snaps ≡ []
+  pub living : KeepsNothing w.shared.book
   pub cells : (ino : ℕ) → HasInUse (killed_in w ino) (cell_at w.shared ino)
 
 -- ---- the killed parts of all hands are those of the commit under way
@@ -104,7 +104,7 @@ new_parts w a ino x t there locks held =
 -- ---- a Go
 
 abbrev Living : Shared → HandState → Type 0
-Living s h = ids s.book.snaps ≡ []
+Living s h = KeepsNothing s.book
 
 -- of a call that commits
 turned_commit : (t : Turn) (a : ℕ) (w : World) → a < length w.actors → AreLocks w → w.shared.holder ≡ Some a → AreInUse w
@@ -185,7 +185,7 @@ running_in_use g w a granted r there is locks order all was b c = go b c where
   go true c =
       let held = lent_holder r.next a w.shared r (before w a r locks is) c in
       turned_commit t a w there locks held was (none_living r.next w.numbers.block a granted w.shared h r was.living)
-      (in_use_kept g r.next w.numbers.block a granted w.shared h r c (before w a r locks is) own.0 order.logs was.living
+      (in_use_kept g r.next w.numbers.block a granted w.shared h r c (before w a r locks is) own.0 order.logs was.living.0
       (λ ino. subst (λ (parts : List KilledPart). HasInUse parts (cell_at w.shared ino))
       (own_parts w a ino there locks held ∙ ap (λ (o : Option Running). killed_by_call o h ino) is) (was.cells ino)))
   go false c =
@@ -267,7 +267,7 @@ new_cell g (suc ino) = new_cells g (g.inodes - 1) ino
 
 pub new_in_use : (g : GeometryNumbers) → AreInUse (formatted g)
 new_in_use g = record {
-  living = refl;
+  living = (refl, refl);
   cells = λ ino. subst (λ (parts : List KilledPart). HasInUse parts (cell_at (formatted g).shared ino))
       (sym (no_parts (killed_by_actor ino) (replicate g.actors idle)
       (λ b. ap (killed_by_actor ino) (all_same g.actors b idle)))) (new_cell g ino);

@@ -347,21 +347,24 @@ none_killed g (Give cpu) h r e at = at.0
 none_killed g Back h r e at = at.0
 none_killed g Visit h r e at = ap (λ (x : HandState). x.killed) at
 
--- ---- no step makes a snapshot
+-- ---- no step makes or drops a snapshot
 
-pub none_living : (k : Next) (block a : ℕ) (granted : Bool) (s : Shared) (h : HandState) (r : Running) → ids s.book.snaps ≡ []
-    → AfterTurn (λ t g. ids t.book.snaps ≡ []) (kind_turn k block a granted s h r)
+abbrev pub KeepsNothing : BookState → Type 0
+KeepsNothing book = (ids book.snaps ≡ []) × (book.deferred ≡ [])
+
+pub none_living : (k : Next) (block a : ℕ) (granted : Bool) (s : Shared) (h : HandState) (r : Running) → KeepsNothing s.book
+    → AfterTurn (λ t g. KeepsNothing t.book) (kind_turn k block a granted s h r)
 none_living k block a granted s h r none =
-    turn_keeps (λ t g. ids t.book.snaps ≡ []) k block a granted s h r none (done k) where
-      number : (numbers : List ℕ) → ids (number_deed numbers s h).shared.book.snaps ≡ []
+    turn_keeps (λ t g. KeepsNothing t.book) k block a granted s h r none (done k) where
+      number : (numbers : List ℕ) → KeepsNothing (number_deed numbers s h).shared.book
       number [] = none
       number (ino ∷ numbers) = none
 
-      back : (o : Option ℕ) → ids (back_deed o s h).shared.book.snaps ≡ []
+      back : (o : Option ℕ) → KeepsNothing (back_deed o s h).shared.book
       back None = none
       back (Some ino) = none
 
-      done : (k : Next) → ids (deed k block a s h r).shared.book.snaps ≡ []
+      done : (k : Next) → KeepsNothing (deed k block a s h r).shared.book
       done Number = number s.pool.numbers
       done (Look place) = none
       done (Lock place) = none

@@ -1,16 +1,20 @@
 -- The free lists by the logs: which blocks are used, said by logs, chains and hands, and not by the blocks that cells have.
-use Rattle.std.specs.Prelude.{◌≡◌, ℕ, ◌+◌, ◌-◌, ◌==◌, ◌||◌, Bool, not, if◌then◌else◌, List, [], ◌∷◌, ◌++◌, drop, length, take, Option, Some, None, option_to_list}
+use Rattle.std.specs.Prelude.{◌≡◌, ℕ, ◌+◌, ◌-◌, ◌==◌, ◌||◌, Bool, not, if◌then◌else◌, List, [], ◌∷◌, ◌++◌, drop, filter, length, map, take, Option, Some, None, option_to_list}
 use Rattle.std.specs.List.{flat_map, list_any, range_with_len}
 use Rattle.nv_alloc.specs.Block.{numbers_of}
 use Rattle.nv_alloc.specs.Numbers.{has, unused}
 use Rattle.nv_base.specs.Homes.{home_start}
 use Rattle.nv_base.specs.declared.geometry.GeometryNumbers.{GeometryNumbers}
+use Rattle.nv_book.specs.declared.record.Record.{Record}
 use Rattle.nv_cell.specs.Cell.{CellState, log_of, page_block}
 use Rattle.nv_cell.specs.Named.{number_named}
 use Rattle.nv_cell.specs.Numbers.{is_number}
 use Rattle.nv_cell.specs.declared.killed.KilledPart.{KilledPart}
 use Rattle.nv_entry.specs.Covered.{is_covered, part_total}
 use Rattle.nv_entry.specs.declared.item.Entry.{Entry}
+use Rattle.nv_entry.specs.declared.part.PartId.{PartId}
+use Rattle.nv_entry.specs.Held.{Retention}
+use Rattle.nv_epoch.specs.SnapList.{ids}
 use Rattle.nv_core.specs.machine.Numbers.{held_by_actor}
 use Rattle.nv_core.specs.machine.Reads.{written_slots}
 use Rattle.nv_core.specs.machine.World.{Actor, Close, HandState, Next, Publish, Retire, Running, World, cell_at}
@@ -73,3 +77,17 @@ abbrev pub free_by_logs : GeometryNumbers → World → ℕ → List ℕ
 free_by_logs g w cpu =
     unused (has (used_by_logs w)) (home_start g.blocks g.cpus cpu)
     (home_start g.blocks g.cpus (cpu + 1) - home_start g.blocks g.cpus cpu)
+
+-- ---- by pairs
+
+abbrev pub name_of : Record → PartId
+name_of d = record { entry = d.entry; part = d.part }
+
+-- what keeps the pairs of a slot: the living snapshots and, by name, those that are deferred or killed
+abbrev pub retention_at : World → ℕ → Retention
+retention_at w ino = record {
+  block = (cell_at w.shared ino).block;
+  snapshots = ids w.shared.book.snaps;
+  pending = map name_of (filter (λ (d : Record). d.ino == ino) w.shared.book.deferred)
+      ++ map (λ (k : KilledPart). k.part) (killed_in w ino);
+}
