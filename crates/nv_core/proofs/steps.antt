@@ -76,3 +76,9 @@ pub mod EndsWritten
 pub mod EndsTold
 pub mod EndsTurns
 pub mod EndsRuns
+pub mod HeldParts
+pub mod HeldTurns
+pub mod HeldRuns
+pub mod HeldPairs
+pub mod HeldLaw
+pub mod HeldRows

@@ -22,3 +22,4 @@ pub mod FitsNow
 pub mod PoolScan
 pub mod Rounds
 pub mod EndsDecided
+pub mod Held

@@ -1,7 +1,9 @@
 //! Laws of the machine of steps, for all worlds and events, each the contract of a function that does nothing.
 
-ghost use Rattle.std.specs.Prelude.{◌≡◌, ◌+◌, ◌<◌, ◌≤◌, ℕ, Bool, List, [], ◌∷◌, Some, None, length, ◌++◌, true, Option};
+ghost use Rattle.std.specs.Prelude.{◌≡◌, ◌+◌, ◌<◌, ◌≤◌, ℕ, Bool, List, [], ◌∷◌, Some, None, length, ◌++◌, true, Option, slice_get, slice_index_or};
 ghost use Rattle.std.specs.List.{AllByRecursion};
+ghost use Rattle.std.specs.Option.{option_map};
+ghost use Rattle.nv_alloc.specs.Block.{number_of};
 ghost use Rattle.nv_alloc.specs.Numbers.{has};
 ghost use Rattle.nv_base.specs.Limits.{IsWithinLimits};
 ghost use Rattle.nv_base.specs.declared.fault.Fault.{Fault};
@@ -16,7 +18,11 @@ ghost use Rattle.nv_calls.specs.declared.answer.Answer.{Answer};
 ghost use Rattle.nv_calls.specs.declared.call.Call.{Call};
 ghost use Rattle.nv_calls.specs.declared.taken.Taken.{Taken};
 ghost use Rattle.nv_core.specs.machine.Bound.{AreNoStarts, bound_at, most_steps, moves};
+ghost use Rattle.nv_cell.specs.Cell.{log_of};
+ghost use Rattle.nv_entry.specs.Held.{keeps};
+ghost use Rattle.nv_entry.specs.Log.{pairs};
 ghost use Rattle.nv_entry.specs.Sound.{IsSound};
+ghost use Rattle.nv_entry.specs.declared.held.Pair.{Pair};
 ghost use Rattle.nv_core.specs.machine.Answered.{GoesTo, IsFinal, IsToEnd};
 ghost use Rattle.nv_core.specs.machine.Causes.{FindsNone, IsCause, IsRoundless, MayBeOvertaken, RefusesFor};
 ghost use Rattle.nv_core.specs.machine.Effects.{AreSound, HasPlanNow};
@@ -27,6 +33,7 @@ ghost use Rattle.nv_core.specs.machine.Frame.{IsOneStep, IsStart, lent};
 ghost use Rattle.nv_core.specs.machine.Grown.{AreGrown, fresh_entries};
 ghost use Rattle.nv_core.specs.machine.Kept.{AreBlocksApart, IsKept};
 ghost use Rattle.nv_core.specs.machine.Locks.{AreLocks, HasLent, WaitsFor};
+ghost use Rattle.nv_core.specs.machine.Held.{block_in_use, free_by_logs, is_in_use, killed_in, retention_at};
 ghost use Rattle.nv_core.specs.machine.Hands.{AreLists, ArePagesTold};
 ghost use Rattle.nv_core.specs.machine.Numbers.{IdleHaveNothing, IsEachOnce, all_blocks, free_from_scratch, free_of};
 ghost use Rattle.nv_core.specs.machine.Order.{IsInOrder};
@@ -116,6 +123,27 @@ pub fn lists_are_from_scratch()
     ensures { (g : GeometryNumbers) (events : List Event) (cpu : ℕ) → IsWithinLimits g → cpu < g.cpus
         → free_of (list_at (after (formatted g) events).shared cpu)
         ≡ free_from_scratch g (after (formatted g) events) cpu }
+{}
+
+/// Each free list is what the logs leave: the numbers of the CPU's home range that no page of a chain has, no page of
+/// a log in use and no hand. In use is a part that no later entry of its log covers, up to the tail (so each of the entries
+/// that a commit has appended and not yet published), and one that is killed: published over, and not yet
+/// retired by the call in whose hand it stands. A cell has the block of each page in use, of the number that its
+/// entry says, and no other. Of the pairs of a log, in order, those are in use that are needed, deferred or killed.
+pub fn lists_are_told_by_logs()
+    ensures lists { (g : GeometryNumbers) (events : List Event) (cpu : ℕ) → IsWithinLimits g → cpu < g.cpus
+        → free_of (list_at (after (formatted g) events).shared cpu)
+        ≡ free_by_logs g (after (formatted g) events) cpu }
+    ensures blocks { (g : GeometryNumbers) (events : List Event) (ino n : ℕ) → IsWithinLimits g
+        → option_map number_of (slice_index_or (cell_at (after (formatted g) events).shared ino).blocks n None)
+        ≡ block_in_use (killed_in (after (formatted g) events) ino)
+        (cell_at (after (formatted g) events).shared ino) n }
+    ensures pairs { (g : GeometryNumbers) (events : List Event) (ino n : ℕ) (pair : Pair) → IsWithinLimits g
+        → slice_get (pairs (cell_at (after (formatted g) events).shared ino).block
+        (log_of (cell_at (after (formatted g) events).shared ino))) n ≡ Some pair
+        → is_in_use (killed_in (after (formatted g) events) ino)
+        (cell_at (after (formatted g) events).shared ino) n
+        ≡ keeps (retention_at (after (formatted g) events) ino) pair }
 {}
 
 /// The pool of inode numbers is what one scan leaves, in rising order: the numbers whose slots have no entry in
