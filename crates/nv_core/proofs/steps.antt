@@ -54,6 +54,7 @@ pub mod FitsOwn
 pub mod FitsKinds
 pub mod FitsBytes
 pub mod FitsEvents
+pub mod FitsLaws
 pub mod FitsPlain
 pub mod PoolChecked
 pub mod PoolSlots
@@ -71,3 +72,8 @@ pub mod PoolHands
 pub mod PoolRows
 pub mod Contended
 pub mod Visiting
+pub mod Firsts
+pub mod Asking
+pub mod Refusing
+pub mod Fresh
+pub mod PlainStart

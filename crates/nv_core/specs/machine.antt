@@ -21,3 +21,6 @@ pub mod Causes
 pub mod FitsNow
 pub mod PoolScan
 pub mod Rounds
+pub mod Takings
+pub mod Refusing
+pub mod Made
