@@ -75,5 +75,6 @@ pub mod Visiting
 pub mod Firsts
 pub mod Asking
 pub mod Refusing
+pub mod Living
 pub mod Fresh
 pub mod PlainStart

@@ -1,6 +1,5 @@
 -- A taking that falls short has asked every list, and each gave all that it had.
-use Rattle.std.proofs.Common.{◌≡◌, ◌≢◌, ℕ, zero, suc, ◌+◌, ◌-◌, ◌<◌, ◌≤◌, ◌==◌, ◌++◌, ◌∙◌, Bool, true, false, List, [], ◌∷◌, Option, Some, None, add-one, ap, arith, cond, drop, get_or-set_same, if◌then◌else◌, length, length-append, mod-lt, nat_lt, refl, subst, sym, take}
-use Rattle.std.specs.Prelude.{slice_index_or}
+use Rattle.std.proofs.Common.{◌≡◌, ◌≢◌, ℕ, zero, suc, ◌+◌, ◌-◌, ◌<◌, ◌≤◌, ◌==◌, ◌++◌, ◌∙◌, Bool, true, false, List, [], ◌∷◌, Option, Some, None, add-one, ap, arith, drop, get_or-set_same, if◌then◌else◌, length, length-append, mod-lt, nat_lt, refl, subst, sym, take}
 use Rattle.std.specs.List.{sum_by}
 use Rattle.std.proofs.lemmas.Bool.{eqb-false, eqb-true, ltb-false, ltb-true}
 use Rattle.std.proofs.lemmas.List.{get_or_past, length-drop, length-take}
@@ -9,7 +8,6 @@ use Rattle.std.proofs.lemmas.Option.{none-some}
 use Rattle.nv_alloc.specs.Block.{BlockValue}
 use Rattle.nv_alloc.specs.FreeList.{FreeBlocks}
 use Rattle.nv_base.specs.Limits.{IsWithinLimits}
-use Rattle.nv_base.specs.declared.fault.Fault.{Fault}
 use Rattle.nv_base.specs.declared.fault.Fault.TheVariants.{NoSpace}
 use Rattle.nv_base.specs.declared.geometry.GeometryNumbers.{GeometryNumbers}
 use Rattle.nv_calls.specs.declared.call.Call.{Call}
@@ -21,7 +19,7 @@ use Rattle.nv_core.specs.machine.Reads.{home_from, slots_of}
 use Rattle.nv_core.specs.machine.Sequence.{Beginning, Looks, Locks, Numbers, Visits, beginning, begun, nothing_looked}
 use Rattle.nv_core.specs.machine.Step.{after, go_step, kind_turn, start_step, step, turn, turned}
 use Rattle.nv_core.specs.machine.Takings.{AreEmptied, Asked, IsEmptied, IsShortInAll, Taking, and_asked, asked_in, asking, asks_list, beginning_with, no_taking, taking_after, taking_by, taking_in, taking_of}
-use Rattle.nv_core.specs.machine.World.{Actor, Answers, Check, Ends, Event, Give, Go, HandState, Lock, Moves, Next, Ready, Refuses, Running, Shared, Start, TakeBlocks, TakePages, Turn, Waits, World, actor_at, idle, list_at, no_list}
+use Rattle.nv_core.specs.machine.World.{Actor, Answers, Check, Ends, Event, Go, HandState, Lock, Moves, Next, Ready, Refuses, Running, Shared, Start, TakeBlocks, TakePages, Turn, Waits, World, actor_at, idle, list_at, no_list}
 use Rattle.nv_core.proofs.steps.Events.{starts, turned_others}
 use Rattle.nv_core.proofs.steps.Caused.{unrefused}
 use Rattle.nv_core.proofs.steps.Firsts.{IsFirst, OnFirst, end_first, first, pages_first}
@@ -241,7 +239,7 @@ kind_asks (TakeBlocks asked) cpus block actor granted s h r taking many some ask
 kind_asks (TakePages asked) cpus block actor granted s h r taking many some asks =
     pages_asks cpus actor asked block s h r taking many asks _ _ refl refl
 kind_asks other cpus block actor granted s h r taking many some asks =
-    first_turn other cpus actor s h taking _ some (first other block actor granted s h r refl)
+    first_turn other cpus actor s h taking (kind_turn other block actor granted s h r) some (first other block actor granted s h r refl)
 
 kind_short : (k : Next) (cpus block actor : ℕ) (granted : Bool) (s : Shared) (h : HandState) (r : Running) (taking : Taking)
     → asks_list k ≡ true → length s.lists ≡ cpus → r.ending ≡ Answers → Asks k cpus actor taking r.wanted

@@ -6,7 +6,7 @@ use Rattle.nv_calls.specs.declared.answer.Answer.{Answer}
 use Rattle.nv_calls.specs.declared.looked.Looked.{Looked}
 use Rattle.nv_core.specs.machine.Kinds.{again_turn, back_turn, check_turn, end_turn, enter_turn, grown, lock_turn, look_turn, number_turn, over_turn, rest_turn, unlocked_turn, visit_turn, wants_blocks, wants_pages}
 use Rattle.nv_core.specs.machine.Reads.{slots_of, written_slots}
-use Rattle.nv_core.specs.machine.Sequence.{appending, closing, directories, locking, looking, opening, publishing, retiring}
+use Rattle.nv_core.specs.machine.Sequence.{appending, closing, directories, locking, opening, publishing, retiring}
 use Rattle.nv_core.specs.machine.Step.{ending_at, kind_turn, with_made}
 use Rattle.nv_core.specs.machine.Takings.{asks_list}
 use Rattle.nv_core.specs.machine.World.{Answers, Append, Back, Check, Close, Ending, Ends, Enter, Give, HandState, Leave, Lock, Look, Moves, Next, Number, Open, Overtaken, Publish, Ready, Refuses, Retire, Running, Shared, TakeBlocks, TakePages, Turn, Unlock, Visit, Waits}

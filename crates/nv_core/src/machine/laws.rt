@@ -328,10 +328,11 @@ pub fn short_takings_have_asked_every_list()
     ensures { (g : GeometryNumbers) (events : List Event) (actor : ℕ) (granted : Bool) (r : Running)
         → IsWithinLimits g → (actor_at (after (formatted g) events) actor).running ≡ Some r
         → asks_list r.next ≡ true
-        → RefusesFor (IsShortInAll g.cpus actor (taking_of (Some r) (after (formatted g) events) actor granted
+        → RefusesFor (IsShortInAll g.cpus actor
+        (taking_of (Some r) (after (formatted g) events) actor granted
         (taking_after actor (formatted g) events no_taking))) ⊥
-        (turn (after (formatted g) events).numbers.block actor granted (after (formatted g) events).shared
-        (actor_at (after (formatted g) events) actor).hand r) }
+        (turn (after (formatted g) events).numbers.block actor granted
+        (after (formatted g) events).shared (actor_at (after (formatted g) events) actor).hand r) }
 {}
 
 /// A step that refuses its call leaves the book (the number of the last commit, the epoch, journals and records) and all
@@ -364,14 +365,14 @@ pub fn contended_calls_have_failed_eight_checks()
 /// no node is under its handle, which is not the root's, nor that of a commit point before. Generations rise
 /// whenever a number comes back.
 pub fn made_handles_are_new()
-    ensures no_node { (g : GeometryNumbers) (events : List Event) (actor : ℕ) (granted : Bool) (r : Running)
-        → IsWithinLimits g → actor < length (after (formatted g) events).actors
+    ensures no_node { (g : GeometryNumbers) (events : List Event) (actor : ℕ) (granted : Bool)
+        (r : Running) → IsWithinLimits g → actor < length (after (formatted g) events).actors
         → (actor_at (after (formatted g) events) actor).running ≡ Some r
         → deed_of (after (formatted g) events) (Go actor granted) ≡ Commits
         → makes_inode (beginning r.call) ≡ true
         → settled_nodes (after (formatted g) events).shared r.made ≡ None }
-    ensures never { (g : GeometryNumbers) (events : List Event) (actor : ℕ) (granted : Bool) (r : Running)
-        → IsWithinLimits g → actor < length (after (formatted g) events).actors
+    ensures never { (g : GeometryNumbers) (events : List Event) (actor : ℕ) (granted : Bool)
+        (r : Running) → IsWithinLimits g → actor < length (after (formatted g) events).actors
         → (actor_at (after (formatted g) events) actor).running ≡ Some r
         → deed_of (after (formatted g) events) (Go actor granted) ≡ Commits
         → makes_inode (beginning r.call) ≡ true
