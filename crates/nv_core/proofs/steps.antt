@@ -54,6 +54,7 @@ pub mod FitsOwn
 pub mod FitsKinds
 pub mod FitsBytes
 pub mod FitsEvents
+pub mod FitsLaws
 pub mod FitsPlain
 pub mod PoolChecked
 pub mod PoolSlots
@@ -82,3 +83,9 @@ pub mod HeldRuns
 pub mod HeldPairs
 pub mod HeldLaw
 pub mod HeldRows
+pub mod Firsts
+pub mod Asking
+pub mod Refusing
+pub mod Living
+pub mod Fresh
+pub mod PlainStart

@@ -23,3 +23,6 @@ pub mod PoolScan
 pub mod Rounds
 pub mod EndsDecided
 pub mod Held
+pub mod Takings
+pub mod Refusing
+pub mod Made

@@ -19,7 +19,7 @@ use Rattle.nv_core.specs.machine.World.{Answers, Append, Back, Check, Close, End
 
 -- ---- a call that goes on or is answered
 
-unrefused : (P : Fault → Type 0) (Q : Type 0) (next : Next) (e : Ending) → e ≡ Answers → EndsFor P Q next e
+pub unrefused : (P : Fault → Type 0) (Q : Type 0) (next : Next) (e : Ending) → e ≡ Answers → EndsFor P Q next e
 unrefused P Q next Answers e = tt
 unrefused P Q next (Refuses fault) e = cc
 unrefused P Q next Overtaken e = cc

@@ -12,7 +12,7 @@ use Rattle.nv_calls.proofs.Keeps.{keeps_to_its}
 use Rattle.nv_calls.specs.AllCalls.{blocks_wanted, early, effect, looked, plan, refusal}
 use Rattle.nv_calls.specs.Locked.{KeepsToIts, handles, made_by}
 use Rattle.nv_calls.specs.Plain.{Change, node_in}
-use Rattle.nv_calls.specs.Plan.{plan_blocks}
+use Rattle.nv_calls.specs.Plan.{plan_blocks, runs_of}
 use Rattle.nv_calls.specs.Refusals.{Check as Tests, passes}
 use Rattle.nv_calls.specs.Slots.{IsFree, Slot, items_for, place_in}
 use Rattle.nv_calls.specs.declared.call.Call.{Call}
@@ -27,7 +27,7 @@ use Rattle.nv_core.specs.machine.Hands.{makes_inode}
 use Rattle.nv_core.specs.machine.Kinds.{check_ending, entries_for, ready_turn, with_entries}
 use Rattle.nv_calls.proofs.FillPages.{filled_numbers}
 use Rattle.nv_calls.specs.FillPages.{filled, fresh_pages}
-use Rattle.nv_core.specs.machine.Reads.{copies, has_last_page, if_number, is_written, nodes, plan_by, runs_of, slots_of, written_slots}
+use Rattle.nv_core.specs.machine.Reads.{copies, has_last_page, if_number, is_written, nodes, plan_by, slots_of, written_slots}
 use Rattle.nv_core.specs.machine.Sequence.{Beginning, Looks, Locks, Numbers, Visits, beginning}
 use Rattle.nv_core.specs.machine.Settled.{node_by, settled, settled_nodes, settled_tail}
 use Rattle.nv_core.specs.machine.Step.{ending_at, is_numbered, made_in, same_looked}

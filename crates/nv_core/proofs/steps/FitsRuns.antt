@@ -9,7 +9,7 @@ use Rattle.nv_base.specs.declared.numbers.Handle.{Handle}
 use Rattle.nv_calls.specs.AllCalls.{IsReady, blocks_wanted}
 use Rattle.nv_calls.specs.Locked.{Agree, handles}
 use Rattle.nv_calls.specs.Plain.{PlainNode, node_in}
-use Rattle.nv_calls.specs.Plan.{AreMaximal}
+use Rattle.nv_calls.specs.Plan.{AreMaximal, run_if, runs_of, stretches, with_number}
 use Rattle.nv_calls.specs.Refusals.{bytes_of}
 use Rattle.nv_calls.specs.Slots.{IsFree, Slot}
 use Rattle.nv_calls.specs.calls.Size.{HaveCut, IsCutPage, cuts_page}
@@ -24,7 +24,6 @@ use Rattle.nv_entry.specs.declared.item.Run.{Run}
 use Rattle.nv_entry.specs.declared.node.NodeCopy.{NodeCopy}
 use Rattle.nv_core.specs.machine.Hands.{makes_inode}
 use Rattle.nv_calls.specs.FillPages.{filled, fresh_pages}
-use Rattle.nv_core.specs.machine.Reads.{run_if, runs_of, stretches, with_number}
 use Rattle.nv_core.specs.machine.Sequence.{beginning}
 use Rattle.nv_core.proofs.steps.Planned.{all_end, length_numbers, runs_are, small_numbers}
 

@@ -74,7 +74,7 @@ agree_on v w locked same [] all = tt
 agree_on v w locked same (handle ∷ list) all = (same.nodes handle all.0, agree_on v w locked same list all.1)
 
 -- the new inode is locked too
-made_locked : (many : ℕ) (locked : List ℕ) (seen : Looked) (new : Handle) (c : Call) → makes_inode (beginning c) ≡ true
+pub made_locked : (many : ℕ) (locked : List ℕ) (seen : Looked) (new : Handle) (c : Call) → makes_inode (beginning c) ≡ true
     → AllByRecursion (IsLocked many locked) (locks seen new c) → IsLocked many locked new
 made_locked many locked seen new (call.Create dir name mode) e all = all.0
 made_locked many locked seen new (call.Mkdir dir name mode) e all = all.0

@@ -1,6 +1,6 @@
 //! Laws of the machine of steps, for all worlds and events, each the contract of a function that does nothing.
 
-ghost use Rattle.std.specs.Prelude.{◌≡◌, ◌+◌, ◌<◌, ◌≤◌, ℕ, Bool, List, [], ◌∷◌, Some, None, length, ◌++◌, true, Option, slice_get, slice_index_or};
+ghost use Rattle.std.specs.Prelude.{◌≡◌, ◌+◌, ◌<◌, ◌≤◌, ℕ, Bool, List, [], ◌∷◌, Some, None, length, ◌++◌, true, Option, slice_get, slice_index_or, false};
 ghost use Rattle.std.specs.List.{AllByRecursion};
 ghost use Rattle.std.specs.Option.{option_map};
 ghost use Rattle.nv_alloc.specs.Block.{number_of};
@@ -23,6 +23,7 @@ ghost use Rattle.nv_entry.specs.Held.{keeps};
 ghost use Rattle.nv_entry.specs.Log.{pairs};
 ghost use Rattle.nv_entry.specs.Sound.{IsSound};
 ghost use Rattle.nv_entry.specs.declared.held.Pair.{Pair};
+ghost use Rattle.nv_entry.specs.Tree.{root};
 ghost use Rattle.nv_core.specs.machine.Answered.{GoesTo, IsFinal, IsToEnd};
 ghost use Rattle.nv_core.specs.machine.Causes.{FindsNone, IsCause, IsRoundless, MayBeOvertaken, RefusesFor};
 ghost use Rattle.nv_core.specs.machine.Effects.{AreSound, HasPlanNow};
@@ -34,17 +35,20 @@ ghost use Rattle.nv_core.specs.machine.Grown.{AreGrown, fresh_entries};
 ghost use Rattle.nv_core.specs.machine.Kept.{AreBlocksApart, IsKept};
 ghost use Rattle.nv_core.specs.machine.Locks.{AreLocks, HasLent, WaitsFor};
 ghost use Rattle.nv_core.specs.machine.Held.{block_in_use, free_by_logs, is_in_use, killed_in, retention_at};
-ghost use Rattle.nv_core.specs.machine.Hands.{AreLists, ArePagesTold};
+ghost use Rattle.nv_core.specs.machine.Hands.{AreLists, ArePagesTold, makes_inode};
+ghost use Rattle.nv_core.specs.machine.Made.{handles_made, has_handle};
 ghost use Rattle.nv_core.specs.machine.Numbers.{IdleHaveNothing, IsEachOnce, all_blocks, free_from_scratch, free_of};
 ghost use Rattle.nv_core.specs.machine.Order.{IsInOrder};
 ghost use Rattle.nv_core.specs.machine.PoolScan.{pool_from_scratch};
 ghost use Rattle.nv_core.specs.machine.Reached.{IsReached};
-ghost use Rattle.nv_core.specs.machine.PlainRun.{Commits, Plain, deed_of, keeps_nodes, plain_after, plain_of};
+ghost use Rattle.nv_core.specs.machine.PlainRun.{Commits, Plain, deed_of, keeps_nodes, new_plain, plain_after, plain_of};
 ghost use Rattle.nv_core.specs.machine.Reads.{nodes, written_slots};
+ghost use Rattle.nv_core.specs.machine.Refusing.{LeavesBooks};
 ghost use Rattle.nv_core.specs.machine.Rounds.{HasRounds, failed_checks};
 ghost use Rattle.nv_core.specs.machine.Sequence.{Visits, beginning, nothing_looked};
 ghost use Rattle.nv_core.specs.machine.Settled.{settled, settled_nodes};
 ghost use Rattle.nv_core.specs.machine.Step.{after, handle_at, kind_turn, stays, step, turn};
+ghost use Rattle.nv_core.specs.machine.Takings.{IsShortInAll, asks_list, no_taking, taking_after, taking_of};
 ghost use Rattle.nv_core.specs.machine.World.{Answers, Done, Ending, Event, Go, HandState, Number, Overtaken, Refused, Running, Shared, Start, Started, Unlock, Visit, Waiting, World, actor_at, cell_at, list_at, owner_at};
 
 /// A `Go` of an actor whose call runs makes the one step that comes next, and changes only its actor and the
@@ -313,6 +317,14 @@ pub fn checked_calls_still_pass()
         → looked (node_in (settled_nodes (after (formatted g) events).shared)) r.call ≡ r.looked }
 {}
 
+/// The plain world of a new world has the root, an empty directory of mode 493 that no commit has changed, and nothing else;
+/// and it has no commit.
+pub fn the_plain_world_begins_with_the_root()
+    ensures nodes { (g : GeometryNumbers) → IsWithinLimits g → (handle : Handle)
+        → (plain_of (formatted g)).nodes handle ≡ new_plain.nodes handle }
+    ensures commit { (g : GeometryNumbers) → (plain_of (formatted g)).commit ≡ new_plain.commit }
+{}
+
 /// The plain world's nodes are those of the settled logs after every list of events, and these logs are sound.
 pub fn the_plain_world_is_that_of_settled_logs()
     ensures nodes { (g : GeometryNumbers) (events : List Event) → IsWithinLimits g → (handle : Handle)
@@ -339,6 +351,30 @@ pub fn refusals_have_causes()
         → RefusesFor (IsRoundless r) (Unit {0}) (kind_turn (Unlock place) block actor granted s h r) }
 {}
 
+/// A taking that falls short has asked every list: where a step that asks a list refuses its call, whatever events came from
+/// a new world on, its taking has asked each CPU's free list once, from the actor's own on; each gave all that it had
+/// to the hand, and the sum is short of what the taking wants.
+pub fn short_takings_have_asked_every_list()
+    ensures { (g : GeometryNumbers) (events : List Event) (actor : ℕ) (granted : Bool) (r : Running)
+        → IsWithinLimits g → (actor_at (after (formatted g) events) actor).running ≡ Some r
+        → asks_list r.next ≡ true
+        → RefusesFor (IsShortInAll g.cpus actor
+        (taking_of (Some r) (after (formatted g) events) actor granted
+        (taking_after actor (formatted g) events no_taking))) ⊥
+        (turn (after (formatted g) events).numbers.block actor granted
+        (after (formatted g) events).shared (actor_at (after (formatted g) events) actor).hand r) }
+{}
+
+/// A step that refuses its call leaves the book (the number of the last commit, the epoch, journals and records) and all
+/// cells as they were, also an enter, which is lent the book; and so does each further step of a call that is
+/// not to be answered.
+pub fn refused_calls_leave_books_and_cells()
+    ensures { (w : World) (actor : ℕ) (granted : Bool) (r : Running) → IsKept w
+        → (actor_at w actor).running ≡ Some r
+        → LeavesBooks w.shared
+        (turn w.numbers.block actor granted w.shared (actor_at w actor).hand r) }
+{}
+
 /// A call is contended only after eight checks that each found a name bound anew: a started call has eight such checks
 /// to fail, each of them takes one, and no other event does. Where a call was overtaken and no round is left,
 /// eight have failed.
@@ -353,6 +389,24 @@ pub fn contended_calls_have_failed_eight_checks()
         → (actor_at (after (step w (Start actor c)).world events) actor).running ≡ Some r
         → r.ending ≡ Overtaken → r.rounds ≡ 0
         → 8 ≤ failed_checks actor (step w (Start actor c)).world events }
+{}
+
+/// A new inode's handle is new, whatever events came from a new world on: at the commit point of a call that makes an inode
+/// no node is under its handle, which is not the root's, nor that of a commit point before. Generations rise
+/// whenever a number comes back.
+pub fn made_handles_are_new()
+    ensures no_node { (g : GeometryNumbers) (events : List Event) (actor : ℕ) (granted : Bool)
+        (r : Running) → IsWithinLimits g → actor < length (after (formatted g) events).actors
+        → (actor_at (after (formatted g) events) actor).running ≡ Some r
+        → deed_of (after (formatted g) events) (Go actor granted) ≡ Commits
+        → makes_inode (beginning r.call) ≡ true
+        → settled_nodes (after (formatted g) events).shared r.made ≡ None }
+    ensures never { (g : GeometryNumbers) (events : List Event) (actor : ℕ) (granted : Bool)
+        (r : Running) → IsWithinLimits g → actor < length (after (formatted g) events).actors
+        → (actor_at (after (formatted g) events) actor).running ≡ Some r
+        → deed_of (after (formatted g) events) (Go actor granted) ≡ Commits
+        → makes_inode (beginning r.call) ≡ true
+        → has_handle (root ∷ handles_made (formatted g) events) r.made ≡ false }
 {}
 
 /// A visit reads settled nodes, since it waits while its slot is held: what it tests and answers is the same there, so

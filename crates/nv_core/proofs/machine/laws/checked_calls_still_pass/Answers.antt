@@ -1,4 +1,4 @@
-use Rattle.nv_core.proofs.steps.FitsEvents.{still_passes}
+use Rattle.nv_core.proofs.steps.FitsLaws.{still_passes}
 use Rattle.nv_core.proofs.machine.laws.checked_calls_still_pass.Goals as goal
 
 pub returns-clause-passes : goal.returns-clause-passes

@@ -1,4 +1,4 @@
-use Rattle.nv_core.proofs.steps.FitsEvents.{has_effect, has_passed, has_plan}
+use Rattle.nv_core.proofs.steps.FitsLaws.{has_effect, has_passed, has_plan}
 use Rattle.nv_core.proofs.machine.laws.plans_fit_at_commit_points.Goals as goal
 
 pub returns-clause-fits : goal.returns-clause-fits
