@@ -1,5 +1,5 @@
 -- Each free list is what logs, chains and hands leave.
-use Rattle.std.proofs.Common.{◌≡◌, ℕ, zero, suc, ◌+◌, ◌-◌, ◌^◌, ◌<◌, ◌++◌, ◌∙◌, List, [], ◌∷◌, Option, Some, None, ap, arith, flat_map, filter, length, map, refl, slice_get, slice_index_or, sym, ◌==◌, ◌||◌}
+use Rattle.std.proofs.Common.{◌≡◌, ℕ, suc, ◌+◌, ◌-◌, ◌<◌, ◌++◌, ◌∙◌, List, [], ◌∷◌, Option, Some, None, ap, arith, flat_map, filter, length, map, refl, slice_get, slice_index_or, sym, ◌==◌, ◌||◌}
 use Rattle.std.specs.Prelude.{option_to_list}
 use Rattle.std.specs.List.{range_with_len}
 use Rattle.std.specs.Option.{option_map}

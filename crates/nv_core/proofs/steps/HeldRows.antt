@@ -3,6 +3,8 @@ use Rattle.std.proofs.Common.{◌≡◌, ℕ, List, [], ◌∷◌, length, refl}
 use Rattle.std.specs.Prelude.{slice_set}
 use Rattle.nv_calls.specs.declared.call.Call.TheVariants as call
 use Rattle.nv_cell.specs.Cell.{CellState}
+use Rattle.nv_cell.specs.declared.killed.KilledPart.{KilledPart}
+use Rattle.nv_entry.specs.declared.part.Part.TheVariants as part
 use Rattle.nv_core.specs.machine.Format.{formatted}
 use Rattle.nv_core.specs.machine.Held.{free_by_logs, killed_in}
 use Rattle.nv_core.specs.machine.Numbers.{free_from_scratch, free_of}
@@ -64,8 +66,27 @@ forgotten_logs = refl
 abbrev untold : World
 untold = with_hand (record (hand_at 7) { killed = [] ∷ [] }) (at 7)
 
+untold_list : free_of (list_at untold.shared 0) ≡ 4 ∷ 5 ∷ 6 ∷ 7 ∷ []
+untold_list = refl
+
 untold_cells : free_from_scratch device untold 0 ≡ 4 ∷ 5 ∷ 6 ∷ 7 ∷ []
 untold_cells = refl
 
 untold_logs : free_by_logs device untold 0 ≡ 2 ∷ 4 ∷ 5 ∷ 6 ∷ 7 ∷ []
 untold_logs = refl
+
+-- a publish that tells of a part that stays current: in the end its block is free, and the older one is lost
+abbrev fresh_page : KilledPart
+fresh_page = record { part = record { entry = record { commit = 3; place = 0 }; part = part.Page 0 }; birth = 1 }
+
+abbrev mistold : World
+mistold = (line (with_hand (record (hand_at 7) { killed = (fresh_page ∷ []) ∷ [] }) (at 7)) (Goes 0 99)).world
+
+mistold_list : free_of (list_at mistold.shared 0) ≡ 3 ∷ 4 ∷ 5 ∷ 6 ∷ 7 ∷ []
+mistold_list = refl
+
+mistold_cells : free_from_scratch device mistold 0 ≡ 3 ∷ 4 ∷ 5 ∷ 6 ∷ 7 ∷ []
+mistold_cells = refl
+
+mistold_logs : free_by_logs device mistold 0 ≡ 2 ∷ 4 ∷ 5 ∷ 6 ∷ 7 ∷ []
+mistold_logs = refl

@@ -1,16 +1,14 @@
 -- Whatever events come, each cell has the blocks of its parts in use, and no other.
-use Rattle.std.proofs.Common.{◌≡◌, ◌≢◌, ℕ, zero, suc, ◌-◌, ◌^◌, ◌<◌, ◌==◌, ◌++◌, ◌∙◌, Bool, true, false, List, [], ◌∷◌, Option, Some, None, ap, append-nil, arith, flat_map, get_or-set_other, get_or-set_same, if◌then◌else◌, length, length-set, nat_lt, refl, replicate, set, subst, sym}
+use Rattle.std.proofs.Common.{◌≡◌, ◌≢◌, ℕ, zero, suc, ◌-◌, ◌<◌, ◌==◌, ◌++◌, ◌∙◌, Bool, true, false, List, [], ◌∷◌, Option, Some, None, ap, append-nil, arith, flat_map, get_or-set_other, get_or-set_same, if◌then◌else◌, length, length-set, nat_lt, refl, replicate, set, subst, sym}
 use Rattle.std.specs.Prelude.{slice_index_or}
 use Rattle.std.specs.Option.{option_map}
-use Rattle.std.proofs.lemmas.Bool.{eqb-false, eqb-true, le-ltb, ltb-true, true≢false}
+use Rattle.std.proofs.lemmas.Bool.{eqb-true, le-ltb, ltb-true, true≢false}
 use Rattle.std.proofs.lemmas.Option.{none-some}
 use Rattle.nv_alloc.specs.Block.{number_of}
-use Rattle.nv_base.specs.Limits.{IsWithinLimits}
 use Rattle.nv_base.specs.declared.geometry.GeometryNumbers.{GeometryNumbers}
 use Rattle.nv_calls.specs.declared.call.Call.{Call}
-use Rattle.nv_cell.specs.Cell.{CellState, empty_cell}
+use Rattle.nv_cell.specs.Cell.{empty_cell}
 use Rattle.nv_cell.specs.declared.killed.KilledPart.{KilledPart}
-use Rattle.nv_epoch.specs.SnapList.{ids}
 use Rattle.nv_core.specs.machine.Format.{formatted, root_cell}
 use Rattle.nv_core.specs.machine.Frame.{IsFramed, lent}
 use Rattle.nv_core.specs.machine.Hands.{AreNumbers, HandOf}

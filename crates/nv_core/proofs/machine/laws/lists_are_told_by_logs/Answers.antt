@@ -1,5 +1,4 @@
 use Rattle.nv_core.proofs.steps.HeldLaw.{blocks_told, pairs_told, scanned_by_logs}
-use Rattle.nv_core.proofs.steps.HeldRows.{given}
 use Rattle.nv_core.proofs.machine.laws.lists_are_told_by_logs.Goals as goal
 
 pub returns-clause-lists : goal.returns-clause-lists
