@@ -76,3 +76,4 @@ pub mod EndsWritten
 pub mod EndsTold
 pub mod EndsTurns
 pub mod EndsRuns
+pub mod EndsCaused

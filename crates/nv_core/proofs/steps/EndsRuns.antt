@@ -220,8 +220,8 @@ module _ (g : GeometryNumbers) (events : List Event) (actor : ℕ) (within : IsW
       → ReplyTold (step w (Go actor granted)).reply (decision_of (Some r) w actor granted ++ before_all)
   replied false granted r there is had = absurd (none_some
       (sym (outside g w (all_known g within events) (all_fit g within events) actor there) ∙ is)) where
-    none_some : None ≡ Some r → ⊥
-    none_some e = cc
+        none_some : None ≡ Some r → ⊥
+        none_some e = cc
   replied true granted r there is had =
       subst (λ (x : Step). ReplyTold x.reply (decision_of (Some r) w actor granted ++ before_all))
       (sym (go_is_turn (nat_lt actor (length w.actors)) (actor_at w actor).running w actor granted r there is))

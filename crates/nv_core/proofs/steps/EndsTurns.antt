@@ -296,5 +296,6 @@ module _ (block a cpu : ℕ) (s : Shared) (h : HandState) (r : Running) where
   kind_told Back granted before st d = back_told before before h.ino s h r d.told
   kind_told Visit granted before st d =
       visit_told (owner_at s (handle_at (handles nothing_looked r.call) 0).ino) (refusal block plain r.call)
-      (refusal block (copies s) r.call) (granted || not (visit_grows r.call)) (answer (settled_nodes s) r.made r.call) (answer (nodes s) r.made r.call) before d.told
+      (refusal block (copies s) r.call) (granted || not (visit_grows r.call)) (answer (settled_nodes s) r.made r.call)
+      (answer (nodes s) r.made r.call) before d.told
       (λ free. let c = st.visit d.stage free (record { made = r.made; runs = []; present = false }) in (sym c.refusal, sym c.answer))
