@@ -1,13 +1,12 @@
 -- What a step refuses its call for, the plain world says too, on the settled nodes.
-use Rattle.std.proofs.Common.{◌≡◌, ℕ, zero, suc, ◌<◌, ◌∙◌, ◌||◌, not, Bool, true, false, List, [], ◌∷◌, Option, Some, None, ap, refl, subst, sym}
-use Rattle.std.specs.Prelude.{Ok, Err}
+use Rattle.std.proofs.Common.{◌≡◌, ℕ, zero, suc, ◌∙◌, Bool, false, List, [], Option, Some, None, refl, subst, sym}
+use Rattle.std.specs.Prelude.{Err}
 use Rattle.nv_base.specs.Limits.{IsWithinLimits}
 use Rattle.nv_base.specs.declared.fault.Fault.{Fault}
 use Rattle.nv_base.specs.declared.geometry.GeometryNumbers.{GeometryNumbers}
 use Rattle.nv_base.specs.declared.numbers.Handle.{Handle}
 use Rattle.nv_entry.specs.declared.node.NodeCopy.{NodeCopy}
 use Rattle.nv_calls.specs.AllCalls.{early, effect, look_refusal, looked, refusal}
-use Rattle.nv_calls.specs.Locked.{handles}
 use Rattle.nv_calls.specs.Plain.{node_in}
 use Rattle.nv_calls.specs.Refusals.{Check as Tests}
 use Rattle.nv_calls.specs.declared.looked.Looked.{Looked}
@@ -15,14 +14,14 @@ use Rattle.nv_core.specs.machine.Causes.{IsCause, MayBeOvertaken, RefusesFor}
 use Rattle.nv_core.specs.machine.Format.{formatted}
 use Rattle.nv_core.specs.machine.Kinds.{look_tests, look_turn}
 use Rattle.nv_core.specs.machine.Reads.{copies, nodes}
-use Rattle.nv_core.specs.machine.Sequence.{beginning, directories, nothing_looked}
+use Rattle.nv_core.specs.machine.Sequence.{beginning, directories}
 use Rattle.nv_core.specs.machine.Settled.{settled_nodes}
 use Rattle.nv_core.specs.machine.Step.{after, ending_at, handle_at, is_numbered, kind_turn, made_in, same_looked, turn, visit_grows, with_made}
-use Rattle.nv_core.specs.machine.World.{Answers, Append, Back, Check, Close, Ending, Enter, Event, Give, HandState, Leave, Lock, Look, Next, Number, Open, Publish, Ready, Retire, Running, Shared, TakeBlocks, TakePages, Unlock, Visit, World, actor_at, owner_at}
-use Rattle.nv_core.proofs.steps.Caused.{CheckCause, caused, check_caused, check_told, look_caused, look_told, no_growth, visit_caused}
-use Rattle.nv_core.proofs.steps.EndsRead.{ending_settled, first_look, settled_ending}
+use Rattle.nv_core.specs.machine.World.{Answers, Append, Back, Check, Close, Enter, Event, Give, HandState, Leave, Lock, Look, Next, Number, Open, Publish, Ready, Retire, Running, Shared, TakeBlocks, TakePages, Unlock, Visit, World, actor_at, owner_at}
+use Rattle.nv_core.proofs.steps.Caused.{CheckCause, caused, check_caused, check_told, look_caused, no_growth, visit_caused}
+use Rattle.nv_core.proofs.steps.EndsRead.{ending_settled, first_look}
 use Rattle.nv_core.proofs.steps.EndsRuns.{relied, told_of}
-use Rattle.nv_core.proofs.steps.EndsTold.{IsTold, Stage}
+use Rattle.nv_core.proofs.steps.EndsTold.{Stage}
 use Rattle.nv_core.proofs.steps.EndsTurns.{Relied}
 use Rattle.nv_core.proofs.steps.FitsEvents.{all_fit, all_known}
 use Rattle.nv_core.proofs.steps.Visiting.{free_node}
