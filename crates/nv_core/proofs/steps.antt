@@ -89,3 +89,4 @@ pub mod Refusing
 pub mod Living
 pub mod Fresh
 pub mod PlainStart
+pub mod EndsCaused

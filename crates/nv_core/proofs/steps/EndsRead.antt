@@ -1,12 +1,11 @@
 -- What a check and a look read is settled, so that they decide as the plain world does.
-use Rattle.std.proofs.Common.{◌≡◌, ℕ, ◌<◌, ◌++◌, ◌∙◌, ◌&&◌, Bool, true, false, cond, List, [], ◌∷◌, Option, Some, None, ap, ap₂, map, length, refl, subst, sym, take}
+use Rattle.std.proofs.Common.{◌≡◌, ℕ, ◌++◌, ◌∙◌, Bool, true, false, cond, List, [], ◌∷◌, Option, Some, None, ap, ap₂, length, refl, subst, sym, take}
 use Rattle.std.specs.Prelude.{Ok, Err, option_map}
 use Rattle.std.specs.List.{AllByRecursion}
-use Rattle.std.proofs.lemmas.Bool.{false≢true}
 use Rattle.nv_alloc.specs.Numbers.{has}
 use Rattle.nv_base.specs.declared.numbers.Handle.{Handle}
 use Rattle.nv_entry.specs.declared.node.NodeCopy.{NodeCopy}
-use Rattle.nv_calls.specs.AllCalls.{early, effect, late, look_refusal, looked, refusal}
+use Rattle.nv_calls.specs.AllCalls.{early, effect, look_refusal, looked, refusal}
 use Rattle.nv_calls.specs.Locked.{Agree, SameCall, handles}
 use Rattle.nv_calls.specs.Plain.{Change, PlainNode, node_in, same_handle}
 use Rattle.nv_calls.specs.Refusals.{Check as Tests, and_then, found, kind_of, passes, want_directory, want_lawful}

@@ -1,6 +1,6 @@
 -- A call that is answered was decided once, whatever events come.
-use Rattle.std.proofs.Common.{◌≡◌, ◌≢◌, ℕ, ◌%◌, ◌<◌, ◌==◌, ◌++◌, ◌∙◌, Bool, true, false, cond, List, [], ◌∷◌, Option, Some, None, ap, get_or-set_same, inl, inr, length, nat_lt, refl, subst, sym}
-use Rattle.std.specs.Prelude.{Result, Ok, Err, slice_index_or}
+use Rattle.std.proofs.Common.{◌≡◌, ℕ, ◌%◌, ◌<◌, ◌==◌, ◌++◌, ◌∙◌, Bool, true, false, cond, List, [], ◌∷◌, Option, Some, None, ap, get_or-set_same, length, nat_lt, refl, subst, sym}
+use Rattle.std.specs.Prelude.{Ok, Err}
 use Rattle.std.proofs.lemmas.Bool.{eqb-false, eqb-true, false≢true, lt-ltb, ltb-false, ltb-true}
 use Rattle.std.proofs.lemmas.List.{get_or_past}
 use Rattle.nv_base.specs.declared.fault.Fault.{Fault}
@@ -10,7 +10,7 @@ use Rattle.nv_calls.specs.AllCalls.{effect, is_nothing}
 use Rattle.nv_calls.specs.Plain.{node_in}
 use Rattle.nv_calls.specs.declared.answer.Answer.{Answer}
 use Rattle.nv_calls.specs.declared.call.Call.{Call}
-use Rattle.nv_core.specs.machine.EndsDecided.{decided, decided_in, decision, decision_of, unless_started}
+use Rattle.nv_core.specs.machine.EndsDecided.{decided, decided_in, decision_of, unless_started}
 use Rattle.nv_core.specs.machine.Format.{formatted}
 use Rattle.nv_core.specs.machine.Hands.{HandOf}
 use Rattle.nv_core.specs.machine.Kept.{KnowsOf, Knows}
@@ -20,7 +20,7 @@ use Rattle.nv_core.specs.machine.Reads.{slots_of, written_slots}
 use Rattle.nv_core.specs.machine.Sequence.{Beginning, Looks, Locks, Numbers, Visits, beginning, begun, nothing_looked}
 use Rattle.nv_core.specs.machine.Settled.{settled_nodes}
 use Rattle.nv_core.specs.machine.Step.{Step, after, go_step, start_step, step, turn, turned}
-use Rattle.nv_core.specs.machine.World.{Actor, Append, Back, Check, Close, Done, Ending, Ends, Enter, Event, Give, Go, HandState, Leave, Lock, Look, Moves, Next, Number, Open, Publish, Ready, Refused, Retire, TakeBlocks, TakePages, Unlock, Visit, Reply, Running, Shared, Start, Started, Turn, Waits, World, actor_at, idle}
+use Rattle.nv_core.specs.machine.World.{Actor, Append, Back, Check, Close, Done, Ending, Ends, Enter, Event, Give, Go, HandState, Leave, Lock, Look, Moves, Next, Number, Open, Publish, Ready, Refused, Retire, TakeBlocks, TakePages, Unlock, Visit, Reply, Running, Shared, Start, Turn, Waits, World, actor_at, idle}
 use Rattle.nv_calls.specs.declared.taken.Taken.{Taken}
 use Rattle.nv_calls.proofs.Nothing.{told_nothing}
 use Rattle.nv_core.proofs.steps.Answered.{deed_is}
@@ -29,7 +29,8 @@ use Rattle.nv_core.proofs.steps.EndsRead.{logs_held}
 use Rattle.nv_core.proofs.steps.EndsWritten.{enter_writes}
 use Rattle.nv_core.proofs.steps.Events.{go_is_turn, starts}
 use Rattle.nv_core.proofs.steps.FitsBytes.{point_fits}
-use Rattle.nv_core.proofs.steps.FitsEvents.{AreFit, IsKnown, all_fit, all_known, has_passed}
+use Rattle.nv_core.proofs.steps.FitsEvents.{AreFit, IsKnown, all_fit, all_known}
+use Rattle.nv_core.proofs.steps.FitsLaws.{has_passed}
 use Rattle.nv_core.proofs.steps.FitsStages.{FitsAt, FitsOf}
 use Rattle.nv_core.proofs.steps.Lists.{self}
 use Rattle.nv_core.proofs.steps.Locks.{all_same, before}
@@ -220,8 +221,8 @@ module _ (g : GeometryNumbers) (events : List Event) (actor : ℕ) (within : IsW
       → ReplyTold (step w (Go actor granted)).reply (decision_of (Some r) w actor granted ++ before_all)
   replied false granted r there is had = absurd (none_some
       (sym (outside g w (all_known g within events) (all_fit g within events) actor there) ∙ is)) where
-    none_some : None ≡ Some r → ⊥
-    none_some e = cc
+        none_some : None ≡ Some r → ⊥
+        none_some e = cc
   replied true granted r there is had =
       subst (λ (x : Step). ReplyTold x.reply (decision_of (Some r) w actor granted ++ before_all))
       (sym (go_is_turn (nat_lt actor (length w.actors)) (actor_at w actor).running w actor granted r there is))

@@ -1,5 +1,5 @@
 -- What has been decided of a call follows from its next step: nothing before its commit point, and from there on its answer.
-use Rattle.std.proofs.Common.{◌≡◌, ℕ, zero, suc, ◌+◌, ◌<◌, ◌≤◌, ◌∙◌, Bool, true, false, List, [], ◌∷◌, Option, Some, None, ap, arith, if◌then◌else◌, length, nat_lt, refl, sym}
+use Rattle.std.proofs.Common.{◌≡◌, ℕ, zero, suc, ◌+◌, ◌<◌, ◌∙◌, Bool, true, false, List, [], ◌∷◌, Option, Some, None, ap, arith, if◌then◌else◌, length, nat_lt, refl, sym}
 use Rattle.std.specs.Prelude.{Result, Ok, Err}
 use Rattle.std.proofs.lemmas.Bool.{lt-ltb, ltb-false, ltb-true}
 use Rattle.nv_base.specs.declared.fault.Fault.{Fault}
@@ -10,8 +10,8 @@ use Rattle.nv_calls.specs.declared.call.Call.{Call}
 use Rattle.nv_calls.specs.declared.call.Call.TheVariants as call
 use Rattle.nv_calls.specs.declared.looked.Looked.{Looked}
 use Rattle.nv_core.specs.machine.Answered.{answer_of}
-use Rattle.nv_core.specs.machine.Kinds.{again_turn, back_turn, blocks_turn, end_turn, enter_turn, grown, lock_turn, look_turn, number_turn, over_turn, pages_turn, refuse, rest_turn, result_by, unlocked_turn, wants_blocks, wants_pages}
-use Rattle.nv_core.specs.machine.Reads.{slots_of, written_slots}
+use Rattle.nv_core.specs.machine.Kinds.{again_turn, back_turn, blocks_turn, end_turn, grown, lock_turn, look_turn, number_turn, over_turn, pages_turn, rest_turn, result_by, unlocked_turn, wants_blocks, wants_pages}
+use Rattle.nv_core.specs.machine.Reads.{slots_of}
 use Rattle.nv_core.specs.machine.Sequence.{Visits, appending, beginning, closing, directories, locking, looking, opening, publishing, retiring}
 use Rattle.nv_core.specs.machine.World.{Answers, Append, Back, Check, Close, Ending, Ends, Enter, Give, HandState, Leave, Lock, Look, Moves, Next, Number, Open, Overtaken, Publish, Ready, Refuses, Retire, Running, Shared, TakeBlocks, TakePages, Turn, Unlock, Visit, Waits, go_to}
 

@@ -1,6 +1,6 @@
 -- What each kind of step decides, and that what has been decided follows from the step that comes next.
-use Rattle.std.proofs.Common.{◌≡◌, ℕ, zero, suc, ◌+◌, ◌%◌, ◌<◌, ◌++◌, ◌∙◌, ◌&&◌, ◌||◌, not, Bool, true, false, cond, List, [], ◌∷◌, Option, Some, None, ap, ap₂, arith, if◌then◌else◌, length, nat_le, nat_lt, refl, subst, sym}
-use Rattle.std.specs.Prelude.{Result, Ok, Err}
+use Rattle.std.proofs.Common.{◌≡◌, ℕ, ◌+◌, ◌<◌, ◌++◌, ◌∙◌, ◌&&◌, ◌||◌, not, Bool, true, false, cond, List, [], ◌∷◌, Option, Some, None, ap, ap₂, arith, length, nat_le, nat_lt, refl, subst, sym}
+use Rattle.std.specs.Prelude.{Ok, Err}
 use Rattle.std.proofs.lemmas.Bool.{and_parts, false≢true}
 use Rattle.nv_alloc.specs.Numbers.{has}
 use Rattle.nv_base.specs.declared.fault.Fault.{Fault}
@@ -8,7 +8,7 @@ use Rattle.nv_base.specs.declared.fault.Fault.TheVariants.{CommitLimit, OutOfMem
 use Rattle.nv_base.specs.declared.limits.TheConstants.{NUMBER}
 use Rattle.nv_base.specs.declared.numbers.Handle.{Handle}
 use Rattle.nv_entry.specs.declared.node.NodeCopy.{NodeCopy}
-use Rattle.nv_calls.specs.AllCalls.{IsToldNothing, answer, blocks_wanted, early, effect, is_nothing, late, looked, refusal}
+use Rattle.nv_calls.specs.AllCalls.{IsToldNothing, answer, early, effect, is_nothing, looked, refusal}
 use Rattle.nv_calls.specs.Locked.{SameCall, handles}
 use Rattle.nv_calls.specs.Plain.{Change, PlainNode, node_in}
 use Rattle.nv_calls.specs.Refusals.{Check as Tests, passes}
@@ -20,19 +20,19 @@ use Rattle.nv_calls.proofs.Nothing.{told_nothing}
 use Rattle.nv_calls.proofs.Passed.{both_passed}
 use Rattle.nv_cell.specs.Cell.{log_of}
 use Rattle.nv_core.specs.machine.Answered.{answer_of}
-use Rattle.nv_core.specs.machine.EndsDecided.{decides, decision, has_nothing_to_do, is_answered, is_no_change, is_pass}
+use Rattle.nv_core.specs.machine.EndsDecided.{decision, has_nothing_to_do, is_answered, is_no_change, is_pass}
 use Rattle.nv_core.specs.machine.Hands.{is_going}
 use Rattle.nv_core.specs.machine.Kinds.{check_ending, check_turn, end_turn, enter_turn, rest_turn, visit_turn, wants_blocks}
 use Rattle.nv_core.specs.machine.Locks.{IsInside, commits_at, held_at}
-use Rattle.nv_core.specs.machine.PlainRun.{Commits, Nothing, Numbers, deed, entered, keeps_nodes}
+use Rattle.nv_core.specs.machine.PlainRun.{Commits, Nothing, Numbers, entered, keeps_nodes}
 use Rattle.nv_core.specs.machine.Reads.{copies, nodes, written_slots}
-use Rattle.nv_core.specs.machine.Sequence.{Beginning, Visits, appending, beginning, nothing_looked, publishing, retiring}
+use Rattle.nv_core.specs.machine.Sequence.{Visits, appending, beginning, nothing_looked, publishing, retiring}
 use Rattle.nv_core.specs.machine.Settled.{settled, settled_nodes}
 use Rattle.nv_core.specs.machine.Step.{ending_at, handle_at, is_numbered, kind_turn, made_in, same_looked, visit_grows, with_made}
 use Rattle.nv_core.specs.machine.World.{Answers, Append, Back, Check, Close, Ending, Ends, Enter, Give, HandState, Leave, Lock, Look, Moves, Next, Number, Open, Overtaken, Publish, Ready, Refuses, Retire, Running, Shared, TakeBlocks, TakePages, Turn, Unlock, Visit, Waits, cell_at, go_to, owner_at}
 use Rattle.nv_core.proofs.steps.Answered.{no_node_tells}
 use Rattle.nv_core.proofs.steps.EndsRead.{ending_settled, settled_ending}
-use Rattle.nv_core.proofs.steps.EndsTold.{IsNoVisit, IsTold, OnTold, Stage, appending_before, back_told, before_told, behind_told, blocks_told, end_told, granted_told, lock_told, look_told, no_visit, number_told, paging_told, publishing_before, refuse_told, rest_told, retiring_behind, several_before, single_behind, taking_told, told_at, told_by, unlocked_told}
+use Rattle.nv_core.proofs.steps.EndsTold.{IsNoVisit, IsTold, OnTold, appending_before, back_told, before_told, behind_told, blocks_told, end_told, granted_told, lock_told, look_told, no_visit, number_told, paging_told, refuse_told, rest_told, retiring_behind, several_before, single_behind, taking_told, told_by, unlocked_told}
 use Rattle.nv_core.proofs.steps.FitsStages.{FitsAt}
 
 -- ---- what a check decides
@@ -296,5 +296,6 @@ module _ (block a cpu : ℕ) (s : Shared) (h : HandState) (r : Running) where
   kind_told Back granted before st d = back_told before before h.ino s h r d.told
   kind_told Visit granted before st d =
       visit_told (owner_at s (handle_at (handles nothing_looked r.call) 0).ino) (refusal block plain r.call)
-      (refusal block (copies s) r.call) (granted || not (visit_grows r.call)) (answer (settled_nodes s) r.made r.call) (answer (nodes s) r.made r.call) before d.told
+      (refusal block (copies s) r.call) (granted || not (visit_grows r.call)) (answer (settled_nodes s) r.made r.call)
+      (answer (nodes s) r.made r.call) before d.told
       (λ free. let c = st.visit d.stage free (record { made = r.made; runs = []; present = false }) in (sym c.refusal, sym c.answer))

@@ -1,5 +1,5 @@
 -- A call that has something to commit gets entries for at least one inode.
-use Rattle.std.proofs.Common.{◌≡◌, ℕ, ◌+◌, ◌-◌, ◌*◌, ◌/◌, ◌<◌, ◌≤◌, ◌==◌, ◌++◌, ◌∙◌, Bool, true, false, cond, List, [], ◌∷◌, Option, Some, None, ap, arith, length, length-append, refl, subst, sym}
+use Rattle.std.proofs.Common.{◌≡◌, ℕ, ◌+◌, ◌-◌, ◌/◌, ◌<◌, ◌∙◌, Bool, true, false, cond, List, [], ◌∷◌, Option, Some, None, ap, arith, length, length-append, refl, subst, sym}
 use Rattle.std.proofs.Math.Nat.{div-mul-le_self}
 use Rattle.std.proofs.lemmas.Nat.{le-div}
 use Rattle.nv_alloc.specs.Numbers.{has}
@@ -10,7 +10,7 @@ use Rattle.nv_entry.specs.declared.item.Item.{Item}
 use Rattle.nv_entry.specs.declared.item.Item.TheVariants.{SetSize}
 use Rattle.nv_entry.specs.declared.item.Run.{Run}
 use Rattle.nv_entry.specs.declared.node.NodeCopy.{NodeCopy}
-use Rattle.nv_calls.specs.AllCalls.{IsToldNothing, blocks_wanted, is_nothing, plan, refusal}
+use Rattle.nv_calls.specs.AllCalls.{blocks_wanted, is_nothing, plan, refusal}
 use Rattle.nv_calls.specs.Plain.{same_handle}
 use Rattle.nv_calls.specs.Refusals.{bytes_of, found, passes}
 use Rattle.nv_calls.specs.Slots.{items_for}

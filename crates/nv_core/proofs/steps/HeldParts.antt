@@ -1,6 +1,6 @@
 -- A cell has the blocks of its parts in use and no other, whatever is appended, published or retired there.
 use Rattle.std.proofs.Common.{◌≡◌, ℕ, zero, suc, ◌+◌, ◌-◌, ◌<◌, ◌≤◌, ◌==◌, ◌&&◌, ◌||◌, ◌++◌, ◌∙◌, Bool, true, false, cond, not, ◌⊎◌, List, [], ◌∷◌, Option, Some, None, ap, arith, drop, filter, flat_map, get_or-set_other, get_or-set_same, if◌then◌else◌, inl, inr, length, length-append, length-set, nat_lt, refl, set, slice_index_or, subst, sym, take}
-use Rattle.std.specs.Prelude.{is_some, unwrap_or}
+use Rattle.std.specs.Prelude.{is_some, option_to_list, unwrap_or}
 use Rattle.std.specs.List.{AllByRecursion, list_any, range_with_len}
 use Rattle.std.specs.Option.{option_map}
 use Rattle.std.proofs.lemmas.Bool.{and_parts, cases_lt, eqb-false, eqb-true, false≢true, le-ltb, lt-ltb, ltb-true}
@@ -8,7 +8,7 @@ use Rattle.std.proofs.lemmas.List.{get_or_append_left, get_or-append_right, get_
 use Rattle.std.proofs.lemmas.List.Folds.{list_any-append}
 use Rattle.nv_alloc.specs.Block.{BlockValue, number_of, numbers_of}
 use Rattle.nv_alloc.specs.Numbers.{has}
-use Rattle.nv_calls.specs.Retiring.{erased, is_erased, retired}
+use Rattle.nv_calls.specs.Retiring.{killed_by, erased, is_erased, retired}
 use Rattle.nv_cell.specs.Append.{IsWithinFile, appended, blocks_for, slots_of}
 use Rattle.nv_cell.specs.Cell.{CellState, empty_cell, log_of, number_in, page_block, published, without_part}
 use Rattle.nv_cell.specs.Named.{number_named}
@@ -26,7 +26,7 @@ use Rattle.nv_entry.specs.declared.item.Entry.{Entry}
 use Rattle.nv_log.specs.Chain.{ChainState}
 use Rattle.nv_calls.proofs.Appends.{front, map-drop, map-take}
 use Rattle.nv_core.specs.machine.Held.{block_in_use, is_among, is_in_use}
-use Rattle.nv_core.specs.machine.Kinds.{if_part, killed_by_publish, with_entries, with_pages}
+use Rattle.nv_core.specs.machine.Kinds.{with_entries, with_pages}
 use Rattle.nv_core.proofs.steps.Parted.{entry_blocks}
 
 -- ---- what holds of a cell
@@ -164,7 +164,7 @@ module _ (cell : CellState) (is : IsLog cell.chain.entries) where
 
   -- the parts of these numbers that die
   abbrev dying : List ℕ → List KilledPart
-  dying ns = flat_map (λ n. if_part (killed_part all n)) (filter dies_now ns)
+  dying ns = flat_map (λ n. option_to_list (killed_part all n)) (filter dies_now ns)
 
   dead_covered : (n : ℕ) → dies_now n ≡ true → is_covered cell.block all n ≡ true
   dead_covered n d =
@@ -178,7 +178,7 @@ module _ (cell : CellState) (is : IsLog cell.chain.entries) where
 
   -- of these numbers, those of parts that die are among them
   one_dies : (m n : ℕ) (o : Option KilledPart) → killed_part all m ≡ o → dies_now m ≡ true
-      → list_any (λ (k : KilledPart). is_number (number_named all k.part) n) (if_part o) ≡ (m == n)
+      → list_any (λ (k : KilledPart). is_number (number_named all k.part) n) (option_to_list o) ≡ (m == n)
   one_dies m n None q d =
       let there = (names_of_parts all is).there m (dead_low m d) in
       absurd (false≢true (sym (ap (λ (o : Option KilledPart). is_some o) q) ∙ there))
@@ -198,17 +198,17 @@ module _ (cell : CellState) (is : IsLog cell.chain.entries) where
     not_here false q d = refl
 
     go : (b : Bool) → dies_now m ≡ b → is_among all (dying ns) n ≡ (has ns n && dies_now n)
-        → is_among all (flat_map (λ n. if_part (killed_part all n)) (cond b (m ∷ filter dies_now ns) (filter dies_now ns))) n
+        → is_among all (flat_map (λ n. option_to_list (killed_part all n)) (cond b (m ∷ filter dies_now ns) (filter dies_now ns))) n
         ≡ (((m == n) || has ns n) && dies_now n)
     go true d more =
-        list_any-append (λ (k : KilledPart). is_number (number_named all k.part) n) (if_part (killed_part all m)) (dying ns)
+        list_any-append (λ (k : KilledPart). is_number (number_named all k.part) n) (option_to_list (killed_part all m)) (dying ns)
         ∙ ap (λ (b : Bool). b || is_among all (dying ns) n) (one_dies m n (killed_part all m) refl d)
         ∙ ap (λ (b : Bool). (m == n) || b) more
         ∙ here (m == n) refl d
     go false d more = more ∙ not_here (m == n) refl d
 
   one_dead : (m : ℕ) (o : Option KilledPart) → killed_part all m ≡ o → dies_now m ≡ true
-      → AllByRecursion (IsDead all cell.block) (if_part o)
+      → AllByRecursion (IsDead all cell.block) (option_to_list o)
   one_dead m None q d = tt
   one_dead m (Some k) q d =
       (record { number = m; named = (names_of_parts all is).number m k q; covered = dead_covered m d }, tt)
@@ -218,8 +218,8 @@ module _ (cell : CellState) (is : IsLog cell.chain.entries) where
   all_dead (m ∷ ns) = go (dies_now m) refl (all_dead ns) where
     go : (b : Bool) → dies_now m ≡ b → AllByRecursion (IsDead all cell.block) (dying ns)
         → AllByRecursion (IsDead all cell.block)
-        (flat_map (λ n. if_part (killed_part all n)) (cond b (m ∷ filter dies_now ns) (filter dies_now ns)))
-    go true d more = both_dead all cell.block (if_part (killed_part all m)) (dying ns) (one_dead m (killed_part all m) refl d) more
+        (flat_map (λ n. option_to_list (killed_part all n)) (cond b (m ∷ filter dies_now ns) (filter dies_now ns)))
+    go true d more = both_dead all cell.block (option_to_list (killed_part all m)) (dying ns) (one_dead m (killed_part all m) refl d) more
     go false d more = more
 
   whole : log_of (published cell) ≡ all
@@ -232,7 +232,7 @@ module _ (cell : CellState) (is : IsLog cell.chain.entries) where
         ∙ covered_take cell.block all cell.chain.tail (length all) n h.within c
 
     -- whether a part is in use, before and after
-    same_use : (n : ℕ) → is_in_use [] cell n ≡ (not (is_covered cell.block all n) || is_among all (killed_by_publish cell) n)
+    same_use : (n : ℕ) → is_in_use [] cell n ≡ (not (is_covered cell.block all n) || is_among all (killed_by cell) n)
     same_use n = elim (cases_lt n (part_total all)) [
       | inl lt ↦
           let low : nat_lt n (part_total all) ≡ true = lt-ltb n (part_total all) lt in
@@ -247,15 +247,15 @@ module _ (cell : CellState) (is : IsLog cell.chain.entries) where
           past_log cell.block (log_of cell) n (omega (arith, ge, total_take all cell.chain.tail)) in
           let after : is_covered cell.block all n ≡ false = past_log cell.block all n ge in
           ap (λ (b : Bool). not b || false) before
-          ∙ ap (λ (b : Bool). not b || is_among all (killed_by_publish cell) n) (sym after)
+          ∙ ap (λ (b : Bool). not b || is_among all (killed_by cell) n) (sym after)
     ]
 
-    pub published_in_use : HasInUse (killed_by_publish cell) (published cell)
+    pub published_in_use : HasInUse (killed_by cell) (published cell)
     published_in_use = record {
       blocks = λ n. h.blocks n
           ∙ ap (λ (b : Bool). if b then page_block cell.block all n else None) (same_use n
-          ∙ ap (λ (log : List Entry). not (is_covered cell.block log n) || is_among log (killed_by_publish cell) n) (sym whole));
-      dead = subst (λ (log : List Entry). AllByRecursion (IsDead log cell.block) (killed_by_publish cell)) (sym whole)
+          ∙ ap (λ (log : List Entry). not (is_covered cell.block log n) || is_among log (killed_by cell) n) (sym whole));
+      dead = subst (λ (log : List Entry). AllByRecursion (IsDead log cell.block) (killed_by cell)) (sym whole)
           (all_dead (range_with_len 0 (part_total all)));
       within = omega arith;
       len = h.len;

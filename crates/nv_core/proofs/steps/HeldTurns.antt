@@ -5,7 +5,7 @@ use Rattle.std.proofs.lemmas.Bool.{eqb-true, ltb-false, true≢false}
 use Rattle.nv_alloc.specs.Numbers.{IsRising, has}
 use Rattle.nv_base.specs.declared.geometry.GeometryNumbers.{GeometryNumbers}
 use Rattle.nv_book.specs.Book.{BookState}
-use Rattle.nv_calls.specs.Retiring.{erased, is_erased, number_back, retired}
+use Rattle.nv_calls.specs.Retiring.{erased, is_erased, killed_by, number_back, retired}
 use Rattle.nv_calls.specs.Slots.{entries_of, items_for, place_in}
 use Rattle.nv_cell.specs.Append.{IsWithinFile}
 use Rattle.nv_entry.specs.declared.item.Entry.{Entry}
@@ -16,7 +16,7 @@ use Rattle.nv_cell.specs.declared.killed.KilledPart.{KilledPart}
 use Rattle.nv_epoch.specs.SnapList.{ids}
 use Rattle.nv_core.specs.machine.Hands.{HandAt, HasPlanned}
 use Rattle.nv_core.specs.machine.Held.{killed_by_call, killed_slots, parts_for}
-use Rattle.nv_core.specs.machine.Kinds.{close_turn, entries_for, first_killed, killed_by_publish, publish_turn, retire_turn, retired_book, retired_cell, with_entries, with_erased, with_freed, with_pages}
+use Rattle.nv_core.specs.machine.Kinds.{close_turn, entries_for, first_killed, publish_turn, retire_turn, retired_book, retired_cell, with_entries, with_erased, with_freed, with_pages}
 use Rattle.nv_core.specs.machine.Locks.{commits_at}
 use Rattle.nv_core.specs.machine.Order.{AreLogsOrdered}
 use Rattle.nv_core.specs.machine.Reads.{is_written, pages_needed, slot_at, written_slots}
@@ -141,11 +141,11 @@ module _ (s : Shared) (h : HandState) (r : Running) (rising : IsRising (written_
     publish_in_use : AreLogsOrdered s → length h.killed ≡ place → AllInUse (parts_for (take place written) h.killed) s
         → OnInUse (publish_turn slot place s h r)
     publish_in_use logs many all ino =
-        subst (λ (slots : List ℕ). HasInUse (parts_for slots (h.killed ++ killed_by_publish cell ∷ []) ino)
+        subst (λ (slots : List ℕ). HasInUse (parts_for slots (h.killed ++ killed_by cell ∷ []) ino)
         (cell_at (with_cell slot (published cell) s) ino))
         (sym (publishing_slots (place + 1) written ∙ ap (λ (n : ℕ). take n written) (add-one place) ∙ take_more place written inside))
         (cell_set s slot (published cell) ino
-        (HasInUse (parts_for (take place written ++ slot ∷ []) (h.killed ++ killed_by_publish cell ∷ []) ino)) low here there) where
+        (HasInUse (parts_for (take place written ++ slot ∷ []) (h.killed ++ killed_by cell ∷ []) ino)) low here there) where
           len : length (take place written) ≡ length h.killed
           len = omega (arith, length-take place written, inside, many)
 
@@ -156,17 +156,17 @@ module _ (s : Shared) (h : HandState) (r : Running) (rising : IsRising (written_
           was = subst (λ (parts : List KilledPart). HasInUse parts cell) (none_there (take place written) h.killed slot none) (all slot)
 
           here : slot ≡ ino
-              → HasInUse (parts_for (take place written ++ slot ∷ []) (h.killed ++ killed_by_publish cell ∷ []) ino) (published cell)
+              → HasInUse (parts_for (take place written ++ slot ∷ []) (h.killed ++ killed_by cell ∷ []) ino) (published cell)
           here e = subst (λ (n : ℕ). HasInUse
-              (parts_for (take place written ++ slot ∷ []) (h.killed ++ killed_by_publish cell ∷ []) n) (published cell)) e
+              (parts_for (take place written ++ slot ∷ []) (h.killed ++ killed_by cell ∷ []) n) (published cell)) e
               (subst (λ (parts : List KilledPart). HasInUse parts (published cell))
-              (sym (more_here (take place written) h.killed slot (killed_by_publish cell) len none))
+              (sym (more_here (take place written) h.killed slot (killed_by cell) len none))
               (published_in_use cell (logs slot).ordered was))
 
           there : slot ≢ ino
-              → HasInUse (parts_for (take place written ++ slot ∷ []) (h.killed ++ killed_by_publish cell ∷ []) ino) (cell_at s ino)
+              → HasInUse (parts_for (take place written ++ slot ∷ []) (h.killed ++ killed_by cell ∷ []) ino) (cell_at s ino)
           there ne = subst (λ (parts : List KilledPart). HasInUse parts (cell_at s ino))
-              (sym (more_there (take place written) h.killed slot ino (killed_by_publish cell) len ne)) (all ino)
+              (sym (more_there (take place written) h.killed slot ino (killed_by cell) len ne)) (all ino)
 
     abbrev killed : List KilledPart
     killed = first_killed h.killed

@@ -43,7 +43,7 @@ ghost use Rattle.nv_core.specs.machine.Order.{IsInOrder};
 ghost use Rattle.nv_core.specs.machine.PoolScan.{pool_from_scratch};
 ghost use Rattle.nv_core.specs.machine.Reached.{IsReached};
 ghost use Rattle.nv_core.specs.machine.PlainRun.{Commits, Plain, deed_of, keeps_nodes, new_plain, plain_after, plain_of};
-ghost use Rattle.nv_core.specs.machine.Reads.{nodes, written_slots};
+ghost use Rattle.nv_core.specs.machine.Reads.{copies, nodes, written_slots};
 ghost use Rattle.nv_core.specs.machine.Refusing.{LeavesBooks};
 ghost use Rattle.nv_core.specs.machine.Rounds.{HasRounds, failed_checks};
 ghost use Rattle.nv_core.specs.machine.Sequence.{Visits, beginning, nothing_looked};
@@ -212,12 +212,22 @@ pub fn the_plain_world_is_that_of_settled_logs()
 /// the look, the check or the visit; it does not, and no number was free; the last list was asked and is short; no
 /// further commit number is there; no round of looks is left; or memory that the step asks for was not granted. A call is
 /// overtaken at its check alone, where a name is bound anew. A refused call has only its last steps left, which lead
-/// to that refusal ([`what_commits_is_answered`]).
+/// to that refusal ([`what_commits_is_answered`]). The tests are those over the nodes of the cells, whatever the state;
+/// from a new world on and whatever events come, they are those over the settled nodes, which the plain world has.
 pub fn refusals_have_causes()
     ensures causes { (block actor : ℕ) (granted : Bool) (s : Shared) (h : HandState) (r : Running)
         → r.ending ≡ Answers
-        → RefusesFor (IsCause r.next block actor granted s h r) (MayBeOvertaken r.next s r)
+        → RefusesFor (IsCause r.next block actor granted (copies s) s h r) (MayBeOvertaken r.next (copies s) r)
         (turn block actor granted s h r) }
+    ensures settled { (g : GeometryNumbers) (events : List Event) (actor : ℕ) (granted : Bool) (r : Running)
+        → IsWithinLimits g → (actor_at (after (formatted g) events) actor).running ≡ Some r → r.ending ≡ Answers
+        → RefusesFor
+        (IsCause r.next (after (formatted g) events).numbers.block actor granted
+        (node_in (settled_nodes (after (formatted g) events).shared)) (after (formatted g) events).shared
+        (actor_at (after (formatted g) events) actor).hand r)
+        (MayBeOvertaken r.next (node_in (settled_nodes (after (formatted g) events).shared)) r)
+        (turn (after (formatted g) events).numbers.block actor granted (after (formatted g) events).shared
+        (actor_at (after (formatted g) events) actor).hand r) }
     ensures number { (block actor : ℕ) (granted : Bool) (s : Shared) (h : HandState) (r : Running)
         → FindsNone s (kind_turn Number block actor granted s h r) }
     ensures contended { (place block actor : ℕ) (granted : Bool) (s : Shared) (h : HandState) (r : Running)
