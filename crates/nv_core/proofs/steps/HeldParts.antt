@@ -236,9 +236,11 @@ module _ (cell : CellState) (is : IsLog cell.chain.entries) where
     same_use n = elim (cases_lt n (part_total all)) [
       | inl lt ↦
           let low : nat_lt n (part_total all) ≡ true = lt-ltb n (part_total all) lt in
-          let listed : has (range_with_len 0 (part_total all)) n ≡ true = has_range 0 (part_total all) n (omega arith) (omega (arith, lt)) in
+          let listed : has (range_with_len 0 (part_total all)) n ≡ true =
+          has_range 0 (part_total all) n (omega arith) (omega (arith, lt)) in
           as_before (is_covered cell.block (log_of cell) n) (is_covered cell.block all n) (still n)
-          ∙ ap (λ (b : Bool). not (is_covered cell.block all n) || ((b && is_covered cell.block all n) && not (is_covered cell.block (log_of cell) n)))
+          ∙ ap (λ (b : Bool). not (is_covered cell.block all n)
+          || ((b && is_covered cell.block all n) && not (is_covered cell.block (log_of cell) n)))
           (sym low)
           ∙ ap (λ (b : Bool). not (is_covered cell.block all n) || (b && dies_now n)) (sym listed)
           ∙ ap (λ (b : Bool). not (is_covered cell.block all n) || b) (sym (dying_are (range_with_len 0 (part_total all)) n))
@@ -329,7 +331,8 @@ among_covered block log (k ∷ parts) n dead h =
 
 -- the block of a part in use where nothing is killed
 abbrev chosen_by : ℕ → ChainState → ℕ → Option ℕ
-chosen_by block chain n = if not (is_covered block (take chain.tail chain.entries) n) || false then page_block block chain.entries n else None
+chosen_by block chain n =
+    if not (is_covered block (take chain.tail chain.entries) n) || false then page_block block chain.entries n else None
 
 gone_in_use : (parts : List KilledPart) (old new : CellState) → GoesOut parts old new → HasInUse parts old → HasInUse [] new
 gone_in_use parts old new out h = record {
@@ -344,7 +347,9 @@ gone_in_use parts old new out h = record {
   at n true q = let c = among_covered old.block (log_of old) parts n h.dead q in rw c refl
   at n false q =
       h.blocks n
-      ∙ ap (λ (b : Bool). if not (is_covered old.block (log_of old) n) || b then page_block old.block old.chain.entries n else None) q
+      ∙ ap (λ (b : Bool). if not (is_covered old.block (log_of old) n) || b
+      then page_block old.block old.chain.entries n
+      else None) q
 
 pub retired_in_use : (ino epoch : ℕ) (parts : List KilledPart) (cell : CellState) → HasInUse parts cell
     → HasInUse [] (retired [] ino epoch parts cell)

@@ -35,7 +35,7 @@ killed = refl
 retired : free_by_logs device (at 8) 0 ≡ 4 ∷ 5 ∷ 6 ∷ 7 ∷ []
 retired = refl
 
-pub given : free_by_logs device (at 99) 0 ≡ 2 ∷ 4 ∷ 5 ∷ 6 ∷ 7 ∷ []
+given : free_by_logs device (at 99) 0 ≡ 2 ∷ 4 ∷ 5 ∷ 6 ∷ 7 ∷ []
 given = refl
 
 -- ---- wrong steps, which the scan of cells does not see

@@ -60,11 +60,12 @@ is_in_use killed cell n = not (is_covered cell.block (log_of cell) n) || is_amon
 abbrev pub block_in_use : List KilledPart → CellState → ℕ → Option ℕ
 block_in_use killed cell n = if is_in_use killed cell n then page_block cell.block cell.chain.entries n else None
 
--- the blocks of a slot: the pages of its chain, and those of its parts in use
+-- the blocks of all parts in use of a slot
 abbrev pub blocks_in_use : List KilledPart → CellState → List ℕ
 blocks_in_use killed cell =
     flat_map (λ n. option_to_list (block_in_use killed cell n)) (range_with_len 0 (part_total cell.chain.entries))
 
+-- the blocks of a slot: the pages of its chain, and those of its parts in use
 abbrev pub used_by_slot : World → ℕ → List ℕ
 used_by_slot w ino = numbers_of (cell_at w.shared ino).chain.blocks ++ blocks_in_use (killed_in w ino) (cell_at w.shared ino)
 
@@ -80,6 +81,7 @@ free_by_logs g w cpu =
 
 -- ---- by pairs
 
+-- a record's part
 abbrev pub name_of : Record → PartId
 name_of d = record { entry = d.entry; part = d.part }
 

@@ -136,14 +136,17 @@ pub fn lists_are_from_scratch()
 /// retired by the call in whose hand it stands. A cell has the block of each page in use, of the number that its
 /// entry says, and no other. Of the pairs of a log, in order, those are in use that are needed, deferred or killed.
 pub fn lists_are_told_by_logs()
-    ensures lists { (g : GeometryNumbers) (events : List Event) (cpu : ℕ) → IsWithinLimits g → cpu < g.cpus
+    ensures lists { (g : GeometryNumbers) (events : List Event) (cpu : ℕ)
+        → IsWithinLimits g → cpu < g.cpus
         → free_of (list_at (after (formatted g) events).shared cpu)
         ≡ free_by_logs g (after (formatted g) events) cpu }
     ensures blocks { (g : GeometryNumbers) (events : List Event) (ino n : ℕ) → IsWithinLimits g
-        → option_map number_of (slice_index_or (cell_at (after (formatted g) events).shared ino).blocks n None)
+        → option_map number_of
+        (slice_index_or (cell_at (after (formatted g) events).shared ino).blocks n None)
         ≡ block_in_use (killed_in (after (formatted g) events) ino)
         (cell_at (after (formatted g) events).shared ino) n }
-    ensures pairs { (g : GeometryNumbers) (events : List Event) (ino n : ℕ) (pair : Pair) → IsWithinLimits g
+    ensures pairs { (g : GeometryNumbers) (events : List Event) (ino n : ℕ) (pair : Pair)
+        → IsWithinLimits g
         → slice_get (pairs (cell_at (after (formatted g) events).shared ino).block
         (log_of (cell_at (after (formatted g) events).shared ino))) n ≡ Some pair
         → is_in_use (killed_in (after (formatted g) events) ino)
