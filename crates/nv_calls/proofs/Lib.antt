@@ -11,6 +11,8 @@ pub mod Effective
 pub mod FillChecked
 pub mod FillFresh
 pub mod FillPages
+pub mod Filled
+pub mod FilledFits
 pub mod Fills
 pub mod Grown
 pub mod Fitting

@@ -1,5 +1,5 @@
 -- What is ready can be filled, and stays ready then.
-use Rattle.std.proofs.Common.{◌≡◌, ℕ, zero, suc, ◌<◌, ◌==◌, Bool, true, false, cond, List, [], ◌∷◌, Option, Some, None, length, take, arith, refl, ap, ap₂, subst, sym, ◌∙◌}
+use Rattle.std.proofs.Common.{◌≡◌, ℕ, suc, ◌==◌, Bool, true, false, cond, List, [], ◌∷◌, Option, Some, None, length, take, arith, refl, ap, ap₂, subst, sym, ◌∙◌}
 use Rattle.std.specs.Prelude.{option_and_then, option_map, unwrap_or}
 use Rattle.std.specs.List.{AllByRecursion}
 use Rattle.std.proofs.Math.Path.{fun_ext}
@@ -12,13 +12,12 @@ use Rattle.nv_entry.specs.declared.item.Item.{Item}
 use Rattle.nv_entry.specs.declared.node.NodeCopy.{NodeCopy}
 use Rattle.nv_cell.specs.Cell.{CellState, CellValue}
 use Rattle.nv_calls.specs.AllCalls.{blocks_wanted, ends_in_page, refusal}
-use Rattle.nv_calls.specs.Cells.{ino_at, no_cell, state_at}
+use Rattle.nv_calls.specs.Cells.{no_cell}
 use Rattle.nv_calls.specs.FillPages.{CanFill, HasOtherBytes, with_blocks}
 use Rattle.nv_calls.specs.Nodes.{block_in, cell_has_page, cell_of, has_page_in, nodes_in, own_node, plain_nodes}
 use Rattle.nv_calls.specs.Plain.{PlainNode, node_in}
 use Rattle.nv_calls.specs.Prepared.{CanReady, HaveNoLessRoom, IsReadyBy, IsStill}
 use Rattle.nv_calls.specs.Ready.{CellPlanValue, ReadyValue}
-use Rattle.nv_calls.specs.Refusals.{passes}
 use Rattle.nv_calls.specs.Steps.{HaveBlocks, numbers_in}
 use Rattle.nv_calls.specs.Updates.{blank_call}
 use Rattle.nv_calls.specs.declared.update.Update.{Update}

@@ -4,6 +4,7 @@ pub mod Cells
 pub mod Commit
 pub mod Committed
 pub mod FillPages
+pub mod Filled
 pub mod Filling
 pub mod Lawful
 pub mod Locked

@@ -44,7 +44,8 @@ use Rattle.nv_core.proofs.steps.CellPages.{among_at, sound_read}
 use Rattle.nv_core.proofs.steps.Effects.{IsRead, outside, read_nodes, read_page}
 use Rattle.nv_core.proofs.steps.FitsCalls.{IsOfNode, planned_there}
 use Rattle.nv_core.proofs.steps.FitsCells.{behind, longer}
-use Rattle.nv_core.proofs.steps.FitsRuns.{AreRead, is_ready, present_in, taken_of}
+use Rattle.nv_calls.specs.Filled.{AreRead}
+use Rattle.nv_core.proofs.steps.FitsRuns.{is_ready, present_in, taken_of}
 use Rattle.nv_core.proofs.steps.FitsStages.{Drawn, FitsAt, IsLocked, IsStored, Passed}
 use Rattle.nv_core.proofs.steps.PoolSlots.{filter_has}
 use Rattle.nv_core.proofs.steps.Reached.{most_once, twice}

@@ -36,7 +36,8 @@ use Rattle.nv_core.proofs.steps.CellSteps.{items_in}
 use Rattle.nv_core.proofs.steps.Effects.{take_none}
 use Rattle.nv_core.proofs.steps.FitsCalls.{looked_is, plan_all}
 use Rattle.nv_core.proofs.steps.FitsCells.{IsIn, IsWider, entries_stored}
-use Rattle.nv_core.proofs.steps.FitsRuns.{filled_length, present_in, taken_of}
+use Rattle.nv_core.proofs.steps.FitsRuns.{present_in, taken_of}
+use Rattle.nv_calls.proofs.FillPages.{length_filled}
 use Rattle.nv_core.proofs.steps.FitsStages.{IsDrawn, IsLocked, IsPassed, IsStored, Passed, SameFor, SameStored, View, drawn_still, passed_still, view, wanted_in, wanted_still}
 use Rattle.nv_core.proofs.steps.FitsTurns.{OnFits, grown_fits}
 use Rattle.nv_core.proofs.steps.Lists.{or_left, or_right, self}
@@ -226,7 +227,7 @@ module _ (block : ℕ) (s : Shared) (h : HandState) (r : Running)
       filled = record {
         before = h.blocks;
         is = refl;
-        count = filled_length (fresh_pages block (copies s) r.call) h.blocks ∙ count
+        count = length_filled (fresh_pages block (copies s) r.call) h.blocks ∙ count
             ∙ sym (wanted_still block (view s) (now s) r.call r.looked r.made r.slots (same_then s r.slots logs) p);
         small = small_filled (fresh_pages block (copies s) r.call) h.blocks small;
       };

@@ -23,7 +23,8 @@ use Rattle.nv_core.specs.machine.Reads.{if_number, slots_in, slots_of}
 use Rattle.nv_core.specs.machine.Sequence.{beginning}
 use Rattle.nv_core.specs.machine.Settled.{settled_nodes}
 use Rattle.nv_core.specs.machine.World.{Append, Back, Check, Close, Enter, Give, HandState, Leave, Lock, Look, Next, Number, Open, Publish, Ready, Retire, Running, Shared, TakeBlocks, TakePages, Unlock, Visit, cell_at}
-use Rattle.nv_core.proofs.steps.FitsRuns.{AreFilled, fresh_same, present_in, taken_of}
+use Rattle.nv_calls.specs.Filled.{AreFilled}
+use Rattle.nv_core.proofs.steps.FitsRuns.{fresh_same, present_in, taken_of}
 
 -- ---- what a call reads
 
