@@ -11,6 +11,7 @@ pub mod Effective
 pub mod FillChecked
 pub mod FillFresh
 pub mod FillPages
+pub mod FillRuns
 pub mod Filled
 pub mod FilledFits
 pub mod Fills
@@ -19,6 +20,7 @@ pub mod Fitting
 pub mod Items
 pub mod Keeps
 pub mod Lawful
+pub mod LogPages
 pub mod NodesHeld
 pub mod Nothing
 pub mod Passed

@@ -12,6 +12,7 @@ pub mod Nodes
 pub mod Plain
 pub mod Plan
 pub mod PublishedSlots
+pub mod PagesWanted
 pub mod Prepared
 pub mod Ready
 pub mod Refusals

@@ -1,6 +1,7 @@
 //! Laws of plans and effects, each the contract of a function that does nothing.
 
 ghost use Rattle.std.specs.Prelude.{◌≡◌, ◌<◌, ℕ, Err, List, Option, is_some, length, Bool};
+ghost use Rattle.std.specs.List.{sum_by};
 ghost use Rattle.nv_alloc.specs.Block.{BlockValue};
 ghost use Rattle.nv_alloc.specs.Queue.{QueueValue};
 ghost use Rattle.nv_alloc.specs.declared.hand.Hand.{Hand};
@@ -16,11 +17,13 @@ ghost use Rattle.nv_calls.specs.AllCalls.{IsReady, IsToldNothing, blocks_wanted,
 ghost use Rattle.nv_calls.specs.declared.taken.Taken.{Taken};
 ghost use Rattle.nv_calls.specs.CanCommit.{AllowsCommit, CanCommit};
 ghost use Rattle.nv_calls.specs.Commit.{begun, stamp_of};
+ghost use Rattle.nv_calls.specs.Committed.{page_count};
 ghost use Rattle.nv_calls.specs.FillPages.{CanFill, HasOtherBytes, sourced, with_blocks};
 ghost use Rattle.nv_calls.specs.Filled.{HavePages};
 ghost use Rattle.nv_calls.specs.Lawful.{IsLawfulPlan};
 ghost use Rattle.nv_calls.specs.Locked.{Agree, KeepsToIts, SameCall, first_look, handles};
 ghost use Rattle.nv_calls.specs.Nodes.{HaveBytes, block_in, has_page_in, nodes_in, plain_nodes, slots_by};
+ghost use Rattle.nv_calls.specs.PagesWanted.{pages_wanted};
 ghost use Rattle.nv_calls.specs.Plain.{Change, PlainNode, node_in, nodes_after};
 ghost use Rattle.nv_calls.specs.Plan.{AreApart, AreFewApart, plan_blocks};
 ghost use Rattle.nv_calls.specs.Prepared.{CanReady, HaveNoLessRoom, IsReadyBy, planned_by, plans_by, taken_by};
@@ -166,6 +169,14 @@ pub fn filled_plans_fit()
         → HavePages bytes now byte_at ready blocks → AreOfSlots now slots
         → IsPlan bytes (block_in cells) slots (planned_by cells hand update)
         (effect (nodes_in cells) (taken_by cells hand update).made (sourced byte_at update)) }
+{}
+
+/// The log pages that its commit counts are those that its plan needs.
+pub fn pages_counted_are_those_wanted()
+    ensures { (cells now : List (ℕ × CellValue)) (hand : Hand) (update : Update) (ready : ReadyValue)
+        → HaveNoLessRoom cells now → IsReadyBy cells hand update now ready
+        → sum_by (page_count now) ready.plans
+        ≡ pages_wanted cells (planned_by cells hand update) }
 {}
 
 /// A commit over cells publishes the items of its plans, each at its place in the commit: the slots are then those that

@@ -25,7 +25,7 @@ use Rattle.nv_entry.specs.Sound.{blocks_of}
 use Rattle.nv_entry.specs.declared.item.Entry.{Entry}
 use Rattle.nv_core.specs.machine.Hands.{makes_inode}
 use Rattle.nv_core.specs.machine.Kinds.{check_ending, entries_for, ready_turn, with_entries}
-use Rattle.nv_calls.proofs.FillPages.{filled_numbers}
+use Rattle.nv_calls.proofs.FillPages.{filled_numbers, length_filled}
 use Rattle.nv_calls.specs.FillPages.{filled, fresh_pages}
 use Rattle.nv_core.specs.machine.Reads.{copies, has_last_page, if_number, is_written, nodes, plan_by, slots_of, written_slots}
 use Rattle.nv_core.specs.machine.Sequence.{Beginning, Looks, Locks, Numbers, Visits, beginning}
@@ -37,7 +37,6 @@ use Rattle.nv_core.proofs.steps.Effects.{take_none}
 use Rattle.nv_core.proofs.steps.FitsCalls.{looked_is, plan_all}
 use Rattle.nv_core.proofs.steps.FitsCells.{IsIn, IsWider, entries_stored}
 use Rattle.nv_core.proofs.steps.FitsRuns.{present_in, taken_of}
-use Rattle.nv_calls.proofs.FillPages.{length_filled}
 use Rattle.nv_core.proofs.steps.FitsStages.{IsDrawn, IsLocked, IsPassed, IsStored, Passed, SameFor, SameStored, View, drawn_still, passed_still, view, wanted_in, wanted_still}
 use Rattle.nv_core.proofs.steps.FitsTurns.{OnFits, grown_fits}
 use Rattle.nv_core.proofs.steps.Lists.{or_left, or_right, self}
