@@ -217,17 +217,19 @@ pub fn the_plain_world_is_that_of_settled_logs()
 pub fn refusals_have_causes()
     ensures causes { (block actor : ℕ) (granted : Bool) (s : Shared) (h : HandState) (r : Running)
         → r.ending ≡ Answers
-        → RefusesFor (IsCause r.next block actor granted (copies s) s h r) (MayBeOvertaken r.next (copies s) r)
+        → RefusesFor (IsCause r.next block actor granted (copies s) s h r)
+        (MayBeOvertaken r.next (copies s) r)
         (turn block actor granted s h r) }
-    ensures settled { (g : GeometryNumbers) (events : List Event) (actor : ℕ) (granted : Bool) (r : Running)
-        → IsWithinLimits g → (actor_at (after (formatted g) events) actor).running ≡ Some r → r.ending ≡ Answers
+    ensures settled { (g : GeometryNumbers) (events : List Event) (actor : ℕ) (granted : Bool)
+        (r : Running) → IsWithinLimits g
+        → (actor_at (after (formatted g) events) actor).running ≡ Some r → r.ending ≡ Answers
         → RefusesFor
         (IsCause r.next (after (formatted g) events).numbers.block actor granted
-        (node_in (settled_nodes (after (formatted g) events).shared)) (after (formatted g) events).shared
-        (actor_at (after (formatted g) events) actor).hand r)
+        (node_in (settled_nodes (after (formatted g) events).shared))
+        (after (formatted g) events).shared (actor_at (after (formatted g) events) actor).hand r)
         (MayBeOvertaken r.next (node_in (settled_nodes (after (formatted g) events).shared)) r)
-        (turn (after (formatted g) events).numbers.block actor granted (after (formatted g) events).shared
-        (actor_at (after (formatted g) events) actor).hand r) }
+        (turn (after (formatted g) events).numbers.block actor granted
+        (after (formatted g) events).shared (actor_at (after (formatted g) events) actor).hand r) }
     ensures number { (block actor : ℕ) (granted : Bool) (s : Shared) (h : HandState) (r : Running)
         → FindsNone s (kind_turn Number block actor granted s h r) }
     ensures contended { (place block actor : ℕ) (granted : Bool) (s : Shared) (h : HandState) (r : Running)
@@ -307,19 +309,23 @@ pub fn visits_read_settled_nodes()
 
 /// A call is answered only where that was decided, and once: whatever events come from a new world on, a call that
 /// is Done has made its commit since it was started, or is a visit, or had nothing to change at its check, and at that
-/// event the plain world does not refuse it; it is told what the plain world answers there, on the settled nodes. Of a
-/// call that is refused nothing was decided. And what commits has something to change.
+/// event the plain world does not refuse it (at a commit point by [`plans_fit_at_commit_points`]); it is told what the
+/// plain world answers there, on the settled nodes. Of a call that is refused nothing was decided. And what commits has
+/// something to change.
 pub fn calls_are_decided_once()
-    ensures done { (g : GeometryNumbers) (events : List Event) (actor : ℕ) (granted : Bool) (told : Answer)
-        → IsWithinLimits g → (step (after (formatted g) events) (Go actor granted)).reply ≡ Done told
+    ensures done { (g : GeometryNumbers) (events : List Event) (actor : ℕ) (granted : Bool)
+        (told : Answer) → IsWithinLimits g
+        → (step (after (formatted g) events) (Go actor granted)).reply ≡ Done told
         → decided actor (formatted g) (events ++ Go actor granted ∷ []) [] ≡ told ∷ [] }
-    ensures refused { (g : GeometryNumbers) (events : List Event) (actor : ℕ) (granted : Bool) (r : Running) (fault : Fault)
-        → IsWithinLimits g → (actor_at (after (formatted g) events) actor).running ≡ Some r
+    ensures refused { (g : GeometryNumbers) (events : List Event) (actor : ℕ) (granted : Bool)
+        (r : Running) (fault : Fault) → IsWithinLimits g
+        → (actor_at (after (formatted g) events) actor).running ≡ Some r
         → (step (after (formatted g) events) (Go actor granted)).reply ≡ Refused fault
         → decided actor (formatted g) (events ++ Go actor granted ∷ []) [] ≡ [] }
-    ensures something { (g : GeometryNumbers) (events : List Event) (actor : ℕ) (granted : Bool) (r : Running)
-        → IsWithinLimits g → actor < length (after (formatted g) events).actors
+    ensures something { (g : GeometryNumbers) (events : List Event) (actor : ℕ) (granted : Bool)
+        (r : Running) → IsWithinLimits g → actor < length (after (formatted g) events).actors
         → (actor_at (after (formatted g) events) actor).running ≡ Some r
         → deed_of (after (formatted g) events) (Go actor granted) ≡ Commits
-        → 0 < length (effect (node_in (settled_nodes (after (formatted g) events).shared)) r.made r.call) }
+        → 0 < length
+        (effect (node_in (settled_nodes (after (formatted g) events).shared)) r.made r.call) }
 {}
