@@ -90,3 +90,4 @@ pub mod Living
 pub mod Fresh
 pub mod PlainStart
 pub mod EndsCaused
+pub mod Exactly

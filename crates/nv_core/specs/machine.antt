@@ -26,3 +26,4 @@ pub mod Held
 pub mod Takings
 pub mod Refusing
 pub mod Made
+pub mod Exact

@@ -115,7 +115,7 @@ wants_keep : (P : Shared → HandState → Type 0) (n block : ℕ) (s : Shared) 
 wants_keep P zero block s h r p = pages_keep P _ s h r p
 wants_keep P (suc n) block s h r p = p
 
-number_keeps : (P : Shared → HandState → Type 0) (numbers : List ℕ) (s : Shared) (h : HandState) (r : Running)
+pub number_keeps : (P : Shared → HandState → Type 0) (numbers : List ℕ) (s : Shared) (h : HandState) (r : Running)
     → P (number_deed numbers s h).shared (number_deed numbers s h).hand → AfterTurn P (number_turn numbers s h r)
 number_keeps P [] s h r p = p
 number_keeps P (ino ∷ numbers) s h r p = p
@@ -136,13 +136,13 @@ check_keeps : (P : Shared → HandState → Type 0) (e : Option Ending) (granted
 check_keeps P (Some e) granted wanted block s h r p = end_keeps P r.slots e s h r p
 check_keeps P None granted wanted block s h r p = grown_keeps P granted _ s h r p (wants_keep P wanted block s h r p)
 
-blocks_keep : (P : Shared → HandState → Type 0) (n : ℕ) (more : Bool) (asked block : ℕ) (s : Shared) (h : HandState) (r : Running)
+pub blocks_keep : (P : Shared → HandState → Type 0) (n : ℕ) (more : Bool) (asked block : ℕ) (s : Shared) (h : HandState) (r : Running)
     → P s h → AfterTurn P (blocks_turn n more asked block s h r)
 blocks_keep P zero more asked block s h r p = pages_keep P _ s h r p
 blocks_keep P (suc n) true asked block s h r p = p
 blocks_keep P (suc n) false asked block s h r p = end_keeps P r.slots _ s h r p
 
-taken_keeps : (P : Shared → HandState → Type 0) (n : ℕ) (more : Bool) (asked : ℕ) (s : Shared) (h : HandState) (r : Running)
+pub taken_keeps : (P : Shared → HandState → Type 0) (n : ℕ) (more : Bool) (asked : ℕ) (s : Shared) (h : HandState) (r : Running)
     → P s h → AfterTurn P (pages_turn n more asked s h r)
 taken_keeps P zero more asked s h r p = p
 taken_keeps P (suc n) true asked s h r p = p

@@ -29,11 +29,13 @@ ghost use Rattle.nv_core.specs.machine.Answered.{GoesTo, IsFinal, IsToEnd};
 ghost use Rattle.nv_core.specs.machine.Causes.{FindsNone, IsCause, IsRoundless, MayBeOvertaken, RefusesFor};
 ghost use Rattle.nv_core.specs.machine.Effects.{AreSound, HasPlanNow};
 ghost use Rattle.nv_core.specs.machine.EndsDecided.{decided};
+ghost use Rattle.nv_core.specs.machine.Exact.{HasFirst, Leaves, TakesData, TakesLogPages};
 ghost use Rattle.nv_core.specs.machine.FitsNow.{bytes_in, is_checked};
 ghost use Rattle.nv_core.specs.machine.Format.{formatted};
 ghost use Rattle.nv_core.specs.machine.Frame.{IsOneStep, IsStart, lent};
 ghost use Rattle.nv_core.specs.machine.Grown.{AreGrown, fresh_entries};
 ghost use Rattle.nv_core.specs.machine.Kept.{AreBlocksApart, IsKept};
+ghost use Rattle.nv_core.specs.machine.Kinds.{asked_list};
 ghost use Rattle.nv_core.specs.machine.Locks.{AreLocks, HasLent, WaitsFor};
 ghost use Rattle.nv_core.specs.machine.Held.{block_in_use, free_by_logs, is_in_use, killed_in, retention_at};
 ghost use Rattle.nv_core.specs.machine.Hands.{AreLists, ArePagesTold, makes_inode};
@@ -50,7 +52,7 @@ ghost use Rattle.nv_core.specs.machine.Sequence.{Visits, beginning, nothing_look
 ghost use Rattle.nv_core.specs.machine.Settled.{settled, settled_nodes};
 ghost use Rattle.nv_core.specs.machine.Step.{after, handle_at, kind_turn, stays, step, turn};
 ghost use Rattle.nv_core.specs.machine.Takings.{IsShortInAll, asks_list, no_taking, taking_after, taking_of};
-ghost use Rattle.nv_core.specs.machine.World.{Answers, Done, Ending, Event, Go, HandState, Number, Overtaken, Refused, Running, Shared, Start, Started, Unlock, Visit, Waiting, World, actor_at, cell_at, list_at, owner_at};
+ghost use Rattle.nv_core.specs.machine.World.{Answers, Done, Ending, Event, Go, HandState, Number, Overtaken, Refused, Running, Shared, Start, Started, TakeBlocks, TakePages, Unlock, Visit, Waiting, World, actor_at, cell_at, list_at, owner_at};
 
 /// A `Go` of an actor whose call runs makes the one step that comes next, and changes only its actor and the
 /// parts that the step is lent. A start changes its actor alone: one without a call has the call now, before its
@@ -69,6 +71,22 @@ pub fn one_step()
     ensures idle { (w : World) (actor : ℕ) (granted : Bool) → actor < length w.actors
         → (actor_at w actor).running ≡ None
         → step w (Go actor granted) ≡ stays (Refused ActorIdle) w }
+{}
+
+/// A number step takes the first number of the pool, if it has one, and a taking from a list its first blocks, as many
+/// as are still wanted or all that it has, behind those of their kind in the hand; nothing else in the hand changes. Pool and
+/// lists are in rising order ([`pool_is_from_scratch`], [`lists_are_sorted`]), so these are the lowest.
+pub fn the_lowest_are_taken()
+    ensures number { (block actor : ℕ) (granted : Bool) (s : Shared) (h : HandState) (r : Running)
+        → h.ino ≡ None → Leaves (HasFirst s) (kind_turn Number block actor granted s h r) }
+    ensures blocks { (asked block actor : ℕ) (granted : Bool) (s : Shared) (h : HandState)
+        (r : Running) → 0 < length s.lists
+        → Leaves (TakesData s (asked_list (length s.lists) actor asked) h r)
+        (kind_turn (TakeBlocks asked) block actor granted s h r) }
+    ensures pages { (asked block actor : ℕ) (granted : Bool) (s : Shared) (h : HandState)
+        (r : Running) → 0 < length s.lists
+        → Leaves (TakesLogPages s (asked_list (length s.lists) actor asked) h r)
+        (kind_turn (TakePages asked) block actor granted s h r) }
 {}
 
 /// From a new world on, whatever events come, each actor holds exactly the locks that its call has taken and not
