@@ -67,7 +67,12 @@ fn fails(rt: &impl Abort, alloc: Global, case: &Case, at: u64) {
     let mut source = CountedText::new(text, Some(at));
     let found = scene.make(rt, write, &takes, &mut source);
     same_for(rt, &write, found, Outcome::Refused(Fault::Read));
-    same_for(rt, &write, (source.calls, source.failures), (at.wrapping_add(1), 1));
+    same_for(
+        rt,
+        &write,
+        (source.calls, source.failures),
+        (at.wrapping_add(1), 1),
+    );
     play(rt, alloc, &mut scene, AS_BEFORE);
     make(rt, alloc, &mut scene, &Commits(write, blocks, &[], 3));
     ends(rt, alloc, scene, after);

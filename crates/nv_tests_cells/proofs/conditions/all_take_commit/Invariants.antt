@@ -1,4 +1,4 @@
-use Rattle.std.proofs.Common.{◌≡◌, ℕ, ◌<◌}
+use Rattle.std.proofs.Common.{ℕ, ◌<◌}
 use Rattle.nv_calls.specs.CanCommit.{TakesCommit}
 use Rattle.nv_calls.specs.Cells.{value_at}
 use Rattle.nv_calls.specs.Commit.{stamp_of}

@@ -1,4 +1,4 @@
-use Rattle.std.proofs.Common.{◌≡◌, ℕ, ◌<◌}
+use Rattle.std.proofs.Common.{ℕ, ◌<◌}
 use Rattle.nv_calls.specs.Cells.{state_at}
 use Rattle.nv_calls.specs.Prepared.{IsStill}
 use Rattle.nv_tests_cells.proofs.conditions.are_still.Given as goal
