@@ -10,7 +10,7 @@ use std::alloc::{AllocError, Global};
 use std::marker::Model;
 
 /// A block: its number, and bytes of its own. It is no `Drop`, so that one that is forgotten doesn't compile; it
-/// ends in [`Block::into_bytes`] alone.
+/// ends in [`Block::into_bytes`], or in the `dismantle` of what holds it.
 pub struct Block {
     number: BlockNo,
     bytes: Vec<u8>,

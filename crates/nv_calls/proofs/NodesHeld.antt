@@ -21,7 +21,7 @@ use Rattle.nv_cell.specs.declared.stat.Stat.{Stat}
 use Rattle.nv_cell.proofs.PageBlocks.{file_is}
 use Rattle.nv_calls.specs.Nodes.{HasBytes, HaveBytes, cell_has_page, cell_of, has_page_in, own_node, plain_nodes, slot_by, slots_by, with_bytes}
 use Rattle.nv_calls.specs.Plain.{PlainNode, node_in, stamped}
-use Rattle.nv_calls.specs.Refusals.{bytes_of}
+use Rattle.nv_calls.specs.Refusals.{bytes_of, kind_of, passes, want_file}
 use Rattle.nv_calls.specs.Slots.{Slot, last_commit, node_under}
 use Rattle.nv_calls.specs.Views.{copy_of, node_of, stat_of}
 use Rattle.nv_calls.proofs.CellNodes.{of_log}
@@ -71,6 +71,26 @@ size_is cell handle stat is h = go (node_of (λ number. []) cell handle) refl h 
       ap (λ (o : Option PlainNode). bytes_of (option_map (λ (x : PlainNode). x.node) (option_map (with_bytes (own_bytes cell)) o))) q in
       let same : stat.size ≡ p.node.size = cc in
       same ∙ (of_log (λ number. []) cell handle p.node node).size ∙ sym (own_len cell is) ∙ ap (λ (xs : List ℕ). length xs) (sym own)
+
+-- ---- a file that is read
+
+own_kind_is : (bytes : List ℕ) (found : Option PlainNode)
+    → kind_of (option_map (λ (p : PlainNode). p.node) (option_map (with_bytes bytes) found)) ≡ kind_of (option_map (λ (p : PlainNode). p.node) found)
+own_kind_is bytes None = refl
+own_kind_is bytes (Some p) = refl
+
+-- a cell's own node is of the kind that any bytes give
+pub own_kind : (cell : CellState) (handle : Handle) → kind_of (node_in (own_node cell) handle) ≡ kind_of (copy_of (λ number. []) cell handle)
+own_kind cell handle = own_kind_is (own_bytes cell) (node_of (λ number. []) cell handle)
+
+-- and a file has the cell's own bytes
+pub own_there : (cell : CellState) (handle : Handle) → want_file (kind_of (copy_of (λ number. []) cell handle)) passes ≡ passes
+    → bytes_of (node_in (own_node cell) handle) ≡ own_bytes cell
+own_there cell handle passed = go (node_of (λ number. []) cell handle) passed where
+  go : (found : Option PlainNode) → want_file (kind_of (option_map (λ (p : PlainNode). p.node) found)) passes ≡ passes
+      → bytes_of (option_map (λ (p : PlainNode). p.node) (option_map (with_bytes (own_bytes cell)) found)) ≡ own_bytes cell
+  go None h = cc
+  go (Some p) h = refl
 
 -- ---- cells as slots
 

@@ -37,13 +37,13 @@ all_map P Q f (x ∷ xs) all = (f x all.0, all_map P Q f xs all.1)
 -- ---- the inode that is made
 
 -- a handle whose slot is one of the cells, and empty
-record IsNew (cells : List (ℕ × CellValue)) (made : Handle) : Type 0 where
-  cell : CellValue
-  is : cell_of cells made.ino ≡ Some cell
-  own : made.generation ≡ cell.state.generation
-  empty : log_of cell.state ≡ []
+pub record IsNew (cells : List (ℕ × CellValue)) (made : Handle) : Type 0 where
+  pub cell : CellValue
+  pub is : cell_of cells made.ino ≡ Some cell
+  pub own : made.generation ≡ cell.state.generation
+  pub empty : log_of cell.state ≡ []
 
-new_by : (cells : List (ℕ × CellValue)) (number : Option ℕ) → HasNumberFor cells true number
+pub new_by : (cells : List (ℕ × CellValue)) (number : Option ℕ) → HasNumberFor cells true number
     → IsNew cells (unwrap_or (option_map (handle_in cells) number) no_handle)
 new_by cells None has = absurd has
 new_by cells (Some ino) has = go (cell_of cells ino) refl has.lent where
@@ -58,7 +58,7 @@ new_by cells (Some ino) has = go (cell_of cells ino) refl has.lent where
         empty = sym (ap (λ (s : Slot). s.log) slot) ∙ has.empty;
       }
 
-made_new : (cells : List (ℕ × CellValue)) (number : Option ℕ) (u : Update) → HasNumberFor cells (makes u) number
+pub made_new : (cells : List (ℕ × CellValue)) (number : Option ℕ) (u : Update) → HasNumberFor cells (makes u) number
     → AllByRecursion (IsNew cells) (made_handles (unwrap_or (made_by cells number u) no_handle) (blank_call u))
 made_new cells number (update.Create dir name mode) has = (new_by cells number has, tt)
 made_new cells number (update.Mkdir dir name mode) has = (new_by cells number has, tt)

@@ -31,13 +31,13 @@ use Rattle.nv_calls.proofs.Passed.{HasKind, IsThere, both_passed, directory_pass
 -- ---- the nodes of cells
 
 -- the cell of a node that is there
-record HasCell (cells : List (ℕ × CellValue)) (handle : Handle) : Type 0 where
-  cell : CellValue
-  is : cell_of cells handle.ino ≡ Some cell
-  own : handle.generation ≡ cell.state.generation
-  some : log_of cell.state ≡ [] → ⊥
+pub record HasCell (cells : List (ℕ × CellValue)) (handle : Handle) : Type 0 where
+  pub cell : CellValue
+  pub is : cell_of cells handle.ino ≡ Some cell
+  pub own : handle.generation ≡ cell.state.generation
+  pub some : log_of cell.state ≡ [] → ⊥
 
-has_cell : (cells : List (ℕ × CellValue)) (handle : Handle) → IsThere (nodes_in cells handle) → HasCell cells handle
+pub has_cell : (cells : List (ℕ × CellValue)) (handle : Handle) → IsThere (nodes_in cells handle) → HasCell cells handle
 has_cell cells handle t = go (cell_of cells handle.ino) refl t.is where
   node_by : CellValue → List Entry → Option PlainNode
   node_by c log = stamped (last_commit log) (node_now (λ number. []) c.state.block log)
@@ -88,7 +88,7 @@ pub record IsHeld (cells : List (ℕ × CellValue)) (handle : Handle) : Type 0 w
   pub ino : ino_at cells k ≡ handle.ino
   pub generation : (state_at cells k).generation ≡ handle.generation
 
-cell_place : (cells : List (ℕ × CellValue)) (ino : ℕ) (c : CellValue) → cell_of cells ino ≡ Some c
+pub cell_place : (cells : List (ℕ × CellValue)) (ino : ℕ) (c : CellValue) → cell_of cells ino ≡ Some c
     → (k : ℕ) × (k < length cells) × (ino_at cells k ≡ ino) × (value_at cells k ≡ c)
 cell_place [] ino c h = cc
 cell_place (x ∷ cells) ino c h = go (x.0 == ino) refl h (cell_place cells ino c) where

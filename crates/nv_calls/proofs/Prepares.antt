@@ -14,7 +14,7 @@ use Rattle.nv_calls.specs.AllCalls.{blocks_wanted}
 use Rattle.nv_calls.specs.Cells.{ino_at, no_cell, state_at}
 use Rattle.nv_calls.specs.Nodes.{block_in, nodes_in}
 use Rattle.nv_calls.specs.Plan.{AreMaximal, runs_of}
-use Rattle.nv_calls.specs.Prepared.{AreReady, CanReady, HasNoLessRoom, IsReadyBy, IsStill, made_by, planned_by, plans_by, taken_by}
+use Rattle.nv_calls.specs.Prepared.{AreReady, CanReady, HasNoLessRoom, HoldsTheSame, IsReadyBy, IsStill, made_by, planned_by, plans_by, taken_by}
 use Rattle.nv_calls.specs.Ready.{CellPlanValue, ReadyValue, need_of}
 use Rattle.nv_calls.specs.Slots.{items_for}
 use Rattle.nv_calls.specs.Steps.{HaveBlocks}
@@ -55,12 +55,22 @@ module _ (cells : List (ℕ × CellValue)) (hand : Hand) (u : Update) (can : Can
       (subst (λ (bs : List BlockValue). AreFit (numbers_of bs) (items_for (planned_by cells hand u) (ino_at cells k))) (sym blocks)
       (items_fit (ino_at cells k))))
 
+-- a hand with more room holds the same
+holds_the_same : (old new : Hand) → HasNoLessRoom old new → HoldsTheSame old new
+holds_the_same old new more = record {
+  same = more.same ∙ ap (λ (q : QueueValue). record old { «data» = q }) (sym (ap (λ (h : Hand). h.«data») more.same));
+  numbers = ap (λ (h : Hand). numbers_of h.«data».blocks) more.same;
+  size = ap (λ (h : Hand). h.«data».size) more.same;
+  room = more.room;
+}
+
 -- what is put together is ready, where its parts are
 pub ready_is : (cells now : List (ℕ × CellValue)) (hand : Hand) (u : Update) (made : Option Handle) (plans : List CellPlanValue) (left : Hand)
     (need : ℕ) (ready : ReadyValue) → ready.update ≡ u → ready.made ≡ made → ready.plans ≡ plans → ready.hand ≡ left → ready.need ≡ need
     → made ≡ made_by cells hand.ino u
     → AreMaximal (taken_by cells hand u).runs × (blocks_of (taken_by cells hand u).runs ≡ numbers_of hand.«data».blocks)
     → plans ≡ plans_by cells hand u
+    → 0 < block_in cells
     → HasNoLessRoom hand left
     → AreReady now plans
     → need ≡ need_of now plans
@@ -68,7 +78,7 @@ pub ready_is : (cells now : List (ℕ × CellValue)) (hand : Hand) (u : Update) 
     → AllByRecursion (λ (p : CellPlanValue). HaveBlocks p.items (block_in cells) left.«data») plans
     → sum_by (λ (p : CellPlanValue). length p.items) plans < 2 ^ 32
     → IsReadyBy cells hand u now ready
-ready_is cells now hand u made plans left need ready eu em ep eh en made_is runs plans_are more are need_is room blocks few =
+ready_is cells now hand u made plans left need ready eu em ep eh en made_is runs plans_are some_bytes more are need_is room blocks few =
     let h : left ≡ ready.hand = sym eh in
     let p : plans ≡ ready.plans = sym ep in
     record {
@@ -77,7 +87,8 @@ ready_is cells now hand u made plans left need ready eu em ep eh en made_is runs
       maximal = runs.0;
       whole = runs.1;
       plans = ep ∙ plans_are;
-      hand_same = subst (HasNoLessRoom hand) h more;
+      some_bytes = some_bytes;
+      hand_same = subst (HoldsTheSame hand) h (holds_the_same hand left more);
       cells_ready = subst (AreReady now) p are;
       need = en ∙ need_is ∙ ap (need_of now) p;
       room = subst (λ (x : Hand). ready.need ≤ x.«data».room) h (omega (arith, en, room));

@@ -4,6 +4,7 @@ pub mod Cells
 pub mod Commit
 pub mod Committed
 pub mod FillPages
+pub mod Filled
 pub mod Filling
 pub mod Lawful
 pub mod Locked
@@ -11,11 +12,13 @@ pub mod Nodes
 pub mod Plain
 pub mod Plan
 pub mod PublishedSlots
+pub mod PagesWanted
 pub mod Prepared
 pub mod Ready
 pub mod Refusals
 pub mod Retired
 pub mod Retiring
+pub mod SlotCells
 pub mod Slots
 pub mod Steps
 pub mod Updates

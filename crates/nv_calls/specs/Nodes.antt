@@ -6,8 +6,12 @@ use Rattle.nv_entry.specs.declared.node.NodeCopy.{NodeCopy}
 use Rattle.nv_entry.specs.Node.{block_now}
 use Rattle.nv_cell.specs.Cell.{CellState, CellValue, IsCell, log_of}
 use Rattle.nv_cell.specs.Pages.{AreBytesOf, own_bytes}
+use Rattle.nv_calls.specs.declared.call.Call.{Call}
+use Rattle.nv_calls.specs.declared.view.View.{View}
+use Rattle.nv_calls.specs.AllCalls.{answer, refusal}
 use Rattle.nv_calls.specs.Cells.{state_at}
 use Rattle.nv_calls.specs.Plain.{PlainNode, node_in}
+use Rattle.nv_calls.specs.Refusals.{passes}
 use Rattle.nv_calls.specs.Slots.{Slot}
 use Rattle.nv_calls.specs.Views.{node_of, slot_of}
 
@@ -26,6 +30,13 @@ with_bytes bytes p = record p { node = record p.node { bytes = bytes } }
 -- the plain node under a handle of a cell's slot, with the bytes of the cell's own blocks
 abbrev pub own_node : CellState → Handle → Option PlainNode
 own_node cell handle = option_map (with_bytes (own_bytes cell)) (node_of (λ number. []) cell handle)
+
+-- a view of a call that passes, by the bytes of the cell's own blocks
+pub record IsOwnView (cell : CellState) (c : Call) (view : View) : Type 0 where
+  pub passes : refusal cell.block (node_in (own_node cell)) c ≡ passes
+  pub call : view.call ≡ c
+  pub found : (made : Handle) → view.found ≡ answer (own_node cell) made c
+  pub version : view.version ≡ cell.version
 
 -- the plain node under a handle: that of the cell with its number
 abbrev pub plain_nodes : List (ℕ × CellValue) → Handle → Option PlainNode

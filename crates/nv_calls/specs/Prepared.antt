@@ -82,6 +82,13 @@ pub record HasNoLessRoom (old new : Hand) : Type 0 where
   pub same : new ≡ record old { «data» = record old.data { room = new.data.room } }
   pub room : old.data.room ≤ new.data.room
 
+-- the same hand, but for the bytes of its data blocks, with no less room for more of them
+pub record HoldsTheSame (old new : Hand) : Type 0 where
+  pub same : new ≡ record old { «data» = new.data }
+  pub numbers : numbers_of new.data.blocks ≡ numbers_of old.data.blocks
+  pub size : new.data.size ≡ old.data.size
+  pub room : old.data.room ≤ new.data.room
+
 -- the planned cells are ready for their items
 abbrev pub AreReady : List (ℕ × CellValue) → List CellPlanValue → Type 0
 AreReady cells plans = AllByRecursion (λ p. IsReadyFor p.items (value_at cells p.at)) plans
@@ -118,8 +125,8 @@ pub record CanReady (cells : List (ℕ × CellValue)) (hand : Hand) (u : Update)
   pub size : hand.data.size ≡ block_in cells
   pub small : AllByRecursion (λ b. b.number < 2 ^ 32) hand.data.blocks
 
--- a call over these cells and with this hand is ready: its blocks are maximal runs, none left out; the cells have room for
--- its items, and the hand for the blocks that it may set free
+-- a call over these cells and with this hand is ready: its blocks are maximal runs, none left out, whatever their bytes; the
+-- cells have room for its items, and the hand for the blocks that it may set free
 pub record IsReadyBy (cells : List (ℕ × CellValue)) (hand : Hand) (u : Update) (now : List (ℕ × CellValue)) (ready : ReadyValue)
     : Type 0 where
   pub update : ready.update ≡ u
@@ -127,7 +134,8 @@ pub record IsReadyBy (cells : List (ℕ × CellValue)) (hand : Hand) (u : Update
   pub maximal : AreMaximal (taken_by cells hand u).runs
   pub whole : blocks_of (taken_by cells hand u).runs ≡ numbers_of hand.data.blocks
   pub plans : ready.plans ≡ plans_by cells hand u
-  pub hand_same : HasNoLessRoom hand ready.hand
+  pub some_bytes : 0 < block_in cells
+  pub hand_same : HoldsTheSame hand ready.hand
   pub cells_ready : AreReady now ready.plans
   pub need : ready.need ≡ need_of now ready.plans
   pub room : ready.need ≤ ready.hand.data.room

@@ -64,6 +64,32 @@ impl Commit {
         ready.begin(Stamp { commit, epoch })
     }
 
+    /// What its steps left in the hand of a commit that is made step by step, or given up on its way. Takes no memory.
+    pub fn into_hand(self) -> Hand
+        ensures { result ≡ self.hand }
+    {
+        let Commit {
+            alloc: _,
+            update: _,
+            made: _,
+            plans: _,
+            hand,
+            stamp: _,
+            place: _,
+            appended: _,
+            published: _,
+            retired: _,
+            journal_open: _,
+        } = self;
+        hand
+    }
+
+    /// Takes the commit apart with all that its hand holds: for the owner of a whole device that is let go. The blocks
+    /// that its cells took from the hand are theirs.
+    pub fn dismantle(self) {
+        self.into_hand().dismantle();
+    }
+
     /// How many cells get entries.
     pub fn planned(&self) -> usize
         ensures { result ≡ length self.now.plans }

@@ -1,6 +1,9 @@
 //! Laws of plans and effects, each the contract of a function that does nothing.
 
 ghost use Rattle.std.specs.Prelude.{◌≡◌, ◌<◌, ℕ, Err, List, Option, is_some, length, Bool};
+ghost use Rattle.std.specs.List.{sum_by};
+ghost use Rattle.nv_alloc.specs.Block.{BlockValue};
+ghost use Rattle.nv_alloc.specs.Queue.{QueueValue};
 ghost use Rattle.nv_alloc.specs.declared.hand.Hand.{Hand};
 ghost use Rattle.nv_book.specs.Book.{BookValue};
 ghost use Rattle.nv_cell.specs.Cell.{CellValue};
@@ -14,12 +17,16 @@ ghost use Rattle.nv_calls.specs.AllCalls.{IsReady, IsToldNothing, blocks_wanted,
 ghost use Rattle.nv_calls.specs.declared.taken.Taken.{Taken};
 ghost use Rattle.nv_calls.specs.CanCommit.{AllowsCommit, CanCommit};
 ghost use Rattle.nv_calls.specs.Commit.{begun, stamp_of};
+ghost use Rattle.nv_calls.specs.Committed.{page_count};
+ghost use Rattle.nv_calls.specs.FillPages.{CanFill, HasOtherBytes, sourced, with_blocks};
+ghost use Rattle.nv_calls.specs.Filled.{HavePages};
 ghost use Rattle.nv_calls.specs.Lawful.{IsLawfulPlan};
 ghost use Rattle.nv_calls.specs.Locked.{Agree, KeepsToIts, SameCall, first_look, handles};
-ghost use Rattle.nv_calls.specs.Nodes.{HaveBytes, has_page_in, plain_nodes, slots_by};
+ghost use Rattle.nv_calls.specs.Nodes.{HaveBytes, block_in, has_page_in, nodes_in, plain_nodes, slots_by};
+ghost use Rattle.nv_calls.specs.PagesWanted.{pages_wanted};
 ghost use Rattle.nv_calls.specs.Plain.{Change, PlainNode, node_in, nodes_after};
 ghost use Rattle.nv_calls.specs.Plan.{AreApart, AreFewApart, plan_blocks};
-ghost use Rattle.nv_calls.specs.Prepared.{CanReady, HaveNoLessRoom, IsReadyBy, planned_by, plans_by};
+ghost use Rattle.nv_calls.specs.Prepared.{CanReady, HaveNoLessRoom, IsReadyBy, planned_by, plans_by, taken_by};
 ghost use Rattle.nv_calls.specs.PublishedSlots.{AreOfSlots, IsCommitted, PublishAlike, PublishesPlans, planned_in};
 ghost use Rattle.nv_calls.specs.Ready.{ReadyValue};
 ghost use Rattle.nv_calls.specs.Refusals.{passes};
@@ -134,6 +141,42 @@ pub fn what_is_ready_can_be_committed()
         (ready : ReadyValue) → CanReady cells hand update → HaveNoLessRoom cells now
         → IsReadyBy cells hand update now ready → AllowsCommit now book cpu ready
         → CanCommit now book cpu ready }
+{}
+
+/// It can be filled, as long as its cells stay the same but for room.
+pub fn what_is_ready_can_be_filled()
+    ensures { (cells now : List (ℕ × CellValue)) (hand : Hand) (update : Update) (ready : ReadyValue)
+        → CanReady cells hand update → HaveNoLessRoom cells now
+        → IsReadyBy cells hand update now ready → CanFill now ready.update ready.hand.data }
+{}
+
+/// And it stays ready, whatever bytes its blocks are filled with.
+pub fn what_is_filled_stays_ready()
+    ensures { (cells now : List (ℕ × CellValue)) (hand : Hand) (update : Update) (ready : ReadyValue)
+        (blocks : QueueValue) → IsReadyBy cells hand update now ready
+        → HasOtherBytes ready.hand.data blocks
+        → IsReadyBy cells hand update now (with_blocks blocks ready) }
+{}
+
+/// Where its blocks have the pages that a fill puts there, its plan fits its effect, in all slots that its cells are of.
+pub fn filled_plans_fit()
+    ensures { (bytes : ℕ → List ℕ) (cells now : List (ℕ × CellValue)) (hand : Hand) (update : Update)
+        (ready : ReadyValue) (byte_at : ℕ → ℕ) (blocks : List BlockValue) (slots : ℕ → Slot)
+        → CanReady cells hand update → HaveNoLessRoom cells now
+        → IsReadyBy cells hand update now ready
+        → HaveBytes bytes (block_in cells) now
+        → ((ino : ℕ) → IsSound bytes (block_in cells) (slots_by now ino).log)
+        → HavePages bytes now byte_at ready blocks → AreOfSlots now slots
+        → IsPlan bytes (block_in cells) slots (planned_by cells hand update)
+        (effect (nodes_in cells) (taken_by cells hand update).made (sourced byte_at update)) }
+{}
+
+/// The log pages that its commit counts are those that its plan needs.
+pub fn pages_counted_are_those_wanted()
+    ensures { (cells now : List (ℕ × CellValue)) (hand : Hand) (update : Update) (ready : ReadyValue)
+        → HaveNoLessRoom cells now → IsReadyBy cells hand update now ready
+        → sum_by (page_count now) ready.plans
+        ≡ pages_wanted cells (planned_by cells hand update) }
 {}
 
 /// A commit over cells publishes the items of its plans, each at its place in the commit: the slots are then those that

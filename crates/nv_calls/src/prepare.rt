@@ -174,6 +174,7 @@ fn prepare<C: Cells>(
 ) -> Result<(Vec<CellPlan>, u64), Fault>
     requires can { CanReady (C.cells cells.old) hand.old update.now }
     requires made { made.now ≡ made_by (C.cells cells.old) hand.old.ino update.now }
+    ensures some_bytes { 0 < block_in (C.cells cells.old) }
     ensures runs { let runs = (taken_by (C.cells cells.old) hand.old update.now).runs in
         IfOk result (λ done. AreMaximal runs × (blocks_of runs ≡ numbers_of hand.old.data.blocks)) }
     ensures plans { IfOk result (λ done. done.0.items
@@ -215,6 +216,7 @@ pub fn ready_on<C: Cells>(
     requires { CanReady (C.cells cells.old) hand plan.update }
     ensures ok { IfOk result (λ ready. IsReadyBy (C.cells cells.old) hand plan.update
         (C.cells cells.new) ready) }
+    ensures hand { IfOk result (λ ready. HasNoLessRoom hand ready.hand) }
     ensures err { IfErr result (λ refused. (refused.0 ≡ OutOfMemory) × HasNoLessRoom hand refused.1) }
     ensures cells { HaveNoLessRoom (C.cells cells.old) (C.cells cells.new) }
     ensures places { C.places cells.new ≡ C.places cells.old }

@@ -104,6 +104,11 @@ impl Ready {
         hand
     }
 
+    /// Takes the call apart with all that its hand holds: for the owner of a whole device that is let go.
+    pub fn dismantle(self) {
+        self.into_hand().dismantle();
+    }
+
     /// The call.
     pub fn update(&self) -> &Update
         ensures { result.now ≡ self.now.update }
@@ -124,6 +129,14 @@ impl Ready {
         ensures { result ≡ (plan_at self.now.plans j).at }
     {
         self.plans[j].at
+    }
+
+    /// How many entries such a cell gets.
+    pub fn entries_for(&self, j: usize) -> usize
+        requires { j < length self.now.plans }
+        ensures { result ≡ length (plan_at self.now.plans j).items }
+    {
+        self.plans[j].items.len()
     }
 
     /// For how many records the commit needs room in the book, as [`nv_book::Book::enter`] is told: one for each part

@@ -8,8 +8,8 @@ use nv_alloc::Hand;
 use nv_base::{CommitNo, Epoch, Handle};
 use std::marker::Model;
 
-/// That a call was committed, with the number and the epoch of its commit. Only a commit makes one, and it can't be
-/// copied.
+/// That a call was committed, with the number and the epoch of its commit. Only [`crate::commit_on`] makes one, and it
+/// can't be copied.
 #[derive(Debug, Drop)]
 pub struct Receipt {
     update: Update,
@@ -56,8 +56,10 @@ impl Receipt {
 }
 
 impl Commit {
-    /// The receipt of a commit whose steps are all done, and what the hand still holds. Takes no memory.
-    pub fn finish(self) -> (Receipt, Hand)
+    /// The receipt of a commit whose steps are all done, and what the hand still holds. The steps know no more of the cells
+    /// than each asks, so it is not for the public: who goes step by step could lend each step other cells. Takes no
+    /// memory.
+    pub(crate) fn finish(self) -> (Receipt, Hand)
         requires { self.retired ≡ length self.plans }
         ensures receipt { result.0 ≡ receipt_of self }
         ensures hand { result.1 ≡ self.hand }

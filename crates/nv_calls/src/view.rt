@@ -3,6 +3,7 @@
 ghost use Rattle.std.specs.Prelude.{◌≡◌, ℕ, List, Err, MatchResult, IfOk, Some, option_map, true};
 ghost use Rattle.nv_base.specs.Refusals.{FailsAsChecked};
 ghost use Rattle.nv_cell.specs.Pages.{AreBytesOf};
+ghost use Rattle.nv_calls.specs.Nodes.{IsOwnView};
 ghost use Rattle.nv_calls.specs.Refusals.{kind_of, look, lookup};
 ghost use Rattle.nv_calls.specs.calls.Lookup.{lookup_refusal};
 ghost use Rattle.nv_calls.specs.Views.{IsView, check_of, copy_of, is_list, is_lookup, is_read, is_stat, node_of, stat_of, view_refusal};
@@ -159,6 +160,7 @@ pub fn list_on(cell: &InodeCell, call: Call) -> Result<View, Fault>
 /// pages that it reads, and one look-up for each run of them.
 pub fn read_on(cell: &InodeCell, call: Call) -> Result<View, Fault>
     requires { is_read call ≡ true }
+    ensures own { IfOk result (IsOwnView cell.now.state call) }
     ensures view { (bytes : ℕ → List ℕ) → AreBytesOf cell.now.state bytes
         → IfOk result (IsView bytes cell.now.state call) }
     ensures err { (bytes : ℕ → List ℕ)

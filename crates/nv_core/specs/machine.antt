@@ -21,3 +21,9 @@ pub mod Causes
 pub mod FitsNow
 pub mod PoolScan
 pub mod Rounds
+pub mod EndsDecided
+pub mod Held
+pub mod Takings
+pub mod Refusing
+pub mod Made
+pub mod Exact

@@ -151,7 +151,7 @@ pub fn is_own_place(from: &Handle, old: &[u8], to: &Handle, new: &[u8]) -> bool
     is_same(from, to) && is_same_name(old, new)
 }
 
-fn is_same(a: &Handle, b: &Handle) -> bool
+pub(crate) fn is_same(a: &Handle, b: &Handle) -> bool
     ensures { result ≡ same_handle a.now b.now }
 {
     a.ino == b.ino && a.generation == b.generation

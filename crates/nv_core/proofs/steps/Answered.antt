@@ -1,6 +1,6 @@
 -- A call that is to end so ends so, whatever follows; and one that has committed is to be answered.
-use Rattle.std.proofs.Common.{◌≡◌, ℕ, ◌+◌, ◌%◌, ◌<◌, ◌≤◌, ◌∙◌, inl, inr, Bool, true, false, cond, List, [], ◌∷◌, Option, Some, None, ap, arith, get_or-set_same, if◌then◌else◌, length, nat_lt, refl, subst, sym}
-use Rattle.std.proofs.lemmas.Bool.{false≢true, lt-ltb, ltb-false, ltb-true}
+use Rattle.std.proofs.Common.{◌≡◌, ℕ, ◌+◌, ◌%◌, ◌<◌, ◌∙◌, inl, inr, Bool, true, false, cond, List, [], ◌∷◌, Option, Some, None, ap, get_or-set_same, if◌then◌else◌, length, nat_lt, refl, subst, sym}
+use Rattle.std.proofs.lemmas.Bool.{false≢true, lt-ltb}
 use Rattle.nv_base.specs.declared.numbers.Handle.{Handle}
 use Rattle.nv_calls.specs.AllCalls.{answer}
 use Rattle.nv_calls.specs.Plain.{PlainNode}
@@ -15,7 +15,7 @@ use Rattle.nv_core.specs.machine.PlainRun.{Commits, Nothing, Numbers, deed, deed
 use Rattle.nv_core.specs.machine.Reads.{written_slots}
 use Rattle.nv_core.specs.machine.Sequence.{Visits, appending, beginning, closing, opening, publishing, retiring}
 use Rattle.nv_core.specs.machine.Step.{kind_turn, reply_of, step, turn, turned}
-use Rattle.nv_core.specs.machine.World.{Actor, Answers, Append, Back, Check, Close, Ending, Ends, Enter, Give, Go, HandState, Leave, Lock, Look, Moves, Next, Number, Open, Overtaken, Publish, Ready, Refuses, Retire, Running, Shared, TakeBlocks, TakePages, Turn, Unlock, Visit, Waits, World, actor_at, go_to, idle}
+use Rattle.nv_core.specs.machine.World.{Actor, Answers, Append, Back, Check, Close, Ending, Ends, Enter, Give, Go, HandState, Leave, Lock, Look, Moves, Next, Number, Open, Overtaken, Publish, Ready, Refuses, Retire, Running, Shared, TakeBlocks, TakePages, Turn, Unlock, Visit, Waits, World, actor_at, idle}
 use Rattle.nv_core.proofs.steps.Events.{go_is_turn}
 
 -- a turn goes towards an end of a call

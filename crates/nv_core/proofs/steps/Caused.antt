@@ -5,6 +5,8 @@ use Rattle.std.proofs.lemmas.Bool.{leb-true, ltb-false}
 use Rattle.nv_base.specs.declared.fault.Fault.{Fault}
 use Rattle.nv_base.specs.declared.fault.Fault.TheVariants.{CommitLimit, Contended, NoInode, NoSpace, OutOfMemory}
 use Rattle.nv_base.specs.declared.limits.TheConstants.{NUMBER}
+use Rattle.nv_base.specs.declared.numbers.Handle.{Handle}
+use Rattle.nv_entry.specs.declared.node.NodeCopy.{NodeCopy}
 use Rattle.nv_calls.specs.AllCalls.{early, effect, late, look_refusal, looked, refusal}
 use Rattle.nv_calls.specs.Plain.{Change}
 use Rattle.nv_calls.specs.Refusals.{Check as Tests, and_then, passes}
@@ -19,7 +21,7 @@ use Rattle.nv_core.specs.machine.World.{Answers, Append, Back, Check, Close, End
 
 -- ---- a call that goes on or is answered
 
-unrefused : (P : Fault → Type 0) (Q : Type 0) (next : Next) (e : Ending) → e ≡ Answers → EndsFor P Q next e
+pub unrefused : (P : Fault → Type 0) (Q : Type 0) (next : Next) (e : Ending) → e ≡ Answers → EndsFor P Q next e
 unrefused P Q next Answers e = tt
 unrefused P Q next (Refuses fault) e = cc
 unrefused P Q next Overtaken e = cc
@@ -66,11 +68,11 @@ number_caused : (P : Fault → Type 0) (Q : Type 0) (numbers : List ℕ) (s : Sh
 number_caused P Q [] s h r e = unrefused P Q (locking 0 (slots_of s None r.looked r.call)) r.ending e
 number_caused P Q (ino ∷ numbers) s h r e = unrefused P Q (locking 0 (slots_of s (Some ino) r.looked r.call)) r.ending e
 
-look_told : (place : ℕ) (tests : Tests) (fault : Fault) → look_tests place tests ≡ Err fault → tests ≡ Err fault
+pub look_told : (place : ℕ) (tests : Tests) (fault : Fault) → look_tests place tests ≡ Err fault → tests ≡ Err fault
 look_told zero tests fault e = e
 look_told (suc place) tests fault e = cc
 
-look_caused : (P : Fault → Type 0) (Q : Type 0) (owner : Option ℕ) (tests : Tests) (found : Looked) (place : ℕ) (s : Shared) (h : HandState) (r : Running)
+pub look_caused : (P : Fault → Type 0) (Q : Type 0) (owner : Option ℕ) (tests : Tests) (found : Looked) (place : ℕ) (s : Shared) (h : HandState) (r : Running)
     → ((fault : Fault) → tests ≡ Err fault → P fault) → r.ending ≡ Answers → RefusesFor P Q (look_turn owner tests found place s h r)
 look_caused P Q (Some other) tests found place s h r told e = tt
 look_caused P Q None (Err fault) found place s h r told e = refused P Q fault [] s h r (told fault refl)
@@ -103,14 +105,14 @@ overtaken_caused P Q [] s h r over none = again_caused P Q r.rounds s h (record 
 overtaken_caused P Q (slot ∷ slots) s h r over none = over
 
 -- how a check ends a call, with its cause
-abbrev CheckCause : Tests → Bool → Tests → Bool → Option Ending → Type 0
+abbrev pub CheckCause : Tests → Bool → Tests → Bool → Option Ending → Type 0
 CheckCause first same all numbered None = all ≡ passes
 CheckCause first same all numbered (Some Answers) = Unit {0}
 CheckCause first same all numbered (Some Overtaken) = (first ≡ passes) × (same ≡ false)
 CheckCause first same all numbered (Some (Refuses fault)) =
     (first ≡ Err fault) ⊎ (all ≡ Err fault) ⊎ ((fault ≡ NoInode) × (numbered ≡ false) × (all ≡ passes))
 
-check_told : (first : Tests) (same : Bool) (all : Tests) (numbered : Bool) (changes : List Change)
+pub check_told : (first : Tests) (same : Bool) (all : Tests) (numbered : Bool) (changes : List Change)
     → CheckCause first same all numbered (check_ending first same all numbered changes)
 check_told (Err fault) same all numbered changes = inl refl
 check_told (Ok passed) false all numbered changes = (refl, refl)
@@ -120,28 +122,31 @@ check_told (Ok passed) true (Ok rest) true [] = tt
 check_told (Ok passed) true (Ok rest) true (change ∷ changes) = refl
 
 -- what is tested first refuses the call
-first_refuses : (block : ℕ) (s : Shared) (r : Running) (fault : Fault) → early (copies s) r.call ≡ Err fault → IsRefusal block s r fault
-first_refuses block s r fault e = ap (λ tests. and_then tests (late block (copies s) (looked (copies s) r.call) r.call)) e
+first_refuses : (block : ℕ) (nodes : Handle → Option NodeCopy) (r : Running) (fault : Fault) → early nodes r.call ≡ Err fault
+    → IsRefusal block nodes r fault
+first_refuses block nodes r fault e = ap (λ tests. and_then tests (late block nodes (looked nodes r.call) r.call)) e
 
-check_caused : (ending : Option Ending) (granted : Bool) (wanted block actor : ℕ) (s : Shared) (h : HandState) (r q : Running)
-    → CheckCause (early (copies s) r.call) (same_looked (looked (copies s) r.call) r.looked) (refusal block (copies s) r.call)
+pub check_caused : (nodes : Handle → Option NodeCopy) (ending : Option Ending) (granted : Bool) (wanted block actor : ℕ) (s : Shared)
+    (h : HandState) (r q : Running)
+    → CheckCause (early nodes r.call) (same_looked (looked nodes r.call) r.looked) (refusal block nodes r.call)
     (is_numbered (beginning r.call) h.ino) ending
     → q.slots ≡ r.slots → q.rounds ≡ r.rounds → q.ending ≡ Answers
-    → RefusesFor (IsCause Check block actor granted s h r) (IsOvertaken s r) (check_turn ending granted wanted block s h q)
-check_caused None granted wanted block actor s h r q told slots rounds e =
+    → RefusesFor (IsCause Check block actor granted nodes s h r) (IsOvertaken nodes r) (check_turn ending granted wanted block s h q)
+check_caused nodes None granted wanted block actor s h r q told slots rounds e =
     denied _ _ granted (wants_blocks wanted block s h q) s h q (λ lack. inr (inr (inl ((refl, lack), told))))
     (blocks_unrefused _ _ wanted block s h q e)
-check_caused (Some Answers) granted wanted block actor s h r q told slots rounds e =
+check_caused nodes (Some Answers) granted wanted block actor s h r q told slots rounds e =
     rw (sym e) (end_unrefused _ _ q.slots s h q e)
-check_caused (Some Overtaken) granted wanted block actor s h r q told slots rounds e =
+check_caused nodes (Some Overtaken) granted wanted block actor s h r q told slots rounds e =
     overtaken_caused _ _ q.slots s h q told (λ none over. inr (inr (inr (refl, told, sym slots ∙ none, sym rounds ∙ over))))
-check_caused (Some (Refuses fault)) granted wanted block actor s h r q told slots rounds e = refused _ _ fault q.slots s h q (go told) where
-  go : (early (copies s) r.call ≡ Err fault) ⊎ (refusal block (copies s) r.call ≡ Err fault)
-      ⊎ ((fault ≡ NoInode) × (is_numbered (beginning r.call) h.ino ≡ false) × (refusal block (copies s) r.call ≡ passes))
-      → IsCause Check block actor granted s h r fault
-  go (inl first) = inl (first_refuses block s r fault first)
-  go (inr (inl all)) = inl all
-  go (inr (inr number)) = inr (inl ((number.0, number.1), number.2))
+check_caused nodes (Some (Refuses fault)) granted wanted block actor s h r q told slots rounds e =
+    refused _ _ fault q.slots s h q (go told) where
+      go : (early nodes r.call ≡ Err fault) ⊎ (refusal block nodes r.call ≡ Err fault)
+          ⊎ ((fault ≡ NoInode) × (is_numbered (beginning r.call) h.ino ≡ false) × (refusal block nodes r.call ≡ passes))
+          → IsCause Check block actor granted nodes s h r fault
+      go (inl first) = inl (first_refuses block nodes r fault first)
+      go (inr (inl all)) = inl all
+      go (inr (inr number)) = inr (inl ((number.0, number.1), number.2))
 
 blocks_caused : (P : Fault → Type 0) (Q : Type 0) (left : ℕ) (more : Bool) (asked block : ℕ) (s : Shared) (h : HandState) (r : Running)
     → (0 < left → more ≡ false → P NoSpace) → r.ending ≡ Answers → RefusesFor P Q (blocks_turn left more asked block s h r)
@@ -165,7 +170,7 @@ short_list s cpu asked r left none = record {
 
 enter_caused : (holder : Option ℕ) (block actor a : ℕ) (last granted : Bool) (s : Shared) (h : HandState) (r : Running)
     → (last ≡ true → NUMBER ≤ s.book.commit) → r.ending ≡ Answers
-    → RefusesFor (IsCause Enter block actor granted s h r) ⊥ (enter_turn holder last granted a s h r)
+    → RefusesFor (IsCause Enter block actor granted (copies s) s h r) ⊥ (enter_turn holder last granted a s h r)
 enter_caused (Some other) block actor a last granted s h r limit e = tt
 enter_caused None block actor a true granted s h r limit e = refused _ _ CommitLimit r.slots s h r (inl (refl, limit refl))
 enter_caused None block actor a false granted s h r limit e =
@@ -181,29 +186,29 @@ back_caused : (P : Fault → Type 0) (Q : Type 0) (number : Option ℕ) (s : Sha
 back_caused P Q None s h r e = rw e tt
 back_caused P Q (Some ino) s h r e = rw e tt
 
-no_growth : (granted grows : Bool) → (granted || not grows) ≡ false → (granted ≡ false) × (grows ≡ true)
+pub no_growth : (granted grows : Bool) → (granted || not grows) ≡ false → (granted ≡ false) × (grows ≡ true)
 no_growth true grows e = cc
 no_growth false true e = (refl, refl)
 no_growth false false e = cc
 
-visit_caused : (owner : Option ℕ) (tests : Tests) (block actor : ℕ) (given granted : Bool) (found : Answer) (s : Shared) (h : HandState)
-    (r : Running) → tests ≡ refusal block (copies s) r.call → (given ≡ false → (granted ≡ false) × (visit_grows r.call ≡ true))
-    → RefusesFor (IsCause Visit block actor granted s h r) ⊥ (visit_turn owner tests given found s h r)
-visit_caused (Some other) tests block actor given granted found s h r is lack = tt
-visit_caused None (Err fault) block actor given granted found s h r is lack = refused _ _ fault r.slots s h r (inl (sym is))
-visit_caused None (Ok passed) block actor given granted found s h r is lack =
-    denied _ _ given (Ends (Ok found) s h) s h r (λ e. inr ((refl, (lack e).0), (lack e).1, sym is)) tt
+pub visit_caused : (nodes : Handle → Option NodeCopy) (owner : Option ℕ) (tests : Tests) (block actor : ℕ) (given granted : Bool)
+    (found : Answer) (s : Shared) (h : HandState) (r : Running) → (owner ≡ None → tests ≡ refusal block nodes r.call) → (given ≡ false → (granted ≡ false) × (visit_grows r.call ≡ true))
+    → RefusesFor (IsCause Visit block actor granted nodes s h r) ⊥ (visit_turn owner tests given found s h r)
+visit_caused nodes (Some other) tests block actor given granted found s h r is lack = tt
+visit_caused nodes None (Err fault) block actor given granted found s h r is lack = refused _ _ fault r.slots s h r (inl (sym (is refl)))
+visit_caused nodes None (Ok passed) block actor given granted found s h r is lack =
+    denied _ _ given (Ends (Ok found) s h) s h r (λ e. inr ((refl, (lack e).0), (lack e).1, sym (is refl))) tt
 
 -- ---- all kinds
 
 pub caused : (k : Next) (block actor : ℕ) (granted : Bool) (s : Shared) (h : HandState) (r : Running) → r.ending ≡ Answers
-    → RefusesFor (IsCause k block actor granted s h r) (MayBeOvertaken k s r) (kind_turn k block actor granted s h r)
+    → RefusesFor (IsCause k block actor granted (copies s) s h r) (MayBeOvertaken k (copies s) r) (kind_turn k block actor granted s h r)
 caused Number block actor granted s h r e = number_caused _ _ s.pool.numbers s h r e
 caused (Look place) block actor granted s h r e =
     look_caused _ _ _ _ _ place s h r (λ fault told. look_told place (look_refusal (copies s) r.call) fault told) e
 caused (Lock place) block actor granted s h r e = lock_caused _ _ _ actor place s h r e
 caused Check block actor granted s h r e =
-    check_caused (ending_at block s h r) granted _ block actor s h r (with_made s h r)
+    check_caused (copies s) (ending_at block s h r) granted _ block actor s h r (with_made s h r)
     (check_told (early (copies s) r.call) (same_looked (looked (copies s) r.call) r.looked) (refusal block (copies s) r.call)
     (is_numbered (beginning r.call) h.ino) (effect (copies s) (made_in s h.ino r.made) r.call)) refl refl e
 caused (TakeBlocks asked) block actor granted s h r e =
@@ -223,7 +228,8 @@ caused (Unlock place) block actor granted s h r e = unlocked_caused _ _ _ place 
 caused (Give cpu) block actor granted s h r e = rest_unrefused _ _ _ h.ino _ _ r e
 caused Back block actor granted s h r e = back_caused _ _ h.ino s h r e
 caused Visit block actor granted s h r e =
-    visit_caused _ (refusal block (copies s) r.call) block actor _ granted _ s h r refl (no_growth granted (visit_grows r.call))
+    visit_caused (copies s) _ (refusal block (copies s) r.call) block actor _ granted _ s h r (λ free. refl)
+    (no_growth granted (visit_grows r.call))
 
 -- ---- the last unlock of a call that was overtaken
 

@@ -1,13 +1,13 @@
 -- What the steps of a commit leave of a cell: its pages, and the node of a log that is there already.
 use Rattle.std.proofs.Common.{◌≡◌, ℕ, zero, suc, ◌-◌, ◌≤◌, ◌&&◌, ◌++◌, ◌∙◌, Bool, true, false, cond, List, [], ◌∷◌, Option, Some, None, ap, append-nil, append_assoc, arith, drop, filter, flat_map, length, length-append, map, nat_lt, refl, set, slice_get, slice_index_or, subst, sym, take}
-use Rattle.std.specs.Prelude.{unwrap_or}
+use Rattle.std.specs.Prelude.{unwrap_or, option_to_list}
 use Rattle.std.specs.List.{AllByRecursion, range_with_len}
 use Rattle.std.specs.Option.{option_map}
 use Rattle.std.proofs.lemmas.Bool.{and_parts, true≢false}
 use Rattle.std.proofs.lemmas.List.{take-append-le}
 use Rattle.nv_alloc.specs.Block.{BlockValue, number_of, numbers_of}
 use Rattle.nv_calls.specs.Plain.{stamped}
-use Rattle.nv_calls.specs.Retiring.{is_erased, keeper_of, retired, retired_one, settled as settled_part}
+use Rattle.nv_calls.specs.Retiring.{is_erased, keeper_of, retired, retired_one, settled as settled_part, killed_by}
 use Rattle.nv_calls.specs.Slots.{last_commit}
 use Rattle.nv_cell.specs.Append.{IsWithinFile, appended, blocks_for}
 use Rattle.nv_cell.specs.Cell.{CellState, empty_cell, log_of, number_in, published}
@@ -29,7 +29,7 @@ use Rattle.nv_entry.specs.declared.key.Setting.{Setting}
 use Rattle.nv_entry.specs.declared.key.Setting.TheVariants.{Untouched, Absent}
 use Rattle.nv_core.specs.machine.Effects.{IsSoundIn}
 use Rattle.nv_core.specs.machine.Kept.{AreApart, AreCovered, HasPages}
-use Rattle.nv_core.specs.machine.Kinds.{if_part, killed_by_publish, with_entries, with_pages}
+use Rattle.nv_core.specs.machine.Kinds.{with_entries, with_pages}
 use Rattle.nv_core.specs.machine.Reads.{bytes_among}
 use Rattle.nv_core.specs.machine.Settled.{node_by}
 use Rattle.nv_core.proofs.steps.CellPages.{among_at, appended_node, appended_pages, appended_sound, page_there, same_node, same_sound}
@@ -157,7 +157,7 @@ module _ (cell : CellState) (is : IsLog cell.chain.entries) where
   abbrev dead : ℕ → Bool
   dead n = dies cell.block es cell.chain.tail n
 
-  covered_one : (n : ℕ) (o : Option KilledPart) → killed_part es n ≡ o → dead n ≡ true → AreCovered (published cell) (if_part o)
+  covered_one : (n : ℕ) (o : Option KilledPart) → killed_part es n ≡ o → dead n ≡ true → AreCovered (published cell) (option_to_list o)
   covered_one n None q d = tt
   covered_one n (Some k) q d = (
     ap (λ (l : List Entry). is_covered cell.block l (unwrap_or (number_named l k.part) 0)) (take_whole es)
@@ -171,15 +171,15 @@ module _ (cell : CellState) (is : IsLog cell.chain.entries) where
   covered_more [] ys h more = more
   covered_more (x ∷ xs) ys h more = (h.0, covered_more xs ys h.1 more)
 
-  covered_all : (ns : List ℕ) → AreCovered (published cell) (flat_map (λ n. if_part (killed_part es n)) (filter dead ns))
+  covered_all : (ns : List ℕ) → AreCovered (published cell) (flat_map (λ n. option_to_list (killed_part es n)) (filter dead ns))
   covered_all [] = tt
   covered_all (n ∷ ns) = go (dead n) refl (covered_all ns) where
-    go : (b : Bool) → dead n ≡ b → AreCovered (published cell) (flat_map (λ n. if_part (killed_part es n)) (filter dead ns))
-        → AreCovered (published cell) (flat_map (λ n. if_part (killed_part es n)) (cond b (n ∷ filter dead ns) (filter dead ns)))
-    go true q more = covered_more (if_part (killed_part es n)) _ (covered_one n (killed_part es n) refl q) more
+    go : (b : Bool) → dead n ≡ b → AreCovered (published cell) (flat_map (λ n. option_to_list (killed_part es n)) (filter dead ns))
+        → AreCovered (published cell) (flat_map (λ n. option_to_list (killed_part es n)) (cond b (n ∷ filter dead ns) (filter dead ns)))
+    go true q more = covered_more (option_to_list (killed_part es n)) _ (covered_one n (killed_part es n) refl q) more
     go false q more = more
 
-  pub killed_covered : AreCovered (published cell) (killed_by_publish cell)
+  pub killed_covered : AreCovered (published cell) (killed_by cell)
   killed_covered = covered_all (range_with_len 0 (part_total es))
 
 -- ---- retire

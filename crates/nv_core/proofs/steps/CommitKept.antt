@@ -7,7 +7,7 @@ use Rattle.nv_alloc.specs.Numbers.{IsRising, has}
 use Rattle.nv_book.specs.Book.{with_journal}
 use Rattle.nv_calls.proofs.Commits.{entries-items}
 use Rattle.nv_calls.specs.Plain.{PlainNode}
-use Rattle.nv_calls.specs.Retiring.{erased, is_erased}
+use Rattle.nv_calls.specs.Retiring.{erased, is_erased, killed_by}
 use Rattle.nv_calls.specs.Slots.{items_for, place_in}
 use Rattle.nv_cell.specs.Append.{IsWithinFile}
 use Rattle.nv_cell.specs.Cell.{CellState, empty_cell, log_of, published}
@@ -19,7 +19,7 @@ use Rattle.nv_epoch.specs.SnapList.{ids}
 use Rattle.nv_entry.proofs.SoundLogs.{empty_sound}
 use Rattle.nv_core.specs.machine.Effects.{IsSoundIn}
 use Rattle.nv_core.specs.machine.Kept.{AreApart, AreClosed, AreCovered, AreKilledIn, AreLogsKept, HasNoted, HasPages, IsNotedIf, IsPlanFor, Knows}
-use Rattle.nv_core.specs.machine.Kinds.{append_turn, close_turn, entries_for, first_killed, killed_by_publish, old_tails, open_turn, publish_turn, retire_turn, retired_book, retired_cell, with_entries, with_pages}
+use Rattle.nv_core.specs.machine.Kinds.{append_turn, close_turn, entries_for, first_killed, old_tails, open_turn, publish_turn, retire_turn, retired_book, retired_cell, with_entries, with_pages}
 use Rattle.nv_core.specs.machine.Locks.{AreSlots, is_owner}
 use Rattle.nv_core.specs.machine.Reads.{bytes_among, is_written, slot_at, written_slots}
 use Rattle.nv_core.specs.machine.Sequence.{appending, closing, opening, publishing, retiring}
@@ -200,14 +200,14 @@ module _ (block a : ℕ) (s : Shared) (h : HandState) (r : Running) (kept : AreL
 
     -- what publishes have killed, one more of them
     publish_killed : (h.killed ≡ h.killed) → IsLog cell.chain.entries → AreKilledIn s (take place written_) h.killed
-        → AreKilledIn after (take (place + 1) written_) (h.killed ++ killed_by_publish cell ∷ [])
-    publish_killed e is killed = subst (λ (l : List ℕ). AreKilledIn after l (h.killed ++ killed_by_publish cell ∷ []))
+        → AreKilledIn after (take (place + 1) written_) (h.killed ++ killed_by cell ∷ [])
+    publish_killed e is killed = subst (λ (l : List ℕ). AreKilledIn after l (h.killed ++ killed_by cell ∷ []))
         (sym (ap (λ (n : ℕ). take n written_) (add-one place) ∙ take_more place written_ inside))
-        (one_more_killed after (take place written_) slot h.killed (killed_by_publish cell)
+        (one_more_killed after (take place written_) slot h.killed (killed_by cell)
         (same_killed s after (take place written_) h.killed
         (λ ino there. get_or-set_other s.cells slot ino (published cell) no_cell
         (λ e. absurd (true≢false (sym there ∙ ap (has (take place written_)) e ∙ take_apart place written_ rising inside)))) killed)
-        (subst (λ (c : CellState). AreCovered c (killed_by_publish cell)) (sym (get_or-set_same s.cells slot (published cell) no_cell low))
+        (subst (λ (c : CellState). AreCovered c (killed_by cell)) (sym (get_or-set_same s.cells slot (published cell) no_cell low))
         (killed_covered cell is)))
 
     pub publish_kept : IsLog cell.chain.entries → (several : Bool) → nat_lt 1 (length written_) ≡ several

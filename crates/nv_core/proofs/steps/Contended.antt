@@ -1,8 +1,8 @@
 -- A call is contended after eight checks that found a name bound anew.
-use Rattle.std.proofs.Common.{◌≡◌, ◌≢◌, ℕ, zero, suc, ◌+◌, ◌<◌, ◌≤◌, ◌==◌, ◌∙◌, Bool, true, false, List, [], ◌∷◌, Option, Some, None, ap, arith, get_or-set_same, if◌then◌else◌, length, nat_le, nat_lt, refl, set, subst, sym}
+use Rattle.std.proofs.Common.{◌≡◌, ◌≢◌, ℕ, zero, suc, ◌+◌, ◌<◌, ◌≤◌, ◌==◌, ◌∙◌, Bool, true, false, List, [], ◌∷◌, Option, Some, None, ap, arith, get_or-set_same, if◌then◌else◌, length, nat_lt, refl, subst, sym}
 use Rattle.std.proofs.lemmas.Bool.{eqb-false, eqb-true, ltb-true}
 use Rattle.std.specs.List.{AllByRecursion}
-use Rattle.std.specs.Prelude.{Result, Ok, Err}
+use Rattle.std.specs.Prelude.{Ok, Err}
 use Rattle.nv_base.specs.declared.fault.Fault.{Fault}
 use Rattle.nv_calls.specs.Refusals.{Check as Tests}
 use Rattle.nv_calls.specs.declared.answer.Answer.{Answer}
@@ -178,7 +178,7 @@ own_rounds true (Some r) w actor granted all failed there is k =
     (ltb-true actor (length w.actors) there) is k
     (kind_left r.next w.numbers.block actor granted w.shared (actor_at w actor).hand r)
 
-other_rounds : (b : Bool) (running : Option Running) (w : World) (actor other : ℕ) (granted : Bool) → actor ≢ other
+pub other_rounds : (b : Bool) (running : Option Running) (w : World) (actor other : ℕ) (granted : Bool) → actor ≢ other
     → actor_at (go_step b running other granted w).world actor ≡ actor_at w actor
 other_rounds false running w actor other granted h = refl
 other_rounds true None w actor other granted h = refl

@@ -12,7 +12,7 @@ use Rattle.nv_calls.specs.Plain.{Change, PlainNode, node_in, nodes_after, stampe
 use Rattle.nv_calls.specs.Slots.{Commits as DoesAll, Slot, entries_of, items_for, last_commit, node_under, place_in, published as published_slots}
 use Rattle.nv_cell.specs.Cell.{CellState, empty_cell}
 use Rattle.nv_entry.specs.Node.{block_now, node_now}
-use Rattle.nv_entry.specs.Sound.{IsSound, empty_node}
+use Rattle.nv_entry.specs.Sound.{Gives, IsSound, empty_node}
 use Rattle.nv_base.specs.Limits.{IsWithinLimits}
 use Rattle.nv_base.specs.declared.geometry.GeometryNumbers.{GeometryNumbers}
 use Rattle.nv_base.specs.declared.node.Kind.TheVariants.{Dir}
@@ -163,9 +163,13 @@ module _ (bytes : ℕ → List ℕ) (w : World) (actor : ℕ) (granted : Bool) (
 
 -- ---- a new world
 
+pub root_gives : (g : GeometryNumbers) → 0 < g.block
+    → Gives (bytes_among (root_cell g).blocks) g.block (root_entry ∷ []) (Some (empty_node Dir 493))
+root_gives g some = lawful_gives (bytes_among (root_cell g).blocks) g.block [] root_entry (Some (empty_node Dir 493)) some
+    (empty_sound (bytes_among (root_cell g).blocks) g.block) refl
+
 new_root : (g : GeometryNumbers) → 0 < g.block → IsSound (bytes_among (root_cell g).blocks) g.block (root_entry ∷ [])
-new_root g some = (lawful_gives (bytes_among (root_cell g).blocks) g.block [] root_entry (Some (empty_node Dir 493)) some
-    (empty_sound (bytes_among (root_cell g).blocks) g.block) refl).sound
+new_root g some = (root_gives g some).sound
 
 new_slot : (g : GeometryNumbers) (n ino tail : ℕ)
     → IsSoundIn (slice_index_or (replicate n (empty_cell g.block g.page 1 0)) ino no_cell)

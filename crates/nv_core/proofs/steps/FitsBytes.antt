@@ -44,7 +44,8 @@ use Rattle.nv_core.proofs.steps.CellPages.{among_at, sound_read}
 use Rattle.nv_core.proofs.steps.Effects.{IsRead, outside, read_nodes, read_page}
 use Rattle.nv_core.proofs.steps.FitsCalls.{IsOfNode, planned_there}
 use Rattle.nv_core.proofs.steps.FitsCells.{behind, longer}
-use Rattle.nv_core.proofs.steps.FitsRuns.{AreRead, is_ready, present_in, taken_of}
+use Rattle.nv_calls.specs.Filled.{AreRead}
+use Rattle.nv_core.proofs.steps.FitsRuns.{is_ready, present_in, taken_of}
 use Rattle.nv_core.proofs.steps.FitsStages.{Drawn, FitsAt, IsLocked, IsStored, Passed}
 use Rattle.nv_core.proofs.steps.PoolSlots.{filter_has}
 use Rattle.nv_core.proofs.steps.Reached.{most_once, twice}
@@ -124,29 +125,12 @@ module _ (bytes : ℕ → List ℕ) (block : ℕ) (s : Shared) (is : IsRead byte
     nothing true e = cc
     nothing false e = cc
 
-  module _ (r : Running) (some : 0 < block) (p : Passed block s r) (d : Drawn block s r (AllByRecursion (IsStored s r.slots))) where
+  module _ (r : Running) (some : 0 < block) (p : Passed block s r) (At : List BlockValue → Type 0) (d : Drawn block s r At) where
     abbrev taken : Taken
     taken = taken_of r.made (present_in block (settled_slots s) r.call) d.fresh
 
-    stored_read : (bs : List BlockValue) → AllByRecursion (IsStored s r.slots) bs → AreRead bytes bs
-    stored_read [] all = tt
-    stored_read (b ∷ bs) all = (is.blocks all.0.ino all.0.place b all.0.is, stored_read bs all.1)
-
     passed : refusal block (node_in (node_under bytes block (settled_slots s))) r.call ≡ passes
     passed = subst (λ (nodes : Handle → Option PlainNode). refusal block (node_in nodes) r.call ≡ passes) (sym nodes_are) p.passes
-
-    ready : IsReady bytes block (settled_slots s) (node_in (node_under bytes block (settled_slots s))) taken r.call
-    ready = subst (λ (nodes : Handle → Option PlainNode). IsReady bytes block (settled_slots s) (node_in nodes) taken r.call)
-        (sym nodes_are)
-        (is_ready bytes block (settled_slots s) (node_in (settled_nodes s)) r.made d.fresh (stored_read d.fresh d.at) r.call p.free
-        d.drawn.filled)
-
-    fits : IsPlan bytes block (settled_slots s) r.plan (effect (node_in (settled_nodes s)) r.made r.call)
-    fits = subst (λ (plan : List Planned). IsPlan bytes block (settled_slots s) plan (effect (node_in (settled_nodes s)) r.made r.call))
-        (sym d.drawn.plan)
-        (subst (λ (nodes : Handle → Option PlainNode). IsPlan bytes block (settled_slots s) (plan block (node_in nodes) taken r.call)
-        (effect (node_in nodes) r.made r.call)) nodes_are
-        (call_fits bytes block (settled_slots s) taken some log_sound r.call passed ready))
 
     -- what is planned is locked
     abbrev IsHeld : Planned → Type 0
@@ -200,15 +184,46 @@ module _ (bytes : ℕ → List ℕ) (block : ℕ) (s : Shared) (is : IsRead byte
     no_items [] le = refl
     no_items (x ∷ items) le = absurd (omega (arith, le))
 
-    written : (ino : ℕ) → has (written_slots r) ino ≡ false → items_for r.plan ino ≡ []
+    pub written : (ino : ℕ) → has (written_slots r) ino ≡ false → items_for r.plan ino ≡ []
     written ino out = go (is_written r.plan ino) refl where
       go : (b : Bool) → is_written r.plan ino ≡ b → items_for r.plan ino ≡ []
       go false e = no_items (items_for r.plan ino) (ltb-false 0 (length (items_for r.plan ino)) e)
       go true e = absurd (true≢false (sym (filter_has (is_written r.plan) r.slots ino
           (items_held r.plan (held_all r.plan plan_there plan_among) ino (ltb-true 0 (length (items_for r.plan ino)) e)) e) ∙ out))
 
+  module _ (r : Running) (some : 0 < block) (p : Passed block s r) (d : Drawn block s r (AllByRecursion (IsStored s r.slots))) where
+    abbrev Stored : List BlockValue → Type 0
+    Stored = AllByRecursion (IsStored s r.slots)
+
+    abbrev mine : Taken
+    mine = taken_of r.made (present_in block (settled_slots s) r.call) d.fresh
+
+    stored_read : (bs : List BlockValue) → AllByRecursion (IsStored s r.slots) bs → AreRead bytes bs
+    stored_read [] all = tt
+    stored_read (b ∷ bs) all = (is.blocks all.0.ino all.0.place b all.0.is, stored_read bs all.1)
+
+    ready : IsReady bytes block (settled_slots s) (node_in (node_under bytes block (settled_slots s))) mine r.call
+    ready = subst (λ (nodes : Handle → Option PlainNode). IsReady bytes block (settled_slots s) (node_in nodes) mine r.call)
+        (sym nodes_are)
+        (is_ready bytes block (settled_slots s) (node_in (settled_nodes s)) r.made d.fresh (stored_read d.fresh d.at) r.call p.free
+        d.drawn.filled)
+
+    fits : IsPlan bytes block (settled_slots s) r.plan (effect (node_in (settled_nodes s)) r.made r.call)
+    fits = subst (λ (plan : List Planned). IsPlan bytes block (settled_slots s) plan (effect (node_in (settled_nodes s)) r.made r.call))
+        (sym d.drawn.plan)
+        (subst (λ (nodes : Handle → Option PlainNode). IsPlan bytes block (settled_slots s) (plan block (node_in nodes) mine r.call)
+        (effect (node_in nodes) r.made r.call)) nodes_are
+        (call_fits bytes block (settled_slots s) mine some log_sound r.call (passed r some p Stored d) ready))
+
     pub plan_now : HasPlanNow bytes block s r
-    plan_now = record { some = some; sizes = is.sizes; blocks = is.blocks; sound = log_sound; written = written; fits = fits }
+    plan_now = record {
+      some = some;
+      sizes = is.sizes;
+      blocks = is.blocks;
+      sound = log_sound;
+      written = written r some p Stored d;
+      fits = fits;
+    }
 
 -- a commit point is a step at which this is known
 pub point_fits : (k : Next) (block a : ℕ) (granted : Bool) (s : Shared) (h : HandState) (r : Running)

@@ -8,9 +8,9 @@ use Rattle.nv_alloc.specs.Numbers.{has}
 use Rattle.nv_base.specs.declared.geometry.GeometryNumbers.{GeometryNumbers}
 use Rattle.nv_base.specs.declared.numbers.Handle.{Handle}
 use Rattle.nv_base.specs.Limits.{IsWithinLimits}
-use Rattle.nv_calls.specs.AllCalls.{effect, refusal}
+use Rattle.nv_calls.specs.AllCalls.{refusal}
 use Rattle.nv_calls.specs.Refusals.{passes}
-use Rattle.nv_calls.specs.Plain.{node_in, nodes_after}
+use Rattle.nv_calls.specs.Plain.{node_in}
 use Rattle.nv_calls.specs.Slots.{Slot}
 use Rattle.nv_calls.specs.declared.call.Call.{Call}
 use Rattle.nv_cell.specs.Cell.{CellState, empty_cell, published}
@@ -18,7 +18,7 @@ use Rattle.nv_calls.specs.Retiring.{erased}
 use Rattle.nv_entry.specs.declared.item.Entry.{Entry}
 use Rattle.nv_epoch.specs.SnapList.{ids}
 use Rattle.nv_core.specs.machine.Effects.{AreSound, HasPlanNow}
-use Rattle.nv_core.specs.machine.FitsNow.{bytes_in, is_checked}
+use Rattle.nv_core.specs.machine.FitsNow.{bytes_in}
 use Rattle.nv_core.specs.machine.Format.{formatted}
 use Rattle.nv_core.specs.machine.Frame.{IsFramed, Lent, lent}
 use Rattle.nv_core.specs.machine.Hands.{AreNumbers, HandAt, HandOf}
@@ -33,7 +33,7 @@ use Rattle.nv_core.specs.machine.Settled.{node_by, settled, settled_nodes, settl
 use Rattle.nv_core.specs.machine.Step.{after, go_step, start_step, step, turn, turned}
 use Rattle.nv_core.specs.machine.World.{Actor, Append, Back, Check, Close, Ends, Enter, Event, Give, Go, HandState, Leave, Lock, Look, Moves, Next, Number, Open, Publish, Ready, Retire, Running, Shared, Start, TakeBlocks, TakePages, Turn, Unlock, Visit, Waits, World, actor_at, cell_at, empty_hand, idle, no_cell, owner_at, with_cell}
 use Rattle.nv_core.proofs.steps.Answered.{deed_is}
-use Rattle.nv_core.proofs.steps.Effects.{new_sound, point_effect, point_is_sound, take_none}
+use Rattle.nv_core.proofs.steps.Effects.{new_sound, point_is_sound, take_none}
 use Rattle.nv_core.proofs.steps.FitsBytes.{all_read, plan_now, point_fits}
 use Rattle.nv_core.proofs.steps.FitsCells.{append_wider, erased_block, retired_block}
 use Rattle.nv_core.proofs.steps.FitsPooled.{HaveFreeNumbers, free_numbers}
@@ -250,7 +250,14 @@ module _ (g : GeometryNumbers) (w : World) (known : IsKnown g w) (fit : AreFit w
             sizes = fit.sizes;
           }) fit.sound r k.kept.some at.1 at.2
 
-      -- its call passes
+      -- it is that of blocks that the call has filled
+      pub drawn_now : Drawn block w.shared r (AllByRecursion (IsStored w.shared r.slots))
+      drawn_now = at.2
+
+      -- its call passes, and has locked what it reads
+      pub passed_now : Passed block w.shared r
+      passed_now = at.1
+
       pub passes_now : refusal block (node_in (settled_nodes w.shared)) r.call ≡ passes
       passes_now = at.1.passes
 
@@ -355,7 +362,7 @@ new_fit g within = record {
   each = λ actor. subst (λ (x : Actor). FitsOf x.running g.block (formatted g).shared x.hand) (sym (all_same g.actors actor idle)) tt;
 }
 
--- ---- the laws
+-- ---- every world
 
 pub all_known : (g : GeometryNumbers) → IsWithinLimits g → (events : List Event) → IsKnown g (after (formatted g) events)
 all_known g within events = record {
@@ -366,54 +373,3 @@ all_known g within events = record {
 
 pub all_fit : (g : GeometryNumbers) → IsWithinLimits g → (events : List Event) → AreFit (after (formatted g) events)
 all_fit g within events = events_fit g events (formatted g) (all_known g within) (new_fit g within)
-
--- from its check to its commit point
-checked_passed : (k : Next) (block : ℕ) (s : Shared) (h : HandState) (r : Running) → is_checked k ≡ true → FitsAt k block s h r
-    → Passed block s r
-checked_passed (TakeBlocks asked) block s h r e f = f.0
-checked_passed (TakePages asked) block s h r e f = f.0
-checked_passed Ready block s h r e f = f.0
-checked_passed Enter block s h r e f = f.0
-checked_passed (Append place) block s h r e f = f.0
-checked_passed Open block s h r e f = f.0
-checked_passed (Publish place) block s h r e f = f.0
-checked_passed Close block s h r e f = f.0
-checked_passed Number block s h r e f = cc
-checked_passed (Look place) block s h r e f = cc
-checked_passed (Lock place) block s h r e f = cc
-checked_passed Check block s h r e f = cc
-checked_passed (Retire place) block s h r e f = cc
-checked_passed Leave block s h r e f = cc
-checked_passed (Unlock place) block s h r e f = cc
-checked_passed (Give cpu) block s h r e f = cc
-checked_passed Back block s h r e f = cc
-checked_passed Visit block s h r e f = cc
-
-pub still_passes : (g : GeometryNumbers) (events : List Event) (actor : ℕ) (r : Running) → IsWithinLimits g
-    → (actor_at (after (formatted g) events) actor).running ≡ Some r → is_checked r.next ≡ true
-    → Passed (after (formatted g) events).numbers.block (after (formatted g) events).shared r
-still_passes g events actor r within is e =
-    let w : World = after (formatted g) events in
-    checked_passed r.next w.numbers.block w.shared (actor_at w actor).hand r e
-    (subst (λ (running : Option Running). FitsOf running w.numbers.block w.shared (actor_at w actor).hand) is
-    ((all_fit g within events).each actor))
-
-module _ (g : GeometryNumbers) (events : List Event) (actor : ℕ) (granted : Bool) (r : Running) (within : IsWithinLimits g) where
-  abbrev w : World
-  w = after (formatted g) events
-
-  module _ (there : actor < length w.actors) (is : (actor_at w actor).running ≡ Some r) (e : deed_of w (Go actor granted) ≡ Commits) where
-    -- at a commit point the plan fits the effect of its call
-    pub has_plan : HasPlanNow (bytes_in w.shared) w.numbers.block w.shared r
-    has_plan = fits_now g w (all_known g within events) (all_fit g within events) actor granted r is there e
-
-    -- and the plain world does not refuse the call
-    pub has_passed : refusal w.numbers.block (node_in (settled_nodes w.shared)) r.call ≡ passes
-    has_passed = passes_now g w (all_known g within events) (all_fit g within events) actor granted r is there e
-
-    -- so it has this effect
-    pub has_effect : (handle : Handle) → settled_nodes (step w (Go actor granted)).world.shared handle
-        ≡ nodes_after r.commit (effect (node_in (settled_nodes w.shared)) r.made r.call) (settled_nodes w.shared) handle
-    has_effect =
-        let k = (all_known g within events).reached in
-        point_effect (bytes_in w.shared) w actor granted r k.locks k.order k.kept k.grown k.apart there is e has_plan

@@ -7,12 +7,13 @@ use Rattle.nv_base.specs.declared.geometry.GeometryNumbers.{GeometryNumbers}
 use Rattle.nv_base.specs.declared.numbers.Handle.{Handle}
 use Rattle.nv_book.specs.Book.{with_journal}
 use Rattle.nv_calls.specs.Locked.{handles}
+use Rattle.nv_calls.specs.Retiring.{killed_by}
 use Rattle.nv_cell.specs.Cell.{CellState, log_of, published}
 use Rattle.nv_cell.proofs.Publishing.{take_whole}
 use Rattle.nv_core.specs.machine.Grown.{HasGrown, is_appended, is_behind}
 use Rattle.nv_core.specs.machine.Hands.{HandAt}
 use Rattle.nv_core.specs.machine.Kept.{HasNoted, IsNotedIf}
-use Rattle.nv_core.specs.machine.Kinds.{asked_list, blocks_left, entries_for, killed_by_publish, old_tails, with_entries, with_killed, with_pages}
+use Rattle.nv_core.specs.machine.Kinds.{asked_list, blocks_left, entries_for, old_tails, with_entries, with_killed, with_pages}
 use Rattle.nv_core.specs.machine.Locks.{AreSlots, held_at}
 use Rattle.nv_core.specs.machine.PlainRun.{Commits, Nothing, keeps_nodes}
 use Rattle.nv_core.specs.machine.Reads.{if_number, is_written, pages_needed, slot_at, slots_in, written_slots}
@@ -135,11 +136,11 @@ module _ (g : GeometryNumbers) (a : ℕ) (s : Shared) (h : HandState) (r : Runni
       → OnFits g.block (kind_turn (Publish place) g.block a true s h r)
   publish_own place st false one =
       single_fits g.block place written (with_cell slot_ (published (cell_at s slot_)) s)
-      (with_killed (killed_by_publish (cell_at s slot_)) h) (go_to (publishing (place + 1) written) r) one where
+      (with_killed (killed_by (cell_at s slot_)) h) (go_to (publishing (place + 1) written) r) one where
         slot_ : ℕ
         slot_ = slot_at (written_slots r) place
   publish_own place st true several =
-      publishing_fits g.block t_ (with_killed (killed_by_publish (cell_at s slot_)) h) (go_to (publishing (place + 1) written) r)
+      publishing_fits g.block t_ (with_killed (killed_by (cell_at s slot_)) h) (go_to (publishing (place + 1) written) r)
       (passed_on g.block s t_ h r same st.fits.0) (place + 1) written
       (drawn_on g.block s t_ h r same (AllByRecursion (IsStored s r.slots)) (AllByRecursion (IsStored t_ r.slots))
       (stored_on g.block s t_ h r same) st.fits.0 st.fits.1) where

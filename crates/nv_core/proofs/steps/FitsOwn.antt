@@ -12,7 +12,7 @@ use Rattle.nv_calls.proofs.Keeps.{keeps_to_its}
 use Rattle.nv_calls.specs.AllCalls.{blocks_wanted, early, effect, looked, plan, refusal}
 use Rattle.nv_calls.specs.Locked.{KeepsToIts, handles, made_by}
 use Rattle.nv_calls.specs.Plain.{Change, node_in}
-use Rattle.nv_calls.specs.Plan.{plan_blocks}
+use Rattle.nv_calls.specs.Plan.{plan_blocks, runs_of}
 use Rattle.nv_calls.specs.Refusals.{Check as Tests, passes}
 use Rattle.nv_calls.specs.Slots.{IsFree, Slot, items_for, place_in}
 use Rattle.nv_calls.specs.declared.call.Call.{Call}
@@ -25,9 +25,9 @@ use Rattle.nv_entry.specs.Sound.{blocks_of}
 use Rattle.nv_entry.specs.declared.item.Entry.{Entry}
 use Rattle.nv_core.specs.machine.Hands.{makes_inode}
 use Rattle.nv_core.specs.machine.Kinds.{check_ending, entries_for, ready_turn, with_entries}
-use Rattle.nv_calls.proofs.FillPages.{filled_numbers}
+use Rattle.nv_calls.proofs.FillPages.{filled_numbers, length_filled}
 use Rattle.nv_calls.specs.FillPages.{filled, fresh_pages}
-use Rattle.nv_core.specs.machine.Reads.{copies, has_last_page, if_number, is_written, nodes, plan_by, runs_of, slots_of, written_slots}
+use Rattle.nv_core.specs.machine.Reads.{copies, has_last_page, if_number, is_written, nodes, plan_by, slots_of, written_slots}
 use Rattle.nv_core.specs.machine.Sequence.{Beginning, Looks, Locks, Numbers, Visits, beginning}
 use Rattle.nv_core.specs.machine.Settled.{node_by, settled, settled_nodes, settled_tail}
 use Rattle.nv_core.specs.machine.Step.{ending_at, is_numbered, made_in, same_looked}
@@ -36,7 +36,7 @@ use Rattle.nv_core.proofs.steps.CellSteps.{items_in}
 use Rattle.nv_core.proofs.steps.Effects.{take_none}
 use Rattle.nv_core.proofs.steps.FitsCalls.{looked_is, plan_all}
 use Rattle.nv_core.proofs.steps.FitsCells.{IsIn, IsWider, entries_stored}
-use Rattle.nv_core.proofs.steps.FitsRuns.{filled_length, present_in, taken_of}
+use Rattle.nv_core.proofs.steps.FitsRuns.{present_in, taken_of}
 use Rattle.nv_core.proofs.steps.FitsStages.{IsDrawn, IsLocked, IsPassed, IsStored, Passed, SameFor, SameStored, View, drawn_still, passed_still, view, wanted_in, wanted_still}
 use Rattle.nv_core.proofs.steps.FitsTurns.{OnFits, grown_fits}
 use Rattle.nv_core.proofs.steps.Lists.{or_left, or_right, self}
@@ -101,14 +101,14 @@ last_page block s (call.Rename from old to new) = refl
 
 -- ---- what is locked
 
-has_back : (xs ys : List ℕ) (n : ℕ) → has ys n ≡ true → has (xs ++ ys) n ≡ true
+pub has_back : (xs ys : List ℕ) (n : ℕ) → has ys n ≡ true → has (xs ++ ys) n ≡ true
 has_back [] ys n e = e
 has_back (x ∷ xs) ys n e = or_right (x == n) (has (xs ++ ys) n) (has_back xs ys n e)
 
-abbrev inos : List Handle → List ℕ
+abbrev pub inos : List Handle → List ℕ
 inos list = map (λ (h : Handle). h.ino) list
 
-cover_each : (many : ℕ) (locked : List ℕ) (list : List Handle)
+pub cover_each : (many : ℕ) (locked : List ℕ) (list : List Handle)
     → ((n : ℕ) → has (inos list) n ≡ true → n < many → has locked n ≡ true) → AllByRecursion (IsLocked many locked) list
 cover_each many locked [] f = tt
 cover_each many locked (x ∷ list) f = (
@@ -226,7 +226,7 @@ module _ (block : ℕ) (s : Shared) (h : HandState) (r : Running)
       filled = record {
         before = h.blocks;
         is = refl;
-        count = filled_length (fresh_pages block (copies s) r.call) h.blocks ∙ count
+        count = length_filled (fresh_pages block (copies s) r.call) h.blocks ∙ count
             ∙ sym (wanted_still block (view s) (now s) r.call r.looked r.made r.slots (same_then s r.slots logs) p);
         small = small_filled (fresh_pages block (copies s) r.call) h.blocks small;
       };

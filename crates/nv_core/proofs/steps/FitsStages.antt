@@ -23,7 +23,8 @@ use Rattle.nv_core.specs.machine.Reads.{if_number, slots_in, slots_of}
 use Rattle.nv_core.specs.machine.Sequence.{beginning}
 use Rattle.nv_core.specs.machine.Settled.{settled_nodes}
 use Rattle.nv_core.specs.machine.World.{Append, Back, Check, Close, Enter, Give, HandState, Leave, Lock, Look, Next, Number, Open, Publish, Ready, Retire, Running, Shared, TakeBlocks, TakePages, Unlock, Visit, cell_at}
-use Rattle.nv_core.proofs.steps.FitsRuns.{AreFilled, fresh_same, present_in, taken_of}
+use Rattle.nv_calls.specs.Filled.{AreFilled}
+use Rattle.nv_core.proofs.steps.FitsRuns.{fresh_same, present_in, taken_of}
 
 -- ---- what a call reads
 
@@ -74,7 +75,7 @@ agree_on v w locked same [] all = tt
 agree_on v w locked same (handle ∷ list) all = (same.nodes handle all.0, agree_on v w locked same list all.1)
 
 -- the new inode is locked too
-made_locked : (many : ℕ) (locked : List ℕ) (seen : Looked) (new : Handle) (c : Call) → makes_inode (beginning c) ≡ true
+pub made_locked : (many : ℕ) (locked : List ℕ) (seen : Looked) (new : Handle) (c : Call) → makes_inode (beginning c) ≡ true
     → AllByRecursion (IsLocked many locked) (locks seen new c) → IsLocked many locked new
 made_locked many locked seen new (call.Create dir name mode) e all = all.0
 made_locked many locked seen new (call.Mkdir dir name mode) e all = all.0

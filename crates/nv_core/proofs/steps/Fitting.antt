@@ -13,7 +13,7 @@ use Rattle.nv_base.specs.declared.numbers.Handle.{Handle}
 use Rattle.nv_calls.specs.AllCalls.{blocks_wanted, effect, plan, refusal}
 use Rattle.nv_calls.specs.Locked.{KeepsToIts}
 use Rattle.nv_calls.specs.Plain.{Change, same_handle}
-use Rattle.nv_calls.specs.Plan.{plan_blocks}
+use Rattle.nv_calls.specs.Plan.{plan_blocks, run_if, runs_of, stretches, with_number}
 use Rattle.nv_calls.specs.Refusals.{Check as Tests, found, passes}
 use Rattle.nv_calls.specs.Slots.{items_for}
 use Rattle.nv_calls.specs.calls.Rename.{bound_plan, move_plan, own_place, replaced_plan}
@@ -33,7 +33,6 @@ use Rattle.nv_entry.specs.declared.item.Run.{Run}
 use Rattle.nv_entry.specs.declared.node.NodeCopy.{NodeCopy}
 use Rattle.nv_core.specs.machine.Hands.{FitsFile, planned_blocks}
 use Rattle.nv_core.specs.machine.Kinds.{check_ending}
-use Rattle.nv_core.specs.machine.Reads.{run_if, runs_of, stretches, with_number}
 
 -- ---- runs have no more blocks than were taken
 

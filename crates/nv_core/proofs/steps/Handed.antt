@@ -10,7 +10,7 @@ use Rattle.nv_calls.specs.declared.call.Call.{Call}
 use Rattle.nv_calls.specs.declared.call.Call.TheVariants as call
 use Rattle.nv_calls.specs.declared.looked.Looked.{Looked}
 use Rattle.nv_cell.specs.declared.killed.KilledPart.{KilledPart}
-use Rattle.nv_core.specs.machine.Hands.{AreGiven, AreLists, FitsFile, HandOf, HasFitting, HasTakenNone, IsOvertaken, makes_inode}
+use Rattle.nv_core.specs.machine.Hands.{AreGiven, AreLists, FitsFile, HandOf, HasFitting, HasTakenNone, BeginsAnew, makes_inode}
 use Rattle.nv_core.specs.machine.Kinds.{again_turn, blocks_in, check_turn, end_turn, given, grown, lock_turn, look_turn, number_turn, over_turn, rest_turn, wants_blocks, wants_pages}
 use Rattle.nv_core.specs.machine.Reads.{home_from, slots_of}
 use Rattle.nv_core.specs.machine.Sequence.{beginning, directories, locking, looking, nothing_looked}
@@ -67,13 +67,13 @@ rest_hand g from s t None None h r goes is same few given killed =
     let found = subst (λ (o : Option ℕ). IsFound g g.cpus (blocks_in h) o) is (found_home g from s (blocks_in h) goes.lists few given) in
     is_empty h (given_all_home g (blocks_in h) goes.some goes.below found) same killed
 
-again_hand : (g : GeometryNumbers) (rounds : ℕ) (s : Shared) (h : HandState) (r : Running) → IsOvertaken h r
+again_hand : (g : GeometryNumbers) (rounds : ℕ) (s : Shared) (h : HandState) (r : Running) → BeginsAnew h r
     → OnHand g (again_turn rounds s h r)
 again_hand g zero s h r o = o.empty
 again_hand g (suc n) s h r o = ((o.empty, o.looks), λ e. refl)
 
 pub over_hand : (g : GeometryNumbers) (e : Ending) (s : Shared) (h : HandState) (r : Running) → GoesHome g s h → h.killed ≡ []
-    → (e ≡ Overtaken → IsOvertaken h r) → OnHand g (over_turn e s h r)
+    → (e ≡ Overtaken → BeginsAnew h r) → OnHand g (over_turn e s h r)
 over_hand g Answers s h r goes killed o =
     rest_hand g 0 s s _ h.ino h r goes refl refl (omega arith) (given_none g (blocks_in h) goes.some) killed
 over_hand g (Refuses fault) s h r goes killed o =
@@ -81,7 +81,7 @@ over_hand g (Refuses fault) s h r goes killed o =
 over_hand g Overtaken s h r goes killed o = again_hand g r.rounds s h r (o refl)
 
 pub end_hand : (g : GeometryNumbers) (slots : List ℕ) (e : Ending) (s : Shared) (h : HandState) (r : Running) → GoesHome g s h
-    → h.killed ≡ [] → (e ≡ Overtaken → IsOvertaken h r) → OnHand g (end_turn slots e s h r)
+    → h.killed ≡ [] → (e ≡ Overtaken → BeginsAnew h r) → OnHand g (end_turn slots e s h r)
 end_hand g [] e s h r goes killed o =
     over_hand g e s h (record r { ending = e }) goes killed (λ is. let was = o is in record { empty = was.empty; looks = was.looks })
 end_hand g (slot ∷ slots) e s h r goes killed o =
@@ -172,7 +172,7 @@ wants_blocks_hand g zero block s h r fits going =
 wants_blocks_hand g (suc n) block s h r fits going = (record { killed = fits.killed; fits = fits.fits }, λ e. going)
 
 pub check_hand : (g : GeometryNumbers) (e : Option Ending) (granted : Bool) (wanted block : ℕ) (s : Shared) (h : HandState) (r : Running)
-    → GoesHome g s h → h.killed ≡ [] → (e ≡ Some Overtaken → IsOvertaken h r)
+    → GoesHome g s h → h.killed ≡ [] → (e ≡ Some Overtaken → BeginsAnew h r)
     → (e ≡ None → HasFitting g.block h r (length h.blocks + wanted)) → r.ending ≡ Answers
     → OnHand g (check_turn e granted wanted block s h r)
 check_hand g (Some e) granted wanted block s h r goes killed o fits going =

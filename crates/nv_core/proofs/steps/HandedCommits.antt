@@ -17,7 +17,7 @@ use Rattle.nv_cell.specs.Cell.{CellState}
 use Rattle.nv_entry.specs.Blocks.{item_blocks}
 use Rattle.nv_entry.specs.declared.item.Entry.{Entry}
 use Rattle.nv_entry.specs.declared.item.Item.{Item}
-use Rattle.nv_core.specs.machine.Hands.{AreGiven, FitsFile, HandAt, HandOf, HasFitting, HasPlanned, HasTakenNone, IsOvertaken, is_going, makes_inode, planned_blocks}
+use Rattle.nv_core.specs.machine.Hands.{AreGiven, FitsFile, HandAt, HandOf, HasFitting, HasPlanned, HasTakenNone, BeginsAnew, is_going, makes_inode, planned_blocks}
 use Rattle.nv_core.specs.machine.Kinds.{asked_list, back_turn, blocks_in, blocks_left, blocks_turn, check_ending, enter_turn, entries_for, first_killed, given, pages_turn, retired_cell, unlocked_turn, visit_turn, with_bytes, with_erased, with_freed}
 use Rattle.nv_calls.proofs.FillPages.{filled_numbers}
 use Rattle.nv_calls.specs.FillPages.{filled, fresh_pages}
@@ -54,7 +54,7 @@ or_true true h = absurd (h refl)
 or_true false h = refl
 
 check_overtaken : (block : ℕ) (s : Shared) (h : HandState) (r : Running) → HasTakenNone h r
-    → ending_at block s h r ≡ Some Overtaken → IsOvertaken h r
+    → ending_at block s h r ≡ Some Overtaken → BeginsAnew h r
 check_overtaken block s h r none is =
     let bound_anew = overtaken_looked (early (copies s) r.call) (same_looked (looked (copies s) r.call) r.looked)
     (refusal block (copies s) r.call) (is_numbered (beginning r.call) h.ino)
@@ -291,7 +291,7 @@ erased_killed ino cell h = go (is_erased cell) where
 -- ---- every kind
 
 unlock_hand : (g : GeometryNumbers) (more : Bool) (place : ℕ) (s : Shared) (h : HandState) (r : Running) → GoesHome g s h
-    → h.killed ≡ [] → (r.ending ≡ Overtaken → IsOvertaken h r) → OnHand g (unlocked_turn more place s h r)
+    → h.killed ≡ [] → (r.ending ≡ Overtaken → BeginsAnew h r) → OnHand g (unlocked_turn more place s h r)
 unlock_hand g true place s h r goes killed o =
     ((killed, λ is. let was = o is in record { empty = was.empty; looks = was.looks }), λ e. absurd (false≢true e))
 unlock_hand g false place s h r goes killed o = over_hand g r.ending s h r goes killed o

@@ -4,12 +4,12 @@ use Rattle.std.specs.Prelude.{◌%◌, Ok, Err}
 use Rattle.nv_alloc.specs.Numbers.{put_by}
 use Rattle.nv_book.specs.Book.{after_enter, with_journal}
 use Rattle.nv_calls.specs.Refusals.{Check as Tests}
-use Rattle.nv_calls.specs.Retiring.{erased}
+use Rattle.nv_calls.specs.Retiring.{erased, killed_by}
 use Rattle.nv_calls.specs.declared.answer.Answer.{Answer}
 use Rattle.nv_calls.specs.declared.looked.Looked.{Looked}
 use Rattle.nv_cell.specs.Cell.{published}
 use Rattle.nv_cell.specs.declared.killed.KilledPart.{KilledPart}
-use Rattle.nv_core.specs.machine.Kinds.{again_turn, asked_list, back_turn, blocks_left, blocks_turn, check_turn, end_turn, enter_turn, entries_for, first_killed, given, grown, killed_by_publish, less_list, lock_turn, look_turn, number_turn, old_tails, over_turn, pages_turn, rest_turn, retired_book, retired_cell, unlocked_turn, visit_turn, wants_blocks, wants_pages, with_bytes, with_entries, with_erased, with_freed, with_given, with_killed, with_pages}
+use Rattle.nv_core.specs.machine.Kinds.{again_turn, asked_list, back_turn, blocks_left, blocks_turn, check_turn, end_turn, enter_turn, entries_for, first_killed, given, grown, less_list, lock_turn, look_turn, number_turn, old_tails, over_turn, pages_turn, rest_turn, retired_book, retired_cell, unlocked_turn, visit_turn, wants_blocks, wants_pages, with_bytes, with_entries, with_erased, with_freed, with_given, with_killed, with_pages}
 use Rattle.nv_core.specs.machine.Reads.{pages_needed, slot_at, written_slots}
 use Rattle.nv_core.specs.machine.Step.{ending_at, kind_turn, with_made}
 use Rattle.nv_core.specs.machine.World.{Answers, Append, Back, Check, Close, Ending, Ends, Enter, Give, HandState, Leave, Lock, Look, Moves, Next, Number, Open, Overtaken, Publish, Ready, Refuses, Retire, Running, Shared, TakeBlocks, TakePages, Turn, Unlock, Visit, Waits, cell_at, list_at, with_book, with_cell, with_numbers, with_owner}
@@ -61,7 +61,7 @@ deed Open block actor s h r =
     both (with_book (with_journal (actor % length s.lists) (old_tails s (written_slots r)) s.book) s) h
 deed (Publish place) block actor s h r =
     both (with_cell (slot_at (written_slots r) place) (published (cell_at s (slot_at (written_slots r) place))) s)
-    (with_killed (killed_by_publish (cell_at s (slot_at (written_slots r) place))) h)
+    (with_killed (killed_by (cell_at s (slot_at (written_slots r) place))) h)
 deed Close block actor s h r = both (with_book (with_journal (actor % length s.lists) [] s.book) s) (record h { ino = None })
 deed (Retire place) block actor s h r = retire_deed (slot_at (written_slots r) place) (first_killed h.killed) s h r
 deed Leave block actor s h r = both (record s { holder = None }) h
@@ -95,7 +95,7 @@ over_keeps P Answers s h r p = rest_keeps P _ h.ino s h r p
 over_keeps P (Refuses fault) s h r p = rest_keeps P _ h.ino s h r p
 over_keeps P Overtaken s h r p = again_keeps P r.rounds s h r p
 
-end_keeps : (P : Shared → HandState → Type 0) (slots : List ℕ) (e : Ending) (s : Shared) (h : HandState) (r : Running) → P s h
+pub end_keeps : (P : Shared → HandState → Type 0) (slots : List ℕ) (e : Ending) (s : Shared) (h : HandState) (r : Running) → P s h
     → AfterTurn P (end_turn slots e s h r)
 end_keeps P [] e s h r p = over_keeps P e s h (record r { ending = e }) p
 end_keeps P (slot ∷ slots) e s h r p = p
@@ -115,7 +115,7 @@ wants_keep : (P : Shared → HandState → Type 0) (n block : ℕ) (s : Shared) 
 wants_keep P zero block s h r p = pages_keep P _ s h r p
 wants_keep P (suc n) block s h r p = p
 
-number_keeps : (P : Shared → HandState → Type 0) (numbers : List ℕ) (s : Shared) (h : HandState) (r : Running)
+pub number_keeps : (P : Shared → HandState → Type 0) (numbers : List ℕ) (s : Shared) (h : HandState) (r : Running)
     → P (number_deed numbers s h).shared (number_deed numbers s h).hand → AfterTurn P (number_turn numbers s h r)
 number_keeps P [] s h r p = p
 number_keeps P (ino ∷ numbers) s h r p = p
@@ -136,13 +136,13 @@ check_keeps : (P : Shared → HandState → Type 0) (e : Option Ending) (granted
 check_keeps P (Some e) granted wanted block s h r p = end_keeps P r.slots e s h r p
 check_keeps P None granted wanted block s h r p = grown_keeps P granted _ s h r p (wants_keep P wanted block s h r p)
 
-blocks_keep : (P : Shared → HandState → Type 0) (n : ℕ) (more : Bool) (asked block : ℕ) (s : Shared) (h : HandState) (r : Running)
+pub blocks_keep : (P : Shared → HandState → Type 0) (n : ℕ) (more : Bool) (asked block : ℕ) (s : Shared) (h : HandState) (r : Running)
     → P s h → AfterTurn P (blocks_turn n more asked block s h r)
 blocks_keep P zero more asked block s h r p = pages_keep P _ s h r p
 blocks_keep P (suc n) true asked block s h r p = p
 blocks_keep P (suc n) false asked block s h r p = end_keeps P r.slots _ s h r p
 
-taken_keeps : (P : Shared → HandState → Type 0) (n : ℕ) (more : Bool) (asked : ℕ) (s : Shared) (h : HandState) (r : Running)
+pub taken_keeps : (P : Shared → HandState → Type 0) (n : ℕ) (more : Bool) (asked : ℕ) (s : Shared) (h : HandState) (r : Running)
     → P s h → AfterTurn P (pages_turn n more asked s h r)
 taken_keeps P zero more asked s h r p = p
 taken_keeps P (suc n) true asked s h r p = p

@@ -10,7 +10,7 @@ use Rattle.nv_calls.specs.Refusals.{found}
 use Rattle.nv_calls.specs.calls.Rename.{bound_plan, own_place, replaced_plan}
 use Rattle.nv_calls.specs.calls.Unlink.{leave_plan}
 use Rattle.nv_calls.specs.Plain.{same_handle}
-use Rattle.nv_calls.specs.Plan.{plan_blocks}
+use Rattle.nv_calls.specs.Plan.{plan_blocks, run_if, runs_of, stretches, with_number}
 use Rattle.nv_calls.specs.declared.call.Call.{Call}
 use Rattle.nv_calls.specs.declared.call.Call.TheVariants as call
 use Rattle.nv_calls.specs.declared.plan.Planned.{Planned}
@@ -23,7 +23,6 @@ use Rattle.nv_entry.specs.declared.item.Item.TheVariants.{SetSize}
 use Rattle.nv_entry.specs.declared.item.Run.{Run}
 use Rattle.nv_entry.specs.declared.node.NodeCopy.{NodeCopy}
 use Rattle.nv_core.specs.machine.Kept.{IsInFile, IsPlanFor}
-use Rattle.nv_core.specs.machine.Reads.{run_if, runs_of, stretches, with_number}
 
 -- ---- runs of blocks
 

@@ -2,13 +2,12 @@
 use Rattle.std.proofs.Common.{◌≡◌, ℕ, ◌<◌, ◌==◌, ◌∙◌, Bool, true, false, cond, List, [], ◌∷◌, Option, Some, None, ap, length, nat_lt, refl, subst, sym, take}
 use Rattle.std.proofs.Math.Seq.{take-length}
 use Rattle.std.proofs.lemmas.Bool.{lt-ltb}
-use Rattle.std.specs.Prelude.{Result, Ok, Err, ◌||◌, not}
+use Rattle.std.specs.Prelude.{Ok, Err, ◌||◌, not}
 use Rattle.nv_base.specs.declared.fault.Fault.{Fault}
 use Rattle.nv_base.specs.declared.fault.Fault.TheVariants.{OutOfMemory}
 use Rattle.nv_base.specs.declared.numbers.Handle.{Handle}
 use Rattle.nv_calls.specs.AllCalls.{answer, refusal}
 use Rattle.nv_calls.specs.Locked.{SameCall, handles}
-use Rattle.nv_calls.specs.Plain.{node_in}
 use Rattle.nv_calls.specs.Refusals.{Check as Tests}
 use Rattle.nv_calls.specs.declared.answer.Answer.{Answer}
 use Rattle.nv_calls.specs.declared.call.Call.{Call}
@@ -22,8 +21,8 @@ use Rattle.nv_core.specs.machine.Kinds.{end_turn, grown, rest_turn, visit_turn}
 use Rattle.nv_core.specs.machine.Reads.{copies, nodes}
 use Rattle.nv_core.specs.machine.Sequence.{Visits, beginning, nothing_looked}
 use Rattle.nv_core.specs.machine.Settled.{node_by, settled, settled_nodes}
-use Rattle.nv_core.specs.machine.Step.{go_step, handle_at, step, turn, turned, visit_grows}
-use Rattle.nv_core.specs.machine.World.{Done, Ends, Go, HandState, Moved, Moves, Next, Refused, Refuses, Reply, Running, Shared, Started, Turn, Visit, Waiting, Waits, World, actor_at, cell_at, owner_at}
+use Rattle.nv_core.specs.machine.Step.{handle_at, step, turn, turned, visit_grows}
+use Rattle.nv_core.specs.machine.World.{Done, Ends, Go, HandState, Next, Refuses, Reply, Running, Shared, Turn, Visit, World, actor_at, cell_at, owner_at}
 use Rattle.nv_core.proofs.steps.Events.{go_is_turn}
 
 -- ---- a slot that nobody holds

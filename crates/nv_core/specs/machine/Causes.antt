@@ -1,31 +1,32 @@
 -- For what a step refuses its call.
-use Rattle.std.specs.Prelude.{◌≡◌, ℕ, ◌+◌, ◌<◌, ◌≤◌, ◌⊎◌, Bool, true, false, [], length, None, Result, Ok, Err}
+use Rattle.std.specs.Prelude.{◌≡◌, ℕ, ◌+◌, ◌<◌, ◌≤◌, ◌⊎◌, Bool, true, false, [], length, Option, None, Result, Ok, Err}
 use Rattle.nv_base.specs.declared.fault.Fault.{Fault}
 use Rattle.nv_base.specs.declared.fault.Fault.TheVariants.{CommitLimit, Contended, NoInode, NoSpace, OutOfMemory}
 use Rattle.nv_base.specs.declared.limits.TheConstants.{NUMBER}
+use Rattle.nv_base.specs.declared.numbers.Handle.{Handle}
+use Rattle.nv_entry.specs.declared.node.NodeCopy.{NodeCopy}
 use Rattle.nv_calls.specs.AllCalls.{early, look_refusal, looked, refusal}
 use Rattle.nv_calls.specs.Refusals.{passes}
 use Rattle.nv_calls.specs.declared.answer.Answer.{Answer}
 use Rattle.nv_core.specs.machine.Answered.{IsLast}
 use Rattle.nv_core.specs.machine.Kinds.{asked_list}
-use Rattle.nv_core.specs.machine.Reads.{copies}
 use Rattle.nv_core.specs.machine.Sequence.{beginning}
 use Rattle.nv_core.specs.machine.Step.{is_numbered, same_looked, visit_grows}
 use Rattle.nv_core.specs.machine.World.{Answers, Check, Ending, Ends, Enter, HandState, Look, Moves, Next, Overtaken, Ready, Refuses, Running, Shared, TakeBlocks, TakePages, Turn, Visit, Waits, list_at}
 
 -- ---- causes
 
--- the call is one that the plain world refuses
-abbrev pub IsRefusal : ℕ → Shared → Running → Fault → Type 0
-IsRefusal block s r fault = refusal block (copies s) r.call ≡ Err fault
+-- the call is one that the plain world refuses, over these nodes
+abbrev pub IsRefusal : ℕ → (Handle → Option NodeCopy) → Running → Fault → Type 0
+IsRefusal block nodes r fault = refusal block nodes r.call ≡ Err fault
 
 -- memory that the step asks for is not granted
 abbrev pub IsDenied : Bool → Fault → Type 0
 IsDenied granted fault = (fault ≡ OutOfMemory) × (granted ≡ false)
 
 -- the plain world does not refuse it
-abbrev pub Passes : ℕ → Shared → Running → Type 0
-Passes block s r = refusal block (copies s) r.call ≡ passes
+abbrev pub Passes : ℕ → (Handle → Option NodeCopy) → Running → Type 0
+Passes block nodes r = refusal block nodes r.call ≡ passes
 
 -- the call makes an inode, and has no number: its number step found none free
 abbrev pub IsWithoutNumber : HandState → Running → Fault → Type 0
@@ -42,35 +43,35 @@ abbrev pub IsAtLimit : Shared → Fault → Type 0
 IsAtLimit s fault = (fault ≡ CommitLimit) × (NUMBER ≤ s.book.commit)
 
 -- the tests before the names pass, and a name is bound anew since the looks
-abbrev pub IsOvertaken : Shared → Running → Type 0
-IsOvertaken s r = (early (copies s) r.call ≡ passes) × (same_looked (looked (copies s) r.call) r.looked ≡ false)
+abbrev pub IsOvertaken : (Handle → Option NodeCopy) → Running → Type 0
+IsOvertaken nodes r = (early nodes r.call ≡ passes) × (same_looked (looked nodes r.call) r.looked ≡ false)
 
 -- that is so, nothing is locked, and no round of looks is left
-abbrev pub IsLastRound : Shared → Running → Fault → Type 0
-IsLastRound s r fault = (fault ≡ Contended) × IsOvertaken s r × (r.slots ≡ []) × (r.rounds ≡ 0)
+abbrev pub IsLastRound : (Handle → Option NodeCopy) → Running → Fault → Type 0
+IsLastRound nodes r fault = (fault ≡ Contended) × IsOvertaken nodes r × (r.slots ≡ []) × (r.rounds ≡ 0)
 
 -- no round of looks is left
 abbrev pub IsRoundless : Running → Fault → Type 0
 IsRoundless r fault = (fault ≡ Contended) × (r.rounds ≡ 0)
 
--- for what each step refuses its call; the others refuse nothing
-abbrev pub IsCause : Next → ℕ → ℕ → Bool → Shared → HandState → Running → Fault → Type 0
-IsCause (Look place) block actor granted s h r fault = look_refusal (copies s) r.call ≡ Err fault
-IsCause Check block actor granted s h r fault =
-    IsRefusal block s r fault ⊎ (IsWithoutNumber h r fault × Passes block s r) ⊎ (IsDenied granted fault × Passes block s r)
-    ⊎ IsLastRound s r fault
-IsCause (TakeBlocks asked) block actor granted s h r fault = IsShort s (asked_list (length s.lists) actor asked) asked r fault
-IsCause (TakePages asked) block actor granted s h r fault = IsShort s (asked_list (length s.lists) actor asked) asked r fault
-IsCause Ready block actor granted s h r fault = IsDenied granted fault
-IsCause Enter block actor granted s h r fault = IsAtLimit s fault ⊎ IsDenied granted fault
-IsCause Visit block actor granted s h r fault =
-    IsRefusal block s r fault ⊎ (IsDenied granted fault × (visit_grows r.call ≡ true) × Passes block s r)
-IsCause other block actor granted s h r fault = ⊥
+-- for what each step refuses its call, where it reads these nodes; the others refuse nothing
+abbrev pub IsCause : Next → ℕ → ℕ → Bool → (Handle → Option NodeCopy) → Shared → HandState → Running → Fault → Type 0
+IsCause (Look place) block actor granted nodes s h r fault = look_refusal nodes r.call ≡ Err fault
+IsCause Check block actor granted nodes s h r fault =
+    IsRefusal block nodes r fault ⊎ (IsWithoutNumber h r fault × Passes block nodes r) ⊎ (IsDenied granted fault × Passes block nodes r)
+    ⊎ IsLastRound nodes r fault
+IsCause (TakeBlocks asked) block actor granted nodes s h r fault = IsShort s (asked_list (length s.lists) actor asked) asked r fault
+IsCause (TakePages asked) block actor granted nodes s h r fault = IsShort s (asked_list (length s.lists) actor asked) asked r fault
+IsCause Ready block actor granted nodes s h r fault = IsDenied granted fault
+IsCause Enter block actor granted nodes s h r fault = IsAtLimit s fault ⊎ IsDenied granted fault
+IsCause Visit block actor granted nodes s h r fault =
+    IsRefusal block nodes r fault ⊎ (IsDenied granted fault × (visit_grows r.call ≡ true) × Passes block nodes r)
+IsCause other block actor granted nodes s h r fault = ⊥
 
 -- a call may be overtaken at its check alone
-abbrev pub MayBeOvertaken : Next → Shared → Running → Type 0
-MayBeOvertaken Check s r = IsOvertaken s r
-MayBeOvertaken other s r = ⊥
+abbrev pub MayBeOvertaken : Next → (Handle → Option NodeCopy) → Running → Type 0
+MayBeOvertaken Check nodes r = IsOvertaken nodes r
+MayBeOvertaken other nodes r = ⊥
 
 -- ---- a step that refuses its call
 

@@ -110,7 +110,7 @@ abbrev pub AreGiven : GeometryNumbers → ℕ → List BlockValue → Type 0
 AreGiven g cpu blocks = AllByRecursion (λ (b : BlockValue). home_start g.blocks g.cpus cpu ≤ b.number) blocks
 
 -- a call that begins anew has an empty hand
-pub record IsOvertaken (h : HandState) (r : Running) : Type 0 where
+pub record BeginsAnew (h : HandState) (r : Running) : Type 0 where
   pub empty : h ≡ empty_hand
   pub looks : makes_inode (beginning r.call) ≡ false
 
@@ -129,7 +129,7 @@ HandAt g (Publish place) h r = length h.killed ≡ place
 HandAt g Close h r = length h.killed ≡ length (written_slots r)
 HandAt g (Retire place) h r = length h.killed + place ≡ length (written_slots r)
 HandAt g Leave h r = h.killed ≡ []
-HandAt g (Unlock place) h r = (h.killed ≡ []) × (r.ending ≡ Overtaken → IsOvertaken h r)
+HandAt g (Unlock place) h r = (h.killed ≡ []) × (r.ending ≡ Overtaken → BeginsAnew h r)
 HandAt g (Give cpu) h r = (h.killed ≡ []) × (cpu < g.cpus) × AreGiven g cpu (blocks_in h)
 HandAt g Back h r = (h.killed ≡ []) × (blocks_in h ≡ [])
 HandAt g Visit h r = h ≡ empty_hand

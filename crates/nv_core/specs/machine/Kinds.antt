@@ -1,6 +1,5 @@
 -- The steps, one function a kind. What decides a step is an argument.
 use Rattle.std.specs.Prelude.{ℕ, zero, suc, ◌+◌, ◌-◌, ◌%◌, Bool, true, false, if◌then◌else◌, nat_lt, List, [], ◌∷◌, ◌++◌, drop, length, map, take, Option, Some, None, Result, Ok, Err}
-use Rattle.std.specs.List.{flat_map}
 use Rattle.nv_calls.specs.declared.looked.Looked.{Looked}
 use Rattle.nv_alloc.specs.Block.{BlockValue}
 use Rattle.nv_alloc.specs.Giving.{after_giving, kept_of}
@@ -12,13 +11,12 @@ use Rattle.nv_book.specs.Book.{BookState, after_enter, with_journal}
 use Rattle.nv_calls.specs.AllCalls.{answer}
 use Rattle.nv_calls.specs.Plain.{Change}
 use Rattle.nv_calls.specs.Refusals.{Check as Tests}
-use Rattle.nv_calls.specs.Retiring.{erased, freed_by, is_erased, number_back, retired, with_records}
+use Rattle.nv_calls.specs.Retiring.{erased, freed_by, is_erased, killed_by, number_back, retired, with_records}
 use Rattle.nv_calls.specs.Slots.{entries_of, items_for, place_in}
 use Rattle.nv_calls.specs.declared.answer.Answer.{Answer}
 use Rattle.nv_entry.specs.Blocks.{item_blocks}
 use Rattle.nv_cell.specs.Append.{appended, blocks_for}
-use Rattle.nv_cell.specs.Cell.{CellState, killed_of, published}
-use Rattle.nv_cell.specs.Numbers.{killed_part}
+use Rattle.nv_cell.specs.Cell.{CellState, published}
 use Rattle.nv_cell.specs.declared.killed.KilledPart.{KilledPart}
 use Rattle.nv_entry.specs.declared.item.Entry.{Entry}
 use Rattle.nv_epoch.specs.SnapList.{ids}
@@ -218,19 +216,12 @@ close_turn cpu s h r = go_on Close (with_book (with_journal cpu [] s.book) s) (r
 
 -- ---- publish: one inode
 
-abbrev pub if_part : Option KilledPart → List KilledPart
-if_part None = []
-if_part (Some part) = part ∷ []
-
-abbrev pub killed_by_publish : CellState → List KilledPart
-killed_by_publish cell = flat_map (λ n. if_part (killed_part cell.chain.entries n)) (killed_of cell)
-
 abbrev pub with_killed : List KilledPart → HandState → HandState
 with_killed parts h = record h { killed = h.killed ++ parts ∷ [] }
 
 abbrev pub publish_turn : ℕ → ℕ → Shared → HandState → Running → Turn
 publish_turn ino place s h r =
-    go_on (Publish place) (with_cell ino (published (cell_at s ino)) s) (with_killed (killed_by_publish (cell_at s ino)) h) r
+    go_on (Publish place) (with_cell ino (published (cell_at s ino)) s) (with_killed (killed_by (cell_at s ino)) h) r
 
 -- ---- retire: the killed parts of one inode, in order
 

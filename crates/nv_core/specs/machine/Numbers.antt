@@ -44,13 +44,13 @@ abbrev pub IsEachOnce : ℕ → List ℕ → Type 0
 IsEachOnce many numbers = (n : ℕ) → times n numbers ≡ (if nat_lt n many then 1 else 0)
 
 -- AN IDLE ACTOR has an empty hand and no lock
-pub record HasNothing (w : World) (actor : ℕ) : Type 0 where
+pub record HoldsNothing (w : World) (actor : ℕ) : Type 0 where
   pub hand : (actor_at w actor).hand ≡ empty_hand
   pub locks : (ino : ℕ) → is_owner actor (owner_at w.shared ino) ≡ false
   pub commit_lock : is_owner actor w.shared.holder ≡ false
 
 abbrev pub IdleHaveNothing : World → Type 0
-IdleHaveNothing w = (actor : ℕ) → (actor_at w actor).running ≡ None → HasNothing w actor
+IdleHaveNothing w = (actor : ℕ) → (actor_at w actor).running ≡ None → HoldsNothing w actor
 
 -- ---- from scratch
 

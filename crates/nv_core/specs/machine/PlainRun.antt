@@ -1,8 +1,11 @@
 -- The plain world beside the run: what each event does to it.
 use Rattle.std.specs.Prelude.{ℕ, ◌+◌, Bool, true, false, if◌then◌else◌, nat_lt, List, [], ◌∷◌, length, Option, Some, None}
+use Rattle.nv_base.specs.declared.node.Kind.TheVariants.{Dir}
 use Rattle.nv_base.specs.declared.numbers.Handle.{Handle}
 use Rattle.nv_calls.specs.AllCalls.{effect}
-use Rattle.nv_calls.specs.Plain.{PlainNode, node_in, nodes_after}
+use Rattle.nv_calls.specs.Plain.{PlainNode, node_in, nodes_after, same_handle}
+use Rattle.nv_entry.specs.Sound.{empty_node}
+use Rattle.nv_entry.specs.Tree.{root}
 use Rattle.nv_core.specs.machine.Locks.{commits_at}
 use Rattle.nv_core.specs.machine.Reads.{written_slots}
 use Rattle.nv_core.specs.machine.Settled.{settled_nodes}
@@ -13,6 +16,13 @@ use Rattle.nv_core.specs.machine.World.{Close, Enter, Event, Go, Moves, Next, Pu
 pub record Plain : Type 0 where
   pub nodes : Handle → Option PlainNode
   pub commit : ℕ
+
+-- the plain world at first: the root, an empty directory of mode 493, and nothing else; no commit yet
+abbrev pub root_alone : PlainNode
+root_alone = record { node = empty_node Dir 493; changed = 0 }
+
+abbrev pub new_plain : Plain
+new_plain = record { nodes = λ handle. if same_handle handle root then Some root_alone else None; commit = 0 }
 
 -- what a step does there: nothing; it fixes the number of a commit; or the commit has its effect
 pub data Deed : Type 0 where

@@ -1,8 +1,6 @@
 -- What a call reads: nodes by the cells that hold them, the slots that it locks, its plan, and how much it takes.
-use Rattle.std.specs.Prelude.{◌≡◌, ℕ, ◌+◌, ◌^◌, ◌/◌, ◌==◌, ◌++◌, if◌then◌else◌, Bool, true, false, is_some, nat_lt, List, [], ◌∷◌, filter, length, map, Option, Some, None, slice_index_or}
-use Rattle.std.proofs.Common.{refl}
-use Rattle.std.proofs.lemmas.Bool.{ltb-true}
-use Rattle.std.specs.List.{flat_map, list_any, sum_by}
+use Rattle.std.specs.Prelude.{ℕ, ◌+◌, ◌/◌, ◌==◌, ◌++◌, if◌then◌else◌, Bool, false, is_some, nat_lt, List, [], ◌∷◌, filter, length, map, Option, Some, None, slice_index_or}
+use Rattle.std.specs.List.{list_any, sum_by}
 use Rattle.nv_calls.specs.Locked.{handles}
 use Rattle.nv_calls.specs.declared.looked.Looked.{Looked}
 use Rattle.nv_alloc.specs.Block.{BlockValue, numbers_of}
@@ -11,13 +9,13 @@ use Rattle.nv_base.specs.declared.numbers.Handle.{Handle}
 use Rattle.nv_calls.specs.AllCalls.{plan}
 use Rattle.nv_calls.specs.declared.taken.Taken.{Taken}
 use Rattle.nv_calls.specs.Plain.{PlainNode, node_in, stamped}
+use Rattle.nv_calls.specs.Plan.{runs_of}
 use Rattle.nv_calls.specs.Slots.{items_for, last_commit}
 use Rattle.nv_calls.specs.declared.call.Call.{Call}
 use Rattle.nv_calls.specs.declared.call.Call.TheVariants as call
 use Rattle.nv_calls.specs.declared.plan.Planned.{Planned}
 use Rattle.nv_cell.specs.Cell.{CellState, log_of}
 use Rattle.nv_entry.specs.Node.{block_now, node_now}
-use Rattle.nv_entry.specs.declared.item.Run.{Run}
 use Rattle.nv_entry.specs.declared.node.NodeCopy.{NodeCopy}
 use Rattle.nv_log.specs.Chain.{pages_for}
 use Rattle.nv_core.specs.machine.World.{HandState, Running, Shared, cell_at}
@@ -74,24 +72,6 @@ abbrev pub slot_at : List ℕ → ℕ → ℕ
 slot_at slots place = slice_index_or slots place 0
 
 -- ---- the plan
-
--- maximal runs of consecutive numbers, each by its first and how many they are
-abbrev pub with_number : ℕ → List (ℕ × ℕ) → List (ℕ × ℕ)
-with_number n [] = (n, 1) ∷ []
-with_number n (run ∷ runs) = if n + 1 == run.0 then (n, run.1 + 1) ∷ runs else (n, 1) ∷ run ∷ runs
-
-abbrev pub stretches : List ℕ → List (ℕ × ℕ)
-stretches [] = []
-stretches (n ∷ numbers) = with_number n (stretches numbers)
-
--- a run of blocks, whose numbers are below 2 ^ 64
-abbrev pub run_if : (start len : ℕ) (fits : Bool) → nat_lt (start + len) (2 ^ 64) ≡ fits → List Run
-run_if start len true is = record { start = start; len = len; in_range = ltb-true (start + len) (2 ^ 64) is } ∷ []
-run_if start len false is = []
-
--- blocks in the order in which they were taken, as maximal runs
-abbrev pub runs_of : List ℕ → List Run
-runs_of numbers = flat_map (λ (run : ℕ × ℕ). run_if run.0 run.1 (nat_lt (run.0 + run.1) (2 ^ 64)) refl) (stretches numbers)
 
 -- whether the page that a size ends in is present
 abbrev pub has_last_page : ℕ → Shared → Call → Bool

@@ -1,9 +1,13 @@
-//! Laws of the machine of steps, for all worlds and events, each the contract of a function that does nothing.
+//! Laws of the machine of steps: what a step changes and waits for, that calls end, and where each block and each number
+//! stands. Each is the contract of a function that does nothing; [`crate::machine::plain_laws`] has those of nodes and answers.
 
-ghost use Rattle.std.specs.Prelude.{◌≡◌, ◌+◌, ◌<◌, ◌≤◌, ℕ, Bool, List, Some, None, length, ◌++◌, true, Option};
+ghost use Rattle.std.specs.Prelude.{◌≡◌, ◌+◌, ◌<◌, ◌≤◌, ℕ, Bool, List, [], ◌∷◌, Some, None, length, ◌++◌, true, Option, slice_get, slice_index_or, false};
 ghost use Rattle.std.specs.List.{AllByRecursion};
+ghost use Rattle.std.specs.Option.{option_map};
+ghost use Rattle.nv_alloc.specs.Block.{number_of};
 ghost use Rattle.nv_alloc.specs.Numbers.{has};
 ghost use Rattle.nv_base.specs.Limits.{IsWithinLimits};
+ghost use Rattle.nv_base.specs.declared.fault.Fault.{Fault};
 ghost use Rattle.nv_base.specs.declared.fault.Fault.TheVariants.{ActorBusy, ActorIdle, NoActor};
 ghost use Rattle.nv_base.specs.declared.geometry.GeometryNumbers.{GeometryNumbers};
 ghost use Rattle.nv_base.specs.declared.numbers.Handle.{Handle};
@@ -15,28 +19,40 @@ ghost use Rattle.nv_calls.specs.declared.answer.Answer.{Answer};
 ghost use Rattle.nv_calls.specs.declared.call.Call.{Call};
 ghost use Rattle.nv_calls.specs.declared.taken.Taken.{Taken};
 ghost use Rattle.nv_core.specs.machine.Bound.{AreNoStarts, bound_at, most_steps, moves};
+ghost use Rattle.nv_cell.specs.Cell.{log_of};
+ghost use Rattle.nv_entry.specs.Held.{keeps};
+ghost use Rattle.nv_entry.specs.Log.{pairs};
 ghost use Rattle.nv_entry.specs.Sound.{IsSound};
+ghost use Rattle.nv_entry.specs.declared.held.Pair.{Pair};
+ghost use Rattle.nv_entry.specs.Tree.{root};
 ghost use Rattle.nv_core.specs.machine.Answered.{GoesTo, IsFinal, IsToEnd};
 ghost use Rattle.nv_core.specs.machine.Causes.{FindsNone, IsCause, IsRoundless, MayBeOvertaken, RefusesFor};
 ghost use Rattle.nv_core.specs.machine.Effects.{AreSound, HasPlanNow};
+ghost use Rattle.nv_core.specs.machine.EndsDecided.{decided};
+ghost use Rattle.nv_core.specs.machine.Exact.{HasFirst, Leaves, TakesData, TakesLogPages};
 ghost use Rattle.nv_core.specs.machine.FitsNow.{bytes_in, is_checked};
 ghost use Rattle.nv_core.specs.machine.Format.{formatted};
 ghost use Rattle.nv_core.specs.machine.Frame.{IsOneStep, IsStart, lent};
 ghost use Rattle.nv_core.specs.machine.Grown.{AreGrown, fresh_entries};
 ghost use Rattle.nv_core.specs.machine.Kept.{AreBlocksApart, IsKept};
+ghost use Rattle.nv_core.specs.machine.Kinds.{asked_list};
 ghost use Rattle.nv_core.specs.machine.Locks.{AreLocks, HasLent, WaitsFor};
-ghost use Rattle.nv_core.specs.machine.Hands.{AreLists, ArePagesTold};
+ghost use Rattle.nv_core.specs.machine.Held.{block_in_use, free_by_logs, is_in_use, killed_in, retention_at};
+ghost use Rattle.nv_core.specs.machine.Hands.{AreLists, ArePagesTold, makes_inode};
+ghost use Rattle.nv_core.specs.machine.Made.{handles_made, has_handle};
 ghost use Rattle.nv_core.specs.machine.Numbers.{IdleHaveNothing, IsEachOnce, all_blocks, free_from_scratch, free_of};
 ghost use Rattle.nv_core.specs.machine.Order.{IsInOrder};
 ghost use Rattle.nv_core.specs.machine.PoolScan.{pool_from_scratch};
 ghost use Rattle.nv_core.specs.machine.Reached.{IsReached};
-ghost use Rattle.nv_core.specs.machine.PlainRun.{Commits, Plain, deed_of, keeps_nodes, plain_after, plain_of};
+ghost use Rattle.nv_core.specs.machine.PlainRun.{Commits, Plain, deed_of, keeps_nodes, new_plain, plain_after, plain_of};
 ghost use Rattle.nv_core.specs.machine.Reads.{nodes, written_slots};
+ghost use Rattle.nv_core.specs.machine.Refusing.{LeavesBooks};
 ghost use Rattle.nv_core.specs.machine.Rounds.{HasRounds, failed_checks};
 ghost use Rattle.nv_core.specs.machine.Sequence.{Visits, beginning, nothing_looked};
 ghost use Rattle.nv_core.specs.machine.Settled.{settled, settled_nodes};
 ghost use Rattle.nv_core.specs.machine.Step.{after, handle_at, kind_turn, stays, step, turn};
-ghost use Rattle.nv_core.specs.machine.World.{Answers, Done, Ending, Event, Go, HandState, Number, Overtaken, Refused, Running, Shared, Start, Started, Unlock, Visit, Waiting, World, actor_at, cell_at, list_at, owner_at};
+ghost use Rattle.nv_core.specs.machine.Takings.{IsShortInAll, asks_list, no_taking, taking_after, taking_of};
+ghost use Rattle.nv_core.specs.machine.World.{Answers, Done, Ending, Event, Go, HandState, Number, Overtaken, Refused, Running, Shared, Start, Started, TakeBlocks, TakePages, Unlock, Visit, Waiting, World, actor_at, cell_at, list_at, owner_at};
 
 /// A `Go` of an actor whose call runs makes the one step that comes next, and changes only its actor and the
 /// parts that the step is lent. A start changes its actor alone: one without a call has the call now, before its
@@ -55,6 +71,22 @@ pub fn one_step()
     ensures idle { (w : World) (actor : ℕ) (granted : Bool) → actor < length w.actors
         → (actor_at w actor).running ≡ None
         → step w (Go actor granted) ≡ stays (Refused ActorIdle) w }
+{}
+
+/// A number step takes the first number of the pool, if it has one, and a taking from a list its first blocks, as many
+/// as are still wanted or all that it has, behind those of their kind in the hand; nothing else in the hand changes. Pool and
+/// lists are in rising order ([`pool_is_from_scratch`], [`lists_are_sorted`]), so these are the lowest.
+pub fn the_lowest_are_taken()
+    ensures number { (block actor : ℕ) (granted : Bool) (s : Shared) (h : HandState) (r : Running)
+        → h.ino ≡ None → Leaves (HasFirst s) (kind_turn Number block actor granted s h r) }
+    ensures blocks { (asked block actor : ℕ) (granted : Bool) (s : Shared) (h : HandState)
+        (r : Running) → 0 < length s.lists
+        → Leaves (TakesData s (asked_list (length s.lists) actor asked) h r)
+        (kind_turn (TakeBlocks asked) block actor granted s h r) }
+    ensures pages { (asked block actor : ℕ) (granted : Bool) (s : Shared) (h : HandState)
+        (r : Running) → 0 < length s.lists
+        → Leaves (TakesLogPages s (asked_list (length s.lists) actor asked) h r)
+        (kind_turn (TakePages asked) block actor granted s h r) }
 {}
 
 /// From a new world on, whatever events come, each actor holds exactly the locks that its call has taken and not
@@ -116,6 +148,30 @@ pub fn lists_are_from_scratch()
         ≡ free_from_scratch g (after (formatted g) events) cpu }
 {}
 
+/// Each free list is what the logs leave: the numbers of the CPU's home range that no page of a chain has, no page of
+/// a log in use and no hand. In use is a part that no later entry of its log covers, up to the tail (so each of the entries
+/// that a commit has appended and not yet published), and one that is killed: published over, and not yet
+/// retired by the call in whose hand it stands. A cell has the block of each page in use, of the number that its
+/// entry says, and no other. Of the pairs of a log, in order, those are in use that are needed, deferred or killed.
+pub fn lists_are_told_by_logs()
+    ensures lists { (g : GeometryNumbers) (events : List Event) (cpu : ℕ)
+        → IsWithinLimits g → cpu < g.cpus
+        → free_of (list_at (after (formatted g) events).shared cpu)
+        ≡ free_by_logs g (after (formatted g) events) cpu }
+    ensures blocks { (g : GeometryNumbers) (events : List Event) (ino n : ℕ) → IsWithinLimits g
+        → option_map number_of
+        (slice_index_or (cell_at (after (formatted g) events).shared ino).blocks n None)
+        ≡ block_in_use (killed_in (after (formatted g) events) ino)
+        (cell_at (after (formatted g) events).shared ino) n }
+    ensures pairs { (g : GeometryNumbers) (events : List Event) (ino n : ℕ) (pair : Pair)
+        → IsWithinLimits g
+        → slice_get (pairs (cell_at (after (formatted g) events).shared ino).block
+        (log_of (cell_at (after (formatted g) events).shared ino))) n ≡ Some pair
+        → is_in_use (killed_in (after (formatted g) events) ino)
+        (cell_at (after (formatted g) events).shared ino) n
+        ≡ keeps (retention_at (after (formatted g) events) ino) pair }
+{}
+
 /// The pool of inode numbers is what one scan leaves, in rising order: the numbers whose slots have no entry in
 /// their logs and are not of the last generation, and that no hand has.
 pub fn pool_is_from_scratch()
@@ -142,197 +198,4 @@ pub fn idle_hands_are_empty()
 pub fn blocks_are_told()
     ensures { (g : GeometryNumbers) (events : List Event) (ino : ℕ) → IsWithinLimits g
         → ArePagesTold g.block (cell_at (after (formatted g) events).shared ino) }
-{}
-
-/// Only commit points change nodes. Each settled log has the blocks of its pages, but of those that a later
-/// entry covers, and a journal is open only within a commit of several inodes, from a new world on and whatever
-/// events come, where no block has the number of another and a call begins with an empty hand. So every event
-/// but a commit point leaves every settled node as it is: a refused call has changed none, and of several
-/// inodes that are published one after another none is seen before the close.
-pub fn only_commits_change_nodes()
-    ensures new { (g : GeometryNumbers) → IsWithinLimits g → IsKept (formatted g) }
-    ensures stays { (events : List Event) (w : World) → AreLocks w → IsInOrder w → IsKept w
-        → ((before : List Event) → AreBlocksApart (after w before)) → IsKept (after w events) }
-    ensures nodes { (w : World) (e : Event) → AreLocks w → IsInOrder w → IsKept w
-        → AreBlocksApart w → keeps_nodes (deed_of w e) ≡ true → (handle : Handle)
-        → settled_nodes (step w e).world.shared handle ≡ settled_nodes w.shared handle }
-{}
-
-/// The number of the last commit is the plain world's after whatever events: it rises by one where an enter
-/// goes on into its commit, and nowhere else.
-pub fn the_plain_world_counts_commits()
-    ensures { (events : List Event) (w : World) (p : Plain) → w.shared.book.commit ≡ p.commit
-        → (after w events).shared.book.commit ≡ (plain_after w events p).commit }
-{}
-
-/// A call that has begun to append is answered, whatever follows, and one that was refused is answered that
-/// refusal: from there on each of its steps moves it on towards that end, or is its last and replies it. A call whose
-/// step is lent a cell to change is such a call, so that one which ends refused has changed no log
-/// ([`one_step`]) and made no commit. Of calls that commit no node tells the answer, so that it is the one of the
-/// commit point.
-pub fn what_commits_is_answered()
-    ensures commits { (w : World) (actor : ℕ) (granted : Bool) (r : Running) → IsKept w
-        → actor < length w.actors → (actor_at w actor).running ≡ Some r
-        → deed_of w (Go actor granted) ≡ Commits
-        → GoesTo Answers actor r (step w (Go actor granted)) }
-    ensures goes { (e : Ending) (w : World) (actor : ℕ) (granted : Bool) (r : Running) → IsFinal e
-        → actor < length w.actors → (actor_at w actor).running ≡ Some r → IsToEnd e r
-        → GoesTo e actor r (step w (Go actor granted)) }
-    ensures writes { (w : World) (actor ino : ℕ) (r : Running) → IsKept w
-        → (actor_at w actor).running ≡ Some r
-        → (lent r.next (length w.shared.lists) actor r).cell ≡ Some ino → IsToEnd Answers r }
-    ensures same { (nodes other : Handle → Option PlainNode) (made : Handle) (c : Call)
-        → (beginning c ≡ Visits → ⊥) → answer nodes made c ≡ answer other made c }
-{}
-
-/// A commit point settles the entries of all inodes that its call writes, at one stroke, and no other entry.
-/// From a new world on and whatever events come, the log of a slot that nobody holds is settled as a whole,
-/// and past the settled logs of the slots that a call holds stand the entries that its commit has appended.
-/// At the commit point each settled log becomes what it was, followed by the commit's entries for its slot.
-pub fn a_commit_settles_its_entries()
-    ensures new { (g : GeometryNumbers) → AreGrown (formatted g) }
-    ensures stays { (events : List Event) (w : World) → AreLocks w → IsInOrder w → IsKept w
-        → AreGrown w → ((before : List Event) → AreBlocksApart (after w before))
-        → AreGrown (after w events) }
-    ensures settles { (w : World) (actor : ℕ) (granted : Bool) (r : Running) → AreLocks w
-        → IsKept w → AreGrown w → actor < length w.actors → (actor_at w actor).running ≡ Some r
-        → deed_of w (Go actor granted) ≡ Commits
-        → (ino : ℕ) → settled (step w (Go actor granted)).world.shared ino
-        ≡ settled w.shared ino ++ fresh_entries (has (written_slots r) ino) r ino }
-{}
-
-/// A commit point has the effect of its call on the settled nodes, where its plan fits that effect now and
-/// settled logs are sound; and it leaves them sound.
-pub fn a_commit_point_has_its_effect()
-    ensures nodes { (bytes : ℕ → List ℕ) (w : World) (actor : ℕ) (granted : Bool) (r : Running)
-        → AreLocks w → IsInOrder w → IsKept w → AreGrown w → AreBlocksApart w
-        → actor < length w.actors → (actor_at w actor).running ≡ Some r
-        → deed_of w (Go actor granted) ≡ Commits → HasPlanNow bytes w.numbers.block w.shared r
-        → (handle : Handle) → settled_nodes (step w (Go actor granted)).world.shared handle
-        ≡ nodes_after r.commit (effect (node_in (settled_nodes w.shared)) r.made r.call)
-        (settled_nodes w.shared) handle }
-    ensures sound { (bytes : ℕ → List ℕ) (w : World) (actor : ℕ) (granted : Bool) (r : Running)
-        → AreLocks w → IsInOrder w → IsKept w → AreGrown w → AreBlocksApart w
-        → actor < length w.actors → (actor_at w actor).running ≡ Some r
-        → deed_of w (Go actor granted) ≡ Commits → HasPlanNow bytes w.numbers.block w.shared r
-        → (ino : ℕ)
-        → IsSound bytes w.numbers.block (settled (step w (Go actor granted)).world.shared ino) }
-{}
-
-/// Settled logs are sound in a new world, and stay sound at every event but a commit point, and at each commit
-/// point where the plan of its call fits the effect that the call has then: each log's pages store the bytes
-/// of its node.
-pub fn settled_logs_stay_sound()
-    ensures new { (g : GeometryNumbers) → IsWithinLimits g → AreSound (formatted g).shared }
-    ensures stays { (w : World) (e : Event) → AreLocks w → IsInOrder w → IsKept w
-        → AreBlocksApart w → keeps_nodes (deed_of w e) ≡ true
-        → AreSound w.shared → AreSound (step w e).world.shared }
-    ensures commits { (bytes : ℕ → List ℕ) (w : World) (actor : ℕ) (granted : Bool) (r : Running)
-        → AreLocks w → IsInOrder w → IsKept w → AreGrown w → AreBlocksApart w
-        → actor < length w.actors → (actor_at w actor).running ≡ Some r
-        → deed_of w (Go actor granted) ≡ Commits → HasPlanNow bytes w.numbers.block w.shared r
-        → AreSound (step w (Go actor granted)).world.shared }
-{}
-
-/// What the laws of nodes and commits ask of a world holds of every world that events lead to from a new one. So
-/// of those each event but a commit point leaves every settled node as it is, with no premise.
-pub fn new_worlds_lead_where_laws_hold()
-    ensures reached { (g : GeometryNumbers) (events : List Event) → IsWithinLimits g
-        → IsReached (after (formatted g) events) }
-    ensures nodes { (w : World) (e : Event) → IsReached w → keeps_nodes (deed_of w e) ≡ true
-        → (handle : Handle) → settled_nodes (step w e).world.shared handle ≡ settled_nodes w.shared handle }
-{}
-
-/// At each commit point, whatever events come from a new world on, the plain world does not refuse the call, the plan
-/// that stands fits the effect that its call has on the nodes of now, and so the commit point has that effect. `bytes_in` gives the bytes of all blocks
-/// of all cells.
-pub fn plans_fit_at_commit_points()
-    ensures fits { (g : GeometryNumbers) (events : List Event) (actor : ℕ) (granted : Bool) (r : Running)
-        → IsWithinLimits g → actor < length (after (formatted g) events).actors
-        → (actor_at (after (formatted g) events) actor).running ≡ Some r
-        → deed_of (after (formatted g) events) (Go actor granted) ≡ Commits
-        → HasPlanNow (bytes_in (after (formatted g) events).shared)
-        (after (formatted g) events).numbers.block (after (formatted g) events).shared r }
-    ensures passes { (g : GeometryNumbers) (events : List Event) (actor : ℕ) (granted : Bool) (r : Running)
-        → IsWithinLimits g → actor < length (after (formatted g) events).actors
-        → (actor_at (after (formatted g) events) actor).running ≡ Some r
-        → deed_of (after (formatted g) events) (Go actor granted) ≡ Commits
-        → refusal (after (formatted g) events).numbers.block
-        (node_in (settled_nodes (after (formatted g) events).shared)) r.call ≡ passes }
-    ensures nodes { (g : GeometryNumbers) (events : List Event) (actor : ℕ) (granted : Bool) (r : Running)
-        → IsWithinLimits g → actor < length (after (formatted g) events).actors
-        → (actor_at (after (formatted g) events) actor).running ≡ Some r
-        → deed_of (after (formatted g) events) (Go actor granted) ≡ Commits → (handle : Handle)
-        → settled_nodes (step (after (formatted g) events) (Go actor granted)).world.shared handle
-        ≡ nodes_after r.commit
-        (effect (node_in (settled_nodes (after (formatted g) events).shared)) r.made r.call)
-        (settled_nodes (after (formatted g) events).shared) handle }
-{}
-
-/// From its check to its commit point a call passes: whatever events come from a new world on, the plain world does
-/// not refuse it on the nodes of now, and its names are bound as its looks found them.
-pub fn checked_calls_still_pass()
-    ensures passes { (g : GeometryNumbers) (events : List Event) (actor : ℕ) (r : Running)
-        → IsWithinLimits g → (actor_at (after (formatted g) events) actor).running ≡ Some r
-        → is_checked r.next ≡ true
-        → refusal (after (formatted g) events).numbers.block
-        (node_in (settled_nodes (after (formatted g) events).shared)) r.call ≡ passes }
-    ensures found { (g : GeometryNumbers) (events : List Event) (actor : ℕ) (r : Running)
-        → IsWithinLimits g → (actor_at (after (formatted g) events) actor).running ≡ Some r
-        → is_checked r.next ≡ true
-        → looked (node_in (settled_nodes (after (formatted g) events).shared)) r.call ≡ r.looked }
-{}
-
-/// The plain world's nodes are those of the settled logs after every list of events, and these logs are sound.
-pub fn the_plain_world_is_that_of_settled_logs()
-    ensures nodes { (g : GeometryNumbers) (events : List Event) → IsWithinLimits g → (handle : Handle)
-        → settled_nodes (after (formatted g) events).shared handle
-        ≡ (plain_after (formatted g) events (plain_of (formatted g))).nodes handle }
-    ensures sound { (g : GeometryNumbers) (events : List Event) → IsWithinLimits g
-        → AreSound (after (formatted g) events).shared }
-{}
-
-/// A step that refuses a call does so for a fault whose cause is there at that step: the plain world refuses the call at
-/// the look, the check or the visit; it does not, and no number was free; the last list was asked and is short; no
-/// further commit number is there; no round of looks is left; or memory that the step asks for was not granted. A call is
-/// overtaken at its check alone, where a name is bound anew. A refused call has only its last steps left, which lead
-/// to that refusal ([`what_commits_is_answered`]).
-pub fn refusals_have_causes()
-    ensures causes { (block actor : ℕ) (granted : Bool) (s : Shared) (h : HandState) (r : Running)
-        → r.ending ≡ Answers
-        → RefusesFor (IsCause r.next block actor granted s h r) (MayBeOvertaken r.next s r)
-        (turn block actor granted s h r) }
-    ensures number { (block actor : ℕ) (granted : Bool) (s : Shared) (h : HandState) (r : Running)
-        → FindsNone s (kind_turn Number block actor granted s h r) }
-    ensures contended { (place block actor : ℕ) (granted : Bool) (s : Shared) (h : HandState) (r : Running)
-        → r.ending ≡ Overtaken
-        → RefusesFor (IsRoundless r) (Unit {0}) (kind_turn (Unlock place) block actor granted s h r) }
-{}
-
-/// A call is contended only after eight checks that each found a name bound anew: a started call has eight such checks
-/// to fail, each of them takes one, and no other event does. Where a call was overtaken and no round is left,
-/// eight have failed.
-pub fn contended_calls_have_failed_eight_checks()
-    ensures starts { (w : World) (actor : ℕ) (c : Call) → (step w (Start actor c)).reply ≡ Started
-        → HasRounds 8 0 (actor_at (step w (Start actor c)).world actor).running }
-    ensures fails { (events : List Event) (w : World) (actor all failed : ℕ)
-        → AreNoStarts actor events → HasRounds all failed (actor_at w actor).running
-        → HasRounds all (failed + failed_checks actor w events) (actor_at (after w events) actor).running }
-    ensures eight { (w : World) (actor : ℕ) (c : Call) (events : List Event) (r : Running)
-        → (step w (Start actor c)).reply ≡ Started → AreNoStarts actor events
-        → (actor_at (after (step w (Start actor c)).world events) actor).running ≡ Some r
-        → r.ending ≡ Overtaken → r.rounds ≡ 0
-        → 8 ≤ failed_checks actor (step w (Start actor c)).world events }
-{}
-
-/// A visit reads settled nodes, since it waits while its slot is held: what it tests and answers is the same there, so
-/// that its answer is the plain world's.
-pub fn visits_read_settled_nodes()
-    ensures reads { (w : World) (taken : Taken) (c : Call) → AreGrown w → beginning c ≡ Visits
-        → owner_at w.shared (handle_at (handles nothing_looked c) 0).ino ≡ None
-        → SameCall w.numbers.block (settled_nodes w.shared) (nodes w.shared) taken c }
-    ensures answers { (w : World) (actor : ℕ) (granted : Bool) (r : Running) (told : Answer)
-        → AreGrown w → actor < length w.actors → (actor_at w actor).running ≡ Some r
-        → r.next ≡ Visit → beginning r.call ≡ Visits → (step w (Go actor granted)).reply ≡ Done told
-        → told ≡ answer (settled_nodes w.shared) r.made r.call }
 {}

@@ -1,4 +1,4 @@
-use Rattle.std.proofs.Common.{◌≡◌, ℕ, List, Option, ap, refl, sym, ◌∙◌}
+use Rattle.std.proofs.Common.{◌≡◌, ℕ, List, [], Option, ap, refl, sym, ◌∙◌}
 use Rattle.nv_base.specs.declared.node.Kind.{Kind}
 use Rattle.nv_entry.specs.Bytes.{read_at}
 use Rattle.nv_calls.specs.declared.answer.Answer.{Answer}
@@ -6,6 +6,7 @@ use Rattle.nv_calls.specs.declared.answer.Answer.TheVariants.{Bytes}
 use Rattle.nv_calls.specs.Refusals.{Check, and_then, kind_of, passes, want_file}
 use Rattle.nv_calls.specs.Views.{copy_of}
 use Rattle.nv_calls.proofs.CellNodes.{bytes_there}
+use Rattle.nv_calls.proofs.NodesHeld.{own_kind, own_there}
 use Rattle.nv_calls.proofs.view.read_on.Goals as goal
 
 pub returns-clause-view : goal.returns-clause-view
@@ -20,5 +21,20 @@ returns-clause-view c bytes are =
       found = λ made. ap (λ (read : List ℕ). let a : Answer = Bytes read in a)
           (c.in_ok-bytes.ensures.bytes bytes are
           ∙ ap (read_at c.in-Read.offset c.in-Read.count) (sym (bytes_there bytes cell c.in-Read.file pass)));
+      version = c.version-version.ensures;
+    })
+
+pub returns-clause-own : goal.returns-clause-own
+returns-clause-own c =
+    let cell = c.args.cell.now.state in
+    let none : ℕ → List ℕ = λ number. [] in
+    let pass : want_file (kind_of (copy_of none cell c.in-Read.file)) passes ≡ passes =
+    ap (λ (k : Option Kind). want_file k passes) (sym (c.kind_in.ensures none)) ∙ c.want_file.ensures passes
+    ∙ ap (λ (r : Check). and_then r passes) c.in_ok-want_file.was in
+    rw c.in-Read.is (record {
+      passes = ap (λ (k : Option Kind). want_file k passes) (own_kind cell c.in-Read.file) ∙ pass;
+      call = refl;
+      found = λ made. ap (λ (read : List ℕ). let a : Answer = Bytes read in a)
+          (c.in_ok-bytes.ensures.own ∙ ap (read_at c.in-Read.offset c.in-Read.count) (sym (own_there cell c.in-Read.file pass)));
       version = c.version-version.ensures;
     })

@@ -1,0 +1,16 @@
+use Rattle.std.proofs.Common.{refl}
+use Rattle.nv_core.proofs.steps.Caused.{caused, contended, finds_none}
+use Rattle.nv_core.proofs.steps.EndsCaused.{plainly_caused}
+use Rattle.nv_core.proofs.machine.plain_laws.refusals_have_causes.Goals as goal
+
+pub returns-clause-causes : goal.returns-clause-causes
+returns-clause-causes c = λ block actor granted s h r. caused r.next block actor granted s h r
+
+pub returns-clause-contended : goal.returns-clause-contended
+returns-clause-contended c = contended
+
+pub returns-clause-number : goal.returns-clause-number
+returns-clause-number c = λ block actor granted s h r. finds_none s.pool.numbers s h r refl
+
+pub returns-clause-settled : goal.returns-clause-settled
+returns-clause-settled c = plainly_caused
