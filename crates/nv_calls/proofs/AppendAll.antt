@@ -37,6 +37,7 @@ pub record AppendsTo (j : ℕ) (cells : List (ℕ × CellValue)) (start : Commit
   pub changed : IsChangedTo j start.plans (λ i. (grown cells start i).state) cells now
   pub plans : ArePlansFrom j start.plans commit.plans
   pub is : commit ≡ so_far cells start j commit.plans
+  pub rooms : (i : ℕ) → i < j → (value_at now (place_of start.plans i)).room ≡ (grown cells start i).room
   pub ready : (i : ℕ) → i < j → IsReadyFor [] (value_at now (place_of start.plans i))
 
 pub begins : (cells : List (ℕ × CellValue)) (start : CommitValue) → start.appended ≡ 0 → start.place ≡ 0 → AppendsTo 0 cells start cells start
@@ -49,6 +50,7 @@ begins cells start none first = record {
       (none_front start.hand.data) (none_front start.hand.pages) in
       ap (λ (n : ℕ). let c : CommitValue = record start { appended = n } in c) none
       ∙ ap₂ (λ (h : Hand) (n : ℕ). let c : CommitValue = record start { hand = h; place = n; appended = 0 } in c) hand first;
+  rooms = λ i lt. absurd (omega (arith, lt));
   ready = λ i lt. absurd (omega (arith, lt));
 }
 
@@ -143,6 +145,9 @@ module _ (j : ℕ) (cells : List (ℕ × CellValue)) (start : CommitValue) (now 
       let state : state_at new plan.at ≡ (grown cells start j).state =
       ap (λ (cs : List (ℕ × CellValue)). state_at cs plan.at) made
       ∙ ap (λ (v : CellValue). v.state) (value_with now plan.at (grown cells start j) within) in
+      let room : (value_at new plan.at).room ≡ (grown cells start j).room =
+      ap (λ (cs : List (ℕ × CellValue)). (value_at cs plan.at).room) made
+      ∙ ap (λ (v : CellValue). v.room) (value_with now plan.at (grown cells start j) within) in
       let own : IsReadyFor [] (value_at new plan.at) = subst (λ (k : ℕ). IsReadyFor [] (value_at new k)) at_is ready in
       let chain : (state_at now (to_append commit).at).chain ≡ (state_at cells plan.at).chain =
       ap (λ (k : ℕ). (state_at now k).chain) at_is ∙ ap (λ (v : CellValue). v.state.chain) value_is_still in
@@ -181,6 +186,10 @@ module _ (j : ℕ) (cells : List (ℕ × CellValue)) (start : CommitValue) (now 
           place = n.0;
           appended = n.1;
         } in c) hand (ap₂ (λ (a b : ℕ). (a, b)) place count);
+        rooms = below_more (λ i. (value_at new (place_of start.plans i)).room ≡ (grown cells start i).room) j
+            (λ i li. ap (λ (v : CellValue). v.room) (other-only now new plan.at (place_of start.plans i) changed
+            (apart cells start.plans placed i j (omega (arith, li, lt)) lt (λ e. omega (arith, li, e))))
+            ∙ way.rooms i li) room;
         ready = below_more (λ i. IsReadyFor [] (value_at new (place_of start.plans i))) j
             (λ i li. subst (λ (v : CellValue). IsReadyFor [] v)
             (sym (other-only now new plan.at (place_of start.plans i) changed

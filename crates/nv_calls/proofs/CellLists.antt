@@ -1,5 +1,5 @@
 -- Lists of cells of which one changes.
-use Rattle.std.proofs.Common.{◌≡◌, ℕ, zero, suc, ◌<◌, List, [], ◌∷◌, length, arith, refl, ap, ap₂, sym, ◌∙◌}
+use Rattle.std.proofs.Common.{◌≡◌, ℕ, zero, suc, ◌-◌, ◌<◌, List, [], ◌∷◌, length, arith, refl, ap, ap₂, sym, ◌∙◌}
 use Rattle.std.proofs.lemmas.List.{get_or-set_other}
 use Rattle.nv_cell.specs.Cell.{CellRoom, CellState, CellValue}
 use Rattle.nv_calls.specs.Cells.{OnlyAt, ino_at, no_cell, value_at, with_value}
@@ -65,3 +65,13 @@ only_value cells now k v lt is =
 
 pub length-only : (cells now : List (ℕ × CellValue)) (k : ℕ) → OnlyAt k cells now → length now ≡ length cells
 length-only cells now k only = ap length only ∙ length-with cells k (value_at now k)
+
+-- the cell in front, and one behind it
+pub value_first : (i : ℕ) (v : CellValue) (k : ℕ) → k < 1 → value_at ((i, v) ∷ []) k ≡ v
+value_first i v zero lt = refl
+value_first i v (suc k) lt = absurd (omega (arith, lt))
+
+pub value_behind : (c : ℕ × CellValue) (cells : List (ℕ × CellValue)) (k : ℕ) → (k ≡ 0 → ⊥)
+    → value_at (c ∷ cells) k ≡ value_at cells (k - 1)
+value_behind c cells zero other = absurd (other refl)
+value_behind c cells (suc k) other = let e : k ≡ suc k - 1 = omega arith in ap (λ (n : ℕ). value_at cells n) e

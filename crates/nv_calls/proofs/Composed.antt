@@ -1,13 +1,15 @@
 -- A commit is its appends, its publishes and what it retires, one behind the other.
-use Rattle.std.proofs.Common.{◌≡◌, ℕ, zero, suc, ◌<◌, ◌≤◌, ◌^◌, List, [], ◌∷◌, length, map, get_or, None, arith, refl, ap, ap₂, sym, ◌∙◌, subst}
+use Rattle.std.proofs.Common.{◌≡◌, ℕ, zero, suc, ◌<◌, ◌≤◌, ◌^◌, nat_lt, Bool, true, false, cond, List, [], ◌∷◌, length, map, get_or, None, arith, refl, ap, ap₂, sym, ◌∙◌, subst}
 use Rattle.std.specs.List.{sum_by}
-use Rattle.std.proofs.lemmas.List.{get_or_default}
+use Rattle.std.proofs.lemmas.Bool.{lt-ltb}
+use Rattle.std.proofs.lemmas.List.{ext_get_or, get_or-map, get_or_default}
+use Rattle.std.proofs.Math.ListN.{length-map}
 use Rattle.std.proofs.lemmas.List.Sums.{sum_by-cons}
 use Rattle.nv_alloc.specs.declared.hand.Hand.{Hand}
 use Rattle.nv_base.specs.declared.limits.TheConstants.{NUMBER}
 use Rattle.nv_book.specs.Book.{BookValue}
 use Rattle.nv_book.specs.declared.manifest.Manifest.{Manifest}
-use Rattle.nv_cell.specs.Cell.{CellState, CellValue, fresh_of, log_of, published}
+use Rattle.nv_cell.specs.Cell.{CellRoom, CellState, CellValue, KeepsAppendRoom, fresh_of, log_of, published}
 use Rattle.nv_cell.specs.Effects.{items_of}
 use Rattle.nv_cell.specs.Killed.{AreKilled}
 use Rattle.nv_cell.specs.Readers.{is_gone}
@@ -16,12 +18,13 @@ use Rattle.nv_cell.specs.Weights.{weights_in}
 use Rattle.nv_cell.specs.declared.killed.KilledPart.{KilledPart}
 use Rattle.nv_entry.specs.declared.item.Entry.{Entry}
 use Rattle.nv_epoch.specs.SnapList.{ids}
+use Rattle.nv_journal.specs.declared.old_tail.OldTail.{OldTail}
 use Rattle.nv_calls.specs.CanCommit.{CanBePublished, CanCommit, CanRetireAll, KillsAsTold, goes}
 use Rattle.nv_calls.specs.Cells.{AreCells, ino_at, no_cell, state_at, value_at}
-use Rattle.nv_calls.specs.Commit.{CommitValue, begun, stamp_of}
-use Rattle.nv_calls.specs.Committed.{ChangesPlanned, HaveSamePlaces, Killing, committed, grown, hand_after_killings, hand_before, killed_count, killing, manifests_after, noted_killing, place_before, place_of, settled_cell}
-use Rattle.nv_calls.specs.Ready.{ArePlaced, CellPlanValue, ReadyValue, kills_of, need_of, no_plan, plan_at}
-use Rattle.nv_calls.specs.Retiring.{hand_retired, killed_by, part_in, with_records}
+use Rattle.nv_calls.specs.Commit.{CommitValue, ReceiptValue, begun, receipt_of, stamp_of}
+use Rattle.nv_calls.specs.Committed.{ChangesPlanned, HaveAppendRoom, HaveSamePlaces, Killing, committed, grown, hand_after_killings, hand_before, journaled, killed_count, killing, manifests_after, noted_killing, place_before, place_of, receipt_by, room_left, settled_cell, settled_room}
+use Rattle.nv_calls.specs.Ready.{ArePlaced, CellPlanValue, ReadyValue, kills_of, need_of, no_plan, old_tail, old_tails, plan_at}
+use Rattle.nv_calls.specs.Retiring.{hand_retired, is_erased, killed_by, part_in, retired, room_erased, with_records}
 use Rattle.nv_calls.specs.Steps.{stamped_entries}
 use Rattle.nv_calls.proofs.Grown.{IsGrown, is_grown}
 
@@ -101,6 +104,16 @@ same_hand living epoch a b (suc n) hand same =
     ap₂ (λ (k : Killing) (h : Hand). hand_retired living k.ino epoch k.parts k.cell h) (same n last)
     (same_hand living epoch a b n hand (λ j lt. same j (omega (arith, lt))))
 
+-- ---- room
+
+-- what is erased keeps no room, and what is not what it had
+still_room : (cell : CellState) (old new : CellRoom) → KeepsAppendRoom old new
+    → KeepsAppendRoom (room_erased cell old) (room_erased cell new)
+still_room cell old new keeps = go (is_erased cell) refl where
+  go : (b : Bool) → is_erased cell ≡ b → KeepsAppendRoom (room_erased cell old) (room_erased cell new)
+  go true e = rw e (record { pages = refl; entries = refl; parts = refl; killed = keeps.killed })
+  go false e = rw e keeps
+
 -- ---- after the appends
 
 module _ (cells : List (ℕ × CellValue)) (book : BookValue) (cpu : ℕ) (ready : ReadyValue) (can : CanCommit cells book cpu ready)
@@ -114,6 +127,7 @@ module _ (cells : List (ℕ × CellValue)) (book : BookValue) (cpu : ℕ) (ready
   -- what the appends ensure of a commit
   pub record AreAppendedTo (before : CommitValue) : Type 0 where
     pub changes : ChangesPlanned before.plans (λ j. (grown cells before j).state) cells full
+    pub rooms : (j : ℕ) → j < length before.plans → (value_at full (place_of before.plans j)).room ≡ (grown cells before j).room
     pub fit : (j : ℕ) → j < length before.plans → IsReadyFor [] (value_at full (place_of before.plans j))
     pub plans : HaveSamePlaces before.plans appended.plans
     pub is : appended ≡ (let c : CommitValue = record before {
@@ -127,6 +141,7 @@ module _ (cells : List (ℕ × CellValue)) (book : BookValue) (cpu : ℕ) (ready
   AreAppended = AreAppendedTo start
 
   pub appended_by : (before : CommitValue) → before ≡ start → ChangesPlanned before.plans (λ j. (grown cells before j).state) cells full
+      → ((j : ℕ) → j < length before.plans → (value_at full (place_of before.plans j)).room ≡ (grown cells before j).room)
       → ((j : ℕ) → j < length before.plans → IsReadyFor [] (value_at full (place_of before.plans j)))
       → HaveSamePlaces before.plans appended.plans
       → appended ≡ (let c : CommitValue = record before {
@@ -135,8 +150,8 @@ module _ (cells : List (ℕ × CellValue)) (book : BookValue) (cpu : ℕ) (ready
         place = place_before before.plans (length before.plans);
         appended = length before.plans;
       } in c) → AreAppended
-  appended_by before same changes fit plans is =
-      subst AreAppendedTo same (record { changes = changes; fit = fit; plans = plans; is = is })
+  appended_by before same changes rooms fit plans is =
+      subst AreAppendedTo same (record { changes = changes; rooms = rooms; fit = fit; plans = plans; is = is })
 
   pub own_grown : (j : ℕ) → j < count → IsGrown (stamped_entries start.stamp (place_before start.plans j) (plan_at start.plans j).items)
       (plan_at start.plans j).items (state_at cells (place_of start.plans j)) (grown cells start j).state
@@ -170,11 +185,34 @@ module _ (cells : List (ℕ × CellValue)) (book : BookValue) (cpu : ℕ) (ready
           ready = subst (λ (k : ℕ). IsReadyFor [] (value_at full k)) (sym (a.plans.places j)) (a.fit j li);
         }
 
+    -- the journal notes the tails that the cells had before
+    tail_is : (j : ℕ) → j < count → old_tail full (plan_at appended.plans j) ≡ old_tail cells (plan_at start.plans j)
+    tail_is j lt =
+        ap₂ (λ (m n : ℕ). let t : OldTail = record { ino = m; tail = n } in t)
+        (ap (ino_at full) (a.plans.places j) ∙ a.changes.numbers _)
+        (ap (λ (s : CellState). s.chain.tail) (full_is j lt) ∙ (own_grown j lt).grows.tail)
+
+    tails_are : old_tails full appended.plans ≡ old_tails cells start.plans
+    tails_are =
+        ext_get_or no_tail (old_tails full appended.plans) (old_tails cells start.plans)
+        (length-map appended.plans (old_tail full) ∙ a.plans.count ∙ sym (length-map start.plans (old_tail cells)))
+        (λ i lt.
+        let li : i < length appended.plans = omega (arith, lt, length-map appended.plans (old_tail full)) in
+        let lj : i < count = omega (arith, li, a.plans.count) in
+        get_or-map (old_tail full) appended.plans i no_plan no_tail li ∙ tail_is i lj
+        ∙ sym (get_or-map (old_tail cells) start.plans i no_plan no_tail lj)) where
+          no_tail : OldTail
+          no_tail = record { ino = 0; tail = 0 }
+
+    pub journal_is : journaled full appended.plans ≡ journaled cells start.plans
+    journal_is = ap₂ (λ (n : ℕ) (ts : List OldTail). cond (nat_lt 1 n) ts []) a.plans.count tails_are
+
     -- ---- after the publishes
 
     module _ (now : List (ℕ × CellValue)) (done : CommitValue) where
       pub record ArePublished : Type 0 where
         pub changes : ChangesPlanned appended.plans (λ j. published (state_at full (place_of appended.plans j))) full now
+        pub kept : HaveAppendRoom appended.plans (λ j. (value_at full (place_of appended.plans j)).room) now
         pub killed : (j : ℕ) → j < length appended.plans → (plan_at done.plans j).killed ≡ killed_by (state_at full (place_of appended.plans j))
         pub told : (j : ℕ) → j < length appended.plans → KillsAsTold (state_at full (place_of appended.plans j))
         pub plans : HaveSamePlaces appended.plans done.plans
@@ -182,9 +220,11 @@ module _ (cells : List (ℕ × CellValue)) (book : BookValue) (cpu : ℕ) (ready
           plans = done.plans;
           hand = record appended.hand { ino = None };
           published = length appended.plans;
+          noted = journaled full appended.plans;
         } in c)
 
       pub published_by : ChangesPlanned appended.plans (λ j. published (state_at full (place_of appended.plans j))) full now
+          → HaveAppendRoom appended.plans (λ j. (value_at full (place_of appended.plans j)).room) now
           → ((j : ℕ) → j < length appended.plans → (plan_at done.plans j).killed ≡ killed_by (state_at full (place_of appended.plans j)))
           → ((j : ℕ) → j < length appended.plans → KillsAsTold (state_at full (place_of appended.plans j)))
           → HaveSamePlaces appended.plans done.plans
@@ -192,8 +232,10 @@ module _ (cells : List (ℕ × CellValue)) (book : BookValue) (cpu : ℕ) (ready
             plans = done.plans;
             hand = record appended.hand { ino = None };
             published = length appended.plans;
+            noted = journaled full appended.plans;
           } in c) → ArePublished
-      published_by changes killed told plans is = record { changes = changes; killed = killed; told = told; plans = plans; is = is }
+      published_by changes kept killed told plans is =
+          record { changes = changes; kept = kept; killed = killed; told = told; plans = plans; is = is }
 
       module _ (p : ArePublished) where
         pub same_places : HaveSamePlaces start.plans done.plans
@@ -244,7 +286,7 @@ module _ (cells : List (ℕ × CellValue)) (book : BookValue) (cpu : ℕ) (ready
             ∙ ap (weights_in (state_at cells (place_of start.plans j)).block (log_of (state_at cells (place_of start.plans j)))) g.fresh in
             omega (arith, ap length (killed_is j lt), told.few, weights)
 
-        all_few : sum_by killed_count done.plans ≤ need_of cells start.plans
+        pub all_few : sum_by killed_count done.plans ≤ need_of cells start.plans
         all_few = sums killed_count (kills_of cells) done.plans start.plans same_places.count few
 
         gone_is : (j : ℕ) → j < count → is_gone (log_of (state_at now (place_of done.plans j))) ≡ goes (plan_at start.plans j).items
@@ -295,6 +337,40 @@ module _ (cells : List (ℕ × CellValue)) (book : BookValue) (cpu : ℕ) (ready
               planned = λ j lt. third.planned j lt ∙ ap₂ (settled_cell living) stamp_is (killing_is j lt);
               others = λ k un. third.others k un ∙ second.others k un ∙ a.changes.others k un;
             }
+
+        -- the room that is left in a planned cell
+        pub all_rooms : (last : List (ℕ × CellValue)) (living : List ℕ)
+            → ((j : ℕ) → j < length done.plans → (value_at last (place_of done.plans j)).room
+            ≡ settled_room living done.stamp.epoch (noted_killing now done j) (value_at now (place_of done.plans j)).room)
+            → HaveAppendRoom ready.plans (room_left living cells start) last
+        all_rooms last living rooms j lt =
+            let k : Killing = killing cells start j in
+            let after : CellState = retired living k.ino start.stamp.epoch k.parts k.cell in
+            let had : CellRoom = (value_at full (place_of appended.plans j)).room in
+            let left : CellRoom = (value_at now (place_of done.plans j)).room in
+            let grew : had ≡ (grown cells start j).room = ap (λ (m : ℕ). (value_at full m).room) (a.plans.places j) ∙ a.rooms j lt in
+            let keeps : KeepsAppendRoom (grown cells start j).room left =
+            subst (λ (r : CellRoom). KeepsAppendRoom r left) grew
+            (subst (λ (m : ℕ). KeepsAppendRoom had (value_at now m).room) (sym (p.plans.places j)) (p.kept j (inner j lt))) in
+            let is : (value_at last (place_of start.plans j)).room ≡ room_erased after left =
+            ap (λ (m : ℕ). (value_at last m).room) (sym (same_places.places j)) ∙ rooms j (omega (arith, lt, same_places.count))
+            ∙ ap₂ (λ (e : ℕ) (x : Killing). settled_room living e x left) stamp_is (killing_is j lt) in
+            subst (λ (r : CellRoom). KeepsAppendRoom (room_left living cells start j) r) (sym is)
+            (still_room after (grown cells start j).room left keeps)
+
+        -- two planned cells or more are all noted, and the receipt tells them
+        pub all_noted : 2 ≤ length done.plans → length done.noted ≡ length done.plans
+        all_noted two =
+            let many : 1 < length appended.plans = omega (arith, two, p.plans.count) in
+            ap (λ (c : CommitValue). length c.noted) p.is
+            ∙ ap (λ (b : Bool). length (cond b (old_tails full appended.plans) [])) (lt-ltb 1 (length appended.plans) many)
+            ∙ length-map appended.plans (old_tail full) ∙ sym p.plans.count
+
+        pub all_receipt : receipt_of done ≡ receipt_by cells start
+        all_receipt =
+            ap receipt_of p.is
+            ∙ ap₂ (λ (c : CommitValue) (ts : List OldTail). let r : ReceiptValue = record (receipt_of c) { noted = ts } in r)
+            a.is journal_is
 
         pub all_manifests : manifests_after (ids book.state.snaps) done.stamp.epoch (noted_killing now done) (length done.plans) book.state.manifests
             ≡ manifests_after (ids book.state.snaps) start.stamp.epoch (killing cells start) count book.state.manifests

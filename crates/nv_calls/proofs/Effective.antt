@@ -72,7 +72,7 @@ none_by bytes block slot handle none =
 
 -- ---- which cell has a number, and which plan a cell
 
-has_number : (cells : List (ℕ × CellValue)) (number : ℕ)
+pub has_number : (cells : List (ℕ × CellValue)) (number : ℕ)
     → ((k : ℕ) × (k < length cells) × (ino_at cells k ≡ number)) ⊎ IsOfNone cells number
 has_number [] number = inr (λ k lt same. absurd (omega (arith, lt)))
 has_number (c ∷ cells) number = go (c.0 == number) refl (has_number cells number) where
@@ -88,7 +88,7 @@ has_number (c ∷ cells) number = go (c.0 == number) refl (has_number cells numb
       inl (suc found.0, more, found.2)
   go false q (inr none) = inr (behind none (eqb-false c.0 number q))
 
-has_plan : (plans : List CellPlanValue) (k : ℕ)
+pub has_plan : (plans : List CellPlanValue) (k : ℕ)
     → ((j : ℕ) × (j < length plans) × (place_of plans j ≡ k)) ⊎ IsUnplanned plans k
 has_plan [] k = inr (λ j lt same. absurd (omega (arith, lt)))
 has_plan (p ∷ plans) k = go (p.at == k) refl (has_plan plans k) where
@@ -106,11 +106,11 @@ has_plan (p ∷ plans) k = go (p.at == k) refl (has_plan plans k) where
 
 -- ---- the slots after a commit have the nodes of those that its plan makes
 
-gone_erased : (a b : Bool) → (a && b) ≡ true → a ≡ true
+pub gone_erased : (a b : Bool) → (a && b) ≡ true → a ≡ true
 gone_erased true b h = refl
 gone_erased false b h = cc
 
-pick : (b : Bool) (one other : CellState) → b ≡ true → cond b one other ≡ one
+pub pick : (b : Bool) (one other : CellState) → b ≡ true → cond b one other ≡ one
 pick true one other q = refl
 pick false one other q = cc
 

@@ -97,7 +97,7 @@ small_same (x ∷ old) (y ∷ new) same all =
 
 -- ---- slots of cells with more room
 
-slots_as : (old new : List (ℕ × CellValue)) → HaveNoLessRoom old new → slots_by new ≡ slots_by old
+pub slots_as : (old new : List (ℕ × CellValue)) → HaveNoLessRoom old new → slots_by new ≡ slots_by old
 slots_as old new more =
     fun_ext (λ (ino : ℕ). by_state (cell_of new ino) ∙ ap slot_in (found_same old new ino more) ∙ sym (by_state (cell_of old ino)))
   where

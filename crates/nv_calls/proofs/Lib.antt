@@ -1,3 +1,4 @@
+pub mod Alone
 pub mod AppendAll
 pub mod Appends
 pub mod CellLists
@@ -21,6 +22,9 @@ pub mod Items
 pub mod Keeps
 pub mod Lawful
 pub mod LogPages
+pub mod Next
+pub mod NextBytes
+pub mod NextSound
 pub mod NodesHeld
 pub mod Nothing
 pub mod Passed
@@ -46,5 +50,6 @@ pub mod Tails
 pub mod TextLengths
 pub mod Touched
 pub mod Wanted
+pub mod WholeCall
 pub mod Within
 pub mod fits

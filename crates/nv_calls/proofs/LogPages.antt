@@ -21,7 +21,7 @@ use Rattle.nv_calls.specs.Cells.{state_at}
 use Rattle.nv_calls.specs.Committed.{page_count}
 use Rattle.nv_calls.specs.Nodes.{block_in, nodes_in}
 use Rattle.nv_calls.specs.PagesWanted.{goes_on, pages_needed, pages_wanted}
-use Rattle.nv_calls.specs.Prepared.{CanReady, HasNumberFor, HaveNoLessRoom, IsReadyBy, cell_plans, handle_in, if_items, makes, no_handle, planned_by, taken_by}
+use Rattle.nv_calls.specs.Prepared.{CanReady, HasNumberFor, HaveNoLessRoom, IsReadyBy, cell_plans, handle_in, if_items, makes, no_handle, planned_by, plans_by, taken_by}
 use Rattle.nv_calls.specs.Ready.{CellPlanValue, ReadyValue}
 use Rattle.nv_calls.specs.Refusals.{bytes_of, passes}
 use Rattle.nv_calls.specs.Slots.{items_for}
@@ -75,14 +75,19 @@ counted plan all at (c ∷ cells) same = go (items_for plan c.0) refl (counted p
       ∙ sym (ap (λ (xs : List Item). pages_for c.1.state.chain (length xs)) q) in
       omega (arith, more, own, sum_by-cons (page_count all) p rest, sum_by-cons (pages_needed plan) c cells)
 
--- what a plan needs is what the commit of a call that is ready counts
-pub pages_counted : (cells now : List (ℕ × CellValue)) (hand : Hand) (u : Update) (ready : ReadyValue) → HaveNoLessRoom cells now
-    → IsReadyBy cells hand u now ready → sum_by (page_count now) ready.plans ≡ pages_wanted cells (planned_by cells hand u)
-pages_counted cells now hand u ready more is =
-    ap (λ (plans : List CellPlanValue). sum_by (page_count now) plans) is.plans
+-- what a plan needs is what its items, cell by cell, are counted to need
+pub pages_by_plans : (cells now : List (ℕ × CellValue)) (hand : Hand) (u : Update) (plans : List CellPlanValue) → HaveNoLessRoom cells now
+    → plans ≡ plans_by cells hand u → sum_by (page_count now) plans ≡ pages_wanted cells (planned_by cells hand u)
+pages_by_plans cells now hand u plans more are =
+    ap (λ (ps : List CellPlanValue). sum_by (page_count now) ps) are
     ∙ counted (planned_by cells hand u) now 0 cells (λ k lt.
     let place : 0 + k ≡ k = omega arith in
     ap (state_at now) place ∙ more.states k)
+
+-- and what the commit of a call that is ready counts
+pub pages_counted : (cells now : List (ℕ × CellValue)) (hand : Hand) (u : Update) (ready : ReadyValue) → HaveNoLessRoom cells now
+    → IsReadyBy cells hand u now ready → sum_by (page_count now) ready.plans ≡ pages_wanted cells (planned_by cells hand u)
+pages_counted cells now hand u ready more is = pages_by_plans cells now hand u ready.plans more is.plans
 
 -- ---- what bounds them
 

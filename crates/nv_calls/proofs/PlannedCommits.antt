@@ -10,7 +10,7 @@ use Rattle.nv_alloc.specs.declared.hand.Hand.{Hand}
 use Rattle.nv_base.specs.declared.numbers.Handle.{Handle}
 use Rattle.nv_book.specs.Book.{BookValue}
 use Rattle.nv_entry.specs.declared.item.Item.{Item}
-use Rattle.nv_cell.specs.Cell.{CellState, CellValue}
+use Rattle.nv_cell.specs.Cell.{CellValue}
 use Rattle.nv_cell.specs.Room.{IsReadyFor}
 use Rattle.nv_calls.specs.AllCalls.{plan}
 use Rattle.nv_calls.specs.CanCommit.{AllowsCommit, CanCommit, CanTakeItems, HasNumber, IsSettledFor, TakesCommit, goes, numbers_of_all}
@@ -232,7 +232,7 @@ module _ (cells now : List (ℕ × CellValue)) (hand : Hand) (u : Update) (book 
     later = (takes j lt).later;
     within = (have j lt).within;
     block_size = (have j lt).size ∙ sym (still j lt).size;
-    page_size = allows.page_size ∙ ap (λ (c : CellState). c.block) (more.states 0) ∙ sym (still j lt).size;
+    page_size = is.page_size ∙ sym (still j lt).size;
   }
 
   settled : (j : ℕ) → j < length plans → IsSettledFor (plan_at plans j).items (cell_of_plan j).state
@@ -257,18 +257,19 @@ module _ (cells now : List (ℕ × CellValue)) (hand : Hand) (u : Update) (book 
   can_commit = record {
     cells_are = cells_stay cells now more.count more.inos can.lent;
     placed = placed_now;
+    entered = allows.entered;
     append = record {
       each = each;
       blocks = joined plans (block_in cells) ready.hand.«data»
           (subst (λ (ps : List CellPlanValue). (length ps ≤ 1) ⊎ AllByRecursion (λ (p : CellPlanValue). numbers_in p.items ≡ []) ps) same_plans
           (few_use_blocks cells hand u can)) is.blocks;
-      pages = allows.pages;
+      pages = is.pages;
       few = is.few;
     };
     settled = settled;
     records = omega (arith, is.need, allows.records);
     freed = omega (arith, is.need, is.room);
-    chain = allows.chain;
+    chain = is.chain;
     number = has_number;
     one_goes = subst (λ (ps : List CellPlanValue). (i j : ℕ) → i < length ps → j < length ps → goes (plan_at ps i).items ≡ true
         → goes (plan_at ps j).items ≡ true → i ≡ j)

@@ -14,13 +14,14 @@ use Rattle.nv_calls.specs.AllCalls.{blocks_wanted}
 use Rattle.nv_calls.specs.Cells.{ino_at, no_cell, state_at}
 use Rattle.nv_calls.specs.Nodes.{block_in, nodes_in}
 use Rattle.nv_calls.specs.Plan.{AreMaximal, runs_of}
-use Rattle.nv_calls.specs.Prepared.{AreReady, CanReady, HasNoLessRoom, HoldsTheSame, IsReadyBy, IsStill, made_by, planned_by, plans_by, taken_by}
+use Rattle.nv_calls.specs.Prepared.{AreReady, CanReady, HasLogPages, HasNoLessRoom, HaveNoLessRoom, HoldsTheSame, IsReadyBy, IsStill, made_by, planned_by, plans_by, taken_by}
 use Rattle.nv_calls.specs.Ready.{CellPlanValue, ReadyValue, need_of}
 use Rattle.nv_calls.specs.Slots.{items_for}
 use Rattle.nv_calls.specs.Steps.{HaveBlocks}
 use Rattle.nv_calls.specs.Updates.{blank_call}
 use Rattle.nv_calls.specs.declared.update.Update.{Update}
 use Rattle.nv_calls.proofs.CellPlans.{all_at}
+use Rattle.nv_calls.proofs.LogPages.{pages_by_plans}
 use Rattle.nv_calls.proofs.Fitting.{AreFit, none_fit, plan_fits}
 use Rattle.nv_calls.proofs.PlansByCell.{fit_have, few_entries, items_all, plans_all}
 
@@ -77,8 +78,10 @@ pub ready_is : (cells now : List (ℕ × CellValue)) (hand : Hand) (u : Update) 
     → need ≤ left.«data».room
     → AllByRecursion (λ (p : CellPlanValue). HaveBlocks p.items (block_in cells) left.«data») plans
     → sum_by (λ (p : CellPlanValue). length p.items) plans < 2 ^ 32
+    → HasLogPages cells hand u
+    → HaveNoLessRoom cells now
     → IsReadyBy cells hand u now ready
-ready_is cells now hand u made plans left need ready eu em ep eh en made_is runs plans_are some_bytes more are need_is room blocks few =
+ready_is cells now hand u made plans left need ready eu em ep eh en made_is runs plans_are some_bytes more are need_is room blocks few has same =
     let h : left ≡ ready.hand = sym eh in
     let p : plans ≡ ready.plans = sym ep in
     record {
@@ -95,4 +98,12 @@ ready_is cells now hand u made plans left need ready eu em ep eh en made_is runs
       blocks = subst (λ (x : Hand). AllByRecursion (λ (q : CellPlanValue). HaveBlocks q.items (block_in cells) x.«data») ready.plans) h
           (subst (AllByRecursion (λ (q : CellPlanValue). HaveBlocks q.items (block_in cells) left.«data»)) p blocks);
       few = subst (λ (ps : List CellPlanValue). sum_by (λ (q : CellPlanValue). length q.items) ps < 2 ^ 32) p few;
+      page_size = ap (λ (x : Hand). x.pages.size) (eh ∙ more.same) ∙ has.size;
+      pages = omega (
+        arith,
+        pages_by_plans cells now hand u ready.plans same (ep ∙ plans_are),
+        ap (λ (x : Hand). length x.pages.blocks) (eh ∙ more.same),
+        has.enough,
+      );
+      chain = ap (λ (x : Hand). length x.chain) (eh ∙ more.same) ∙ has.chain;
     }

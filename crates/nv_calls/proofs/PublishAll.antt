@@ -1,17 +1,22 @@
 -- Plan by plan, all entries of a commit are published.
-use Rattle.std.proofs.Common.{◌≡◌, ℕ, ◌+◌, ◌<◌, ◌≤◌, List, length, map, below_more, arith, ap, sym, ◌∙◌, subst}
-use Rattle.std.specs.Prelude.{slice_set}
-use Rattle.nv_cell.specs.Cell.{CellState, CellValue, fresh_of, log_of, published}
+use Rattle.std.proofs.Common.{◌≡◌, ℕ, ◌+◌, ◌<◌, ◌≤◌, List, length, map, Option, Some, below_more, arith, ap, ap₂, sym, ◌∙◌, subst}
+use Rattle.std.specs.Prelude.{slice_get, slice_set}
+use Rattle.std.specs.Option.{option_map}
+use Rattle.std.proofs.lemmas.Option.{slice_get-get_or, slice_get-map}
+use Rattle.nv_book.specs.Book.{BookState}
+use Rattle.nv_cell.specs.Cell.{CellState, CellValue, KeepsAppendRoom, fresh_of, log_of, published}
 use Rattle.nv_cell.specs.Effects.{items_of}
 use Rattle.nv_cell.specs.Killed.{AreKilled}
 use Rattle.nv_cell.specs.Weights.{weights_in}
+use Rattle.nv_journal.specs.declared.old_tail.OldTail.{OldTail}
 use Rattle.nv_calls.specs.CanCommit.{CanBePublished, KillsAsTold}
-use Rattle.nv_calls.specs.Cells.{OnlyAt, state_at, value_at}
-use Rattle.nv_calls.specs.Commit.{CommitValue, after_publish, to_publish}
+use Rattle.nv_calls.specs.Cells.{OnlyAt, ino_at, state_at, value_at}
+use Rattle.nv_calls.specs.Commit.{CommitValue, HasJournal, NotesNext, after_publish, to_publish}
 use Rattle.nv_calls.specs.Committed.{place_of}
-use Rattle.nv_calls.specs.Ready.{ArePlaced, CellPlanValue, plan_at}
+use Rattle.nv_calls.specs.Ready.{ArePlaced, CellPlanValue, no_plan, old_tail, old_tails, plan_at}
 use Rattle.nv_calls.specs.Retiring.{killed_by, part_in}
-use Rattle.nv_calls.proofs.Changes.{ArePlansFrom, IsChangedTo, none_changed, one_more, plan_other, plan_own, plans_more, plans_none}
+use Rattle.nv_calls.proofs.CellLists.{other-only}
+use Rattle.nv_calls.proofs.Changes.{ArePlansFrom, IsChangedTo, apart, none_changed, one_more, plan_other, plan_own, plans_more, plans_none}
 
 -- the cell of a plan before it is published, and after it
 abbrev pub cell_of : List (ℕ × CellValue) → CommitValue → ℕ → CellState
@@ -25,6 +30,7 @@ pub record PublishesTo (j : ℕ) (cells : List (ℕ × CellValue)) (start : Comm
   pub changed : IsChangedTo j start.plans (published_of cells start) cells now
   pub plans : ArePlansFrom j start.plans commit.plans
   pub is : commit ≡ (let c : CommitValue = record start { plans = commit.plans; published = j } in c)
+  pub kept : (i : ℕ) → i < j → KeepsAppendRoom (value_at cells (place_of start.plans i)).room (value_at now (place_of start.plans i)).room
   pub killed : (i : ℕ) → i < j → (plan_at commit.plans i).killed ≡ killed_by (cell_of cells start i)
   pub told : (i : ℕ) → i < j → KillsAsTold (cell_of cells start i)
 
@@ -33,6 +39,7 @@ begins cells start none = record {
   changed = none_changed start.plans (published_of cells start) cells;
   plans = plans_none start.plans;
   is = ap (λ (n : ℕ). let c : CommitValue = record start { published = n } in c) none;
+  kept = λ i lt. absurd (omega (arith, lt));
   killed = λ i lt. absurd (omega (arith, lt));
   told = λ i lt. absurd (omega (arith, lt));
 }
@@ -61,14 +68,31 @@ module _ (j : ℕ) (cells : List (ℕ × CellValue)) (start : CommitValue) (now 
       → CanBePublished (value_at now (to_publish commit).at)
   can_next can = subst CanBePublished (sym value_is) (can j lt)
 
+  -- what the journal notes of the plan is the tail that its cell still has
+  pub notes_next : (book : BookState) → (2 ≤ length start.plans → HasJournal book start)
+      → (2 ≤ length start.plans → start.noted ≡ old_tails cells start.plans) → 2 ≤ length commit.plans → NotesNext book now commit
+  notes_next book has noted two =
+      let many : 2 ≤ length start.plans = omega (arith, two, way.plans.same.count) in
+      let tail : old_tail cells plan ≡ old_tail now (to_publish commit) =
+      ap₂ (λ (m n : ℕ). let t : OldTail = record { ino = m; tail = n } in t)
+      (sym (ap (ino_at now) at_is ∙ way.changed.numbers plan.at)) (sym (ap (λ (v : CellValue). v.state.chain.tail) value_is)) in
+      record {
+        journal = subst (λ (c : CommitValue). HasJournal book c) (sym way.is) (has many);
+        tail = ap (λ (c : CommitValue). slice_get c.noted c.published) way.is ∙ ap (λ (ts : List OldTail). slice_get ts j) (noted many)
+            ∙ slice_get-map (old_tail cells) start.plans j
+            ∙ ap (λ (p : Option CellPlanValue). option_map (old_tail cells) p) (slice_get-get_or start.plans j no_plan lt)
+            ∙ ap (λ (t : OldTail). Some t) tail;
+      }
+
   pub goes_on : (new : List (ℕ × CellValue)) (later : CommitValue) → OnlyAt (to_publish commit).at now new
       → state_at new (to_publish commit).at ≡ published (state_at now (to_publish commit).at)
       → later ≡ after_publish (killed_by (state_at now (to_publish commit).at)) commit
       → (let cell = state_at now (to_publish commit).at in
       length (killed_by cell) ≤ weights_in cell.block (log_of cell) (items_of (fresh_of cell)))
       → AreKilled (map part_in (killed_by (state_at now (to_publish commit).at))) (state_at new (to_publish commit).at)
+      → KeepsAppendRoom (value_at now (to_publish commit).at).room (value_at new (to_publish commit).at).room
       → PublishesTo (j + 1) cells start new later
-  goes_on new later only state is few marked =
+  goes_on new later only state is few marked room =
       let cell : state_at now (to_publish commit).at ≡ cell_of cells start j = ap (λ (v : CellValue). v.state) value_is in
       let own_state : state_at new plan.at ≡ published_of cells start j = ap (state_at new) (sym at_is) ∙ state ∙ ap published cell in
       let changed : OnlyAt plan.at now new = subst (λ (k : ℕ). OnlyAt k now new) at_is only in
@@ -86,6 +110,14 @@ module _ (j : ℕ) (cells : List (ℕ × CellValue)) (start : CommitValue) (now 
         } in d) way.is
             ∙ sym (ap (λ (c : CommitValue). let d : CommitValue = record start { plans = c.plans; published = c.published } in d) is)
             ∙ ap (λ (n : ℕ). let d : CommitValue = record start { plans = later.plans; published = n } in d) count;
+        kept = below_more
+            (λ i. KeepsAppendRoom (value_at cells (place_of start.plans i)).room (value_at new (place_of start.plans i)).room) j
+            (λ i li. subst (λ (v : CellValue). KeepsAppendRoom (value_at cells (place_of start.plans i)).room v.room)
+            (sym (other-only now new plan.at (place_of start.plans i) changed
+            (apart cells start.plans placed i j (omega (arith, li, lt)) lt (λ e. omega (arith, li, e)))))
+            (way.kept i li))
+            (subst (λ (v : CellValue). KeepsAppendRoom v.room (value_at new plan.at).room) value_is
+            (subst (λ (k : ℕ). KeepsAppendRoom (value_at now (to_publish commit).at).room (value_at new k).room) at_is room));
         killed = below_more (λ i. (plan_at later.plans i).killed ≡ killed_by (cell_of cells start i)) j
             (λ i li. ap (λ (q : CellPlanValue). q.killed) (plan_other commit.plans later.plans j i p plans (λ e. omega (arith, li, e))) ∙ way.killed i li)
             (ap (λ (q : CellPlanValue). q.killed) (plan_own commit.plans later.plans j p plans inside) ∙ ap killed_by cell);

@@ -119,6 +119,9 @@ module _ (cells now : List (ℕ × CellValue)) (hand : Hand) (u : Update) (ready
     blocks = all_map (λ (p : CellPlanValue). HaveBlocks p.items (block_in cells) ready.hand.«data»)
         (λ (p : CellPlanValue). HaveBlocks p.items (block_in cells) blocks) (λ p have. still_have p.items have) ready.plans is.blocks;
     few = is.few;
+    page_size = is.page_size;
+    pages = is.pages;
+    chain = is.chain;
   } where
     still_have : (items : List Item) → HaveBlocks items (block_in cells) ready.hand.«data» → HaveBlocks items (block_in cells) blocks
     still_have items have = record {

@@ -1,5 +1,5 @@
 -- Plan by plan, what a commit killed is retired.
-use Rattle.std.proofs.Common.{◌≡◌, ℕ, suc, ◌+◌, ◌-◌, ◌<◌, ◌≤◌, ◌&&◌, Bool, true, false, cond, None, List, [], length, take, add-one, arith, refl, ap, ap₂, sym, ◌∙◌, subst}
+use Rattle.std.proofs.Common.{◌≡◌, ℕ, suc, ◌+◌, ◌-◌, ◌<◌, ◌≤◌, ◌&&◌, Bool, true, false, cond, None, List, [], length, take, below_more, add-one, arith, refl, ap, ap₂, sym, ◌∙◌, subst}
 use Rattle.std.specs.Prelude.{slice_set}
 use Rattle.std.specs.List.{sum_by}
 use Rattle.std.proofs.lemmas.List.Sums.{sum_by_more, sum_by_more_le}
@@ -7,19 +7,20 @@ use Rattle.nv_alloc.specs.Queue.{QueueValue}
 use Rattle.nv_alloc.specs.declared.hand.Hand.{Hand}
 use Rattle.nv_book.specs.Book.{BookState, BookValue}
 use Rattle.nv_book.specs.declared.manifest.Manifest.{Manifest}
-use Rattle.nv_cell.specs.Cell.{CellState, CellValue, log_of}
+use Rattle.nv_cell.specs.Cell.{CellRoom, CellState, CellValue, log_of}
 use Rattle.nv_cell.specs.Readers.{is_gone, keeps_nothing}
 use Rattle.nv_cell.specs.declared.killed.KilledPart.{KilledPart}
 use Rattle.nv_epoch.specs.SnapList.{ids}
 use Rattle.nv_log.specs.Chain.{ChainState, log}
 use Rattle.nv_calls.specs.CanCommit.{CanBeRetired, CanRetireAll}
-use Rattle.nv_calls.specs.Cells.{OnlyAt, ino_at, state_at}
+use Rattle.nv_calls.specs.Cells.{OnlyAt, ino_at, state_at, value_at}
 use Rattle.nv_calls.specs.Commit.{CommitValue, after_retire, to_retire}
-use Rattle.nv_calls.specs.Committed.{Killing, hand_after_killings, killed_count, manifests_after, noted_killing, place_of, settled_cell}
+use Rattle.nv_calls.specs.Committed.{Killing, hand_after_killings, killed_count, manifests_after, noted_killing, place_of, settled_cell, settled_room}
 use Rattle.nv_calls.specs.Ready.{ArePlaced, CellPlanValue, no_plan, plan_at}
 use Rattle.nv_calls.specs.Retired.{CanRetire}
-use Rattle.nv_calls.specs.Retiring.{erased, freed_by, hand_retired, hand_with, number_back, retired, with_back, with_records}
-use Rattle.nv_calls.proofs.Changes.{ArePlansFrom, IsChangedTo, none_changed, one_more, plans_more, plans_none}
+use Rattle.nv_calls.specs.Retiring.{erased, freed_by, hand_retired, hand_with, number_back, retired, room_erased, with_back, with_records}
+use Rattle.nv_calls.proofs.CellLists.{other-only}
+use Rattle.nv_calls.proofs.Changes.{ArePlansFrom, IsChangedTo, apart, none_changed, one_more, plans_more, plans_none}
 use Rattle.nv_calls.proofs.Retires.{chain_stays, data_stays, freed_within}
 
 -- the cell of a plan before, and after
@@ -28,6 +29,10 @@ cell_of cells start i = state_at cells (place_of start.plans i)
 
 abbrev pub settled_of : List ℕ → List (ℕ × CellValue) → CommitValue → ℕ → CellState
 settled_of living cells start i = settled_cell living start.stamp.epoch (noted_killing cells start i)
+
+abbrev pub room_of : List ℕ → List (ℕ × CellValue) → CommitValue → ℕ → CellRoom
+room_of living cells start i =
+    settled_room living start.stamp.epoch (noted_killing cells start i) (value_at cells (place_of start.plans i)).room
 
 -- no inode among the first is gone
 abbrev NoneGone : ℕ → List (ℕ × CellValue) → CommitValue → Type 0
@@ -50,6 +55,7 @@ pub record RetiresTo (j : ℕ) (cells : List (ℕ × CellValue)) (start : Commit
   pub state : book.state ≡ (let b : BookState = record shelf.state {
     manifests = manifests_after (ids shelf.state.snaps) start.stamp.epoch (noted_killing cells start) j shelf.state.manifests;
   } in b)
+  pub rooms : (i : ℕ) → i < j → (value_at now (place_of start.plans i)).room ≡ room_of (ids shelf.state.snaps) cells start i
   pub records : shelf.room ≤ book.room + sum_by killed_count (take j start.plans)
   pub freed : start.hand.data.room ≤ commit.hand.data.room + sum_by killed_count (take j start.plans)
   pub size : commit.hand.data.size ≡ start.hand.data.size
@@ -62,6 +68,7 @@ begins cells start book none = record {
   plans = plans_none start.plans;
   is = ap (λ (n : ℕ). let c : CommitValue = record start { retired = n } in c) none;
   state = refl;
+  rooms = λ i lt. absurd (omega (arith, lt));
   records = omega arith;
   freed = omega arith;
   size = refl;
@@ -128,6 +135,9 @@ module _ (j : ℕ) (cells : List (ℕ × CellValue)) (start : CommitValue) (shel
   pub within_now : (to_retire commit).at < length now
   within_now = omega (arith, at_is, placed.within j lt, way.changed.count)
 
+  value_is : value_at now (to_retire commit).at ≡ value_at cells plan.at
+  value_is = ap (value_at now) at_is ∙ way.changed.waiting j (omega arith) lt
+
   cell_is : state_at now (to_retire commit).at ≡ cell_of cells start j
   cell_is = ap (λ (k : ℕ). state_at now k) at_is ∙ ap (λ (v : CellValue). v.state) (way.changed.waiting j (omega arith) lt)
 
@@ -191,8 +201,11 @@ module _ (j : ℕ) (cells : List (ℕ × CellValue)) (start : CommitValue) (shel
       } in b)
       → book.room ≤ after.room + length (to_retire commit).killed
       → later ≡ after_retire (ids book.state.snaps) (ino_at now (to_retire commit).at) (state_at now (to_retire commit).at) commit
+      → (value_at new (to_retire commit).at).room
+      ≡ room_erased (retired (ids book.state.snaps) (ino_at now (to_retire commit).at) commit.stamp.epoch (to_retire commit).killed
+      (state_at now (to_retire commit).at)) (value_at now (to_retire commit).at).room
       → RetiresTo (j + 1) cells start shelf new later after
-  goes_on new later after only state book_is room is =
+  goes_on new later after only state book_is room is cell_room =
       let changed : OnlyAt plan.at now new = subst (λ (k : ℕ). OnlyAt k now new) at_is only in
       let settle : List ℕ → ℕ → ℕ → List KilledPart → CellState → CellState = λ l m e ks c. erased (retired l m e ks c) in
       let own_state : state_at new plan.at ≡ settled_of living cells start j =
@@ -200,6 +213,13 @@ module _ (j : ℕ) (cells : List (ℕ × CellValue)) (start : CommitValue) (shel
       ∙ ap₂ (λ (l : List ℕ) (m : ℕ). settle l m commit.stamp.epoch (to_retire commit).killed (state_at now (to_retire commit).at)) lives ino_is
       ∙ ap₂ (λ (e : ℕ) (ks : List KilledPart). settle living noted.ino e ks (state_at now (to_retire commit).at)) epoch_is killed_is
       ∙ ap (settle living noted.ino start.stamp.epoch plan.killed) cell_is in
+      let leave : List ℕ → ℕ → ℕ → List KilledPart → CellValue → CellRoom = λ l m e ks v. room_erased (retired l m e ks v.state) v.room in
+      let own_cell_room : (value_at new plan.at).room ≡ room_of living cells start j =
+      ap (λ (k : ℕ). (value_at new k).room) (sym at_is) ∙ cell_room
+      ∙ ap₂ (λ (l : List ℕ) (m : ℕ). leave l m commit.stamp.epoch (to_retire commit).killed (value_at now (to_retire commit).at))
+      lives ino_is
+      ∙ ap₂ (λ (e : ℕ) (ks : List KilledPart). leave living noted.ino e ks (value_at now (to_retire commit).at)) epoch_is killed_is
+      ∙ ap (leave living noted.ino start.stamp.epoch plan.killed) value_is in
       let p : CellPlanValue = record (to_retire commit) { killed = [] } in
       let plans : later.plans ≡ slice_set commit.plans j p =
       ap (λ (c : CommitValue). c.plans) is ∙ ap (λ (n : ℕ). slice_set commit.plans n p) retired_is in
@@ -238,6 +258,10 @@ module _ (j : ℕ) (cells : List (ℕ × CellValue)) (start : CommitValue) (shel
         state = book_is ∙ ap (λ (m : List Manifest). let b : BookState = record book.state { manifests = m } in b) own_records
             ∙ ap (λ (s : BookState). let b : BookState = record s { manifests = records s.manifests } in b) way.state
             ∙ ap (λ (m : List Manifest). let b : BookState = record shelf.state { manifests = m } in b) manifests_suc;
+        rooms = below_more (λ i. (value_at new (place_of start.plans i)).room ≡ room_of living cells start i) j
+            (λ i li. ap (λ (v : CellValue). v.room) (other-only now new plan.at (place_of start.plans i) changed
+            (apart cells start.plans placed i j (omega (arith, li, lt)) lt (λ e. omega (arith, li, e))))
+            ∙ way.rooms i li) own_cell_room;
         records = omega (arith, way.records, room, count_is, sum_is);
         freed = omega (arith, way.freed, own_room, few, sum_is);
         size = ap (λ (q : QueueValue). q.size) own_data ∙ way.size;

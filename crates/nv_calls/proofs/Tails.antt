@@ -1,13 +1,15 @@
 -- The tails that a commit notes are of different inodes.
-use Rattle.std.proofs.Common.{◌≡◌, ℕ, zero, suc, ◌<◌, List, [], ◌∷◌, length, get_or, arith, refl, ap, sym, ◌∙◌}
-use Rattle.std.specs.Prelude.{slice_index_or, slice_set}
+use Rattle.std.proofs.Common.{◌≡◌, ℕ, zero, suc, ◌<◌, Some, List, [], ◌∷◌, length, get_or, arith, refl, ap, sym, ◌∙◌, subst}
+use Rattle.std.specs.Prelude.{slice_get, slice_index_or, slice_set}
 use Rattle.std.specs.List.{AllPairs}
 use Rattle.std.proofs.lemmas.List.{get_or-map}
 use Rattle.std.proofs.Math.ListN.{length-map}
+use Rattle.nv_book.specs.Book.{BookValue, with_journal}
 use Rattle.nv_cell.specs.Cell.{CellValue}
 use Rattle.nv_journal.specs.Journal.{AreDistinct}
 use Rattle.nv_journal.specs.declared.old_tail.OldTail.{OldTail}
 use Rattle.nv_calls.specs.Cells.{no_cell}
+use Rattle.nv_calls.specs.Commit.{CommitValue, HasJournal, after_open}
 use Rattle.nv_calls.specs.Ready.{ArePlaced, CellPlanValue, no_plan, old_tail, old_tails}
 
 pub tails_differ : (cells : List (ℕ × CellValue)) (plans : List CellPlanValue) → AllPairs (λ a b. a.0 < b.0) cells → ArePlaced cells plans
@@ -32,3 +34,18 @@ pub journal_back : (journals : List (List OldTail)) (cpu : ℕ) (tails : List Ol
 journal_back [] cpu tails closed = refl
 journal_back (j ∷ journals) zero tails closed = ap (λ (x : List OldTail). x ∷ journals) (sym closed)
 journal_back (j ∷ journals) (suc cpu) tails closed = ap (λ (xs : List (List OldTail)). j ∷ xs) (journal_back journals cpu tails closed)
+
+-- the journal that a commit opened is open in the book
+has_set : (journals : List (List OldTail)) (cpu : ℕ) (tails : List OldTail) → cpu < length journals
+    → slice_get (slice_set journals cpu tails) cpu ≡ Some tails
+has_set [] cpu tails lt = absurd (omega (arith, lt))
+has_set (j ∷ journals) zero tails lt = refl
+has_set (j ∷ journals) (suc cpu) tails lt = has_set journals cpu tails (omega (arith, lt))
+
+pub journal_open : (book now : BookValue) (old commit : CommitValue) (cpu : ℕ) (tails : List OldTail) → cpu < length book.state.journals
+    → now ≡ (let b : BookValue = record book { state = with_journal cpu tails book.state } in b) → commit ≡ after_open cpu tails old
+    → HasJournal now.state commit
+journal_open book now old commit cpu tails within book_is commit_is =
+    subst (λ (b : BookValue). HasJournal b.state commit) (sym book_is)
+    (subst (λ (c : CommitValue). HasJournal (with_journal cpu tails book.state) c) (sym commit_is)
+    (has_set book.state.journals cpu tails within))

@@ -6,7 +6,7 @@ use Rattle.nv_alloc.specs.Block.{numbers_of}
 use Rattle.nv_alloc.specs.declared.hand.Hand.{Hand}
 use Rattle.nv_base.specs.declared.limits.TheConstants.{NUMBER}
 use Rattle.nv_base.specs.declared.numbers.Handle.{Handle}
-use Rattle.nv_book.specs.Book.{BookValue}
+use Rattle.nv_book.specs.Book.{BookState, BookValue, after_enter}
 use Rattle.nv_cell.specs.Append.{IsWithinFile}
 use Rattle.nv_cell.specs.Cell.{CellState, CellValue, fresh_of, log_of, published}
 use Rattle.nv_cell.specs.Effects.{items_of}
@@ -21,7 +21,6 @@ use Rattle.nv_calls.specs.Cells.{AreCells, value_at, state_at}
 use Rattle.nv_calls.specs.Commit.{CommitValue, begun, stamp_of}
 use Rattle.nv_calls.specs.Committed.{entry_count, killed_count, page_count, place_of}
 use Rattle.nv_calls.specs.Ready.{ArePlaced, CellPlanValue, ReadyValue, need_of, plan_at}
-use Rattle.nv_calls.specs.Nodes.{block_in}
 use Rattle.nv_calls.specs.Retiring.{killed_by, part_in}
 use Rattle.nv_calls.specs.Steps.{IsLater, numbers_in}
 
@@ -94,10 +93,15 @@ pub record HasNumber (ready : ReadyValue) : Type 0 where
   pub number : ready.hand.ino ≡ option_map (λ (h : Handle). h.ino) ready.made
   pub linked : IsSome ready.made → 2 ≤ length ready.plans
 
--- what is ready can be committed as the book's latest commit, with a CPU's journal
+-- a book as an enter leaves it: the latest event of its history is the commit of its number, in the present epoch
+abbrev pub IsEntered : BookState → Type 0
+IsEntered book = (seat : ℕ) × ((before : BookState) × (book ≡ after_enter seat before))
+
+-- what is ready can be committed as the book's latest commit, which was just entered, with a CPU's journal
 pub record CanCommit (cells : List (ℕ × CellValue)) (book : BookValue) (cpu : ℕ) (ready : ReadyValue) : Type 0 where
   pub cells_are : AreCells cells
   pub placed : ArePlaced cells ready.plans
+  pub entered : IsEntered book.state
   pub append : CanAppendAll cells (begun (stamp_of book.state) ready)
   pub settled : (j : ℕ) → j < length ready.plans
       → IsSettledFor (plan_at ready.plans j).items (state_at cells (place_of ready.plans j))
@@ -118,13 +122,11 @@ pub record TakesCommit (stamp : Stamp) (cell : CellValue) : Type 0 where
   pub version : cell.state.version < 2 ^ 62
   pub generation : cell.state.generation < NUMBER
 
--- what a commit asks beside a call that is ready: its cells take a commit of the book's latest number, the book has room
--- for its records and the hand the pages of the logs, and a CPU's journal is closed
+-- what a commit asks beside a call that is ready: it was entered, its cells take a commit of that number, the book has room
+-- for its records, and a CPU's journal is closed
 pub record AllowsCommit (cells : List (ℕ × CellValue)) (book : BookValue) (cpu : ℕ) (ready : ReadyValue) : Type 0 where
+  pub entered : IsEntered book.state
   pub take : AllByRecursion (λ p. TakesCommit (stamp_of book.state) (value_at cells p.at)) ready.plans
   pub records : ready.need ≤ book.room
-  pub page_size : ready.hand.pages.size ≡ block_in cells
-  pub pages : sum_by (page_count cells) ready.plans ≤ length ready.hand.pages.blocks
-  pub chain : length ready.hand.chain ≡ 0
   pub cpu_is : cpu < length book.state.journals
   pub closed : slice_index_or book.state.journals cpu [] ≡ []

@@ -1,9 +1,6 @@
 -- The cells of a call: the number of each inode with what contracts see of its cell, by rising number.
-use Rattle.std.specs.Prelude.{◌≡◌, ℕ, ◌<◌, ◌≤◌, List, None, AllPairs, length, slice_index_or, slice_set}
-use Rattle.nv_cell.specs.Cell.{CellRoom, CellState, CellValue, empty_cell}
-
-abbrev pub no_room : CellRoom
-no_room = record { pages = 0; entries = 0; parts = 0; runs = 0; name = None; killed = 0 }
+use Rattle.std.specs.Prelude.{◌≡◌, ℕ, ◌<◌, ◌≤◌, List, AllPairs, length, slice_index_or, slice_set}
+use Rattle.nv_cell.specs.Cell.{CellState, CellValue, empty_cell, no_room}
 
 -- what stands past the last cell
 abbrev pub no_cell : ℕ × CellValue

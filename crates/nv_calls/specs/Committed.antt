@@ -1,15 +1,16 @@
 -- What a whole commit makes of its cells, of the manifests and of the hand, by what stood when it began.
-use Rattle.std.specs.Prelude.{◌≡◌, ℕ, zero, suc, ◌<◌, List, length, None, take}
+use Rattle.std.specs.Prelude.{◌≡◌, ℕ, zero, suc, ◌<◌, if◌then◌else◌, nat_lt, List, [], length, None, take}
 use Rattle.std.specs.List.{sum_by}
 use Rattle.nv_alloc.specs.declared.hand.Hand.{Hand}
 use Rattle.nv_book.specs.declared.manifest.Manifest.{Manifest}
-use Rattle.nv_cell.specs.Cell.{CellState, CellValue, published}
+use Rattle.nv_cell.specs.Cell.{CellRoom, CellState, CellValue, KeepsAppendRoom, published}
 use Rattle.nv_cell.specs.declared.killed.KilledPart.{KilledPart}
+use Rattle.nv_journal.specs.declared.old_tail.OldTail.{OldTail}
 use Rattle.nv_log.specs.Chain.{pages_for}
 use Rattle.nv_calls.specs.Cells.{ino_at, state_at, value_at}
-use Rattle.nv_calls.specs.Commit.{CommitValue}
-use Rattle.nv_calls.specs.Ready.{CellPlanValue, plan_at}
-use Rattle.nv_calls.specs.Retiring.{erased, hand_retired, killed_by, retired, with_records}
+use Rattle.nv_calls.specs.Commit.{CommitValue, ReceiptValue, receipt_of}
+use Rattle.nv_calls.specs.Ready.{CellPlanValue, old_tails, plan_at}
+use Rattle.nv_calls.specs.Retiring.{erased, hand_retired, killed_by, retired, room_erased, with_records}
 use Rattle.nv_calls.specs.Steps.{numbers_in, with_plan, without_front}
 
 -- the place of the j-th plan's cell; and a place that no plan is for
@@ -59,6 +60,16 @@ grown cells commit j =
     with_plan commit.stamp (place_before commit.plans j) (plan_at commit.plans j).items (hand_before cells commit j)
     (value_at cells (place_of commit.plans j))
 
+-- ---- publishing
+
+-- what the journal notes: the old tails of all planned cells, where they are two or more
+abbrev pub journaled : List (ℕ × CellValue) → List CellPlanValue → List OldTail
+journaled cells plans = if nat_lt 1 (length plans) then old_tails cells plans else []
+
+-- the planned cells have so much room to append
+abbrev pub HaveAppendRoom : List CellPlanValue → (ℕ → CellRoom) → List (ℕ × CellValue) → Type 0
+HaveAppendRoom plans room cells = (j : ℕ) → j < length plans → KeepsAppendRoom (room j) (value_at cells (place_of plans j)).room
+
 -- ---- retiring
 
 -- the number of an inode, parts of it that were killed, and its cell
@@ -90,6 +101,10 @@ killing cells commit j = record {
 abbrev pub settled_cell : List ℕ → ℕ → Killing → CellState
 settled_cell living epoch k = erased (retired living k.ino epoch k.parts k.cell)
 
+-- and its room, of what it had
+abbrev pub settled_room : List ℕ → ℕ → Killing → CellRoom → CellRoom
+settled_room living epoch k room = room_erased (retired living k.ino epoch k.parts k.cell) room
+
 -- the manifests, and a hand, once the first of several killings are retired
 abbrev pub manifests_after : List ℕ → ℕ → (ℕ → Killing) → ℕ → List Manifest → List Manifest
 manifests_after living epoch killings zero manifests = manifests
@@ -106,6 +121,14 @@ hand_after_killings living epoch killings (suc j) hand =
 -- the cell of the j-th plan after the commit
 abbrev pub committed : List ℕ → List (ℕ × CellValue) → CommitValue → ℕ → CellState
 committed living cells commit j = settled_cell living commit.stamp.epoch (killing cells commit j)
+
+-- its room to append: what its appends left, and none where it was erased
+abbrev pub room_left : List ℕ → List (ℕ × CellValue) → CommitValue → ℕ → CellRoom
+room_left living cells commit j = settled_room living commit.stamp.epoch (killing cells commit j) (grown cells commit j).room
+
+-- what the commit tells of itself
+abbrev pub receipt_by : List (ℕ × CellValue) → CommitValue → ReceiptValue
+receipt_by cells commit = record (receipt_of commit) { noted = journaled cells commit.plans }
 
 -- what the hand then holds: what appending left of it, without the number of a new inode, and what is free
 abbrev pub hand_left : List ℕ → List (ℕ × CellValue) → CommitValue → Hand

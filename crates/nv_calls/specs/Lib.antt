@@ -1,6 +1,7 @@
 pub mod AllCalls
 pub mod CanCommit
 pub mod Cells
+pub mod Checked
 pub mod Commit
 pub mod Committed
 pub mod FillPages
@@ -8,6 +9,7 @@ pub mod Filled
 pub mod Filling
 pub mod Lawful
 pub mod Locked
+pub mod Next
 pub mod Nodes
 pub mod Plain
 pub mod Plan
@@ -23,4 +25,5 @@ pub mod Slots
 pub mod Steps
 pub mod Updates
 pub mod Views
+pub mod WholeCall
 pub mod calls

@@ -11,7 +11,7 @@ use Rattle.nv_calls.specs.declared.view.View.{View}
 use Rattle.nv_calls.specs.AllCalls.{answer, refusal}
 use Rattle.nv_calls.specs.Cells.{state_at}
 use Rattle.nv_calls.specs.Plain.{PlainNode, node_in}
-use Rattle.nv_calls.specs.Refusals.{passes}
+use Rattle.nv_calls.specs.Refusals.{Check, passes}
 use Rattle.nv_calls.specs.Slots.{Slot}
 use Rattle.nv_calls.specs.Views.{node_of, slot_of}
 
@@ -31,13 +31,6 @@ with_bytes bytes p = record p { node = record p.node { bytes = bytes } }
 abbrev pub own_node : CellState → Handle → Option PlainNode
 own_node cell handle = option_map (with_bytes (own_bytes cell)) (node_of (λ number. []) cell handle)
 
--- a view of a call that passes, by the bytes of the cell's own blocks
-pub record IsOwnView (cell : CellState) (c : Call) (view : View) : Type 0 where
-  pub passes : refusal cell.block (node_in (own_node cell)) c ≡ passes
-  pub call : view.call ≡ c
-  pub found : (made : Handle) → view.found ≡ answer (own_node cell) made c
-  pub version : view.version ≡ cell.version
-
 -- the plain node under a handle: that of the cell with its number
 abbrev pub plain_nodes : List (ℕ × CellValue) → Handle → Option PlainNode
 plain_nodes cells handle = option_and_then (λ c. own_node c.state handle) (cell_of cells handle.ino)
@@ -51,6 +44,37 @@ cell_has_page page cell = is_some (block_now cell.block (log_of cell) page)
 
 abbrev pub has_page_in : List (ℕ × CellValue) → Handle → ℕ → Bool
 has_page_in cells handle page = unwrap_or (option_map (λ c. cell_has_page page c.state) (cell_of cells handle.ino)) false
+
+-- ---- what a call that only reads finds
+
+-- one cell, with the number of its inode
+abbrev pub alone : ℕ → CellValue → List (ℕ × CellValue)
+alone ino cell = (ino, cell) ∷ []
+
+-- the plain node under a handle, where `bytes` gives those of a block
+abbrev pub nodes_by : (ℕ → List ℕ) → List (ℕ × CellValue) → Handle → Option PlainNode
+nodes_by bytes cells handle = option_and_then (λ c. node_of bytes c.state handle) (cell_of cells handle.ino)
+
+abbrev pub copies_by : (ℕ → List ℕ) → List (ℕ × CellValue) → Handle → Option NodeCopy
+copies_by bytes cells = node_in (nodes_by bytes cells)
+
+-- why a call is refused that only reads the cell of an inode
+abbrev pub view_refusal : (ℕ → List ℕ) → ℕ → CellValue → Call → Check
+view_refusal bytes ino cell c = refusal cell.state.block (copies_by bytes (alone ino cell)) c
+
+-- a view of a call that passes, over these nodes: it has the call, what they answer, and the version of the cell
+pub record IsViewOver (nodes : Handle → Option PlainNode) (cell : CellState) (c : Call) (view : View) : Type 0 where
+  pub passes : refusal cell.block (node_in nodes) c ≡ passes
+  pub call : view.call ≡ c
+  pub found : (made : Handle) → view.found ≡ answer nodes made c
+  pub version : view.version ≡ cell.version
+
+abbrev pub IsView : (ℕ → List ℕ) → ℕ → CellValue → Call → View → Type 0
+IsView bytes ino cell c view = IsViewOver (nodes_by bytes (alone ino cell)) cell.state c view
+
+-- by the bytes of the cell's own blocks
+abbrev pub IsOwnView : ℕ → CellValue → Call → View → Type 0
+IsOwnView ino cell c view = IsViewOver (plain_nodes (alone ino cell)) cell.state c view
 
 -- ---- the cells as slots
 

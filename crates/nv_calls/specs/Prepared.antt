@@ -12,7 +12,9 @@ use Rattle.nv_cell.specs.Cell.{CellState, CellValue}
 use Rattle.nv_cell.specs.Room.{HasNoLess, IsReadyFor}
 use Rattle.nv_calls.specs.AllCalls.{blocks_wanted, ends_in_page, is_nothing, plan, refusal}
 use Rattle.nv_calls.specs.Cells.{AreCells, ino_at, state_at, value_at}
+use Rattle.nv_calls.specs.Committed.{page_count}
 use Rattle.nv_calls.specs.Nodes.{block_in, cell_of, has_page_in, nodes_in, slots_by}
+use Rattle.nv_calls.specs.PagesWanted.{pages_wanted}
 use Rattle.nv_calls.specs.Plan.{AreMaximal, runs_of}
 use Rattle.nv_calls.specs.Ready.{CellPlanValue, ReadyValue, need_of}
 use Rattle.nv_calls.specs.Refusals.{passes}
@@ -125,8 +127,14 @@ pub record CanReady (cells : List (ℕ × CellValue)) (hand : Hand) (u : Update)
   pub size : hand.data.size ≡ block_in cells
   pub small : AllByRecursion (λ b. b.number < 2 ^ 32) hand.data.blocks
 
+-- the hand holds the log pages that the plan wants, each of the cells' size, and the chain of no inode that is gone
+pub record HasLogPages (cells : List (ℕ × CellValue)) (hand : Hand) (u : Update) : Type 0 where
+  pub size : hand.pages.size ≡ block_in cells
+  pub enough : pages_wanted cells (planned_by cells hand u) ≤ length hand.pages.blocks
+  pub chain : length hand.chain ≡ 0
+
 -- a call over these cells and with this hand is ready: its blocks are maximal runs, none left out, whatever their bytes; the
--- cells have room for its items, and the hand for the blocks that it may set free
+-- cells have room for its items, and the hand for the blocks that it may set free, and the pages that the logs need
 pub record IsReadyBy (cells : List (ℕ × CellValue)) (hand : Hand) (u : Update) (now : List (ℕ × CellValue)) (ready : ReadyValue)
     : Type 0 where
   pub update : ready.update ≡ u
@@ -141,3 +149,6 @@ pub record IsReadyBy (cells : List (ℕ × CellValue)) (hand : Hand) (u : Update
   pub room : ready.need ≤ ready.hand.data.room
   pub blocks : AllByRecursion (λ p. HaveBlocks p.items (block_in cells) ready.hand.data) ready.plans
   pub few : sum_by (λ p. length p.items) ready.plans < 2 ^ 32
+  pub page_size : ready.hand.pages.size ≡ block_in cells
+  pub pages : sum_by (page_count now) ready.plans ≤ length ready.hand.pages.blocks
+  pub chain : length ready.hand.chain ≡ 0

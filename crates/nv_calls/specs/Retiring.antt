@@ -10,7 +10,7 @@ use Rattle.nv_book.specs.Records.{holder_of}
 use Rattle.nv_book.specs.declared.manifest.Manifest.{Manifest}
 use Rattle.nv_book.specs.declared.record.Record.{Record}
 use Rattle.nv_entry.specs.declared.part.PartId.{PartId}
-use Rattle.nv_cell.specs.Cell.{CellState, empty_cell, killed_of, log_of, number_in, with_mark, without_part}
+use Rattle.nv_cell.specs.Cell.{CellRoom, CellState, empty_cell, killed_of, log_of, no_room, number_in, with_mark, without_part}
 use Rattle.nv_cell.specs.Numbers.{killed_part}
 use Rattle.nv_cell.specs.Readers.{is_gone, keeps_nothing}
 use Rattle.nv_cell.specs.declared.killed.KilledPart.{KilledPart}
@@ -71,6 +71,10 @@ is_erased cell = is_gone (log_of cell) && keeps_nothing cell
 
 abbrev pub erased : CellState → CellState
 erased cell = if is_erased cell then empty_cell cell.block cell.chain.page (cell.generation + 1) cell.version else cell
+
+-- the room that this leaves: what is erased keeps none but that for killed parts
+abbrev pub room_erased : CellState → CellRoom → CellRoom
+room_erased cell room = if is_erased cell then record no_room { killed = room.killed } else room
 
 -- the number of an erased inode goes to the hand, unless its slot has had the last generation
 abbrev pub number_back : ℕ → CellState → Option ℕ → Option ℕ

@@ -1,5 +1,5 @@
--- What a call that only reads finds in the cell of its inode.
-use Rattle.std.specs.Prelude.{◌≡◌, ℕ, Bool, true, false, List, Option, Result, Ok, Err}
+-- The node that a cell holds, and which calls only read.
+use Rattle.std.specs.Prelude.{ℕ, Bool, true, false, List, Option, Result, Ok, Err}
 use Rattle.nv_base.specs.declared.fault.Fault.{Fault}
 use Rattle.nv_base.specs.declared.numbers.Handle.{Handle}
 use Rattle.nv_entry.specs.declared.node.NodeCopy.{NodeCopy}
@@ -7,8 +7,6 @@ use Rattle.nv_cell.specs.Cell.{CellState, log_of}
 use Rattle.nv_cell.specs.declared.stat.Stat.{Stat}
 use Rattle.nv_calls.specs.declared.call.Call.{Call}
 use Rattle.nv_calls.specs.declared.call.Call.TheVariants as call
-use Rattle.nv_calls.specs.declared.view.View.{View}
-use Rattle.nv_calls.specs.AllCalls.{answer, refusal}
 use Rattle.nv_calls.specs.Plain.{PlainNode, node_in}
 use Rattle.nv_calls.specs.Refusals.{Check, passes}
 use Rattle.nv_calls.specs.Slots.{Slot, node_under}
@@ -34,7 +32,7 @@ abbrev pub check_of : {T : Type 0} → Result T Fault → Check
 check_of (Ok found) = passes
 check_of (Err fault) = Err fault
 
--- ---- views
+-- ---- calls that only read
 
 abbrev pub is_stat : Call → Bool
 is_stat (call.Stat handle) = true
@@ -51,14 +49,3 @@ is_list other = false
 abbrev pub is_read : Call → Bool
 is_read (call.Read file offset count) = true
 is_read other = false
-
--- why a call is refused that only reads this cell
-abbrev pub view_refusal : (ℕ → List ℕ) → CellState → Call → Check
-view_refusal bytes cell c = refusal cell.block (copy_of bytes cell) c
-
--- a view of a call that passes: it has the call, what the node answers, and the version
-pub record IsView (bytes : ℕ → List ℕ) (cell : CellState) (c : Call) (view : View) : Type 0 where
-  pub passes : view_refusal bytes cell c ≡ passes
-  pub call : view.call ≡ c
-  pub found : (made : Handle) → view.found ≡ answer (node_of bytes cell) made c
-  pub version : view.version ≡ cell.version

@@ -11,23 +11,25 @@ use nv_log::Chain;
 ///
 /// Each method that changes a cell does so as the cell's own method of that name.
 pub trait Cells {
-    ghost use Rattle.std.specs.Prelude.{◌≡◌, ℕ, ◌+◌, ◌-◌, ◌<◌, ◌≤◌, ◌^◌, ◌⊎◌, List, None, OnErr, OnOk, IsOk, Some, drop, length, map, slice_index_or, true, vec_len};
+    ghost use Rattle.std.specs.Prelude.{◌≡◌, ℕ, ◌+◌, ◌-◌, ◌<◌, ◌≤◌, ◌^◌, ◌⊎◌, ◌∷◌, List, None, OnErr, OnOk, IsOk, Some, drop, length, map, slice_index_or, true, vec_len};
+    ghost use Rattle.std.specs.List.{sum_by};
     ghost use Rattle.nv_base.specs.Refusals.{FailsOnly};
     ghost use Rattle.nv_base.specs.declared.fault.Fault.TheVariants.{OutOfMemory};
     ghost use Rattle.nv_base.specs.declared.limits.TheConstants.{NUMBER};
     ghost use Rattle.nv_alloc.specs.Block.{numbers_of};
     ghost use Rattle.nv_entry.specs.Covered.{part_count};
     ghost use Rattle.nv_entry.specs.Blocks.{item_blocks};
-    ghost use Rattle.nv_log.specs.Chain.{with_page};
+    ghost use Rattle.nv_entry.specs.declared.item.Item.{Item as ItemValue};
+    ghost use Rattle.nv_log.specs.Chain.{AppendsEntry, with_page};
     ghost use Rattle.nv_cell.specs.declared.mark.Mark.TheVariants as mark;
     ghost use Rattle.nv_cell.specs.Append.{MayAppend, after_append, appended, blocks_for};
-    ghost use Rattle.nv_cell.specs.Cell.{CellValue, IsReady, KeepsAppendRoom, empty_cell, fresh_of, killed_of, log_of, mark_named, number_in, published, with_mark, without_part};
-    ghost use Rattle.nv_cell.specs.Effects.{BindOne, items_of};
+    ghost use Rattle.nv_cell.specs.Cell.{CellValue, IsReady, KeepsAppendRoom, empty_cell, fresh_of, killed_of, log_of, mark_named, no_room, number_in, published, with_mark, without_part};
+    ghost use Rattle.nv_cell.specs.Effects.{BindNone, BindOne, items_of};
     ghost use Rattle.nv_cell.specs.Killed.{AreKilled};
     ghost use Rattle.nv_cell.specs.Numbers.{killed_part};
     ghost use Rattle.nv_cell.specs.Readers.{is_gone, keeps_nothing};
-    ghost use Rattle.nv_cell.specs.Room.{HasNoLess, IsReadyFor};
-    ghost use Rattle.nv_cell.specs.Weights.{weights_in};
+    ghost use Rattle.nv_cell.specs.Room.{AddsPage, HasNoLess, IsReadyFor};
+    ghost use Rattle.nv_cell.specs.Weights.{runs_of, weights_in};
     ghost use Rattle.nv_calls.specs.Cells.{OnlyAt, ino_at, state_at, value_at};
 
     ghost cells: { Self → List (ℕ × CellValue) };
@@ -70,7 +72,7 @@ pub trait Cells {
         ensures places { places self.new ≡ places self.old }
         ensures beside { beside self.new ≡ beside self.old };
 
-    /// Adds a page of the log behind the others.
+    /// Adds a page of the log behind the others. What the cell is ready for, it stays ready for.
     fn add_page(&mut self, k: usize, block: Block)
         requires within { k < length (cells self.old) }
         requires reserved { 0 < (value_at (cells self.old) k).room.pages }
@@ -82,10 +84,15 @@ pub trait Cells {
         ensures room { (value_at (cells self.new) k).room ≡ record ((value_at (cells self.old) k).room) {
           pages = (value_at (cells self.old) k).room.pages - 1;
         } }
+        ensures pages { AddsPage (state_at (cells self.old) k).chain
+            (state_at (cells self.new) k).chain }
+        ensures ready { (items : List ItemValue) → IsReadyFor items (value_at (cells self.old) k)
+            → IsReadyFor items (value_at (cells self.new) k) }
         ensures places { places self.new ≡ places self.old }
         ensures beside { beside self.new ≡ beside self.old };
 
-    /// Appends an entry past the tail, with the blocks of its pages from the front of the queue.
+    /// Appends an entry past the tail, with the blocks of its pages from the front of the queue. A cell that is ready for
+    /// items of which this is the first is then ready for the others.
     fn append(&mut self, k: usize, entry: Entry, queue: &mut BlockQueue)
         requires within { k < length (cells self.old) }
         requires next { MayAppend entry (value_at (cells self.old) k) }
@@ -97,6 +104,11 @@ pub trait Cells {
             ≡ appended entry (blocks_for entry.item queue.old.blocks) (state_at (cells self.old) k) }
         ensures room { (value_at (cells self.new) k).room
             ≡ after_append (part_count entry) (value_at (cells self.old) k).room }
+        ensures pages { AppendsEntry entry (state_at (cells self.old) k).chain
+            (state_at (cells self.new) k).chain }
+        ensures ready { (later : List ItemValue)
+            → IsReadyFor (entry.item ∷ later) (value_at (cells self.old) k)
+            → IsReadyFor later (value_at (cells self.new) k) }
         ensures queue { queue.new ≡ record queue.old {
           blocks = drop (length (item_blocks entry.item)) queue.old.blocks;
           room = queue.old.room + length (item_blocks entry.item);
@@ -120,6 +132,10 @@ pub trait Cells {
             (log_of (state_at (cells self.old) k)) (items_of (fresh_of (state_at (cells self.old) k))) }
         ensures marked { AreKilled (map (λ killed. killed.part) result.items) (state_at (cells self.new) k) }
         ensures room { KeepsAppendRoom (value_at (cells self.old) k).room (value_at (cells self.new) k).room }
+        ensures runs { (value_at (cells self.old) k).room.runs
+            ≤ (value_at (cells self.new) k).room.runs + sum_by runs_of (items_of (fresh_of (state_at (cells self.old) k))) }
+        ensures name { BindNone (items_of (fresh_of (state_at (cells self.old) k)))
+            → (value_at (cells self.new) k).room.name ≡ (value_at (cells self.old) k).room.name }
         ensures places { places self.new ≡ places self.old }
         ensures beside { beside self.new ≡ beside self.old };
 
@@ -161,6 +177,8 @@ pub trait Cells {
         ensures state { state_at (cells self.new) k ≡ empty_cell (state_at (cells self.old) k).block
             (state_at (cells self.old) k).chain.page
             ((state_at (cells self.old) k).generation + 1) (state_at (cells self.old) k).version }
+        ensures room { (value_at (cells self.new) k).room
+            ≡ record no_room { killed = (value_at (cells self.old) k).room.killed } }
         ensures places { places self.new ≡ places self.old }
         ensures beside { beside self.new ≡ beside self.old };
 }

@@ -1,6 +1,6 @@
 //! A commit on its way.
 
-ghost use Rattle.std.specs.Prelude.{◌≡◌, ◌<◌, [], length, slice_set};
+ghost use Rattle.std.specs.Prelude.{◌≡◌, ◌<◌, ◌⊎◌, [], None, length, slice_set};
 ghost use Rattle.nv_calls.specs.Commit.{begun, stamp_of};
 ghost use Rattle.nv_calls.specs.Ready.{plan_at};
 
@@ -10,6 +10,8 @@ use nv_base::Handle;
 use nv_book::Book;
 use nv_cell::KilledPart;
 use nv_entry::Item;
+use nv_journal::OldTail;
+use smallvec::SmallVec;
 use std::alloc::Global;
 use std::marker::Model;
 use std::mem;
@@ -31,7 +33,9 @@ pub struct Commit {
     pub(crate) appended: usize,
     pub(crate) published: usize,
     pub(crate) retired: usize,
-    pub(crate) journal_open: bool,
+    // The CPU whose journal it has open, and what it noted there, which stays when that is closed.
+    pub(crate) journal: Option<u64>,
+    pub(crate) noted: SmallVec<OldTail, 4>,
 }
 
 impl Model for Commit {
@@ -49,7 +53,8 @@ impl Model for Commit {
       appended = c.appended;
       published = c.published;
       retired = c.retired;
-      journal_open = c.journal_open;
+      journal = c.journal;
+      noted = c.noted.items;
     } };
 }
 
@@ -64,8 +69,18 @@ impl Commit {
         ready.begin(Stamp { commit, epoch })
     }
 
-    /// What its steps left in the hand of a commit that is made step by step, or given up on its way. Takes no memory.
+    /// What its steps left in the hand of a commit that is made step by step, or given up before anything is published:
+    /// what was appended by then stays past the tails, with its blocks. Takes no memory.
     pub fn into_hand(self) -> Hand
+        requires nothing_killed { (self.published ≡ 0) ⊎ (self.retired ≡ length self.plans) }
+        requires closed { self.journal ≡ None }
+        ensures { result ≡ self.hand }
+    {
+        self.hand_left()
+    }
+
+    /// The hand alone.
+    fn hand_left(self) -> Hand
         ensures { result ≡ self.hand }
     {
         let Commit {
@@ -79,7 +94,8 @@ impl Commit {
             appended: _,
             published: _,
             retired: _,
-            journal_open: _,
+            journal: _,
+            noted: _,
         } = self;
         hand
     }
@@ -87,7 +103,7 @@ impl Commit {
     /// Takes the commit apart with all that its hand holds: for the owner of a whole device that is let go. The blocks
     /// that its cells took from the hand are theirs.
     pub fn dismantle(self) {
-        self.into_hand().dismantle();
+        self.hand_left().dismantle();
     }
 
     /// How many cells get entries.

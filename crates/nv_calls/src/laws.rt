@@ -1,13 +1,14 @@
 //! Laws of plans and effects, each the contract of a function that does nothing.
 
-ghost use Rattle.std.specs.Prelude.{◌≡◌, ◌<◌, ℕ, Err, List, Option, is_some, length, Bool};
-ghost use Rattle.std.specs.List.{sum_by};
+ghost use Rattle.std.specs.Prelude.{◌≡◌, ◌+◌, ◌<◌, ◌≤◌, ℕ, Err, List, Option, is_some, length, Bool};
+ghost use Rattle.std.specs.List.{AllByRecursion, sum_by};
 ghost use Rattle.nv_alloc.specs.Block.{BlockValue};
 ghost use Rattle.nv_alloc.specs.Queue.{QueueValue};
 ghost use Rattle.nv_alloc.specs.declared.hand.Hand.{Hand};
 ghost use Rattle.nv_book.specs.Book.{BookValue};
-ghost use Rattle.nv_cell.specs.Cell.{CellValue};
+ghost use Rattle.nv_cell.specs.Cell.{CellValue, IsCell, empty_cell};
 ghost use Rattle.nv_base.specs.declared.fault.Fault.{Fault};
+ghost use Rattle.nv_base.specs.declared.limits.TheConstants.{NUMBER};
 ghost use Rattle.nv_base.specs.declared.numbers.Handle.{Handle};
 ghost use Rattle.nv_entry.specs.Log.{IsLog};
 ghost use Rattle.nv_entry.specs.Node.{block_now};
@@ -15,25 +16,29 @@ ghost use Rattle.nv_entry.specs.Sound.{IsSound};
 ghost use Rattle.nv_entry.specs.declared.node.NodeCopy.{NodeCopy};
 ghost use Rattle.nv_calls.specs.AllCalls.{IsReady, IsToldNothing, blocks_wanted, effect, look_refusal, looked, plan, refusal};
 ghost use Rattle.nv_calls.specs.declared.taken.Taken.{Taken};
-ghost use Rattle.nv_calls.specs.CanCommit.{AllowsCommit, CanCommit};
+ghost use Rattle.nv_calls.specs.CanCommit.{AllowsCommit, CanCommit, TakesCommit};
+ghost use Rattle.nv_calls.specs.Cells.{AreCells};
 ghost use Rattle.nv_calls.specs.Commit.{begun, stamp_of};
-ghost use Rattle.nv_calls.specs.Committed.{page_count};
+ghost use Rattle.nv_calls.specs.Committed.{ChangesPlanned, committed, page_count};
 ghost use Rattle.nv_calls.specs.FillPages.{CanFill, HasOtherBytes, sourced, with_blocks};
-ghost use Rattle.nv_calls.specs.Filled.{HavePages};
+ghost use Rattle.nv_calls.specs.Filled.{AreRead, HavePages};
 ghost use Rattle.nv_calls.specs.Lawful.{IsLawfulPlan};
 ghost use Rattle.nv_calls.specs.Locked.{Agree, KeepsToIts, SameCall, first_look, handles};
+ghost use Rattle.nv_calls.specs.Next.{AreUpTo, IsUpTo};
 ghost use Rattle.nv_calls.specs.Nodes.{HaveBytes, block_in, has_page_in, nodes_in, plain_nodes, slots_by};
 ghost use Rattle.nv_calls.specs.PagesWanted.{pages_wanted};
 ghost use Rattle.nv_calls.specs.Plain.{Change, PlainNode, node_in, nodes_after};
 ghost use Rattle.nv_calls.specs.Plan.{AreApart, AreFewApart, plan_blocks};
-ghost use Rattle.nv_calls.specs.Prepared.{CanReady, HaveNoLessRoom, IsReadyBy, planned_by, plans_by, taken_by};
+ghost use Rattle.nv_calls.specs.Prepared.{CanReady, HaveNoLessRoom, IsReadyBy, IsStill, planned_by, plans_by, taken_by};
 ghost use Rattle.nv_calls.specs.PublishedSlots.{AreOfSlots, IsCommitted, PublishAlike, PublishesPlans, planned_in};
 ghost use Rattle.nv_calls.specs.Ready.{ReadyValue};
 ghost use Rattle.nv_calls.specs.Refusals.{passes};
 ghost use Rattle.nv_calls.specs.Slots.{ArePlaced, Commits, IsBefore, IsPlan, Slot, node_under, published};
 ghost use Rattle.nv_calls.specs.Updates.{SamePlan, blank_call, call_of, text_len};
+ghost use Rattle.nv_calls.specs.WholeCall.{HaveSoundLogs, IsWholeCall, WholeCall, effect_of};
 ghost use Rattle.nv_calls.specs.declared.call.Call.{Call};
 ghost use Rattle.nv_calls.specs.declared.plan.Planned.{Planned};
+ghost use Rattle.nv_calls.specs.declared.stamp.Stamp.{Stamp};
 ghost use Rattle.nv_calls.specs.declared.update.Update.{Update};
 
 /// A commit of a plan that fits an effect has that effect on the nodes, leaves each log sound, and changes
@@ -135,7 +140,7 @@ pub fn cells_hold_the_nodes_of_their_slots()
         ≡ is_some (block_now block (slots_by cells handle.ino).log page) }
 {}
 
-/// A call that was made ready can be committed, where its cells, the book, its hand's pages and a CPU's journal allow it.
+/// A call that was made ready can be committed, where its cells, the book and a CPU's journal allow it.
 pub fn what_is_ready_can_be_committed()
     ensures { (cells now : List (ℕ × CellValue)) (hand : Hand) (update : Update) (book : BookValue) (cpu : ℕ)
         (ready : ReadyValue) → CanReady cells hand update → HaveNoLessRoom cells now
@@ -212,4 +217,69 @@ pub fn commits_have_their_effect()
         → PublishAlike (planned_in cells ready.plans) plan → IsPlan bytes block slots plan effect
         → (handle : Handle) → node_under bytes block later handle
         ≡ nodes_after book.state.commit effect (node_under bytes block slots) handle }
+{}
+
+/// The cells of a commit are cells that the next call can be made ready over: settled, with blocks of the same size.
+pub fn commits_leave_cells_settled()
+    ensures { (cells now : List (ℕ × CellValue)) (book : BookValue) (cpu : ℕ) (ready : ReadyValue)
+        (living : List ℕ) (block : ℕ) → CanCommit cells book cpu ready
+        → ChangesPlanned ready.plans (committed living cells (begun (stamp_of book.state) ready)) cells now
+        → AllByRecursion (λ c. IsStill block c.1.state) cells
+        → AreCells now × AllByRecursion (λ c. IsStill block c.1.state) now }
+{}
+
+/// An empty slot is up to any commit, by how often it was published before.
+pub fn empty_slots_are_up_to_any_commit()
+    ensures { (stamp : Stamp) (before block page generation : ℕ)
+        → IsUpTo stamp before (empty_cell block page generation before) }
+{}
+
+/// A commit leaves its cells up to its number and epoch, where they were up to those of an earlier one.
+pub fn commits_keep_cells_up_to_the_book()
+    ensures { (cells now : List (ℕ × CellValue)) (book : BookValue) (cpu : ℕ) (ready : ReadyValue)
+        (living : List ℕ) (stamp : Stamp) (before : ℕ → ℕ) → CanCommit cells book cpu ready
+        → AllowsCommit cells book cpu ready
+        → ChangesPlanned ready.plans (committed living cells (begun (stamp_of book.state) ready)) cells now
+        → stamp.commit < book.state.commit → stamp.epoch ≤ book.state.snaps.epoch
+        → AreUpTo stamp before cells → AreUpTo (stamp_of book.state) before now }
+{}
+
+/// A cell that is up to a commit takes a later one, where its generation is not the last, and it was not published
+/// 2^62 times: a slot that no format wrote is published by commits alone, and so it was not.
+pub fn cells_up_to_the_book_take_its_next_commit()
+    ensures { (stamp next : Stamp) (before : ℕ) (cell : CellValue) → IsUpTo stamp before cell.state
+        → stamp.commit < next.commit → stamp.epoch ≤ next.epoch → stamp.commit + before < NUMBER
+        → cell.state.generation < NUMBER → TakesCommit next cell }
+{}
+
+/// After a commit over cells the logs of all slots are sound, also that of a slot that was erased.
+pub fn commits_leave_sound_logs()
+    ensures { (bytes : ℕ → List ℕ) (block : ℕ) (living : List ℕ) (cells : List (ℕ × CellValue))
+        (book : BookValue) (cpu : ℕ) (ready : ReadyValue) (slots : ℕ → Slot)
+        (now : List (ℕ × CellValue)) (later : ℕ → Slot) (plan : List Planned) (effect : List Change) → 0 < block
+        → ((ino : ℕ) → IsSound bytes block (slots ino).log)
+        → IsCommitted living cells book cpu ready slots now later
+        → PublishAlike (planned_in cells ready.plans) plan → IsPlan bytes block slots plan effect
+        → (ino : ℕ) → IsSound bytes block (later ino).log }
+{}
+
+/// What gives the bytes of the blocks of a commit's cells and of its hand gives those of its cells after it.
+pub fn commits_keep_the_bytes_of_cells()
+    ensures { (bytes : ℕ → List ℕ) (block : ℕ) (cells now : List (ℕ × CellValue)) (book : BookValue)
+        (cpu : ℕ) (ready : ReadyValue) (living : List ℕ) → CanCommit cells book cpu ready
+        → ChangesPlanned ready.plans (committed living cells (begun (stamp_of book.state) ready)) cells now
+        → HaveBytes bytes block cells → AreRead bytes ready.hand.data.blocks
+        → AllByRecursion (λ c. IsCell c.1.state) now → HaveBytes bytes block now }
+{}
+
+/// A whole call has its effect: the nodes of its cells are afterwards those before it, but for what it says to change,
+/// under every handle, also where an inode was erased. And the next call finds its cells sound.
+pub fn a_whole_call_has_its_effect()
+    ensures nodes { (bytes : ℕ → List ℕ) (call : WholeCall) → IsWholeCall bytes call
+        → HaveSoundLogs bytes (block_in call.before) call.before
+        → (handle : Handle) → plain_nodes call.later handle
+        ≡ nodes_after call.book.state.commit (effect_of call) (plain_nodes call.before) handle }
+    ensures sound { (bytes : ℕ → List ℕ) (call : WholeCall) → IsWholeCall bytes call
+        → HaveSoundLogs bytes (block_in call.before) call.before
+        → HaveSoundLogs bytes (block_in call.before) call.later }
 {}

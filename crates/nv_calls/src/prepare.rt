@@ -8,7 +8,7 @@ ghost use Rattle.nv_base.specs.declared.fault.Fault.TheVariants.{OutOfMemory};
 ghost use Rattle.nv_cell.specs.Effects.{BindOne};
 ghost use Rattle.nv_entry.specs.Sound.{blocks_of};
 ghost use Rattle.nv_calls.specs.Cells.{AreCells, state_at};
-ghost use Rattle.nv_calls.specs.Prepared.{AreReady, CanReady, HasNoLessRoom, HaveNoLessRoom, IsReadyBy, cell_plans, made_by, no_handle, planned_by, plans_by, taken_by};
+ghost use Rattle.nv_calls.specs.Prepared.{AreReady, CanReady, HasLogPages, HasNoLessRoom, HaveNoLessRoom, IsReadyBy, cell_plans, made_by, no_handle, planned_by, plans_by, taken_by};
 ghost use Rattle.nv_calls.specs.Nodes.{block_in};
 ghost use Rattle.nv_calls.specs.Plan.{AreMaximal, runs_of};
 ghost use Rattle.nv_calls.specs.Ready.{ArePlaced, need_of};
@@ -201,8 +201,8 @@ fn prepare<C: Cells>(
     Ok((plans, need))
 }
 
-/// Makes a call ready that passed its check and holds the blocks that it takes: makes every growth of what follows, of
-/// the cells, and of the hand for the blocks that the call may set free, and settles its items.
+/// Makes a call ready that passed its check and holds the blocks and the log pages that it takes: makes every growth of
+/// what follows, of the cells, and of the hand for the blocks that the call may set free, and settles its items.
 ///
 /// `OutOfMemory`, with the hand, where a growth was refused: then nothing has changed but room. The time is that of the
 /// items, of the blocks that were taken, and for each cut that of the runs of pages that it takes out, where no growth
@@ -213,7 +213,8 @@ pub fn ready_on<C: Cells>(
     plan: Plan,
     hand: Hand,
 ) -> Result<Ready, (Fault, Hand)>
-    requires { CanReady (C.cells cells.old) hand plan.update }
+    requires can { CanReady (C.cells cells.old) hand plan.update }
+    requires pages { HasLogPages (C.cells cells.old) hand plan.update }
     ensures ok { IfOk result (λ ready. IsReadyBy (C.cells cells.old) hand plan.update
         (C.cells cells.new) ready) }
     ensures hand { IfOk result (λ ready. HasNoLessRoom hand ready.hand) }

@@ -9,6 +9,7 @@ use nv_alloc::Hand;
 use nv_base::Handle;
 use nv_cell::KilledPart;
 use nv_entry::Item;
+use smallvec::SmallVec;
 use std::alloc::Global;
 use std::marker::Model;
 
@@ -170,7 +171,8 @@ impl Ready {
             appended: 0,
             published: 0,
             retired: 0,
-            journal_open: false,
+            journal: None,
+            noted: SmallVec::new(alloc),
         }
     }
 }

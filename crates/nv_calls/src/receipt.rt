@@ -1,11 +1,13 @@
 //! What a commit tells of itself.
 
-ghost use Rattle.std.specs.Prelude.{◌≡◌, length};
+ghost use Rattle.std.specs.Prelude.{◌≡◌, ◌≤◌, None, length};
 ghost use Rattle.nv_calls.specs.Commit.{receipt_of};
 
 use crate::{Commit, Stamp, Update};
 use nv_alloc::Hand;
 use nv_base::{CommitNo, Epoch, Handle};
+use nv_journal::OldTail;
+use smallvec::SmallVec;
 use std::marker::Model;
 
 /// That a call was committed, with the number and the epoch of its commit. Only [`crate::commit_on`] makes one, and it
@@ -15,6 +17,7 @@ pub struct Receipt {
     update: Update,
     stamp: Stamp,
     made: Option<Handle>,
+    noted: SmallVec<OldTail, 4>,
 }
 
 impl Model for Receipt {
@@ -22,7 +25,12 @@ impl Model for Receipt {
 
     ghost Value = { ReceiptValue };
 
-    ghost view = { λ r. record { update = r.update; stamp = r.stamp; made = r.made } };
+    ghost view = { λ r. record {
+      update = r.update;
+      stamp = r.stamp;
+      made = r.made;
+      noted = r.noted.items;
+    } };
 }
 
 impl Receipt {
@@ -53,6 +61,14 @@ impl Receipt {
     {
         self.made
     }
+
+    /// The inodes that got entries, with the old tails that the journal noted before they were published: none where that
+    /// was one inode, which needs no journal.
+    pub fn noted(&self) -> &[OldTail]
+        ensures { result.now ≡ self.now.noted }
+    {
+        self.noted.as_slice()
+    }
 }
 
 impl Commit {
@@ -60,7 +76,9 @@ impl Commit {
     /// than each asks, so it is not for the public: who goes step by step could lend each step other cells. Takes no
     /// memory.
     pub(crate) fn finish(self) -> (Receipt, Hand)
-        requires { self.retired ≡ length self.plans }
+        requires retired { self.retired ≡ length self.plans }
+        requires closed { self.journal ≡ None }
+        requires noted { 2 ≤ length self.plans → length self.noted ≡ length self.plans }
         ensures receipt { result.0 ≡ receipt_of self }
         ensures hand { result.1 ≡ self.hand }
     {
@@ -75,13 +93,15 @@ impl Commit {
             appended: _,
             published: _,
             retired: _,
-            journal_open: _,
+            journal: _,
+            noted,
         } = self;
         (
             Receipt {
                 update,
                 stamp,
                 made,
+                noted,
             },
             hand,
         )

@@ -8,7 +8,7 @@ ghost use Rattle.nv_cell.specs.Readers.{is_gone};
 ghost use Rattle.nv_cell.specs.declared.mark.Mark.TheVariants as mark;
 ghost use Rattle.nv_calls.specs.Cells.{OnlyAt, ino_at, state_at, value_at, with_value};
 ghost use Rattle.nv_calls.specs.Retired.{CanTakeGone};
-ghost use Rattle.nv_calls.specs.Retiring.{erased, freed_by, freed_one, hand_with, part_in, record_of, retired, retired_one, with_back, with_records};
+ghost use Rattle.nv_calls.specs.Retiring.{erased, freed_by, freed_one, hand_with, part_in, record_of, retired, retired_one, room_erased, with_back, with_records};
 
 use crate::Cells;
 use nv_alloc::{BlockQueue, Hand};
@@ -119,6 +119,8 @@ pub(crate) fn erase_gone<C: Cells>(cells: &mut C, k: usize, hand: &mut Hand)
         → CanTakeGone hand.old (state_at (C.cells cells.old) k) }
     ensures cells { OnlyAt k (C.cells cells.old) (C.cells cells.new) }
     ensures state { state_at (C.cells cells.new) k ≡ erased (state_at (C.cells cells.old) k) }
+    ensures room { (value_at (C.cells cells.new) k).room
+        ≡ room_erased (state_at (C.cells cells.old) k) (value_at (C.cells cells.old) k).room }
     ensures hand { hand.new
         ≡ hand_with (ino_at (C.cells cells.old) k) (state_at (C.cells cells.old) k) hand.old }
     ensures lent { C.places cells.new ≡ C.places cells.old }

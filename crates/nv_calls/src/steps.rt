@@ -1,20 +1,21 @@
 //! The steps of a commit, cell by cell.
 
-ghost use Rattle.std.specs.Prelude.{◌≡◌, ◌<◌, ◌≤◌, ◌+◌, ◌^◌, [], false, length, map, slice_index_or, true};
+ghost use Rattle.std.specs.Prelude.{◌≡◌, ◌<◌, ◌≤◌, ◌+◌, ◌^◌, [], None, length, map, slice_index_or};
+ghost use Rattle.std.specs.List.{sum_by};
 ghost use Rattle.std.specs.Option.{option_map};
 ghost use Rattle.nv_base.specs.declared.numbers.Handle.{Handle};
 ghost use Rattle.nv_book.specs.Book.{with_journal};
 ghost use Rattle.nv_cell.specs.Cell.{KeepsAppendRoom, fresh_of, log_of, published};
-ghost use Rattle.nv_cell.specs.Effects.{items_of};
+ghost use Rattle.nv_cell.specs.Effects.{BindNone, items_of};
 ghost use Rattle.nv_cell.specs.Killed.{AreKilled};
 ghost use Rattle.nv_cell.specs.Room.{IsReadyFor};
-ghost use Rattle.nv_cell.specs.Weights.{weights_in};
+ghost use Rattle.nv_cell.specs.Weights.{runs_of, weights_in};
 ghost use Rattle.nv_epoch.specs.SnapList.{ids};
 ghost use Rattle.nv_calls.specs.Cells.{AreCells, OnlyAt, ino_at, state_at, value_at, with_value};
-ghost use Rattle.nv_calls.specs.Commit.{after_append, after_close, after_open, after_publish, after_retire, to_append, to_publish, to_retire};
+ghost use Rattle.nv_calls.specs.Commit.{HasJournal, NotesNext, after_append, after_close, after_open, after_publish, after_retire, to_append, to_publish, to_retire, without_journal};
 ghost use Rattle.nv_calls.specs.Ready.{ArePlaced, old_tails};
 ghost use Rattle.nv_calls.specs.Retired.{CanRetire};
-ghost use Rattle.nv_calls.specs.Retiring.{erased, killed_by, part_in, retired, with_records};
+ghost use Rattle.nv_calls.specs.Retiring.{erased, killed_by, part_in, retired, room_erased, with_records};
 ghost use Rattle.nv_calls.specs.Steps.{CanAppendPlan, with_plan};
 
 use crate::append::append_plan;
@@ -65,23 +66,28 @@ pub fn open_on<C: Cells>(book: &mut Book, cells: &C, commit: &mut Commit, cpu: u
     requires cells { AreCells (C.cells cells.now) }
     requires placed { ArePlaced (C.cells cells.now) commit.old.plans }
     requires two { 2 ≤ length commit.old.plans }
+    requires none { commit.old.journal ≡ None }
     requires cpu { cpu < length book.old.state.journals }
     requires closed { slice_index_or book.old.state.journals cpu [] ≡ [] }
     ensures book { book.new ≡ record book.old {
       state = with_journal cpu (old_tails (C.cells cells.now) commit.old.plans) book.old.state;
     } }
-    ensures commit { commit.new ≡ after_open commit.old }
+    ensures commit { commit.new
+        ≡ after_open cpu (old_tails (C.cells cells.now) commit.old.plans) commit.old }
 {
-    open_journal(commit.alloc, book, cells, &commit.plans, cpu);
-    commit.journal_open = true;
+    let tails = open_journal(commit.alloc, book, cells, &commit.plans, cpu);
+    commit.noted = tails;
+    commit.journal = Some(cpu);
 }
 
 /// Publishes the entries of the next cell, which moves its tail, and keeps the parts that this kills. All entries are
-/// appended, and of two or more cells the journal is open. Takes no memory; the time is that of one publish of a cell.
-pub fn publish_on<C: Cells>(cells: &mut C, commit: &mut Commit)
+/// appended, and of two or more cells the journal is open in the book, and notes the tail. Takes no memory; the time is
+/// that of one publish of a cell.
+pub fn publish_on<C: Cells>(_book: &Book, cells: &mut C, commit: &mut Commit)
     requires turn { commit.old.published < length commit.old.plans }
     requires appended { commit.old.appended ≡ length commit.old.plans }
-    requires journal { 2 ≤ length commit.old.plans → commit.old.journal_open ≡ true }
+    requires journal { 2 ≤ length commit.old.plans
+        → NotesNext _book.now.state (C.cells cells.old) commit.old }
     requires within { (to_publish commit.old).at < length (C.cells cells.old) }
     requires some { let cell = state_at (C.cells cells.old) (to_publish commit.old).at in
         cell.chain.tail < length cell.chain.entries }
@@ -99,6 +105,13 @@ pub fn publish_on<C: Cells>(cells: &mut C, commit: &mut Commit)
         (state_at (C.cells cells.new) k) }
     ensures room { let k = (to_publish commit.old).at in
         KeepsAppendRoom (value_at (C.cells cells.old) k).room (value_at (C.cells cells.new) k).room }
+    ensures runs { let k = (to_publish commit.old).at in
+        let fresh = items_of (fresh_of (state_at (C.cells cells.old) k)) in
+        (value_at (C.cells cells.old) k).room.runs
+        ≤ (value_at (C.cells cells.new) k).room.runs + sum_by runs_of fresh }
+    ensures name { let k = (to_publish commit.old).at in
+        BindNone (items_of (fresh_of (state_at (C.cells cells.old) k)))
+        → (value_at (C.cells cells.new) k).room.name ≡ (value_at (C.cells cells.old) k).room.name }
     ensures places { C.places cells.new ≡ C.places cells.old }
     ensures beside { C.beside cells.new ≡ C.beside cells.old }
 {
@@ -108,19 +121,22 @@ pub fn publish_on<C: Cells>(cells: &mut C, commit: &mut Commit)
     commit.published += 1;
 }
 
-/// Closes the journal that a commit opened, once all entries are published. From here on a new inode has its number: it
-/// leaves the call's hand. Takes no memory; the time is that of at most four cells.
-pub fn close_on(book: &mut Book, commit: &mut Commit, cpu: u64)
+/// Closes the journal that a commit opened, once all entries are published; it still has what the commit noted. From here
+/// on a new inode has its number: it leaves the call's hand. Takes no memory; the time is that of at most four cells.
+pub fn close_on(book: &mut Book, commit: &mut Commit)
     requires turn { commit.old.published ≡ length commit.old.plans }
-    requires journal { commit.old.journal_open ≡ true }
+    requires journal { HasJournal book.old.state commit.old }
     requires number { commit.old.hand.ino ≡ option_map (λ (h : Handle). h.ino) commit.old.made }
-    requires cpu { cpu < length book.old.state.journals }
-    ensures book { book.new ≡ record book.old { state = with_journal cpu [] book.old.state } }
+    ensures book { book.new
+        ≡ record book.old { state = without_journal commit.old book.old.state } }
     ensures commit { commit.new ≡ after_close commit.old }
 {
+    let Some(cpu) = commit.journal else {
+        unreachable!()
+    };
     book.close_journal(cpu);
     let _number = commit.hand.take_ino();
-    commit.journal_open = false;
+    commit.journal = None;
 }
 
 /// Retires the parts that the publish of the next cell killed: each is recorded for the youngest living snapshot that
@@ -131,7 +147,7 @@ pub fn close_on(book: &mut Book, commit: &mut Commit, cpu: u64)
 pub fn retire_on<C: Cells>(book: &mut Book, cells: &mut C, commit: &mut Commit)
     requires turn { commit.old.retired < length commit.old.plans }
     requires published { commit.old.published ≡ length commit.old.plans }
-    requires closed { commit.old.journal_open ≡ false }
+    requires closed { commit.old.journal ≡ None }
     requires within { (to_retire commit.old).at < length (C.cells cells.old) }
     requires dead { commit.old.stamp.epoch ≤ book.old.state.snaps.epoch }
     requires room { length (to_retire commit.old).killed ≤ book.old.room }
@@ -143,6 +159,11 @@ pub fn retire_on<C: Cells>(book: &mut Book, cells: &mut C, commit: &mut Commit)
         state_at (C.cells cells.new) plan.at ≡ erased (retired (ids book.old.state.snaps)
         (ino_at (C.cells cells.old) plan.at) commit.old.stamp.epoch plan.killed
         (state_at (C.cells cells.old) plan.at)) }
+    ensures cell_room { let plan = to_retire commit.old in
+        (value_at (C.cells cells.new) plan.at).room
+        ≡ room_erased (retired (ids book.old.state.snaps)
+        (ino_at (C.cells cells.old) plan.at) commit.old.stamp.epoch plan.killed
+        (state_at (C.cells cells.old) plan.at)) (value_at (C.cells cells.old) plan.at).room }
     ensures book { let plan = to_retire commit.old in
         book.new.state ≡ record book.old.state {
           manifests = with_records (ids book.old.state.snaps) (ino_at (C.cells cells.old) plan.at)

@@ -1,16 +1,17 @@
-//! What calls that only read find in the cell of their inode.
+//! What calls that only read find in the cell of an inode. Each is given the number of that inode, and a handle of
+//! another is stale.
 
 ghost use Rattle.std.specs.Prelude.{◌≡◌, ℕ, List, Err, MatchResult, IfOk, Some, option_map, true};
 ghost use Rattle.nv_base.specs.Refusals.{FailsAsChecked};
 ghost use Rattle.nv_cell.specs.Pages.{AreBytesOf};
-ghost use Rattle.nv_calls.specs.Nodes.{IsOwnView};
+ghost use Rattle.nv_calls.specs.Nodes.{IsOwnView, IsView, alone, copies_by, nodes_by, view_refusal};
 ghost use Rattle.nv_calls.specs.Refusals.{kind_of, look, lookup};
 ghost use Rattle.nv_calls.specs.calls.Lookup.{lookup_refusal};
-ghost use Rattle.nv_calls.specs.Views.{IsView, check_of, copy_of, is_list, is_lookup, is_read, is_stat, node_of, stat_of, view_refusal};
+ghost use Rattle.nv_calls.specs.Views.{check_of, copy_of, is_list, is_lookup, is_read, is_stat, node_of, stat_of};
 
 use crate::wants::{want_directory, want_file, want_lawful};
 use crate::{Answer, Call};
-use nv_base::{Fault, Handle, Kind};
+use nv_base::{Fault, Handle, Ino, Kind};
 use nv_cell::{InodeCell, Stat};
 
 /// What a call that only reads was answered, with that call and the version of the inode that it read. None is made
@@ -70,40 +71,66 @@ pub(crate) fn kind_in(cell: &InodeCell, handle: &Handle) -> Option<Kind>
     Some(stat.kind)
 }
 
-/// What a name of a directory leads to, by the directory's cell: nothing where the name isn't bound. Takes no memory.
-///
-/// `Stale` and `NotDirectory` of the handle, then `BadName`.
-pub fn look_on(cell: &InodeCell, dir: &Handle, name: &[u8]) -> Result<Option<Handle>, Fault>
-    ensures { (bytes : ℕ → List ℕ) → result ≡ look (copy_of bytes cell.now.state) dir.now name.now }
+/// What the node under a handle tells of itself, by the cell of an inode: none where the handle is of another.
+fn stat_at(ino: Ino, cell: &InodeCell, handle: &Handle) -> Option<Stat>
+    ensures { (bytes : ℕ → List ℕ) → result
+        ≡ option_map stat_of (nodes_by bytes (alone ino cell.now) handle.now) }
 {
-    want_directory(kind_in(cell, dir))?;
+    if ino != handle.ino {
+        return None;
+    }
+    stat_in(cell, handle)
+}
+
+/// The kind of the node under a handle, by the cell of an inode.
+fn kind_at(ino: Ino, cell: &InodeCell, handle: &Handle) -> Option<Kind>
+    ensures { (bytes : ℕ → List ℕ) → result
+        ≡ kind_of (copies_by bytes (alone ino cell.now) handle.now) }
+{
+    let stat = stat_at(ino, cell, handle)?;
+    Some(stat.kind)
+}
+
+/// What a name of a directory leads to, by the cell of an inode: nothing where the name isn't bound. Takes no memory.
+///
+/// `Stale` and `NotDirectory` of the handle, then `BadName`. The handle of another inode is `Stale`.
+pub fn look_on(
+    ino: Ino,
+    cell: &InodeCell,
+    dir: &Handle,
+    name: &[u8],
+) -> Result<Option<Handle>, Fault>
+    ensures { (bytes : ℕ → List ℕ) → result
+        ≡ look (copies_by bytes (alone ino cell.now)) dir.now name.now }
+{
+    want_directory(kind_at(ino, cell, dir))?;
     want_lawful(name)?;
     Ok(cell.lookup(name))
 }
 
 /// What a name of a directory leads to, where it is bound.
-fn find_in(cell: &InodeCell, dir: &Handle, name: &[u8]) -> Result<Handle, Fault>
+fn find_at(ino: Ino, cell: &InodeCell, dir: &Handle, name: &[u8]) -> Result<Handle, Fault>
     ensures refusal { (bytes : ℕ → List ℕ)
-        → lookup_refusal (copy_of bytes cell.now.state) dir.now name.now ≡ check_of result }
-    ensures found { (bytes : ℕ → List ℕ)
-        → IfOk result (λ to. lookup (copy_of bytes cell.now.state) dir.now name.now ≡ Some to) }
+        → lookup_refusal (copies_by bytes (alone ino cell.now)) dir.now name.now ≡ check_of result }
+    ensures found { (bytes : ℕ → List ℕ) → IfOk result (λ to.
+        lookup (copies_by bytes (alone ino cell.now)) dir.now name.now ≡ Some to) }
 {
-    let Some(to) = look_on(cell, dir, name)? else {
+    let Some(to) = look_on(ino, cell, dir, name)? else {
         return Err(Fault::Missing);
     };
     Ok(to)
 }
 
-/// What a `Stat` tells of the cell's inode. Takes no memory.
-pub fn stat_on(cell: &InodeCell, call: Call) -> Result<View, Fault>
+/// What a `Stat` tells of an inode, by its cell. `Stale` where it asks for another. Takes no memory.
+pub fn stat_on(ino: Ino, cell: &InodeCell, call: Call) -> Result<View, Fault>
     requires { is_stat call ≡ true }
-    ensures { (bytes : ℕ → List ℕ) → MatchResult result (IsView bytes cell.now.state call)
-        (λ fault. view_refusal bytes cell.now.state call ≡ Err fault) }
+    ensures { (bytes : ℕ → List ℕ) → MatchResult result (IsView bytes ino cell.now call)
+        (λ fault. view_refusal bytes ino cell.now call ≡ Err fault) }
 {
     let Call::Stat { handle } = &call else {
         unreachable!()
     };
-    let stat = stat_in(cell, handle).ok_or(Fault::Stale)?;
+    let stat = stat_at(ino, cell, handle).ok_or(Fault::Stale)?;
     let found = Answer::Stat {
         kind: stat.kind,
         mode: stat.mode,
@@ -118,16 +145,16 @@ pub fn stat_on(cell: &InodeCell, call: Call) -> Result<View, Fault>
     })
 }
 
-/// What a `Lookup` finds in the cell of its directory. Takes no memory.
-pub fn lookup_on(cell: &InodeCell, call: Call) -> Result<View, Fault>
+/// What a `Lookup` finds in the cell of an inode. `Stale` where it asks for another. Takes no memory.
+pub fn lookup_on(ino: Ino, cell: &InodeCell, call: Call) -> Result<View, Fault>
     requires { is_lookup call ≡ true }
-    ensures { (bytes : ℕ → List ℕ) → MatchResult result (IsView bytes cell.now.state call)
-        (λ fault. view_refusal bytes cell.now.state call ≡ Err fault) }
+    ensures { (bytes : ℕ → List ℕ) → MatchResult result (IsView bytes ino cell.now call)
+        (λ fault. view_refusal bytes ino cell.now call ≡ Err fault) }
 {
     let Call::Lookup { dir, name } = &call else {
         unreachable!()
     };
-    let to = find_in(cell, dir, name.as_slice())?;
+    let to = find_at(ino, cell, dir, name.as_slice())?;
     let version = cell.version();
     Ok(View {
         call,
@@ -136,17 +163,18 @@ pub fn lookup_on(cell: &InodeCell, call: Call) -> Result<View, Fault>
     })
 }
 
-/// The names that a `List` finds in the cell of its directory. `OutOfMemory` where room for them was refused.
-pub fn list_on(cell: &InodeCell, call: Call) -> Result<View, Fault>
+/// The names that a `List` finds in the cell of an inode. `Stale` where it asks for another, `OutOfMemory` where room for
+/// them was refused.
+pub fn list_on(ino: Ino, cell: &InodeCell, call: Call) -> Result<View, Fault>
     requires { is_list call ≡ true }
-    ensures view { (bytes : ℕ → List ℕ) → IfOk result (IsView bytes cell.now.state call) }
+    ensures view { (bytes : ℕ → List ℕ) → IfOk result (IsView bytes ino cell.now call) }
     ensures err { (bytes : ℕ → List ℕ)
-        → FailsAsChecked (view_refusal bytes cell.now.state call) result }
+        → FailsAsChecked (view_refusal bytes ino cell.now call) result }
 {
     let Call::List { dir } = &call else {
         unreachable!()
     };
-    want_directory(kind_in(cell, dir))?;
+    want_directory(kind_at(ino, cell, dir))?;
     let names = cell.list()?;
     let version = cell.version();
     Ok(View {
@@ -156,15 +184,15 @@ pub fn list_on(cell: &InodeCell, call: Call) -> Result<View, Fault>
     })
 }
 
-/// The bytes that a `Read` finds in the cell of its file. `OutOfMemory` where room for them was refused. Costs the
-/// pages that it reads, and one look-up for each run of them.
-pub fn read_on(cell: &InodeCell, call: Call) -> Result<View, Fault>
+/// The bytes that a `Read` finds in the cell of an inode. `Stale` where it asks for another, `OutOfMemory` where room for
+/// them was refused. Costs the pages that it reads, and one look-up for each run of them.
+pub fn read_on(ino: Ino, cell: &InodeCell, call: Call) -> Result<View, Fault>
     requires { is_read call ≡ true }
-    ensures own { IfOk result (IsOwnView cell.now.state call) }
+    ensures own { IfOk result (IsOwnView ino cell.now call) }
     ensures view { (bytes : ℕ → List ℕ) → AreBytesOf cell.now.state bytes
-        → IfOk result (IsView bytes cell.now.state call) }
+        → IfOk result (IsView bytes ino cell.now call) }
     ensures err { (bytes : ℕ → List ℕ)
-        → FailsAsChecked (view_refusal bytes cell.now.state call) result }
+        → FailsAsChecked (view_refusal bytes ino cell.now call) result }
 {
     let Call::Read {
         file,
@@ -174,7 +202,7 @@ pub fn read_on(cell: &InodeCell, call: Call) -> Result<View, Fault>
     else {
         unreachable!()
     };
-    want_file(kind_in(cell, file))?;
+    want_file(kind_at(ino, cell, file))?;
     let bytes = cell.read(*offset, *count)?;
     let version = cell.version();
     Ok(View {

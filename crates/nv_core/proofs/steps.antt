@@ -91,3 +91,12 @@ pub mod Fresh
 pub mod PlainStart
 pub mod EndsCaused
 pub mod Exactly
+pub mod Wanting
+pub mod Denied
+pub mod Granted
+pub mod PageCells
+pub mod PageTurns
+pub mod PageRuns
+pub mod PageEvents
+pub mod PageOrder
+pub mod WrongTurns

@@ -27,3 +27,6 @@ pub mod Takings
 pub mod Refusing
 pub mod Made
 pub mod Exact
+pub mod Wanted
+pub mod Memory
+pub mod Pages

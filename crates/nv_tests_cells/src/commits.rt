@@ -1,25 +1,34 @@
 //! A call over its cells, from its check to its commit.
 
-ghost use Rattle.std.specs.Prelude.{◌<◌, ◌≡◌, ◌≤◌, [], IfOk, IsTrue, false, length, slice_index_or};
+ghost use Rattle.std.specs.Prelude.{◌<◌, ◌≡◌, ◌≤◌, [], IfErr, IfOk, IsTrue, false, length, slice_index_or};
 ghost use Rattle.nv_base.specs.declared.limits.TheConstants.{BLOCK_BYTES};
+ghost use Rattle.nv_book.specs.Book.{after_enter};
 ghost use Rattle.nv_calls.specs.AllCalls.{is_nothing};
 ghost use Rattle.nv_calls.specs.Cells.{AreCells};
 ghost use Rattle.nv_calls.specs.Nodes.{block_in, has_page_in, nodes_in};
 ghost use Rattle.nv_calls.specs.Updates.{IsPlanOf, blank_call};
 
 use crate::compare::same;
-use crate::conditions::{all_take_commit, can_ready, need_no_more};
+use crate::conditions::{all_take_commit, can_ready, has_log_pages};
 use nv_alloc::Hand;
 use nv_base::limits::BLOCK_BYTES;
-use nv_base::{EntryId, Fault};
+use nv_base::{EntryId, Fault, Ino};
 use nv_book::Book;
-use nv_calls::{Cells, Plan, Receipt, Source, Update, check_on, commit_on, fill, laws, ready_on};
+use nv_calls::{
+    Cells, HeldNodes, Plan, Receipt, Source, Update, check_on, commit_on, fill, laws, look_all,
+    pages_wanted, ready_on,
+};
 use nv_cell::Stat;
 use std::alloc::Global;
 use std::process::Abort;
 
-/// The check of a call.
-pub fn checked<C: Cells>(rt: &impl Abort, cells: &C, update: Update) -> Result<Plan, Fault>
+/// The check of a call right behind its looks, with that number for a new inode.
+pub fn checked<C: Cells>(
+    rt: &impl Abort,
+    cells: &C,
+    number: Option<Ino>,
+    update: Update,
+) -> Result<Plan, Fault>
     requires cells { AreCells (C.cells cells.now) }
     requires some { 0 < length (C.cells cells.now) }
     ensures few_bytes { block_in (C.cells cells.now) ≤ BLOCK_BYTES }
@@ -27,7 +36,8 @@ pub fn checked<C: Cells>(rt: &impl Abort, cells: &C, update: Update) -> Result<P
         IsPlanOf (block_in lent) (nodes_in lent) (has_page_in lent) plan.update plan) }
 {
     assert!(rt; cells.cell(0).block_bytes() <= BLOCK_BYTES);
-    check_on(cells, update)
+    let before = look_all(&HeldNodes::new(cells), &update);
+    check_on(cells, &before, number, update)
 }
 
 /// What a call that is given up leaves of a cell as it was.
@@ -74,10 +84,12 @@ pub fn committed<C: Cells, S: Source>(
     requires plan { let lent = C.cells cells.old in
         IsPlanOf (block_in lent) (nodes_in lent) (has_page_in lent) plan.update plan }
     requires something { is_nothing (blank_call plan.update) ≡ false }
+    ensures given_up { IfErr result (λ _. length (C.cells cells.new) ≡ length (C.cells cells.old)) }
 {
     let pages = hand.pages.len();
     assert!(rt; can_ready(cells, &plan, &hand) && source.failures() < u64::MAX);
-    assert!(rt; hand.pages.block_bytes() == hand.data.block_bytes() && hand.chain.len() == 0);
+    assert!(rt; has_log_pages(cells, &plan, &hand));
+    same(rt, pages_wanted(cells, &plan, &hand), pages);
     laws::what_is_ready_can_be_filled();
     laws::what_is_filled_stays_ready();
     laws::what_is_ready_can_be_committed();
@@ -86,14 +98,54 @@ pub fn committed<C: Cells, S: Source>(
         return Err((fault, ready.into_hand()));
     }
     enter(rt, book, ready.need());
-    assert!(rt; all_take_commit(book, cells, &ready) && need_no_more(cells, &ready, pages));
+    assert!(rt; all_take_commit(book, cells, &ready));
     assert!(rt; is_closed(book));
     Ok(commit_on(book, cells, ready, 0))
 }
 
+/// A call that was tried, with what its hand holds then.
+pub enum Tried {
+    Committed(Receipt, Hand),
+    Nothing(Hand),
+    Refused(Fault, Hand),
+}
+
+/// Makes a call with a hand, from its check to its commit. Where it is refused its cells are as they were.
+pub fn make_call<C: Cells, S: Source>(
+    rt: &impl Abort,
+    alloc: Global,
+    book: &mut Book,
+    cells: &mut C,
+    update: Update,
+    hand: Hand,
+    source: &mut S,
+) -> Tried
+    requires cells { AreCells (C.cells cells.old) }
+    requires some { 0 < length (C.cells cells.old) }
+{
+    let before = states(rt, cells);
+    let plan = match checked(rt, cells, hand.ino(), update) {
+        Ok(plan) => plan,
+        Err(fault) => return Tried::Refused(fault, hand),
+    };
+    if plan.nothing() {
+        return Tried::Nothing(hand);
+    }
+    match committed(rt, alloc, book, cells, plan, hand, source) {
+        Ok((receipt, hand)) => {
+            assert!(rt; is_closed(book));
+            Tried::Committed(receipt, hand)
+        }
+        Err((fault, hand)) => {
+            same(rt, states(rt, cells), before);
+            Tried::Refused(fault, hand)
+        }
+    }
+}
+
 /// Fixes the book's next commit, with room for so many records.
 fn enter(rt: &impl Abort, book: &mut Book, need: u64)
-    ensures { book.new.room ≡ need }
+    ensures { book.new ≡ record { state = after_enter 0 book.old.state; room = need } }
 {
     if let Err(fault) = book.enter(0, need) {
         same(rt, fault, Fault::OutOfMemory);

@@ -1,24 +1,22 @@
 //! What a call asks of its cells, its hand and the book, asked when it runs.
 
 ghost use Rattle.std.specs.Prelude.{◌≡◌, ◌<◌, ◌≤◌, ◌^◌, ◌&&◌, IsTrue, false, fold, length, nat_lt, option_map, true};
-ghost use Rattle.std.specs.List.{AllByRecursion, sum_by};
+ghost use Rattle.std.specs.List.{AllByRecursion};
 ghost use Rattle.std.specs.VecDeque.Iter.{deque_iter_rest};
 ghost use Rattle.nv_base.specs.declared.limits.TheConstants.{BLOCK_BYTES};
 ghost use Rattle.nv_calls.specs.AllCalls.{is_nothing};
 ghost use Rattle.nv_calls.specs.CanCommit.{TakesCommit};
 ghost use Rattle.nv_calls.specs.Cells.{AreCells, value_at};
 ghost use Rattle.nv_calls.specs.Commit.{stamp_of};
-ghost use Rattle.nv_calls.specs.Committed.{page_count};
 ghost use Rattle.nv_calls.specs.Nodes.{block_in, cell_of, has_page_in, nodes_in};
-ghost use Rattle.nv_calls.specs.Ready.{plan_at};
-ghost use Rattle.nv_calls.specs.Prepared.{CanReady, HasNumberFor, IsEmptySlot, IsStill, makes};
+ghost use Rattle.nv_calls.specs.Prepared.{CanReady, HasLogPages, HasNumberFor, IsEmptySlot, IsStill, makes};
 ghost use Rattle.nv_calls.specs.Updates.{IsPlanOf, blank_call};
 
 use nv_alloc::{Block, BlockQueue, Hand};
 use nv_base::limits::NUMBER;
 use nv_base::{BlockNo, Ino};
 use nv_book::Book;
-use nv_calls::{Cells, Plan, Ready, Update};
+use nv_calls::{Cells, Plan, Ready, Update, pages_wanted};
 use nv_cell::InodeCell;
 use std::collections::vec_deque;
 
@@ -116,6 +114,16 @@ pub fn can_ready<C: Cells>(cells: &C, plan: &Plan, hand: &Hand) -> bool
         && has_number(cells, &plan.update, hand.ino())
 }
 
+/// Whether a hand has the log pages that a plan wants, and no chain.
+pub fn has_log_pages<C: Cells>(cells: &C, plan: &Plan, hand: &Hand) -> bool
+    requires { CanReady (C.cells cells.now) hand.now plan.now.update }
+    ensures { IsTrue result → HasLogPages (C.cells cells.now) hand.now plan.now.update }
+{
+    hand.pages.block_bytes() == hand.data.block_bytes()
+        && pages_wanted(cells, plan, hand) <= hand.pages.len()
+        && hand.chain.len() == 0
+}
+
 /// Whether the entries of a cell are older than the book's latest commit, and it takes one more.
 fn takes_commit(book: &Book, cell: &InodeCell) -> bool
     ensures { IsTrue result → TakesCommit (stamp_of book.now.state) cell.now }
@@ -139,36 +147,6 @@ pub fn all_take_commit<C: Cells>(book: &Book, cells: &C, ready: &Ready) -> bool
         if at >= cells.count() || !takes_commit(book, cells.cell(at)) {
             return false;
         }
-    }
-    true
-}
-
-/// How many pages the log of one of the cells needs that get entries.
-fn pages_needed<C: Cells>(cells: &C, ready: &Ready, j: usize) -> u64
-    requires few { length (C.cells cells.now) ≤ 4 }
-    requires planned { j < length ready.now.plans }
-    requires within { (plan_at ready.now.plans j).at < length (C.cells cells.now) }
-    ensures { result ≡ page_count (C.cells cells.now) (plan_at ready.now.plans j) }
-{
-    let cell = cells.cell(ready.place_of(j));
-    cell.pages_for(ready.entries_for(j)) as u64
-}
-
-/// Whether the logs need no more than so many pages.
-pub fn need_no_more<C: Cells>(cells: &C, ready: &Ready, pages: u64) -> bool
-    requires { length (C.cells cells.now) ≤ 4 }
-    ensures { IsTrue result → sum_by (page_count (C.cells cells.now)) ready.now.plans ≤ pages }
-{
-    let mut left = pages;
-    for j in 0..ready.planned() {
-        if ready.place_of(j) >= cells.count() {
-            return false;
-        }
-        let needed = pages_needed(cells, ready, j);
-        if left < needed {
-            return false;
-        }
-        left -= needed;
     }
     true
 }

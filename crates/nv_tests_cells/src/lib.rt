@@ -1,6 +1,6 @@
 //! The tests of file calls on cells that are made by hand, from the check to the last retirement: the worked rows, the order of
-//! refusals, and where the bytes of a write come from. Where a growth is refused nothing has changed, and the call is made once
-//! more.
+//! refusals, where the bytes of a write come from, and calls that are lent some slots of all. Where a growth is refused nothing
+//! has changed, and the call is made once more.
 #![tactic(auto)]
 
 #[cfg(test)]
@@ -24,10 +24,14 @@ mod says;
 #[cfg(test)]
 mod scene;
 #[cfg(test)]
+mod slot_cells;
+#[cfg(test)]
 mod slots;
 #[cfg(test)]
 mod sources;
 #[cfg(test)]
 mod steps;
+#[cfg(test)]
+mod stock;
 #[cfg(test)]
 mod texts;

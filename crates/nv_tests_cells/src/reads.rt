@@ -1,11 +1,10 @@
 //! Calls that only read, on the cell of their inode.
 
 use crate::compare::{same, same_for};
-use crate::says::bytes;
-use nv_base::{CommitNo, Fault, Kind};
-use nv_calls::{Answer, Call, View, list_on, lookup_on, read_on, stat_on};
+use crate::says::{bytes, handle};
+use nv_base::{CommitNo, Fault, Handle, Ino, Kind};
+use nv_calls::{Answer, Call, View, list_on, look_on, lookup_on, read_on, stat_on};
 use nv_cell::InodeCell;
-use nv_scenes::handle;
 use std::alloc::Global;
 use std::process::Abort;
 
@@ -39,8 +38,14 @@ impl Reads {
     }
 }
 
-/// Makes a call that only reads on a cell.
-fn viewed(rt: &impl Abort, alloc: Global, cell: &InodeCell, reads: Reads) -> Result<View, Fault> {
+/// Makes a call that only reads on the cell of an inode.
+fn viewed(
+    rt: &impl Abort,
+    alloc: Global,
+    ino: Ino,
+    cell: &InodeCell,
+    reads: Reads,
+) -> Result<View, Fault> {
     let of = handle(reads.ino());
     match reads {
         Reads::Read(_, offset, count) => {
@@ -49,27 +54,46 @@ fn viewed(rt: &impl Abort, alloc: Global, cell: &InodeCell, reads: Reads) -> Res
                 offset,
                 count,
             };
-            read_on(cell, call)
+            read_on(ino, cell, call)
         }
-        Reads::Stat(_) => stat_on(cell, Call::Stat { handle: of }),
-        Reads::List(_) => list_on(cell, Call::List { dir: of }),
+        Reads::Stat(_) => stat_on(ino, cell, Call::Stat { handle: of }),
+        Reads::List(_) => list_on(ino, cell, Call::List { dir: of }),
         Reads::Lookup(_, name) => {
             let name = bytes(alloc, name)?;
-            lookup_on(cell, Call::Lookup { dir: of, name })
+            lookup_on(ino, cell, Call::Lookup { dir: of, name })
         }
     }
 }
 
-/// Asserts what a call finds, or why it is refused.
+/// What a look finds where a look-up finds this: a name that isn't bound is no refusal.
+fn looked(want: Result<Found, Fault>) -> Result<Option<Handle>, Fault> {
+    match want {
+        Ok(Found::To(ino)) => Ok(Some(handle(ino))),
+        Ok(_) | Err(Fault::Missing) => Ok(None),
+        Err(fault) => Err(fault),
+    }
+}
+
+/// Asserts what a call finds in the cell of an inode, or why it is refused.
 pub fn finds(
     rt: &impl Abort,
     alloc: Global,
+    ino: u64,
     cell: &InodeCell,
     reads: Reads,
     want: Result<Found, Fault>,
 ) {
-    let view = match viewed(rt, alloc, cell, reads) {
-        Err(Fault::OutOfMemory) => viewed(rt, alloc, cell, reads),
+    let ino = Ino::new(ino);
+    if let Reads::Lookup(dir, name) = reads {
+        same_for(
+            rt,
+            &reads,
+            look_on(ino, cell, &handle(dir), name.as_bytes()),
+            looked(want),
+        );
+    }
+    let view = match viewed(rt, alloc, ino, cell, reads) {
+        Err(Fault::OutOfMemory) => viewed(rt, alloc, ino, cell, reads),
         view => view,
     };
     match (view, want) {

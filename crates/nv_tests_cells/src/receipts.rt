@@ -1,10 +1,10 @@
 //! What receipts say.
 
 use crate::compare::same_for;
-use crate::says::Says;
+use crate::says::{Says, handle};
 use nv_base::{CommitNo, Epoch};
 use nv_calls::{Receipt, Update};
-use nv_scenes::handle;
+use nv_journal::OldTail;
 use std::process::Abort;
 
 /// A receipt of this call, with its epoch and the inode that it made; and the number of its commit.
@@ -18,7 +18,19 @@ pub fn is_receipt(
     same_for(rt, &says, receipt.epoch(), epoch);
     same_for(rt, &says, receipt.made(), made.map(handle));
     assert!(rt; is_call(receipt.update(), says), "{says:?}");
+    assert!(rt; notes(receipt.noted(), says), "{says:?}");
     receipt.commit()
+}
+
+/// Whether the journal noted what such a call writes: none where that is one inode, and else the directory among all.
+fn notes(noted: &[OldTail], says: Says) -> bool {
+    match says {
+        Says::Write(..) | Says::Size(..) | Says::Mode(..) => noted.is_empty(),
+        Says::Rename(..) => noted.len() != 1,
+        Says::Create(dir, _) | Says::Mkdir(dir, _) | Says::Unlink(dir, _) | Says::Rmdir(dir, _) => {
+            noted.len() == 2 && (noted[0].ino == handle(dir).ino || noted[1].ino == handle(dir).ino)
+        }
+    }
 }
 
 /// Whether it is the call that is said; a write by how many bytes it has.

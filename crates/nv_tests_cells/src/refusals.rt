@@ -4,7 +4,7 @@ use crate::reads::Reads;
 use crate::says::Says::{Create, Mkdir, Mode, Rename, Rmdir, Size, Unlink, Write};
 use crate::steps::{Step, play};
 use Reads::{List, Lookup, Read};
-use Step::{Commits, FindsNothing, Log, Makes, Refused};
+use Step::{Commits, FindsNothing, FindsNothingIn, Log, Makes, Overtaken, Refused};
 use nv_base::Fault;
 
 const LONG: &[u8] = &[b'a'; 1_025];
@@ -56,11 +56,22 @@ const REFUSALS: &[Step] = &[
     Refused(Rename(0, "d", 1, "x"), Fault::MoveDirectory),
     Refused(Rename(0, "d", 0, "f"), Fault::Exists),
     Refused(Rename(0, "f", 0, "d"), Fault::Exists),
+    // with no number for a new inode
+    Refused(Create(0, "g"), Fault::NoInode),
+    Refused(Mkdir(1, "g"), Fault::NoInode),
+    // the name leads elsewhere than its look found
+    Overtaken(Unlink(0, "f"), 2),
+    Overtaken(Rmdir(0, "d"), 2),
     FindsNothing(Read(0, 0, 1), Fault::NotFile),
     FindsNothing(List(3), Fault::NotDirectory),
     FindsNothing(Lookup(3, "/"), Fault::NotDirectory),
     FindsNothing(Lookup(0, "/"), Fault::BadName),
     FindsNothing(Lookup(0, "g"), Fault::Missing),
+    // another inode's cell, of the same generation
+    FindsNothingIn(2, Read(3, 0, 1), Fault::Stale),
+    FindsNothingIn(0, Reads::Stat(1), Fault::Stale),
+    FindsNothingIn(0, List(1), Fault::Stale),
+    FindsNothingIn(0, Lookup(1, "/"), Fault::Stale),
     // nothing has changed
     Log(0, 3, 3, &[(3, 3)]),
     Log(1, 2, 2, &[(2, 2)]),

@@ -5,7 +5,9 @@ use crate::says::Says::{Create, Mkdir, Mode, Rename, Rmdir, Size, Unlink, Write}
 use crate::steps::{Step, play};
 use Found::{Bytes, Names, Stat, To};
 use Reads::{List, Lookup, Read};
-use Step::{Commits, Finds, FindsNothing, Free, Gone, Log, Makes, Nothing, Refused, Snapshot};
+use Step::{
+    Commits, Finds, FindsNothing, Free, Gone, Leaves, Log, Makes, Nothing, Refused, Snapshot,
+};
 use nv_base::{Fault, Kind};
 use nv_scenes::Row;
 
@@ -115,6 +117,91 @@ const A_REPLACED_FILE: &[Step] = &[
     Free(&[(1, 2), (4, 7)]),
 ];
 
+/// A rename over a file of another directory is one commit of three logs: the file that it moves gets no entry. The hand is
+/// left with what the replaced file had, and its number.
+const THREE_INODES: &[Step] = &[
+    Makes(Mkdir(0, "d"), &[1], 1, 1),
+    Makes(Create(1, "x"), &[2], 2, 2),
+    Commits(Write(2, 0, b"abcdefgh"), &[3, 4], &[], 3),
+    Makes(Create(0, "y"), &[5], 3, 4),
+    Leaves(&[3, 4], &[], &[2], Some(2)),
+    Commits(Rename(0, "y", 1, "x"), &[], &[], 5),
+    Gone(Some(2)),
+    Log(0, 4, 4, &[(2, 2)]),
+    Log(1, 3, 3, &[(2, 2)]),
+    Log(2, 0, 3, &[]),
+    Log(3, 1, 1, &[(1, 1)]),
+    Free(&[(2, 4), (6, 7)]),
+    Finds(List(0), Names(&[("d", 1)])),
+    Finds(List(1), Names(&[("x", 3)])),
+    Finds(Lookup(1, "x"), To(3)),
+    FindsNothing(Lookup(0, "y"), Fault::Missing),
+    FindsNothing(Read(2, 0, 9), Fault::Stale),
+    Finds(Reads::Stat(0), Stat(Kind::Dir, 493, 0, 5)),
+    Finds(Reads::Stat(1), Stat(Kind::Dir, 493, 0, 5)),
+    Finds(Reads::Stat(3), Stat(Kind::File, 420, 0, 4)),
+];
+
+/// The same under a snapshot, which holds all that the commit kills: the hand is left with nothing, not even the page that
+/// one of the logs took.
+const THREE_INODES_UNDER_A_SNAPSHOT: &[Step] = &[
+    Makes(Mkdir(0, "d"), &[1], 1, 1),
+    Makes(Create(1, "x"), &[2], 2, 2),
+    Commits(Write(2, 0, b"abcd"), &[3], &[], 3),
+    Makes(Create(0, "y"), &[4], 3, 4),
+    Commits(Mode(0, 448), &[], &[], 5),
+    Snapshot(1),
+    Leaves(&[], &[], &[], None),
+    Commits(Rename(0, "y", 1, "x"), &[], &[5], 6),
+    Gone(None),
+    Log(0, 5, 5, &[(3, 4), (0, 0)]),
+    Log(1, 3, 3, &[(2, 3)]),
+    Log(2, 3, 3, &[(0, 2)]),
+    Free(&[(6, 7)]),
+    Finds(List(1), Names(&[("x", 3)])),
+    FindsNothing(Reads::Stat(2), Fault::Stale),
+];
+
+/// A number that comes back has the next generation: what leads to an earlier one leads nowhere. Under a snapshot the
+/// inode that goes stays, and so does its number.
+const THE_NEXT_GENERATION: &[Step] = &[
+    Makes(Create(0, "a"), &[1], 1, 1),
+    Commits(Write(1, 0, b"abcd"), &[2], &[], 2),
+    Leaves(&[2], &[], &[1], Some(1)),
+    Commits(Unlink(0, "a"), &[], &[], 3),
+    Gone(Some(1)),
+    Log(1, 0, 3, &[]),
+    Makes(Create(0, "b"), &[1], 21, 4),
+    Refused(Write(1, 0, b"x"), Fault::Stale),
+    Refused(Size(1, 2), Fault::Stale),
+    Refused(Mode(1, 7), Fault::Stale),
+    Refused(Create(1, "z"), Fault::Stale),
+    FindsNothing(Read(1, 0, 9), Fault::Stale),
+    FindsNothing(Reads::Stat(1), Fault::Stale),
+    Finds(Lookup(0, "b"), To(21)),
+    Finds(List(0), Names(&[("b", 21)])),
+    Finds(Read(21, 0, 9), Bytes(b"")),
+    Finds(Reads::Stat(21), Stat(Kind::File, 420, 0, 4)),
+    Log(1, 1, 4, &[(1, 1)]),
+    Leaves(&[], &[], &[1], Some(1)),
+    Commits(Unlink(0, "b"), &[], &[2], 5),
+    Makes(Mkdir(0, "c"), &[1], 31, 6),
+    FindsNothing(Read(21, 0, 9), Fault::Stale),
+    FindsNothing(List(21), Fault::Stale),
+    Finds(List(31), Names(&[])),
+    Log(0, 6, 6, &[(1, 1), (1, 1)]),
+    Log(1, 1, 6, &[(1, 1)]),
+    Free(&[(3, 7)]),
+    Snapshot(1),
+    Leaves(&[], &[], &[], None),
+    Commits(Rmdir(0, "c"), &[], &[], 7),
+    Gone(None),
+    FindsNothing(Reads::Stat(31), Fault::Stale),
+    Log(0, 7, 7, &[(1, 1), (0, 1)]),
+    Log(1, 2, 7, &[(0, 1)]),
+    Free(&[(3, 7)]),
+];
+
 const ROWS: &[(Row, &[Step])] = &[
     (DEVICE, PARTIAL_AT_BOTH_ENDS),
     (DEVICE, A_CUT_INSIDE_A_BLOCK),
@@ -123,6 +210,9 @@ const ROWS: &[(Row, &[Step])] = &[
     (DEVICE, NAMES),
     ([8, 1, 1, 2, 2, 1, 1], LIMITS),
     (DEVICE, A_REPLACED_FILE),
+    (DEVICE, THREE_INODES),
+    (DEVICE, THREE_INODES_UNDER_A_SNAPSHOT),
+    (DEVICE, THE_NEXT_GENERATION),
 ];
 
 #[test]

@@ -1,9 +1,12 @@
-//! Calls that change nodes, as tables say them: inodes by their numbers, all of generation 1.
+//! Calls that change nodes, as tables say them.
+//!
+//! An inode is said by its number, which is below 10, with its generation in front unless that is the first: 21 is inode 1 of
+//! generation 2.
 
 use crate::compare::same;
-use nv_base::{Bytes, Fault, Mode};
+use nv_base::{Bytes, Fault, Handle, Mode};
 use nv_calls::Update;
-use nv_scenes::handle;
+use nv_scenes::handle_of;
 use std::alloc::Global;
 use std::process::Abort;
 
@@ -19,6 +22,11 @@ pub enum Says {
     Unlink(u64, &'static str),
     Rmdir(u64, &'static str),
     Rename(u64, &'static str, u64, &'static str),
+}
+
+/// The handle of an inode that is said.
+pub fn handle(said: u64) -> Handle {
+    handle_of(said % 10, (said / 10).max(1))
 }
 
 pub fn bytes(alloc: Global, text: &str) -> Result<Bytes, Fault> {

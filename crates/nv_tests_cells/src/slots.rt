@@ -7,6 +7,8 @@ ghost use Rattle.nv_entry.specs.Blocks.{item_blocks};
 ghost use Rattle.nv_entry.specs.declared.item.Item.{Item as ItemValue};
 
 use crate::compare::same;
+use crate::hands::taking;
+use crate::stock::Stock;
 use nv_alloc::{BlockQueue, Hand};
 use nv_base::limits::NUMBER;
 use nv_base::{Epoch, Fault, Gen, Geometry, Kind, Mode};
@@ -24,8 +26,14 @@ pub fn slot(rt: &impl Abort, alloc: Global, device: &Geometry) -> InodeCell {
     InodeCell::new(alloc, device.numbers.block, page, Gen::new(1), 0)
 }
 
-/// Appends and publishes the first entry of the root, on a page from a hand.
-pub fn begin(rt: &impl Abort, cell: &mut InodeCell, hand: &mut Hand) {
+/// Appends and publishes the first entry of the root, on the first block.
+pub fn begin(rt: &impl Abort, cell: &mut InodeCell, stock: &mut Stock) {
+    let mut hand = stock.take(rt, &taking(&[], &[0]));
+    append_first(rt, cell, &mut hand);
+    hand.dismantle();
+}
+
+fn append_first(rt: &impl Abort, cell: &mut InodeCell, hand: &mut Hand) {
     let mode = Mode::checked(493).expect(rt, "a mode");
     let kind = Kind::Dir;
     let items = [Item::Init { kind, mode }];

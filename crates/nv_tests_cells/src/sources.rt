@@ -1,4 +1,4 @@
-//! Sources of texts: one that counts how often it is asked and may fail, and a slow one.
+//! Sources of texts: one that counts how often it is asked and may fail, a slow one, and one of single bytes.
 
 ghost use Rattle.std.specs.Prelude.{◌≡◌, ◌+◌, IsTrue, length, map, slice_index_or};
 ghost use Rattle.std.specs.List.{range_with_len};
@@ -68,14 +68,54 @@ fn copied(text: &[u8], at: u64, part: &mut [u8]) -> bool
     true
 }
 
-/// A text of which one byte at a time can be had, and how many were. Past its end it has zeros.
+/// A text that adds up all bytes of a large buffer before it hands out any part, and the sum of all that it added up.
 #[derive(Drop)]
 pub struct SlowText<'a> {
+    pub text: &'a [u8],
+    pub buffer: &'a [u8],
+    pub sum: u64,
+}
+
+impl Source for SlowText<'_> {
+    ghost use Rattle.std.specs.Prelude.{ℕ, slice_index_or};
+
+    ghost byte_at = { λ source at. slice_index_or source.text.now at 0 };
+
+    ghost failed = { λ source. 0 };
+
+    ghost State = { ℕ };
+
+    ghost state = { λ source. 0 };
+
+    ghost asked = { λ state ask. state };
+
+    fn fill(&mut self, at: u64, part: &mut [u8]) -> Result<(), SourceFault> {
+        self.sum = self.sum.wrapping_add(sum_of(self.buffer));
+        copy_slowly(self.text, at, part);
+        Ok(())
+    }
+
+    fn failures(&self) -> u64 {
+        0
+    }
+}
+
+fn sum_of(buffer: &[u8]) -> u64 {
+    let mut sum = 0u64;
+    for byte in buffer {
+        sum = sum.wrapping_add(u64::from(*byte));
+    }
+    sum
+}
+
+/// A text of which one byte at a time can be had, and how many were. Past its end it has zeros.
+#[derive(Drop)]
+pub struct SingleBytes<'a> {
     pub text: &'a [u8],
     pub bytes: u64,
 }
 
-impl Source for SlowText<'_> {
+impl Source for SingleBytes<'_> {
     ghost use Rattle.std.specs.Prelude.{ℕ, slice_index_or};
 
     ghost byte_at = { λ source at. slice_index_or source.text.now at 0 };

@@ -1,11 +1,12 @@
 //! Steps on cells.
 
 use crate::compare::{same, same_for};
-use crate::hands::{Takes, has_free};
+use crate::hands::{Held, Takes, has_free, making, taking};
 use crate::reads::{Found, Reads, finds};
 use crate::says::Says;
-use crate::scene::{Outcome, Scene};
+use crate::scene::Scene;
 use crate::sources::CountedText;
+use crate::stock::Outcome;
 use nv_base::{CommitNo, Epoch, Fault, Ino};
 use nv_cell::PageCounts;
 use nv_scenes::Row;
@@ -24,30 +25,21 @@ pub enum Step {
     /// A call that only reads.
     Finds(Reads, Found),
     FindsNothing(Reads, Fault),
+    /// One that is lent the cell of this inode.
+    FindsNothingIn(u64, Reads, Fault),
+    /// A call whose first name was bound to this inode when it looked.
+    Overtaken(Says, u64),
     /// A snapshot of this number.
     Snapshot(u64),
     /// The entries of an inode's log, its version, and how many entries of each log page are live and how many valid.
     Log(u64, usize, u64, &'static [(usize, usize)]),
+    /// What the next commit leaves in its hand: the numbers of blocks of pages, of log pages that it took, and of the log of
+    /// the inode that it erases, which is the last.
+    Leaves(&'static [u64], &'static [u64], &'static [u64], Option<u64>),
     /// The inode that the last commit erased.
     Gone(Option<u64>),
     /// The runs of free blocks.
     Free(&'static [(u64, u64)]),
-}
-
-/// What a call takes that makes no inode.
-pub fn takes(data: &'static [u64], pages: &'static [u64]) -> Takes {
-    let made = None;
-    Takes { data, pages, made }
-}
-
-/// What a call takes that makes an inode.
-fn makes(pages: &'static [u64], ino: u64) -> Takes {
-    let made = Some(ino);
-    Takes {
-        data: &[],
-        pages,
-        made,
-    }
 }
 
 /// Makes each step on a new world.
@@ -66,7 +58,7 @@ pub fn make(rt: &impl Abort, alloc: Global, scene: &mut Scene, step: &Step) {
                 rt,
                 scene,
                 says,
-                &makes(pages, ino),
+                &making(pages, ino),
                 Outcome::Commits(CommitNo::new(commit)),
             )
         }
@@ -75,33 +67,58 @@ pub fn make(rt: &impl Abort, alloc: Global, scene: &mut Scene, step: &Step) {
                 rt,
                 scene,
                 says,
-                &takes(data, pages),
+                &taking(data, pages),
                 Outcome::Commits(CommitNo::new(commit)),
             )
         }
-        Step::Nothing(says) => comes_to(rt, scene, says, &takes(&[], &[]), Outcome::Nothing),
+        Step::Nothing(says) => comes_to(rt, scene, says, &taking(&[], &[]), Outcome::Nothing),
         Step::Refused(says, fault) => {
-            comes_to(rt, scene, says, &takes(&[], &[]), Outcome::Refused(fault))
+            comes_to(rt, scene, says, &taking(&[], &[]), Outcome::Refused(fault))
         }
-        Step::Finds(reads, found) => finds(
+        Step::Finds(reads, found) => reads_in(rt, alloc, scene, reads.ino(), reads, Ok(found)),
+        Step::FindsNothing(reads, fault) => {
+            reads_in(rt, alloc, scene, reads.ino(), reads, Err(fault))
+        }
+        Step::FindsNothingIn(ino, reads, fault) => {
+            reads_in(rt, alloc, scene, ino, reads, Err(fault))
+        }
+        Step::Overtaken(says, ino) => {
+            same_for(
+                rt,
+                &says,
+                scene.overtaken(rt, says, ino),
+                Some(Fault::Contended),
+            )
+        }
+        Step::Leaves(data, pages, chain, ino) => {
+            scene.stock.leaves = Some(Held {
+                data,
+                pages,
+                chain,
+                ino,
+            });
+        }
+        Step::Snapshot(number) => same(
             rt,
-            alloc,
-            scene.cell(rt, reads.ino()),
-            reads,
-            Ok(found),
+            scene.stock.book.make_snapshot(),
+            Ok(Epoch::new(number)),
         ),
-        Step::FindsNothing(reads, fault) => finds(
-            rt,
-            alloc,
-            scene.cell(rt, reads.ino()),
-            reads,
-            Err(fault),
-        ),
-        Step::Snapshot(number) => same(rt, scene.book.make_snapshot(), Ok(Epoch::new(number))),
         Step::Log(ino, entries, version, pages) => has_log(rt, scene, ino, entries, version, pages),
-        Step::Gone(want) => same(rt, scene.gone, want.map(Ino::new)),
-        Step::Free(want) => has_free(rt, &scene.list, want),
+        Step::Gone(want) => same(rt, scene.stock.gone, want.map(Ino::new)),
+        Step::Free(want) => has_free(rt, &scene.stock.list, want),
     }
+}
+
+/// Makes a call that only reads on the cell of an inode.
+fn reads_in(
+    rt: &impl Abort,
+    alloc: Global,
+    scene: &Scene,
+    ino: u64,
+    reads: Reads,
+    want: Result<Found, Fault>,
+) {
+    finds(rt, alloc, ino % 10, scene.cell(rt, ino), reads, want);
 }
 
 /// Makes a call. Its source is asked once for each block of a write, and never by another call.

@@ -1,15 +1,19 @@
-//! Writes whose texts come from other sources: one that fails, one that counts how often it is asked, and a slow one.
+//! Writes whose texts come from other sources: one that fails, one that counts how often it is asked, a slow one, and one of
+//! single bytes.
 
 use crate::compare::{same, same_for};
+use crate::hands::taking;
 use crate::reads::{Found, Reads};
 use crate::says::Says::{Create, Write};
-use crate::scene::{Outcome, Scene};
-use crate::sources::{CountedText, SlowText};
-use crate::steps::{Step, make, takes};
+use crate::scene::Scene;
+use crate::sources::{CountedText, SingleBytes, SlowText};
+use crate::steps::{Step, make};
+use crate::stock::Outcome;
 use Found::Bytes;
 use Reads::Read;
 use Step::{Commits, Finds, Free, Log, Makes};
 use nv_base::{CommitNo, Fault};
+use nv_calls::Source;
 use nv_scenes::Row;
 use std::alloc::Global;
 use std::process::Abort;
@@ -62,7 +66,7 @@ fn ends(rt: &impl Abort, alloc: Global, mut scene: Scene, after: &'static [u8]) 
 fn fails(rt: &impl Abort, alloc: Global, case: &Case, at: u64) {
     let (offset, text, blocks, after) = *case;
     let write = Write(1, offset, text);
-    let takes = takes(blocks, &[]);
+    let takes = taking(blocks, &[]);
     let mut scene = begun(rt, alloc);
     let mut source = CountedText::new(text, Some(at));
     let found = scene.make(rt, write, &takes, &mut source);
@@ -87,16 +91,41 @@ fn a_source_fails_at_each_call(rt: HostRuntime) {
     }
 }
 
+/// Makes a write whose text comes from a source, and asserts the file after it.
+fn writes<S: Source>(rt: &impl Abort, alloc: Global, case: &Case, source: &mut S) {
+    let (offset, text, blocks, after) = *case;
+    let write = Write(1, offset, text);
+    let mut scene = begun(rt, alloc);
+    let found = scene.make(rt, write, &taking(blocks, &[]), source);
+    same_for(rt, &write, found, Outcome::Commits(CommitNo::new(3)));
+    ends(rt, alloc, scene, after);
+}
+
+/// A buffer of ones.
+const LARGE: &[u8] = &[1; 65_536];
+
 #[test]
 fn a_slow_source(rt: HostRuntime) {
-    for (offset, text, blocks, after) in CASES {
-        let mut scene = begun(&rt, rt.alloc());
-        let mut source = SlowText { text, bytes: 0 };
-        let write = Write(1, *offset, text);
-        let found = scene.make(&rt, write, &takes(blocks, &[]), &mut source);
-        same_for(&rt, &write, found, Outcome::Commits(CommitNo::new(3)));
-        same(&rt, source.bytes, text.len() as u64);
-        ends(&rt, rt.alloc(), scene, after);
+    for case in CASES {
+        let mut source = SlowText {
+            text: case.1,
+            buffer: LARGE,
+            sum: 0,
+        };
+        writes(&rt, rt.alloc(), case, &mut source);
+        same(&rt, source.sum, case.2.len() as u64 * 65_536);
+    }
+}
+
+#[test]
+fn a_source_of_single_bytes(rt: HostRuntime) {
+    for case in CASES {
+        let mut source = SingleBytes {
+            text: case.1,
+            bytes: 0,
+        };
+        writes(&rt, rt.alloc(), case, &mut source);
+        same(&rt, source.bytes, case.1.len() as u64);
     }
 }
 
@@ -110,6 +139,26 @@ fn a_source_that_counts(rt: HostRuntime) {
             &mut scene,
             &Commits(Write(1, *offset, text), blocks, &[], 3),
         );
+        ends(&rt, rt.alloc(), scene, after);
+    }
+}
+
+/// A write that is made once. With ample memory it commits; with the runner's choice of one refused growth it may be refused,
+/// nothing has changed then, and it is made again.
+#[test]
+fn one_refused_growth(rt: HostRuntime) {
+    for case in CASES {
+        let (offset, text, blocks, after) = *case;
+        let write = Write(1, offset, text);
+        let takes = taking(blocks, &[]);
+        let mut scene = begun(&rt, rt.alloc());
+        let mut source = CountedText::new(text, None);
+        let mut found = scene.make_once(&rt, write, &takes, &mut source);
+        if found == Outcome::Refused(Fault::OutOfMemory) {
+            play(&rt, rt.alloc(), &mut scene, AS_BEFORE);
+            found = scene.make_once(&rt, write, &takes, &mut source);
+        }
+        same_for(&rt, &write, found, Outcome::Commits(CommitNo::new(3)));
         ends(&rt, rt.alloc(), scene, after);
     }
 }

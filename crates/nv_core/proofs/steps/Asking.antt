@@ -22,7 +22,7 @@ use Rattle.nv_core.specs.machine.Takings.{AreEmptied, Asked, IsEmptied, IsShortI
 use Rattle.nv_core.specs.machine.World.{Actor, Answers, Check, Ends, Event, Go, HandState, Lock, Moves, Next, Ready, Refuses, Running, Shared, Start, TakeBlocks, TakePages, Turn, Waits, World, actor_at, idle, list_at, no_list}
 use Rattle.nv_core.proofs.steps.Events.{starts, turned_others}
 use Rattle.nv_core.proofs.steps.Caused.{unrefused}
-use Rattle.nv_core.proofs.steps.Firsts.{IsFirst, OnFirst, end_first, first, pages_first}
+use Rattle.nv_core.proofs.steps.Firsts.{IsFirst, OnFirst, end_plain, first, on_apart, on_first, pages_first}
 use Rattle.nv_core.proofs.steps.FromScratch.{all_numbers}
 use Rattle.nv_core.proofs.steps.Locks.{all_same}
 
@@ -182,7 +182,7 @@ module _ (cpus actor asked block : ℕ) (s : Shared) (h : HandState) (r : Runnin
       asks_next cpus actor asked s h with_blocks r.wanted taking many asks (more_blocks h _) (suc n) is (omega arith)
       (let below = ltb-true (asked + 1) (length s.lists) lt in omega (arith, below, many))
   blocks_asks (suc n) false is lt = first_turn (TakeBlocks asked) cpus actor s h taking _ some_cpus
-      (end_first r.slots (Refuses NoSpace) t with_blocks r)
+      (on_first _ (on_apart _ (end_plain r.slots (Refuses NoSpace) t with_blocks r)))
 
   pages_asks : (left : ℕ) (more : Bool) → r.wanted - length (list_at s asked_cpu).blocks ≡ left
       → nat_lt (asked + 1) (length s.lists) ≡ more
@@ -192,7 +192,7 @@ module _ (cpus actor asked block : ℕ) (s : Shared) (h : HandState) (r : Runnin
       asks_next cpus actor asked s h with_log_pages r.wanted taking many asks (more_pages h _) (suc n) is (omega arith)
       (let below = ltb-true (asked + 1) (length s.lists) lt in omega (arith, below, many))
   pages_asks (suc n) false is lt = first_turn (TakePages asked) cpus actor s h taking _ some_cpus
-      (end_first r.slots (Refuses NoSpace) t with_log_pages r)
+      (on_first _ (on_apart _ (end_plain r.slots (Refuses NoSpace) t with_log_pages r)))
 
   abbrev Shorts : Next → Turn → Type 0
   Shorts k turn = RefusesFor (IsShortInAll cpus actor (taking_by k actor s h turn taking)) ⊥ turn

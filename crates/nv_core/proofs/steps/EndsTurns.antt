@@ -62,16 +62,7 @@ needs_none : (nodes : Handle → Option NodeCopy) (made : Handle) (number : Opti
     → is_no_change (effect nodes made c) ≡ true → is_numbered (beginning c) number ≡ true
 needs_none nodes made number (call.Create dir name mode) e = absurd (false≢true e)
 needs_none nodes made number (call.Mkdir dir name mode) e = absurd (false≢true e)
-needs_none nodes made number (call.Write file offset text) e = refl
-needs_none nodes made number (call.Read file offset count) e = refl
-needs_none nodes made number (call.Size file size) e = refl
-needs_none nodes made number (call.Mode handle mode) e = refl
-needs_none nodes made number (call.Stat handle) e = refl
-needs_none nodes made number (call.List dir) e = refl
-needs_none nodes made number (call.Lookup dir name) e = refl
-needs_none nodes made number (call.Unlink dir name) e = refl
-needs_none nodes made number (call.Rmdir dir name) e = refl
-needs_none nodes made number (call.Rename from old to new) e = refl
+needs_none nodes made number other e = refl
 
 -- and whatever its handle is, it has as little to change
 any_made : (nodes : Handle → Option NodeCopy) (made other : Handle) (c : Call)

@@ -71,7 +71,7 @@ back_sizes : (block : ℕ) (number : Option ℕ) (s : Shared) (h : HandState) �
 back_sizes block None s h sizes = sizes
 back_sizes block (Some ino) s h sizes = sizes
 
-slots_in_cells : (k : Next) (a : ℕ) (s : Shared) (r : Running) → Before a s k r → AreSlots (length s.cells) r.slots
+pub slots_in_cells : (k : Next) (a : ℕ) (s : Shared) (r : Running) → Before a s k r → AreSlots (length s.cells) r.slots
 slots_in_cells k a s r b = subst (λ (n : ℕ). AreSlots n r.slots) b.wide b.are
 
 deed_sizes : (k : Next) (block a : ℕ) (s : Shared) (h : HandState) (r : Running) → Before a s k r → AreSizes block s
@@ -207,7 +207,7 @@ module _ (g : GeometryNumbers) (w : World) (known : IsKnown g w) (fit : AreFit w
     own_fits : FitsAt r.next block w.shared (actor_at w actor).hand r
     own_fits = subst (λ (o : Option Running). FitsOf o block w.shared (actor_at w actor).hand) is (fit.each actor)
 
-    own_hand : HandAt w.numbers r.next (actor_at w actor).hand r
+    pub own_hand : HandAt w.numbers r.next (actor_at w actor).hand r
     own_hand =
         let own : HandOf g (actor_at w actor).hand (Some r) =
         subst (λ (o : Option Running). HandOf g (actor_at w actor).hand o) is (known.numbers.hands actor) in

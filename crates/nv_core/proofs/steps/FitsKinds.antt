@@ -44,7 +44,7 @@ pub record Own (g : GeometryNumbers) (k : Next) (a : ℕ) (s : Shared) (h : Hand
   pub free : k ≡ Check → (ino : ℕ) → h.ino ≡ Some ino → IsNumberFree s ino
 
 -- outside of a commit all that is locked is settled
-logs_of : (k : Next) (s : Shared) (a : ℕ) (r : Running) → HasGrown k s a r → (ino : ℕ) → is_appended k (written_slots r) ino ≡ false
+pub logs_of : (k : Next) (s : Shared) (a : ℕ) (r : Running) → HasGrown k s a r → (ino : ℕ) → is_appended k (written_slots r) ino ≡ false
     → is_behind k (written_slots r) ino ≡ false → owner_at s ino ≡ Some a → settled s ino ≡ log_of (cell_at s ino)
 logs_of k s a r grown ino none behind own =
     let i = is_settled k s a r grown ino none behind own in

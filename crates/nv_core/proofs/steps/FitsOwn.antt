@@ -85,7 +85,7 @@ module _ (s : Shared) (locked : List ℕ) (logs : (ino : ℕ) → has locked ino
     slots = λ handle is. slot_log (cell_at s handle.ino).generation _ _ (sym (log_here handle is));
   }
 
-last_page : (block : ℕ) (s : Shared) (c : Call) → has_last_page block s c ≡ present_in block (now s).slots c
+pub last_page : (block : ℕ) (s : Shared) (c : Call) → has_last_page block s c ≡ present_in block (now s).slots c
 last_page block s (call.Size file size) = refl
 last_page block s (call.Create dir name mode) = refl
 last_page block s (call.Mkdir dir name mode) = refl

@@ -102,15 +102,7 @@ module _ (bytes : ℕ → List ℕ) (block : ℕ) (slots : ℕ → Slot) (nodes 
   told (call.Create dir name mode) free = free refl
   told (call.Mkdir dir name mode) free = free refl
   told (call.Size file size) free = refl
-  told (call.Write file offset text) free = tt
-  told (call.Read file offset count) free = tt
-  told (call.Mode handle mode) free = tt
-  told (call.Stat handle) free = tt
-  told (call.List dir) free = tt
-  told (call.Lookup dir name) free = tt
-  told (call.Unlink dir name) free = tt
-  told (call.Rmdir dir name) free = tt
-  told (call.Rename from old to new_name) free = tt
+  told other free = tt
 
   pub is_ready : (c : Call) → (makes_inode (beginning c) ≡ true → IsFree slots new)
       → AreFilled block nodes (present_in block slots c) c fresh → IsReady bytes block slots nodes (Taken_ c) c
@@ -124,13 +116,4 @@ pub fresh_same : (block : ℕ) (nodes other : Handle → Option PlainNode) (l : 
     → fresh_pages block (node_in other) c ≡ fresh_pages block (node_in nodes) c
 fresh_same block nodes other l (call.Write file offset text) h = rw h.0 refl
 fresh_same block nodes other l (call.Size file size) h = rw h.0 refl
-fresh_same block nodes other l (call.Create dir name mode) h = refl
-fresh_same block nodes other l (call.Mkdir dir name mode) h = refl
-fresh_same block nodes other l (call.Read file offset count) h = refl
-fresh_same block nodes other l (call.Mode handle mode) h = refl
-fresh_same block nodes other l (call.Stat handle) h = refl
-fresh_same block nodes other l (call.List dir) h = refl
-fresh_same block nodes other l (call.Lookup dir name) h = refl
-fresh_same block nodes other l (call.Unlink dir name) h = refl
-fresh_same block nodes other l (call.Rmdir dir name) h = refl
-fresh_same block nodes other l (call.Rename from old to new) h = refl
+fresh_same block nodes other l c h = refl

@@ -79,16 +79,7 @@ pub made_locked : (many : ℕ) (locked : List ℕ) (seen : Looked) (new : Handle
     → AllByRecursion (IsLocked many locked) (locks seen new c) → IsLocked many locked new
 made_locked many locked seen new (call.Create dir name mode) e all = all.0
 made_locked many locked seen new (call.Mkdir dir name mode) e all = all.0
-made_locked many locked seen new (call.Write file offset text) e all = cc
-made_locked many locked seen new (call.Read file offset count) e all = cc
-made_locked many locked seen new (call.Size file size) e all = cc
-made_locked many locked seen new (call.Mode handle mode) e all = cc
-made_locked many locked seen new (call.Stat handle) e all = cc
-made_locked many locked seen new (call.List dir) e all = cc
-made_locked many locked seen new (call.Lookup dir name) e all = cc
-made_locked many locked seen new (call.Unlink dir name) e all = cc
-made_locked many locked seen new (call.Rmdir dir name) e all = cc
-made_locked many locked seen new (call.Rename from old to name) e all = cc
+made_locked many locked seen new other e all = cc
 
 module _ (block : ℕ) (v w : View) (c : Call) (seen : Looked) (new : Handle) (locked : List ℕ) (same : SameFor v w locked)
     (p : IsPassed block v c seen new locked) where
@@ -138,11 +129,17 @@ module _ (block : ℕ) (v w : View) (c : Call) (seen : Looked) (new : Handle) (l
       ap (λ (b : Bool). blocks_wanted block (node_in w.nodes) b c) present_same
       ∙ (same_call (record nothing_taken { present = present_in block v.slots c })).wanted
 
+  pub plan_still : (fresh : List BlockValue)
+      → plan block (node_in w.nodes) (taken_of new (present_in block w.slots c) fresh) c
+      ≡ plan block (node_in v.nodes) (taken_of new (present_in block v.slots c) fresh) c
+  plan_still fresh =
+      ap (λ (b : Bool). plan block (node_in w.nodes) (taken_of new b fresh) c) present_same
+      ∙ (same_call (taken_of new (present_in block v.slots c) fresh)).plan
+
   pub drawn_still : (planned : List Planned) (fresh : List BlockValue) → IsDrawn block v c new planned fresh
       → IsDrawn block w c new planned fresh
   drawn_still planned fresh d = record {
-    plan = d.plan ∙ sym (same_call (taken_of new (present_in block v.slots c) fresh)).plan
-        ∙ ap (λ (b : Bool). plan block (node_in w.nodes) (taken_of new b fresh) c) (sym present_same);
+    plan = d.plan ∙ sym (plan_still fresh);
     filled = record {
       before = d.filled.before;
       is = d.filled.is ∙ sym (ap (λ (pages : List (List ℕ)). filled pages d.filled.before) (fresh_same block v.nodes w.nodes seen c agree));

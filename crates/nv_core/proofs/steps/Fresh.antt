@@ -58,16 +58,7 @@ made_items block nodes taken (call.Create dir name mode) e =
 made_items block nodes taken (call.Mkdir dir name mode) e =
     begin_items (dir.ino == taken.made.ino) _ _ (omega arith)
     (own_items (taken.made.ino == taken.made.ino) _ (eq-eqb taken.made.ino taken.made.ino refl) (omega arith))
-made_items block nodes taken (call.Write file offset text) e = cc
-made_items block nodes taken (call.Read file offset count) e = cc
-made_items block nodes taken (call.Size file size) e = cc
-made_items block nodes taken (call.Mode handle mode) e = cc
-made_items block nodes taken (call.Stat handle) e = cc
-made_items block nodes taken (call.List dir) e = cc
-made_items block nodes taken (call.Lookup dir name) e = cc
-made_items block nodes taken (call.Unlink dir name) e = cc
-made_items block nodes taken (call.Rmdir dir name) e = cc
-made_items block nodes taken (call.Rename from old to new) e = cc
+made_items block nodes taken other e = cc
 
 entries_count : (commit epoch place : ℕ) (items : List Item) → 0 < length items → 0 < length (entries_of commit epoch place items)
 entries_count commit epoch place [] some = absurd (omega (arith, some))

@@ -59,24 +59,13 @@ outside : (running : Option Running) (h : HandState) (ino : ℕ) → commits_by 
 outside None h ino out = refl
 outside (Some r) h ino out = go r.next out where
   go : (k : Next) → commits_at k ≡ false → parts_for (killed_slots k (written_slots r)) h.killed ino ≡ []
-  go Number e = refl
-  go (Look place) e = refl
-  go (Lock place) e = refl
-  go Check e = refl
-  go (TakeBlocks asked) e = refl
-  go (TakePages asked) e = refl
-  go Ready e = refl
-  go Enter e = refl
   go (Append place) e = absurd (true≢false e)
   go Open e = absurd (true≢false e)
   go (Publish place) e = absurd (true≢false e)
   go Close e = absurd (true≢false e)
   go (Retire place) e = absurd (true≢false e)
   go Leave e = absurd (true≢false e)
-  go (Unlock place) e = refl
-  go (Give cpu) e = refl
-  go Back e = refl
-  go Visit e = refl
+  go other e = refl
 
 -- another actor than the one that has the commit lock
 others : (w : World) (a b ino : ℕ) → AreLocks w → w.shared.holder ≡ Some a → b ≢ a → killed_by_actor ino (actor_at w b) ≡ []

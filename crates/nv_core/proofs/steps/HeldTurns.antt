@@ -307,23 +307,14 @@ none_kept k block a granted s h r out none = turn_keeps (λ t g. g.killed ≡ []
 
   done : (k : Next) → commits_at k ≡ false → (deed k block a s h r).hand.killed ≡ []
   done Number e = number s.pool.numbers
-  done (Look place) e = none
-  done (Lock place) e = none
-  done Check e = none
-  done (TakeBlocks asked) e = none
-  done (TakePages asked) e = none
-  done Ready e = none
-  done Enter e = none
   done (Append place) e = absurd (true≢false e)
   done Open e = absurd (true≢false e)
   done (Publish place) e = absurd (true≢false e)
   done Close e = absurd (true≢false e)
   done (Retire place) e = absurd (true≢false e)
   done Leave e = absurd (true≢false e)
-  done (Unlock place) e = none
-  done (Give cpu) e = none
   done Back e = back h.ino
-  done Visit e = none
+  done other e = none
 
 -- and outside a commit a hand has nothing killed
 pub none_killed : (g : GeometryNumbers) (k : Next) (h : HandState) (r : Running) → commits_at k ≡ false → HandAt g k h r → h.killed ≡ []

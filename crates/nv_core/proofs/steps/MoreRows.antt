@@ -9,7 +9,7 @@ use Rattle.nv_calls.specs.declared.answer.Answer.TheVariants as answer
 use Rattle.nv_calls.specs.declared.call.Call.TheVariants as call
 use Rattle.nv_core.specs.machine.Format.{formatted}
 use Rattle.nv_core.specs.machine.World.{Done, Moved, Refused, Reply, Started}
-use Rattle.nv_core.proofs.steps.Scripts.{DoCall, Goes, Line, StartCall, chain_count, device, free_count, handle, play, played}
+use Rattle.nv_core.proofs.steps.Scripts.{DoCall, Goes, Line, StartCall, device, free_count, handle, play, played, space}
 
 -- ---- bounded retries: a name is bound anew after each look
 
@@ -37,11 +37,8 @@ retried : play (formatted device) (first_four ++ anew ++ anew ++ anew ++ anew ++
 retried = refl
 
 -- ten blocks are free, and six in chains
-retried_free : free_count (played (formatted device) (first_four ++ anew ++ anew ++ anew ++ anew)).shared ≡ 10
-retried_free = refl
-
-retried_chains : chain_count (played (formatted device) (first_four ++ anew ++ anew ++ anew ++ anew)).shared ≡ 6
-retried_chains = refl
+retried_space : space (played (formatted device) (first_four ++ anew ++ anew ++ anew ++ anew)) ≡ 10 ∷ 6 ∷ 0 ∷ 0 ∷ 0 ∷ []
+retried_space = refl
 
 -- ---- names
 
@@ -143,11 +140,8 @@ full : play (formatted narrow) filling
 full = refl
 
 -- what the refused call took is back
-full_free : free_count (played (formatted narrow) filling).shared ≡ 1
-full_free = refl
-
-full_chains : chain_count (played (formatted narrow) filling).shared ≡ 4
-full_chains = refl
+full_space : space (played (formatted narrow) filling) ≡ 1 ∷ 4 ∷ 3 ∷ 0 ∷ 0 ∷ []
+full_space = refl
 
 -- ---- two takings: a data block, and then a log page, since the page of the file's log is full
 

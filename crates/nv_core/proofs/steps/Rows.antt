@@ -1,13 +1,14 @@
 -- Worked scripts, computed step by step.
 use Rattle.std.proofs.Common.{◌≡◌, true, List, [], ◌∷◌, ◌++◌, map, replicate, refl}
 use Rattle.nv_base.specs.declared.fault.Fault.TheVariants.{ActorBusy, ActorIdle, NoActor}
+use Rattle.nv_base.specs.declared.node.Kind.TheVariants.{Dir, File}
 use Rattle.nv_calls.specs.declared.answer.Answer.TheVariants as answer
 use Rattle.nv_calls.specs.declared.call.Call.TheVariants as call
 use Rattle.nv_core.specs.machine.Format.{formatted}
 use Rattle.nv_core.specs.machine.Settled.{tree_of}
 use Rattle.nv_core.specs.machine.Step.{replies, stays}
 use Rattle.nv_core.specs.machine.World.{Done, Go, Moved, Refused, Start, Started, Waiting}
-use Rattle.nv_core.proofs.steps.Scripts.{DoCall, Goes, Line, StartCall, chain_count, device, free_count, handle, line, play, played, shown}
+use Rattle.nv_core.proofs.steps.Scripts.{DoCall, Goes, Line, StartCall, device, free_count, handle, line, play, played, shown, space}
 
 -- a create with one taking has eighteen steps
 created : replies (formatted device) (Start 0 (call.Create (handle 0 1) (97 ∷ []) 420) ∷ replicate 18 (Go 0 true))
@@ -57,12 +58,9 @@ a_write_across =
 across : play (formatted device) a_write_across ≡ Done (answer.Made (handle 1 1)) ∷ Done (answer.Count 4) ∷ Started ∷ Moved ∷ []
 across = refl
 
--- 12 free, 2 in chains, and one in the file and one in the hand
-across_free : free_count (played (formatted device) a_write_across).shared ≡ 12
-across_free = refl
-
-across_chains : chain_count (played (formatted device) a_write_across).shared ≡ 2
-across_chains = refl
+-- 12 free, 2 in chains, one in the file, none pending, and one in the hand
+across_space : space (played (formatted device) a_write_across) ≡ 12 ∷ 2 ∷ 1 ∷ 0 ∷ 1 ∷ []
+across_space = refl
 
 -- ---- the tree by settled logs, while a rename replaces a file
 
@@ -92,30 +90,36 @@ renamed = refl
 
 -- the first tail has moved, and the journal is open
 before_the_close : map shown (tree_of (played (formatted device) renames)) ≡
-    ([], [])
-    ∷ ((100 ∷ []) ∷ [], [])
-    ∷ ((100 ∷ []) ∷ (120 ∷ []) ∷ [], 110 ∷ 101 ∷ 119 ∷ [])
-    ∷ ((101 ∷ []) ∷ [], [])
-    ∷ ((101 ∷ []) ∷ (121 ∷ []) ∷ [], 111 ∷ 108 ∷ 100 ∷ [])
+    ([], (Dir, (493, [])))
+    ∷ ((100 ∷ []) ∷ [], (Dir, (493, [])))
+    ∷ ((100 ∷ []) ∷ (120 ∷ []) ∷ [], (File, (420, 110 ∷ 101 ∷ 119 ∷ [])))
+    ∷ ((101 ∷ []) ∷ [], (Dir, (493, [])))
+    ∷ ((101 ∷ []) ∷ (121 ∷ []) ∷ [], (File, (420, 111 ∷ 108 ∷ 100 ∷ [])))
     ∷ []
 before_the_close = refl
 
 -- all tails have moved, and the journal is open still
+second_moves : (line (played (formatted device) renames) (Goes 0 2)).reply ≡ Moved
+second_moves = refl
+
 all_are_published : map shown (tree_of (line (played (formatted device) renames) (Goes 0 2)).world) ≡
-    ([], [])
-    ∷ ((100 ∷ []) ∷ [], [])
-    ∷ ((100 ∷ []) ∷ (120 ∷ []) ∷ [], 110 ∷ 101 ∷ 119 ∷ [])
-    ∷ ((101 ∷ []) ∷ [], [])
-    ∷ ((101 ∷ []) ∷ (121 ∷ []) ∷ [], 111 ∷ 108 ∷ 100 ∷ [])
+    ([], (Dir, (493, [])))
+    ∷ ((100 ∷ []) ∷ [], (Dir, (493, [])))
+    ∷ ((100 ∷ []) ∷ (120 ∷ []) ∷ [], (File, (420, 110 ∷ 101 ∷ 119 ∷ [])))
+    ∷ ((101 ∷ []) ∷ [], (Dir, (493, [])))
+    ∷ ((101 ∷ []) ∷ (121 ∷ []) ∷ [], (File, (420, 111 ∷ 108 ∷ 100 ∷ [])))
     ∷ []
 all_are_published = refl
 
 -- the journal is closed
+third_moves : (line (played (formatted device) renames) (Goes 0 3)).reply ≡ Moved
+third_moves = refl
+
 after_the_close : map shown (tree_of (line (played (formatted device) renames) (Goes 0 3)).world) ≡
-    ([], [])
-    ∷ ((100 ∷ []) ∷ [], [])
-    ∷ ((101 ∷ []) ∷ [], [])
-    ∷ ((101 ∷ []) ∷ (121 ∷ []) ∷ [], 110 ∷ 101 ∷ 119 ∷ [])
+    ([], (Dir, (493, [])))
+    ∷ ((100 ∷ []) ∷ [], (Dir, (493, [])))
+    ∷ ((101 ∷ []) ∷ [], (Dir, (493, [])))
+    ∷ ((101 ∷ []) ∷ (121 ∷ []) ∷ [], (File, (420, 110 ∷ 101 ∷ 119 ∷ [])))
     ∷ []
 after_the_close = refl
 

@@ -1,12 +1,20 @@
 -- Scripts of calls and single steps, played through the step function.
-use Rattle.std.proofs.Common.{ℕ, zero, suc, true, List, [], ◌∷◌, length}
-use Rattle.std.specs.List.{sum_by}
+use Rattle.std.proofs.Common.{ℕ, zero, suc, ◌+◌, ◌-◌, ◌&&◌, Bool, true, false, List, [], ◌∷◌, filter, length}
+use Rattle.std.specs.List.{flat_map, sum_by}
 use Rattle.nv_base.specs.declared.geometry.GeometryNumbers.{GeometryNumbers}
+use Rattle.nv_base.specs.declared.node.Kind.{Kind}
 use Rattle.nv_base.specs.declared.numbers.Handle.{Handle}
-use Rattle.nv_alloc.specs.FreeList.{FreeBlocks}
 use Rattle.nv_calls.specs.declared.call.Call.{Call}
-use Rattle.nv_cell.specs.Cell.{CellState}
+use Rattle.nv_book.specs.declared.record.Record.{Record}
+use Rattle.nv_cell.specs.Cell.{CellState, log_of}
+use Rattle.nv_entry.specs.Held.{is_needed}
+use Rattle.nv_entry.specs.Log.{pairs}
+use Rattle.nv_entry.specs.declared.held.Pair.{Pair}
+use Rattle.nv_entry.specs.declared.part.Part.{Part}
+use Rattle.nv_entry.specs.declared.part.Part.TheVariants as part
 use Rattle.nv_entry.specs.declared.tree.TreeNode.{TreeNode}
+use Rattle.nv_epoch.specs.SnapList.{ids}
+use Rattle.nv_core.specs.machine.Numbers.{free_of, used_blocks}
 use Rattle.nv_core.specs.machine.Step.{Step, stays, step}
 use Rattle.nv_core.specs.machine.World.{Go, Moved, Reply, Shared, Start, Started, World}
 
@@ -47,14 +55,35 @@ played w (l ∷ lines) = played (line w l).world lines
 -- ---- what is seen
 
 abbrev pub free_count : Shared → ℕ
-free_count s = sum_by (λ (l : FreeBlocks). length l.blocks) s.lists
+free_count s = length (flat_map free_of s.lists)
 
 abbrev pub chain_count : Shared → ℕ
 chain_count s = sum_by (λ (c : CellState). length c.chain.blocks) s.cells
 
--- a node of a tree: its path and its bytes
-abbrev pub shown : TreeNode → List (List ℕ) × List ℕ
-shown n = (n.path, n.node.bytes)
+abbrev pub is_page : Part → Bool
+is_page (part.Page page) = true
+is_page other = false
+
+-- the data blocks that are current or held by a living snapshot
+abbrev pub data_of : List ℕ → CellState → ℕ
+data_of snaps cell = length (filter (λ (p : Pair). is_page p.part && is_needed snaps p) (pairs cell.block (log_of cell)))
+
+abbrev pub data_count : Shared → ℕ
+data_count s = sum_by (data_of (ids s.book.snaps)) s.cells
+
+-- those whose records are deferred
+abbrev pub pending_count : Shared → ℕ
+pending_count s = length (filter (λ (d : Record). is_page d.part) s.book.deferred)
+
+-- all blocks: those that are free, in chains, data and pending, and all others, which are in hands
+abbrev pub space : World → List ℕ
+space w =
+    free_count w.shared ∷ chain_count w.shared ∷ data_count w.shared ∷ pending_count w.shared
+    ∷ (length (used_blocks w) - (chain_count w.shared + data_count w.shared + pending_count w.shared)) ∷ []
+
+-- a node of a tree: its path, its kind and mode, and its bytes
+abbrev pub shown : TreeNode → List (List ℕ) × (Kind × (ℕ × List ℕ))
+shown n = (n.path, (n.node.kind, (n.node.mode, n.node.bytes)))
 
 -- ---- one device
 

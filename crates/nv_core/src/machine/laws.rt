@@ -1,58 +1,36 @@
 //! Laws of the machine of steps: what a step changes and waits for, that calls end, and where each block and each number
 //! stands. Each is the contract of a function that does nothing; [`crate::machine::plain_laws`] has those of nodes and answers.
 
-ghost use Rattle.std.specs.Prelude.{◌≡◌, ◌+◌, ◌<◌, ◌≤◌, ℕ, Bool, List, [], ◌∷◌, Some, None, length, ◌++◌, true, Option, slice_get, slice_index_or, false};
-ghost use Rattle.std.specs.List.{AllByRecursion};
+ghost use Rattle.std.specs.Prelude.{◌≡◌, ◌+◌, ◌<◌, ◌≤◌, ℕ, Bool, List, Some, None, length, true, slice_get, slice_index_or, false};
 ghost use Rattle.std.specs.Option.{option_map};
 ghost use Rattle.nv_alloc.specs.Block.{number_of};
-ghost use Rattle.nv_alloc.specs.Numbers.{has};
+ghost use Rattle.nv_alloc.specs.Numbers.{IsRising};
 ghost use Rattle.nv_base.specs.Limits.{IsWithinLimits};
-ghost use Rattle.nv_base.specs.declared.fault.Fault.{Fault};
 ghost use Rattle.nv_base.specs.declared.fault.Fault.TheVariants.{ActorBusy, ActorIdle, NoActor};
 ghost use Rattle.nv_base.specs.declared.geometry.GeometryNumbers.{GeometryNumbers};
-ghost use Rattle.nv_base.specs.declared.numbers.Handle.{Handle};
-ghost use Rattle.nv_calls.specs.AllCalls.{answer, effect, looked, refusal};
-ghost use Rattle.nv_calls.specs.Refusals.{passes};
-ghost use Rattle.nv_calls.specs.Plain.{PlainNode, node_in, nodes_after};
-ghost use Rattle.nv_calls.specs.Locked.{SameCall, handles};
-ghost use Rattle.nv_calls.specs.declared.answer.Answer.{Answer};
 ghost use Rattle.nv_calls.specs.declared.call.Call.{Call};
-ghost use Rattle.nv_calls.specs.declared.taken.Taken.{Taken};
 ghost use Rattle.nv_core.specs.machine.Bound.{AreNoStarts, bound_at, most_steps, moves};
 ghost use Rattle.nv_cell.specs.Cell.{log_of};
 ghost use Rattle.nv_entry.specs.Held.{keeps};
 ghost use Rattle.nv_entry.specs.Log.{pairs};
-ghost use Rattle.nv_entry.specs.Sound.{IsSound};
 ghost use Rattle.nv_entry.specs.declared.held.Pair.{Pair};
-ghost use Rattle.nv_entry.specs.Tree.{root};
-ghost use Rattle.nv_core.specs.machine.Answered.{GoesTo, IsFinal, IsToEnd};
-ghost use Rattle.nv_core.specs.machine.Causes.{FindsNone, IsCause, IsRoundless, MayBeOvertaken, RefusesFor};
-ghost use Rattle.nv_core.specs.machine.Effects.{AreSound, HasPlanNow};
-ghost use Rattle.nv_core.specs.machine.EndsDecided.{decided};
+ghost use Rattle.nv_core.specs.machine.Causes.{RefusesFor};
 ghost use Rattle.nv_core.specs.machine.Exact.{HasFirst, Leaves, TakesData, TakesLogPages};
-ghost use Rattle.nv_core.specs.machine.FitsNow.{bytes_in, is_checked};
 ghost use Rattle.nv_core.specs.machine.Format.{formatted};
 ghost use Rattle.nv_core.specs.machine.Frame.{IsOneStep, IsStart, lent};
-ghost use Rattle.nv_core.specs.machine.Grown.{AreGrown, fresh_entries};
-ghost use Rattle.nv_core.specs.machine.Kept.{AreBlocksApart, IsKept};
 ghost use Rattle.nv_core.specs.machine.Kinds.{asked_list};
 ghost use Rattle.nv_core.specs.machine.Locks.{AreLocks, HasLent, WaitsFor};
 ghost use Rattle.nv_core.specs.machine.Held.{block_in_use, free_by_logs, is_in_use, killed_in, retention_at};
-ghost use Rattle.nv_core.specs.machine.Hands.{AreLists, ArePagesTold, makes_inode};
-ghost use Rattle.nv_core.specs.machine.Made.{handles_made, has_handle};
+ghost use Rattle.nv_core.specs.machine.Hands.{AreLists, ArePagesTold};
 ghost use Rattle.nv_core.specs.machine.Numbers.{IdleHaveNothing, IsEachOnce, all_blocks, free_from_scratch, free_of};
 ghost use Rattle.nv_core.specs.machine.Order.{IsInOrder};
 ghost use Rattle.nv_core.specs.machine.PoolScan.{pool_from_scratch};
-ghost use Rattle.nv_core.specs.machine.Reached.{IsReached};
-ghost use Rattle.nv_core.specs.machine.PlainRun.{Commits, Plain, deed_of, keeps_nodes, new_plain, plain_after, plain_of};
-ghost use Rattle.nv_core.specs.machine.Reads.{nodes, written_slots};
-ghost use Rattle.nv_core.specs.machine.Refusing.{LeavesBooks};
-ghost use Rattle.nv_core.specs.machine.Rounds.{HasRounds, failed_checks};
-ghost use Rattle.nv_core.specs.machine.Sequence.{Visits, beginning, nothing_looked};
-ghost use Rattle.nv_core.specs.machine.Settled.{settled, settled_nodes};
-ghost use Rattle.nv_core.specs.machine.Step.{after, handle_at, kind_turn, stays, step, turn};
-ghost use Rattle.nv_core.specs.machine.Takings.{IsShortInAll, asks_list, no_taking, taking_after, taking_of};
-ghost use Rattle.nv_core.specs.machine.World.{Answers, Done, Ending, Event, Go, HandState, Number, Overtaken, Refused, Running, Shared, Start, Started, TakeBlocks, TakePages, Unlock, Visit, Waiting, World, actor_at, cell_at, list_at, owner_at};
+ghost use Rattle.nv_core.specs.machine.Reads.{pages_needed, slot_at, written_slots};
+ghost use Rattle.nv_core.specs.machine.Step.{after, kind_turn, stays, step, turn};
+ghost use Rattle.nv_core.specs.machine.Pages.{AreOnPages, HasLogPages, TakesPages};
+ghost use Rattle.nv_core.specs.machine.Memory.{IsOther, denied_turn, grows};
+ghost use Rattle.nv_core.specs.machine.Wanted.{TakesInTurn};
+ghost use Rattle.nv_core.specs.machine.World.{Answers, Append, Event, Go, HandState, Number, Refused, Running, Shared, Start, Started, TakeBlocks, TakePages, Waiting, World, actor_at, cell_at, list_at};
 
 /// A `Go` of an actor whose call runs makes the one step that comes next, and changes only its actor and the
 /// parts that the step is lent. A start changes its actor alone: one without a call has the call now, before its
@@ -87,6 +65,31 @@ pub fn the_lowest_are_taken()
         (r : Running) → 0 < length s.lists
         → Leaves (TakesLogPages s (asked_list (length s.lists) actor asked) h r)
         (kind_turn (TakePages asked) block actor granted s h r) }
+{}
+
+/// A call takes its data first and then its log pages, in two takings, neither of which wants any of the other's. The first
+/// begins at the check, and wants exactly the blocks of the call; the second begins once all of these are in the hand, and
+/// wants exactly the pages of the plan that they make. A taking of nothing has no step. Each goes on from list to list as
+/// long as anything is left of what it wants, and the call is ready only once both have all.
+pub fn data_is_taken_before_log_pages()
+    ensures { (block actor : ℕ) (granted : Bool) (s : Shared) (h : HandState) (r : Running)
+        → TakesInTurn r.next block actor s r (turn block actor granted s h r) }
+{}
+
+/// Memory that is refused makes one and the same turn of every step that grows anything (a check, a ready, an enter, a visit
+/// but a stat), also where that step of that call would have asked for none: where the step would have done its work, it
+/// refuses the call instead, and leaves all that is shared and the hand as they were. Where it would not, it waits or ends the
+/// call as it would have: so a refusal of the plain world, want of a number and the last commit number come first. All
+/// other steps go on as ever. And where memory is granted, no step refuses a call for want of it.
+pub fn refused_memory_makes_one_turn()
+    ensures refused { (block actor : ℕ) (s : Shared) (h : HandState) (r : Running)
+        → grows r.next r.call ≡ true → turn block actor false s h r
+        ≡ denied_turn r.next s h r (turn block actor true s h r) }
+    ensures others { (block actor : ℕ) (s : Shared) (h : HandState) (r : Running)
+        → grows r.next r.call ≡ false → turn block actor false s h r ≡ turn block actor true s h r }
+    ensures granted { (block actor : ℕ) (s : Shared) (h : HandState) (r : Running)
+        → r.ending ≡ Answers
+        → RefusesFor IsOther (Unit {0}) (turn block actor true s h r) }
 {}
 
 /// From a new world on, whatever events come, each actor holds exactly the locks that its call has taken and not
@@ -198,4 +201,31 @@ pub fn idle_hands_are_empty()
 pub fn blocks_are_told()
     ensures { (g : GeometryNumbers) (events : List Event) (ino : ℕ) → IsWithinLimits g
         → ArePagesTold g.block (cell_at (after (formatted g) events).shared ino) }
+{}
+
+/// Each entry of a log stands on a page of its chain, and no page has more entries than the geometry says, or none. So that
+/// this stays, a hand has exactly the log pages that its call's plan needs, from the last taking on: with those that a taking
+/// still wants at first, then those of the entries that are yet to be appended, and none once all are.
+pub fn logs_have_their_pages()
+    ensures pages { (g : GeometryNumbers) (events : List Event) (ino : ℕ) → IsWithinLimits g
+        → ino < length (after (formatted g) events).shared.cells
+        → AreOnPages g.page (cell_at (after (formatted g) events).shared ino).chain }
+    ensures hands { (g : GeometryNumbers) (events : List Event) (actor : ℕ) (r : Running)
+        → IsWithinLimits g → (actor_at (after (formatted g) events) actor).running ≡ Some r
+        → HasLogPages r.next g.block (after (formatted g) events).shared
+        (actor_at (after (formatted g) events) actor).hand r }
+{}
+
+/// Log pages are given out by rising inode: an append puts the first of the hand's pages, as many as its inode needs, at
+/// the end of that inode's chain in their order, and the inodes of a commit rise. As the list of a taking rises
+/// ([`lists_are_sorted`]) and its blocks stand in the hand in their order ([`the_lowest_are_taken`]), the lower inode has the
+/// lower pages of each list.
+pub fn log_pages_go_by_rising_inode()
+    ensures appends { (place block actor : ℕ) (granted : Bool) (s : Shared) (h : HandState)
+        (r : Running) → slot_at (written_slots r) place < length s.cells
+        → Leaves (TakesPages s (slot_at (written_slots r) place)
+        (pages_needed s r.plan (slot_at (written_slots r) place)) h)
+        (kind_turn (Append place) block actor granted s h r) }
+    ensures rising { (w : World) (actor : ℕ) (r : Running) → AreLocks w
+        → (actor_at w actor).running ≡ Some r → IsRising (written_slots r) }
 {}

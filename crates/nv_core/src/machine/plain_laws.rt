@@ -1,15 +1,13 @@
 //! Laws of the machine of steps beside the plain world: its nodes, what commits change, and what calls are answered and
 //! refused. Each is the contract of a function that does nothing.
 
-ghost use Rattle.std.specs.Prelude.{◌≡◌, ◌+◌, ◌<◌, ◌≤◌, ℕ, Bool, List, [], ◌∷◌, Some, None, length, ◌++◌, true, Option, slice_get, slice_index_or, false};
-ghost use Rattle.std.specs.List.{AllByRecursion};
-ghost use Rattle.std.specs.Option.{option_map};
-ghost use Rattle.nv_alloc.specs.Block.{number_of};
+ghost use Rattle.std.specs.Prelude.{◌≡◌, ◌+◌, ◌<◌, ◌≤◌, ℕ, Bool, List, [], ◌∷◌, Some, None, length, ◌++◌, true, Option, false};
 ghost use Rattle.nv_alloc.specs.Numbers.{has};
 ghost use Rattle.nv_base.specs.Limits.{IsWithinLimits};
 ghost use Rattle.nv_base.specs.declared.fault.Fault.{Fault};
-ghost use Rattle.nv_base.specs.declared.fault.Fault.TheVariants.{ActorBusy, ActorIdle, NoActor};
+ghost use Rattle.nv_base.specs.declared.fault.Fault.TheVariants.{CommitLimit};
 ghost use Rattle.nv_base.specs.declared.geometry.GeometryNumbers.{GeometryNumbers};
+ghost use Rattle.nv_base.specs.declared.limits.TheConstants.{NUMBER};
 ghost use Rattle.nv_base.specs.declared.numbers.Handle.{Handle};
 ghost use Rattle.nv_calls.specs.AllCalls.{answer, effect, looked, refusal};
 ghost use Rattle.nv_calls.specs.Refusals.{passes};
@@ -18,12 +16,8 @@ ghost use Rattle.nv_calls.specs.Locked.{SameCall, handles};
 ghost use Rattle.nv_calls.specs.declared.answer.Answer.{Answer};
 ghost use Rattle.nv_calls.specs.declared.call.Call.{Call};
 ghost use Rattle.nv_calls.specs.declared.taken.Taken.{Taken};
-ghost use Rattle.nv_core.specs.machine.Bound.{AreNoStarts, bound_at, most_steps, moves};
-ghost use Rattle.nv_cell.specs.Cell.{log_of};
-ghost use Rattle.nv_entry.specs.Held.{keeps};
-ghost use Rattle.nv_entry.specs.Log.{pairs};
+ghost use Rattle.nv_core.specs.machine.Bound.{AreNoStarts};
 ghost use Rattle.nv_entry.specs.Sound.{IsSound};
-ghost use Rattle.nv_entry.specs.declared.held.Pair.{Pair};
 ghost use Rattle.nv_entry.specs.Tree.{root};
 ghost use Rattle.nv_core.specs.machine.Answered.{GoesTo, IsFinal, IsToEnd};
 ghost use Rattle.nv_core.specs.machine.Causes.{FindsNone, IsCause, IsRoundless, MayBeOvertaken, RefusesFor};
@@ -31,16 +25,14 @@ ghost use Rattle.nv_core.specs.machine.Effects.{AreSound, HasPlanNow};
 ghost use Rattle.nv_core.specs.machine.EndsDecided.{decided};
 ghost use Rattle.nv_core.specs.machine.FitsNow.{bytes_in, is_checked};
 ghost use Rattle.nv_core.specs.machine.Format.{formatted};
-ghost use Rattle.nv_core.specs.machine.Frame.{IsOneStep, IsStart, lent};
+ghost use Rattle.nv_core.specs.machine.Frame.{lent};
 ghost use Rattle.nv_core.specs.machine.Grown.{AreGrown, fresh_entries};
 ghost use Rattle.nv_core.specs.machine.Kept.{AreBlocksApart, IsKept};
-ghost use Rattle.nv_core.specs.machine.Locks.{AreLocks, HasLent, WaitsFor};
-ghost use Rattle.nv_core.specs.machine.Held.{block_in_use, free_by_logs, is_in_use, killed_in, retention_at};
-ghost use Rattle.nv_core.specs.machine.Hands.{AreLists, ArePagesTold, makes_inode};
+ghost use Rattle.nv_core.specs.machine.Kinds.{refuse};
+ghost use Rattle.nv_core.specs.machine.Locks.{AreLocks};
+ghost use Rattle.nv_core.specs.machine.Hands.{makes_inode};
 ghost use Rattle.nv_core.specs.machine.Made.{handles_made, has_handle};
-ghost use Rattle.nv_core.specs.machine.Numbers.{IdleHaveNothing, IsEachOnce, all_blocks, free_from_scratch, free_of};
 ghost use Rattle.nv_core.specs.machine.Order.{IsInOrder};
-ghost use Rattle.nv_core.specs.machine.PoolScan.{pool_from_scratch};
 ghost use Rattle.nv_core.specs.machine.Reached.{IsReached};
 ghost use Rattle.nv_core.specs.machine.PlainRun.{Commits, Plain, deed_of, keeps_nodes, new_plain, plain_after, plain_of};
 ghost use Rattle.nv_core.specs.machine.Reads.{copies, nodes, written_slots};
@@ -50,7 +42,7 @@ ghost use Rattle.nv_core.specs.machine.Sequence.{Visits, beginning, nothing_look
 ghost use Rattle.nv_core.specs.machine.Settled.{settled, settled_nodes};
 ghost use Rattle.nv_core.specs.machine.Step.{after, handle_at, kind_turn, stays, step, turn};
 ghost use Rattle.nv_core.specs.machine.Takings.{IsShortInAll, asks_list, no_taking, taking_after, taking_of};
-ghost use Rattle.nv_core.specs.machine.World.{Answers, Done, Ending, Event, Go, HandState, Number, Overtaken, Refused, Running, Shared, Start, Started, Unlock, Visit, Waiting, World, actor_at, cell_at, list_at, owner_at};
+ghost use Rattle.nv_core.specs.machine.World.{Answers, Done, Ending, Enter, Event, Go, HandState, Number, Overtaken, Refused, Running, Shared, Start, Started, Unlock, Visit, World, actor_at, owner_at};
 
 /// Only commit points change nodes. Each settled log has the blocks of its pages, but of those that a later
 /// entry covers, and a journal is open only within a commit of several inodes, from a new world on and whatever
@@ -210,7 +202,7 @@ pub fn the_plain_world_is_that_of_settled_logs()
 
 /// A step that refuses a call does so for a fault whose cause is there at that step: the plain world refuses the call at
 /// the look, the check or the visit; it does not, and no number was free; the last list was asked and is short; no
-/// further commit number is there; no round of looks is left; or memory that the step asks for was not granted. A call is
+/// further commit number is there, and then it always refuses; no round of looks is left; or memory that the step asks for was not granted. A call is
 /// overtaken at its check alone, where a name is bound anew. A refused call has only its last steps left, which lead
 /// to that refusal ([`what_commits_is_answered`]). The tests are those over the nodes of the cells, whatever the state;
 /// from a new world on and whatever events come, they are those over the settled nodes, which the plain world has.
@@ -235,6 +227,9 @@ pub fn refusals_have_causes()
     ensures contended { (place block actor : ℕ) (granted : Bool) (s : Shared) (h : HandState) (r : Running)
         → r.ending ≡ Overtaken
         → RefusesFor (IsRoundless r) (Unit {0}) (kind_turn (Unlock place) block actor granted s h r) }
+    ensures limit { (block actor : ℕ) (granted : Bool) (s : Shared) (h : HandState) (r : Running)
+        → s.holder ≡ None → NUMBER ≤ s.book.commit
+        → kind_turn Enter block actor granted s h r ≡ refuse CommitLimit s h r }
 {}
 
 /// A taking that falls short has asked every list: where a step that asks a list refuses its call, whatever events came from

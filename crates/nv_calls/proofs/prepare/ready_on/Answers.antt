@@ -9,3 +9,4 @@ returns-in-Ok-clause-ok g c =
     c.new.ensures.update c.new.ensures.made c.new.ensures.plans c.new.ensures.hand c.new.ensures.need (c.made_by-made.ensures ∙ ap (λ (number : Option ℕ). made_by (g.C.Cells.cells c.args.cells.now) number c.args.plan.update) c.ino.ensures)
     c.in-Ok.ensures.runs c.in-Ok.ensures.plans c.prepare-prepared.ensures.some_bytes
     c.prepare-prepared.ensures.hand c.in-Ok.ensures.ready c.in-Ok.ensures.need c.in-Ok.ensures.room c.in-Ok.ensures.blocks c.in-Ok.ensures.few
+    c.requires.pages c.prepare-prepared.ensures.cells

@@ -1,4 +1,6 @@
 use Rattle.std.proofs.Common.{refl}
+use Rattle.std.proofs.lemmas.Bool.{le-leb}
+use Rattle.nv_base.specs.declared.limits.TheConstants.{NUMBER}
 use Rattle.nv_core.proofs.steps.Caused.{caused, contended, finds_none}
 use Rattle.nv_core.proofs.steps.EndsCaused.{plainly_caused}
 use Rattle.nv_core.proofs.machine.plain_laws.refusals_have_causes.Goals as goal
@@ -14,3 +16,6 @@ returns-clause-number c = λ block actor granted s h r. finds_none s.pool.number
 
 pub returns-clause-settled : goal.returns-clause-settled
 returns-clause-settled c = plainly_caused
+
+pub returns-clause-limit : goal.returns-clause-limit
+returns-clause-limit c = λ block actor granted s h r free most. rw (free, le-leb NUMBER s.book.commit most) refl
