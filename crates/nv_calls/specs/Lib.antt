@@ -11,6 +11,7 @@ pub mod Locked
 pub mod Nodes
 pub mod Plain
 pub mod Plan
+pub mod Progress
 pub mod PublishedSlots
 pub mod PagesWanted
 pub mod Prepared

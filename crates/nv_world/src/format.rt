@@ -84,7 +84,9 @@ impl World {
     /// The root: the lowest number, with the lowest block as its log page.
     fn make_root(&mut self) -> Result<(), Fault> {
         let shared = &mut self.shared;
-        let hand = self.actors[0].hold.hand_mut();
+        let Hold::Hand(hand) = &mut self.actors[0].hold else {
+            unreachable!()
+        };
         let kind = Kind::Dir;
         let mode = Mode::checked(493).unwrap();
         shared.cells[0].ready(&[Item::Init { kind, mode }])?;

@@ -1,11 +1,23 @@
 //! What a call is to do.
 
-use nv_base::{Bytes, Handle};
+ghost use Rattle.std.specs.Prelude.{◌≡◌, ◌++◌, ◌<◌, List, ℕ, None, false, true, length, map};
+ghost use Rattle.std.specs.Option.{option_map};
+ghost use Rattle.nv_base.specs.declared.numbers.Handle.{Handle};
+ghost use Rattle.nv_calls.specs.Locked.{handles};
+ghost use Rattle.nv_calls.specs.Prepared.{makes};
+ghost use Rattle.nv_calls.specs.Updates.{call_of};
+ghost use Rattle.nv_core.specs.machine.Reads.{if_number};
+ghost use Rattle.nv_core.specs.machine.Sequence.{directories, nothing_looked};
+ghost use Rattle.nv_core.specs.machine.Step.{handle_at};
+ghost use Rattle.nv_world.specs.Shown.{answered};
+ghost use Rattle.nv_world.specs.Told.{IsJobOf, IsVisit, all_some};
+
+use nv_base::{Bytes, Handle, Ino};
 use nv_calls::{Answer, Call, Looked, Plan, Update};
 use std::alloc::Global;
 
 /// What a call is to do.
-#[derive(Drop)]
+#[derive(Debug, Drop)]
 pub(crate) enum Job {
     /// It changes nodes. The text is that of a write.
     Change(Plan, Bytes),
@@ -25,7 +37,9 @@ pub(crate) enum Owed {
 
 impl Owed {
     /// The answer, where a new inode has this handle.
-    pub(crate) fn answer(self, made: Handle) -> Answer {
+    pub(crate) fn answer(self, made: Handle) -> Answer
+        ensures { result ≡ answered self made }
+    {
         match self {
             Owed::Made => Answer::Made(made),
             Owed::Count(count) => Answer::Count(count),
@@ -34,113 +48,105 @@ impl Owed {
     }
 }
 
-impl Job {
-    /// The job of a call. Takes no memory.
-    pub(crate) fn of(alloc: Global, call: Call) -> Job {
-        let update = match call {
-            Call::Write { file, offset, text } => {
-                let count = text.len() as u64;
-                let update = Update::Write {
-                    file,
-                    offset,
-                    count,
-                };
-                return Job::Change(Plan { update, blocks: 0 }, text);
-            }
-            Call::Create { dir, name, mode } => Update::Create { dir, name, mode },
-            Call::Mkdir { dir, name, mode } => Update::Mkdir { dir, name, mode },
-            Call::Size { file, size } => Update::Size { file, size },
-            Call::Mode { handle, mode } => Update::Mode { handle, mode },
-            Call::Unlink { dir, name } => Update::Unlink { dir, name },
-            Call::Rmdir { dir, name } => Update::Rmdir { dir, name },
-            Call::Rename { from, old, to, new } => Update::Rename { from, old, to, new },
-            visit => return Job::Visit(visit),
-        };
-        Job::Change(Plan { update, blocks: 0 }, Bytes::empty(alloc))
-    }
+/// The job of a call, and what it is answered. Takes no memory.
+pub(crate) fn job_of(alloc: Global, call: Call) -> (Job, Owed)
+    ensures { IsJobOf result.0 result.1 call }
+{
+    let (update, owed) = match call {
+        Call::Write { file, offset, text } => return job_of_write(file, offset, text),
+        Call::Create { dir, name, mode } => (Update::Create { dir, name, mode }, Owed::Made),
+        Call::Mkdir { dir, name, mode } => (Update::Mkdir { dir, name, mode }, Owed::Made),
+        Call::Size { file, size } => (Update::Size { file, size }, Owed::Nothing),
+        Call::Mode { handle, mode } => (Update::Mode { handle, mode }, Owed::Nothing),
+        Call::Unlink { dir, name } => (Update::Unlink { dir, name }, Owed::Nothing),
+        Call::Rmdir { dir, name } => (Update::Rmdir { dir, name }, Owed::Nothing),
+        Call::Rename { from, old, to, new } => {
+            (Update::Rename { from, old, to, new }, Owed::Nothing)
+        }
+        visit => return (Job::Visit(visit), Owed::Nothing),
+    };
+    let plan = Plan { update, blocks: 0 };
+    (Job::Change(plan, Bytes::empty(alloc)), owed)
+}
 
-    /// What it is answered.
-    pub(crate) fn owed(&self) -> Owed {
-        match self {
-            Job::Change(plan, _) => match &plan.update {
-                Update::Create { .. } | Update::Mkdir { .. } => Owed::Made,
-                Update::Write { count, .. } => Owed::Count(*count),
-                _ => Owed::Nothing,
-            },
-            _ => Owed::Nothing,
+fn job_of_write(file: Handle, offset: u64, text: Bytes) -> (Job, Owed)
+    ensures { IsJobOf result.0 result.1 (Call.Write file offset text) }
+{
+    let count = text.len() as u64;
+    let update = Update::Write {
+        file,
+        offset,
+        count,
+    };
+    let plan = Plan { update, blocks: 0 };
+    (Job::Change(plan, text), Owed::Count(count))
+}
+
+/// The numbers of the inodes that a call locks: that of a new inode, those of its handles, and of what its looks found.
+pub(crate) fn locked(
+    number: Option<Ino>,
+    update: &Update,
+    looked: &Looked,
+) -> [Option<Ino>; 4]
+    requires { makes update.now ≡ false → number ≡ None }
+    ensures { (text : List ℕ) → all_some result
+        ≡ if_number number ++ map (λ h. h.ino) (handles looked.now (call_of update.now text)) }
+{
+    let first = ino_of(looked.first);
+    match update {
+        Update::Create { dir, .. } | Update::Mkdir { dir, .. } => {
+            [number, Some(dir.ino), None, None]
+        }
+        Update::Write { file, .. } | Update::Size { file, .. } => {
+            [Some(file.ino), None, None, None]
+        }
+        Update::Mode { handle, .. } => [Some(handle.ino), None, None, None],
+        Update::Unlink { dir, .. } | Update::Rmdir { dir, .. } => {
+            [Some(dir.ino), first, None, None]
+        }
+        Update::Rename { from, to, .. } => {
+            [Some(from.ino), Some(to.ino), first, ino_of(looked.second)]
         }
     }
-
-    /// The call that changes nodes.
-    pub(crate) fn update(&self) -> &Update {
-        &self.plan().update
-    }
-
-    /// The same, with how many blocks it takes once it has passed its check.
-    pub(crate) fn plan(&self) -> &Plan {
-        match self {
-            Job::Change(plan, _) => plan,
-            Job::Visit(_) | Job::Given => unreachable!(),
-        }
-    }
 }
 
-/// A name that a call looks up before it locks, and its directory.
-#[derive(Clone, Copy)]
-pub(crate) struct Wanted<'a> {
-    pub(crate) dir: &'a Handle,
-    pub(crate) name: &'a [u8],
-}
-
-/// The first name that a call looks up.
-pub(crate) fn first_wanted(update: &Update) -> Option<Wanted<'_>> {
-    match update {
-        Update::Unlink { dir, name } | Update::Rmdir { dir, name } => Some(Wanted {
-            dir,
-            name: name.as_slice(),
-        }),
-        Update::Rename { from, old, .. } => Some(Wanted {
-            dir: from,
-            name: old.as_slice(),
-        }),
-        _ => None,
-    }
-}
-
-/// The second name that a call looks up.
-pub(crate) fn second_wanted(update: &Update) -> Option<Wanted<'_>> {
-    match update {
-        Update::Rename { to, new, .. } => Some(Wanted {
-            dir: to,
-            name: new.as_slice(),
-        }),
-        _ => None,
+fn ino_of(handle: Option<Handle>) -> Option<Ino>
+    ensures { result ≡ option_map (λ h. h.ino) handle }
+{
+    match handle {
+        Some(handle) => Some(handle.ino),
+        None => None,
     }
 }
 
 /// In how many directories a call looks names up.
-pub(crate) fn look_count(update: &Update) -> usize {
-    match (first_wanted(update), second_wanted(update)) {
-        (Some(first), Some(second)) => { if first.dir == second.dir { 1 } else { 2 } }
-        (Some(_), None) => 1,
-        (None, _) => 0,
+pub(crate) fn look_count(update: &Update) -> usize
+    ensures { (text : List ℕ) → result ≡ length (directories (call_of update.now text)) }
+{
+    match update {
+        Update::Unlink { .. } | Update::Rmdir { .. } => 1,
+        Update::Rename { from, to, .. } => if from.ino == to.ino && from.generation == to.generation { 1 } else { 2 },
+        _ => 0,
     }
 }
 
-/// The handles that a call locks, beside the one of a new inode.
-pub(crate) fn locked_handles(update: &Update, looked: &Looked) -> [Option<Handle>; 4] {
-    let Looked { first, second } = *looked;
+/// The directory of a look.
+pub(crate) fn directory(update: &Update, place: usize) -> Handle
+    requires { (text : List ℕ) → place < length (directories (call_of update.now text)) }
+    ensures { (text : List ℕ) → result ≡ handle_at (directories (call_of update.now text)) place }
+{
     match update {
-        Update::Create { dir, .. } | Update::Mkdir { dir, .. } => [Some(*dir), None, None, None],
-        Update::Write { file, .. } | Update::Size { file, .. } => [Some(*file), None, None, None],
-        Update::Mode { handle, .. } => [Some(*handle), None, None, None],
-        Update::Unlink { dir, .. } | Update::Rmdir { dir, .. } => [Some(*dir), first, None, None],
-        Update::Rename { from, to, .. } => [Some(*from), Some(*to), first, second],
+        Update::Unlink { dir, .. } | Update::Rmdir { dir, .. } => *dir,
+        Update::Rename { from, to, .. } => if place == 0 { *from } else { *to },
+        _ => unreachable!(),
     }
 }
 
 /// The handle of the node that a visit reads.
-pub(crate) fn visited(call: &Call) -> Handle {
+pub(crate) fn visited(call: &Call) -> Handle
+    requires { IsVisit call.now }
+    ensures { result ≡ handle_at (handles nothing_looked call.now) 0 }
+{
     match call {
         Call::Read { file, .. } => *file,
         Call::Stat { handle } => *handle,

@@ -1,12 +1,19 @@
-//! The kinds of step, a function for each. What is lent to all of them is what is shared, and the hand and the call of
-//! the actor.
+//! The steps, a file for each kind.
 
+pub(crate) mod append;
+pub(crate) mod back;
 pub(crate) mod check;
-pub(crate) mod commit;
+pub(crate) mod close;
 pub(crate) mod enter;
+pub(crate) mod give;
+pub(crate) mod leave;
 pub(crate) mod lock;
 pub(crate) mod look;
 pub(crate) mod number;
+pub(crate) mod open;
+pub(crate) mod publish;
 pub(crate) mod ready;
+pub(crate) mod retire;
 pub(crate) mod take;
+pub(crate) mod unlock;
 pub(crate) mod visit;

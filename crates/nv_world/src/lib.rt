@@ -21,6 +21,7 @@ mod step;
 #[cfg(test)]
 mod tests;
 mod tree;
+mod turn;
 mod world;
 
 pub use event::{Event, Reply};

@@ -1,9 +1,11 @@
-//! The steps of a call, and how it is to end.
+//! The steps of a call that stand before it is ready and after its commit, and how it is to end.
 
 use nv_base::Fault;
 
-/// The step of a call that comes next. In a loop with its place: of a directory, of a slot that the call locks, of
-/// how many lists were asked, of an inode that gets entries.
+/// The step of a call that comes next, while its hand is with the actor alone. In a loop with its place: of a directory,
+/// of a slot that the call locks, of how many lists were asked.
+///
+/// A call that is ready enters next; which step of a commit comes next, the commit tells.
 #[derive(Clone, Copy, Debug, PartialEq, Eq)]
 pub(crate) enum Next {
     Number,
@@ -13,13 +15,6 @@ pub(crate) enum Next {
     TakeBlocks(u64),
     TakePages(u64),
     Ready,
-    Enter,
-    Append(usize),
-    Open,
-    Publish(usize),
-    Close,
-    Retire(usize),
-    Leave,
     Unlock(usize),
     Give(u64),
     Back,

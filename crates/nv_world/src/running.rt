@@ -1,19 +1,27 @@
 //! A call that runs.
 
-use crate::ending::Turn;
-use crate::job::{Job, Owed, locked_handles, look_count};
+ghost use Rattle.std.specs.Prelude.{◌≡◌, ◌<◌, ◌+◌, length, true};
+ghost use Rattle.nv_calls.specs.Prepared.{makes};
+ghost use Rattle.nv_core.specs.machine.Reads.{slots_of};
+ghost use Rattle.nv_core.specs.machine.Sequence.{begun, beginning, locking, looking};
+ghost use Rattle.nv_core.specs.machine.World as machine;
+ghost use Rattle.nv_world.specs.Shown.{Told, next_of, shared_of, shown, slots_in};
+ghost use Rattle.nv_world.specs.Told.{IsToldOf, KeepsJob, with_some};
+
+use crate::job::{Job, Owed, job_of, locked, look_count};
 use crate::next::{Ending, Next};
 use crate::shared::Shared;
 use crate::slots::Slots;
+use crate::turn::Turn;
 use nv_base::{Gen, Handle, Ino};
-use nv_calls::{Call, Looked, Update};
+use nv_calls::{Call, Looked, Plan, Update};
 use std::alloc::Global;
 
 /// How many more rounds of looks a call may make after its first.
 const ROUNDS: u64 = 7;
 
 /// A call that runs.
-#[derive(Drop)]
+#[derive(Debug, Drop)]
 pub(crate) struct Running {
     pub(crate) job: Job,
     pub(crate) owed: Owed,
@@ -29,139 +37,104 @@ pub(crate) struct Running {
     pub(crate) made: Handle,
     /// How many blocks of a taking it still wants.
     pub(crate) wanted: u64,
-    /// How many inodes get entries.
-    pub(crate) written: usize,
 }
 
-impl Running {
-    /// A call that starts. Takes no memory.
-    pub(crate) fn started(alloc: Global, shared: &Shared, call: Call) -> Running {
-        let job = Job::of(alloc, call);
-        let owed = job.owed();
-        let mut running = Running {
-            job,
-            owed,
-            next: Next::Visit,
-            ending: Ending::Answers,
-            looked: Looked {
-                first: None,
-                second: None,
-            },
-            rounds: ROUNDS,
-            slots: Slots::none(),
-            made: Handle {
-                ino: Ino::new(0),
-                generation: Gen::new(1),
-            },
-            wanted: 0,
-            written: 0,
-        };
-        running.begin(shared);
-        running
-    }
-
-    /// Its first step.
-    fn begin(&mut self, shared: &Shared) {
-        let next = match &self.job {
-            Job::Visit(_) | Job::Given => Next::Visit,
-            Job::Change(plan, _) => match &plan.update {
-                Update::Create { .. } | Update::Mkdir { .. } => Next::Number,
-                Update::Unlink { .. } | Update::Rmdir { .. } | Update::Rename { .. } => {
-                    Next::Look(0)
-                }
-                Update::Write { .. } | Update::Size { .. } | Update::Mode { .. } => {
-                    self.slots = slots_of(shared.inodes(), None, &plan.update, &self.looked);
-                    locking(0, self.slots.len())
-                }
-            },
-        };
-        self.next = next;
-    }
-
-    /// Settles the slots that it locks: those of its handles, of what its looks found, and of its new inode.
-    pub(crate) fn settle_slots(&mut self, shared: &Shared, number: Option<Ino>) {
-        self.slots = slots_of(shared.inodes(), number, self.job.update(), &self.looked);
-    }
-
-    /// The step that was made has done its work.
-    pub(crate) fn go_on(&mut self) -> Turn {
-        self.next = self.sequel();
-        Turn::Moves
-    }
-
-    /// Another step comes next than the sequence says.
-    pub(crate) fn go_to(&mut self, next: Next) -> Turn {
-        self.next = next;
-        Turn::Moves
-    }
-
-    /// What comes behind a step that has done its work. A check and a taking go on by what is still wanted, and a leave
-    /// and the last steps by what is locked or in the hand.
-    fn sequel(&self) -> Next {
-        let written = self.written;
-        match self.next {
-            Next::Number => locking(0, self.slots.len()),
-            Next::Look(place) => self.looking(place + 1),
-            Next::Lock(place) => locking(place + 1, self.slots.len()),
-            Next::Ready => Next::Enter,
-            Next::Enter => appending(0, written),
-            Next::Append(place) => appending(place + 1, written),
-            Next::Open => publishing(0, written),
-            Next::Publish(place) => publishing(place + 1, written),
-            Next::Close => retiring(0, written),
-            Next::Retire(place) => retiring(place + 1, written),
-            other => other,
-        }
-    }
-
-    fn looking(&self, place: usize) -> Next {
-        if place < look_count(self.job.update()) {
-            return Next::Look(place);
-        }
-        locking(0, self.slots.len())
-    }
-}
-
-fn slots_of(inodes: u64, number: Option<Ino>, update: &Update, looked: &Looked) -> Slots {
-    let [first, second, third, fourth] = locked_handles(update, looked);
-    Slots::none()
-        .with(inodes, number)
-        .with_handle(inodes, first)
-        .with_handle(inodes, second)
-        .with_handle(inodes, third)
-        .with_handle(inodes, fourth)
-}
-
-fn locking(place: usize, slots: usize) -> Next {
-    if place < slots {
+/// The step for a place in the loop of locks, or what comes behind the last.
+pub(crate) fn locking(place: usize, slots: &Slots) -> Next
+    ensures { next_of result ≡ locking place (slots_in slots.now) }
+{
+    if place < slots.len() {
         return Next::Lock(place);
     }
     Next::Check
 }
 
-fn appending(place: usize, written: usize) -> Next {
-    if place < written {
-        return Next::Append(place);
+/// The same in the loop of looks, behind which comes the loop of locks.
+pub(crate) fn looking(place: usize, update: &Update, slots: &Slots) -> Next
+    ensures { (text : List ℕ) → next_of result
+        ≡ looking_at place (slots_in slots.now) (call_of update.now text) }
+{
+    if place < look_count(update) {
+        return Next::Look(place);
     }
-    if written > 1 {
-        return Next::Open;
-    }
-    publishing(0, written)
+    locking(0, slots)
 }
 
-fn publishing(place: usize, written: usize) -> Next {
-    if place < written {
-        return Next::Publish(place);
-    }
-    if written > 1 {
-        return Next::Close;
-    }
-    retiring(0, written)
+/// The slots that a call locks, of so many.
+pub(crate) fn slots_of(
+    inodes: u64,
+    number: Option<Ino>,
+    update: &Update,
+    looked: &Looked,
+) -> Slots
+    requires { makes update.now ≡ false → number ≡ None }
+    ensures { (s : machine.Shared) (text : List ℕ) → length s.cells ≡ inodes
+        → slots_in result ≡ slots_of s number looked.now (call_of update.now text) }
+{
+    let [first, second, third, fourth] = locked(number, update, looked);
+    Slots::none()
+        .with(inodes, fourth)
+        .with(inodes, third)
+        .with(inodes, second)
+        .with(inodes, first)
 }
 
-fn retiring(place: usize, written: usize) -> Next {
-    if place < written {
-        return Next::Retire(place);
+/// The first step of a call, and the slots that it locks as far as they are known.
+fn first_step(inodes: u64, job: &Job, looked: &Looked) -> (Next, Slots) {
+    let none = Slots::none();
+    let Job::Change(Plan { update, .. }, _) = job else {
+        return (Next::Visit, none);
+    };
+    match update {
+        Update::Create { .. } | Update::Mkdir { .. } => (Next::Number, none),
+        Update::Unlink { .. } | Update::Rmdir { .. } | Update::Rename { .. } => {
+            (Next::Look(0), none)
+        }
+        Update::Write { .. } | Update::Size { .. } | Update::Mode { .. } => {
+            let slots = slots_of(inodes, None, update, looked);
+            (locking(0, &slots), slots)
+        }
     }
-    Next::Leave
+}
+
+impl Running {
+    /// A call that starts. Takes no memory.
+    pub(crate) fn started(alloc: Global, shared: &Shared, call: Call) -> Running
+        ensures shown { shown (starting call) result
+            ≡ begun (beginning call) (shared_of shared.now) call }
+        ensures told { IsToldOf result (starting call) }
+    {
+        let (job, owed) = job_of(alloc, call);
+        let looked = Looked {
+            first: None,
+            second: None,
+        };
+        let (next, slots) = first_step(shared.inodes(), &job, &looked);
+        let made = Handle {
+            ino: Ino::new(0),
+            generation: Gen::new(1),
+        };
+        Running {
+            job,
+            owed,
+            next,
+            ending: Ending::Answers,
+            looked,
+            rounds: ROUNDS,
+            slots,
+            made,
+            wanted: 0,
+        }
+    }
+
+    /// The call that changes nodes, with how many blocks it takes.
+    pub(crate) fn plan(&self) -> &Plan
+        requires { is_change self.now.job ≡ true }
+        ensures { (text : List ℕ) → IsChangeOf self.now.job result.now }
+    {
+        match &self.job {
+            Job::Change(plan, _) => plan,
+            Job::Visit(_) | Job::Given => unreachable!(),
+        }
+    }
 }

@@ -1,6 +1,9 @@
 //! What actors share.
 
-ghost use Rattle.std.specs.Prelude.{◌<◌, length};
+ghost use Rattle.std.specs.Prelude.{◌≡◌, ℕ, ◌<◌, ◌≤◌, ◌%◌, None, is_some, length, map, slice_index_or, slice_set};
+ghost use Rattle.nv_calls.specs.SlotCells.{lent_cells};
+ghost use Rattle.nv_core.specs.machine.World.{owner_at};
+ghost use Rattle.nv_world.specs.Shown.{shared_of, slots_in};
 
 use crate::slots::Slots;
 use nv_alloc::{FreeList, InodePool};
@@ -23,24 +26,32 @@ pub(crate) struct Shared {
 
 impl Shared {
     /// How many slots there are.
-    pub(crate) fn inodes(&self) -> u64 {
+    pub(crate) fn inodes(&self) -> u64
+        ensures { result ≡ length self.now.cells.items }
+    {
         self.cells.len() as u64
     }
 
     /// Bytes of a block.
-    pub(crate) fn block(&self) -> u64 {
+    pub(crate) fn block(&self) -> u64
+        ensures { result ≡ self.now.geometry.numbers.block }
+    {
         self.geometry.numbers.block
     }
 
     /// The CPU of an actor.
     pub(crate) fn cpu_of(&self, actor: u64) -> u64
         requires { 0 < length self.now.lists.items }
+        ensures value { result ≡ actor % length self.now.lists.items }
+        ensures within { result < length self.now.lists.items }
     {
         actor % self.lists.len() as u64
     }
 
     /// Whether another actor holds the inode lock of a slot. A slot that is not there has none.
-    pub(crate) fn is_locked(&self, ino: Ino) -> bool {
+    pub(crate) fn is_locked(&self, ino: Ino) -> bool
+        ensures { result ≡ is_some (owner_at (shared_of self.now) ino) }
+    {
         match self.owners.get(ino.number() as usize) {
             Some(owner) => owner.is_some(),
             None => false,
@@ -50,6 +61,7 @@ impl Shared {
     /// Gives a slot's lock to an actor, or to nobody.
     pub(crate) fn set_owner(&mut self, ino: Ino, owner: Option<u64>)
         requires { ino < length self.old.owners.items }
+        ensures { shared_of self.new ≡ with_owner ino owner (shared_of self.old) }
     {
         let place = ino.number() as usize;
         self.owners[place] = owner;
@@ -63,29 +75,13 @@ impl Shared {
     /// The handle of the inode that a slot has now, or will have.
     pub(crate) fn handle_of(&self, ino: Ino) -> Handle
         requires { ino < length self.now.cells.items }
+        ensures { result ≡ record {
+          ino = ino;
+          generation = (cell_at (shared_of self.now) ino).generation;
+        } }
     {
         let generation = self.cells[ino.number() as usize].generation();
         Handle { ino, generation }
-    }
-
-    /// The cells of a call.
-    pub(crate) fn held<'a>(&'a mut self, slots: &'a Slots) -> SlotCells<'a> {
-        SlotCells {
-            cells: &mut self.cells,
-            slots: slots.as_slice(),
-        }
-    }
-
-    /// The cells of a call, and the book.
-    pub(crate) fn held_with_book<'a>(
-        &'a mut self,
-        slots: &'a Slots,
-    ) -> (SlotCells<'a>, &'a mut Book) {
-        let cells = SlotCells {
-            cells: &mut self.cells,
-            slots: slots.as_slice(),
-        };
-        (cells, &mut self.book)
     }
 
     /// Takes all apart with its blocks.
@@ -107,5 +103,18 @@ impl Shared {
             cell.dismantle();
         }
         cells.destroy_empty();
+    }
+}
+
+/// The cells of a call's slots, among all.
+pub(crate) fn held<'a>(cells: &'a mut [InodeCell], slots: &'a Slots) -> SlotCells<'a>
+    requires { (k : ℕ) → k < length (slots_in slots.now)
+        → slice_index_or (slots_in slots.now) k 0 < length cells.now }
+    ensures slots { result.slots.now ≡ slots_in slots.now }
+    ensures cells { result.cells.now ≡ cells.now }
+{
+    SlotCells {
+        cells,
+        slots: slots.as_slice(),
     }
 }

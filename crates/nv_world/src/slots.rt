@@ -1,68 +1,82 @@
 //! The slots that a call locks.
 
-ghost use Rattle.std.specs.Prelude.{◌<◌, ◌≤◌};
+ghost use Rattle.std.specs.Prelude.{◌≡◌, ◌<◌, ◌≤◌, AllPairs, [], length, slice_index_or, take};
+ghost use Rattle.nv_core.specs.machine.Reads.{with_slot};
 
-use nv_base::{Handle, Ino};
+use nv_base::Ino;
 
 /// The most slots of a call: two directories, the inode that moves, and the one that it replaces.
 const PLACES: usize = 4;
 
 /// At most four inode numbers, rising and each once.
-#[derive(Clone, Copy, Debug, PartialEq, Eq)]
+#[derive(Clone, Copy, Debug)]
 pub(crate) struct Slots {
     inos: [Ino; PLACES],
     count: usize,
     ghost few: { count ≤ 4 },
+    ghost rising: { AllPairs (λ a b. a < b) (take count inos) },
 }
 
 impl Slots {
-    pub(crate) fn none() -> Slots {
+    ghost use Rattle.nv_world.specs.Shown.{slots_in};
+    ghost use Rattle.nv_world.specs.Told.{with_some};
+
+    pub(crate) fn none() -> Slots
+        ensures { slots_in result ≡ [] }
+    {
         Slots {
             inos: [Ino::new(0); PLACES],
             count: 0,
         }
     }
 
-    pub(crate) fn as_slice(&self) -> &[Ino] {
+    pub(crate) fn as_slice(&self) -> &[Ino]
+        ensures slots { result.now ≡ slots_in self.now }
+        ensures few { length result.now ≤ 4 }
+        ensures rising { AllPairs (λ a b. a < b) result.now }
+    {
         &self.inos[..self.count]
     }
 
-    pub(crate) fn len(&self) -> usize {
+    pub(crate) fn len(&self) -> usize
+        ensures { result ≡ length (slots_in self.now) }
+    {
         self.count
     }
 
     /// The number at a place.
     pub(crate) fn at(&self, place: usize) -> Ino
-        requires { place < self.now.count }
+        requires { place < length (slots_in self.now) }
+        ensures { result ≡ slice_index_or (slots_in self.now) place 0 }
     {
         self.inos[place]
     }
 
-    /// The slot of a handle too, where there is such a slot.
-    pub(crate) fn with_handle(self, inodes: u64, handle: Option<Handle>) -> Slots {
-        self.with(inodes, handle.map(|handle| handle.ino))
-    }
-
-    /// A number too, where there is one and it has a slot.
-    pub(crate) fn with(self, inodes: u64, ino: Option<Ino>) -> Slots {
+    /// The slot of a number too, where there is one and it has a slot.
+    pub(crate) fn with(self, inodes: u64, ino: Option<Ino>) -> Slots
+        requires { length (slots_in self) < 4 }
+        ensures { slots_in result ≡ with_some inodes ino (slots_in self) }
+    {
         match ino {
-            Some(ino) if ino.number() < inodes && !self.as_slice().contains(&ino) => {
-                self.with_new(ino)
-            }
-            _ => self,
+            Some(ino) => if ino.number() < inodes { self.with_slot(ino) } else { self },
+            None => self,
         }
     }
 
-    /// A number more, which moves the higher ones up by a place.
-    fn with_new(self, ino: Ino) -> Slots
-        requires { self.count < 4 }
+    /// A slot more, in its place.
+    fn with_slot(self, ino: Ino) -> Slots
+        requires { length (slots_in self) < 4 }
+        ensures { slots_in result ≡ with_slot ino (slots_in self) }
     {
         let Slots { mut inos, count } = self;
-        let mut place = count;
-        while place > 0 && ino < inos[place - 1] {
-            inos[place] = inos[place - 1];
-            place -= 1;
+        let mut place = 0;
+        while place < count && inos[place] < ino {
+            place += 1;
         }
+        if place < count && inos[place] == ino {
+            return self;
+        }
+        inos.copy_within(place..count, place + 1);
         inos[place] = ino;
         Slots {
             inos,

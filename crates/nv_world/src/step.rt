@@ -1,16 +1,34 @@
 //! The steps of a world.
 
-use crate::ending::Turn;
 use crate::hold::Hold;
-use crate::kinds::{check, commit, enter, lock, look, number, ready, take, visit};
+use crate::kinds::append::append;
+use crate::kinds::back::back;
+use crate::kinds::check::check;
+use crate::kinds::close::close;
+use crate::kinds::enter::enter;
+use crate::kinds::give::give;
+use crate::kinds::leave::leave;
+use crate::kinds::lock::lock;
+use crate::kinds::look::look;
+use crate::kinds::number::number;
+use crate::kinds::open::open;
+use crate::kinds::publish::publish;
+use crate::kinds::ready::ready;
+use crate::kinds::retire::retire;
+use crate::kinds::take::{take_blocks, take_pages};
+use crate::kinds::unlock::unlock;
+use crate::kinds::visit::visit;
 use crate::next::Next;
 use crate::running::Running;
 use crate::shared::Shared;
+use crate::turn::Turn;
 use crate::world::{Actor, World};
 use crate::{Event, Reply};
+use nv_alloc::Hand;
 use nv_base::Fault;
-use nv_calls::Call;
+use nv_calls::{Call, Commit, CommitStep};
 use std::alloc::{AllocError, Global};
+use std::mem;
 
 impl World {
     /// One event. A `Go` makes one step of the actor's call.
@@ -77,27 +95,72 @@ fn turn(
     alloc: Global,
     shared: &mut Shared,
     hold: &mut Hold,
-    call: &mut Running,
+    running: &mut Running,
     actor: u64,
 ) -> Turn {
-    match call.next {
-        Next::Number => number::number(shared, hold, call),
-        Next::Look(place) => look::look(shared, hold, call, place),
-        Next::Lock(place) => lock::lock(shared, call, actor, place),
-        Next::Check => check::check(shared, hold, call),
-        Next::TakeBlocks(asked) => take::take_blocks(shared, hold, call, actor, asked),
-        Next::TakePages(asked) => take::take_pages(shared, hold, call, actor, asked),
-        Next::Ready => ready::ready(alloc, shared, hold, call),
-        Next::Enter => enter::enter(alloc, shared, hold, call, actor),
-        Next::Append(_) => commit::append(shared, hold, call),
-        Next::Open => commit::open(shared, hold, call, actor),
-        Next::Publish(_) => commit::publish(shared, hold, call),
-        Next::Close => commit::close(shared, hold, call, actor),
-        Next::Retire(_) => commit::retire(shared, hold, call),
-        Next::Leave => enter::leave(alloc, shared, hold, call),
-        Next::Unlock(place) => lock::unlock(shared, hold, call, place),
-        Next::Give(cpu) => take::give(shared, hold, call, cpu),
-        Next::Back => number::back(shared, hold, call),
-        Next::Visit => visit::visit(shared, call),
+    match hold {
+        Hold::Hand(hand) => match running.next {
+            Next::Ready => pass_on(alloc, shared, hold, running, actor),
+            _ => alone(shared, hand, running, actor),
+        },
+        Hold::Ready(_) => pass_on(alloc, shared, hold, running, actor),
+        Hold::Commit(commit) => {
+            if commit.step() == CommitStep::Leave {
+                return pass_on(alloc, shared, hold, running, actor);
+            }
+            commit_step(shared, running, commit, actor);
+            Turn::Moves
+        }
+    }
+}
+
+/// A step of a call whose hand is with the actor alone.
+fn alone(shared: &mut Shared, hand: &mut Hand, running: &mut Running, actor: u64) -> Turn {
+    match running.next {
+        Next::Number => number(shared, hand, running),
+        Next::Look(place) => look(shared, hand, running, place),
+        Next::Lock(place) => lock(shared, running, actor, place),
+        Next::Check => check(shared, hand, running),
+        Next::TakeBlocks(asked) => take_blocks(shared, hand, running, actor, asked),
+        Next::TakePages(asked) => take_pages(shared, hand, running, actor, asked),
+        Next::Ready => unreachable!(),
+        Next::Unlock(place) => unlock(shared, hand, running, place),
+        Next::Give(cpu) => give(shared, hand, running, cpu),
+        Next::Back => back(shared, hand, running),
+        Next::Visit => visit(shared, running),
+    }
+}
+
+/// A step that passes the hand on: it is made ready, it enters, or it leaves.
+fn pass_on(
+    alloc: Global,
+    shared: &mut Shared,
+    hold: &mut Hold,
+    running: &mut Running,
+    actor: u64,
+) -> Turn {
+    let empty = Hold::Hand(Hand::new(alloc, &shared.geometry));
+    let (after, turn) = match mem::replace(hold, empty) {
+        Hold::Hand(hand) => ready(alloc, shared, hand, running),
+        Hold::Ready(held) => enter(shared, held, running, actor),
+        Hold::Commit(commit) => {
+            let (hand, turn) = leave(shared, commit, running);
+            (Hold::Hand(hand), turn)
+        }
+    };
+    mem::replace(hold, after).dismantle();
+    turn
+}
+
+/// A step of a commit that is not over.
+fn commit_step(shared: &mut Shared, running: &Running, commit: &mut Commit, actor: u64) {
+    let cpu = shared.cpu_of(actor);
+    match commit.step() {
+        CommitStep::Append => append(shared, running, commit),
+        CommitStep::Open => open(shared, running, commit, cpu),
+        CommitStep::Publish => publish(shared, running, commit),
+        CommitStep::Close => close(shared, running, commit, cpu),
+        CommitStep::Retire => retire(shared, running, commit),
+        CommitStep::Leave => unreachable!(),
     }
 }

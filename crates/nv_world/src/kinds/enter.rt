@@ -1,61 +1,53 @@
-//! The commit lock.
+//! The commit lock is taken.
 
-use crate::ending::{Turn, end, refuse};
+ghost use Rattle.std.specs.Prelude.{◌≡◌, nat_le};
+ghost use Rattle.nv_base.specs.declared.limits.TheConstants.{NUMBER};
+ghost use Rattle.nv_core.specs.machine.Kinds.{enter_turn};
+ghost use Rattle.nv_world.specs.Parts.{AreHome, IsOfDevice};
+ghost use Rattle.nv_world.specs.Shown.{Told, hand_of, held_by, shared_of, shown_by, shown_ready, slots_in, turn_of};
+ghost use Rattle.nv_world.specs.Told.{IsEither, IsHoldOf, IsReadyOf, KeepsJob, told_by};
+
+use crate::ending::refuse;
 use crate::hold::Hold;
 use crate::running::Running;
 use crate::shared::Shared;
-use nv_alloc::Hand;
-use nv_base::Fault;
-use nv_calls::Commit;
-use std::alloc::Global;
+use crate::turn::Turn;
+use nv_calls::{Commit, Ready};
 
 /// Takes the commit lock, or waits for it, and fixes number and epoch of the commit.
 pub(crate) fn enter(
-    alloc: Global,
     shared: &mut Shared,
-    hold: &mut Hold,
+    ready: Ready,
     running: &mut Running,
     actor: u64,
-) -> Turn {
+) -> (Hold, Turn)
+    requires home { AreHome shared.old }
+    requires device { IsOfDevice shared.old.geometry.numbers ready.hand }
+    ensures turn { (told : Told) → IsReadyOf (slots_in running.old.slots) ready told
+        → let s = shared_of shared.old in let after = told_by result.0 s.book told in
+        IsEither (λ granted. enter_turn s.holder (nat_le NUMBER s.book.commit) granted actor s
+        (hand_of ready.hand) (shown_ready told running.old))
+        (turn_of result.1 (shared_of shared.new) (held_by result.0)
+        (shown_by result.0 after running.new)) }
+    ensures told { (told : Told) → IsReadyOf (slots_in running.old.slots) ready told
+        → IsHoldOf (slots_in running.old.slots) result.0 (told_by result.0 shared.old.book.state told) }
+    ensures waits { result.1 ≡ Turn.Waits
+        → (shared.new ≡ shared.old) × (running.new ≡ running.old) × (result.0 ≡ Hold.Ready ready) }
+    ensures job { KeepsJob running.old running.new }
+{
     if shared.holder.is_some() {
-        return Turn::Waits;
+        return (Hold::Ready(ready), Turn::Waits);
     }
-    let empty = Hand::new(alloc, &shared.geometry);
-    if let Err(fault) = enter_book(shared, hold, running, actor) {
-        let hand = hold.take(empty).into_hand();
-        hold.put(Hold::Hand(hand));
-        return refuse(shared, hold, running, fault);
+    match shared.book.enter(actor, ready.need()) {
+        Ok(_fixed) => {
+            shared.holder = Some(actor);
+            let commit = Commit::begin(ready, &shared.book);
+            (Hold::Commit(commit), Turn::Moves)
+        }
+        Err(fault) => {
+            let hand = ready.into_hand();
+            let turn = refuse(shared, &hand, running, fault);
+            (Hold::Hand(hand), turn)
+        }
     }
-    shared.holder = Some(actor);
-    match hold.take(empty) {
-        Hold::Ready(ready) => hold.put(Hold::Commit(Commit::begin(ready, &shared.book))),
-        other => hold.put(other),
-    }
-    running.go_on()
-}
-
-/// The next commit is the actor's, with room for what it may kill.
-fn enter_book(
-    shared: &mut Shared,
-    hold: &Hold,
-    running: &Running,
-    actor: u64,
-) -> Result<(), Fault> {
-    shared.book.enter(actor, hold.ready().need())?;
-    Ok(())
-}
-
-/// Frees the commit lock. The call turns to its last steps.
-pub(crate) fn leave(
-    alloc: Global,
-    shared: &mut Shared,
-    hold: &mut Hold,
-    running: &mut Running,
-) -> Turn {
-    shared.holder = None;
-    let empty = Hand::new(alloc, &shared.geometry);
-    let hand = hold.take(empty).into_hand();
-    hold.put(Hold::Hand(hand));
-    let ending = running.ending;
-    end(shared, hold, running, ending)
 }

@@ -1,31 +1,32 @@
-//! Inode locks.
+//! An inode lock is taken.
 
-use crate::ending::{Turn, end_unlocked};
-use crate::hold::Hold;
-use crate::next::Next;
-use crate::running::Running;
+ghost use Rattle.std.specs.Prelude.{◌≡◌, ◌<◌, length};
+ghost use Rattle.nv_core.specs.machine.Kinds.{lock_turn};
+ghost use Rattle.nv_core.specs.machine.Reads.{slot_at};
+ghost use Rattle.nv_core.specs.machine.World.{HandState, owner_at};
+ghost use Rattle.nv_world.specs.Shown.{Told, next_of, shared_of, shown_at, slots_in, turn_of};
+ghost use Rattle.nv_world.specs.Told.{KeepsJob};
+
+use crate::running::{Running, locking};
 use crate::shared::Shared;
+use crate::turn::Turn;
 
-/// Locks one inode, or waits for its lock.
-pub(crate) fn lock(shared: &mut Shared, running: &mut Running, actor: u64, place: usize) -> Turn {
+/// Locks the slot at a place, or waits for its lock.
+pub(crate) fn lock(shared: &mut Shared, running: &mut Running, actor: u64, place: usize) -> Turn
+    requires place { place < length (slots_in running.old.slots) }
+    requires there { slot_at (slots_in running.old.slots) place < length shared.old.owners.items }
+    ensures turn { (told : Told) (h : HandState) → let s = shared_of shared.old in
+        lock_turn (owner_at s (slot_at (slots_in running.old.slots) place)) actor place s h
+        (shown told running.old)
+        ≡ turn_of result (shared_of shared.new) h (shown told running.new) }
+    ensures waits { result ≡ Turn.Waits → (shared.new ≡ shared.old) × (running.new ≡ running.old) }
+    ensures job { KeepsJob running.old running.new }
+{
     let ino = running.slots.at(place);
     if shared.is_locked(ino) {
         return Turn::Waits;
     }
     shared.set_owner(ino, Some(actor));
-    running.go_on()
-}
-
-/// Unlocks one inode.
-pub(crate) fn unlock(
-    shared: &mut Shared,
-    hold: &Hold,
-    running: &mut Running,
-    place: usize,
-) -> Turn {
-    shared.set_owner(running.slots.at(place), None);
-    if place + 1 < running.slots.len() {
-        return running.go_to(Next::Unlock(place + 1));
-    }
-    end_unlocked(shared, hold.hand(), running)
+    running.next = locking(place + 1, &running.slots);
+    Turn::Moves
 }

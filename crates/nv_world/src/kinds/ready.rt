@@ -1,11 +1,18 @@
 //! All growths of a call, and the bytes of its pages.
 
-use crate::ending::{Turn, refuse};
+ghost use Rattle.std.specs.Prelude.{◌≡◌, true};
+ghost use Rattle.nv_core.specs.machine.Kinds.{ready_turn};
+ghost use Rattle.nv_world.specs.Parts.{AreHome, CanWant, IsOfDevice};
+ghost use Rattle.nv_world.specs.Shown.{Told, hand_of, held_by, shared_of, shown, shown_by, slots_in, turn_of};
+ghost use Rattle.nv_world.specs.Told.{IsEither, IsHoldOf, IsToldOf, is_change, planned};
+
+use crate::ending::refuse;
 use crate::fill::Text;
 use crate::hold::Hold;
 use crate::job::Job;
 use crate::running::Running;
-use crate::shared::Shared;
+use crate::shared::{Shared, held};
+use crate::turn::Turn;
 use nv_alloc::Hand;
 use nv_calls::{fill, ready_on};
 use std::alloc::Global;
@@ -15,28 +22,41 @@ use std::mem;
 pub(crate) fn ready(
     alloc: Global,
     shared: &mut Shared,
-    hold: &mut Hold,
+    hand: Hand,
     running: &mut Running,
-) -> Turn {
+) -> (Hold, Turn)
+    requires change { is_change running.old.job ≡ true }
+    requires home { AreHome shared.old }
+    requires device { IsOfDevice shared.old.geometry.numbers hand }
+    requires can { CanWant shared.old hand running.old }
+    ensures turn { (told : Told) → IsToldOf running.old told
+        → let block = shared.old.geometry.numbers.block in let s = shared_of shared.old in
+        let h = hand_of hand in let r = shown told running.old in
+        IsEither (λ granted. ready_turn granted block s h r)
+        (turn_of result.1 (shared_of shared.new) (held_by result.0)
+        (shown_by result.0 (planned result.0 block s h r told) running.new)) }
+    ensures told { (told : Told) → IsToldOf running.old told → IsToldOf running.new told }
+    ensures plans { (told : Told) → IsToldOf running.old told
+        → let block = shared.old.geometry.numbers.block in let s = shared_of shared.old in
+        IsHoldOf (slots_in running.old.slots) result.0
+        (planned result.0 block s (hand_of hand) (shown told running.old) told) }
+{
     let Job::Change(plan, text) = mem::replace(&mut running.job, Job::Given) else {
         unreachable!()
     };
-    let empty = Hand::new(alloc, &shared.geometry);
-    let hand = hold.take(empty).into_hand();
-    let mut held = shared.held(&running.slots);
-    match ready_on(alloc, &mut held, plan, hand) {
+    let mut lent = held(&mut shared.cells, &running.slots);
+    match ready_on(alloc, &mut lent, plan, hand) {
         Ok(mut ready) => {
             let mut source = Text {
                 bytes: text.as_slice(),
             };
-            let _filled = fill(&mut ready, &held, &mut source);
-            running.written = ready.planned();
-            hold.put(Hold::Ready(ready));
-            running.go_on()
+            // A text in memory doesn't fail.
+            let _filled = fill(&mut ready, &lent, &mut source);
+            (Hold::Ready(ready), Turn::Moves)
         }
         Err((fault, hand)) => {
-            hold.put(Hold::Hand(hand));
-            refuse(shared, hold, running, fault)
+            let turn = refuse(shared, &hand, running, fault);
+            (Hold::Hand(hand), turn)
         }
     }
 }

@@ -1,0 +1,19 @@
+-- How far the steps of a commit have come.
+use Rattle.std.specs.Prelude.{ℕ, ◌==◌, ◌&&◌, if◌then◌else◌, Bool, not, nat_lt, length}
+use Rattle.nv_calls.specs.Commit.{CommitValue}
+use Rattle.nv_calls.specs.declared.progress.CommitStep.{CommitStep}
+use Rattle.nv_calls.specs.declared.progress.CommitStep.TheVariants.{Append, Close, Leave, Open, Publish, Retire}
+
+-- the journal is to be opened: two or more inodes get entries, and none of them is published
+abbrev pub opens : CommitValue → Bool
+opens commit = nat_lt 1 (length commit.plans) && (commit.published == 0) && not commit.journal_open
+
+-- the step that comes next
+abbrev pub step_of : CommitValue → CommitStep
+step_of commit =
+    if nat_lt commit.appended (length commit.plans) then Append
+    else if opens commit then Open
+    else if nat_lt commit.published (length commit.plans) then Publish
+    else if commit.journal_open then Close
+    else if nat_lt commit.retired (length commit.plans) then Retire
+    else Leave

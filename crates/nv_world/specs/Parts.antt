@@ -1,0 +1,33 @@
+-- What the steps rely on of the parts that are lent to them.
+use Rattle.std.specs.Prelude.{◌≡◌, ℕ, ◌+◌, ◌<◌, List, length, slice_index_or}
+use Rattle.std.specs.List.{AllByRecursion}
+use Rattle.nv_alloc.specs.Block.{BlockValue}
+use Rattle.nv_alloc.specs.FreeList.{FreeBlocks}
+use Rattle.nv_alloc.specs.Hand.{blocks_of}
+use Rattle.nv_alloc.specs.declared.hand.Hand.{Hand}
+use Rattle.nv_base.specs.Homes.{home_start}
+use Rattle.nv_base.specs.declared.geometry.GeometryNumbers.{GeometryNumbers}
+use Rattle.nv_core.specs.machine.World.{no_list}
+use Rattle.nv_world.specs.declared.shared.Shared.{Shared}
+
+-- the list of a CPU is of its home range, and of blocks of the device's size
+pub record IsListOf (g : GeometryNumbers) (cpu : ℕ) (list : FreeBlocks) : Type 0 where
+  pub start : list.start ≡ home_start g.blocks g.cpus cpu
+  pub end : list.end ≡ home_start g.blocks g.cpus (cpu + 1)
+  pub size : list.size ≡ g.block
+
+pub record AreListsOf (g : GeometryNumbers) (lists : List FreeBlocks) : Type 0 where
+  pub count : length lists ≡ g.cpus
+  pub each : (cpu : ℕ) → cpu < g.cpus → IsListOf g cpu (slice_index_or lists cpu no_list)
+
+-- each list is that of its CPU
+abbrev pub AreHome : Shared → Type 0
+AreHome shared = AreListsOf shared.geometry.numbers shared.lists.items
+
+-- all blocks in a hand are of the device
+abbrev pub IsOfDevice : GeometryNumbers → Hand → Type 0
+IsOfDevice g hand = AllByRecursion (λ (b : BlockValue). b.number < g.blocks) (blocks_of hand)
+
+-- each of these slots has a cell
+abbrev pub AreSlots : Shared → List ℕ → Type 0
+AreSlots shared slots = (k : ℕ) → k < length slots → slice_index_or slots k 0 < length shared.cells.items
