@@ -13,7 +13,7 @@ use Rattle.nv_calls.specs.Commit.{CommitValue}
 use Rattle.nv_calls.specs.Progress.{step_of}
 use Rattle.nv_cell.specs.Cell.{CellValue}
 use Rattle.nv_cell.specs.declared.killed.KilledPart.{KilledPart}
-use Rattle.nv_core.specs.machine.World as machine
+use Rattle.nv_machine.specs.World as machine
 use Rattle.nv_world.specs.declared.hold.Hold.{Hold}
 use Rattle.nv_world.specs.declared.hold.Hold.TheVariants as hold
 use Rattle.nv_world.specs.declared.job.Owed.{Owed}

@@ -7,14 +7,16 @@ use Rattle.nv_calls.specs.Commit.{CommitValue, to_append}
 use Rattle.nv_calls.specs.Plain.{PlainNode}
 use Rattle.nv_calls.specs.Ready.{CellPlanValue, ReadyValue, plan_at}
 use Rattle.nv_calls.specs.Slots.{items_for, place_in}
-use Rattle.nv_calls.specs.Updates.{call_of, text_len}
+use Rattle.nv_calls.specs.Updates.{blank_call, call_of, text_len}
 use Rattle.nv_calls.specs.declared.call.Call.{Call}
 use Rattle.nv_calls.specs.Prepared.{makes}
 use Rattle.nv_calls.specs.declared.plan.Plan.{Plan}
 use Rattle.nv_calls.specs.declared.plan.Planned.{Planned}
-use Rattle.nv_core.specs.machine.Reads.{is_written, slot_at, with_slot}
-use Rattle.nv_core.specs.machine.Sequence.{Visits, beginning, directories, locking}
-use Rattle.nv_core.specs.machine.World.{Look, Next, Turn}
+use Rattle.nv_calls.specs.declared.update.Update.{Update}
+use Rattle.nv_machine.specs.Reads.{is_written, plan_by, slot_at, with_slot}
+use Rattle.nv_machine.specs.Sequence.{Visits, beginning, directories, locking}
+use Rattle.nv_machine.specs.World as machine
+use Rattle.nv_machine.specs.World.{HandState, Look, Next, Shared, Turn}
 use Rattle.nv_world.specs.declared.hold.Hold.{Hold}
 use Rattle.nv_world.specs.declared.hold.Hold.TheVariants as hold
 use Rattle.nv_world.specs.declared.job.Job.{Job}
@@ -130,7 +132,7 @@ pub record IsOnItsWay (commit : CommitValue) : Type 0 where
   pub appends : commit.appended < length commit.plans → commit.published ≡ 0
   pub publishes : commit.published < length commit.plans → commit.retired ≡ 0
   pub opened : commit.journal_open ≡ true → (2 ≤ length commit.plans) × (commit.appended ≡ length commit.plans) × (commit.retired ≡ 0)
-  pub open : 2 ≤ length commit.plans → 0 < commit.published → commit.published < length commit.plans → commit.journal_open ≡ true
+  pub between : 2 ≤ length commit.plans → 0 < commit.published → commit.published < length commit.plans → commit.journal_open ≡ true
 
 -- a call that has entered has the next number of the book, and its epoch
 abbrev pub entered : BookState → Told → Told
@@ -145,3 +147,22 @@ abbrev pub IsHoldOf : List ℕ → Hold → Told → Type 0
 IsHoldOf slots (hold.Hand hand) told = Unit {0}
 IsHoldOf slots (hold.Ready ready) told = IsReadyOf slots ready told
 IsHoldOf slots (hold.Commit commit) told = IsCommitOf slots commit told
+
+-- a job that changes nodes, by a call of which this holds
+abbrev pub IsChangeWith : (Update → Type 0) → Job → Type 0
+IsChangeWith P (job.Change plan text) = P plan.update
+IsChangeWith P other = ⊥
+
+-- a job that reads one node
+abbrev pub IsVisitOf : Job → Type 0
+IsVisitOf (job.Visit visit) = IsVisit visit
+IsVisitOf other = ⊥
+
+-- a call that has a look at that place
+abbrev pub IsLookAt : ℕ → Job → Type 0
+IsLookAt place j = IsChangeWith (λ u. place < length (directories (blank_call u))) j
+
+-- a call that is ready has its plan
+abbrev pub planned : Hold → ℕ → Shared → HandState → machine.Running → Told → Told
+planned (hold.Ready ready) block s h r told = record told { plan = plan_by block s h r }
+planned other block s h r told = told

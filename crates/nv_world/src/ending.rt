@@ -1,8 +1,9 @@
 //! How a call goes on, and how it ends.
 
-ghost use Rattle.std.specs.Prelude.{◌≡◌, ◌<◌};
-ghost use Rattle.nv_core.specs.machine.Kinds.{blocks_in, end_turn, over_turn, refuse, rest_turn, result_by};
-ghost use Rattle.nv_core.specs.machine.Reads.{home_from};
+ghost use Rattle.std.specs.Prelude.{◌≡◌, None};
+ghost use Rattle.nv_machine.specs.Kinds.{again_turn, blocks_in, end_turn, over_turn, refuse, rest_turn, result_by};
+ghost use Rattle.nv_machine.specs.Reads.{home_from};
+ghost use Rattle.nv_machine.specs.World as machine;
 ghost use Rattle.nv_world.specs.Parts.{AreHome, IsOfDevice};
 ghost use Rattle.nv_world.specs.Shown.{Told, ending_of, hand_of, shared_of, shown, slots_in, turn_of};
 ghost use Rattle.nv_world.specs.Told.{IsOwed, KeepsJob, OwesAt};
@@ -12,7 +13,7 @@ use crate::running::Running;
 use crate::shared::Shared;
 use crate::turn::Turn;
 use nv_alloc::Hand;
-use nv_base::{Fault, Geometry};
+use nv_base::Fault;
 use nv_calls::Answer;
 
 /// What the call is answered at its last step.
@@ -37,15 +38,29 @@ pub(crate) fn give_back(shared: &Shared, hand: &Hand, running: &mut Running) -> 
         ≡ turn_of result s h (shown told running.new) }
     ensures job { KeepsJob running.old running.new }
 {
-    if let Some(cpu) = hand.lowest_home(&shared.geometry) {
-        running.next = Next::Give(cpu);
-        return Turn::Moves;
+    match hand.lowest_home(&shared.geometry) {
+        Some(cpu) => {
+            running.next = Next::Give(cpu);
+            Turn::Moves
+        }
+        None => give_number(hand, running),
     }
-    if hand.ino().is_some() {
-        running.next = Next::Back;
-        return Turn::Moves;
+}
+
+/// All blocks are at home: a number goes back. Where there is none, the step replies.
+fn give_number(hand: &Hand, running: &mut Running) -> Turn
+    ensures turn { (told : Told) (s : machine.Shared) → OwesAt running.old.ending running.old told
+        → let h = hand_of hand.now in rest_turn None h.ino s h (shown told running.old)
+        ≡ turn_of result s h (shown told running.new) }
+    ensures job { KeepsJob running.old running.new }
+{
+    match hand.ino() {
+        Some(_) => {
+            running.next = Next::Back;
+            Turn::Moves
+        }
+        None => Turn::Ends(result_of(running)),
     }
-    Turn::Ends(result_of(running))
 }
 
 /// Nothing is locked: the next round of looks comes, if there is one, or what is in the hand goes back.
@@ -66,7 +81,7 @@ pub(crate) fn end_unlocked(shared: &Shared, hand: &Hand, running: &mut Running) 
 
 /// The next round of looks, if there is one.
 fn again(running: &mut Running) -> Turn
-    ensures turn { (told : Told) (s : Shared) (h : HandState)
+    ensures turn { (told : Told) (s : machine.Shared) (h : machine.HandState)
         → again_turn running.old.rounds s h (shown told running.old)
         ≡ turn_of result s h (shown told running.new) }
     ensures job { KeepsJob running.old running.new }

@@ -1,6 +1,6 @@
 //! The bytes of a call's text.
 
-ghost use Rattle.std.specs.Prelude.{slice_index_or, tt};
+ghost use Rattle.std.specs.Prelude.{slice_index_or};
 
 use nv_calls::{Source, SourceFault};
 

@@ -5,10 +5,10 @@ ghost use Rattle.std.specs.Option.{option_map};
 ghost use Rattle.nv_base.specs.declared.numbers.Handle.{Handle};
 ghost use Rattle.nv_calls.specs.Locked.{handles};
 ghost use Rattle.nv_calls.specs.Prepared.{makes};
-ghost use Rattle.nv_calls.specs.Updates.{call_of};
-ghost use Rattle.nv_core.specs.machine.Reads.{if_number};
-ghost use Rattle.nv_core.specs.machine.Sequence.{directories, nothing_looked};
-ghost use Rattle.nv_core.specs.machine.Step.{handle_at};
+ghost use Rattle.nv_calls.specs.Updates.{blank_call, call_of};
+ghost use Rattle.nv_machine.specs.Reads.{if_number};
+ghost use Rattle.nv_machine.specs.Sequence.{directories, nothing_looked};
+ghost use Rattle.nv_machine.specs.Step.{handle_at};
 ghost use Rattle.nv_world.specs.Shown.{answered};
 ghost use Rattle.nv_world.specs.Told.{IsJobOf, IsVisit, all_some};
 
@@ -132,7 +132,7 @@ pub(crate) fn look_count(update: &Update) -> usize
 
 /// The directory of a look.
 pub(crate) fn directory(update: &Update, place: usize) -> Handle
-    requires { (text : List ℕ) → place < length (directories (call_of update.now text)) }
+    requires { place < length (directories (blank_call update.now)) }
     ensures { (text : List ℕ) → result ≡ handle_at (directories (call_of update.now text)) place }
 {
     match update {

@@ -1,12 +1,13 @@
 //! A call that runs.
 
-ghost use Rattle.std.specs.Prelude.{◌≡◌, ◌<◌, ◌+◌, length, true};
+ghost use Rattle.std.specs.Prelude.{◌≡◌, ◌<◌, ◌+◌, ℕ, List, None, false, length, true};
 ghost use Rattle.nv_calls.specs.Prepared.{makes};
-ghost use Rattle.nv_core.specs.machine.Reads.{slots_of};
-ghost use Rattle.nv_core.specs.machine.Sequence.{begun, beginning, locking, looking};
-ghost use Rattle.nv_core.specs.machine.World as machine;
+ghost use Rattle.nv_machine.specs.Reads.{slots_of};
+ghost use Rattle.nv_machine.specs.Sequence.{begun, beginning, locking, looking};
+ghost use Rattle.nv_machine.specs.World as machine;
 ghost use Rattle.nv_world.specs.Shown.{Told, next_of, shared_of, shown, slots_in};
-ghost use Rattle.nv_world.specs.Told.{IsToldOf, KeepsJob, with_some};
+ghost use Rattle.nv_calls.specs.Updates.{call_of};
+ghost use Rattle.nv_world.specs.Told.{IsChangeBy, IsToldOf, KeepsJob, is_change, looking_at, starting};
 
 use crate::job::{Job, Owed, job_of, locked, look_count};
 use crate::next::{Ending, Next};
@@ -130,7 +131,7 @@ impl Running {
     /// The call that changes nodes, with how many blocks it takes.
     pub(crate) fn plan(&self) -> &Plan
         requires { is_change self.now.job ≡ true }
-        ensures { (text : List ℕ) → IsChangeOf self.now.job result.now }
+        ensures { IsChangeBy self.now.job result.now }
     {
         match &self.job {
             Job::Change(plan, _) => plan,

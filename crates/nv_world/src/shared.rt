@@ -1,15 +1,12 @@
 //! What actors share.
 
-ghost use Rattle.std.specs.Prelude.{◌≡◌, ℕ, ◌<◌, ◌≤◌, ◌%◌, None, is_some, length, map, slice_index_or, slice_set};
-ghost use Rattle.nv_calls.specs.SlotCells.{lent_cells};
-ghost use Rattle.nv_core.specs.machine.World.{owner_at};
-ghost use Rattle.nv_world.specs.Shown.{shared_of, slots_in};
+ghost use Rattle.std.specs.Prelude.{◌≡◌, ◌<◌, ◌%◌, is_some, length};
+ghost use Rattle.nv_machine.specs.World.{cell_at, owner_at, with_owner};
+ghost use Rattle.nv_world.specs.Shown.{shared_of};
 
-use crate::slots::Slots;
 use nv_alloc::{FreeList, InodePool};
 use nv_base::{Geometry, Handle, Ino};
 use nv_book::Book;
-use nv_calls::SlotCells;
 use nv_cell::InodeCell;
 
 /// The free list of each CPU, the pool of inode numbers, the cell of each slot with the actor that holds its lock, the
@@ -103,18 +100,5 @@ impl Shared {
             cell.dismantle();
         }
         cells.destroy_empty();
-    }
-}
-
-/// The cells of a call's slots, among all.
-pub(crate) fn held<'a>(cells: &'a mut [InodeCell], slots: &'a Slots) -> SlotCells<'a>
-    requires { (k : ℕ) → k < length (slots_in slots.now)
-        → slice_index_or (slots_in slots.now) k 0 < length cells.now }
-    ensures slots { result.slots.now ≡ slots_in slots.now }
-    ensures cells { result.cells.now ≡ cells.now }
-{
-    SlotCells {
-        cells,
-        slots: slots.as_slice(),
     }
 }

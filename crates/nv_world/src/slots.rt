@@ -1,7 +1,7 @@
 //! The slots that a call locks.
 
 ghost use Rattle.std.specs.Prelude.{◌≡◌, ◌<◌, ◌≤◌, AllPairs, [], length, slice_index_or, take};
-ghost use Rattle.nv_core.specs.machine.Reads.{with_slot};
+ghost use Rattle.nv_machine.specs.Reads.{with_slot};
 
 use nv_base::Ino;
 
@@ -68,7 +68,8 @@ impl Slots {
         requires { length (slots_in self) < 4 }
         ensures { slots_in result ≡ with_slot ino (slots_in self) }
     {
-        let Slots { mut inos, count } = self;
+        let mut inos = self.inos;
+        let count = self.count;
         let mut place = 0;
         while place < count && inos[place] < ino {
             place += 1;

@@ -5,16 +5,16 @@ ghost use Rattle.nv_calls.specs.Cells.{value_at};
 ghost use Rattle.nv_calls.specs.Commit.{to_append};
 ghost use Rattle.nv_calls.specs.SlotCells.{lent_cells};
 ghost use Rattle.nv_calls.specs.Steps.{CanAppendPlan};
-ghost use Rattle.nv_core.specs.machine.Kinds.{append_turn};
-ghost use Rattle.nv_core.specs.machine.Reads.{pages_needed, slot_at, written_slots};
-ghost use Rattle.nv_core.specs.machine.World.{Moves};
+ghost use Rattle.nv_machine.specs.Kinds.{append_turn};
+ghost use Rattle.nv_machine.specs.Reads.{pages_needed, slot_at, written_slots};
+ghost use Rattle.nv_machine.specs.World.{Moves};
 ghost use Rattle.nv_world.specs.Parts.{AreSlots};
 ghost use Rattle.nv_world.specs.Shown.{Told, hand_in, shared_of, shown_commit, slots_in};
 ghost use Rattle.nv_world.specs.Told.{IsCommitOf, IsOnItsWay};
 
 use crate::running::Running;
-use crate::shared::{Shared, held};
-use nv_calls::{Commit, append_on};
+use crate::shared::Shared;
+use nv_calls::{Commit, SlotCells, append_on};
 
 /// Appends the entries of the next inode.
 pub(crate) fn append(shared: &mut Shared, running: &Running, commit: &mut Commit)
@@ -35,5 +35,9 @@ pub(crate) fn append(shared: &mut Shared, running: &Running, commit: &mut Commit
         → IsCommitOf (slots_in running.now.slots) commit.new told }
     ensures way { IsOnItsWay commit.new }
 {
-    append_on(&mut held(&mut shared.cells, &running.slots), commit);
+    let mut lent = SlotCells {
+        cells: &mut shared.cells,
+        slots: running.slots.as_slice(),
+    };
+    append_on(&mut lent, commit);
 }

@@ -3,7 +3,7 @@
 ghost use Rattle.std.specs.Prelude.{◌≡◌, ◌<◌, false};
 ghost use Rattle.std.specs.Option.{ForSome};
 ghost use Rattle.nv_alloc.specs.Numbers.{has};
-ghost use Rattle.nv_core.specs.machine.Kinds.{back_turn};
+ghost use Rattle.nv_machine.specs.Kinds.{back_turn};
 ghost use Rattle.nv_world.specs.Shown.{Told, hand_of, shared_of, shown, turn_of};
 ghost use Rattle.nv_world.specs.Told.{OwesAt};
 

@@ -1,10 +1,13 @@
 //! The check of a call over the cells that it holds.
 
-ghost use Rattle.std.specs.Prelude.{◌≡◌, true};
+ghost use Rattle.std.specs.Prelude.{◌≡◌, ◌<◌, ◌^◌, true};
+ghost use Rattle.nv_base.specs.Refusals.{FailsOnly};
+ghost use Rattle.nv_base.specs.declared.fault.Fault.TheVariants.{OutOfMemory};
 ghost use Rattle.nv_calls.specs.AllCalls.{blocks_wanted};
-ghost use Rattle.nv_core.specs.machine.Kinds.{check_turn, wants_blocks};
-ghost use Rattle.nv_core.specs.machine.Reads.{copies, has_last_page};
-ghost use Rattle.nv_core.specs.machine.Step.{ending_at, with_made};
+ghost use Rattle.nv_calls.specs.Prepared.{makes};
+ghost use Rattle.nv_machine.specs.Kinds.{check_turn, wants_blocks};
+ghost use Rattle.nv_machine.specs.Reads.{copies, has_last_page};
+ghost use Rattle.nv_machine.specs.Step.{ending_at, with_made};
 ghost use Rattle.nv_world.specs.Parts.{AreHome, CanCheck, IsOfDevice};
 ghost use Rattle.nv_world.specs.Shown.{Told, hand_of, shared_of, shown, turn_of};
 ghost use Rattle.nv_world.specs.Told.{IsEither, IsToldOf, KeepsJob, is_change};
@@ -13,12 +16,12 @@ use crate::ending::{end, refuse};
 use crate::kinds::take::want_pages;
 use crate::next::{Ending, Next};
 use crate::running::Running;
-use crate::shared::{Shared, held};
+use crate::shared::Shared;
 use crate::turn::Turn;
 use nv_alloc::Hand;
 use nv_base::Fault;
 use nv_calls::{
-    HeldNodes, Update, blocks_wanted, check_early, check_late, ends_in_page, is_as_looked,
+    HeldNodes, SlotCells, Update, blocks_wanted, check_early, check_late, ends_in_page, is_as_looked,
     is_nothing,
 };
 
@@ -59,7 +62,10 @@ pub(crate) fn check(shared: &mut Shared, hand: &mut Hand, running: &mut Running)
 fn ending_of(shared: &mut Shared, running: &Running, has_number: bool) -> Option<Ending> {
     let block = shared.block();
     let update = &running.plan().update;
-    let lent = held(&mut shared.cells, &running.slots);
+    let lent = SlotCells {
+        cells: &mut shared.cells,
+        slots: running.slots.as_slice(),
+    };
     let nodes = HeldNodes::new(&lent);
     if let Err(fault) = check_early(&nodes, update) {
         return Some(Ending::Refuses(fault));
@@ -86,14 +92,21 @@ fn makes_inode(update: &Update) -> bool
 fn wanted_by(shared: &mut Shared, running: &Running) -> u64 {
     let block = shared.block();
     let update = &running.plan().update;
-    let lent = held(&mut shared.cells, &running.slots);
+    let lent = SlotCells {
+        cells: &mut shared.cells,
+        slots: running.slots.as_slice(),
+    };
     let nodes = HeldNodes::new(&lent);
     let present = ends_in_page(block, &nodes, update);
     blocks_wanted(block, &nodes, present, update)
 }
 
 /// Makes room in the hand for what is to be taken: for data blocks, and for the log pages that these may need.
-fn make_room(hand: &mut Hand, blocks: u64) -> Result<(), Fault> {
+fn make_room(hand: &mut Hand, blocks: u64) -> Result<(), Fault>
+    requires { blocks < 2 ^ 32 }
+    ensures hand { hand_of hand.new ≡ hand_of hand.old }
+    ensures err { FailsOnly OutOfMemory result }
+{
     hand.data.reserve(blocks)?;
     hand.pages.reserve(blocks + MORE_PAGES)
 }

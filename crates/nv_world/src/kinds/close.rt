@@ -3,8 +3,8 @@
 ghost use Rattle.std.specs.Prelude.{◌≡◌, ◌<◌, length, true};
 ghost use Rattle.std.specs.Option.{option_map};
 ghost use Rattle.nv_base.specs.declared.numbers.Handle.{Handle};
-ghost use Rattle.nv_core.specs.machine.Kinds.{close_turn};
-ghost use Rattle.nv_core.specs.machine.World.{Moves};
+ghost use Rattle.nv_machine.specs.Kinds.{close_turn};
+ghost use Rattle.nv_machine.specs.World.{Moves};
 ghost use Rattle.nv_world.specs.Shown.{Told, hand_in, shared_of, shown_commit, slots_in};
 ghost use Rattle.nv_world.specs.Told.{IsCommitOf, IsOnItsWay};
 

@@ -2,7 +2,7 @@
 
 ghost use Rattle.std.specs.Prelude.{◌≡◌, nat_le};
 ghost use Rattle.nv_base.specs.declared.limits.TheConstants.{NUMBER};
-ghost use Rattle.nv_core.specs.machine.Kinds.{enter_turn};
+ghost use Rattle.nv_machine.specs.Kinds.{enter_turn};
 ghost use Rattle.nv_world.specs.Parts.{AreHome, IsOfDevice};
 ghost use Rattle.nv_world.specs.Shown.{Told, hand_of, held_by, shared_of, shown_by, shown_ready, slots_in, turn_of};
 ghost use Rattle.nv_world.specs.Told.{IsEither, IsHoldOf, IsReadyOf, KeepsJob, told_by};

@@ -1,9 +1,8 @@
 //! Blocks go home to one list.
 
 ghost use Rattle.std.specs.Prelude.{◌≡◌, ◌<◌};
-ghost use Rattle.nv_core.specs.machine.Hands.{AreGiven};
-ghost use Rattle.nv_core.specs.machine.Kinds.{blocks_in, give_turn};
-ghost use Rattle.nv_world.specs.Parts.{AreHome, IsOfDevice};
+ghost use Rattle.nv_machine.specs.Kinds.{blocks_in, give_turn};
+ghost use Rattle.nv_world.specs.Parts.{AreGiven, AreHome, IsOfDevice};
 ghost use Rattle.nv_world.specs.Shown.{Told, hand_of, shared_of, shown, turn_of};
 ghost use Rattle.nv_world.specs.Told.{KeepsJob, OwesAt};
 

@@ -1,8 +1,8 @@
 //! The commit lock is given back.
 
 ghost use Rattle.std.specs.Prelude.{◌≡◌, [], None};
-ghost use Rattle.nv_core.specs.machine.Kinds.{leave_turn};
-ghost use Rattle.nv_core.specs.machine.World as machine;
+ghost use Rattle.nv_machine.specs.Kinds.{leave_turn};
+ghost use Rattle.nv_machine.specs.World as machine;
 ghost use Rattle.nv_world.specs.Parts.{AreHome, IsOfDevice};
 ghost use Rattle.nv_world.specs.Shown.{Told, hand_in, hand_of, killed_in, shared_of, shown, shown_at, turn_of};
 ghost use Rattle.nv_world.specs.Told.{KeepsJob, OwesAt};

@@ -1,10 +1,10 @@
 //! An inode lock is taken.
 
 ghost use Rattle.std.specs.Prelude.{◌≡◌, ◌<◌, length};
-ghost use Rattle.nv_core.specs.machine.Kinds.{lock_turn};
-ghost use Rattle.nv_core.specs.machine.Reads.{slot_at};
-ghost use Rattle.nv_core.specs.machine.World.{HandState, owner_at};
-ghost use Rattle.nv_world.specs.Shown.{Told, next_of, shared_of, shown_at, slots_in, turn_of};
+ghost use Rattle.nv_machine.specs.Kinds.{lock_turn};
+ghost use Rattle.nv_machine.specs.Reads.{slot_at};
+ghost use Rattle.nv_machine.specs.World.{HandState, owner_at};
+ghost use Rattle.nv_world.specs.Shown.{Told, shared_of, shown, slots_in, turn_of};
 ghost use Rattle.nv_world.specs.Told.{KeepsJob};
 
 use crate::running::{Running, locking};

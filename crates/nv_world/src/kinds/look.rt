@@ -1,14 +1,15 @@
 //! The looks, before anything is locked.
 
-ghost use Rattle.std.specs.Prelude.{◌≡◌, ◌<◌, ℕ, List, MatchResult, length, true};
+ghost use Rattle.std.specs.Prelude.{◌≡◌, ◌<◌, ℕ, Err, List, MatchResult, Some, length};
 ghost use Rattle.nv_calls.specs.AllCalls.{look_refusal, looked};
 ghost use Rattle.nv_calls.specs.Refusals.{found, look, passes};
-ghost use Rattle.nv_calls.specs.Updates.{call_of};
-ghost use Rattle.nv_core.specs.machine.Kinds.{look_tests, look_turn, seen_at};
-ghost use Rattle.nv_core.specs.machine.Reads.{copies};
-ghost use Rattle.nv_core.specs.machine.Sequence.{directories};
-ghost use Rattle.nv_core.specs.machine.Step.{handle_at};
-ghost use Rattle.nv_core.specs.machine.World.{owner_at};
+ghost use Rattle.nv_calls.specs.calls.Lookup.{lookup_refusal};
+ghost use Rattle.nv_calls.specs.Updates.{blank_call, call_of};
+ghost use Rattle.nv_machine.specs.Kinds.{look_tests, look_turn, seen_at};
+ghost use Rattle.nv_machine.specs.Reads.{copies};
+ghost use Rattle.nv_machine.specs.Sequence.{directories};
+ghost use Rattle.nv_machine.specs.Step.{handle_at};
+ghost use Rattle.nv_machine.specs.World.{owner_at};
 ghost use Rattle.nv_world.specs.Parts.{AreHome, IsOfDevice};
 ghost use Rattle.nv_world.specs.Shown.{Told, hand_of, shared_of, shown, turn_of};
 ghost use Rattle.nv_world.specs.Told.{IsLookAt, IsToldOf, KeepsJob};
@@ -66,7 +67,7 @@ fn look_in(
     place: usize,
     before: &Looked,
 ) -> Result<Looked, Fault>
-    requires { (text : List ℕ) → place < length (directories (call_of update.now text)) }
+    requires { place < length (directories (blank_call update.now)) }
     ensures { (text : List ℕ) → let c = call_of update.now text in
         let nodes = copies (shared_of shared.now) in
         MatchResult result

@@ -1,7 +1,7 @@
 //! The number of a new inode is taken.
 
 ghost use Rattle.std.specs.Prelude.{◌≡◌, None, true};
-ghost use Rattle.nv_core.specs.machine.Kinds.{number_turn};
+ghost use Rattle.nv_machine.specs.Kinds.{number_turn};
 ghost use Rattle.nv_world.specs.Shown.{Told, hand_of, shared_of, shown, turn_of};
 ghost use Rattle.nv_world.specs.Told.{IsToldOf, KeepsJob, makes_inode};
 

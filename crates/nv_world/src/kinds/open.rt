@@ -1,17 +1,17 @@
 //! The journal is opened.
 
-ghost use Rattle.std.specs.Prelude.{◌≡◌, ◌≤◌, ◌%◌, [], length, slice_index_or};
+ghost use Rattle.std.specs.Prelude.{◌≡◌, ◌<◌, ◌≤◌, [], length, slice_index_or};
 ghost use Rattle.nv_calls.specs.Ready.{ArePlaced};
 ghost use Rattle.nv_calls.specs.SlotCells.{lent_cells};
-ghost use Rattle.nv_core.specs.machine.Kinds.{open_turn};
-ghost use Rattle.nv_core.specs.machine.World.{Moves};
+ghost use Rattle.nv_machine.specs.Kinds.{open_turn};
+ghost use Rattle.nv_machine.specs.World.{Moves};
 ghost use Rattle.nv_world.specs.Parts.{AreSlots};
 ghost use Rattle.nv_world.specs.Shown.{Told, hand_in, shared_of, shown_commit, slots_in};
 ghost use Rattle.nv_world.specs.Told.{IsCommitOf, IsOnItsWay};
 
 use crate::running::Running;
-use crate::shared::{Shared, held};
-use nv_calls::{Commit, open_on};
+use crate::shared::Shared;
+use nv_calls::{Commit, SlotCells, open_on};
 
 /// Opens the journal of a CPU with the tails of all inodes that get entries.
 pub(crate) fn open(shared: &mut Shared, running: &Running, commit: &mut Commit, cpu: u64)
@@ -33,6 +33,9 @@ pub(crate) fn open(shared: &mut Shared, running: &Running, commit: &mut Commit, 
         → IsCommitOf (slots_in running.now.slots) commit.new told }
     ensures way { IsOnItsWay commit.new }
 {
-    let lent = held(&mut shared.cells, &running.slots);
+    let lent = SlotCells {
+        cells: &mut shared.cells,
+        slots: running.slots.as_slice(),
+    };
     open_on(&mut shared.book, &lent, commit, cpu);
 }

@@ -1,20 +1,20 @@
 //! One inode's entries are published.
 
-ghost use Rattle.std.specs.Prelude.{◌≡◌, ◌<◌, length};
+ghost use Rattle.std.specs.Prelude.{◌≡◌, ◌<◌, ◌≤◌, length, true};
 ghost use Rattle.nv_calls.specs.CanCommit.{CanBePublished};
 ghost use Rattle.nv_calls.specs.Cells.{value_at};
 ghost use Rattle.nv_calls.specs.Commit.{to_publish};
 ghost use Rattle.nv_calls.specs.SlotCells.{lent_cells};
-ghost use Rattle.nv_core.specs.machine.Kinds.{publish_turn};
-ghost use Rattle.nv_core.specs.machine.Reads.{slot_at, written_slots};
-ghost use Rattle.nv_core.specs.machine.World.{Moves};
+ghost use Rattle.nv_machine.specs.Kinds.{publish_turn};
+ghost use Rattle.nv_machine.specs.Reads.{slot_at, written_slots};
+ghost use Rattle.nv_machine.specs.World.{Moves};
 ghost use Rattle.nv_world.specs.Parts.{AreSlots};
 ghost use Rattle.nv_world.specs.Shown.{Told, hand_in, shared_of, shown_commit, slots_in};
 ghost use Rattle.nv_world.specs.Told.{IsCommitOf, IsOnItsWay};
 
 use crate::running::Running;
-use crate::shared::{Shared, held};
-use nv_calls::{Commit, publish_on};
+use crate::shared::Shared;
+use nv_calls::{Commit, SlotCells, publish_on};
 
 /// Publishes the entries of the next inode.
 pub(crate) fn publish(shared: &mut Shared, running: &Running, commit: &mut Commit)
@@ -36,5 +36,9 @@ pub(crate) fn publish(shared: &mut Shared, running: &Running, commit: &mut Commi
         → IsCommitOf (slots_in running.now.slots) commit.new told }
     ensures way { IsOnItsWay commit.new }
 {
-    publish_on(&mut held(&mut shared.cells, &running.slots), commit);
+    let mut lent = SlotCells {
+        cells: &mut shared.cells,
+        slots: running.slots.as_slice(),
+    };
+    publish_on(&mut lent, commit);
 }

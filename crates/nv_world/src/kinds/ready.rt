@@ -1,7 +1,7 @@
 //! All growths of a call, and the bytes of its pages.
 
 ghost use Rattle.std.specs.Prelude.{◌≡◌, true};
-ghost use Rattle.nv_core.specs.machine.Kinds.{ready_turn};
+ghost use Rattle.nv_machine.specs.Kinds.{ready_turn};
 ghost use Rattle.nv_world.specs.Parts.{AreHome, CanWant, IsOfDevice};
 ghost use Rattle.nv_world.specs.Shown.{Told, hand_of, held_by, shared_of, shown, shown_by, slots_in, turn_of};
 ghost use Rattle.nv_world.specs.Told.{IsEither, IsHoldOf, IsToldOf, is_change, planned};
@@ -11,10 +11,10 @@ use crate::fill::Text;
 use crate::hold::Hold;
 use crate::job::Job;
 use crate::running::Running;
-use crate::shared::{Shared, held};
+use crate::shared::Shared;
 use crate::turn::Turn;
 use nv_alloc::Hand;
-use nv_calls::{fill, ready_on};
+use nv_calls::{SlotCells, fill, ready_on};
 use std::alloc::Global;
 use std::mem;
 
@@ -44,7 +44,10 @@ pub(crate) fn ready(
     let Job::Change(plan, text) = mem::replace(&mut running.job, Job::Given) else {
         unreachable!()
     };
-    let mut lent = held(&mut shared.cells, &running.slots);
+    let mut lent = SlotCells {
+        cells: &mut shared.cells,
+        slots: running.slots.as_slice(),
+    };
     match ready_on(alloc, &mut lent, plan, hand) {
         Ok(mut ready) => {
             let mut source = Text {

@@ -5,16 +5,16 @@ ghost use Rattle.nv_calls.specs.Cells.{state_at};
 ghost use Rattle.nv_calls.specs.Commit.{to_retire};
 ghost use Rattle.nv_calls.specs.Retired.{CanRetire};
 ghost use Rattle.nv_calls.specs.SlotCells.{lent_cells};
-ghost use Rattle.nv_core.specs.machine.Kinds.{first_killed, retire_turn};
-ghost use Rattle.nv_core.specs.machine.Reads.{slot_at, written_slots};
-ghost use Rattle.nv_core.specs.machine.World.{Moves};
+ghost use Rattle.nv_machine.specs.Kinds.{first_killed, retire_turn};
+ghost use Rattle.nv_machine.specs.Reads.{slot_at, written_slots};
+ghost use Rattle.nv_machine.specs.World.{Moves};
 ghost use Rattle.nv_world.specs.Parts.{AreSlots};
 ghost use Rattle.nv_world.specs.Shown.{Told, hand_in, killed_in, shared_of, shown_commit, slots_in};
 ghost use Rattle.nv_world.specs.Told.{IsCommitOf, IsOnItsWay};
 
 use crate::running::Running;
-use crate::shared::{Shared, held};
-use nv_calls::{Commit, retire_on};
+use crate::shared::Shared;
+use nv_calls::{Commit, SlotCells, retire_on};
 
 /// Retires what was killed of the next inode.
 pub(crate) fn retire(shared: &mut Shared, running: &Running, commit: &mut Commit)
@@ -39,6 +39,9 @@ pub(crate) fn retire(shared: &mut Shared, running: &Running, commit: &mut Commit
         → IsCommitOf (slots_in running.now.slots) commit.new told }
     ensures way { IsOnItsWay commit.new }
 {
-    let mut lent = held(&mut shared.cells, &running.slots);
+    let mut lent = SlotCells {
+        cells: &mut shared.cells,
+        slots: running.slots.as_slice(),
+    };
     retire_on(&mut shared.book, &mut lent, commit);
 }

@@ -1,7 +1,9 @@
 //! Blocks are taken from a list.
 
-ghost use Rattle.std.specs.Prelude.{◌≡◌, ℕ, ◌+◌, ◌<◌, ◌≤◌, ◌^◌, length, true};
-ghost use Rattle.nv_core.specs.machine.Kinds.{asked_list, take_blocks_turn, take_pages_turn, wants_pages};
+ghost use Rattle.std.specs.Prelude.{◌≡◌, ◌+◌, ◌-◌, ◌<◌, ◌≤◌, ◌^◌, length};
+ghost use Rattle.nv_machine.specs.Kinds.{asked_list, refuse, take_blocks_turn, take_pages_turn, wants_pages};
+ghost use Rattle.nv_machine.specs.Reads.{pages_wanted, plan_by};
+ghost use Rattle.nv_base.specs.declared.fault.Fault.TheVariants.{NoSpace};
 ghost use Rattle.nv_world.specs.Parts.{AreHome, CanWant, IsOfDevice};
 ghost use Rattle.nv_world.specs.Shown.{Told, hand_of, shared_of, shown, turn_of};
 ghost use Rattle.nv_world.specs.Told.{IsToldOf, KeepsJob};
@@ -9,11 +11,11 @@ ghost use Rattle.nv_world.specs.Told.{IsToldOf, KeepsJob};
 use crate::ending::refuse;
 use crate::next::Next;
 use crate::running::Running;
-use crate::shared::{Shared, held};
+use crate::shared::Shared;
 use crate::turn::Turn;
 use nv_alloc::Hand;
 use nv_base::Fault;
-use nv_calls::pages_wanted;
+use nv_calls::{SlotCells, pages_wanted};
 
 /// The call wants log pages. A taking of nothing has no step.
 pub(crate) fn want_pages(shared: &mut Shared, hand: &Hand, running: &mut Running) -> Turn
@@ -25,8 +27,12 @@ pub(crate) fn want_pages(shared: &mut Shared, hand: &Hand, running: &mut Running
         ≡ turn_of result s h (shown told running.new) }
     ensures job { KeepsJob running.old running.new }
 {
-    let lent = held(&mut shared.cells, &running.slots);
-    running.wanted = pages_wanted(&lent, running.plan(), hand);
+    let lent = SlotCells {
+        cells: &mut shared.cells,
+        slots: running.slots.as_slice(),
+    };
+    let wanted = pages_wanted(&lent, running.plan(), hand);
+    running.wanted = wanted;
     if running.wanted == 0 {
         running.next = Next::Ready;
         return Turn::Moves;

@@ -1,8 +1,8 @@
 //! An inode lock is given back.
 
 ghost use Rattle.std.specs.Prelude.{◌≡◌, ◌<◌, length};
-ghost use Rattle.nv_core.specs.machine.Kinds.{unlock_turn};
-ghost use Rattle.nv_core.specs.machine.Reads.{slot_at};
+ghost use Rattle.nv_machine.specs.Kinds.{unlock_turn};
+ghost use Rattle.nv_machine.specs.Reads.{slot_at};
 ghost use Rattle.nv_world.specs.Parts.{AreHome, IsOfDevice};
 ghost use Rattle.nv_world.specs.Shown.{Told, hand_of, shared_of, shown, slots_in, turn_of};
 ghost use Rattle.nv_world.specs.Told.{KeepsJob, OwesAt};

@@ -3,13 +3,13 @@
 ghost use Rattle.std.specs.Prelude.{◌≡◌, ◌||◌, not};
 ghost use Rattle.nv_calls.specs.AllCalls.{answer, refusal};
 ghost use Rattle.nv_calls.specs.Locked.{handles};
-ghost use Rattle.nv_core.specs.machine.Kinds.{visit_turn};
-ghost use Rattle.nv_core.specs.machine.Reads.{copies, nodes};
-ghost use Rattle.nv_core.specs.machine.Sequence.{nothing_looked};
-ghost use Rattle.nv_core.specs.machine.Step.{handle_at, visit_grows};
-ghost use Rattle.nv_core.specs.machine.World.{empty_hand, owner_at};
+ghost use Rattle.nv_machine.specs.Kinds.{visit_turn};
+ghost use Rattle.nv_machine.specs.Reads.{copies, nodes};
+ghost use Rattle.nv_machine.specs.Sequence.{nothing_looked};
+ghost use Rattle.nv_machine.specs.Step.{handle_at, visit_grows};
+ghost use Rattle.nv_machine.specs.World.{empty_hand, owner_at};
 ghost use Rattle.nv_world.specs.Shown.{Told, shared_of, shown, turn_of};
-ghost use Rattle.nv_world.specs.Told.{IsEither, IsToldOf, IsVisitOf};
+ghost use Rattle.nv_world.specs.Told.{IsEither, IsToldOf, IsVisit, IsVisitOf};
 
 use crate::job::{Job, visited};
 use crate::running::Running;
@@ -49,7 +49,9 @@ pub(crate) fn visit(shared: &Shared, running: &mut Running) -> Turn
 }
 
 /// What a call finds in the cell of its inode.
-fn answer(cell: &InodeCell, call: Call) -> Result<Answer, Fault> {
+fn answer(cell: &InodeCell, call: Call) -> Result<Answer, Fault>
+    requires { IsVisit call }
+{
     let view = match &call {
         Call::Read { .. } => read_on(cell, call),
         Call::Stat { .. } => stat_on(cell, call),
