@@ -58,7 +58,8 @@ impl Shared {
     /// Gives a slot's lock to an actor, or to nobody.
     pub(crate) fn set_owner(&mut self, ino: Ino, owner: Option<u64>)
         requires { ino < length self.old.owners.items }
-        ensures { shared_of self.new ≡ with_owner ino owner (shared_of self.old) }
+        ensures owner { shared_of self.new ≡ with_owner ino owner (shared_of self.old) }
+        ensures rest { self.new ≡ record self.old { owners = self.new.owners } }
     {
         let place = ino.number() as usize;
         self.owners[place] = owner;

@@ -1,6 +1,6 @@
 //! The slots that a call locks.
 
-ghost use Rattle.std.specs.Prelude.{◌≡◌, ◌<◌, ◌≤◌, AllPairs, [], length, slice_index_or, take};
+ghost use Rattle.std.specs.Prelude.{◌≡◌, ℕ, ◌<◌, ◌≤◌, AllPairs, [], length, slice_index_or, take};
 ghost use Rattle.nv_machine.specs.Reads.{with_slot};
 
 use nv_base::Ino;
@@ -68,20 +68,43 @@ impl Slots {
         requires { length (slots_in self) < 4 }
         ensures { slots_in result ≡ with_slot ino (slots_in self) }
     {
+        let place = self.place_of(ino);
+        if place < self.count {
+            if self.inos[place] == ino {
+                return self;
+            }
+            return self.with_new(place, ino);
+        }
+        self.with_new(place, ino)
+    }
+
+    /// The same where it is new, and its place is known.
+    fn with_new(self, place: usize, ino: Ino) -> Slots
+        requires few { length (slots_in self) < 4 }
+        requires within { place ≤ length (slots_in self) }
+        requires before { (k : ℕ) → k < place → slice_index_or (slots_in self) k 0 < ino }
+        requires there { place < length (slots_in self) → ino < slice_index_or (slots_in self) place 0 }
+        ensures { slots_in result ≡ with_slot ino (slots_in self) }
+    {
         let mut inos = self.inos;
-        let count = self.count;
-        let mut place = 0;
-        while place < count && inos[place] < ino {
-            place += 1;
-        }
-        if place < count && inos[place] == ino {
-            return self;
-        }
-        inos.copy_within(place..count, place + 1);
+        inos.copy_within(place..self.count, place + 1);
         inos[place] = ino;
-        Slots {
-            inos,
-            count: count + 1,
+        let count = self.count + 1;
+        Slots { inos, count }
+    }
+
+    /// How many numbers are lower.
+    fn place_of(&self, ino: Ino) -> usize
+        ensures within { result ≤ length (slots_in self.now) }
+        ensures before { (k : ℕ) → k < result → slice_index_or (slots_in self.now) k 0 < ino }
+        ensures there { result < length (slots_in self.now)
+            → ino ≤ slice_index_or (slots_in self.now) result 0 }
+    {
+        for place in 0..self.count {
+            if self.inos[place] >= ino {
+                return place;
+            }
         }
+        self.count
     }
 }
