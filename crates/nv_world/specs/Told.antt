@@ -64,7 +64,11 @@ pub record IsCommitOf (slots : List ℕ) (commit : CommitValue) (told : Told) : 
   pub number : commit.stamp.commit ≡ told.commit
   pub epoch : commit.stamp.epoch ≡ told.epoch
   pub plans : ArePlansOf slots told.plan commit.appended commit.plans
-  pub place : commit.appended < length commit.plans → commit.place ≡ place_in told.plan (slot_at slots (to_append commit).at)
+
+-- the next entries that it appends have the places that the plan says
+abbrev pub IsPlaceOf : List ℕ → CommitValue → Told → Type 0
+IsPlaceOf slots commit told =
+    commit.appended < length commit.plans → commit.place ≡ place_in told.plan (slot_at slots (to_append commit).at)
 
 -- ---- memory
 

@@ -1,6 +1,6 @@
 //! What a call is to do.
 
-ghost use Rattle.std.specs.Prelude.{◌≡◌, ◌++◌, ◌<◌, List, ℕ, None, false, true, length, map};
+ghost use Rattle.std.specs.Prelude.{◌≡◌, ◌++◌, ◌<◌, ◌∷◌, List, ℕ, None, [], false, length, map};
 ghost use Rattle.std.specs.Option.{option_map};
 ghost use Rattle.nv_base.specs.declared.numbers.Handle.{Handle};
 ghost use Rattle.nv_calls.specs.Locked.{handles};
@@ -87,25 +87,25 @@ pub(crate) fn locked(
     number: Option<Ino>,
     update: &Update,
     looked: &Looked,
-) -> [Option<Ino>; 4]
+) -> (Option<Ino>, Option<Ino>, Option<Ino>, Option<Ino>)
     requires { makes update.now ≡ false → number ≡ None }
-    ensures { (text : List ℕ) → all_some result
+    ensures { (text : List ℕ) → all_some (result.0 ∷ result.1 ∷ result.2 ∷ result.3 ∷ [])
         ≡ if_number number ++ map (λ h. h.ino) (handles looked.now (call_of update.now text)) }
 {
     let first = ino_of(looked.first);
     match update {
         Update::Create { dir, .. } | Update::Mkdir { dir, .. } => {
-            [number, Some(dir.ino), None, None]
+            (number, Some(dir.ino), None, None)
         }
         Update::Write { file, .. } | Update::Size { file, .. } => {
-            [Some(file.ino), None, None, None]
+            (Some(file.ino), None, None, None)
         }
-        Update::Mode { handle, .. } => [Some(handle.ino), None, None, None],
+        Update::Mode { handle, .. } => (Some(handle.ino), None, None, None),
         Update::Unlink { dir, .. } | Update::Rmdir { dir, .. } => {
-            [Some(dir.ino), first, None, None]
+            (Some(dir.ino), first, None, None)
         }
         Update::Rename { from, to, .. } => {
-            [Some(from.ino), Some(to.ino), first, ino_of(looked.second)]
+            (Some(from.ino), Some(to.ino), first, ino_of(looked.second))
         }
     }
 }

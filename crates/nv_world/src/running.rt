@@ -72,7 +72,7 @@ pub(crate) fn slots_of(
     ensures { (s : machine.Shared) (text : List ℕ) → length s.cells ≡ inodes
         → slots_in result ≡ slots_of s number looked.now (call_of update.now text) }
 {
-    let [first, second, third, fourth] = locked(number, update, looked);
+    let (first, second, third, fourth) = locked(number, update, looked);
     Slots::none()
         .with(inodes, fourth)
         .with(inodes, third)

@@ -1,6 +1,6 @@
 //! The commit lock is taken.
 
-ghost use Rattle.std.specs.Prelude.{◌≡◌, nat_le};
+ghost use Rattle.std.specs.Prelude.{◌≡◌, is_some, nat_le, true};
 ghost use Rattle.nv_base.specs.declared.limits.TheConstants.{NUMBER};
 ghost use Rattle.nv_machine.specs.Kinds.{enter_turn};
 ghost use Rattle.nv_world.specs.Parts.{AreHome, IsOfDevice};
@@ -31,13 +31,15 @@ pub(crate) fn enter(
         (shown_by result.0 after running.new)) }
     ensures told { (told : Told) → IsReadyOf (slots_in running.old.slots) ready told
         → IsHoldOf (slots_in running.old.slots) result.0 (told_by result.0 shared.old.book.state told) }
-    ensures waits { result.1 ≡ Turn.Waits
-        → (shared.new ≡ shared.old) × (running.new ≡ running.old) × (result.0 ≡ Hold.Ready ready) }
+    ensures waits { is_some shared.old.holder ≡ true → (result.1 ≡ Turn.Waits)
+        × (shared.new ≡ shared.old) × (running.new ≡ running.old) × (result.0 ≡ Hold.Ready ready) }
     ensures job { KeepsJob running.old running.new }
 {
     if shared.holder.is_some() {
         return (Hold::Ready(ready), Turn::Waits);
     }
+    // It tells that the number of the latest commit is none above the limit.
+    let _last = shared.book.commit();
     match shared.book.enter(actor, ready.need()) {
         Ok(_fixed) => {
             shared.holder = Some(actor);

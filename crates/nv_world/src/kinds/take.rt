@@ -97,6 +97,7 @@ pub(crate) fn take_pages(
 
 /// Some blocks are still wanted: the next list is asked, if there is one.
 fn ask_on(shared: &Shared, hand: &Hand, running: &mut Running, asked: u64, next: Next) -> Turn
+    requires small { asked < 2 ^ 64 - 1 }
     requires home { AreHome shared.now }
     requires device { IsOfDevice shared.now.geometry.numbers hand.now }
     ensures more { asked + 1 < length shared.now.lists.items → (result ≡ Turn.Moves)

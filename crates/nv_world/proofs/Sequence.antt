@@ -1,0 +1,57 @@
+-- The sequence of a commit's steps, by the machine and by the commit.
+use Rattle.std.proofs.Common.{rules, ◌≡◌, ℕ, zero, suc, ◌<◌, ◌≤◌, ◌∙◌, Bool, true, false, List, [], ◌∷◌, ap, arith, filter, if◌then◌else◌, length, map, nat_lt, not, refl, sym}
+use Rattle.std.specs.Prelude.{◌&&◌, ◌==◌}
+use Rattle.nv_calls.specs.Commit.{CommitValue}
+use Rattle.nv_calls.specs.Progress.{step_of}
+use Rattle.nv_calls.specs.declared.progress.CommitStep.{CommitStep}
+use Rattle.nv_calls.specs.declared.progress.CommitStep.TheVariants as step
+use Rattle.nv_machine.specs.Sequence.{appending, publishing, retiring}
+use Rattle.nv_machine.specs.World.{Append, Close, Leave, Next, Open, Publish, Retire}
+use Rattle.nv_world.specs.Shown.{commit_next, machine_step}
+
+-- the step by numbers: of inodes that get entries, appended, published and retired
+abbrev pub step_by : ℕ → ℕ → ℕ → ℕ → Bool → Next
+step_by n appended published retired opened =
+    if nat_lt appended n then Append appended
+    else if nat_lt 1 n && (published == 0) && not opened then Open
+    else if nat_lt published n then Publish published
+    else if opened then Close
+    else if nat_lt retired n then Retire retired
+    else Leave
+
+-- a choice goes through
+pub next_by : (c : CommitValue) → commit_next c ≡ step_by (length c.plans) c.appended c.published c.retired c.journal_open
+next_by c =
+    go (nat_lt c.appended (length c.plans)) (nat_lt 1 (length c.plans) && (c.published == 0) && not c.journal_open)
+    (nat_lt c.published (length c.plans)) c.journal_open (nat_lt c.retired (length c.plans)) where
+      go : (b1 b2 b3 b4 b5 : Bool)
+          → machine_step (if b1 then step.Append else if b2 then step.Open else if b3 then step.Publish else if b4 then step.Close
+          else if b5 then step.Retire else step.Leave) c
+          ≡ (if b1 then Append c.appended else if b2 then Open else if b3 then Publish c.published else if b4 then Close
+          else if b5 then Retire c.retired else Leave)
+      go true b2 b3 b4 b5 = refl
+      go false true b3 b4 b5 = refl
+      go false false true b4 b5 = refl
+      go false false false true b5 = refl
+      go false false false false true = refl
+      go false false false false false = refl
+
+-- while entries are appended
+appends_by : (appended : ℕ) (b two some : Bool)
+    → (if b then Append appended else if two then Open else if some then Publish 0 else if two then Close else if some then Retire 0 else Leave)
+    ≡ (if b then Append appended else if two && true && true then Open else if some then Publish 0 else if false then Close
+    else if some then Retire 0 else Leave)
+appends_by appended true two some = refl
+appends_by appended false true some = refl
+appends_by appended false false some = refl
+
+pub appends_next : (c : CommitValue) (written : List ℕ) → length written ≡ length c.plans → c.published ≡ 0 → c.retired ≡ 0
+    → c.journal_open ≡ false → appending c.appended written ≡ commit_next c
+appends_next c written many published retired closed =
+    ap (λ (n : ℕ). if nat_lt c.appended n then Append c.appended else if nat_lt 1 n then Open else if nat_lt 0 n then Publish 0
+    else if nat_lt 1 n then Close else if nat_lt 0 n then Retire 0 else Leave) many
+    ∙ appends_by c.appended (nat_lt c.appended (length c.plans)) (nat_lt 1 (length c.plans)) (nat_lt 0 (length c.plans))
+    ∙ sym (ap (λ (p : ℕ). step_by (length c.plans) c.appended p c.retired c.journal_open) published
+    ∙ ap (λ (r : ℕ). step_by (length c.plans) c.appended 0 r c.journal_open) retired
+    ∙ ap (λ (o : Bool). step_by (length c.plans) c.appended 0 0 o) closed)
+    ∙ sym (next_by c)
