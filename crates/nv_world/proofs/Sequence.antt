@@ -1,6 +1,7 @@
 -- The sequence of a commit's steps, by the machine and by the commit.
 use Rattle.std.proofs.Common.{rules, ◌≡◌, ℕ, zero, suc, ◌<◌, ◌≤◌, ◌∙◌, Bool, true, false, List, [], ◌∷◌, ap, arith, filter, if◌then◌else◌, length, map, nat_lt, not, refl, sym}
 use Rattle.std.specs.Prelude.{◌&&◌, ◌==◌}
+use Rattle.std.proofs.lemmas.Bool.{eqb-true, ltb-true}
 use Rattle.nv_calls.specs.Commit.{CommitValue}
 use Rattle.nv_calls.specs.Progress.{step_of}
 use Rattle.nv_calls.specs.declared.progress.CommitStep.{CommitStep}
@@ -54,4 +55,44 @@ appends_next c written many published retired closed =
     ∙ sym (ap (λ (p : ℕ). step_by (length c.plans) c.appended p c.retired c.journal_open) published
     ∙ ap (λ (r : ℕ). step_by (length c.plans) c.appended 0 r c.journal_open) retired
     ∙ ap (λ (o : Bool). step_by (length c.plans) c.appended 0 0 o) closed)
+    ∙ sym (next_by c)
+
+-- while entries are published
+publishes_by : (n published : ℕ) (b two some : Bool)
+    → (if b then Publish published else if two then Close else if some then Retire 0 else Leave)
+    ≡ (if false then Append n else if two && false && not two then Open else if b then Publish published else if two then Close
+    else if some then Retire 0 else Leave)
+publishes_by n published true true some = refl
+publishes_by n published true false some = refl
+publishes_by n published false true some = refl
+publishes_by n published false false some = refl
+
+some_left : (n : ℕ) → (suc n == 0) ≡ false
+some_left n = go (suc n == 0) refl where
+  go : (b : Bool) → (suc n == 0) ≡ b → b ≡ false
+  go true q = let none : suc n ≡ 0 = eqb-true (suc n) 0 q in absurd (omega (arith, none))
+  go false q = refl
+
+none_past : (n : ℕ) → nat_lt n n ≡ false
+none_past n = go (nat_lt n n) refl where
+  go : (b : Bool) → nat_lt n n ≡ b → b ≡ false
+  go true q = let less = ltb-true n n q in absurd (omega (arith, less))
+  go false q = refl
+
+pub publishes_next : (c : CommitValue) (written : List ℕ) (before : ℕ) → length written ≡ length c.plans → c.appended ≡ length c.plans
+    → c.published ≡ suc before → c.retired ≡ 0 → c.journal_open ≡ nat_lt 1 (length c.plans) → publishing (suc before) written ≡ commit_next c
+publishes_next c written before many appended published retired opened =
+    ap (λ (n : ℕ). if nat_lt (suc before) n then Publish (suc before) else if nat_lt 1 n then Close else if nat_lt 0 n then Retire 0 else Leave) many
+    ∙ publishes_by (length c.plans) (suc before) (nat_lt (suc before) (length c.plans)) (nat_lt 1 (length c.plans)) (nat_lt 0 (length c.plans))
+    ∙ sym (ap (λ (a : ℕ). step_by (length c.plans) a c.published c.retired c.journal_open) appended
+    ∙ ap (λ (p : ℕ). step_by (length c.plans) (length c.plans) p c.retired c.journal_open) published
+    ∙ ap (λ (r : ℕ). step_by (length c.plans) (length c.plans) (suc before) r c.journal_open) retired
+    ∙ ap (λ (o : Bool). step_by (length c.plans) (length c.plans) (suc before) 0 o) opened
+    ∙ ap (λ (z : Bool). if nat_lt (length c.plans) (length c.plans) then Append (length c.plans)
+    else if nat_lt 1 (length c.plans) && z && not (nat_lt 1 (length c.plans)) then Open
+    else if nat_lt (suc before) (length c.plans) then Publish (suc before) else if nat_lt 1 (length c.plans) then Close
+    else if nat_lt 0 (length c.plans) then Retire 0 else Leave) (some_left before)
+    ∙ ap (λ (b : Bool). if b then Append (length c.plans) else if nat_lt 1 (length c.plans) && false && not (nat_lt 1 (length c.plans)) then Open
+    else if nat_lt (suc before) (length c.plans) then Publish (suc before) else if nat_lt 1 (length c.plans) then Close
+    else if nat_lt 0 (length c.plans) then Retire 0 else Leave) (none_past (length c.plans)))
     ∙ sym (next_by c)

@@ -1,5 +1,5 @@
 -- What the steps rely on of the parts that are lent to them.
-use Rattle.std.specs.Prelude.{◌≡◌, ℕ, ◌+◌, ◌<◌, ◌≤◌, List, [], length, slice_index_or}
+use Rattle.std.specs.Prelude.{◌≡◌, ℕ, ◌+◌, ◌<◌, ◌≤◌, List, [], length, slice_index_or, slice_set}
 use Rattle.std.specs.List.{AllByRecursion}
 use Rattle.std.specs.Option.{ForSome}
 use Rattle.nv_alloc.specs.Block.{BlockValue}
@@ -10,7 +10,7 @@ use Rattle.nv_base.specs.Homes.{home_start}
 use Rattle.nv_base.specs.declared.geometry.GeometryNumbers.{GeometryNumbers}
 use Rattle.nv_machine.specs.World.{no_list}
 use Rattle.nv_calls.specs.Prepared.{CanReady, IsStill}
-use Rattle.nv_calls.specs.SlotCells.{lent_cells}
+use Rattle.nv_calls.specs.SlotCells.{cell_in, lent_cells}
 use Rattle.nv_cell.specs.Cell.{CellValue}
 use Rattle.nv_world.specs.declared.running.Running.{Running}
 use Rattle.nv_world.specs.declared.shared.Shared.{Shared}
@@ -35,9 +35,19 @@ AreHome shared = AreListsOf shared.geometry.numbers shared.lists.items
 abbrev pub IsOfDevice : GeometryNumbers → Hand → Type 0
 IsOfDevice g hand = AllByRecursion (λ (b : BlockValue). b.number < g.blocks) (blocks_of hand)
 
+-- ---- cells among all
+
+-- each of these slots has a cell of these
+abbrev pub HaveSlots : List CellValue → List ℕ → Type 0
+HaveSlots cells slots = (k : ℕ) → k < length slots → slice_index_or slots k 0 < length cells
+
+-- all cells but that of a slot are as they were
+abbrev pub IsOnlyAt : ℕ → List CellValue → List CellValue → Type 0
+IsOnlyAt ino old new = new ≡ slice_set old ino (cell_in new ino)
+
 -- each of these slots has a cell
 abbrev pub AreSlots : Shared → List ℕ → Type 0
-AreSlots shared slots = (k : ℕ) → k < length slots → slice_index_or slots k 0 < length shared.cells.items
+AreSlots shared slots = HaveSlots shared.cells.items slots
 
 -- all blocks of the hand that were at home on a lower CPU are given
 abbrev pub AreGiven : GeometryNumbers → ℕ → List BlockValue → Type 0

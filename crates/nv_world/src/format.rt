@@ -1,5 +1,11 @@
 //! A world that was just made.
 
+ghost use Rattle.std.specs.Prelude.{IfOk};
+ghost use Rattle.nv_base.specs.Refusals.{FailsOnly};
+ghost use Rattle.nv_base.specs.declared.fault.Fault.TheVariants.{OutOfMemory};
+ghost use Rattle.nv_machine.specs.Format.{formatted};
+ghost use Rattle.nv_world.specs.Worlds.{Shows};
+
 use crate::World;
 use crate::hold::Hold;
 use crate::shared::Shared;
@@ -13,7 +19,10 @@ use std::alloc::Global;
 
 impl World {
     /// An empty world: the root alone, a directory of mode 493 (octal 755). The only error is `OutOfMemory`.
-    pub fn format(alloc: Global, geometry: Geometry) -> Result<World, Fault> {
+    pub fn format(alloc: Global, geometry: Geometry) -> Result<World, Fault>
+        ensures ok { IfOk result (λ world. Shows world (formatted geometry.numbers)) }
+        ensures err { FailsOnly OutOfMemory result }
+    {
         let pool = InodePool::new(alloc, &geometry)?;
         let book = Book::new(alloc, &geometry)?;
         let mut world = World::unfinished(alloc, geometry, pool, book);

@@ -12,6 +12,7 @@ mod format;
 mod hold;
 mod job;
 mod kinds;
+mod lent;
 mod next;
 mod reports;
 mod running;

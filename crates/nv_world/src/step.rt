@@ -1,5 +1,10 @@
 //! The steps of a world.
 
+ghost use Rattle.std.specs.Prelude.{◌≡◌, IfErr, IfOk, OnErr};
+ghost use Rattle.nv_base.specs.declared.fault.Fault.TheVariants.{OutOfMemory};
+ghost use Rattle.nv_machine.specs.World as machine;
+ghost use Rattle.nv_world.specs.Worlds.{IsRun, IsStep, Shows};
+
 use crate::hold::Hold;
 use crate::kinds::append::append;
 use crate::kinds::back::back;
@@ -32,7 +37,9 @@ use std::mem;
 
 impl World {
     /// One event. A `Go` makes one step of the actor's call.
-    pub fn step(&mut self, event: Event) -> Reply {
+    pub fn step(&mut self, event: Event) -> Reply
+        ensures { (m : machine.World) → Shows self.old m → IsStep m event result self.new }
+    {
         match event {
             Event::Start(actor, call) => self.start(actor, call),
             Event::Go(actor) => self.go(actor),
@@ -42,7 +49,13 @@ impl World {
     /// Several events, one after another, each as `step` makes it. The replies stand in the order of the events.
     ///
     /// Room for the replies is made before the first event. Want of it hands the events back, and nothing has changed.
-    pub fn run(&mut self, events: Vec<Event>) -> Result<Vec<Reply>, (Fault, Vec<Event>)> {
+    pub fn run(&mut self, events: Vec<Event>) -> Result<Vec<Reply>, (Fault, Vec<Event>)>
+        ensures ok { (m : machine.World) → Shows self.old m
+            → IfOk result (λ replies. IsRun m events.items replies.items self.new) }
+        ensures err { IfErr result (λ refused. (refused.0 ≡ OutOfMemory)
+            × (refused.1.items ≡ events.items)) }
+        ensures same { OnErr result (self.new ≡ self.old) }
+    {
         let Ok(mut replies) = self.no_replies(events.len()) else {
             return Err((Fault::OutOfMemory, events));
         };

@@ -2,9 +2,8 @@
 
 ghost use Rattle.std.specs.Prelude.{◌≡◌, ◌<◌, ◌≤◌, length, true};
 ghost use Rattle.nv_calls.specs.CanCommit.{CanBePublished};
-ghost use Rattle.nv_calls.specs.Cells.{value_at};
 ghost use Rattle.nv_calls.specs.Commit.{to_publish};
-ghost use Rattle.nv_calls.specs.SlotCells.{lent_cells};
+ghost use Rattle.nv_calls.specs.SlotCells.{cell_in};
 ghost use Rattle.nv_machine.specs.Kinds.{publish_turn};
 ghost use Rattle.nv_machine.specs.Reads.{slot_at, written_slots};
 ghost use Rattle.nv_machine.specs.World.{Moves};
@@ -12,9 +11,10 @@ ghost use Rattle.nv_world.specs.Parts.{AreSlots};
 ghost use Rattle.nv_world.specs.Shown.{Told, hand_in, shared_of, shown_commit, slots_in};
 ghost use Rattle.nv_world.specs.Told.{IsCommitOf, IsOnItsWay};
 
+use crate::lent::publish_in;
 use crate::running::Running;
 use crate::shared::Shared;
-use nv_calls::{Commit, SlotCells, publish_on};
+use nv_calls::Commit;
 
 /// Publishes the entries of the next inode.
 pub(crate) fn publish(shared: &mut Shared, running: &Running, commit: &mut Commit)
@@ -24,8 +24,8 @@ pub(crate) fn publish(shared: &mut Shared, running: &Running, commit: &mut Commi
     requires appended { commit.old.appended ≡ length commit.old.plans }
     requires journal { 2 ≤ length commit.old.plans → commit.old.journal_open ≡ true }
     requires within { (to_publish commit.old).at < length (slots_in running.now.slots) }
-    requires can { CanBePublished (value_at
-        (lent_cells (slots_in running.now.slots) shared.old.cells.items) (to_publish commit.old).at) }
+    requires can { CanBePublished (cell_in shared.old.cells.items
+        (slot_at (slots_in running.now.slots) (to_publish commit.old).at)) }
     ensures turn { (told : Told) → IsCommitOf (slots_in running.now.slots) commit.old told
         → let s = shared_of shared.old in let r = shown_commit commit.old told running.now in
         publish_turn (slot_at (written_slots r) commit.old.published) commit.old.published s
@@ -36,9 +36,5 @@ pub(crate) fn publish(shared: &mut Shared, running: &Running, commit: &mut Commi
         → IsCommitOf (slots_in running.now.slots) commit.new told }
     ensures way { IsOnItsWay commit.new }
 {
-    let mut lent = SlotCells {
-        cells: &mut shared.cells,
-        slots: running.slots.as_slice(),
-    };
-    publish_on(&mut lent, commit);
+    publish_in(&mut shared.cells, &running.slots, commit);
 }
