@@ -54,6 +54,7 @@ only_among slots old new k many lt rises there only rest =
           ∙ ap (λ (xs : List (ℕ × CellValue)). slice_index_or xs j no_cell) only
           ∙ get_or-set_other (lent_cells slots old) k j (ino_at (lent_cells slots old) k, value_at (lent_cells slots new) k) no_cell other
           ∙ lent_at slots old j small)
+
       each : (i : ℕ) → i < length new → (b : Bool) → has slots i ≡ b
           → cell_in new i ≡ slice_index_or (slice_set old (slot_at slots k) (cell_in new (slot_at slots k))) i (no_cell.1)
       each i small true q = found (Any-from_list_any (λ m. m == i) slots q) where
@@ -62,6 +63,7 @@ only_among slots old new k many lt rises there only rest =
         found at = go (at.0 == k) refl where
           here : slice_index_or slots at.0 0 ≡ i
           here = sym (get_or_default_zero slots at.0 at.1 at.2) ∙ at.3 ∙ eqb-true at.1 i at.4
+
           go : (b : Bool) → (at.0 == k) ≡ b
               → cell_in new i ≡ slice_index_or (slice_set old (slot_at slots k) (cell_in new (slot_at slots k))) i (no_cell.1)
           go true e =
@@ -74,7 +76,7 @@ only_among slots old new k many lt rises there only rest =
               ∙ sym (get_or-set_other old (slot_at slots k) i (cell_in new (slot_at slots k)) (no_cell.1) away)
       each i small false q =
           let away : i ≢ slot_at slots k = λ same.
-              true≢false (sym (list_any_at (λ m. m == i) slots k 0 lt (eq-eqb (slice_index_or slots k 0) i (sym same))) ∙ q) in
+          true≢false (sym (list_any_at (λ m. m == i) slots k 0 lt (eq-eqb (slice_index_or slots k 0) i (sym same))) ∙ q) in
           other i small q ∙ sym (get_or-set_other old (slot_at slots k) i (cell_in new (slot_at slots k)) (no_cell.1) away) where
             other : (i : ℕ) → i < length new → has slots i ≡ false → cell_in new i ≡ cell_in old i
             other i small q =

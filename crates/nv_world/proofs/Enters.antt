@@ -98,6 +98,7 @@ refuses shared hand running actor book given told fault turn free same held refu
       ∙ sym (ap (λ (b : BookValue). refuse fault (shared_of (record shared { book = b })) (hand_of given) (shown told running)) same
       ∙ ap (λ (x : Hand). refuse fault (shared_of shared) (hand_of x) (shown told running)) held)
       ∙ refused
+
   step : (b granted : Bool) → nat_le NUMBER shared.book.state.commit ≡ b
       → enter_turn shared.holder (nat_le NUMBER shared.book.state.commit) granted actor (shared_of shared) (hand_of hand) (shown_ready told running)
       ≡ enter_turn None b granted actor (shared_of shared) (hand_of hand) (shown_ready told running)
@@ -105,6 +106,7 @@ refuses shared hand running actor book given told fault turn free same held refu
       ap (λ (x : Option ℕ). enter_turn x (nat_le NUMBER shared.book.state.commit) granted actor (shared_of shared) (hand_of hand)
       (shown_ready told running)) free
       ∙ ap (λ (c : Bool). enter_turn None c granted actor (shared_of shared) (hand_of hand) (shown_ready told running)) q
+
   go : Why fault shared.book.state.commit
       → IsEither (λ granted. enter_turn shared.holder (nat_le NUMBER shared.book.state.commit) granted actor (shared_of shared) (hand_of hand)
       (shown_ready told running)) turn

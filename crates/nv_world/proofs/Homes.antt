@@ -58,6 +58,7 @@ none_home list (b ∷ bs) low end all =
       off_end : (x : Bool) → nat_lt b.number list.end ≡ x → x ≡ false
       off_end true q = let below = ltb-true b.number list.end q in absurd (omega (arith, below, end, all.0))
       off_end false q = refl
+
       and_false : (x y : Bool) → y ≡ false → (x && y) ≡ false
       and_false true y q = q
       and_false false y q = refl
@@ -70,6 +71,7 @@ some_home list (b ∷ bs) n start end there = go (b.number == n) refl there (som
   or_true : (x : Bool) {y : Bool} → y ≡ true → (x || y) ≡ true
   or_true true e = refl
   or_true false e = e
+
   go : (x : Bool) → (b.number == n) ≡ x → (x || has (numbers_of bs) n) ≡ true
       → (has (numbers_of bs) n ≡ true → list_any (λ (c : BlockValue). is_home list c.number) bs ≡ true)
       → (is_home list b.number || list_any (λ (c : BlockValue). is_home list c.number) bs) ≡ true
@@ -98,33 +100,35 @@ from_home : (g : GeometryNumbers) (from c cpu : ℕ) (lists : List FreeBlocks) (
 from_home g from c cpu [] bs n some homes first low below there home all = absurd (omega (arith, low, below))
 from_home g from c cpu (list ∷ lists) bs n some homes first low below there home all =
     go (λ lt. from_home g from c (cpu + 1) lists bs n some homes.1 first lt (omega (arith, below)) there home all) (nat_lt cpu c) refl where
-  skip : (cpu + 1 ≤ c → home_from from (cpu + 1) lists bs ≡ Some c) → (x y : Bool) → cpu + 1 ≤ c → y ≡ false
-      → (if x then home_from from (cpu + 1) lists bs else if y then Some cpu else home_from from (cpu + 1) lists bs) ≡ Some c
-  skip more true y lt q = more lt
-  skip more false y lt q = rw q (more lt)
-  here : (x y : Bool) → x ≡ false → y ≡ true → cpu ≡ c
-      → (if x then home_from from (cpu + 1) lists bs else if y then Some cpu else home_from from (cpu + 1) lists bs) ≡ Some c
-  here x y q r same = rw (q, r) (ap Some same)
-  go : (cpu + 1 ≤ c → home_from from (cpu + 1) lists bs ≡ Some c) → (x : Bool) → nat_lt cpu c ≡ x
-      → (if nat_lt cpu from then home_from from (cpu + 1) lists bs
-      else if list_any (λ (b : BlockValue). is_home list b.number) bs then Some cpu else home_from from (cpu + 1) lists bs) ≡ Some c
-  go more true q =
-      let lt = ltb-true cpu c q in
-      let same : cpu + 1 + (c - (cpu + 1)) ≡ c = omega (arith, lt) in
-      let mono = subst (λ (m : ℕ). home_start g.blocks g.cpus (cpu + 1) ≤ home_start g.blocks g.cpus m) same
-      (starts_rise g.blocks g.cpus (cpu + 1) (c - (cpu + 1)) some) in
-      skip more (nat_lt cpu from) (list_any (λ (b : BlockValue). is_home list b.number) bs) (omega (arith, lt))
-      (none_home list bs (home_start g.blocks g.cpus c) (omega (arith, mono, homes.0.1)) all)
-  go more false q =
-      let ge = ltb-false cpu c q in
-      let same : cpu ≡ c = omega (arith, ge, low) in
-      let start : list.start ≤ n = subst (λ (m : ℕ). list.start ≤ n) same (omega (arith, homes.0.0, ap (home_start g.blocks g.cpus) same, home.from)) in
-      let end : n < list.end = omega (arith, homes.0.1, ap (λ (m : ℕ). home_start g.blocks g.cpus (m + 1)) same, home.below) in
-      here (nat_lt cpu from) (list_any (λ (b : BlockValue). is_home list b.number) bs) (not_below (nat_lt cpu from) refl ge)
-      (some_home list bs n start end there) same where
-        not_below : (x : Bool) → nat_lt cpu from ≡ x → c ≤ cpu → x ≡ false
-        not_below true r ge = let lt = ltb-true cpu from r in absurd (omega (arith, lt, ge, first))
-        not_below false r ge = refl
+      skip : (cpu + 1 ≤ c → home_from from (cpu + 1) lists bs ≡ Some c) → (x y : Bool) → cpu + 1 ≤ c → y ≡ false
+          → (if x then home_from from (cpu + 1) lists bs else if y then Some cpu else home_from from (cpu + 1) lists bs) ≡ Some c
+      skip more true y lt q = more lt
+      skip more false y lt q = rw q (more lt)
+
+      here : (x y : Bool) → x ≡ false → y ≡ true → cpu ≡ c
+          → (if x then home_from from (cpu + 1) lists bs else if y then Some cpu else home_from from (cpu + 1) lists bs) ≡ Some c
+      here x y q r same = rw (q, r) (ap Some same)
+
+      go : (cpu + 1 ≤ c → home_from from (cpu + 1) lists bs ≡ Some c) → (x : Bool) → nat_lt cpu c ≡ x
+          → (if nat_lt cpu from then home_from from (cpu + 1) lists bs
+          else if list_any (λ (b : BlockValue). is_home list b.number) bs then Some cpu else home_from from (cpu + 1) lists bs) ≡ Some c
+      go more true q =
+          let lt = ltb-true cpu c q in
+          let same : cpu + 1 + (c - (cpu + 1)) ≡ c = omega (arith, lt) in
+          let mono = subst (λ (m : ℕ). home_start g.blocks g.cpus (cpu + 1) ≤ home_start g.blocks g.cpus m) same
+          (starts_rise g.blocks g.cpus (cpu + 1) (c - (cpu + 1)) some) in
+          skip more (nat_lt cpu from) (list_any (λ (b : BlockValue). is_home list b.number) bs) (omega (arith, lt))
+          (none_home list bs (home_start g.blocks g.cpus c) (omega (arith, mono, homes.0.1)) all)
+      go more false q =
+          let ge = ltb-false cpu c q in
+          let same : cpu ≡ c = omega (arith, ge, low) in
+          let start : list.start ≤ n = subst (λ (m : ℕ). list.start ≤ n) same (omega (arith, homes.0.0, ap (home_start g.blocks g.cpus) same, home.from)) in
+          let end : n < list.end = omega (arith, homes.0.1, ap (λ (m : ℕ). home_start g.blocks g.cpus (m + 1)) same, home.below) in
+          here (nat_lt cpu from) (list_any (λ (b : BlockValue). is_home list b.number) bs) (not_below (nat_lt cpu from) refl ge)
+          (some_home list bs n start end there) same where
+            not_below : (x : Bool) → nat_lt cpu from ≡ x → c ≤ cpu → x ≡ false
+            not_below true r ge = let lt = ltb-true cpu from r in absurd (omega (arith, lt, ge, first))
+            not_below false r ge = refl
 
 pub home_some : (g : GeometryNumbers) (from c : ℕ) (lists : List FreeBlocks) (bs : List BlockValue) (n : ℕ) → AreListsOf g lists → from ≤ c
     → c < g.cpus → has (numbers_of bs) n ≡ true → IsHome g.blocks g.cpus c n

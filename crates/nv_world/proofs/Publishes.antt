@@ -89,7 +89,7 @@ publishes shared running old new cells told i is way lt appended journal place t
     let next : publishing (p + 1) w ≡ commit_next after =
     ap (λ (n : ℕ). publishing n w) plus ∙ publishes_next after w p long (appended ∙ sym many) plus back opened in
     let hand : with_killed (killed_by cell) h ≡ hand_in after =
-    ap (λ (parts : List (List KilledPart)). hand_with parts old.hand) 
+    ap (λ (parts : List (List KilledPart)). hand_with parts old.hand)
     (sym (ap (λ (n : ℕ). map (λ (plan : CellPlanValue). plan.killed) (drop old.retired (take n (slice_set old.plans p
     (record (plan_at old.plans p) { killed = killed_by cell }))))) plus
     ∙ killed_more old.plans old.retired p (killed_by cell) (omega (arith, back)) lt)) in
@@ -99,15 +99,16 @@ publishes shared running old new cells told i is way lt appended journal place t
     ∙ ap (λ (x : machine.HandState). machine.Moves (record s { cells = map (λ (c : CellValue). c.state) cells }) x (go_to (publishing (p + 1) w) r)) hand
     ∙ ap (λ (x : machine.Next). machine.Moves (record s { cells = map (λ (c : CellValue). c.state) cells }) (hand_in after) (go_to x r)) next
     ∙ sym (ap (λ (c : CommitValue). machine.Moves (record s { cells = map (λ (x : CellValue). x.state) cells }) (hand_in c) (shown_commit c told running)) commit)
-    where
-      plus : old.published + 1 ≡ suc old.published
-      plus = omega arith
-      open_by : (o : Bool) (n : ℕ) → (2 ≤ n → o ≡ true) → (o ≡ true → 2 ≤ n) → o ≡ nat_lt 1 n
-      open_by true n to from = sym (lt-ltb 1 n (omega (arith, from refl)))
-      open_by false n to from = go (nat_lt 1 n) refl where
-        go : (b : Bool) → nat_lt 1 n ≡ b → false ≡ b
-        go true q = let big = ltb-true 1 n q in absurd (false≢true (to (omega (arith, big))))
-        go false q = refl
+  where
+    plus : old.published + 1 ≡ suc old.published
+    plus = omega arith
+
+    open_by : (o : Bool) (n : ℕ) → (2 ≤ n → o ≡ true) → (o ≡ true → 2 ≤ n) → o ≡ nat_lt 1 n
+    open_by true n to from = sym (lt-ltb 1 n (omega (arith, from refl)))
+    open_by false n to from = go (nat_lt 1 n) refl where
+      go : (b : Bool) → nat_lt 1 n ≡ b → false ≡ b
+      go true q = let big = ltb-true 1 n q in absurd (false≢true (to (omega (arith, big))))
+      go false q = refl
 
 -- what is told of the commit stays
 pub publish_told : (slots : List ℕ) (old new : CommitValue) (killed : List KilledPart) (told : Told) → old.appended ≡ length old.plans

@@ -117,11 +117,13 @@ rises xs n place few all before there i j d lt within =
     omega (arith, one, two, main) where
       up : (i j : ℕ) → i < j → j < length xs → slice_index_or xs i 0 < slice_index_or xs j 0
       up i j lt within = all i j 0 lt within
+
       top : (j : ℕ) → place ≤ j → j < length xs → (b : Bool) → nat_lt place j ≡ b → n < slice_index_or xs j 0
       top j le within true q = let first = there (omega (arith, le, within)) in let more = all place j 0 (ltb-true place j q) within in omega (arith, first, more)
       top j le within false q =
           let same : place ≡ j = omega (arith, le, ltb-false place j q) in
           subst (λ (k : ℕ). n < slice_index_or xs k 0) same (there (omega (arith, le, within)))
+
       low : (i j : ℕ) → i < suc j → place ≤ j → j < length xs → (b : Bool) → nat_lt i place ≡ b
           → slice_index_or (insert xs place n) i 0 < slice_index_or xs j 0
       low i j lt le within true q =
@@ -140,6 +142,7 @@ rises xs n place few all before there i j d lt within =
             let e = insert_here xs place n few in
             let less = top j le within (nat_lt place j) refl in
             subst (λ (k : ℕ). slice_index_or (insert xs place n) k 0 < slice_index_or xs j 0) same (omega (arith, e, less))
+
       go : (i j : ℕ) → i < j → j < suc (length xs) → (b : Bool) → nat_lt j place ≡ b
           → slice_index_or (insert xs place n) i 0 < slice_index_or (insert xs place n) j 0
       go i j lt within true q =

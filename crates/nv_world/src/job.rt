@@ -125,7 +125,13 @@ pub(crate) fn look_count(update: &Update) -> usize
 {
     match update {
         Update::Unlink { .. } | Update::Rmdir { .. } => 1,
-        Update::Rename { from, to, .. } => if from.ino == to.ino && from.generation == to.generation { 1 } else { 2 },
+        Update::Rename { from, to, .. } => if from.ino == to.ino
+            && from.generation == to.generation
+        {
+            1
+        } else {
+            2
+        },
         _ => 0,
     }
 }

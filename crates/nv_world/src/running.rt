@@ -62,12 +62,7 @@ pub(crate) fn looking(place: usize, update: &Update, slots: &Slots) -> Next
 }
 
 /// The slots that a call locks, of so many.
-pub(crate) fn slots_of(
-    inodes: u64,
-    number: Option<Ino>,
-    update: &Update,
-    looked: &Looked,
-) -> Slots
+pub(crate) fn slots_of(inodes: u64, number: Option<Ino>, update: &Update, looked: &Looked) -> Slots
     requires { makes update.now ≡ false → number ≡ None }
     ensures { (s : machine.Shared) (text : List ℕ) → length s.cells ≡ inodes
         → slots_in result ≡ slots_of s number looked.now (call_of update.now text) }

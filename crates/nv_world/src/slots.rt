@@ -58,7 +58,11 @@ impl Slots {
         ensures { slots_in result ≡ with_some inodes ino (slots_in self) }
     {
         match ino {
-            Some(ino) => if ino.number() < inodes { self.with_slot(ino) } else { self },
+            Some(ino) => if ino.number() < inodes {
+                self.with_slot(ino)
+            } else {
+                self
+            },
             None => self,
         }
     }

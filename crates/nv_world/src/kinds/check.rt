@@ -21,8 +21,8 @@ use crate::turn::Turn;
 use nv_alloc::Hand;
 use nv_base::Fault;
 use nv_calls::{
-    HeldNodes, SlotCells, Update, blocks_wanted, check_early, check_late, ends_in_page, is_as_looked,
-    is_nothing,
+    HeldNodes, SlotCells, Update, blocks_wanted, check_early, check_late, ends_in_page,
+    is_as_looked, is_nothing,
 };
 
 /// How many more log pages a call can need than data blocks: each of these in a run of its own has an entry, and there are
@@ -79,7 +79,11 @@ fn ending_of(shared: &mut Shared, running: &Running, has_number: bool) -> Option
     if !has_number && makes_inode(update) {
         return Some(Ending::Refuses(Fault::NoInode));
     }
-    if is_nothing(update) { Some(Ending::Answers) } else { None }
+    if is_nothing(update) {
+        Some(Ending::Answers)
+    } else {
+        None
+    }
 }
 
 fn makes_inode(update: &Update) -> bool

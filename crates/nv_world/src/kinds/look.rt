@@ -61,12 +61,7 @@ pub(crate) fn look(shared: &Shared, hand: &Hand, running: &mut Running, place: u
 }
 
 /// What the names of one directory lead to, and what was found before.
-fn look_in(
-    shared: &Shared,
-    update: &Update,
-    place: usize,
-    before: &Looked,
-) -> Result<Looked, Fault>
+fn look_in(shared: &Shared, update: &Update, place: usize, before: &Looked) -> Result<Looked, Fault>
     requires { place < length (directories (blank_call update.now)) }
     ensures { (text : List ℕ) → let c = call_of update.now text in
         let nodes = copies (shared_of shared.now) in

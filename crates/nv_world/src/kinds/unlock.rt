@@ -15,12 +15,7 @@ use crate::turn::Turn;
 use nv_alloc::Hand;
 
 /// Unlocks the slot at a place.
-pub(crate) fn unlock(
-    shared: &mut Shared,
-    hand: &Hand,
-    running: &mut Running,
-    place: usize,
-) -> Turn
+pub(crate) fn unlock(shared: &mut Shared, hand: &Hand, running: &mut Running, place: usize) -> Turn
     requires place { place < length (slots_in running.old.slots) }
     requires there { slot_at (slots_in running.old.slots) place < length shared.old.owners.items }
     requires home { AreHome shared.old }
