@@ -1,0 +1,6 @@
+pub mod World
+pub mod Reads
+pub mod Sequence
+pub mod Kinds
+pub mod Step
+pub mod Format

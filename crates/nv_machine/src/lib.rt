@@ -1,0 +1,2 @@
+//! The machine of atomic steps, as definitions.
+#![tactic(auto)]

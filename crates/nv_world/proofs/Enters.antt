@@ -1,0 +1,116 @@
+-- A call that enters.
+use Rattle.std.proofs.Common.{◌≡◌, ℕ, ◌+◌, ◌<◌, ◌≤◌, ◌∙◌, ◌⊎◌, inl, inr, Bool, List, Option, Result, Ok, Err, Some, None, true, false, ap, arith, length, map, nat_le, refl, subst, sym}
+use Rattle.std.specs.Prelude.{is_some}
+use Rattle.std.proofs.lemmas.List.{length-map}
+use Rattle.std.proofs.lemmas.Bool.{false≢true, le-leb, leb-true}
+use Rattle.nv_alloc.specs.declared.hand.Hand.{Hand}
+use Rattle.nv_base.specs.declared.fault.Fault.{Fault}
+use Rattle.nv_base.specs.declared.fault.Fault.TheVariants.{CommitLimit, OutOfMemory}
+use Rattle.nv_base.specs.declared.limits.TheConstants.{NUMBER}
+use Rattle.nv_book.specs.Book.{BookValue, after_enter}
+use Rattle.nv_calls.specs.Commit.{CommitValue, begun, stamp_of}
+use Rattle.nv_calls.specs.Ready.{CellPlanValue, ReadyValue}
+use Rattle.nv_machine.specs.Kinds.{enter_turn, refuse}
+use Rattle.nv_machine.specs.Reads.{slot_at, written_slots}
+use Rattle.nv_machine.specs.World.{Moves, Next, Refuses, Turn, go_to}
+use Rattle.nv_machine.specs.World as machine
+use Rattle.nv_world.specs.Shown.{Told, hand_in, hand_of, shared_of, shown, shown_commit, shown_ready, slots_in}
+use Rattle.nv_world.specs.Told.{IsCommitOf, IsEither, IsReadyOf, entered}
+use Rattle.nv_world.specs.declared.running.Running.{Running}
+use Rattle.nv_world.specs.declared.shared.Shared.{Shared}
+use Rattle.nv_world.proofs.Ends.{end_anywhere}
+use Rattle.nv_world.proofs.Sequence.{appends_next}
+
+pub none_left : (holder : Option ℕ) → is_some holder ≡ false → holder ≡ None
+none_left None e = refl
+none_left (Some actor) e = absurd (false≢true (sym e))
+
+pub enters : (shared : Shared) (ready : ReadyValue) (running : Running) (actor need : ℕ) (book : BookValue) (commit : CommitValue) (told : Told)
+    → shared.holder ≡ None → nat_le NUMBER shared.book.state.commit ≡ false
+    → book ≡ record { state = after_enter actor shared.book.state; room = need } → commit ≡ begun (stamp_of book.state) ready
+    → IsReadyOf (slots_in running.slots) ready told
+    → enter_turn shared.holder (nat_le NUMBER shared.book.state.commit) true actor (shared_of shared) (hand_of ready.hand) (shown_ready told running)
+    ≡ Moves (shared_of (record shared { book = book; holder = Some actor })) (hand_in commit)
+    (shown_commit commit (entered shared.book.state told) running)
+enters shared ready running actor need book commit told free below after begins is =
+    let s = shared_of shared in
+    let h = hand_of ready.hand in
+    let r = shown_ready told running in
+    let last : BookValue = record { state = after_enter actor shared.book.state; room = need } in
+    let first : CommitValue = begun (stamp_of last.state) ready in
+    let many : length (written_slots r) ≡ length ready.plans = ap (λ (xs : List ℕ). length xs) is.written ∙ length-map ready.plans (λ (p : CellPlanValue). slot_at (slots_in running.slots) p.at) in
+    let same : commit ≡ first = begins ∙ ap (λ (b : BookValue). begun (stamp_of b.state) ready) after in
+    ap (λ (x : Option ℕ). enter_turn x (nat_le NUMBER shared.book.state.commit) true actor s h r) free
+    ∙ ap (λ (b : Bool). enter_turn None b true actor s h r) below
+    ∙ ap (λ (next : Next). Moves (record s { book = after_enter actor s.book; holder = Some actor }) h
+    (go_to next (record r { commit = s.book.commit + 1; epoch = s.book.snaps.epoch }))) (appends_next first (written_slots r) many refl refl refl)
+    ∙ sym (ap (λ (b : BookValue). Moves (shared_of (record shared { book = b; holder = Some actor })) (hand_in commit)
+    (shown_commit commit (entered shared.book.state told) running)) after
+    ∙ ap (λ (c : CommitValue). Moves (shared_of (record shared { book = last; holder = Some actor })) (hand_in c)
+    (shown_commit c (entered shared.book.state told) running)) same)
+
+pub begun_commit : (shared : Shared) (ready : ReadyValue) (running : Running) (actor need : ℕ) (book : BookValue) (commit : CommitValue)
+    (told : Told) → book ≡ record { state = after_enter actor shared.book.state; room = need } → commit ≡ begun (stamp_of book.state) ready
+    → IsReadyOf (slots_in running.slots) ready told → IsCommitOf (slots_in running.slots) commit (entered shared.book.state told)
+begun_commit shared ready running actor need book commit told after begins is =
+    let last : BookValue = record { state = after_enter actor shared.book.state; room = need } in
+    let same : commit ≡ begun (stamp_of last.state) ready = begins ∙ ap (λ (b : BookValue). begun (stamp_of b.state) ready) after in
+    let P : CommitValue → Type 0 = λ c. IsCommitOf (slots_in running.slots) c (entered shared.book.state told) in
+    subst P (sym same) (record { number = refl; epoch = refl; plans = is })
+
+pub last_below : {T : Type 0} (result : Result T Fault) (commit last : ℕ) (value : T) → result ≡ Ok value → last ≡ commit → last ≤ NUMBER
+    → (commit ≡ NUMBER → result ≡ Err CommitLimit) → nat_le NUMBER commit ≡ false
+last_below result commit last value ok same fits limit = go (nat_le NUMBER commit) refl where
+  go : (b : Bool) → nat_le NUMBER commit ≡ b → b ≡ false
+  go true q =
+      let above = leb-true NUMBER commit q in
+      let is : commit ≡ NUMBER = omega (arith, above, same, fits) in
+      let both = sym ok ∙ limit is in cc
+  go false q = refl
+
+-- why it is refused: for the last number, or for want of memory where there is another
+abbrev pub Why : Fault → ℕ → Type 0
+Why fault commit =
+    ((fault ≡ CommitLimit) × (nat_le NUMBER commit ≡ true)) ⊎ ((fault ≡ OutOfMemory) × (nat_le NUMBER commit ≡ false))
+
+pub told_why : {T : Type 0} (result : Result T Fault) (fault : Fault) (commit last : ℕ) → result ≡ Err fault
+    → (result ≡ Err CommitLimit → commit ≡ NUMBER) → (commit ≡ NUMBER → result ≡ Err CommitLimit)
+    → (fault ≡ CommitLimit) ⊎ (fault ≡ OutOfMemory) → last ≡ commit → last ≤ NUMBER → Why fault commit
+told_why result fault commit last is limit at (inl e) same fits =
+    let full = limit (is ∙ ap Err e) in inl (e, le-leb NUMBER commit (omega (arith, full)))
+told_why result fault commit last is limit at (inr e) same fits = go (nat_le NUMBER commit) refl where
+  go : (b : Bool) → nat_le NUMBER commit ≡ b → Why fault commit
+  go true q =
+      let above = leb-true NUMBER commit q in
+      let full : commit ≡ NUMBER = omega (arith, above, same, fits) in
+      let both = sym is ∙ at full in absurd (cc (both, e))
+  go false q = inr (e, q)
+
+pub refuses : (shared : Shared) (hand : Hand) (running : Running) (actor : ℕ) (book : BookValue) (given : Hand) (told : Told) (fault : Fault)
+    (turn : Turn) → shared.holder ≡ None → book ≡ shared.book → given ≡ hand
+    → refuse fault (shared_of (record shared { book = book })) (hand_of given) (shown told running) ≡ turn → Why fault shared.book.state.commit
+    → IsEither (λ granted. enter_turn shared.holder (nat_le NUMBER shared.book.state.commit) granted actor (shared_of shared) (hand_of hand)
+    (shown_ready told running)) turn
+refuses shared hand running actor book given told fault turn free same held refused why = go why where
+  settled : refuse fault (shared_of shared) (hand_of hand) (shown_ready told running) ≡ turn
+  settled =
+      end_anywhere (slots_in running.slots) (Refuses fault) (shared_of shared) (hand_of hand) (shown told running) machine.Enter
+      ∙ sym (ap (λ (b : BookValue). refuse fault (shared_of (record shared { book = b })) (hand_of given) (shown told running)) same
+      ∙ ap (λ (x : Hand). refuse fault (shared_of shared) (hand_of x) (shown told running)) held)
+      ∙ refused
+
+  step : (b granted : Bool) → nat_le NUMBER shared.book.state.commit ≡ b
+      → enter_turn shared.holder (nat_le NUMBER shared.book.state.commit) granted actor (shared_of shared) (hand_of hand) (shown_ready told running)
+      ≡ enter_turn None b granted actor (shared_of shared) (hand_of hand) (shown_ready told running)
+  step b granted q =
+      ap (λ (x : Option ℕ). enter_turn x (nat_le NUMBER shared.book.state.commit) granted actor (shared_of shared) (hand_of hand)
+      (shown_ready told running)) free
+      ∙ ap (λ (c : Bool). enter_turn None c granted actor (shared_of shared) (hand_of hand) (shown_ready told running)) q
+
+  go : Why fault shared.book.state.commit
+      → IsEither (λ granted. enter_turn shared.holder (nat_le NUMBER shared.book.state.commit) granted actor (shared_of shared) (hand_of hand)
+      (shown_ready told running)) turn
+  go (inl w) =
+      inl (step true true w.1 ∙ ap (λ (f : Fault). refuse f (shared_of shared) (hand_of hand) (shown_ready told running)) (sym w.0) ∙ settled)
+  go (inr w) =
+      inr (step false false w.1 ∙ ap (λ (f : Fault). refuse f (shared_of shared) (hand_of hand) (shown_ready told running)) (sym w.0) ∙ settled)

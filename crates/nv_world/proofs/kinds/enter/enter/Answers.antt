@@ -1,0 +1,24 @@
+use Rattle.std.proofs.Common.{◌≡◌, ◌∙◌, inl, inr, ap, sym, false, true}
+use Rattle.nv_world.proofs.Enters.{begun_commit, enters, last_below, none_left, refuses, told_why}
+use Rattle.nv_world.proofs.kinds.enter.enter.Goals as goal
+
+pub returns-in-Ok-clause-turn : goal.returns-in-Ok-clause-turn
+returns-in-Ok-clause-turn c told is =
+    inl (enters c.args.shared.now c.args.ready c.args.running.now c.args.actor c.need.result c.enter.new.self c.begin-commit.result told
+    (none_left c.args.shared.now.holder (sym c.is_some.ensures ∙ c.if-is_some.false))
+    (last_below c.enter.result c.args.shared.now.book.state.commit c.commit-last.result c.in-Ok._fixed c.in-Ok.is c.commit-last.ensures.value
+    c.commit-last.ensures.fits c.enter.ensures.limit.1)
+    c.in-Ok.ensures.ok c.begin-commit.ensures is)
+
+pub returns-in-Ok-clause-told : goal.returns-in-Ok-clause-told
+returns-in-Ok-clause-told c told is =
+    begun_commit c.args.shared.now c.args.ready c.args.running.now c.args.actor c.need.result c.enter.new.self c.begin-commit.result told
+    c.in-Ok.ensures.ok c.begin-commit.ensures is
+
+pub returns-in-Err-clause-turn : goal.returns-in-Err-clause-turn
+returns-in-Err-clause-turn c told is =
+    refuses c.args.shared.now c.args.ready.hand c.args.running.now c.args.actor c.enter.new.self c.into_hand-hand.result told c.in-Err.fault
+    _ (none_left c.args.shared.now.holder (sym c.is_some.ensures ∙ c.if-is_some.false)) c.in-Err.ensures.same c.into_hand-hand.ensures
+    (c.refuse-turn.ensures.turn told)
+    (told_why c.enter.result c.in-Err.fault c.args.shared.now.book.state.commit c.commit-last.result c.in-Err.is c.enter.ensures.limit.0
+    c.enter.ensures.limit.1 c.in-Err.ensures.err c.commit-last.ensures.value c.commit-last.ensures.fits)

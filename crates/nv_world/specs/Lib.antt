@@ -1,0 +1,4 @@
+pub mod Parts
+pub mod Shown
+pub mod Told
+pub mod Worlds

@@ -1,0 +1,136 @@
+-- When a world shows one of the machine.
+use Rattle.std.specs.Prelude.{◌≡◌, ℕ, ◌+◌, ◌<◌, ◌≤◌, Bool, List, [], ◌∷◌, length, map, Option, Some, None, Result, Ok, Err, slice_index_or}
+use Rattle.std.specs.List.{sum_by}
+use Rattle.nv_base.specs.declared.fault.Fault.{Fault}
+use Rattle.nv_alloc.specs.declared.hand.Hand.{Hand}
+use Rattle.nv_book.specs.Book.{BookValue}
+use Rattle.nv_calls.specs.Cells.{value_at}
+use Rattle.nv_calls.specs.Ready.{ArePlaced, CellPlanValue, plan_at}
+use Rattle.nv_calls.specs.SlotCells.{lent_cells}
+use Rattle.nv_cell.specs.Cell.{CellValue}
+use Rattle.nv_cell.specs.Room.{IsReadyFor}
+use Rattle.nv_calls.specs.Commit.{CommitValue}
+use Rattle.nv_machine.specs.Step as machine_step
+use Rattle.nv_machine.specs.World as machine
+use Rattle.nv_world.specs.declared.event.Event.{Event}
+use Rattle.nv_world.specs.declared.event.Event.TheVariants as event
+use Rattle.nv_world.specs.declared.event.Reply.{Reply}
+use Rattle.nv_world.specs.declared.event.Reply.TheVariants as reply
+use Rattle.nv_world.specs.declared.hold.Hold.{Hold}
+use Rattle.nv_world.specs.declared.hold.Hold.TheVariants as hold
+use Rattle.nv_world.specs.declared.job.Job.{Job}
+use Rattle.nv_world.specs.declared.job.Job.TheVariants as job
+use Rattle.nv_world.specs.declared.next.Next.{Next}
+use Rattle.nv_world.specs.declared.next.Next.TheVariants as next
+use Rattle.nv_world.specs.declared.running.Running.{Running}
+use Rattle.nv_world.specs.declared.shared.Shared.{Shared}
+use Rattle.nv_world.specs.declared.world.Actor.{Actor}
+use Rattle.nv_world.specs.declared.world.World.{World}
+use Rattle.nv_world.specs.Shown.{Told, held_by, shared_of, shown_by, slots_in}
+use Rattle.nv_world.specs.Told.{IsHoldOf, IsOnItsWay, IsToldOf}
+
+-- ---- actors
+
+-- what a running call of the machine has that the code has used up, or keeps in its commit
+abbrev pub told_of : machine.Running → Told
+told_of r = record { call = r.call; plan = r.plan; commit = r.commit; epoch = r.epoch }
+
+-- a running call: but for these, it is what is shown of the code's
+pub record ShowsCall (hold : Hold) (running : Running) (r : machine.Running) : Type 0 where
+  pub shown : shown_by hold (told_of r) running ≡ r
+  pub job : IsToldOf running (told_of r)
+  pub plan : IsHoldOf (slots_in running.slots) hold (told_of r)
+
+abbrev pub ShowsRunning : Hold → Option Running → Option machine.Running → Type 0
+ShowsRunning hold None None = Unit {0}
+ShowsRunning hold (Some running) (Some r) = ShowsCall hold running r
+ShowsRunning hold other shown = ⊥
+
+pub record ShowsActor (actor : Actor) (shown : machine.Actor) : Type 0 where
+  pub hand : held_by actor.hold ≡ shown.hand
+  pub running : ShowsRunning actor.hold actor.running shown.running
+
+-- ---- the world
+
+-- A WORLD SHOWS ONE OF THE MACHINE: what is shared, and each actor
+pub record Shows (w : World) (m : machine.World) : Type 0 where
+  pub numbers : w.shared.geometry.numbers ≡ m.numbers
+  pub shared : shared_of w.shared ≡ m.shared
+  pub count : length w.actors.items ≡ length m.actors
+  pub each : (k : ℕ) (d : Actor) → k < length w.actors.items → ShowsActor (slice_index_or w.actors.items k d) (machine.actor_at m k)
+
+-- ---- events and replies
+
+-- a Go, where the memory that it asks for is granted or not
+abbrev pub event_of : Event → Bool → machine.Event
+event_of (event.Start actor c) granted = machine.Start actor c
+event_of (event.Go actor) granted = machine.Go actor granted
+
+abbrev pub reply_of : Reply → machine.Reply
+reply_of reply.Started = machine.Started
+reply_of reply.Moved = machine.Moved
+reply_of reply.Waits = machine.Waiting
+reply_of (reply.Done answer) = machine.Done answer
+reply_of (reply.Refused fault) = machine.Refused fault
+
+-- an event is replied to as the machine replies, where its memory was granted or refused, and leads to what shows its world
+pub record IsStep (m : machine.World) (e : Event) (reply : Reply) (after : World) : Type 0 where
+  pub granted : Bool
+  pub reply_is : reply_of reply ≡ (machine_step.step m (event_of e granted)).reply
+  pub shows : Shows after (machine_step.step m (event_of e granted)).world
+
+-- the same of several events
+abbrev pub events_of : List Event → List Bool → List machine.Event
+events_of [] grants = []
+events_of (e ∷ events) [] = []
+events_of (e ∷ events) (granted ∷ grants) = event_of e granted ∷ events_of events grants
+
+pub record IsRun (m : machine.World) (events : List Event) (replies : List Reply) (after : World) : Type 0 where
+  pub grants : List Bool
+  pub count : length grants ≡ length events
+  pub replies_are : map reply_of replies ≡ machine_step.replies m (events_of events grants)
+  pub shows : Shows after (machine_step.after m (events_of events grants))
+
+-- ---- what the machine does not tell: room, and the shape of a call
+
+-- the job that a call has before that step
+abbrev pub FitsNext : Next → Job → Type 0
+FitsNext next.Visit (job.Visit c) = Unit {0}
+FitsNext next.Visit other = ⊥
+FitsNext (next.Unlock place) j = Unit {0}
+FitsNext (next.Give cpu) j = Unit {0}
+FitsNext next.Back j = Unit {0}
+FitsNext before (job.Change plan text) = Unit {0}
+FitsNext before other = ⊥
+
+-- room in the hand for the blocks that are wanted, and for the log pages that the data blocks can need
+abbrev pub HasTakingRoom : Next → ℕ → Hand → Type 0
+HasTakingRoom (next.TakeBlocks asked) wanted hand =
+    (wanted ≤ hand.«data».room) × (length hand.«data».blocks + wanted + 4 ≤ hand.pages.room)
+HasTakingRoom (next.TakePages asked) wanted hand = wanted ≤ hand.pages.room
+HasTakingRoom other wanted hand = Unit {0}
+
+-- room in the cells for what is to be appended, and for what the publishes of what is appended do
+pub record HasCellRoom (cells : List (ℕ × CellValue)) (plans : List CellPlanValue) (appended published : ℕ) : Type 0 where
+  pub ahead : (j : ℕ) → appended ≤ j → j < length plans → IsReadyFor (plan_at plans j).items (value_at cells (plan_at plans j).at)
+  pub behind : (j : ℕ) → published ≤ j → j < appended → IsReadyFor [] (value_at cells (plan_at plans j).at)
+
+-- room in the book and in the hand for what is killed and not yet retired
+abbrev pub killed_yet : CommitValue → ℕ
+killed_yet commit = sum_by (λ (p : CellPlanValue). length p.killed) commit.plans
+
+pub record HasCommitRoom (cells : List (ℕ × CellValue)) (book : BookValue) (commit : CommitValue) : Type 0 where
+  pub way : IsOnItsWay commit
+  pub placed : ArePlaced cells commit.plans
+  pub room : HasCellRoom cells commit.plans commit.appended commit.published
+  pub records : killed_yet commit ≤ book.room
+  pub blocks : killed_yet commit ≤ commit.hand.«data».room
+
+-- what holds of a running call beside what is shown of it
+abbrev pub HasRooms : Shared → Hold → Running → Type 0
+HasRooms shared (hold.Hand hand) running = FitsNext running.next running.job × HasTakingRoom running.next running.wanted hand
+HasRooms shared (hold.Ready ready) running =
+    ArePlaced (lent_cells (slots_in running.slots) shared.cells.items) ready.plans
+    × HasCellRoom (lent_cells (slots_in running.slots) shared.cells.items) ready.plans 0 0 × (ready.need ≤ ready.hand.«data».room)
+HasRooms shared (hold.Commit commit) running =
+    HasCommitRoom (lent_cells (slots_in running.slots) shared.cells.items) shared.book commit

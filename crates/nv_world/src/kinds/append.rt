@@ -1,0 +1,43 @@
+//! Entries are appended past the tail of one inode's log.
+
+ghost use Rattle.std.specs.Prelude.{◌≡◌, ◌<◌, length};
+ghost use Rattle.nv_calls.specs.Cells.{value_at};
+ghost use Rattle.nv_calls.specs.Commit.{to_append};
+ghost use Rattle.nv_calls.specs.SlotCells.{lent_cells};
+ghost use Rattle.nv_calls.specs.Steps.{CanAppendPlan};
+ghost use Rattle.nv_machine.specs.Kinds.{append_turn};
+ghost use Rattle.nv_machine.specs.Reads.{pages_needed, slot_at, written_slots};
+ghost use Rattle.nv_machine.specs.World.{Moves};
+ghost use Rattle.nv_world.specs.Parts.{AreSlots};
+ghost use Rattle.nv_world.specs.Shown.{Told, hand_in, shared_of, shown_commit, slots_in};
+ghost use Rattle.nv_world.specs.Told.{IsCommitOf, IsOnItsWay, IsPlaceOf};
+
+use crate::running::Running;
+use crate::shared::Shared;
+use nv_calls::{Commit, SlotCells, append_on};
+
+/// Appends the entries of the next inode.
+pub(crate) fn append(shared: &mut Shared, running: &Running, commit: &mut Commit)
+    requires slots { AreSlots shared.old (slots_in running.now.slots) }
+    requires way { IsOnItsWay commit.old }
+    requires turn { commit.old.appended < length commit.old.plans }
+    requires within { (to_append commit.old).at < length (slots_in running.now.slots) }
+    requires can { let plan = to_append commit.old in
+        CanAppendPlan commit.old.stamp commit.old.place plan.items commit.old.hand
+        (value_at (lent_cells (slots_in running.now.slots) shared.old.cells.items) plan.at) }
+    ensures turn { (told : Told) → IsCommitOf (slots_in running.now.slots) commit.old told
+        → IsPlaceOf (slots_in running.now.slots) commit.old told → let s = shared_of shared.old in let r = shown_commit commit.old told running.now in
+        let ino = slot_at (written_slots r) commit.old.appended in
+        append_turn ino (pages_needed s r.plan ino) commit.old.appended s (hand_in commit.old) r
+        ≡ Moves (shared_of shared.new) (hand_in commit.new)
+        (shown_commit commit.new told running.now) }
+    ensures told { (told : Told) → IsCommitOf (slots_in running.now.slots) commit.old told
+        → IsCommitOf (slots_in running.now.slots) commit.new told }
+    ensures way { IsOnItsWay commit.new }
+{
+    let mut lent = SlotCells {
+        cells: &mut shared.cells,
+        slots: running.slots.as_slice(),
+    };
+    append_on(&mut lent, commit);
+}

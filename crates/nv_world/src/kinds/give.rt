@@ -1,0 +1,28 @@
+//! Blocks go home to one list.
+
+ghost use Rattle.std.specs.Prelude.{◌≡◌, ◌<◌};
+ghost use Rattle.nv_machine.specs.Kinds.{blocks_in, give_turn};
+ghost use Rattle.nv_world.specs.Parts.{AreGiven, AreHome, IsOfDevice};
+ghost use Rattle.nv_world.specs.Shown.{Told, hand_of, shared_of, shown, turn_of};
+ghost use Rattle.nv_world.specs.Told.{KeepsJob, OwesAt};
+
+use crate::ending::give_back;
+use crate::running::Running;
+use crate::shared::Shared;
+use crate::turn::Turn;
+use nv_alloc::Hand;
+
+/// Gives one list all blocks in the hand that are at home there.
+pub(crate) fn give(shared: &mut Shared, hand: &mut Hand, running: &mut Running, cpu: u64) -> Turn
+    requires cpu { cpu < shared.old.geometry.numbers.cpus }
+    requires home { AreHome shared.old }
+    requires device { IsOfDevice shared.old.geometry.numbers hand.old }
+    requires given { AreGiven shared.old.geometry.numbers cpu (blocks_in (hand_of hand.old)) }
+    ensures turn { (told : Told) → OwesAt running.old.ending running.old told
+        → give_turn cpu (shared_of shared.old) (hand_of hand.old) (shown told running.old)
+        ≡ turn_of result (shared_of shared.new) (hand_of hand.new) (shown told running.new) }
+    ensures job { KeepsJob running.old running.new }
+{
+    hand.give_home(&mut shared.lists[cpu as usize]);
+    give_back(shared, hand, running)
+}

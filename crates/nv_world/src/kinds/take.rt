@@ -1,0 +1,115 @@
+//! Blocks are taken from a list.
+
+ghost use Rattle.std.specs.Prelude.{◌≡◌, ◌+◌, ◌-◌, ◌<◌, ◌≤◌, ◌^◌, length};
+ghost use Rattle.nv_machine.specs.Kinds.{asked_list, refuse, take_blocks_turn, take_pages_turn, wants_pages};
+ghost use Rattle.nv_machine.specs.Reads.{pages_wanted, plan_by};
+ghost use Rattle.nv_base.specs.declared.fault.Fault.TheVariants.{NoSpace};
+ghost use Rattle.nv_world.specs.Parts.{AreHome, CanWant, IsOfDevice};
+ghost use Rattle.nv_world.specs.Shown.{Told, hand_of, shared_of, shown, turn_of};
+ghost use Rattle.nv_world.specs.Told.{IsToldOf, KeepsJob};
+
+use crate::ending::refuse;
+use crate::next::Next;
+use crate::running::Running;
+use crate::shared::Shared;
+use crate::turn::Turn;
+use nv_alloc::Hand;
+use nv_base::Fault;
+use nv_calls::{SlotCells, pages_wanted};
+
+/// The call wants log pages. A taking of nothing has no step.
+pub(crate) fn want_pages(shared: &mut Shared, hand: &Hand, running: &mut Running) -> Turn
+    requires can { CanWant shared.old hand.now running.old }
+    ensures shared { shared.new ≡ shared.old }
+    ensures turn { (told : Told) → IsToldOf running.old told → let s = shared_of shared.old in
+        let h = hand_of hand.now in let r = shown told running.old in
+        wants_pages (pages_wanted s r.slots (plan_by shared.old.geometry.numbers.block s h r)) s h r
+        ≡ turn_of result s h (shown told running.new) }
+    ensures job { KeepsJob running.old running.new }
+{
+    let lent = SlotCells {
+        cells: &mut shared.cells,
+        slots: running.slots.as_slice(),
+    };
+    let wanted = pages_wanted(&lent, running.plan(), hand);
+    running.wanted = wanted;
+    if running.wanted == 0 {
+        running.next = Next::Ready;
+        return Turn::Moves;
+    }
+    running.next = Next::TakePages(0);
+    Turn::Moves
+}
+
+/// Takes data blocks from one list, its lowest.
+pub(crate) fn take_blocks(
+    shared: &mut Shared,
+    hand: &mut Hand,
+    running: &mut Running,
+    actor: u64,
+    asked: u64,
+) -> Turn
+    requires home { AreHome shared.old }
+    requires small { actor + asked < 2 ^ 64 - 1 }
+    requires room { running.old.wanted ≤ hand.old.data.room }
+    requires size { hand.old.data.size ≡ shared.old.geometry.numbers.block }
+    ensures turn { (told : Told) → IsToldOf running.old told → let s = shared_of shared.old in
+        take_blocks_turn (asked_list (length s.lists) actor asked) asked
+        shared.old.geometry.numbers.block s (hand_of hand.old) (shown told running.old)
+        ≡ turn_of result (shared_of shared.new) (hand_of hand.new) (shown told running.new) }
+    ensures job { KeepsJob running.old running.new }
+{
+    let cpu = shared.cpu_of(actor + asked) as usize;
+    running.wanted -= shared.lists[cpu].take(running.wanted, &mut hand.data);
+    if running.wanted == 0 {
+        return want_pages(shared, hand, running);
+    }
+    ask_on(shared, hand, running, asked, Next::TakeBlocks(asked + 1))
+}
+
+/// Takes log pages from one list, its lowest blocks.
+pub(crate) fn take_pages(
+    shared: &mut Shared,
+    hand: &mut Hand,
+    running: &mut Running,
+    actor: u64,
+    asked: u64,
+) -> Turn
+    requires home { AreHome shared.old }
+    requires device { IsOfDevice shared.old.geometry.numbers hand.old }
+    requires small { actor + asked < 2 ^ 64 - 1 }
+    requires room { running.old.wanted ≤ hand.old.pages.room }
+    requires size { hand.old.pages.size ≡ shared.old.geometry.numbers.block }
+    ensures turn { (told : Told) → let s = shared_of shared.old in
+        take_pages_turn (asked_list (length s.lists) actor asked) asked s (hand_of hand.old)
+        (shown told running.old)
+        ≡ turn_of result (shared_of shared.new) (hand_of hand.new) (shown told running.new) }
+    ensures job { KeepsJob running.old running.new }
+{
+    let cpu = shared.cpu_of(actor + asked) as usize;
+    running.wanted -= shared.lists[cpu].take(running.wanted, &mut hand.pages);
+    if running.wanted == 0 {
+        running.next = Next::Ready;
+        return Turn::Moves;
+    }
+    ask_on(shared, hand, running, asked, Next::TakePages(asked + 1))
+}
+
+/// Some blocks are still wanted: the next list is asked, if there is one.
+fn ask_on(shared: &Shared, hand: &Hand, running: &mut Running, asked: u64, next: Next) -> Turn
+    requires small { asked < 2 ^ 64 - 1 }
+    requires home { AreHome shared.now }
+    requires device { IsOfDevice shared.now.geometry.numbers hand.now }
+    ensures more { asked + 1 < length shared.now.lists.items → (result ≡ Turn.Moves)
+        × (running.new ≡ record running.old { next = next }) }
+    ensures none { (told : Told) → length shared.now.lists.items ≤ asked + 1
+        → let s = shared_of shared.now in let h = hand_of hand.now in
+        refuse NoSpace s h (shown told running.old) ≡ turn_of result s h (shown told running.new) }
+    ensures job { KeepsJob running.old running.new }
+{
+    if asked + 1 < shared.lists.len() as u64 {
+        running.next = next;
+        return Turn::Moves;
+    }
+    refuse(shared, hand, running, Fault::NoSpace)
+}

@@ -1,0 +1,63 @@
+//! The step of a call that reads.
+
+ghost use Rattle.std.specs.Prelude.{◌≡◌, ◌||◌, not};
+ghost use Rattle.nv_calls.specs.AllCalls.{answer, refusal};
+ghost use Rattle.nv_calls.specs.Locked.{handles};
+ghost use Rattle.nv_machine.specs.Kinds.{visit_turn};
+ghost use Rattle.nv_machine.specs.Reads.{copies, nodes};
+ghost use Rattle.nv_machine.specs.Sequence.{nothing_looked};
+ghost use Rattle.nv_machine.specs.Step.{handle_at, visit_grows};
+ghost use Rattle.nv_machine.specs.World.{empty_hand, owner_at};
+ghost use Rattle.nv_world.specs.Shown.{Told, shared_of, shown, turn_of};
+ghost use Rattle.nv_world.specs.Told.{IsEither, IsToldOf, IsVisit, IsVisitOf};
+
+use crate::job::{Job, visited};
+use crate::running::Running;
+use crate::shared::Shared;
+use crate::turn::Turn;
+use nv_base::{Fault, Ino};
+use nv_calls::{Answer, Call, list_on, lookup_on, read_on, stat_on};
+use nv_cell::InodeCell;
+use std::mem;
+
+/// Reads one inode, or waits for its lock.
+pub(crate) fn visit(shared: &Shared, running: &mut Running) -> Turn
+    requires visit { IsVisitOf running.old.job }
+    ensures turn { (told : Told) → IsToldOf running.old told
+        → let block = shared.now.geometry.numbers.block in let s = shared_of shared.now in
+        let c = told.call in let r = shown told running.old in
+        IsEither (λ granted. visit_turn (owner_at s (handle_at (handles nothing_looked c) 0).ino)
+        (refusal block (copies s) c) (granted || not (visit_grows c)) (answer (nodes s) r.made c)
+        s empty_hand r)
+        (turn_of result s empty_hand (shown told running.new)) }
+    ensures waits { result ≡ Turn.Waits → running.new ≡ running.old }
+{
+    let Job::Visit(call) = &running.job else {
+        unreachable!()
+    };
+    let ino = visited(call).ino;
+    if shared.is_locked(ino) {
+        return Turn::Waits;
+    }
+    let Job::Visit(call) = mem::replace(&mut running.job, Job::Given) else {
+        unreachable!()
+    };
+    Turn::Ends(match shared.cell(ino) {
+        Some(cell) => answer(ino, cell, call),
+        None => Err(Fault::Stale),
+    })
+}
+
+/// What a call finds in the cell of its inode.
+fn answer(ino: Ino, cell: &InodeCell, call: Call) -> Result<Answer, Fault>
+    requires { IsVisit call }
+{
+    let view = match &call {
+        Call::Read { .. } => read_on(ino, cell, call),
+        Call::Stat { .. } => stat_on(ino, cell, call),
+        Call::List { .. } => list_on(ino, cell, call),
+        Call::Lookup { .. } => lookup_on(ino, cell, call),
+        _ => unreachable!(),
+    }?;
+    Ok(view.into_found())
+}

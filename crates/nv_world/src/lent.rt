@@ -1,0 +1,47 @@
+//! The steps of a commit over the cells of all slots, of which those of a call's are lent.
+
+ghost use Rattle.std.specs.Prelude.{◌≡◌, ◌<◌, ◌≤◌, ◌^◌, ℕ, length, slice_index_or, slice_set, true};
+ghost use Rattle.nv_calls.specs.CanCommit.{CanBePublished};
+ghost use Rattle.nv_calls.specs.Cells.{OnlyAt};
+ghost use Rattle.nv_calls.specs.Commit.{NotesNext, after_publish, to_publish};
+ghost use Rattle.nv_calls.specs.Retiring.{killed_by};
+ghost use Rattle.nv_calls.specs.SlotCells.{cell_in, lent_cells, other_cells};
+ghost use Rattle.nv_cell.specs.Cell.{published};
+ghost use Rattle.nv_machine.specs.Reads.{slot_at};
+ghost use Rattle.nv_world.specs.Parts.{HaveSlots};
+ghost use Rattle.nv_world.specs.Shown.{slots_in};
+
+use crate::slots::Slots;
+use nv_book::Book;
+use nv_calls::{Commit, SlotCells, publish_on};
+use nv_cell::InodeCell;
+
+/// Publishes the entries of the next inode.
+pub(crate) fn publish_in(
+    book: &Book,
+    cells: &mut [InodeCell],
+    slots: &Slots,
+    commit: &mut Commit,
+)
+    requires slots { HaveSlots cells.old (slots_in slots.now) }
+    requires turn { commit.old.published < length commit.old.plans }
+    requires appended { commit.old.appended ≡ length commit.old.plans }
+    requires journal { 2 ≤ length commit.old.plans → NotesNext book.now.state
+        (lent_cells (slots_in slots.now) cells.old) commit.old }
+    requires within { (to_publish commit.old).at < length (slots_in slots.now) }
+    requires can { CanBePublished
+        (cell_in cells.old (slot_at (slots_in slots.now) (to_publish commit.old).at)) }
+    ensures cells { let k = (to_publish commit.old).at in
+        OnlyAt k (lent_cells (slots_in slots.now) cells.old) (lent_cells (slots_in slots.now) cells.new) }
+    ensures others { other_cells (slots_in slots.now) cells.new
+        ≡ other_cells (slots_in slots.now) cells.old }
+    ensures count { length cells.new ≡ length cells.old }
+    ensures state { let ino = slot_at (slots_in slots.now) (to_publish commit.old).at in
+        (cell_in cells.new ino).state ≡ published (cell_in cells.old ino).state }
+    ensures commit { let ino = slot_at (slots_in slots.now) (to_publish commit.old).at in
+        commit.new ≡ after_publish (killed_by (cell_in cells.old ino).state) commit.old }
+{
+    let slots = slots.as_slice();
+    let mut lent = SlotCells { cells, slots };
+    publish_on(book, &mut lent, commit);
+}

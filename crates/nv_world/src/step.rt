@@ -1,0 +1,179 @@
+//! The steps of a world.
+
+ghost use Rattle.std.specs.Prelude.{◌≡◌, IfErr, IfOk, OnErr};
+ghost use Rattle.nv_base.specs.declared.fault.Fault.TheVariants.{OutOfMemory};
+ghost use Rattle.nv_machine.specs.World as machine;
+ghost use Rattle.nv_world.specs.Worlds.{IsRun, IsStep, Shows};
+
+use crate::hold::Hold;
+use crate::kinds::append::append;
+use crate::kinds::back::back;
+use crate::kinds::check::check;
+use crate::kinds::close::close;
+use crate::kinds::enter::enter;
+use crate::kinds::give::give;
+use crate::kinds::leave::leave;
+use crate::kinds::lock::lock;
+use crate::kinds::look::look;
+use crate::kinds::number::number;
+use crate::kinds::open::open;
+use crate::kinds::publish::publish;
+use crate::kinds::ready::ready;
+use crate::kinds::retire::retire;
+use crate::kinds::take::{take_blocks, take_pages};
+use crate::kinds::unlock::unlock;
+use crate::kinds::visit::visit;
+use crate::next::Next;
+use crate::running::Running;
+use crate::shared::Shared;
+use crate::turn::Turn;
+use crate::world::{Actor, World};
+use crate::{Event, Reply};
+use nv_alloc::Hand;
+use nv_base::Fault;
+use nv_calls::{Call, Commit, CommitStep};
+use std::alloc::{AllocError, Global};
+use std::mem;
+
+impl World {
+    /// One event. A `Go` makes one step of the actor's call.
+    pub fn step(&mut self, event: Event) -> Reply
+        ensures { (m : machine.World) → Shows self.old m → IsStep m event result self.new }
+    {
+        match event {
+            Event::Start(actor, call) => self.start(actor, call),
+            Event::Go(actor) => self.go(actor),
+        }
+    }
+
+    /// Several events, one after another, each as `step` makes it. The replies stand in the order of the events.
+    ///
+    /// Room for the replies is made before the first event. Want of it hands the events back, and nothing has changed.
+    pub fn run(&mut self, events: Vec<Event>) -> Result<Vec<Reply>, (Fault, Vec<Event>)>
+        ensures ok { (m : machine.World) → Shows self.old m
+            → IfOk result (λ replies. IsRun m events.items replies.items self.new) }
+        ensures err { IfErr result (λ refused. (refused.0 ≡ OutOfMemory)
+            × (refused.1.items ≡ events.items)) }
+        ensures same { OnErr result (self.new ≡ self.old) }
+    {
+        let Ok(mut replies) = self.no_replies(events.len()) else {
+            return Err((Fault::OutOfMemory, events));
+        };
+        for event in events {
+            replies.push_reserved(self.step(event));
+        }
+        Ok(replies)
+    }
+
+    /// No replies, with room for so many.
+    fn no_replies(&self, room: usize) -> Result<Vec<Reply>, AllocError> {
+        Vec::with_capacity(self.alloc, room)
+    }
+
+    fn start(&mut self, actor: u64, call: Call) -> Reply {
+        let Some(state) = self.actors.get_mut(actor as usize) else {
+            return Reply::Refused(Fault::NoActor);
+        };
+        if state.running.is_some() {
+            return Reply::Refused(Fault::ActorBusy);
+        }
+        state.running = Some(Running::started(self.alloc, &self.shared, call));
+        Reply::Started
+    }
+
+    fn go(&mut self, actor: u64) -> Reply {
+        let Some(state) = self.actors.get_mut(actor as usize) else {
+            return Reply::Refused(Fault::NoActor);
+        };
+        let Actor { hold, running } = state;
+        let Some(call) = running else {
+            return Reply::Refused(Fault::ActorIdle);
+        };
+        match turn(self.alloc, &mut self.shared, hold, call, actor) {
+            Turn::Moves => Reply::Moved,
+            Turn::Waits => Reply::Waits,
+            Turn::Ends(result) => {
+                *running = None;
+                match result {
+                    Ok(answer) => Reply::Done(answer),
+                    Err(fault) => Reply::Refused(fault),
+                }
+            }
+        }
+    }
+}
+
+/// The step of a call that comes next.
+fn turn(
+    alloc: Global,
+    shared: &mut Shared,
+    hold: &mut Hold,
+    running: &mut Running,
+    actor: u64,
+) -> Turn {
+    match hold {
+        Hold::Hand(hand) => match running.next {
+            Next::Ready => pass_on(alloc, shared, hold, running, actor),
+            _ => alone(shared, hand, running, actor),
+        },
+        Hold::Ready(_) => pass_on(alloc, shared, hold, running, actor),
+        Hold::Commit(commit) => {
+            if commit.step() == CommitStep::Leave {
+                return pass_on(alloc, shared, hold, running, actor);
+            }
+            commit_step(shared, running, commit, actor);
+            Turn::Moves
+        }
+    }
+}
+
+/// A step of a call whose hand is with the actor alone.
+fn alone(shared: &mut Shared, hand: &mut Hand, running: &mut Running, actor: u64) -> Turn {
+    match running.next {
+        Next::Number => number(shared, hand, running),
+        Next::Look(place) => look(shared, hand, running, place),
+        Next::Lock(place) => lock(shared, running, actor, place),
+        Next::Check => check(shared, hand, running),
+        Next::TakeBlocks(asked) => take_blocks(shared, hand, running, actor, asked),
+        Next::TakePages(asked) => take_pages(shared, hand, running, actor, asked),
+        Next::Ready => unreachable!(),
+        Next::Unlock(place) => unlock(shared, hand, running, place),
+        Next::Give(cpu) => give(shared, hand, running, cpu),
+        Next::Back => back(shared, hand, running),
+        Next::Visit => visit(shared, running),
+    }
+}
+
+/// A step that passes the hand on: it is made ready, it enters, or it leaves.
+fn pass_on(
+    alloc: Global,
+    shared: &mut Shared,
+    hold: &mut Hold,
+    running: &mut Running,
+    actor: u64,
+) -> Turn {
+    let empty = Hold::Hand(Hand::new(alloc, &shared.geometry));
+    let (after, turn) = match mem::replace(hold, empty) {
+        Hold::Hand(hand) => ready(alloc, shared, hand, running),
+        Hold::Ready(held) => enter(shared, held, running, actor),
+        Hold::Commit(commit) => {
+            let (hand, turn) = leave(shared, commit, running);
+            (Hold::Hand(hand), turn)
+        }
+    };
+    mem::replace(hold, after).dismantle();
+    turn
+}
+
+/// A step of a commit that is not over.
+fn commit_step(shared: &mut Shared, running: &Running, commit: &mut Commit, actor: u64) {
+    let cpu = shared.cpu_of(actor);
+    match commit.step() {
+        CommitStep::Append => append(shared, running, commit),
+        CommitStep::Open => open(shared, running, commit, cpu),
+        CommitStep::Publish => publish(shared, running, commit),
+        CommitStep::Close => close(shared, running, commit, cpu),
+        CommitStep::Retire => retire(shared, running, commit),
+        CommitStep::Leave => unreachable!(),
+    }
+}

@@ -1,0 +1,36 @@
+//! A world, and how it is let go.
+
+use crate::hold::Hold;
+use crate::running::Running;
+use crate::shared::Shared;
+use std::alloc::Global;
+
+/// What is an actor's own: what it holds, and the call that it runs.
+pub(crate) struct Actor {
+    pub(crate) hold: Hold,
+    pub(crate) running: Option<Running>,
+}
+
+/// A world: what actors share, and the actors.
+pub struct World {
+    pub(crate) alloc: Global,
+    pub(crate) shared: Shared,
+    pub(crate) actors: Vec<Actor>,
+}
+
+impl Drop for World {
+    /// Each block that the world owns ends here.
+    fn drop(self) {
+        let World {
+            alloc: _,
+            shared,
+            mut actors,
+        } = self;
+        shared.dismantle();
+        while let Some(actor) = actors.pop() {
+            let Actor { hold, running: _ } = actor;
+            hold.dismantle();
+        }
+        actors.destroy_empty();
+    }
+}

