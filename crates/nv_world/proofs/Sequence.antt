@@ -2,7 +2,11 @@
 use Rattle.std.proofs.Common.{rules, ◌≡◌, ℕ, zero, suc, ◌<◌, ◌≤◌, ◌∙◌, Bool, true, false, List, [], ◌∷◌, ap, arith, filter, if◌then◌else◌, length, map, nat_lt, not, refl, sym}
 use Rattle.std.specs.Prelude.{◌&&◌, ◌==◌}
 use Rattle.std.proofs.lemmas.Bool.{eqb-true, ltb-true}
-use Rattle.nv_calls.specs.Commit.{CommitValue}
+use Rattle.std.specs.Prelude.{Option, None, Some, is_some, slice_get}
+use Rattle.std.specs.Option.{IsSomeAnd}
+use Rattle.nv_book.specs.Book.{BookState}
+use Rattle.nv_journal.specs.declared.old_tail.OldTail.{OldTail}
+use Rattle.nv_calls.specs.Commit.{CommitValue, HasJournal}
 use Rattle.nv_calls.specs.Progress.{is_open, step_of}
 use Rattle.nv_calls.specs.declared.progress.CommitStep.{CommitStep}
 use Rattle.nv_calls.specs.declared.progress.CommitStep.TheVariants as step
@@ -20,10 +24,17 @@ step_by n appended published retired opened =
     else if nat_lt retired n then Retire retired
     else Leave
 
+-- a commit that has a journal has it open
+pub journal_open : (book : BookState) (c : CommitValue) → HasJournal book c → is_open c ≡ true
+journal_open book c has = go c.journal has where
+  go : (j : Option ℕ) → IsSomeAnd j (λ cpu. slice_get book.journals cpu ≡ Some c.noted) → is_some j ≡ true
+  go None has = absurd has
+  go (Some cpu) has = refl
+
 -- a choice goes through
 pub next_by : (c : CommitValue) → commit_next c ≡ step_by (length c.plans) c.appended c.published c.retired (is_open c)
 next_by c =
-    go (nat_lt c.appended (length c.plans)) (nat_lt 1 (length c.plans) && (c.published == 0) && not (is_open c)
+    go (nat_lt c.appended (length c.plans)) (nat_lt 1 (length c.plans) && (c.published == 0) && not (is_open c))
     (nat_lt c.published (length c.plans)) (is_open c) (nat_lt c.retired (length c.plans)) where
       go : (b1 b2 b3 b4 b5 : Bool)
           → machine_step (if b1 then step.Append else if b2 then step.Open else if b3 then step.Publish else if b4 then step.Close
@@ -52,8 +63,8 @@ appends_next c written many published retired closed =
     ap (λ (n : ℕ). if nat_lt c.appended n then Append c.appended else if nat_lt 1 n then Open else if nat_lt 0 n then Publish 0
     else if nat_lt 1 n then Close else if nat_lt 0 n then Retire 0 else Leave) many
     ∙ appends_by c.appended (nat_lt c.appended (length c.plans)) (nat_lt 1 (length c.plans)) (nat_lt 0 (length c.plans))
-    ∙ sym (ap (λ (p : ℕ). step_by (length c.plans) c.appended p c.retired (is_open c) published
-    ∙ ap (λ (r : ℕ). step_by (length c.plans) c.appended 0 r (is_open c) retired
+    ∙ sym (ap (λ (p : ℕ). step_by (length c.plans) c.appended p c.retired (is_open c)) published
+    ∙ ap (λ (r : ℕ). step_by (length c.plans) c.appended 0 r (is_open c)) retired
     ∙ ap (λ (o : Bool). step_by (length c.plans) c.appended 0 0 o) closed)
     ∙ sym (next_by c)
 
@@ -84,9 +95,9 @@ pub publishes_next : (c : CommitValue) (written : List ℕ) (before : ℕ) → l
 publishes_next c written before many appended published retired opened =
     ap (λ (n : ℕ). if nat_lt (suc before) n then Publish (suc before) else if nat_lt 1 n then Close else if nat_lt 0 n then Retire 0 else Leave) many
     ∙ publishes_by (length c.plans) (suc before) (nat_lt (suc before) (length c.plans)) (nat_lt 1 (length c.plans)) (nat_lt 0 (length c.plans))
-    ∙ sym (ap (λ (a : ℕ). step_by (length c.plans) a c.published c.retired (is_open c) appended
-    ∙ ap (λ (p : ℕ). step_by (length c.plans) (length c.plans) p c.retired (is_open c) published
-    ∙ ap (λ (r : ℕ). step_by (length c.plans) (length c.plans) (suc before) r (is_open c) retired
+    ∙ sym (ap (λ (a : ℕ). step_by (length c.plans) a c.published c.retired (is_open c)) appended
+    ∙ ap (λ (p : ℕ). step_by (length c.plans) (length c.plans) p c.retired (is_open c)) published
+    ∙ ap (λ (r : ℕ). step_by (length c.plans) (length c.plans) (suc before) r (is_open c)) retired
     ∙ ap (λ (o : Bool). step_by (length c.plans) (length c.plans) (suc before) 0 o) opened
     ∙ ap (λ (z : Bool). if nat_lt (length c.plans) (length c.plans) then Append (length c.plans)
     else if nat_lt 1 (length c.plans) && z && not (nat_lt 1 (length c.plans)) then Open

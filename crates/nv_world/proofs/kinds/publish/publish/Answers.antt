@@ -11,6 +11,7 @@ use Rattle.nv_world.specs.Parts.{IsOnlyAt}
 use Rattle.nv_world.specs.Shown.{hand_in, shared_of, shown_commit, slots_in}
 use Rattle.nv_world.proofs.Among.{only_among}
 use Rattle.nv_world.proofs.Publishes.{publish_told, publish_way, publishes}
+use Rattle.nv_world.proofs.Sequence.{journal_open}
 use Rattle.nv_world.proofs.kinds.publish.publish.Goals as goal
 
 pub returns-clause-turn : goal.returns-clause-turn
@@ -29,7 +30,8 @@ returns-clause-turn c told is =
     (subst (λ (xs : List CellValue). other_cells slots new ≡ other_cells slots xs) was c.publish_in.ensures.others) in
     publishes c.args.shared.now c.args.running.now c.args.commit.now c.publish_in.new.commit _ told
     (slot_at (slots_in c.args.running.now.slots) (to_publish c.args.commit.now).at) is c.requires.way c.requires.turn c.requires.appended
-    c.requires.journal refl (c.requires.slots (to_publish c.args.commit.now).at c.requires.within) only
+    (λ two. journal_open c.args.shared.now.book.state c.args.commit.now (c.requires.journal two).journal)
+    refl (c.requires.slots (to_publish c.args.commit.now).at c.requires.within) only
     (subst (λ (xs : List CellValue). (cell_in new (slot_at slots k)).state ≡ published (cell_in xs (slot_at slots k)).state) was c.publish_in.ensures.state)
     (subst (λ (xs : List CellValue). c.publish_in.new.commit ≡ after_publish (killed_by (cell_in xs (slot_at slots k)).state) c.args.commit.now) was
     c.publish_in.ensures.commit)
@@ -42,5 +44,6 @@ returns-clause-told c told is =
 
 pub returns-clause-way : goal.returns-clause-way
 returns-clause-way c =
-    publish_way c.args.commit.now c.publish_in.new.commit _ c.requires.way c.requires.turn c.requires.appended c.requires.journal
+    publish_way c.args.commit.now c.publish_in.new.commit _ c.requires.way c.requires.turn c.requires.appended
+    (λ two. journal_open c.args.shared.now.book.state c.args.commit.now (c.requires.journal two).journal)
     c.publish_in.ensures.commit
