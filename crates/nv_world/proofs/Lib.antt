@@ -5,4 +5,5 @@ pub mod SlotLists
 pub mod Locked
 pub mod Enters
 pub mod Publishes
+pub mod Appends
 pub mod Sequence

@@ -2,10 +2,11 @@
 
 ghost use Rattle.std.specs.Prelude.{◌≡◌, ◌<◌, ◌≤◌, ◌^◌, ℕ, length, slice_index_or, slice_set, true};
 ghost use Rattle.nv_calls.specs.CanCommit.{CanBePublished};
-ghost use Rattle.nv_calls.specs.Cells.{OnlyAt};
-ghost use Rattle.nv_calls.specs.Commit.{NotesNext, after_publish, to_publish};
+ghost use Rattle.nv_calls.specs.Cells.{OnlyAt, state_at, value_at, with_value};
+ghost use Rattle.nv_calls.specs.Commit.{NotesNext, after_append, after_publish, to_append, to_publish};
 ghost use Rattle.nv_calls.specs.Retiring.{killed_by};
 ghost use Rattle.nv_calls.specs.SlotCells.{cell_in, lent_cells, other_cells};
+ghost use Rattle.nv_calls.specs.Steps.{CanAppendPlan, with_plan};
 ghost use Rattle.nv_cell.specs.Cell.{published};
 ghost use Rattle.nv_machine.specs.Reads.{slot_at};
 ghost use Rattle.nv_world.specs.Parts.{HaveSlots};
@@ -13,8 +14,32 @@ ghost use Rattle.nv_world.specs.Shown.{slots_in};
 
 use crate::slots::Slots;
 use nv_book::Book;
-use nv_calls::{Commit, SlotCells, publish_on};
+use nv_calls::{Commit, SlotCells, append_on, publish_on};
 use nv_cell::InodeCell;
+
+/// Appends the entries of the next inode.
+pub(crate) fn append_in(cells: &mut [InodeCell], slots: &Slots, commit: &mut Commit)
+    requires slots { HaveSlots cells.old (slots_in slots.now) }
+    requires turn { commit.old.appended < length commit.old.plans }
+    requires within { (to_append commit.old).at < length (slots_in slots.now) }
+    requires can { let plan = to_append commit.old in
+        CanAppendPlan commit.old.stamp commit.old.place plan.items commit.old.hand
+        (value_at (lent_cells (slots_in slots.now) cells.old) plan.at) }
+    ensures cells { let plan = to_append commit.old in
+        let lent = lent_cells (slots_in slots.now) cells.old in
+        lent_cells (slots_in slots.now) cells.new ≡ with_value lent plan.at
+        (with_plan commit.old.stamp commit.old.place plan.items commit.old.hand
+        (value_at lent plan.at)) }
+    ensures others { other_cells (slots_in slots.now) cells.new
+        ≡ other_cells (slots_in slots.now) cells.old }
+    ensures count { length cells.new ≡ length cells.old }
+    ensures commit { let lent = lent_cells (slots_in slots.now) cells.old in
+        commit.new ≡ after_append (state_at lent (to_append commit.old).at).chain commit.old }
+{
+    let slots = slots.as_slice();
+    let mut lent = SlotCells { cells, slots };
+    append_on(&mut lent, commit);
+}
 
 /// Publishes the entries of the next inode.
 pub(crate) fn publish_in(

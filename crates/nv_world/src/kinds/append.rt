@@ -12,9 +12,10 @@ ghost use Rattle.nv_world.specs.Parts.{AreSlots};
 ghost use Rattle.nv_world.specs.Shown.{Told, hand_in, shared_of, shown_commit, slots_in};
 ghost use Rattle.nv_world.specs.Told.{IsCommitOf, IsOnItsWay, IsPlaceOf};
 
+use crate::lent::append_in;
 use crate::running::Running;
 use crate::shared::Shared;
-use nv_calls::{Commit, SlotCells, append_on};
+use nv_calls::Commit;
 
 /// Appends the entries of the next inode.
 pub(crate) fn append(shared: &mut Shared, running: &Running, commit: &mut Commit)
@@ -26,7 +27,8 @@ pub(crate) fn append(shared: &mut Shared, running: &Running, commit: &mut Commit
         CanAppendPlan commit.old.stamp commit.old.place plan.items commit.old.hand
         (value_at (lent_cells (slots_in running.now.slots) shared.old.cells.items) plan.at) }
     ensures turn { (told : Told) → IsCommitOf (slots_in running.now.slots) commit.old told
-        → IsPlaceOf (slots_in running.now.slots) commit.old told → let s = shared_of shared.old in let r = shown_commit commit.old told running.now in
+        → IsPlaceOf (slots_in running.now.slots) commit.old told
+        → let s = shared_of shared.old in let r = shown_commit commit.old told running.now in
         let ino = slot_at (written_slots r) commit.old.appended in
         append_turn ino (pages_needed s r.plan ino) commit.old.appended s (hand_in commit.old) r
         ≡ Moves (shared_of shared.new) (hand_in commit.new)
@@ -35,9 +37,5 @@ pub(crate) fn append(shared: &mut Shared, running: &Running, commit: &mut Commit
         → IsCommitOf (slots_in running.now.slots) commit.new told }
     ensures way { IsOnItsWay commit.new }
 {
-    let mut lent = SlotCells {
-        cells: &mut shared.cells,
-        slots: running.slots.as_slice(),
-    };
-    append_on(&mut lent, commit);
+    append_in(&mut shared.cells, &running.slots, commit);
 }
