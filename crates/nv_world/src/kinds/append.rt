@@ -8,6 +8,7 @@ ghost use Rattle.nv_calls.specs.Steps.{CanAppendPlan};
 ghost use Rattle.nv_machine.specs.Kinds.{append_turn};
 ghost use Rattle.nv_machine.specs.Reads.{pages_needed, slot_at, written_slots};
 ghost use Rattle.nv_machine.specs.World.{Moves};
+ghost use Rattle.nv_world.specs.Appends.{IsPlanOf};
 ghost use Rattle.nv_world.specs.Parts.{AreSlots};
 ghost use Rattle.nv_world.specs.Shown.{Told, hand_in, shared_of, shown_commit, slots_in};
 ghost use Rattle.nv_world.specs.Told.{IsCommitOf, IsOnItsWay, IsPlaceOf};
@@ -35,6 +36,10 @@ pub(crate) fn append(shared: &mut Shared, running: &Running, commit: &mut Commit
         (shown_commit commit.new told running.now) }
     ensures told { (told : Told) → IsCommitOf (slots_in running.now.slots) commit.old told
         → IsCommitOf (slots_in running.now.slots) commit.new told }
+    ensures place { (told : Told) → IsCommitOf (slots_in running.now.slots) commit.old told
+        → IsPlaceOf (slots_in running.now.slots) commit.old told
+        → IsPlanOf (slots_in running.now.slots) told.plan
+        → IsPlaceOf (slots_in running.now.slots) commit.new told }
     ensures way { IsOnItsWay commit.new }
 {
     append_in(&mut shared.cells, &running.slots, commit);

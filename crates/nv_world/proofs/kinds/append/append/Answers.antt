@@ -10,7 +10,7 @@ use Rattle.nv_machine.specs.World as machine
 use Rattle.nv_world.specs.Parts.{IsOnlyAt}
 use Rattle.nv_world.specs.Shown.{hand_in, shared_of, shown_commit, slots_in}
 use Rattle.nv_world.proofs.Among.{only_among}
-use Rattle.nv_world.proofs.Appends.{append_told, append_way, appends, lent_only, lent_value, lent_with}
+use Rattle.nv_world.proofs.Appends.{append_place, append_told, append_way, appends, lent_only, lent_value, lent_with}
 use Rattle.nv_world.proofs.kinds.append.append.Goals as goal
 
 pub returns-clause-turn : goal.returns-clause-turn
@@ -50,3 +50,9 @@ pub returns-clause-way : goal.returns-clause-way
 returns-clause-way c =
     append_way c.args.commit.now c.append_in.new.commit
     (state_at (lent_cells (slots_in c.args.running.now.slots) c.deref_mut.result.now) (to_append c.args.commit.now).at) c.requires.way c.requires.turn c.append_in.ensures.commit
+
+pub returns-clause-place : goal.returns-clause-place
+returns-clause-place c told is placed plan =
+    append_place (slots_in c.args.running.now.slots) c.args.commit.now c.append_in.new.commit
+    (state_at (lent_cells (slots_in c.args.running.now.slots) c.deref_mut.result.now) (to_append c.args.commit.now).at).chain told
+    c.args.running.now.slots.rising c.append_in.ensures.commit c.requires.turn is placed plan

@@ -1,0 +1,20 @@
+-- The places of a commit's entries, inode by inode.
+use Rattle.std.specs.Prelude.{◌≡◌, ℕ, true, List}
+use Rattle.nv_alloc.specs.Numbers.{has}
+use Rattle.nv_calls.specs.Slots.{ArePlaced}
+use Rattle.nv_calls.specs.declared.plan.Planned.{Planned}
+use Rattle.nv_machine.specs.Reads.{is_written}
+use Rattle.nv_world.specs.declared.hold.Hold.{Hold}
+use Rattle.nv_world.specs.declared.hold.Hold.TheVariants as hold
+use Rattle.nv_world.specs.Shown.{Told}
+use Rattle.nv_world.specs.Told.{IsPlaceOf}
+
+-- a plan has entries for these slots alone, and their places are the numbers from 0 on
+pub record IsPlanOf (slots : List ℕ) (plan : List Planned) : Type 0 where
+  pub placed : ArePlaced plan
+  pub within : (ino : ℕ) → is_written plan ino ≡ true → has slots ino ≡ true
+
+-- the next entries of a commit have the places that the plan says
+abbrev pub IsPlaceBy : List ℕ → Hold → Told → Type 0
+IsPlaceBy slots (hold.Commit commit) told = IsPlaceOf slots commit told
+IsPlaceBy slots other told = Unit {0}
