@@ -260,7 +260,8 @@ between slots plan rises is x apart = go (is_written plan x) refl where
 pub place_first : (slots : List ℕ) (plan : List Planned) → AllPairs (λ (a b : ℕ). a < b) slots → IsPlanOf slots plan
     → 0 < length (filter (is_written plan) slots) → place_in plan (slot_at (filter (is_written plan) slots) 0) ≡ 0
 place_first slots plan rises is some =
-    stays plan is.placed 0 (slot_at w 0) (λ x low high. between slots plan rises is x (λ j lt same. below j lt x same (omega (arith, high))))
+    ap (place_in plan) (let e : slot_at w 0 ≡ 0 + slot_at w 0 = omega arith in e)
+    ∙ stays plan is.placed 0 (slot_at w 0) (λ x low high. between slots plan rises is x (λ j lt same. below j lt x same (omega (arith, high))))
     ∙ is.placed.first
   where
     w : List ℕ

@@ -3,6 +3,7 @@
 ghost use Rattle.std.specs.Prelude.{◌≡◌, is_some, nat_le, true};
 ghost use Rattle.nv_base.specs.declared.limits.TheConstants.{NUMBER};
 ghost use Rattle.nv_machine.specs.Kinds.{enter_turn};
+ghost use Rattle.nv_world.specs.Appends.{IsPlaceBy, IsPlanOf};
 ghost use Rattle.nv_world.specs.Parts.{AreHome, IsOfDevice};
 ghost use Rattle.nv_world.specs.Shown.{Told, hand_of, held_by, shared_of, shown_by, shown_ready, slots_in, turn_of};
 ghost use Rattle.nv_world.specs.Told.{IsEither, IsHoldOf, IsReadyOf, KeepsJob, told_by};
@@ -31,6 +32,10 @@ pub(crate) fn enter(
         (shown_by result.0 after running.new)) }
     ensures told { (told : Told) → IsReadyOf (slots_in running.old.slots) ready told
         → IsHoldOf (slots_in running.old.slots) result.0 (told_by result.0 shared.old.book.state told) }
+    ensures place { (told : Told) → IsReadyOf (slots_in running.old.slots) ready told
+        → IsPlanOf (slots_in running.old.slots) told.plan
+        → IsPlaceBy (slots_in running.old.slots) result.0
+        (told_by result.0 shared.old.book.state told) }
     ensures waits { is_some shared.old.holder ≡ true → (result.1 ≡ Turn.Waits)
         × (shared.new ≡ shared.old) × (running.new ≡ running.old) × (result.0 ≡ Hold.Ready ready) }
     ensures job { KeepsJob running.old running.new }

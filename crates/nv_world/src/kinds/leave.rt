@@ -1,10 +1,10 @@
 //! The commit lock is given back.
 
-ghost use Rattle.std.specs.Prelude.{◌≡◌, [], None};
+ghost use Rattle.std.specs.Prelude.{◌≡◌, None, length};
 ghost use Rattle.nv_machine.specs.Kinds.{leave_turn};
 ghost use Rattle.nv_machine.specs.World as machine;
 ghost use Rattle.nv_world.specs.Parts.{AreHome, IsOfDevice};
-ghost use Rattle.nv_world.specs.Shown.{Told, hand_in, hand_of, killed_in, shared_of, shown, shown_at, turn_of};
+ghost use Rattle.nv_world.specs.Shown.{Told, hand_in, hand_of, shared_of, shown, shown_at, turn_of};
 ghost use Rattle.nv_world.specs.Told.{KeepsJob, OwesAt};
 
 use crate::ending::end;
@@ -16,7 +16,8 @@ use nv_calls::Commit;
 
 /// Frees the commit lock. The call turns to its last steps, with what its commit left in the hand.
 pub(crate) fn leave(shared: &mut Shared, commit: Commit, running: &mut Running) -> (Hand, Turn)
-    requires done { killed_in commit ≡ [] }
+    requires turn { commit.retired ≡ length commit.plans }
+    requires closed { commit.journal ≡ None }
     requires home { AreHome shared.old }
     requires device { IsOfDevice shared.old.geometry.numbers commit.hand }
     ensures turn { (told : Told) → OwesAt running.old.ending running.old told

@@ -1,4 +1,8 @@
-use Rattle.std.proofs.Common.{◌≡◌, ◌∙◌, inl, inr, ap, sym, false, true}
+use Rattle.std.proofs.Common.{◌≡◌, ◌∙◌, inl, inr, ap, subst, sym, false, true}
+use Rattle.nv_calls.specs.Commit.{CommitValue, stamp_of}
+use Rattle.nv_world.specs.Shown.{slots_in}
+use Rattle.nv_world.specs.Told.{IsPlaceOf, entered}
+use Rattle.nv_world.proofs.Appends.{begin_place}
 use Rattle.nv_world.proofs.Enters.{begun_commit, enters, last_below, none_left, refuses, told_why}
 use Rattle.nv_world.proofs.kinds.enter.enter.Goals as goal
 
@@ -14,6 +18,12 @@ pub returns-in-Ok-clause-told : goal.returns-in-Ok-clause-told
 returns-in-Ok-clause-told c told is =
     begun_commit c.args.shared.now c.args.ready c.args.running.now c.args.actor c.need.result c.enter.new.self c.begin-commit.result told
     c.in-Ok.ensures.ok c.begin-commit.ensures is
+
+pub returns-in-Ok-clause-place : goal.returns-in-Ok-clause-place
+returns-in-Ok-clause-place c told is plan =
+    let slots = slots_in c.args.running.now.slots in
+    subst (λ (x : CommitValue). IsPlaceOf slots x (entered c.args.shared.now.book.state told)) (sym c.begin-commit.ensures)
+    (begin_place slots c.args.ready (stamp_of c.enter.new.self.state) told c.args.running.now.slots.rising is plan)
 
 pub returns-in-Err-clause-turn : goal.returns-in-Err-clause-turn
 returns-in-Err-clause-turn c told is =
