@@ -1,17 +1,24 @@
 -- A retiring of one of the cells, as the machine's.
-use Rattle.std.proofs.Common.{◌≡◌, ℕ, zero, suc, ◌+◌, ◌<◌, ◌≤◌, ◌∙◌, Bool, true, false, true≢false, List, [], ◌∷◌, ap, arith, drop, if◌then◌else◌, length, map, nat_lt, not, refl, subst, sym, take}
+use Rattle.std.proofs.Common.{◌≡◌, ℕ, zero, suc, ◌+◌, ◌<◌, ◌≤◌, ◌∙◌, Bool, true, false, true≢false, List, [], ◌∷◌, ◌++◌, ap, arith, drop, if◌then◌else◌, length, map, nat_lt, not, refl, subst, sym, take}
 use Rattle.std.specs.Prelude.{◌&&◌, ◌==◌, slice_set}
 use Rattle.std.proofs.lemmas.Bool.{eqb-true, ltb-true}
 use Rattle.std.proofs.lemmas.List.{length-map, length-set}
-use Rattle.nv_calls.specs.Commit.{CommitValue}
+use Rattle.nv_alloc.specs.Block.{BlockValue}
+use Rattle.nv_alloc.specs.declared.hand.Hand.{Hand}
+use Rattle.nv_calls.specs.Commit.{CommitValue, after_retire, to_retire}
 use Rattle.nv_calls.specs.Progress.{is_open, opens, step_of}
 use Rattle.nv_calls.specs.Ready.{CellPlanValue, plan_at}
+use Rattle.nv_calls.specs.Retiring as calls
+use Rattle.nv_calls.specs.Retiring.{is_erased, number_back, with_back}
 use Rattle.nv_calls.specs.declared.progress.CommitStep.TheVariants as step
+use Rattle.nv_cell.specs.Cell.{CellState}
 use Rattle.nv_cell.specs.declared.killed.KilledPart.{KilledPart}
-use Rattle.nv_machine.specs.Kinds.{first_killed}
+use Rattle.nv_machine.specs.Kinds.{first_killed, with_erased}
 use Rattle.nv_machine.specs.Sequence.{retiring}
 use Rattle.nv_machine.specs.World.{Leave, Retire}
-use Rattle.nv_world.specs.Shown.{commit_next, machine_step}
+use Rattle.nv_world.specs.Shown.{Told, commit_next, hand_with, machine_step}
+use Rattle.nv_world.specs.Told.{IsCommitOf, IsOnItsWay}
+use Rattle.nv_world.proofs.Publishes.{same_ats}
 
 none_below : (n m : ℕ) → n ≤ m → nat_lt m n ≡ false
 none_below n m le = go (nat_lt m n) refl where
@@ -68,3 +75,54 @@ killed_left (p ∷ plans) retired zero plan lt le = absurd (omega (arith, lt))
 killed_left (p ∷ plans) zero (suc published) plan lt le = refl
 killed_left (p ∷ plans) (suc retired) (suc published) plan lt le =
     killed_left plans retired published plan (omega (arith, lt)) (omega (arith, le))
+
+-- what is set free goes to the hand, and the chain of an erased inode, where the hand has none
+pub hand_retires : (ino : ℕ) (mid : CellState) (free : List BlockValue) (parts : List (List KilledPart)) (hand : Hand)
+    → (is_erased mid ≡ true → hand.chain ≡ [])
+    → with_erased ino mid (record (hand_with parts hand) { blocks = hand.data.blocks ++ free })
+    ≡ hand_with parts (calls.hand_with ino mid (record hand { «data» = with_back free hand.data }))
+hand_retires ino mid free parts hand empty = go (is_erased mid) empty where
+  go : (b : Bool) → (b ≡ true → hand.chain ≡ [])
+      → (if b then record (hand_with parts hand) {
+        blocks = hand.data.blocks ++ free; chain = hand.chain ++ mid.chain.blocks; ino = number_back ino mid hand.ino;
+      } else record (hand_with parts hand) { blocks = hand.data.blocks ++ free })
+      ≡ hand_with parts (if b then record hand {
+        «data» = with_back free hand.data; chain = mid.chain.blocks; ino = number_back ino mid hand.ino;
+      } else record hand { «data» = with_back free hand.data })
+  go true empty =
+      ap (λ (xs : List BlockValue). record (hand_with parts hand) {
+        blocks = hand.data.blocks ++ free; chain = xs ++ mid.chain.blocks; ino = number_back ino mid hand.ino;
+      }) (empty refl)
+  go false empty = refl
+
+-- what is told of the commit stays
+pub retire_told : (slots : List ℕ) (old new : CommitValue) (living : List ℕ) (ino : ℕ) (cell : CellState) (told : Told)
+    → old.appended ≡ length old.plans → new ≡ after_retire living ino cell old → IsCommitOf slots old told → IsCommitOf slots new told
+retire_told slots old new living ino cell told appended commit is =
+    let many : length (slice_set old.plans old.retired (record (to_retire old) { killed = [] })) ≡ length old.plans =
+    length-set old.plans old.retired (record (to_retire old) { killed = [] }) in
+    subst (λ (c : CommitValue). IsCommitOf slots c told) (sym commit) (record {
+      number = is.number;
+      epoch = is.epoch;
+      plans = record {
+        written = is.plans.written ∙ sym (same_ats slots old.plans old.retired []);
+        items = λ j from lt. absurd (omega (arith, from, lt, many, appended));
+      };
+    })
+
+pub retire_way : (old new : CommitValue) (living : List ℕ) (ino : ℕ) (cell : CellState) → IsOnItsWay old
+    → old.retired < length old.plans → old.published ≡ length old.plans → is_open old ≡ false → new ≡ after_retire living ino cell old
+    → IsOnItsWay new
+retire_way old new living ino cell way lt published closed commit =
+    let many : length (slice_set old.plans old.retired (record (to_retire old) { killed = [] })) ≡ length old.plans =
+    length-set old.plans old.retired (record (to_retire old) { killed = [] }) in
+    let appended = way.appended in
+    subst IsOnItsWay (sym commit) (record {
+      appended = omega (arith, many, appended);
+      published = omega (arith, many, published);
+      retired = omega (arith, many, lt);
+      appends = λ less. let none = way.appends (omega (arith, many, less)) in absurd (omega (arith, none, published, lt));
+      publishes = λ less. absurd (omega (arith, many, less, published));
+      opened = λ is. absurd (true≢false (sym is ∙ closed));
+      between = λ two some less. absurd (omega (arith, many, less, published));
+    })

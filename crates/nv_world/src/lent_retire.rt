@@ -1,7 +1,7 @@
 //! What the publish of one inode killed is retired, over the cells of all slots.
 
 ghost use Rattle.std.specs.Prelude.{◌≡◌, ◌<◌, ◌≤◌, false, length};
-ghost use Rattle.nv_book.specs.Book.{ids};
+ghost use Rattle.nv_epoch.specs.SnapList.{ids};
 ghost use Rattle.nv_calls.specs.Cells.{OnlyAt};
 ghost use Rattle.nv_calls.specs.Commit.{after_retire, to_retire};
 ghost use Rattle.nv_calls.specs.Retired.{CanRetire};
