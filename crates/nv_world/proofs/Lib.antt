@@ -7,3 +7,4 @@ pub mod Enters
 pub mod Publishes
 pub mod Sequence
 pub mod Retires
+pub mod Opens
