@@ -1,7 +1,7 @@
 -- A retiring of one of the cells, as the machine's.
 use Rattle.std.proofs.Common.{◌≡◌, ℕ, zero, suc, ◌+◌, ◌<◌, ◌≤◌, ◌∙◌, Bool, true, false, true≢false, List, [], ◌∷◌, ◌++◌, ap, arith, drop, if◌then◌else◌, length, map, nat_lt, not, refl, subst, sym, take}
 use Rattle.std.specs.Prelude.{◌&&◌, ◌==◌, slice_set}
-use Rattle.std.proofs.lemmas.Bool.{eqb-true, ltb-true}
+use Rattle.std.proofs.lemmas.Bool.{eqb-true, ltb-false, ltb-true}
 use Rattle.std.proofs.lemmas.List.{length-map, length-set}
 use Rattle.nv_alloc.specs.Block.{BlockValue}
 use Rattle.nv_alloc.specs.declared.hand.Hand.{Hand}
@@ -18,7 +18,7 @@ use Rattle.nv_machine.specs.Sequence.{retiring}
 use Rattle.nv_machine.specs.World.{Leave, Retire}
 use Rattle.nv_world.specs.Shown.{Told, commit_next, hand_with, machine_step}
 use Rattle.nv_world.specs.Told.{IsCommitOf, IsOnItsWay}
-use Rattle.nv_world.proofs.Publishes.{same_ats}
+use Rattle.nv_machine.specs.Reads.{slot_at}
 
 none_below : (n m : ℕ) → n ≤ m → nat_lt m n ≡ false
 none_below n m le = go (nat_lt m n) refl where
@@ -95,6 +95,14 @@ hand_retires ino mid free parts hand empty = go (is_erased mid) empty where
       }) (empty refl)
   go false empty = refl
 
+-- a plan of which nothing is killed any more is at the same place
+same_ats : (slots : List ℕ) (plans : List CellPlanValue) (j : ℕ) (killed : List KilledPart)
+    → map (λ (p : CellPlanValue). slot_at slots p.at) (slice_set plans j (record (plan_at plans j) { killed = killed }))
+    ≡ map (λ (p : CellPlanValue). slot_at slots p.at) plans
+same_ats slots [] j killed = refl
+same_ats slots (p ∷ plans) zero killed = refl
+same_ats slots (p ∷ plans) (suc j) killed = ap (λ (rest : List ℕ). slot_at slots p.at ∷ rest) (same_ats slots plans j killed)
+
 -- what is told of the commit stays
 pub retire_told : (slots : List ℕ) (old new : CommitValue) (living : List ℕ) (ino : ℕ) (cell : CellState) (told : Told)
     → old.appended ≡ length old.plans → new ≡ after_retire living ino cell old → IsCommitOf slots old told → IsCommitOf slots new told
@@ -126,3 +134,11 @@ retire_way old new living ino cell way lt published closed commit =
       opened = λ is. absurd (true≢false (sym is ∙ closed));
       between = λ two some less. absurd (omega (arith, many, less, published));
     })
+
+-- where all are published, all are appended
+pub all_appended : {old : CommitValue} → IsOnItsWay old → old.retired < length old.plans → old.published ≡ length old.plans
+    → old.appended ≡ length old.plans
+all_appended {old} way lt published = go (nat_lt old.appended (length old.plans)) refl where
+  go : (b : Bool) → nat_lt old.appended (length old.plans) ≡ b → old.appended ≡ length old.plans
+  go true q = let none = way.appends (ltb-true old.appended (length old.plans) q) in absurd (omega (arith, none, published, lt))
+  go false q = let le = way.appended in let ge = ltb-false old.appended (length old.plans) q in omega (arith, le, ge)
