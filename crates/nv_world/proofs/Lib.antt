@@ -7,3 +7,5 @@ pub mod Enters
 pub mod Publishes
 pub mod Appends
 pub mod Sequence
+pub mod Retires
+pub mod Opens

@@ -13,6 +13,8 @@ mod hold;
 mod job;
 mod kinds;
 mod lent;
+mod lent_open;
+mod lent_retire;
 mod next;
 mod reports;
 mod running;

@@ -1,6 +1,6 @@
 //! The journal is opened.
 
-ghost use Rattle.std.specs.Prelude.{◌≡◌, ◌<◌, ◌≤◌, [], length, slice_index_or};
+ghost use Rattle.std.specs.Prelude.{◌≡◌, ◌<◌, ◌≤◌, [], None, length, slice_index_or};
 ghost use Rattle.nv_calls.specs.Ready.{ArePlaced};
 ghost use Rattle.nv_calls.specs.SlotCells.{lent_cells};
 ghost use Rattle.nv_machine.specs.Kinds.{open_turn};
@@ -9,9 +9,10 @@ ghost use Rattle.nv_world.specs.Parts.{AreSlots};
 ghost use Rattle.nv_world.specs.Shown.{Told, hand_in, shared_of, shown_commit, slots_in};
 ghost use Rattle.nv_world.specs.Told.{IsCommitOf, IsOnItsWay};
 
+use crate::lent_open::open_in;
 use crate::running::Running;
 use crate::shared::Shared;
-use nv_calls::{Commit, SlotCells, open_on};
+use nv_calls::Commit;
 
 /// Opens the journal of a CPU with the tails of all inodes that get entries.
 pub(crate) fn open(shared: &mut Shared, running: &Running, commit: &mut Commit, cpu: u64)
@@ -20,6 +21,7 @@ pub(crate) fn open(shared: &mut Shared, running: &Running, commit: &mut Commit, 
     requires turn { commit.old.appended ≡ length commit.old.plans }
     requires first { commit.old.published ≡ 0 }
     requires two { 2 ≤ length commit.old.plans }
+    requires shut { commit.old.journal ≡ None }
     requires placed { ArePlaced (lent_cells (slots_in running.now.slots) shared.old.cells.items)
         commit.old.plans }
     requires cpu { cpu < length shared.old.book.state.journals }
@@ -33,9 +35,5 @@ pub(crate) fn open(shared: &mut Shared, running: &Running, commit: &mut Commit, 
         → IsCommitOf (slots_in running.now.slots) commit.new told }
     ensures way { IsOnItsWay commit.new }
 {
-    let lent = SlotCells {
-        cells: &mut shared.cells,
-        slots: running.slots.as_slice(),
-    };
-    open_on(&mut shared.book, &lent, commit, cpu);
+    open_in(&mut shared.book, &mut shared.cells, &running.slots, commit, cpu);
 }
