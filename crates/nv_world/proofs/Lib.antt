@@ -7,3 +7,4 @@ pub mod Enters
 pub mod Publishes
 pub mod Sequence
 pub mod Nodes
+pub mod Plans
