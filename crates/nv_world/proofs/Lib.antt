@@ -8,3 +8,4 @@ pub mod Publishes
 pub mod Sequence
 pub mod Nodes
 pub mod Plans
+pub mod Checks

@@ -1,12 +1,22 @@
 -- What a call reads over the cells of its slots.
-use Rattle.std.specs.Prelude.{◌≡◌, ℕ, ◌<◌, List, length, true}
+use Rattle.std.specs.Prelude.{◌≡◌, ℕ, ◌<◌, ◌||◌, Bool, true, false, not, List, length, Option, Some, None, Ok, Err}
 use Rattle.std.specs.List.{AllByRecursion}
 use Rattle.nv_alloc.specs.Numbers.{has}
 use Rattle.nv_base.specs.declared.numbers.Handle.{Handle}
+use Rattle.nv_base.specs.declared.fault.Fault.TheVariants.{NoInode}
+use Rattle.nv_entry.specs.declared.node.NodeCopy.{NodeCopy}
+use Rattle.nv_calls.specs.AllCalls.{early, is_nothing, late, looked}
 use Rattle.nv_calls.specs.Nodes.{HasBytes}
+use Rattle.nv_calls.specs.Prepared.{makes}
+use Rattle.nv_calls.specs.Refusals.{Check}
+use Rattle.nv_calls.specs.Updates.{blank_call}
+use Rattle.nv_calls.specs.declared.looked.Looked.{Looked}
+use Rattle.nv_calls.specs.declared.update.Update.{Update}
 use Rattle.nv_calls.specs.SlotCells.{lent_cells}
 use Rattle.nv_cell.specs.Cell.{CellState, CellValue}
 use Rattle.nv_machine.specs.Reads.{bytes_among}
+use Rattle.nv_machine.specs.Step.{same_looked}
+use Rattle.nv_machine.specs.World.{Answers, Ending, Overtaken, Refuses}
 use Rattle.nv_world.specs.declared.shared.Shared.{Shared}
 use Rattle.nv_world.specs.Parts.{AreSlots}
 
@@ -27,3 +37,20 @@ pub record CanRead (shared : Shared) (slots : List ℕ) (list : List Handle) : T
   pub there : AreSlots shared slots
   pub own : AllByRecursion (λ (c : ℕ × CellValue). HasOwn shared.geometry.numbers.block c.1.state) (lent_cells slots shared.cells.items)
   pub held : HoldHandles slots (length shared.cells.items) list
+
+-- ---- the check
+
+-- how a check ends a call, by whether it commits nothing
+abbrev pub check_ends : Check → Bool → Check → Bool → Bool → Option Ending
+check_ends (Err fault) same tests numbered nothing = Some (Refuses fault)
+check_ends (Ok passed) false tests numbered nothing = Some Overtaken
+check_ends (Ok passed) true (Err fault) numbered nothing = Some (Refuses fault)
+check_ends (Ok passed) true (Ok all) false nothing = Some (Refuses NoInode)
+check_ends (Ok passed) true (Ok all) true true = Some Answers
+check_ends (Ok passed) true (Ok all) true false = None
+
+-- how the check over these nodes ends a call
+abbrev pub ends_over : ℕ → (Handle → Option NodeCopy) → Looked → Bool → Update → Option Ending
+ends_over block n before numbered u =
+    check_ends (early n (blank_call u)) (same_looked (looked n (blank_call u)) before) (late block n before (blank_call u))
+    (numbered || not (makes u)) (is_nothing (blank_call u))
