@@ -5,8 +5,8 @@ use Rattle.nv_alloc.specs.Numbers.{has}
 use Rattle.nv_base.specs.declared.numbers.Handle.{Handle}
 use Rattle.nv_base.specs.declared.fault.Fault.TheVariants.{NoInode}
 use Rattle.nv_entry.specs.declared.node.NodeCopy.{NodeCopy}
-use Rattle.nv_calls.specs.AllCalls.{early, is_nothing, late, looked}
-use Rattle.nv_calls.specs.Nodes.{HasBytes}
+use Rattle.nv_calls.specs.AllCalls.{blocks_wanted, early, ends_in_page, is_nothing, late, looked}
+use Rattle.nv_calls.specs.Nodes.{HasBytes, has_page_in, nodes_in}
 use Rattle.nv_calls.specs.Prepared.{makes}
 use Rattle.nv_calls.specs.Refusals.{Check}
 use Rattle.nv_calls.specs.Updates.{blank_call}
@@ -54,3 +54,7 @@ abbrev pub ends_over : ℕ → (Handle → Option NodeCopy) → Looked → Bool 
 ends_over block n before numbered u =
     check_ends (early n (blank_call u)) (same_looked (looked n (blank_call u)) before) (late block n before (blank_call u))
     (numbered || not (makes u)) (is_nothing (blank_call u))
+
+-- how many data blocks a call takes over these cells
+abbrev pub wanted_over : ℕ → List (ℕ × CellValue) → Update → ℕ
+wanted_over block cells u = blocks_wanted block (nodes_in cells) (ends_in_page (has_page_in cells) block (blank_call u)) (blank_call u)

@@ -28,7 +28,7 @@ ghost use Rattle.nv_calls.specs.SlotCells.{lent_cells};
 ghost use Rattle.nv_calls.specs.declared.call.Call.{Call};
 ghost use Rattle.nv_calls.specs.declared.taken.Taken.{Taken};
 ghost use Rattle.nv_machine.specs.Reads.{nodes};
-ghost use Rattle.nv_world.specs.Nodes.{CanRead};
+ghost use Rattle.nv_world.specs.Nodes.{CanRead, wanted_over};
 
 fn nodes_law()
     ensures { (block : ℕ) (shared : Shared) (slots : List ℕ) (taken : Taken) (c : Call)
@@ -168,13 +168,30 @@ fn makes_inode(update: &Update) -> bool
 }
 
 /// How many data blocks the call takes.
-fn wanted_by(shared: &mut Shared, running: &Running) -> u64 {
+fn wanted_by(shared: &mut Shared, running: &Running) -> u64
+    requires slots { AreSlots shared.old (slots_in running.now.slots) }
+    requires some_bytes { 0 < shared.old.geometry.numbers.block }
+    requires few_bytes { shared.old.geometry.numbers.block ≤ BLOCK_BYTES }
+    requires change { is_change running.now.job ≡ true }
+    ensures same { shared.new ≡ shared.old }
+    ensures wanted { let lent = lent_cells (slots_in running.now.slots) shared.old.cells.items in
+        IsChangeWith (λ u. result ≡ wanted_over shared.old.geometry.numbers.block lent u) running.now.job }
+{
     let block = shared.block();
-    let update = &running.plan().update;
-    let lent = SlotCells {
-        cells: &mut shared.cells,
-        slots: running.slots.as_slice(),
-    };
+    wanted_in(block, &mut shared.cells, &running.slots, &running.plan().update)
+}
+
+/// The same over the cells of the call's slots.
+fn wanted_in(block: u64, cells: &mut [InodeCell], slots: &Slots, update: &Update) -> u64
+    requires slots { HaveSlots cells.old (slots_in slots.now) }
+    requires some_bytes { 0 < block }
+    requires few_bytes { block ≤ BLOCK_BYTES }
+    ensures same { cells.new ≡ cells.old }
+    ensures wanted { result
+        ≡ wanted_over block (lent_cells (slots_in slots.now) cells.old) update.now }
+{
+    let slots = slots.as_slice();
+    let lent = SlotCells { cells, slots };
     let nodes = HeldNodes::new(&lent);
     let present = ends_in_page(block, &nodes, update);
     blocks_wanted(block, &nodes, present, update)
