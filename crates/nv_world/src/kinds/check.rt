@@ -12,7 +12,7 @@ ghost use Rattle.nv_world.specs.Parts.{AreHome, CanCheck, IsOfDevice};
 ghost use Rattle.nv_world.specs.Shown.{Told, hand_of, shared_of, shown, turn_of};
 ghost use Rattle.nv_world.specs.Told.{IsEither, IsToldOf, KeepsJob, is_change};
 
-ghost use Rattle.std.specs.Prelude.{ℕ, List, ◌≤◌, option_map};
+ghost use Rattle.std.specs.Prelude.{◌≤◌, option_map};
 ghost use Rattle.nv_base.specs.declared.limits.TheConstants.{BLOCK_BYTES};
 ghost use Rattle.nv_calls.specs.Nodes.{nodes_in};
 ghost use Rattle.nv_calls.specs.Updates.{blank_call};
@@ -21,20 +21,9 @@ ghost use Rattle.nv_world.specs.Nodes.{ends_over};
 ghost use Rattle.nv_world.specs.Parts.{AreSlots, HaveSlots};
 ghost use Rattle.nv_world.specs.Shown.{ending_of, slots_in};
 ghost use Rattle.nv_world.specs.Told.{IsChangeWith};
-ghost use Rattle.nv_calls.specs.Locked.{SameCall, handles};
 ghost use Rattle.nv_calls.specs.AllCalls.{looked};
-ghost use Rattle.nv_calls.specs.Nodes.{plain_nodes};
 ghost use Rattle.nv_calls.specs.SlotCells.{lent_cells};
-ghost use Rattle.nv_calls.specs.declared.call.Call.{Call};
-ghost use Rattle.nv_calls.specs.declared.taken.Taken.{Taken};
-ghost use Rattle.nv_machine.specs.Reads.{nodes};
-ghost use Rattle.nv_world.specs.Nodes.{CanRead, wanted_over};
-
-fn nodes_law()
-    ensures { (block : ℕ) (shared : Shared) (slots : List ℕ) (taken : Taken) (c : Call)
-        → CanRead shared slots (handles (looked (copies (shared_of shared)) c) c)
-        → SameCall block (nodes (shared_of shared)) (plain_nodes (lent_cells slots shared.cells.items)) taken c }
-{}
+ghost use Rattle.nv_world.specs.Nodes.{wanted_over};
 
 use crate::ending::{end, refuse};
 use crate::kinds::take::want_pages;
