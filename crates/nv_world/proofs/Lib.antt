@@ -9,3 +9,6 @@ pub mod Appends
 pub mod Sequence
 pub mod Retires
 pub mod Opens
+pub mod Nodes
+pub mod Plans
+pub mod Checks

@@ -3,3 +3,4 @@ pub mod Shown
 pub mod Told
 pub mod Worlds
 pub mod Appends
+pub mod Nodes

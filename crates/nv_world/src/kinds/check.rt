@@ -12,16 +12,31 @@ ghost use Rattle.nv_world.specs.Parts.{AreHome, CanCheck, IsOfDevice};
 ghost use Rattle.nv_world.specs.Shown.{Told, hand_of, shared_of, shown, turn_of};
 ghost use Rattle.nv_world.specs.Told.{IsEither, IsToldOf, KeepsJob, is_change};
 
+ghost use Rattle.std.specs.Prelude.{◌≤◌, option_map};
+ghost use Rattle.nv_base.specs.declared.limits.TheConstants.{BLOCK_BYTES};
+ghost use Rattle.nv_calls.specs.Nodes.{nodes_in};
+ghost use Rattle.nv_calls.specs.Updates.{blank_call};
+ghost use Rattle.nv_machine.specs.Step.{same_looked};
+ghost use Rattle.nv_world.specs.Nodes.{ends_over};
+ghost use Rattle.nv_world.specs.Parts.{AreSlots, HaveSlots};
+ghost use Rattle.nv_world.specs.Shown.{ending_of, slots_in};
+ghost use Rattle.nv_world.specs.Told.{IsChangeWith};
+ghost use Rattle.nv_calls.specs.AllCalls.{looked};
+ghost use Rattle.nv_calls.specs.SlotCells.{lent_cells};
+ghost use Rattle.nv_world.specs.Nodes.{wanted_over};
+
 use crate::ending::{end, refuse};
 use crate::kinds::take::want_pages;
 use crate::next::{Ending, Next};
 use crate::running::Running;
+use crate::slots::Slots;
 use crate::shared::Shared;
 use crate::turn::Turn;
 use nv_alloc::Hand;
 use nv_base::Fault;
+use nv_cell::InodeCell;
 use nv_calls::{
-    HeldNodes, SlotCells, Update, blocks_wanted, check_early, check_late, ends_in_page,
+    HeldNodes, Looked, Nodes, SlotCells, Update, blocks_wanted, check_early, check_late, ends_in_page,
     is_as_looked, is_nothing,
 };
 
@@ -59,21 +74,63 @@ pub(crate) fn check(shared: &mut Shared, hand: &mut Hand, running: &mut Running)
 }
 
 /// Whether the check ends the call, and how.
-fn ending_of(shared: &mut Shared, running: &Running, has_number: bool) -> Option<Ending> {
+fn ending_of(shared: &mut Shared, running: &Running, has_number: bool) -> Option<Ending>
+    requires slots { AreSlots shared.old (slots_in running.now.slots) }
+    requires some_bytes { 0 < shared.old.geometry.numbers.block }
+    requires few_bytes { shared.old.geometry.numbers.block ≤ BLOCK_BYTES }
+    requires change { is_change running.now.job ≡ true }
+    ensures same { shared.new ≡ shared.old }
+    ensures ends { let lent = lent_cells (slots_in running.now.slots) shared.old.cells.items in
+        IsChangeWith (λ u. option_map ending_of result
+        ≡ ends_over shared.old.geometry.numbers.block (nodes_in lent) running.now.looked has_number u)
+        running.now.job }
+{
     let block = shared.block();
     let update = &running.plan().update;
-    let lent = SlotCells {
-        cells: &mut shared.cells,
-        slots: running.slots.as_slice(),
-    };
-    let nodes = HeldNodes::new(&lent);
-    if let Err(fault) = check_early(&nodes, update) {
+    ending_in(block, &mut shared.cells, &running.slots, &running.looked, update, has_number)
+}
+
+/// The same over the cells of the call's slots.
+fn ending_in(
+    block: u64,
+    cells: &mut [InodeCell],
+    slots: &Slots,
+    before: &Looked,
+    update: &Update,
+    has_number: bool,
+) -> Option<Ending>
+    requires slots { HaveSlots cells.old (slots_in slots.now) }
+    requires some_bytes { 0 < block }
+    requires few_bytes { block ≤ BLOCK_BYTES }
+    ensures same { cells.new ≡ cells.old }
+    ensures ends { let lent = lent_cells (slots_in slots.now) cells.old in option_map ending_of result
+        ≡ ends_over block (nodes_in lent) before.now has_number update.now }
+{
+    let slots = slots.as_slice();
+    let lent = SlotCells { cells, slots };
+    ending_over(block, &HeldNodes::new(&lent), before, update, has_number)
+}
+
+/// The same over nodes.
+fn ending_over<N: Nodes>(
+    block: u64,
+    nodes: &N,
+    before: &Looked,
+    update: &Update,
+    has_number: bool,
+) -> Option<Ending>
+    requires some_bytes { 0 < block }
+    requires few_bytes { block ≤ BLOCK_BYTES }
+    ensures { option_map ending_of result
+        ≡ ends_over block (N.nodes_of nodes.now) before.now has_number update.now }
+{
+    if let Err(fault) = check_early(nodes, update) {
         return Some(Ending::Refuses(fault));
     }
-    if !is_as_looked(&nodes, &running.looked, update) {
+    if !is_same(nodes, before, update) {
         return Some(Ending::Overtaken);
     }
-    if let Err(fault) = check_late(block, &nodes, &running.looked, update) {
+    if let Err(fault) = check_late(block, nodes, before, update) {
         return Some(Ending::Refuses(fault));
     }
     if !has_number && makes_inode(update) {
@@ -86,6 +143,13 @@ fn ending_of(shared: &mut Shared, running: &Running, has_number: bool) -> Option
     }
 }
 
+/// Whether the names of a call still lead to what its looks found.
+fn is_same<N: Nodes>(nodes: &N, before: &Looked, update: &Update) -> bool
+    ensures { result ≡ same_looked (looked (N.nodes_of nodes.now) (blank_call update.now)) before.now }
+{
+    is_as_looked(nodes, before, update)
+}
+
 fn makes_inode(update: &Update) -> bool
     ensures { result ≡ makes update.now }
 {
@@ -93,13 +157,30 @@ fn makes_inode(update: &Update) -> bool
 }
 
 /// How many data blocks the call takes.
-fn wanted_by(shared: &mut Shared, running: &Running) -> u64 {
+fn wanted_by(shared: &mut Shared, running: &Running) -> u64
+    requires slots { AreSlots shared.old (slots_in running.now.slots) }
+    requires some_bytes { 0 < shared.old.geometry.numbers.block }
+    requires few_bytes { shared.old.geometry.numbers.block ≤ BLOCK_BYTES }
+    requires change { is_change running.now.job ≡ true }
+    ensures same { shared.new ≡ shared.old }
+    ensures wanted { let lent = lent_cells (slots_in running.now.slots) shared.old.cells.items in
+        IsChangeWith (λ u. result ≡ wanted_over shared.old.geometry.numbers.block lent u) running.now.job }
+{
     let block = shared.block();
-    let update = &running.plan().update;
-    let lent = SlotCells {
-        cells: &mut shared.cells,
-        slots: running.slots.as_slice(),
-    };
+    wanted_in(block, &mut shared.cells, &running.slots, &running.plan().update)
+}
+
+/// The same over the cells of the call's slots.
+fn wanted_in(block: u64, cells: &mut [InodeCell], slots: &Slots, update: &Update) -> u64
+    requires slots { HaveSlots cells.old (slots_in slots.now) }
+    requires some_bytes { 0 < block }
+    requires few_bytes { block ≤ BLOCK_BYTES }
+    ensures same { cells.new ≡ cells.old }
+    ensures wanted { result
+        ≡ wanted_over block (lent_cells (slots_in slots.now) cells.old) update.now }
+{
+    let slots = slots.as_slice();
+    let lent = SlotCells { cells, slots };
     let nodes = HeldNodes::new(&lent);
     let present = ends_in_page(block, &nodes, update);
     blocks_wanted(block, &nodes, present, update)
