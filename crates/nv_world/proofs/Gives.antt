@@ -8,13 +8,16 @@ use Rattle.nv_alloc.specs.Block.{AreSized, BlockValue, numbers_of}
 use Rattle.nv_alloc.specs.FreeList.{FreeBlocks, is_home}
 use Rattle.nv_alloc.specs.Giving.{after_giving, after_offer, kept_of, takes}
 use Rattle.nv_alloc.specs.Numbers.{times}
+use Rattle.nv_alloc.specs.Queue.{after_home}
+use Rattle.nv_alloc.specs.declared.hand.Hand.{Hand}
 use Rattle.nv_alloc.proofs.GivingLemmas.{goes_home, kept_of-append}
 use Rattle.nv_base.specs.Homes.{home_start}
 use Rattle.nv_base.specs.declared.geometry.GeometryNumbers.{GeometryNumbers}
-use Rattle.nv_machine.specs.Kinds.{blocks_in, given}
+use Rattle.nv_machine.specs.Kinds.{blocks_in, give_turn, given, rest_turn, with_given}
 use Rattle.nv_machine.specs.Reads.{home_from}
-use Rattle.nv_machine.specs.World.{HandState, Shared, list_at, no_list}
+use Rattle.nv_machine.specs.World.{HandState, Running, Shared, list_at, no_list, with_list}
 use Rattle.nv_world.specs.Parts.{AreGiven, AreListsOf, IsListOf}
+use Rattle.nv_world.specs.Shown.{hand_of}
 use Rattle.nv_world.proofs.Homes.{AreHomes, are_homes, none_home, starts_rise}
 
 -- ---- what a list does not take
@@ -150,3 +153,37 @@ pub home_later : (g : GeometryNumbers) (from : ℕ) (old new : List FreeBlocks) 
 home_later g from old new bs some olds news given =
     later_from g from 0 old bs some (are_homes g old olds) (given_numbers (home_start g.blocks g.cpus from) bs given)
     ∙ same_from g 0 0 old new bs (are_homes g old olds) (are_homes g new news) (olds.count ∙ sym news.count)
+
+-- ---- the step
+
+-- an item that is there, whatever else would be
+pub same_there : (lists : List FreeBlocks) (i : ℕ) (a b : FreeBlocks) → i < length lists → slice_index_or lists i a ≡ slice_index_or lists i b
+same_there [] i a b lt = absurd (omega (arith, lt))
+same_there (l ∷ lists) zero a b lt = refl
+same_there (l ∷ lists) (suc i) a b lt = same_there lists i a b (omega (arith, lt))
+
+-- the hand after it
+pub handed : (cpu : ℕ) (s : Shared) (old new : Hand) → new.data ≡ after_home (list_at s cpu) old.data
+    → new.pages ≡ after_home (after_giving (list_at s cpu) old.data.blocks) old.pages
+    → new.chain ≡ kept_of (after_giving (list_at s cpu) (old.data.blocks ++ old.pages.blocks)) old.chain → new.ino ≡ old.ino
+    → hand_of new ≡ given cpu s (hand_of old)
+handed cpu s old new front pages chain ino = rw (front, pages, chain, ino) refl
+
+-- the machine's turn, over the hand and the list after it
+pub gives : (g : GeometryNumbers) (cpu : ℕ) (s : Shared) (old : HandState) (new : HandState) (list : FreeBlocks) (r : Running) → cpu < g.cpus
+    → AreListsOf g s.lists → AreSized g.block (blocks_in old)
+    → ((n : ℕ) → times n (numbers_of (blocks_in old)) + times n (numbers_of (list_at s cpu).blocks) ≤ 1) → AreGiven g cpu (blocks_in old)
+    → new ≡ given cpu s old → list ≡ after_giving (list_at s cpu) (blocks_in old)
+    → give_turn cpu s old r ≡ rest_turn (home_from 0 0 (slice_set s.lists cpu list) (blocks_in new)) new.ino (with_list cpu list s) new r
+gives g cpu s old new list r lt are sized once low hand took =
+    let l = list_at s cpu in
+    let kept : AreGiven g (cpu + 1) (blocks_in (given cpu s old)) =
+    subst (λ (bs : List BlockValue). AreGiven g (cpu + 1) bs) (sym (kept_in cpu s old))
+    (all_given g cpu l (blocks_in old) (are.each cpu lt) sized once low) in
+    let news = lists_set g cpu s.lists (after_giving l (blocks_in old)) are (list_of_given g cpu l (blocks_in old) (are.each cpu lt)) in
+    let home = home_later g (cpu + 1) s.lists (slice_set s.lists cpu (after_giving l (blocks_in old))) (blocks_in (given cpu s old))
+    (omega (arith, lt)) are news kept in
+    ap (λ (x : Option ℕ). rest_turn x old.ino (with_given cpu old s) (given cpu s old) r) home
+    ∙ ap (λ (x : HandState). rest_turn (home_from 0 0 (slice_set s.lists cpu (after_giving l (blocks_in old))) (blocks_in x)) x.ino
+    (with_given cpu old s) x r) (sym hand)
+    ∙ ap (λ (x : FreeBlocks). rest_turn (home_from 0 0 (slice_set s.lists cpu x) (blocks_in new)) new.ino (with_list cpu x s) new r) (sym took)
