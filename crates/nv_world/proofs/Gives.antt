@@ -70,10 +70,11 @@ kept_in cpu s h = sym (kept_of-append (list_at s cpu) (h.blocks ++ h.pages) h.ch
 pub list_of_given : (g : GeometryNumbers) (cpu : ℕ) (list : FreeBlocks) (bs : List BlockValue) → IsListOf g cpu list
     → IsListOf g cpu (after_giving list bs)
 list_of_given g cpu list [] home = home
-list_of_given g cpu list (b ∷ bs) home = go (takes list b) refl where
-  go : (t : Bool) → takes list b ≡ t → IsListOf g cpu (after_giving (after_offer list b) bs)
-  go true q = list_of_given g cpu (after_offer list b) bs (rw q (record { start = home.start; end = home.end; size = home.size }))
-  go false q = list_of_given g cpu (after_offer list b) bs (rw q home)
+list_of_given g cpu list (b ∷ bs) home = go (takes list b) refl (λ l is. list_of_given g cpu l bs is) where
+  go : (t : Bool) → takes list b ≡ t → ((l : FreeBlocks) → IsListOf g cpu l → IsListOf g cpu (after_giving l bs))
+      → IsListOf g cpu (after_giving (after_offer list b) bs)
+  go true q more = more (after_offer list b) (rw q (record { start = home.start; end = home.end; size = home.size }))
+  go false q more = more (after_offer list b) (rw q home)
 
 each_set : (g : GeometryNumbers) (at i k : ℕ) (lists : List FreeBlocks) (list : FreeBlocks) → k < length lists
     → IsListOf g (at + i) list → IsListOf g (at + k) (slice_index_or lists k no_list)
@@ -94,7 +95,12 @@ pub lists_set : (g : GeometryNumbers) (i : ℕ) (lists : List FreeBlocks) (list 
     → AreListsOf g (slice_set lists i list)
 lists_set g i lists list are is = record {
   count = length-set lists i list ∙ are.count;
-  each = λ cpu lt. each_set g 0 i cpu lists list (omega (arith, lt, are.count)) is (are.each cpu lt);
+  each = λ cpu lt.
+      let here : cpu ≡ 0 + cpu = omega arith in
+      let there : i ≡ 0 + i = omega arith in
+      subst (λ (n : ℕ). IsListOf g n (slice_index_or (slice_set lists i list) cpu no_list)) (sym here)
+      (each_set g 0 i cpu lists list (omega (arith, lt, are.count)) (subst (λ (n : ℕ). IsListOf g n list) there is)
+      (subst (λ (n : ℕ). IsListOf g n (slice_index_or lists cpu no_list)) here (are.each cpu lt)));
 }
 
 -- ---- the next home
@@ -105,37 +111,37 @@ given_numbers low [] all = tt
 given_numbers low (b ∷ bs) all = (all.0, given_numbers low bs all.1)
 
 none_below : (k : ℕ) → nat_lt k 0 ≡ false
-none_below zero = refl
-none_below (suc k) = refl
+none_below k = go (nat_lt k 0) refl where
+  go : (x : Bool) → nat_lt k 0 ≡ x → x ≡ false
+  go true q = let lt = ltb-true k 0 q in absurd (omega (arith, lt))
+  go false q = refl
 
 -- where all blocks below a CPU are given, its home is the first of all
 later_from : (g : GeometryNumbers) (from k : ℕ) (lists : List FreeBlocks) (bs : List BlockValue) → 0 < g.cpus → AreHomes g k lists
     → AllByRecursion (λ m. home_start g.blocks g.cpus from ≤ m) (numbers_of bs) → home_from from k lists bs ≡ home_from 0 k lists bs
 later_from g from k [] bs some homes all = refl
-later_from g from k (list ∷ lists) bs some homes all = rw (none_below k) (go (nat_lt k from) refl) where
-  rest : home_from from (k + 1) lists bs ≡ home_from 0 (k + 1) lists bs
-  rest = later_from g from (k + 1) lists bs some homes.1 all
-
+later_from g from k (list ∷ lists) bs some homes all = rw (none_below k) (go (nat_lt k from) refl (later_from g from (k + 1) lists bs some homes.1 all)) where
   any : Bool
   any = list_any (λ (b : BlockValue). is_home list b.number) bs
 
-  pick : (c : Bool) → (if c then Some k else home_from from (k + 1) lists bs) ≡ (if c then Some k else home_from 0 (k + 1) lists bs)
-  pick true = refl
-  pick false = rest
+  pick : home_from from (k + 1) lists bs ≡ home_from 0 (k + 1) lists bs → (c : Bool) → (if c then Some k else home_from from (k + 1) lists bs) ≡ (if c then Some k else home_from 0 (k + 1) lists bs)
+  pick rest true = refl
+  pick rest false = rest
 
-  skip : (c : Bool) → c ≡ false → home_from from (k + 1) lists bs ≡ (if c then Some k else home_from 0 (k + 1) lists bs)
-  skip true q = absurd (false≢true (sym q))
-  skip false q = rest
+  skip : home_from from (k + 1) lists bs ≡ home_from 0 (k + 1) lists bs → (c : Bool) → c ≡ false → home_from from (k + 1) lists bs ≡ (if c then Some k else home_from 0 (k + 1) lists bs)
+  skip rest true q = absurd (false≢true (sym q))
+  skip rest false q = rest
 
-  go : (x : Bool) → nat_lt k from ≡ x → (if x then home_from from (k + 1) lists bs else if any then Some k else home_from from (k + 1) lists bs)
+  go : (x : Bool) → nat_lt k from ≡ x → home_from from (k + 1) lists bs ≡ home_from 0 (k + 1) lists bs
+      → (if x then home_from from (k + 1) lists bs else if any then Some k else home_from from (k + 1) lists bs)
       ≡ (if any then Some k else home_from 0 (k + 1) lists bs)
-  go true q =
+  go true q rest =
       let lt = ltb-true k from q in
       let more = starts_rise g.blocks g.cpus (k + 1) (from - (k + 1)) some in
       let same : k + 1 + (from - (k + 1)) ≡ from = omega (arith, lt) in
       let mono = subst (λ (m : ℕ). home_start g.blocks g.cpus (k + 1) ≤ home_start g.blocks g.cpus m) same more in
-      skip any (none_home list bs (home_start g.blocks g.cpus from) (omega (arith, mono, homes.0.1)) all)
-  go false q = pick any
+      skip rest any (none_home list bs (home_start g.blocks g.cpus from) (omega (arith, mono, homes.0.1)) all)
+  go false q rest = pick rest any
 
 -- homes are told by the ranges alone
 same_from : (g : GeometryNumbers) (from k : ℕ) (old new : List FreeBlocks) (bs : List BlockValue) → AreHomes g k old → AreHomes g k new
