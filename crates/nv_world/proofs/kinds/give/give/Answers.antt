@@ -53,5 +53,5 @@ pub returns-clause-turn : goal.returns-clause-turn
 returns-clause-turn c told owes =
     gives c.args.shared.now.geometry.numbers c.args.cpu (shared_of c.args.shared.now) (hand_of c.args.hand.now) (hand_of c.give_home.new.self)
     c.give_home.new.list (shown told c.args.running.now) c.requires.cpu c.requires.home c.requires.sized c.requires.once c.requires.given
-    (hand_was c.give_back-arg-1) (took c.give_back-arg-1)
+    (hand_was c.before) (took c.before)
     ∙ c.give_back.ensures.turn told owes
