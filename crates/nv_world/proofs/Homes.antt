@@ -38,7 +38,7 @@ homes_from g cpu (list ∷ lists) each =
           )),
     )
 
-are_homes : (g : GeometryNumbers) (lists : List FreeBlocks) → AreListsOf g lists → AreHomes g 0 lists
+pub are_homes : (g : GeometryNumbers) (lists : List FreeBlocks) → AreListsOf g lists → AreHomes g 0 lists
 are_homes g lists are =
     homes_from g 0 lists (λ k lt.
     let home = are.each k (omega (arith, lt, are.count)) in
@@ -48,7 +48,7 @@ are_homes g lists are =
     ))
 
 -- a list below all blocks is home of none
-none_home : (list : FreeBlocks) (bs : List BlockValue) (low : ℕ) → list.end ≤ low → AllByRecursion (λ m. low ≤ m) (numbers_of bs)
+pub none_home : (list : FreeBlocks) (bs : List BlockValue) (low : ℕ) → list.end ≤ low → AllByRecursion (λ m. low ≤ m) (numbers_of bs)
     → list_any (λ (b : BlockValue). is_home list b.number) bs ≡ false
 none_home list [] low end all = refl
 none_home list (b ∷ bs) low end all =
@@ -83,7 +83,7 @@ some_home list (b ∷ bs) n start end there = go (b.number == n) refl there (som
   go false q t more = or_true (is_home list b.number) (more t)
 
 -- ranges begin in the order of their CPUs
-starts_rise : (blocks cpus c more : ℕ) → 0 < cpus → home_start blocks cpus c ≤ home_start blocks cpus (c + more)
+pub starts_rise : (blocks cpus c more : ℕ) → 0 < cpus → home_start blocks cpus c ≤ home_start blocks cpus (c + more)
 starts_rise blocks cpus c zero some =
     let same : c + 0 ≡ c = omega arith in subst (λ (n : ℕ). home_start blocks cpus c ≤ home_start blocks cpus n) (sym same) (omega arith)
 starts_rise blocks cpus c (suc more) some =

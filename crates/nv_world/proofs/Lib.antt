@@ -12,3 +12,4 @@ pub mod Opens
 pub mod Nodes
 pub mod Plans
 pub mod Checks
+pub mod Gives

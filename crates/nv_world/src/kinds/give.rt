@@ -1,7 +1,11 @@
 //! Blocks go home to one list.
 
-ghost use Rattle.std.specs.Prelude.{◌≡◌, ◌<◌};
+ghost use Rattle.std.specs.Prelude.{◌≡◌, ◌+◌, ◌<◌, ◌≤◌, ℕ};
+ghost use Rattle.nv_alloc.specs.Block.{AreSized, numbers_of};
+ghost use Rattle.nv_alloc.specs.Hand.{blocks_of};
+ghost use Rattle.nv_alloc.specs.Numbers.{times};
 ghost use Rattle.nv_machine.specs.Kinds.{blocks_in, give_turn};
+ghost use Rattle.nv_machine.specs.World.{list_at};
 ghost use Rattle.nv_world.specs.Parts.{AreGiven, AreHome, IsOfDevice};
 ghost use Rattle.nv_world.specs.Shown.{Told, hand_of, shared_of, shown, turn_of};
 ghost use Rattle.nv_world.specs.Told.{KeepsJob, OwesAt};
@@ -18,6 +22,9 @@ pub(crate) fn give(shared: &mut Shared, hand: &mut Hand, running: &mut Running, 
     requires home { AreHome shared.old }
     requires device { IsOfDevice shared.old.geometry.numbers hand.old }
     requires given { AreGiven shared.old.geometry.numbers cpu (blocks_in (hand_of hand.old)) }
+    requires sized { AreSized shared.old.geometry.numbers.block (blocks_of hand.old) }
+    requires once { (n : ℕ) → times n (numbers_of (blocks_of hand.old))
+        + times n (numbers_of (list_at (shared_of shared.old) cpu).blocks) ≤ 1 }
     ensures turn { (told : Told) → OwesAt running.old.ending running.old told
         → give_turn cpu (shared_of shared.old) (hand_of hand.old) (shown told running.old)
         ≡ turn_of result (shared_of shared.new) (hand_of hand.new) (shown told running.new) }
