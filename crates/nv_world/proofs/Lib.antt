@@ -6,3 +6,6 @@ pub mod Locked
 pub mod Enters
 pub mod Publishes
 pub mod Sequence
+pub mod Visits
+pub mod Looks
+pub mod Starts
