@@ -2,3 +2,4 @@ pub mod Parts
 pub mod Shown
 pub mod Told
 pub mod Worlds
+pub mod Visits

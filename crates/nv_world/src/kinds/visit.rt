@@ -1,14 +1,17 @@
 //! The step of a call that reads.
 
-ghost use Rattle.std.specs.Prelude.{◌≡◌, ◌||◌, not};
+ghost use Rattle.std.specs.Prelude.{◌≡◌, ◌||◌, ℕ, List, [], not};
 ghost use Rattle.nv_calls.specs.AllCalls.{answer, refusal};
 ghost use Rattle.nv_calls.specs.Locked.{handles};
+ghost use Rattle.nv_calls.specs.Nodes.{alone, nodes_by, view_refusal};
+ghost use Rattle.nv_cell.specs.Pages.{AreBytesOf};
 ghost use Rattle.nv_machine.specs.Kinds.{visit_turn};
 ghost use Rattle.nv_machine.specs.Reads.{copies, nodes};
 ghost use Rattle.nv_machine.specs.Sequence.{nothing_looked};
 ghost use Rattle.nv_machine.specs.Step.{handle_at, visit_grows};
 ghost use Rattle.nv_machine.specs.World.{empty_hand, owner_at};
-ghost use Rattle.nv_world.specs.Shown.{Told, shared_of, shown, turn_of};
+ghost use Rattle.nv_world.specs.Shown.{Told, shared_of, shown, slots_in, turn_of};
+ghost use Rattle.nv_world.specs.Visits.{HasOwnBytes, IsFoundBy};
 ghost use Rattle.nv_world.specs.Told.{IsEither, IsToldOf, IsVisit, IsVisitOf};
 
 use crate::job::{Job, visited};
@@ -23,6 +26,8 @@ use std::mem;
 /// Reads one inode, or waits for its lock.
 pub(crate) fn visit(shared: &Shared, running: &mut Running) -> Turn
     requires visit { IsVisitOf running.old.job }
+    requires slots { slots_in running.old.slots ≡ [] }
+    requires own { (ino : ℕ) → HasOwnBytes (shared_of shared.now) ino }
     ensures turn { (told : Told) → IsToldOf running.old told
         → let block = shared.now.geometry.numbers.block in let s = shared_of shared.now in
         let c = told.call in let r = shown told running.old in
@@ -51,6 +56,9 @@ pub(crate) fn visit(shared: &Shared, running: &mut Running) -> Turn
 /// What a call finds in the cell of its inode.
 fn answer(ino: Ino, cell: &InodeCell, call: Call) -> Result<Answer, Fault>
     requires { IsVisit call }
+    ensures { (bytes : ℕ → List ℕ) → AreBytesOf cell.now.state bytes
+        → IsFoundBy (view_refusal bytes ino cell.now call)
+        (λ made. answer (nodes_by bytes (alone ino cell.now)) made call) (visit_grows call) result }
 {
     let view = match &call {
         Call::Read { .. } => read_on(ino, cell, call),
