@@ -9,3 +9,4 @@ pub mod Sequence
 pub mod Visits
 pub mod Looks
 pub mod Starts
+pub mod VisitTurns
