@@ -35,7 +35,7 @@ visit_ends s r owner check by grows (Ok found) free none is =
     inl (rw free (rw is.0 (ap (λ (a : Answer). machine.Ends (Ok a) s empty_hand) (sym (is.1 r.made)))))
 visit_ends s r owner check by grows (Err fault) free none (inl is) = inl (rw free (rw is (refuses s r fault none)))
 visit_ends s r owner check by grows (Err fault) free none (inr is) =
-    inr (rw free (rw is.0 (rw is.1.1 (rw is.1.0 (refuses s r OutOfMemory none)))))
+    inr (rw free (rw is.0 (rw is.2 (rw is.1 (refuses s r OutOfMemory none)))))
 
 -- what was read is a view, or refused as the check says
 pub view_match : {V : Type 0} (result : Result V Fault) (P : V → Type 0) (check : Check) (grows : Bool) → IfOk result P → FailsAsChecked check result
