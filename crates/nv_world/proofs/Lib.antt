@@ -13,3 +13,7 @@ pub mod Nodes
 pub mod Plans
 pub mod Checks
 pub mod Gives
+pub mod Visits
+pub mod Looks
+pub mod Starts
+pub mod VisitTurns

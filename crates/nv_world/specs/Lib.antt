@@ -4,3 +4,4 @@ pub mod Told
 pub mod Worlds
 pub mod Appends
 pub mod Nodes
+pub mod Visits

@@ -1,13 +1,13 @@
 //! A call that runs.
 
-ghost use Rattle.std.specs.Prelude.{◌≡◌, ◌<◌, ◌+◌, ℕ, List, None, false, length, true};
+ghost use Rattle.std.specs.Prelude.{◌≡◌, ◌⊎◌, ◌<◌, ◌+◌, ℕ, List, None, false, length, true};
 ghost use Rattle.nv_calls.specs.Prepared.{makes};
 ghost use Rattle.nv_machine.specs.Reads.{slots_of};
-ghost use Rattle.nv_machine.specs.Sequence.{begun, beginning, locking, looking};
+ghost use Rattle.nv_machine.specs.Sequence.{begun, beginning, locking, looking, nothing_looked};
 ghost use Rattle.nv_machine.specs.World as machine;
 ghost use Rattle.nv_world.specs.Shown.{Told, next_of, shared_of, shown, slots_in};
 ghost use Rattle.nv_calls.specs.Updates.{call_of};
-ghost use Rattle.nv_world.specs.Told.{IsChangeBy, IsToldOf, KeepsJob, is_change, looking_at, starting};
+ghost use Rattle.nv_world.specs.Told.{IsChangeBy, IsJobOf, IsToldOf, IsVisitOf, KeepsJob, is_change, looking_at, starting};
 
 use crate::job::{Job, Owed, job_of, locked, look_count};
 use crate::next::{Ending, Next};
@@ -76,7 +76,13 @@ pub(crate) fn slots_of(inodes: u64, number: Option<Ino>, update: &Update, looked
 }
 
 /// The first step of a call, and the slots that it locks as far as they are known.
-fn first_step(inodes: u64, job: &Job, looked: &Looked) -> (Next, Slots) {
+fn first_step(inodes: u64, job: &Job, looked: &Looked) -> (Next, Slots)
+    requires job { (is_change job.now ≡ true) ⊎ IsVisitOf job.now }
+    requires looked { looked.now ≡ nothing_looked }
+    ensures { (s : machine.Shared) (owed : Owed) (c : Call) → length s.cells ≡ inodes
+        → IsJobOf job.now owed c → let first = begun (beginning c) s c in
+        (next_of result.0 ≡ first.next) × (slots_in result.1 ≡ first.slots) }
+{
     let none = Slots::none();
     let Job::Change(Plan { update, .. }, _) = job else {
         return (Next::Visit, none);

@@ -1,7 +1,7 @@
 //! What actors share.
 
-ghost use Rattle.std.specs.Prelude.{◌≡◌, ◌<◌, ◌%◌, is_some, length};
-ghost use Rattle.nv_machine.specs.World.{cell_at, owner_at, with_owner};
+ghost use Rattle.std.specs.Prelude.{◌≡◌, ◌<◌, ◌%◌, MatchOption, is_some, length};
+ghost use Rattle.nv_machine.specs.World.{cell_at, no_cell, owner_at, with_owner};
 ghost use Rattle.nv_world.specs.Shown.{shared_of};
 
 use nv_alloc::{FreeList, InodePool};
@@ -66,7 +66,10 @@ impl Shared {
     }
 
     /// The cell of a slot that is there.
-    pub(crate) fn cell(&self, ino: Ino) -> Option<&InodeCell> {
+    pub(crate) fn cell(&self, ino: Ino) -> Option<&InodeCell>
+        ensures { MatchOption result (cell_at (shared_of self.now) ino ≡ no_cell)
+            (λ cell. cell_at (shared_of self.now) ino ≡ cell.now.state) }
+    {
         self.cells.get(ino.number() as usize)
     }
 

@@ -104,9 +104,10 @@ fn bound(shared: &Shared, dir: &Handle, name: &[u8]) -> Result<Handle, Fault>
         (λ to. (lookup_refusal nodes dir.now name.now ≡ passes) × (found nodes dir.now name.now ≡ Some to))
         (λ fault. lookup_refusal nodes dir.now name.now ≡ Err fault) }
 {
-    match look_up(shared, dir, name)? {
-        Some(to) => Ok(to),
-        None => Err(Fault::Missing),
+    match look_up(shared, dir, name) {
+        Ok(Some(to)) => Ok(to),
+        Ok(None) => Err(Fault::Missing),
+        Err(fault) => Err(fault),
     }
 }
 

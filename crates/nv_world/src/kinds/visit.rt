@@ -1,14 +1,17 @@
 //! The step of a call that reads.
 
-ghost use Rattle.std.specs.Prelude.{◌≡◌, ◌||◌, not};
+ghost use Rattle.std.specs.Prelude.{◌≡◌, ◌||◌, ℕ, List, [], MatchResult, not};
 ghost use Rattle.nv_calls.specs.AllCalls.{answer, refusal};
 ghost use Rattle.nv_calls.specs.Locked.{handles};
+ghost use Rattle.nv_calls.specs.Nodes.{IsView, alone, nodes_by, view_refusal};
+ghost use Rattle.nv_cell.specs.Pages.{AreBytesOf};
 ghost use Rattle.nv_machine.specs.Kinds.{visit_turn};
 ghost use Rattle.nv_machine.specs.Reads.{copies, nodes};
 ghost use Rattle.nv_machine.specs.Sequence.{nothing_looked};
 ghost use Rattle.nv_machine.specs.Step.{handle_at, visit_grows};
 ghost use Rattle.nv_machine.specs.World.{empty_hand, owner_at};
-ghost use Rattle.nv_world.specs.Shown.{Told, shared_of, shown, turn_of};
+ghost use Rattle.nv_world.specs.Shown.{Told, shared_of, shown, slots_in, turn_of};
+ghost use Rattle.nv_world.specs.Visits.{HasOwnBytes, IsFoundBy, IsRefusedBy};
 ghost use Rattle.nv_world.specs.Told.{IsEither, IsToldOf, IsVisit, IsVisitOf};
 
 use crate::job::{Job, visited};
@@ -16,13 +19,15 @@ use crate::running::Running;
 use crate::shared::Shared;
 use crate::turn::Turn;
 use nv_base::{Fault, Ino};
-use nv_calls::{Answer, Call, list_on, lookup_on, read_on, stat_on};
+use nv_calls::{Answer, Call, View, list_on, lookup_on, read_on, stat_on};
 use nv_cell::InodeCell;
 use std::mem;
 
 /// Reads one inode, or waits for its lock.
 pub(crate) fn visit(shared: &Shared, running: &mut Running) -> Turn
     requires visit { IsVisitOf running.old.job }
+    requires slots { slots_in running.old.slots ≡ [] }
+    requires own { (ino : ℕ) → HasOwnBytes (shared_of shared.now) ino }
     ensures turn { (told : Told) → IsToldOf running.old told
         → let block = shared.now.geometry.numbers.block in let s = shared_of shared.now in
         let c = told.call in let r = shown told running.old in
@@ -51,13 +56,27 @@ pub(crate) fn visit(shared: &Shared, running: &mut Running) -> Turn
 /// What a call finds in the cell of its inode.
 fn answer(ino: Ino, cell: &InodeCell, call: Call) -> Result<Answer, Fault>
     requires { IsVisit call }
+    ensures { (bytes : ℕ → List ℕ) → AreBytesOf cell.now.state bytes
+        → IsFoundBy (view_refusal bytes ino cell.now call)
+        (λ made. answer (nodes_by bytes (alone ino cell.now)) made call) (visit_grows call) result }
 {
-    let view = match &call {
+    match view_of(ino, cell, call) {
+        Ok(view) => Ok(view.into_found()),
+        Err(fault) => Err(fault),
+    }
+}
+
+fn view_of(ino: Ino, cell: &InodeCell, call: Call) -> Result<View, Fault>
+    requires { IsVisit call }
+    ensures { (bytes : ℕ → List ℕ) → AreBytesOf cell.now.state bytes
+        → MatchResult result (IsView bytes ino cell.now call)
+        (IsRefusedBy (view_refusal bytes ino cell.now call) (visit_grows call)) }
+{
+    match &call {
         Call::Read { .. } => read_on(ino, cell, call),
         Call::Stat { .. } => stat_on(ino, cell, call),
         Call::List { .. } => list_on(ino, cell, call),
         Call::Lookup { .. } => lookup_on(ino, cell, call),
         _ => unreachable!(),
-    }?;
-    Ok(view.into_found())
+    }
 }
