@@ -6,3 +6,4 @@ pub mod Locked
 pub mod Enters
 pub mod Publishes
 pub mod Sequence
+pub mod Runs
