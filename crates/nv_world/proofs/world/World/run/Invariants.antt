@@ -1,7 +1,7 @@
 use Rattle.std.proofs.Common.{◌≡◌, length, vec_len, vec_capacity}
 use Rattle.nv_machine.specs.World as machine
 use Rattle.nv_world.specs.Worlds.{IsRun, Shows}
-use Rattle.nv_world.proofs.step.World.run.Given as goal
+use Rattle.nv_world.proofs.world.World.run.Given as goal
 
 abbrev pub invariant-loop-event : goal.invariant-loop-event
 invariant-loop-event l = record {

@@ -1,7 +1,7 @@
 use Rattle.std.proofs.Common.{arith, rules, rw}
 use Rattle.std.proofs.lemmas.Grind.{common_steps}
 use Rattle.nv_world.proofs.Runs.{run-snoc, run-none}
-use Rattle.nv_world.proofs.step.World.run.Goals as goal
+use Rattle.nv_world.proofs.world.World.run.Goals as goal
 
 pub loop-event-preserved : goal.loop-event-preserved
 loop-event-preserved c = record {
