@@ -17,3 +17,4 @@ pub mod Visits
 pub mod Looks
 pub mod Starts
 pub mod VisitTurns
+pub mod Runs

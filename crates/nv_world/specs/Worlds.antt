@@ -3,6 +3,7 @@ use Rattle.std.specs.Prelude.{◌≡◌, ℕ, ◌+◌, ◌<◌, ◌≤◌, Bool,
 use Rattle.std.specs.List.{sum_by}
 use Rattle.nv_base.specs.declared.fault.Fault.{Fault}
 use Rattle.nv_alloc.specs.declared.hand.Hand.{Hand}
+use Rattle.nv_base.specs.Limits.{IsWithinLimits}
 use Rattle.nv_book.specs.Book.{BookValue}
 use Rattle.nv_calls.specs.Cells.{value_at}
 use Rattle.nv_calls.specs.Ready.{ArePlaced, CellPlanValue, plan_at}
@@ -10,6 +11,7 @@ use Rattle.nv_calls.specs.SlotCells.{lent_cells}
 use Rattle.nv_cell.specs.Cell.{CellValue}
 use Rattle.nv_cell.specs.Room.{IsReadyFor}
 use Rattle.nv_calls.specs.Commit.{CommitValue}
+use Rattle.nv_machine.specs.Format.{formatted}
 use Rattle.nv_machine.specs.Step as machine_step
 use Rattle.nv_machine.specs.World as machine
 use Rattle.nv_world.specs.declared.event.Event.{Event}
@@ -134,3 +136,23 @@ HasRooms shared (hold.Ready ready) running =
     × HasCellRoom (lent_cells (slots_in running.slots) shared.cells.items) ready.plans 0 0 × (ready.need ≤ ready.hand.«data».room)
 HasRooms shared (hold.Commit commit) running =
     HasCommitRoom (lent_cells (slots_in running.slots) shared.cells.items) shared.book commit
+
+-- ---- the invariant
+
+-- an actor without a call needs no room
+abbrev pub HasActorRooms : Shared → Hold → Option Running → Type 0
+HasActorRooms shared hold None = Unit {0}
+HasActorRooms shared hold (Some running) = HasRooms shared hold running
+
+-- a world shows the machine's after these events from a new one, so that the machine's laws hold of it; and there is room
+-- for what its calls are about to do
+pub record IsWorldAfter (w : World) (m : machine.World) (events : List machine.Event) : Type 0 where
+  pub limits : IsWithinLimits w.shared.geometry.numbers
+  pub reached : m ≡ machine_step.after (formatted w.shared.geometry.numbers) events
+  pub shows : Shows w m
+  pub rooms : (k : ℕ) (d : Actor) → k < length w.actors.items
+      → HasActorRooms w.shared (slice_index_or w.actors.items k d).hold (slice_index_or w.actors.items k d).running
+
+-- WHAT HOLDS OF EVERY WORLD: there is one of the machine that it shows
+abbrev pub IsWorld : World → Type 0
+IsWorld w = (m : machine.World) × (events : List machine.Event) × IsWorldAfter w m events

@@ -1,6 +1,6 @@
 //! The steps of a world.
 
-ghost use Rattle.std.specs.Prelude.{◌≡◌, IfErr, IfOk, OnErr};
+ghost use Rattle.std.specs.Prelude.{◌≡◌, IfErr, IfOk, OnErr, [], vec_capacity};
 ghost use Rattle.nv_base.specs.declared.fault.Fault.TheVariants.{OutOfMemory};
 ghost use Rattle.nv_machine.specs.World as machine;
 ghost use Rattle.nv_world.specs.Worlds.{IsRun, IsStep, Shows};
@@ -66,7 +66,10 @@ impl World {
     }
 
     /// No replies, with room for so many.
-    fn no_replies(&self, room: usize) -> Result<Vec<Reply>, AllocError> {
+    fn no_replies(&self, room: usize) -> Result<Vec<Reply>, AllocError>
+        ensures empty { IfOk result (λ replies. replies.items ≡ []) }
+        ensures room { IfOk result (λ replies. vec_capacity replies ≡ room) }
+    {
         Vec::with_capacity(self.alloc, room)
     }
 
