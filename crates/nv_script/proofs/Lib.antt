@@ -7,3 +7,4 @@ pub mod Handles
 pub mod Known
 pub mod Lines
 pub mod Numbers
+pub mod Goes

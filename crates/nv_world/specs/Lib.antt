@@ -1,4 +1,6 @@
 pub mod Parts
+pub mod Reports
+pub mod Settled
 pub mod Shown
 pub mod Told
 pub mod Worlds

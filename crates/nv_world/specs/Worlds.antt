@@ -1,5 +1,5 @@
 -- When a world shows one of the machine.
-use Rattle.std.specs.Prelude.{◌≡◌, ℕ, ◌+◌, ◌<◌, ◌≤◌, Bool, List, [], ◌∷◌, length, map, Option, Some, None, Result, Ok, Err, slice_index_or}
+use Rattle.std.specs.Prelude.{◌≡◌, ◌≢◌, replicate, ℕ, ◌+◌, ◌<◌, ◌≤◌, Bool, List, [], ◌∷◌, length, map, Option, Some, None, Result, Ok, Err, slice_index_or}
 use Rattle.std.specs.List.{sum_by}
 use Rattle.nv_base.specs.declared.fault.Fault.{Fault}
 use Rattle.nv_alloc.specs.declared.hand.Hand.{Hand}
@@ -134,3 +134,27 @@ HasRooms shared (hold.Ready ready) running =
     × HasCellRoom (lent_cells (slots_in running.slots) shared.cells.items) ready.plans 0 0 × (ready.need ≤ ready.hand.«data».room)
 HasRooms shared (hold.Commit commit) running =
     HasCommitRoom (lent_cells (slots_in running.slots) shared.cells.items) shared.book commit
+
+-- ---- for those who hold a world
+
+-- a world, where there is one, shows one of the machine
+abbrev pub ShowsAny : Option World → Option machine.World → Type 0
+ShowsAny None None = Unit {0}
+ShowsAny (Some w) (Some m) = Shows w m
+ShowsAny other shown = ⊥
+
+-- whatever world of the machine is shown at first, it leads to one that is shown after
+abbrev pub Leads : (machine.World → machine.World → Type 0) → World → World → Type 0
+Leads To old new = (m : machine.World) → Shows old m → (n : machine.World) × To m n × Shows new n
+
+-- the events by which an actor's call goes on, each with the memory that it asks for granted or refused
+abbrev pub gos : ℕ → List Bool → List machine.Event
+gos actor grants = map (machine.Go actor) grants
+
+-- more steps than any call has
+abbrev pub most_goes : ℕ
+most_goes = 1048576
+
+-- no call is moved so often
+abbrev pub IsBounded : machine.World → Type 0
+IsBounded m = (actor : ℕ) (grants : List Bool) → machine_step.replies m (gos actor grants) ≢ replicate most_goes machine.Moved
