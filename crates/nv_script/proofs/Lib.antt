@@ -8,3 +8,4 @@ pub mod Known
 pub mod Lines
 pub mod Numbers
 pub mod Goes
+pub mod Played

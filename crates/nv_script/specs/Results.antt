@@ -1,5 +1,5 @@
 -- What inner functions of a script's run tell each other.
-use Rattle.std.specs.Prelude.{◌≡◌, ◌≤◌, ◌⊎◌, ℕ, ◌+◌, Bool, true, false, nat_lt, if◌then◌else◌, List, ◌++◌, length, Option, Some, None, is_some, Result, Ok, Err, MatchResult}
+use Rattle.std.specs.Prelude.{◌≡◌, ◌≤◌, ◌⊎◌, ℕ, ◌+◌, Bool, true, false, nat_lt, if◌then◌else◌, List, [], ◌∷◌, ◌++◌, length, replicate, Option, Some, None, is_some, Result, Ok, Err, MatchResult}
 use Rattle.std.specs.Io.KnownBytes.{Consumes}
 use Rattle.nv_base.specs.declared.fault.Fault.{Fault}
 use Rattle.nv_base.specs.declared.fault.Fault.TheVariants as fault
@@ -8,9 +8,11 @@ use Rattle.nv_base.specs.declared.fault.ScriptFaultKind.{ScriptFaultKind}
 use Rattle.nv_base.specs.declared.fault.ScriptFaultKind.TheVariants as kind
 use Rattle.nv_base.specs.declared.geometry.GeometryNumbers.{GeometryNumbers}
 use Rattle.nv_machine.specs.Format.{formatted}
+use Rattle.nv_machine.specs.Step.{after, replies}
 use Rattle.nv_machine.specs.World as machine
 use Rattle.nv_world.specs.declared.world.World.{World}
-use Rattle.nv_world.specs.Worlds.{Shows, ShowsAny}
+use Rattle.nv_world.specs.declared.event.Reply.{Reply}
+use Rattle.nv_world.specs.Worlds.{Shows, ShowsAny, gos, reply_of}
 use Rattle.nv_script.specs.declared.fault.LineFault.{LineFault}
 use Rattle.nv_script.specs.declared.fault.LineFault.TheVariants as line_fault
 use Rattle.nv_script.specs.declared.feed.Taken.{Taken}
@@ -86,3 +88,9 @@ TurnIs (Ok true) input left known old new gathered number world =
     (number ≤ most_lines) × (n : Option machine.World) × AtLine input known old new gathered (number + 1) n × ShowsAny world n
 TurnIs (Ok false) input left known old new gathered number world = EndsWell input left (λ text. WritesFront old new text gathered)
 TurnIs (Err why) input left known old new gathered number world = EndsBy why input left (λ text. WritesFront old new text gathered)
+
+-- a call went on once and so often again: it moved each time but for the last, which had this reply
+pub record HasGone (again actor : ℕ) (reply : Reply) (old new : machine.World) : Type 0 where
+  pub grants : List Bool
+  pub replies : replies old (gos actor grants) ≡ replicate again machine.Moved ++ reply_of reply ∷ []
+  pub world : new ≡ after old (gos actor grants)

@@ -1,8 +1,5 @@
 //! A world, and how it is let go.
 
-ghost use Rattle.nv_machine.specs.World as machine;
-ghost use Rattle.nv_world.specs.Worlds.{IsBounded, Shows};
-
 use crate::hold::Hold;
 use crate::running::Running;
 use crate::shared::Shared;
@@ -19,13 +16,6 @@ pub struct World {
     pub(crate) alloc: Global,
     pub(crate) shared: Shared,
     pub(crate) actors: Vec<Actor>,
-}
-
-impl World {
-    /// A law: calls end. No call moves on so often as a script's line goes on with it at most.
-    pub fn bounded(&self)
-        ensures { (m : machine.World) → Shows self.now m → IsBounded m }
-    {}
 }
 
 impl Drop for World {
