@@ -23,7 +23,7 @@ use Rattle.nv_script.specs.Play.{EndsBy, EndsWell, Formats, LineFails, Plays, Pl
 
 -- what became of one line that was not played: its fault, and then the world has not changed; or memory was
 -- refused at a command
-abbrev pub LineFaultIs : LineFault → Option World → List ℕ → Option World → Type 0
+abbrev pub LineFaultIs : {W : Type 0} → LineFault → Option W → List ℕ → Option W → Type 0
 LineFaultIs line_fault.OutOfMemory old line new = is_skipped line ≡ false
 LineFaultIs (line_fault.Faulty fault) old line new = LineFails (is_some old) line fault × (new ≡ old)
 
