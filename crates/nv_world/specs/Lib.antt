@@ -1,7 +1,9 @@
-pub mod Parts
-pub mod Shown
-pub mod Told
-pub mod Worlds
 pub mod Appends
 pub mod Nodes
+pub mod Parts
+pub mod Reports
+pub mod Settled
+pub mod Shown
+pub mod Told
 pub mod Visits
+pub mod Worlds

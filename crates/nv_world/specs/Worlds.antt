@@ -1,5 +1,5 @@
 -- When a world shows one of the machine.
-use Rattle.std.specs.Prelude.{◌≡◌, ℕ, ◌+◌, ◌<◌, ◌≤◌, Bool, List, [], ◌∷◌, length, map, Option, Some, None, Result, Ok, Err, slice_index_or}
+use Rattle.std.specs.Prelude.{◌≡◌, ◌≢◌, replicate, ℕ, ◌+◌, ◌<◌, ◌≤◌, Bool, List, [], ◌∷◌, length, map, Option, Some, None, Result, Ok, Err, slice_index_or}
 use Rattle.std.specs.List.{sum_by}
 use Rattle.nv_base.specs.declared.fault.Fault.{Fault}
 use Rattle.nv_alloc.specs.declared.hand.Hand.{Hand}
@@ -156,3 +156,27 @@ pub record IsWorldAfter (w : World) (m : machine.World) (events : List machine.E
 -- WHAT HOLDS OF EVERY WORLD: there is one of the machine that it shows
 abbrev pub IsWorld : World → Type 0
 IsWorld w = (m : machine.World) × (events : List machine.Event) × IsWorldAfter w m events
+
+-- ---- for those who hold a world
+
+-- a world, where there is one, shows one of the machine
+abbrev pub ShowsAny : Option World → Option machine.World → Type 0
+ShowsAny None None = Unit {0}
+ShowsAny (Some w) (Some m) = Shows w m
+ShowsAny other shown = ⊥
+
+-- whatever world of the machine is shown at first, it leads to one that is shown after
+abbrev pub Leads : (machine.World → machine.World → Type 0) → World → World → Type 0
+Leads To old new = (m : machine.World) → Shows old m → (n : machine.World) × To m n × Shows new n
+
+-- the events by which an actor's call goes on, each with the memory that it asks for granted or refused
+abbrev pub gos : ℕ → List Bool → List machine.Event
+gos actor grants = map (machine.Go actor) grants
+
+-- more steps than any call has
+abbrev pub most_goes : ℕ
+most_goes = 1048576
+
+-- no call is moved so often
+abbrev pub IsBounded : machine.World → Type 0
+IsBounded m = (actor : ℕ) (grants : List Bool) → machine_step.replies m (gos actor grants) ≢ replicate most_goes machine.Moved

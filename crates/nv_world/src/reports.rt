@@ -1,5 +1,12 @@
 //! What a world reports of its blocks and logs.
 
+ghost use Rattle.std.specs.Prelude.{◌≡◌, ◌⊎◌, ◌<◌, ◌≤◌, IfErr, IfOk, length};
+ghost use Rattle.nv_base.specs.Refusals.{FailsOnly};
+ghost use Rattle.nv_base.specs.declared.fault.Fault.TheVariants.{OutOfMemory, Stale};
+ghost use Rattle.nv_machine.specs.World as machine;
+ghost use Rattle.nv_world.specs.Reports.{lists_of, log_at, space_of};
+ghost use Rattle.nv_world.specs.Worlds.{Shows};
+
 use crate::World;
 use nv_alloc::FreeRun;
 use nv_base::{Epoch, Fault, Ino, Items};
@@ -34,7 +41,9 @@ pub struct LogCounts {
 
 impl World {
     /// Where the blocks are. Takes no memory, and time by all blocks.
-    pub fn space(&self) -> Space {
+    pub fn space(&self) -> Space
+        ensures { (m : machine.World) → Shows self.now m → result ≡ space_of m }
+    {
         let shared = &self.shared;
         let mut free = 0;
         for list in &shared.lists {
@@ -59,7 +68,11 @@ impl World {
     }
 
     /// The free lists, CPU by CPU. `OutOfMemory` where room for them was refused.
-    pub fn lists(&self) -> Result<Lists, Fault> {
+    pub fn lists(&self) -> Result<Lists, Fault>
+        ensures ok { (m : machine.World) → Shows self.now m
+            → IfOk result (λ lists. lists ≡ lists_of m.shared) }
+        ensures err { FailsOnly OutOfMemory result }
+    {
         let mut lists = Vec::with_capacity(self.alloc, self.shared.lists.len())?;
         for list in &self.shared.lists {
             let runs: Vec<FreeRun> = list.runs().collect(self.alloc)?;
@@ -69,7 +82,13 @@ impl World {
     }
 
     /// The log of a slot in numbers. `Stale` where there is no such slot, before `OutOfMemory`.
-    pub fn log(&self, ino: Ino) -> Result<LogCounts, Fault> {
+    pub fn log(&self, ino: Ino) -> Result<LogCounts, Fault>
+        ensures ok { (m : machine.World) → Shows self.now m
+            → IfOk result (λ log. (ino < length m.shared.cells) × (log ≡ log_at m.shared ino)) }
+        ensures err { (m : machine.World) → Shows self.now m → IfErr result (λ fault.
+            ((fault ≡ Stale) × (length m.shared.cells ≤ ino))
+            ⊎ ((fault ≡ OutOfMemory) × (ino < length m.shared.cells))) }
+    {
         let cell = self.shared.cell(ino).ok_or(Fault::Stale)?;
         let count = cell.log().blocks().len();
         let mut pages = Vec::with_capacity(self.alloc, count)?;

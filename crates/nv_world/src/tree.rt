@@ -1,5 +1,12 @@
 //! The tree of a world: its nodes with their paths.
 
+ghost use Rattle.std.specs.Prelude.{◌≡◌, IfOk};
+ghost use Rattle.nv_base.specs.Refusals.{FailsOnly};
+ghost use Rattle.nv_base.specs.declared.fault.Fault.TheVariants.{OutOfMemory};
+ghost use Rattle.nv_machine.specs.World as machine;
+ghost use Rattle.nv_world.specs.Settled.{tree_of};
+ghost use Rattle.nv_world.specs.Worlds.{Shows};
+
 use crate::World;
 use crate::shared::Shared;
 use nv_base::{Fault, Gen, Handle, Ino};
@@ -9,7 +16,10 @@ use std::alloc::Global;
 
 impl World {
     /// The tree now, by the settled logs: the nodes that are reached from the root through names.
-    pub fn tree(&self) -> Result<Tree, Fault> {
+    pub fn tree(&self) -> Result<Tree, Fault>
+        ensures ok { (m : machine.World) → Shows self.now m → IfOk result (λ tree. tree ≡ tree_of m) }
+        ensures err { FailsOnly OutOfMemory result }
+    {
         let root = Handle {
             ino: Ino::new(0),
             generation: Gen::new(1),
