@@ -11,8 +11,6 @@ pub(crate) struct Text<'a> {
 }
 
 impl Source for Text<'_> {
-    ghost use Rattle.std.specs.Prelude.{Unit};
-
     ghost byte_at = { λ text place. slice_index_or text.bytes.now place 0 };
 
     ghost failed = { λ _. 0 };
