@@ -6,4 +6,3 @@ pub mod Runs
 pub mod Slots
 pub mod Taken
 pub mod Touched
-pub mod steps

@@ -6,4 +6,3 @@ pub mod Runs
 pub mod Steps
 pub mod Tree
 pub mod World
-pub mod machine

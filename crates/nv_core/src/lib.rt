@@ -10,7 +10,6 @@ mod create;
 mod data;
 mod event;
 mod file;
-pub mod machine;
 mod node;
 mod run;
 mod step;

@@ -1,2 +1,5 @@
-//! The machine of atomic steps, as definitions.
+//! The machine of atomic steps, told by definitions and laws alone.
 #![tactic(auto)]
+
+pub mod laws;
+pub mod plain_laws;
