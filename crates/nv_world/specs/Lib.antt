@@ -1,9 +1,13 @@
 pub mod Appends
+pub mod Committing
+pub mod Frames
 pub mod Nodes
 pub mod Parts
 pub mod Reports
+pub mod Rooms
 pub mod Settled
 pub mod Shown
+pub mod Steps
 pub mod Told
 pub mod Visits
 pub mod Worlds

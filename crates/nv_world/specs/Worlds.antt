@@ -28,6 +28,9 @@ use Rattle.nv_world.specs.declared.running.Running.{Running}
 use Rattle.nv_world.specs.declared.shared.Shared.{Shared}
 use Rattle.nv_world.specs.declared.world.Actor.{Actor}
 use Rattle.nv_world.specs.declared.world.World.{World}
+use Rattle.nv_world.specs.Rooms.{HasActorRooms}
+use Rattle.nv_world.specs.Steps.{CanStep}
+use Rattle.nv_world.specs.Frames.{LeavesRest}
 use Rattle.nv_world.specs.Shown.{Told, held_by, shared_of, shown_by, slots_in}
 use Rattle.nv_world.specs.Told.{IsHoldOf, IsOnItsWay, IsToldOf}
 
@@ -93,56 +96,7 @@ pub record IsRun (m : machine.World) (events : List Event) (replies : List Reply
   pub replies_are : map reply_of replies ≡ machine_step.replies m (events_of events grants)
   pub shows : Shows after (machine_step.after m (events_of events grants))
 
--- ---- what the machine does not tell: room, and the shape of a call
-
--- the job that a call has before that step
-abbrev pub FitsNext : Next → Job → Type 0
-FitsNext next.Visit (job.Visit c) = Unit {0}
-FitsNext next.Visit other = ⊥
-FitsNext (next.Unlock place) j = Unit {0}
-FitsNext (next.Give cpu) j = Unit {0}
-FitsNext next.Back j = Unit {0}
-FitsNext before (job.Change plan text) = Unit {0}
-FitsNext before other = ⊥
-
--- room in the hand for the blocks that are wanted, and for the log pages that the data blocks can need
-abbrev pub HasTakingRoom : Next → ℕ → Hand → Type 0
-HasTakingRoom (next.TakeBlocks asked) wanted hand =
-    (wanted ≤ hand.«data».room) × (length hand.«data».blocks + wanted + 4 ≤ hand.pages.room)
-HasTakingRoom (next.TakePages asked) wanted hand = wanted ≤ hand.pages.room
-HasTakingRoom other wanted hand = Unit {0}
-
--- room in the cells for what is to be appended, and for what the publishes of what is appended do
-pub record HasCellRoom (cells : List (ℕ × CellValue)) (plans : List CellPlanValue) (appended published : ℕ) : Type 0 where
-  pub ahead : (j : ℕ) → appended ≤ j → j < length plans → IsReadyFor (plan_at plans j).items (value_at cells (plan_at plans j).at)
-  pub behind : (j : ℕ) → published ≤ j → j < appended → IsReadyFor [] (value_at cells (plan_at plans j).at)
-
--- room in the book and in the hand for what is killed and not yet retired
-abbrev pub killed_yet : CommitValue → ℕ
-killed_yet commit = sum_by (λ (p : CellPlanValue). length p.killed) commit.plans
-
-pub record HasCommitRoom (cells : List (ℕ × CellValue)) (book : BookValue) (commit : CommitValue) : Type 0 where
-  pub way : IsOnItsWay commit
-  pub placed : ArePlaced cells commit.plans
-  pub room : HasCellRoom cells commit.plans commit.appended commit.published
-  pub records : killed_yet commit ≤ book.room
-  pub blocks : killed_yet commit ≤ commit.hand.«data».room
-
--- what holds of a running call beside what is shown of it
-abbrev pub HasRooms : Shared → Hold → Running → Type 0
-HasRooms shared (hold.Hand hand) running = FitsNext running.next running.job × HasTakingRoom running.next running.wanted hand
-HasRooms shared (hold.Ready ready) running =
-    ArePlaced (lent_cells (slots_in running.slots) shared.cells.items) ready.plans
-    × HasCellRoom (lent_cells (slots_in running.slots) shared.cells.items) ready.plans 0 0 × (ready.need ≤ ready.hand.«data».room)
-HasRooms shared (hold.Commit commit) running =
-    HasCommitRoom (lent_cells (slots_in running.slots) shared.cells.items) shared.book commit
-
 -- ---- the invariant
-
--- an actor without a call needs no room
-abbrev pub HasActorRooms : Shared → Hold → Option Running → Type 0
-HasActorRooms shared hold None = Unit {0}
-HasActorRooms shared hold (Some running) = HasRooms shared hold running
 
 -- a world shows the machine's after these events from a new one, so that the machine's laws hold of it; and there is room
 -- for what its calls are about to do
