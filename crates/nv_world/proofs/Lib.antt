@@ -3,6 +3,11 @@ pub mod Appends
 pub mod Checks
 pub mod Ends
 pub mod Enters
+pub mod GivenCells
+pub mod GivenCounts
+pub mod GivenEnter
+pub mod GivenKinds
+pub mod GivenLaws
 pub mod Gives
 pub mod Homes
 pub mod Locked

@@ -35,7 +35,6 @@ use Rattle.nv_world.specs.declared.shared.Shared.{Shared}
 -- the number of a new inode, whose slot is empty
 pub record CanBeChecked (shared : Shared) (hand : Hand) (running : Running) : Type 0 where
   pub still : AreStill shared (slots_in running.slots)
-  pub some : 0 < length (slots_in running.slots)
   pub empty : blocks_of hand ≡ []
   pub inside : ForSome hand.ino (λ ino. ino < length shared.cells.items)
   pub read : IsChangeWith (λ u. CanRead shared (slots_in running.slots) (handles running.looked (blank_call u))) running.job
