@@ -134,6 +134,10 @@ module _ (shared : Shared) (actor : ℕ) (told : Told) (hand : Hand) (running : 
   given_kind (next.TakePages asked) e fits = tt
   given_kind next.Ready e fits = tt
   given_kind (next.Unlock place) e fits = inside (next.Unlock place) e
-  given_kind (next.Give cpu) e fits = ?
-  given_kind next.Back e fits = ?
+  given_kind (next.Give cpu) e fits =
+      let at = hand_at (next.Give cpu) e in record { cpu = at.1; given = at.2; sized = given.sized; once = given.once cpu }
+  given_kind next.Back e fits = record {
+    inode = λ ino has_it. (let fewer = given.numbers ino has_it in omega (arith, fewer.0, given.pool));
+    absent = λ ino has_it. (given.numbers ino has_it).1;
+  }
   given_kind next.Visit e fits = (inside next.Visit e, given_bytes shared given.apart)

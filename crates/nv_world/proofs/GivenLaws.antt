@@ -12,6 +12,7 @@ use Rattle.nv_base.specs.declared.numbers.Handle.{Handle}
 use Rattle.nv_calls.specs.Locked.{handles}
 use Rattle.nv_calls.specs.Prepared.{IsStill}
 use Rattle.nv_cell.specs.Cell.{CellState, log_of}
+use Rattle.nv_machine.specs.Format.{formatted}
 use Rattle.nv_machine.specs.Grown.{HasGrown, HasGrownBy, is_behind}
 use Rattle.nv_machine.specs.Hands.{AreLists, AreNumbers, HandAt, HandOf}
 use Rattle.nv_machine.specs.Kept.{AreApart, AreLogsKept}
@@ -20,11 +21,16 @@ use Rattle.nv_machine.specs.Locks.{AreSlots, HasSlots, HoldsIts, IsInside, held_
 use Rattle.nv_machine.specs.Order.{AreLogsOrdered}
 use Rattle.nv_machine.specs.Reached.{IsReached}
 use Rattle.nv_machine.specs.Reads.{slot_at, written_slots}
-use Rattle.nv_machine.specs.World.{Check, Enter, HandState, Next, Running, Shared, World, actor_at, cell_at, list_at, owner_at}
-use Rattle.nv_machine.proofs.FitsEvents.{AreFit, AreSizes}
+use Rattle.nv_machine.specs.Step.{after}
+use Rattle.nv_machine.specs.World.{Check, Enter, Event, HandState, Next, Running, Shared, World, actor_at, cell_at, list_at, owner_at}
+use Rattle.nv_machine.proofs.FitsEvents.{AreFit, AreSizes, all_fit}
+use Rattle.nv_machine.proofs.FromScratch.{all_numbers}
 use Rattle.nv_machine.proofs.Lists.{self}
 use Rattle.nv_machine.proofs.Locked.{slot_owned}
+use Rattle.nv_machine.proofs.PoolLaw.{all_pooled}
 use Rattle.nv_machine.proofs.PoolRuns.{ArePooled}
+use Rattle.nv_machine.proofs.Reached.{reached}
+use Rattle.nv_world.proofs.GivenCounts.{IsOfNumbers, of_numbers}
 
 -- ---- laws
 
@@ -55,6 +61,7 @@ pub record IsGiven (g : GeometryNumbers) (s : Shared) (actor : ℕ) (h : HandSta
   pub inside : IsInside r.next r
   pub wide : length s.owners ≡ length s.cells
   pub inodes : length s.cells ≡ g.inodes
+  pub pool : s.pool.inodes ≡ g.inodes
   pub device : AllByRecursion (λ (b : BlockValue). b.number < g.blocks) (blocks_in h)
   pub sized : AreSized g.block (blocks_in h)
   pub once : (cpu n : ℕ) → times n (numbers_of (blocks_in h)) + times n (numbers_of (list_at s cpu).blocks) ≤ 1
@@ -78,7 +85,7 @@ slot_there many (n ∷ slots) ino all h = go (n == ino) refl h (slot_there many 
   go false q h more = more h
 
 module _ (g : GeometryNumbers) (m : World) (reached : IsReached m) (all : AreNumbers g m) (pooled : ArePooled g m) (fit : AreFit m)
-    (laws : LawsOf g m) (actor : ℕ) (r : Running) (is : (actor_at m actor).running ≡ Some r) where
+    (counts : IsOfNumbers g m) (laws : LawsOf g m) (actor : ℕ) (r : Running) (is : (actor_at m actor).running ≡ Some r) where
   holds : HoldsIts m.shared actor (Some r)
   holds = subst (λ (o : Option Running). HoldsIts m.shared actor o) is (reached.locks.each actor)
 
@@ -108,6 +115,7 @@ module _ (g : GeometryNumbers) (m : World) (reached : IsReached m) (all : AreNum
     inside = holds.slots.1;
     wide = reached.locks.wide;
     inodes = pooled.slots;
+    pool = counts.pool;
     device = laws.device actor;
     sized = all.sized actor;
     once = laws.once actor;
@@ -121,3 +129,11 @@ module _ (g : GeometryNumbers) (m : World) (reached : IsReached m) (all : AreNum
     checks = laws.checks actor r is;
     generations = laws.generations actor r is;
   }
+
+-- the same of the machine's world after some events from a new one
+pub given_after : (g : GeometryNumbers) (m : World) (events : List Event) → IsWithinLimits g → m ≡ after (formatted g) events → LawsOf g m
+    → (actor : ℕ) (r : Running) → (actor_at m actor).running ≡ Some r → IsGiven g m.shared actor (actor_at m actor).hand r
+given_after g m events limits from =
+    given_by g m (subst IsReached (sym from) (reached g events limits)) (subst (AreNumbers g) (sym from) (all_numbers g events limits))
+    (subst (ArePooled g) (sym from) (all_pooled g events limits)) (subst AreFit (sym from) (all_fit g limits events))
+    (subst (IsOfNumbers g) (sym from) (of_numbers g events))

@@ -3,6 +3,7 @@ pub mod Appends
 pub mod Checks
 pub mod Ends
 pub mod Enters
+pub mod Given
 pub mod GivenCells
 pub mod GivenCounts
 pub mod GivenEnter
