@@ -33,6 +33,7 @@ use Rattle.nv_world.proofs.GivenCounts.{of_numbers}
 use Rattle.nv_world.proofs.GivenEnter.{given_takes, no_journal}
 use Rattle.nv_world.proofs.GivenKinds.{given_kind}
 use Rattle.nv_world.proofs.GivenLaws.{IsGiven, LawsOf, given_after}
+use Rattle.nv_world.proofs.ShownCalls.{shown_slots}
 
 -- ---- over plain values
 
@@ -41,11 +42,6 @@ held_device : (g : GeometryNumbers) (hold : Hold) → AllByRecursion (λ (b : Bl
 held_device g (hold.Hand hand) all = all
 held_device g (hold.Ready ready) all = all
 held_device g (hold.Commit commit) all = all
-
-shown_slots : (held : Hold) (told : Told) (running : Running) → (shown_by held told running).slots ≡ slots_in running.slots
-shown_slots (hold.Hand hand) told running = refl
-shown_slots (hold.Ready ready) told running = refl
-shown_slots (hold.Commit commit) told running = refl
 
 given_enter : (shared : Shared) (actor : ℕ) (told : Told) (ready : ReadyValue) (running : Running)
     → IsGiven shared.geometry.numbers (shared_of shared) actor (held_by (hold.Ready ready)) (shown_ready told running)

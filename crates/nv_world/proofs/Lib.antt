@@ -20,7 +20,9 @@ pub mod Publishes
 pub mod Retires
 pub mod Runs
 pub mod Sequence
+pub mod ShownCalls
 pub mod SlotLists
 pub mod Starts
+pub mod Stays
 pub mod VisitTurns
 pub mod Visits
