@@ -1,5 +1,5 @@
 -- What a call takes: it can be made ready with it, it needs few log pages, and its plan is the machine's.
-use Rattle.std.proofs.Common.{◌≡◌, ℕ, zero, suc, ◌+◌, ◌<◌, ◌≤◌, ◌^◌, ◌∙◌, Bool, List, [], ◌∷◌, ◌++◌, length, map, arith, refl, ap, ap₂, sym, subst}
+use Rattle.std.proofs.Common.{◌≡◌, ℕ, zero, suc, ◌+◌, ◌<◌, ◌≤◌, ◌^◌, ◌∙◌, Bool, true, List, [], ◌∷◌, ◌++◌, length, map, arith, refl, ap, sym, subst, subst₂}
 use Rattle.std.specs.Prelude.{option_map, unwrap_or}
 use Rattle.std.specs.List.{AllByRecursion}
 use Rattle.std.proofs.lemmas.List.{length-map}
@@ -36,14 +36,17 @@ use Rattle.nv_machine.specs.World as machine
 use Rattle.nv_world.proofs.FewPages.{few_pages}
 use Rattle.nv_world.proofs.Nodes.{nodes_agree}
 use Rattle.nv_world.proofs.Plans.{block_same, looks_same, pages_same, planned_same}
-use Rattle.nv_world.specs.Parts.{IsOfDevice}
+use Rattle.nv_world.specs.Parts.{AreHome, IsOfDevice}
 use Rattle.nv_world.specs.Nodes.{CanRead}
-use Rattle.nv_world.specs.Rooms.{HasMade, IsChecked, IsHandOf, blocks_to_take, pages_to_take}
+use Rattle.nv_world.specs.Rooms.{CanWantPages, FitsCall, FitsNext, HasItsBlocks, HasMade, HasRooms, HasTaken, IsChecked, IsHandOf, LooksAsTold, TakesPages, blocks_to_take, pages_to_take}
 use Rattle.nv_world.specs.Shown.{Told, hand_of, shared_of, shown, slots_in}
-use Rattle.nv_world.specs.Told.{IsChangeBy, IsChangeWith, IsJobOf}
+use Rattle.nv_world.specs.Told.{IsChangeBy, IsChangeWith, IsJobOf, IsLookAt, is_change}
 use Rattle.nv_world.specs.declared.job.Job.{Job}
 use Rattle.nv_world.specs.declared.job.Job.TheVariants as job
 use Rattle.nv_world.specs.declared.job.Owed.{Owed}
+use Rattle.nv_world.specs.declared.hold.Hold.TheVariants as hold
+use Rattle.nv_world.specs.declared.next.Next.TheVariants as next
+use Rattle.nv_world.specs.declared.running.Running.{Running}
 use Rattle.nv_world.specs.declared.shared.Shared.{Shared}
 
 -- ---- jobs
@@ -172,3 +175,71 @@ pub some_wanted : (n wanted : ℕ) (s : machine.Shared) (h : machine.HandState) 
     → wants_pages n s h r ≡ machine.Moves s h (record r { wanted = wanted; next = machine.TakePages 0 })
 some_wanted n zero s h r same some = absurd (some refl)
 some_wanted n (suc wanted) s h r same some = rw same refl
+
+-- ---- what holds before the next step
+
+pub with_both : (P Q : Update → Type 0) (j : Job) → IsChangeWith P j → IsChangeWith Q j → IsChangeWith (λ (u : Update). P u × Q u) j
+with_both P Q (job.Change plan text) one other = (one, other)
+with_both P Q (job.Visit visit) one other = elim one [ ]
+with_both P Q job.Given one other = elim one [ ]
+
+pub is_changed : (P : Update → Type 0) (j : Job) → IsChangeWith P j → is_change j ≡ true
+is_changed P (job.Change plan text) has = refl
+is_changed P (job.Visit visit) has = elim has [ ]
+is_changed P job.Given has = elim has [ ]
+
+-- the room that it has once it wants log pages
+module _ (shared : Shared) (slots : List ℕ) (hand : Hand) (looked : Looked) (made : Handle) (u : Update) where
+  abbrev Has : Type 0
+  Has = HasMade shared slots hand made u × IsChecked shared slots hand looked u × HasItsBlocks shared slots hand u
+
+  pub taken_none : Has → (n : ℕ) → n ≡ 0 → n ≡ pages_to_take shared slots hand u
+      → HasMade shared slots hand made u × (IsChecked shared slots hand looked u × HasTaken shared slots hand u)
+  taken_none has n none wants =
+      (has.0, (has.1, record {
+        blocks = has.2.blocks;
+        pages = ap (λ (bs : List BlockValue). length bs) has.2.none ∙ sym none ∙ wants;
+      }))
+
+  pub taken_next : Has → IsWithinLimits shared.geometry.numbers → AreHome shared → IsOfDevice shared.geometry.numbers hand
+      → IsHandOf shared.geometry.numbers hand → (n : ℕ) → n ≡ pages_to_take shared slots hand u
+      → HasMade shared slots hand made u × (IsChecked shared slots hand looked u × TakesPages shared slots hand 0 n u)
+  taken_next has limits home device sizes n wants =
+      let can = can_ready shared slots hand looked u limits device sizes has.1 has.2.blocks in
+      (has.0, (has.1, record {
+        blocks = has.2.blocks;
+        count = omega (arith, ap (λ (bs : List BlockValue). length bs) has.2.none, wants);
+        room = omega (arith, pages_room shared slots hand u can has.2.room, wants);
+        list = omega (arith, home.count, limits.some_cpus);
+      }))
+
+-- a call's job stays, and it goes on to take
+pub fits_still : (running new : Running) → FitsCall running → new.job ≡ running.job → new.looked ≡ running.looked → new.ending ≡ running.ending
+    → FitsNext new.next new.job → FitsCall new
+fits_still running new fits job looked ending before = record {
+  before = before;
+  looks = subst₂ (λ (j : Job) (l : Looked). LooksAsTold j l) (sym job) (sym looked) fits.looks;
+  overtaken = λ is. subst (λ (j : Job). IsLookAt 0 j) (sym job) (fits.overtaken (sym ending ∙ is));
+}
+
+pub rooms_none : (shared now : Shared) (hand : Hand) (running : Running) (n : ℕ) → IsHandOf shared.geometry.numbers hand → FitsCall running
+    → CanWantPages shared hand running → n ≡ 0 → IsChangeWith (λ (u : Update). n ≡ pages_to_take shared (slots_in running.slots) hand u) running.job
+    → now ≡ shared → HasRooms now (hold.Hand hand) (record running { wanted = n; next = next.Ready })
+rooms_none shared now hand running n sizes fits can none wants same =
+    subst (λ (s : Shared). HasRooms s (hold.Hand hand) (record running { wanted = n; next = next.Ready })) (sym same)
+    (fits_still running (record running { wanted = n; next = next.Ready }) fits refl refl refl (is_changed _ running.job can),
+    sizes,
+    over_all _ _ running.job (λ u h. taken_none shared (slots_in running.slots) hand running.looked running.made u h.0 n none h.1)
+    (with_both _ _ running.job can wants))
+
+pub rooms_next : (shared now : Shared) (hand : Hand) (running : Running) (n : ℕ) → IsWithinLimits shared.geometry.numbers → AreHome shared
+    → IsOfDevice shared.geometry.numbers hand → IsHandOf shared.geometry.numbers hand → FitsCall running → CanWantPages shared hand running
+    → IsChangeWith (λ (u : Update). n ≡ pages_to_take shared (slots_in running.slots) hand u) running.job
+    → now ≡ shared → HasRooms now (hold.Hand hand) (record running { wanted = n; next = next.TakePages 0 })
+rooms_next shared now hand running n limits home device sizes fits can wants same =
+    subst (λ (s : Shared). HasRooms s (hold.Hand hand) (record running { wanted = n; next = next.TakePages 0 })) (sym same)
+    (fits_still running (record running { wanted = n; next = next.TakePages 0 }) fits refl refl refl (is_changed _ running.job can),
+    sizes,
+    over_all _ _ running.job (λ u h.
+    taken_next shared (slots_in running.slots) hand running.looked running.made u h.0 limits home device sizes n h.1)
+    (with_both _ _ running.job can wants))
