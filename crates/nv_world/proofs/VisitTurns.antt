@@ -1,12 +1,12 @@
 -- The machine's turn of a visit, by what it found.
-use Rattle.std.proofs.Common.{◌≡◌, ℕ, ◌+◌, ◌||◌, ◌∙◌, if◌then◌else◌, nat_lt, Bool, true, false, not, List, [], ◌∷◌, Option, Some, None, ap, refl, subst, sym, inl, inr}
+use Rattle.std.proofs.Common.{◌≡◌, ℕ, ◌+◌, ◌||◌, ◌∙◌, if◌then◌else◌, nat_lt, Bool, true, false, not, List, [], ◌∷◌, Option, None, ap, refl, subst, sym, inl, inr}
 use Rattle.std.specs.Prelude.{IfOk, MatchResult, Result, Ok, Err}
 use Rattle.nv_base.specs.Refusals.{FailsAsChecked}
 use Rattle.nv_alloc.specs.FreeList.{FreeBlocks}
 use Rattle.nv_base.specs.declared.fault.Fault.{Fault}
 use Rattle.nv_base.specs.declared.fault.Fault.TheVariants.{OutOfMemory}
 use Rattle.nv_base.specs.declared.numbers.Handle.{Handle}
-use Rattle.nv_calls.specs.Refusals.{Check, passes}
+use Rattle.nv_calls.specs.Refusals.{Check}
 use Rattle.nv_calls.specs.AllCalls.{answer, refusal}
 use Rattle.nv_calls.specs.Locked.{handles}
 use Rattle.nv_calls.specs.declared.answer.Answer.{Answer}

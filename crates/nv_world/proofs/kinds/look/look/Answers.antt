@@ -1,4 +1,4 @@
-use Rattle.std.proofs.Common.{◌≡◌, ℕ, ◌+◌, ◌∙◌, List, Option, None, ap, sym}
+use Rattle.std.proofs.Common.{◌+◌, ◌∙◌, None, ap, sym}
 use Rattle.std.proofs.lemmas.List.{length-map}
 use Rattle.nv_base.specs.declared.numbers.Handle.{Handle}
 use Rattle.nv_calls.specs.AllCalls.{look_refusal, looked}

@@ -1,4 +1,4 @@
-use Rattle.std.proofs.Common.{◌≡◌, ◌∙◌, inl, ap, subst, sym}
+use Rattle.std.proofs.Common.{◌∙◌, inl, ap, subst, sym}
 use Rattle.nv_cell.specs.Cell.{CellState}
 use Rattle.nv_cell.specs.Pages.{AreBytesOf}
 use Rattle.nv_machine.specs.Reads.{bytes_among}

@@ -1,4 +1,4 @@
-use Rattle.std.proofs.Common.{◌≡◌, ◌∙◌, sym}
+use Rattle.std.proofs.Common.{◌∙◌, sym}
 use Rattle.std.proofs.lemmas.List.{length-map}
 use Rattle.nv_cell.specs.Cell.{CellValue}
 use Rattle.nv_world.proofs.Starts.{starts}
