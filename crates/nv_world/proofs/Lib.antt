@@ -3,6 +3,7 @@ pub mod Appends
 pub mod Checks
 pub mod Ends
 pub mod Enters
+pub mod FewPages
 pub mod Given
 pub mod GivenCells
 pub mod GivenCounts
@@ -19,10 +20,12 @@ pub mod Plans
 pub mod Publishes
 pub mod Retires
 pub mod Runs
+pub mod SameCells
 pub mod Sequence
 pub mod ShownCalls
 pub mod SlotLists
 pub mod Starts
 pub mod Stays
+pub mod Takes
 pub mod VisitTurns
 pub mod Visits

@@ -17,6 +17,7 @@ mod kinds;
 mod lent;
 mod lent_open;
 mod lent_retire;
+mod lent_take;
 mod next;
 mod reports;
 mod running;
