@@ -16,5 +16,6 @@ pub mod Runs
 pub mod Sequence
 pub mod SlotLists
 pub mod Starts
+pub mod Takes
 pub mod VisitTurns
 pub mod Visits

@@ -1,15 +1,17 @@
 -- What of a running call the machine does not tell: whether it is of the kind that its next step wants, the room in its hand, and
 -- what its check found and its growths made.
-use Rattle.std.specs.Prelude.{◌≡◌, ℕ, ◌+◌, ◌<◌, ◌≤◌, Bool, true, false, List, [], length, Option, Some, None}
+use Rattle.std.specs.Prelude.{◌≡◌, ℕ, ◌+◌, ◌<◌, ◌≤◌, Bool, true, false, List, [], length, Option, Some, None, unwrap_or}
 use Rattle.std.specs.List.{AllByRecursion}
 use Rattle.nv_alloc.specs.declared.hand.Hand.{Hand}
 use Rattle.nv_base.specs.declared.geometry.GeometryNumbers.{GeometryNumbers}
+use Rattle.nv_base.specs.declared.numbers.Handle.{Handle}
 use Rattle.nv_calls.specs.AllCalls.{is_nothing, refusal}
+use Rattle.nv_calls.specs.AllCalls.{looked as found_in}
 use Rattle.nv_calls.specs.Cells.{AreCells}
 use Rattle.nv_calls.specs.Locked.{handles}
 use Rattle.nv_calls.specs.Nodes.{nodes_in}
 use Rattle.nv_calls.specs.PagesWanted.{pages_wanted}
-use Rattle.nv_calls.specs.Prepared.{CanReady, HasNumberFor, IsReadyBy, IsStill, HaveNoLessRoom, makes, planned_by}
+use Rattle.nv_calls.specs.Prepared.{CanReady, HasNumberFor, IsReadyBy, IsStill, HaveNoLessRoom, made_by, makes, no_handle, planned_by}
 use Rattle.nv_calls.specs.Ready.{ReadyValue}
 use Rattle.nv_calls.specs.Refusals.{passes}
 use Rattle.nv_calls.specs.SlotCells.{lent_cells}
@@ -91,8 +93,14 @@ pub record IsChecked (shared : Shared) (slots : List ℕ) (hand : Hand) (looked 
   pub still : AllByRecursion (λ (c : ℕ × CellValue). IsStill shared.geometry.numbers.block c.1.state) (lent_cells slots shared.cells.items)
   pub passed : refusal shared.geometry.numbers.block (nodes_in (lent_cells slots shared.cells.items)) (blank_call u) ≡ passes
   pub something : is_nothing (blank_call u) ≡ false
+  pub same : found_in (nodes_in (lent_cells slots shared.cells.items)) (blank_call u) ≡ looked
   pub number : HasNumberFor (lent_cells slots shared.cells.items) (makes u) hand.ino
   pub chain : hand.chain ≡ []
+
+-- the handle of the inode that it makes is that of the number in its hand
+abbrev pub HasMade : Shared → List ℕ → Hand → Handle → Update → Type 0
+HasMade shared slots hand made u =
+    makes u ≡ true → made ≡ unwrap_or (made_by (lent_cells slots shared.cells.items) hand.ino u) no_handle
 
 -- how many blocks the call takes, and how many log pages with the blocks in its hand
 abbrev pub blocks_to_take : Shared → List ℕ → Update → ℕ
@@ -101,6 +109,12 @@ blocks_to_take shared slots u = wanted_over shared.geometry.numbers.block (lent_
 abbrev pub pages_to_take : Shared → List ℕ → Hand → Update → ℕ
 pages_to_take shared slots hand u =
     pages_wanted (lent_cells slots shared.cells.items) (planned_by (lent_cells slots shared.cells.items) hand u)
+
+-- it has its data blocks and no log page, and room for as many of these as it can need
+pub record HasItsBlocks (shared : Shared) (slots : List ℕ) (hand : Hand) (u : Update) : Type 0 where
+  pub blocks : length hand.«data».blocks ≡ blocks_to_take shared slots u
+  pub none : hand.pages.blocks ≡ []
+  pub room : length hand.«data».blocks + 4 ≤ hand.pages.room
 
 -- it takes data blocks: so many are wanted yet, there is room for them, and for the log pages that they can need
 pub record TakesBlocks (shared : Shared) (slots : List ℕ) (hand : Hand) (asked wanted : ℕ) (u : Update) : Type 0 where
@@ -140,7 +154,14 @@ takes other = false
 abbrev pub TakesIf : Bool → Shared → Hand → Running → Type 0
 TakesIf false shared hand running = Unit {0}
 TakesIf true shared hand running =
-    IsChangeWith (λ u. Takes running.next shared (slots_in running.slots) hand running.wanted running.looked u) running.job
+    IsChangeWith (λ u. HasMade shared (slots_in running.slots) hand running.made u
+    × Takes running.next shared (slots_in running.slots) hand running.wanted running.looked u) running.job
+
+-- the call of a job is checked, and has its data blocks
+abbrev pub CanWantPages : Shared → Hand → Running → Type 0
+CanWantPages shared hand running =
+    IsChangeWith (λ u. HasMade shared (slots_in running.slots) hand running.made u
+    × IsChecked shared (slots_in running.slots) hand running.looked u × HasItsBlocks shared (slots_in running.slots) hand u) running.job
 
 -- ---- ready
 

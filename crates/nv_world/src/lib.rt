@@ -16,6 +16,7 @@ mod kinds;
 mod lent;
 mod lent_open;
 mod lent_retire;
+mod lent_take;
 mod next;
 mod reports;
 mod running;

@@ -4,36 +4,41 @@ ghost use Rattle.std.specs.Prelude.{◌≡◌, ◌+◌, ◌-◌, ◌<◌, ◌≤
 ghost use Rattle.nv_machine.specs.Kinds.{asked_list, refuse, take_blocks_turn, take_pages_turn, wants_pages};
 ghost use Rattle.nv_machine.specs.Reads.{pages_wanted, plan_by};
 ghost use Rattle.nv_base.specs.declared.fault.Fault.TheVariants.{NoSpace};
-ghost use Rattle.nv_world.specs.Parts.{AreHome, CanWant, IsOfDevice};
+ghost use Rattle.nv_base.specs.Limits.{IsWithinLimits};
+ghost use Rattle.nv_world.specs.Parts.{AreHome, IsOfDevice};
+ghost use Rattle.nv_world.specs.Rooms.{CanWantPages, FitsCall, HasRoomsAfter, IsHandOf};
+ghost use Rattle.nv_world.specs.declared.hold.Hold.TheVariants as hold;
 ghost use Rattle.nv_world.specs.Shown.{Told, hand_of, shared_of, shown, turn_of};
 ghost use Rattle.nv_world.specs.Told.{IsToldOf, KeepsJob};
 
 use crate::ending::refuse;
+use crate::lent_take::pages_in;
 use crate::next::Next;
 use crate::running::Running;
 use crate::shared::Shared;
 use crate::turn::Turn;
 use nv_alloc::Hand;
 use nv_base::Fault;
-use nv_calls::{SlotCells, pages_wanted};
 
 /// The call wants log pages. A taking of nothing has no step.
 pub(crate) fn want_pages(shared: &mut Shared, hand: &Hand, running: &mut Running) -> Turn
-    requires can { CanWant shared.old hand.now running.old }
+    requires limits { IsWithinLimits shared.old.geometry.numbers }
+    requires home { AreHome shared.old }
+    requires device { IsOfDevice shared.old.geometry.numbers hand.now }
+    requires sizes { IsHandOf shared.old.geometry.numbers hand.now }
+    requires call { FitsCall running.old }
+    requires can { CanWantPages shared.old hand.now running.old }
     ensures shared { shared.new ≡ shared.old }
     ensures turn { (told : Told) → IsToldOf running.old told → let s = shared_of shared.old in
         let h = hand_of hand.now in let r = shown told running.old in
         wants_pages (pages_wanted s r.slots (plan_by shared.old.geometry.numbers.block s h r)) s h r
         ≡ turn_of result s h (shown told running.new) }
     ensures job { KeepsJob running.old running.new }
+    ensures rooms { HasRoomsAfter result shared.new (hold.Hand hand.now) running.new }
 {
-    let lent = SlotCells {
-        cells: &mut shared.cells,
-        slots: running.slots.as_slice(),
-    };
-    let wanted = pages_wanted(&lent, running.plan(), hand);
+    let wanted = pages_in(&mut shared.cells, &running.slots, running.plan(), hand);
     running.wanted = wanted;
-    if running.wanted == 0 {
+    if wanted == 0 {
         running.next = Next::Ready;
         return Turn::Moves;
     }
