@@ -1,10 +1,15 @@
 -- How the check of a call ends it, over its lent cells as in the machine.
-use Rattle.std.proofs.Common.{◌≡◌, ℕ, zero, suc, ◌+◌, ◌*◌, ◌/◌, ◌%◌, ◌<◌, ◌≤◌, ◌⊎◌, inl, inr, ◌==◌, ◌&&◌, ◌||◌, ◌∙◌, not, nat_lt, Bool, true, false, cond, List, [], ◌∷◌, length, Option, Some, None, arith, refl, ap, ap₂, sym, subst}
-use Rattle.std.specs.Prelude.{Ok, Err, is_some}
+use Rattle.std.proofs.Common.{◌≡◌, ℕ, zero, suc, ◌+◌, ◌*◌, ◌/◌, ◌%◌, ◌<◌, ◌≤◌, ◌⊎◌, inl, inr, ◌==◌, ◌&&◌, ◌||◌, ◌∙◌, not, nat_lt, Bool, true, false, cond, List, [], ◌∷◌, ◌++◌, length, Option, Some, None, arith, refl, ap, ap₂, sym, subst}
+use Rattle.std.specs.Prelude.{Ok, Err, is_some, option_map, unwrap_or}
+use Rattle.std.specs.Option.{ForSome}
 use Rattle.std.proofs.Math.Nat.{mul-le-mul_right}
 use Rattle.std.proofs.lemmas.Bool.{eqb-true, eq-eqb, ltb-false}
 use Rattle.std.proofs.lemmas.Nat.{div-add-mod'}
 use Rattle.nv_base.specs.declared.fault.Fault.TheVariants as fault
+use Rattle.nv_alloc.specs.Block.{BlockValue}
+use Rattle.nv_alloc.specs.Hand.{blocks_of}
+use Rattle.nv_alloc.specs.declared.hand.Hand.{Hand}
+use Rattle.nv_base.specs.Limits.{IsWithinLimits}
 use Rattle.nv_base.specs.declared.numbers.Handle.{Handle}
 use Rattle.nv_calls.proofs.Nothing.{told_nothing}
 use Rattle.nv_calls.proofs.Passed.{file_passed, if_passed}
@@ -12,11 +17,12 @@ use Rattle.nv_calls.proofs.TextLengths.{same_plan}
 use Rattle.nv_calls.proofs.Within.{size_within, write_within}
 use Rattle.nv_calls.specs.AllCalls.{IsToldNothing, blocks_wanted, early, effect, ends_in_page, is_nothing, late, looked, refusal}
 use Rattle.nv_calls.specs.Locked.{SameCall, handles}
-use Rattle.nv_calls.specs.Nodes.{has_page_in, nodes_in, plain_nodes}
+use Rattle.nv_calls.specs.Cells.{AreCells}
+use Rattle.nv_calls.specs.Nodes.{cell_of, has_page_in, nodes_in, plain_nodes, slot_by, slots_by}
 use Rattle.nv_calls.specs.Plain.{Change, same_handle}
-use Rattle.nv_calls.specs.Prepared.{makes}
+use Rattle.nv_calls.specs.Prepared.{HasNumberFor, IsEmptySlot, made_by, makes, no_handle}
 use Rattle.nv_calls.specs.Refusals.{Check, and_then, bytes_of, passes, refuse_if}
-use Rattle.nv_calls.specs.SlotCells.{lent_cells}
+use Rattle.nv_calls.specs.SlotCells.{cell_in, lent_cells}
 use Rattle.nv_calls.specs.Updates.{SamePlan, blank_call, call_of, text_len}
 use Rattle.nv_calls.specs.calls.Size.{cuts_page}
 use Rattle.nv_calls.specs.declared.call.Call.{Call}
@@ -25,18 +31,30 @@ use Rattle.nv_calls.specs.declared.looked.Looked.{Looked}
 use Rattle.nv_calls.specs.declared.taken.Taken.{Taken}
 use Rattle.nv_calls.specs.declared.update.Update.{Update}
 use Rattle.nv_calls.specs.declared.update.Update.TheVariants as update
-use Rattle.nv_cell.specs.Cell.{CellValue}
+use Rattle.nv_cell.specs.Cell.{CellState, CellValue}
 use Rattle.nv_entry.specs.Tree.{root}
 use Rattle.nv_entry.specs.declared.node.NodeCopy.{NodeCopy}
-use Rattle.nv_machine.specs.Kinds.{check_ending}
-use Rattle.nv_machine.specs.Reads.{copies, has_last_page, nodes}
+use Rattle.nv_machine.specs.Kinds.{check_ending, check_turn, wants_blocks, wants_pages}
+use Rattle.nv_machine.specs.Reads.{copies, has_last_page, nodes, pages_wanted, plan_by}
 use Rattle.nv_machine.specs.Sequence.{beginning, directories, nothing_looked}
-use Rattle.nv_machine.specs.Step.{is_numbered, same_found, same_looked}
-use Rattle.nv_machine.specs.World.{Ending, Overtaken}
-use Rattle.nv_world.proofs.Nodes.{lent_call_same, nodes_agree, page_same}
+use Rattle.nv_machine.specs.Step.{is_numbered, made_in, same_found, same_looked}
+use Rattle.nv_machine.specs.World.{HandState, Overtaken}
+use Rattle.nv_machine.specs.World as machine
+use Rattle.nv_world.proofs.Nodes.{cell_is, lent_call_same, lent_has, lent_of, nodes_agree, page_same}
 use Rattle.nv_world.proofs.Plans.{looks_same}
 use Rattle.nv_world.specs.Nodes.{CanRead, check_ends, ends_over, wanted_over}
-use Rattle.nv_world.specs.Shown.{shared_of}
+use Rattle.nv_world.specs.Parts.{AreHome}
+use Rattle.nv_world.specs.Rooms.{CanWantPages, FitsCall, HasItsBlocks, HasMade, HasRooms, IsChecked, IsHandOf, LooksAsTold, TakesBlocks, WantsBlocks, blocks_to_take}
+use Rattle.nv_world.specs.Shown.{ending_of, shared_of, slots_in}
+use Rattle.nv_world.specs.Steps.{CanBeChecked}
+use Rattle.nv_world.specs.Told.{IsChangeWith, IsJobOf, IsLookAt, is_change}
+use Rattle.nv_world.specs.declared.hold.Hold.TheVariants as hold
+use Rattle.nv_world.specs.declared.job.Job.{Job}
+use Rattle.nv_world.specs.declared.job.Job.TheVariants as job
+use Rattle.nv_world.specs.declared.job.Owed.{Owed}
+use Rattle.nv_world.specs.declared.next.Ending.{Ending as Ended}
+use Rattle.nv_world.specs.declared.next.Next.TheVariants as next
+use Rattle.nv_world.specs.declared.running.Running.{Running}
 use Rattle.nv_world.specs.declared.shared.Shared.{Shared}
 
 -- ---- what the looks found
@@ -370,3 +388,223 @@ pub overtaken_looks : (block : ℕ) (n : Handle → Option NodeCopy) (before : L
 overtaken_looks block n before numbered u none h =
     looks_anew n before u none (overtakes (early n (blank_call u)) (late block n before (blank_call u))
     (same_looked (looked n (blank_call u)) before) (numbered || not (makes u)) (is_nothing (blank_call u)) h)
+
+-- ---- by a job
+
+-- the machine's check ends the call as that over the lent cells
+pub ending_told : (shared : Shared) (slots : List ℕ) (before : Looked) (number : Option ℕ) (made : Handle) (j : Job) (owed : Owed) (c : Call)
+    (result : Option Ended) → is_change j ≡ true → IsJobOf j owed c
+    → IsChangeWith (λ u. CanRead shared slots (handles before (blank_call u))) j
+    → IsChangeWith (λ u. option_map ending_of result
+    ≡ ends_over shared.geometry.numbers.block (nodes_in (lent_cells slots shared.cells.items)) before (is_some number) u) j
+    → check_ending (early (copies (shared_of shared)) c) (same_looked (looked (copies (shared_of shared)) c) before)
+    (refusal shared.geometry.numbers.block (copies (shared_of shared)) c) (is_numbered (beginning c) number)
+    (effect (copies (shared_of shared)) made c) ≡ option_map ending_of result
+ending_told shared slots before number made (job.Change plan text) owed c result change is can ends =
+    ap (λ (x : Call). check_ending (early n x) (same_looked (looked n x) before) (refusal shared.geometry.numbers.block n x)
+    (is_numbered (beginning x) number) (effect n made x)) is.0
+    ∙ ends_same shared slots plan.update text before (record { made = made; runs = []; present = false }) number can is.1
+    ∙ sym ends where
+      n : Handle → Option NodeCopy
+      n = copies (shared_of shared)
+ending_told shared slots before number made (job.Visit visit) owed c result change is can ends = cc
+ending_told shared slots before number made job.Given owed c result change is can ends = cc
+
+-- and so many blocks are wanted
+pub wanted_by_job : (shared : Shared) (slots : List ℕ) (before : Looked) (number : Option ℕ) (wanted : ℕ) (j : Job) (owed : Owed) (c : Call)
+    → is_change j ≡ true → IsJobOf j owed c
+    → IsChangeWith (λ u. CanRead shared slots (handles before (blank_call u))) j
+    → IsChangeWith (λ u. None ≡ ends_over shared.geometry.numbers.block (nodes_in (lent_cells slots shared.cells.items)) before (is_some number) u) j
+    → IsChangeWith (λ u. wanted ≡ wanted_over shared.geometry.numbers.block (lent_cells slots shared.cells.items) u) j
+    → blocks_wanted shared.geometry.numbers.block (copies (shared_of shared)) (has_last_page shared.geometry.numbers.block (shared_of shared) c) c
+    ≡ wanted
+wanted_by_job shared slots before number wanted (job.Change plan text) owed c change is can ends over =
+    let block = shared.geometry.numbers.block in
+    let o = nodes_in (lent_cells slots shared.cells.items) in
+    let passed = passes_over block o before (is_some number) plan.update (sym ends) in
+    ap (λ (x : Call). blocks_wanted block (copies (shared_of shared)) (has_last_page block (shared_of shared) x) x) is.0
+    ∙ wanted_same shared slots plan.update text before can is.1 passed.same passed.passed
+    ∙ sym over
+wanted_by_job shared slots before number wanted (job.Visit visit) owed c change is can ends over = cc
+wanted_by_job shared slots before number wanted job.Given owed c change is can ends over = cc
+
+-- which are no more than a file has pages
+pub few_by_job : (shared : Shared) (slots : List ℕ) (before : Looked) (numbered : Bool) (wanted : ℕ) (j : Job) → 0 < shared.geometry.numbers.block
+    → is_change j ≡ true
+    → IsChangeWith (λ u. None ≡ ends_over shared.geometry.numbers.block (nodes_in (lent_cells slots shared.cells.items)) before numbered u) j
+    → IsChangeWith (λ u. wanted ≡ wanted_over shared.geometry.numbers.block (lent_cells slots shared.cells.items) u) j
+    → wanted ≤ 65536
+few_by_job shared slots before numbered wanted (job.Change plan text) some change ends over =
+    let block = shared.geometry.numbers.block in
+    let o = nodes_in (lent_cells slots shared.cells.items) in
+    let passed = passes_over block o before numbered plan.update (sym ends) in
+    subst (λ (k : ℕ). k ≤ 65536) (sym over) (few_wanted block o _ (blank_call plan.update) some passed.passed)
+few_by_job shared slots before numbered wanted (job.Visit visit) some change ends over = cc
+few_by_job shared slots before numbered wanted job.Given some change ends over = cc
+
+-- a call can be overtaken where it looks names up
+pub overtaken_by_job : (block : ℕ) (n : Handle → Option NodeCopy) (before : Looked) (numbered : Bool) (j : Job) → is_change j ≡ true
+    → LooksAsTold j before → IsChangeWith (λ u. Some Overtaken ≡ ends_over block n before numbered u) j → IsLookAt 0 j
+overtaken_by_job block n before numbered (job.Change plan text) change looks ends =
+    overtaken_looks block n before numbered plan.update looks (sym ends)
+overtaken_by_job block n before numbered (job.Visit visit) change looks ends = cc
+overtaken_by_job block n before numbered job.Given change looks ends = cc
+
+-- ---- a call that has passed
+
+-- the number that it has is that of its new inode, if it makes one
+has_number : (cells : List (ℕ × CellValue)) (number : Option ℕ) (u : Update) → (is_some number || not (makes u)) ≡ true
+    → ((number ≡ None) × (makes u ≡ true) ⊎ HasNumberFor cells (makes u) number) → HasNumberFor cells (makes u) number
+has_number cells number u passed (inr has) = has
+has_number cells number u passed (inl none) = absurd (lacks number (makes u) none.0 none.1 passed) where
+  lacks : (number : Option ℕ) (makes : Bool) → number ≡ None → makes ≡ true → (is_some number || not makes) ≡ true → ⊥
+  lacks None true none makes passed = cc
+  lacks None false none makes passed = cc
+  lacks (Some ino) makes none is passed = cc
+
+abbrev handle_of : ℕ → ℕ → Handle
+handle_of ino generation = record { ino = ino; generation = generation }
+
+-- and its handle that of the number
+has_made : (shared : Shared) (slots : List ℕ) (hand : Hand) (before : Handle) (u : Update)
+    → ForSome hand.ino (λ ino. ino < length shared.cells.items) → HasNumberFor (lent_cells slots shared.cells.items) (makes u) hand.ino
+    → HasMade shared slots hand (made_in (shared_of shared) hand.ino before) u
+has_made shared slots hand before u inside has = go hand.ino inside has where
+  all : List CellValue
+  all = shared.cells.items
+
+  go : (number : Option ℕ) → ForSome number (λ ino. ino < length all) → HasNumberFor (lent_cells slots all) (makes u) number → makes u ≡ true
+      → made_in (shared_of shared) number before ≡ unwrap_or (made_by (lent_cells slots all) number u) no_handle
+  go None inside has is = let none : ⊥ = subst (λ (b : Bool). HasNumberFor (lent_cells slots all) b None) is has in absurd none
+  go (Some ino) inside has is =
+      let slot : IsEmptySlot (lent_cells slots all) ino = subst (λ (b : Bool). HasNumberFor (lent_cells slots all) b (Some ino)) is has in
+      let there : cell_of (lent_cells slots all) ino ≡ Some (cell_in all ino) = lent_of slots all ino (lent_has slots all ino slot.lent) in
+      let own : (slots_by (lent_cells slots all) ino).generation ≡ (cell_in all ino).state.generation =
+      ap (λ (c : Option CellValue). (slot_by c).generation) there in
+      ap (handle_of ino) (ap (λ (c : CellState). c.generation) (cell_is shared ino (inside ino refl)) ∙ sym own)
+      ∙ sym (ap (λ (b : Bool). unwrap_or (cond b (Some (handle_of ino (slots_by (lent_cells slots all) ino).generation)) None) no_handle) is)
+
+-- a call that no check ends is checked, and its made handle told
+pub wants_by_job : (shared : Shared) (hand new : Hand) (running : Running) (wanted : ℕ)
+    → AreCells (lent_cells (slots_in running.slots) shared.cells.items) → CanBeChecked shared hand running → is_change running.job ≡ true
+    → new.ino ≡ hand.ino → new.chain ≡ []
+    → IsChangeWith (λ u. None ≡ ends_over shared.geometry.numbers.block (nodes_in (lent_cells (slots_in running.slots) shared.cells.items))
+    running.looked (is_some hand.ino) u) running.job
+    → IsChangeWith (λ u. wanted ≡ wanted_over shared.geometry.numbers.block (lent_cells (slots_in running.slots) shared.cells.items) u) running.job
+    → WantsBlocks wanted shared new (record running { made = made_in (shared_of shared) hand.ino running.made })
+wants_by_job shared hand new running wanted cells can change number chain ends over =
+    go running.job can.read can.number change ends over where
+      slots : List ℕ
+      slots = slots_in running.slots
+
+      lent : List (ℕ × CellValue)
+      lent = lent_cells slots shared.cells.items
+
+      block : ℕ
+      block = shared.geometry.numbers.block
+
+      made : Handle
+      made = made_in (shared_of shared) hand.ino running.made
+
+      go : (j : Job) → IsChangeWith (λ u. CanRead shared slots (handles running.looked (blank_call u))) j
+          → IsChangeWith (λ u. (hand.ino ≡ None) × (makes u ≡ true) ⊎ HasNumberFor lent (makes u) hand.ino) j → is_change j ≡ true
+          → IsChangeWith (λ u. None ≡ ends_over block (nodes_in lent) running.looked (is_some hand.ino) u) j
+          → IsChangeWith (λ u. wanted ≡ wanted_over block lent u) j
+          → IsChangeWith (λ u. HasMade shared slots new made u × IsChecked shared slots new running.looked u
+          × (wanted ≡ blocks_to_take shared slots u)) j
+      go (job.Change plan text) read has change ends over =
+          let u = plan.update in
+          let passed = passes_over block (nodes_in lent) running.looked (is_some hand.ino) u (sym ends) in
+          let own : HasNumberFor lent (makes u) hand.ino = has_number lent hand.ino u passed.number has in (
+            subst (λ (n : Option ℕ). makes u ≡ true → made ≡ unwrap_or (made_by lent n u) no_handle) (sym number)
+            (has_made shared slots hand running.made u can.inside own),
+            record {
+              read = read;
+              lent = cells;
+              some = can.some;
+              still = can.still.still;
+              passed = passed.passed;
+              something = passed.something;
+              same = passed.same;
+              number = subst (HasNumberFor lent (makes u)) (sym number) own;
+              chain = chain;
+            },
+            over,
+          )
+      go (job.Visit visit) read has change ends over = cc
+      go job.Given read has change ends over = cc
+
+-- ---- the taking that comes next
+
+-- what follows from what holds of a job's call
+more_of : (P Q : Update → Type 0) (j : Job) → ((u : Update) → P u → Q u) → IsChangeWith P j → IsChangeWith Q j
+more_of P Q (job.Change plan text) more has = more plan.update has
+more_of P Q (job.Visit visit) more has = elim has [ ]
+more_of P Q job.Given more has = elim has [ ]
+
+is_changed : (P : Update → Type 0) (j : Job) → IsChangeWith P j → is_change j ≡ true
+is_changed P (job.Change plan text) has = refl
+is_changed P (job.Visit visit) has = elim has [ ]
+is_changed P job.Given has = elim has [ ]
+
+none_in : (a b c : List BlockValue) → a ++ b ++ c ≡ [] → (a ≡ []) × ((b ≡ []) × (c ≡ []))
+none_in [] [] [] h = (refl, (refl, refl))
+none_in (x ∷ a) b c h = cc
+none_in [] (x ∷ b) c h = cc
+none_in [] [] (x ∷ c) h = cc
+
+-- a call that takes no data blocks has them
+pub has_its_blocks : (shared : Shared) (hand : Hand) (running : Running) (wanted : ℕ) → wanted ≡ 0 → blocks_of hand ≡ []
+    → wanted + 4 ≤ hand.pages.room → WantsBlocks wanted shared hand running → CanWantPages shared hand running
+has_its_blocks shared hand running wanted no empty room has =
+    more_of (λ u. HasMade shared (slots_in running.slots) hand running.made u
+    × IsChecked shared (slots_in running.slots) hand running.looked u × (wanted ≡ blocks_to_take shared (slots_in running.slots) u))
+    (λ u. HasMade shared (slots_in running.slots) hand running.made u
+    × IsChecked shared (slots_in running.slots) hand running.looked u × HasItsBlocks shared (slots_in running.slots) hand u)
+    running.job (λ u has. (has.0, has.1, record {
+      blocks = ap length none.0 ∙ sym no ∙ has.2;
+      none = none.1.0;
+      room = omega (arith, ap length none.0, no, room);
+    })) has where
+      none : (hand.«data».blocks ≡ []) × ((hand.pages.blocks ≡ []) × (hand.chain ≡ []))
+      none = none_in hand.«data».blocks hand.pages.blocks hand.chain empty
+
+-- one that takes some has room for them
+pub takes_blocks : (shared : Shared) (hand : Hand) (running : Running) (wanted : ℕ) → IsWithinLimits shared.geometry.numbers → AreHome shared
+    → IsHandOf shared.geometry.numbers hand → FitsCall running → blocks_of hand ≡ [] → wanted ≤ hand.«data».room → wanted + 4 ≤ hand.pages.room
+    → WantsBlocks wanted shared hand running
+    → HasRooms shared (hold.Hand hand) (record running { next = next.TakeBlocks 0; wanted = wanted })
+takes_blocks shared hand running wanted limits home sized call empty room pages has = (
+    record {
+      before = is_changed (λ u. HasMade shared (slots_in running.slots) hand running.made u
+      × IsChecked shared (slots_in running.slots) hand running.looked u × (wanted ≡ blocks_to_take shared (slots_in running.slots) u)) running.job has;
+      looks = call.looks;
+      overtaken = call.overtaken;
+    },
+    sized,
+    more_of (λ u. HasMade shared (slots_in running.slots) hand running.made u
+    × IsChecked shared (slots_in running.slots) hand running.looked u × (wanted ≡ blocks_to_take shared (slots_in running.slots) u))
+    (λ u. HasMade shared (slots_in running.slots) hand running.made u
+    × (IsChecked shared (slots_in running.slots) hand running.looked u × TakesBlocks shared (slots_in running.slots) hand 0 wanted u))
+    running.job (λ u has. (has.0, (has.1, record {
+      count = omega (arith, ap length none.0, has.2);
+      none = none.1.0;
+      room = room;
+      pages = omega (arith, ap length none.0, pages);
+      list = omega (arith, home.count, limits.some_cpus);
+    }))) has,
+) where
+  none : (hand.«data».blocks ≡ []) × ((hand.pages.blocks ≡ []) × (hand.chain ≡ []))
+  none = none_in hand.«data».blocks hand.pages.blocks hand.chain empty
+
+pages_anywhere : (n wanted : ℕ) (s : machine.Shared) (h : HandState) (r : machine.Running)
+    → wants_pages n s h (record r { wanted = wanted }) ≡ wants_pages n s h r
+pages_anywhere zero wanted s h r = refl
+pages_anywhere (suc n) wanted s h r = refl
+
+-- a taking of no data blocks has no step
+pub wants_none : (wanted size : ℕ) (s : machine.Shared) (h : HandState) (r : machine.Running) (t : machine.Turn) → wanted ≡ 0
+    → wants_pages (pages_wanted s r.slots (plan_by size s h r)) s h (record r { wanted = wanted }) ≡ t → wants_blocks wanted size s h r ≡ t
+wants_none wanted size s h r t no pages =
+    ap (λ (n : ℕ). wants_blocks n size s h r) no
+    ∙ sym (pages_anywhere (pages_wanted s r.slots (plan_by size s h r)) wanted s h r) ∙ pages

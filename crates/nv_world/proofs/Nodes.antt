@@ -1,12 +1,12 @@
 -- The nodes that a call reads over the cells of its slots are those of the machine.
-use Rattle.std.proofs.Common.{◌≡◌, ℕ, zero, suc, ◌<◌, ◌==◌, ◌∙◌, Bool, true, false, true≢false, cond, List, [], ◌∷◌, ◌++◌, length, map, Option, Some, None, arith, refl, ap, ap₂, sym, subst, nat_lt}
+use Rattle.std.proofs.Common.{◌≡◌, ℕ, zero, suc, ◌<◌, ◌≤◌, ◌==◌, ◌∙◌, Bool, true, false, true≢false, cond, List, [], ◌∷◌, ◌++◌, length, map, Option, Some, None, arith, refl, ap, ap₂, sym, subst, nat_lt}
 use Rattle.std.specs.Prelude.{is_some, option_and_then, slice_index_or, option_map, unwrap_or}
-use Rattle.std.specs.List.{AllByRecursion}
+use Rattle.std.specs.List.{AllByRecursion, AllPairs}
 use Rattle.std.proofs.lemmas.Bool.{eqb-true, eq-eqb, ltb-true, ltb-false}
 use Rattle.std.proofs.lemmas.List.{get_or-map, get_or_past, length-map}
 use Rattle.nv_alloc.specs.Numbers.{has}
 use Rattle.nv_base.specs.declared.numbers.Handle.{Handle}
-use Rattle.nv_calls.specs.Cells.{no_cell}
+use Rattle.nv_calls.specs.Cells.{AreCells, no_cell}
 use Rattle.nv_calls.specs.Locked.{Agree, SameCall, handles}
 use Rattle.nv_calls.specs.Nodes.{HasBytes, alone, cell_of, has_page_in, own_node, plain_nodes, slots_by, with_bytes}
 use Rattle.nv_calls.specs.Plain.{PlainNode, node_in, stamped}
@@ -57,6 +57,27 @@ lent_each P (n ∷ slots) all ino h each = go (n == ino) refl h (lent_each P slo
       → P (cell_in all ino).state
   go true q h rest = subst (λ (k : ℕ). P (cell_in all k).state) (eqb-true n ino q) each.0
   go false q h rest = let h = rw q at h in rest h each.1
+
+-- the cells of slots that rise are those of a call
+pub lent_are : (slots : List ℕ) (all : List CellValue) → length slots ≤ 4 → AllPairs (λ (a b : ℕ). a < b) slots → AreCells (lent_cells slots all)
+lent_are slots all few rising = record {
+  few = omega (arith, few, length-map slots lend);
+  rising = λ i j d before within.
+      let inside : j < length slots = omega (arith, within, length-map slots lend) in
+      let less : slice_index_or slots i 0 < slice_index_or slots j 0 = rising i j 0 before inside in
+      subst (λ (c : ℕ × CellValue). c.0 < (slice_index_or (lent_cells slots all) j d).0)
+      (sym (get_or-map lend slots i 0 d (omega (arith, before, inside))))
+      (subst (λ (c : ℕ × CellValue). slice_index_or slots i 0 < c.0) (sym (get_or-map lend slots j 0 d inside)) less);
+} where
+  lend : ℕ → ℕ × CellValue
+  lend ino = (ino, cell_in all ino)
+
+-- a slot that is lent is one of them
+pub lent_has : (slots : List ℕ) (all : List CellValue) (ino : ℕ) → is_some (cell_of (lent_cells slots all) ino) ≡ true → has slots ino ≡ true
+lent_has slots all ino lent = go (has slots ino) refl where
+  go : (b : Bool) → has slots ino ≡ b → b ≡ true
+  go true h = refl
+  go false h = let none : false ≡ true = subst (λ (c : Option CellValue). is_some c ≡ true) (lent_none slots all ino h) lent in cc
 
 -- ---- nodes
 
