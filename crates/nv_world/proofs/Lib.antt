@@ -3,6 +3,7 @@ pub mod Appends
 pub mod Checks
 pub mod Ends
 pub mod Enters
+pub mod FewPages
 pub mod Gives
 pub mod Homes
 pub mod Locked
@@ -13,6 +14,7 @@ pub mod Plans
 pub mod Publishes
 pub mod Retires
 pub mod Runs
+pub mod SameCells
 pub mod Sequence
 pub mod SlotLists
 pub mod Starts

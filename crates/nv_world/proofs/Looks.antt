@@ -1,6 +1,6 @@
 -- A look at a name by the cell of its directory alone.
 use Rattle.std.proofs.Common.{◌≡◌, ℕ, ◌+◌, ◌∙◌, Bool, true, false, not, List, [], Option, Some, None, ap, refl, sym}
-use Rattle.std.specs.Prelude.{Result, Ok, Err, option_map}
+use Rattle.std.specs.Prelude.{Result, Err, option_map}
 use Rattle.std.specs.Prelude.{is_some}
 use Rattle.nv_base.specs.Names.{is_lawful_name}
 use Rattle.nv_base.specs.declared.fault.Fault.{Fault}
@@ -10,7 +10,7 @@ use Rattle.nv_base.specs.declared.node.Kind.TheVariants.{File, Dir}
 use Rattle.nv_base.specs.declared.numbers.Handle.{Handle}
 use Rattle.nv_calls.specs.Nodes.{alone, copies_by}
 use Rattle.nv_calls.specs.Plain.{PlainNode}
-use Rattle.nv_calls.specs.Refusals.{and_find, kind_of, look, lookup, passes, refuse_if, want_bound, want_directory, want_lawful}
+use Rattle.nv_calls.specs.Refusals.{and_find, kind_of, look, lookup, passes, refuse_if, want_bound, want_directory}
 use Rattle.nv_calls.specs.calls.Lookup.{lookup_refusal}
 use Rattle.nv_cell.specs.Cell.{CellValue}
 use Rattle.nv_entry.specs.declared.node.NodeCopy.{NodeCopy}

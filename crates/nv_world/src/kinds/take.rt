@@ -6,10 +6,10 @@ ghost use Rattle.nv_machine.specs.Reads.{pages_wanted, plan_by};
 ghost use Rattle.nv_base.specs.declared.fault.Fault.TheVariants.{NoSpace};
 ghost use Rattle.nv_base.specs.Limits.{IsWithinLimits};
 ghost use Rattle.nv_world.specs.Parts.{AreHome, IsOfDevice};
-ghost use Rattle.nv_world.specs.Rooms.{CanWantPages, FitsCall, HasRoomsAfter, IsHandOf};
+ghost use Rattle.nv_world.specs.Rooms.{CanWantPages, FitsCall, HasRoomsAfter, IsHandOf, pages_to_take};
 ghost use Rattle.nv_world.specs.declared.hold.Hold.TheVariants as hold;
-ghost use Rattle.nv_world.specs.Shown.{Told, hand_of, shared_of, shown, turn_of};
-ghost use Rattle.nv_world.specs.Told.{IsToldOf, KeepsJob};
+ghost use Rattle.nv_world.specs.Shown.{Told, hand_of, shared_of, shown, slots_in, turn_of};
+ghost use Rattle.nv_world.specs.Told.{IsChangeWith, IsToldOf, KeepsJob};
 
 use crate::ending::refuse;
 use crate::lent_take::pages_in;
@@ -36,14 +36,26 @@ pub(crate) fn want_pages(shared: &mut Shared, hand: &Hand, running: &mut Running
     ensures job { KeepsJob running.old running.new }
     ensures rooms { HasRoomsAfter result shared.new (hold.Hand hand.now) running.new }
 {
-    let wanted = pages_in(&mut shared.cells, &running.slots, running.plan(), hand);
-    running.wanted = wanted;
-    if wanted == 0 {
+    running.wanted = pages_by(shared, hand, running);
+    if running.wanted == 0 {
         running.next = Next::Ready;
         return Turn::Moves;
     }
     running.next = Next::TakePages(0);
     Turn::Moves
+}
+
+/// How many log pages the call wants.
+fn pages_by(shared: &mut Shared, hand: &Hand, running: &Running) -> u64
+    requires limits { IsWithinLimits shared.old.geometry.numbers }
+    requires device { IsOfDevice shared.old.geometry.numbers hand.now }
+    requires sizes { IsHandOf shared.old.geometry.numbers hand.now }
+    requires can { CanWantPages shared.old hand.now running.now }
+    ensures same { shared.new ≡ shared.old }
+    ensures wanted { IsChangeWith
+        (λ u. result ≡ pages_to_take shared.old (slots_in running.now.slots) hand.now u) running.now.job }
+{
+    pages_in(&mut shared.cells, &running.slots, running.plan(), hand)
 }
 
 /// Takes data blocks from one list, its lowest.

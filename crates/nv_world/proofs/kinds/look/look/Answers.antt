@@ -1,4 +1,4 @@
-use Rattle.std.proofs.Common.{◌≡◌, ℕ, ◌+◌, ◌∙◌, List, Option, None, ap, sym}
+use Rattle.std.proofs.Common.{◌+◌, ◌∙◌, None, ap, sym}
 use Rattle.std.proofs.lemmas.List.{length-map}
 use Rattle.nv_base.specs.declared.numbers.Handle.{Handle}
 use Rattle.nv_calls.specs.AllCalls.{look_refusal, looked}
@@ -34,7 +34,7 @@ returns-in-Ok-clause-turn c told is =
     (ap (λ (x : Call). look_tests place (look_refusal (copies s) x)) by.1 ∙ look.0)
     (look.1 ∙ sym (ap (λ (x : Call). seen_at (directories x) place (looked (copies s) x) c.args.running.now.looked) by.1))
     (c.slots_of-slots.ensures s by.0 many ∙ sym (ap (λ (x : Call). slots_of s None found x) by.1))
-    (c.looking-next.ensures by.0 ∙ sym (ap (λ (x : Call). looking_at (place + 1) (slots_in c.slots_of-slots.result) x) by.1))
+    (c.looking-next.ensures.next by.0 ∙ sym (ap (λ (x : Call). looking_at (place + 1) (slots_in c.slots_of-slots.result) x) by.1))
 
 pub returns-in-Err-clause-turn : goal.returns-in-Err-clause-turn
 returns-in-Err-clause-turn c told is =
