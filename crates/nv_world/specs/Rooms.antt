@@ -163,6 +163,12 @@ CanWantPages shared hand running =
     IsChangeWith (λ u. HasMade shared (slots_in running.slots) hand running.made u
     × IsChecked shared (slots_in running.slots) hand running.looked u × HasItsBlocks shared (slots_in running.slots) hand u) running.job
 
+-- the call of a job is checked, and takes so many data blocks
+abbrev pub WantsBlocks : ℕ → Shared → Hand → Running → Type 0
+WantsBlocks wanted shared hand running =
+    IsChangeWith (λ u. HasMade shared (slots_in running.slots) hand running.made u
+    × IsChecked shared (slots_in running.slots) hand running.looked u × (wanted ≡ blocks_to_take shared (slots_in running.slots) u)) running.job
+
 -- ---- ready
 
 -- these cells and this call were made ready with that hand: since then the cells have changed in their room alone
