@@ -7,6 +7,7 @@ use Rattle.nv_alloc.specs.Block.{BlockValue}
 use Rattle.nv_base.specs.Limits.{IsWithinLimits}
 use Rattle.nv_base.specs.declared.geometry.GeometryNumbers.{GeometryNumbers}
 use Rattle.nv_base.specs.declared.limits.TheConstants.{NUMBER}
+use Rattle.nv_calls.specs.Progress.{step_of}
 use Rattle.nv_calls.specs.Ready.{ReadyValue}
 use Rattle.nv_calls.specs.SlotCells.{lent_cells}
 use Rattle.nv_cell.specs.Cell.{CellState, CellValue, IsCell}
@@ -21,19 +22,18 @@ use Rattle.nv_world.specs.Rooms.{HasActorRooms, HasRooms, hand_held}
 use Rattle.nv_world.specs.Shown.{Told, held_by, shared_of, shown_by, shown_ready, slots_in}
 use Rattle.nv_world.specs.Steps.{CanEnter, CanStep, GivenBy}
 use Rattle.nv_world.specs.Told.{IsHoldOf, IsReadyOf, IsToldOf}
-use Rattle.nv_world.specs.Worlds.{IsWorldAfter, ShowsCall, ShowsRunning, told_of}
+use Rattle.nv_world.specs.Worlds.{ShowsActor, ShowsCall, ShowsRunning, told_of}
 use Rattle.nv_world.specs.declared.hold.Hold.{Hold}
 use Rattle.nv_world.specs.declared.hold.Hold.TheVariants as hold
 use Rattle.nv_world.specs.declared.running.Running.{Running}
 use Rattle.nv_world.specs.declared.shared.Shared.{Shared}
 use Rattle.nv_world.specs.declared.world.Actor.{Actor}
-use Rattle.nv_world.specs.declared.world.World.{World}
 use Rattle.nv_world.proofs.GivenCells.{given_home, given_slots, many_cells}
 use Rattle.nv_world.proofs.GivenCounts.{of_numbers}
 use Rattle.nv_world.proofs.GivenEnter.{given_takes, no_journal}
 use Rattle.nv_world.proofs.GivenKinds.{given_kind}
 use Rattle.nv_world.proofs.GivenLaws.{IsGiven, LawsOf, given_after}
-use Rattle.nv_world.proofs.ShownCalls.{shown_slots}
+use Rattle.nv_world.proofs.ShownCalls.{commit_commits, shown_slots}
 
 -- ---- over plain values
 
@@ -61,7 +61,7 @@ module _ (shared : Shared) (actor : ℕ) (told : Told) (running : Running)
   given_own (hold.Hand hand) given is rooms =
       given_kind shared actor told hand running given known job running.next refl rooms.0.before
   given_own (hold.Ready ready) given is rooms = given_enter shared actor told ready running given is
-  given_own (hold.Commit commit) given is rooms = tt
+  given_own (hold.Commit commit) given is rooms = given.commits (commit_commits (step_of commit) commit)
 
   pub given_step : (held : Hold) → IsWithinLimits shared.geometry.numbers → actor < shared.geometry.numbers.actors
       → IsGiven shared.geometry.numbers (shared_of shared) actor (held_by held) (shown_by held told running)
@@ -118,16 +118,14 @@ shown_some held (Some other) (Some r) running e shows =
     let same : other ≡ running = cc in
     record { r = r; is = refl; shows = subst (λ (q : Running). ShowsCall held q r) same shows }
 
--- THE LEMMA: in a world that shows one of the machine, an actor's call can make its next step
-pub can_step : (w : World) (m : machine.World) (events : List machine.Event) → IsWorldAfter w m events
-    → LawsOf w.shared.geometry.numbers m → (actor : ℕ) (d : Actor) → actor < length w.actors.items → (running : Running)
-    → (slice_index_or w.actors.items actor d).running ≡ Some running
-    → AllByRecursion (λ (c : ℕ × CellValue). IsCell c.1.state) (lent_cells (slots_in running.slots) w.shared.cells.items)
-    → CanStep w.shared (slice_index_or w.actors.items actor d).hold running actor
-can_step w m events is laws actor d there running has_it known =
-    let own = slice_index_or w.actors.items actor d in
-    let shows = is.shows.each actor d there in
+-- THE LEMMA: where the shared parts and the actors of a world show those of the machine, an actor's call can make its next step
+pub can_step : (shared : Shared) (actors : List Actor) (m : machine.World) (events : List machine.Event)
+    → IsWithinLimits shared.geometry.numbers → m ≡ after (formatted shared.geometry.numbers) events → LawsOf shared.geometry.numbers m
+    → shared_of shared ≡ m.shared → length actors ≡ length m.actors → (actor : ℕ) → actor < length actors → (own : Actor)
+    → ShowsActor own (actor_at m actor) → HasActorRooms shared own.hold own.running → (running : Running) → own.running ≡ Some running
+    → AllByRecursion (λ (c : ℕ × CellValue). IsCell c.1.state) (lent_cells (slots_in running.slots) shared.cells.items)
+    → CanStep shared own.hold running actor
+can_step shared actors m events limits from laws same many actor there own shows rooms running has_it known =
     let call = shown_some own.hold own.running (actor_at m actor).running running has_it shows.running in
-    can_step_as w.shared own.hold running call.r m events actor is.limits is.reached laws is.shows.shared
-    (omega (arith, there, is.shows.count)) shows.hand call.is call.shows
-    (subst (λ (o : Option Running). HasActorRooms w.shared own.hold o) has_it (is.rooms actor d there)) known
+    can_step_as shared own.hold running call.r m events actor limits from laws same (omega (arith, there, many)) shows.hand call.is call.shows
+    (subst (λ (o : Option Running). HasActorRooms shared own.hold o) has_it rooms) known

@@ -140,4 +140,4 @@ module _ (shared : Shared) (actor : ℕ) (told : Told) (hand : Hand) (running : 
     inode = λ ino has_it. (let fewer = given.numbers ino has_it in omega (arith, fewer.0, given.pool));
     absent = λ ino has_it. (given.numbers ino has_it).1;
   }
-  given_kind next.Visit e fits = (inside next.Visit e, given_bytes shared given.apart)
+  given_kind next.Visit e fits = (inside next.Visit e, given_bytes shared given.apart, hand_at next.Visit e)

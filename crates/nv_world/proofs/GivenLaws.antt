@@ -17,7 +17,7 @@ use Rattle.nv_machine.specs.Grown.{HasGrown, HasGrownBy, is_behind}
 use Rattle.nv_machine.specs.Hands.{AreLists, AreNumbers, HandAt, HandOf}
 use Rattle.nv_machine.specs.Kept.{AreApart, AreLogsKept}
 use Rattle.nv_machine.specs.Kinds.{blocks_in}
-use Rattle.nv_machine.specs.Locks.{AreSlots, HasSlots, HoldsIts, IsInside, held_at, is_owner}
+use Rattle.nv_machine.specs.Locks.{AreSlots, HoldsIts, IsInside, commits_at, held_at}
 use Rattle.nv_machine.specs.Order.{AreLogsOrdered}
 use Rattle.nv_machine.specs.Reached.{IsReached}
 use Rattle.nv_machine.specs.Reads.{slot_at, written_slots}
@@ -26,7 +26,7 @@ use Rattle.nv_machine.specs.World.{Check, Enter, Event, HandState, Next, Running
 use Rattle.nv_machine.proofs.FitsEvents.{AreFit, AreSizes, all_fit}
 use Rattle.nv_machine.proofs.FromScratch.{all_numbers}
 use Rattle.nv_machine.proofs.Lists.{self}
-use Rattle.nv_machine.proofs.Locked.{slot_owned}
+use Rattle.nv_machine.proofs.Locked.{owner_is, slot_owned}
 use Rattle.nv_machine.proofs.PoolLaw.{all_pooled}
 use Rattle.nv_machine.proofs.PoolRuns.{ArePooled}
 use Rattle.nv_machine.proofs.Reached.{reached}
@@ -73,6 +73,7 @@ pub record IsGiven (g : GeometryNumbers) (s : Shared) (actor : ℕ) (h : HandSta
   pub versions : (ino : ℕ) → (cell_at s ino).version ≤ s.book.commit
   pub still : r.next ≡ Check → (ino : ℕ) → has r.slots ino ≡ true → IsStill g.block (cell_at s ino)
   pub checks : r.next ≡ Check → HoldsForCheck s h r
+  pub commits : commits_at r.next ≡ true → s.holder ≡ Some actor
   pub generations : r.next ≡ Enter → (place : ℕ) → place < length (written_slots r)
       → (cell_at s (slot_at (written_slots r) place)).generation < NUMBER
 
@@ -127,6 +128,7 @@ module _ (g : GeometryNumbers) (m : World) (reached : IsReached m) (all : AreNum
     versions = laws.versions;
     still = held_still;
     checks = laws.checks actor r is;
+    commits = λ e. owner_is actor m.shared.holder (holds.holder ∙ e);
     generations = laws.generations actor r is;
   }
 

@@ -1,6 +1,6 @@
 -- What holds of a running call beside what is shown of it stays where another actor makes a step.
 use Rattle.std.proofs.Common.{◌≡◌, ◌≢◌, ℕ, ◌+◌, ◌<◌, ◌==◌, ◌∙◌, Bool, true, false, List, [], ◌∷◌, Option, Some, None, ap, arith, length, refl, subst, sym}
-use Rattle.std.specs.Prelude.{◌||◌, slice_index_or}
+use Rattle.std.specs.Prelude.{◌||◌, slice_index_or, unwrap_or}
 use Rattle.std.specs.List.{AllByRecursion}
 use Rattle.std.proofs.lemmas.Bool.{eqb-true, false≢true}
 use Rattle.nv_alloc.specs.Numbers.{has}
@@ -9,19 +9,16 @@ use Rattle.nv_alloc.proofs.Lists.{has-first}
 use Rattle.nv_base.specs.declared.geometry.GeometryNumbers.{GeometryNumbers}
 use Rattle.nv_base.specs.declared.numbers.Handle.{Handle}
 use Rattle.nv_book.specs.Book.{BookValue}
-use Rattle.nv_calls.specs.AllCalls.{refusal}
+use Rattle.nv_calls.specs.AllCalls.{looked as found_in, refusal}
 use Rattle.nv_calls.specs.Cells.{AreCells}
-use Rattle.nv_calls.specs.Commit.{CommitValue}
 use Rattle.nv_calls.specs.Locked.{handles}
 use Rattle.nv_calls.specs.Nodes.{nodes_in}
 use Rattle.nv_calls.specs.PagesWanted.{pages_wanted}
-use Rattle.nv_calls.specs.Prepared.{HasNumberFor, IsStill, makes, planned_by}
+use Rattle.nv_calls.specs.Prepared.{HasNumberFor, IsStill, made_by, makes, no_handle, planned_by}
 use Rattle.nv_calls.specs.Progress.{step_of}
 use Rattle.nv_calls.specs.Refusals.{passes}
 use Rattle.nv_calls.specs.SlotCells.{cell_in, lent_cells}
 use Rattle.nv_calls.specs.Updates.{blank_call}
-use Rattle.nv_calls.specs.declared.progress.CommitStep.{CommitStep}
-use Rattle.nv_calls.specs.declared.progress.CommitStep.TheVariants as step
 use Rattle.nv_calls.specs.declared.looked.Looked.{Looked}
 use Rattle.nv_calls.specs.declared.update.Update.{Update}
 use Rattle.nv_cell.specs.Cell.{CellValue}
@@ -33,8 +30,8 @@ use Rattle.nv_machine.proofs.Locked.{owner_is}
 use Rattle.nv_world.specs.Committing.{IsCommitting}
 use Rattle.nv_world.specs.Frames.{LeavesRest}
 use Rattle.nv_world.specs.Nodes.{CanRead, HasOwn, HoldHandles, wanted_over}
-use Rattle.nv_world.specs.Rooms.{HasActorRooms, HasRooms, HasTaken, IsChecked, IsHandOf, IsIdle, IsReadyOver, Takes, TakesBlocks, TakesIf, TakesPages, takes}
-use Rattle.nv_world.specs.Shown.{Told, machine_step, next_of, shared_of, shown_by, slots_in}
+use Rattle.nv_world.specs.Rooms.{HasActorRooms, HasMade, HasRooms, HasTaken, IsChecked, IsHandOf, IsIdle, IsReadyOver, Takes, TakesBlocks, TakesIf, TakesPages, committing_cpu, takes}
+use Rattle.nv_world.specs.Shown.{Told, next_of, shared_of, shown_by, slots_in}
 use Rattle.nv_world.specs.Told.{IsChangeWith}
 use Rattle.nv_world.specs.Worlds.{ShowsActor, ShowsCall, ShowsRunning, told_of}
 use Rattle.nv_world.specs.declared.hold.Hold.{Hold}
@@ -46,7 +43,7 @@ use Rattle.nv_world.specs.declared.next.Next.TheVariants as next
 use Rattle.nv_world.specs.declared.running.Running.{Running}
 use Rattle.nv_world.specs.declared.shared.Shared.{Shared}
 use Rattle.nv_world.specs.declared.world.Actor.{Actor}
-use Rattle.nv_world.proofs.ShownCalls.{shown_slots}
+use Rattle.nv_world.proofs.ShownCalls.{commit_commits, commit_holds, shown_slots}
 
 -- the cells of slots that all stay are the same
 same_lent : (slots : List ℕ) (old new : List CellValue) → ((ino : ℕ) → has slots ino ≡ true → cell_in new ino ≡ cell_in old ino)
@@ -62,22 +59,19 @@ by_update P Q (job.Change plan text) from p = from plan.update p
 by_update P Q (job.Visit visit) from p = p
 by_update P Q job.Given from p = p
 
--- a commit holds all its slots, and the commit lock
-commit_holds : (s : CommitStep) (commit : CommitValue) (slots : List ℕ) → held_at (machine_step s commit) slots ≡ slots
-commit_holds step.Append commit slots = refl
-commit_holds step.Open commit slots = refl
-commit_holds step.Publish commit slots = refl
-commit_holds step.Close commit slots = refl
-commit_holds step.Retire commit slots = refl
-commit_holds step.Leave commit slots = refl
-
-commit_commits : (s : CommitStep) (commit : CommitValue) → commits_at (machine_step s commit) ≡ true
-commit_commits step.Append commit = refl
-commit_commits step.Open commit = refl
-commit_commits step.Publish commit = refl
-commit_commits step.Close commit = refl
-commit_commits step.Retire commit = refl
-commit_commits step.Leave commit = refl
+-- a call that takes holds all its slots
+takes_hold : (n : Next) (slots : List ℕ) → takes n ≡ true → held_at (next_of n) slots ≡ slots
+takes_hold (next.TakeBlocks asked) slots e = refl
+takes_hold (next.TakePages asked) slots e = refl
+takes_hold next.Ready slots e = refl
+takes_hold next.Check slots e = refl
+takes_hold next.Number slots e = cc
+takes_hold (next.Look place) slots e = cc
+takes_hold (next.Lock place) slots e = cc
+takes_hold (next.Unlock place) slots e = cc
+takes_hold (next.Give cpu) slots e = cc
+takes_hold next.Back slots e = cc
+takes_hold next.Visit slots e = cc
 
 module _ (actor : ℕ) (held : List ℕ) (old new : Shared) (rest : LeavesRest actor held old new) where
   hand_stays : (hand : Hand) → IsHandOf old.geometry.numbers hand → IsHandOf new.geometry.numbers hand
@@ -111,6 +105,7 @@ module _ (actor : ℕ) (held : List ℕ) (old new : Shared) (rest : LeavesRest a
         still = moved (λ g cells. AllByRecursion (λ (c : ℕ × CellValue). IsStill g.block c.1.state) cells) p.still;
         passed = moved (λ g cells. refusal g.block (nodes_in cells) (blank_call u) ≡ passes) p.passed;
         something = p.something;
+        same = moved (λ g cells. found_in (nodes_in cells) (blank_call u) ≡ looked) p.same;
         number = moved (λ g cells. HasNumberFor cells (makes u) hand.ino) p.number;
         chain = p.chain;
       }
@@ -132,6 +127,9 @@ module _ (actor : ℕ) (held : List ℕ) (old new : Shared) (rest : LeavesRest a
         list = omega (arith, p.list, rest.lists);
       }
 
+      made_stays : (made : Handle) → HasMade old slots hand made u → HasMade new slots hand made u
+      made_stays made p e = moved (λ g cells. made ≡ unwrap_or (made_by cells hand.ino u) no_handle) (p e)
+
       taken_stays : HasTaken old slots hand u → HasTaken new slots hand u
       taken_stays p = record {
         blocks = moved (λ g cells. length hand.«data».blocks ≡ wanted_over g.block cells u) p.blocks;
@@ -144,7 +142,7 @@ module _ (actor : ℕ) (held : List ℕ) (old new : Shared) (rest : LeavesRest a
 
   -- ---- what a call takes
 
-  takes_stay : (n : Next) (slots : List ℕ) → IsOut (held_at (next_of n) slots) → (hand : Hand) (wanted : ℕ) (looked : Looked) (u : Update)
+  takes_stay : (n : Next) (slots : List ℕ) → IsOut slots → (hand : Hand) (wanted : ℕ) (looked : Looked) (u : Update)
       → Takes n old slots hand wanted looked u → Takes n new slots hand wanted looked u
   takes_stay (next.TakeBlocks asked) slots out hand wanted looked u p =
       (checked_stays slots out hand u looked p.0, takes_blocks_stay slots out hand u asked wanted p.1)
@@ -160,35 +158,39 @@ module _ (actor : ℕ) (held : List ℕ) (old new : Shared) (rest : LeavesRest a
   takes_stay next.Back slots out hand wanted looked u p = tt
   takes_stay next.Visit slots out hand wanted looked u p = tt
 
-  takes_if_stays : (b : Bool) (hand : Hand) (running : Running) → IsOut (held_at (next_of running.next) (slots_in running.slots))
-      → TakesIf b old hand running → TakesIf b new hand running
-  takes_if_stays false hand running out p = tt
-  takes_if_stays true hand running out p =
+  takes_if_stays : (b : Bool) (hand : Hand) (running : Running) → takes running.next ≡ b
+      → IsOut (held_at (next_of running.next) (slots_in running.slots)) → TakesIf b old hand running → TakesIf b new hand running
+  takes_if_stays false hand running e out p = tt
+  takes_if_stays true hand running e out p =
       let slots = slots_in running.slots in
-      by_update (λ u. Takes running.next old slots hand running.wanted running.looked u)
-      (λ u. Takes running.next new slots hand running.wanted running.looked u) running.job
-      (takes_stay running.next slots out hand running.wanted running.looked) p
+      let stay : IsOut slots = λ ino h. out ino (ap (λ (l : List ℕ). has l ino) (takes_hold running.next slots e) ∙ h) in
+      by_update (λ u. HasMade old slots hand running.made u × Takes running.next old slots hand running.wanted running.looked u)
+      (λ u. HasMade new slots hand running.made u × Takes running.next new slots hand running.wanted running.looked u) running.job
+      (λ u q. (made_stays slots stay hand u running.made q.0, takes_stay running.next slots stay hand running.wanted running.looked u q.1)) p
 
   -- ---- a call
 
   -- one that commits has the commit lock, and the book with it
   call_stays : (held_by : Hold) (told : Told) (running : Running) → IsOut (held_at (shown_by held_by told running).next (slots_in running.slots))
-      → (commits_at (shown_by held_by told running).next ≡ true → new.book ≡ old.book)
+      → (commits_at (shown_by held_by told running).next ≡ true → (new.book ≡ old.book) × (new.holder ≡ old.holder))
       → HasRooms old held_by running → HasRooms new held_by running
   call_stays (hold.Hand hand) told running out same p =
-      (p.0, hand_stays hand p.1, takes_if_stays (takes running.next) hand running out p.2)
+      (p.0, hand_stays hand p.1, takes_if_stays (takes running.next) hand running refl out p.2)
   call_stays (hold.Ready ready) told running out same p =
       (p.0, p.1, hand_stays ready.hand p.2, moved (slots_in running.slots) out (λ g cells. IsReadyOver cells ready) p.3)
   call_stays (hold.Commit commit) told running out same p =
       let slots = slots_in running.slots in
       let all = commit_holds (step_of commit) commit slots in
       let stay : IsOut slots = λ ino h. out ino (ap (λ (l : List ℕ). has l ino) all ∙ h) in
-      let book = same (commit_commits (step_of commit) commit) in (
+      let book = same (commit_commits (step_of commit) commit) in
+      let holder = book.1 in
+      let cpu : committing_cpu new ≡ committing_cpu old = (let many = rest.lists in cc) in (
         p.0,
         p.1,
         hand_stays commit.hand p.2,
-        subst (λ (b : BookValue). IsCommitting (lent_cells slots new.cells.items) b commit) (sym book)
-            (moved slots stay (λ g cells. IsCommitting cells old.book commit) p.3),
+        subst (λ (n : ℕ). IsCommitting n (lent_cells slots new.cells.items) new.book commit) (sym cpu)
+            (subst (λ (b : BookValue). IsCommitting (committing_cpu old) (lent_cells slots new.cells.items) b commit) (sym book.0)
+            (moved slots stay (λ g cells. IsCommitting (committing_cpu old) cells old.book commit) p.3)),
       )
 
   idle_stays : (held_by : Hold) → IsIdle old held_by → IsIdle new held_by
@@ -236,7 +238,8 @@ module _ (m : machine.World) (locks : AreLocks m) (old new : Shared) (shows : sh
             sym (mine.owners ino)
             ∙ both_own actor other (owner_at (shared_of old) ino) ne (theirs.owners ino ∙ same_held ino ∙ h)
 
-        book : commits_at (shown_by held (told_of q) running).next ≡ true → new.book ≡ old.book
+        book : commits_at (shown_by held (told_of q) running).next ≡ true
+            → (new.book ≡ old.book) × (new.holder ≡ old.holder)
         book h =
             let commits = theirs.holder ∙ ap (λ (x : machine.Running). commits_at x.next) (sym shown.shown) ∙ h in
             rest.book other (owner_is other old.holder commits) ne

@@ -5,5 +5,5 @@ use Rattle.nv_calls.specs.Commit.{CommitValue}
 use Rattle.nv_cell.specs.Cell.{CellValue}
 
 -- to be written
-abbrev pub IsCommitting : List (ℕ × CellValue) → BookValue → CommitValue → Type 0
-IsCommitting cells book commit = Unit {0}
+abbrev pub IsCommitting : ℕ → List (ℕ × CellValue) → BookValue → CommitValue → Type 0
+IsCommitting cpu cells book commit = Unit {0}

@@ -10,4 +10,4 @@ pub record LeavesRest (actor : ℕ) (held : List ℕ) (old new : Shared) : Type 
   pub lists : length new.lists.items ≡ length old.lists.items
   pub count : length new.cells.items ≡ length old.cells.items
   pub cells : (ino : ℕ) → has held ino ≡ false → cell_in new.cells.items ino ≡ cell_in old.cells.items ino
-  pub book : (other : ℕ) → old.holder ≡ Some other → other ≢ actor → new.book ≡ old.book
+  pub book : (other : ℕ) → old.holder ≡ Some other → other ≢ actor → (new.book ≡ old.book) × (new.holder ≡ old.holder)

@@ -17,11 +17,11 @@ use Rattle.nv_calls.specs.Prepared.{HasNumberFor, makes}
 use Rattle.nv_calls.specs.Ready.{ReadyValue}
 use Rattle.nv_calls.specs.SlotCells.{lent_cells}
 use Rattle.nv_calls.specs.Updates.{blank_call}
-use Rattle.nv_machine.specs.World.{list_at}
+use Rattle.nv_machine.specs.World.{empty_hand, list_at}
 use Rattle.nv_world.specs.Nodes.{CanRead}
 use Rattle.nv_world.specs.Parts.{AreGiven, AreHome, AreSlots, AreStill, IsOfDevice}
 use Rattle.nv_world.specs.Rooms.{hand_held}
-use Rattle.nv_world.specs.Shown.{shared_of, slots_in}
+use Rattle.nv_world.specs.Shown.{hand_of, shared_of, slots_in}
 use Rattle.nv_world.specs.Told.{IsChangeWith}
 use Rattle.nv_world.specs.Visits.{HasOwnBytes}
 use Rattle.nv_world.specs.declared.hold.Hold.{Hold}
@@ -68,13 +68,14 @@ Given next.Check shared hand running = CanBeChecked shared hand running
 Given (next.Unlock place) shared hand running = place < length (slots_in running.slots)
 Given (next.Give cpu) shared hand running = CanGive shared hand cpu
 Given next.Back shared hand running = CanPutBack shared hand
-Given next.Visit shared hand running = (slots_in running.slots ≡ []) × ((ino : ℕ) → HasOwnBytes (shared_of shared) ino)
+Given next.Visit shared hand running =
+    (slots_in running.slots ≡ []) × ((ino : ℕ) → HasOwnBytes (shared_of shared) ino) × (hand_of hand ≡ empty_hand)
 Given other shared hand running = Unit {0}
 
 abbrev pub GivenBy : Shared → Hold → Running → ℕ → Type 0
 GivenBy shared (hold.Hand hand) running actor = Given running.next shared hand running
 GivenBy shared (hold.Ready ready) running actor = shared.holder ≡ None → shared.book.state.commit < NUMBER → CanEnter shared running ready actor
-GivenBy shared (hold.Commit commit) running actor = Unit {0}
+GivenBy shared (hold.Commit commit) running actor = shared.holder ≡ Some actor
 
 -- WHAT EVERY STEP OF AN ACTOR'S CALL IS GIVEN
 pub record CanStep (shared : Shared) (hold : Hold) (running : Running) (actor : ℕ) : Type 0 where
