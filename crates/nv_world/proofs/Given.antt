@@ -53,13 +53,11 @@ given_enter shared actor told ready running given is free few = record {
   closed = no_journal shared.book.state.journals (actor % length shared.lists.items) (given.logs.closed free);
 }
 
-module _ (shared : Shared) (actor : ℕ) (told : Told) (running : Running)
-    (known : AllByRecursion (λ (c : ℕ × CellValue). IsCell c.1.state) (lent_cells (slots_in running.slots) shared.cells.items))
-    (job : IsToldOf running told) where
+module _ (shared : Shared) (actor : ℕ) (told : Told) (running : Running) (job : IsToldOf running told) where
   given_own : (held : Hold) → IsGiven shared.geometry.numbers (shared_of shared) actor (held_by held) (shown_by held told running)
       → IsHoldOf (slots_in running.slots) held told → HasRooms shared held running → GivenBy shared held running actor
   given_own (hold.Hand hand) given is rooms =
-      given_kind shared actor told hand running given known job running.next refl rooms.0.before
+      given_kind shared actor told hand running given job running.next refl rooms.0.before
   given_own (hold.Ready ready) given is rooms = given_enter shared actor told ready running given is
   given_own (hold.Commit commit) given is rooms = given.commits (commit_commits (step_of commit) commit)
 
@@ -84,11 +82,9 @@ pub can_step_as : (shared : Shared) (held : Hold) (running : Running) (r : machi
     (events : List machine.Event) (actor : ℕ) → IsWithinLimits shared.geometry.numbers
     → m ≡ after (formatted shared.geometry.numbers) events → LawsOf shared.geometry.numbers m → shared_of shared ≡ m.shared
     → actor < length m.actors → held_by held ≡ (actor_at m actor).hand → (actor_at m actor).running ≡ Some r → ShowsCall held running r
-    → HasRooms shared held running
-    → AllByRecursion (λ (c : ℕ × CellValue). IsCell c.1.state) (lent_cells (slots_in running.slots) shared.cells.items)
-    → CanStep shared held running actor
-can_step_as shared held running r m events actor limits from laws same there hand is shows rooms known =
-    given_step shared actor (told_of r) running known shows.job held limits inside given shows.plan rooms where
+    → HasRooms shared held running → CanStep shared held running actor
+can_step_as shared held running r m events actor limits from laws same there hand is shows rooms =
+    given_step shared actor (told_of r) running shows.job held limits inside given shows.plan rooms where
       inside : actor < shared.geometry.numbers.actors
       inside =
           let many = ap (λ (w : machine.World). length w.actors) from ∙ (of_numbers shared.geometry.numbers events).actors in
@@ -123,9 +119,8 @@ pub can_step : (shared : Shared) (actors : List Actor) (m : machine.World) (even
     → IsWithinLimits shared.geometry.numbers → m ≡ after (formatted shared.geometry.numbers) events → LawsOf shared.geometry.numbers m
     → shared_of shared ≡ m.shared → length actors ≡ length m.actors → (actor : ℕ) → actor < length actors → (own : Actor)
     → ShowsActor own (actor_at m actor) → HasActorRooms shared own.hold own.running → (running : Running) → own.running ≡ Some running
-    → AllByRecursion (λ (c : ℕ × CellValue). IsCell c.1.state) (lent_cells (slots_in running.slots) shared.cells.items)
     → CanStep shared own.hold running actor
-can_step shared actors m events limits from laws same many actor there own shows rooms running has_it known =
+can_step shared actors m events limits from laws same many actor there own shows rooms running has_it =
     let call = shown_some own.hold own.running (actor_at m actor).running running has_it shows.running in
     can_step_as shared own.hold running call.r m events actor limits from laws same (omega (arith, there, many)) shows.hand call.is call.shows
-    (subst (λ (o : Option Running). HasActorRooms shared own.hold o) has_it rooms) known
+    (subst (λ (o : Option Running). HasActorRooms shared own.hold o) has_it rooms)

@@ -32,7 +32,7 @@ use Rattle.nv_world.specs.declared.next.Next.TheVariants as next
 use Rattle.nv_world.specs.declared.running.Running.{Running}
 use Rattle.nv_world.specs.declared.shared.Shared.{Shared}
 use Rattle.nv_world.proofs.GivenCells.{all_lent, given_bytes, given_empty, given_own, given_slots, given_still, many_cells}
-use Rattle.nv_world.proofs.GivenLaws.{IsGiven}
+use Rattle.nv_world.proofs.GivenLaws.{IsGiven, slot_there}
 
 -- ---- the call of a job
 
@@ -66,7 +66,6 @@ makes_same (update.Rename from old to new) text = refl
 
 module _ (shared : Shared) (actor : ℕ) (told : Told) (hand : Hand) (running : Running)
     (given : IsGiven shared.geometry.numbers (shared_of shared) actor (hand_of hand) (shown told running))
-    (known : AllByRecursion (λ (c : ℕ × CellValue). IsCell c.1.state) (lent_cells (slots_in running.slots) shared.cells.items))
     (is : IsToldOf running told) where
   abbrev g : GeometryNumbers
   g = shared.geometry.numbers
@@ -89,7 +88,9 @@ module _ (shared : Shared) (actor : ℕ) (told : Told) (hand : Hand) (running : 
         let still = given_still shared slots given.slots (given.still (ap next_of e)) in
         record {
           there = still.there;
-          own = given_own g.block (lent_cells slots shared.cells.items) known still.still
+          own = given_own g.block (lent_cells slots shared.cells.items)
+              (all_lent IsCell shared slots given.slots.inside
+              (λ ino h. given.cells ino (slot_there (length (shared_of shared).cells) slots ino given.slots.inside h))) still.still
               (all_lent (λ (c : CellState). AreApart c.blocks) shared slots given.slots.inside (λ ino h. given.apart ino));
           held = subst (λ (l : List Handle). HoldHandles slots (length shared.cells.items) l)
               (ap (handles running.looked) same ∙ blank_handles running.looked u text)

@@ -11,7 +11,7 @@ use Rattle.nv_base.specs.declared.limits.TheConstants.{NUMBER}
 use Rattle.nv_base.specs.declared.numbers.Handle.{Handle}
 use Rattle.nv_calls.specs.Locked.{handles}
 use Rattle.nv_calls.specs.Prepared.{IsStill}
-use Rattle.nv_cell.specs.Cell.{CellState, log_of}
+use Rattle.nv_cell.specs.Cell.{IsCell, log_of}
 use Rattle.nv_machine.specs.Format.{formatted}
 use Rattle.nv_machine.specs.Grown.{HasGrown, HasGrownBy, is_behind}
 use Rattle.nv_machine.specs.Hands.{AreLists, AreNumbers, HandAt, HandOf}
@@ -46,6 +46,7 @@ pub record LawsOf (g : GeometryNumbers) (m : World) : Type 0 where
   pub numbers : (actor n : ℕ) → (actor_at m actor).hand.ino ≡ Some n → (n < g.inodes) × (has m.shared.pool.numbers n ≡ false)
   pub once : (actor cpu n : ℕ)
       → times n (numbers_of (blocks_in (actor_at m actor).hand)) + times n (numbers_of (list_at m.shared cpu).blocks) ≤ 1
+  pub cells : (ino : ℕ) → ino < length m.shared.cells → IsCell (cell_at m.shared ino)
   pub versions : (ino : ℕ) → (cell_at m.shared ino).version ≤ m.shared.book.commit
   pub generations : (actor : ℕ) (r : Running) → (actor_at m actor).running ≡ Some r → r.next ≡ Enter → (place : ℕ)
       → place < length (written_slots r) → (cell_at m.shared (slot_at (written_slots r) place)).generation < NUMBER
@@ -67,6 +68,7 @@ pub record IsGiven (g : GeometryNumbers) (s : Shared) (actor : ℕ) (h : HandSta
   pub once : (cpu n : ℕ) → times n (numbers_of (blocks_in h)) + times n (numbers_of (list_at s cpu).blocks) ≤ 1
   pub numbers : (n : ℕ) → h.ino ≡ Some n → (n < g.inodes) × (has s.pool.numbers n ≡ false)
   pub hand : HandAt g r.next h r
+  pub cells : (ino : ℕ) → ino < length s.cells → IsCell (cell_at s ino)
   pub apart : (ino : ℕ) → AreApart (cell_at s ino).blocks
   pub logs : AreLogsKept s
   pub ordered : AreLogsOrdered s
@@ -122,6 +124,7 @@ module _ (g : GeometryNumbers) (m : World) (reached : IsReached m) (all : AreNum
     once = laws.once actor;
     numbers = laws.numbers actor;
     hand = own_hand.0;
+    cells = laws.cells;
     apart = reached.apart.cells;
     logs = reached.kept.logs;
     ordered = reached.order.logs;

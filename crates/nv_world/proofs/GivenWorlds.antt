@@ -17,8 +17,7 @@ use Rattle.nv_world.proofs.GivenLaws.{LawsOf}
 pub world_can_step : (w : World) (m : machine.World) (events : List machine.Event) → IsWorldAfter w m events
     → LawsOf w.shared.geometry.numbers m → (actor : ℕ) (d : Actor) → actor < length w.actors.items → (running : Running)
     → (slice_index_or w.actors.items actor d).running ≡ Some running
-    → AllByRecursion (λ (c : ℕ × CellValue). IsCell c.1.state) (lent_cells (slots_in running.slots) w.shared.cells.items)
     → CanStep w.shared (slice_index_or w.actors.items actor d).hold running actor
-world_can_step w m events is laws actor d there running has_it known =
+world_can_step w m events is laws actor d there running has_it =
     can_step w.shared w.actors.items m events is.limits is.reached laws is.shows.shared is.shows.count actor there
-    (slice_index_or w.actors.items actor d) (is.shows.each actor d there) (is.rooms actor d there) running has_it known
+    (slice_index_or w.actors.items actor d) (is.shows.each actor d there) (is.rooms actor d there) running has_it
