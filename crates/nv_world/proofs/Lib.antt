@@ -13,6 +13,7 @@ pub mod GivenLaws
 pub mod GivenWorlds
 pub mod Gives
 pub mod Homes
+pub mod LawsHold
 pub mod Locked
 pub mod Looks
 pub mod Nodes
