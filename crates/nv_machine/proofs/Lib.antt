@@ -102,3 +102,4 @@ pub mod PageOrder
 pub mod WrongTurns
 pub mod HandNumbers
 pub mod Checking
+pub mod Looking

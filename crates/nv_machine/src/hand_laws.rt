@@ -16,8 +16,9 @@ ghost use Rattle.nv_machine.specs.Hands.{HasTakenNone};
 ghost use Rattle.nv_machine.specs.Kinds.{blocks_in};
 ghost use Rattle.nv_machine.specs.Locks.{commits_at, held_at};
 ghost use Rattle.nv_machine.specs.Reads.{bytes_among};
+ghost use Rattle.nv_machine.specs.Sequence.{directories};
 ghost use Rattle.nv_machine.specs.Step.{after};
-ghost use Rattle.nv_machine.specs.World.{Check, Event, Running, actor_at, cell_at, list_at};
+ghost use Rattle.nv_machine.specs.World.{Check, Event, Look, Running, actor_at, cell_at, list_at};
 
 /// All blocks in hands are of the device, and none of them is in a free list, or twice in the hand.
 pub fn hands_have_blocks_of_the_device()
@@ -63,4 +64,11 @@ pub fn checks_find_their_slots()
         → commits_at r.next ≡ false → has (held_at r.next r.slots) ino ≡ true
         → (cell_at (after (formatted g) events).shared ino).chain.tail
         ≡ length (cell_at (after (formatted g) events).shared ino).chain.entries }
+{}
+
+/// A look that comes next is in one of the directories in which the call's names are looked up.
+pub fn looks_are_in_directories()
+    ensures { (g : GeometryNumbers) (events : List Event) (actor place : ℕ) (r : Running)
+        → (actor_at (after (formatted g) events) actor).running ≡ Some r → r.next ≡ Look place
+        → place < length (directories r.call) }
 {}
