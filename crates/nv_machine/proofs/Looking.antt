@@ -66,7 +66,7 @@ locking_in place slots c = go (nat_lt place (length slots)) where
   go true p e = cc
   go false p e = cc
 
-place_of : Next → ℕ
+abbrev place_of : Next → ℕ
 place_of (Look n) = n
 place_of other = 0
 
