@@ -103,3 +103,5 @@ pub mod WrongTurns
 pub mod HandNumbers
 pub mod Checking
 pub mod Looking
+pub mod Marked
+pub mod MarkedRuns

@@ -9,7 +9,7 @@ ghost use Rattle.nv_base.specs.Limits.{IsWithinLimits};
 ghost use Rattle.nv_base.specs.declared.geometry.GeometryNumbers.{GeometryNumbers};
 ghost use Rattle.nv_base.specs.declared.numbers.Handle.{Handle};
 ghost use Rattle.nv_calls.specs.Locked.{handles};
-ghost use Rattle.nv_cell.specs.Cell.{log_of};
+ghost use Rattle.nv_cell.specs.Cell.{IsCell, log_of};
 ghost use Rattle.nv_cell.specs.Pages.{AreBytesOf};
 ghost use Rattle.nv_machine.specs.Format.{formatted};
 ghost use Rattle.nv_machine.specs.Hands.{HasTakenNone};
@@ -71,4 +71,15 @@ pub fn looks_are_in_directories()
     ensures { (g : GeometryNumbers) (events : List Event) (actor place : ℕ) (r : Running)
         → (actor_at (after (formatted g) events) actor).running ≡ Some r → r.next ≡ Look place
         → place < length (directories r.call) }
+{}
+
+/// Each slot's cell is a cell, with blocks of the device's size: its chain has its pages, its log is one, each published part has
+/// its mark, and each page that is not out its block.
+pub fn cells_are_cells()
+    ensures is { (g : GeometryNumbers) (events : List Event) (ino : ℕ) → IsWithinLimits g
+        → ino < length (after (formatted g) events).shared.cells
+        → IsCell (cell_at (after (formatted g) events).shared ino) }
+    ensures size { (g : GeometryNumbers) (events : List Event) (ino : ℕ) → IsWithinLimits g
+        → ino < length (after (formatted g) events).shared.cells
+        → (cell_at (after (formatted g) events).shared ino).block ≡ g.block }
 {}
