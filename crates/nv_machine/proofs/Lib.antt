@@ -100,3 +100,4 @@ pub mod PageRuns
 pub mod PageEvents
 pub mod PageOrder
 pub mod WrongTurns
+pub mod Generations

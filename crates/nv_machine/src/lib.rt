@@ -1,5 +1,6 @@
 //! The machine of atomic steps, told by definitions and laws alone.
 #![tactic(auto)]
 
+pub mod cell_laws;
 pub mod laws;
 pub mod plain_laws;

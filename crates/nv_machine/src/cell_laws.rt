@@ -1,0 +1,30 @@
+//! Laws of the machine of steps on the numbers that a cell counts: its slot's generation, and its version.
+
+ghost use Rattle.std.specs.Prelude.{◌≡◌, ◌<◌, ℕ, List, Some, length, true};
+ghost use Rattle.nv_alloc.specs.Numbers.{has};
+ghost use Rattle.nv_base.specs.Limits.{IsWithinLimits};
+ghost use Rattle.nv_base.specs.declared.geometry.GeometryNumbers.{GeometryNumbers};
+ghost use Rattle.nv_base.specs.declared.limits.TheConstants.{NUMBER};
+ghost use Rattle.nv_machine.specs.FitsNow.{is_checked};
+ghost use Rattle.nv_machine.specs.Format.{formatted};
+ghost use Rattle.nv_machine.specs.PoolScan.{has_inode};
+ghost use Rattle.nv_machine.specs.Reads.{slot_at, written_slots};
+ghost use Rattle.nv_machine.specs.Step.{after};
+ghost use Rattle.nv_machine.specs.World.{Event, Running, actor_at, cell_at};
+
+/// No slot that has an inode is of the last generation, and no slot that a call has locked, from its check to its commit point,
+/// so none that it writes: a number that is withheld is in no hand.
+pub fn generations_are_left()
+    ensures inodes { (g : GeometryNumbers) (events : List Event) (ino : ℕ) → IsWithinLimits g
+        → has_inode (cell_at (after (formatted g) events).shared ino) ≡ true
+        → (cell_at (after (formatted g) events).shared ino).generation < NUMBER }
+    ensures calls { (g : GeometryNumbers) (events : List Event) (actor ino : ℕ) (r : Running)
+        → IsWithinLimits g → (actor_at (after (formatted g) events) actor).running ≡ Some r
+        → is_checked r.next ≡ true → has r.slots ino ≡ true
+        → (cell_at (after (formatted g) events).shared ino).generation < NUMBER }
+    ensures written { (g : GeometryNumbers) (events : List Event) (actor place : ℕ) (r : Running)
+        → IsWithinLimits g → (actor_at (after (formatted g) events) actor).running ≡ Some r
+        → is_checked r.next ≡ true → place < length (written_slots r)
+        → (cell_at (after (formatted g) events).shared (slot_at (written_slots r) place)).generation
+        < NUMBER }
+{}
