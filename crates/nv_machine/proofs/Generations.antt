@@ -1,6 +1,6 @@
 -- A slot that has an inode is not of the last generation, and neither is one that a call writes: a number that is withheld is in no
 -- hand, and a slot has no inode until it is written by the call that has its number.
-use Rattle.std.proofs.Common.{◌≡◌, inl, inr, ℕ, zero, suc, ◌+◌, ◌-◌, ◌<◌, ◌≤◌, ◌∙◌, Bool, true, false, List, [], ◌∷◌, Option, Some, None, ap, arith, if◌then◌else◌, length, nat_lt, refl, replicate, subst, sym, take}
+use Rattle.std.proofs.Common.{◌≡◌, inl, inr, ℕ, zero, suc, ◌-◌, ◌<◌, ◌≤◌, ◌∙◌, Bool, true, false, List, [], ◌∷◌, Option, Some, None, ap, arith, length, nat_lt, refl, replicate, subst, sym, take}
 use Rattle.std.specs.Prelude.{slice_index_or}
 use Rattle.std.proofs.lemmas.Bool.{false≢true, leb-false}
 use Rattle.nv_alloc.specs.Numbers.{has}
@@ -8,7 +8,8 @@ use Rattle.nv_alloc.proofs.Lists.{times-yes}
 use Rattle.nv_base.specs.Limits.{IsWithinLimits}
 use Rattle.nv_base.specs.declared.geometry.GeometryNumbers.{GeometryNumbers}
 use Rattle.nv_base.specs.declared.limits.TheConstants.{NUMBER}
-use Rattle.nv_calls.specs.Retiring.{erased, is_erased}
+use Rattle.nv_calls.specs.Retiring.{erased}
+use Rattle.nv_calls.proofs.Next.{by_erased}
 use Rattle.nv_cell.specs.Cell.{CellState, empty_cell, published}
 use Rattle.nv_epoch.specs.SnapList.{ids}
 use Rattle.nv_machine.specs.FitsNow.{is_checked}
@@ -100,7 +101,8 @@ module _ (g : GeometryNumbers) (block a : ℕ) (s : Shared) (h : HandState) (r :
       let slot = slot_at written place in
       let pages = take (pages_needed s r.plan slot) h.pages in
       cell_set s slot _ ino IsEarly (append_inside g block a s h r place st)
-      (λ is. like_early (cell_at s slot) _ (appended_like (entries_for r slot) h.blocks pages (cell_at s slot) (st.within slot)) (early slot))
+      (λ is. like_early (cell_at s slot) _
+      (appended_like (entries_for r slot) h.blocks pages (cell_at s slot) (st.within slot)) (early slot))
       (λ ne. early ino)
 
   publish_early : (place : ℕ) → Standing g (Publish place) a s h r → AreEarly (deed (Publish place) block a s h r).shared
@@ -112,21 +114,15 @@ module _ (g : GeometryNumbers) (block a : ℕ) (s : Shared) (h : HandState) (r :
       (λ is some. checked_early (Publish place) refl st slot there)
       (λ ne. early ino)
 
-  -- an erased cell has no inode
-  erased_early : (cell : CellState) → IsEarly cell → IsEarly (erased cell)
-  erased_early cell is = go (is_erased cell) where
-    go : (b : Bool) → IsEarly (if b then empty_cell cell.block cell.chain.page (cell.generation + 1) cell.version else cell)
-    go true = λ there. absurd (false≢true there)
-    go false = is
-
   retire_early : (place : ℕ) → Standing g (Retire place) a s h r → AreEarly (deed (Retire place) block a s h r).shared
   retire_early place st ino =
       let slot = slot_at written place in
       let killed = first_killed h.killed in
       cell_set (with_book (retired_book slot killed s r) s) slot (erased (retired_cell slot killed s r)) ino IsEarly
       (retire_inside g block a s h r place st)
-      (λ is. erased_early (retired_cell slot killed s r)
-      (like_early (cell_at s slot) _ (retired_like (ids s.book.snaps) slot r.epoch killed (cell_at s slot)) (early slot)))
+      (λ is. by_erased IsEarly (retired_cell slot killed s r)
+      (like_early (cell_at s slot) _ (retired_like (ids s.book.snaps) slot r.epoch killed (cell_at s slot)) (early slot))
+      (λ there. absurd (false≢true there)))
       (λ ne. early ino)
 
   number_deed_early : (numbers : List ℕ) → AreEarly (number_deed numbers s h).shared
@@ -186,7 +182,8 @@ module _ (g : GeometryNumbers) (w : World) (locks : AreLocks w) (all : AreNumber
   pub slots_early : (r : Running) → (actor_at w actor).running ≡ Some r → is_checked r.next ≡ true
       → (ino : ℕ) → has r.slots ino ≡ true → (cell_at w.shared ino).generation < NUMBER
   slots_early r is e =
-      checked_early g w.numbers.block actor w.shared (actor_at w actor).hand r early r.next e (standing g w actor r locks all grown pooled is)
+      checked_early g w.numbers.block actor w.shared (actor_at w actor).hand r early r.next e
+      (standing g w actor r locks all grown pooled is)
 
 event_early : (g : GeometryNumbers) (w : World) (e : Event) → AreLocks w → AreNumbers g w → AreGrown w → ArePooled g w
     → AreEarly w.shared → AreEarly (step w e).world.shared

@@ -101,3 +101,4 @@ pub mod PageEvents
 pub mod PageOrder
 pub mod WrongTurns
 pub mod Generations
+pub mod Versions
