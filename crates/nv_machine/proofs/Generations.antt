@@ -1,8 +1,10 @@
 -- A slot that has an inode is not of the last generation, and neither is one that a call writes: a number that is withheld is in no
 -- hand, and a slot has no inode until it is written by the call that has its number.
-use Rattle.std.proofs.Common.{◌≡◌, inl, inr, ℕ, zero, suc, ◌-◌, ◌<◌, ◌≤◌, ◌∙◌, Bool, true, false, List, [], ◌∷◌, Option, Some, None, ap, arith, length, nat_lt, refl, replicate, subst, sym, take}
+use Rattle.std.proofs.Common.{◌≡◌, inl, inr, ℕ, zero, suc, ◌-◌, ◌<◌, ◌≤◌, ◌∙◌, Bool, true, false, List, [], ◌∷◌, Option, Some, None, ap, arith, if◌then◌else◌, length, nat_lt, refl, replicate, subst, sym, take}
 use Rattle.std.specs.Prelude.{slice_index_or}
+use Rattle.std.specs.List.{flat_map}
 use Rattle.std.proofs.lemmas.Bool.{false≢true, leb-false}
+use Rattle.std.proofs.lemmas.Option.{none-some}
 use Rattle.nv_alloc.specs.Numbers.{has}
 use Rattle.nv_alloc.proofs.Lists.{times-yes}
 use Rattle.nv_base.specs.Limits.{IsWithinLimits}
@@ -15,14 +17,14 @@ use Rattle.nv_epoch.specs.SnapList.{ids}
 use Rattle.nv_machine.specs.FitsNow.{is_checked}
 use Rattle.nv_machine.specs.Format.{formatted}
 use Rattle.nv_machine.specs.Grown.{AreGrown}
-use Rattle.nv_machine.specs.Hands.{AreNumbers}
+use Rattle.nv_machine.specs.Hands.{AreNumbers, HandOf}
 use Rattle.nv_machine.specs.Kinds.{entries_for, first_killed, retired_book, retired_cell}
 use Rattle.nv_machine.specs.Locks.{AreLocks, AreSlots}
 use Rattle.nv_machine.specs.PoolScan.{has_entry, has_inode}
 use Rattle.nv_machine.specs.Reads.{is_written, pages_needed, slot_at, written_slots}
 use Rattle.nv_machine.specs.Step.{after, go_step, start_step, step, turn, turned}
 use Rattle.nv_machine.specs.World.{Append, Back, Check, Close, Ends, Enter, Event, Give, Go, HandState, Leave, Lock, Look, Moves, Next, Number, Open, Publish, Ready, Retire, Running, Shared, Start, TakeBlocks, TakePages, Turn, Unlock, Visit, Waits, World, actor_at, cell_at, no_cell, with_book}
-use Rattle.nv_machine.proofs.FromScratch.{all_numbers}
+use Rattle.nv_machine.proofs.FromScratch.{all_numbers, counted}
 use Rattle.nv_machine.proofs.Kept.{AfterTurn, back_deed, deed, number_deed, turn_keeps}
 use Rattle.nv_machine.proofs.Lists.{has_filter, self}
 use Rattle.nv_machine.proofs.LogsKept.{cell_set}
@@ -31,7 +33,7 @@ use Rattle.nv_machine.proofs.PoolCommits.{append_inside, begun_inode, retire_ins
 use Rattle.nv_machine.proofs.PoolKnown.{HaveInodes}
 use Rattle.nv_machine.proofs.PoolLaw.{all_pooled}
 use Rattle.nv_machine.proofs.PoolRuns.{ArePooled, standing}
-use Rattle.nv_machine.proofs.PoolTally.{is_begun, loose, tally}
+use Rattle.nv_machine.proofs.PoolTally.{is_begun, loose, loose_by, tally}
 use Rattle.nv_machine.proofs.PoolTurns.{Standing}
 use Rattle.nv_machine.proofs.Reached.{reached}
 use Rattle.nv_machine.proofs.Written.{written_inside, written_there}
@@ -54,7 +56,7 @@ module _ (g : GeometryNumbers) (block a : ℕ) (s : Shared) (h : HandState) (r :
   written = written_slots r
 
   -- that of the number in the hand is not withheld, also where its inode has begun
-  number_early : (k : Next) → Standing g k a s h r → (ino : ℕ) → h.ino ≡ Some ino → (cell_at s ino).generation < NUMBER
+  pub number_early : (k : Next) → Standing g k a s h r → (ino : ℕ) → h.ino ≡ Some ino → (cell_at s ino).generation < NUMBER
   number_early k st ino is = go (is_begun k written ino) refl where
     go : (b : Bool) → is_begun k written ino ≡ b → (cell_at s ino).generation < NUMBER
     go true q = early ino (begun_inode g block a s h r k st ino q)
@@ -185,6 +187,29 @@ module _ (g : GeometryNumbers) (w : World) (locks : AreLocks w) (all : AreNumber
       checked_early g w.numbers.block actor w.shared (actor_at w actor).hand r early r.next e
       (standing g w actor r locks all grown pooled is)
 
+  -- the slot of the number in a hand
+  pub held_early : (running : Option Running) → (actor_at w actor).running ≡ running → (ino : ℕ) → (actor_at w actor).hand.ino ≡ Some ino
+      → (cell_at w.shared ino).generation < NUMBER
+  held_early None is ino has_it =
+      let empty : HandOf g (actor_at w actor).hand None = subst (λ (o : Option Running). HandOf g (actor_at w actor).hand o) is
+      (all.hands actor) in
+      absurd (none-some ino (sym (ap (λ (x : HandState). x.ino) empty) ∙ has_it))
+  held_early (Some r) is ino has_it =
+      number_early g w.numbers.block actor w.shared (actor_at w actor).hand r early r.next
+      (standing g w actor r locks all grown pooled is) ino has_it
+
+-- those whose numbers are in the pool
+pub pool_early : (g : GeometryNumbers) (w : World) → ArePooled g w → (ino : ℕ) → has w.shared.pool.numbers ino ≡ true
+    → (cell_at w.shared ino).generation < NUMBER
+pool_early g w pooled ino there = go (nat_lt ino g.inodes) (pooled.once ino) where
+  early_if : tally ino w.shared (flat_map loose_by w.actors) ≤ 1 → (cell_at w.shared ino).generation < NUMBER
+  early_if few = leb-false NUMBER (cell_at w.shared ino).generation
+      (no_inode (cell_at w.shared ino) (let some = counted ino w.shared.pool.numbers there in omega (arith, few, some))).1
+
+  go : (b : Bool) → tally ino w.shared (flat_map loose_by w.actors) ≡ (if b then 1 else 0) → (cell_at w.shared ino).generation < NUMBER
+  go true e = early_if (omega (arith, e))
+  go false e = early_if (omega (arith, e))
+
 event_early : (g : GeometryNumbers) (w : World) (e : Event) → AreLocks w → AreNumbers g w → AreGrown w → ArePooled g w
     → AreEarly w.shared → AreEarly (step w e).world.shared
 event_early g w (Start actor c) locks all grown pooled early =
@@ -222,6 +247,20 @@ pub inodes_early : (g : GeometryNumbers) (events : List Event) (ino : ℕ) → I
     → has_inode (cell_at (after (formatted g) events).shared ino) ≡ true
     → (cell_at (after (formatted g) events).shared ino).generation < NUMBER
 inodes_early g events ino within = all_early g events within ino
+
+pub numbers_early : (g : GeometryNumbers) (events : List Event) (ino : ℕ) → IsWithinLimits g
+    → has (after (formatted g) events).shared.pool.numbers ino ≡ true
+    → (cell_at (after (formatted g) events).shared ino).generation < NUMBER
+numbers_early g events ino within = pool_early g (after (formatted g) events) (all_pooled g events within) ino
+
+pub hands_early : (g : GeometryNumbers) (events : List Event) (actor ino : ℕ) → IsWithinLimits g
+    → (actor_at (after (formatted g) events) actor).hand.ino ≡ Some ino
+    → (cell_at (after (formatted g) events).shared ino).generation < NUMBER
+hands_early g events actor ino within =
+    let w = after (formatted g) events in
+    let known = reached g events within in
+    held_early g w known.locks (all_numbers g events within) known.grown (all_pooled g events within) (all_early g events within) actor
+    (actor_at w actor).running refl ino
 
 pub calls_early : (g : GeometryNumbers) (events : List Event) (actor ino : ℕ) (r : Running) → IsWithinLimits g
     → (actor_at (after (formatted g) events) actor).running ≡ Some r → is_checked r.next ≡ true → has r.slots ino ≡ true

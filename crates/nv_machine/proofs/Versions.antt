@@ -402,3 +402,23 @@ commits_unseen g events actor ino r within is e there =
     let yet : HasUnseen w.shared r =
     subst (λ (o : Option Running). HasUnseenBy w.shared o) is ((all_counted g events within).each actor) in
     yet e ino there
+
+-- so the slot that a commit publishes next has not had the last version
+pub publish_counts : (g : GeometryNumbers) (events : List Event) (actor place : ℕ) (r : Running) → IsWithinLimits g
+    → (actor_at (after (formatted g) events) actor).running ≡ Some r → r.next ≡ Publish place
+    → (cell_at (after (formatted g) events).shared (slot_at (written_slots r) place)).version < NUMBER
+publish_counts g events actor place r within is next =
+    let w = after (formatted g) events in
+    let known = reached g events within in
+    let slot = slot_at (written_slots r) place in
+    let b : Before actor w.shared (Publish place) r = subst (λ (k : Next). Before actor w.shared k r) next (before w actor r known.locks is) in
+    let commits : commits_at r.next ≡ true = ap commits_at next in
+    let entered : CommitsIn w.shared (Some r) = subst (λ (o : Option Running). CommitsIn w.shared o) is (known.order.each actor) in
+    let here : has (drop place (written_slots r)) slot ≡ true =
+    has_drop place (written_slots r) slot b.inside ∙ (let e = self slot in rw e refl) in
+    let there : has (to_publish r.next (written_slots r)) slot ≡ true =
+    ap (λ (k : Next). has (to_publish k (written_slots r)) slot) next ∙ here in
+    let low : (cell_at w.shared slot).version < r.commit = commits_unseen g events actor slot r within is commits there in
+    let same : r.commit ≡ w.shared.book.commit = (entered commits).commit in
+    let top : w.shared.book.commit ≤ NUMBER = commits_limited g events within in
+    omega (arith, low, same, top)

@@ -12,13 +12,20 @@ ghost use Rattle.nv_machine.specs.PoolScan.{has_inode};
 ghost use Rattle.nv_machine.specs.Reads.{slot_at, written_slots};
 ghost use Rattle.nv_machine.specs.Step.{after};
 ghost use Rattle.nv_machine.specs.Versions.{to_publish};
-ghost use Rattle.nv_machine.specs.World.{Event, Running, actor_at, cell_at};
+ghost use Rattle.nv_machine.specs.World.{Event, Publish, Running, actor_at, cell_at};
 
-/// No slot that has an inode is of the last generation, and no slot that a call has locked, from its check to its commit point,
-/// so none that it writes: a number that is withheld is in no hand.
+/// No slot that has an inode is of the last generation, and none whose number is in the pool or in a hand: the number of a slot
+/// of the last generation is withheld. So neither is any that a call has locked, from its check to its commit point, nor any
+/// that it writes.
 pub fn generations_are_left()
     ensures inodes { (g : GeometryNumbers) (events : List Event) (ino : ℕ) → IsWithinLimits g
         → has_inode (cell_at (after (formatted g) events).shared ino) ≡ true
+        → (cell_at (after (formatted g) events).shared ino).generation < NUMBER }
+    ensures pool { (g : GeometryNumbers) (events : List Event) (ino : ℕ) → IsWithinLimits g
+        → has (after (formatted g) events).shared.pool.numbers ino ≡ true
+        → (cell_at (after (formatted g) events).shared ino).generation < NUMBER }
+    ensures hands { (g : GeometryNumbers) (events : List Event) (actor ino : ℕ) → IsWithinLimits g
+        → (actor_at (after (formatted g) events) actor).hand.ino ≡ Some ino
         → (cell_at (after (formatted g) events).shared ino).generation < NUMBER }
     ensures calls { (g : GeometryNumbers) (events : List Event) (actor ino : ℕ) (r : Running)
         → IsWithinLimits g → (actor_at (after (formatted g) events) actor).running ≡ Some r
@@ -32,7 +39,7 @@ pub fn generations_are_left()
 {}
 
 /// No cell has seen more commits than were entered, of which there are no more than [`NUMBER`]. For a commit counts one more in
-/// each slot that it publishes, once: while it has yet to publish a slot, that slot has not seen it.
+/// each slot that it publishes, once: a slot that it has yet to publish has not seen it, and so has not had the last version.
 pub fn versions_are_left()
     ensures cells { (g : GeometryNumbers) (events : List Event) (ino : ℕ) → IsWithinLimits g
         → (cell_at (after (formatted g) events).shared ino).version
@@ -43,4 +50,9 @@ pub fn versions_are_left()
         → IsWithinLimits g → (actor_at (after (formatted g) events) actor).running ≡ Some r
         → commits_at r.next ≡ true → has (to_publish r.next (written_slots r)) ino ≡ true
         → (cell_at (after (formatted g) events).shared ino).version < r.commit }
+    ensures publish { (g : GeometryNumbers) (events : List Event) (actor place : ℕ) (r : Running)
+        → IsWithinLimits g → (actor_at (after (formatted g) events) actor).running ≡ Some r
+        → r.next ≡ Publish place
+        → (cell_at (after (formatted g) events).shared (slot_at (written_slots r) place)).version
+        < NUMBER }
 {}
