@@ -101,4 +101,5 @@ pub mod PageEvents
 pub mod PageOrder
 pub mod WrongTurns
 pub mod Generations
+pub mod VersionSteps
 pub mod Versions
