@@ -103,3 +103,4 @@ pub mod WrongTurns
 pub mod Generations
 pub mod VersionSteps
 pub mod Versions
+pub mod Moves
