@@ -278,3 +278,9 @@ pub writes_early : (g : GeometryNumbers) (events : List Event) (actor place : �
 writes_early g events actor place r within is e lt =
     let slot = slot_at (written_slots r) place in
     calls_early g events actor slot r within is e (has_filter (is_written r.plan) r.slots slot (written_there r place lt))
+
+-- so at its enter
+pub enters_early : (g : GeometryNumbers) (events : List Event) (actor : ℕ) (r : Running) → IsWithinLimits g
+    → (actor_at (after (formatted g) events) actor).running ≡ Some r → r.next ≡ Enter → (place : ℕ) → place < length (written_slots r)
+    → (cell_at (after (formatted g) events).shared (slot_at (written_slots r) place)).generation < NUMBER
+enters_early g events actor r within is next place lt = writes_early g events actor place r within is (ap is_checked next) lt
