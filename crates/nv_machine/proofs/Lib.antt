@@ -105,3 +105,7 @@ pub mod Checking
 pub mod Looking
 pub mod Marked
 pub mod MarkedRuns
+pub mod Generations
+pub mod VersionSteps
+pub mod Versions
+pub mod Moves

@@ -31,3 +31,4 @@ pub mod Wanted
 pub mod Memory
 pub mod Pages
 pub mod Whole
+pub mod Versions

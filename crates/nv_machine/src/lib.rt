@@ -2,5 +2,7 @@
 #![tactic(auto)]
 
 pub mod hand_laws;
+pub mod call_laws;
+pub mod cell_laws;
 pub mod laws;
 pub mod plain_laws;
