@@ -1,16 +1,12 @@
 -- WHAT THE LAWS OF THE MACHINE GIVE EVERY STEP of a call, in a world that shows one of the machine.
 use Rattle.std.proofs.Common.{◌≡◌, ℕ, ◌<◌, ◌%◌, ◌∙◌, List, Option, Some, None, ap, arith, length, refl, subst, sym}
-use Rattle.std.specs.Prelude.{slice_index_or}
 use Rattle.std.specs.List.{AllByRecursion}
-use Rattle.std.proofs.lemmas.List.{length-map}
 use Rattle.nv_alloc.specs.Block.{BlockValue}
 use Rattle.nv_base.specs.Limits.{IsWithinLimits}
 use Rattle.nv_base.specs.declared.geometry.GeometryNumbers.{GeometryNumbers}
 use Rattle.nv_base.specs.declared.limits.TheConstants.{NUMBER}
 use Rattle.nv_calls.specs.Progress.{step_of}
 use Rattle.nv_calls.specs.Ready.{ReadyValue}
-use Rattle.nv_calls.specs.SlotCells.{lent_cells}
-use Rattle.nv_cell.specs.Cell.{CellState, CellValue, IsCell}
 use Rattle.nv_machine.specs.Format.{formatted}
 use Rattle.nv_machine.specs.Kinds.{blocks_in}
 use Rattle.nv_machine.specs.Locks.{AreSlots as AreSlotsOf}
@@ -32,7 +28,8 @@ use Rattle.nv_world.proofs.GivenCells.{given_home, given_slots, many_cells}
 use Rattle.nv_world.proofs.GivenCounts.{of_numbers}
 use Rattle.nv_world.proofs.GivenEnter.{given_takes, no_journal}
 use Rattle.nv_world.proofs.GivenKinds.{given_kind}
-use Rattle.nv_world.proofs.GivenLaws.{IsGiven, LawsOf, given_after}
+use Rattle.nv_world.proofs.GivenLaws.{IsGiven, given_after}
+use Rattle.nv_world.proofs.LawsHold.{laws_of}
 use Rattle.nv_world.proofs.ShownCalls.{commit_commits, shown_slots}
 
 -- ---- over plain values
@@ -77,13 +74,13 @@ module _ (shared : Shared) (actor : ℕ) (told : Told) (running : Running) (job 
 
 -- ---- one actor of a world
 
--- the machine's world after some events from a new one, with what holds of its hands, cells and checks
+-- whose machine's world is that after some events from a new one
 pub can_step_as : (shared : Shared) (held : Hold) (running : Running) (r : machine.Running) (m : machine.World)
     (events : List machine.Event) (actor : ℕ) → IsWithinLimits shared.geometry.numbers
-    → m ≡ after (formatted shared.geometry.numbers) events → LawsOf shared.geometry.numbers m → shared_of shared ≡ m.shared
+    → m ≡ after (formatted shared.geometry.numbers) events → shared_of shared ≡ m.shared
     → actor < length m.actors → held_by held ≡ (actor_at m actor).hand → (actor_at m actor).running ≡ Some r → ShowsCall held running r
     → HasRooms shared held running → CanStep shared held running actor
-can_step_as shared held running r m events actor limits from laws same there hand is shows rooms =
+can_step_as shared held running r m events actor limits from same there hand is shows rooms =
     given_step shared actor (told_of r) running shows.job held limits inside given shows.plan rooms where
       inside : actor < shared.geometry.numbers.actors
       inside =
@@ -93,7 +90,7 @@ can_step_as shared held running r m events actor limits from laws same there han
       given : IsGiven shared.geometry.numbers (shared_of shared) actor (held_by held) (shown_by held (told_of r) running)
       given =
           let g = shared.geometry.numbers in
-          let of_machine = given_after g m events limits from laws actor r is in
+          let of_machine = given_after g m events limits from (laws_of g m events limits from) actor r is in
           subst (λ (q : machine.Running). IsGiven g (shared_of shared) actor (held_by held) q) (sym shows.shown)
           (subst (λ (h : HandState). IsGiven g (shared_of shared) actor h r) (sym hand)
           (subst (λ (s : machine.Shared). IsGiven g s actor (actor_at m actor).hand r) (sym same) of_machine))
@@ -116,11 +113,11 @@ shown_some held (Some other) (Some r) running e shows =
 
 -- THE LEMMA: where the shared parts and the actors of a world show those of the machine, an actor's call can make its next step
 pub can_step : (shared : Shared) (actors : List Actor) (m : machine.World) (events : List machine.Event)
-    → IsWithinLimits shared.geometry.numbers → m ≡ after (formatted shared.geometry.numbers) events → LawsOf shared.geometry.numbers m
+    → IsWithinLimits shared.geometry.numbers → m ≡ after (formatted shared.geometry.numbers) events
     → shared_of shared ≡ m.shared → length actors ≡ length m.actors → (actor : ℕ) → actor < length actors → (own : Actor)
     → ShowsActor own (actor_at m actor) → HasActorRooms shared own.hold own.running → (running : Running) → own.running ≡ Some running
     → CanStep shared own.hold running actor
-can_step shared actors m events limits from laws same many actor there own shows rooms running has_it =
+can_step shared actors m events limits from same many actor there own shows rooms running has_it =
     let call = shown_some own.hold own.running (actor_at m actor).running running has_it shows.running in
-    can_step_as shared own.hold running call.r m events actor limits from laws same (omega (arith, there, many)) shows.hand call.is call.shows
+    can_step_as shared own.hold running call.r m events actor limits from same (omega (arith, there, many)) shows.hand call.is call.shows
     (subst (λ (o : Option Running). HasActorRooms shared own.hold o) has_it rooms)

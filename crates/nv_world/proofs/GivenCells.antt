@@ -1,22 +1,17 @@
 -- What the laws of the machine give of the cells that a call holds.
-use Rattle.std.proofs.Common.{◌≡◌, ℕ, ◌<◌, ◌≤◌, ◌==◌, ◌∙◌, Bool, true, false, List, [], ◌∷◌, Option, Some, None, ap, arith, inl, inr, length, refl, subst, sym}
-use Rattle.std.specs.Prelude.{◌||◌, is_some, slice_index_or}
+use Rattle.std.proofs.Common.{◌≡◌, ℕ, ◌<◌, ◌==◌, ◌∙◌, true, List, [], ◌∷◌, Option, ap, length, subst, sym}
+use Rattle.std.specs.Prelude.{is_some, slice_index_or}
 use Rattle.std.specs.List.{AllByRecursion}
-use Rattle.std.proofs.lemmas.Bool.{cases_lt, eqb-true}
 use Rattle.std.proofs.lemmas.List.{length-map}
-use Rattle.nv_alloc.specs.FreeList.{FreeBlocks}
 use Rattle.nv_alloc.specs.Numbers.{has}
 use Rattle.nv_alloc.proofs.Lists.{has-first}
-use Rattle.nv_base.specs.declared.geometry.GeometryNumbers.{GeometryNumbers}
-use Rattle.nv_calls.specs.Nodes.{HasBytes, cell_of, slot_by}
+use Rattle.nv_calls.specs.Nodes.{slot_by}
 use Rattle.nv_calls.specs.Prepared.{IsEmptySlot, IsStill}
-use Rattle.nv_calls.specs.SlotCells.{cell_in, lent_cells}
+use Rattle.nv_calls.specs.SlotCells.{lent_cells}
 use Rattle.nv_cell.specs.Cell.{CellState, CellValue, IsCell, log_of}
-use Rattle.nv_cell.specs.Pages.{AreBytesOf}
 use Rattle.nv_machine.specs.Hands.{AreLists}
 use Rattle.nv_machine.specs.Kept.{AreApart}
 use Rattle.nv_machine.specs.Locks.{AreSlots as AreSlotsOf}
-use Rattle.nv_machine.specs.Reads.{bytes_among}
 use Rattle.nv_machine.specs.World.{cell_at}
 use Rattle.nv_machine.proofs.CellPages.{among_at}
 use Rattle.nv_machine.proofs.Lists.{or_right, slot_inside}

@@ -1,11 +1,10 @@
 -- How many inodes the pool is of, and how many actors there are, whatever events come.
 use Rattle.std.proofs.Common.{◌≡◌, ℕ, ◌∙◌, Bool, true, false, List, [], ◌∷◌, Option, Some, None, length, length-set, nat_lt, refl}
 use Rattle.nv_base.specs.declared.geometry.GeometryNumbers.{GeometryNumbers}
-use Rattle.nv_calls.specs.Retiring.{is_erased}
 use Rattle.nv_calls.specs.declared.call.Call.{Call}
 use Rattle.nv_machine.specs.Format.{formatted}
 use Rattle.nv_machine.specs.Step.{after, go_step, start_step, step, turn, turned}
-use Rattle.nv_machine.specs.World.{Actor, Append, Back, Check, Close, Ends, Enter, Event, Give, Go, HandState, Leave, Lock, Look, Moves, Next, Number, Open, Publish, Ready, Retire, Running, Shared, Start, TakeBlocks, TakePages, Turn, Unlock, Visit, Waits, World, actor_at}
+use Rattle.nv_machine.specs.World.{Append, Back, Check, Close, Ends, Enter, Event, Give, Go, HandState, Leave, Lock, Look, Moves, Next, Number, Open, Publish, Ready, Retire, Running, Shared, Start, TakeBlocks, TakePages, Turn, Unlock, Visit, Waits, World, actor_at}
 use Rattle.nv_machine.proofs.Kept.{AfterTurn, back_deed, deed, number_deed, turn_keeps}
 use Rattle.std.proofs.lemmas.List.{length-replicate}
 

@@ -1,5 +1,5 @@
 -- Where nobody commits, the cells of a call that is ready take a commit of the next number, and no journal is open.
-use Rattle.std.proofs.Common.{◌≡◌, ℕ, zero, suc, ◌+◌, ◌<◌, ◌≤◌, ◌%◌, ◌∙◌, Bool, true, false, List, [], ◌∷◌, Option, Some, None, ap, arith, inl, inr, length, map, mod-lt, refl, subst, sym}
+use Rattle.std.proofs.Common.{◌≡◌, ℕ, zero, suc, ◌<◌, ◌≤◌, ◌∙◌, List, [], ◌∷◌, Option, Some, None, ap, arith, inl, inr, length, map, refl, subst, sym}
 use Rattle.std.specs.Prelude.{filter, slice_index_or}
 use Rattle.std.specs.List.{AllByRecursion}
 use Rattle.std.specs.Option.{option_map}
@@ -26,7 +26,7 @@ use Rattle.nv_machine.specs.Order.{AreLogsOrdered}
 use Rattle.nv_machine.specs.Reads.{is_written, slot_at}
 use Rattle.nv_machine.specs.World.{cell_at}
 use Rattle.nv_machine.proofs.Lists.{slot_inside}
-use Rattle.nv_world.specs.Shown.{Told, shared_of, slots_in}
+use Rattle.nv_world.specs.Shown.{Told, shared_of}
 use Rattle.nv_world.specs.Told.{IsReadyOf}
 use Rattle.nv_world.specs.declared.shared.Shared.{Shared}
 use Rattle.nv_world.proofs.GivenCells.{many_cells}

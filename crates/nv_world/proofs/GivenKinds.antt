@@ -1,7 +1,5 @@
 -- What the laws of the machine give the next step of a call that has its hand alone.
-use Rattle.std.proofs.Common.{◌≡◌, ◌⊎◌, ℕ, ◌+◌, ◌<◌, ◌≤◌, ◌∙◌, Bool, true, false, List, [], ◌∷◌, Option, Some, None, ap, arith, inl, inr, length, refl, subst, sym}
-use Rattle.std.specs.List.{AllByRecursion}
-use Rattle.nv_alloc.specs.Numbers.{has}
+use Rattle.std.proofs.Common.{◌≡◌, ◌⊎◌, ℕ, ◌<◌, ◌∙◌, Bool, true, false, List, Option, Some, None, ap, arith, inl, inr, length, refl, subst, sym}
 use Rattle.nv_alloc.specs.declared.hand.Hand.{Hand}
 use Rattle.nv_base.specs.declared.geometry.GeometryNumbers.{GeometryNumbers}
 use Rattle.nv_base.specs.declared.numbers.Handle.{Handle}
@@ -13,16 +11,16 @@ use Rattle.nv_calls.specs.declared.call.Call.{Call}
 use Rattle.nv_calls.specs.declared.looked.Looked.{Looked}
 use Rattle.nv_calls.specs.declared.update.Update.{Update}
 use Rattle.nv_calls.specs.declared.update.Update.TheVariants as update
-use Rattle.nv_cell.specs.Cell.{CellState, CellValue, IsCell}
+use Rattle.nv_cell.specs.Cell.{CellState, IsCell}
 use Rattle.nv_machine.specs.Hands.{HandAt, makes_inode}
 use Rattle.nv_machine.specs.Kept.{AreApart}
 use Rattle.nv_machine.specs.Locks.{IsInside}
 use Rattle.nv_machine.specs.Sequence.{beginning}
 use Rattle.nv_machine.specs.World as machine
 use Rattle.nv_world.specs.Nodes.{CanRead, HoldHandles}
-use Rattle.nv_world.specs.Rooms.{FitsCall, FitsNext}
+use Rattle.nv_world.specs.Rooms.{FitsNext}
 use Rattle.nv_world.specs.Shown.{Told, hand_of, next_of, shared_of, shown, slots_in}
-use Rattle.nv_world.specs.Steps.{CanBeChecked, CanGive, CanPutBack, Given}
+use Rattle.nv_world.specs.Steps.{CanBeChecked, Given}
 use Rattle.nv_world.specs.Told.{IsChangeWith, IsJobOf, IsToldOf, is_change}
 use Rattle.nv_world.specs.declared.job.Job.{Job}
 use Rattle.nv_world.specs.declared.job.Job.TheVariants as job
@@ -31,7 +29,7 @@ use Rattle.nv_world.specs.declared.next.Next.{Next}
 use Rattle.nv_world.specs.declared.next.Next.TheVariants as next
 use Rattle.nv_world.specs.declared.running.Running.{Running}
 use Rattle.nv_world.specs.declared.shared.Shared.{Shared}
-use Rattle.nv_world.proofs.GivenCells.{all_lent, given_bytes, given_empty, given_own, given_slots, given_still, many_cells}
+use Rattle.nv_world.proofs.GivenCells.{all_lent, given_bytes, given_empty, given_own, given_still, many_cells}
 use Rattle.nv_world.proofs.GivenLaws.{IsGiven, slot_there}
 
 -- ---- the call of a job

@@ -1,6 +1,6 @@
 -- What the laws of the machine say of one actor's call.
-use Rattle.std.proofs.Common.{◌≡◌, ℕ, zero, suc, ◌+◌, ◌<◌, ◌≤◌, ◌==◌, ◌∙◌, Bool, true, false, List, [], ◌∷◌, Option, Some, None, ap, arith, length, refl, subst, sym}
-use Rattle.std.specs.Prelude.{◌||◌, slice_index_or}
+use Rattle.std.proofs.Common.{◌≡◌, ℕ, ◌+◌, ◌<◌, ◌≤◌, ◌==◌, ◌∙◌, Bool, true, false, List, [], ◌∷◌, Option, Some, ap, length, refl, subst, sym}
+use Rattle.std.specs.Prelude.{◌||◌}
 use Rattle.std.specs.List.{AllByRecursion}
 use Rattle.std.proofs.lemmas.Bool.{eqb-true}
 use Rattle.nv_alloc.specs.Block.{AreSized, BlockValue, numbers_of}
@@ -22,10 +22,9 @@ use Rattle.nv_machine.specs.Order.{AreLogsOrdered}
 use Rattle.nv_machine.specs.Reached.{IsReached}
 use Rattle.nv_machine.specs.Reads.{slot_at, written_slots}
 use Rattle.nv_machine.specs.Step.{after}
-use Rattle.nv_machine.specs.World.{Check, Enter, Event, HandState, Next, Running, Shared, World, actor_at, cell_at, list_at, owner_at}
-use Rattle.nv_machine.proofs.FitsEvents.{AreFit, AreSizes, all_fit}
+use Rattle.nv_machine.specs.World.{Check, Enter, Event, HandState, Next, Running, Shared, World, actor_at, cell_at, list_at}
+use Rattle.nv_machine.proofs.FitsEvents.{AreFit, all_fit}
 use Rattle.nv_machine.proofs.FromScratch.{all_numbers}
-use Rattle.nv_machine.proofs.Lists.{self}
 use Rattle.nv_machine.proofs.Locked.{owner_is, slot_owned}
 use Rattle.nv_machine.proofs.PoolLaw.{all_pooled}
 use Rattle.nv_machine.proofs.PoolRuns.{ArePooled}

@@ -13,7 +13,6 @@ use Rattle.nv_machine.proofs.Generations.{writes_early}
 use Rattle.nv_machine.proofs.HandNumbers.{hand_or_list, hands_below, hands_number}
 use Rattle.nv_machine.proofs.MarkedRuns.{are_cells}
 use Rattle.nv_machine.proofs.PoolLaw.{all_pooled}
-use Rattle.nv_machine.proofs.Reached.{reached}
 use Rattle.nv_machine.proofs.Versions.{cells_counted}
 use Rattle.nv_world.proofs.GivenLaws.{LawsOf}
 

@@ -1,8 +1,8 @@
 -- What holds of a running call beside what is shown of it stays where another actor makes a step.
 use Rattle.std.proofs.Common.{◌≡◌, ◌≢◌, ℕ, ◌+◌, ◌<◌, ◌==◌, ◌∙◌, Bool, true, false, List, [], ◌∷◌, Option, Some, None, ap, arith, length, refl, subst, sym}
-use Rattle.std.specs.Prelude.{◌||◌, slice_index_or, unwrap_or}
+use Rattle.std.specs.Prelude.{slice_index_or, unwrap_or}
 use Rattle.std.specs.List.{AllByRecursion}
-use Rattle.std.proofs.lemmas.Bool.{eqb-true, false≢true}
+use Rattle.std.proofs.lemmas.Bool.{eqb-true}
 use Rattle.nv_alloc.specs.Numbers.{has}
 use Rattle.nv_alloc.specs.declared.hand.Hand.{Hand}
 use Rattle.nv_alloc.proofs.Lists.{has-first}
@@ -33,7 +33,7 @@ use Rattle.nv_world.specs.Nodes.{CanRead, HasOwn, HoldHandles, wanted_over}
 use Rattle.nv_world.specs.Rooms.{HasActorRooms, HasMade, HasRooms, HasTaken, IsChecked, IsHandOf, IsIdle, IsReadyOver, Takes, TakesBlocks, TakesIf, TakesPages, committing_cpu, takes}
 use Rattle.nv_world.specs.Shown.{Told, next_of, shared_of, shown_by, slots_in}
 use Rattle.nv_world.specs.Told.{IsChangeWith}
-use Rattle.nv_world.specs.Worlds.{ShowsActor, ShowsCall, ShowsRunning, told_of}
+use Rattle.nv_world.specs.Worlds.{ShowsActor, ShowsRunning, told_of}
 use Rattle.nv_world.specs.declared.hold.Hold.{Hold}
 use Rattle.nv_world.specs.declared.hold.Hold.TheVariants as hold
 use Rattle.nv_world.specs.declared.job.Job.{Job}
