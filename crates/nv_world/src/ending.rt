@@ -63,7 +63,8 @@ fn give_number(hand: &Hand, running: &mut Running) -> Turn
     ensures slots { running.new.slots ≡ running.old.slots }
     ensures goes { result ≢ Turn.Waits }
     ensures rooms { (s : Shared) → CanEnd running.old running.old.ending
-        → IsHandOf s.geometry.numbers hand.now → HasRoomsAfter result s (Hold.Hand hand.now) running.new }
+        → IsHandOf s.geometry.numbers hand.now
+        → HasRoomsAfter result s (Hold.Hand hand.now) running.new }
 {
     match hand.ino() {
         Some(_) => {

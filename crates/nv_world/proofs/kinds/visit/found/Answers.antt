@@ -10,8 +10,8 @@ use Rattle.nv_world.proofs.kinds.visit.found.Goals as goal
 pub returns-in-Some : goal.returns-in-Some
 returns-in-Some c block =
     let cell = c.in-Some.cell.now in
-    found_here (shared_of c.args.shared.now) block c.args.call c.args.ino cell c.answer.result c.requires.visit c.requires.ino c.in-Some.ensures
-    (c.answer.ensures (bytes_among cell.state.blocks)
+    found_here (shared_of c.args.shared.now) block c.args.call c.args.ino cell c.answer.result c.requires.visit c.requires.ino
+    c.in-Some.ensures (c.answer.ensures (bytes_among cell.state.blocks)
     (subst (λ (x : CellState). AreBytesOf x (bytes_among x.blocks)) c.in-Some.ensures c.requires.own))
 
 pub returns-in-None : goal.returns-in-None
