@@ -29,5 +29,6 @@ pub mod SlotLists
 pub mod Starts
 pub mod Stays
 pub mod Takes
+pub mod Takings
 pub mod VisitTurns
 pub mod Visits
