@@ -1,6 +1,6 @@
 -- What of a running call the machine does not tell: whether it is of the kind that its next step wants, the room in its hand, and
 -- what its check found and its growths made.
-use Rattle.std.specs.Prelude.{◌≡◌, ℕ, ◌+◌, ◌<◌, ◌≤◌, Bool, true, false, List, [], length, Option, Some, None}
+use Rattle.std.specs.Prelude.{◌≡◌, ℕ, ◌+◌, ◌<◌, ◌≤◌, ◌%◌, Bool, true, false, List, [], length, Option, Some, None, unwrap_or}
 use Rattle.std.specs.List.{AllByRecursion}
 use Rattle.nv_alloc.specs.declared.hand.Hand.{Hand}
 use Rattle.nv_base.specs.declared.geometry.GeometryNumbers.{GeometryNumbers}
@@ -146,6 +146,10 @@ pub record IsReadyOver (now : List (ℕ × CellValue)) (ready : ReadyValue) : Ty
 
 -- ---- what holds of a running call beside what is shown of it
 
+-- the CPU of the actor that has the commit lock
+abbrev pub committing_cpu : Shared → ℕ
+committing_cpu shared = unwrap_or shared.holder 0 % length shared.lists.items
+
 abbrev pub HasRooms : Shared → Hold → Running → Type 0
 HasRooms shared (hold.Hand hand) running =
     FitsCall running × IsHandOf shared.geometry.numbers hand × TakesIf (takes running.next) shared hand running
@@ -154,7 +158,7 @@ HasRooms shared (hold.Ready ready) running =
     × IsReadyOver (lent_cells (slots_in running.slots) shared.cells.items) ready
 HasRooms shared (hold.Commit commit) running =
     (running.job ≡ job.Given) × (running.ending ≡ ending.Answers) × IsHandOf shared.geometry.numbers commit.hand
-    × IsCommitting (lent_cells (slots_in running.slots) shared.cells.items) shared.book commit
+    × IsCommitting (committing_cpu shared) (lent_cells (slots_in running.slots) shared.cells.items) shared.book commit
 
 -- an actor without a call has its hand alone
 abbrev pub IsIdle : Shared → Hold → Type 0
