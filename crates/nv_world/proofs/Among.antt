@@ -4,7 +4,7 @@ use Rattle.std.specs.Prelude.{slice_index_or, slice_set}
 use Rattle.std.specs.List.{AllPairs, range_with_len}
 use Rattle.std.proofs.lemmas.Bool.{eqb-true, eqb-false, eq-eqb, ltb-true, ltb-false}
 use Rattle.std.proofs.lemmas.Grind.{get_or-set_at, get_or_default_zero}
-use Rattle.std.proofs.lemmas.List.{ext_get_or, get_or-map, get_or-set_other, length-set}
+use Rattle.std.proofs.lemmas.List.{ext_get_or, get_or-map, get_or-set_other, length-map, length-set}
 use Rattle.std.proofs.lemmas.List.Folds.{Any-from_list_any, list_any_at}
 use Rattle.std.proofs.lemmas.List.FromFn.{get_or-range_with_len, length-range_with_len}
 use Rattle.nv_alloc.specs.Numbers.{has, unused}
@@ -13,6 +13,9 @@ use Rattle.nv_calls.specs.Cells.{ino_at, no_cell, value_at, with_value}
 use Rattle.nv_calls.specs.SlotCells.{cell_in, lent_cells, other_cells}
 use Rattle.nv_machine.specs.Reads.{slot_at}
 use Rattle.nv_world.specs.Parts.{HaveSlots, IsOnlyAt}
+
+pub lent_count : (slots : List ℕ) (all : List CellValue) → length (lent_cells slots all) ≡ length slots
+lent_count slots all = length-map {B = ℕ × CellValue} slots (λ (ino : ℕ). (ino, cell_in all ino))
 
 lent_at : (slots : List ℕ) (all : List CellValue) (k : ℕ) → k < length slots
     → slice_index_or (lent_cells slots all) k no_cell ≡ (slice_index_or slots k 0, cell_in all (slice_index_or slots k 0))
@@ -91,3 +94,12 @@ only_among slots old new k many lt rises there only rest =
                 ∙ map_told (cell_in new) (cell_in old) (λ n. not (has slots n)) (range_with_len 0 (length old)) all i
                 (omega (arith, few, length-range_with_len 0 (length old))) free
                 ∙ ap (cell_in old) at
+
+-- so the cells of other slots stay
+pub only_others : (slots : List ℕ) (old new : List CellValue) (k : ℕ) → k < length slots → IsOnlyAt (slot_at slots k) old new
+    → (ino : ℕ) → has slots ino ≡ false → cell_in new ino ≡ cell_in old ino
+only_others slots old new k lt only ino free =
+    let away : ino ≢ slot_at slots k = λ same.
+    true≢false (sym (list_any_at (λ m. m == ino) slots k 0 lt (eq-eqb (slice_index_or slots k 0) ino (sym same))) ∙ free) in
+    ap (λ (xs : List CellValue). cell_in xs ino) only
+    ∙ get_or-set_other old (slot_at slots k) ino (cell_in new (slot_at slots k)) (no_cell.1) away

@@ -9,12 +9,14 @@ pub mod Locked
 pub mod Looks
 pub mod Nodes
 pub mod Opens
+pub mod Phases
 pub mod Plans
 pub mod Publishes
 pub mod Retires
 pub mod Runs
 pub mod Sequence
 pub mod SlotLists
+pub mod Stages
 pub mod Starts
 pub mod VisitTurns
 pub mod Visits
