@@ -1,5 +1,5 @@
 -- One of the cells that are lent changes: so does that of its slot among all, and no other.
-use Rattle.std.proofs.Common.{◌≡◌, ◌≢◌, ℕ, zero, suc, ◌+◌, ◌<◌, ◌==◌, ◌∙◌, Bool, true, false, true≢false, not, nat_lt, List, [], ◌∷◌, length, map, filter, arith, refl, ap, sym, subst}
+use Rattle.std.proofs.Common.{◌≡◌, ◌≢◌, ℕ, zero, suc, ◌+◌, ◌<◌, ◌==◌, ◌∙◌, Bool, true, false, true≢false, not, nat_lt, List, [], ◌∷◌, length, map, filter, arith, refl, ap, sym}
 use Rattle.std.specs.Prelude.{slice_index_or, slice_set}
 use Rattle.std.specs.List.{AllPairs, range_with_len}
 use Rattle.std.proofs.lemmas.Bool.{eqb-true, eqb-false, eq-eqb, ltb-true, ltb-false}

@@ -1,11 +1,6 @@
 -- An opening of the journal with the cells of a call, as the machine's.
-use Rattle.std.proofs.Common.{◌≡◌, ℕ, ◌<◌, ◌≤◌, ◌∙◌, List, arith, length, refl, subst, sym}
-use Rattle.std.specs.List.{AllPairs}
-use Rattle.std.proofs.lemmas.List.{get_or-map, length-map}
-use Rattle.nv_cell.specs.Cell.{CellValue}
-use Rattle.nv_calls.specs.Cells.{AreCells, no_cell}
+use Rattle.std.proofs.Common.{◌≡◌, ℕ, ◌≤◌, List, arith, length, refl, subst, sym}
 use Rattle.nv_calls.specs.Commit.{CommitValue, after_open}
-use Rattle.nv_calls.specs.SlotCells.{cell_in, lent_cells}
 use Rattle.nv_journal.specs.declared.old_tail.OldTail.{OldTail}
 use Rattle.nv_world.specs.Shown.{Told}
 use Rattle.nv_world.specs.Told.{IsCommitOf, IsOnItsWay}

@@ -1,18 +1,16 @@
 -- A commit on its way: what it is given at each of its steps, and how far it is after it.
-use Rattle.std.proofs.Common.{◌≡◌, ◌≢◌, ℕ, ◌+◌, ◌<◌, ◌≤◌, ◌⊎◌, inl, inr, nat_lt, Bool, true, false, true≢false, cond, List, [], length, map, Option, None, Some, arith, refl, ap, ap₂, sym, ◌∙◌, subst}
-use Rattle.std.specs.Prelude.{is_some, slice_index_or, slice_set, unwrap_or}
+use Rattle.std.proofs.Common.{◌≡◌, ℕ, ◌+◌, ◌<◌, ◌≤◌, ◌⊎◌, inl, inr, nat_lt, Bool, true, false, true≢false, cond, List, [], length, map, Option, None, Some, arith, refl, ap, ap₂, sym, ◌∙◌, subst}
+use Rattle.std.specs.Prelude.{is_some, slice_index_or, unwrap_or}
 use Rattle.std.specs.Option.{IsSome, option_map}
 use Rattle.std.proofs.lemmas.Bool.{lt-ltb, ltb-false, ltb-true}
 use Rattle.std.proofs.lemmas.List.{length-set}
-use Rattle.nv_alloc.specs.declared.hand.Hand.{Hand}
 use Rattle.nv_base.specs.declared.numbers.Handle.{Handle}
 use Rattle.nv_book.specs.Book.{BookState, BookValue, with_journal}
-use Rattle.nv_cell.specs.Cell.{CellState, CellValue, KeepsAppendRoom, fresh_of, log_of, published}
+use Rattle.nv_cell.specs.Cell.{CellValue, KeepsAppendRoom, fresh_of, log_of, published}
 use Rattle.nv_cell.specs.Effects.{items_of}
 use Rattle.nv_cell.specs.Killed.{AreKilled}
 use Rattle.nv_cell.specs.Room.{IsReadyFor}
 use Rattle.nv_cell.specs.Weights.{weights_in}
-use Rattle.nv_cell.specs.declared.killed.KilledPart.{KilledPart}
 use Rattle.nv_epoch.specs.SnapList.{ids}
 use Rattle.nv_journal.specs.declared.old_tail.OldTail.{OldTail}
 use Rattle.nv_calls.specs.CanCommit.{CanBePublished, CanCommit, CanRetireAll, KillsAsTold}

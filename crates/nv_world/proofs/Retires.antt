@@ -1,12 +1,12 @@
 -- A retiring of one of the cells, as the machine's.
-use Rattle.std.proofs.Common.{◌≡◌, ℕ, zero, suc, ◌+◌, ◌<◌, ◌≤◌, ◌∙◌, Bool, true, false, true≢false, List, [], ◌∷◌, ◌++◌, ap, arith, drop, if◌then◌else◌, length, map, nat_lt, not, refl, subst, sym, take}
+use Rattle.std.proofs.Common.{◌≡◌, ℕ, zero, suc, ◌<◌, ◌≤◌, ◌∙◌, Bool, true, false, true≢false, List, [], ◌∷◌, ◌++◌, ap, arith, drop, if◌then◌else◌, length, map, nat_lt, not, refl, subst, sym, take}
 use Rattle.std.specs.Prelude.{◌&&◌, ◌==◌, slice_set}
 use Rattle.std.proofs.lemmas.Bool.{eqb-true, ltb-false, ltb-true}
-use Rattle.std.proofs.lemmas.List.{length-map, length-set}
+use Rattle.std.proofs.lemmas.List.{length-set}
 use Rattle.nv_alloc.specs.Block.{BlockValue}
 use Rattle.nv_alloc.specs.declared.hand.Hand.{Hand}
 use Rattle.nv_calls.specs.Commit.{CommitValue, after_retire, to_retire}
-use Rattle.nv_calls.specs.Progress.{is_open, opens, step_of}
+use Rattle.nv_calls.specs.Progress.{is_open, opens}
 use Rattle.nv_calls.specs.Ready.{CellPlanValue, plan_at}
 use Rattle.nv_calls.specs.Retiring as calls
 use Rattle.nv_calls.specs.Retiring.{is_erased, number_back, with_back}
