@@ -1,6 +1,7 @@
 pub mod Among
 pub mod Appends
 pub mod Checks
+pub mod Closes
 pub mod Ends
 pub mod Enters
 pub mod Gives
