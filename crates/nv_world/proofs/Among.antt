@@ -104,10 +104,10 @@ only_others slots old new k lt only ino free =
     ap (λ (xs : List CellValue). cell_in xs ino) only
     ∙ get_or-set_other old (slot_at slots k) ino (cell_in new (slot_at slots k)) (no_cell.1) away
 
--- where no lent cell changes and no other, none does
-pub none_among : (slots : List ℕ) (old new : List CellValue) → length new ≡ length old → lent_cells slots new ≡ lent_cells slots old
-    → other_cells slots new ≡ other_cells slots old → (ino : ℕ) → has slots ino ≡ false → cell_in new ino ≡ cell_in old ino
-none_among slots old new many lent rest ino free = go (nat_lt ino (length old)) refl where
+-- the other cells stay, one by one
+pub others_at : (slots : List ℕ) (old new : List CellValue) → length new ≡ length old → other_cells slots new ≡ other_cells slots old
+    → (ino : ℕ) → has slots ino ≡ false → cell_in new ino ≡ cell_in old ino
+others_at slots old new many rest ino free = go (nat_lt ino (length old)) refl where
   go : (b : Bool) → nat_lt ino (length old) ≡ b → cell_in new ino ≡ cell_in old ino
   go false q =
       let past = ltb-false ino (length old) q in
@@ -124,3 +124,18 @@ none_among slots old new many lent rest ino free = go (nat_lt ino (length old)) 
       ∙ map_told (cell_in new) (cell_in old) (λ n. not (has slots n)) (range_with_len 0 (length old)) all ino
       (omega (arith, small, length-range_with_len 0 (length old))) away
       ∙ ap (cell_in old) at
+
+-- where no lent cell changes and no other, none does
+pub all_still : (slots : List ℕ) (old new : List CellValue) → length new ≡ length old → lent_cells slots new ≡ lent_cells slots old
+    → other_cells slots new ≡ other_cells slots old → new ≡ old
+all_still slots old new many lent rest = ext_get_or (no_cell.1) new old many (λ i small. each i (has slots i) refl) where
+  each : (i : ℕ) (b : Bool) → has slots i ≡ b → cell_in new i ≡ cell_in old i
+  each i false q = others_at slots old new many rest i q
+  each i true q = found (Any-from_list_any (λ m. m == i) slots q) where
+    found : ((j : ℕ) × (x : ℕ) × (j < length slots) × (slice_index_or slots j x ≡ x) × ((x == i) ≡ true)) → cell_in new i ≡ cell_in old i
+    found at =
+        let here : slice_index_or slots at.0 0 ≡ i = sym (get_or_default_zero slots at.0 at.1 at.2) ∙ at.3 ∙ eqb-true at.1 i at.4 in
+        ap (cell_in new) (sym here)
+        ∙ ap (λ (c : ℕ × CellValue). c.1) (sym (lent_at slots new at.0 at.2)
+        ∙ ap (λ (xs : List (ℕ × CellValue)). slice_index_or xs at.0 no_cell) lent ∙ lent_at slots old at.0 at.2)
+        ∙ ap (cell_in old) here

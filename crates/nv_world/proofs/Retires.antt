@@ -28,6 +28,8 @@ use Rattle.nv_machine.specs.World.{Leave, Retire, cell_at, go_to, with_book, wit
 use Rattle.nv_world.proofs.Publishes.{state_there, states_set}
 use Rattle.nv_world.specs.Shown.{Told, commit_next, hand_in, hand_with, killed_in, machine_step, shared_of, shown_commit, slots_in}
 use Rattle.nv_world.specs.Told.{IsCommitOf, IsOnItsWay}
+use Rattle.nv_base.specs.declared.geometry.GeometryNumbers.{GeometryNumbers}
+use Rattle.nv_world.specs.Rooms.{IsHandOf}
 use Rattle.nv_world.specs.declared.running.Running.{Running}
 use Rattle.nv_world.specs.declared.shared.Shared.{Shared}
 
@@ -243,3 +245,19 @@ retires shared running old new book cells told i is appended lt published closed
     machine.Moves (record s { cells = map (λ (c : CellValue). c.state) cells; book = book.state }) x (go_to n r)) hand next
     ∙ sym (ap (λ (c : CommitValue). machine.Moves (record s { cells = map (λ (x : CellValue). x.state) cells; book = book.state })
     (hand_in c) (shown_commit c told running)) commit)
+
+-- the sizes of its blocks stay
+with_stays : (ino : ℕ) (mid : CellState) (hand : Hand) (g : GeometryNumbers) → IsHandOf g hand → IsHandOf g (calls.hand_with ino mid hand)
+with_stays ino mid hand g is = go (is_erased mid) where
+  go : (b : Bool) → IsHandOf g (if b then record hand { chain = mid.chain.blocks; ino = number_back ino mid hand.ino } else hand)
+  go true = record { blocks = is.blocks; pages = is.pages }
+  go false = is
+
+pub hand_stays : (old new : CommitValue) (living : List ℕ) (ino : ℕ) (cell : CellState) (g : GeometryNumbers)
+    → new ≡ after_retire living ino cell old → IsHandOf g old.hand → IsHandOf g new.hand
+hand_stays old new living ino cell g commit is =
+    let killed = (to_retire old).killed in
+    subst (λ (c : CommitValue). IsHandOf g c.hand) (sym commit)
+    (with_stays ino (calls.retired living ino old.stamp.epoch killed cell)
+    (record old.hand { «data» = with_back (calls.freed_by living ino old.stamp.epoch killed cell) old.hand.data }) g
+    (record { blocks = is.blocks; pages = is.pages }))

@@ -1,4 +1,4 @@
-use Rattle.std.proofs.Common.{◌≡◌, ◌<◌, ◌∙◌, List, [], None, ap, arith, length, map, subst, sym}
+use Rattle.std.proofs.Common.{◌≡◌, ℕ, ◌<◌, ◌∙◌, List, [], None, ap, ap₂, arith, length, map, subst, sym}
 use Rattle.std.specs.Prelude.{slice_index_or}
 use Rattle.std.proofs.lemmas.List.{with_items_is}
 use Rattle.nv_book.specs.Book.{BookValue, with_journal}
@@ -11,7 +11,7 @@ use Rattle.nv_machine.specs.World as machine
 use Rattle.nv_world.specs.Committing.{IsCommitting}
 use Rattle.nv_world.specs.Rooms.{IsHandOf, committing_cpu}
 use Rattle.nv_world.specs.Shown.{hand_in, shared_of, shown_commit, slots_in}
-use Rattle.nv_world.proofs.Among.{lent_count, none_among}
+use Rattle.nv_world.proofs.Among.{all_still, lent_count, others_at}
 use Rattle.nv_world.proofs.Opens.{open_told, opens}
 use Rattle.nv_world.proofs.Phases.{open_cells, open_closed, open_cpu, open_full, open_goes, open_placed, open_shut}
 use Rattle.nv_world.proofs.Stages.{open_due}
@@ -64,7 +64,10 @@ returns-clause-turn c told is =
     let many : length new ≡ length cells = subst (λ (xs : List CellValue). length new ≡ length xs) was c.open_in.ensures.count in
     let whole = with_items_is c.args.shared.now.cells new (omega (arith, many, c.args.shared.now.cells.ok.0)) in
     let placed : ArePlaced (lent_cells slots cells) old.plans = open_placed _ _ _ old w due in
-    let states : map (λ (x : CellValue). x.state) new ≡ map (λ (x : CellValue). x.state) cells = ? in
+    let still : new ≡ cells =
+    all_still slots cells new many
+    (subst (λ (xs : List CellValue). lent_cells slots new ≡ lent_cells slots xs) was c.open_in.ensures.cells)
+    (subst (λ (xs : List CellValue). other_cells slots new ≡ other_cells slots xs) was c.open_in.ensures.others) in
     let commit : c.open_in.new.commit ≡ after_open cpu (old_tails (lent_cells slots cells) old.plans) old =
     subst (λ (xs : List CellValue). c.open_in.new.commit ≡ after_open cpu (old_tails (lent_cells slots xs) old.plans) old) was c.open_in.ensures.commit in
     let book : c.open_in.new.book
@@ -79,7 +82,10 @@ returns-clause-turn c told is =
     (open_full _ _ _ old w due) due.none due.two
     ∙ sym (ap₂ (λ (b : BookValue) (x : CommitValue). machine.Moves (record (shared_of c.args.shared.now) { book = b.state }) (hand_in x)
     (shown_commit x told running)) book commit)
-    ∙ ?
+    ∙ ap (λ (xs : List CellValue). machine.Moves (record (shared_of c.args.shared.now) {
+      cells = map (λ (x : CellValue). x.state) xs;
+      book = c.open_in.new.book.state;
+    }) (hand_in c.open_in.new.commit) (shown_commit c.open_in.new.commit told running)) (sym (whole ∙ still))
 
 pub returns-clause-told : goal.returns-clause-told
 returns-clause-told c told is =
@@ -88,3 +94,48 @@ returns-clause-told c told is =
 pub returns-clause-hand : goal.returns-clause-hand
 returns-clause-hand c g is =
     subst (λ (x : CommitValue). IsHandOf g x.hand) (sym c.open_in.ensures.commit) (record { blocks = is.blocks; pages = is.pages })
+
+pub returns-clause-rooms : goal.returns-clause-rooms
+returns-clause-rooms c =
+    let cells = c.args.shared.now.cells.items in
+    let slots = slots_in c.args.running.now.slots in
+    let old = c.args.commit.now in
+    let b = c.args.shared.now.book in
+    let new = c.open_in.new.cells in
+    let due = open_due old c.requires.step in
+    let was : c.deref_mut.result.now ≡ cells = c.deref_mut.ensures.value in
+    let many : length new ≡ length cells = subst (λ (xs : List CellValue). length new ≡ length xs) was c.open_in.ensures.count in
+    let whole = with_items_is c.args.shared.now.cells new (omega (arith, many, c.args.shared.now.cells.ok.0)) in
+    let lent : lent_cells slots new ≡ lent_cells slots cells =
+    subst (λ (xs : List CellValue). lent_cells slots new ≡ lent_cells slots xs) was c.open_in.ensures.cells in
+    let commit : c.open_in.new.commit ≡ after_open (committing_cpu c.args.shared.now) (old_tails (lent_cells slots cells) old.plans) old =
+    subst (λ (n : ℕ). c.open_in.new.commit ≡ after_open n (old_tails (lent_cells slots cells) old.plans) old) (sym c.requires.cpu)
+    (subst (λ (xs : List CellValue). c.open_in.new.commit ≡ after_open c.args.cpu (old_tails (lent_cells slots xs) old.plans) old) was
+    c.open_in.ensures.commit) in
+    let book : c.open_in.new.book ≡ (let x : BookValue = record b {
+      state = with_journal (committing_cpu c.args.shared.now) (old_tails (lent_cells slots cells) old.plans) b.state;
+    } in x) =
+    subst (λ (n : ℕ). c.open_in.new.book ≡ (let x : BookValue = record b {
+      state = with_journal n (old_tails (lent_cells slots cells) old.plans) b.state;
+    } in x)) (sym c.requires.cpu)
+    (subst (λ (xs : List CellValue). c.open_in.new.book ≡ (let x : BookValue = record b {
+      state = with_journal c.args.cpu (old_tails (lent_cells slots xs) old.plans) b.state;
+    } in x)) was c.open_in.ensures.book) in
+    subst (λ (xs : List (ℕ × CellValue)). IsCommitting (committing_cpu c.args.shared.now) xs c.open_in.new.book c.open_in.new.commit)
+    (sym (ap (lent_cells slots) whole ∙ lent))
+    (open_goes _ _ _ old c.requires.committing due c.open_in.new.book c.open_in.new.commit book commit)
+
+pub returns-clause-cells : goal.returns-clause-cells
+returns-clause-cells c =
+    let cells = c.args.shared.now.cells.items in
+    let slots = slots_in c.args.running.now.slots in
+    let new = c.open_in.new.cells in
+    let was : c.deref_mut.result.now ≡ cells = c.deref_mut.ensures.value in
+    let many : length new ≡ length cells = subst (λ (xs : List CellValue). length new ≡ length xs) was c.open_in.ensures.count in
+    let whole = with_items_is c.args.shared.now.cells new (omega (arith, many, c.args.shared.now.cells.ok.0)) in
+    record {
+      count = ap (λ (xs : List CellValue). length xs) whole ∙ many;
+      cells = λ ino free. ap (λ (xs : List CellValue). cell_in xs ino) whole
+          ∙ others_at slots cells new many
+          (subst (λ (xs : List CellValue). other_cells slots new ≡ other_cells slots xs) was c.open_in.ensures.others) ino free;
+    }
