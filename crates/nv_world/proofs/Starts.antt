@@ -1,5 +1,5 @@
 -- A call that starts.
-use Rattle.std.proofs.Common.{◌≡◌, ℕ, ◌∙◌, List, ap, refl, sym}
+use Rattle.std.proofs.Common.{◌≡◌, ℕ, ◌∙◌, List, ap, refl}
 use Rattle.nv_calls.specs.declared.call.Call.{Call}
 use Rattle.nv_machine.specs.Sequence.{Beginning, Locks, Looks, Numbers, Visits, beginning, begun, started}
 use Rattle.nv_machine.specs.World.{Next, Shared}

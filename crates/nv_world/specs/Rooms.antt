@@ -26,6 +26,7 @@ use Rattle.nv_world.specs.declared.hold.Hold.{Hold}
 use Rattle.nv_world.specs.declared.hold.Hold.TheVariants as hold
 use Rattle.nv_world.specs.declared.job.Job.{Job}
 use Rattle.nv_world.specs.declared.job.Job.TheVariants as job
+use Rattle.nv_world.specs.declared.next.Ending.{Ending}
 use Rattle.nv_world.specs.declared.next.Ending.TheVariants as ending
 use Rattle.nv_world.specs.declared.next.Next.{Next}
 use Rattle.nv_world.specs.declared.next.Next.TheVariants as next
@@ -36,17 +37,19 @@ use Rattle.nv_world.specs.declared.turn.Turn.TheVariants as turn
 
 -- ---- the call
 
+-- a job that changes nodes, or that its commit has
+abbrev pub IsNoVisit : Job → Type 0
+IsNoVisit (job.Visit c) = ⊥
+IsNoVisit other = Unit {0}
+
 -- the job that a call has before that step
 abbrev pub FitsNext : Next → Job → Type 0
 FitsNext next.Number j = makes_inode j ≡ true
 FitsNext (next.Look place) j = IsLookAt place j
 FitsNext next.Visit j = IsVisitOf j
-FitsNext (next.Unlock place) (job.Visit c) = ⊥
-FitsNext (next.Unlock place) other = Unit {0}
-FitsNext (next.Give cpu) (job.Visit c) = ⊥
-FitsNext (next.Give cpu) other = Unit {0}
-FitsNext next.Back (job.Visit c) = ⊥
-FitsNext next.Back other = Unit {0}
+FitsNext (next.Unlock place) j = IsNoVisit j
+FitsNext (next.Give cpu) j = IsNoVisit j
+FitsNext next.Back j = IsNoVisit j
 FitsNext before j = is_change j ≡ true
 
 -- a call that looks nothing up has found nothing
@@ -59,6 +62,12 @@ pub record FitsCall (running : Running) : Type 0 where
   pub before : FitsNext running.next running.job
   pub looks : LooksAsTold running.job running.looked
   pub overtaken : running.ending ≡ ending.Overtaken → IsLookAt 0 running.job
+
+-- a call can turn to its last steps, to end so
+pub record CanEnd (running : Running) (how : Ending) : Type 0 where
+  pub job : IsNoVisit running.job
+  pub looks : LooksAsTold running.job running.looked
+  pub overtaken : how ≡ ending.Overtaken → IsLookAt 0 running.job
 
 -- ---- hands
 

@@ -5,15 +5,18 @@ ghost use Rattle.nv_calls.specs.Prepared.{makes};
 ghost use Rattle.nv_machine.specs.Reads.{slots_of};
 ghost use Rattle.nv_machine.specs.Sequence.{begun, beginning, locking, looking, nothing_looked};
 ghost use Rattle.nv_machine.specs.World as machine;
+ghost use Rattle.nv_world.specs.Rooms.{FitsCall, FitsNext, HasRooms, IsHandOf, takes};
 ghost use Rattle.nv_world.specs.Shown.{Told, next_of, shared_of, shown, slots_in};
 ghost use Rattle.nv_calls.specs.Updates.{call_of};
 ghost use Rattle.nv_world.specs.Told.{IsChangeBy, IsJobOf, IsToldOf, IsVisitOf, KeepsJob, is_change, looking_at, starting};
 
+use crate::hold::Hold;
 use crate::job::{Job, Owed, job_of, locked, look_count};
 use crate::next::{Ending, Next};
 use crate::shared::Shared;
 use crate::slots::Slots;
 use crate::turn::Turn;
+use nv_alloc::Hand;
 use nv_base::{Gen, Handle, Ino};
 use nv_calls::{Call, Looked, Plan, Update};
 use std::alloc::Global;
@@ -42,7 +45,9 @@ pub(crate) struct Running {
 
 /// The step for a place in the loop of locks, or what comes behind the last.
 pub(crate) fn locking(place: usize, slots: &Slots) -> Next
-    ensures { next_of result ≡ locking place (slots_in slots.now) }
+    ensures next { next_of result ≡ locking place (slots_in slots.now) }
+    ensures before { (job : Job) → is_change job ≡ true → FitsNext result job }
+    ensures none { takes result ≡ false }
 {
     if place < slots.len() {
         return Next::Lock(place);
@@ -52,8 +57,11 @@ pub(crate) fn locking(place: usize, slots: &Slots) -> Next
 
 /// The same in the loop of looks, behind which comes the loop of locks.
 pub(crate) fn looking(place: usize, update: &Update, slots: &Slots) -> Next
-    ensures { (text : List ℕ) → next_of result
+    ensures next { (text : List ℕ) → next_of result
         ≡ looking_at place (slots_in slots.now) (call_of update.now text) }
+    ensures before { (job : Job) (plan : Plan) → IsChangeBy job plan → plan.update ≡ update.now
+        → FitsNext result job }
+    ensures none { takes result ≡ false }
 {
     if place < look_count(update) {
         return Next::Look(place);
@@ -79,9 +87,11 @@ pub(crate) fn slots_of(inodes: u64, number: Option<Ino>, update: &Update, looked
 fn first_step(inodes: u64, job: &Job, looked: &Looked) -> (Next, Slots)
     requires job { (is_change job.now ≡ true) ⊎ IsVisitOf job.now }
     requires looked { looked.now ≡ nothing_looked }
-    ensures { (s : machine.Shared) (owed : Owed) (c : Call) → length s.cells ≡ inodes
+    ensures first { (s : machine.Shared) (owed : Owed) (c : Call) → length s.cells ≡ inodes
         → IsJobOf job.now owed c → let first = begun (beginning c) s c in
         (next_of result.0 ≡ first.next) × (slots_in result.1 ≡ first.slots) }
+    ensures before { FitsNext result.0 job.now }
+    ensures none { takes result.0 ≡ false }
 {
     let none = Slots::none();
     let Job::Change(Plan { update, .. }, _) = job else {
@@ -105,6 +115,9 @@ impl Running {
         ensures shown { shown (starting call) result
             ≡ begun (beginning call) (shared_of shared.now) call }
         ensures told { IsToldOf result (starting call) }
+        ensures fits { FitsCall result }
+        ensures rooms { (s : Shared) (hand : Hand) → IsHandOf s.geometry.numbers hand
+            → HasRooms s (Hold.Hand hand) result }
     {
         let (job, owed) = job_of(alloc, call);
         let looked = Looked {

@@ -11,10 +11,12 @@ ghost use Rattle.nv_machine.specs.Sequence.{directories};
 ghost use Rattle.nv_machine.specs.Step.{handle_at};
 ghost use Rattle.nv_machine.specs.World.{owner_at};
 ghost use Rattle.nv_world.specs.Parts.{AreHome, IsOfDevice};
+ghost use Rattle.nv_world.specs.Rooms.{HasRooms, HasRoomsAfter};
 ghost use Rattle.nv_world.specs.Shown.{Told, hand_of, shared_of, shown, turn_of};
 ghost use Rattle.nv_world.specs.Told.{IsLookAt, IsToldOf, KeepsJob};
 
 use crate::ending::give_back;
+use crate::hold::Hold;
 use crate::job::{directory, look_count};
 use crate::next::Ending;
 use crate::running::{Running, looking, slots_of};
@@ -27,6 +29,7 @@ use nv_calls::{Looked, Update, look_on};
 /// Looks up the names of a call in one of their directories. The first name may be refused here. What is wrong with the
 /// second is told at the check.
 pub(crate) fn look(shared: &Shared, hand: &Hand, running: &mut Running, place: usize) -> Turn
+    requires rooms { HasRooms shared.now (Hold.Hand hand.now) running.old }
     requires place { IsLookAt place running.old.job }
     requires home { AreHome shared.now }
     requires device { IsOfDevice shared.now.geometry.numbers hand.now }
@@ -39,6 +42,7 @@ pub(crate) fn look(shared: &Shared, hand: &Hand, running: &mut Running, place: u
         ≡ turn_of result s h (shown told running.new) }
     ensures waits { result ≡ Turn.Waits → running.new ≡ running.old }
     ensures job { KeepsJob running.old running.new }
+    ensures rooms { HasRoomsAfter result shared.now (Hold.Hand hand.now) running.new }
 {
     let update = &running.plan().update;
     if shared.is_locked(directory(update, place).ino) {

@@ -1,6 +1,6 @@
 //! The step of a call that reads.
 
-ghost use Rattle.std.specs.Prelude.{◌≡◌, ◌||◌, ℕ, List, [], MatchResult, not};
+ghost use Rattle.std.specs.Prelude.{◌≡◌, ◌≢◌, ◌||◌, ℕ, List, [], MatchResult, not};
 ghost use Rattle.nv_calls.specs.AllCalls.{answer, refusal};
 ghost use Rattle.nv_calls.specs.Locked.{handles};
 ghost use Rattle.nv_calls.specs.Nodes.{IsView, alone, nodes_by, view_refusal};
@@ -10,14 +10,17 @@ ghost use Rattle.nv_machine.specs.Reads.{copies, nodes};
 ghost use Rattle.nv_machine.specs.Sequence.{nothing_looked};
 ghost use Rattle.nv_machine.specs.Step.{handle_at, visit_grows};
 ghost use Rattle.nv_machine.specs.World.{empty_hand, owner_at};
+ghost use Rattle.nv_world.specs.Rooms.{HasRooms, HasRoomsAfter};
 ghost use Rattle.nv_world.specs.Shown.{Told, shared_of, shown, slots_in, turn_of};
 ghost use Rattle.nv_world.specs.Visits.{HasOwnBytes, IsFoundBy, IsRefusedBy};
 ghost use Rattle.nv_world.specs.Told.{IsEither, IsToldOf, IsVisit, IsVisitOf};
 
+use crate::hold::Hold;
 use crate::job::{Job, visited};
 use crate::running::Running;
 use crate::shared::Shared;
 use crate::turn::Turn;
+use nv_alloc::Hand;
 use nv_base::{Fault, Ino};
 use nv_calls::{Answer, Call, View, list_on, lookup_on, read_on, stat_on};
 use nv_cell::InodeCell;
@@ -35,7 +38,10 @@ pub(crate) fn visit(shared: &Shared, running: &mut Running) -> Turn
         (refusal block (copies s) c) (granted || not (visit_grows c)) (answer (nodes s) r.made c)
         s empty_hand r)
         (turn_of result s empty_hand (shown told running.new)) }
+    ensures ends { result ≢ Turn.Moves }
     ensures waits { result ≡ Turn.Waits → running.new ≡ running.old }
+    ensures rooms { (hand : Hand) → HasRooms shared.now (Hold.Hand hand) running.old
+        → HasRoomsAfter result shared.now (Hold.Hand hand) running.new }
 {
     let Job::Visit(call) = &running.job else {
         unreachable!()
@@ -47,10 +53,22 @@ pub(crate) fn visit(shared: &Shared, running: &mut Running) -> Turn
     let Job::Visit(call) = mem::replace(&mut running.job, Job::Given) else {
         unreachable!()
     };
-    Turn::Ends(match shared.cell(ino) {
+    Turn::Ends(found(shared, ino, call))
+}
+
+/// What a call finds in the cell of its inode, if there is one.
+fn found(shared: &Shared, ino: Ino, call: Call) -> Result<Answer, Fault>
+    requires visit { IsVisit call }
+    requires ino { ino ≡ (handle_at (handles nothing_looked call) 0).ino }
+    requires own { HasOwnBytes (shared_of shared.now) ino }
+    ensures { (block : ℕ) → let s = shared_of shared.now in
+        IsFoundBy (refusal block (copies s) call) (λ made. answer (nodes s) made call)
+        (visit_grows call) result }
+{
+    match shared.cell(ino) {
         Some(cell) => answer(ino, cell, call),
         None => Err(Fault::Stale),
-    })
+    }
 }
 
 /// What a call finds in the cell of its inode.

@@ -1,4 +1,4 @@
-use Rattle.std.proofs.Common.{◌≡◌, arith}
+use Rattle.std.proofs.Common.{arith}
 use Rattle.nv_alloc.specs.Hand.{blocks_of}
 use Rattle.nv_world.proofs.Homes.{home_none, home_some}
 use Rattle.nv_world.proofs.ending.give_back.Goals as goal

@@ -1,4 +1,4 @@
-use Rattle.std.proofs.Common.{◌≡◌, ◌∙◌, sym}
+use Rattle.std.proofs.Common.{◌∙◌, sym}
 use Rattle.nv_machine.specs.Reads.{copies}
 use Rattle.nv_world.proofs.Looks.{look_refused}
 use Rattle.nv_world.specs.Shown.{shared_of}

@@ -1,4 +1,4 @@
-use Rattle.std.proofs.Common.{◌≡◌, ◌∙◌}
+use Rattle.std.proofs.Common.{◌∙◌}
 use Rattle.nv_machine.specs.Reads.{bytes_among}
 use Rattle.nv_world.proofs.Looks.{look_here, no_look}
 use Rattle.nv_world.specs.Shown.{shared_of}

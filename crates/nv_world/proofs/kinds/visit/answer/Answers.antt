@@ -1,4 +1,4 @@
-use Rattle.std.proofs.Common.{◌≡◌, ◌∙◌}
+use Rattle.std.proofs.Common.{◌∙◌}
 use Rattle.nv_world.proofs.kinds.visit.answer.Goals as goal
 
 pub returns-in-Ok : goal.returns-in-Ok

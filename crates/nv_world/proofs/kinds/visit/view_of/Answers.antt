@@ -1,4 +1,4 @@
-use Rattle.std.proofs.Common.{◌≡◌, ap}
+use Rattle.std.proofs.Common.{ap}
 use Rattle.nv_calls.specs.Nodes.{IsView, view_refusal}
 use Rattle.nv_machine.specs.Step.{visit_grows}
 use Rattle.nv_world.proofs.VisitTurns.{view_match}
