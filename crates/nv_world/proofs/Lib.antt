@@ -1,6 +1,7 @@
 pub mod Among
 pub mod Appends
 pub mod Checks
+pub mod Closes
 pub mod Ends
 pub mod Enters
 pub mod FewPages
@@ -18,6 +19,7 @@ pub mod Locked
 pub mod Looks
 pub mod Nodes
 pub mod Opens
+pub mod Phases
 pub mod Plans
 pub mod Publishes
 pub mod Retires
@@ -26,6 +28,7 @@ pub mod SameCells
 pub mod Sequence
 pub mod ShownCalls
 pub mod SlotLists
+pub mod Stages
 pub mod Starts
 pub mod Stays
 pub mod Takes
