@@ -3,6 +3,7 @@ pub mod Appends
 pub mod Checks
 pub mod Ends
 pub mod Enters
+pub mod Formats
 pub mod Gives
 pub mod Homes
 pub mod Locked

@@ -1,0 +1,89 @@
+-- A world that was just made, part by part.
+use Rattle.std.proofs.Common.{◌≡◌, ℕ, zero, suc, ◌+◌, ◌-◌, ◌*◌, ◌<◌, ◌≤◌, List, [], ◌∷◌, drop, length, map, replicate, Some, None, slice_get, slice_set, ap, arith, refl}
+use Rattle.std.proofs.lemmas.Nat.{le-div}
+use Rattle.std.specs.List.{range_with_len}
+use Rattle.nv_alloc.specs.Block.{BlockValue, zero_block, zero_blocks}
+use Rattle.nv_alloc.specs.FreeList.{FreeBlocks}
+use Rattle.nv_alloc.specs.Queue.{QueueValue}
+use Rattle.nv_alloc.specs.declared.hand.Hand.{Hand}
+use Rattle.nv_base.specs.Homes.{home_start}
+use Rattle.nv_base.specs.Limits.{IsWithinLimits}
+use Rattle.nv_base.specs.declared.geometry.GeometryNumbers.{GeometryNumbers}
+use Rattle.nv_base.specs.declared.node.Kind.TheVariants.{Dir}
+use Rattle.nv_base.proofs.HomeRanges.{cuts}
+use Rattle.nv_cell.specs.Cell.{CellState, CellValue, empty_cell}
+use Rattle.nv_machine.specs.Format.{full_list, root_cell, without_lowest}
+use Rattle.nv_world.specs.Formats.{empty_of, first_entry, founded}
+
+-- a list with all blocks of its range
+pub list_full : (g : GeometryNumbers) (cpu : ℕ) (list : FreeBlocks) → list.start ≡ home_start g.blocks g.cpus cpu
+    → list.end ≡ home_start g.blocks g.cpus (cpu + 1) → list.size ≡ g.block
+    → list.blocks ≡ zero_blocks g.block list.start (list.end - list.start) → list ≡ full_list g cpu
+list_full g cpu list start end size blocks =
+    let same : record { start = list.start; end = list.end; size = list.size; blocks = list.blocks } ≡ full_list g cpu =
+    rw (blocks, start, end, size) refl in
+    same
+
+-- a hand with nothing in it
+pub hand_empty : (g : GeometryNumbers) (hand : Hand) → hand.«data» ≡ record { blocks = []; size = g.block; room = 0 }
+    → hand.pages ≡ record { blocks = []; size = g.block; room = 0 } → hand.chain ≡ [] → hand.ino ≡ None → hand ≡ empty_of g
+hand_empty g hand blocks pages chain ino =
+    let same : record { «data» = hand.«data»; pages = hand.pages; chain = hand.chain; ino = hand.ino } ≡ empty_of g =
+    rw (blocks, pages, chain, ino) refl in
+    same
+
+-- ---- the root
+
+range_first : (a n : ℕ) → 0 < n → range_with_len a n ≡ a ∷ range_with_len (a + 1) (n - 1)
+range_first a zero some = absurd (omega (arith, some))
+range_first a (suc n) some =
+    let less : suc n - 1 ≡ n = omega arith in
+    rw less refl
+
+range_behind : (n : ℕ) → drop 1 (range_with_len 0 n) ≡ range_with_len 1 (n - 1)
+range_behind zero = refl
+range_behind (suc n) =
+    let less : suc n - 1 ≡ n = omega arith in
+    rw less refl
+
+-- the first list without its lowest block
+pub lowest_gone : (lists : List FreeBlocks) (old new : FreeBlocks) (page : BlockValue) → slice_get lists 0 ≡ Some old
+    → new ≡ record old { blocks = new.blocks } → old.blocks ≡ page ∷ new.blocks → slice_set lists 0 new ≡ without_lowest lists
+lowest_gone [] old new page there is blocks = absurd cc
+lowest_gone (list ∷ lists) old new page there is blocks =
+    let same : list ≡ old = cc in
+    let first : new ≡ record list { blocks = drop 1 list.blocks } = rw (same, blocks) is in
+    ap (λ (l : FreeBlocks). l ∷ lists) first
+
+-- the first cell, and all others as they were
+pub first_cell : (cells : List CellValue) (new : CellValue) (n : ℕ) (e root : CellState) → 0 < length cells
+    → map (λ (c : CellValue). c.state) cells ≡ replicate n e → new.state ≡ root
+    → map (λ (c : CellValue). c.state) (slice_set cells 0 new) ≡ root ∷ replicate (n - 1) e
+first_cell [] new n e root some all is = absurd (omega (arith, some))
+first_cell (c ∷ cells) new zero e root some all is = absurd cc
+first_cell (c ∷ cells) new (suc n) e root some all is =
+    let less : suc n - 1 ≡ n = omega arith in
+    let rest : map (λ (c : CellValue). c.state) cells ≡ replicate n e = cc in
+    rw (is, less, rest) refl
+
+-- the lowest block of the first list
+pub lowest_block : (g : GeometryNumbers) → IsWithinLimits g
+    → (full_list g 0).blocks ≡ zero_block g.block 0 ∷ drop 1 (full_list g 0).blocks
+lowest_block g limits =
+    let cut = cuts g.blocks g.cpus (omega (arith, limits.some_cpus)) in
+    let some : 1 ≤ home_start g.blocks g.cpus 1 =
+    le-div 1 (1 * g.blocks) g.cpus (omega (arith, limits.some_cpus)) (omega (arith, limits.cpus_have_blocks)) in
+    let none : home_start g.blocks g.cpus 0 ≡ 0 = cut.first in
+    let range = range_first 0 (home_start g.blocks g.cpus 1 - 0) (omega (arith, some)) in
+    rw (none, range) refl
+
+pub first_list : (g : GeometryNumbers) (list : FreeBlocks) → IsWithinLimits g
+    → slice_get (map (full_list g) (range_with_len 0 g.cpus)) 0 ≡ Some list → list ≡ full_list g 0
+first_list g list limits there =
+    let range = range_first 0 g.cpus (omega (arith, limits.some_cpus)) in
+    let is : slice_get (map (full_list g) (0 ∷ range_with_len 1 (g.cpus - 1))) 0 ≡ Some list = rw range at there in
+    cc
+
+pub root_founded : (g : GeometryNumbers)
+    → founded (first_entry Dir 493 1) (zero_block g.block 0) (empty_cell g.block g.page 1 0) ≡ root_cell g
+root_founded g = refl
