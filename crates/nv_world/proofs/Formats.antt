@@ -1,19 +1,21 @@
 -- A world that was just made, part by part.
-use Rattle.std.proofs.Common.{◌≡◌, ℕ, zero, suc, ◌+◌, ◌-◌, ◌*◌, ◌<◌, ◌≤◌, List, [], ◌∷◌, drop, length, map, replicate, Some, None, slice_get, slice_set, ap, arith, refl}
+use Rattle.std.proofs.Common.{◌≡◌, ℕ, zero, suc, ◌+◌, ◌-◌, ◌*◌, ◌<◌, ◌≤◌, List, [], ◌∷◌, ◌++◌, drop, map, replicate, take, None, slice_index_or, slice_set, ◌∙◌, ap, arith, refl}
 use Rattle.std.proofs.lemmas.Nat.{le-div}
 use Rattle.std.specs.List.{range_with_len}
 use Rattle.nv_alloc.specs.Block.{BlockValue, zero_block, zero_blocks}
 use Rattle.nv_alloc.specs.FreeList.{FreeBlocks}
-use Rattle.nv_alloc.specs.Queue.{QueueValue}
 use Rattle.nv_alloc.specs.declared.hand.Hand.{Hand}
 use Rattle.nv_base.specs.Homes.{home_start}
 use Rattle.nv_base.specs.Limits.{IsWithinLimits}
 use Rattle.nv_base.specs.declared.geometry.GeometryNumbers.{GeometryNumbers}
 use Rattle.nv_base.specs.declared.node.Kind.TheVariants.{Dir}
 use Rattle.nv_base.proofs.HomeRanges.{cuts}
+use Rattle.nv_book.specs.Book.{empty_book}
 use Rattle.nv_cell.specs.Cell.{CellState, CellValue, empty_cell}
-use Rattle.nv_machine.specs.Format.{full_list, root_cell, without_lowest}
-use Rattle.nv_world.specs.Formats.{empty_of, first_entry, founded}
+use Rattle.nv_log.specs.Chain.{empty_chain, open_of, with_page}
+use Rattle.nv_machine.specs.Format.{formatted, full_list, root_cell, without_lowest}
+use Rattle.nv_machine.specs.World.{Shared}
+use Rattle.nv_world.specs.Formats.{empty_of, first_entry, founded, rootless}
 
 -- a list with all blocks of its range
 pub list_full : (g : GeometryNumbers) (cpu : ℕ) (list : FreeBlocks) → list.start ≡ home_start g.blocks g.cpus cpu
@@ -47,20 +49,29 @@ range_behind (suc n) =
     rw less refl
 
 -- the first list without its lowest block
-pub lowest_gone : (lists : List FreeBlocks) (old new : FreeBlocks) (page : BlockValue) → slice_get lists 0 ≡ Some old
+pub lowest_gone : (lists : List FreeBlocks) (old new : FreeBlocks) (page : BlockValue) → old ≡ slice_index_or lists 0 old
     → new ≡ record old { blocks = new.blocks } → old.blocks ≡ page ∷ new.blocks → slice_set lists 0 new ≡ without_lowest lists
-lowest_gone [] old new page there is blocks = absurd cc
+lowest_gone [] old new page there is blocks = refl
 lowest_gone (list ∷ lists) old new page there is blocks =
-    let same : list ≡ old = cc in
-    let first : new ≡ record list { blocks = drop 1 list.blocks } = rw (same, blocks) is in
-    ap (λ (l : FreeBlocks). l ∷ lists) first
+    let behind : drop 1 old.blocks ≡ new.blocks = ap (drop 1) blocks in
+    let first : new ≡ record old { blocks = drop 1 old.blocks } = rw behind is in
+    ap (λ (l : FreeBlocks). l ∷ lists) (first ∙ ap (λ (l : FreeBlocks). record l { blocks = drop 1 l.blocks }) there)
 
--- the first cell, and all others as they were
-pub first_cell : (cells : List CellValue) (new : CellValue) (n : ℕ) (e root : CellState) → 0 < length cells
+-- the first of cells that are all in one state
+pub first_state : (cells : List CellValue) (cell : CellValue) (n : ℕ) (e : CellState) → 0 < n
+    → map (λ (c : CellValue). c.state) cells ≡ replicate n e → cell ≡ slice_index_or cells 0 cell → cell.state ≡ e
+first_state cells cell zero e some all there = absurd (omega (arith, some))
+first_state [] cell (suc n) e some all there = absurd cc
+first_state (c ∷ cells) cell (suc n) e some all there =
+    let first : c.state ≡ e = cc in
+    ap (λ (v : CellValue). v.state) there ∙ first
+
+-- another one in its place
+pub first_cell : (cells : List CellValue) (new : CellValue) (n : ℕ) (e root : CellState) → 0 < n
     → map (λ (c : CellValue). c.state) cells ≡ replicate n e → new.state ≡ root
     → map (λ (c : CellValue). c.state) (slice_set cells 0 new) ≡ root ∷ replicate (n - 1) e
-first_cell [] new n e root some all is = absurd (omega (arith, some))
-first_cell (c ∷ cells) new zero e root some all is = absurd cc
+first_cell cells new zero e root some all is = absurd (omega (arith, some))
+first_cell [] new (suc n) e root some all is = absurd cc
 first_cell (c ∷ cells) new (suc n) e root some all is =
     let less : suc n - 1 ≡ n = omega arith in
     let rest : map (λ (c : CellValue). c.state) cells ≡ replicate n e = cc in
@@ -77,13 +88,31 @@ lowest_block g limits =
     let range = range_first 0 (home_start g.blocks g.cpus 1 - 0) (omega (arith, some)) in
     rw (none, range) refl
 
-pub first_list : (g : GeometryNumbers) (list : FreeBlocks) → IsWithinLimits g
-    → slice_get (map (full_list g) (range_with_len 0 g.cpus)) 0 ≡ Some list → list ≡ full_list g 0
-first_list g list limits there =
+pub first_list : (g : GeometryNumbers) (lists : List FreeBlocks) (list : FreeBlocks) → IsWithinLimits g
+    → lists ≡ map (full_list g) (range_with_len 0 g.cpus) → list ≡ slice_index_or lists 0 list → list ≡ full_list g 0
+first_list g lists list limits all there =
     let range = range_first 0 g.cpus (omega (arith, limits.some_cpus)) in
-    let is : slice_get (map (full_list g) (0 ∷ range_with_len 1 (g.cpus - 1))) 0 ≡ Some list = rw range at there in
-    cc
+    let is : list ≡ slice_index_or (map (full_list g) (0 ∷ range_with_len (0 + 1) (g.cpus - 1))) 0 list = rw (all, range) at there in
+    is
 
+take_none : (n : ℕ) → take {A = ℕ} n [] ≡ []
+take_none zero = refl
+take_none (suc n) = refl
+
+-- the cell of the root
 pub root_founded : (g : GeometryNumbers)
     → founded (first_entry Dir 493 1) (zero_block g.block 0) (empty_cell g.block g.page 1 0) ≡ root_cell g
-root_founded g = refl
+root_founded g =
+    ap (λ (ends : List ℕ). record (root_cell g) { chain = record (root_cell g).chain { ends = ends ++ 1 ∷ [] } })
+    (take_none (open_of (with_page (zero_block g.block 0) (empty_chain g.page))))
+
+-- what is shared, from its parts
+pub shared_made : (g : GeometryNumbers) (s : Shared) → s.lists ≡ without_lowest (map (full_list g) (range_with_len 0 g.cpus))
+    → s.pool ≡ record (rootless g).pool { numbers = drop 1 (rootless g).pool.numbers }
+    → s.cells ≡ root_cell g ∷ replicate (g.inodes - 1) (empty_cell g.block g.page 1 0) → s.owners ≡ replicate g.inodes None
+    → s.book ≡ empty_book g 1 0 → s.holder ≡ None → s ≡ (formatted g).shared
+shared_made g s lists pool cells owners book holder =
+    let behind = range_behind g.inodes in
+    let same : record { lists = s.lists; pool = s.pool; cells = s.cells; owners = s.owners; book = s.book; holder = s.holder }
+    ≡ (formatted g).shared = rw (lists, pool, cells, owners, book, holder, behind) refl in
+    same
