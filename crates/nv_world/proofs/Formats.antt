@@ -116,3 +116,15 @@ shared_made g s lists pool cells owners book holder =
     let same : record { lists = s.lists; pool = s.pool; cells = s.cells; owners = s.owners; book = s.book; holder = s.holder }
     ≡ (formatted g).shared = rw (lists, pool, cells, owners, book, holder, behind) refl in
     same
+
+pub is_rootless : (g : GeometryNumbers) (s : Shared) → s.lists ≡ (rootless g).lists → s.pool ≡ (rootless g).pool
+    → s.cells ≡ (rootless g).cells → s.owners ≡ (rootless g).owners → s.book ≡ (rootless g).book → s.holder ≡ None → s ≡ rootless g
+is_rootless g s lists pool cells owners book holder =
+    let same : record { lists = s.lists; pool = s.pool; cells = s.cells; owners = s.owners; book = s.book; holder = s.holder }
+    ≡ rootless g = rw (lists, pool, cells, owners, book, holder) refl in
+    same
+
+-- cells that are all alike are all in one state
+pub states_alike : (n : ℕ) (cell : CellValue) → map (λ (c : CellValue). c.state) (replicate n cell) ≡ replicate n cell.state
+states_alike zero cell = refl
+states_alike (suc n) cell = ap (λ (l : List CellState). cell.state ∷ l) (states_alike n cell)

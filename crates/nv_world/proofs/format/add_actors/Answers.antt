@@ -1,4 +1,4 @@
-use Rattle.std.proofs.Common.{◌≡◌, ◌+◌, arith, sym}
+use Rattle.std.proofs.Common.{arith}
 use Rattle.std.proofs.lemmas.List.{replicate_more}
 use Rattle.nv_world.specs.Formats.{idle_actor}
 use Rattle.nv_world.proofs.Formats.{hand_empty}
