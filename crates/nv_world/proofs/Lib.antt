@@ -5,6 +5,7 @@ pub mod Closes
 pub mod Ends
 pub mod Enters
 pub mod FewPages
+pub mod Formats
 pub mod Given
 pub mod GivenCells
 pub mod GivenCounts

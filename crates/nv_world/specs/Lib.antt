@@ -1,5 +1,6 @@
 pub mod Appends
 pub mod Committing
+pub mod Formats
 pub mod Frames
 pub mod Nodes
 pub mod Parts

@@ -1,16 +1,6 @@
 -- When a world shows one of the machine.
-use Rattle.std.specs.Prelude.{◌≡◌, ◌≢◌, replicate, ℕ, ◌+◌, ◌<◌, ◌≤◌, Bool, List, [], ◌∷◌, length, map, Option, Some, None, Result, Ok, Err, slice_index_or}
-use Rattle.std.specs.List.{sum_by}
-use Rattle.nv_base.specs.declared.fault.Fault.{Fault}
-use Rattle.nv_alloc.specs.declared.hand.Hand.{Hand}
+use Rattle.std.specs.Prelude.{◌≡◌, ◌≢◌, replicate, ℕ, ◌<◌, Bool, List, [], ◌∷◌, length, map, Option, Some, None, slice_index_or}
 use Rattle.nv_base.specs.Limits.{IsWithinLimits}
-use Rattle.nv_book.specs.Book.{BookValue}
-use Rattle.nv_calls.specs.Cells.{value_at}
-use Rattle.nv_calls.specs.Ready.{ArePlaced, CellPlanValue, plan_at}
-use Rattle.nv_calls.specs.SlotCells.{lent_cells}
-use Rattle.nv_cell.specs.Cell.{CellValue}
-use Rattle.nv_cell.specs.Room.{IsReadyFor}
-use Rattle.nv_calls.specs.Commit.{CommitValue}
 use Rattle.nv_machine.specs.Format.{formatted}
 use Rattle.nv_machine.specs.Step as machine_step
 use Rattle.nv_machine.specs.World as machine
@@ -19,20 +9,12 @@ use Rattle.nv_world.specs.declared.event.Event.TheVariants as event
 use Rattle.nv_world.specs.declared.event.Reply.{Reply}
 use Rattle.nv_world.specs.declared.event.Reply.TheVariants as reply
 use Rattle.nv_world.specs.declared.hold.Hold.{Hold}
-use Rattle.nv_world.specs.declared.hold.Hold.TheVariants as hold
-use Rattle.nv_world.specs.declared.job.Job.{Job}
-use Rattle.nv_world.specs.declared.job.Job.TheVariants as job
-use Rattle.nv_world.specs.declared.next.Next.{Next}
-use Rattle.nv_world.specs.declared.next.Next.TheVariants as next
 use Rattle.nv_world.specs.declared.running.Running.{Running}
-use Rattle.nv_world.specs.declared.shared.Shared.{Shared}
 use Rattle.nv_world.specs.declared.world.Actor.{Actor}
 use Rattle.nv_world.specs.declared.world.World.{World}
 use Rattle.nv_world.specs.Rooms.{HasActorRooms}
-use Rattle.nv_world.specs.Steps.{CanStep}
-use Rattle.nv_world.specs.Frames.{LeavesRest}
 use Rattle.nv_world.specs.Shown.{Told, held_by, shared_of, shown_by, slots_in}
-use Rattle.nv_world.specs.Told.{IsHoldOf, IsOnItsWay, IsToldOf}
+use Rattle.nv_world.specs.Told.{IsHoldOf, IsToldOf}
 
 -- ---- actors
 

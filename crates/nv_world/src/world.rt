@@ -24,13 +24,18 @@ impl Drop for World {
         let World {
             alloc: _,
             shared,
-            mut actors,
+            actors,
         } = self;
         shared.dismantle();
-        while let Some(actor) = actors.pop() {
-            let Actor { hold, running: _ } = actor;
-            hold.dismantle();
-        }
-        actors.destroy_empty();
+        dismantle(actors);
     }
+}
+
+/// Takes all actors apart with what they hold.
+pub(crate) fn dismantle(mut actors: Vec<Actor>) {
+    while let Some(actor) = actors.pop() {
+        let Actor { hold, running: _ } = actor;
+        hold.dismantle();
+    }
+    actors.destroy_empty();
 }
