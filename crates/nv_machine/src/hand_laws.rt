@@ -1,7 +1,7 @@
 //! Laws of what is in a hand, and of what a call holds at its check and at a visit, that the code of the steps relies on.
 //! Each is the contract of a function that does nothing.
 
-ghost use Rattle.std.specs.Prelude.{◌≡◌, ◌+◌, ◌<◌, ◌≤◌, ℕ, List, [], Some, false, length, true};
+ghost use Rattle.std.specs.Prelude.{◌≡◌, ◌+◌, ◌<◌, ◌≤◌, ℕ, List, [], None, Some, false, length, true};
 ghost use Rattle.std.specs.List.{AllByRecursion};
 ghost use Rattle.nv_alloc.specs.Block.{BlockValue, numbers_of};
 ghost use Rattle.nv_alloc.specs.Numbers.{has, times};
@@ -17,7 +17,7 @@ ghost use Rattle.nv_machine.specs.Kinds.{blocks_in};
 ghost use Rattle.nv_machine.specs.Locks.{commits_at, held_at};
 ghost use Rattle.nv_machine.specs.Reads.{bytes_among};
 ghost use Rattle.nv_machine.specs.Sequence.{directories};
-ghost use Rattle.nv_machine.specs.Step.{after};
+ghost use Rattle.nv_machine.specs.Step.{after, ending_at};
 ghost use Rattle.nv_machine.specs.World.{Check, Event, Look, Running, actor_at, cell_at, list_at};
 
 /// All blocks in hands are of the device, and none of them is in a free list, or twice in the hand.
@@ -46,6 +46,7 @@ pub fn cells_have_their_own_bytes()
 
 /// Before its check a call has nothing in its hand but the number of a new inode, whose slot is empty and locked. It holds the
 /// slots of all its handles, where these are slots, and outside of a commit none of those that it holds has entries past its tail.
+/// A call whose handles are all out of range has no slot: its check refuses it.
 pub fn checks_find_their_slots()
     ensures none { (g : GeometryNumbers) (events : List Event) (actor : ℕ) (r : Running) → IsWithinLimits g
         → (actor_at (after (formatted g) events) actor).running ≡ Some r → r.next ≡ Check
@@ -59,6 +60,10 @@ pub fn checks_find_their_slots()
         → (actor_at (after (formatted g) events) actor).running ≡ Some r → r.next ≡ Check
         → AllByRecursion (λ (h : Handle). h.ino < length (after (formatted g) events).shared.cells
         → has r.slots h.ino ≡ true) (handles r.looked r.call) }
+    ensures some { (g : GeometryNumbers) (events : List Event) (actor block : ℕ) (r : Running) → IsWithinLimits g
+        → (actor_at (after (formatted g) events) actor).running ≡ Some r → r.next ≡ Check
+        → ending_at block (after (formatted g) events).shared
+        (actor_at (after (formatted g) events) actor).hand r ≡ None → 0 < length r.slots }
     ensures tails { (g : GeometryNumbers) (events : List Event) (actor ino : ℕ) (r : Running)
         → IsWithinLimits g → (actor_at (after (formatted g) events) actor).running ≡ Some r
         → commits_at r.next ≡ false → has (held_at r.next r.slots) ino ≡ true
