@@ -5,6 +5,7 @@ use Rattle.std.proofs.lemmas.Bool.{false≢true}
 use Rattle.std.proofs.lemmas.Option.{none-some}
 use Rattle.nv_alloc.specs.Numbers.{has}
 use Rattle.nv_base.specs.declared.geometry.GeometryNumbers.{GeometryNumbers}
+use Rattle.nv_base.specs.declared.numbers.Handle.{Handle}
 use Rattle.nv_calls.specs.AllCalls.{early, effect, looked, refusal}
 use Rattle.nv_calls.specs.Locked.{handles}
 use Rattle.nv_calls.specs.declared.call.Call.{Call}

@@ -48,21 +48,22 @@ pub fn cells_have_their_own_bytes()
 /// slots of all its handles, where these are slots, and outside of a commit none of those that it holds has entries past its tail.
 /// A call whose handles are all out of range has no slot: its check refuses it.
 pub fn checks_find_their_slots()
-    ensures none { (g : GeometryNumbers) (events : List Event) (actor : ℕ) (r : Running) → IsWithinLimits g
-        → (actor_at (after (formatted g) events) actor).running ≡ Some r → r.next ≡ Check
-        → HasTakenNone (actor_at (after (formatted g) events) actor).hand r }
+    ensures none { (g : GeometryNumbers) (events : List Event) (actor : ℕ) (r : Running)
+        → IsWithinLimits g → (actor_at (after (formatted g) events) actor).running ≡ Some r
+        → r.next ≡ Check → HasTakenNone (actor_at (after (formatted g) events) actor).hand r }
     ensures number { (g : GeometryNumbers) (events : List Event) (actor ino : ℕ) (r : Running)
         → IsWithinLimits g → (actor_at (after (formatted g) events) actor).running ≡ Some r
         → r.next ≡ Check → (actor_at (after (formatted g) events) actor).hand.ino ≡ Some ino
         → (ino < length (after (formatted g) events).shared.cells)
-        × (log_of (cell_at (after (formatted g) events).shared ino) ≡ []) × (has r.slots ino ≡ true) }
-    ensures handles { (g : GeometryNumbers) (events : List Event) (actor : ℕ) (r : Running) → IsWithinLimits g
-        → (actor_at (after (formatted g) events) actor).running ≡ Some r → r.next ≡ Check
-        → AllByRecursion (λ (h : Handle). h.ino < length (after (formatted g) events).shared.cells
+        × (log_of (cell_at (after (formatted g) events).shared ino) ≡ [])
+        × (has r.slots ino ≡ true) }
+    ensures handles { (g : GeometryNumbers) (events : List Event) (actor : ℕ) (r : Running)
+        → IsWithinLimits g → (actor_at (after (formatted g) events) actor).running ≡ Some r
+        → r.next ≡ Check → AllByRecursion (λ (h : Handle). h.ino < length (after (formatted g) events).shared.cells
         → has r.slots h.ino ≡ true) (handles r.looked r.call) }
-    ensures some { (g : GeometryNumbers) (events : List Event) (actor block : ℕ) (r : Running) → IsWithinLimits g
-        → (actor_at (after (formatted g) events) actor).running ≡ Some r → r.next ≡ Check
-        → ending_at block (after (formatted g) events).shared
+    ensures some { (g : GeometryNumbers) (events : List Event) (actor block : ℕ) (r : Running)
+        → IsWithinLimits g → (actor_at (after (formatted g) events) actor).running ≡ Some r
+        → r.next ≡ Check → ending_at block (after (formatted g) events).shared
         (actor_at (after (formatted g) events) actor).hand r ≡ None → 0 < length r.slots }
     ensures tails { (g : GeometryNumbers) (events : List Event) (actor ino : ℕ) (r : Running)
         → IsWithinLimits g → (actor_at (after (formatted g) events) actor).running ≡ Some r
