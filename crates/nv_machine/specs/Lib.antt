@@ -30,4 +30,3 @@ pub mod Exact
 pub mod Wanted
 pub mod Memory
 pub mod Pages
-pub mod Whole

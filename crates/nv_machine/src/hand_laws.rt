@@ -9,6 +9,7 @@ ghost use Rattle.nv_base.specs.Limits.{IsWithinLimits};
 ghost use Rattle.nv_base.specs.declared.geometry.GeometryNumbers.{GeometryNumbers};
 ghost use Rattle.nv_base.specs.declared.numbers.Handle.{Handle};
 ghost use Rattle.nv_calls.specs.Locked.{handles};
+ghost use Rattle.nv_calls.specs.Nodes.{HasBytes};
 ghost use Rattle.nv_cell.specs.Cell.{IsCell, log_of};
 ghost use Rattle.nv_cell.specs.Pages.{AreBytesOf};
 ghost use Rattle.nv_machine.specs.Format.{formatted};
@@ -59,8 +60,9 @@ pub fn checks_find_their_slots()
         × (has r.slots ino ≡ true) }
     ensures handles { (g : GeometryNumbers) (events : List Event) (actor : ℕ) (r : Running)
         → IsWithinLimits g → (actor_at (after (formatted g) events) actor).running ≡ Some r
-        → r.next ≡ Check → AllByRecursion (λ (h : Handle). h.ino < length (after (formatted g) events).shared.cells
-        → has r.slots h.ino ≡ true) (handles r.looked r.call) }
+        → r.next ≡ Check → AllByRecursion (λ (h : Handle).
+        h.ino < length (after (formatted g) events).shared.cells → has r.slots h.ino ≡ true)
+        (handles r.looked r.call) }
     ensures some { (g : GeometryNumbers) (events : List Event) (actor block : ℕ) (r : Running)
         → IsWithinLimits g → (actor_at (after (formatted g) events) actor).running ≡ Some r
         → r.next ≡ Check → ending_at block (after (formatted g) events).shared
@@ -80,12 +82,13 @@ pub fn looks_are_in_directories()
 {}
 
 /// Each slot's cell is a cell, with blocks of the device's size: its chain has its pages, its log is one, each published part has
-/// its mark, and each page that is not out its block.
+/// its mark, and each page that is not out its block. The bytes of its blocks are those that a search for their numbers finds.
 pub fn cells_are_cells()
     ensures is { (g : GeometryNumbers) (events : List Event) (ino : ℕ) → IsWithinLimits g
         → ino < length (after (formatted g) events).shared.cells
         → IsCell (cell_at (after (formatted g) events).shared ino) }
-    ensures size { (g : GeometryNumbers) (events : List Event) (ino : ℕ) → IsWithinLimits g
+    ensures own { (g : GeometryNumbers) (events : List Event) (ino : ℕ) → IsWithinLimits g
         → ino < length (after (formatted g) events).shared.cells
-        → (cell_at (after (formatted g) events).shared ino).block ≡ g.block }
+        → HasBytes (bytes_among (cell_at (after (formatted g) events).shared ino).blocks) g.block
+        (cell_at (after (formatted g) events).shared ino) }
 {}
