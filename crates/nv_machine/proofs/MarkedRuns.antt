@@ -6,6 +6,7 @@ use Rattle.std.proofs.lemmas.Bool.{le-ltb}
 use Rattle.nv_alloc.specs.Block.{AreSized, BlockValue, number_of}
 use Rattle.nv_base.specs.Limits.{IsWithinLimits}
 use Rattle.nv_base.specs.declared.geometry.GeometryNumbers.{GeometryNumbers}
+use Rattle.nv_calls.specs.Nodes.{HasBytes}
 use Rattle.nv_calls.specs.Retiring.{erased, retired}
 use Rattle.nv_calls.specs.Slots.{items_for, place_in}
 use Rattle.nv_calls.specs.declared.call.Call.{Call}
@@ -19,10 +20,10 @@ use Rattle.nv_machine.specs.Hands.{AreNumbers, HandAt, HandOf}
 use Rattle.nv_machine.specs.Kept.{AreCovered, AreKilledIn, IsKept, Knows, KnowsOf}
 use Rattle.nv_machine.specs.Kinds.{blocks_in, entries_for, first_killed, retired_cell, with_entries, with_pages}
 use Rattle.nv_machine.specs.Locks.{AreLocks}
-use Rattle.nv_machine.specs.Reads.{pages_needed, slot_at, written_slots}
+use Rattle.nv_machine.specs.Reads.{bytes_among, pages_needed, slot_at, written_slots}
 use Rattle.nv_machine.specs.Step.{after, go_step, start_step, step, turn, turned}
-use Rattle.nv_machine.specs.Whole.{HasItsParts, HaveTheirParts}
 use Rattle.nv_machine.specs.World.{Append, Back, Check, Close, Ends, Enter, Event, Give, Go, HandState, Leave, Lock, Look, Moves, Next, Number, Open, Publish, Ready, Retire, Running, Shared, Start, TakeBlocks, TakePages, Turn, Unlock, Visit, Waits, World, actor_at, cell_at, no_cell, with_cell}
+use Rattle.nv_machine.proofs.Checking.{own_bytes}
 use Rattle.nv_machine.proofs.FromScratch.{all_numbers}
 use Rattle.nv_machine.proofs.HandedCommits.{slot_first}
 use Rattle.nv_machine.proofs.HeldLaw.{all_in_use}
@@ -31,13 +32,16 @@ use Rattle.nv_machine.proofs.Kept.{AfterTurn, back_deed, deed, number_deed, turn
 use Rattle.nv_machine.proofs.Locked.{Before}
 use Rattle.nv_machine.proofs.Locks.{before}
 use Rattle.nv_machine.proofs.LogsKept.{cell_set}
-use Rattle.nv_machine.proofs.Marked.{empty_parts, entries_parts, erased_parts, paged_parts, published_parts, retired_parts}
+use Rattle.nv_machine.proofs.Marked.{HasItsParts, empty_parts, entries_parts, erased_parts, paged_parts, published_parts, retired_parts}
 use Rattle.nv_machine.proofs.Numbered.{lent_inside}
 use Rattle.nv_machine.proofs.PageEvents.{logs_paged}
 use Rattle.nv_machine.proofs.Reached.{reached}
 use Rattle.nv_machine.proofs.Sound.{entries_within, sized_left}
 
 -- ---- one cell is another
+
+abbrev pub HaveTheirParts : ℕ → Shared → Type 0
+HaveTheirParts block s = (ino : ℕ) → ino < length s.cells → HasItsParts block (cell_at s ino)
 
 set_parts : (block slot : ℕ) (cell : CellState) (s : Shared) → slot < length s.cells → HasItsParts block cell → HaveTheirParts block s
     → HaveTheirParts block (with_cell slot cell s)
@@ -257,3 +261,13 @@ are_cells g events ino within lt =
       marks = h.marks;
       blocks = h.blocks;
     }
+
+-- with the bytes that a search among its blocks finds
+pub have_bytes : (g : GeometryNumbers) (events : List Event) (ino : ℕ) → IsWithinLimits g
+    → ino < length (after (formatted g) events).shared.cells
+    → HasBytes (bytes_among (cell_at (after (formatted g) events).shared ino).blocks) g.block (cell_at (after (formatted g) events).shared ino)
+have_bytes g events ino within lt = record {
+  is = are_cells g events ino within lt;
+  size = (all_parts g events within ino lt).size;
+  are = own_bytes (after (formatted g) events) (reached g events within) ino;
+}

@@ -1,4 +1,4 @@
-use Rattle.nv_machine.proofs.Checking.{held_tails, own_handles, own_number, taken_none}
+use Rattle.nv_machine.proofs.Checking.{held_tails, own_handles, own_number, some_slots, taken_none}
 use Rattle.nv_machine.proofs.FitsEvents.{all_known}
 use Rattle.nv_machine.proofs.FromScratch.{all_numbers}
 use Rattle.nv_machine.proofs.PoolLaw.{all_pooled}
@@ -22,3 +22,7 @@ returns-clause-handles c = λ g events actor r within is next.
 pub returns-clause-tails : goal.returns-clause-tails
 returns-clause-tails c = λ g events actor ino r within is out held.
     held_tails (after (formatted g) events) actor r (reached g events within) is out ino held
+
+pub returns-clause-some : goal.returns-clause-some
+returns-clause-some c = λ g events actor block r within is next e.
+    some_slots g (after (formatted g) events) actor r is next (all_pooled g events within) block e
