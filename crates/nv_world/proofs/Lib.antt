@@ -1,7 +1,9 @@
+pub mod Actors
 pub mod Among
 pub mod Appends
 pub mod Checks
 pub mod Closes
+pub mod CommitTurns
 pub mod Ends
 pub mod Enters
 pub mod FewPages
@@ -20,6 +22,8 @@ pub mod Locked
 pub mod Looks
 pub mod Nodes
 pub mod Opens
+pub mod Others
+pub mod PassTurns
 pub mod Phases
 pub mod Plans
 pub mod Publishes
@@ -34,5 +38,7 @@ pub mod Starts
 pub mod Stays
 pub mod Takes
 pub mod Takings
+pub mod Turns
 pub mod VisitTurns
 pub mod Visits
+pub mod WorldSteps

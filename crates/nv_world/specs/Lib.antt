@@ -11,5 +11,6 @@ pub mod Shown
 pub mod Steps
 pub mod Takings
 pub mod Told
+pub mod Turns
 pub mod Visits
 pub mod Worlds

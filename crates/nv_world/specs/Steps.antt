@@ -14,7 +14,9 @@ use Rattle.nv_calls.specs.Cells.{value_at}
 use Rattle.nv_calls.specs.Commit.{stamp_of}
 use Rattle.nv_calls.specs.Locked.{handles}
 use Rattle.nv_calls.specs.Prepared.{HasNumberFor, makes}
+use Rattle.nv_calls.specs.Progress.{step_of}
 use Rattle.nv_calls.specs.Ready.{ReadyValue}
+use Rattle.nv_calls.specs.declared.progress.CommitStep.TheVariants.{Leave}
 use Rattle.nv_calls.specs.SlotCells.{lent_cells}
 use Rattle.nv_calls.specs.Updates.{blank_call}
 use Rattle.nv_machine.specs.World.{empty_hand, list_at}
@@ -86,3 +88,9 @@ pub record CanStep (shared : Shared) (hold : Hold) (running : Running) (actor : 
   pub slots : AreSlots shared (slots_in running.slots)
   pub wide : length shared.owners.items ≡ length shared.cells.items
   pub own : GivenBy shared hold running actor
+
+-- the next step passes the hand on: the call is made ready, it enters, or its commit leaves
+abbrev pub PassesOn : Hold → Running → Type 0
+PassesOn (hold.Hand hand) running = running.next ≡ next.Ready
+PassesOn (hold.Ready ready) running = Unit {0}
+PassesOn (hold.Commit commit) running = step_of commit ≡ Leave

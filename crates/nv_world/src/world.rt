@@ -1,9 +1,12 @@
 //! A world, and how it is let go.
 
+ghost use Rattle.nv_world.specs.Worlds.{IsWorld, WorldState};
+
 use crate::hold::Hold;
 use crate::running::Running;
 use crate::shared::Shared;
 use std::alloc::Global;
+use std::marker::Model;
 
 /// What is an actor's own: what it holds, and the call that it runs.
 pub(crate) struct Actor {
@@ -16,6 +19,14 @@ pub struct World {
     pub(crate) alloc: Global,
     pub(crate) shared: Shared,
     pub(crate) actors: Vec<Actor>,
+}
+
+impl Model for World {
+    ghost Value = { WorldState };
+
+    ghost view = { λ w. record { shared = w.shared; actors = w.actors.items } };
+
+    ghost invariant = { λ w. IsWorld (record { shared = w.shared; actors = w.actors.items }) };
 }
 
 impl Drop for World {
