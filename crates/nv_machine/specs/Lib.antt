@@ -30,5 +30,4 @@ pub mod Step
 pub mod Takings
 pub mod Versions
 pub mod Wanted
-pub mod Whole
 pub mod World
