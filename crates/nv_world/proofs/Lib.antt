@@ -41,4 +41,5 @@ pub mod Takings
 pub mod Turns
 pub mod VisitTurns
 pub mod Visits
+pub mod WorldKept
 pub mod WorldSteps
