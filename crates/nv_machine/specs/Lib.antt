@@ -30,3 +30,4 @@ pub mod Exact
 pub mod Wanted
 pub mod Memory
 pub mod Pages
+pub mod Whole
