@@ -21,6 +21,7 @@ pub mod Opens
 pub mod Plans
 pub mod Publishes
 pub mod Retires
+pub mod RoomsAfter
 pub mod Runs
 pub mod SameCells
 pub mod Sequence
