@@ -30,5 +30,6 @@ pub mod SlotLists
 pub mod Starts
 pub mod Stays
 pub mod Takes
+pub mod Takings
 pub mod VisitTurns
 pub mod Visits
