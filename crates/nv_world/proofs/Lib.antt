@@ -18,6 +18,7 @@ pub mod Locked
 pub mod Looks
 pub mod Nodes
 pub mod Opens
+pub mod PassesSome
 pub mod Plans
 pub mod Publishes
 pub mod Retires
