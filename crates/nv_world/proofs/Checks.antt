@@ -4,6 +4,7 @@ use Rattle.std.specs.Prelude.{Ok, Err, is_some, option_map, unwrap_or}
 use Rattle.std.specs.Option.{ForSome}
 use Rattle.std.proofs.Math.Nat.{mul-le-mul_right}
 use Rattle.std.proofs.lemmas.Bool.{eqb-true, eq-eqb, ltb-false}
+use Rattle.std.proofs.lemmas.List.{length-map}
 use Rattle.std.proofs.lemmas.Nat.{div-add-mod'}
 use Rattle.nv_base.specs.declared.fault.Fault.{Fault}
 use Rattle.nv_base.specs.declared.fault.Fault.TheVariants as fault
@@ -43,6 +44,7 @@ use Rattle.nv_machine.specs.World.{HandState, Overtaken}
 use Rattle.nv_machine.specs.World as machine
 use Rattle.nv_world.proofs.Nodes.{cell_is, lent_call_same, lent_has, lent_of, nodes_agree, page_same}
 use Rattle.nv_world.proofs.Plans.{looks_same}
+use Rattle.nv_world.proofs.PassesSome.{some_cell}
 use Rattle.nv_world.specs.Nodes.{CanRead, check_ends, ends_over, wanted_over}
 use Rattle.nv_world.specs.Parts.{AreHome}
 use Rattle.nv_world.specs.Rooms.{CanEnd, CanWantPages, FitsCall, HasItsBlocks, HasMade, HasRooms, IsChecked, IsHandOf, IsNoVisit, LooksAsTold, TakesBlocks, WantsBlocks, blocks_to_take}
@@ -522,7 +524,8 @@ wants_by_job shared hand new running wanted cells can change number chain ends o
             record {
               read = read;
               lent = cells;
-              some = can.some;
+              some = (let many = length-map {B = ℕ × CellValue} slots (λ (ino : ℕ). (ino, cell_in shared.cells.items ino)) in
+                  omega (arith, many, some_cell block lent u passed.passed));
               still = can.still.still;
               passed = passed.passed;
               something = passed.something;

@@ -24,10 +24,12 @@ pub mod Nodes
 pub mod Opens
 pub mod Others
 pub mod PassTurns
+pub mod PassesSome
 pub mod Phases
 pub mod Plans
 pub mod Publishes
 pub mod Retires
+pub mod RoomsAfter
 pub mod Runs
 pub mod SameCells
 pub mod Sequence

@@ -48,3 +48,16 @@ returns-clause-turn c told is =
     (c.want_blocks.ensures.turn told (subst (λ (x : Running). IsToldOf x told) (sym c.note_made.ensures) is))
     ∙ ap (λ (x : Shared). turn_of c.want_blocks.result (shared_of x) (hand_of c.make_room.new.hand) (shown told c.want_blocks.new.running))
     (sym c.want_blocks.ensures.same))
+
+pub end-requires-clause-call : goal.end-requires-clause-call
+end-requires-clause-call c =
+    can_end c.args.shared.now c.args.hand.now c.args.running.now c.note_made.new.running c.is_some.result c.ending_of.result
+    c.note_made.ensures (c.is_some.ensures ∙ ap is_some c.ino.ensures) c.requires.change c.requires.can c.ending_of.ensures.ends
+    c.in-Some.ending c.requires.call c.in-Some.is
+
+pub make_room-requires : goal.make_room-requires
+make_room-requires c =
+    let least = few c.args.shared.now c.args.hand.now c.args.running.now c.note_made.new.running c.is_some.result c.ending_of.result
+    c.note_made.ensures (c.is_some.ensures ∙ ap is_some c.ino.ensures) c.requires.change c.requires.can c.ending_of.ensures.ends
+    c.ending_of.new.shared c.wanted_by-wanted.result c.ending_of.ensures.same c.requires.limits.some_bytes c.in_default.is
+    c.wanted_by-wanted.ensures.wanted in omega (arith, least)
