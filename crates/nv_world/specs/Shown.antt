@@ -1,7 +1,6 @@
 -- What the parts of a world are in the machine of steps, whatever room they have.
-use Rattle.std.specs.Prelude.{ℕ, List, [], drop, length, map, take, Option, Result}
+use Rattle.std.specs.Prelude.{ℕ, List, [], drop, map, take}
 use Rattle.nv_alloc.specs.declared.hand.Hand.{Hand}
-use Rattle.nv_base.specs.declared.fault.Fault.{Fault}
 use Rattle.nv_base.specs.declared.numbers.Handle.{Handle}
 use Rattle.nv_calls.specs.declared.answer.Answer.{Answer}
 use Rattle.nv_calls.specs.declared.answer.Answer.TheVariants as answers

@@ -4,7 +4,6 @@ use Rattle.nv_base.specs.declared.numbers.Handle.{Handle}
 use Rattle.nv_book.specs.Book.{BookState}
 use Rattle.nv_calls.specs.AllCalls.{answer}
 use Rattle.nv_calls.specs.Commit.{CommitValue, to_append}
-use Rattle.nv_calls.specs.Plain.{PlainNode}
 use Rattle.nv_calls.specs.Progress.{is_open}
 use Rattle.nv_calls.specs.Ready.{CellPlanValue, ReadyValue, plan_at}
 use Rattle.nv_calls.specs.Slots.{items_for, place_in}
