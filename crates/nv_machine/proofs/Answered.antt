@@ -46,7 +46,7 @@ end_end e [] s h r final is = unlocked_end e s h (record r { ending = r.ending }
 end_end e (slot ∷ slots) s h r final is = (record { ends = is; last = tt }, refl)
 
 -- what comes behind each step of a commit is such a step
-retiring_last : (place : ℕ) (written : List ℕ) → IsLast (retiring place written)
+pub retiring_last : (place : ℕ) (written : List ℕ) → IsLast (retiring place written)
 retiring_last place written = go (nat_lt place (length written)) where
   go : (b : Bool) → IsLast (if b then Retire place else Leave)
   go true = tt
@@ -58,7 +58,7 @@ closing_last written = go (nat_lt 1 (length written)) where
   go true = tt
   go false = retiring_last 0 written
 
-publishing_last : (place : ℕ) (written : List ℕ) → IsLast (publishing place written)
+pub publishing_last : (place : ℕ) (written : List ℕ) → IsLast (publishing place written)
 publishing_last place written = go (nat_lt place (length written)) where
   go : (b : Bool) → IsLast (if b then Publish place else closing written)
   go true = tt

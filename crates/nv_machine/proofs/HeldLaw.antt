@@ -65,7 +65,7 @@ used_are w h =
 
 -- ---- the law
 
-all_in_use : (g : GeometryNumbers) (events : List Event) → IsWithinLimits g → AreInUse (after (formatted g) events)
+pub all_in_use : (g : GeometryNumbers) (events : List Event) → IsWithinLimits g → AreInUse (after (formatted g) events)
 all_in_use g events within =
     events_in_use g events (formatted g) (new_locks g within) (new_order g) (λ before. all_numbers g before within) (new_in_use g)
 

@@ -49,7 +49,7 @@ pub record HasInUse (killed : List KilledPart) (cell : CellState) : Type 0 where
 
 -- ---- past the end
 
-past_log : (block : ℕ) (log : List Entry) (n : ℕ) → part_total log ≤ n → is_covered block log n ≡ false
+pub past_log : (block : ℕ) (log : List Entry) (n : ℕ) → part_total log ≤ n → is_covered block log n ≡ false
 past_log block [] n le = refl
 past_log block (e ∷ log) n le =
     let past : nat_lt n (part_count e) ≡ false = le-ltb n (part_count e) (omega (arith, le)) in

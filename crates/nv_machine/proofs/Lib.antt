@@ -100,3 +100,12 @@ pub mod PageRuns
 pub mod PageEvents
 pub mod PageOrder
 pub mod WrongTurns
+pub mod HandNumbers
+pub mod Checking
+pub mod Looking
+pub mod Marked
+pub mod MarkedRuns
+pub mod Generations
+pub mod VersionSteps
+pub mod Versions
+pub mod Moves

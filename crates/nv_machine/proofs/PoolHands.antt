@@ -65,13 +65,13 @@ begun_held Back r n is = absurd (false≢true is)
 begun_held Visit r n is = absurd (false≢true is)
 
 -- its inode is published, and the slot is locked
-record HasBegun (w : World) (actor n : ℕ) : Type 0 where
-  inode : has_inode (cell_at w.shared n) ≡ true
-  owner : owner_at w.shared n ≡ Some actor
+pub record HasBegun (w : World) (actor n : ℕ) : Type 0 where
+  pub inode : has_inode (cell_at w.shared n) ≡ true
+  pub owner : owner_at w.shared n ≡ Some actor
 
 module _ (g : GeometryNumbers) (w : World) (locks : AreLocks w) (all : AreNumbers g w) (grown : AreGrown w) (pooled : ArePooled g w) where
   -- or the hand counts
-  counts : (actor n : ℕ) → (actor_at w actor).hand.ino ≡ Some n → (times n (loose_by (actor_at w actor)) ≡ 1) ⊎ HasBegun w actor n
+  pub counts : (actor n : ℕ) → (actor_at w actor).hand.ino ≡ Some n → (times n (loose_by (actor_at w actor)) ≡ 1) ⊎ HasBegun w actor n
   counts actor n is = go (actor_at w actor).running refl where
     by_call : (running : Option Running) → (actor_at w actor).running ≡ running
         → times n (loose_by (actor_at w actor)) ≡ times n (loose_of running (Some n))
@@ -91,7 +91,7 @@ module _ (g : GeometryNumbers) (w : World) (locks : AreLocks w) (all : AreNumber
           })
       begun false q = inl (by_call (Some r) e ∙ ap (λ (b : Bool). times n (cond b [] (n ∷ []))) q ∙ times-yes n n [] (self n))
 
-  once : (n : ℕ) → tally n w.shared (flat_map loose_by w.actors) ≤ 1
+  pub once : (n : ℕ) → tally n w.shared (flat_map loose_by w.actors) ≤ 1
   once n = go (nat_lt n g.inodes) (pooled.once n) where
     go : (b : Bool) → tally n w.shared (flat_map loose_by w.actors) ≡ (if b then 1 else 0)
         → tally n w.shared (flat_map loose_by w.actors) ≤ 1

@@ -127,7 +127,7 @@ few_of g w actor n once = go (nat_lt n g.inodes) (once n) where
   go true e = omega (arith, e, own_loose w actor n)
   go false e = omega (arith, e, own_loose w actor n)
 
-past_of : (g : GeometryNumbers) (w : World) (actor n : ℕ) → StandOnce g.inodes w → g.inodes ≤ n
+pub past_of : (g : GeometryNumbers) (w : World) (actor n : ℕ) → StandOnce g.inodes w → g.inodes ≤ n
     → tally n w.shared (loose_by (actor_at w actor)) ≡ 0
 past_of g w actor n once past =
     let none : nat_lt n g.inodes ≡ false = le-ltb n g.inodes past in

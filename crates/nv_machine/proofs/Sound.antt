@@ -58,7 +58,7 @@ pub record IsSound (g : GeometryNumbers) (s : Shared) (h : HandState) : Type 0 w
   pub cells : AreCells g s
   pub sized : AreSized g.block (blocks_in h)
 
-sized_left : (size : ℕ) (xs ys : List BlockValue) → AreSized size (xs ++ ys) → AreSized size xs
+pub sized_left : (size : ℕ) (xs ys : List BlockValue) → AreSized size (xs ++ ys) → AreSized size xs
 sized_left size [] ys h = tt
 sized_left size (x ∷ xs) ys h = (h.0, sized_left size xs ys h.1)
 
@@ -144,7 +144,7 @@ left_sized : (size : ℕ) (entries : List Entry) (bs : List BlockValue) → AreS
 left_sized size [] bs h = h
 left_sized size (e ∷ entries) bs h = left_sized size entries _ (sized_later size _ bs h)
 
-entries_within : (commit epoch place : ℕ) (items : List Item) → AllByRecursion IsWithinFile items
+pub entries_within : (commit epoch place : ℕ) (items : List Item) → AllByRecursion IsWithinFile items
     → AllByRecursion (λ (e : Entry). IsWithinFile e.item) (entries_of commit epoch place items)
 entries_within commit epoch place [] h = tt
 entries_within commit epoch place (item ∷ items) h = (h.0, entries_within commit epoch (place + 1) items h.1)

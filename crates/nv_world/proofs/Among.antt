@@ -1,10 +1,10 @@
 -- One of the cells that are lent changes: so does that of its slot among all, and no other.
-use Rattle.std.proofs.Common.{◌≡◌, ◌≢◌, ℕ, zero, suc, ◌+◌, ◌<◌, ◌==◌, ◌∙◌, Bool, true, false, true≢false, not, nat_lt, List, [], ◌∷◌, length, map, filter, arith, refl, ap, sym, subst}
+use Rattle.std.proofs.Common.{◌≡◌, ◌≢◌, ℕ, zero, suc, ◌+◌, ◌<◌, ◌==◌, ◌∙◌, Bool, true, false, true≢false, not, nat_lt, List, [], ◌∷◌, length, map, filter, arith, refl, ap, sym}
 use Rattle.std.specs.Prelude.{slice_index_or, slice_set}
 use Rattle.std.specs.List.{AllPairs, range_with_len}
 use Rattle.std.proofs.lemmas.Bool.{eqb-true, eqb-false, eq-eqb, ltb-true, ltb-false}
 use Rattle.std.proofs.lemmas.Grind.{get_or-set_at, get_or_default_zero}
-use Rattle.std.proofs.lemmas.List.{ext_get_or, get_or-map, get_or-set_other, length-set}
+use Rattle.std.proofs.lemmas.List.{ext_get_or, get_or-map, get_or-set_other, get_or_past, length-map, length-set}
 use Rattle.std.proofs.lemmas.List.Folds.{Any-from_list_any, list_any_at}
 use Rattle.std.proofs.lemmas.List.FromFn.{get_or-range_with_len, length-range_with_len}
 use Rattle.nv_alloc.specs.Numbers.{has, unused}
@@ -14,7 +14,10 @@ use Rattle.nv_calls.specs.SlotCells.{cell_in, lent_cells, other_cells}
 use Rattle.nv_machine.specs.Reads.{slot_at}
 use Rattle.nv_world.specs.Parts.{HaveSlots, IsOnlyAt}
 
-lent_at : (slots : List ℕ) (all : List CellValue) (k : ℕ) → k < length slots
+pub lent_count : (slots : List ℕ) (all : List CellValue) → length (lent_cells slots all) ≡ length slots
+lent_count slots all = length-map {B = ℕ × CellValue} slots (λ (ino : ℕ). (ino, cell_in all ino))
+
+pub lent_at : (slots : List ℕ) (all : List CellValue) (k : ℕ) → k < length slots
     → slice_index_or (lent_cells slots all) k no_cell ≡ (slice_index_or slots k 0, cell_in all (slice_index_or slots k 0))
 lent_at slots all k lt = get_or-map (λ (ino : ℕ). (ino, cell_in all ino)) slots k 0 no_cell lt
 
@@ -91,3 +94,48 @@ only_among slots old new k many lt rises there only rest =
                 ∙ map_told (cell_in new) (cell_in old) (λ n. not (has slots n)) (range_with_len 0 (length old)) all i
                 (omega (arith, few, length-range_with_len 0 (length old))) free
                 ∙ ap (cell_in old) at
+
+-- so the cells of other slots stay
+pub only_others : (slots : List ℕ) (old new : List CellValue) (k : ℕ) → k < length slots → IsOnlyAt (slot_at slots k) old new
+    → (ino : ℕ) → has slots ino ≡ false → cell_in new ino ≡ cell_in old ino
+only_others slots old new k lt only ino free =
+    let away : ino ≢ slot_at slots k = λ same.
+    true≢false (sym (list_any_at (λ m. m == ino) slots k 0 lt (eq-eqb (slice_index_or slots k 0) ino (sym same))) ∙ free) in
+    ap (λ (xs : List CellValue). cell_in xs ino) only
+    ∙ get_or-set_other old (slot_at slots k) ino (cell_in new (slot_at slots k)) (no_cell.1) away
+
+-- the other cells stay, one by one
+pub others_at : (slots : List ℕ) (old new : List CellValue) → length new ≡ length old → other_cells slots new ≡ other_cells slots old
+    → (ino : ℕ) → has slots ino ≡ false → cell_in new ino ≡ cell_in old ino
+others_at slots old new many rest ino free = go (nat_lt ino (length old)) refl where
+  go : (b : Bool) → nat_lt ino (length old) ≡ b → cell_in new ino ≡ cell_in old ino
+  go false q =
+      let past = ltb-false ino (length old) q in
+      get_or_past new ino (no_cell.1) (omega (arith, past, many)) ∙ sym (get_or_past old ino (no_cell.1) (omega (arith, past)))
+  go true q =
+      let small = ltb-true ino (length old) q in
+      let all : map (cell_in new) (unused (has slots) 0 (length old)) ≡ other_cells slots old =
+      ap (λ (n : ℕ). map (cell_in new) (unused (has slots) 0 n)) (sym many) ∙ rest in
+      let at0 : slice_index_or (range_with_len 0 (length old)) ino 0 ≡ 0 + ino = get_or-range_with_len 0 (length old) ino 0 small in
+      let at : slice_index_or (range_with_len 0 (length old)) ino 0 ≡ ino = omega (arith, at0) in
+      let away : not (has slots (slice_index_or (range_with_len 0 (length old)) ino 0)) ≡ true =
+      ap (λ (n : ℕ). not (has slots n)) at ∙ ap not free in
+      ap (cell_in new) (sym at)
+      ∙ map_told (cell_in new) (cell_in old) (λ n. not (has slots n)) (range_with_len 0 (length old)) all ino
+      (omega (arith, small, length-range_with_len 0 (length old))) away
+      ∙ ap (cell_in old) at
+
+-- where no lent cell changes and no other, none does
+pub all_still : (slots : List ℕ) (old new : List CellValue) → length new ≡ length old → lent_cells slots new ≡ lent_cells slots old
+    → other_cells slots new ≡ other_cells slots old → new ≡ old
+all_still slots old new many lent rest = ext_get_or (no_cell.1) new old many (λ i small. each i (has slots i) refl) where
+  each : (i : ℕ) (b : Bool) → has slots i ≡ b → cell_in new i ≡ cell_in old i
+  each i false q = others_at slots old new many rest i q
+  each i true q = found (Any-from_list_any (λ m. m == i) slots q) where
+    found : ((j : ℕ) × (x : ℕ) × (j < length slots) × (slice_index_or slots j x ≡ x) × ((x == i) ≡ true)) → cell_in new i ≡ cell_in old i
+    found at =
+        let here : slice_index_or slots at.0 0 ≡ i = sym (get_or_default_zero slots at.0 at.1 at.2) ∙ at.3 ∙ eqb-true at.1 i at.4 in
+        ap (cell_in new) (sym here)
+        ∙ ap (λ (c : ℕ × CellValue). c.1) (sym (lent_at slots new at.0 at.2)
+        ∙ ap (λ (xs : List (ℕ × CellValue)). slice_index_or xs at.0 no_cell) lent ∙ lent_at slots old at.0 at.2)
+        ∙ ap (cell_in old) here

@@ -1,5 +1,5 @@
 -- The first CPU that is home of some blocks, by the lists and by the lowest number.
-use Rattle.std.proofs.Common.{rules, ◌≡◌, ℕ, zero, suc, ◌+◌, ◌-◌, ◌<◌, ◌≤◌, ◌∙◌, Bool, true, false, List, [], ◌∷◌, Option, Some, None, ap, arith, if◌then◌else◌, length, nat_lt, refl, subst, sym}
+use Rattle.std.proofs.Common.{rules, ◌≡◌, ℕ, zero, suc, ◌+◌, ◌-◌, ◌<◌, ◌≤◌, ◌∙◌, Bool, true, false, List, [], ◌∷◌, Some, None, ap, arith, if◌then◌else◌, length, nat_lt, refl, subst, sym}
 use Rattle.std.specs.Prelude.{◌||◌, ◌&&◌, ◌==◌, nat_le, slice_index_or}
 use Rattle.std.specs.List.{AllByRecursion, list_any}
 use Rattle.std.proofs.lemmas.Bool.{le-leb, ltb-false, ltb-true, lt-ltb, false≢true}
@@ -137,7 +137,7 @@ home_some g from c lists bs n are first below there home all =
     from_home g from c 0 lists bs n (omega (arith, below)) (are_homes g lists are) first (omega arith) (omega (arith, below, are.count)) there home all
 
 -- where there is no block there is no home
-no_home : (from cpu : ℕ) (lists : List FreeBlocks) → home_from from cpu lists [] ≡ None
+pub no_home : (from cpu : ℕ) (lists : List FreeBlocks) → home_from from cpu lists [] ≡ None
 no_home from cpu [] = refl
 no_home from cpu (list ∷ lists) = go (nat_lt cpu from) (no_home from (cpu + 1) lists) where
   go : (x : Bool) → home_from from (cpu + 1) lists [] ≡ None

@@ -19,7 +19,7 @@ use Rattle.nv_calls.specs.Refusals.{Check}
 use Rattle.nv_calls.specs.declared.call.Call.{Call}
 use Rattle.nv_calls.specs.declared.looked.Looked.{Looked}
 use Rattle.nv_calls.specs.declared.plan.Plan.{Plan}
-use Rattle.nv_machine.specs.Kinds.{end_turn, look_turn, rest_turn}
+use Rattle.nv_machine.specs.Kinds.{end_turn, look_turn}
 use Rattle.nv_machine.specs.Reads.{bytes_among, copies, slots_of}
 use Rattle.nv_machine.specs.World as machine
 use Rattle.nv_world.specs.Told.{IsChangeBy, IsJobOf, looking_at}
@@ -81,9 +81,3 @@ pub look_ends : (s : Shared) (h : HandState) (r : Running) (owner : Option ℕ) 
     → owner ≡ None → tests ≡ Err fault → look_turn owner tests seen place s h r ≡ end_turn [] (machine.Refuses fault) s h r
 look_ends s h r owner tests seen place fault free refused =
     ap (λ (o : Option ℕ). look_turn o tests seen place s h r) free ∙ ap (λ (t : Check). look_turn None t seen place s h r) refused
-
--- what gives back waits for nobody
-pub rest_runs : (cpu number : Option ℕ) (s : Shared) (h : HandState) (r : Running) → rest_turn cpu number s h r ≡ machine.Waits → ⊥
-rest_runs (Some cpu) number s h r is = cc
-rest_runs None (Some ino) s h r is = cc
-rest_runs None None s h r is = cc

@@ -1,18 +1,18 @@
 -- The nodes that a call reads over the cells of its slots are those of the machine.
-use Rattle.std.proofs.Common.{◌≡◌, ℕ, zero, suc, ◌<◌, ◌==◌, ◌∙◌, Bool, true, false, true≢false, cond, List, [], ◌∷◌, ◌++◌, length, map, Option, Some, None, arith, refl, ap, ap₂, sym, subst, nat_lt}
-use Rattle.std.specs.Prelude.{option_and_then, slice_index_or, option_map}
-use Rattle.std.specs.List.{AllByRecursion}
+use Rattle.std.proofs.Common.{◌≡◌, ℕ, zero, suc, ◌<◌, ◌≤◌, ◌==◌, ◌∙◌, Bool, true, false, true≢false, cond, List, [], ◌∷◌, ◌++◌, length, map, Option, Some, None, arith, refl, ap, ap₂, sym, subst, nat_lt}
+use Rattle.std.specs.Prelude.{is_some, option_and_then, slice_index_or, option_map, unwrap_or}
+use Rattle.std.specs.List.{AllByRecursion, AllPairs}
 use Rattle.std.proofs.lemmas.Bool.{eqb-true, eq-eqb, ltb-true, ltb-false}
 use Rattle.std.proofs.lemmas.List.{get_or-map, get_or_past, length-map}
 use Rattle.nv_alloc.specs.Numbers.{has}
 use Rattle.nv_base.specs.declared.numbers.Handle.{Handle}
-use Rattle.nv_calls.specs.Cells.{no_cell}
+use Rattle.nv_calls.specs.Cells.{AreCells, no_cell}
 use Rattle.nv_calls.specs.Locked.{Agree, SameCall, handles}
-use Rattle.nv_calls.specs.Nodes.{HasBytes, alone, cell_of, own_node, plain_nodes, slots_by, with_bytes}
+use Rattle.nv_calls.specs.Nodes.{HasBytes, alone, cell_of, has_page_in, own_node, plain_nodes, slots_by, with_bytes}
 use Rattle.nv_calls.specs.Plain.{PlainNode, node_in, stamped}
 use Rattle.nv_calls.specs.Slots.{last_commit, node_under}
 use Rattle.nv_cell.specs.Pages.{own_bytes}
-use Rattle.nv_entry.specs.Node.{node_now}
+use Rattle.nv_entry.specs.Node.{block_now, node_now}
 use Rattle.nv_calls.specs.SlotCells.{cell_in, lent_cells}
 use Rattle.nv_calls.specs.declared.call.Call.{Call}
 use Rattle.nv_calls.specs.declared.call.Call.TheVariants as call
@@ -57,6 +57,27 @@ lent_each P (n ∷ slots) all ino h each = go (n == ino) refl h (lent_each P slo
       → P (cell_in all ino).state
   go true q h rest = subst (λ (k : ℕ). P (cell_in all k).state) (eqb-true n ino q) each.0
   go false q h rest = let h = rw q at h in rest h each.1
+
+-- the cells of slots that rise are those of a call
+pub lent_are : (slots : List ℕ) (all : List CellValue) → length slots ≤ 4 → AllPairs (λ (a b : ℕ). a < b) slots → AreCells (lent_cells slots all)
+lent_are slots all few rising = record {
+  few = omega (arith, few, length-map slots lend);
+  rising = λ i j d before within.
+      let inside : j < length slots = omega (arith, within, length-map slots lend) in
+      let less : slice_index_or slots i 0 < slice_index_or slots j 0 = rising i j 0 before inside in
+      subst (λ (c : ℕ × CellValue). c.0 < (slice_index_or (lent_cells slots all) j d).0)
+      (sym (get_or-map lend slots i 0 d (omega (arith, before, inside))))
+      (subst (λ (c : ℕ × CellValue). slice_index_or slots i 0 < c.0) (sym (get_or-map lend slots j 0 d inside)) less);
+} where
+  lend : ℕ → ℕ × CellValue
+  lend ino = (ino, cell_in all ino)
+
+-- a slot that is lent is one of them
+pub lent_has : (slots : List ℕ) (all : List CellValue) (ino : ℕ) → is_some (cell_of (lent_cells slots all) ino) ≡ true → has slots ino ≡ true
+lent_has slots all ino lent = go (has slots ino) refl where
+  go : (b : Bool) → has slots ino ≡ b → b ≡ true
+  go true h = refl
+  go false h = let none : false ≡ true = subst (λ (c : Option CellValue). is_some c ≡ true) (lent_none slots all ino h) lent in cc
 
 -- ---- nodes
 
@@ -132,3 +153,41 @@ pub lent_call_same : (block : ℕ) (shared : Shared) (slots : List ℕ) (taken :
 lent_call_same block shared slots taken c can =
     call_same block (nodes (shared_of shared)) (plain_nodes (lent_cells slots shared.cells.items)) taken c
     (nodes_agree shared slots (handles (looked (copies (shared_of shared)) c) c) can)
+
+-- ---- pages
+
+-- whether a file has a page
+pub page_same : (shared : Shared) (slots : List ℕ) (file : Handle) (page : ℕ) → CanRead shared slots (file ∷ [])
+    → has_page_in (lent_cells slots shared.cells.items) file page
+    ≡ is_some (block_now shared.geometry.numbers.block (log_of (cell_at (shared_of shared) file.ino)) page)
+page_same shared slots file page can = go (nat_lt file.ino (length all)) refl where
+  all : List CellValue
+  all = shared.cells.items
+
+  now : ℕ → CellState → Bool
+  now block cell = is_some (block_now block (log_of cell) page)
+
+  block : ℕ
+  block = shared.geometry.numbers.block
+
+  of_cell : Option CellValue → Bool
+  of_cell found = unwrap_or (option_map (λ (c : CellValue). now c.state.block c.state) found) false
+
+  past : cell_in all file.ino ≡ no_cell.1 → cell_at (shared_of shared) file.ino ≡ machine.no_cell → (b : Bool) → has slots file.ino ≡ b
+      → of_cell (cell_of (lent_cells slots all) file.ino) ≡ now block (cell_at (shared_of shared) file.ino)
+  past none gone true h = ap of_cell (lent_of slots all file.ino h ∙ ap Some none) ∙ sym (ap (now block) gone)
+  past none gone false h = ap of_cell (lent_none slots all file.ino h) ∙ sym (ap (now block) gone)
+
+  go : (b : Bool) → nat_lt file.ino (length all) ≡ b
+      → of_cell (cell_of (lent_cells slots all) file.ino) ≡ now block (cell_at (shared_of shared) file.ino)
+  go true q =
+      let lt : file.ino < length all = ltb-true file.ino (length all) q in
+      let held : has slots file.ino ≡ true = can.held.0 lt in
+      ap of_cell (lent_of slots all file.ino held)
+      ∙ ap (λ (size : ℕ). now size (cell_in all file.ino).state) (lent_each (HasOwn block) slots all file.ino held can.own).size
+      ∙ ap (now block) (sym (cell_is shared file.ino lt))
+  go false q =
+      past (get_or_past all file.ino (no_cell.1) (ltb-false file.ino (length all) q))
+      (get_or_past (map (λ (c : CellValue). c.state) all) file.ino machine.no_cell
+      (omega (arith, length-map all (λ (c : CellValue). c.state), ltb-false file.ino (length all) q)))
+      (has slots file.ino) refl

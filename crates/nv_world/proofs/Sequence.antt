@@ -1,16 +1,14 @@
 -- The sequence of a commit's steps, by the machine and by the commit.
-use Rattle.std.proofs.Common.{rules, ◌≡◌, ℕ, zero, suc, ◌<◌, ◌≤◌, ◌∙◌, Bool, true, false, List, [], ◌∷◌, ap, arith, filter, if◌then◌else◌, length, map, nat_lt, not, refl, sym}
+use Rattle.std.proofs.Common.{◌≡◌, ℕ, suc, ◌∙◌, Bool, true, false, List, ap, arith, if◌then◌else◌, length, nat_lt, not, refl, sym}
 use Rattle.std.specs.Prelude.{◌&&◌, ◌==◌}
 use Rattle.std.proofs.lemmas.Bool.{eqb-true, ltb-true}
 use Rattle.std.specs.Prelude.{Option, None, Some, is_some, slice_get}
 use Rattle.std.specs.Option.{IsSomeAnd}
 use Rattle.nv_book.specs.Book.{BookState}
-use Rattle.nv_journal.specs.declared.old_tail.OldTail.{OldTail}
 use Rattle.nv_calls.specs.Commit.{CommitValue, HasJournal}
-use Rattle.nv_calls.specs.Progress.{is_open, step_of}
-use Rattle.nv_calls.specs.declared.progress.CommitStep.{CommitStep}
+use Rattle.nv_calls.specs.Progress.{is_open}
 use Rattle.nv_calls.specs.declared.progress.CommitStep.TheVariants as step
-use Rattle.nv_machine.specs.Sequence.{appending, publishing, retiring}
+use Rattle.nv_machine.specs.Sequence.{appending, publishing}
 use Rattle.nv_machine.specs.World.{Append, Close, Leave, Next, Open, Publish, Retire}
 use Rattle.nv_world.specs.Shown.{commit_next, machine_step}
 

@@ -1,5 +1,5 @@
 -- The node under a handle by the cell of its slot alone is the machine's.
-use Rattle.std.proofs.Common.{◌≡◌, ℕ, ◌==◌, ◌∙◌, if◌then◌else◌, Bool, true, false, List, Option, None, ap, refl, sym, inl, inr}
+use Rattle.std.proofs.Common.{◌≡◌, ℕ, ◌==◌, ◌∙◌, if◌then◌else◌, Bool, true, false, List, Option, None, ap, refl, subst, sym, inl, inr}
 use Rattle.std.proofs.lemmas.Bool.{eq-eqb}
 use Rattle.std.specs.Prelude.{Result, Ok, Err}
 use Rattle.nv_base.specs.declared.fault.Fault.{Fault}
@@ -14,13 +14,14 @@ use Rattle.nv_calls.specs.declared.answer.Answer.{Answer}
 use Rattle.nv_calls.specs.declared.call.Call.{Call}
 use Rattle.nv_calls.specs.declared.call.Call.TheVariants as call
 use Rattle.nv_cell.specs.Cell.{CellState, CellValue}
+use Rattle.nv_cell.specs.Pages.{AreBytesOf}
 use Rattle.nv_machine.specs.Reads.{bytes_among, copies, node_of, nodes}
 use Rattle.nv_machine.specs.Sequence.{nothing_looked}
 use Rattle.nv_machine.specs.Step.{handle_at}
 use Rattle.nv_machine.specs.World.{Shared, cell_at, no_cell}
 use Rattle.nv_machine.specs.Step.{visit_grows}
 use Rattle.nv_world.specs.Told.{IsVisit}
-use Rattle.nv_world.specs.Visits.{IsFoundBy}
+use Rattle.nv_world.specs.Visits.{HasOwnBytes, IsFoundBy}
 
 pub node_here : (s : Shared) (handle : Handle) (cell : CellValue) → cell_at s handle.ino ≡ cell.state
     → nodes_by (bytes_among cell.state.blocks) (alone handle.ino cell) handle ≡ nodes s handle
@@ -83,15 +84,15 @@ visit_answer s made other cell is same = cc
 
 -- what is found in the cell of that slot is what the machine finds
 pub found_here : (s : Shared) (block : ℕ) (c : Call) (ino : ℕ) (cell : CellValue) (result : Result Answer Fault) → IsVisit c
-    → ino ≡ (handle_at (handles nothing_looked c) 0).ino → cell_at s ino ≡ cell.state
-    → IsFoundBy (view_refusal (bytes_among cell.state.blocks) ino cell c)
-    (λ made. answer (nodes_by (bytes_among cell.state.blocks) (alone ino cell)) made c) (visit_grows c) result
+    → ino ≡ (handle_at (handles nothing_looked c) 0).ino → cell_at s ino ≡ cell.state → HasOwnBytes s ino
+    → ((bytes : ℕ → List ℕ) → AreBytesOf cell.state bytes → IsFoundBy (view_refusal bytes ino cell c)
+    (λ made. answer (nodes_by bytes (alone ino cell)) made c) (visit_grows c) result)
     → IsFoundBy (refusal block (copies s) c) (λ made. answer (nodes s) made c) (visit_grows c) result
-found_here s block c ino cell result is at same found =
+found_here s block c ino cell result is at same own found =
     found_same result (visit_grows c)
     (ap (λ (k : ℕ). refusal cell.state.block (copies_by bytes (alone k cell)) c) at ∙ visit_check s block c cell is here)
     (λ made. ap (λ (k : ℕ). answer (nodes_by bytes (alone k cell)) made c) at ∙ visit_answer s made c cell is here)
-    found
+    (found bytes (subst (λ (x : CellState). AreBytesOf x (bytes_among x.blocks)) same own))
   where
     bytes : ℕ → List ℕ
     bytes = bytes_among cell.state.blocks

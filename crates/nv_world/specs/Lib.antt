@@ -1,5 +1,6 @@
 pub mod Appends
 pub mod Committing
+pub mod Formats
 pub mod Frames
 pub mod Nodes
 pub mod Parts
@@ -10,5 +11,6 @@ pub mod Shown
 pub mod Steps
 pub mod Takings
 pub mod Told
+pub mod Turns
 pub mod Visits
 pub mod Worlds

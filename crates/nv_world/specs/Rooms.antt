@@ -1,6 +1,6 @@
 -- What of a running call the machine does not tell: whether it is of the kind that its next step wants, the room in its hand, and
 -- what its check found and its growths made.
-use Rattle.std.specs.Prelude.{◌≡◌, ℕ, ◌+◌, ◌<◌, ◌≤◌, Bool, true, false, List, [], length, Option, Some, None, unwrap_or}
+use Rattle.std.specs.Prelude.{◌≡◌, ℕ, ◌+◌, ◌<◌, ◌≤◌, ◌%◌, Bool, true, false, List, [], length, Option, Some, None, unwrap_or}
 use Rattle.std.specs.List.{AllByRecursion}
 use Rattle.nv_alloc.specs.declared.hand.Hand.{Hand}
 use Rattle.nv_base.specs.declared.geometry.GeometryNumbers.{GeometryNumbers}
@@ -163,6 +163,12 @@ CanWantPages shared hand running =
     IsChangeWith (λ u. HasMade shared (slots_in running.slots) hand running.made u
     × IsChecked shared (slots_in running.slots) hand running.looked u × HasItsBlocks shared (slots_in running.slots) hand u) running.job
 
+-- the call of a job is checked, and takes so many data blocks
+abbrev pub WantsBlocks : ℕ → Shared → Hand → Running → Type 0
+WantsBlocks wanted shared hand running =
+    IsChangeWith (λ u. HasMade shared (slots_in running.slots) hand running.made u
+    × IsChecked shared (slots_in running.slots) hand running.looked u × (wanted ≡ blocks_to_take shared (slots_in running.slots) u)) running.job
+
 -- ---- ready
 
 -- these cells and this call were made ready with that hand: since then the cells have changed in their room alone
@@ -176,6 +182,10 @@ pub record IsReadyOver (now : List (ℕ × CellValue)) (ready : ReadyValue) : Ty
 
 -- ---- what holds of a running call beside what is shown of it
 
+-- the CPU of the actor that has the commit lock
+abbrev pub committing_cpu : Shared → ℕ
+committing_cpu shared = unwrap_or shared.holder 0 % length shared.lists.items
+
 abbrev pub HasRooms : Shared → Hold → Running → Type 0
 HasRooms shared (hold.Hand hand) running =
     FitsCall running × IsHandOf shared.geometry.numbers hand × TakesIf (takes running.next) shared hand running
@@ -184,7 +194,7 @@ HasRooms shared (hold.Ready ready) running =
     × IsReadyOver (lent_cells (slots_in running.slots) shared.cells.items) ready
 HasRooms shared (hold.Commit commit) running =
     (running.job ≡ job.Given) × (running.ending ≡ ending.Answers) × IsHandOf shared.geometry.numbers commit.hand
-    × IsCommitting (lent_cells (slots_in running.slots) shared.cells.items) shared.book commit
+    × IsCommitting (committing_cpu shared) (lent_cells (slots_in running.slots) shared.cells.items) shared.book commit
 
 -- an actor without a call has its hand alone
 abbrev pub IsIdle : Shared → Hold → Type 0

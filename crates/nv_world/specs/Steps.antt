@@ -1,5 +1,5 @@
 -- What a step is given by the laws of the machine, beside what is told of its call.
-use Rattle.std.specs.Prelude.{◌≡◌, ℕ, ◌+◌, ◌^◌, ◌<◌, ◌≤◌, ◌%◌, ◌⊎◌, false, true, List, [], length, Option, Some, None, slice_index_or}
+use Rattle.std.specs.Prelude.{◌≡◌, ℕ, ◌+◌, ◌<◌, ◌≤◌, ◌%◌, ◌⊎◌, false, true, [], length, None, slice_index_or}
 use Rattle.std.specs.List.{AllByRecursion}
 use Rattle.std.specs.Option.{ForSome}
 use Rattle.nv_alloc.specs.Block.{AreSized, numbers_of}
@@ -14,14 +14,16 @@ use Rattle.nv_calls.specs.Cells.{value_at}
 use Rattle.nv_calls.specs.Commit.{stamp_of}
 use Rattle.nv_calls.specs.Locked.{handles}
 use Rattle.nv_calls.specs.Prepared.{HasNumberFor, makes}
+use Rattle.nv_calls.specs.Progress.{step_of}
 use Rattle.nv_calls.specs.Ready.{ReadyValue}
+use Rattle.nv_calls.specs.declared.progress.CommitStep.TheVariants.{Leave}
 use Rattle.nv_calls.specs.SlotCells.{lent_cells}
 use Rattle.nv_calls.specs.Updates.{blank_call}
-use Rattle.nv_machine.specs.World.{list_at}
+use Rattle.nv_machine.specs.World.{empty_hand, list_at}
 use Rattle.nv_world.specs.Nodes.{CanRead}
 use Rattle.nv_world.specs.Parts.{AreGiven, AreHome, AreSlots, AreStill, IsOfDevice}
 use Rattle.nv_world.specs.Rooms.{hand_held}
-use Rattle.nv_world.specs.Shown.{shared_of, slots_in}
+use Rattle.nv_world.specs.Shown.{hand_of, shared_of, slots_in}
 use Rattle.nv_world.specs.Told.{IsChangeWith}
 use Rattle.nv_world.specs.Visits.{HasOwnBytes}
 use Rattle.nv_world.specs.declared.hold.Hold.{Hold}
@@ -35,7 +37,6 @@ use Rattle.nv_world.specs.declared.shared.Shared.{Shared}
 -- the number of a new inode, whose slot is empty
 pub record CanBeChecked (shared : Shared) (hand : Hand) (running : Running) : Type 0 where
   pub still : AreStill shared (slots_in running.slots)
-  pub some : 0 < length (slots_in running.slots)
   pub empty : blocks_of hand ≡ []
   pub inside : ForSome hand.ino (λ ino. ino < length shared.cells.items)
   pub read : IsChangeWith (λ u. CanRead shared (slots_in running.slots) (handles running.looked (blank_call u))) running.job
@@ -69,13 +70,14 @@ Given next.Check shared hand running = CanBeChecked shared hand running
 Given (next.Unlock place) shared hand running = place < length (slots_in running.slots)
 Given (next.Give cpu) shared hand running = CanGive shared hand cpu
 Given next.Back shared hand running = CanPutBack shared hand
-Given next.Visit shared hand running = (slots_in running.slots ≡ []) × ((ino : ℕ) → HasOwnBytes (shared_of shared) ino)
+Given next.Visit shared hand running =
+    (slots_in running.slots ≡ []) × ((ino : ℕ) → HasOwnBytes (shared_of shared) ino) × (hand_of hand ≡ empty_hand)
 Given other shared hand running = Unit {0}
 
 abbrev pub GivenBy : Shared → Hold → Running → ℕ → Type 0
 GivenBy shared (hold.Hand hand) running actor = Given running.next shared hand running
 GivenBy shared (hold.Ready ready) running actor = shared.holder ≡ None → shared.book.state.commit < NUMBER → CanEnter shared running ready actor
-GivenBy shared (hold.Commit commit) running actor = Unit {0}
+GivenBy shared (hold.Commit commit) running actor = shared.holder ≡ Some actor
 
 -- WHAT EVERY STEP OF AN ACTOR'S CALL IS GIVEN
 pub record CanStep (shared : Shared) (hold : Hold) (running : Running) (actor : ℕ) : Type 0 where
@@ -86,3 +88,9 @@ pub record CanStep (shared : Shared) (hold : Hold) (running : Running) (actor : 
   pub slots : AreSlots shared (slots_in running.slots)
   pub wide : length shared.owners.items ≡ length shared.cells.items
   pub own : GivenBy shared hold running actor
+
+-- the next step passes the hand on: the call is made ready, it enters, or its commit leaves
+abbrev pub PassesOn : Hold → Running → Type 0
+PassesOn (hold.Hand hand) running = running.next ≡ next.Ready
+PassesOn (hold.Ready ready) running = Unit {0}
+PassesOn (hold.Commit commit) running = step_of commit ≡ Leave

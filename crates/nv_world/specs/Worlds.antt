@@ -1,16 +1,6 @@
 -- When a world shows one of the machine.
-use Rattle.std.specs.Prelude.{◌≡◌, ◌≢◌, replicate, ℕ, ◌+◌, ◌<◌, ◌≤◌, Bool, List, [], ◌∷◌, length, map, Option, Some, None, Result, Ok, Err, slice_index_or}
-use Rattle.std.specs.List.{sum_by}
-use Rattle.nv_base.specs.declared.fault.Fault.{Fault}
-use Rattle.nv_alloc.specs.declared.hand.Hand.{Hand}
+use Rattle.std.specs.Prelude.{◌≡◌, ◌≢◌, replicate, ℕ, ◌<◌, Bool, List, [], ◌∷◌, length, map, Option, Some, None, slice_index_or}
 use Rattle.nv_base.specs.Limits.{IsWithinLimits}
-use Rattle.nv_book.specs.Book.{BookValue}
-use Rattle.nv_calls.specs.Cells.{value_at}
-use Rattle.nv_calls.specs.Ready.{ArePlaced, CellPlanValue, plan_at}
-use Rattle.nv_calls.specs.SlotCells.{lent_cells}
-use Rattle.nv_cell.specs.Cell.{CellValue}
-use Rattle.nv_cell.specs.Room.{IsReadyFor}
-use Rattle.nv_calls.specs.Commit.{CommitValue}
 use Rattle.nv_machine.specs.Format.{formatted}
 use Rattle.nv_machine.specs.Step as machine_step
 use Rattle.nv_machine.specs.World as machine
@@ -19,20 +9,13 @@ use Rattle.nv_world.specs.declared.event.Event.TheVariants as event
 use Rattle.nv_world.specs.declared.event.Reply.{Reply}
 use Rattle.nv_world.specs.declared.event.Reply.TheVariants as reply
 use Rattle.nv_world.specs.declared.hold.Hold.{Hold}
-use Rattle.nv_world.specs.declared.hold.Hold.TheVariants as hold
-use Rattle.nv_world.specs.declared.job.Job.{Job}
-use Rattle.nv_world.specs.declared.job.Job.TheVariants as job
-use Rattle.nv_world.specs.declared.next.Next.{Next}
-use Rattle.nv_world.specs.declared.next.Next.TheVariants as next
 use Rattle.nv_world.specs.declared.running.Running.{Running}
 use Rattle.nv_world.specs.declared.shared.Shared.{Shared}
 use Rattle.nv_world.specs.declared.world.Actor.{Actor}
-use Rattle.nv_world.specs.declared.world.World.{World}
 use Rattle.nv_world.specs.Rooms.{HasActorRooms}
-use Rattle.nv_world.specs.Steps.{CanStep}
-use Rattle.nv_world.specs.Frames.{LeavesRest}
 use Rattle.nv_world.specs.Shown.{Told, held_by, shared_of, shown_by, slots_in}
-use Rattle.nv_world.specs.Told.{IsHoldOf, IsOnItsWay, IsToldOf}
+use Rattle.nv_world.specs.Appends.{IsPlacedBy}
+use Rattle.nv_world.specs.Told.{IsHoldOf, IsToldOf}
 
 -- ---- actors
 
@@ -45,6 +28,7 @@ pub record ShowsCall (hold : Hold) (running : Running) (r : machine.Running) : T
   pub shown : shown_by hold (told_of r) running ≡ r
   pub job : IsToldOf running (told_of r)
   pub plan : IsHoldOf (slots_in running.slots) hold (told_of r)
+  pub place : IsPlacedBy (slots_in running.slots) hold (told_of r)
 
 abbrev pub ShowsRunning : Hold → Option Running → Option machine.Running → Type 0
 ShowsRunning hold None None = Unit {0}
@@ -57,12 +41,17 @@ pub record ShowsActor (actor : Actor) (shown : machine.Actor) : Type 0 where
 
 -- ---- the world
 
+-- what actors share, and the actors
+pub record WorldState : Type 0 where
+  pub shared : Shared
+  pub actors : List Actor
+
 -- A WORLD SHOWS ONE OF THE MACHINE: what is shared, and each actor
-pub record Shows (w : World) (m : machine.World) : Type 0 where
+pub record Shows (w : WorldState) (m : machine.World) : Type 0 where
   pub numbers : w.shared.geometry.numbers ≡ m.numbers
   pub shared : shared_of w.shared ≡ m.shared
-  pub count : length w.actors.items ≡ length m.actors
-  pub each : (k : ℕ) (d : Actor) → k < length w.actors.items → ShowsActor (slice_index_or w.actors.items k d) (machine.actor_at m k)
+  pub count : length w.actors ≡ length m.actors
+  pub each : (k : ℕ) (d : Actor) → k < length w.actors → ShowsActor (slice_index_or w.actors k d) (machine.actor_at m k)
 
 -- ---- events and replies
 
@@ -79,7 +68,7 @@ reply_of (reply.Done answer) = machine.Done answer
 reply_of (reply.Refused fault) = machine.Refused fault
 
 -- an event is replied to as the machine replies, where its memory was granted or refused, and leads to what shows its world
-pub record IsStep (m : machine.World) (e : Event) (reply : Reply) (after : World) : Type 0 where
+pub record IsStep (m : machine.World) (e : Event) (reply : Reply) (after : WorldState) : Type 0 where
   pub granted : Bool
   pub reply_is : reply_of reply ≡ (machine_step.step m (event_of e granted)).reply
   pub shows : Shows after (machine_step.step m (event_of e granted)).world
@@ -90,7 +79,7 @@ events_of [] grants = []
 events_of (e ∷ events) [] = []
 events_of (e ∷ events) (granted ∷ grants) = event_of e granted ∷ events_of events grants
 
-pub record IsRun (m : machine.World) (events : List Event) (replies : List Reply) (after : World) : Type 0 where
+pub record IsRun (m : machine.World) (events : List Event) (replies : List Reply) (after : WorldState) : Type 0 where
   pub grants : List Bool
   pub count : length grants ≡ length events
   pub replies_are : map reply_of replies ≡ machine_step.replies m (events_of events grants)
@@ -100,27 +89,27 @@ pub record IsRun (m : machine.World) (events : List Event) (replies : List Reply
 
 -- a world shows the machine's after these events from a new one, so that the machine's laws hold of it; and there is room
 -- for what its calls are about to do
-pub record IsWorldAfter (w : World) (m : machine.World) (events : List machine.Event) : Type 0 where
+pub record IsWorldAfter (w : WorldState) (m : machine.World) (events : List machine.Event) : Type 0 where
   pub limits : IsWithinLimits w.shared.geometry.numbers
   pub reached : m ≡ machine_step.after (formatted w.shared.geometry.numbers) events
   pub shows : Shows w m
-  pub rooms : (k : ℕ) (d : Actor) → k < length w.actors.items
-      → HasActorRooms w.shared (slice_index_or w.actors.items k d).hold (slice_index_or w.actors.items k d).running
+  pub rooms : (k : ℕ) (d : Actor) → k < length w.actors
+      → HasActorRooms w.shared (slice_index_or w.actors k d).hold (slice_index_or w.actors k d).running
 
 -- WHAT HOLDS OF EVERY WORLD: there is one of the machine that it shows
-abbrev pub IsWorld : World → Type 0
+abbrev pub IsWorld : WorldState → Type 0
 IsWorld w = (m : machine.World) × (events : List machine.Event) × IsWorldAfter w m events
 
 -- ---- for those who hold a world
 
 -- a world, where there is one, shows one of the machine
-abbrev pub ShowsAny : Option World → Option machine.World → Type 0
+abbrev pub ShowsAny : Option WorldState → Option machine.World → Type 0
 ShowsAny None None = Unit {0}
 ShowsAny (Some w) (Some m) = Shows w m
 ShowsAny other shown = ⊥
 
 -- whatever world of the machine is shown at first, it leads to one that is shown after
-abbrev pub Leads : (machine.World → machine.World → Type 0) → World → World → Type 0
+abbrev pub Leads : (machine.World → machine.World → Type 0) → WorldState → WorldState → Type 0
 Leads To old new = (m : machine.World) → Shows old m → (n : machine.World) × To m n × Shows new n
 
 -- the events by which an actor's call goes on, each with the memory that it asks for granted or refused

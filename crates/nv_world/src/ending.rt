@@ -1,6 +1,6 @@
 //! How a call goes on, and how it ends.
 
-ghost use Rattle.std.specs.Prelude.{◌≡◌, None};
+ghost use Rattle.std.specs.Prelude.{◌≡◌, ◌≢◌, None};
 ghost use Rattle.nv_machine.specs.Kinds.{again_turn, blocks_in, end_turn, over_turn, refuse, rest_turn, result_by};
 ghost use Rattle.nv_machine.specs.Reads.{home_from};
 ghost use Rattle.nv_machine.specs.World as machine;
@@ -41,6 +41,8 @@ pub(crate) fn give_back(shared: &Shared, hand: &Hand, running: &mut Running) -> 
         rest_turn (home_from 0 0 s.lists (blocks_in h)) h.ino s h (shown told running.old)
         ≡ turn_of result s h (shown told running.new) }
     ensures job { KeepsJob running.old running.new }
+    ensures slots { running.new.slots ≡ running.old.slots }
+    ensures goes { result ≢ Turn.Waits }
     ensures rooms { HasRoomsAfter result shared.now (Hold.Hand hand.now) running.new }
 {
     match hand.lowest_home(&shared.geometry) {
@@ -58,8 +60,11 @@ fn give_number(hand: &Hand, running: &mut Running) -> Turn
         → let h = hand_of hand.now in rest_turn None h.ino s h (shown told running.old)
         ≡ turn_of result s h (shown told running.new) }
     ensures job { KeepsJob running.old running.new }
+    ensures slots { running.new.slots ≡ running.old.slots }
+    ensures goes { result ≢ Turn.Waits }
     ensures rooms { (s : Shared) → CanEnd running.old running.old.ending
-        → IsHandOf s.geometry.numbers hand.now → HasRoomsAfter result s (Hold.Hand hand.now) running.new }
+        → IsHandOf s.geometry.numbers hand.now
+        → HasRoomsAfter result s (Hold.Hand hand.now) running.new }
 {
     match hand.ino() {
         Some(_) => {
@@ -81,6 +86,8 @@ pub(crate) fn end_unlocked(shared: &Shared, hand: &Hand, running: &mut Running) 
         over_turn (ending_of running.old.ending) s h (shown told running.old)
         ≡ turn_of result s h (shown told running.new) }
     ensures job { KeepsJob running.old running.new }
+    ensures slots { running.new.slots ≡ running.old.slots }
+    ensures goes { result ≢ Turn.Waits }
     ensures rooms { HasRoomsAfter result shared.now (Hold.Hand hand.now) running.new }
 {
     match running.ending {
@@ -95,6 +102,8 @@ fn again(running: &mut Running) -> Turn
         → again_turn running.old.rounds s h (shown told running.old)
         ≡ turn_of result s h (shown told running.new) }
     ensures job { KeepsJob running.old running.new }
+    ensures slots { running.new.slots ≡ running.old.slots }
+    ensures goes { result ≢ Turn.Waits }
     ensures rooms { (s : Shared) (h : Hand) → CanEnd running.old Ending.Overtaken
         → IsHandOf s.geometry.numbers h → HasRoomsAfter result s (Hold.Hand h) running.new }
 {
@@ -118,6 +127,8 @@ pub(crate) fn end(shared: &Shared, hand: &Hand, running: &mut Running, ending: E
         end_turn (slots_in running.old.slots) (ending_of ending) s h (shown told running.old)
         ≡ turn_of result s h (shown told running.new) }
     ensures job { KeepsJob running.old running.new }
+    ensures slots { running.new.slots ≡ running.old.slots }
+    ensures goes { result ≢ Turn.Waits }
     ensures rooms { HasRoomsAfter result shared.now (Hold.Hand hand.now) running.new }
 {
     running.ending = ending;
@@ -137,6 +148,8 @@ pub(crate) fn refuse(shared: &Shared, hand: &Hand, running: &mut Running, fault:
     ensures turn { (told : Told) → let s = shared_of shared.now in let h = hand_of hand.now in
         refuse fault s h (shown told running.old) ≡ turn_of result s h (shown told running.new) }
     ensures job { KeepsJob running.old running.new }
+    ensures slots { running.new.slots ≡ running.old.slots }
+    ensures goes { result ≢ Turn.Waits }
     ensures rooms { HasRoomsAfter result shared.now (Hold.Hand hand.now) running.new }
 {
     end(shared, hand, running, Ending::Refuses(fault))

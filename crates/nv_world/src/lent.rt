@@ -1,13 +1,17 @@
 //! The steps of a commit over the cells of all slots, of which those of a call's are lent.
 
-ghost use Rattle.std.specs.Prelude.{◌≡◌, ◌<◌, ◌≤◌, ◌^◌, ℕ, length, slice_index_or, slice_set, true};
+ghost use Rattle.std.specs.Prelude.{◌≡◌, ◌<◌, ◌≤◌, ◌^◌, ℕ, [], length, map, slice_index_or, slice_set, true};
 ghost use Rattle.nv_calls.specs.CanCommit.{CanBePublished};
 ghost use Rattle.nv_calls.specs.Cells.{OnlyAt, state_at, value_at, with_value};
 ghost use Rattle.nv_calls.specs.Commit.{NotesNext, after_append, after_publish, to_append, to_publish};
-ghost use Rattle.nv_calls.specs.Retiring.{killed_by};
+ghost use Rattle.nv_calls.specs.Retiring.{killed_by, part_in};
 ghost use Rattle.nv_calls.specs.SlotCells.{cell_in, lent_cells, other_cells};
 ghost use Rattle.nv_calls.specs.Steps.{CanAppendPlan, with_plan};
-ghost use Rattle.nv_cell.specs.Cell.{published};
+ghost use Rattle.nv_cell.specs.Cell.{KeepsAppendRoom, fresh_of, log_of, published};
+ghost use Rattle.nv_cell.specs.Effects.{items_of};
+ghost use Rattle.nv_cell.specs.Killed.{AreKilled};
+ghost use Rattle.nv_cell.specs.Room.{IsReadyFor};
+ghost use Rattle.nv_cell.specs.Weights.{weights_in};
 ghost use Rattle.nv_machine.specs.Reads.{slot_at};
 ghost use Rattle.nv_world.specs.Parts.{HaveSlots};
 ghost use Rattle.nv_world.specs.Shown.{slots_in};
@@ -35,6 +39,8 @@ pub(crate) fn append_in(cells: &mut [InodeCell], slots: &Slots, commit: &mut Com
     ensures count { length cells.new ≡ length cells.old }
     ensures commit { let lent = lent_cells (slots_in slots.now) cells.old in
         commit.new ≡ after_append (state_at lent (to_append commit.old).at).chain commit.old }
+    ensures ready { IsReadyFor []
+        (value_at (lent_cells (slots_in slots.now) cells.new) (to_append commit.old).at) }
 {
     let slots = slots.as_slice();
     let mut lent = SlotCells { cells, slots };
@@ -65,6 +71,15 @@ pub(crate) fn publish_in(
         (cell_in cells.new ino).state ≡ published (cell_in cells.old ino).state }
     ensures commit { let ino = slot_at (slots_in slots.now) (to_publish commit.old).at in
         commit.new ≡ after_publish (killed_by (cell_in cells.old ino).state) commit.old }
+    ensures few { let lent = lent_cells (slots_in slots.now) cells.old in
+        let cell = state_at lent (to_publish commit.old).at in
+        length (killed_by cell) ≤ weights_in cell.block (log_of cell) (items_of (fresh_of cell)) }
+    ensures marked { let k = (to_publish commit.old).at in
+        AreKilled (map part_in (killed_by (state_at (lent_cells (slots_in slots.now) cells.old) k)))
+        (state_at (lent_cells (slots_in slots.now) cells.new) k) }
+    ensures room { let k = (to_publish commit.old).at in
+        KeepsAppendRoom (value_at (lent_cells (slots_in slots.now) cells.old) k).room
+        (value_at (lent_cells (slots_in slots.now) cells.new) k).room }
 {
     let slots = slots.as_slice();
     let mut lent = SlotCells { cells, slots };

@@ -1,11 +1,11 @@
 //! What the publish of one inode killed is retired, over the cells of all slots.
 
-ghost use Rattle.std.specs.Prelude.{◌≡◌, ◌<◌, ◌≤◌, false, length};
+ghost use Rattle.std.specs.Prelude.{◌≡◌, ◌+◌, ◌<◌, ◌≤◌, false, length};
 ghost use Rattle.nv_epoch.specs.SnapList.{ids};
-ghost use Rattle.nv_calls.specs.Cells.{OnlyAt};
+ghost use Rattle.nv_calls.specs.Cells.{OnlyAt, ino_at, state_at, value_at};
 ghost use Rattle.nv_calls.specs.Commit.{after_retire, to_retire};
 ghost use Rattle.nv_calls.specs.Retired.{CanRetire};
-ghost use Rattle.nv_calls.specs.Retiring.{erased, retired, with_records};
+ghost use Rattle.nv_calls.specs.Retiring.{erased, retired, room_erased, with_records};
 ghost use Rattle.nv_calls.specs.SlotCells.{cell_in, lent_cells, other_cells};
 ghost use Rattle.nv_machine.specs.Reads.{slot_at};
 ghost use Rattle.nv_world.specs.Parts.{HaveSlots};
@@ -47,6 +47,12 @@ pub(crate) fn retire_in(
           manifests = with_records (ids book.old.state.snaps) ino commit.old.stamp.epoch plan.killed
               book.old.state.manifests;
         } }
+    ensures room { book.old.room ≤ book.new.room + length (to_retire commit.old).killed }
+    ensures cell_room { let plan = to_retire commit.old in
+        let lent = lent_cells (slots_in slots.now) cells.old in
+        (value_at (lent_cells (slots_in slots.now) cells.new) plan.at).room
+        ≡ room_erased (retired (ids book.old.state.snaps) (ino_at lent plan.at)
+        commit.old.stamp.epoch plan.killed (state_at lent plan.at)) (value_at lent plan.at).room }
     ensures commit { let ino = slot_at (slots_in slots.now) (to_retire commit.old).at in
         commit.new ≡ after_retire (ids book.old.state.snaps) ino (cell_in cells.old ino).state
         commit.old }

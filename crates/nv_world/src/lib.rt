@@ -10,6 +10,7 @@ mod ending;
 mod event;
 mod fill;
 mod format;
+mod given_check;
 mod hold;
 mod job;
 mod kinds;

@@ -1,9 +1,14 @@
 //! The steps of a world.
 
-ghost use Rattle.std.specs.Prelude.{◌≡◌, IfErr, IfOk, OnErr, [], vec_capacity};
-ghost use Rattle.nv_base.specs.declared.fault.Fault.TheVariants.{OutOfMemory};
+ghost use Rattle.std.specs.Prelude.{None, Some, ◌≡◌, ◌≢◌, IfErr, IfOk, OnErr, [], vec_capacity};
+ghost use Rattle.nv_base.specs.declared.fault.Fault.TheVariants.{ActorIdle, OutOfMemory};
 ghost use Rattle.nv_machine.specs.World as machine;
-ghost use Rattle.nv_world.specs.Worlds.{IsRun, IsStep, Shows};
+ghost use Rattle.nv_machine.specs.Step as machine_step;
+ghost use Rattle.nv_calls.specs.Progress.{step_of};
+ghost use Rattle.nv_world.specs.Rooms.{HasActorRooms, HasRooms, HasRoomsAfter};
+ghost use Rattle.nv_world.specs.Steps.{CanStep, PassesOn};
+ghost use Rattle.nv_world.specs.Turns.{CanGo, HasTurned, IsTurn, LeavesOthers};
+ghost use Rattle.nv_world.specs.Worlds.{IsRun, IsStep, Shows, ShowsCall};
 
 use crate::hold::Hold;
 use crate::kinds::append::append;
@@ -73,7 +78,10 @@ impl World {
         Vec::with_capacity(self.alloc, room)
     }
 
-    fn start(&mut self, actor: u64, call: Call) -> Reply {
+    fn start(&mut self, actor: u64, call: Call) -> Reply
+        ensures { (m : machine.World) → Shows self.old m
+            → IsStep m (Event.Start actor call) result self.new }
+    {
         let Some(state) = self.actors.get_mut(actor as usize) else {
             return Reply::Refused(Fault::NoActor);
         };
@@ -84,26 +92,45 @@ impl World {
         Reply::Started
     }
 
-    fn go(&mut self, actor: u64) -> Reply {
-        let Some(state) = self.actors.get_mut(actor as usize) else {
-            return Reply::Refused(Fault::NoActor);
-        };
-        let Actor { hold, running } = state;
-        let Some(call) = running else {
-            return Reply::Refused(Fault::ActorIdle);
-        };
-        match turn(self.alloc, &mut self.shared, hold, call, actor) {
-            Turn::Moves => Reply::Moved,
-            Turn::Waits => Reply::Waits,
-            Turn::Ends(result) => {
-                *running = None;
-                match result {
-                    Ok(answer) => Reply::Done(answer),
-                    Err(fault) => Reply::Refused(fault),
-                }
-            }
+    fn go(&mut self, actor: u64) -> Reply
+        ensures { (m : machine.World) → Shows self.old m → IsStep m (Event.Go actor) result self.new }
+    {
+        match self.actors.get_mut(actor as usize) {
+            Some(state) => go_on(self.alloc, &mut self.shared, state, actor),
+            None => Reply::Refused(Fault::NoActor),
         }
     }
+}
+
+/// The call of an actor goes on by one step.
+fn go_on(alloc: Global, shared: &mut Shared, state: &mut Actor, actor: u64) -> Reply
+    requires can { CanGo shared.old state.old.hold state.old.running actor }
+    requires rooms { HasActorRooms shared.old state.old.hold state.old.running }
+    ensures idle { state.old.running ≡ None → (result ≡ Reply.Refused ActorIdle)
+        × (shared.new ≡ shared.old) × (state.new ≡ state.old) }
+    ensures turns { (running : Running) (r : machine.Running) → state.old.running ≡ Some running
+        → ShowsCall state.old.hold running r
+        → HasTurned actor shared.old state.old.hold running r result shared.new state.new }
+    ensures rooms { HasActorRooms shared.new state.new.hold state.new.running }
+    ensures rest { (running : Running) (r : machine.Running) → state.old.running ≡ Some running
+        → ShowsCall state.old.hold running r → LeavesOthers actor r shared.old shared.new }
+{
+    let Actor { hold, running } = state;
+    let Some(call) = running else {
+        return Reply::Refused(Fault::ActorIdle);
+    };
+    let done = turn(alloc, shared, hold, call, actor);
+    if done.ends() {
+        forget(running);
+    }
+    done.reply()
+}
+
+/// No call runs any more.
+fn forget(running: &mut Option<Running>)
+    ensures { running.new ≡ None }
+{
+    *running = None;
 }
 
 /// The step of a call that comes next.
@@ -113,7 +140,17 @@ fn turn(
     hold: &mut Hold,
     running: &mut Running,
     actor: u64,
-) -> Turn {
+) -> Turn
+    requires can { CanStep shared.old hold.old running.old actor }
+    requires rooms { HasRooms shared.old hold.old running.old }
+    ensures turn { (r : machine.Running) → ShowsCall hold.old running.old r
+        → IsTurn actor shared.old hold.old r result shared.new hold.new running.new }
+    ensures waits { result ≡ Turn.Waits
+        → (shared.new ≡ shared.old) × (hold.new ≡ hold.old) × (running.new ≡ running.old) }
+    ensures rooms { HasRoomsAfter result shared.new hold.new running.new }
+    ensures rest { (r : machine.Running) → ShowsCall hold.old running.old r
+        → LeavesOthers actor r shared.old shared.new }
+{
     match hold {
         Hold::Hand(hand) => match running.next {
             Next::Ready => pass_on(alloc, shared, hold, running, actor),
@@ -131,7 +168,18 @@ fn turn(
 }
 
 /// A step of a call whose hand is with the actor alone.
-fn alone(shared: &mut Shared, hand: &mut Hand, running: &mut Running, actor: u64) -> Turn {
+fn alone(shared: &mut Shared, hand: &mut Hand, running: &mut Running, actor: u64) -> Turn
+    requires apart { running.old.next ≢ Next.Ready }
+    requires can { CanStep shared.old (Hold.Hand hand.old) running.old actor }
+    requires rooms { HasRooms shared.old (Hold.Hand hand.old) running.old }
+    ensures turn { (r : machine.Running) → ShowsCall (Hold.Hand hand.old) running.old r
+        → IsTurn actor shared.old (Hold.Hand hand.old) r result shared.new (Hold.Hand hand.new) running.new }
+    ensures waits { result ≡ Turn.Waits
+        → (shared.new ≡ shared.old) × ((Hold.Hand hand.new) ≡ (Hold.Hand hand.old)) × (running.new ≡ running.old) }
+    ensures rooms { HasRoomsAfter result shared.new (Hold.Hand hand.new) running.new }
+    ensures rest { (r : machine.Running) → ShowsCall (Hold.Hand hand.old) running.old r
+        → LeavesOthers actor r shared.old shared.new }
+{
     match running.next {
         Next::Number => number(shared, hand, running),
         Next::Look(place) => look(shared, hand, running, place),
@@ -154,7 +202,18 @@ fn pass_on(
     hold: &mut Hold,
     running: &mut Running,
     actor: u64,
-) -> Turn {
+) -> Turn
+    requires passes { PassesOn hold.old running.old }
+    requires can { CanStep shared.old hold.old running.old actor }
+    requires rooms { HasRooms shared.old hold.old running.old }
+    ensures turn { (r : machine.Running) → ShowsCall hold.old running.old r
+        → IsTurn actor shared.old hold.old r result shared.new hold.new running.new }
+    ensures waits { result ≡ Turn.Waits
+        → (shared.new ≡ shared.old) × (hold.new ≡ hold.old) × (running.new ≡ running.old) }
+    ensures rooms { HasRoomsAfter result shared.new hold.new running.new }
+    ensures rest { (r : machine.Running) → ShowsCall hold.old running.old r
+        → LeavesOthers actor r shared.old shared.new }
+{
     let empty = Hold::Hand(Hand::new(alloc, &shared.geometry));
     let (after, turn) = match mem::replace(hold, empty) {
         Hold::Hand(hand) => ready(alloc, shared, hand, running),
@@ -169,7 +228,16 @@ fn pass_on(
 }
 
 /// A step of a commit that is not over.
-fn commit_step(shared: &mut Shared, running: &Running, commit: &mut Commit, actor: u64) {
+fn commit_step(shared: &mut Shared, running: &Running, commit: &mut Commit, actor: u64)
+    requires going { step_of commit.old ≢ CommitStep.Leave }
+    requires can { CanStep shared.old (Hold.Commit commit.old) running.now actor }
+    requires rooms { HasRooms shared.old (Hold.Commit commit.old) running.now }
+    ensures turn { (r : machine.Running) → ShowsCall (Hold.Commit commit.old) running.now r
+        → IsTurn actor shared.old (Hold.Commit commit.old) r Turn.Moves shared.new (Hold.Commit commit.new) running.now }
+    ensures rooms { HasRoomsAfter Turn.Moves shared.new (Hold.Commit commit.new) running.now }
+    ensures rest { (r : machine.Running) → ShowsCall (Hold.Commit commit.old) running.now r
+        → LeavesOthers actor r shared.old shared.new }
+{
     let cpu = shared.cpu_of(actor);
     match commit.step() {
         CommitStep::Append => append(shared, running, commit),

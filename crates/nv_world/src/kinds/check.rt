@@ -1,31 +1,29 @@
 //! The check of a call over the cells that it holds.
 
-ghost use Rattle.std.specs.Prelude.{◌≡◌, ◌<◌, ◌^◌, true};
+ghost use Rattle.std.specs.Prelude.{◌≡◌, ◌+◌, ◌<◌, ◌≤◌, ◌^◌, IfOk, [], length, option_map, true};
+ghost use Rattle.std.specs.Option.{ForSome};
+ghost use Rattle.nv_alloc.specs.Hand.{blocks_of};
+ghost use Rattle.nv_base.specs.Limits.{IsWithinLimits};
 ghost use Rattle.nv_base.specs.Refusals.{FailsOnly};
 ghost use Rattle.nv_base.specs.declared.fault.Fault.TheVariants.{OutOfMemory};
-ghost use Rattle.nv_calls.specs.AllCalls.{blocks_wanted};
+ghost use Rattle.nv_base.specs.declared.limits.TheConstants.{BLOCK_BYTES};
+ghost use Rattle.nv_calls.specs.AllCalls.{blocks_wanted, looked};
+ghost use Rattle.nv_calls.specs.Nodes.{nodes_in};
 ghost use Rattle.nv_calls.specs.Prepared.{makes};
+ghost use Rattle.nv_calls.specs.SlotCells.{lent_cells};
+ghost use Rattle.nv_calls.specs.Updates.{blank_call};
 ghost use Rattle.nv_machine.specs.Kinds.{check_turn, wants_blocks};
 ghost use Rattle.nv_machine.specs.Reads.{copies, has_last_page};
-ghost use Rattle.nv_machine.specs.Step.{ending_at, with_made};
-ghost use Rattle.nv_world.specs.Parts.{AreHome, CanCheck, IsOfDevice};
-ghost use Rattle.nv_world.specs.Shown.{Told, hand_of, shared_of, shown, turn_of};
-ghost use Rattle.nv_world.specs.Told.{IsEither, IsToldOf, KeepsJob, is_change};
-
-ghost use Rattle.std.specs.Prelude.{◌≤◌, option_map};
-ghost use Rattle.nv_base.specs.declared.limits.TheConstants.{BLOCK_BYTES};
-ghost use Rattle.nv_calls.specs.Nodes.{nodes_in};
-ghost use Rattle.nv_calls.specs.Updates.{blank_call};
-ghost use Rattle.nv_machine.specs.Step.{same_looked};
-ghost use Rattle.nv_world.specs.Nodes.{ends_over};
-ghost use Rattle.nv_world.specs.Parts.{AreSlots, HaveSlots};
-ghost use Rattle.nv_world.specs.Shown.{ending_of, slots_in};
-ghost use Rattle.nv_world.specs.Told.{IsChangeWith};
-ghost use Rattle.nv_calls.specs.AllCalls.{looked};
-ghost use Rattle.nv_calls.specs.SlotCells.{lent_cells};
-ghost use Rattle.nv_world.specs.Nodes.{wanted_over};
+ghost use Rattle.nv_machine.specs.Step.{ending_at, made_in, same_looked, with_made};
+ghost use Rattle.nv_world.specs.Nodes.{ends_over, wanted_over};
+ghost use Rattle.nv_world.specs.Parts.{AreHome, AreSlots, HaveSlots, IsOfDevice};
+ghost use Rattle.nv_world.specs.Rooms.{FitsCall, HasRoomsAfter, IsHandOf, WantsBlocks};
+ghost use Rattle.nv_world.specs.Shown.{Told, ending_of, hand_of, shared_of, shown, slots_in, turn_of};
+ghost use Rattle.nv_world.specs.Steps.{CanBeChecked};
+ghost use Rattle.nv_world.specs.Told.{IsChangeWith, IsEither, IsToldOf, KeepsJob, is_change};
 
 use crate::ending::{end, refuse};
+use crate::hold::Hold;
 use crate::kinds::take::want_pages;
 use crate::next::{Ending, Next};
 use crate::running::Running;
@@ -47,9 +45,12 @@ const MORE_PAGES: u64 = 4;
 /// Tests the call, and settles how many blocks it takes. The hand gets room for them.
 pub(crate) fn check(shared: &mut Shared, hand: &mut Hand, running: &mut Running) -> Turn
     requires change { is_change running.old.job ≡ true }
+    requires limits { IsWithinLimits shared.old.geometry.numbers }
     requires home { AreHome shared.old }
     requires device { IsOfDevice shared.old.geometry.numbers hand.old }
-    requires can { CanCheck shared.old hand.old running.old }
+    requires sized { IsHandOf shared.old.geometry.numbers hand.old }
+    requires call { FitsCall running.old }
+    requires can { CanBeChecked shared.old hand.old running.old }
     ensures turn { (told : Told) → IsToldOf running.old told
         → let block = shared.old.geometry.numbers.block in let s = shared_of shared.old in
         let h = hand_of hand.old in let r = shown told running.old in
@@ -58,12 +59,11 @@ pub(crate) fn check(shared: &mut Shared, hand: &mut Hand, running: &mut Running)
         (with_made s h r))
         (turn_of result (shared_of shared.new) (hand_of hand.new) (shown told running.new)) }
     ensures job { KeepsJob running.old running.new }
+    ensures rest { shared.new ≡ shared.old }
+    ensures rooms { HasRoomsAfter result shared.new (Hold.Hand hand.new) running.new }
 {
-    let number = hand.ino();
-    if let Some(ino) = number {
-        running.made = shared.handle_of(ino);
-    }
-    if let Some(ending) = ending_of(shared, running, number.is_some()) {
+    note_made(shared, hand, running);
+    if let Some(ending) = ending_of(shared, running, hand.ino().is_some()) {
         return end(shared, hand, running, ending);
     }
     let wanted = wanted_by(shared, running);
@@ -71,6 +71,18 @@ pub(crate) fn check(shared: &mut Shared, hand: &mut Hand, running: &mut Running)
         return refuse(shared, hand, running, fault);
     }
     want_blocks(shared, hand, running, wanted)
+}
+
+/// A new inode is to have the handle of the number in the hand.
+fn note_made(shared: &Shared, hand: &Hand, running: &mut Running)
+    requires { ForSome hand.now.ino (λ ino. ino < length shared.now.cells.items) }
+    ensures { running.new ≡ record running.old {
+      made = made_in (shared_of shared.now) hand.now.ino running.old.made
+    } }
+{
+    if let Some(ino) = hand.ino() {
+        running.made = shared.handle_of(ino);
+    }
 }
 
 /// Whether the check ends the call, and how.
@@ -189,7 +201,11 @@ fn wanted_in(block: u64, cells: &mut [InodeCell], slots: &Slots, update: &Update
 /// Makes room in the hand for what is to be taken: for data blocks, and for the log pages that these may need.
 fn make_room(hand: &mut Hand, blocks: u64) -> Result<(), Fault>
     requires { blocks < 2 ^ 32 }
-    ensures hand { hand_of hand.new ≡ hand_of hand.old }
+    ensures hand { hand.new ≡ record hand.old {
+      «data» = record hand.old.data { room = hand.new.data.room };
+      pages = record hand.old.pages { room = hand.new.pages.room };
+    } }
+    ensures ok { IfOk result (λ _. (blocks ≤ hand.new.data.room) × (blocks + 4 ≤ hand.new.pages.room)) }
     ensures err { FailsOnly OutOfMemory result }
 {
     hand.data.reserve(blocks)?;
@@ -197,7 +213,24 @@ fn make_room(hand: &mut Hand, blocks: u64) -> Result<(), Fault>
 }
 
 /// The call wants data blocks, and log pages after them. A taking of nothing has no step.
-fn want_blocks(shared: &mut Shared, hand: &Hand, running: &mut Running, wanted: u64) -> Turn {
+fn want_blocks(shared: &mut Shared, hand: &Hand, running: &mut Running, wanted: u64) -> Turn
+    requires limits { IsWithinLimits shared.old.geometry.numbers }
+    requires home { AreHome shared.old }
+    requires device { IsOfDevice shared.old.geometry.numbers hand.now }
+    requires sized { IsHandOf shared.old.geometry.numbers hand.now }
+    requires call { FitsCall running.old }
+    requires empty { blocks_of hand.now ≡ [] }
+    requires room { wanted ≤ hand.now.data.room }
+    requires pages { wanted + 4 ≤ hand.now.pages.room }
+    requires can { WantsBlocks wanted shared.old hand.now running.old }
+    ensures turn { (told : Told) → IsToldOf running.old told
+        → let s = shared_of shared.old in let h = hand_of hand.now in
+        wants_blocks wanted shared.old.geometry.numbers.block s h (shown told running.old)
+        ≡ turn_of result s h (shown told running.new) }
+    ensures job { KeepsJob running.old running.new }
+    ensures same { shared.new ≡ shared.old }
+    ensures rooms { HasRoomsAfter result shared.new (Hold.Hand hand.now) running.new }
+{
     running.wanted = wanted;
     if wanted == 0 {
         return want_pages(shared, hand, running);

@@ -1,13 +1,13 @@
 //! Blocks go home to one list.
 
-ghost use Rattle.std.specs.Prelude.{◌≡◌, ◌+◌, ◌<◌, ◌≤◌, ℕ, length};
+ghost use Rattle.std.specs.Prelude.{◌≡◌, ◌≢◌, ◌+◌, ◌<◌, ◌≤◌, ℕ, length};
 ghost use Rattle.nv_alloc.specs.Block.{AreSized, numbers_of};
 ghost use Rattle.nv_alloc.specs.Hand.{blocks_of};
 ghost use Rattle.nv_alloc.specs.Numbers.{times};
 ghost use Rattle.nv_machine.specs.Kinds.{blocks_in, give_turn};
 ghost use Rattle.nv_machine.specs.World.{list_at};
 ghost use Rattle.nv_world.specs.Parts.{AreGiven, AreHome, IsOfDevice};
-ghost use Rattle.nv_world.specs.Rooms.{CanEnd, HasRoomsAfter, IsHandOf};
+ghost use Rattle.nv_world.specs.Rooms.{HasRooms, HasRoomsAfter, IsNoVisit};
 ghost use Rattle.nv_world.specs.Shown.{Told, hand_of, shared_of, shown, turn_of};
 ghost use Rattle.nv_world.specs.Told.{KeepsJob, OwesAt};
 
@@ -20,8 +20,8 @@ use nv_alloc::Hand;
 
 /// Gives one list all blocks in the hand that are at home there.
 pub(crate) fn give(shared: &mut Shared, hand: &mut Hand, running: &mut Running, cpu: u64) -> Turn
-    requires call { CanEnd running.old running.old.ending }
-    requires of { IsHandOf shared.old.geometry.numbers hand.old }
+    requires rooms { HasRooms shared.old (Hold.Hand hand.old) running.old }
+    requires job { IsNoVisit running.old.job }
     requires cpu { cpu < shared.old.geometry.numbers.cpus }
     requires home { AreHome shared.old }
     requires device { IsOfDevice shared.old.geometry.numbers hand.old }
@@ -33,9 +33,10 @@ pub(crate) fn give(shared: &mut Shared, hand: &mut Hand, running: &mut Running, 
         → give_turn cpu (shared_of shared.old) (hand_of hand.old) (shown told running.old)
         ≡ turn_of result (shared_of shared.new) (hand_of hand.new) (shown told running.new) }
     ensures job { KeepsJob running.old running.new }
+    ensures goes { result ≢ Turn.Waits }
     ensures rooms { HasRoomsAfter result shared.new (Hold.Hand hand.new) running.new }
     ensures rest { shared.new ≡ record shared.old { lists = shared.new.lists } }
-    ensures lists { length shared.new.lists.items ≡ length shared.old.lists.items }
+    ensures count { length shared.new.lists.items ≡ length shared.old.lists.items }
 {
     hand.give_home(&mut shared.lists[cpu as usize]);
     give_back(shared, hand, running)

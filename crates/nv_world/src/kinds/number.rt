@@ -1,6 +1,6 @@
 //! The number of a new inode is taken.
 
-ghost use Rattle.std.specs.Prelude.{◌≡◌, None, false, length, true};
+ghost use Rattle.std.specs.Prelude.{◌≡◌, ◌≢◌, None, false, length, true};
 ghost use Rattle.nv_machine.specs.Kinds.{go_on, number_turn};
 ghost use Rattle.nv_machine.specs.Reads.{slots_of};
 ghost use Rattle.nv_machine.specs.World as machine;
@@ -24,6 +24,7 @@ pub(crate) fn number(shared: &mut Shared, hand: &mut Hand, running: &mut Running
         number_turn s.pool.numbers s (hand_of hand.old) (shown told running.old)
         ≡ turn_of result (shared_of shared.new) (hand_of hand.new) (shown told running.new) }
     ensures job { KeepsJob running.old running.new }
+    ensures goes { result ≢ Turn.Waits }
     ensures rooms { HasRoomsAfter result shared.new (Hold.Hand hand.new) running.new }
     ensures rest { shared.new ≡ record shared.old { pool = shared.new.pool } }
 {

@@ -1,13 +1,18 @@
 //! The journal is opened.
 
-ghost use Rattle.std.specs.Prelude.{◌≡◌, ◌<◌, ◌≤◌, [], None, length, slice_index_or};
-ghost use Rattle.nv_calls.specs.Ready.{ArePlaced};
+ghost use Rattle.std.specs.Prelude.{◌≡◌};
+ghost use Rattle.nv_base.specs.declared.geometry.GeometryNumbers.{GeometryNumbers};
+ghost use Rattle.nv_calls.specs.Progress.{step_of};
 ghost use Rattle.nv_calls.specs.SlotCells.{lent_cells};
+ghost use Rattle.nv_calls.specs.declared.progress.CommitStep.TheVariants as CommitStep;
 ghost use Rattle.nv_machine.specs.Kinds.{open_turn};
 ghost use Rattle.nv_machine.specs.World.{Moves};
+ghost use Rattle.nv_world.specs.Committing.{IsCommitting};
+ghost use Rattle.nv_world.specs.Frames.{AreOnlyOf};
 ghost use Rattle.nv_world.specs.Parts.{AreSlots};
+ghost use Rattle.nv_world.specs.Rooms.{IsHandOf, committing_cpu};
 ghost use Rattle.nv_world.specs.Shown.{Told, hand_in, shared_of, shown_commit, slots_in};
-ghost use Rattle.nv_world.specs.Told.{IsCommitOf, IsOnItsWay};
+ghost use Rattle.nv_world.specs.Told.{IsCommitOf};
 
 use crate::lent_open::open_in;
 use crate::running::Running;
@@ -17,15 +22,10 @@ use nv_calls::Commit;
 /// Opens the journal of a CPU with the tails of all inodes that get entries.
 pub(crate) fn open(shared: &mut Shared, running: &Running, commit: &mut Commit, cpu: u64)
     requires slots { AreSlots shared.old (slots_in running.now.slots) }
-    requires way { IsOnItsWay commit.old }
-    requires turn { commit.old.appended ≡ length commit.old.plans }
-    requires first { commit.old.published ≡ 0 }
-    requires two { 2 ≤ length commit.old.plans }
-    requires shut { commit.old.journal ≡ None }
-    requires placed { ArePlaced (lent_cells (slots_in running.now.slots) shared.old.cells.items)
-        commit.old.plans }
-    requires cpu { cpu < length shared.old.book.state.journals }
-    requires closed { slice_index_or shared.old.book.state.journals cpu [] ≡ [] }
+    requires committing { IsCommitting (committing_cpu shared.old)
+        (lent_cells (slots_in running.now.slots) shared.old.cells.items) shared.old.book commit.old }
+    requires step { step_of commit.old ≡ CommitStep.Open }
+    requires cpu { committing_cpu shared.old ≡ cpu }
     ensures turn { (told : Told) → IsCommitOf (slots_in running.now.slots) commit.old told
         → open_turn cpu (shared_of shared.old) (hand_in commit.old)
         (shown_commit commit.old told running.now)
@@ -33,7 +33,12 @@ pub(crate) fn open(shared: &mut Shared, running: &Running, commit: &mut Commit, 
         (shown_commit commit.new told running.now) }
     ensures told { (told : Told) → IsCommitOf (slots_in running.now.slots) commit.old told
         → IsCommitOf (slots_in running.now.slots) commit.new told }
-    ensures way { IsOnItsWay commit.new }
+    ensures rooms { IsCommitting (committing_cpu shared.new)
+        (lent_cells (slots_in running.now.slots) shared.new.cells.items) shared.new.book commit.new }
+    ensures hand { (g : GeometryNumbers) → IsHandOf g commit.old.hand → IsHandOf g commit.new.hand }
+    ensures rest { shared.new
+        ≡ record shared.old { cells = shared.new.cells; book = shared.new.book } }
+    ensures cells { AreOnlyOf (slots_in running.now.slots) shared.old shared.new }
 {
     open_in(&mut shared.book, &mut shared.cells, &running.slots, commit, cpu);
 }

@@ -1,10 +1,10 @@
 //! An inode lock is given back.
 
-ghost use Rattle.std.specs.Prelude.{◌≡◌, ◌<◌, length};
+ghost use Rattle.std.specs.Prelude.{◌≡◌, ◌≢◌, ◌<◌, length};
 ghost use Rattle.nv_machine.specs.Kinds.{unlock_turn};
 ghost use Rattle.nv_machine.specs.Reads.{slot_at};
 ghost use Rattle.nv_world.specs.Parts.{AreHome, IsOfDevice};
-ghost use Rattle.nv_world.specs.Rooms.{CanEnd, HasRoomsAfter, IsHandOf};
+ghost use Rattle.nv_world.specs.Rooms.{HasRooms, HasRoomsAfter, IsNoVisit};
 ghost use Rattle.nv_world.specs.Shown.{Told, hand_of, shared_of, shown, slots_in, turn_of};
 ghost use Rattle.nv_world.specs.Told.{KeepsJob, OwesAt};
 
@@ -18,8 +18,8 @@ use nv_alloc::Hand;
 
 /// Unlocks the slot at a place.
 pub(crate) fn unlock(shared: &mut Shared, hand: &Hand, running: &mut Running, place: usize) -> Turn
-    requires call { CanEnd running.old running.old.ending }
-    requires sized { IsHandOf shared.old.geometry.numbers hand.now }
+    requires rooms { HasRooms shared.old (Hold.Hand hand.now) running.old }
+    requires job { IsNoVisit running.old.job }
     requires place { place < length (slots_in running.old.slots) }
     requires there { slot_at (slots_in running.old.slots) place < length shared.old.owners.items }
     requires home { AreHome shared.old }
@@ -29,6 +29,7 @@ pub(crate) fn unlock(shared: &mut Shared, hand: &Hand, running: &mut Running, pl
         unlock_turn place (shared_of shared.old) h (shown told running.old)
         ≡ turn_of result (shared_of shared.new) h (shown told running.new) }
     ensures job { KeepsJob running.old running.new }
+    ensures goes { result ≢ Turn.Waits }
     ensures rooms { HasRoomsAfter result shared.new (Hold.Hand hand.now) running.new }
     ensures rest { shared.new ≡ record shared.old { owners = shared.new.owners } }
 {

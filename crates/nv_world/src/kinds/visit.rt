@@ -1,6 +1,6 @@
 //! The step of a call that reads.
 
-ghost use Rattle.std.specs.Prelude.{◌≡◌, ◌||◌, ℕ, List, [], MatchResult, not};
+ghost use Rattle.std.specs.Prelude.{◌≡◌, ◌≢◌, ◌||◌, ℕ, List, [], MatchResult, not};
 ghost use Rattle.nv_calls.specs.AllCalls.{answer, refusal};
 ghost use Rattle.nv_calls.specs.Locked.{handles};
 ghost use Rattle.nv_calls.specs.Nodes.{IsView, alone, nodes_by, view_refusal};
@@ -38,6 +38,7 @@ pub(crate) fn visit(shared: &Shared, running: &mut Running) -> Turn
         (refusal block (copies s) c) (granted || not (visit_grows c)) (answer (nodes s) r.made c)
         s empty_hand r)
         (turn_of result s empty_hand (shown told running.new)) }
+    ensures ends { result ≢ Turn.Moves }
     ensures waits { result ≡ Turn.Waits → running.new ≡ running.old }
     ensures rooms { (hand : Hand) → HasRooms shared.now (Hold.Hand hand) running.old
         → HasRoomsAfter result shared.now (Hold.Hand hand) running.new }

@@ -3,17 +3,15 @@ use Rattle.std.proofs.lemmas.List.{length-map}
 use Rattle.nv_base.specs.declared.numbers.Handle.{Handle}
 use Rattle.nv_calls.specs.AllCalls.{look_refusal, looked}
 use Rattle.nv_calls.specs.declared.call.Call.{Call}
-use Rattle.nv_calls.specs.declared.call.Call.TheVariants as call
 use Rattle.nv_cell.specs.Cell.{CellValue}
-use Rattle.nv_machine.specs.Kinds.{blocks_in, look_tests, seen_at}
-use Rattle.nv_machine.specs.Reads.{copies, home_from, slots_of}
+use Rattle.nv_machine.specs.Kinds.{look_tests, seen_at}
+use Rattle.nv_machine.specs.Reads.{copies, slots_of}
 use Rattle.nv_machine.specs.Sequence.{directories}
 use Rattle.nv_machine.specs.Step.{handle_at}
 use Rattle.nv_machine.specs.World.{owner_at}
-use Rattle.nv_world.proofs.Looks.{call_by, look_ends, look_moves, nobody, rest_runs}
-use Rattle.nv_world.specs.Shown.{hand_of, next_of, shared_of, shown, slots_in, turn_of}
-use Rattle.nv_world.specs.Told.{looking_at, starting}
-use Rattle.nv_world.specs.declared.turn.Turn.{Turn}
+use Rattle.nv_world.proofs.Looks.{call_by, look_ends, look_moves, nobody}
+use Rattle.nv_world.specs.Shown.{hand_of, next_of, shared_of, shown, slots_in}
+use Rattle.nv_world.specs.Told.{looking_at}
 use Rattle.nv_world.proofs.kinds.look.look.Goals as goal
 
 pub returns-in-Ok-clause-turn : goal.returns-in-Ok-clause-turn
@@ -50,12 +48,3 @@ returns-in-Err-clause-turn c told is =
     ∙ nobody (owner_at s c.directory.result.ino) c.is_locked.result c.is_locked.ensures c.if-is_locked.false)
     (ap (λ (x : Call). look_tests place (look_refusal (copies s) x)) by.1 ∙ look)
     ∙ c.give_back.ensures.turn told (λ e. absurd (cc))
-
-pub returns-in-Err-clause-waits : goal.returns-in-Err-clause-waits
-returns-in-Err-clause-waits c waits =
-    let s = shared_of c.args.shared.now in
-    let h = hand_of c.args.hand.now in
-    let told = starting (call.Stat c.directory.result) in
-    absurd (rest_runs (home_from 0 0 s.lists (blocks_in h)) h.ino s h _
-    (c.give_back.ensures.turn told (λ e. absurd (cc))
-    ∙ ap (λ (t : Turn). turn_of t s h (shown told c.give_back.new.running)) waits))
