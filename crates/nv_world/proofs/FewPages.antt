@@ -1,6 +1,5 @@
 -- The entries of a call need few log pages: each of its runs has one, and there are at most four more.
 use Rattle.std.proofs.Common.{◌≡◌, ℕ, zero, suc, ◌+◌, ◌<◌, ◌≤◌, ◌==◌, ◌/◌, Bool, true, false, cond, List, [], ◌∷◌, ◌++◌, length, replicate, slice_index_or, AllPairs, sum_by, Option, Some, None, arith, refl, ap}
-use Rattle.std.specs.List.{AllByRecursion}
 use Rattle.std.proofs.lemmas.Bool.{eqb-true}
 use Rattle.std.proofs.lemmas.List.{length-append, length-map}
 use Rattle.std.proofs.lemmas.List.Sums.{sum_by-cons}
@@ -8,16 +7,14 @@ use Rattle.nv_alloc.specs.Block.{number_of, numbers_of}
 use Rattle.nv_alloc.specs.declared.hand.Hand.{Hand}
 use Rattle.nv_base.specs.declared.numbers.Handle.{Handle}
 use Rattle.nv_cell.specs.Cell.{CellValue}
-use Rattle.nv_entry.specs.declared.item.Item.{Item}
 use Rattle.nv_entry.specs.declared.item.Item.TheVariants.{SetSize}
 use Rattle.nv_entry.specs.declared.node.NodeCopy.{NodeCopy}
 use Rattle.nv_entry.specs.Bytes.{written}
 use Rattle.nv_entry.specs.Sound.{write_items}
-use Rattle.nv_calls.specs.AllCalls.{looked, plan}
+use Rattle.nv_calls.specs.AllCalls.{plan}
 use Rattle.nv_calls.specs.Nodes.{block_in, nodes_in}
 use Rattle.nv_calls.specs.PagesWanted.{pages_needed, pages_wanted}
 use Rattle.nv_calls.specs.Plain.{same_handle}
-use Rattle.nv_calls.specs.Plan.{runs_of}
 use Rattle.nv_calls.specs.Prepared.{CanReady, planned_by, taken_by}
 use Rattle.nv_calls.specs.Refusals.{bytes_of, found}
 use Rattle.nv_calls.specs.Slots.{items_for}

@@ -1,10 +1,8 @@
 -- What a call takes: it can be made ready with it, it needs few log pages, and its plan is the machine's.
-use Rattle.std.proofs.Common.{◌≡◌, ℕ, zero, suc, ◌+◌, ◌<◌, ◌≤◌, ◌^◌, ◌∙◌, Bool, true, List, [], ◌∷◌, ◌++◌, length, map, arith, refl, ap, sym, subst, subst₂}
-use Rattle.std.specs.Prelude.{option_map, unwrap_or}
+use Rattle.std.proofs.Common.{◌≡◌, ℕ, zero, suc, ◌+◌, ◌<◌, ◌≤◌, ◌^◌, ◌∙◌, Bool, true, List, [], ◌∷◌, ◌++◌, length, arith, refl, ap, sym, subst, subst₂}
 use Rattle.std.specs.List.{AllByRecursion}
 use Rattle.std.proofs.lemmas.List.{length-map}
 use Rattle.nv_alloc.specs.Block.{BlockValue, numbers_of}
-use Rattle.nv_alloc.specs.Hand as alloc
 use Rattle.nv_alloc.specs.declared.hand.Hand.{Hand}
 use Rattle.nv_base.specs.Limits.{IsWithinLimits}
 use Rattle.nv_base.specs.declared.geometry.GeometryNumbers.{GeometryNumbers}
@@ -14,23 +12,21 @@ use Rattle.nv_calls.specs.AllCalls.{blocks_wanted, ends_in_page, plan, refusal}
 use Rattle.nv_calls.specs.AllCalls.{looked as found_in}
 use Rattle.nv_calls.specs.Locked.{handles}
 use Rattle.nv_calls.specs.Nodes.{block_in, has_page_in, nodes_in, plain_nodes}
-use Rattle.nv_calls.specs.PagesWanted as wanted
 use Rattle.nv_calls.specs.Plan.{runs_of}
 use Rattle.nv_calls.specs.Prepared.{CanReady, IsStill, planned_by}
 use Rattle.nv_calls.specs.Refusals.{passes}
 use Rattle.nv_calls.specs.SlotCells.{cell_in, lent_cells}
-use Rattle.nv_calls.specs.Updates.{SamePlan, blank_call, call_of, text_len}
+use Rattle.nv_calls.specs.Updates.{blank_call, call_of, text_len}
 use Rattle.nv_calls.specs.declared.call.Call.{Call}
 use Rattle.nv_calls.specs.declared.call.Call.TheVariants as call
 use Rattle.nv_calls.specs.declared.looked.Looked.{Looked}
 use Rattle.nv_calls.specs.declared.plan.Plan.{Plan}
-use Rattle.nv_calls.specs.declared.plan.Planned.{Planned}
 use Rattle.nv_calls.specs.declared.taken.Taken.{Taken}
 use Rattle.nv_calls.specs.declared.update.Update.{Update}
 use Rattle.nv_calls.proofs.TextLengths.{same_plan}
 use Rattle.nv_cell.specs.Cell.{CellValue}
 use Rattle.nv_machine.specs.Kinds.{wants_pages}
-use Rattle.nv_machine.specs.Reads.{copies, has_last_page, nodes, pages_wanted, plan_by}
+use Rattle.nv_machine.specs.Reads.{copies, nodes, pages_wanted}
 use Rattle.nv_machine.specs.Sequence.{nothing_looked}
 use Rattle.nv_machine.specs.World as machine
 use Rattle.nv_world.proofs.FewPages.{few_pages}
@@ -39,7 +35,7 @@ use Rattle.nv_world.proofs.Plans.{block_same, looks_same, pages_same, planned_sa
 use Rattle.nv_world.specs.Parts.{AreHome, IsOfDevice}
 use Rattle.nv_world.specs.Nodes.{CanRead}
 use Rattle.nv_world.specs.Rooms.{CanWantPages, FitsCall, FitsNext, HasItsBlocks, HasMade, HasRooms, HasTaken, IsChecked, IsHandOf, LooksAsTold, TakesPages, blocks_to_take, pages_to_take}
-use Rattle.nv_world.specs.Shown.{Told, hand_of, shared_of, shown, slots_in}
+use Rattle.nv_world.specs.Shown.{shared_of, slots_in}
 use Rattle.nv_world.specs.Told.{IsChangeBy, IsChangeWith, IsJobOf, IsLookAt, is_change}
 use Rattle.nv_world.specs.declared.job.Job.{Job}
 use Rattle.nv_world.specs.declared.job.Job.TheVariants as job

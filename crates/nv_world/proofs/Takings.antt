@@ -1,5 +1,5 @@
 -- A taking from one list: what is in the hand after it, and the step that comes next.
-use Rattle.std.proofs.Common.{◌≡◌, ◌≢◌, ℕ, zero, suc, ◌+◌, ◌-◌, ◌<◌, ◌≤◌, ◌∙◌, ◌++◌, Bool, true, false, nat_lt, List, [], ◌∷◌, Option, Some, None, arith, ap, drop, length, min, refl, slice_index_or, slice_set, subst, sym, take, length-append, length-take, length-set}
+use Rattle.std.proofs.Common.{◌≡◌, ◌≢◌, ℕ, zero, suc, ◌+◌, ◌-◌, ◌<◌, ◌≤◌, ◌∙◌, ◌++◌, Bool, true, false, nat_lt, List, [], ◌∷◌, Option, Some, None, arith, ap, drop, length, min, refl, slice_index_or, subst, sym, take, length-append, length-take, length-set, mod-lt, ◌%◌}
 use Rattle.std.specs.List.{AllByRecursion}
 use Rattle.std.proofs.lemmas.Bool.{ltb-true, ltb-false}
 use Rattle.nv_alloc.specs.Block.{BlockValue, numbers_of}
@@ -8,21 +8,20 @@ use Rattle.nv_alloc.specs.Queue.{QueueValue}
 use Rattle.nv_alloc.specs.declared.hand.Hand.{Hand}
 use Rattle.nv_base.proofs.HomeRanges.{cuts}
 use Rattle.nv_base.specs.Homes.{home_start}
+use Rattle.nv_base.specs.Limits.{IsWithinLimits}
 use Rattle.nv_base.specs.declared.fault.Fault.TheVariants.{NoSpace}
 use Rattle.nv_base.specs.declared.geometry.GeometryNumbers.{GeometryNumbers}
 use Rattle.nv_base.specs.declared.numbers.Handle.{Handle}
 use Rattle.nv_calls.specs.declared.looked.Looked.{Looked}
 use Rattle.nv_calls.specs.declared.update.Update.{Update}
-use Rattle.nv_machine.specs.Kinds.{again_turn, blocks_turn, end_turn, less_list, over_turn, pages_turn, refuse, rest_turn, wants_pages}
-use Rattle.nv_machine.specs.Reads.{home_from}
+use Rattle.nv_machine.specs.Kinds.{again_turn, blocks_turn, end_turn, less_list, over_turn, pages_turn, refuse, rest_turn, take_blocks_turn, take_pages_turn}
 use Rattle.nv_machine.specs.World as machine
 use Rattle.nv_machine.specs.World.{list_at}
 use Rattle.nv_world.proofs.Gives.{lists_set}
 use Rattle.nv_world.proofs.Homes.{starts_rise}
 use Rattle.nv_world.proofs.Takes.{fits_still, is_changed, over_all}
-use Rattle.nv_world.specs.Nodes.{CanRead}
 use Rattle.nv_world.specs.Parts.{AreHome, AreListsOf, IsListOf, IsOfDevice}
-use Rattle.nv_world.specs.Rooms.{CanWantPages, FitsCall, HasItsBlocks, HasMade, HasRooms, HasRoomsAfter, HasTaken, IsChecked, IsHandOf, Takes, TakesBlocks, TakesIf, TakesPages, blocks_to_take, pages_to_take, takes}
+use Rattle.nv_world.specs.Rooms.{CanWantPages, HasItsBlocks, HasMade, HasRooms, HasRoomsAfter, HasTaken, IsChecked, IsHandOf, Takes, TakesBlocks, TakesIf, TakesPages, blocks_to_take, pages_to_take, takes}
 use Rattle.nv_world.specs.Shown.{Told, hand_of, shared_of, shown, slots_in, turn_of}
 use Rattle.nv_world.specs.Takings.{IsTaken}
 use Rattle.nv_world.specs.Told.{IsChangeWith}
@@ -293,3 +292,118 @@ module _ (old new : Shared) (slots : List ℕ) (hand : Hand) (looked : Looked) (
           room = let room = ap (λ (v : QueueValue). v.room) is.queue in omega (arith, q, room, has.1.1.room);
           list = lt;
         }))
+
+-- ---- the machine's turn, over what is there after it
+
+less_wanted : (n len left : ℕ) → left ≡ n - min n len → n - len ≡ left
+less_wanted n len left q = omega (arith, q)
+
+module _ (told : Told) (old new : Shared) (hand : Hand) (running : Running) (queue : QueueValue) (below cpu asked left : ℕ)
+    (rest : new ≡ record old { lists = new.lists }) (q : left ≡ running.wanted - min running.wanted (length (list_at (shared_of old) cpu).blocks)) where
+  abbrev s : machine.Shared
+  s = shared_of old
+
+  abbrev r : machine.Running
+  r = shown told running
+
+  abbrev more : Bool
+  more = nat_lt (asked + 1) (length old.lists.items)
+
+  pub blocks_became : (block : ℕ)
+      → IsTaken below running.wanted cpu (list_at s cpu) old.lists.items new.lists.items hand.«data» queue
+      → take_blocks_turn cpu asked block s (hand_of hand) r
+      ≡ blocks_turn left more asked block (shared_of new) (hand_of (record hand { «data» = queue })) r
+  blocks_became block is =
+      let h = record (hand_of hand) { blocks = hand.«data».blocks ++ take running.wanted (list_at s cpu).blocks } in
+      ap (λ (n : ℕ). blocks_turn n more asked block (less_list cpu running.wanted s) h r)
+      (less_wanted running.wanted (length (list_at s cpu).blocks) left q)
+      ∙ ap (λ (t : machine.Shared). blocks_turn left more asked block t h r)
+      (sym (less_shared old new below running.wanted cpu hand.«data» queue rest is))
+      ∙ ap (λ (v : QueueValue). blocks_turn left more asked block (shared_of new) (hand_of (record hand { «data» = v })) r) (sym is.queue)
+
+  pub pages_became : IsTaken below running.wanted cpu (list_at s cpu) old.lists.items new.lists.items hand.pages queue
+      → take_pages_turn cpu asked s (hand_of hand) r
+      ≡ pages_turn left more asked (shared_of new) (hand_of (record hand { pages = queue })) r
+  pages_became is =
+      let h = record (hand_of hand) { pages = hand.pages.blocks ++ take running.wanted (list_at s cpu).blocks } in
+      ap (λ (n : ℕ). pages_turn n more asked (less_list cpu running.wanted s) h r)
+      (less_wanted running.wanted (length (list_at s cpu).blocks) left q)
+      ∙ ap (λ (t : machine.Shared). pages_turn left more asked t h r)
+      (sym (less_shared old new below running.wanted cpu hand.pages queue rest is))
+      ∙ ap (λ (v : QueueValue). pages_turn left more asked (shared_of new) (hand_of (record hand { pages = v })) r) (sym is.queue)
+
+-- ---- what holds of the call after it
+
+module _ (old new : Shared) (hand : Hand) (running : Running) (queue : QueueValue) (below cpu asked : ℕ) (list : FreeBlocks)
+    (rest : new ≡ record old { lists = new.lists }) (has : HasRooms old (hold.Hand hand) running) where
+  abbrev geometry : new.geometry ≡ old.geometry
+  geometry = ap (λ (t : Shared). t.geometry) rest
+
+  abbrev cells : new.cells ≡ old.cells
+  cells = ap (λ (t : Shared). t.cells) rest
+
+  abbrev slots : List ℕ
+  slots = slots_in running.slots
+
+  hand_moved : (after : Hand) → after.«data».size ≡ hand.«data».size → after.pages.size ≡ hand.pages.size → IsHandOf new.geometry.numbers after
+  hand_moved after front pages = record {
+    blocks = front ∙ has.1.blocks ∙ ap (λ (t : Shared). t.geometry.numbers.block) (sym rest);
+    pages = pages ∙ has.1.pages ∙ ap (λ (t : Shared). t.geometry.numbers.block) (sym rest);
+  }
+
+  module _ (at : running.next ≡ next.TakeBlocks asked)
+      (is : IsTaken below running.wanted cpu list old.lists.items new.lists.items hand.«data» queue) where
+    pub want_after : 0 ≡ running.wanted - min running.wanted (length list.blocks) → CanWantPages new (record hand { «data» = queue }) running
+    want_after none =
+        over_all _ _ running.job (λ u h.
+        blocks_taken old new slots hand running.looked running.made u below running.wanted cpu asked list queue geometry cells is h none)
+        (takes_at old hand running (next.TakeBlocks asked) at refl has)
+
+    pub rooms_blocks : (left : ℕ) → left ≡ running.wanted - min running.wanted (length list.blocks) → asked + 1 < length new.lists.items
+        → HasRooms new (hold.Hand (record hand { «data» = queue })) (record running { wanted = left; next = next.TakeBlocks (asked + 1) })
+    rooms_blocks left q lt =
+        let had = takes_at old hand running (next.TakeBlocks asked) at refl has in
+        (fits_still running (record running { wanted = left; next = next.TakeBlocks (asked + 1) }) has.0 refl refl refl (is_changed _ running.job had),
+        hand_moved (record hand { «data» = queue }) (ap (λ (v : QueueValue). v.size) is.queue) refl,
+        over_all _ _ running.job (λ u h.
+        blocks_next old new slots hand running.looked running.made u below running.wanted cpu asked list queue geometry cells is h left (asked + 1) q lt)
+        had)
+
+  module _ (at : running.next ≡ next.TakePages asked)
+      (is : IsTaken below running.wanted cpu list old.lists.items new.lists.items hand.pages queue) where
+    pub rooms_taken : 0 ≡ running.wanted - min running.wanted (length list.blocks)
+        → HasRooms new (hold.Hand (record hand { pages = queue })) (record running { wanted = 0; next = next.Ready })
+    rooms_taken none =
+        let had = takes_at old hand running (next.TakePages asked) at refl has in
+        (fits_still running (record running { wanted = 0; next = next.Ready }) has.0 refl refl refl (is_changed _ running.job had),
+        hand_moved (record hand { pages = queue }) refl (ap (λ (v : QueueValue). v.size) is.queue),
+        over_all _ _ running.job (λ u h.
+        pages_taken old new slots hand running.looked running.made u below running.wanted cpu asked list queue geometry cells is h none)
+        had)
+
+    pub rooms_pages : (left : ℕ) → left ≡ running.wanted - min running.wanted (length list.blocks) → asked + 1 < length new.lists.items
+        → HasRooms new (hold.Hand (record hand { pages = queue })) (record running { wanted = left; next = next.TakePages (asked + 1) })
+    rooms_pages left q lt =
+        let had = takes_at old hand running (next.TakePages asked) at refl has in
+        (fits_still running (record running { wanted = left; next = next.TakePages (asked + 1) }) has.0 refl refl refl (is_changed _ running.job had),
+        hand_moved (record hand { pages = queue }) refl (ap (λ (v : QueueValue). v.size) is.queue),
+        over_all _ _ running.job (λ u h.
+        pages_next old new slots hand running.looked running.made u below running.wanted cpu asked list queue geometry cells is h left (asked + 1) q lt)
+        had)
+
+-- ---- what is shared after it
+
+pub count_after : (below n cpu : ℕ) (list : FreeBlocks) (old new : List FreeBlocks) (before after : QueueValue)
+    → IsTaken below n cpu list old new before after → length new ≡ length old
+count_after below n cpu list old new before after is =
+    ap (λ (l : List FreeBlocks). length l) is.lists ∙ length-set old cpu (record list { blocks = drop n list.blocks })
+
+pub home_new : (old new : Shared) (n place : ℕ) (before after : QueueValue) → IsWithinLimits old.geometry.numbers → AreHome old
+    → new ≡ record old { lists = new.lists }
+    → IsTaken old.geometry.numbers.blocks n (place % length old.lists.items) (list_at (shared_of old) (place % length old.lists.items))
+    old.lists.items new.lists.items before after → AreHome new
+home_new old new n place before after limits home rest is =
+    let some : 0 < length old.lists.items = omega (arith, limits.some_cpus, home.count) in
+    subst (λ (g : GeometryNumbers). AreListsOf g new.lists.items) (ap (λ (t : Shared). t.geometry.numbers) (sym rest))
+    (home_after old.geometry.numbers old.geometry.numbers.blocks n (place % length old.lists.items) old.lists.items new.lists.items before after home
+    (mod-lt place some) is)

@@ -1,4 +1,4 @@
-use Rattle.std.proofs.Common.{◌≡◌, ◌∙◌, ap}
+use Rattle.std.proofs.Common.{◌∙◌, ap}
 use Rattle.nv_base.specs.declared.fault.Fault.TheVariants.{NoSpace}
 use Rattle.nv_calls.specs.declared.call.Call.TheVariants.{Stat}
 use Rattle.nv_machine.specs.World as machine

@@ -1,4 +1,4 @@
-use Rattle.std.proofs.Common.{◌≡◌, ◌∙◌, List, ℕ, subst, sym, ap}
+use Rattle.std.proofs.Common.{◌≡◌, ◌∙◌, List, subst, sym, ap}
 use Rattle.nv_calls.specs.PagesWanted.{pages_wanted}
 use Rattle.nv_calls.specs.Prepared.{CanReady, planned_by}
 use Rattle.nv_calls.specs.SlotCells.{lent_cells}

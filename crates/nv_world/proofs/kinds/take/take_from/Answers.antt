@@ -1,4 +1,4 @@
-use Rattle.std.proofs.Common.{◌≡◌, ◌<◌, ◌%◌, ◌∙◌, ◌-◌, ◌++◌, ℕ, List, ap, ap₂, arith, drop, length, min, slice_index_or, slice_set, subst, sym, take}
+use Rattle.std.proofs.Common.{◌≡◌, ◌<◌, ◌%◌, ◌∙◌, ◌-◌, ◌++◌, ℕ, ap, ap₂, arith, drop, length, min, slice_index_or, slice_set, subst, take}
 use Rattle.nv_alloc.specs.FreeList.{FreeBlocks, IsFreeList}
 use Rattle.nv_machine.specs.World.{list_at, no_list}
 use Rattle.nv_world.specs.Shown.{shared_of}

@@ -1,11 +1,9 @@
-use Rattle.std.proofs.Common.{◌≡◌, ◌∙◌, refl, subst, sym}
+use Rattle.std.proofs.Common.{◌≡◌}
 use Rattle.nv_calls.specs.declared.update.Update.{Update}
 use Rattle.nv_machine.specs.Reads.{has_last_page, pages_wanted, plan_by}
-use Rattle.nv_world.specs.Rooms.{HasItsBlocks, HasMade, HasRooms, IsChecked}
+use Rattle.nv_world.specs.Rooms.{HasItsBlocks, HasMade, IsChecked}
 use Rattle.nv_world.specs.Shown.{Told, hand_of, shared_of, shown, slots_in}
 use Rattle.nv_world.specs.Told.{IsToldOf}
-use Rattle.nv_world.specs.declared.hold.Hold.TheVariants as hold
-use Rattle.nv_world.specs.declared.shared.Shared.{Shared}
 use Rattle.nv_world.proofs.Takes.{none_wanted, over_all, rooms_next, rooms_none, some_wanted, wanted_same}
 use Rattle.nv_world.proofs.kinds.take.want_pages.Goals as goal
 use Rattle.nv_world.proofs.kinds.take.want_pages.Goals.{After-pages_by-running}
