@@ -19,5 +19,6 @@ pub mod Sequence
 pub mod SlotLists
 pub mod Starts
 pub mod Takes
+pub mod Takings
 pub mod VisitTurns
 pub mod Visits

@@ -8,6 +8,7 @@ pub mod Rooms
 pub mod Settled
 pub mod Shown
 pub mod Steps
+pub mod Takings
 pub mod Told
 pub mod Visits
 pub mod Worlds
