@@ -1,5 +1,7 @@
 pub mod Among
 pub mod Appends
+pub mod CheckJobs
+pub mod CheckTurns
 pub mod Checks
 pub mod Ends
 pub mod Enters
