@@ -1,30 +1,23 @@
 -- How the check of a call ends it, over its lent cells as in the machine.
-use Rattle.std.proofs.Common.{◌≡◌, ℕ, zero, suc, ◌+◌, ◌*◌, ◌/◌, ◌%◌, ◌<◌, ◌≤◌, ◌⊎◌, inl, inr, ◌==◌, ◌&&◌, ◌||◌, ◌∙◌, not, nat_lt, Bool, true, false, cond, List, [], ◌∷◌, ◌++◌, length, Option, Some, None, arith, refl, ap, ap₂, sym, subst}
-use Rattle.std.specs.Prelude.{Ok, Err, is_some, option_map, unwrap_or}
-use Rattle.std.specs.Option.{ForSome}
+use Rattle.std.proofs.Common.{◌≡◌, ℕ, ◌*◌, ◌/◌, ◌%◌, ◌<◌, ◌≤◌, ◌==◌, ◌&&◌, ◌||◌, ◌∙◌, not, nat_lt, Bool, true, false, cond, List, [], ◌∷◌, length, Option, Some, None, arith, refl, ap, ap₂, sym, subst}
+use Rattle.std.specs.Prelude.{Ok, Err, is_some}
 use Rattle.std.proofs.Math.Nat.{mul-le-mul_right}
 use Rattle.std.proofs.lemmas.Bool.{eqb-true, eq-eqb, ltb-false}
 use Rattle.std.proofs.lemmas.List.{length-map}
 use Rattle.std.proofs.lemmas.Nat.{div-add-mod'}
-use Rattle.nv_base.specs.declared.fault.Fault.{Fault}
 use Rattle.nv_base.specs.declared.fault.Fault.TheVariants as fault
-use Rattle.nv_alloc.specs.Block.{BlockValue}
-use Rattle.nv_alloc.specs.Hand.{blocks_of}
-use Rattle.nv_alloc.specs.declared.hand.Hand.{Hand}
-use Rattle.nv_base.specs.Limits.{IsWithinLimits}
 use Rattle.nv_base.specs.declared.numbers.Handle.{Handle}
 use Rattle.nv_calls.proofs.Nothing.{told_nothing}
 use Rattle.nv_calls.proofs.Passed.{file_passed, if_passed}
 use Rattle.nv_calls.proofs.TextLengths.{same_plan}
 use Rattle.nv_calls.proofs.Within.{size_within, write_within}
-use Rattle.nv_calls.specs.AllCalls.{IsToldNothing, blocks_wanted, early, effect, ends_in_page, is_nothing, late, looked, refusal}
+use Rattle.nv_calls.specs.AllCalls.{blocks_wanted, early, effect, ends_in_page, is_nothing, late, looked, refusal}
 use Rattle.nv_calls.specs.Locked.{SameCall, handles}
-use Rattle.nv_calls.specs.Cells.{AreCells}
-use Rattle.nv_calls.specs.Nodes.{cell_of, has_page_in, nodes_in, plain_nodes, slot_by, slots_by}
+use Rattle.nv_calls.specs.Nodes.{has_page_in, nodes_in, plain_nodes}
 use Rattle.nv_calls.specs.Plain.{Change, same_handle}
-use Rattle.nv_calls.specs.Prepared.{HasNumberFor, IsEmptySlot, made_by, makes, no_handle}
+use Rattle.nv_calls.specs.Prepared.{makes}
 use Rattle.nv_calls.specs.Refusals.{Check, and_then, bytes_of, passes, refuse_if}
-use Rattle.nv_calls.specs.SlotCells.{cell_in, lent_cells}
+use Rattle.nv_calls.specs.SlotCells.{lent_cells}
 use Rattle.nv_calls.specs.Updates.{SamePlan, blank_call, call_of, text_len}
 use Rattle.nv_calls.specs.calls.Size.{cuts_page}
 use Rattle.nv_calls.specs.declared.call.Call.{Call}
@@ -33,31 +26,19 @@ use Rattle.nv_calls.specs.declared.looked.Looked.{Looked}
 use Rattle.nv_calls.specs.declared.taken.Taken.{Taken}
 use Rattle.nv_calls.specs.declared.update.Update.{Update}
 use Rattle.nv_calls.specs.declared.update.Update.TheVariants as update
-use Rattle.nv_cell.specs.Cell.{CellState, CellValue}
+use Rattle.nv_cell.specs.Cell.{CellValue}
 use Rattle.nv_entry.specs.Tree.{root}
 use Rattle.nv_entry.specs.declared.node.NodeCopy.{NodeCopy}
-use Rattle.nv_machine.specs.Kinds.{check_ending, check_turn, end_turn, refuse, wants_blocks, wants_pages}
-use Rattle.nv_machine.specs.Reads.{copies, has_last_page, nodes, pages_wanted, plan_by}
+use Rattle.nv_machine.specs.Kinds.{check_ending}
+use Rattle.nv_machine.specs.Reads.{copies, has_last_page, nodes}
 use Rattle.nv_machine.specs.Sequence.{beginning, directories, nothing_looked}
-use Rattle.nv_machine.specs.Step.{ending_at, is_numbered, made_in, same_found, same_looked, with_made}
-use Rattle.nv_machine.specs.World.{HandState, Overtaken}
-use Rattle.nv_machine.specs.World as machine
-use Rattle.nv_world.proofs.Nodes.{cell_is, lent_call_same, lent_has, lent_of, nodes_agree, page_same}
+use Rattle.nv_machine.specs.Step.{is_numbered, same_found, same_looked}
+use Rattle.nv_machine.specs.World.{Overtaken}
+use Rattle.nv_world.proofs.Nodes.{lent_call_same, nodes_agree, page_same}
 use Rattle.nv_world.proofs.Plans.{looks_same}
 use Rattle.nv_world.proofs.PassesSome.{some_cell}
 use Rattle.nv_world.specs.Nodes.{CanRead, check_ends, ends_over, wanted_over}
-use Rattle.nv_world.specs.Parts.{AreHome}
-use Rattle.nv_world.specs.Rooms.{CanEnd, CanWantPages, FitsCall, HasItsBlocks, HasMade, HasRooms, IsChecked, IsHandOf, IsNoVisit, LooksAsTold, TakesBlocks, WantsBlocks, blocks_to_take}
-use Rattle.nv_world.specs.Shown.{Told, ending_of, hand_of, shared_of, shown, slots_in}
-use Rattle.nv_world.specs.Steps.{CanBeChecked}
-use Rattle.nv_world.specs.Told.{IsChangeWith, IsJobOf, IsLookAt, IsOwed, IsToldOf, OwesAt, is_change}
-use Rattle.nv_world.specs.declared.hold.Hold.TheVariants as hold
-use Rattle.nv_world.specs.declared.job.Job.{Job}
-use Rattle.nv_world.specs.declared.job.Job.TheVariants as job
-use Rattle.nv_world.specs.declared.job.Owed.{Owed}
-use Rattle.nv_world.specs.declared.next.Ending.{Ending as Ended}
-use Rattle.nv_world.specs.declared.next.Next.TheVariants as next
-use Rattle.nv_world.specs.declared.running.Running.{Running}
+use Rattle.nv_world.specs.Shown.{shared_of}
 use Rattle.nv_world.specs.declared.shared.Shared.{Shared}
 
 -- ---- what the looks found
@@ -188,7 +169,8 @@ cuts_same block size present bytes few = go (nat_lt (size / block) 65536) refl w
 -- whatever is told of the page that a size ends in, where it is past the last page
 wanted_told : (shared : Shared) (slots : List ℕ) (n : Handle → Option NodeCopy) (u : Update) (text : List ℕ) (before : Looked)
     → CanRead shared slots (handles before (blank_call u)) → refusal shared.geometry.numbers.block n (blank_call u) ≡ passes
-    → blocks_wanted shared.geometry.numbers.block n (has_last_page shared.geometry.numbers.block (shared_of shared) (call_of u text)) (blank_call u)
+    → blocks_wanted shared.geometry.numbers.block n
+    (has_last_page shared.geometry.numbers.block (shared_of shared) (call_of u text)) (blank_call u)
     ≡ blocks_wanted shared.geometry.numbers.block n
     (ends_in_page (has_page_in (lent_cells slots shared.cells.items)) shared.geometry.numbers.block (blank_call u)) (blank_call u)
 wanted_told shared slots n (update.Create dir name mode) text before can passed = refl
@@ -197,7 +179,8 @@ wanted_told shared slots n (update.Write file offset count) text before can pass
 wanted_told shared slots n (update.Size file size) text before can passed =
     let block : ℕ = shared.geometry.numbers.block in
     let last = (file_passed (n file) (refuse_if (nat_lt (65536 * block) size) fault.FileTooBig passes) passed).1 in
-    let few : size ≤ 65536 * block = ltb-false (65536 * block) size (if_passed (nat_lt (65536 * block) size) fault.FileTooBig passes last).0 in
+    let small = (if_passed (nat_lt (65536 * block) size) fault.FileTooBig passes last).0 in
+    let few : size ≤ 65536 * block = ltb-false (65536 * block) size small in
     ap (λ (cuts : Bool). cond cuts 1 0)
     (cuts_same block size (has_last_page block (shared_of shared) (call.Size file size)) (bytes_of (n file)) few
     ∙ ap (λ (present : Bool). cuts_page block size (nat_lt (size / block) 65536 && present) (bytes_of (n file)))
@@ -323,10 +306,11 @@ module _ (shared : Shared) (slots : List ℕ) (u : Update) (text : List ℕ) (be
   refused_over taken can len found = sym (same_over taken can found).refusal ∙ (blank_over taken len).refusal
 
   pub ends_same : (taken : Taken) (number : Option ℕ) → IsRead → HasText
-      → check_ending (early n c) (same_looked (looked n c) before) (refusal block n c) (is_numbered (beginning c) number) (effect n taken.made c)
-      ≡ ends_over block o before (is_some number) u
+      → check_ending (early n c) (same_looked (looked n c) before) (refusal block n c) (is_numbered (beginning c) number)
+      (effect n taken.made c) ≡ ends_over block o before (is_some number) u
   ends_same taken number can len =
-      ap (λ (numbered : Bool). check_ending (early n c) (same_looked (looked n c) before) (refusal block n c) numbered (effect n taken.made c))
+      ap (λ (numbered : Bool). check_ending (early n c) (same_looked (looked n c) before) (refusal block n c) numbered
+      (effect n taken.made c))
       (numbered_by number u text)
       ∙ ends_by (early n c) (refusal block n c) (late block o before b) (same_looked (looked n c) before) (is_some number || not (makes u))
       (is_nothing b) (effect n taken.made c)
@@ -335,8 +319,8 @@ module _ (shared : Shared) (slots : List ℕ) (u : Update) (text : List ℕ) (be
       ∙ ap (λ (l : Looked). late block o l b) (found_over taken can len ∙ found))
       (λ passed same all. let told = told_nothing block n taken c all in
       (λ none. told.no_effect ((blank_over taken len).nothing ∙ none), λ some. told.some_effect ((blank_over taken len).nothing ∙ some)))
-      ∙ ap₂ (λ (t : Check) (l : Looked). check_ends t (same_looked l before) (late block o before b) (is_some number || not (makes u)) (is_nothing b))
-      (sym (early_over can)) (sym (found_over taken can len))
+      ∙ ap₂ (λ (t : Check) (l : Looked). check_ends t (same_looked l before) (late block o before b) (is_some number || not (makes u))
+      (is_nothing b)) (sym (early_over can)) (sym (found_over taken can len))
 
   pub wanted_same : IsRead → HasText → looked o b ≡ before → refusal block o b ≡ passes
       → blocks_wanted block n (has_last_page block (shared_of shared) c) c ≡ wanted_over block lent u
@@ -368,7 +352,8 @@ pub passes_over : (block : ℕ) (n : Handle → Option NodeCopy) (before : Looke
     → ends_over block n before numbered u ≡ None → Passes block n before numbered u
 passes_over block n before numbered u h =
     let b = blank_call u in
-    let parts = goes_on (early n b) (late block n before b) (same_looked (looked n b) before) (numbered || not (makes u)) (is_nothing b) h in
+    let parts =
+    goes_on (early n b) (late block n before b) (same_looked (looked n b) before) (numbered || not (makes u)) (is_nothing b) h in
     let same = looked_is (looked n b) before parts.1.0 in
     record {
       passed = behind (early n b) (late block n (looked n b) b) parts.0 ∙ ap (λ (l : Looked). late block n l b) same ∙ parts.1.1.0;
@@ -391,6 +376,7 @@ pub overtaken_looks : (block : ℕ) (n : Handle → Option NodeCopy) (before : L
 overtaken_looks block n before numbered u none h =
     looks_anew n before u none (overtakes (early n (blank_call u)) (late block n before (blank_call u))
     (same_looked (looked n (blank_call u)) before) (numbered || not (makes u)) (is_nothing (blank_call u)) h)
+<<<<<<< HEAD
 
 -- ---- by a job
 
@@ -742,3 +728,5 @@ module _ (shared : Shared) (hand : Hand) (running now : Running) (numbered : Boo
         (sym stays) (sym is)
         ∙ ap (λ (h : machine.HandState). wants_blocks wanted after.geometry.numbers.block (shared_of after) h (shown told now)) (sym held)
         ∙ goes
+=======
+>>>>>>> x_check

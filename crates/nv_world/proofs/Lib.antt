@@ -1,6 +1,8 @@
 pub mod Actors
 pub mod Among
 pub mod Appends
+pub mod CheckJobs
+pub mod CheckTurns
 pub mod Checks
 pub mod Closes
 pub mod CommitTurns
