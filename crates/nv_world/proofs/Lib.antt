@@ -38,6 +38,7 @@ pub mod Sequence
 pub mod ShownCalls
 pub mod SlotLists
 pub mod Stages
+pub mod StartShown
 pub mod Starts
 pub mod Stays
 pub mod Takes
