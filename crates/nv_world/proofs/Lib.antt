@@ -27,6 +27,7 @@ pub mod PassTurns
 pub mod Phases
 pub mod Plans
 pub mod Publishes
+pub mod Readies
 pub mod Retires
 pub mod Runs
 pub mod SameCells
