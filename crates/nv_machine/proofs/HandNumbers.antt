@@ -44,7 +44,11 @@ module _ (g : GeometryNumbers) (w : World) (locks : AreLocks w) (all : AreNumber
     | inr begun ↦ (
       omega (arith, inode_inside w.shared n begun.inode, pooled.slots),
       none_true (has w.shared.pool.numbers n) (λ there.
-          omega (arith, counted n w.shared.pool.numbers there, with_inode (cell_at w.shared n) begun.inode,
-          once g w locks all grown pooled n)),
+          omega (
+            arith,
+            counted n w.shared.pool.numbers there,
+            with_inode (cell_at w.shared n) begun.inode,
+            once g w locks all grown pooled n,
+          )),
     )
   ]

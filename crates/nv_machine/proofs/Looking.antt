@@ -155,33 +155,28 @@ wants_blocks_looks : (k : Next) (n block : ℕ) (s : Shared) (h : HandState) (r 
 wants_blocks_looks k zero block s h r has = wants_pages_looks k _ s h r has
 wants_blocks_looks k (suc n) block s h r has = moved k r _ refl refl refl (λ p e. cc) has
 
+some_dirs : (from to : Handle) (b : Bool) → 0 < length (if b then from ∷ [] else from ∷ to ∷ [])
+some_dirs from to true = omega arith
+some_dirs from to false = omega arith
+
 -- where nothing was found and nothing is, that is the same
+not_alike : (before : Looked) → before ≡ nothing_looked → same_looked nothing_looked before ≡ false → ⊥
+not_alike before none e = true≢false (sym (ap (same_looked nothing_looked) none) ∙ e)
+
 alike : (nodes : Handle → Option NodeCopy) (c : Call) (before : Looked) → (directories c ≡ [] → before ≡ nothing_looked)
     → same_looked (looked nodes c) before ≡ false → 0 < length (directories c)
 alike nodes (call.Unlink dir name) before none e = omega arith
 alike nodes (call.Rmdir dir name) before none e = omega arith
-alike nodes (call.Rename from old to new) before none e = go (same_handle from to) where
-  go : (b : Bool) → 0 < length (if b then from ∷ [] else from ∷ to ∷ [])
-  go true = omega arith
-  go false = omega arith
-alike nodes (call.Create dir name mode) before none e =
-    absurd (true≢false (sym (ap (same_looked nothing_looked) (none refl)) ∙ e))
-alike nodes (call.Mkdir dir name mode) before none e =
-    absurd (true≢false (sym (ap (same_looked nothing_looked) (none refl)) ∙ e))
-alike nodes (call.Write file offset text) before none e =
-    absurd (true≢false (sym (ap (same_looked nothing_looked) (none refl)) ∙ e))
-alike nodes (call.Read file offset count) before none e =
-    absurd (true≢false (sym (ap (same_looked nothing_looked) (none refl)) ∙ e))
-alike nodes (call.Size file size) before none e =
-    absurd (true≢false (sym (ap (same_looked nothing_looked) (none refl)) ∙ e))
-alike nodes (call.Mode handle mode) before none e =
-    absurd (true≢false (sym (ap (same_looked nothing_looked) (none refl)) ∙ e))
-alike nodes (call.Stat handle) before none e =
-    absurd (true≢false (sym (ap (same_looked nothing_looked) (none refl)) ∙ e))
-alike nodes (call.List dir) before none e =
-    absurd (true≢false (sym (ap (same_looked nothing_looked) (none refl)) ∙ e))
-alike nodes (call.Lookup dir name) before none e =
-    absurd (true≢false (sym (ap (same_looked nothing_looked) (none refl)) ∙ e))
+alike nodes (call.Rename from old to new) before none e = some_dirs from to (same_handle from to)
+alike nodes (call.Create dir name mode) before none e = absurd (not_alike before (none refl) e)
+alike nodes (call.Mkdir dir name mode) before none e = absurd (not_alike before (none refl) e)
+alike nodes (call.Write file offset text) before none e = absurd (not_alike before (none refl) e)
+alike nodes (call.Read file offset count) before none e = absurd (not_alike before (none refl) e)
+alike nodes (call.Size file size) before none e = absurd (not_alike before (none refl) e)
+alike nodes (call.Mode handle mode) before none e = absurd (not_alike before (none refl) e)
+alike nodes (call.Stat handle) before none e = absurd (not_alike before (none refl) e)
+alike nodes (call.List dir) before none e = absurd (not_alike before (none refl) e)
+alike nodes (call.Lookup dir name) before none e = absurd (not_alike before (none refl) e)
 
 overtaken_names : (block : ℕ) (s : Shared) (h : HandState) (r : Running) → HasLooks Check r → ending_at block s h r ≡ Some Overtaken
     → 0 < length (directories r.call)
@@ -288,10 +283,7 @@ go_looks true (Some r) w actor granted there is all =
 looks_have : (c : Call) → beginning c ≡ Looks → 0 < length (directories c)
 looks_have (call.Unlink dir name) e = omega arith
 looks_have (call.Rmdir dir name) e = omega arith
-looks_have (call.Rename from old to new) e = go (same_handle from to) where
-  go : (b : Bool) → 0 < length (if b then from ∷ [] else from ∷ to ∷ [])
-  go true = omega arith
-  go false = omega arith
+looks_have (call.Rename from old to new) e = some_dirs from to (same_handle from to)
 looks_have (call.Create dir name mode) e = cc
 looks_have (call.Mkdir dir name mode) e = cc
 looks_have (call.Write file offset text) e = cc

@@ -8,7 +8,7 @@ use Rattle.nv_alloc.specs.Block.{AreSized, BlockValue, numbers_of}
 use Rattle.nv_calls.specs.Retiring.{erased, is_erased, retired}
 use Rattle.nv_calls.proofs.Appends.{front, map-drop, map-take}
 use Rattle.nv_cell.specs.Append.{IsWithinFile, appended, blocks_for}
-use Rattle.nv_cell.specs.Cell.{CellState, HasBlocks, HasMarks, empty_cell, log_of, number_in, page_block, published, without_part}
+use Rattle.nv_cell.specs.Cell.{CellState, empty_cell, log_of, number_in, page_block, published, without_part}
 use Rattle.nv_cell.specs.Marks.{mark_at}
 use Rattle.nv_cell.specs.Numbers.{part_base, published_mark}
 use Rattle.nv_cell.specs.declared.killed.KilledPart.{KilledPart}
@@ -24,17 +24,9 @@ use Rattle.nv_entry.specs.Covered.{is_covered, part_total}
 use Rattle.nv_entry.specs.declared.item.Entry.{Entry}
 use Rattle.nv_machine.specs.Kept.{AreCovered}
 use Rattle.nv_machine.specs.Kinds.{with_entries, with_pages}
+use Rattle.nv_machine.specs.Whole.{HasItsParts}
 use Rattle.nv_machine.proofs.HeldParts.{past_log}
 use Rattle.nv_machine.proofs.Parted.{entry_blocks, sized_first, sized_later}
-
--- ---- what holds of a cell
-
--- each published part has its mark, and each page that is not out its block, of the device's size
-pub record HasItsParts (block : ℕ) (cell : CellState) : Type 0 where
-  pub size : cell.block ≡ block
-  pub within : cell.chain.tail ≤ length cell.chain.entries
-  pub marks : HasMarks cell
-  pub blocks : HasBlocks cell
 
 -- ---- more log pages, and more entries
 

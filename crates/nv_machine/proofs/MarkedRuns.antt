@@ -22,6 +22,7 @@ use Rattle.nv_machine.specs.Kinds.{blocks_in, entries_for, first_killed, retired
 use Rattle.nv_machine.specs.Locks.{AreLocks}
 use Rattle.nv_machine.specs.Reads.{bytes_among, pages_needed, slot_at, written_slots}
 use Rattle.nv_machine.specs.Step.{after, go_step, start_step, step, turn, turned}
+use Rattle.nv_machine.specs.Whole.{HasItsParts, HaveTheirParts}
 use Rattle.nv_machine.specs.World.{Append, Back, Check, Close, Ends, Enter, Event, Give, Go, HandState, Leave, Lock, Look, Moves, Next, Number, Open, Publish, Ready, Retire, Running, Shared, Start, TakeBlocks, TakePages, Turn, Unlock, Visit, Waits, World, actor_at, cell_at, no_cell, with_cell}
 use Rattle.nv_machine.proofs.Checking.{own_bytes}
 use Rattle.nv_machine.proofs.FromScratch.{all_numbers}
@@ -32,16 +33,13 @@ use Rattle.nv_machine.proofs.Kept.{AfterTurn, back_deed, deed, number_deed, turn
 use Rattle.nv_machine.proofs.Locked.{Before}
 use Rattle.nv_machine.proofs.Locks.{before}
 use Rattle.nv_machine.proofs.LogsKept.{cell_set}
-use Rattle.nv_machine.proofs.Marked.{HasItsParts, empty_parts, entries_parts, erased_parts, paged_parts, published_parts, retired_parts}
+use Rattle.nv_machine.proofs.Marked.{empty_parts, entries_parts, erased_parts, paged_parts, published_parts, retired_parts}
 use Rattle.nv_machine.proofs.Numbered.{lent_inside}
 use Rattle.nv_machine.proofs.PageEvents.{logs_paged}
 use Rattle.nv_machine.proofs.Reached.{reached}
 use Rattle.nv_machine.proofs.Sound.{entries_within, sized_left}
 
 -- ---- one cell is another
-
-abbrev pub HaveTheirParts : ℕ → Shared → Type 0
-HaveTheirParts block s = (ino : ℕ) → ino < length s.cells → HasItsParts block (cell_at s ino)
 
 set_parts : (block slot : ℕ) (cell : CellState) (s : Shared) → slot < length s.cells → HasItsParts block cell → HaveTheirParts block s
     → HaveTheirParts block (with_cell slot cell s)

@@ -30,4 +30,5 @@ pub mod Step
 pub mod Takings
 pub mod Versions
 pub mod Wanted
+pub mod Whole
 pub mod World

@@ -1,6 +1,8 @@
 pub mod Actors
 pub mod Among
 pub mod Appends
+pub mod CheckJobs
+pub mod CheckTurns
 pub mod Checks
 pub mod Closes
 pub mod CommitTurns
@@ -24,17 +26,20 @@ pub mod Nodes
 pub mod Opens
 pub mod Others
 pub mod PassTurns
+pub mod PassesSome
 pub mod Phases
 pub mod Plans
 pub mod Publishes
 pub mod Readies
 pub mod Retires
+pub mod RoomsAfter
 pub mod Runs
 pub mod SameCells
 pub mod Sequence
 pub mod ShownCalls
 pub mod SlotLists
 pub mod Stages
+pub mod StartShown
 pub mod Starts
 pub mod Stays
 pub mod Takes
@@ -42,4 +47,5 @@ pub mod Takings
 pub mod Turns
 pub mod VisitTurns
 pub mod Visits
+pub mod WorldKept
 pub mod WorldSteps

@@ -1,5 +1,5 @@
 -- The nodes that a call reads over the cells of its slots are those of the machine.
-use Rattle.std.proofs.Common.{◌≡◌, ℕ, zero, suc, ◌<◌, ◌≤◌, ◌==◌, ◌∙◌, Bool, true, false, true≢false, cond, List, [], ◌∷◌, ◌++◌, length, map, Option, Some, None, arith, refl, ap, ap₂, sym, subst, nat_lt}
+use Rattle.std.proofs.Common.{◌≡◌, ℕ, ◌<◌, ◌≤◌, ◌==◌, ◌∙◌, Bool, true, false, cond, List, [], ◌∷◌, length, map, Option, Some, None, arith, refl, ap, sym, subst, nat_lt}
 use Rattle.std.specs.Prelude.{is_some, option_and_then, slice_index_or, option_map, unwrap_or}
 use Rattle.std.specs.List.{AllByRecursion, AllPairs}
 use Rattle.std.proofs.lemmas.Bool.{eqb-true, eq-eqb, ltb-true, ltb-false}
@@ -8,24 +8,22 @@ use Rattle.nv_alloc.specs.Numbers.{has}
 use Rattle.nv_base.specs.declared.numbers.Handle.{Handle}
 use Rattle.nv_calls.specs.Cells.{AreCells, no_cell}
 use Rattle.nv_calls.specs.Locked.{Agree, SameCall, handles}
-use Rattle.nv_calls.specs.Nodes.{HasBytes, alone, cell_of, has_page_in, own_node, plain_nodes, slots_by, with_bytes}
-use Rattle.nv_calls.specs.Plain.{PlainNode, node_in, stamped}
+use Rattle.nv_calls.specs.Nodes.{alone, cell_of, has_page_in, own_node, plain_nodes, slots_by, with_bytes}
+use Rattle.nv_calls.specs.Plain.{stamped}
 use Rattle.nv_calls.specs.Slots.{last_commit, node_under}
 use Rattle.nv_cell.specs.Pages.{own_bytes}
 use Rattle.nv_entry.specs.Node.{block_now, node_now}
 use Rattle.nv_calls.specs.SlotCells.{cell_in, lent_cells}
 use Rattle.nv_calls.specs.declared.call.Call.{Call}
-use Rattle.nv_calls.specs.declared.call.Call.TheVariants as call
-use Rattle.nv_calls.specs.AllCalls.{early, looked}
+use Rattle.nv_calls.specs.AllCalls.{looked}
 use Rattle.nv_calls.specs.declared.taken.Taken.{Taken}
 use Rattle.nv_calls.proofs.NodesHeld.{nodes_are}
 use Rattle.nv_calls.proofs.Same.{call_same}
 use Rattle.nv_cell.specs.Cell.{CellState, CellValue, log_of}
 use Rattle.nv_machine.specs.Reads.{bytes_among, copies, node_of, nodes}
-use Rattle.nv_machine.specs.Sequence.{nothing_looked}
 use Rattle.nv_machine.specs.World.{cell_at}
 use Rattle.nv_machine.specs.World as machine
-use Rattle.nv_world.specs.Nodes.{CanRead, HasOwn, HoldHandles}
+use Rattle.nv_world.specs.Nodes.{CanRead, HasOwn}
 use Rattle.nv_world.specs.Shown.{shared_of}
 use Rattle.nv_world.specs.declared.shared.Shared.{Shared}
 
@@ -59,7 +57,8 @@ lent_each P (n ∷ slots) all ino h each = go (n == ino) refl h (lent_each P slo
   go false q h rest = let h = rw q at h in rest h each.1
 
 -- the cells of slots that rise are those of a call
-pub lent_are : (slots : List ℕ) (all : List CellValue) → length slots ≤ 4 → AllPairs (λ (a b : ℕ). a < b) slots → AreCells (lent_cells slots all)
+pub lent_are : (slots : List ℕ) (all : List CellValue) → length slots ≤ 4 → AllPairs (λ (a b : ℕ). a < b) slots
+    → AreCells (lent_cells slots all)
 lent_are slots all few rising = record {
   few = omega (arith, few, length-map slots lend);
   rising = λ i j d before within.
@@ -73,7 +72,8 @@ lent_are slots all few rising = record {
   lend ino = (ino, cell_in all ino)
 
 -- a slot that is lent is one of them
-pub lent_has : (slots : List ℕ) (all : List CellValue) (ino : ℕ) → is_some (cell_of (lent_cells slots all) ino) ≡ true → has slots ino ≡ true
+pub lent_has : (slots : List ℕ) (all : List CellValue) (ino : ℕ) → is_some (cell_of (lent_cells slots all) ino) ≡ true
+    → has slots ino ≡ true
 lent_has slots all ino lent = go (has slots ino) refl where
   go : (b : Bool) → has slots ino ≡ b → b ≡ true
   go true h = refl

@@ -1,20 +1,20 @@
 -- A call looks up, plans and wants over the cells of its slots what it does in the machine.
-use Rattle.std.proofs.Common.{◌≡◌, ℕ, zero, suc, ◌+◌, ◌<◌, ◌∙◌, Bool, true, List, [], ◌∷◌, length, map, replicate, Option, arith, refl, ap, ap₂, sym, subst}
-use Rattle.std.specs.Prelude.{slice_index_or, unwrap_or}
+use Rattle.std.proofs.Common.{◌≡◌, ℕ, suc, ◌<◌, ◌∙◌, Bool, true, List, [], ◌∷◌, length, map, replicate, Option, arith, refl, ap, ap₂, sym, subst}
+use Rattle.std.specs.Prelude.{unwrap_or}
 use Rattle.std.specs.List.{sum}
 use Rattle.std.proofs.lemmas.List.Sums.{sum-map}
 use Rattle.nv_alloc.specs.Block.{numbers_of}
 use Rattle.nv_alloc.specs.declared.hand.Hand.{Hand}
 use Rattle.nv_base.specs.declared.numbers.Handle.{Handle}
 use Rattle.nv_calls.proofs.TextLengths.{same_plan}
-use Rattle.nv_calls.specs.AllCalls.{blocks_wanted, early, looked, plan}
+use Rattle.nv_calls.specs.AllCalls.{early, looked, plan}
 use Rattle.nv_calls.specs.Locked.{Agree, handles}
-use Rattle.nv_calls.specs.Nodes.{block_in, has_page_in, nodes_in, plain_nodes}
+use Rattle.nv_calls.specs.Nodes.{block_in, has_page_in, nodes_in}
 use Rattle.nv_calls.specs.PagesWanted as wanted
 use Rattle.nv_calls.specs.Plain.{PlainNode, node_in}
 use Rattle.nv_calls.specs.Plan.{runs_of}
 use Rattle.nv_calls.specs.Prepared.{made_by, makes, no_handle, planned_by, taken_by}
-use Rattle.nv_calls.specs.SlotCells.{cell_in, lent_cells}
+use Rattle.nv_calls.specs.SlotCells.{lent_cells}
 use Rattle.nv_calls.specs.Slots.{items_for}
 use Rattle.nv_calls.specs.Updates.{SamePlan, blank_call, call_of, text_len}
 use Rattle.nv_calls.specs.calls.Create.{create_plan}
@@ -30,11 +30,11 @@ use Rattle.nv_calls.specs.declared.update.Update.{Update}
 use Rattle.nv_calls.specs.declared.update.Update.TheVariants as update
 use Rattle.nv_cell.specs.Cell.{CellState, CellValue}
 use Rattle.nv_log.specs.Chain.{pages_for}
-use Rattle.nv_machine.specs.Reads.{copies, nodes, pages_needed, pages_wanted}
+use Rattle.nv_machine.specs.Reads.{copies, pages_needed, pages_wanted}
 use Rattle.nv_machine.specs.Sequence.{nothing_looked}
 use Rattle.nv_world.proofs.Nodes.{cell_is, lent_call_same}
 use Rattle.nv_world.specs.Nodes.{CanRead}
-use Rattle.nv_world.specs.Parts.{AreSlots, HaveSlots}
+use Rattle.nv_world.specs.Parts.{AreSlots}
 use Rattle.nv_world.specs.Shown.{shared_of}
 use Rattle.nv_world.specs.declared.shared.Shared.{Shared}
 

@@ -1,10 +1,10 @@
 -- A run goes on by one event.
-use Rattle.std.proofs.Common.{◌≡◌, ◌∙◌, ℕ, Bool, List, [], ◌∷◌, ◌++◌, ap, arith, length, map, refl, rw, subst, sym}
+use Rattle.std.proofs.Common.{◌≡◌, ◌∙◌, ℕ, Bool, List, [], ◌∷◌, ◌++◌, ap, arith, length, map, refl, subst, sym}
 use Rattle.nv_machine.specs.Step as machine_step
 use Rattle.nv_machine.specs.World as machine
 use Rattle.nv_world.specs.declared.event.Event.{Event}
 use Rattle.nv_world.specs.declared.event.Reply.{Reply}
-use Rattle.nv_world.specs.declared.world.World.{World}
+use Rattle.nv_world.specs.Worlds.{WorldState}
 use Rattle.nv_world.specs.Worlds.{IsRun, IsStep, Shows, event_of, events_of, reply_of}
 
 events-snoc : (events : List Event) (grants : List Bool) (e : Event) (granted : Bool) → length grants ≡ length events
@@ -15,7 +15,7 @@ events-snoc (first ∷ events) (g ∷ grants) e granted same =
 events-snoc [] (g ∷ grants) e granted same = absurd (omega (arith, same))
 events-snoc (first ∷ events) [] e granted same = absurd (omega (arith, same))
 
-after-snoc : (m : machine.World) (events : List machine.Event) (e : machine.Event)
+pub after-snoc : (m : machine.World) (events : List machine.Event) (e : machine.Event)
     → machine_step.after m (events ++ e ∷ []) ≡ (machine_step.step (machine_step.after m events) e).world
 after-snoc m [] e = refl
 after-snoc m (first ∷ events) e = after-snoc (machine_step.step m first).world events e
@@ -39,7 +39,7 @@ count-snoc (a ∷ xs) (b ∷ ys) x y same = omega (arith, count-snoc xs ys x y (
 count-snoc [] (b ∷ ys) x y same = absurd (omega (arith, same))
 count-snoc (a ∷ xs) [] x y same = absurd (omega (arith, same))
 
-pub run-snoc : (m : machine.World) (events : List Event) (replies : List Reply) (mid new : World) (e : Event) (reply : Reply)
+pub run-snoc : (m : machine.World) (events : List Event) (replies : List Reply) (mid new : WorldState) (e : Event) (reply : Reply)
     → IsRun m events replies mid → ((n : machine.World) → Shows mid n → IsStep n e reply new)
     → IsRun m (events ++ e ∷ []) (replies ++ reply ∷ []) new
 run-snoc m events replies mid new e reply run by =
@@ -58,5 +58,5 @@ run-snoc m events replies mid new e reply run by =
           (sym (after-snoc m done (event_of e step.granted)) ∙ ap (λ es. machine_step.after m es) (sym all)) step.shows;
     }
 
-pub run-none : (m : machine.World) (w : World) → Shows w m → IsRun m [] [] w
+pub run-none : (m : machine.World) (w : WorldState) → Shows w m → IsRun m [] [] w
 run-none m w shows = record { grants = []; count = refl; replies_are = refl; shows = shows }

@@ -64,7 +64,7 @@ shows_set w m actor state x shared shows lt same one = record {
         (subst (λ (s : Actor). ShowsActor s (actor_at m k)) (sym a) (shows.each k d small))
 
 -- an actor that is put back where it was
-set_back : (actors : List Actor) (actor : ℕ) (state : Actor) (d : Actor) → actor < length actors → slice_index_or actors actor d ≡ state
+pub set_back : (actors : List Actor) (actor : ℕ) (state : Actor) (d : Actor) → actor < length actors → slice_index_or actors actor d ≡ state
     → slice_set actors actor state ≡ actors
 set_back actors actor state d lt is =
     ext_get_or d (slice_set actors actor state) actors (length-set actors actor state) (λ k small. each k) where

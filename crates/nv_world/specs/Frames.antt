@@ -1,13 +1,8 @@
 -- What a step leaves to the other actors.
-use Rattle.std.specs.Prelude.{◌≡◌, ◌≢◌, ℕ, false, List, length, Some}
+use Rattle.std.specs.Prelude.{◌≡◌, ◌≢◌, ℕ, false, List, length, Option, Some, None}
 use Rattle.nv_alloc.specs.Numbers.{has}
-use Rattle.nv_calls.specs.SlotCells.{cell_in}
+use Rattle.nv_calls.specs.SlotCells.{cell_in, other_cells}
 use Rattle.nv_world.specs.declared.shared.Shared.{Shared}
-
--- of the cells only those of these slots change
-pub record AreOnlyOf (held : List ℕ) (old new : Shared) : Type 0 where
-  pub count : length new.cells.items ≡ length old.cells.items
-  pub cells : (ino : ℕ) → has held ino ≡ false → cell_in new.cells.items ino ≡ cell_in old.cells.items ino
 
 -- a step of an actor that holds these slots leaves all other cells as they were, and the book where another actor commits
 pub record LeavesRest (actor : ℕ) (held : List ℕ) (old new : Shared) : Type 0 where
@@ -16,3 +11,12 @@ pub record LeavesRest (actor : ℕ) (held : List ℕ) (old new : Shared) : Type 
   pub count : length new.cells.items ≡ length old.cells.items
   pub cells : (ino : ℕ) → has held ino ≡ false → cell_in new.cells.items ino ≡ cell_in old.cells.items ino
   pub book : (other : ℕ) → old.holder ≡ Some other → other ≢ actor → (new.book ≡ old.book) × (new.holder ≡ old.holder)
+
+-- the cells of all other slots are as they were
+pub record LeavesCells (slots : List ℕ) (old new : Shared) : Type 0 where
+  pub geometry : new.geometry ≡ old.geometry
+  pub lists : new.lists ≡ old.lists
+  pub owners : new.owners ≡ old.owners
+  pub holder : new.holder ≡ old.holder
+  pub count : length new.cells.items ≡ length old.cells.items
+  pub others : other_cells slots new.cells.items ≡ other_cells slots old.cells.items

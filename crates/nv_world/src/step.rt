@@ -1,14 +1,16 @@
 //! The steps of a world.
 
 ghost use Rattle.std.specs.Prelude.{None, Some, ◌≡◌, ◌≢◌, IfErr, IfOk, OnErr, [], vec_capacity};
-ghost use Rattle.nv_base.specs.declared.fault.Fault.TheVariants.{ActorIdle, OutOfMemory};
+ghost use Rattle.nv_base.specs.declared.fault.Fault.TheVariants.{ActorBusy, ActorIdle, OutOfMemory};
 ghost use Rattle.nv_machine.specs.World as machine;
 ghost use Rattle.nv_machine.specs.Step as machine_step;
 ghost use Rattle.nv_calls.specs.Progress.{step_of};
 ghost use Rattle.nv_world.specs.Rooms.{HasActorRooms, HasRooms, HasRoomsAfter};
+ghost use Rattle.nv_machine.specs.Sequence.{beginning, begun};
+ghost use Rattle.nv_world.specs.Shown.{shared_of};
 ghost use Rattle.nv_world.specs.Steps.{CanStep, PassesOn};
 ghost use Rattle.nv_world.specs.Turns.{CanGo, HasTurned, IsTurn, LeavesOthers};
-ghost use Rattle.nv_world.specs.Worlds.{IsRun, IsStep, Shows, ShowsCall};
+ghost use Rattle.nv_world.specs.Worlds.{IsRun, IsStep, Shows, ShowsCall, ShowsRunning};
 
 use crate::hold::Hold;
 use crate::kinds::append::append;
@@ -82,14 +84,10 @@ impl World {
         ensures { (m : machine.World) → Shows self.old m
             → IsStep m (Event.Start actor call) result self.new }
     {
-        let Some(state) = self.actors.get_mut(actor as usize) else {
-            return Reply::Refused(Fault::NoActor);
-        };
-        if state.running.is_some() {
-            return Reply::Refused(Fault::ActorBusy);
+        match self.actors.get_mut(actor as usize) {
+            Some(state) => begin(self.alloc, &self.shared, state, call),
+            None => Reply::Refused(Fault::NoActor),
         }
-        state.running = Some(Running::started(self.alloc, &self.shared, call));
-        Reply::Started
     }
 
     fn go(&mut self, actor: u64) -> Reply
@@ -100,6 +98,24 @@ impl World {
             None => Reply::Refused(Fault::NoActor),
         }
     }
+}
+
+/// An actor without a call starts one.
+fn begin(alloc: Global, shared: &Shared, state: &mut Actor, call: Call) -> Reply
+    requires rooms { HasActorRooms shared.now state.old.hold state.old.running }
+    ensures busy { (running : Running) → state.old.running ≡ Some running
+        → (result ≡ Reply.Refused ActorBusy) × (state.new ≡ state.old) }
+    ensures starts { state.old.running ≡ None → (result ≡ Reply.Started)
+        × (state.new.hold ≡ state.old.hold)
+        × ShowsRunning state.new.hold state.new.running
+        (Some (begun (beginning call) (shared_of shared.now) call)) }
+    ensures rooms { HasActorRooms shared.now state.new.hold state.new.running }
+{
+    if state.running.is_some() {
+        return Reply::Refused(Fault::ActorBusy);
+    }
+    state.running = Some(Running::started(alloc, shared, call));
+    Reply::Started
 }
 
 /// The call of an actor goes on by one step.

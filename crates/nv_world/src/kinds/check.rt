@@ -93,9 +93,9 @@ fn ending_of(shared: &mut Shared, running: &Running, has_number: bool) -> Option
     requires change { is_change running.now.job ≡ true }
     ensures same { shared.new ≡ shared.old }
     ensures ends { let lent = lent_cells (slots_in running.now.slots) shared.old.cells.items in
+        let block = shared.old.geometry.numbers.block in
         IsChangeWith (λ u. option_map ending_of result
-        ≡ ends_over shared.old.geometry.numbers.block (nodes_in lent) running.now.looked has_number u)
-        running.now.job }
+        ≡ ends_over block (nodes_in lent) running.now.looked has_number u) running.now.job }
 {
     let block = shared.block();
     let update = &running.plan().update;
@@ -115,7 +115,8 @@ fn ending_in(
     requires some_bytes { 0 < block }
     requires few_bytes { block ≤ BLOCK_BYTES }
     ensures same { cells.new ≡ cells.old }
-    ensures ends { let lent = lent_cells (slots_in slots.now) cells.old in option_map ending_of result
+    ensures ends { let lent = lent_cells (slots_in slots.now) cells.old in
+        option_map ending_of result
         ≡ ends_over block (nodes_in lent) before.now has_number update.now }
 {
     let slots = slots.as_slice();
@@ -157,7 +158,8 @@ fn ending_over<N: Nodes>(
 
 /// Whether the names of a call still lead to what its looks found.
 fn is_same<N: Nodes>(nodes: &N, before: &Looked, update: &Update) -> bool
-    ensures { result ≡ same_looked (looked (N.nodes_of nodes.now) (blank_call update.now)) before.now }
+    ensures { result
+        ≡ same_looked (looked (N.nodes_of nodes.now) (blank_call update.now)) before.now }
 {
     is_as_looked(nodes, before, update)
 }
@@ -176,7 +178,8 @@ fn wanted_by(shared: &mut Shared, running: &Running) -> u64
     requires change { is_change running.now.job ≡ true }
     ensures same { shared.new ≡ shared.old }
     ensures wanted { let lent = lent_cells (slots_in running.now.slots) shared.old.cells.items in
-        IsChangeWith (λ u. result ≡ wanted_over shared.old.geometry.numbers.block lent u) running.now.job }
+        let block = shared.old.geometry.numbers.block in
+        IsChangeWith (λ u. result ≡ wanted_over block lent u) running.now.job }
 {
     let block = shared.block();
     wanted_in(block, &mut shared.cells, &running.slots, &running.plan().update)
@@ -205,7 +208,8 @@ fn make_room(hand: &mut Hand, blocks: u64) -> Result<(), Fault>
       «data» = record hand.old.data { room = hand.new.data.room };
       pages = record hand.old.pages { room = hand.new.pages.room };
     } }
-    ensures ok { IfOk result (λ _. (blocks ≤ hand.new.data.room) × (blocks + 4 ≤ hand.new.pages.room)) }
+    ensures ok { IfOk result
+        (λ _. (blocks ≤ hand.new.data.room) × (blocks + 4 ≤ hand.new.pages.room)) }
     ensures err { FailsOnly OutOfMemory result }
 {
     hand.data.reserve(blocks)?;

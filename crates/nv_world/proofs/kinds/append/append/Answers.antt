@@ -77,8 +77,8 @@ returns-clause-place c told is placed plan =
     (state_at (lent_cells (slots_in c.args.running.now.slots) c.deref_mut.result.now) (to_append c.args.commit.now).at).chain told
     c.args.running.now.slots.rising c.append_in.ensures.commit (append_due c.args.commit.now c.requires.step) is placed plan
 
-pub returns-clause-rooms : goal.returns-clause-rooms
-returns-clause-rooms c =
+pub returns-clause-committing : goal.returns-clause-committing
+returns-clause-committing c =
     let cells = c.args.shared.now.cells.items in
     let slots = slots_in c.args.running.now.slots in
     let old = c.args.commit.now in
@@ -96,32 +96,27 @@ returns-clause-rooms c =
     c.append_in.ensures.commit)
     c.append_in.ensures.ready)
 
-pub returns-clause-hand : goal.returns-clause-hand
-returns-clause-hand c g is =
-    subst (λ (x : CommitValue). IsHandOf g x.hand) (sym c.append_in.ensures.commit) (record { blocks = is.blocks; pages = is.pages })
+pub returns-clause-sized : goal.returns-clause-sized
+returns-clause-sized c =
+    subst (λ (x : CommitValue). IsHandOf c.args.shared.now.geometry.numbers x.hand) (sym c.append_in.ensures.commit) (record { blocks = c.requires.sized.blocks; pages = c.requires.sized.pages })
 
-pub returns-clause-cells : goal.returns-clause-cells
-returns-clause-cells c =
+pub returns-clause-rest : goal.returns-clause-rest
+returns-clause-rest c =
     let cells = c.args.shared.now.cells.items in
     let slots = slots_in c.args.running.now.slots in
-    let old = c.args.commit.now in
-    let k = (to_append old).at in
     let new = c.append_in.new.cells in
     let was : c.deref_mut.result.now ≡ cells = c.deref_mut.ensures.value in
     let many : length new ≡ length cells = subst (λ (xs : List CellValue). length new ≡ length xs) was c.append_in.ensures.count in
     let whole = with_items_is c.args.shared.now.cells new (omega (arith, many, c.args.shared.now.cells.ok.0)) in
-    let within : k < length slots =
-    omega (arith, append_within _ _ _ old c.requires.committing (append_due old c.requires.step),
-    lent_count slots cells) in
-    let value : CellValue = with_plan old.stamp old.place (to_append old).items old.hand (value_at (lent_cells slots cells) k) in
-    let lent : lent_cells slots new ≡ with_value (lent_cells slots cells) k value =
-    subst (λ (xs : List CellValue). lent_cells slots new ≡ with_value (lent_cells slots xs) k
-    (with_plan old.stamp old.place (to_append old).items old.hand (value_at (lent_cells slots xs) k))) was c.append_in.ensures.cells in
-    let only : IsOnlyAt (slot_at slots k) cells new =
-    only_among slots cells new k many within
-    c.args.running.now.slots.rising c.requires.slots (lent_only slots cells new k value within lent)
-    (subst (λ (xs : List CellValue). other_cells slots new ≡ other_cells slots xs) was c.append_in.ensures.others) in
     record {
+      geometry = refl;
+      lists = refl;
+      owners = refl;
+      holder = refl;
       count = ap (λ (xs : List CellValue). length xs) whole ∙ many;
-      cells = λ ino free. ap (λ (xs : List CellValue). cell_in xs ino) whole ∙ only_others slots cells new k within only ino free;
+      others = ap (other_cells slots) whole
+          ∙ subst (λ (xs : List CellValue). other_cells slots new ≡ other_cells slots xs) was c.append_in.ensures.others;
     }
+
+pub returns-clause-way : goal.returns-clause-way
+returns-clause-way c = (returns-clause-committing c).way

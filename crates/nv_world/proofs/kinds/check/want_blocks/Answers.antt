@@ -1,5 +1,4 @@
-use Rattle.std.proofs.Common.{◌≡◌}
-use Rattle.nv_world.proofs.Checks.{has_its_blocks, takes_blocks, wants_none}
+use Rattle.nv_world.proofs.CheckTurns.{has_its_blocks, takes_blocks, wants_none}
 use Rattle.nv_world.proofs.kinds.check.want_blocks.Goals as goal
 
 pub want_pages-requires-clause-can : goal.want_pages-requires-clause-can

@@ -42,12 +42,12 @@ open_in-requires-clause-placed c =
 
 pub open_in-requires-clause-cpu : goal.open_in-requires-clause-cpu
 open_in-requires-clause-cpu c =
-    subst (λ (n : ℕ). n < length c.args.shared.now.book.state.journals) c.requires.cpu
+    subst (λ (n : ℕ). n < length c.args.shared.now.book.state.journals) (sym c.requires.cpu)
     (open_cpu _ _ _ c.args.commit.now c.requires.committing (open_due c.args.commit.now c.requires.step))
 
 pub open_in-requires-clause-closed : goal.open_in-requires-clause-closed
 open_in-requires-clause-closed c =
-    subst (λ (n : ℕ). slice_index_or c.args.shared.now.book.state.journals n [] ≡ []) c.requires.cpu
+    subst (λ (n : ℕ). slice_index_or c.args.shared.now.book.state.journals n [] ≡ []) (sym c.requires.cpu)
     (open_closed _ _ _ c.args.commit.now c.requires.committing (open_due c.args.commit.now c.requires.step))
 
 pub returns-clause-turn : goal.returns-clause-turn
@@ -91,12 +91,12 @@ pub returns-clause-told : goal.returns-clause-told
 returns-clause-told c told is =
     open_told (slots_in c.args.running.now.slots) c.args.commit.now c.open_in.new.commit _ _ told c.open_in.ensures.commit is
 
-pub returns-clause-hand : goal.returns-clause-hand
-returns-clause-hand c g is =
-    subst (λ (x : CommitValue). IsHandOf g x.hand) (sym c.open_in.ensures.commit) (record { blocks = is.blocks; pages = is.pages })
+pub returns-clause-sized : goal.returns-clause-sized
+returns-clause-sized c =
+    subst (λ (x : CommitValue). IsHandOf c.args.shared.now.geometry.numbers x.hand) (sym c.open_in.ensures.commit) (record { blocks = c.requires.sized.blocks; pages = c.requires.sized.pages })
 
-pub returns-clause-rooms : goal.returns-clause-rooms
-returns-clause-rooms c =
+pub returns-clause-committing : goal.returns-clause-committing
+returns-clause-committing c =
     let cells = c.args.shared.now.cells.items in
     let slots = slots_in c.args.running.now.slots in
     let old = c.args.commit.now in
@@ -109,7 +109,7 @@ returns-clause-rooms c =
     let lent : lent_cells slots new ≡ lent_cells slots cells =
     subst (λ (xs : List CellValue). lent_cells slots new ≡ lent_cells slots xs) was c.open_in.ensures.cells in
     let commit : c.open_in.new.commit ≡ after_open (committing_cpu c.args.shared.now) (old_tails (lent_cells slots cells) old.plans) old =
-    subst (λ (n : ℕ). c.open_in.new.commit ≡ after_open n (old_tails (lent_cells slots cells) old.plans) old) (sym c.requires.cpu)
+    subst (λ (n : ℕ). c.open_in.new.commit ≡ after_open n (old_tails (lent_cells slots cells) old.plans) old) c.requires.cpu
     (subst (λ (xs : List CellValue). c.open_in.new.commit ≡ after_open c.args.cpu (old_tails (lent_cells slots xs) old.plans) old) was
     c.open_in.ensures.commit) in
     let book : c.open_in.new.book ≡ (let x : BookValue = record b {
@@ -117,7 +117,7 @@ returns-clause-rooms c =
     } in x) =
     subst (λ (n : ℕ). c.open_in.new.book ≡ (let x : BookValue = record b {
       state = with_journal n (old_tails (lent_cells slots cells) old.plans) b.state;
-    } in x)) (sym c.requires.cpu)
+    } in x)) c.requires.cpu
     (subst (λ (xs : List CellValue). c.open_in.new.book ≡ (let x : BookValue = record b {
       state = with_journal c.args.cpu (old_tails (lent_cells slots xs) old.plans) b.state;
     } in x)) was c.open_in.ensures.book) in
@@ -125,8 +125,8 @@ returns-clause-rooms c =
     (sym (ap (lent_cells slots) whole ∙ lent))
     (open_goes _ _ _ old c.requires.committing due c.open_in.new.book c.open_in.new.commit book commit)
 
-pub returns-clause-cells : goal.returns-clause-cells
-returns-clause-cells c =
+pub returns-clause-rest : goal.returns-clause-rest
+returns-clause-rest c =
     let cells = c.args.shared.now.cells.items in
     let slots = slots_in c.args.running.now.slots in
     let new = c.open_in.new.cells in
@@ -134,8 +134,24 @@ returns-clause-cells c =
     let many : length new ≡ length cells = subst (λ (xs : List CellValue). length new ≡ length xs) was c.open_in.ensures.count in
     let whole = with_items_is c.args.shared.now.cells new (omega (arith, many, c.args.shared.now.cells.ok.0)) in
     record {
+      geometry = refl;
+      lists = refl;
+      owners = refl;
+      holder = refl;
       count = ap (λ (xs : List CellValue). length xs) whole ∙ many;
-      cells = λ ino free. ap (λ (xs : List CellValue). cell_in xs ino) whole
-          ∙ others_at slots cells new many
-          (subst (λ (xs : List CellValue). other_cells slots new ≡ other_cells slots xs) was c.open_in.ensures.others) ino free;
+      others = ap (other_cells slots) whole
+          ∙ subst (λ (xs : List CellValue). other_cells slots new ≡ other_cells slots xs) was c.open_in.ensures.others;
     }
+
+pub returns-clause-way : goal.returns-clause-way
+returns-clause-way c = (returns-clause-committing c).way
+
+pub returns-clause-placed : goal.returns-clause-placed
+returns-clause-placed c told =
+    let old = c.args.commit.now in
+    let due = open_due old c.requires.step in
+    let new = c.open_in.new.commit in
+    let full : old.appended ≡ length old.plans = open_full _ _ _ old c.requires.committing due in
+    let count : new.appended ≡ old.appended = ap (λ (x : CommitValue). x.appended) c.open_in.ensures.commit in
+    let many : length new.plans ≡ length old.plans = ap (λ (x : CommitValue). length x.plans) c.open_in.ensures.commit in
+    λ lt. absurd (omega (arith, lt, full, count, many))

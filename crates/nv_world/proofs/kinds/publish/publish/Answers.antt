@@ -80,8 +80,8 @@ returns-clause-told c told is =
     publish_told (slots_in c.args.running.now.slots) c.args.commit.now c.publish_in.new.commit _ told
     (publish_full _ _ _ c.args.commit.now c.requires.committing (publish_due c.args.commit.now c.requires.step)) c.publish_in.ensures.commit is
 
-pub returns-clause-rooms : goal.returns-clause-rooms
-returns-clause-rooms c =
+pub returns-clause-committing : goal.returns-clause-committing
+returns-clause-committing c =
     let cells = c.args.shared.now.cells.items in
     let slots = slots_in c.args.running.now.slots in
     let old = c.args.commit.now in
@@ -112,27 +112,38 @@ returns-clause-rooms c =
     (subst (λ (xs : List CellValue). KeepsAppendRoom (value_at (lent_cells slots xs) k).room (value_at (lent_cells slots new) k).room)
     was c.publish_in.ensures.room))
 
-pub returns-clause-cells : goal.returns-clause-cells
-returns-clause-cells c =
+pub returns-clause-sized : goal.returns-clause-sized
+returns-clause-sized c =
+    subst (λ (x : CommitValue). IsHandOf c.args.shared.now.geometry.numbers x.hand) (sym c.publish_in.ensures.commit) (record { blocks = c.requires.sized.blocks; pages = c.requires.sized.pages })
+
+pub returns-clause-rest : goal.returns-clause-rest
+returns-clause-rest c =
     let cells = c.args.shared.now.cells.items in
     let slots = slots_in c.args.running.now.slots in
-    let old = c.args.commit.now in
-    let k = (to_publish old).at in
     let new = c.publish_in.new.cells in
-    let due = publish_due old c.requires.step in
     let was : c.deref_mut.result.now ≡ cells = c.deref_mut.ensures.value in
     let many : length new ≡ length cells = subst (λ (xs : List CellValue). length new ≡ length xs) was c.publish_in.ensures.count in
     let whole = with_items_is c.args.shared.now.cells new (omega (arith, many, c.args.shared.now.cells.ok.0)) in
-    let within : k < length slots = omega (arith, publish_within _ _ _ old c.requires.committing due, lent_count slots cells) in
-    let only : IsOnlyAt (slot_at slots k) cells new =
-    only_among slots cells new k many within c.args.running.now.slots.rising c.requires.slots
-    (subst (λ (xs : List CellValue). OnlyAt k (lent_cells slots xs) (lent_cells slots new)) was c.publish_in.ensures.cells)
-    (subst (λ (xs : List CellValue). other_cells slots new ≡ other_cells slots xs) was c.publish_in.ensures.others) in
     record {
+      geometry = refl;
+      lists = refl;
+      owners = refl;
+      holder = refl;
       count = ap (λ (xs : List CellValue). length xs) whole ∙ many;
-      cells = λ ino free. ap (λ (xs : List CellValue). cell_in xs ino) whole ∙ only_others slots cells new k within only ino free;
+      others = ap (other_cells slots) whole
+          ∙ subst (λ (xs : List CellValue). other_cells slots new ≡ other_cells slots xs) was c.publish_in.ensures.others;
     }
 
-pub returns-clause-hand : goal.returns-clause-hand
-returns-clause-hand c g is =
-    subst (λ (x : CommitValue). IsHandOf g x.hand) (sym c.publish_in.ensures.commit) (record { blocks = is.blocks; pages = is.pages })
+pub returns-clause-way : goal.returns-clause-way
+returns-clause-way c = (returns-clause-committing c).way
+
+pub returns-clause-placed : goal.returns-clause-placed
+returns-clause-placed c told =
+    let old = c.args.commit.now in
+    let due = publish_due old c.requires.step in
+    let new = c.publish_in.new.commit in
+    let full : old.appended ≡ length old.plans = publish_full _ _ _ old c.requires.committing due in
+    let count : new.appended ≡ old.appended = ap (λ (x : CommitValue). x.appended) c.publish_in.ensures.commit in
+    let many : length new.plans ≡ length old.plans = ap (λ (x : CommitValue). length x.plans) c.publish_in.ensures.commit
+    ∙ length-set old.plans old.published _ in
+    λ lt. absurd (omega (arith, lt, full, count, many))

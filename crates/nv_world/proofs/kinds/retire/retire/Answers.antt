@@ -96,8 +96,8 @@ returns-clause-told c told is =
     retire_told (slots_in c.args.running.now.slots) old c.retire_in.new.commit _ _ _ told
     (all_appended c.requires.committing.way due.2 (retire_full _ _ _ old c.requires.committing due)) c.retire_in.ensures.commit is
 
-pub returns-clause-rooms : goal.returns-clause-rooms
-returns-clause-rooms c =
+pub returns-clause-committing : goal.returns-clause-committing
+returns-clause-committing c =
     let cells = c.args.shared.now.cells.items in
     let slots = slots_in c.args.running.now.slots in
     let old = c.args.commit.now in
@@ -132,27 +132,38 @@ returns-clause-rooms c =
     ≡ room_erased (retired living (ino_at (lent_cells slots xs) k) epoch parts (state_at (lent_cells slots xs) k)) (value_at (lent_cells slots xs) k).room)
     was c.retire_in.ensures.cell_room))
 
-pub returns-clause-cells : goal.returns-clause-cells
-returns-clause-cells c =
+pub returns-clause-sized : goal.returns-clause-sized
+returns-clause-sized c =
+    hand_stays c.args.commit.now c.retire_in.new.commit _ _ _ c.args.shared.now.geometry.numbers c.retire_in.ensures.commit c.requires.sized
+
+pub returns-clause-rest : goal.returns-clause-rest
+returns-clause-rest c =
     let cells = c.args.shared.now.cells.items in
     let slots = slots_in c.args.running.now.slots in
-    let old = c.args.commit.now in
-    let k = (to_retire old).at in
     let new = c.retire_in.new.cells in
     let was : c.deref_mut.result.now ≡ cells = c.deref_mut.ensures.value in
     let many : length new ≡ length cells = subst (λ (xs : List CellValue). length new ≡ length xs) was c.retire_in.ensures.count in
     let whole = with_items_is c.args.shared.now.cells new (omega (arith, many, c.args.shared.now.cells.ok.0)) in
-    let within : k < length slots =
-    omega (arith, retire_within _ _ _ old c.requires.committing (retire_due old c.requires.step), lent_count slots cells) in
-    let only : IsOnlyAt (slot_at slots k) cells new =
-    only_among slots cells new k many within c.args.running.now.slots.rising c.requires.slots
-    (subst (λ (xs : List CellValue). OnlyAt k (lent_cells slots xs) (lent_cells slots new)) was c.retire_in.ensures.cells)
-    (subst (λ (xs : List CellValue). other_cells slots new ≡ other_cells slots xs) was c.retire_in.ensures.others) in
     record {
+      geometry = refl;
+      lists = refl;
+      owners = refl;
+      holder = refl;
       count = ap (λ (xs : List CellValue). length xs) whole ∙ many;
-      cells = λ ino free. ap (λ (xs : List CellValue). cell_in xs ino) whole ∙ only_others slots cells new k within only ino free;
+      others = ap (other_cells slots) whole
+          ∙ subst (λ (xs : List CellValue). other_cells slots new ≡ other_cells slots xs) was c.retire_in.ensures.others;
     }
 
-pub returns-clause-hand : goal.returns-clause-hand
-returns-clause-hand c g is =
-    hand_stays c.args.commit.now c.retire_in.new.commit _ _ _ g c.retire_in.ensures.commit is
+pub returns-clause-way : goal.returns-clause-way
+returns-clause-way c = (returns-clause-committing c).way
+
+pub returns-clause-placed : goal.returns-clause-placed
+returns-clause-placed c told =
+    let old = c.args.commit.now in
+    let due = retire_due old c.requires.step in
+    let new = c.retire_in.new.commit in
+    let full : old.appended ≡ length old.plans = all_appended c.requires.committing.way due.2 (retire_full _ _ _ old c.requires.committing due) in
+    let count : new.appended ≡ old.appended = ap (λ (x : CommitValue). x.appended) c.retire_in.ensures.commit in
+    let many : length new.plans ≡ length old.plans = ap (λ (x : CommitValue). length x.plans) c.retire_in.ensures.commit
+    ∙ length-set old.plans old.retired (record (to_retire old) { killed = [] }) in
+    λ lt. absurd (omega (arith, lt, full, count, many))
