@@ -30,6 +30,7 @@ pub mod PassesSome
 pub mod Phases
 pub mod Plans
 pub mod Publishes
+pub mod Readies
 pub mod Retires
 pub mod RoomsAfter
 pub mod Runs

@@ -16,6 +16,7 @@ mod job;
 mod kinds;
 mod lent;
 mod lent_open;
+mod lent_ready;
 mod lent_retire;
 mod lent_take;
 mod next;
