@@ -18,3 +18,9 @@ pub record IsPlanOf (slots : List ℕ) (plan : List Planned) : Type 0 where
 abbrev pub IsPlaceBy : List ℕ → Hold → Told → Type 0
 IsPlaceBy slots (hold.Commit commit) told = IsPlaceOf slots commit told
 IsPlaceBy slots other told = Unit {0}
+
+-- what is ready has a plan for the call's slots alone, and so has a commit, whose next entries have their place
+abbrev pub IsPlacedBy : List ℕ → Hold → Told → Type 0
+IsPlacedBy slots (hold.Hand hand) told = Unit {0}
+IsPlacedBy slots (hold.Ready ready) told = IsPlanOf slots told.plan
+IsPlacedBy slots (hold.Commit commit) told = IsPlanOf slots told.plan × IsPlaceOf slots commit told

@@ -1,4 +1,4 @@
-use Rattle.std.proofs.Common.{◌≡◌, ◌<◌, ◌≤◌, ◌∙◌, List, ap, arith, length, map, refl, subst, sym}
+use Rattle.std.proofs.Common.{◌≡◌, ◌<◌, ◌≤◌, ◌∙◌, List, ap, arith, length, map, refl, subst, sym, length-set}
 use Rattle.std.proofs.lemmas.List.{with_items_is}
 use Rattle.nv_calls.specs.CanCommit.{CanBePublished}
 use Rattle.nv_calls.specs.Cells.{OnlyAt, state_at, value_at}
