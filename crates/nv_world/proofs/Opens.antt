@@ -1,14 +1,13 @@
 -- An opening of the journal with the cells of a call, as the machine's.
-use Rattle.std.proofs.Common.{◌≡◌, ℕ, zero, suc, ◌<◌, ◌≤◌, ◌∙◌, ◌==◌, ◌&&◌, not, nat_lt, Bool, true, false, true≢false, List, [], ◌∷◌, ap, ap₂, arith, length, map, refl, subst, sym}
+use Rattle.std.proofs.Common.{◌≡◌, ℕ, suc, ◌<◌, ◌≤◌, ◌∙◌, ◌==◌, ◌&&◌, not, nat_lt, Bool, true, false, true≢false, List, [], ◌∷◌, ap, ap₂, arith, length, map, refl, subst, sym}
 use Rattle.std.specs.Prelude.{if◌then◌else◌}
 use Rattle.std.proofs.lemmas.Bool.{lt-ltb}
 use Rattle.std.proofs.lemmas.List.{length-map}
 use Rattle.nv_book.specs.Book.{with_journal}
-use Rattle.nv_calls.specs.Cells.{no_cell}
 use Rattle.nv_calls.specs.Commit.{CommitValue, after_open}
 use Rattle.nv_calls.specs.Progress.{is_open, opens as opens_journal}
 use Rattle.nv_calls.specs.Ready.{CellPlanValue, old_tail, old_tails, plan_at}
-use Rattle.nv_calls.specs.SlotCells.{cell_in, lent_cells}
+use Rattle.nv_calls.specs.SlotCells.{lent_cells}
 use Rattle.nv_calls.specs.declared.progress.CommitStep.TheVariants as step
 use Rattle.nv_cell.specs.Cell.{CellState, CellValue}
 use Rattle.nv_journal.specs.declared.old_tail.OldTail.{OldTail}

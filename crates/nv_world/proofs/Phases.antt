@@ -102,25 +102,27 @@ module _ (cpu : ℕ) (now : List (ℕ × CellValue)) (book : BookValue) (commit 
   append_counts a = (ap (λ (c : CommitValue). c.published) a.to.is, ap is_open a.to.is, a.to.plans.same.count)
 
   publish_counts : IsPublishing b cpu now book commit → (commit.appended ≡ n) × (length commit.plans ≡ n)
-  publish_counts p =
-      (ap (λ (c : CommitValue). c.appended) p.to.is
-      ∙ noted_field cpu p.full p.appended (λ (c : CommitValue). c.appended) refl
-      ∙ ap (λ (c : CommitValue). c.appended) p.all.is,
-      p.to.plans.same.count
-      ∙ noted_field cpu p.full p.appended (λ (c : CommitValue). length c.plans) refl
-      ∙ p.all.plans.same.count)
+  publish_counts p = (
+    ap (λ (c : CommitValue). c.appended) p.to.is
+        ∙ noted_field cpu p.full p.appended (λ (c : CommitValue). c.appended) refl
+        ∙ ap (λ (c : CommitValue). c.appended) p.all.is,
+    p.to.plans.same.count
+        ∙ noted_field cpu p.full p.appended (λ (c : CommitValue). length c.plans) refl
+        ∙ p.all.plans.same.count,
+  )
 
   retire_counts : IsRetiring b cpu now book commit → (commit.appended ≡ n) × (commit.published ≡ n) × (length commit.plans ≡ n) × (is_open commit ≡ false)
-  retire_counts r =
-      (ap (λ (c : CommitValue). c.appended) r.to.is
-      ∙ ap (λ (c : CommitValue). c.appended) r.done.is
-      ∙ noted_field cpu r.full r.appended (λ (c : CommitValue). c.appended) refl
-      ∙ ap (λ (c : CommitValue). c.appended) r.all.is,
-      ap (λ (c : CommitValue). c.published) r.to.is ∙ ap (λ (c : CommitValue). c.published) r.done.is,
-      r.to.plans.same.count ∙ r.done.plans.same.count
-      ∙ noted_field cpu r.full r.appended (λ (c : CommitValue). length c.plans) refl
-      ∙ r.all.plans.same.count,
-      ap is_open r.to.is)
+  retire_counts r = (
+    ap (λ (c : CommitValue). c.appended) r.to.is
+        ∙ ap (λ (c : CommitValue). c.appended) r.done.is
+        ∙ noted_field cpu r.full r.appended (λ (c : CommitValue). c.appended) refl
+        ∙ ap (λ (c : CommitValue). c.appended) r.all.is,
+    ap (λ (c : CommitValue). c.published) r.to.is ∙ ap (λ (c : CommitValue). c.published) r.done.is,
+    r.to.plans.same.count ∙ r.done.plans.same.count
+        ∙ noted_field cpu r.full r.appended (λ (c : CommitValue). length c.plans) refl
+        ∙ r.all.plans.same.count,
+    ap is_open r.to.is,
+  )
 
   -- ---- appending
 
@@ -140,8 +142,12 @@ module _ (cpu : ℕ) (now : List (ℕ × CellValue)) (book : BookValue) (commit 
 
     pub append_within : (to_append commit).at < length now
     append_within =
-        omega (arith, append_all.at_is commit.appended b.cells (first_of b) now commit w.can.placed append_inside appending.to,
-        w.can.placed.within commit.appended append_inside, appending.to.changed.count)
+        omega (
+          arith,
+          append_all.at_is commit.appended b.cells (first_of b) now commit w.can.placed append_inside appending.to,
+          w.can.placed.within commit.appended append_inside,
+          appending.to.changed.count,
+        )
 
     pub append_goes : (new : List (ℕ × CellValue)) (later : CommitValue)
         → new ≡ with_value now (to_append commit).at
@@ -428,8 +434,11 @@ module _ (cpu : ℕ) (now : List (ℕ × CellValue)) (book : BookValue) (commit 
 
     two_appended : 2 ≤ length begun_with.plans → 2 ≤ length publishing.appended.plans
     two_appended two =
-        omega (arith, two,
-        ap (λ (ps : List CellPlanValue). length ps) (start_plans w.begin cpu w.can publishing.full publishing.appended publishing.all))
+        omega (
+          arith,
+          two,
+          ap (λ (ps : List CellPlanValue). length ps) (start_plans w.begin cpu w.can publishing.full publishing.appended publishing.all),
+        )
 
     pub publish_noted : 2 ≤ length commit.plans → NotesNext book.state now commit
     publish_noted =

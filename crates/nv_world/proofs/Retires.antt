@@ -97,14 +97,20 @@ pub hand_retires : (ino : ℕ) (mid : CellState) (free : List BlockValue) (parts
 hand_retires ino mid free parts hand empty = go (is_erased mid) empty where
   go : (b : Bool) → (b ≡ true → hand.chain ≡ [])
       → (if b then record (hand_with parts hand) {
-        blocks = hand.data.blocks ++ free; chain = hand.chain ++ mid.chain.blocks; ino = number_back ino mid hand.ino;
+        blocks = hand.data.blocks ++ free;
+        chain = hand.chain ++ mid.chain.blocks;
+        ino = number_back ino mid hand.ino;
       } else record (hand_with parts hand) { blocks = hand.data.blocks ++ free })
       ≡ hand_with parts (if b then record hand {
-        «data» = with_back free hand.data; chain = mid.chain.blocks; ino = number_back ino mid hand.ino;
+        «data» = with_back free hand.data;
+        chain = mid.chain.blocks;
+        ino = number_back ino mid hand.ino;
       } else record hand { «data» = with_back free hand.data })
   go true empty =
       ap (λ (xs : List BlockValue). record (hand_with parts hand) {
-        blocks = hand.data.blocks ++ free; chain = xs ++ mid.chain.blocks; ino = number_back ino mid hand.ino;
+        blocks = hand.data.blocks ++ free;
+        chain = xs ++ mid.chain.blocks;
+        ino = number_back ino mid hand.ino;
       }) (empty refl)
   go false empty = refl
 

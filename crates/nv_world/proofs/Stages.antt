@@ -60,7 +60,6 @@ by_leave false false false true b5 h = cc
 by_leave false false false false true h = cc
 by_leave false false false false false h = (refl, refl)
 
-
 module _ (c : CommitValue) where
   abbrev n : ℕ
   n = length c.plans

@@ -35,7 +35,8 @@ pub(crate) fn enter(
         (turn_of result.1 (shared_of shared.new) (held_by result.0)
         (shown_by result.0 after running.new)) }
     ensures told { (told : Told) → IsReadyOf (slots_in running.old.slots) ready told
-        → IsHoldOf (slots_in running.old.slots) result.0 (told_by result.0 shared.old.book.state told) }
+        → IsHoldOf (slots_in running.old.slots) result.0
+        (told_by result.0 shared.old.book.state told) }
     ensures place { (told : Told) → IsReadyOf (slots_in running.old.slots) ready told
         → IsPlanOf (slots_in running.old.slots) told.plan
         → IsPlaceBy (slots_in running.old.slots) result.0

@@ -24,7 +24,8 @@ pub(crate) fn leave(shared: &mut Shared, commit: Commit, running: &mut Running) 
     requires rooms { HasRooms shared.old (Hold.Commit commit) running.old }
     requires step { step_of commit ≡ CommitStep.Leave }
     ensures turn { (told : Told) → OwesAt running.old.ending running.old told
-        → leave_turn (shared_of shared.old) (hand_in commit) (shown_at machine.Leave told running.old)
+        → leave_turn (shared_of shared.old) (hand_in commit)
+        (shown_at machine.Leave told running.old)
         ≡ turn_of result.1 (shared_of shared.new) (hand_of result.0) (shown told running.new) }
     ensures job { KeepsJob running.old running.new }
     ensures goes { result.1 ≢ Turn.Waits }

@@ -1,4 +1,4 @@
-use Rattle.std.proofs.Common.{◌≡◌, ◌∙◌, inl, inr, ap, subst, sym, false, true}
+use Rattle.std.proofs.Common.{◌∙◌, inl, subst, sym}
 use Rattle.std.proofs.lemmas.Bool.{leb-false}
 use Rattle.nv_alloc.specs.declared.hand.Hand.{Hand}
 use Rattle.nv_base.specs.declared.limits.TheConstants.{NUMBER}
