@@ -33,10 +33,6 @@ use Rattle.nv_world.specs.declared.next.Ending.{Ending}
 use Rattle.nv_world.specs.declared.next.Ending.TheVariants as ending
 use Rattle.nv_world.proofs.Phases.{begins}
 
-pub none_left : (holder : Option ℕ) → is_some holder ≡ false → holder ≡ None
-none_left None e = refl
-none_left (Some actor) e = absurd (false≢true (sym e))
-
 pub enters : (shared : Shared) (ready : ReadyValue) (running : Running) (actor need : ℕ) (book : BookValue) (commit : CommitValue) (told : Told)
     → shared.holder ≡ None → nat_le NUMBER shared.book.state.commit ≡ false
     → book ≡ record { state = after_enter actor shared.book.state; room = need } → commit ≡ begun (stamp_of book.state) ready

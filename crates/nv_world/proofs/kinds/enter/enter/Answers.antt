@@ -7,13 +7,14 @@ use Rattle.nv_world.specs.Rooms.{IsHandOf}
 use Rattle.nv_world.specs.Shown.{slots_in}
 use Rattle.nv_world.specs.Told.{IsPlaceOf, entered}
 use Rattle.nv_world.proofs.Appends.{begin_place}
-use Rattle.nv_world.proofs.Enters.{begun_commit, entered_rooms, enters, given_ends, last_below, none_left, refuses, told_why}
+use Rattle.nv_world.proofs.Enters.{begun_commit, entered_rooms, enters, given_ends, last_below, refuses, told_why}
+use Rattle.nv_world.proofs.Stages.{none_there}
 use Rattle.nv_world.proofs.kinds.enter.enter.Goals as goal
 
 pub returns-in-Ok-clause-turn : goal.returns-in-Ok-clause-turn
 returns-in-Ok-clause-turn c told is =
     inl (enters c.args.shared.now c.args.ready c.args.running.now c.args.actor c.need.result c.enter.new.self c.begin-commit.result told
-    (none_left c.args.shared.now.holder (sym c.is_some.ensures ∙ c.if-is_some.false))
+    (none_there c.args.shared.now.holder (sym c.is_some.ensures ∙ c.if-is_some.false))
     (last_below c.enter.result c.args.shared.now.book.state.commit c.commit-last.result c.in-Ok._fixed c.in-Ok.is c.commit-last.ensures.value
     c.commit-last.ensures.fits c.enter.ensures.limit.1)
     c.in-Ok.ensures.ok c.begin-commit.ensures is)
@@ -32,7 +33,7 @@ returns-in-Ok-clause-place c told is plan =
 pub returns-in-Err-clause-turn : goal.returns-in-Err-clause-turn
 returns-in-Err-clause-turn c told is =
     refuses c.args.shared.now c.args.ready.hand c.args.running.now c.args.actor c.enter.new.self c.into_hand-hand.result told c.in-Err.fault
-    _ (none_left c.args.shared.now.holder (sym c.is_some.ensures ∙ c.if-is_some.false)) c.in-Err.ensures.same c.into_hand-hand.ensures
+    _ (none_there c.args.shared.now.holder (sym c.is_some.ensures ∙ c.if-is_some.false)) c.in-Err.ensures.same c.into_hand-hand.ensures
     (c.refuse-turn.ensures.turn told)
     (told_why c.enter.result c.in-Err.fault c.args.shared.now.book.state.commit c.commit-last.result c.in-Err.is c.enter.ensures.limit.0
     c.enter.ensures.limit.1 c.in-Err.ensures.err c.commit-last.ensures.value c.commit-last.ensures.fits)
@@ -47,7 +48,7 @@ returns-in-Ok-clause-rooms c =
     c.commit-last.ensures.fits c.enter.ensures.limit.1) in
     entered_rooms c.args.shared.now c.args.running.now c.args.ready c.args.actor c.need.result c.enter.new.self c.begin-commit.result
     c.requires.rooms c.need.ensures
-    (c.requires.given (none_left c.args.shared.now.holder (sym c.is_some.ensures ∙ c.if-is_some.false)) below)
+    (c.requires.given (none_there c.args.shared.now.holder (sym c.is_some.ensures ∙ c.if-is_some.false)) below)
     c.in-Ok.ensures.ok c.begin-commit.ensures
 
 pub refuse-turn-requires-clause-call : goal.refuse-turn-requires-clause-call
