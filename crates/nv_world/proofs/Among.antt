@@ -95,15 +95,6 @@ only_among slots old new k many lt rises there only rest =
                 (omega (arith, few, length-range_with_len 0 (length old))) free
                 ∙ ap (cell_in old) at
 
--- so the cells of other slots stay
-pub only_others : (slots : List ℕ) (old new : List CellValue) (k : ℕ) → k < length slots → IsOnlyAt (slot_at slots k) old new
-    → (ino : ℕ) → has slots ino ≡ false → cell_in new ino ≡ cell_in old ino
-only_others slots old new k lt only ino free =
-    let away : ino ≢ slot_at slots k = λ same.
-    true≢false (sym (list_any_at (λ m. m == ino) slots k 0 lt (eq-eqb (slice_index_or slots k 0) ino (sym same))) ∙ free) in
-    ap (λ (xs : List CellValue). cell_in xs ino) only
-    ∙ get_or-set_other old (slot_at slots k) ino (cell_in new (slot_at slots k)) (no_cell.1) away
-
 -- the other cells stay, one by one
 pub others_at : (slots : List ℕ) (old new : List CellValue) → length new ≡ length old → other_cells slots new ≡ other_cells slots old
     → (ino : ℕ) → has slots ino ≡ false → cell_in new ino ≡ cell_in old ino

@@ -1,8 +1,7 @@
 -- A call that enters.
-use Rattle.std.proofs.Common.{◌≡◌, ℕ, ◌+◌, ◌<◌, ◌≤◌, ◌∙◌, ◌⊎◌, inl, inr, Bool, List, Option, Result, Ok, Err, Some, None, true, false, ap, arith, length, map, nat_le, refl, subst, sym}
-use Rattle.std.specs.Prelude.{is_some}
+use Rattle.std.proofs.Common.{◌≡◌, ℕ, ◌+◌, ◌≤◌, ◌%◌, ◌∙◌, ◌⊎◌, inl, inr, Bool, List, Option, Result, Ok, Err, Some, None, true, false, ap, arith, length, nat_le, refl, subst, sym}
 use Rattle.std.proofs.lemmas.List.{length-map}
-use Rattle.std.proofs.lemmas.Bool.{false≢true, le-leb, leb-true}
+use Rattle.std.proofs.lemmas.Bool.{le-leb, leb-true}
 use Rattle.nv_alloc.specs.declared.hand.Hand.{Hand}
 use Rattle.nv_base.specs.declared.fault.Fault.{Fault}
 use Rattle.nv_base.specs.declared.fault.Fault.TheVariants.{CommitLimit, OutOfMemory}
@@ -20,10 +19,18 @@ use Rattle.nv_world.specs.declared.running.Running.{Running}
 use Rattle.nv_world.specs.declared.shared.Shared.{Shared}
 use Rattle.nv_world.proofs.Ends.{end_anywhere}
 use Rattle.nv_world.proofs.Sequence.{appends_next}
-
-pub none_left : (holder : Option ℕ) → is_some holder ≡ false → holder ≡ None
-none_left None e = refl
-none_left (Some actor) e = absurd (false≢true (sym e))
+use Rattle.nv_calls.specs.CanCommit.{AllowsCommit, CanCommit}
+use Rattle.nv_calls.specs.SlotCells.{lent_cells}
+use Rattle.nv_calls.proofs.PlannedCommits.{can_commit}
+use Rattle.nv_cell.specs.Cell.{CellValue}
+use Rattle.nv_world.specs.Rooms.{CanEnd, HasRooms, IsNoVisit, LooksAsTold}
+use Rattle.nv_world.specs.Steps.{CanEnter}
+use Rattle.nv_world.specs.declared.hold.Hold.TheVariants as hold
+use Rattle.nv_world.specs.declared.job.Job.{Job}
+use Rattle.nv_world.specs.declared.job.Job.TheVariants as job
+use Rattle.nv_world.specs.declared.next.Ending.{Ending}
+use Rattle.nv_world.specs.declared.next.Ending.TheVariants as ending
+use Rattle.nv_world.proofs.Phases.{begins}
 
 pub enters : (shared : Shared) (ready : ReadyValue) (running : Running) (actor need : ℕ) (book : BookValue) (commit : CommitValue) (told : Told)
     → shared.holder ≡ None → nat_le NUMBER shared.book.state.commit ≡ false
@@ -114,3 +121,38 @@ refuses shared hand running actor book given told fault turn free same held refu
       inl (step true true w.1 ∙ ap (λ (f : Fault). refuse f (shared_of shared) (hand_of hand) (shown_ready told running)) (sym w.0) ∙ settled)
   go (inr w) =
       inr (step false false w.1 ∙ ap (λ (f : Fault). refuse f (shared_of shared) (hand_of hand) (shown_ready told running)) (sym w.0) ∙ settled)
+
+-- ---- what holds of the call beside
+
+-- a call whose job its commit has can end
+pub given_ends : (running : Running) (how : Ending) → running.job ≡ job.Given → (how ≡ ending.Overtaken → ⊥) → CanEnd running how
+given_ends running how given other = record {
+  job = subst IsNoVisit (sym given) tt;
+  looks = subst (λ (j : Job). LooksAsTold j running.looked) (sym given) tt;
+  overtaken = λ is. absurd (other is);
+}
+
+-- what was ready is committed from its begin on
+pub entered_rooms : (shared : Shared) (running : Running) (ready : ReadyValue) (actor need : ℕ) (book : BookValue) (commit : CommitValue)
+    → HasRooms shared (hold.Ready ready) running → need ≡ ready.need → CanEnter shared running ready actor
+    → book ≡ record { state = after_enter actor shared.book.state; room = need } → commit ≡ begun (stamp_of book.state) ready
+    → HasRooms (record shared { book = book; holder = Some actor }) (hold.Commit commit) running
+entered_rooms shared running ready actor need book commit rooms enough enter after begins_is =
+    let last : BookValue = record { state = after_enter actor shared.book.state; room = need } in
+    let cells : List (ℕ × CellValue) = lent_cells (slots_in running.slots) shared.cells.items in
+    let cpu : ℕ = actor % length shared.lists.items in
+    let over = rooms.3 in
+    let allows : AllowsCommit cells last cpu ready = record {
+      entered = (actor, (shared.book.state, refl));
+      take = enter.take;
+      records = omega (arith, enough);
+      cpu_is = enter.cpu;
+      closed = enter.closed;
+    } in
+    let can : CanCommit cells last cpu ready =
+    can_commit over.cells cells over.hand over.update last cpu ready over.can over.more over.is allows in
+    let first : CommitValue = begun (stamp_of last.state) ready in
+    let same : commit ≡ first = begins_is ∙ ap (λ (b : BookValue). begun (stamp_of b.state) ready) after in
+    subst (λ (b : BookValue). HasRooms (record shared { book = b; holder = Some actor }) (hold.Commit commit) running) (sym after)
+    (subst (λ (c : CommitValue). HasRooms (record shared { book = last; holder = Some actor }) (hold.Commit c) running) (sym same)
+    (rooms.0, rooms.1, rooms.2, begins cpu cells last ready can))

@@ -1,17 +1,17 @@
-use Rattle.std.proofs.Common.{◌≡◌, ℕ, ◌<◌, ◌∙◌, List, [], None, ap, ap₂, arith, length, map, subst, sym}
+use Rattle.std.proofs.Common.{◌≡◌, ℕ, ◌<◌, ◌∙◌, List, [], ap, ap₂, arith, length, map, subst, sym, refl}
 use Rattle.std.specs.Prelude.{slice_index_or}
 use Rattle.std.proofs.lemmas.List.{with_items_is}
 use Rattle.nv_book.specs.Book.{BookValue, with_journal}
 use Rattle.nv_calls.specs.Cells.{AreCells}
 use Rattle.nv_calls.specs.Commit.{CommitValue, after_open}
 use Rattle.nv_calls.specs.Ready.{ArePlaced, old_tails}
-use Rattle.nv_calls.specs.SlotCells.{cell_in, lent_cells, other_cells}
+use Rattle.nv_calls.specs.SlotCells.{lent_cells, other_cells}
 use Rattle.nv_cell.specs.Cell.{CellValue}
 use Rattle.nv_machine.specs.World as machine
 use Rattle.nv_world.specs.Committing.{IsCommitting}
 use Rattle.nv_world.specs.Rooms.{IsHandOf, committing_cpu}
 use Rattle.nv_world.specs.Shown.{hand_in, shared_of, shown_commit, slots_in}
-use Rattle.nv_world.proofs.Among.{all_still, lent_count, others_at}
+use Rattle.nv_world.proofs.Among.{all_still, lent_count}
 use Rattle.nv_world.proofs.Opens.{open_told, opens}
 use Rattle.nv_world.proofs.Phases.{open_cells, open_closed, open_cpu, open_full, open_goes, open_placed, open_shut}
 use Rattle.nv_world.proofs.Stages.{open_due}

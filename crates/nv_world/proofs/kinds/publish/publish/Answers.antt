@@ -1,4 +1,4 @@
-use Rattle.std.proofs.Common.{◌≡◌, ◌<◌, ◌≤◌, ◌∙◌, List, ap, arith, length, map, refl, subst, sym}
+use Rattle.std.proofs.Common.{◌≡◌, ◌<◌, ◌≤◌, ◌∙◌, List, ap, arith, length, map, refl, subst, sym, length-set}
 use Rattle.std.proofs.lemmas.List.{with_items_is}
 use Rattle.nv_calls.specs.CanCommit.{CanBePublished}
 use Rattle.nv_calls.specs.Cells.{OnlyAt, state_at, value_at}
@@ -15,7 +15,7 @@ use Rattle.nv_world.specs.Committing.{IsCommitting}
 use Rattle.nv_world.specs.Parts.{IsOnlyAt}
 use Rattle.nv_world.specs.Rooms.{IsHandOf, committing_cpu}
 use Rattle.nv_world.specs.Shown.{hand_in, shared_of, shown_commit, slots_in}
-use Rattle.nv_world.proofs.Among.{lent_count, only_among, only_others}
+use Rattle.nv_world.proofs.Among.{lent_count, only_among}
 use Rattle.nv_world.proofs.Appends.{lent_value}
 use Rattle.nv_world.proofs.Phases.{publish_can, publish_full, publish_goes, publish_noted, publish_open, publish_within}
 use Rattle.nv_world.proofs.Publishes.{publish_told, publishes}
@@ -36,8 +36,11 @@ publish_in-requires-clause-journal c two =
 
 pub publish_in-requires-clause-within : goal.publish_in-requires-clause-within
 publish_in-requires-clause-within c =
-    omega (arith, publish_within _ _ _ c.args.commit.now c.requires.committing (publish_due c.args.commit.now c.requires.step),
-    lent_count (slots_in c.args.running.now.slots) c.args.shared.now.cells.items)
+    omega (
+      arith,
+      publish_within _ _ _ c.args.commit.now c.requires.committing (publish_due c.args.commit.now c.requires.step),
+      lent_count (slots_in c.args.running.now.slots) c.args.shared.now.cells.items,
+    )
 
 pub publish_in-requires-clause-can : goal.publish_in-requires-clause-can
 publish_in-requires-clause-can c =

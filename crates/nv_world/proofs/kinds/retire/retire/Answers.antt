@@ -1,21 +1,20 @@
-use Rattle.std.proofs.Common.{◌≡◌, ℕ, ◌<◌, ◌≤◌, ◌+◌, ◌∙◌, List, ap, arith, false, length, map, refl, subst, sym}
+use Rattle.std.proofs.Common.{◌≡◌, ℕ, ◌<◌, ◌∙◌, List, ap, arith, [], length, map, refl, subst, sym, length-set}
 use Rattle.std.proofs.lemmas.List.{with_items_is}
-use Rattle.std.specs.Prelude.{Option, is_some}
 use Rattle.nv_book.specs.Book.{BookState}
 use Rattle.nv_calls.specs.Cells.{OnlyAt, ino_at, state_at, value_at}
 use Rattle.nv_calls.specs.Commit.{CommitValue, after_retire, to_retire}
 use Rattle.nv_calls.specs.Retired.{CanRetire}
 use Rattle.nv_calls.specs.Retiring.{erased, retired, room_erased, with_records}
 use Rattle.nv_calls.specs.SlotCells.{cell_in, lent_cells, other_cells}
-use Rattle.nv_cell.specs.Cell.{CellState, CellValue}
+use Rattle.nv_cell.specs.Cell.{CellValue}
 use Rattle.nv_epoch.specs.SnapList.{ids}
 use Rattle.nv_machine.specs.Reads.{slot_at}
 use Rattle.nv_machine.specs.World as machine
 use Rattle.nv_world.specs.Committing.{IsCommitting}
 use Rattle.nv_world.specs.Parts.{IsOnlyAt}
-use Rattle.nv_world.specs.Rooms.{IsHandOf, committing_cpu}
+use Rattle.nv_world.specs.Rooms.{committing_cpu}
 use Rattle.nv_world.specs.Shown.{hand_in, shared_of, shown_commit, slots_in}
-use Rattle.nv_world.proofs.Among.{lent_at, lent_count, only_among, only_others}
+use Rattle.nv_world.proofs.Among.{lent_at, lent_count, only_among}
 use Rattle.nv_world.proofs.Appends.{lent_value}
 use Rattle.nv_world.proofs.Phases.{retire_can, retire_dead, retire_free, retire_full, retire_goes, retire_room, retire_shut, retire_within}
 use Rattle.nv_world.proofs.Retires.{all_appended, hand_stays, retire_told, retires}
@@ -33,8 +32,11 @@ retire_in-requires-clause-closed c = retire_shut _ _ _ c.args.commit.now c.requi
 
 pub retire_in-requires-clause-within : goal.retire_in-requires-clause-within
 retire_in-requires-clause-within c =
-    omega (arith, retire_within _ _ _ c.args.commit.now c.requires.committing (retire_due c.args.commit.now c.requires.step),
-    lent_count (slots_in c.args.running.now.slots) c.args.shared.now.cells.items)
+    omega (
+      arith,
+      retire_within _ _ _ c.args.commit.now c.requires.committing (retire_due c.args.commit.now c.requires.step),
+      lent_count (slots_in c.args.running.now.slots) c.args.shared.now.cells.items,
+    )
 
 pub retire_in-requires-clause-dead : goal.retire_in-requires-clause-dead
 retire_in-requires-clause-dead c = retire_dead _ _ _ c.args.commit.now c.requires.committing (retire_due c.args.commit.now c.requires.step)
