@@ -6,6 +6,7 @@ pub mod Enters
 pub mod Formats
 pub mod Gives
 pub mod Homes
+pub mod Kept
 pub mod Locked
 pub mod Looks
 pub mod Nodes
