@@ -1,6 +1,16 @@
 -- The blocks that a cell keeps, entry by entry and part by part.
 use Rattle.std.proofs.Common.{◌≡◌, ℕ, zero, suc, ◌+◌, ◌-◌, ◌<◌, ◌≤◌, ◌&&◌, Bool, if◌then◌else◌, is_some, List, [], ◌∷◌, ◌++◌, drop, length, map, replicate, take, Option, Some, None, slice_get, slice_index_or, ◌∙◌, ap, arith, refl, sym}
-use Rattle.std.proofs.Common.{append_assoc, append-nil, drop-drop, length-append, length-replicate}
+use Rattle.std.proofs.Common.{append_assoc, append-nil, drop-drop, length-append}
+use Rattle.std.proofs.lemmas.List.{length-replicate}
+use Rattle.std.proofs.lemmas.Option.{slice_get_within}
+use Rattle.nv_cell.specs.Cell.{block_named}
+use Rattle.nv_cell.specs.Numbers.{killed_part}
+use Rattle.nv_cell.proofs.NamedParts.{number_told}
+use Rattle.nv_cell.proofs.Publishes.{part_at_number}
+use Rattle.nv_entry.specs.Keys.{parts_of}
+use Rattle.nv_entry.specs.Log.{IsLog}
+use Rattle.std.specs.Borrow.{Bor}
+use Rattle.std.specs.Option.{option_copied}
 use Rattle.std.proofs.lemmas.List.Sums.{sum_by-cons}
 use Rattle.nv_entry.specs.declared.part.Part.{Part}
 use Rattle.std.specs.List.{sum_by}
@@ -143,6 +153,10 @@ block_is cell place k e p lawful few at part =
     rw (back, part) at killed in
     let number = number_told log n (record { part = record { entry = e.id; part = p }; birth = e.epoch }) lawful known in
     rw number refl
+
+pub some_copied : (o : Option (Bor BlockValue)) → is_some (option_copied o) ≡ is_some o
+some_copied None = refl
+some_copied (Some b) = refl
 
 pub none_past : {X : Type 0} (xs : List X) (i : ℕ) → i < length xs → slice_get xs i ≡ None → ⊥
 none_past [] i lt none = omega (arith, lt)

@@ -1,6 +1,6 @@
 //! What a world reports of its blocks and logs.
 
-ghost use Rattle.std.specs.Prelude.{◌≡◌, ◌⊎◌, ◌<◌, ◌≤◌, ◌^◌, ℕ, IfErr, IfOk, Some, is_some, length, slice_get};
+ghost use Rattle.std.specs.Prelude.{◌≡◌, ◌⊎◌, ◌<◌, ◌≤◌, ◌^◌, ℕ, IfErr, IfOk, Some, is_some, length, slice_get, slice_index_or};
 ghost use Rattle.std.specs.List.{sum_by};
 ghost use Rattle.nv_alloc.specs.Block.{numbers_of};
 ghost use Rattle.nv_alloc.specs.Runs.{runs_of};
@@ -190,9 +190,17 @@ fn kept_of(cell: &InodeCell, book: &Book, place: usize, entry: &Entry) -> u64
     let marks = cell.marks_of(place);
     let mut count = 0;
     for k in 0..entry.item.part_count() {
-        count += kept_part(cell, book, entry, k, marks[k as usize]);
+        count += kept_part(cell, book, entry, k, mark_at(marks, k));
     }
     count
+}
+
+/// One of some marks.
+fn mark_at(marks: &[Mark], k: u32) -> Mark
+    requires { k < length marks.now }
+    ensures { result ≡ slice_index_or marks.now k Mark.Current }
+{
+    marks[k as usize]
 }
 
 /// How many are that of one part: one or none.

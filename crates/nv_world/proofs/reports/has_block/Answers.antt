@@ -1,8 +1,8 @@
-use Rattle.std.proofs.Common.{◌≡◌, ◌∙◌, Option, ap, is_some, sym}
+use Rattle.std.proofs.Common.{is_some, ap, ◌≡◌, ◌∙◌, Option, ap, is_some, sym}
 use Rattle.nv_alloc.specs.Block.{BlockValue}
 use Rattle.nv_cell.proofs.ValuesNow.{IsLog-take}
 use Rattle.nv_entry.specs.Keys.{parts_of}
-use Rattle.nv_world.proofs.Kept.{block_is, none_past}
+use Rattle.nv_world.proofs.Kept.{block_is, none_past, some_copied}
 use Rattle.nv_world.proofs.reports.has_block.Goals as goal
 
 pub returns-in-Some : goal.returns-in-Some
@@ -11,8 +11,7 @@ returns-in-Some c = λ place at.
     let lawful = IsLog-take cell.chain.tail cell.chain.entries c.known.ensures.chain.rising in
     let block = block_is cell place c.args.k c.args.entry.now c.in-Some.part lawful c.requires at
     (sym c.part_at.ensures.value ∙ c.in-Some.is) in
-    let x : 5 ≡ 6 = c.is_some.ensures in let y : 5 ≡ 6 = c.block_of.ensures in
-    ?
+    c.is_some.ensures ∙ sym (some_copied c.block_of.result) ∙ ap is_some (c.block_of.ensures ∙ block)
 
 pub returns-in-None : goal.returns-in-None
 returns-in-None c = λ place at.
