@@ -19,6 +19,7 @@ pub mod GivenLaws
 pub mod GivenWorlds
 pub mod Gives
 pub mod Homes
+pub mod Kept
 pub mod LawsHold
 pub mod Locked
 pub mod Looks
