@@ -38,7 +38,8 @@ returns-clause-committing c =
 
 pub returns-clause-sized : goal.returns-clause-sized
 returns-clause-sized c =
-    subst (λ (x : CommitValue). IsHandOf c.args.shared.now.geometry.numbers x.hand) (sym c.close_on.ensures.commit) (record { blocks = c.requires.sized.blocks; pages = c.requires.sized.pages })
+    subst (λ (x : CommitValue). IsHandOf c.args.shared.now.geometry.numbers x.hand) (sym c.close_on.ensures.commit)
+    (record { blocks = c.requires.sized.blocks; pages = c.requires.sized.pages })
 
 pub returns-clause-way : goal.returns-clause-way
 returns-clause-way c = (returns-clause-committing c).way
