@@ -13,7 +13,8 @@ pub close_on-requires-clause-turn : goal.close_on-requires-clause-turn
 close_on-requires-clause-turn c = close_full _ _ _ c.args.commit.now c.requires.committing (close_due c.args.commit.now c.requires.step)
 
 pub close_on-requires-clause-journal : goal.close_on-requires-clause-journal
-close_on-requires-clause-journal c = close_journal _ _ _ c.args.commit.now c.requires.committing (close_due c.args.commit.now c.requires.step)
+close_on-requires-clause-journal c =
+    close_journal _ _ _ c.args.commit.now c.requires.committing (close_due c.args.commit.now c.requires.step)
 
 pub close_on-requires-clause-number : goal.close_on-requires-clause-number
 close_on-requires-clause-number c = close_number _ _ _ c.args.commit.now c.requires.committing (close_due c.args.commit.now c.requires.step)

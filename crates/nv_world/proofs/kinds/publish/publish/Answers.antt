@@ -26,11 +26,13 @@ pub publish_in-requires-clause-turn : goal.publish_in-requires-clause-turn
 publish_in-requires-clause-turn c = (publish_due c.args.commit.now c.requires.step).some
 
 pub publish_in-requires-clause-appended : goal.publish_in-requires-clause-appended
-publish_in-requires-clause-appended c = publish_full _ _ _ c.args.commit.now c.requires.committing (publish_due c.args.commit.now c.requires.step)
+publish_in-requires-clause-appended c =
+    publish_full _ _ _ c.args.commit.now c.requires.committing (publish_due c.args.commit.now c.requires.step)
 
 pub publish_in-requires-clause-journal : goal.publish_in-requires-clause-journal
 publish_in-requires-clause-journal c two =
-    subst (λ (xs : List CellValue). NotesNext c.args.shared.now.book.state (lent_cells (slots_in c.args.running.now.slots) xs) c.args.commit.now)
+    subst (λ (xs : List CellValue). NotesNext c.args.shared.now.book.state (lent_cells (slots_in c.args.running.now.slots) xs)
+    c.args.commit.now)
     (sym c.deref_mut.ensures.value)
     (publish_noted _ _ _ c.args.commit.now c.requires.committing (publish_due c.args.commit.now c.requires.step) two)
 
@@ -69,7 +71,8 @@ returns-clause-turn c told is =
     only_among slots cells new k many within c.args.running.now.slots.rising c.requires.slots
     (subst (λ (xs : List CellValue). OnlyAt k (lent_cells slots xs) (lent_cells slots new)) was c.publish_in.ensures.cells)
     (subst (λ (xs : List CellValue). other_cells slots new ≡ other_cells slots xs) was c.publish_in.ensures.others) in
-    publishes c.args.shared.now c.args.running.now old c.publish_in.new.commit _ told (slot_at slots k) is c.requires.committing.way due.some
+    publishes c.args.shared.now c.args.running.now old c.publish_in.new.commit _ told (slot_at slots k) is c.requires.committing.way
+    due.some
     (publish_full _ _ _ old c.requires.committing due) (publish_open _ _ _ old c.requires.committing due)
     refl (c.requires.slots k within) only
     (subst (λ (xs : List CellValue). (cell_in new (slot_at slots k)).state ≡ published (cell_in xs (slot_at slots k)).state)
@@ -82,7 +85,8 @@ returns-clause-turn c told is =
 pub returns-clause-told : goal.returns-clause-told
 returns-clause-told c told is =
     publish_told (slots_in c.args.running.now.slots) c.args.commit.now c.publish_in.new.commit _ told
-    (publish_full _ _ _ c.args.commit.now c.requires.committing (publish_due c.args.commit.now c.requires.step)) c.publish_in.ensures.commit is
+    (publish_full _ _ _ c.args.commit.now c.requires.committing (publish_due c.args.commit.now c.requires.step))
+    c.publish_in.ensures.commit is
 
 pub returns-clause-committing : goal.returns-clause-committing
 returns-clause-committing c =

@@ -25,10 +25,12 @@ pub retire_in-requires-clause-turn : goal.retire_in-requires-clause-turn
 retire_in-requires-clause-turn c = (retire_due c.args.commit.now c.requires.step).2
 
 pub retire_in-requires-clause-published : goal.retire_in-requires-clause-published
-retire_in-requires-clause-published c = retire_full _ _ _ c.args.commit.now c.requires.committing (retire_due c.args.commit.now c.requires.step)
+retire_in-requires-clause-published c =
+    retire_full _ _ _ c.args.commit.now c.requires.committing (retire_due c.args.commit.now c.requires.step)
 
 pub retire_in-requires-clause-closed : goal.retire_in-requires-clause-closed
-retire_in-requires-clause-closed c = retire_shut _ _ _ c.args.commit.now c.requires.committing (retire_due c.args.commit.now c.requires.step)
+retire_in-requires-clause-closed c =
+    retire_shut _ _ _ c.args.commit.now c.requires.committing (retire_due c.args.commit.now c.requires.step)
 
 pub retire_in-requires-clause-within : goal.retire_in-requires-clause-within
 retire_in-requires-clause-within c =
