@@ -71,7 +71,8 @@ only_among slots old new k many lt rises there only rest =
               → cell_in new i ≡ slice_index_or (slice_set old (slot_at slots k) (cell_in new (slot_at slots k))) i (no_cell.1)
           go true e =
               let same : i ≡ slot_at slots k = sym here ∙ ap (λ (j : ℕ). slice_index_or slots j 0) (eqb-true at.0 k e) in
-              ap (cell_in new) same ∙ sym (get_or-set_at old (slot_at slots k) i (cell_in new (slot_at slots k)) (no_cell.1) same (there k lt))
+              ap (cell_in new) same ∙ sym (get_or-set_at old (slot_at slots k) i (cell_in new (slot_at slots k))
+              (no_cell.1) same (there k lt))
           go false e =
               let ne : at.0 ≢ k = eqb-false at.0 k e in
               let away : i ≢ slot_at slots k = λ same. apart slots at.0 k rises at.2 lt ne (here ∙ same) in

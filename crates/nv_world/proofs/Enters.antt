@@ -32,11 +32,13 @@ use Rattle.nv_world.specs.declared.next.Ending.{Ending}
 use Rattle.nv_world.specs.declared.next.Ending.TheVariants as ending
 use Rattle.nv_world.proofs.Phases.{begins}
 
-pub enters : (shared : Shared) (ready : ReadyValue) (running : Running) (actor need : ℕ) (book : BookValue) (commit : CommitValue) (told : Told)
+pub enters : (shared : Shared) (ready : ReadyValue) (running : Running) (actor need : ℕ) (book : BookValue) (commit : CommitValue)
+    (told : Told)
     → shared.holder ≡ None → nat_le NUMBER shared.book.state.commit ≡ false
     → book ≡ record { state = after_enter actor shared.book.state; room = need } → commit ≡ begun (stamp_of book.state) ready
     → IsReadyOf (slots_in running.slots) ready told
-    → enter_turn shared.holder (nat_le NUMBER shared.book.state.commit) true actor (shared_of shared) (hand_of ready.hand) (shown_ready told running)
+    → enter_turn shared.holder (nat_le NUMBER shared.book.state.commit) true actor (shared_of shared) (hand_of ready.hand)
+    (shown_ready told running)
     ≡ Moves (shared_of (record shared { book = book; holder = Some actor })) (hand_in commit)
     (shown_commit commit (entered shared.book.state told) running)
 enters shared ready running actor need book commit told free below after begins is =
@@ -45,12 +47,14 @@ enters shared ready running actor need book commit told free below after begins 
     let r = shown_ready told running in
     let last : BookValue = record { state = after_enter actor shared.book.state; room = need } in
     let first : CommitValue = begun (stamp_of last.state) ready in
-    let many : length (written_slots r) ≡ length ready.plans = ap (λ (xs : List ℕ). length xs) is.written ∙ length-map ready.plans (λ (p : CellPlanValue). slot_at (slots_in running.slots) p.at) in
+    let many : length (written_slots r) ≡ length ready.plans = ap (λ (xs : List ℕ). length xs) is.written
+    ∙ length-map ready.plans (λ (p : CellPlanValue). slot_at (slots_in running.slots) p.at) in
     let same : commit ≡ first = begins ∙ ap (λ (b : BookValue). begun (stamp_of b.state) ready) after in
     ap (λ (x : Option ℕ). enter_turn x (nat_le NUMBER shared.book.state.commit) true actor s h r) free
     ∙ ap (λ (b : Bool). enter_turn None b true actor s h r) below
     ∙ ap (λ (next : Next). Moves (record s { book = after_enter actor s.book; holder = Some actor }) h
-    (go_to next (record r { commit = s.book.commit + 1; epoch = s.book.snaps.epoch }))) (appends_next first (written_slots r) many refl refl refl)
+    (go_to next (record r { commit = s.book.commit + 1; epoch = s.book.snaps.epoch })))
+    (appends_next first (written_slots r) many refl refl refl)
     ∙ sym (ap (λ (b : BookValue). Moves (shared_of (record shared { book = b; holder = Some actor })) (hand_in commit)
     (shown_commit commit (entered shared.book.state told) running)) after
     ∙ ap (λ (c : CommitValue). Moves (shared_of (record shared { book = last; holder = Some actor })) (hand_in c)
@@ -93,9 +97,11 @@ told_why result fault commit last is limit at (inr e) same fits = go (nat_le NUM
       let both = sym is ∙ at full in absurd (cc (both, e))
   go false q = inr (e, q)
 
-pub refuses : (shared : Shared) (hand : Hand) (running : Running) (actor : ℕ) (book : BookValue) (given : Hand) (told : Told) (fault : Fault)
+pub refuses : (shared : Shared) (hand : Hand) (running : Running) (actor : ℕ) (book : BookValue) (given : Hand) (told : Told)
+    (fault : Fault)
     (turn : Turn) → shared.holder ≡ None → book ≡ shared.book → given ≡ hand
-    → refuse fault (shared_of (record shared { book = book })) (hand_of given) (shown told running) ≡ turn → Why fault shared.book.state.commit
+    → refuse fault (shared_of (record shared { book = book })) (hand_of given) (shown told running) ≡ turn
+    → Why fault shared.book.state.commit
     → IsEither (λ granted. enter_turn shared.holder (nat_le NUMBER shared.book.state.commit) granted actor (shared_of shared) (hand_of hand)
     (shown_ready told running)) turn
 refuses shared hand running actor book given told fault turn free same held refused why = go why where
@@ -107,7 +113,8 @@ refuses shared hand running actor book given told fault turn free same held refu
       ∙ refused
 
   step : (b granted : Bool) → nat_le NUMBER shared.book.state.commit ≡ b
-      → enter_turn shared.holder (nat_le NUMBER shared.book.state.commit) granted actor (shared_of shared) (hand_of hand) (shown_ready told running)
+      → enter_turn shared.holder (nat_le NUMBER shared.book.state.commit) granted actor (shared_of shared) (hand_of hand)
+      (shown_ready told running)
       ≡ enter_turn None b granted actor (shared_of shared) (hand_of hand) (shown_ready told running)
   step b granted q =
       ap (λ (x : Option ℕ). enter_turn x (nat_le NUMBER shared.book.state.commit) granted actor (shared_of shared) (hand_of hand)
@@ -115,12 +122,15 @@ refuses shared hand running actor book given told fault turn free same held refu
       ∙ ap (λ (c : Bool). enter_turn None c granted actor (shared_of shared) (hand_of hand) (shown_ready told running)) q
 
   go : Why fault shared.book.state.commit
-      → IsEither (λ granted. enter_turn shared.holder (nat_le NUMBER shared.book.state.commit) granted actor (shared_of shared) (hand_of hand)
+      → IsEither (λ granted. enter_turn shared.holder (nat_le NUMBER shared.book.state.commit) granted actor (shared_of shared)
+      (hand_of hand)
       (shown_ready told running)) turn
   go (inl w) =
-      inl (step true true w.1 ∙ ap (λ (f : Fault). refuse f (shared_of shared) (hand_of hand) (shown_ready told running)) (sym w.0) ∙ settled)
+      inl (step true true w.1 ∙ ap (λ (f : Fault). refuse f (shared_of shared) (hand_of hand) (shown_ready told running)) (sym w.0)
+      ∙ settled)
   go (inr w) =
-      inr (step false false w.1 ∙ ap (λ (f : Fault). refuse f (shared_of shared) (hand_of hand) (shown_ready told running)) (sym w.0) ∙ settled)
+      inr (step false false w.1 ∙ ap (λ (f : Fault). refuse f (shared_of shared) (hand_of hand) (shown_ready told running)) (sym w.0)
+      ∙ settled)
 
 -- ---- what holds of the call beside
 

@@ -51,7 +51,8 @@ pub opens_next : (c : CommitValue) (written : List ℕ) → length written ≡ l
 opens_next c written many appended none two noted =
     first (nat_lt 0 (length written)) (lt-ltb 0 (length written) (omega (arith, many, two)))
     ∙ ap Publish (sym none)
-    ∙ sym (go (nat_lt c.appended (length c.plans)) (opens_journal c) (nat_lt c.published (length c.plans)) (is_open c) (nat_lt c.retired (length c.plans))
+    ∙ sym (go (nat_lt c.appended (length c.plans)) (opens_journal c) (nat_lt c.published (length c.plans)) (is_open c)
+    (nat_lt c.retired (length c.plans))
     (le-ltb c.appended (length c.plans) appended)
     (open_already (nat_lt 1 (length c.plans)) (c.published == 0) (is_open c) noted)
     (lt-ltb c.published (length c.plans) (omega (arith, none, two))))
@@ -94,7 +95,8 @@ pub opens : (shared : Shared) (running : Running) (old : CommitValue) (told : To
     → (let tails = old_tails (lent_cells (slots_in running.slots) shared.cells.items) old.plans in
     let after = after_open cpu tails old in
     open_turn cpu (shared_of shared) (hand_in old) (shown_commit old told running)
-    ≡ machine.Moves (record (shared_of shared) { book = with_journal cpu tails shared.book.state }) (hand_in after) (shown_commit after told running))
+    ≡ machine.Moves (record (shared_of shared) { book = with_journal cpu tails shared.book.state }) (hand_in after)
+    (shown_commit after told running))
 opens shared running old told cpu is there within appended none two =
     let s = shared_of shared in
     let h = hand_in old in

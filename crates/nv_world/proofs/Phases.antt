@@ -105,7 +105,8 @@ module _ (cpu : ℕ) (now : List (ℕ × CellValue)) (book : BookValue) (commit 
         ∙ p.all.plans.same.count,
   )
 
-  retire_counts : IsRetiring b cpu now book commit → (commit.appended ≡ n) × (commit.published ≡ n) × (length commit.plans ≡ n) × (is_open commit ≡ false)
+  retire_counts : IsRetiring b cpu now book commit → (commit.appended ≡ n) × (commit.published ≡ n) × (length commit.plans ≡ n)
+      × (is_open commit ≡ false)
   retire_counts r = (
     ap (λ (c : CommitValue). c.appended) r.to.is
         ∙ ap (λ (c : CommitValue). c.appended) r.done.is
@@ -123,7 +124,8 @@ module _ (cpu : ℕ) (now : List (ℕ × CellValue)) (book : BookValue) (commit 
   module _ (lt : commit.appended < length commit.plans) where
     pub appending : IsAppending b now book commit
     appending = go w.phase where
-      go : IsAppending b now book commit ⊎ (IsPublishing b cpu now book commit ⊎ IsRetiring b cpu now book commit) → IsAppending b now book commit
+      go : IsAppending b now book commit ⊎ (IsPublishing b cpu now book commit ⊎ IsRetiring b cpu now book commit)
+          → IsAppending b now book commit
       go (inl a) = a
       go (inr (inl p)) = let counts = publish_counts p in absurd (omega (arith, lt, counts.0, counts.1))
       go (inr (inr r)) = let counts = retire_counts r in absurd (omega (arith, lt, counts.0, counts.2))
@@ -206,7 +208,8 @@ module _ (b : Begin) (cpu : ℕ) (can : CanCommit b.cells b.shelf cpu b.ready) (
 
   start_noted : 2 ≤ length start.plans → start.noted ≡ old_tails full start.plans
   start_noted two =
-      ap (λ (c : CommitValue). c.noted) (noted_two cpu full appended (omega (arith, two, ap (λ (ps : List CellPlanValue). length ps) start_plans)))
+      ap (λ (c : CommitValue). c.noted)
+      (noted_two cpu full appended (omega (arith, two, ap (λ (ps : List CellPlanValue). length ps) start_plans)))
       ∙ ap (old_tails full) (sym start_plans)
 
   start_open : 2 ≤ length appended.plans → start.journal ≡ Some cpu
@@ -574,7 +577,8 @@ module _ (cpu : ℕ) (now : List (ℕ × CellValue)) (book : BookValue) (commit 
             published = commit;
             done = subst (λ (j : ℕ). PublishesTo j closing.full noted_then now commit) close_all closing.to;
             to = subst (λ (c : CommitValue). RetiresTo c.retired now (after_close commit) w.begin.shelf now c after) (sym is)
-                (subst (λ (x : BookValue). RetiresTo commit.retired now (after_close commit) w.begin.shelf now (after_close commit) x) (sym whole)
+                (subst (λ (x : BookValue). RetiresTo commit.retired now (after_close commit) w.begin.shelf now (after_close commit) x)
+                (sym whole)
                 (subst (λ (j : ℕ). RetiresTo j now (after_close commit) w.begin.shelf now (after_close commit) w.begin.shelf) (sym back)
                 (retire_all.begins now (after_close commit) w.begin.shelf back)));
           }));
@@ -597,7 +601,8 @@ module _ (cpu : ℕ) (now : List (ℕ × CellValue)) (book : BookValue) (commit 
         ∙ ap (λ (c : CommitValue). c.hand.ino) p.all.is
         ∙ no_number w.begin cpu w.can p.full p.appended p.all (omega (arith, one, p.all.plans.same.count)) in
         let closed : after_close commit ≡ commit =
-        ap₂ (λ (m : Option ℕ) (j : Option ℕ). let c : CommitValue = record commit { hand = record commit.hand { ino = m }; journal = j } in c)
+        ap₂ (λ (m : Option ℕ)
+        (j : Option ℕ). let c : CommitValue = record commit { hand = record commit.hand { ino = m }; journal = j } in c)
         (sym number) (sym none) in
         let zero : commit.retired ≡ 0 =
         ap (λ (c : CommitValue). c.retired) p.to.is

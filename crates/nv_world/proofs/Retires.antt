@@ -49,7 +49,8 @@ pub retires_next : (c : CommitValue) (written : List ℕ) → length written ≡
     → length c.plans ≤ c.published → 0 < c.published → is_open c ≡ false → retiring c.retired written ≡ commit_next c
 retires_next c written many appended published some closed =
     ap (λ (n : ℕ). if nat_lt c.retired n then Retire c.retired else Leave) many
-    ∙ go (nat_lt c.appended (length c.plans)) (opens c) (nat_lt c.published (length c.plans)) (is_open c) (nat_lt c.retired (length c.plans))
+    ∙ go (nat_lt c.appended (length c.plans)) (opens c) (nat_lt c.published (length c.plans)) (is_open c)
+    (nat_lt c.retired (length c.plans))
     (le-ltb c.appended (length c.plans) appended)
     (second_false (nat_lt 1 (length c.plans)) (c.published == 0) (not (is_open c)) (some_there c.published some))
     (le-ltb c.published (length c.plans) published) closed
@@ -176,7 +177,8 @@ no_chain living ino epoch killed hand cell can erased =
     empty [] q = refl
     empty (b ∷ blocks) q = absurd (omega (arith, q))
 
-pub retires : (shared : Shared) (running : Running) (old new : CommitValue) (book : BookValue) (cells : List CellValue) (told : Told) (i : ℕ)
+pub retires : (shared : Shared) (running : Running) (old new : CommitValue) (book : BookValue) (cells : List CellValue) (told : Told)
+    (i : ℕ)
     → IsCommitOf (slots_in running.slots) old told → old.appended ≡ length old.plans → old.retired < length old.plans
     → old.published ≡ length old.plans → is_open old ≡ false
     → i ≡ slot_at (slots_in running.slots) (to_retire old).at → i < length shared.cells.items

@@ -75,7 +75,8 @@ returns-clause-turn c told is placed =
 pub returns-clause-told : goal.returns-clause-told
 returns-clause-told c told is =
     append_told (slots_in c.args.running.now.slots) c.args.commit.now c.append_in.new.commit
-    (state_at (lent_cells (slots_in c.args.running.now.slots) c.deref_mut.result.now) (to_append c.args.commit.now).at) told c.append_in.ensures.commit is
+    (state_at (lent_cells (slots_in c.args.running.now.slots) c.deref_mut.result.now)
+    (to_append c.args.commit.now).at) told c.append_in.ensures.commit is
 
 pub returns-clause-place : goal.returns-clause-place
 returns-clause-place c told is placed plan =
@@ -93,7 +94,8 @@ returns-clause-committing c =
     let was : c.deref_mut.result.now ≡ cells = c.deref_mut.ensures.value in
     let many : length new ≡ length cells = subst (λ (xs : List CellValue). length new ≡ length xs) was c.append_in.ensures.count in
     let whole = with_items_is c.args.shared.now.cells new (omega (arith, many, c.args.shared.now.cells.ok.0)) in
-    subst (λ (xs : List CellValue). IsCommitting (committing_cpu c.args.shared.now) (lent_cells slots xs) c.args.shared.now.book c.append_in.new.commit)
+    subst (λ (xs : List CellValue). IsCommitting (committing_cpu c.args.shared.now)
+    (lent_cells slots xs) c.args.shared.now.book c.append_in.new.commit)
     (sym whole)
     (append_goes _ _ _ old c.requires.committing (append_due old c.requires.step) (lent_cells slots new) c.append_in.new.commit
     (subst (λ (xs : List CellValue). lent_cells slots new ≡ with_value (lent_cells slots xs) k
@@ -104,7 +106,8 @@ returns-clause-committing c =
 
 pub returns-clause-sized : goal.returns-clause-sized
 returns-clause-sized c =
-    subst (λ (x : CommitValue). IsHandOf c.args.shared.now.geometry.numbers x.hand) (sym c.append_in.ensures.commit) (record { blocks = c.requires.sized.blocks; pages = c.requires.sized.pages })
+    subst (λ (x : CommitValue). IsHandOf c.args.shared.now.geometry.numbers x.hand) (sym c.append_in.ensures.commit)
+    (record { blocks = c.requires.sized.blocks; pages = c.requires.sized.pages })
 
 pub returns-clause-rest : goal.returns-clause-rest
 returns-clause-rest c =

@@ -15,7 +15,8 @@ pub returns-in-Ok-clause-turn : goal.returns-in-Ok-clause-turn
 returns-in-Ok-clause-turn c told is =
     inl (enters c.args.shared.now c.args.ready c.args.running.now c.args.actor c.need.result c.enter.new.self c.begin-commit.result told
     (none_there c.args.shared.now.holder (sym c.is_some.ensures ∙ c.if-is_some.false))
-    (last_below c.enter.result c.args.shared.now.book.state.commit c.commit-last.result c.in-Ok._fixed c.in-Ok.is c.commit-last.ensures.value
+    (last_below c.enter.result c.args.shared.now.book.state.commit c.commit-last.result c.in-Ok._fixed c.in-Ok.is
+    c.commit-last.ensures.value
     c.commit-last.ensures.fits c.enter.ensures.limit.1)
     c.in-Ok.ensures.ok c.begin-commit.ensures is)
 
@@ -44,7 +45,8 @@ returns-in-Ok-clause-placed c told is plan = (plan, returns-in-Ok-clause-place c
 pub returns-in-Ok-clause-rooms : goal.returns-in-Ok-clause-rooms
 returns-in-Ok-clause-rooms c =
     let below = leb-false NUMBER c.args.shared.now.book.state.commit
-    (last_below c.enter.result c.args.shared.now.book.state.commit c.commit-last.result c.in-Ok._fixed c.in-Ok.is c.commit-last.ensures.value
+    (last_below c.enter.result c.args.shared.now.book.state.commit c.commit-last.result c.in-Ok._fixed c.in-Ok.is
+    c.commit-last.ensures.value
     c.commit-last.ensures.fits c.enter.ensures.limit.1) in
     entered_rooms c.args.shared.now c.args.running.now c.args.ready c.args.actor c.need.result c.enter.new.self c.begin-commit.result
     c.requires.rooms c.need.ensures

@@ -20,8 +20,10 @@ returns-clause-turn c told owes =
     let hand : hand_with (killed_in c.args.commit) c.args.commit.hand ≡ hand_of c.into_hand-hand.result =
     ap (λ (parts : List (List KilledPart)). hand_with parts c.args.commit.hand) (all_retired c.args.commit all)
     ∙ ap hand_of (sym c.into_hand-hand.ensures) in
-    ap (λ (h : machine.HandState). end_turn (slots_in running.slots) (ending_of running.ending) s h (shown_at machine.Leave told running)) hand
-    ∙ end_anywhere (slots_in running.slots) (ending_of running.ending) s (hand_of c.into_hand-hand.result) (shown told running) machine.Leave
+    ap (λ (h : machine.HandState). end_turn (slots_in running.slots)
+    (ending_of running.ending) s h (shown_at machine.Leave told running)) hand
+    ∙ end_anywhere (slots_in running.slots) (ending_of running.ending) s (hand_of c.into_hand-hand.result)
+    (shown told running) machine.Leave
     ∙ c.end-turn.ensures.turn told owes
 
 pub end-turn-requires-clause-call : goal.end-turn-requires-clause-call

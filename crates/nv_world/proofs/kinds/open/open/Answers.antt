@@ -69,7 +69,8 @@ returns-clause-turn c told is =
     (subst (λ (xs : List CellValue). lent_cells slots new ≡ lent_cells slots xs) was c.open_in.ensures.cells)
     (subst (λ (xs : List CellValue). other_cells slots new ≡ other_cells slots xs) was c.open_in.ensures.others) in
     let commit : c.open_in.new.commit ≡ after_open cpu (old_tails (lent_cells slots cells) old.plans) old =
-    subst (λ (xs : List CellValue). c.open_in.new.commit ≡ after_open cpu (old_tails (lent_cells slots xs) old.plans) old) was c.open_in.ensures.commit in
+    subst (λ (xs : List CellValue). c.open_in.new.commit ≡ after_open cpu (old_tails (lent_cells slots xs) old.plans) old)
+    was c.open_in.ensures.commit in
     let book : c.open_in.new.book
     ≡ (let b = c.args.shared.now.book in let x : BookValue = record b {
       state = with_journal cpu (old_tails (lent_cells slots cells) old.plans) b.state;
@@ -93,7 +94,8 @@ returns-clause-told c told is =
 
 pub returns-clause-sized : goal.returns-clause-sized
 returns-clause-sized c =
-    subst (λ (x : CommitValue). IsHandOf c.args.shared.now.geometry.numbers x.hand) (sym c.open_in.ensures.commit) (record { blocks = c.requires.sized.blocks; pages = c.requires.sized.pages })
+    subst (λ (x : CommitValue). IsHandOf c.args.shared.now.geometry.numbers x.hand) (sym c.open_in.ensures.commit)
+    (record { blocks = c.requires.sized.blocks; pages = c.requires.sized.pages })
 
 pub returns-clause-committing : goal.returns-clause-committing
 returns-clause-committing c =
