@@ -16,6 +16,7 @@ pub mod Publishes
 pub mod Retires
 pub mod Runs
 pub mod Sequence
+pub mod Settled
 pub mod SlotLists
 pub mod Starts
 pub mod VisitTurns
