@@ -1,5 +1,5 @@
 -- The blocks that a cell keeps, entry by entry and part by part.
-use Rattle.std.proofs.Common.{◌≡◌, ℕ, zero, suc, ◌+◌, ◌-◌, ◌<◌, ◌≤◌, ◌&&◌, Bool, if◌then◌else◌, is_some, List, [], ◌∷◌, ◌++◌, drop, length, map, replicate, take, Option, Some, None, slice_get, slice_index_or, ◌∙◌, ap, arith, refl, sym}
+use Rattle.std.proofs.Common.{◌≡◌, ℕ, zero, suc, ◌+◌, ◌-◌, ◌<◌, ◌≤◌, is_some, List, [], ◌∷◌, ◌++◌, drop, length, map, replicate, take, Option, Some, None, slice_get, slice_index_or, ◌∙◌, ap, arith, refl, sym}
 use Rattle.std.proofs.Common.{append_assoc, append-nil, drop-drop, length-append}
 use Rattle.std.proofs.lemmas.List.{length-replicate}
 use Rattle.std.proofs.lemmas.Option.{slice_get_within}

@@ -37,6 +37,7 @@ pub mod RoomsAfter
 pub mod Runs
 pub mod SameCells
 pub mod Sequence
+pub mod Settled
 pub mod ShownCalls
 pub mod SlotLists
 pub mod Stages

@@ -182,12 +182,7 @@ fn first_block(alloc: Global, list: &mut FreeList) -> Result<Block, Fault>
     }
 }
 
-unsafe extern "C" {
-    pub(crate) safe fn never()
-        ensures { ⊥ };
-}
-
-/// Makes an empty slot the inode that a device begins with.
+/// Makes an empty slot the inode that a device begins with: to be `InodeCell::found`, whose contract this is.
 fn found(
     cell: &mut InodeCell,
     kind: Kind,
@@ -204,6 +199,5 @@ fn found(
         × (cell.new.state ≡ cell.old.state)) }
 {
     let _ = page.into_bytes();
-    never();
     unreachable!()
 }

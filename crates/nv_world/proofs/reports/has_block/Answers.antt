@@ -1,5 +1,4 @@
-use Rattle.std.proofs.Common.{is_some, ap, ◌≡◌, ◌∙◌, Option, ap, is_some, sym}
-use Rattle.nv_alloc.specs.Block.{BlockValue}
+use Rattle.std.proofs.Common.{is_some, ap, ◌∙◌, ap, is_some, sym}
 use Rattle.nv_cell.proofs.ValuesNow.{IsLog-take}
 use Rattle.nv_entry.specs.Keys.{parts_of}
 use Rattle.nv_world.proofs.Kept.{block_is, none_past, some_copied}

@@ -1,4 +1,4 @@
-use Rattle.std.proofs.Common.{◌+◌, ◌∙◌, Some, ap, slice_get, refl, ◌≡◌, arith}
+use Rattle.std.proofs.Common.{◌+◌, ◌∙◌, ap, refl, ◌≡◌, arith}
 use Rattle.std.proofs.lemmas.Option.{slice_get_read}
 use Rattle.nv_cell.specs.Cell.{log_of}
 use Rattle.nv_log.specs.Chain.{log}

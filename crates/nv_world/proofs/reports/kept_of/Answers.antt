@@ -1,4 +1,4 @@
-use Rattle.std.proofs.Common.{List, get_or-drop, None, slice_index_or, length-take, length-drop, ◌≡◌, ◌<◌, ◌∙◌, ◌+◌, arith, ap, drop, length, sym, take, replicate}
+use Rattle.std.proofs.Common.{List, get_or-drop, None, slice_index_or, length-take, length-drop, ◌≡◌, ◌∙◌, arith, ap, drop}
 use Rattle.std.proofs.lemmas.List.{get_or-take}
 use Rattle.nv_cell.specs.declared.mark.Mark.{Mark}
 use Rattle.nv_cell.specs.declared.mark.Mark.TheVariants.{Current}
