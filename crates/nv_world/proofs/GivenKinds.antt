@@ -117,7 +117,8 @@ module _ (shared : Shared) (actor : ℕ) (told : Told) (hand : Hand) (running : 
       still = given_still shared slots given.slots (given.still (ap next_of e));
       empty = (hand_at next.Check e).blocks;
       inside = number_inside;
-      read = by_job (λ u. CanRead shared slots (handles running.looked (blank_call u))) running.job running.owed told.call change is check_read;
+      read = by_job (λ u. CanRead shared slots (handles running.looked (blank_call u))) running.job running.owed told.call change is
+          check_read;
       number = by_job (λ u. (hand.ino ≡ None) × (makes u ≡ true) ⊎ HasNumberFor (lent_cells slots shared.cells.items) (makes u) hand.ino)
           running.job running.owed told.call change is check_number;
     }

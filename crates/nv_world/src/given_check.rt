@@ -1,10 +1,8 @@
-//! What the laws of the machine give each step.
+//! Cites the lemmas on what the machine's laws give each step, and on what a step leaves to other actors.
 
-ghost use Rattle.std.specs.Prelude.{◌≡◌, ℕ, Some};
-ghost use Rattle.nv_base.specs.declared.geometry.GeometryNumbers.{GeometryNumbers};
-ghost use Rattle.nv_machine.specs.Hands.{AreNumbers};
+ghost use Rattle.std.specs.Prelude.{◌≡◌, ℕ};
 
-/// Given.
+/// Says nothing: its proof names the lemmas, so that a check reads them. To go when the steps of a world cite them.
 pub(crate) fn given_check()
     ensures { (n : ℕ) → n ≡ n }
 {}
