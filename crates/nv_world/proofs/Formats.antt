@@ -11,11 +11,12 @@ use Rattle.nv_base.specs.declared.geometry.GeometryNumbers.{GeometryNumbers}
 use Rattle.nv_base.specs.declared.node.Kind.TheVariants.{Dir}
 use Rattle.nv_base.proofs.HomeRanges.{cuts}
 use Rattle.nv_book.specs.Book.{empty_book}
+use Rattle.nv_cell.specs.Append.{first_entry, founded}
 use Rattle.nv_cell.specs.Cell.{CellState, CellValue, empty_cell}
 use Rattle.nv_log.specs.Chain.{empty_chain, open_of, with_page}
 use Rattle.nv_machine.specs.Format.{formatted, full_list, root_cell, without_lowest}
 use Rattle.nv_machine.specs.World.{Shared}
-use Rattle.nv_world.specs.Formats.{empty_of, first_entry, founded, rootless}
+use Rattle.nv_world.specs.Formats.{empty_of, rootless}
 
 -- a list with all blocks of its range
 pub list_full : (g : GeometryNumbers) (cpu : ℕ) (list : FreeBlocks) → list.start ≡ home_start g.blocks g.cpus cpu
