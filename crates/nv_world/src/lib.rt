@@ -10,7 +10,6 @@ mod ending;
 mod event;
 mod fill;
 mod format;
-mod given_check;
 mod hold;
 mod job;
 mod kinds;
