@@ -15,13 +15,17 @@ use Rattle.nv_calls.specs.declared.plan.Plan.{Plan}
 use Rattle.nv_calls.specs.declared.plan.Planned.{Planned}
 use Rattle.nv_entry.specs.declared.item.Item.{Item}
 use Rattle.nv_base.specs.declared.geometry.GeometryNumbers.{GeometryNumbers}
-use Rattle.nv_machine.specs.Reads.{is_written, slot_at}
+use Rattle.nv_calls.specs.AllCalls.{plan}
+use Rattle.nv_calls.specs.Plan.{runs_of}
+use Rattle.nv_calls.specs.declared.call.Call.{Call}
+use Rattle.nv_machine.specs.Reads.{copies, has_last_page, is_written, plan_by, slot_at}
 use Rattle.nv_machine.specs.World as machine
 use Rattle.nv_world.proofs.Among.{lent_at, others_at}
+use Rattle.nv_world.proofs.Takes.{plan_same}
 use Rattle.nv_world.proofs.Takings.{takes_at}
 use Rattle.nv_world.specs.Appends.{IsPlanOf}
 use Rattle.nv_world.specs.Rooms.{HasMade, HasRooms, HasTaken, IsChecked, IsHandOf}
-use Rattle.nv_world.specs.Told.{ArePlansOf, IsChangeWith}
+use Rattle.nv_world.specs.Told.{ArePlansOf, IsChangeWith, IsJobOf, IsToldOf}
 use Rattle.nv_world.specs.declared.hold.Hold.TheVariants as hold
 use Rattle.nv_world.specs.declared.job.Job.{Job}
 use Rattle.nv_world.specs.declared.job.Job.TheVariants as job
@@ -29,7 +33,7 @@ use Rattle.nv_world.specs.declared.next.Ending.TheVariants as ending
 use Rattle.nv_world.specs.declared.next.Next.TheVariants as next
 use Rattle.nv_world.specs.declared.running.Running.{Running}
 use Rattle.nv_world.specs.declared.shared.Shared.{Shared}
-use Rattle.nv_alloc.specs.Block.{BlockValue}
+use Rattle.nv_alloc.specs.Block.{BlockValue, numbers_of}
 use Rattle.nv_alloc.specs.Queue.{QueueValue}
 use Rattle.nv_alloc.specs.declared.hand.Hand.{Hand}
 use Rattle.nv_calls.specs.FillPages.{filled, page_in, pages_over, sourced, with_blocks}
@@ -39,7 +43,7 @@ use Rattle.nv_calls.specs.declared.update.Update.{Update}
 use Rattle.nv_cell.specs.Cell.{CellState, CellValue}
 use Rattle.nv_machine.specs.World.{HandState}
 use Rattle.nv_world.specs.Readied.{filled_hand}
-use Rattle.nv_world.specs.Shown.{hand_of, slots_in}
+use Rattle.nv_world.specs.Shown.{Told, hand_of, shared_of, shown, slots_in}
 
 -- ---- the hand
 
@@ -166,3 +170,22 @@ placed_ready slots all hand u plan can same =
           omega (arith, (placed_by lent hand u can).within f.0 f.1, length-map {B = ℕ × CellValue} slots (λ (n : ℕ). (n, cell_in all n))) in
           list_any_at (λ m. m == ino) slots k 0 lt (eq-eqb (slot_at slots k) ino (sym (number_lent slots all k lt) ∙ f.2));
     })
+
+-- ---- the machine's plan
+
+pub plan_ready : (shared : Shared) (hand : Hand) (running : Running) (told : Told) (by : Plan) (text : List ℕ)
+    → running.job ≡ job.Change by text → IsToldOf running told → let slots = slots_in running.slots in
+    HasMade shared slots hand running.made by.update → IsChecked shared slots hand running.looked by.update
+    → plan_by shared.geometry.numbers.block (shared_of shared) (hand_of hand) (shown told running)
+    ≡ planned_by (lent_cells slots shared.cells.items) hand by.update
+plan_ready shared hand running told by text at is made checked =
+    let block = shared.geometry.numbers.block in
+    let s = shared_of shared in
+    let of = subst (λ (j : Job). IsJobOf j running.owed told.call) at is in
+    let present = has_last_page block s told.call in
+    ap (λ (c : Call). plan block (copies s) (record {
+      made = running.made;
+      runs = runs_of (numbers_of hand.«data».blocks);
+      present = present;
+    }) c) of.0
+    ∙ plan_same shared (slots_in running.slots) hand running.looked by.update text running.made present checked made of.1
