@@ -17,6 +17,7 @@ pub mod GivenEnter
 pub mod GivenKinds
 pub mod GivenLaws
 pub mod GivenWorlds
+pub mod FreshPages
 pub mod Gives
 pub mod Homes
 pub mod LawsHold
