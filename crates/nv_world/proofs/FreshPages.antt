@@ -1,5 +1,5 @@
 -- The pages that a fill puts into the fresh blocks of a call are those of the machine.
-use Rattle.std.proofs.Common.{◌≡◌, ℕ, ◌==◌, ◌/◌, ◌%◌, ◌<◌, ◌∙◌, Bool, true, false, List, [], ◌∷◌, Option, Some, None, if◌then◌else◌, length, map, ap, arith, refl, replicate, slice_index_or, subst, sym}
+use Rattle.std.proofs.Common.{◌≡◌, ℕ, ◌==◌, ◌/◌, ◌%◌, ◌<◌, ◌∙◌, Bool, true, false, List, [], ◌∷◌, Option, Some, None, if◌then◌else◌, length, map, ap, refl, replicate, slice_index_or, subst, sym}
 use Rattle.std.specs.Prelude.{option_and_then, option_map}
 use Rattle.std.specs.List.{AllByRecursion, range_with_len}
 use Rattle.std.proofs.Math.Path.{fun_ext}
@@ -16,15 +16,14 @@ use Rattle.nv_calls.proofs.Refilled.{found_same, state_found}
 use Rattle.nv_calls.specs.FillPages.{cut_page, fresh_pages, page_in, page_with, pages_over, sourced}
 use Rattle.nv_calls.specs.Filling.{text_part}
 use Rattle.nv_calls.specs.Locked.{handles}
-use Rattle.nv_calls.specs.Nodes.{HaveBytes, alone, cell_of, nodes_in, own_node, slots_by}
+use Rattle.nv_calls.specs.Nodes.{alone, cell_of, nodes_in, own_node, slots_by}
 use Rattle.nv_calls.specs.Plain.{PlainNode}
 use Rattle.nv_calls.specs.Prepared.{HaveNoLessRoom}
-use Rattle.nv_calls.specs.Refusals.{bytes_of, kind_of, passes, refuse_if, want_file}
+use Rattle.nv_calls.specs.Refusals.{bytes_of, kind_of, passes, want_file}
 use Rattle.nv_calls.specs.SlotCells.{lent_cells}
-use Rattle.nv_calls.specs.Updates.{blank_call, call_of, text_len}
+use Rattle.nv_calls.specs.Updates.{blank_call}
 use Rattle.nv_calls.specs.calls.Size.{resized, size_refusal}
 use Rattle.nv_calls.specs.calls.Write.{text_refusal}
-use Rattle.nv_calls.specs.declared.call.Call.{Call}
 use Rattle.nv_calls.specs.declared.looked.Looked.{Looked}
 use Rattle.nv_calls.specs.declared.update.Update.{Update}
 use Rattle.nv_calls.specs.declared.update.Update.TheVariants as update

@@ -1,5 +1,5 @@
 -- A call that is made ready: its hand, its plan, and the bytes of its pages.
-use Rattle.std.proofs.Common.{◌≡◌, ℕ, zero, suc, ◌+◌, ◌<◌, ◌≤◌, ◌==◌, ◌∙◌, Bool, true, false, List, [], ◌∷◌, Option, Some, None, filter, length, map, nat_lt, ap, ap₂, arith, refl, slice_index_or, subst, sym, ext_get_or}
+use Rattle.std.proofs.Common.{◌≡◌, ℕ, suc, ◌+◌, ◌<◌, ◌==◌, ◌∙◌, Bool, true, false, List, [], ◌∷◌, filter, length, map, nat_lt, ap, ap₂, arith, refl, slice_index_or, subst, sym, ext_get_or}
 use Rattle.std.proofs.lemmas.Bool.{eqb-true, eq-eqb, lt-ltb, ltb-true}
 use Rattle.std.proofs.lemmas.Grind.{get_or_default_zero}
 use Rattle.std.proofs.lemmas.List.{get_or-map, length-map}
@@ -14,7 +14,6 @@ use Rattle.nv_calls.specs.SlotCells.{cell_in, lent_cells, other_cells}
 use Rattle.nv_calls.specs.declared.plan.Plan.{Plan}
 use Rattle.nv_calls.specs.declared.plan.Planned.{Planned}
 use Rattle.nv_entry.specs.declared.item.Item.{Item}
-use Rattle.nv_base.specs.declared.geometry.GeometryNumbers.{GeometryNumbers}
 use Rattle.nv_calls.specs.AllCalls.{plan}
 use Rattle.nv_calls.specs.Plan.{runs_of}
 use Rattle.nv_calls.specs.declared.call.Call.{Call}
@@ -34,7 +33,6 @@ use Rattle.nv_world.specs.declared.next.Next.TheVariants as next
 use Rattle.nv_world.specs.declared.running.Running.{Running}
 use Rattle.nv_world.specs.declared.shared.Shared.{Shared}
 use Rattle.nv_alloc.specs.Block.{BlockValue, numbers_of}
-use Rattle.nv_alloc.specs.Queue.{QueueValue}
 use Rattle.nv_alloc.specs.declared.hand.Hand.{Hand}
 use Rattle.nv_calls.specs.FillPages.{filled, fresh_pages, page_in, pages_over, sourced, with_blocks}
 use Rattle.nv_calls.specs.Prepared.{CanReady, HasNoLessRoom, HaveNoLessRoom, IsReadyBy, cell_plans, if_items, planned_by, plans_by}
