@@ -10,12 +10,14 @@ pub mod Ends
 pub mod Enters
 pub mod FewPages
 pub mod Formats
+pub mod FreshPages
 pub mod Given
 pub mod GivenCells
 pub mod GivenCounts
 pub mod GivenEnter
 pub mod GivenKinds
 pub mod GivenLaws
+pub mod GivenWorlds
 pub mod Gives
 pub mod Homes
 pub mod Kept

@@ -1,5 +1,5 @@
 -- A call that is made ready: its hand, its plan, and the bytes of its pages.
-use Rattle.std.proofs.Common.{◌≡◌, ℕ, zero, suc, ◌+◌, ◌<◌, ◌≤◌, ◌==◌, ◌∙◌, Bool, true, false, List, [], ◌∷◌, Option, Some, None, filter, length, map, nat_lt, ap, ap₂, arith, refl, slice_index_or, subst, sym, ext_get_or}
+use Rattle.std.proofs.Common.{◌≡◌, ℕ, suc, ◌+◌, ◌<◌, ◌==◌, ◌∙◌, Bool, true, false, List, [], ◌∷◌, filter, length, map, nat_lt, ap, ap₂, arith, refl, slice_index_or, subst, sym, ext_get_or}
 use Rattle.std.proofs.lemmas.Bool.{eqb-true, eq-eqb, lt-ltb, ltb-true}
 use Rattle.std.proofs.lemmas.Grind.{get_or_default_zero}
 use Rattle.std.proofs.lemmas.List.{get_or-map, length-map}
@@ -14,7 +14,6 @@ use Rattle.nv_calls.specs.SlotCells.{cell_in, lent_cells, other_cells}
 use Rattle.nv_calls.specs.declared.plan.Plan.{Plan}
 use Rattle.nv_calls.specs.declared.plan.Planned.{Planned}
 use Rattle.nv_entry.specs.declared.item.Item.{Item}
-use Rattle.nv_base.specs.declared.geometry.GeometryNumbers.{GeometryNumbers}
 use Rattle.nv_calls.specs.AllCalls.{plan}
 use Rattle.nv_calls.specs.Plan.{runs_of}
 use Rattle.nv_calls.specs.declared.call.Call.{Call}
@@ -34,13 +33,17 @@ use Rattle.nv_world.specs.declared.next.Next.TheVariants as next
 use Rattle.nv_world.specs.declared.running.Running.{Running}
 use Rattle.nv_world.specs.declared.shared.Shared.{Shared}
 use Rattle.nv_alloc.specs.Block.{BlockValue, numbers_of}
-use Rattle.nv_alloc.specs.Queue.{QueueValue}
 use Rattle.nv_alloc.specs.declared.hand.Hand.{Hand}
-use Rattle.nv_calls.specs.FillPages.{filled, page_in, pages_over, sourced, with_blocks}
+use Rattle.nv_calls.specs.FillPages.{filled, fresh_pages, page_in, pages_over, sourced, with_blocks}
 use Rattle.nv_calls.specs.Prepared.{CanReady, HasNoLessRoom, HaveNoLessRoom, IsReadyBy, cell_plans, if_items, planned_by, plans_by}
 use Rattle.nv_calls.specs.Ready.{CellPlanValue, ReadyValue}
 use Rattle.nv_calls.specs.declared.update.Update.{Update}
-use Rattle.nv_cell.specs.Cell.{CellState, CellValue}
+use Rattle.nv_cell.specs.Cell.{CellState, CellValue, log_of}
+use Rattle.nv_machine.specs.Effects.{IsSoundIn}
+use Rattle.nv_calls.specs.Updates.{call_of, text_len}
+use Rattle.nv_calls.specs.declared.looked.Looked.{Looked}
+use Rattle.std.specs.List.{AllByRecursion}
+use Rattle.nv_world.proofs.FreshPages.{pages_are, text_whole}
 use Rattle.nv_machine.specs.World.{HandState}
 use Rattle.nv_world.specs.Readied.{filled_hand}
 use Rattle.nv_world.specs.Shown.{Told, hand_of, shared_of, shown, slots_in}
@@ -189,3 +192,19 @@ plan_ready shared hand running told by text at is made checked =
       present = present;
     }) c) of.0
     ∙ plan_same shared (slots_in running.slots) hand running.looked by.update text running.made present checked made of.1
+
+-- ---- the bytes of its pages
+
+pub filled_same : (shared : Shared) (slots : List ℕ) (hand : Hand) (looked : Looked) (now : List (ℕ × CellValue)) (u : Update) (text : List ℕ)
+    → 0 < shared.geometry.numbers.block → HaveNoLessRoom (lent_cells slots shared.cells.items) now
+    → AllByRecursion (λ (c : ℕ × CellValue). IsSoundIn c.1.state (log_of c.1.state)) (lent_cells slots shared.cells.items)
+    → IsHandOf shared.geometry.numbers hand → IsChecked shared slots hand looked u → text_len u ≡ length text
+    → filled_hand now text u hand ≡ record (hand_of hand) {
+      blocks = filled (fresh_pages shared.geometry.numbers.block (copies (shared_of shared)) (call_of u text)) hand.«data».blocks;
+    }
+filled_same shared slots hand looked now u text some more sound sizes is len =
+    let byte_at = λ (i : ℕ). slice_index_or text i 0 in
+    ap (λ (n : ℕ). record (hand_of hand) { blocks = filled (pages_over n (page_in now n) (sourced byte_at u)) hand.«data».blocks }) sizes.blocks
+    ∙ ap (λ (pages : List (List ℕ)). record (hand_of hand) { blocks = filled pages hand.«data».blocks })
+    (pages_are shared slots hand looked now byte_at some more sound u is
+    ∙ ap (λ (t : List ℕ). fresh_pages shared.geometry.numbers.block (copies (shared_of shared)) (call_of u t)) (text_whole text (text_len u) len))

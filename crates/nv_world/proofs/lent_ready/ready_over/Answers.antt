@@ -1,9 +1,7 @@
-use Rattle.std.proofs.Common.{◌≡◌, ◌∙◌, List, ℕ, ap, subst, sym}
-use Rattle.nv_alloc.specs.Queue.{QueueValue}
+use Rattle.std.proofs.Common.{subst, sym}
 use Rattle.nv_calls.proofs.Refilled.{can_fill, stays_ready}
 use Rattle.nv_calls.specs.Prepared.{IsReadyBy}
 use Rattle.nv_calls.specs.Ready.{ReadyValue}
-use Rattle.nv_calls.specs.FillPages.{with_blocks}
 use Rattle.nv_world.proofs.Readies.{filled_is}
 use Rattle.nv_world.proofs.lent_ready.ready_over.Goals as goal
 

@@ -1,4 +1,4 @@
-use Rattle.std.proofs.Common.{◌≡◌, ◌∙◌, List, ap, arith, length, map, subst, sym}
+use Rattle.std.proofs.Common.{◌≡◌, ◌∙◌, List, ap, arith, length, map, subst}
 use Rattle.std.proofs.lemmas.List.{with_items_is}
 use Rattle.nv_calls.specs.Prepared.{HaveNoLessRoom}
 use Rattle.nv_calls.specs.SlotCells.{lent_cells, other_cells}
