@@ -17,7 +17,6 @@ pub mod GivenCounts
 pub mod GivenEnter
 pub mod GivenKinds
 pub mod GivenLaws
-pub mod GivenWorlds
 pub mod Gives
 pub mod Homes
 pub mod Kept
