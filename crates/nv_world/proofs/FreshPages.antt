@@ -58,10 +58,12 @@ module _ (block : ℕ) (lent : List (ℕ × CellValue)) (file : Handle) (c : Cel
   one_cell = ap (λ (b : Bool). if b then Some c else None) (eq-eqb file.ino file.ino refl) ∙ sym q
 
   one_node : nodes_in one file ≡ nodes_in lent file
-  one_node = ap (λ (o : Option CellValue). option_map (λ (x : PlainNode). x.node) (option_and_then (λ (v : CellValue). own_node v.state file) o)) one_cell
+  one_node = ap (λ (o : Option CellValue). option_map (λ (x : PlainNode). x.node) (option_and_then (λ
+      (v : CellValue). own_node v.state file) o)) one_cell
 
   one_page : (page : ℕ) → page_in one block file page ≡ page_in lent block file page
-  one_page page = ap (λ (o : Option CellValue). slot_bytes block (option_and_then (λ (v : CellValue). block_at_page v.state page) o)) one_cell
+  one_page page = ap (λ (o : Option CellValue). slot_bytes block (option_and_then (λ
+      (v : CellValue). block_at_page v.state page) o)) one_cell
 
   one_sound : HasOwn block c.state → IsSoundIn c.state (log_of c.state) → (ino : ℕ)
       → IsSound (bytes_among c.state.blocks) block (slots_by one ino).log
@@ -113,7 +115,8 @@ module _ (shared : Shared) (slots : List ℕ) (hand : Hand) (looked : Looked) (n
     go None q =
         let f = (file_passed (nodes_in lent file) (text_refusal block offset (replicate count 0)) is.passed).0 in
         let none : nodes_in lent file ≡ None =
-        ap (λ (o : Option CellValue). option_map (λ (x : PlainNode). x.node) (option_and_then (λ (v : CellValue). own_node v.state file) o)) q in
+        ap (λ (o : Option CellValue). option_map (λ (x : PlainNode). x.node) (option_and_then (λ
+            (v : CellValue). own_node v.state file) o)) q in
         let there = f.is in cc
     go (Some c) q =
         let own = found_all (HasOwn block) lent file.ino c q is.read.own in
@@ -135,7 +138,8 @@ module _ (shared : Shared) (slots : List ℕ) (hand : Hand) (looked : Looked) (n
     go None q =
         let f = (file_passed (nodes_in lent file) _ is.passed).0 in
         let none : nodes_in lent file ≡ None =
-        ap (λ (o : Option CellValue). option_map (λ (x : PlainNode). x.node) (option_and_then (λ (v : CellValue). own_node v.state file) o)) q in
+        ap (λ (o : Option CellValue). option_map (λ (x : PlainNode). x.node) (option_and_then (λ
+            (v : CellValue). own_node v.state file) o)) q in
         let there = f.is in cc
     go (Some c) q =
         let own = found_all (HasOwn block) lent file.ino c q is.read.own in
@@ -144,7 +148,8 @@ module _ (shared : Shared) (slots : List ℕ) (hand : Hand) (looked : Looked) (n
         ∙ fresh_are (bytes_among c.state.blocks) block (alone file.ino c) (own, tt)
         (one_sound block lent file c q own (found_all (λ (s : CellState). IsSoundIn s (log_of s)) lent file.ino c q sound))
         (update.Size file size) byte_at some
-        (subst (λ (o : Option NodeCopy). size_refusal block (λ handle. o) file size ≡ passes) (sym (one_node block lent file c q)) is.passed)
+        (subst (λ (o : Option NodeCopy). size_refusal block (λ handle. o) file size ≡ passes) (sym
+            (one_node block lent file c q)) is.passed)
         ∙ ap (λ (o : Option NodeCopy). page_of block (size / block) (resized size (bytes_of o)) ∷ [])
         (one_node block lent file c q ∙ machine_node file (update.Size file size) refl is)
   pages_are (update.Create dir name mode) is = refl

@@ -61,7 +61,8 @@ filled_is cells text u hand ready new same more with pages =
     ∙ ap (λ (h : Hand). hand_of (record h { «data» = new.hand.«data» })) more.same
     ∙ ap (λ (bs : List BlockValue). record (hand_of hand) { blocks = bs }) pages
     ∙ ap (λ (v : Update). record (hand_of hand) {
-      blocks = filled (pages_over ready.hand.«data».size (page_in cells ready.hand.«data».size) (sourced (λ i. slice_index_or text i 0) v)) ready.hand.«data».blocks;
+      blocks = filled (pages_over ready.hand.«data».size (page_in cells ready.hand.«data».size) (sourced
+          (λ i. slice_index_or text i 0) v)) ready.hand.«data».blocks;
     }) same
     ∙ ap (λ (h : Hand). record (hand_of hand) {
       blocks = filled (pages_over h.«data».size (page_in cells h.«data».size) (sourced (λ i. slice_index_or text i 0) u)) h.«data».blocks;
@@ -75,7 +76,8 @@ pub states_same : (slots : List ℕ) (old new : List CellValue) → length new �
     → map (λ (c : CellValue). c.state) new ≡ map (λ (c : CellValue). c.state) old
 states_same slots old new many more rest =
     ext_get_or machine.no_cell (map (λ (c : CellValue). c.state) new) (map (λ (c : CellValue). c.state) old)
-    (omega (arith, many, length-map {B = CellState} new (λ (c : CellValue). c.state), length-map {B = CellState} old (λ (c : CellValue). c.state)))
+    (omega (arith, many, length-map {B = CellState} new (λ (c : CellValue). c.state), length-map {B = CellState} old (λ
+        (c : CellValue). c.state)))
     (λ i small.
     let lt : i < length new = omega (arith, small, length-map {B = CellState} new (λ (c : CellValue). c.state)) in
     get_or-map (λ (c : CellValue). c.state) new i (no_cell.1) machine.no_cell lt
@@ -84,7 +86,8 @@ states_same slots old new many more rest =
       each : (i : ℕ) (b : Bool) → has slots i ≡ b → (cell_in new i).state ≡ (cell_in old i).state
       each i false q = ap (λ (c : CellValue). c.state) (others_at slots old new many rest i q)
       each i true q = found (Any-from_list_any (λ m. m == i) slots q) where
-        found : ((j : ℕ) × (x : ℕ) × (j < length slots) × (slice_index_or slots j x ≡ x) × ((x == i) ≡ true)) → (cell_in new i).state ≡ (cell_in old i).state
+        found : ((j : ℕ) × (x : ℕ) × (j < length slots) × (slice_index_or slots j x ≡ x) × ((x == i) ≡ true))
+            → (cell_in new i).state ≡ (cell_in old i).state
         found at =
             let here : slice_index_or slots at.0 0 ≡ i = sym (get_or_default_zero slots at.0 at.1 at.2) ∙ at.3 ∙ eqb-true at.1 i at.4 in
             ap (λ (n : ℕ). (cell_in new n).state) (sym here)
@@ -133,9 +136,11 @@ written_from plan all cells at (n ∷ slots) same =
     let place : at + 1 + k ≡ at + suc k = omega arith in
     ap (slot_at all) place ∙ same (suc k) (omega (arith, lt)))) where
       go : (items : List Item) → items_for plan n ≡ items
-          → filter (is_written plan) slots ≡ map (λ (p : CellPlanValue). slot_at all p.at) (cell_plans plan (at + 1) (lent_cells slots cells))
+          → filter (is_written plan) slots ≡ map (λ (p : CellPlanValue). slot_at all p.at) (cell_plans plan (at + 1)
+              (lent_cells slots cells))
           → filter (is_written plan) (n ∷ slots)
-          ≡ map (λ (p : CellPlanValue). slot_at all p.at) (if_items at (items_for plan n) (cell_plans plan (at + 1) (lent_cells slots cells)))
+          ≡ map (λ (p : CellPlanValue). slot_at all p.at) (if_items at (items_for plan n) (cell_plans plan (at + 1)
+              (lent_cells slots cells)))
       go [] q rest = rw q rest
       go (item ∷ items) q rest =
           let first : at ≡ at + 0 = omega arith in
@@ -195,7 +200,8 @@ plan_ready shared hand running told by text at is made checked =
 
 -- ---- the bytes of its pages
 
-pub filled_same : (shared : Shared) (slots : List ℕ) (hand : Hand) (looked : Looked) (now : List (ℕ × CellValue)) (u : Update) (text : List ℕ)
+pub filled_same : (shared : Shared) (slots : List ℕ) (hand : Hand) (looked : Looked) (now : List (ℕ × CellValue)) (u : Update)
+    (text : List ℕ)
     → 0 < shared.geometry.numbers.block → HaveNoLessRoom (lent_cells slots shared.cells.items) now
     → AllByRecursion (λ (c : ℕ × CellValue). IsSoundIn c.1.state (log_of c.1.state)) (lent_cells slots shared.cells.items)
     → IsHandOf shared.geometry.numbers hand → IsChecked shared slots hand looked u → text_len u ≡ length text
@@ -204,7 +210,9 @@ pub filled_same : (shared : Shared) (slots : List ℕ) (hand : Hand) (looked : L
     }
 filled_same shared slots hand looked now u text some more sound sizes is len =
     let byte_at = λ (i : ℕ). slice_index_or text i 0 in
-    ap (λ (n : ℕ). record (hand_of hand) { blocks = filled (pages_over n (page_in now n) (sourced byte_at u)) hand.«data».blocks }) sizes.blocks
+    ap (λ (n : ℕ). record (hand_of hand) { blocks = filled (pages_over n (page_in now n)
+        (sourced byte_at u)) hand.«data».blocks }) sizes.blocks
     ∙ ap (λ (pages : List (List ℕ)). record (hand_of hand) { blocks = filled pages hand.«data».blocks })
     (pages_are shared slots hand looked now byte_at some more sound u is
-    ∙ ap (λ (t : List ℕ). fresh_pages shared.geometry.numbers.block (copies (shared_of shared)) (call_of u t)) (text_whole text (text_len u) len))
+    ∙ ap (λ (t : List ℕ). fresh_pages shared.geometry.numbers.block (copies (shared_of shared)) (call_of u t)) (text_whole text
+        (text_len u) len))

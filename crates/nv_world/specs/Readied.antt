@@ -10,7 +10,8 @@ use Rattle.nv_world.specs.Shown.{hand_of}
 -- its data blocks have the pages of the call, over these cells and with this text
 abbrev pub filled_hand : List (ℕ × CellValue) → List ℕ → Update → Hand → HandState
 filled_hand cells text u hand = record (hand_of hand) {
-  blocks = filled (pages_over hand.«data».size (page_in cells hand.«data».size) (sourced (λ i. slice_index_or text i 0) u)) hand.«data».blocks;
+  blocks = filled (pages_over hand.«data».size (page_in cells hand.«data».size) (sourced
+      (λ i. slice_index_or text i 0) u)) hand.«data».blocks;
 }
 
 pub record IsFilledBy (cells : List (ℕ × CellValue)) (text : List ℕ) (u : Update) (before after : Hand) : Type 0 where

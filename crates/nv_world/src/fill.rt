@@ -34,7 +34,8 @@ impl Source for Text<'_> {
 
 /// Copies the bytes from a place on, and zeros where there are no more.
 fn copy(text: &[u8], at: u64, part: &mut [u8])
-    ensures { part.new ≡ map (λ i. slice_index_or text.now i 0) (range_with_len at (length part.old)) }
+    ensures { part.new
+        ≡ map (λ i. slice_index_or text.now i 0) (range_with_len at (length part.old)) }
 {
     let count = text.len() as u64;
     if count < at || count - at < part.len() as u64 {
@@ -48,7 +49,8 @@ fn copy(text: &[u8], at: u64, part: &mut [u8])
 
 /// The same byte by byte, past the end too.
 fn copy_slowly(text: &[u8], at: u64, part: &mut [u8])
-    ensures { part.new ≡ map (λ i. slice_index_or text.now i 0) (range_with_len at (length part.old)) }
+    ensures { part.new
+        ≡ map (λ i. slice_index_or text.now i 0) (range_with_len at (length part.old)) }
 {
     for i in 0..part.len() {
         part[i] = byte_behind(text, at, i);

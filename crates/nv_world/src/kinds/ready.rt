@@ -86,14 +86,16 @@ fn ready_of(
     text: &[u8],
 ) -> Result<Ready, (Fault, Hand)>
     requires slots { AreSlots shared.old (slots_in slots.now) }
-    requires can { CanReady (lent_cells (slots_in slots.now) shared.old.cells.items) hand plan.update }
+    requires can { CanReady (lent_cells (slots_in slots.now) shared.old.cells.items) hand
+        plan.update }
     requires pages { HasLogPages (lent_cells (slots_in slots.now) shared.old.cells.items) hand
         plan.update }
     ensures ok { IfOk result (λ ready. IsReadyBy
         (lent_cells (slots_in slots.now) shared.old.cells.items) hand plan.update
         (lent_cells (slots_in slots.now) shared.new.cells.items) ready) }
     ensures hand { IfOk result (λ ready. IsFilledBy
-        (lent_cells (slots_in slots.now) shared.new.cells.items) text.now plan.update hand ready.hand) }
+        (lent_cells (slots_in slots.now) shared.new.cells.items) text.now plan.update hand
+        ready.hand) }
     ensures err { IfErr result (λ refused. (refused.0 ≡ OutOfMemory)
         × HasNoLessRoom hand refused.1) }
     ensures cells { HaveNoLessRoom (lent_cells (slots_in slots.now) shared.old.cells.items)

@@ -19,6 +19,7 @@ returns-clause-ok g c =
 
 pub returns-clause-hand : goal.returns-clause-hand
 returns-clause-hand g c = record {
-  is = filled_is (g.C.Cells.cells c.ready_on.new.cells) c.args.text.now c.args.plan.update c.args.hand c.in_ok-ready.ready c.fill_with.new.ready
+  is = filled_is (g.C.Cells.cells c.ready_on.new.cells) c.args.text.now c.args.plan.update c.args.hand c.in_ok-ready.ready
+      c.fill_with.new.ready
       c.in_ok-ready.ensures.ok.update c.in_ok-ready.ensures.hand c.fill_with.ensures.ready c.fill_with.ensures.pages;
 }
