@@ -104,13 +104,7 @@ fn add_cells(alloc: Global, geometry: &Geometry, cells: &mut Vec<InodeCell>) -> 
     cells.reserve(numbers.inodes as usize)?;
     for _slot in 0..numbers.inodes {
         let page = numbers.page as usize;
-        cells.push_reserved(InodeCell::new(
-            alloc,
-            numbers.block,
-            page,
-            Gen::new(1),
-            0,
-        ));
+        cells.push_reserved(InodeCell::new(alloc, numbers.block, page, Gen::new(1), 0));
     }
     Ok(())
 }
