@@ -1,5 +1,5 @@
 -- What a world is made of before it has a root.
-use Rattle.std.specs.Prelude.{ℕ, ◌<◌, List, [], length, map, replicate, None, slice_index_or}
+use Rattle.std.specs.Prelude.{[], map, replicate, None}
 use Rattle.std.specs.List.{range_with_len}
 use Rattle.nv_alloc.specs.declared.hand.Hand.{Hand}
 use Rattle.nv_base.specs.declared.geometry.GeometryNumbers.{GeometryNumbers}
@@ -7,9 +7,7 @@ use Rattle.nv_book.specs.Book.{empty_book}
 use Rattle.nv_cell.specs.Cell.{CellValue, empty_cell, no_room}
 use Rattle.nv_machine.specs.Format.{full_list}
 use Rattle.nv_machine.specs.World as machine
-use Rattle.nv_world.specs.Rooms.{HasActorRooms}
 use Rattle.nv_world.specs.declared.hold.Hold.TheVariants as hold
-use Rattle.nv_world.specs.declared.shared.Shared.{Shared}
 use Rattle.nv_world.specs.declared.world.Actor.{Actor}
 
 -- the cell of a slot that nothing was ever in
@@ -38,8 +36,3 @@ empty_of g = record {
 
 abbrev pub idle_actor : GeometryNumbers → Actor
 idle_actor g = record { hold = hold.Hand (empty_of g); running = None }
-
--- there is room for what each actor is about to do
-abbrev pub AreIdle : Shared → List Actor → Type 0
-AreIdle shared actors = (k : ℕ) (d : Actor) → k < length actors
-    → HasActorRooms shared (slice_index_or actors k d).hold (slice_index_or actors k d).running

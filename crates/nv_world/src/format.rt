@@ -5,7 +5,7 @@ ghost use Rattle.std.specs.List.{range_with_len};
 ghost use Rattle.nv_base.specs.Refusals.{FailsOnly};
 ghost use Rattle.nv_base.specs.declared.fault.Fault.TheVariants.{OutOfMemory};
 ghost use Rattle.nv_machine.specs.Format.{formatted, full_list};
-ghost use Rattle.nv_world.specs.Formats.{AreIdle, idle_actor, new_cell, rootless};
+ghost use Rattle.nv_world.specs.Formats.{idle_actor, new_cell, rootless};
 ghost use Rattle.nv_world.specs.Shown.{shared_of};
 ghost use Rattle.nv_world.specs.Worlds.{Shows};
 
@@ -24,7 +24,6 @@ impl World {
     pub fn format(alloc: Global, geometry: Geometry) -> Result<World, Fault>
         ensures ok { IfOk result (λ world. Shows world (formatted geometry.numbers)) }
         ensures geometry { IfOk result (λ world. world.shared.geometry ≡ geometry) }
-        ensures rooms { IfOk result (λ world. AreIdle world.shared world.actors) }
         ensures err { FailsOnly OutOfMemory result }
     {
         let pool = InodePool::new(alloc, &geometry)?;
@@ -105,13 +104,7 @@ fn add_cells(alloc: Global, geometry: &Geometry, cells: &mut Vec<InodeCell>) -> 
     cells.reserve(numbers.inodes as usize)?;
     for _slot in 0..numbers.inodes {
         let page = numbers.page as usize;
-        cells.push_reserved(InodeCell::new(
-            alloc,
-            numbers.block,
-            page,
-            Gen::new(1),
-            0,
-        ));
+        cells.push_reserved(InodeCell::new(alloc, numbers.block, page, Gen::new(1), 0));
     }
     Ok(())
 }
