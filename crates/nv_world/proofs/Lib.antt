@@ -18,6 +18,7 @@ pub mod Runs
 pub mod Sequence
 pub mod Settled
 pub mod SlotLists
+pub mod SpaceLaw
 pub mod Starts
 pub mod VisitTurns
 pub mod Visits
