@@ -40,6 +40,7 @@ pub mod Sequence
 pub mod Settled
 pub mod ShownCalls
 pub mod SlotLists
+pub mod SpaceLaw
 pub mod Stages
 pub mod StartShown
 pub mod Starts

@@ -6,6 +6,7 @@ ghost use Rattle.nv_alloc.specs.Block.{numbers_of};
 ghost use Rattle.nv_alloc.specs.Runs.{runs_of};
 ghost use Rattle.nv_base.specs.Refusals.{FailsOnly};
 ghost use Rattle.nv_base.specs.declared.fault.Fault.TheVariants.{OutOfMemory, Stale};
+ghost use Rattle.nv_machine.specs.Numbers.{IsEachOnce, all_blocks};
 ghost use Rattle.nv_machine.specs.World as machine;
 ghost use Rattle.nv_cell.specs.Cell.{log_of};
 ghost use Rattle.nv_entry.specs.Covered.{part_count};
@@ -105,6 +106,13 @@ impl Shared {
             hand,
         }
     }
+}
+
+/// Where each block stands once, it is at one of these places at most.
+fn blocks_add_up()
+    ensures { (blocks : ℕ) (w : machine.World) → IsEachOnce blocks (all_blocks w)
+        → AddsUp blocks w.shared }
+{
 }
 
 /// A free list as maximal runs.
