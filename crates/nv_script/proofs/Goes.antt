@@ -8,7 +8,7 @@ use Rattle.nv_script.specs.Results.{HasGone}
 use Rattle.nv_world.specs.declared.event.Event.TheVariants.{Go, Start}
 use Rattle.nv_world.specs.declared.event.Reply.{Reply}
 use Rattle.nv_world.specs.declared.event.Reply.TheVariants.{Done, Moved, Refused, Started, Waits}
-use Rattle.nv_world.specs.declared.world.World.{World}
+use Rattle.nv_world.specs.Worlds.{WorldState}
 use Rattle.nv_world.specs.Worlds.{IsBounded, IsStep, Leads, Shows, gos, most_goes, reply_of}
 
 -- the world after events and one more
@@ -36,7 +36,7 @@ one_more n = omega arith
 
 -- ---- the worlds that are shown
 
-pub gone_once : (old new : World) (actor : ℕ) (reply : Reply) → ((m : machine.World) → Shows old m → IsStep m (Go actor) reply new)
+pub gone_once : (old new : WorldState) (actor : ℕ) (reply : Reply) → ((m : machine.World) → Shows old m → IsStep m (Go actor) reply new)
     → Leads (HasGone 0 actor reply) old new
 gone_once old new actor reply makes m shows =
     let made = makes m shows in
@@ -47,7 +47,7 @@ gone_once old new actor reply makes m shows =
     }, made.shows)
 
 -- a step more, where the last one moved the call
-pub gone_more : (old mid new : World) (again actor : ℕ) (last reply : Reply) → last ≡ Moved → Leads (HasGone again actor last) old mid
+pub gone_more : (old mid new : WorldState) (again actor : ℕ) (last reply : Reply) → last ≡ Moved → Leads (HasGone again actor last) old mid
     → ((m : machine.World) → Shows mid m → IsStep m (Go actor) reply new) → Leads (HasGone (again + 1) actor reply) old new
 gone_more old mid new again actor last reply moved gone makes m shows =
     let by = gone m shows in
@@ -69,7 +69,7 @@ gone_more old mid new again actor last reply moved gone makes m shows =
     }, made.shows)
 
 -- so an actor's call goes on so often at most
-pub goes : (old new : World) (again more actor : ℕ) (reply : Reply) → again ≤ more → (reply_of reply ≡ machine.Moved → again ≡ more)
+pub goes : (old new : WorldState) (again more actor : ℕ) (reply : Reply) → again ≤ more → (reply_of reply ≡ machine.Moved → again ≡ more)
     → Leads (HasGone again actor reply) old new → Leads (λ m n. GoesOn (more + 1) m actor (reply_of reply) n) old new
 goes old new again more actor reply few all gone m shows =
     let by = gone m shows in
@@ -96,7 +96,7 @@ moved_only (Refused fault) is = absurd (cc)
 -- ---- runs
 
 -- a call whose steps are bounded has come to where it did not move
-pub ran : (old new : World) (actor : ℕ) (reply : Reply) → ((m : machine.World) → Shows old m → IsBounded m)
+pub ran : (old new : WorldState) (actor : ℕ) (reply : Reply) → ((m : machine.World) → Shows old m → IsBounded m)
     → Leads (λ m n. GoesOn most_goes m actor (reply_of reply) n) old new → Leads (λ m n. Runs m actor (reply_of reply) n) old new
 ran old new actor reply bounded gone m shows =
     let by = gone m shows in
@@ -111,7 +111,7 @@ ran old new actor reply bounded gone m shows =
     }, by.2)
 
 -- a call that was started runs
-pub started_runs : (old mid new : World) (actor : ℕ) (call : Call) (reply last : Reply) → reply ≡ Started
+pub started_runs : (old mid new : WorldState) (actor : ℕ) (call : Call) (reply last : Reply) → reply ≡ Started
     → ((m : machine.World) → Shows old m → IsStep m (Start actor call) reply mid)
     → Leads (λ m n. Runs m actor (reply_of last) n) mid new
     → Leads (λ m n. RunsFrom (step m (machine.Start actor call)).reply (step m (machine.Start actor call)).world actor (reply_of last) n) old new
@@ -129,7 +129,7 @@ stays_by (Done answer) w actor ne = (refl, refl)
 stays_by (Refused fault) w actor ne = (refl, refl)
 
 -- one that was not does not
-pub refused_stays : (old new : World) (actor : ℕ) (call : Call) (reply : Reply) → reply ≢ Started
+pub refused_stays : (old new : WorldState) (actor : ℕ) (call : Call) (reply : Reply) → reply ≢ Started
     → ((m : machine.World) → Shows old m → IsStep m (Start actor call) reply new)
     → Leads (λ m n. RunsFrom (step m (machine.Start actor call)).reply (step m (machine.Start actor call)).world actor (reply_of reply) n) old new
 refused_stays old new actor call reply ne makes m shows =

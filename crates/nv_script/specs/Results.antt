@@ -10,7 +10,7 @@ use Rattle.nv_base.specs.declared.geometry.GeometryNumbers.{GeometryNumbers}
 use Rattle.nv_machine.specs.Format.{formatted}
 use Rattle.nv_machine.specs.Step.{after, replies}
 use Rattle.nv_machine.specs.World as machine
-use Rattle.nv_world.specs.declared.world.World.{World}
+use Rattle.nv_world.specs.Worlds.{WorldState}
 use Rattle.nv_world.specs.declared.event.Reply.{Reply}
 use Rattle.nv_world.specs.Worlds.{Shows, ShowsAny, gos, reply_of}
 use Rattle.nv_script.specs.declared.fault.LineFault.{LineFault}
@@ -28,17 +28,17 @@ LineFaultIs line_fault.OutOfMemory old line new = is_skipped line ≡ false
 LineFaultIs (line_fault.Faulty fault) old line new = LineFails (is_some old) line fault × (new ≡ old)
 
 -- a line is played on the worlds that are shown
-abbrev pub PlaysShown : Option World → List ℕ → List ℕ → Option World → Type 0
+abbrev pub PlaysShown : Option WorldState → List ℕ → List ℕ → Option WorldState → Type 0
 PlaysShown old line text new =
     (m : Option machine.World) → ShowsAny old m → (n : Option machine.World) × Plays m line text n × ShowsAny new n
 
 -- what became of one line, and of the text that it writes
-abbrev pub LineIs : {A : Type 0} → Result A LineFault → Option World → List ℕ → List ℕ → Option World → Type 0
+abbrev pub LineIs : {A : Type 0} → Result A LineFault → Option WorldState → List ℕ → List ℕ → Option WorldState → Type 0
 LineIs (Ok done) old line text new = PlaysShown old line text new
 LineIs (Err fault) old line text new = LineFaultIs fault old line new
 
 -- a world is made, or there is none
-abbrev pub MakesWorld : Option GeometryField → GeometryNumbers → List ℕ → Option World → Type 0
+abbrev pub MakesWorld : Option GeometryField → GeometryNumbers → List ℕ → Option WorldState → Type 0
 MakesWorld field numbers text new = (n : Option machine.World) × Formats field numbers text n × ShowsAny new n
 
 -- a test holds, or words are miscounted
@@ -47,7 +47,7 @@ Counts (Ok done) test = test ≡ true
 Counts (Err fault) test = (test ≡ false) × (fault ≡ kind.Count)
 
 -- a new world, the first number that is out of a geometry's limits, or want of memory
-abbrev pub IsNewWorld : Option GeometryField → GeometryNumbers → Result World Fault → Type 0
+abbrev pub IsNewWorld : Option GeometryField → GeometryNumbers → Result WorldState Fault → Type 0
 IsNewWorld (Some field) numbers result = result ≡ Err (fault.BadGeometry field)
 IsNewWorld None numbers result = MatchResult result (λ w. Shows w (formatted numbers)) (λ why. why ≡ fault.OutOfMemory)
 
@@ -83,7 +83,7 @@ pub record AtLine (input known old new : Option (List ℕ)) (gathered : List ℕ
   pub written : WritesFront old new text gathered
 
 -- after the line with a number, which is one of the allowed: the script goes on, or this is its end
-abbrev pub TurnIs : Result Bool Fault → (input left known old new : Option (List ℕ)) → List ℕ → ℕ → Option World → Type 0
+abbrev pub TurnIs : Result Bool Fault → (input left known old new : Option (List ℕ)) → List ℕ → ℕ → Option WorldState → Type 0
 TurnIs (Ok true) input left known old new gathered number world =
     (number ≤ most_lines) × (n : Option machine.World) × AtLine input known old new gathered (number + 1) n × ShowsAny world n
 TurnIs (Ok false) input left known old new gathered number world = EndsWell input left (λ text. WritesFront old new text gathered)

@@ -1,6 +1,7 @@
 pub mod Actors
 pub mod Among
 pub mod Appends
+pub mod Bounds
 pub mod CheckJobs
 pub mod CheckTurns
 pub mod Checks

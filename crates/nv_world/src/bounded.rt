@@ -9,5 +9,7 @@ impl World {
     /// A law: calls end. No call moves on so often as a script's line goes on with it at most.
     pub fn bounded(&self)
         ensures { (m : machine.World) → Shows self.now m → IsBounded m }
-    {}
+    {
+        let _ = &self.shared;
+    }
 }
