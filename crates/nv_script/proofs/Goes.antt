@@ -1,5 +1,5 @@
 -- One step more of an actor's call, at the end of some.
-use Rattle.std.proofs.Common.{◌≡◌, ◌≢◌, ℕ, zero, suc, ◌+◌, ◌<◌, ◌≤◌, ◌∙◌, arith, Bool, List, [], ◌∷◌, ◌++◌, ap, map, replicate, refl, subst, sym}
+use Rattle.std.proofs.Common.{◌≡◌, ◌≢◌, ℕ, zero, suc, ◌+◌, ◌≤◌, ◌∙◌, arith, Bool, List, [], ◌∷◌, ◌++◌, ap, replicate, refl, subst, sym}
 use Rattle.nv_calls.specs.declared.call.Call.{Call}
 use Rattle.nv_machine.specs.Step.{after, replies, step}
 use Rattle.nv_machine.specs.World as machine

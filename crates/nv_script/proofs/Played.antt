@@ -1,5 +1,5 @@
 -- A line that is played on what a world shows.
-use Rattle.std.proofs.Common.{◌≡◌, ℕ, Bool, true, false, List, [], Option, Some, None, Ok, inl, refl, subst, sym}
+use Rattle.std.proofs.Common.{◌≡◌, ℕ, Bool, false, List, [], Option, Some, None, Ok, inl, refl, subst, sym}
 use Rattle.std.specs.Prelude.{MatchBool, codes}
 use Rattle.nv_base.specs.declared.fault.GeometryField.{GeometryField}
 use Rattle.nv_base.specs.declared.geometry.GeometryNumbers.{GeometryNumbers}

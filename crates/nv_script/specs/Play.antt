@@ -8,7 +8,6 @@ use Rattle.nv_base.specs.declared.fault.GeometryField.{GeometryField}
 use Rattle.nv_base.specs.declared.fault.ScriptFaultKind.{ScriptFaultKind}
 use Rattle.nv_base.specs.declared.fault.ScriptFaultKind.TheVariants as kind
 use Rattle.nv_base.specs.declared.geometry.GeometryNumbers.{GeometryNumbers}
-use Rattle.nv_calls.specs.declared.call.Call.{Call}
 use Rattle.nv_machine.specs.Format.{formatted}
 use Rattle.nv_machine.specs.Step.{after, replies, step}
 use Rattle.nv_machine.specs.World.{Moved, Reply, Start, Started, World}

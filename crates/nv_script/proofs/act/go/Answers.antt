@@ -1,4 +1,4 @@
-use Rattle.std.proofs.Common.{◌≡◌, ◌∙◌, arith, sym, true≢false}
+use Rattle.std.proofs.Common.{◌∙◌, arith, sym, true≢false}
 use Rattle.nv_script.proofs.Goes.{goes, gone_more, gone_once, moved_only}
 use Rattle.nv_script.proofs.act.go.Goals as goal
 use Rattle.nv_script.proofs.act.go.Goals.{in-Moved, in_default}

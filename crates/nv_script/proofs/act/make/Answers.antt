@@ -1,4 +1,4 @@
-use Rattle.nv_script.proofs.Goes.{refused_stays, started_runs}
+use Rattle.nv_script.proofs.Goes.{started_runs}
 use Rattle.nv_script.proofs.act.make.Goals as goal
 
 pub returns-in-Started : goal.returns-in-Started

@@ -1,7 +1,7 @@
 use Rattle.std.proofs.Common.{◌∙◌, ap, bytes_eq, sym}
 use Rattle.nv_script.specs.Grammar.{all_calls}
 use Rattle.nv_script.specs.declared.call.CallWord.TheVariants.{Create}
-use Rattle.nv_script.proofs.Commands.{named-here, named-skip}
+use Rattle.nv_script.proofs.Commands.{named-skip}
 use Rattle.nv_script.proofs.call.CallWord.named.Goals as goal
 
 pub loop-call-preserved : goal.loop-call-preserved
