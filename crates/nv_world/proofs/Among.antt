@@ -71,7 +71,8 @@ only_among slots old new k many lt rises there only rest =
               → cell_in new i ≡ slice_index_or (slice_set old (slot_at slots k) (cell_in new (slot_at slots k))) i (no_cell.1)
           go true e =
               let same : i ≡ slot_at slots k = sym here ∙ ap (λ (j : ℕ). slice_index_or slots j 0) (eqb-true at.0 k e) in
-              ap (cell_in new) same ∙ sym (get_or-set_at old (slot_at slots k) i (cell_in new (slot_at slots k)) (no_cell.1) same (there k lt))
+              ap (cell_in new) same ∙ sym (get_or-set_at old (slot_at slots k) i (cell_in new (slot_at slots k))
+              (no_cell.1) same (there k lt))
           go false e =
               let ne : at.0 ≢ k = eqb-false at.0 k e in
               let away : i ≢ slot_at slots k = λ same. apart slots at.0 k rises at.2 lt ne (here ∙ same) in
@@ -94,15 +95,6 @@ only_among slots old new k many lt rises there only rest =
                 ∙ map_told (cell_in new) (cell_in old) (λ n. not (has slots n)) (range_with_len 0 (length old)) all i
                 (omega (arith, few, length-range_with_len 0 (length old))) free
                 ∙ ap (cell_in old) at
-
--- so the cells of other slots stay
-pub only_others : (slots : List ℕ) (old new : List CellValue) (k : ℕ) → k < length slots → IsOnlyAt (slot_at slots k) old new
-    → (ino : ℕ) → has slots ino ≡ false → cell_in new ino ≡ cell_in old ino
-only_others slots old new k lt only ino free =
-    let away : ino ≢ slot_at slots k = λ same.
-    true≢false (sym (list_any_at (λ m. m == ino) slots k 0 lt (eq-eqb (slice_index_or slots k 0) ino (sym same))) ∙ free) in
-    ap (λ (xs : List CellValue). cell_in xs ino) only
-    ∙ get_or-set_other old (slot_at slots k) ino (cell_in new (slot_at slots k)) (no_cell.1) away
 
 -- the other cells stay, one by one
 pub others_at : (slots : List ℕ) (old new : List CellValue) → length new ≡ length old → other_cells slots new ≡ other_cells slots old

@@ -1,8 +1,9 @@
 -- What the check of a job comes to, over its lent cells as in the machine.
-use Rattle.std.proofs.Common.{◌≡◌, ℕ, ◌<◌, ◌≤◌, ◌⊎◌, inl, inr, ◌||◌, ◌∙◌, not, Bool, true, false, cond, List, [], length, Option, Some, None, refl, ap, sym, subst}
+use Rattle.std.proofs.Common.{◌≡◌, ℕ, ◌<◌, ◌≤◌, ◌⊎◌, inl, inr, ◌||◌, ◌∙◌, not, Bool, true, false, cond, List, [], length, Option, Some, None, arith, refl, ap, sym, subst}
 use Rattle.std.specs.Prelude.{is_some, unwrap_or}
 use Rattle.std.specs.Option.{ForSome}
 use Rattle.nv_alloc.specs.declared.hand.Hand.{Hand}
+use Rattle.std.proofs.lemmas.List.{length-map}
 use Rattle.nv_base.specs.declared.numbers.Handle.{Handle}
 use Rattle.nv_calls.specs.AllCalls.{blocks_wanted, early, effect, looked, refusal}
 use Rattle.nv_calls.specs.Locked.{handles}
@@ -22,6 +23,7 @@ use Rattle.nv_machine.specs.Sequence.{beginning}
 use Rattle.nv_machine.specs.Step.{is_numbered, made_in, same_looked}
 use Rattle.nv_machine.specs.World.{HandState, Overtaken}
 use Rattle.nv_machine.specs.World as machine
+use Rattle.nv_world.proofs.PassesSome.{some_cell}
 use Rattle.nv_world.proofs.Checks.{ends_same, few_wanted, overtaken_looks, passes_over, wanted_same}
 use Rattle.nv_world.proofs.Nodes.{cell_is, lent_has, lent_of}
 use Rattle.nv_world.specs.Nodes.{CanRead, ends_over}
@@ -179,7 +181,8 @@ wants_by_job shared hand new running wanted cells can change number chain ends o
             record {
               read = read;
               lent = cells;
-              some = can.some;
+              some = omega (arith, some_cell shared.geometry.numbers.block lent u passed.passed,
+              length-map {B = ℕ × CellValue} slots (λ (ino : ℕ). (ino, cell_in shared.cells.items ino)));
               still = can.still.still;
               passed = passed.passed;
               something = passed.something;

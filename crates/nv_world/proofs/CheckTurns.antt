@@ -113,7 +113,8 @@ abbrev WantsAs : Shared → Running → ℕ → Type 0
 WantsAs shared running wanted = IsChangeWith (λ u. wanted ≡ blocks_to_take shared (slots_in running.slots) u) running.job
 
 module _ (shared : Shared) (hand : Hand) (running now : Running) (numbered : Bool) (found : Option Ended)
-    (is : now ≡ noted shared hand running) (number : numbered ≡ is_some hand.ino) (change : is_change running.job ≡ true) (can : CanBeChecked shared hand running)
+    (is : now ≡ noted shared hand running) (number : numbered ≡ is_some hand.ino) (change : is_change running.job ≡ true)
+    (can : CanBeChecked shared hand running)
     (ends : EndsAs shared now numbered (option_map ending_of found)) where
   abbrev own_slots : List ℕ
   own_slots = slots_in running.slots
@@ -142,7 +143,8 @@ module _ (shared : Shared) (hand : Hand) (running now : Running) (numbered : Boo
         looks = call.looks;
         overtaken = λ over.
             overtaken_by_job shared own_slots running.looked (is_some hand.ino) running.job change call.looks
-            (subst (λ (x : Option Ended). EndsAs shared running (is_some hand.ino) (option_map ending_of x)) (some ∙ ap Some over) own_ends);
+            (subst (λ (x : Option Ended). EndsAs shared running (is_some hand.ino) (option_map ending_of x))
+            (some ∙ ap Some over) own_ends);
       })
 
   pub few : (new : Shared) (wanted : ℕ) → new ≡ shared → 0 < size → found ≡ None → WantsAs new now wanted → wanted ≤ 65536

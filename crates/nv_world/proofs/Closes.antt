@@ -1,5 +1,5 @@
 -- A closing of the journal, as the machine's.
-use Rattle.std.proofs.Common.{◌≡◌, ℕ, ◌<◌, ◌≤◌, ◌∙◌, true, Option, Some, List, None, [], ap, arith, length, refl, subst, sym}
+use Rattle.std.proofs.Common.{◌≡◌, ℕ, ◌≤◌, ◌∙◌, true, Option, Some, List, None, [], ap, arith, length, refl, subst, sym}
 use Rattle.std.specs.Prelude.{unwrap_or}
 use Rattle.std.specs.Option.{option_map}
 use Rattle.std.proofs.lemmas.List.{length-map}
@@ -18,7 +18,8 @@ use Rattle.nv_world.specs.declared.running.Running.{Running}
 use Rattle.nv_world.specs.declared.shared.Shared.{Shared}
 use Rattle.nv_world.proofs.Retires.{retires_next}
 
-pub closes : (shared : Shared) (running : Running) (old : CommitValue) (told : Told) (cpu : ℕ) → IsCommitOf (slots_in running.slots) old told
+pub closes : (shared : Shared) (running : Running) (old : CommitValue) (told : Told) (cpu : ℕ)
+    → IsCommitOf (slots_in running.slots) old told
     → IsOnItsWay old → is_open old ≡ true → length old.plans ≤ old.published → old.journal ≡ Some cpu
     → close_turn cpu (shared_of shared) (hand_in old) (shown_commit old told running)
     ≡ machine.Moves (record (shared_of shared) { book = without_journal old shared.book.state }) (hand_in (after_close old))
@@ -42,6 +43,7 @@ closes shared running old told cpu is way noted published own =
     }) h (go_to (commit_next after) r)) own)
 
 -- what is told of the commit stays
-pub close_told : (slots : List ℕ) (old new : CommitValue) (told : Told) → new ≡ after_close old → IsCommitOf slots old told → IsCommitOf slots new told
+pub close_told : (slots : List ℕ) (old new : CommitValue) (told : Told) → new ≡ after_close old → IsCommitOf slots old told
+    → IsCommitOf slots new told
 close_told slots old new told commit is =
     subst (λ (c : CommitValue). IsCommitOf slots c told) (sym commit) (record { number = is.number; epoch = is.epoch; plans = is.plans })

@@ -1,8 +1,7 @@
 -- A call that enters.
-use Rattle.std.proofs.Common.{◌≡◌, ℕ, ◌+◌, ◌<◌, ◌≤◌, ◌∙◌, ◌⊎◌, inl, inr, Bool, List, Option, Result, Ok, Err, Some, None, true, false, ap, arith, length, map, nat_le, refl, subst, sym}
-use Rattle.std.specs.Prelude.{is_some}
+use Rattle.std.proofs.Common.{◌≡◌, ℕ, ◌+◌, ◌≤◌, ◌%◌, ◌∙◌, ◌⊎◌, inl, inr, Bool, List, Option, Result, Ok, Err, Some, None, true, false, ap, arith, length, nat_le, refl, subst, sym}
 use Rattle.std.proofs.lemmas.List.{length-map}
-use Rattle.std.proofs.lemmas.Bool.{false≢true, le-leb, leb-true}
+use Rattle.std.proofs.lemmas.Bool.{le-leb, leb-true}
 use Rattle.nv_alloc.specs.declared.hand.Hand.{Hand}
 use Rattle.nv_base.specs.declared.fault.Fault.{Fault}
 use Rattle.nv_base.specs.declared.fault.Fault.TheVariants.{CommitLimit, OutOfMemory}
@@ -20,16 +19,26 @@ use Rattle.nv_world.specs.declared.running.Running.{Running}
 use Rattle.nv_world.specs.declared.shared.Shared.{Shared}
 use Rattle.nv_world.proofs.Ends.{end_anywhere}
 use Rattle.nv_world.proofs.Sequence.{appends_next}
+use Rattle.nv_calls.specs.CanCommit.{AllowsCommit, CanCommit}
+use Rattle.nv_calls.specs.SlotCells.{lent_cells}
+use Rattle.nv_calls.proofs.PlannedCommits.{can_commit}
+use Rattle.nv_cell.specs.Cell.{CellValue}
+use Rattle.nv_world.specs.Rooms.{CanEnd, HasRooms, IsNoVisit, LooksAsTold}
+use Rattle.nv_world.specs.Steps.{CanEnter}
+use Rattle.nv_world.specs.declared.hold.Hold.TheVariants as hold
+use Rattle.nv_world.specs.declared.job.Job.{Job}
+use Rattle.nv_world.specs.declared.job.Job.TheVariants as job
+use Rattle.nv_world.specs.declared.next.Ending.{Ending}
+use Rattle.nv_world.specs.declared.next.Ending.TheVariants as ending
+use Rattle.nv_world.proofs.Phases.{begins}
 
-pub none_left : (holder : Option ℕ) → is_some holder ≡ false → holder ≡ None
-none_left None e = refl
-none_left (Some actor) e = absurd (false≢true (sym e))
-
-pub enters : (shared : Shared) (ready : ReadyValue) (running : Running) (actor need : ℕ) (book : BookValue) (commit : CommitValue) (told : Told)
+pub enters : (shared : Shared) (ready : ReadyValue) (running : Running) (actor need : ℕ) (book : BookValue) (commit : CommitValue)
+    (told : Told)
     → shared.holder ≡ None → nat_le NUMBER shared.book.state.commit ≡ false
     → book ≡ record { state = after_enter actor shared.book.state; room = need } → commit ≡ begun (stamp_of book.state) ready
     → IsReadyOf (slots_in running.slots) ready told
-    → enter_turn shared.holder (nat_le NUMBER shared.book.state.commit) true actor (shared_of shared) (hand_of ready.hand) (shown_ready told running)
+    → enter_turn shared.holder (nat_le NUMBER shared.book.state.commit) true actor (shared_of shared) (hand_of ready.hand)
+    (shown_ready told running)
     ≡ Moves (shared_of (record shared { book = book; holder = Some actor })) (hand_in commit)
     (shown_commit commit (entered shared.book.state told) running)
 enters shared ready running actor need book commit told free below after begins is =
@@ -38,12 +47,14 @@ enters shared ready running actor need book commit told free below after begins 
     let r = shown_ready told running in
     let last : BookValue = record { state = after_enter actor shared.book.state; room = need } in
     let first : CommitValue = begun (stamp_of last.state) ready in
-    let many : length (written_slots r) ≡ length ready.plans = ap (λ (xs : List ℕ). length xs) is.written ∙ length-map ready.plans (λ (p : CellPlanValue). slot_at (slots_in running.slots) p.at) in
+    let many : length (written_slots r) ≡ length ready.plans = ap (λ (xs : List ℕ). length xs) is.written
+    ∙ length-map ready.plans (λ (p : CellPlanValue). slot_at (slots_in running.slots) p.at) in
     let same : commit ≡ first = begins ∙ ap (λ (b : BookValue). begun (stamp_of b.state) ready) after in
     ap (λ (x : Option ℕ). enter_turn x (nat_le NUMBER shared.book.state.commit) true actor s h r) free
     ∙ ap (λ (b : Bool). enter_turn None b true actor s h r) below
     ∙ ap (λ (next : Next). Moves (record s { book = after_enter actor s.book; holder = Some actor }) h
-    (go_to next (record r { commit = s.book.commit + 1; epoch = s.book.snaps.epoch }))) (appends_next first (written_slots r) many refl refl refl)
+    (go_to next (record r { commit = s.book.commit + 1; epoch = s.book.snaps.epoch })))
+    (appends_next first (written_slots r) many refl refl refl)
     ∙ sym (ap (λ (b : BookValue). Moves (shared_of (record shared { book = b; holder = Some actor })) (hand_in commit)
     (shown_commit commit (entered shared.book.state told) running)) after
     ∙ ap (λ (c : CommitValue). Moves (shared_of (record shared { book = last; holder = Some actor })) (hand_in c)
@@ -86,9 +97,11 @@ told_why result fault commit last is limit at (inr e) same fits = go (nat_le NUM
       let both = sym is ∙ at full in absurd (cc (both, e))
   go false q = inr (e, q)
 
-pub refuses : (shared : Shared) (hand : Hand) (running : Running) (actor : ℕ) (book : BookValue) (given : Hand) (told : Told) (fault : Fault)
+pub refuses : (shared : Shared) (hand : Hand) (running : Running) (actor : ℕ) (book : BookValue) (given : Hand) (told : Told)
+    (fault : Fault)
     (turn : Turn) → shared.holder ≡ None → book ≡ shared.book → given ≡ hand
-    → refuse fault (shared_of (record shared { book = book })) (hand_of given) (shown told running) ≡ turn → Why fault shared.book.state.commit
+    → refuse fault (shared_of (record shared { book = book })) (hand_of given) (shown told running) ≡ turn
+    → Why fault shared.book.state.commit
     → IsEither (λ granted. enter_turn shared.holder (nat_le NUMBER shared.book.state.commit) granted actor (shared_of shared) (hand_of hand)
     (shown_ready told running)) turn
 refuses shared hand running actor book given told fault turn free same held refused why = go why where
@@ -100,7 +113,8 @@ refuses shared hand running actor book given told fault turn free same held refu
       ∙ refused
 
   step : (b granted : Bool) → nat_le NUMBER shared.book.state.commit ≡ b
-      → enter_turn shared.holder (nat_le NUMBER shared.book.state.commit) granted actor (shared_of shared) (hand_of hand) (shown_ready told running)
+      → enter_turn shared.holder (nat_le NUMBER shared.book.state.commit) granted actor (shared_of shared) (hand_of hand)
+      (shown_ready told running)
       ≡ enter_turn None b granted actor (shared_of shared) (hand_of hand) (shown_ready told running)
   step b granted q =
       ap (λ (x : Option ℕ). enter_turn x (nat_le NUMBER shared.book.state.commit) granted actor (shared_of shared) (hand_of hand)
@@ -108,9 +122,47 @@ refuses shared hand running actor book given told fault turn free same held refu
       ∙ ap (λ (c : Bool). enter_turn None c granted actor (shared_of shared) (hand_of hand) (shown_ready told running)) q
 
   go : Why fault shared.book.state.commit
-      → IsEither (λ granted. enter_turn shared.holder (nat_le NUMBER shared.book.state.commit) granted actor (shared_of shared) (hand_of hand)
+      → IsEither (λ granted. enter_turn shared.holder (nat_le NUMBER shared.book.state.commit) granted actor (shared_of shared)
+      (hand_of hand)
       (shown_ready told running)) turn
   go (inl w) =
-      inl (step true true w.1 ∙ ap (λ (f : Fault). refuse f (shared_of shared) (hand_of hand) (shown_ready told running)) (sym w.0) ∙ settled)
+      inl (step true true w.1 ∙ ap (λ (f : Fault). refuse f (shared_of shared) (hand_of hand) (shown_ready told running)) (sym w.0)
+      ∙ settled)
   go (inr w) =
-      inr (step false false w.1 ∙ ap (λ (f : Fault). refuse f (shared_of shared) (hand_of hand) (shown_ready told running)) (sym w.0) ∙ settled)
+      inr (step false false w.1 ∙ ap (λ (f : Fault). refuse f (shared_of shared) (hand_of hand) (shown_ready told running)) (sym w.0)
+      ∙ settled)
+
+-- ---- what holds of the call beside
+
+-- a call whose job its commit has can end
+pub given_ends : (running : Running) (how : Ending) → running.job ≡ job.Given → (how ≡ ending.Overtaken → ⊥) → CanEnd running how
+given_ends running how given other = record {
+  job = subst IsNoVisit (sym given) tt;
+  looks = subst (λ (j : Job). LooksAsTold j running.looked) (sym given) tt;
+  overtaken = λ is. absurd (other is);
+}
+
+-- what was ready is committed from its begin on
+pub entered_rooms : (shared : Shared) (running : Running) (ready : ReadyValue) (actor need : ℕ) (book : BookValue) (commit : CommitValue)
+    → HasRooms shared (hold.Ready ready) running → need ≡ ready.need → CanEnter shared running ready actor
+    → book ≡ record { state = after_enter actor shared.book.state; room = need } → commit ≡ begun (stamp_of book.state) ready
+    → HasRooms (record shared { book = book; holder = Some actor }) (hold.Commit commit) running
+entered_rooms shared running ready actor need book commit rooms enough enter after begins_is =
+    let last : BookValue = record { state = after_enter actor shared.book.state; room = need } in
+    let cells : List (ℕ × CellValue) = lent_cells (slots_in running.slots) shared.cells.items in
+    let cpu : ℕ = actor % length shared.lists.items in
+    let over = rooms.3 in
+    let allows : AllowsCommit cells last cpu ready = record {
+      entered = (actor, (shared.book.state, refl));
+      take = enter.take;
+      records = omega (arith, enough);
+      cpu_is = enter.cpu;
+      closed = enter.closed;
+    } in
+    let can : CanCommit cells last cpu ready =
+    can_commit over.cells cells over.hand over.update last cpu ready over.can over.more over.is allows in
+    let first : CommitValue = begun (stamp_of last.state) ready in
+    let same : commit ≡ first = begins_is ∙ ap (λ (b : BookValue). begun (stamp_of b.state) ready) after in
+    subst (λ (b : BookValue). HasRooms (record shared { book = b; holder = Some actor }) (hold.Commit commit) running) (sym after)
+    (subst (λ (c : CommitValue). HasRooms (record shared { book = last; holder = Some actor }) (hold.Commit c) running) (sym same)
+    (rooms.0, rooms.1, rooms.2, begins cpu cells last ready can))

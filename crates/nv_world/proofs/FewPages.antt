@@ -38,7 +38,8 @@ item_sum plan = sum_by (λ (p : Planned). length p.items) plan
 abbrev only_for : ℕ → ℕ → ℕ × CellValue → ℕ
 only_for ino n c = cond (ino == c.0) n 0
 
-none_above : (ino n : ℕ) (cells : List (ℕ × CellValue)) → ((k : ℕ) (d : ℕ × CellValue) → k < length cells → ino < (slice_index_or cells k d).0)
+none_above : (ino n : ℕ) (cells : List (ℕ × CellValue)) → ((k : ℕ) (d : ℕ × CellValue) → k < length cells
+    → ino < (slice_index_or cells k d).0)
     → sum_by (only_for ino n) cells ≡ 0
 none_above ino n [] above = refl
 none_above ino n (c ∷ cells) above =
@@ -162,7 +163,8 @@ items_few block nodes taken (update.Size file size) =
     let all : item_sum (plan block nodes taken (blank_call (update.Size file size)))
         ≡ 0 + length (write_items (size / block) taken.runs size ++ SetSize size ∷ []) = refl in
     omega (
-      arith, all, length-write (size / block) taken.runs size, length-append (write_items (size / block) taken.runs size) (SetSize size ∷ []),
+      arith, all, length-write (size / block) taken.runs size, length-append (write_items (size / block) taken.runs size)
+          (SetSize size ∷ []),
     )
 items_few block nodes taken (update.Mode handle mode) =
     let one : item_sum (plan block nodes taken (blank_call (update.Mode handle mode))) ≡ 1 = refl in omega (arith, one)

@@ -1,5 +1,6 @@
 -- A world that was just made, part by part.
-use Rattle.std.proofs.Common.{◌≡◌, ℕ, zero, suc, ◌+◌, ◌-◌, ◌*◌, ◌<◌, ◌≤◌, List, [], ◌∷◌, ◌++◌, drop, map, replicate, take, None, slice_index_or, slice_set, ◌∙◌, ap, arith, refl}
+use Rattle.std.proofs.Common.{◌≡◌, ℕ, zero, suc, ◌+◌, ◌-◌, ◌*◌, ◌<◌, ◌≤◌, List, [], ◌∷◌, ◌++◌, drop, map, replicate, take, None, slice_index_or, slice_set, ◌∙◌, ap, arith, length, refl, subst, sym}
+use Rattle.std.proofs.lemmas.List.{get_or-replicate, length-replicate}
 use Rattle.std.proofs.lemmas.Nat.{le-div}
 use Rattle.std.specs.List.{range_with_len}
 use Rattle.nv_alloc.specs.Block.{BlockValue, zero_block, zero_blocks}
@@ -11,11 +12,17 @@ use Rattle.nv_base.specs.declared.geometry.GeometryNumbers.{GeometryNumbers}
 use Rattle.nv_base.specs.declared.node.Kind.TheVariants.{Dir}
 use Rattle.nv_base.proofs.HomeRanges.{cuts}
 use Rattle.nv_book.specs.Book.{empty_book}
+use Rattle.nv_cell.specs.Append.{first_entry, founded}
 use Rattle.nv_cell.specs.Cell.{CellState, CellValue, empty_cell}
 use Rattle.nv_log.specs.Chain.{empty_chain, open_of, with_page}
 use Rattle.nv_machine.specs.Format.{formatted, full_list, root_cell, without_lowest}
-use Rattle.nv_machine.specs.World.{Shared}
-use Rattle.nv_world.specs.Formats.{empty_of, first_entry, founded, rootless}
+use Rattle.nv_machine.specs.World.{Shared, actor_at, idle}
+use Rattle.nv_world.specs.Formats.{empty_of, idle_actor, rootless}
+use Rattle.nv_world.specs.Rooms.{IsHandOf}
+use Rattle.nv_world.specs.Shown.{shared_of}
+use Rattle.nv_world.specs.Worlds.{IsWorldAfter, ShowsActor}
+use Rattle.nv_world.specs.declared.shared.Shared as code
+use Rattle.nv_world.specs.declared.world.Actor.{Actor}
 
 -- a list with all blocks of its range
 pub list_full : (g : GeometryNumbers) (cpu : ℕ) (list : FreeBlocks) → list.start ≡ home_start g.blocks g.cpus cpu
@@ -128,3 +135,36 @@ is_rootless g s lists pool cells owners book holder =
 pub states_alike : (n : ℕ) (cell : CellValue) → map (λ (c : CellValue). c.state) (replicate n cell) ≡ replicate n cell.state
 states_alike zero cell = refl
 states_alike (suc n) cell = ap (λ (l : List CellState). cell.state ∷ l) (states_alike n cell)
+
+-- ---- the world
+
+-- an actor of many that are idle
+idle_at : (g : GeometryNumbers) (n k : ℕ) (d : Actor) → k < length (replicate n (idle_actor g))
+    → slice_index_or (replicate n (idle_actor g)) k d ≡ idle_actor g
+idle_at g n k d inside = get_or-replicate n k (idle_actor g) d (omega (arith, length-replicate n (idle_actor g)))
+
+shows_idle : (g : GeometryNumbers) → ShowsActor (idle_actor g) idle
+shows_idle g = record { hand = refl; running = tt }
+
+each_shown : (g : GeometryNumbers) (k : ℕ) (d : Actor) → k < length (replicate g.actors (idle_actor g))
+    → ShowsActor (slice_index_or (replicate g.actors (idle_actor g)) k d) (actor_at (formatted g) k)
+each_shown g k d inside =
+    let less : k < g.actors = omega (arith, length-replicate g.actors (idle_actor g)) in
+    let shown : actor_at (formatted g) k ≡ idle = get_or-replicate g.actors k idle idle less in
+    rw (idle_at g g.actors k d inside, shown) (shows_idle g)
+
+-- it shows the machine's after no event, with room for what its actors are about to do
+pub world_made : (g : GeometryNumbers) (s : code.Shared) (actors : List Actor) → IsWithinLimits g → s.geometry.numbers ≡ g
+    → shared_of s ≡ (formatted g).shared → actors ≡ replicate g.actors (idle_actor g)
+    → IsWorldAfter (record { shared = s; actors = actors }) (formatted g) []
+world_made g s actors limits numbers shared idles =
+    let block : g.block ≡ s.geometry.numbers.block = sym (ap (λ (n : GeometryNumbers). n.block) numbers) in
+    let hand : IsHandOf s.geometry.numbers (empty_of g) = record { blocks = block; pages = block } in
+    let count : length (replicate g.actors (idle_actor g)) ≡ length (formatted g).actors =
+    length-replicate g.actors (idle_actor g) ∙ sym (length-replicate g.actors idle) in
+    record {
+      limits = subst IsWithinLimits (sym numbers) limits;
+      reached = ap formatted (sym numbers);
+      shows = record { numbers = numbers; shared = shared; count = rw idles count; each = rw idles (each_shown g) };
+      rooms = rw idles (λ k d inside. rw (idle_at g g.actors k d inside) hand);
+    }

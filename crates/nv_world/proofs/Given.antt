@@ -45,7 +45,8 @@ given_enter : (shared : Shared) (actor : ℕ) (told : Told) (ready : ReadyValue)
     → IsReadyOf (slots_in running.slots) ready told → shared.holder ≡ None → shared.book.state.commit < NUMBER
     → CanEnter shared running ready actor
 given_enter shared actor told ready running given is free few = record {
-  take = given_takes shared actor (slots_in running.slots) given.slots given.ordered given.versions few ready told is (given.generations refl);
+  take = given_takes shared actor (slots_in running.slots) given.slots given.ordered given.versions few ready told is
+      (given.generations refl);
   cpu = omega (arith, given.logs.some, given.logs.wide);
   closed = no_journal shared.book.state.journals (actor % length shared.lists.items) (given.logs.closed free);
 }

@@ -84,7 +84,8 @@ all_of P Q from [] all = tt
 all_of P Q from (x ∷ xs) all = (from x all.0, all_of P Q from xs all.1)
 
 module _ (shared : Shared) (actor : ℕ) (slots : List ℕ) (are : AreSlotsOf (length (shared_of shared).cells) slots)
-    (ordered : AreLogsOrdered (shared_of shared)) (versions : (ino : ℕ) → (cell_at (shared_of shared) ino).version ≤ shared.book.state.commit)
+    (ordered : AreLogsOrdered (shared_of shared))
+    (versions : (ino : ℕ) → (cell_at (shared_of shared) ino).version ≤ shared.book.state.commit)
     (few : shared.book.state.commit < NUMBER) where
   abbrev pub stamp : Stamp
   stamp = stamp_of (after_enter actor shared.book.state)
@@ -104,7 +105,8 @@ module _ (shared : Shared) (actor : ℕ) (slots : List ℕ) (are : AreSlotsOf (l
       → TakesCommit stamp (value_at (lent_cells slots shared.cells.items) at)
   takes_at at low = elim (cases_lt at (length slots)) [
     | inl lt ↦
-        let inside = subst (λ (n : ℕ). slot_at slots at < n) (many_cells shared) (slot_inside (length (shared_of shared).cells) slots at are lt) in
+        let inside = subst (λ (n : ℕ). slot_at slots at < n) (many_cells shared)
+        (slot_inside (length (shared_of shared).cells) slots at are lt) in
         subst (λ (c : ℕ × CellValue). TakesCommit stamp c.1)
         (sym (get_or-map (λ (ino : ℕ). (ino, cell_in shared.cells.items ino)) slots at 0 no_cell lt))
         (takes_slot (slot_at slots at) inside low)

@@ -11,26 +11,35 @@ use Rattle.nv_calls.specs.declared.call.Call.{Call}
 use Rattle.nv_calls.specs.declared.looked.Looked.{Looked}
 use Rattle.nv_calls.specs.declared.update.Update.{Update}
 use Rattle.nv_calls.specs.declared.update.Update.TheVariants as update
-use Rattle.nv_cell.specs.Cell.{CellState, IsCell}
-use Rattle.nv_machine.specs.Hands.{HandAt, makes_inode}
+use Rattle.nv_cell.specs.Cell.{CellState, IsCell, log_of}
+use Rattle.nv_machine.specs.Effects.{IsSoundIn}
+use Rattle.nv_machine.specs.Hands.{HandAt, is_going, makes_inode}
 use Rattle.nv_machine.specs.Kept.{AreApart}
 use Rattle.nv_machine.specs.Locks.{IsInside}
 use Rattle.nv_machine.specs.Sequence.{beginning}
 use Rattle.nv_machine.specs.World as machine
 use Rattle.nv_world.specs.Nodes.{CanRead, HoldHandles}
 use Rattle.nv_world.specs.Rooms.{FitsNext}
-use Rattle.nv_world.specs.Shown.{Told, hand_of, next_of, shared_of, shown, slots_in}
+use Rattle.nv_world.specs.Shown.{Told, ending_of, hand_of, next_of, shared_of, shown, slots_in}
 use Rattle.nv_world.specs.Steps.{CanBeChecked, Given}
 use Rattle.nv_world.specs.Told.{IsChangeWith, IsJobOf, IsToldOf, is_change}
 use Rattle.nv_world.specs.declared.job.Job.{Job}
 use Rattle.nv_world.specs.declared.job.Job.TheVariants as job
 use Rattle.nv_world.specs.declared.job.Owed.{Owed}
+use Rattle.nv_world.specs.declared.next.Ending.{Ending}
+use Rattle.nv_world.specs.declared.next.Ending.TheVariants as ending
 use Rattle.nv_world.specs.declared.next.Next.{Next}
 use Rattle.nv_world.specs.declared.next.Next.TheVariants as next
 use Rattle.nv_world.specs.declared.running.Running.{Running}
 use Rattle.nv_world.specs.declared.shared.Shared.{Shared}
 use Rattle.nv_world.proofs.GivenCells.{all_lent, given_bytes, given_empty, given_own, given_still, many_cells}
 use Rattle.nv_world.proofs.GivenLaws.{IsGiven, slot_there}
+
+-- an ending that is shown as an answer is one
+answers_only : (how : Ending) → ending_of how ≡ machine.Answers → how ≡ ending.Answers
+answers_only ending.Answers e = refl
+answers_only (ending.Refuses fault) e = cc
+answers_only ending.Overtaken e = cc
 
 -- ---- the call of a job
 
@@ -117,7 +126,8 @@ module _ (shared : Shared) (actor : ℕ) (told : Told) (hand : Hand) (running : 
       still = given_still shared slots given.slots (given.still (ap next_of e));
       empty = (hand_at next.Check e).blocks;
       inside = number_inside;
-      read = by_job (λ u. CanRead shared slots (handles running.looked (blank_call u))) running.job running.owed told.call change is check_read;
+      read = by_job (λ u. CanRead shared slots (handles running.looked (blank_call u))) running.job running.owed told.call change is
+          check_read;
       number = by_job (λ u. (hand.ino ≡ None) × (makes u ≡ true) ⊎ HasNumberFor (lent_cells slots shared.cells.items) (makes u) hand.ino)
           running.job running.owed told.call change is check_number;
     }
@@ -131,7 +141,10 @@ module _ (shared : Shared) (actor : ℕ) (told : Told) (hand : Hand) (running : 
   given_kind next.Check e fits = given_check e fits
   given_kind (next.TakeBlocks asked) e fits = tt
   given_kind (next.TakePages asked) e fits = tt
-  given_kind next.Ready e fits = tt
+  given_kind next.Ready e fits = record {
+    answers = answers_only running.ending (given.going (ap (λ (n : Next). is_going (next_of n)) e));
+    sound = all_lent (λ (c : CellState). IsSoundIn c (log_of c)) shared slots given.slots.inside (given.sound (ap next_of e));
+  }
   given_kind (next.Unlock place) e fits = inside (next.Unlock place) e
   given_kind (next.Give cpu) e fits =
       let at = hand_at (next.Give cpu) e in record { cpu = at.1; given = at.2; sized = given.sized; once = given.once cpu }

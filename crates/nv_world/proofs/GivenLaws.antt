@@ -12,9 +12,10 @@ use Rattle.nv_base.specs.declared.numbers.Handle.{Handle}
 use Rattle.nv_calls.specs.Locked.{handles}
 use Rattle.nv_calls.specs.Prepared.{IsStill}
 use Rattle.nv_cell.specs.Cell.{IsCell, log_of}
+use Rattle.nv_machine.specs.Effects.{IsSoundIn}
 use Rattle.nv_machine.specs.Format.{formatted}
 use Rattle.nv_machine.specs.Grown.{HasGrown, HasGrownBy, is_behind}
-use Rattle.nv_machine.specs.Hands.{AreLists, AreNumbers, HandAt, HandOf}
+use Rattle.nv_machine.specs.Hands.{AreLists, AreNumbers, HandAt, HandOf, is_going}
 use Rattle.nv_machine.specs.Kept.{AreApart, AreLogsKept}
 use Rattle.nv_machine.specs.Kinds.{blocks_in}
 use Rattle.nv_machine.specs.Locks.{AreSlots, HoldsIts, IsInside, commits_at, held_at}
@@ -22,7 +23,8 @@ use Rattle.nv_machine.specs.Order.{AreLogsOrdered}
 use Rattle.nv_machine.specs.Reached.{IsReached}
 use Rattle.nv_machine.specs.Reads.{slot_at, written_slots}
 use Rattle.nv_machine.specs.Step.{after}
-use Rattle.nv_machine.specs.World.{Check, Enter, Event, HandState, Next, Running, Shared, World, actor_at, cell_at, list_at}
+use Rattle.nv_machine.specs.World.{Answers, Check, Enter, Event, HandState, Next, Ready, Running, Shared, World, actor_at, cell_at, list_at}
+use Rattle.nv_machine.proofs.EndsRead.{logs_held}
 use Rattle.nv_machine.proofs.FitsEvents.{AreFit, all_fit}
 use Rattle.nv_machine.proofs.FromScratch.{all_numbers}
 use Rattle.nv_machine.proofs.Locked.{owner_is, slot_owned}
@@ -77,6 +79,8 @@ pub record IsGiven (g : GeometryNumbers) (s : Shared) (actor : ℕ) (h : HandSta
   pub commits : commits_at r.next ≡ true → s.holder ≡ Some actor
   pub generations : r.next ≡ Enter → (place : ℕ) → place < length (written_slots r)
       → (cell_at s (slot_at (written_slots r) place)).generation < NUMBER
+  pub going : is_going r.next ≡ true → r.ending ≡ Answers
+  pub sound : r.next ≡ Ready → (ino : ℕ) → has r.slots ino ≡ true → IsSoundIn (cell_at s ino) (log_of (cell_at s ino))
 
 -- a slot of a list of slots is one of all
 pub slot_there : (many : ℕ) (slots : List ℕ) (ino : ℕ) → AllByRecursion (λ n. n < many) slots → has slots ino ≡ true → ino < many
@@ -110,6 +114,13 @@ module _ (g : GeometryNumbers) (m : World) (reached : IsReached m) (all : AreNum
         settled = grown.tails ino owned (ap (λ (k : Next). is_behind k (written_slots r) ino) e);
       }
 
+  -- before it is made ready the log of each of its slots is settled, and so sound
+  held_sound : r.next ≡ Ready → (ino : ℕ) → has r.slots ino ≡ true → IsSoundIn (cell_at m.shared ino) (log_of (cell_at m.shared ino))
+  held_sound e ino h =
+      subst (IsSoundIn (cell_at m.shared ino))
+      (logs_held m actor r reached.locks reached.grown is (ap commits_at e) ino (ap (λ (k : Next). has (held_at k r.slots) ino) e ∙ h))
+      (fit.sound ino)
+
   pub given_by : IsGiven g m.shared actor (actor_at m actor).hand r
   given_by = record {
     lists = all.lists;
@@ -132,6 +143,8 @@ module _ (g : GeometryNumbers) (m : World) (reached : IsReached m) (all : AreNum
     checks = laws.checks actor r is;
     commits = λ e. owner_is actor m.shared.holder (holds.holder ∙ e);
     generations = laws.generations actor r is;
+    going = own_hand.1;
+    sound = held_sound;
   }
 
 -- the same of the machine's world after some events from a new one

@@ -1,14 +1,13 @@
 -- An opening of the journal with the cells of a call, as the machine's.
-use Rattle.std.proofs.Common.{◌≡◌, ℕ, zero, suc, ◌<◌, ◌≤◌, ◌∙◌, ◌==◌, ◌&&◌, not, nat_lt, Bool, true, false, true≢false, List, [], ◌∷◌, ap, ap₂, arith, length, map, refl, subst, sym}
+use Rattle.std.proofs.Common.{◌≡◌, ℕ, suc, ◌<◌, ◌≤◌, ◌∙◌, ◌==◌, ◌&&◌, not, nat_lt, Bool, true, false, true≢false, List, [], ◌∷◌, ap, ap₂, arith, length, map, refl, subst, sym}
 use Rattle.std.specs.Prelude.{if◌then◌else◌}
-use Rattle.std.proofs.lemmas.Bool.{lt-ltb}
+use Rattle.std.proofs.lemmas.Bool.{le-ltb, lt-ltb}
 use Rattle.std.proofs.lemmas.List.{length-map}
 use Rattle.nv_book.specs.Book.{with_journal}
-use Rattle.nv_calls.specs.Cells.{no_cell}
 use Rattle.nv_calls.specs.Commit.{CommitValue, after_open}
 use Rattle.nv_calls.specs.Progress.{is_open, opens as opens_journal}
 use Rattle.nv_calls.specs.Ready.{CellPlanValue, old_tail, old_tails, plan_at}
-use Rattle.nv_calls.specs.SlotCells.{cell_in, lent_cells}
+use Rattle.nv_calls.specs.SlotCells.{lent_cells}
 use Rattle.nv_calls.specs.declared.progress.CommitStep.TheVariants as step
 use Rattle.nv_cell.specs.Cell.{CellState, CellValue}
 use Rattle.nv_journal.specs.declared.old_tail.OldTail.{OldTail}
@@ -25,7 +24,6 @@ use Rattle.nv_world.specs.declared.running.Running.{Running}
 use Rattle.nv_world.specs.declared.shared.Shared.{Shared}
 use Rattle.nv_world.proofs.Among.{lent_at}
 use Rattle.nv_world.proofs.Publishes.{state_there}
-use Rattle.nv_world.proofs.Retires.{none_below}
 
 -- what is told of the commit stays
 pub open_told : (slots : List ℕ) (old new : CommitValue) (cpu : ℕ) (tails : List OldTail) (told : Told)
@@ -53,8 +51,9 @@ pub opens_next : (c : CommitValue) (written : List ℕ) → length written ≡ l
 opens_next c written many appended none two noted =
     first (nat_lt 0 (length written)) (lt-ltb 0 (length written) (omega (arith, many, two)))
     ∙ ap Publish (sym none)
-    ∙ sym (go (nat_lt c.appended (length c.plans)) (opens_journal c) (nat_lt c.published (length c.plans)) (is_open c) (nat_lt c.retired (length c.plans))
-    (none_below (length c.plans) c.appended appended)
+    ∙ sym (go (nat_lt c.appended (length c.plans)) (opens_journal c) (nat_lt c.published (length c.plans)) (is_open c)
+    (nat_lt c.retired (length c.plans))
+    (le-ltb c.appended (length c.plans) appended)
     (open_already (nat_lt 1 (length c.plans)) (c.published == 0) (is_open c) noted)
     (lt-ltb c.published (length c.plans) (omega (arith, none, two))))
   where
@@ -96,7 +95,8 @@ pub opens : (shared : Shared) (running : Running) (old : CommitValue) (told : To
     → (let tails = old_tails (lent_cells (slots_in running.slots) shared.cells.items) old.plans in
     let after = after_open cpu tails old in
     open_turn cpu (shared_of shared) (hand_in old) (shown_commit old told running)
-    ≡ machine.Moves (record (shared_of shared) { book = with_journal cpu tails shared.book.state }) (hand_in after) (shown_commit after told running))
+    ≡ machine.Moves (record (shared_of shared) { book = with_journal cpu tails shared.book.state }) (hand_in after)
+    (shown_commit after told running))
 opens shared running old told cpu is there within appended none two =
     let s = shared_of shared in
     let h = hand_in old in

@@ -2,7 +2,7 @@
 use Rattle.std.proofs.Common.{◌≡◌, ℕ, ◌+◌, ◌<◌, ◌≤◌, ◌⊎◌, inl, inr, nat_lt, Bool, true, false, true≢false, cond, List, [], length, map, Option, None, Some, arith, refl, ap, ap₂, sym, ◌∙◌, subst}
 use Rattle.std.specs.Prelude.{is_some, slice_index_or, unwrap_or}
 use Rattle.std.specs.Option.{IsSome, option_map}
-use Rattle.std.proofs.lemmas.Bool.{lt-ltb, ltb-false, ltb-true}
+use Rattle.std.proofs.lemmas.Bool.{le-ltb, lt-ltb, ltb-false, ltb-true}
 use Rattle.std.proofs.lemmas.List.{length-set}
 use Rattle.nv_base.specs.declared.numbers.Handle.{Handle}
 use Rattle.nv_book.specs.Book.{BookState, BookValue, with_journal}
@@ -35,7 +35,7 @@ use Rattle.nv_world.proofs.Appends.{append_way}
 use Rattle.nv_world.proofs.Opens.{open_way}
 use Rattle.nv_world.proofs.Publishes.{publish_way}
 use Rattle.nv_world.proofs.Retires.{retire_way}
-use Rattle.nv_world.proofs.Stages.{OpensNext, PublishesNext, no_journal}
+use Rattle.nv_world.proofs.Stages.{OpensNext, PublishesNext, none_there}
 
 -- ---- at its begin
 
@@ -74,18 +74,12 @@ shelf_two : (cpu : ℕ) (cells : List (ℕ × CellValue)) (c : CommitValue) (she
     → shelf_by cpu cells c shelf ≡ (let b : BookValue = record shelf { state = with_journal cpu (old_tails cells c.plans) shelf.state } in b)
 shelf_two cpu cells c shelf two = rw (lt-ltb 1 (length c.plans) (omega (arith, two))) refl
 
-few : (n : ℕ) → n < 2 → nat_lt 1 n ≡ false
-few n lt = go (nat_lt 1 n) refl where
-  go : (b : Bool) → nat_lt 1 n ≡ b → b ≡ false
-  go true q = let big = ltb-true 1 n q in absurd (omega (arith, big, lt))
-  go false q = refl
-
 noted_one : (cpu : ℕ) (cells : List (ℕ × CellValue)) (c : CommitValue) → length c.plans < 2 → noted_by cpu cells c ≡ c
-noted_one cpu cells c lt = rw (few (length c.plans) lt) refl
+noted_one cpu cells c lt = rw (le-ltb 1 (length c.plans) (omega (arith, lt))) refl
 
 shelf_one : (cpu : ℕ) (cells : List (ℕ × CellValue)) (c : CommitValue) (shelf : BookValue) → length c.plans < 2
     → shelf_by cpu cells c shelf ≡ shelf
-shelf_one cpu cells c shelf lt = rw (few (length c.plans) lt) refl
+shelf_one cpu cells c shelf lt = rw (le-ltb 1 (length c.plans) (omega (arith, lt))) refl
 
 -- ---- on its way
 
@@ -102,32 +96,36 @@ module _ (cpu : ℕ) (now : List (ℕ × CellValue)) (book : BookValue) (commit 
   append_counts a = (ap (λ (c : CommitValue). c.published) a.to.is, ap is_open a.to.is, a.to.plans.same.count)
 
   publish_counts : IsPublishing b cpu now book commit → (commit.appended ≡ n) × (length commit.plans ≡ n)
-  publish_counts p =
-      (ap (λ (c : CommitValue). c.appended) p.to.is
-      ∙ noted_field cpu p.full p.appended (λ (c : CommitValue). c.appended) refl
-      ∙ ap (λ (c : CommitValue). c.appended) p.all.is,
-      p.to.plans.same.count
-      ∙ noted_field cpu p.full p.appended (λ (c : CommitValue). length c.plans) refl
-      ∙ p.all.plans.same.count)
+  publish_counts p = (
+    ap (λ (c : CommitValue). c.appended) p.to.is
+        ∙ noted_field cpu p.full p.appended (λ (c : CommitValue). c.appended) refl
+        ∙ ap (λ (c : CommitValue). c.appended) p.all.is,
+    p.to.plans.same.count
+        ∙ noted_field cpu p.full p.appended (λ (c : CommitValue). length c.plans) refl
+        ∙ p.all.plans.same.count,
+  )
 
-  retire_counts : IsRetiring b cpu now book commit → (commit.appended ≡ n) × (commit.published ≡ n) × (length commit.plans ≡ n) × (is_open commit ≡ false)
-  retire_counts r =
-      (ap (λ (c : CommitValue). c.appended) r.to.is
-      ∙ ap (λ (c : CommitValue). c.appended) r.done.is
-      ∙ noted_field cpu r.full r.appended (λ (c : CommitValue). c.appended) refl
-      ∙ ap (λ (c : CommitValue). c.appended) r.all.is,
-      ap (λ (c : CommitValue). c.published) r.to.is ∙ ap (λ (c : CommitValue). c.published) r.done.is,
-      r.to.plans.same.count ∙ r.done.plans.same.count
-      ∙ noted_field cpu r.full r.appended (λ (c : CommitValue). length c.plans) refl
-      ∙ r.all.plans.same.count,
-      ap is_open r.to.is)
+  retire_counts : IsRetiring b cpu now book commit → (commit.appended ≡ n) × (commit.published ≡ n) × (length commit.plans ≡ n)
+      × (is_open commit ≡ false)
+  retire_counts r = (
+    ap (λ (c : CommitValue). c.appended) r.to.is
+        ∙ ap (λ (c : CommitValue). c.appended) r.done.is
+        ∙ noted_field cpu r.full r.appended (λ (c : CommitValue). c.appended) refl
+        ∙ ap (λ (c : CommitValue). c.appended) r.all.is,
+    ap (λ (c : CommitValue). c.published) r.to.is ∙ ap (λ (c : CommitValue). c.published) r.done.is,
+    r.to.plans.same.count ∙ r.done.plans.same.count
+        ∙ noted_field cpu r.full r.appended (λ (c : CommitValue). length c.plans) refl
+        ∙ r.all.plans.same.count,
+    ap is_open r.to.is,
+  )
 
   -- ---- appending
 
   module _ (lt : commit.appended < length commit.plans) where
     pub appending : IsAppending b now book commit
     appending = go w.phase where
-      go : IsAppending b now book commit ⊎ (IsPublishing b cpu now book commit ⊎ IsRetiring b cpu now book commit) → IsAppending b now book commit
+      go : IsAppending b now book commit ⊎ (IsPublishing b cpu now book commit ⊎ IsRetiring b cpu now book commit)
+          → IsAppending b now book commit
       go (inl a) = a
       go (inr (inl p)) = let counts = publish_counts p in absurd (omega (arith, lt, counts.0, counts.1))
       go (inr (inr r)) = let counts = retire_counts r in absurd (omega (arith, lt, counts.0, counts.2))
@@ -140,8 +138,12 @@ module _ (cpu : ℕ) (now : List (ℕ × CellValue)) (book : BookValue) (commit 
 
     pub append_within : (to_append commit).at < length now
     append_within =
-        omega (arith, append_all.at_is commit.appended b.cells (first_of b) now commit w.can.placed append_inside appending.to,
-        w.can.placed.within commit.appended append_inside, appending.to.changed.count)
+        omega (
+          arith,
+          append_all.at_is commit.appended b.cells (first_of b) now commit w.can.placed append_inside appending.to,
+          w.can.placed.within commit.appended append_inside,
+          appending.to.changed.count,
+        )
 
     pub append_goes : (new : List (ℕ × CellValue)) (later : CommitValue)
         → new ≡ with_value now (to_append commit).at
@@ -206,7 +208,8 @@ module _ (b : Begin) (cpu : ℕ) (can : CanCommit b.cells b.shelf cpu b.ready) (
 
   start_noted : 2 ≤ length start.plans → start.noted ≡ old_tails full start.plans
   start_noted two =
-      ap (λ (c : CommitValue). c.noted) (noted_two cpu full appended (omega (arith, two, ap (λ (ps : List CellPlanValue). length ps) start_plans)))
+      ap (λ (c : CommitValue). c.noted)
+      (noted_two cpu full appended (omega (arith, two, ap (λ (ps : List CellPlanValue). length ps) start_plans)))
       ∙ ap (old_tails full) (sym start_plans)
 
   start_open : 2 ≤ length appended.plans → start.journal ≡ Some cpu
@@ -335,7 +338,7 @@ module _ (cpu : ℕ) (now : List (ℕ × CellValue)) (book : BookValue) (commit 
     open_placed = plans_placed w.begin cpu w.can now commit opening_to
 
     pub open_shut : commit.journal ≡ None
-    open_shut = no_journal commit.journal next.shut
+    open_shut = none_there commit.journal next.shut
 
     pub open_cpu : cpu < length book.state.journals
     open_cpu = subst (λ (x : BookValue). cpu < length x.state.journals) (sym opening.book_is) w.can.cpu_is
@@ -428,8 +431,11 @@ module _ (cpu : ℕ) (now : List (ℕ × CellValue)) (book : BookValue) (commit 
 
     two_appended : 2 ≤ length begun_with.plans → 2 ≤ length publishing.appended.plans
     two_appended two =
-        omega (arith, two,
-        ap (λ (ps : List CellPlanValue). length ps) (start_plans w.begin cpu w.can publishing.full publishing.appended publishing.all))
+        omega (
+          arith,
+          two,
+          ap (λ (ps : List CellPlanValue). length ps) (start_plans w.begin cpu w.can publishing.full publishing.appended publishing.all),
+        )
 
     pub publish_noted : 2 ≤ length commit.plans → NotesNext book.state now commit
     publish_noted =
@@ -571,7 +577,8 @@ module _ (cpu : ℕ) (now : List (ℕ × CellValue)) (book : BookValue) (commit 
             published = commit;
             done = subst (λ (j : ℕ). PublishesTo j closing.full noted_then now commit) close_all closing.to;
             to = subst (λ (c : CommitValue). RetiresTo c.retired now (after_close commit) w.begin.shelf now c after) (sym is)
-                (subst (λ (x : BookValue). RetiresTo commit.retired now (after_close commit) w.begin.shelf now (after_close commit) x) (sym whole)
+                (subst (λ (x : BookValue). RetiresTo commit.retired now (after_close commit) w.begin.shelf now (after_close commit) x)
+                (sym whole)
                 (subst (λ (j : ℕ). RetiresTo j now (after_close commit) w.begin.shelf now (after_close commit) w.begin.shelf) (sym back)
                 (retire_all.begins now (after_close commit) w.begin.shelf back)));
           }));
@@ -587,14 +594,15 @@ module _ (cpu : ℕ) (now : List (ℕ × CellValue)) (book : BookValue) (commit 
         let most = w.way.published in
         let all : commit.published ≡ length w.begin.ready.plans = omega (arith, next.0, most, counts.1) in
         let one : length p.appended.plans < 2 = go (nat_lt 1 (length p.appended.plans)) refl in
-        let none : commit.journal ≡ None = no_journal commit.journal next.1 in
+        let none : commit.journal ≡ None = none_there commit.journal next.1 in
         let number : commit.hand.ino ≡ None =
         ap (λ (c : CommitValue). c.hand.ino) p.to.is
         ∙ noted_field cpu p.full p.appended (λ (c : CommitValue). c.hand.ino) refl
         ∙ ap (λ (c : CommitValue). c.hand.ino) p.all.is
         ∙ no_number w.begin cpu w.can p.full p.appended p.all (omega (arith, one, p.all.plans.same.count)) in
         let closed : after_close commit ≡ commit =
-        ap₂ (λ (m : Option ℕ) (j : Option ℕ). let c : CommitValue = record commit { hand = record commit.hand { ino = m }; journal = j } in c)
+        ap₂ (λ (m : Option ℕ)
+        (j : Option ℕ). let c : CommitValue = record commit { hand = record commit.hand { ino = m }; journal = j } in c)
         (sym number) (sym none) in
         let zero : commit.retired ≡ 0 =
         ap (λ (c : CommitValue). c.retired) p.to.is
@@ -649,7 +657,7 @@ module _ (cpu : ℕ) (now : List (ℕ × CellValue)) (book : BookValue) (commit 
     retire_full = let most = w.way.published in omega (arith, next.0, most)
 
     pub retire_shut : commit.journal ≡ None
-    retire_shut = no_journal commit.journal next.1
+    retire_shut = none_there commit.journal next.1
 
     pub retire_within : (to_retire commit).at < length now
     retire_within =

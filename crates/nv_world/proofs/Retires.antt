@@ -1,6 +1,6 @@
 -- A retiring of one of the cells, as the machine's.
 use Rattle.std.proofs.Common.{◌≡◌, ℕ, zero, suc, ◌+◌, ◌<◌, ◌≤◌, ◌∙◌, Bool, true, false, true≢false, List, [], ◌∷◌, ◌++◌, ap, ap₂, arith, drop, if◌then◌else◌, length, map, nat_lt, not, refl, subst, sym, take}
-use Rattle.std.proofs.lemmas.Bool.{eqb-true, ltb-false, ltb-true}
+use Rattle.std.proofs.lemmas.Bool.{eqb-true, le-ltb, ltb-false, ltb-true}
 use Rattle.std.proofs.lemmas.List.{get_or-map, length-map, length-set}
 use Rattle.std.specs.Prelude.{◌&&◌, ◌==◌, slice_set}
 use Rattle.nv_alloc.specs.Block.{BlockValue}
@@ -33,12 +33,6 @@ use Rattle.nv_world.specs.Rooms.{IsHandOf}
 use Rattle.nv_world.specs.declared.running.Running.{Running}
 use Rattle.nv_world.specs.declared.shared.Shared.{Shared}
 
-pub none_below : (n m : ℕ) → n ≤ m → nat_lt m n ≡ false
-none_below n m le = go (nat_lt m n) refl where
-  go : (b : Bool) → nat_lt m n ≡ b → b ≡ false
-  go true q = let less = ltb-true m n q in absurd (omega (arith, less, le))
-  go false q = refl
-
 some_there : (n : ℕ) → 0 < n → (n == 0) ≡ false
 some_there n lt = go (n == 0) refl where
   go : (b : Bool) → (n == 0) ≡ b → b ≡ false
@@ -55,10 +49,11 @@ pub retires_next : (c : CommitValue) (written : List ℕ) → length written ≡
     → length c.plans ≤ c.published → 0 < c.published → is_open c ≡ false → retiring c.retired written ≡ commit_next c
 retires_next c written many appended published some closed =
     ap (λ (n : ℕ). if nat_lt c.retired n then Retire c.retired else Leave) many
-    ∙ go (nat_lt c.appended (length c.plans)) (opens c) (nat_lt c.published (length c.plans)) (is_open c) (nat_lt c.retired (length c.plans))
-    (none_below (length c.plans) c.appended appended)
+    ∙ go (nat_lt c.appended (length c.plans)) (opens c) (nat_lt c.published (length c.plans)) (is_open c)
+    (nat_lt c.retired (length c.plans))
+    (le-ltb c.appended (length c.plans) appended)
     (second_false (nat_lt 1 (length c.plans)) (c.published == 0) (not (is_open c)) (some_there c.published some))
-    (none_below (length c.plans) c.published published) closed
+    (le-ltb c.published (length c.plans) published) closed
   where
     go : (b1 b2 b3 b4 b5 : Bool) → b1 ≡ false → b2 ≡ false → b3 ≡ false → b4 ≡ false
         → (if b5 then Retire c.retired else Leave)
@@ -97,14 +92,20 @@ pub hand_retires : (ino : ℕ) (mid : CellState) (free : List BlockValue) (parts
 hand_retires ino mid free parts hand empty = go (is_erased mid) empty where
   go : (b : Bool) → (b ≡ true → hand.chain ≡ [])
       → (if b then record (hand_with parts hand) {
-        blocks = hand.data.blocks ++ free; chain = hand.chain ++ mid.chain.blocks; ino = number_back ino mid hand.ino;
+        blocks = hand.data.blocks ++ free;
+        chain = hand.chain ++ mid.chain.blocks;
+        ino = number_back ino mid hand.ino;
       } else record (hand_with parts hand) { blocks = hand.data.blocks ++ free })
       ≡ hand_with parts (if b then record hand {
-        «data» = with_back free hand.data; chain = mid.chain.blocks; ino = number_back ino mid hand.ino;
+        «data» = with_back free hand.data;
+        chain = mid.chain.blocks;
+        ino = number_back ino mid hand.ino;
       } else record hand { «data» = with_back free hand.data })
   go true empty =
       ap (λ (xs : List BlockValue). record (hand_with parts hand) {
-        blocks = hand.data.blocks ++ free; chain = xs ++ mid.chain.blocks; ino = number_back ino mid hand.ino;
+        blocks = hand.data.blocks ++ free;
+        chain = xs ++ mid.chain.blocks;
+        ino = number_back ino mid hand.ino;
       }) (empty refl)
   go false empty = refl
 
@@ -176,7 +177,8 @@ no_chain living ino epoch killed hand cell can erased =
     empty [] q = refl
     empty (b ∷ blocks) q = absurd (omega (arith, q))
 
-pub retires : (shared : Shared) (running : Running) (old new : CommitValue) (book : BookValue) (cells : List CellValue) (told : Told) (i : ℕ)
+pub retires : (shared : Shared) (running : Running) (old new : CommitValue) (book : BookValue) (cells : List CellValue) (told : Told)
+    (i : ℕ)
     → IsCommitOf (slots_in running.slots) old told → old.appended ≡ length old.plans → old.retired < length old.plans
     → old.published ≡ length old.plans → is_open old ≡ false
     → i ≡ slot_at (slots_in running.slots) (to_retire old).at → i < length shared.cells.items

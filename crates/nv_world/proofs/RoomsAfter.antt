@@ -1,5 +1,5 @@
 -- What holds of all running calls after a step of one of them, and the machine's world after one event more.
-use Rattle.std.proofs.Common.{◌≡◌, ◌≢◌, ℕ, ◌<◌, ◌++◌, ◌==◌, Bool, true, false, List, [], ◌∷◌, Option, Some, arith, get_or-set_other, get_or-set_same, length, length-set, refl, subst, sym}
+use Rattle.std.proofs.Common.{◌≡◌, ◌≢◌, ℕ, ◌<◌, ◌++◌, ◌==◌, Bool, true, false, List, [], ◌∷◌, Some, arith, get_or-set_other, get_or-set_same, length, length-set, refl, subst, sym}
 use Rattle.std.specs.Prelude.{slice_index_or, slice_set}
 use Rattle.std.proofs.lemmas.Bool.{eqb-false, eqb-true}
 use Rattle.nv_machine.specs.Locks.{AreLocks, held_at}
@@ -36,7 +36,8 @@ all_rooms m locks old new same actors shows rooms actor there r goes rest state 
   inside = omega (arith, lt, length-set actors actor state)
 
   go : (b : Bool) → (k == actor) ≡ b
-      → HasActorRooms new (slice_index_or (slice_set actors actor state) k d).hold (slice_index_or (slice_set actors actor state) k d).running
+      → HasActorRooms new (slice_index_or (slice_set actors actor state) k d).hold
+      (slice_index_or (slice_set actors actor state) k d).running
   go true q =
       subst (λ (j : ℕ). HasActorRooms new (slice_index_or (slice_set actors actor state) j d).hold
       (slice_index_or (slice_set actors actor state) j d).running) (sym (eqb-true k actor q))

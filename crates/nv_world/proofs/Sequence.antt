@@ -2,10 +2,7 @@
 use Rattle.std.proofs.Common.{◌≡◌, ℕ, suc, ◌∙◌, Bool, true, false, List, ap, arith, if◌then◌else◌, length, nat_lt, not, refl, sym}
 use Rattle.std.specs.Prelude.{◌&&◌, ◌==◌}
 use Rattle.std.proofs.lemmas.Bool.{eqb-true, ltb-true}
-use Rattle.std.specs.Prelude.{Option, None, Some, is_some, slice_get}
-use Rattle.std.specs.Option.{IsSomeAnd}
-use Rattle.nv_book.specs.Book.{BookState}
-use Rattle.nv_calls.specs.Commit.{CommitValue, HasJournal}
+use Rattle.nv_calls.specs.Commit.{CommitValue}
 use Rattle.nv_calls.specs.Progress.{is_open}
 use Rattle.nv_calls.specs.declared.progress.CommitStep.TheVariants as step
 use Rattle.nv_machine.specs.Sequence.{appending, publishing}
@@ -21,13 +18,6 @@ step_by n appended published retired opened =
     else if opened then Close
     else if nat_lt retired n then Retire retired
     else Leave
-
--- a commit that has a journal has it open
-pub journal_open : (book : BookState) (c : CommitValue) → HasJournal book c → is_open c ≡ true
-journal_open book c has = go c.journal has where
-  go : (j : Option ℕ) → IsSomeAnd j (λ cpu. slice_get book.journals cpu ≡ Some c.noted) → is_some j ≡ true
-  go None has = absurd has
-  go (Some cpu) has = refl
 
 -- a choice goes through
 pub next_by : (c : CommitValue) → commit_next c ≡ step_by (length c.plans) c.appended c.published c.retired (is_open c)

@@ -60,7 +60,6 @@ by_leave false false false true b5 h = cc
 by_leave false false false false true h = cc
 by_leave false false false false false h = (refl, refl)
 
-
 module _ (c : CommitValue) where
   abbrev n : ℕ
   n = length c.plans
@@ -129,7 +128,7 @@ module _ (c : CommitValue) where
       let both = by_leave (nat_lt c.appended n) (opens c) (nat_lt c.published n) (is_open c) (nat_lt c.retired n) h in
       (both.0, ltb-false c.retired n both.1)
 
--- no journal is open
-pub no_journal : (journal : Option ℕ) → is_some journal ≡ false → journal ≡ None
-no_journal None h = refl
-no_journal (Some cpu) h = cc
+-- where there is none
+pub none_there : (n : Option ℕ) → is_some n ≡ false → n ≡ None
+none_there None h = refl
+none_there (Some n) h = cc

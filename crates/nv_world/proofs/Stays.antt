@@ -166,12 +166,14 @@ module _ (actor : ℕ) (held : List ℕ) (old new : Shared) (rest : LeavesRest a
       let stay : IsOut slots = λ ino h. out ino (ap (λ (l : List ℕ). has l ino) (takes_hold running.next slots e) ∙ h) in
       by_update (λ u. HasMade old slots hand running.made u × Takes running.next old slots hand running.wanted running.looked u)
       (λ u. HasMade new slots hand running.made u × Takes running.next new slots hand running.wanted running.looked u) running.job
-      (λ u q. (made_stays slots stay hand u running.made q.0, takes_stay running.next slots stay hand running.wanted running.looked u q.1)) p
+      (λ u q. (made_stays slots stay hand u running.made q.0, takes_stay running.next slots stay hand running.wanted running.looked u q.1))
+      p
 
   -- ---- a call
 
   -- one that commits has the commit lock, and the book with it
-  call_stays : (held_by : Hold) (told : Told) (running : Running) → IsOut (held_at (shown_by held_by told running).next (slots_in running.slots))
+  call_stays : (held_by : Hold) (told : Told) (running : Running)
+      → IsOut (held_at (shown_by held_by told running).next (slots_in running.slots))
       → (commits_at (shown_by held_by told running).next ≡ true → (new.book ≡ old.book) × (new.holder ≡ old.holder))
       → HasRooms old held_by running → HasRooms new held_by running
   call_stays (hold.Hand hand) told running out same p =

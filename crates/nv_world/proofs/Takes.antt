@@ -94,10 +94,12 @@ can_ready shared slots hand looked u limits device sizes is count =
       passed = subst (λ (n : ℕ). refusal n (nodes_in lent) (blank_call u) ≡ passes) same is.passed;
       something = is.something;
       number = is.number;
-      count = subst (λ (n : ℕ). length hand.«data».blocks ≡ blocks_wanted n (nodes_in lent) (ends_in_page (has_page_in lent) n (blank_call u)) (blank_call u)) same count;
+      count = subst (λ (n : ℕ). length hand.«data».blocks ≡ blocks_wanted n (nodes_in lent) (ends_in_page (has_page_in lent) n
+          (blank_call u)) (blank_call u)) same count;
       size = sizes.blocks ∙ same;
       small = all_small shared.geometry.numbers hand.«data».blocks (omega (arith, limits.blocks_fit))
-          (front_all below hand.«data».blocks hand.pages.blocks (front_all below (hand.«data».blocks ++ hand.pages.blocks) hand.chain device));
+          (front_all below hand.«data».blocks hand.pages.blocks (front_all below
+              (hand.«data».blocks ++ hand.pages.blocks) hand.chain device));
     }
 
 -- the log pages that it takes find room
@@ -108,7 +110,8 @@ pages_room shared slots hand u can room = omega (arith, few_pages (lent_cells sl
 -- ---- the machine's plan
 
 -- what holds of all handles that a call locks holds of those that it names
-named_of : (P : Handle → Type 0) (looked : Looked) (c : Call) → AllByRecursion P (handles looked c) → AllByRecursion P (handles nothing_looked c)
+named_of : (P : Handle → Type 0) (looked : Looked) (c : Call) → AllByRecursion P (handles looked c)
+    → AllByRecursion P (handles nothing_looked c)
 named_of P looked (call.Unlink dir name) all = (all.0, tt)
 named_of P looked (call.Rmdir dir name) all = (all.0, tt)
 named_of P looked (call.Rename from old to new) all = (all.0, (all.1.0, tt))
@@ -129,11 +132,13 @@ found_same shared slots hand looked u is =
     let c = blank_call u in
     let one = nodes (shared_of shared) in
     let other = plain_nodes (lent_cells slots shared.cells.items) in
-    sym (looks_same one other c (named_of (λ (h : Handle). other h ≡ one h) looked c (nodes_agree shared slots (handles looked c) is.read))).found
+    sym (looks_same one other c (named_of (λ (h : Handle). other h ≡ one h) looked c (nodes_agree shared slots
+        (handles looked c) is.read))).found
     ∙ is.same
 
 -- the plan of a checked call over its lent cells is the machine's
-pub plan_same : (shared : Shared) (slots : List ℕ) (hand : Hand) (looked : Looked) (u : Update) (text : List ℕ) (made : Handle) (present : Bool)
+pub plan_same : (shared : Shared) (slots : List ℕ) (hand : Hand) (looked : Looked) (u : Update) (text : List ℕ) (made : Handle)
+    (present : Bool)
     → IsChecked shared slots hand looked u → HasMade shared slots hand made u → text_len u ≡ length text
     → plan shared.geometry.numbers.block (copies (shared_of shared))
     (record { made = made; runs = runs_of (numbers_of hand.«data».blocks); present = present }) (call_of u text)
@@ -148,7 +153,8 @@ plan_same shared slots hand looked u text made present is has len =
 
 -- a job's call wants as many log pages as in the machine
 pub wanted_same : (shared : Shared) (slots : List ℕ) (hand : Hand) (looked : Looked) (made : Handle) (j : Job) (owed : Owed) (c : Call)
-    (present : Bool) (n : ℕ) → IsJobOf j owed c → IsChangeWith (λ (u : Update). HasMade shared slots hand made u × IsChecked shared slots hand looked u) j
+    (present : Bool) (n : ℕ) → IsJobOf j owed c → IsChangeWith (λ
+        (u : Update). HasMade shared slots hand made u × IsChecked shared slots hand looked u) j
     → IsChangeWith (λ (u : Update). n ≡ pages_to_take shared slots hand u) j
     → pages_wanted (shared_of shared) slots (plan shared.geometry.numbers.block (copies (shared_of shared))
     (record { made = made; runs = runs_of (numbers_of hand.«data».blocks); present = present }) c) ≡ n
@@ -210,7 +216,8 @@ module _ (shared : Shared) (slots : List ℕ) (hand : Hand) (looked : Looked) (m
       }))
 
 -- a call's job stays, and it goes on to take
-pub fits_still : (running new : Running) → FitsCall running → new.job ≡ running.job → new.looked ≡ running.looked → new.ending ≡ running.ending
+pub fits_still : (running new : Running) → FitsCall running → new.job ≡ running.job → new.looked ≡ running.looked
+    → new.ending ≡ running.ending
     → FitsNext new.next new.job → FitsCall new
 fits_still running new fits job looked ending before = record {
   before = before;
@@ -219,7 +226,8 @@ fits_still running new fits job looked ending before = record {
 }
 
 pub rooms_none : (shared now : Shared) (hand : Hand) (running : Running) (n : ℕ) → IsHandOf shared.geometry.numbers hand → FitsCall running
-    → CanWantPages shared hand running → n ≡ 0 → IsChangeWith (λ (u : Update). n ≡ pages_to_take shared (slots_in running.slots) hand u) running.job
+    → CanWantPages shared hand running → n ≡ 0 → IsChangeWith (λ (u : Update). n ≡ pages_to_take shared
+        (slots_in running.slots) hand u) running.job
     → now ≡ shared → HasRooms now (hold.Hand hand) (record running { wanted = n; next = next.Ready })
 rooms_none shared now hand running n sizes fits can none wants same =
     subst (λ (s : Shared). HasRooms s (hold.Hand hand) (record running { wanted = n; next = next.Ready })) (sym same)

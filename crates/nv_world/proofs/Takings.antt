@@ -64,7 +64,8 @@ home_after g below n cpu old new before after are lt is =
 
 -- ---- the hand after it
 
-pub all_both : (P : BlockValue → Type 0) (one other : List BlockValue) → AllByRecursion P one → AllByRecursion P other → AllByRecursion P (one ++ other)
+pub all_both : (P : BlockValue → Type 0) (one other : List BlockValue) → AllByRecursion P one → AllByRecursion P other
+    → AllByRecursion P (one ++ other)
 all_both P [] other front rest = rest
 all_both P (b ∷ one) other front rest = (front.0, all_both P one other front.1 rest)
 
@@ -80,7 +81,8 @@ module _ (g : GeometryNumbers) (hand : Hand) (below n cpu : ℕ) (list : FreeBlo
   abbrev In : BlockValue → Type 0
   In b = b.number < g.blocks
 
-  pub pages_device : IsOfDevice g hand → g.blocks ≡ below → IsTaken below n cpu list old new hand.pages queue → IsOfDevice g (record hand { pages = queue })
+  pub pages_device : IsOfDevice g hand → g.blocks ≡ below → IsTaken below n cpu list old new hand.pages queue
+      → IsOfDevice g (record hand { pages = queue })
   pages_device device same is =
       let both = all_front In (hand.«data».blocks ++ hand.pages.blocks) hand.chain device in
       let chain = all_rest In (hand.«data».blocks ++ hand.pages.blocks) hand.chain device in
@@ -113,7 +115,8 @@ taken_count below n cpu list old new before after is =
 
 -- ---- what a turn comes to
 
-rest_goes : (cpu number : Option ℕ) (s : machine.Shared) (h : machine.HandState) (r : machine.Running) → rest_turn cpu number s h r ≢ machine.Waits
+rest_goes : (cpu number : Option ℕ) (s : machine.Shared) (h : machine.HandState) (r : machine.Running)
+    → rest_turn cpu number s h r ≢ machine.Waits
 rest_goes (Some cpu) number s h r e = cc
 rest_goes None (Some ino) s h r e = cc
 rest_goes None None s h r e = cc
@@ -218,7 +221,8 @@ takes_at shared hand running n at is has =
     × Takes m shared (slots_in running.slots) hand running.wanted running.looked u) running.job) at
     (subst (λ (b : Bool). TakesIf b shared hand running) (ap takes at ∙ is) has.2)
 
-module _ (old new : Shared) (slots : List ℕ) (hand : Hand) (looked : Looked) (made : Handle) (u : Update) (below n cpu asked : ℕ) (list : FreeBlocks)
+module _ (old new : Shared) (slots : List ℕ) (hand : Hand) (looked : Looked) (made : Handle) (u : Update) (below n cpu asked : ℕ)
+    (list : FreeBlocks)
     (queue : QueueValue) (geometry : new.geometry ≡ old.geometry) (cells : new.cells ≡ old.cells) where
   -- data blocks
   module _ (is : IsTaken below n cpu list old.lists.items new.lists.items hand.«data» queue)
@@ -299,7 +303,8 @@ less_wanted : (n len left : ℕ) → left ≡ n - min n len → n - len ≡ left
 less_wanted n len left q = omega (arith, q)
 
 module _ (told : Told) (old new : Shared) (hand : Hand) (running : Running) (queue : QueueValue) (below cpu asked left : ℕ)
-    (rest : new ≡ record old { lists = new.lists }) (q : left ≡ running.wanted - min running.wanted (length (list_at (shared_of old) cpu).blocks)) where
+    (rest : new ≡ record old { lists = new.lists }) (q : left ≡ running.wanted - min running.wanted (length (list_at
+        (shared_of old) cpu).blocks)) where
   abbrev s : machine.Shared
   s = shared_of old
 
@@ -345,7 +350,8 @@ module _ (old new : Shared) (hand : Hand) (running : Running) (queue : QueueValu
   abbrev slots : List ℕ
   slots = slots_in running.slots
 
-  hand_moved : (after : Hand) → after.«data».size ≡ hand.«data».size → after.pages.size ≡ hand.pages.size → IsHandOf new.geometry.numbers after
+  hand_moved : (after : Hand) → after.«data».size ≡ hand.«data».size → after.pages.size ≡ hand.pages.size
+      → IsHandOf new.geometry.numbers after
   hand_moved after front pages = record {
     blocks = front ∙ has.1.blocks ∙ ap (λ (t : Shared). t.geometry.numbers.block) (sym rest);
     pages = pages ∙ has.1.pages ∙ ap (λ (t : Shared). t.geometry.numbers.block) (sym rest);
@@ -353,7 +359,8 @@ module _ (old new : Shared) (hand : Hand) (running : Running) (queue : QueueValu
 
   module _ (at : running.next ≡ next.TakeBlocks asked)
       (is : IsTaken below running.wanted cpu list old.lists.items new.lists.items hand.«data» queue) where
-    pub want_after : 0 ≡ running.wanted - min running.wanted (length list.blocks) → CanWantPages new (record hand { «data» = queue }) running
+    pub want_after : 0 ≡ running.wanted - min running.wanted (length list.blocks) → CanWantPages new
+        (record hand { «data» = queue }) running
     want_after none =
         over_all _ _ running.job (λ u h.
         blocks_taken old new slots hand running.looked running.made u below running.wanted cpu asked list queue geometry cells is h none)
@@ -363,10 +370,12 @@ module _ (old new : Shared) (hand : Hand) (running : Running) (queue : QueueValu
         → HasRooms new (hold.Hand (record hand { «data» = queue })) (record running { wanted = left; next = next.TakeBlocks (asked + 1) })
     rooms_blocks left q lt =
         let had = takes_at old hand running (next.TakeBlocks asked) at refl has in
-        (fits_still running (record running { wanted = left; next = next.TakeBlocks (asked + 1) }) has.0 refl refl refl (is_changed _ running.job had),
+        (fits_still running (record running { wanted = left; next = next.TakeBlocks (asked + 1) }) has.0 refl refl refl
+            (is_changed _ running.job had),
         hand_moved (record hand { «data» = queue }) (ap (λ (v : QueueValue). v.size) is.queue) refl,
         over_all _ _ running.job (λ u h.
-        blocks_next old new slots hand running.looked running.made u below running.wanted cpu asked list queue geometry cells is h left (asked + 1) q lt)
+        blocks_next old new slots hand running.looked running.made u below running.wanted cpu asked list queue geometry cells is h left
+            (asked + 1) q lt)
         had)
 
   module _ (at : running.next ≡ next.TakePages asked)
@@ -385,10 +394,12 @@ module _ (old new : Shared) (hand : Hand) (running : Running) (queue : QueueValu
         → HasRooms new (hold.Hand (record hand { pages = queue })) (record running { wanted = left; next = next.TakePages (asked + 1) })
     rooms_pages left q lt =
         let had = takes_at old hand running (next.TakePages asked) at refl has in
-        (fits_still running (record running { wanted = left; next = next.TakePages (asked + 1) }) has.0 refl refl refl (is_changed _ running.job had),
+        (fits_still running (record running { wanted = left; next = next.TakePages (asked + 1) }) has.0 refl refl refl
+            (is_changed _ running.job had),
         hand_moved (record hand { pages = queue }) refl (ap (λ (v : QueueValue). v.size) is.queue),
         over_all _ _ running.job (λ u h.
-        pages_next old new slots hand running.looked running.made u below running.wanted cpu asked list queue geometry cells is h left (asked + 1) q lt)
+        pages_next old new slots hand running.looked running.made u below running.wanted cpu asked list queue geometry cells is h left
+            (asked + 1) q lt)
         had)
 
 -- ---- what is shared after it
@@ -405,5 +416,6 @@ pub home_new : (old new : Shared) (n place : ℕ) (before after : QueueValue) �
 home_new old new n place before after limits home rest is =
     let some : 0 < length old.lists.items = omega (arith, limits.some_cpus, home.count) in
     subst (λ (g : GeometryNumbers). AreListsOf g new.lists.items) (ap (λ (t : Shared). t.geometry.numbers) (sym rest))
-    (home_after old.geometry.numbers old.geometry.numbers.blocks n (place % length old.lists.items) old.lists.items new.lists.items before after home
+    (home_after old.geometry.numbers old.geometry.numbers.blocks n
+        (place % length old.lists.items) old.lists.items new.lists.items before after home
     (mod-lt place some) is)

@@ -1,16 +1,15 @@
 -- Each kind of step as the turn of its call.
 use Rattle.std.specs.Prelude.{◌≢◌}
-use Rattle.std.proofs.Common.{◌≡◌, ◌∙◌, ◌⊎◌, ℕ, Bool, true, false, List, Option, Some, None, ap, refl, subst, sym, inl, inr}
+use Rattle.std.proofs.Common.{◌≡◌, ◌∙◌, ℕ, Bool, true, false, ap, refl, subst, sym, inl, inr}
 use Rattle.nv_alloc.specs.declared.hand.Hand.{Hand}
 use Rattle.nv_calls.specs.declared.call.Call.{Call}
 use Rattle.nv_machine.specs.Step as machine_step
 use Rattle.nv_machine.specs.World as machine
-use Rattle.nv_world.specs.Rooms.{FitsCall, FitsNext, HasRoomsAfter, IsHandOf, TakesIf, takes}
-use Rattle.nv_world.specs.Shown.{Told, hand_of, next_of, shared_of, shown, slots_in, turn_of}
+use Rattle.nv_world.specs.Rooms.{FitsCall, FitsNext}
+use Rattle.nv_world.specs.Shown.{Told, hand_of, next_of, shared_of, shown, turn_of}
 use Rattle.nv_world.specs.Told.{IsEither, IsJobOf, IsOwed, IsToldOf, KeepsJob, OwesAt}
 use Rattle.nv_world.specs.Turns.{IsTurn, ShowsAfter}
 use Rattle.nv_world.specs.Worlds.{ShowsCall, told_of}
-use Rattle.nv_world.specs.declared.hold.Hold.{Hold}
 use Rattle.nv_world.specs.declared.hold.Hold.TheVariants as hold
 use Rattle.nv_world.specs.declared.job.Job.{Job}
 use Rattle.nv_world.specs.declared.job.Job.TheVariants as job
@@ -130,15 +129,3 @@ pub visit_any : (h empty : machine.HandState) (by : Bool → machine.HandState �
 visit_any h empty by result s r same is =
     subst (λ (x : machine.HandState). (granted : Bool) × (by granted x ≡ turn_of result s x r)) (sym same)
     (either (λ granted. by granted empty) (turn_of result s empty r) is)
-
--- ---- rooms
-
-pub rooms_lock : (place : ℕ) (result : Turn) (old new : Shared) (hand : Hand) (running after : Running) → running.next ≡ next.Lock place
-    → FitsCall after → IsHandOf new.geometry.numbers hand → takes after.next ≡ false → (result ≡ turn.Moves) ⊎ (result ≡ turn.Waits)
-    → HasRoomsAfter result new (hold.Hand hand) after
-rooms_lock place result old new hand running after here fits sized none (inl e) =
-    subst (λ (t : Turn). HasRoomsAfter t new (hold.Hand hand) after) (sym e)
-    (fits, sized, subst (λ (b : Bool). TakesIf b new hand after) (sym none) tt)
-rooms_lock place result old new hand running after here fits sized none (inr e) =
-    subst (λ (t : Turn). HasRoomsAfter t new (hold.Hand hand) after) (sym e)
-    (fits, sized, subst (λ (b : Bool). TakesIf b new hand after) (sym none) tt)

@@ -8,7 +8,7 @@ use Rattle.nv_calls.specs.Ready.{ReadyValue, old_tails}
 use Rattle.nv_cell.specs.Cell.{CellValue}
 use Rattle.nv_world.specs.Told.{IsOnItsWay}
 
--- what a commit had when it was entered: the cells of its call, the book, a CPU whose journal is closed, and what was ready
+-- what a commit had when it was entered: the cells of its call, the book, and what was ready
 pub record Begin : Type 0 where
   pub cells : List (ℕ × CellValue)
   pub shelf : BookValue
@@ -17,7 +17,7 @@ pub record Begin : Type 0 where
 abbrev pub first_of : Begin → CommitValue
 first_of b = begun (stamp_of b.shelf.state) b.ready
 
--- once all entries are appended, the journal of a CPU is opened where they are of two inodes or more
+-- the commit and the book once all entries are appended, and the journal of a CPU is open where they are of two inodes or more
 abbrev pub noted_by : ℕ → List (ℕ × CellValue) → CommitValue → CommitValue
 noted_by cpu cells commit = if nat_lt 1 (length commit.plans) then after_open cpu (old_tails cells commit.plans) commit else commit
 

@@ -1,21 +1,13 @@
 -- What a world is made of before it has a root.
-use Rattle.std.specs.Prelude.{ℕ, ◌<◌, List, [], length, map, replicate, None, slice_index_or}
+use Rattle.std.specs.Prelude.{[], map, replicate, None}
 use Rattle.std.specs.List.{range_with_len}
-use Rattle.nv_alloc.specs.Block.{BlockValue}
 use Rattle.nv_alloc.specs.declared.hand.Hand.{Hand}
 use Rattle.nv_base.specs.declared.geometry.GeometryNumbers.{GeometryNumbers}
-use Rattle.nv_base.specs.declared.node.Kind.{Kind}
 use Rattle.nv_book.specs.Book.{empty_book}
-use Rattle.nv_cell.specs.Append.{appended}
-use Rattle.nv_cell.specs.Cell.{CellState, CellValue, empty_cell, no_room, published}
-use Rattle.nv_entry.specs.declared.item.Entry.{Entry}
-use Rattle.nv_entry.specs.declared.item.Item.TheVariants.{Init}
-use Rattle.nv_log.specs.Chain.{with_page}
+use Rattle.nv_cell.specs.Cell.{CellValue, empty_cell, no_room}
 use Rattle.nv_machine.specs.Format.{full_list}
 use Rattle.nv_machine.specs.World as machine
-use Rattle.nv_world.specs.Rooms.{HasActorRooms}
 use Rattle.nv_world.specs.declared.hold.Hold.TheVariants as hold
-use Rattle.nv_world.specs.declared.shared.Shared.{Shared}
 use Rattle.nv_world.specs.declared.world.Actor.{Actor}
 
 -- the cell of a slot that nothing was ever in
@@ -44,18 +36,3 @@ empty_of g = record {
 
 abbrev pub idle_actor : GeometryNumbers → Actor
 idle_actor g = record { hold = hold.Hand (empty_of g); running = None }
-
--- there is room for what each actor is about to do
-abbrev pub AreIdle : Shared → List Actor → Type 0
-AreIdle shared actors = (k : ℕ) (d : Actor) → k < length actors
-    → HasActorRooms shared (slice_index_or actors k d).hold (slice_index_or actors k d).running
-
--- ---- the inode that a device begins with
-
--- the first entry of its log
-abbrev pub first_entry : Kind → ℕ → ℕ → Entry
-first_entry kind mode epoch = record { id = record { commit = 0; place = 0 }; epoch = epoch; item = Init kind mode }
-
--- an empty slot once it has that page for its log, and one published entry, at the version that it had
-abbrev pub founded : Entry → BlockValue → CellState → CellState
-founded e page cell = record (published (appended e [] (record cell { chain = with_page page cell.chain }))) { version = cell.version }

@@ -4,6 +4,7 @@ pub mod Formats
 pub mod Frames
 pub mod Nodes
 pub mod Parts
+pub mod Readied
 pub mod Reports
 pub mod Rooms
 pub mod Settled

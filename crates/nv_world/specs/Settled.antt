@@ -1,38 +1,21 @@
--- Settled logs, and the tree that they give.
-use Rattle.std.specs.Prelude.{ℕ, ◌==◌, if◌then◌else◌, List, [], ◌∷◌, length, take, Option, Some, None}
-use Rattle.nv_base.specs.declared.numbers.Handle.{Handle}
-use Rattle.nv_calls.specs.Plain.{PlainNode, node_in, stamped}
-use Rattle.nv_calls.specs.Slots.{last_commit}
-use Rattle.nv_cell.specs.Cell.{CellState}
-use Rattle.nv_entry.specs.Node.{node_now}
+-- Settled logs, the tree that they give, and what of a cell shows its node.
+pub use Rattle.nv_machine.specs.Settled.{noted_or, settled_tail, settled, node_by, settled_nodes, tree_of}
+use Rattle.std.specs.Prelude.{ℕ, ◌<◌, ◌≤◌, List, [], length}
+use Rattle.nv_calls.specs.Plain.{node_in}
 use Rattle.nv_entry.specs.Tree.{root, tree_from}
-use Rattle.nv_entry.specs.declared.item.Entry.{Entry}
 use Rattle.nv_entry.specs.declared.tree.TreeNode.{TreeNode}
-use Rattle.nv_journal.specs.Journal.{tail_noted}
-use Rattle.nv_journal.specs.declared.old_tail.OldTail.{OldTail}
-use Rattle.nv_machine.specs.Reads.{bytes_among}
-use Rattle.nv_machine.specs.World.{Shared, World, cell_at}
+use Rattle.nv_machine.specs.World.{Shared, cell_at}
+use Rattle.nv_reader.specs.Cells.{NoneOut}
+use Rattle.nv_world.specs.Visits.{HasOwnBytes}
 
-abbrev pub noted_or : Option ℕ → ℕ → ℕ
-noted_or (Some tail) other = tail
-noted_or None other = other
+-- a noted tail is one of the log's, and each page of the settled log has its block, the only one of its number in the cell
+pub record CanSettle (s : Shared) (ino : ℕ) : Type 0 where
+  pub tail : settled_tail s.book.journals ino (cell_at s ino).chain.tail ≤ (cell_at s ino).chain.tail
+  pub own : HasOwnBytes s ino
+  pub pages : NoneOut (cell_at s ino) (settled s ino)
 
--- the tail that an open journal notes for an inode, else its own
-abbrev pub settled_tail : List (List OldTail) → ℕ → ℕ → ℕ
-settled_tail [] ino tail = tail
-settled_tail (tails ∷ journals) ino tail = noted_or (tail_noted tails ino) (settled_tail journals ino tail)
+abbrev pub AreSettled : Shared → Type 0
+AreSettled s = (ino : ℕ) → ino < length s.cells → CanSettle s ino
 
--- the entries up to it
-abbrev pub settled : Shared → ℕ → List Entry
-settled s ino = take (settled_tail s.book.journals ino (cell_at s ino).chain.tail) (cell_at s ino).chain.entries
-
--- the node of a cell by such a log, and the node under a handle
-abbrev pub node_by : CellState → List Entry → Option PlainNode
-node_by cell log = stamped (last_commit log) (node_now (bytes_among cell.blocks) cell.block log)
-
-abbrev pub settled_nodes : Shared → Handle → Option PlainNode
-settled_nodes s handle =
-    if handle.generation == (cell_at s handle.ino).generation then node_by (cell_at s handle.ino) (settled s handle.ino) else None
-
-abbrev pub tree_of : World → List TreeNode
-tree_of w = tree_from (node_in (settled_nodes w.shared)) (length w.shared.cells) [] root
+abbrev pub tree_in : Shared → List TreeNode
+tree_in s = tree_from (node_in (settled_nodes s)) (length s.cells) [] root

@@ -19,6 +19,8 @@ use Rattle.nv_calls.specs.Ready.{ReadyValue}
 use Rattle.nv_calls.specs.declared.progress.CommitStep.TheVariants.{Leave}
 use Rattle.nv_calls.specs.SlotCells.{lent_cells}
 use Rattle.nv_calls.specs.Updates.{blank_call}
+use Rattle.nv_cell.specs.Cell.{CellValue, log_of}
+use Rattle.nv_machine.specs.Effects.{IsSoundIn}
 use Rattle.nv_machine.specs.World.{empty_hand, list_at}
 use Rattle.nv_world.specs.Nodes.{CanRead}
 use Rattle.nv_world.specs.Parts.{AreGiven, AreHome, AreSlots, AreStill, IsOfDevice}
@@ -28,6 +30,7 @@ use Rattle.nv_world.specs.Told.{IsChangeWith}
 use Rattle.nv_world.specs.Visits.{HasOwnBytes}
 use Rattle.nv_world.specs.declared.hold.Hold.{Hold}
 use Rattle.nv_world.specs.declared.hold.Hold.TheVariants as hold
+use Rattle.nv_world.specs.declared.next.Ending.TheVariants as ending
 use Rattle.nv_world.specs.declared.next.Next.{Next}
 use Rattle.nv_world.specs.declared.next.Next.TheVariants as next
 use Rattle.nv_world.specs.declared.running.Running.{Running}
@@ -62,11 +65,18 @@ pub record CanEnter (shared : Shared) (running : Running) (ready : ReadyValue) (
   pub cpu : actor % length shared.lists.items < length shared.book.state.journals
   pub closed : slice_index_or shared.book.state.journals (actor % length shared.lists.items) [] ≡ []
 
+-- before it is made ready a call is to be answered, and the logs of the cells that it holds are sound
+pub record CanGetReady (shared : Shared) (running : Running) : Type 0 where
+  pub answers : running.ending ≡ ending.Answers
+  pub sound : AllByRecursion (λ (c : ℕ × CellValue). IsSoundIn c.1.state (log_of c.1.state))
+      (lent_cells (slots_in running.slots) shared.cells.items)
+
 -- what the next step of a call is given that has its hand alone
 abbrev pub Given : Next → Shared → Hand → Running → Type 0
 Given next.Number shared hand running = hand.ino ≡ None
 Given (next.Lock place) shared hand running = place < length (slots_in running.slots)
 Given next.Check shared hand running = CanBeChecked shared hand running
+Given next.Ready shared hand running = CanGetReady shared running
 Given (next.Unlock place) shared hand running = place < length (slots_in running.slots)
 Given (next.Give cpu) shared hand running = CanGive shared hand cpu
 Given next.Back shared hand running = CanPutBack shared hand

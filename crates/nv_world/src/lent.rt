@@ -48,12 +48,7 @@ pub(crate) fn append_in(cells: &mut [InodeCell], slots: &Slots, commit: &mut Com
 }
 
 /// Publishes the entries of the next inode.
-pub(crate) fn publish_in(
-    book: &Book,
-    cells: &mut [InodeCell],
-    slots: &Slots,
-    commit: &mut Commit,
-)
+pub(crate) fn publish_in(book: &Book, cells: &mut [InodeCell], slots: &Slots, commit: &mut Commit)
     requires slots { HaveSlots cells.old (slots_in slots.now) }
     requires turn { commit.old.published < length commit.old.plans }
     requires appended { commit.old.appended ≡ length commit.old.plans }
@@ -63,7 +58,8 @@ pub(crate) fn publish_in(
     requires can { CanBePublished
         (cell_in cells.old (slot_at (slots_in slots.now) (to_publish commit.old).at)) }
     ensures cells { let k = (to_publish commit.old).at in
-        OnlyAt k (lent_cells (slots_in slots.now) cells.old) (lent_cells (slots_in slots.now) cells.new) }
+        OnlyAt k (lent_cells (slots_in slots.now) cells.old)
+        (lent_cells (slots_in slots.now) cells.new) }
     ensures others { other_cells (slots_in slots.now) cells.new
         ≡ other_cells (slots_in slots.now) cells.old }
     ensures count { length cells.new ≡ length cells.old }

@@ -36,8 +36,10 @@ pub(crate) fn open_in(
     ensures others { other_cells (slots_in slots.now) cells.new
         ≡ other_cells (slots_in slots.now) cells.old }
     ensures count { length cells.new ≡ length cells.old }
-    ensures book { book.new ≡ record book.old { state = with_journal cpu
-        (old_tails (lent_cells (slots_in slots.now) cells.old) commit.old.plans) book.old.state; } }
+    ensures book { book.new ≡ record book.old {
+      state = with_journal cpu
+          (old_tails (lent_cells (slots_in slots.now) cells.old) commit.old.plans) book.old.state;
+    } }
     ensures commit { commit.new ≡ after_open cpu
         (old_tails (lent_cells (slots_in slots.now) cells.old) commit.old.plans) commit.old }
 {

@@ -35,14 +35,17 @@ pub(crate) fn retire_in(
     requires can { let plan = to_retire commit.old in CanRetire plan.killed commit.old.hand
         (cell_in cells.old (slot_at (slots_in slots.now) plan.at)).state }
     ensures cells { let k = (to_retire commit.old).at in
-        OnlyAt k (lent_cells (slots_in slots.now) cells.old) (lent_cells (slots_in slots.now) cells.new) }
+        OnlyAt k (lent_cells (slots_in slots.now) cells.old)
+        (lent_cells (slots_in slots.now) cells.new) }
     ensures others { other_cells (slots_in slots.now) cells.new
         ≡ other_cells (slots_in slots.now) cells.old }
     ensures count { length cells.new ≡ length cells.old }
-    ensures state { let plan = to_retire commit.old in let ino = slot_at (slots_in slots.now) plan.at in
+    ensures state { let plan = to_retire commit.old in
+        let ino = slot_at (slots_in slots.now) plan.at in
         (cell_in cells.new ino).state ≡ erased (retired (ids book.old.state.snaps) ino
         commit.old.stamp.epoch plan.killed (cell_in cells.old ino).state) }
-    ensures book { let plan = to_retire commit.old in let ino = slot_at (slots_in slots.now) plan.at in
+    ensures book { let plan = to_retire commit.old in
+        let ino = slot_at (slots_in slots.now) plan.at in
         book.new.state ≡ record book.old.state {
           manifests = with_records (ids book.old.state.snaps) ino commit.old.stamp.epoch plan.killed
               book.old.state.manifests;

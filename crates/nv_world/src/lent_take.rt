@@ -1,4 +1,4 @@
-//! How many log pages a call wants, over the cells of all slots, of which those of its own are lent.
+//! How many log pages a call wants, over the cells of all slots.
 
 ghost use Rattle.std.specs.Prelude.{◌≡◌};
 ghost use Rattle.nv_calls.specs.PagesWanted.{pages_wanted};

@@ -1,18 +1,27 @@
 //! What a world reports of its blocks and logs.
 
-ghost use Rattle.std.specs.Prelude.{◌≡◌, ◌⊎◌, ◌<◌, ◌≤◌, IfErr, IfOk, length};
+ghost use Rattle.std.specs.Prelude.{◌≡◌, ◌⊎◌, ◌<◌, ◌≤◌, ◌^◌, ℕ, IfErr, IfOk, Some, is_some, length, slice_get, slice_index_or};
+ghost use Rattle.std.specs.List.{sum_by};
+ghost use Rattle.nv_alloc.specs.Block.{numbers_of};
+ghost use Rattle.nv_alloc.specs.Runs.{runs_of};
 ghost use Rattle.nv_base.specs.Refusals.{FailsOnly};
 ghost use Rattle.nv_base.specs.declared.fault.Fault.TheVariants.{OutOfMemory, Stale};
+ghost use Rattle.nv_machine.specs.Numbers.{IsEachOnce, all_blocks};
 ghost use Rattle.nv_machine.specs.World as machine;
-ghost use Rattle.nv_world.specs.Reports.{lists_of, log_at, space_of};
+ghost use Rattle.nv_cell.specs.Cell.{log_of};
+ghost use Rattle.nv_entry.specs.Covered.{part_count};
+ghost use Rattle.nv_world.specs.Reports.{AddsUp, block_at, chain_in, counts_in, free_in, is_kept, kept_at, kept_in, lists_of, log_at, one_of, space_in, space_of};
+ghost use Rattle.nv_world.specs.Shown.{shared_of};
 ghost use Rattle.nv_world.specs.Worlds.{Shows};
 
 use crate::World;
-use nv_alloc::FreeRun;
+use crate::shared::Shared;
+use nv_alloc::{FreeList, FreeRun};
 use nv_base::{Epoch, Fault, Ino, Items};
 use nv_book::Book;
 use nv_cell::{InodeCell, Mark, PageCounts};
 use nv_entry::{Entry, PartId};
+use std::alloc::Global;
 
 /// Where the blocks of the device are; all together they are its blocks.
 #[derive(Clone, Copy, Debug, PartialEq, Eq)]
@@ -42,29 +51,10 @@ pub struct LogCounts {
 impl World {
     /// Where the blocks are. Takes no memory, and time by all blocks.
     pub fn space(&self) -> Space
+        requires { AddsUp self.now.shared.geometry.numbers.blocks (shared_of self.now.shared) }
         ensures { (m : machine.World) → Shows self.now m → result ≡ space_of m }
     {
-        let shared = &self.shared;
-        let mut free = 0;
-        for list in &shared.lists {
-            free += list.len();
-        }
-        let mut chain = 0;
-        let mut kept = 0;
-        for cell in &shared.cells {
-            chain += cell.log().blocks().len() as u64;
-            kept += kept_blocks(cell, &shared.book);
-        }
-        let pending = shared.book.deferred_blocks();
-        let data = kept - pending;
-        let hand = shared.geometry.numbers.blocks - free - chain - kept;
-        Space {
-            free,
-            chain,
-            data,
-            pending,
-            hand,
-        }
+        self.shared.space()
     }
 
     /// The free lists, CPU by CPU. `OutOfMemory` where room for them was refused.
@@ -75,8 +65,7 @@ impl World {
     {
         let mut lists = Vec::with_capacity(self.alloc, self.shared.lists.len())?;
         for list in &self.shared.lists {
-            let runs: Vec<FreeRun> = list.runs().collect(self.alloc)?;
-            lists.push(Items::from_vec(runs))?;
+            lists.push(Items::from_vec(runs_in(self.alloc, list)?))?;
         }
         Ok(Items::from_vec(lists))
     }
@@ -89,46 +78,176 @@ impl World {
             ((fault ≡ Stale) × (length m.shared.cells ≤ ino))
             ⊎ ((fault ≡ OutOfMemory) × (ino < length m.shared.cells))) }
     {
-        let cell = self.shared.cell(ino).ok_or(Fault::Stale)?;
-        let count = cell.log().blocks().len();
-        let mut pages = Vec::with_capacity(self.alloc, count)?;
-        for page in 0..count {
-            pages.push(cell.counts(page))?;
+        let place = ino.number() as usize;
+        if place >= self.shared.cells.len() {
+            return Err(Fault::Stale);
         }
-        Ok(LogCounts {
-            entries: cell.tail(),
-            pages: Items::from_vec(pages),
-        })
+        log_counts(self.alloc, &self.shared.cells[place])
     }
 }
 
-/// How many blocks a cell has for published parts that are current, recorded, or held by a living snapshot.
-fn kept_blocks(cell: &InodeCell, book: &Book) -> u64 {
+impl Shared {
+    /// Where the blocks are.
+    fn space(&self) -> Space
+        requires { AddsUp self.now.geometry.numbers.blocks (shared_of self.now) }
+        ensures { result ≡ space_in self.now.geometry.numbers.blocks (shared_of self.now) }
+    {
+        let free = free_blocks(&self.lists);
+        let chain = log_pages(&self.cells);
+        let kept = data_blocks(&self.cells, &self.book);
+        let pending = self.book.deferred_blocks();
+        let data = kept.saturating_sub(pending);
+        let hand = self.geometry.numbers.blocks - free - chain - kept;
+        Space {
+            free,
+            chain,
+            data,
+            pending,
+            hand,
+        }
+    }
+}
+
+/// Where each block stands once, it is at one of these places at most.
+fn blocks_add_up()
+    ensures { (blocks : ℕ) (w : machine.World) → IsEachOnce blocks (all_blocks w)
+        → AddsUp blocks w.shared }
+{
+}
+
+/// A free list as maximal runs.
+fn runs_in(alloc: Global, list: &FreeList) -> Result<Vec<FreeRun>, Fault>
+    ensures ok { IfOk result (λ runs. runs.items ≡ runs_of (numbers_of list.now.blocks)) }
+    ensures err { FailsOnly OutOfMemory result }
+{
+    let runs: Vec<FreeRun> = list.runs().collect(alloc)?;
+    Ok(runs)
+}
+
+/// The log of a cell in numbers.
+fn log_counts(alloc: Global, cell: &InodeCell) -> Result<LogCounts, Fault>
+    ensures ok { IfOk result (λ log. log ≡ counts_in cell.now.state) }
+    ensures err { FailsOnly OutOfMemory result }
+{
+    let count = cell.log().blocks().len();
+    let mut pages = Vec::with_capacity(alloc, count)?;
+    for page in 0..count {
+        pages.push(cell.counts(page))?;
+    }
+    Ok(LogCounts {
+        entries: cell.tail(),
+        pages: Items::from_vec(pages),
+    })
+}
+
+/// How many blocks the lists have.
+fn free_blocks(lists: &[FreeList]) -> u64
+    requires { sum_by free_in lists.now < 2 ^ 64 }
+    ensures { result ≡ sum_by free_in lists.now }
+{
     let mut count = 0;
-    for (place, entry) in cell.log().log().iter().enumerate() {
-        count += kept_of(cell, book, place, entry);
+    for list in lists {
+        count += list.len();
+    }
+    count
+}
+
+/// How many pages the logs of these cells have.
+fn log_pages(cells: &[InodeCell]) -> u64
+    requires { sum_by (λ c. chain_in c.state) cells.now < 2 ^ 64 }
+    ensures { result ≡ sum_by (λ c. chain_in c.state) cells.now }
+{
+    let mut count = 0;
+    for cell in cells {
+        count += cell.log().blocks().len() as u64;
+    }
+    count
+}
+
+/// How many blocks these cells keep.
+fn data_blocks(cells: &[InodeCell], book: &Book) -> u64
+    requires { sum_by (λ c. kept_in book.now.state c.state) cells.now < 2 ^ 64 }
+    ensures { result ≡ sum_by (λ c. kept_in book.now.state c.state) cells.now }
+{
+    let mut count = 0;
+    for cell in cells {
+        count += kept_blocks(cell, book);
+    }
+    count
+}
+
+/// How many blocks a cell has for published parts that are current, recorded, or held by a living snapshot.
+fn kept_blocks(cell: &InodeCell, book: &Book) -> u64
+    requires { kept_in book.now.state cell.now.state < 2 ^ 64 }
+    ensures { result ≡ kept_in book.now.state cell.now.state }
+{
+    let log = cell.log().log();
+    let mut count = 0;
+    for place in 0..log.len() {
+        count += kept_of(cell, book, place, &log[place]);
     }
     count
 }
 
 /// How many of them are those of one entry.
-fn kept_of(cell: &InodeCell, book: &Book, place: usize, entry: &Entry) -> u64 {
+fn kept_of(cell: &InodeCell, book: &Book, place: usize, entry: &Entry) -> u64
+    requires { slice_get (log_of cell.now.state) place ≡ Some entry.now }
+    ensures { result ≡ kept_at book.now.state cell.now.state place entry.now }
+{
+    cell.known();
     let marks = cell.marks_of(place);
     let mut count = 0;
-    for (k, part) in entry.parts().enumerate() {
-        let id = PartId {
-            entry: entry.id,
-            part,
-        };
-        if is_kept(marks[k], book, entry.epoch) && cell.block_of(id).is_some() {
-            count += 1;
-        }
+    for k in 0..entry.item.part_count() {
+        count += kept_part(cell, book, entry, k, mark_at(marks, k));
     }
     count
 }
 
+/// One of some marks.
+fn mark_at(marks: &[Mark], k: u32) -> Mark
+    requires { k < length marks.now }
+    ensures { result ≡ slice_index_or marks.now k Mark.Current }
+{
+    marks[k as usize]
+}
+
+/// How many are that of one part: one or none.
+fn kept_part(cell: &InodeCell, book: &Book, entry: &Entry, k: u32, mark: Mark) -> u64
+    requires { k < part_count entry.now }
+    ensures value { (place : ℕ) → slice_get (log_of cell.now.state) place ≡ Some entry.now
+        → result ≡ one_of book.now.state entry.now.epoch mark (block_at cell.now.state place k) }
+    ensures few { result ≤ 1 }
+{
+    if is_kept(mark, book, entry.epoch) && has_block(cell, entry, k) {
+        1
+    } else {
+        0
+    }
+}
+
+/// Whether a part of an entry has a block.
+fn has_block(cell: &InodeCell, entry: &Entry, k: u32) -> bool
+    requires { k < part_count entry.now }
+    ensures { (place : ℕ) → slice_get (log_of cell.now.state) place ≡ Some entry.now
+        → result ≡ is_some (block_at cell.now.state place k) }
+{
+    cell.known();
+    match entry.item.part_at(k) {
+        Some(part) => {
+            let id = PartId {
+                entry: entry.id,
+                part,
+            };
+            cell.block_of(id).is_some()
+        }
+        None => false,
+    }
+}
+
 /// Whether a part counts as data or as pending. What was killed and not yet retired dies in the present epoch.
-fn is_kept(mark: Mark, book: &Book, birth: Epoch) -> bool {
+fn is_kept(mark: Mark, book: &Book, birth: Epoch) -> bool
+    ensures { result ≡ is_kept book.now.state birth mark }
+{
     match mark {
         Mark::Current | Mark::Kept => true,
         Mark::Killed => book.snaps().youngest_in(birth, book.epoch()).is_some(),

@@ -1,7 +1,7 @@
 //! The steps of a world.
 
 ghost use Rattle.std.specs.Prelude.{None, Some, ◌≡◌, ◌≢◌, IfErr, IfOk, OnErr, [], vec_capacity};
-ghost use Rattle.nv_base.specs.declared.fault.Fault.TheVariants.{ActorBusy, ActorIdle, OutOfMemory};
+ghost use Rattle.nv_base.specs.declared.fault.Fault.TheVariants.{ActorBusy, ActorIdle, NoActor, OutOfMemory};
 ghost use Rattle.nv_machine.specs.World as machine;
 ghost use Rattle.nv_machine.specs.Step as machine_step;
 ghost use Rattle.nv_calls.specs.Progress.{step_of};
@@ -84,10 +84,10 @@ impl World {
         ensures { (m : machine.World) → Shows self.old m
             → IsStep m (Event.Start actor call) result self.new }
     {
-        match self.actors.get_mut(actor as usize) {
-            Some(state) => begin(self.alloc, &self.shared, state, call),
-            None => Reply::Refused(Fault::NoActor),
-        }
+        let Some(state) = self.actors.get_mut(actor as usize) else {
+            return nobody(call);
+        };
+        begin(self.alloc, &self.shared, state, call)
     }
 
     fn go(&mut self, actor: u64) -> Reply
@@ -98,6 +98,13 @@ impl World {
             None => Reply::Refused(Fault::NoActor),
         }
     }
+}
+
+/// There is no actor for the call.
+fn nobody(_call: Call) -> Reply
+    ensures { result ≡ Reply.Refused NoActor }
+{
+    Reply::Refused(Fault::NoActor)
 }
 
 /// An actor without a call starts one.

@@ -23,7 +23,8 @@ use nv_calls::{Commit, CommitStep};
 pub(crate) fn append(shared: &mut Shared, running: &Running, commit: &mut Commit)
     requires slots { AreSlots shared.old (slots_in running.now.slots) }
     requires committing { IsCommitting (committing_cpu shared.old)
-        (lent_cells (slots_in running.now.slots) shared.old.cells.items) shared.old.book commit.old }
+        (lent_cells (slots_in running.now.slots) shared.old.cells.items)
+        shared.old.book commit.old }
     requires step { step_of commit.old ≡ CommitStep.Append }
     requires sized { IsHandOf shared.old.geometry.numbers commit.old.hand }
     ensures turn { (told : Told) → IsCommitOf (slots_in running.now.slots) commit.old told
@@ -41,7 +42,8 @@ pub(crate) fn append(shared: &mut Shared, running: &Running, commit: &mut Commit
         → IsPlaceOf (slots_in running.now.slots) commit.new told }
     ensures way { IsOnItsWay commit.new }
     ensures committing { IsCommitting (committing_cpu shared.new)
-        (lent_cells (slots_in running.now.slots) shared.new.cells.items) shared.new.book commit.new }
+        (lent_cells (slots_in running.now.slots) shared.new.cells.items)
+        shared.new.book commit.new }
     ensures sized { IsHandOf shared.new.geometry.numbers commit.new.hand }
     ensures rest { LeavesCells (slots_in running.now.slots) shared.old shared.new }
 {

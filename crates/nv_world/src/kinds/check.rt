@@ -1,6 +1,6 @@
 //! The check of a call over the cells that it holds.
 
-ghost use Rattle.std.specs.Prelude.{◌≡◌, ◌+◌, ◌<◌, ◌≤◌, ◌^◌, IfOk, [], length, option_map, true};
+ghost use Rattle.std.specs.Prelude.{◌≢◌, ◌≡◌, ◌+◌, ◌<◌, ◌≤◌, ◌^◌, IfOk, [], length, option_map, true};
 ghost use Rattle.std.specs.Option.{ForSome};
 ghost use Rattle.nv_alloc.specs.Hand.{blocks_of};
 ghost use Rattle.nv_base.specs.Limits.{IsWithinLimits};
@@ -59,6 +59,7 @@ pub(crate) fn check(shared: &mut Shared, hand: &mut Hand, running: &mut Running)
         (with_made s h r))
         (turn_of result (shared_of shared.new) (hand_of hand.new) (shown told running.new)) }
     ensures job { KeepsJob running.old running.new }
+    ensures goes { result ≢ Turn.Waits }
     ensures rest { shared.new ≡ shared.old }
     ensures rooms { HasRoomsAfter result shared.new (Hold.Hand hand.new) running.new }
 {
@@ -232,6 +233,7 @@ fn want_blocks(shared: &mut Shared, hand: &Hand, running: &mut Running, wanted: 
         wants_blocks wanted shared.old.geometry.numbers.block s h (shown told running.old)
         ≡ turn_of result s h (shown told running.new) }
     ensures job { KeepsJob running.old running.new }
+    ensures goes { result ≢ Turn.Waits }
     ensures same { shared.new ≡ shared.old }
     ensures rooms { HasRoomsAfter result shared.new (Hold.Hand hand.now) running.new }
 {

@@ -21,7 +21,8 @@ use nv_calls::{Commit, CommitStep};
 pub(crate) fn open(shared: &mut Shared, running: &Running, commit: &mut Commit, cpu: u64)
     requires slots { AreSlots shared.old (slots_in running.now.slots) }
     requires committing { IsCommitting (committing_cpu shared.old)
-        (lent_cells (slots_in running.now.slots) shared.old.cells.items) shared.old.book commit.old }
+        (lent_cells (slots_in running.now.slots) shared.old.cells.items)
+        shared.old.book commit.old }
     requires step { step_of commit.old ≡ CommitStep.Open }
     requires sized { IsHandOf shared.old.geometry.numbers commit.old.hand }
     requires cpu { cpu ≡ committing_cpu shared.old }
@@ -34,10 +35,17 @@ pub(crate) fn open(shared: &mut Shared, running: &Running, commit: &mut Commit, 
         → IsCommitOf (slots_in running.now.slots) commit.new told }
     ensures way { IsOnItsWay commit.new }
     ensures committing { IsCommitting (committing_cpu shared.new)
-        (lent_cells (slots_in running.now.slots) shared.new.cells.items) shared.new.book commit.new }
+        (lent_cells (slots_in running.now.slots) shared.new.cells.items)
+        shared.new.book commit.new }
     ensures sized { IsHandOf shared.new.geometry.numbers commit.new.hand }
     ensures rest { LeavesCells (slots_in running.now.slots) shared.old shared.new }
     ensures placed { (told : Told) → IsPlaceOf (slots_in running.now.slots) commit.new told }
 {
-    open_in(&mut shared.book, &mut shared.cells, &running.slots, commit, cpu);
+    open_in(
+        &mut shared.book,
+        &mut shared.cells,
+        &running.slots,
+        commit,
+        cpu,
+    );
 }

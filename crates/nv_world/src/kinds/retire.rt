@@ -22,20 +22,22 @@ use nv_calls::{Commit, CommitStep};
 pub(crate) fn retire(shared: &mut Shared, running: &Running, commit: &mut Commit)
     requires slots { AreSlots shared.old (slots_in running.now.slots) }
     requires committing { IsCommitting (committing_cpu shared.old)
-        (lent_cells (slots_in running.now.slots) shared.old.cells.items) shared.old.book commit.old }
+        (lent_cells (slots_in running.now.slots) shared.old.cells.items)
+        shared.old.book commit.old }
     requires step { step_of commit.old ≡ CommitStep.Retire }
     requires sized { IsHandOf shared.old.geometry.numbers commit.old.hand }
     ensures turn { (told : Told) → IsCommitOf (slots_in running.now.slots) commit.old told
         → let s = shared_of shared.old in let r = shown_commit commit.old told running.now in
-        retire_turn (slot_at (written_slots r) commit.old.retired) (first_killed (killed_in commit.old))
-        commit.old.retired s (hand_in commit.old) r
+        retire_turn (slot_at (written_slots r) commit.old.retired)
+        (first_killed (killed_in commit.old)) commit.old.retired s (hand_in commit.old) r
         ≡ Moves (shared_of shared.new) (hand_in commit.new)
         (shown_commit commit.new told running.now) }
     ensures told { (told : Told) → IsCommitOf (slots_in running.now.slots) commit.old told
         → IsCommitOf (slots_in running.now.slots) commit.new told }
     ensures way { IsOnItsWay commit.new }
     ensures committing { IsCommitting (committing_cpu shared.new)
-        (lent_cells (slots_in running.now.slots) shared.new.cells.items) shared.new.book commit.new }
+        (lent_cells (slots_in running.now.slots) shared.new.cells.items)
+        shared.new.book commit.new }
     ensures sized { IsHandOf shared.new.geometry.numbers commit.new.hand }
     ensures rest { LeavesCells (slots_in running.now.slots) shared.old shared.new }
     ensures placed { (told : Told) → IsPlaceOf (slots_in running.now.slots) commit.new told }

@@ -55,8 +55,8 @@ fn pages_by(shared: &mut Shared, hand: &Hand, running: &Running) -> u64
     requires sizes { IsHandOf shared.old.geometry.numbers hand.now }
     requires can { CanWantPages shared.old hand.now running.now }
     ensures same { shared.new ≡ shared.old }
-    ensures wanted { IsChangeWith
-        (λ u. result ≡ pages_to_take shared.old (slots_in running.now.slots) hand.now u) running.now.job }
+    ensures wanted { let slots = slots_in running.now.slots in IsChangeWith
+        (λ u. result ≡ pages_to_take shared.old slots hand.now u) running.now.job }
 {
     pages_in(&mut shared.cells, &running.slots, running.plan(), hand)
 }
@@ -125,7 +125,8 @@ pub(crate) fn take_pages(
     ask_on(shared, hand, running, asked, left, Next::TakePages(asked + 1))
 }
 
-/// Takes the lowest blocks of the list that stands there, counted from the first one round and round, and says how many.
+/// Takes the lowest blocks of the list at a place, counted from the first one round and round, and
+/// says how many.
 fn take_from(shared: &mut Shared, queue: &mut BlockQueue, wanted: u64, place: u64) -> u64
     requires limits { IsWithinLimits shared.old.geometry.numbers }
     requires home { AreHome shared.old }

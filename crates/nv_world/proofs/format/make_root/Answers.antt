@@ -46,11 +46,11 @@ returns-in-Ok-clause-ok c =
     let lowest = lowest_block g limits in
     let is_page : page ≡ zero_block g.block 0 = cc (list, lowest, c.in_ok-page.ensures.ok) in
     let mode : c.unwrap-mode.result ≡ 493 = (rw c.unwrap-mode.ensures at c.checked.ensures).1 in
-    let founded_is : c.found.new.cell.state ≡ root_cell g =
+    let founded_is : c.found.new.self.state ≡ root_cell g =
     c.in-Ok.ensures.ok ∙ rw (mode, c.new.ensures, is_page, cell) (root_founded g) in
     let gone = lowest_gone s.lists.items c.index_mut.result.now c.first_block.new.list page c.index_mut.ensures.value
     c.in_ok-page.ensures.rest c.in_ok-page.ensures.ok in
     shared_made g _ (gone ∙ ap without_lowest lists) (c.take-number.ensures.rest ∙ rw pool refl)
-    (first_cell s.cells.items c.found.new.cell g.inodes (empty_cell g.block g.page 1 0) (root_cell g)
+    (first_cell s.cells.items c.found.new.self g.inodes (empty_cell g.block g.page 1 0) (root_cell g)
     (omega (arith, limits.some_inodes)) cells founded_is)
     (ap (λ (s : Shared). s.owners) c.requires) (ap (λ (s : Shared). s.book) c.requires) (ap (λ (s : Shared). s.holder) c.requires)

@@ -1,13 +1,11 @@
-use Rattle.std.proofs.Common.{true, refl, subst, sym}
-use Rattle.nv_world.proofs.Turns.{either, rooms_lock, visit_any, owes_back, owes_give, owes_unlock, turns_alone, turns_visit}
+use Rattle.std.proofs.Common.{true, refl, subst}
+use Rattle.nv_world.proofs.Turns.{either, visit_any, owes_back, owes_give, owes_unlock, turns_alone, turns_visit}
 use Rattle.nv_machine.specs.Step as machine_step
 use Rattle.nv_machine.specs.World as machine
 use Rattle.nv_machine.specs.World.{empty_hand}
-use Rattle.nv_world.specs.Rooms.{IsHandOf}
 use Rattle.nv_world.specs.Shown.{hand_of, shared_of, shown}
 use Rattle.nv_world.specs.Steps.{Given}
 use Rattle.nv_world.specs.declared.next.Next.{Next}
-use Rattle.nv_world.specs.declared.shared.Shared.{Shared}
 use Rattle.nv_world.specs.declared.next.Next.TheVariants as next
 use Rattle.nv_world.proofs.step.alone.Goals as goal
 
@@ -68,8 +66,4 @@ returns-in-Visit-clause-turn c r shows =
     (c.visit.ensures.turn told is))
 
 pub returns-in-Lock-clause-rooms : goal.returns-in-Lock-clause-rooms
-returns-in-Lock-clause-rooms c =
-    rooms_lock c.in-Lock.place c.lock.result c.args.shared.now c.lock.new.shared c.args.hand.now c.args.running.now c.lock.new.running
-    c.in-Lock.is c.lock.ensures.fits
-    (subst (λ (s : Shared). IsHandOf s.geometry.numbers c.args.hand.now) (sym c.lock.ensures.rest) c.requires.rooms.1)
-    c.lock.ensures.apart c.lock.ensures.goes
+returns-in-Lock-clause-rooms c = c.lock.ensures.rooms c.args.hand.now c.requires.rooms

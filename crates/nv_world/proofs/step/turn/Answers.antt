@@ -15,3 +15,7 @@ returns-else-eq-clause-turn c r shows =
 pub returns-else-eq-clause-rest : goal.returns-else-eq-clause-rest
 returns-else-eq-clause-rest c r shows =
     c.commit_step.ensures.rest r (subst (λ (h : Hold). ShowsCall h c.args.running.now r) c.in-Commit.is shows)
+
+pub returns-then-eq-clause-rest : goal.returns-then-eq-clause-rest
+returns-then-eq-clause-rest c r shows =
+    c.pass_on-then-eq.ensures.rest r (subst (λ (h : Hold). ShowsCall h c.args.running.now r) c.in-Commit.is shows)

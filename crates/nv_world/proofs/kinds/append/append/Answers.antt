@@ -1,6 +1,6 @@
-use Rattle.std.proofs.Common.{◌≡◌, ℕ, ◌<◌, ◌∙◌, List, ap, arith, length, map, refl, subst, sym}
+use Rattle.std.proofs.Common.{◌≡◌, ◌<◌, ◌∙◌, List, ap, arith, length, map, refl, subst, sym}
 use Rattle.std.proofs.lemmas.List.{with_items_is}
-use Rattle.nv_calls.specs.Cells.{OnlyAt, state_at, value_at, with_value}
+use Rattle.nv_calls.specs.Cells.{state_at, value_at, with_value}
 use Rattle.nv_calls.specs.Commit.{CommitValue, after_append, to_append}
 use Rattle.nv_calls.specs.SlotCells.{cell_in, lent_cells, other_cells}
 use Rattle.nv_calls.specs.Steps.{CanAppendPlan, with_plan}
@@ -11,7 +11,7 @@ use Rattle.nv_world.specs.Committing.{IsCommitting}
 use Rattle.nv_world.specs.Parts.{IsOnlyAt}
 use Rattle.nv_world.specs.Rooms.{IsHandOf, committing_cpu}
 use Rattle.nv_world.specs.Shown.{hand_in, shared_of, shown_commit, slots_in}
-use Rattle.nv_world.proofs.Among.{lent_count, only_among, only_others}
+use Rattle.nv_world.proofs.Among.{lent_count, only_among}
 use Rattle.nv_world.proofs.Appends.{append_place, append_told, appends, lent_only, lent_value, lent_with}
 use Rattle.nv_world.proofs.Phases.{append_can, append_goes, append_within}
 use Rattle.nv_world.proofs.Stages.{append_due}
@@ -24,8 +24,11 @@ pub append_in-requires-clause-within : goal.append_in-requires-clause-within
 append_in-requires-clause-within c =
     let slots = slots_in c.args.running.now.slots in
     let cells = c.args.shared.now.cells.items in
-    omega (arith, append_within _ _ _ c.args.commit.now c.requires.committing (append_due c.args.commit.now c.requires.step),
-    lent_count slots cells)
+    omega (
+      arith,
+      append_within _ _ _ c.args.commit.now c.requires.committing (append_due c.args.commit.now c.requires.step),
+      lent_count slots cells,
+    )
 
 pub append_in-requires-clause-can : goal.append_in-requires-clause-can
 append_in-requires-clause-can c =
@@ -46,8 +49,11 @@ returns-clause-turn c told is placed =
     let many : length new ≡ length cells = subst (λ (xs : List CellValue). length new ≡ length xs) was c.append_in.ensures.count in
     let whole = with_items_is c.args.shared.now.cells new (omega (arith, many, c.args.shared.now.cells.ok.0)) in
     let within : k < length slots =
-    omega (arith, append_within _ _ _ old c.requires.committing (append_due old c.requires.step),
-    lent_count slots cells) in
+    omega (
+      arith,
+      append_within _ _ _ old c.requires.committing (append_due old c.requires.step),
+      lent_count slots cells,
+    ) in
     let value : CellValue = with_plan old.stamp old.place (to_append old).items old.hand (value_at (lent_cells slots cells) k) in
     let lent : lent_cells slots new ≡ with_value (lent_cells slots cells) k value =
     subst (λ (xs : List CellValue). lent_cells slots new ≡ with_value (lent_cells slots xs) k
@@ -69,7 +75,8 @@ returns-clause-turn c told is placed =
 pub returns-clause-told : goal.returns-clause-told
 returns-clause-told c told is =
     append_told (slots_in c.args.running.now.slots) c.args.commit.now c.append_in.new.commit
-    (state_at (lent_cells (slots_in c.args.running.now.slots) c.deref_mut.result.now) (to_append c.args.commit.now).at) told c.append_in.ensures.commit is
+    (state_at (lent_cells (slots_in c.args.running.now.slots) c.deref_mut.result.now)
+    (to_append c.args.commit.now).at) told c.append_in.ensures.commit is
 
 pub returns-clause-place : goal.returns-clause-place
 returns-clause-place c told is placed plan =
@@ -87,7 +94,8 @@ returns-clause-committing c =
     let was : c.deref_mut.result.now ≡ cells = c.deref_mut.ensures.value in
     let many : length new ≡ length cells = subst (λ (xs : List CellValue). length new ≡ length xs) was c.append_in.ensures.count in
     let whole = with_items_is c.args.shared.now.cells new (omega (arith, many, c.args.shared.now.cells.ok.0)) in
-    subst (λ (xs : List CellValue). IsCommitting (committing_cpu c.args.shared.now) (lent_cells slots xs) c.args.shared.now.book c.append_in.new.commit)
+    subst (λ (xs : List CellValue). IsCommitting (committing_cpu c.args.shared.now)
+    (lent_cells slots xs) c.args.shared.now.book c.append_in.new.commit)
     (sym whole)
     (append_goes _ _ _ old c.requires.committing (append_due old c.requires.step) (lent_cells slots new) c.append_in.new.commit
     (subst (λ (xs : List CellValue). lent_cells slots new ≡ with_value (lent_cells slots xs) k
@@ -98,7 +106,8 @@ returns-clause-committing c =
 
 pub returns-clause-sized : goal.returns-clause-sized
 returns-clause-sized c =
-    subst (λ (x : CommitValue). IsHandOf c.args.shared.now.geometry.numbers x.hand) (sym c.append_in.ensures.commit) (record { blocks = c.requires.sized.blocks; pages = c.requires.sized.pages })
+    subst (λ (x : CommitValue). IsHandOf c.args.shared.now.geometry.numbers x.hand) (sym c.append_in.ensures.commit)
+    (record { blocks = c.requires.sized.blocks; pages = c.requires.sized.pages })
 
 pub returns-clause-rest : goal.returns-clause-rest
 returns-clause-rest c =

@@ -16,15 +16,16 @@ returns-in-Some-clause-turn c told is =
     c.note_made.ensures (c.is_some.ensures ∙ ap is_some c.ino.ensures) c.requires.change c.requires.can c.ending_of.ensures.ends told is
     c.ending_of.new.shared c.in-Some.ending _ c.ending_of.ensures.same c.in-Some.is
     (c.end.ensures.turn told (owes c.args.shared.now c.args.hand.now c.args.running.now c.note_made.new.running c.is_some.result
-    c.ending_of.result c.note_made.ensures (c.is_some.ensures ∙ ap is_some c.ino.ensures) c.requires.change c.requires.can c.ending_of.ensures.ends told
-    c.in-Some.ending is)))
+    c.ending_of.result c.note_made.ensures (c.is_some.ensures ∙ ap is_some c.ino.ensures) c.requires.change c.requires.can
+    c.ending_of.ensures.ends told c.in-Some.ending is)))
 
 pub returns-in-Err-clause-turn : goal.returns-in-Err-clause-turn
 returns-in-Err-clause-turn c told is =
     inr (turn_refuses c.args.shared.now c.args.hand.now c.args.running.now c.note_made.new.running c.is_some.result c.ending_of.result
     c.note_made.ensures (c.is_some.ensures ∙ ap is_some c.ino.ensures) c.requires.change c.requires.can c.ending_of.ensures.ends told is
     c.wanted_by-wanted.new.shared (hand_of c.make_room.new.hand) c.in-Err.fault _
-    (c.wanted_by-wanted.ensures.same ∙ c.ending_of.ensures.same) (ap hand_of c.make_room.ensures.hand) c.in-Err.ensures.err c.in_default.is (c.refuse.ensures.turn told))
+    (c.wanted_by-wanted.ensures.same ∙ c.ending_of.ensures.same) (ap hand_of c.make_room.ensures.hand)
+    c.in-Err.ensures.err c.in_default.is (c.refuse.ensures.turn told))
 
 pub want_blocks-requires-clause-can : goal.want_blocks-requires-clause-can
 want_blocks-requires-clause-can c =

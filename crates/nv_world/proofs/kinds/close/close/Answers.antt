@@ -1,4 +1,4 @@
-use Rattle.std.proofs.Common.{◌≡◌, ◌<◌, ◌∙◌, arith, length, Some, ap, ap₂, subst, sym}
+use Rattle.std.proofs.Common.{◌≡◌, ◌∙◌, arith, length, Some, ap, ap₂, subst, sym}
 use Rattle.nv_book.specs.Book.{BookValue}
 use Rattle.nv_calls.specs.Commit.{CommitValue}
 use Rattle.nv_machine.specs.World as machine
@@ -13,7 +13,8 @@ pub close_on-requires-clause-turn : goal.close_on-requires-clause-turn
 close_on-requires-clause-turn c = close_full _ _ _ c.args.commit.now c.requires.committing (close_due c.args.commit.now c.requires.step)
 
 pub close_on-requires-clause-journal : goal.close_on-requires-clause-journal
-close_on-requires-clause-journal c = close_journal _ _ _ c.args.commit.now c.requires.committing (close_due c.args.commit.now c.requires.step)
+close_on-requires-clause-journal c =
+    close_journal _ _ _ c.args.commit.now c.requires.committing (close_due c.args.commit.now c.requires.step)
 
 pub close_on-requires-clause-number : goal.close_on-requires-clause-number
 close_on-requires-clause-number c = close_number _ _ _ c.args.commit.now c.requires.committing (close_due c.args.commit.now c.requires.step)
@@ -38,7 +39,8 @@ returns-clause-committing c =
 
 pub returns-clause-sized : goal.returns-clause-sized
 returns-clause-sized c =
-    subst (λ (x : CommitValue). IsHandOf c.args.shared.now.geometry.numbers x.hand) (sym c.close_on.ensures.commit) (record { blocks = c.requires.sized.blocks; pages = c.requires.sized.pages })
+    subst (λ (x : CommitValue). IsHandOf c.args.shared.now.geometry.numbers x.hand) (sym c.close_on.ensures.commit)
+    (record { blocks = c.requires.sized.blocks; pages = c.requires.sized.pages })
 
 pub returns-clause-way : goal.returns-clause-way
 returns-clause-way c = (returns-clause-committing c).way

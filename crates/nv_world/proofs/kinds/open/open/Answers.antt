@@ -1,17 +1,17 @@
-use Rattle.std.proofs.Common.{◌≡◌, ℕ, ◌<◌, ◌∙◌, List, [], None, ap, ap₂, arith, length, map, subst, sym}
+use Rattle.std.proofs.Common.{◌≡◌, ℕ, ◌<◌, ◌∙◌, List, [], ap, ap₂, arith, length, map, subst, sym, refl}
 use Rattle.std.specs.Prelude.{slice_index_or}
 use Rattle.std.proofs.lemmas.List.{with_items_is}
 use Rattle.nv_book.specs.Book.{BookValue, with_journal}
 use Rattle.nv_calls.specs.Cells.{AreCells}
 use Rattle.nv_calls.specs.Commit.{CommitValue, after_open}
 use Rattle.nv_calls.specs.Ready.{ArePlaced, old_tails}
-use Rattle.nv_calls.specs.SlotCells.{cell_in, lent_cells, other_cells}
+use Rattle.nv_calls.specs.SlotCells.{lent_cells, other_cells}
 use Rattle.nv_cell.specs.Cell.{CellValue}
 use Rattle.nv_machine.specs.World as machine
 use Rattle.nv_world.specs.Committing.{IsCommitting}
 use Rattle.nv_world.specs.Rooms.{IsHandOf, committing_cpu}
 use Rattle.nv_world.specs.Shown.{hand_in, shared_of, shown_commit, slots_in}
-use Rattle.nv_world.proofs.Among.{all_still, lent_count, others_at}
+use Rattle.nv_world.proofs.Among.{all_still, lent_count}
 use Rattle.nv_world.proofs.Opens.{open_told, opens}
 use Rattle.nv_world.proofs.Phases.{open_cells, open_closed, open_cpu, open_full, open_goes, open_placed, open_shut}
 use Rattle.nv_world.proofs.Stages.{open_due}
@@ -69,7 +69,8 @@ returns-clause-turn c told is =
     (subst (λ (xs : List CellValue). lent_cells slots new ≡ lent_cells slots xs) was c.open_in.ensures.cells)
     (subst (λ (xs : List CellValue). other_cells slots new ≡ other_cells slots xs) was c.open_in.ensures.others) in
     let commit : c.open_in.new.commit ≡ after_open cpu (old_tails (lent_cells slots cells) old.plans) old =
-    subst (λ (xs : List CellValue). c.open_in.new.commit ≡ after_open cpu (old_tails (lent_cells slots xs) old.plans) old) was c.open_in.ensures.commit in
+    subst (λ (xs : List CellValue). c.open_in.new.commit ≡ after_open cpu (old_tails (lent_cells slots xs) old.plans) old)
+    was c.open_in.ensures.commit in
     let book : c.open_in.new.book
     ≡ (let b = c.args.shared.now.book in let x : BookValue = record b {
       state = with_journal cpu (old_tails (lent_cells slots cells) old.plans) b.state;
@@ -93,7 +94,8 @@ returns-clause-told c told is =
 
 pub returns-clause-sized : goal.returns-clause-sized
 returns-clause-sized c =
-    subst (λ (x : CommitValue). IsHandOf c.args.shared.now.geometry.numbers x.hand) (sym c.open_in.ensures.commit) (record { blocks = c.requires.sized.blocks; pages = c.requires.sized.pages })
+    subst (λ (x : CommitValue). IsHandOf c.args.shared.now.geometry.numbers x.hand) (sym c.open_in.ensures.commit)
+    (record { blocks = c.requires.sized.blocks; pages = c.requires.sized.pages })
 
 pub returns-clause-committing : goal.returns-clause-committing
 returns-clause-committing c =

@@ -1,4 +1,4 @@
-use Rattle.std.proofs.Common.{arith, rules, rw}
+use Rattle.std.proofs.Common.{arith, rules}
 use Rattle.std.proofs.lemmas.Grind.{common_steps}
 use Rattle.nv_world.proofs.Runs.{run-snoc, run-none}
 use Rattle.nv_world.proofs.world.World.run.Goals as goal
