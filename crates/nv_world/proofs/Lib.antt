@@ -1,4 +1,5 @@
 pub mod Actors
+pub mod AddedUp
 pub mod Among
 pub mod Appends
 pub mod Bounds

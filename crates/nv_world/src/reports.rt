@@ -51,7 +51,6 @@ pub struct LogCounts {
 impl World {
     /// Where the blocks are. Takes no memory, and time by all blocks.
     pub fn space(&self) -> Space
-        requires { AddsUp self.now.shared.geometry.numbers.blocks (shared_of self.now.shared) }
         ensures { (m : machine.World) → Shows self.now m → result ≡ space_of m }
     {
         self.shared.space()
