@@ -16,6 +16,7 @@ pub mod GivenCounts
 pub mod GivenEnter
 pub mod GivenKinds
 pub mod GivenLaws
+pub mod GivenReady
 pub mod GivenWorlds
 pub mod FreshPages
 pub mod Gives
