@@ -19,6 +19,8 @@ pub mod GivenCounts
 pub mod GivenEnter
 pub mod GivenKinds
 pub mod GivenLaws
+pub mod GivenReady
+pub mod GivenWorlds
 pub mod Gives
 pub mod Homes
 pub mod Kept
