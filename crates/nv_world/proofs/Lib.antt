@@ -20,7 +20,6 @@ pub mod GivenEnter
 pub mod GivenKinds
 pub mod GivenLaws
 pub mod GivenReady
-pub mod GivenWorlds
 pub mod Gives
 pub mod Homes
 pub mod Kept
