@@ -177,12 +177,15 @@ wants_by_job shared hand new running wanted cells can change number chain ends o
           let passed = passes_over shared.geometry.numbers.block (nodes_in lent) running.looked (is_some hand.ino) u (sym ends) in
           let own : HasNumberFor lent (makes u) hand.ino = has_number lent hand.ino u passed.number has in (
             subst (λ (n : Option ℕ). makes u ≡ true → made ≡ unwrap_or (made_by lent n u) no_handle) (sym number)
-            (has_made shared slots hand running.made u can.inside own),
+                (has_made shared slots hand running.made u can.inside own),
             record {
               read = read;
               lent = cells;
-              some = omega (arith, some_cell shared.geometry.numbers.block lent u passed.passed,
-              length-map {B = ℕ × CellValue} slots (λ (ino : ℕ). (ino, cell_in shared.cells.items ino)));
+              some = omega (
+                arith,
+                some_cell shared.geometry.numbers.block lent u passed.passed,
+                length-map {B = ℕ × CellValue} slots (λ (ino : ℕ). (ino, cell_in shared.cells.items ino)),
+              );
               still = can.still.still;
               passed = passed.passed;
               something = passed.something;

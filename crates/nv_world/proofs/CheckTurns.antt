@@ -53,11 +53,15 @@ has_its_blocks shared hand running wanted nil empty room has =
     over_all (IsWanted shared hand running wanted)
     (λ u. HasMade shared (slots_in running.slots) hand running.made u
     × IsChecked shared (slots_in running.slots) hand running.looked u × HasItsBlocks shared (slots_in running.slots) hand u)
-    running.job (λ u has. (has.0, has.1, record {
-      blocks = ap length none.0 ∙ sym nil ∙ has.2;
-      none = none.1.0;
-      room = omega (arith, ap length none.0, nil, room);
-    })) has where
+    running.job (λ u has. (
+      has.0,
+      has.1,
+      record {
+        blocks = ap length none.0 ∙ sym nil ∙ has.2;
+        none = none.1.0;
+        room = omega (arith, ap length none.0, nil, room);
+      },
+    )) has where
       none : (hand.«data».blocks ≡ []) × ((hand.pages.blocks ≡ []) × (hand.chain ≡ []))
       none = none_in hand.«data».blocks hand.pages.blocks hand.chain empty
 
@@ -67,22 +71,28 @@ pub takes_blocks : (shared : Shared) (hand : Hand) (running : Running) (wanted :
     → wanted ≤ hand.«data».room → wanted + 4 ≤ hand.pages.room → WantsBlocks wanted shared hand running
     → HasRooms shared (hold.Hand hand) (record running { next = next.TakeBlocks 0; wanted = wanted })
 takes_blocks shared hand running wanted limits home sized call empty room pages has = (
-    record {
-      before = is_changed (IsWanted shared hand running wanted) running.job has;
-      looks = call.looks;
-      overtaken = call.overtaken;
-    },
-    sized,
-    over_all (IsWanted shared hand running wanted)
-    (λ u. HasMade shared (slots_in running.slots) hand running.made u
-    × (IsChecked shared (slots_in running.slots) hand running.looked u × TakesBlocks shared (slots_in running.slots) hand 0 wanted u))
-    running.job (λ u has. (has.0, (has.1, record {
-      count = omega (arith, ap length none.0, has.2);
-      none = none.1.0;
-      room = room;
-      pages = omega (arith, ap length none.0, pages);
-      list = omega (arith, home.count, limits.some_cpus);
-    }))) has,
+  record {
+    before = is_changed (IsWanted shared hand running wanted) running.job has;
+    looks = call.looks;
+    overtaken = call.overtaken;
+  },
+  sized,
+  over_all (IsWanted shared hand running wanted)
+      (λ u. HasMade shared (slots_in running.slots) hand running.made u
+      × (IsChecked shared (slots_in running.slots) hand running.looked u × TakesBlocks shared (slots_in running.slots) hand 0 wanted u))
+      running.job (λ u has. (
+        has.0,
+        (
+          has.1,
+          record {
+            count = omega (arith, ap length none.0, has.2);
+            none = none.1.0;
+            room = room;
+            pages = omega (arith, ap length none.0, pages);
+            list = omega (arith, home.count, limits.some_cpus);
+          },
+        ),
+      )) has,
 ) where
   none : (hand.«data».blocks ≡ []) × ((hand.pages.blocks ≡ []) × (hand.chain ≡ []))
   none = none_in hand.«data».blocks hand.pages.blocks hand.chain empty

@@ -92,14 +92,24 @@ first_for p plan (c ∷ cells) = go (p.handle.ino == c.0) refl (first_for p plan
       let here : only_for p.handle.ino n c ≡ n = ap (λ (b : Bool). cond b n 0) q in
       let own : count_for (p ∷ plan) c ≡ n = ap (λ (b : Bool). length (cond b p.items (items_for plan c.0))) q in
       omega (
-        arith, rest, here, own, sum_by-cons (only_for p.handle.ino n) c cells, sum_by-cons (count_for plan) c cells,
+        arith,
+        rest,
+        here,
+        own,
+        sum_by-cons (only_for p.handle.ino n) c cells,
+        sum_by-cons (count_for plan) c cells,
         sum_by-cons (count_for (p ∷ plan)) c cells,
       )
   go false q rest =
       let here : only_for p.handle.ino n c ≡ 0 = ap (λ (b : Bool). cond b n 0) q in
       let own : count_for (p ∷ plan) c ≡ count_for plan c = ap (λ (b : Bool). length (cond b p.items (items_for plan c.0))) q in
       omega (
-        arith, rest, here, own, sum_by-cons (only_for p.handle.ino n) c cells, sum_by-cons (count_for plan) c cells,
+        arith,
+        rest,
+        here,
+        own,
+        sum_by-cons (only_for p.handle.ino n) c cells,
+        sum_by-cons (count_for plan) c cells,
         sum_by-cons (count_for (p ∷ plan)) c cells,
       )
 
@@ -107,7 +117,10 @@ each_once : (plan : List Planned) (cells : List (ℕ × CellValue)) → Rising c
 each_once [] cells rises = omega (arith, none_for cells)
 each_once (p ∷ plan) cells rises =
     omega (
-      arith, first_for p plan cells, once_for p.handle.ino (length p.items) cells rises, each_once plan cells rises,
+      arith,
+      first_for p plan cells,
+      once_for p.handle.ino (length p.items) cells rises,
+      each_once plan cells rises,
       sum_by-cons (λ (q : Planned). length q.items) p plan,
     )
 
@@ -115,7 +128,10 @@ pages_few : (plan : List Planned) (cells : List (ℕ × CellValue)) → pages_wa
 pages_few plan [] = omega arith
 pages_few plan (c ∷ cells) =
     omega (
-      arith, pages_few plan cells, pages_within c.1.state.chain (length (items_for plan c.0)), sum_by-cons (pages_needed plan) c cells,
+      arith,
+      pages_few plan cells,
+      pages_within c.1.state.chain (length (items_for plan c.0)),
+      sum_by-cons (pages_needed plan) c cells,
       sum_by-cons (count_for plan) c cells,
     )
 
@@ -157,13 +173,16 @@ items_few block nodes taken (update.Write file offset zero) = omega arith
 items_few block nodes taken (update.Write file offset (suc m)) =
     let size = length (written offset (replicate (suc m) 0) (bytes_of (nodes file))) in
     let all : item_sum (plan block nodes taken (blank_call (update.Write file offset (suc m))))
-        ≡ 0 + length (write_items (offset / block) taken.runs size) = refl in
+    ≡ 0 + length (write_items (offset / block) taken.runs size) = refl in
     omega (arith, all, length-write (offset / block) taken.runs size)
 items_few block nodes taken (update.Size file size) =
     let all : item_sum (plan block nodes taken (blank_call (update.Size file size)))
-        ≡ 0 + length (write_items (size / block) taken.runs size ++ SetSize size ∷ []) = refl in
+    ≡ 0 + length (write_items (size / block) taken.runs size ++ SetSize size ∷ []) = refl in
     omega (
-      arith, all, length-write (size / block) taken.runs size, length-append (write_items (size / block) taken.runs size)
+      arith,
+      all,
+      length-write (size / block) taken.runs size,
+      length-append (write_items (size / block) taken.runs size)
           (SetSize size ∷ []),
     )
 items_few block nodes taken (update.Mode handle mode) =
@@ -180,7 +199,11 @@ few_pages cells hand u can =
     let numbers = numbers_of hand.«data».blocks in
     let runs = count_is numbers (numbers_small hand.«data».blocks can.small) in
     omega (
-      arith, pages_few (planned_by cells hand u) cells, each_once (planned_by cells hand u) cells can.lent.rising,
-      items_few (block_in cells) (nodes_in cells) (taken_by cells hand u) u, runs, count_within None numbers,
+      arith,
+      pages_few (planned_by cells hand u) cells,
+      each_once (planned_by cells hand u) cells can.lent.rising,
+      items_few (block_in cells) (nodes_in cells) (taken_by cells hand u) u,
+      runs,
+      count_within None numbers,
       length-map {B = ℕ} hand.«data».blocks number_of,
     )

@@ -116,7 +116,7 @@ module _ (shared : Shared) (slots : List ℕ) (hand : Hand) (looked : Looked) (n
         let f = (file_passed (nodes_in lent file) (text_refusal block offset (replicate count 0)) is.passed).0 in
         let none : nodes_in lent file ≡ None =
         ap (λ (o : Option CellValue). option_map (λ (x : PlainNode). x.node) (option_and_then (λ
-            (v : CellValue). own_node v.state file) o)) q in
+        (v : CellValue). own_node v.state file) o)) q in
         let there = f.is in cc
     go (Some c) q =
         let own = found_all (HasOwn block) lent file.ino c q is.read.own in
@@ -139,7 +139,7 @@ module _ (shared : Shared) (slots : List ℕ) (hand : Hand) (looked : Looked) (n
         let f = (file_passed (nodes_in lent file) _ is.passed).0 in
         let none : nodes_in lent file ≡ None =
         ap (λ (o : Option CellValue). option_map (λ (x : PlainNode). x.node) (option_and_then (λ
-            (v : CellValue). own_node v.state file) o)) q in
+        (v : CellValue). own_node v.state file) o)) q in
         let there = f.is in cc
     go (Some c) q =
         let own = found_all (HasOwn block) lent file.ino c q is.read.own in
@@ -149,7 +149,7 @@ module _ (shared : Shared) (slots : List ℕ) (hand : Hand) (looked : Looked) (n
         (one_sound block lent file c q own (found_all (λ (s : CellState). IsSoundIn s (log_of s)) lent file.ino c q sound))
         (update.Size file size) byte_at some
         (subst (λ (o : Option NodeCopy). size_refusal block (λ handle. o) file size ≡ passes) (sym
-            (one_node block lent file c q)) is.passed)
+        (one_node block lent file c q)) is.passed)
         ∙ ap (λ (o : Option NodeCopy). page_of block (size / block) (resized size (bytes_of o)) ∷ [])
         (one_node block lent file c q ∙ machine_node file (update.Size file size) refl is)
   pages_are (update.Create dir name mode) is = refl

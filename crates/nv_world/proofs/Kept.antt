@@ -34,15 +34,15 @@ pub kept_more : (book : BookState) (birth k : ℕ) (marks : List Mark) (blocks :
 kept_more book birth k marks blocks in_marks in_blocks =
     let on : k + 1 ≡ suc k = omega arith in
     rw on (go k marks blocks in_marks in_blocks) where
-  go : (k : ℕ) (marks : List Mark) (blocks : List (Option BlockValue)) → k < length marks → k < length blocks
-      → kept_among book (replicate (suc k) birth) marks blocks
-      ≡ kept_among book (replicate k birth) marks blocks + one_of book birth (slice_index_or marks k Current) (slice_index_or blocks k None)
-  go k [] blocks in_marks in_blocks = absurd (omega (arith, in_marks))
-  go k (m ∷ marks) [] in_marks in_blocks = absurd (omega (arith, in_blocks))
-  go zero (m ∷ marks) (b ∷ blocks) in_marks in_blocks = omega arith
-  go (suc k) (m ∷ marks) (b ∷ blocks) in_marks in_blocks =
-      let rest = go k marks blocks (omega (arith, in_marks)) (omega (arith, in_blocks)) in
-      omega (arith, rest)
+      go : (k : ℕ) (marks : List Mark) (blocks : List (Option BlockValue)) → k < length marks → k < length blocks
+          → kept_among book (replicate (suc k) birth) marks blocks
+          ≡ kept_among book (replicate k birth) marks blocks + one_of book birth (slice_index_or marks k Current) (slice_index_or blocks k None)
+      go k [] blocks in_marks in_blocks = absurd (omega (arith, in_marks))
+      go k (m ∷ marks) [] in_marks in_blocks = absurd (omega (arith, in_blocks))
+      go zero (m ∷ marks) (b ∷ blocks) in_marks in_blocks = omega arith
+      go (suc k) (m ∷ marks) (b ∷ blocks) in_marks in_blocks =
+          let rest = go k marks blocks (omega (arith, in_marks)) (omega (arith, in_blocks)) in
+          omega (arith, rest)
 
 -- ---- the entries of a log
 

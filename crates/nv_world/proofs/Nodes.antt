@@ -142,9 +142,10 @@ node_same shared slots handle can = go (nat_lt handle.ino (length all)) refl whe
 pub nodes_agree : (shared : Shared) (slots : List ℕ) (list : List Handle) → CanRead shared slots list
     → Agree (nodes (shared_of shared)) (plain_nodes (lent_cells slots shared.cells.items)) list
 nodes_agree shared slots [] can = tt
-nodes_agree shared slots (handle ∷ list) can =
-    (node_same shared slots handle (record { there = can.there; own = can.own; held = (can.held.0, tt) }),
-    nodes_agree shared slots list (record { there = can.there; own = can.own; held = can.held.1 }))
+nodes_agree shared slots (handle ∷ list) can = (
+  node_same shared slots handle (record { there = can.there; own = can.own; held = (can.held.0, tt) }),
+  nodes_agree shared slots list (record { there = can.there; own = can.own; held = can.held.1 }),
+)
 
 -- the call is the same over the lent cells as in the machine
 pub lent_call_same : (block : ℕ) (shared : Shared) (slots : List ℕ) (taken : Taken) (c : Call)

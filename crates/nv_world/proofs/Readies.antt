@@ -76,8 +76,13 @@ pub states_same : (slots : List ℕ) (old new : List CellValue) → length new �
     → map (λ (c : CellValue). c.state) new ≡ map (λ (c : CellValue). c.state) old
 states_same slots old new many more rest =
     ext_get_or machine.no_cell (map (λ (c : CellValue). c.state) new) (map (λ (c : CellValue). c.state) old)
-    (omega (arith, many, length-map {B = CellState} new (λ (c : CellValue). c.state), length-map {B = CellState} old (λ
-        (c : CellValue). c.state)))
+    (omega (
+      arith,
+      many,
+      length-map {B = CellState} new (λ (c : CellValue). c.state),
+      length-map {B = CellState} old (λ
+          (c : CellValue). c.state),
+    ))
     (λ i small.
     let lt : i < length new = omega (arith, small, length-map {B = CellState} new (λ (c : CellValue). c.state)) in
     get_or-map (λ (c : CellValue). c.state) new i (no_cell.1) machine.no_cell lt
@@ -115,11 +120,15 @@ pub rooms_ready : (old new : Shared) (hand : Hand) (running : Running) (u : Upda
     CanReady lent hand u → HaveNoLessRoom lent now → IsReadyBy lent hand u now ready → IsHandOf old.geometry.numbers hand
     → new.geometry ≡ old.geometry → running.ending ≡ ending.Answers
     → HasRooms new (hold.Ready ready) (record running { job = job.Given })
-rooms_ready old new hand running u ready can more is sizes same answers =
-    (refl, answers, record {
-      blocks = is.hand_same.size ∙ sizes.blocks ∙ ap (λ g. g.numbers.block) (sym same);
-      pages = is.page_size ∙ sym can.size ∙ sizes.blocks ∙ ap (λ g. g.numbers.block) (sym same);
-    }, record { cells = lent_cells (slots_in running.slots) old.cells.items; hand = hand; update = u; can = can; more = more; is = is })
+rooms_ready old new hand running u ready can more is sizes same answers = (
+  refl,
+  answers,
+  record {
+    blocks = is.hand_same.size ∙ sizes.blocks ∙ ap (λ g. g.numbers.block) (sym same);
+    pages = is.page_size ∙ sym can.size ∙ sizes.blocks ∙ ap (λ g. g.numbers.block) (sym same);
+  },
+  record { cells = lent_cells (slots_in running.slots) old.cells.items; hand = hand; update = u; can = can; more = more; is = is },
+)
 
 -- ---- the plans
 
@@ -137,10 +146,10 @@ written_from plan all cells at (n ∷ slots) same =
     ap (slot_at all) place ∙ same (suc k) (omega (arith, lt)))) where
       go : (items : List Item) → items_for plan n ≡ items
           → filter (is_written plan) slots ≡ map (λ (p : CellPlanValue). slot_at all p.at) (cell_plans plan (at + 1)
-              (lent_cells slots cells))
+          (lent_cells slots cells))
           → filter (is_written plan) (n ∷ slots)
           ≡ map (λ (p : CellPlanValue). slot_at all p.at) (if_items at (items_for plan n) (cell_plans plan (at + 1)
-              (lent_cells slots cells)))
+          (lent_cells slots cells)))
       go [] q rest = rw q rest
       go (item ∷ items) q rest =
           let first : at ≡ at + 0 = omega arith in
@@ -210,9 +219,11 @@ pub filled_same : (shared : Shared) (slots : List ℕ) (hand : Hand) (looked : L
     }
 filled_same shared slots hand looked now u text some more sound sizes is len =
     let byte_at = λ (i : ℕ). slice_index_or text i 0 in
-    ap (λ (n : ℕ). record (hand_of hand) { blocks = filled (pages_over n (page_in now n)
-        (sourced byte_at u)) hand.«data».blocks }) sizes.blocks
+    ap (λ (n : ℕ). record (hand_of hand) {
+      blocks = filled (pages_over n (page_in now n)
+          (sourced byte_at u)) hand.«data».blocks;
+    }) sizes.blocks
     ∙ ap (λ (pages : List (List ℕ)). record (hand_of hand) { blocks = filled pages hand.«data».blocks })
     (pages_are shared slots hand looked now byte_at some more sound u is
     ∙ ap (λ (t : List ℕ). fresh_pages shared.geometry.numbers.block (copies (shared_of shared)) (call_of u t)) (text_whole text
-        (text_len u) len))
+    (text_len u) len))

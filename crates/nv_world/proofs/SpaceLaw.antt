@@ -86,9 +86,9 @@ tally_all many (x ∷ xs) none =
     let rest = tally_all many xs (λ n le. let a = none n le in let b = times_tail n x xs in omega (arith, a, b)) in
     let here = tally_in many x xs lt in
     omega (arith, here, rest) where
-  go : (b : Bool) → nat_lt x many ≡ b → x < many
-  go true is = ltb-true x many is
-  go false is = absurd (let past = none x (ltb-false x many is) in let some = times_same x xs in omega (arith, past, some))
+      go : (b : Bool) → nat_lt x many ≡ b → x < many
+      go true is = ltb-true x many is
+      go false is = absurd (let past = none x (ltb-false x many is) in let some = times_same x xs in omega (arith, past, some))
 
 tally_few : (k : ℕ) (xs : List ℕ) → ((n : ℕ) → times n xs ≤ 1) → tally k xs ≤ k
 tally_few zero xs few = omega arith
@@ -99,8 +99,8 @@ no_more many numbers each =
     let all = tally_all many numbers none in
     let few = tally_few many numbers (most_once many numbers each) in
     omega (arith, all, few) where
-  none : (n : ℕ) → many ≤ n → times n numbers ≡ 0
-  none n le = let past : nat_lt n many ≡ false = le-ltb n many le in rw past at (each n)
+      none : (n : ℕ) → many ≤ n → times n numbers ≡ 0
+      none n le = let past : nat_lt n many ≡ false = le-ltb n many le in rw past at (each n)
 
 -- ---- the blocks of a world
 

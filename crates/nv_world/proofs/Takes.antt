@@ -99,7 +99,7 @@ can_ready shared slots hand looked u limits device sizes is count =
       size = sizes.blocks ∙ same;
       small = all_small shared.geometry.numbers hand.«data».blocks (omega (arith, limits.blocks_fit))
           (front_all below hand.«data».blocks hand.pages.blocks (front_all below
-              (hand.«data».blocks ++ hand.pages.blocks) hand.chain device));
+          (hand.«data».blocks ++ hand.pages.blocks) hand.chain device));
     }
 
 -- the log pages that it takes find room
@@ -133,7 +133,7 @@ found_same shared slots hand looked u is =
     let one = nodes (shared_of shared) in
     let other = plain_nodes (lent_cells slots shared.cells.items) in
     sym (looks_same one other c (named_of (λ (h : Handle). other h ≡ one h) looked c (nodes_agree shared slots
-        (handles looked c) is.read))).found
+    (handles looked c) is.read))).found
     ∙ is.same
 
 -- the plan of a checked call over its lent cells is the machine's
@@ -154,7 +154,7 @@ plan_same shared slots hand looked u text made present is has len =
 -- a job's call wants as many log pages as in the machine
 pub wanted_same : (shared : Shared) (slots : List ℕ) (hand : Hand) (looked : Looked) (made : Handle) (j : Job) (owed : Owed) (c : Call)
     (present : Bool) (n : ℕ) → IsJobOf j owed c → IsChangeWith (λ
-        (u : Update). HasMade shared slots hand made u × IsChecked shared slots hand looked u) j
+    (u : Update). HasMade shared slots hand made u × IsChecked shared slots hand looked u) j
     → IsChangeWith (λ (u : Update). n ≡ pages_to_take shared slots hand u) j
     → pages_wanted (shared_of shared) slots (plan shared.geometry.numbers.block (copies (shared_of shared))
     (record { made = made; runs = runs_of (numbers_of hand.«data».blocks); present = present }) c) ≡ n
@@ -197,23 +197,33 @@ module _ (shared : Shared) (slots : List ℕ) (hand : Hand) (looked : Looked) (m
 
   pub taken_none : Has → (n : ℕ) → n ≡ 0 → n ≡ pages_to_take shared slots hand u
       → HasMade shared slots hand made u × (IsChecked shared slots hand looked u × HasTaken shared slots hand u)
-  taken_none has n none wants =
-      (has.0, (has.1, record {
+  taken_none has n none wants = (
+    has.0,
+    (
+      has.1,
+      record {
         blocks = has.2.blocks;
         pages = ap (λ (bs : List BlockValue). length bs) has.2.none ∙ sym none ∙ wants;
-      }))
+      },
+    ),
+  )
 
   pub taken_next : Has → IsWithinLimits shared.geometry.numbers → AreHome shared → IsOfDevice shared.geometry.numbers hand
       → IsHandOf shared.geometry.numbers hand → (n : ℕ) → n ≡ pages_to_take shared slots hand u
       → HasMade shared slots hand made u × (IsChecked shared slots hand looked u × TakesPages shared slots hand 0 n u)
   taken_next has limits home device sizes n wants =
-      let can = can_ready shared slots hand looked u limits device sizes has.1 has.2.blocks in
-      (has.0, (has.1, record {
-        blocks = has.2.blocks;
-        count = omega (arith, ap (λ (bs : List BlockValue). length bs) has.2.none, wants);
-        room = omega (arith, pages_room shared slots hand u can has.2.room, wants);
-        list = omega (arith, home.count, limits.some_cpus);
-      }))
+      let can = can_ready shared slots hand looked u limits device sizes has.1 has.2.blocks in (
+        has.0,
+        (
+          has.1,
+          record {
+            blocks = has.2.blocks;
+            count = omega (arith, ap (λ (bs : List BlockValue). length bs) has.2.none, wants);
+            room = omega (arith, pages_room shared slots hand u can has.2.room, wants);
+            list = omega (arith, home.count, limits.some_cpus);
+          },
+        ),
+      )
 
 -- a call's job stays, and it goes on to take
 pub fits_still : (running new : Running) → FitsCall running → new.job ≡ running.job → new.looked ≡ running.looked
@@ -227,23 +237,25 @@ fits_still running new fits job looked ending before = record {
 
 pub rooms_none : (shared now : Shared) (hand : Hand) (running : Running) (n : ℕ) → IsHandOf shared.geometry.numbers hand → FitsCall running
     → CanWantPages shared hand running → n ≡ 0 → IsChangeWith (λ (u : Update). n ≡ pages_to_take shared
-        (slots_in running.slots) hand u) running.job
+    (slots_in running.slots) hand u) running.job
     → now ≡ shared → HasRooms now (hold.Hand hand) (record running { wanted = n; next = next.Ready })
 rooms_none shared now hand running n sizes fits can none wants same =
-    subst (λ (s : Shared). HasRooms s (hold.Hand hand) (record running { wanted = n; next = next.Ready })) (sym same)
-    (fits_still running (record running { wanted = n; next = next.Ready }) fits refl refl refl (is_changed _ running.job can),
-    sizes,
-    over_all _ _ running.job (λ u h. taken_none shared (slots_in running.slots) hand running.looked running.made u h.0 n none h.1)
-    (with_both _ _ running.job can wants))
+    subst (λ (s : Shared). HasRooms s (hold.Hand hand) (record running { wanted = n; next = next.Ready })) (sym same) (
+      fits_still running (record running { wanted = n; next = next.Ready }) fits refl refl refl (is_changed _ running.job can),
+      sizes,
+      over_all _ _ running.job (λ u h. taken_none shared (slots_in running.slots) hand running.looked running.made u h.0 n none h.1)
+          (with_both _ _ running.job can wants),
+    )
 
 pub rooms_next : (shared now : Shared) (hand : Hand) (running : Running) (n : ℕ) → IsWithinLimits shared.geometry.numbers → AreHome shared
     → IsOfDevice shared.geometry.numbers hand → IsHandOf shared.geometry.numbers hand → FitsCall running → CanWantPages shared hand running
     → IsChangeWith (λ (u : Update). n ≡ pages_to_take shared (slots_in running.slots) hand u) running.job
     → now ≡ shared → HasRooms now (hold.Hand hand) (record running { wanted = n; next = next.TakePages 0 })
 rooms_next shared now hand running n limits home device sizes fits can wants same =
-    subst (λ (s : Shared). HasRooms s (hold.Hand hand) (record running { wanted = n; next = next.TakePages 0 })) (sym same)
-    (fits_still running (record running { wanted = n; next = next.TakePages 0 }) fits refl refl refl (is_changed _ running.job can),
-    sizes,
-    over_all _ _ running.job (λ u h.
-    taken_next shared (slots_in running.slots) hand running.looked running.made u h.0 limits home device sizes n h.1)
-    (with_both _ _ running.job can wants))
+    subst (λ (s : Shared). HasRooms s (hold.Hand hand) (record running { wanted = n; next = next.TakePages 0 })) (sym same) (
+      fits_still running (record running { wanted = n; next = next.TakePages 0 }) fits refl refl refl (is_changed _ running.job can),
+      sizes,
+      over_all _ _ running.job (λ u h.
+          taken_next shared (slots_in running.slots) hand running.looked running.made u h.0 limits home device sizes n h.1)
+          (with_both _ _ running.job can wants),
+    )

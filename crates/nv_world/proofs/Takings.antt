@@ -239,26 +239,32 @@ module _ (old new : Shared) (slots : List ℕ) (hand : Hand) (looked : Looked) (
 
     pub blocks_taken : 0 ≡ n - min n (length list.blocks)
         → HasMade new slots Filled made u × IsChecked new slots Filled looked u × HasItsBlocks new slots Filled u
-    blocks_taken none =
-        (made_moved old new slots hand Filled looked u geometry cells refl made has.0,
-        checked_moved old new slots hand Filled looked u geometry cells refl refl has.1.0, record {
-          blocks = let all = count_filled 0 none in let short : length queue.blocks ≡ length queue.blocks + 0 = omega arith in
-              short ∙ all ∙ want_same;
-          none = has.1.1.none;
-          room = let all = count_filled 0 none in let count = has.1.1.count in let room = has.1.1.pages in omega (arith, all, count, room);
-        })
+    blocks_taken none = (
+      made_moved old new slots hand Filled looked u geometry cells refl made has.0,
+      checked_moved old new slots hand Filled looked u geometry cells refl refl has.1.0,
+      record {
+        blocks = let all = count_filled 0 none in let short : length queue.blocks ≡ length queue.blocks + 0 = omega arith in
+            short ∙ all ∙ want_same;
+        none = has.1.1.none;
+        room = let all = count_filled 0 none in let count = has.1.1.count in let room = has.1.1.pages in omega (arith, all, count, room);
+      },
+    )
 
     pub blocks_next : (left more : ℕ) → left ≡ n - min n (length list.blocks) → more < length new.lists.items
         → HasMade new slots Filled made u × (IsChecked new slots Filled looked u × TakesBlocks new slots Filled more left u)
-    blocks_next left more q lt =
-        (made_moved old new slots hand Filled looked u geometry cells refl made has.0,
-        (checked_moved old new slots hand Filled looked u geometry cells refl refl has.1.0, record {
+    blocks_next left more q lt = (
+      made_moved old new slots hand Filled looked u geometry cells refl made has.0,
+      (
+        checked_moved old new slots hand Filled looked u geometry cells refl refl has.1.0,
+        record {
           count = count_filled left q ∙ want_same;
           none = has.1.1.none;
           room = let room = ap (λ (v : QueueValue). v.room) is.queue in omega (arith, q, room, has.1.1.room);
           pages = let all = count_filled left q in omega (arith, all, has.1.1.count, has.1.1.pages);
           list = lt;
-        }))
+        },
+      ),
+    )
 
   -- log pages
   module _ (is : IsTaken below n cpu list old.lists.items new.lists.items hand.pages queue)
@@ -278,24 +284,32 @@ module _ (old new : Shared) (slots : List ℕ) (hand : Hand) (looked : Looked) (
 
     pub pages_taken : 0 ≡ n - min n (length list.blocks)
         → HasMade new slots Paged made u × (IsChecked new slots Paged looked u × HasTaken new slots Paged u)
-    pages_taken none =
-        (made_moved old new slots hand Paged looked u geometry cells refl made has.0,
-        (checked_moved old new slots hand Paged looked u geometry cells refl refl has.1.0, record {
+    pages_taken none = (
+      made_moved old new slots hand Paged looked u geometry cells refl made has.0,
+      (
+        checked_moved old new slots hand Paged looked u geometry cells refl refl has.1.0,
+        record {
           blocks = held;
           pages = let all = count_paged 0 none in let short : length queue.blocks ≡ length queue.blocks + 0 = omega arith in
               short ∙ all ∙ pages_same;
-        }))
+        },
+      ),
+    )
 
     pub pages_next : (left more : ℕ) → left ≡ n - min n (length list.blocks) → more < length new.lists.items
         → HasMade new slots Paged made u × (IsChecked new slots Paged looked u × TakesPages new slots Paged more left u)
-    pages_next left more q lt =
-        (made_moved old new slots hand Paged looked u geometry cells refl made has.0,
-        (checked_moved old new slots hand Paged looked u geometry cells refl refl has.1.0, record {
+    pages_next left more q lt = (
+      made_moved old new slots hand Paged looked u geometry cells refl made has.0,
+      (
+        checked_moved old new slots hand Paged looked u geometry cells refl refl has.1.0,
+        record {
           blocks = held;
           count = count_paged left q ∙ pages_same;
           room = let room = ap (λ (v : QueueValue). v.room) is.queue in omega (arith, q, room, has.1.1.room);
           list = lt;
-        }))
+        },
+      ),
+    )
 
 -- ---- the machine's turn, over what is there after it
 
@@ -304,7 +318,7 @@ less_wanted n len left q = omega (arith, q)
 
 module _ (told : Told) (old new : Shared) (hand : Hand) (running : Running) (queue : QueueValue) (below cpu asked left : ℕ)
     (rest : new ≡ record old { lists = new.lists }) (q : left ≡ running.wanted - min running.wanted (length (list_at
-        (shared_of old) cpu).blocks)) where
+    (shared_of old) cpu).blocks)) where
   abbrev s : machine.Shared
   s = shared_of old
 
@@ -369,38 +383,41 @@ module _ (old new : Shared) (hand : Hand) (running : Running) (queue : QueueValu
     pub rooms_blocks : (left : ℕ) → left ≡ running.wanted - min running.wanted (length list.blocks) → asked + 1 < length new.lists.items
         → HasRooms new (hold.Hand (record hand { «data» = queue })) (record running { wanted = left; next = next.TakeBlocks (asked + 1) })
     rooms_blocks left q lt =
-        let had = takes_at old hand running (next.TakeBlocks asked) at refl has in
-        (fits_still running (record running { wanted = left; next = next.TakeBlocks (asked + 1) }) has.0 refl refl refl
-            (is_changed _ running.job had),
-        hand_moved (record hand { «data» = queue }) (ap (λ (v : QueueValue). v.size) is.queue) refl,
-        over_all _ _ running.job (λ u h.
-        blocks_next old new slots hand running.looked running.made u below running.wanted cpu asked list queue geometry cells is h left
-            (asked + 1) q lt)
-        had)
+        let had = takes_at old hand running (next.TakeBlocks asked) at refl has in (
+          fits_still running (record running { wanted = left; next = next.TakeBlocks (asked + 1) }) has.0 refl refl refl
+              (is_changed _ running.job had),
+          hand_moved (record hand { «data» = queue }) (ap (λ (v : QueueValue). v.size) is.queue) refl,
+          over_all _ _ running.job (λ u h.
+              blocks_next old new slots hand running.looked running.made u below running.wanted cpu asked list queue geometry cells is h left
+              (asked + 1) q lt)
+              had,
+        )
 
   module _ (at : running.next ≡ next.TakePages asked)
       (is : IsTaken below running.wanted cpu list old.lists.items new.lists.items hand.pages queue) where
     pub rooms_taken : 0 ≡ running.wanted - min running.wanted (length list.blocks)
         → HasRooms new (hold.Hand (record hand { pages = queue })) (record running { wanted = 0; next = next.Ready })
     rooms_taken none =
-        let had = takes_at old hand running (next.TakePages asked) at refl has in
-        (fits_still running (record running { wanted = 0; next = next.Ready }) has.0 refl refl refl (is_changed _ running.job had),
-        hand_moved (record hand { pages = queue }) refl (ap (λ (v : QueueValue). v.size) is.queue),
-        over_all _ _ running.job (λ u h.
-        pages_taken old new slots hand running.looked running.made u below running.wanted cpu asked list queue geometry cells is h none)
-        had)
+        let had = takes_at old hand running (next.TakePages asked) at refl has in (
+          fits_still running (record running { wanted = 0; next = next.Ready }) has.0 refl refl refl (is_changed _ running.job had),
+          hand_moved (record hand { pages = queue }) refl (ap (λ (v : QueueValue). v.size) is.queue),
+          over_all _ _ running.job (λ u h.
+              pages_taken old new slots hand running.looked running.made u below running.wanted cpu asked list queue geometry cells is h none)
+              had,
+        )
 
     pub rooms_pages : (left : ℕ) → left ≡ running.wanted - min running.wanted (length list.blocks) → asked + 1 < length new.lists.items
         → HasRooms new (hold.Hand (record hand { pages = queue })) (record running { wanted = left; next = next.TakePages (asked + 1) })
     rooms_pages left q lt =
-        let had = takes_at old hand running (next.TakePages asked) at refl has in
-        (fits_still running (record running { wanted = left; next = next.TakePages (asked + 1) }) has.0 refl refl refl
-            (is_changed _ running.job had),
-        hand_moved (record hand { pages = queue }) refl (ap (λ (v : QueueValue). v.size) is.queue),
-        over_all _ _ running.job (λ u h.
-        pages_next old new slots hand running.looked running.made u below running.wanted cpu asked list queue geometry cells is h left
-            (asked + 1) q lt)
-        had)
+        let had = takes_at old hand running (next.TakePages asked) at refl has in (
+          fits_still running (record running { wanted = left; next = next.TakePages (asked + 1) }) has.0 refl refl refl
+              (is_changed _ running.job had),
+          hand_moved (record hand { pages = queue }) refl (ap (λ (v : QueueValue). v.size) is.queue),
+          over_all _ _ running.job (λ u h.
+              pages_next old new slots hand running.looked running.made u below running.wanted cpu asked list queue geometry cells is h left
+              (asked + 1) q lt)
+              had,
+        )
 
 -- ---- what is shared after it
 
@@ -417,5 +434,5 @@ home_new old new n place before after limits home rest is =
     let some : 0 < length old.lists.items = omega (arith, limits.some_cpus, home.count) in
     subst (λ (g : GeometryNumbers). AreListsOf g new.lists.items) (ap (λ (t : Shared). t.geometry.numbers) (sym rest))
     (home_after old.geometry.numbers old.geometry.numbers.blocks n
-        (place % length old.lists.items) old.lists.items new.lists.items before after home
+    (place % length old.lists.items) old.lists.items new.lists.items before after home
     (mod-lt place some) is)

@@ -36,8 +36,8 @@ abbrev pub TurnsAlone : Next → ℕ → Shared → Hand → Running → Turn �
 TurnsAlone next actor shared hand running result shared_after hand_after after =
     (told : Told) → IsToldOf running told
     → (granted : Bool) × (machine_step.kind_turn (next_of next) shared.geometry.numbers.block actor granted (shared_of shared) (hand_of hand)
-        (shown told running)
-        ≡ turn_of result (shared_of shared_after) (hand_of hand_after) (shown told after))
+    (shown told running)
+    ≡ turn_of result (shared_of shared_after) (hand_of hand_after) (shown told after))
 
 shows_after : (result : Turn) (hand : Hand) (after : Running) (told : Told) → IsToldOf after told
     → ShowsAfter result (hold.Hand hand) after (shown told after)

@@ -95,11 +95,13 @@ goes_on w is actor d new state running answer lt runs turns leaves rooms =
     (subst (λ (o : Option Running). ShowsRunning before o (actor_at m actor).running) runs own.running) in
     let rest = leaves call.0 call.2 in
     let one = steps_on w m actor d new state running answer all.shows lt runs rest.geometry turns in
-    let e = machine.Go actor one.0 in
-    ((step m e).world, is.1 ++ e ∷ [],
-    world_after w m is.1 e actor new state all lt rest.geometry one.2 rooms
-    (λ k dk apart small. rooms_stay m (locks_of w m is.1 all) w.shared new all.shows.shared actor k apart call.0 call.1 rest
-    (slice_index_or w.actors k dk) (all.shows.each k dk small) (all.rooms k dk small)))
+    let e = machine.Go actor one.0 in (
+      (step m e).world,
+      is.1 ++ e ∷ [],
+      world_after w m is.1 e actor new state all lt rest.geometry one.2 rooms
+          (λ k dk apart small. rooms_stay m (locks_of w m is.1 all) w.shared new all.shows.shared actor k apart call.0 call.1 rest
+          (slice_index_or w.actors k dk) (all.shows.each k dk small) (all.rooms k dk small)),
+    )
 
 -- ---- an actor without a call
 
@@ -111,11 +113,12 @@ stays_idle w m actor d new state shows lt none same back =
     let own = shows.each actor d lt in
     let is : (actor_at m actor).running ≡ None =
     shows_none (slice_index_or w.actors actor d).hold (actor_at m actor).running
-    (subst (λ (o : Option Running). ShowsRunning (slice_index_or w.actors actor d).hold o (actor_at m actor).running) none own.running) in
-    (ap (λ (b : Bool). go_step b (actor_at m actor).running actor true m) (lt-ltb actor (length m.actors) (omega (arith, lt, shows.count)))
-    ∙ ap (λ (o : Option machine.Running). go_step true o actor true m) is,
-    ap₂ (λ (s : Shared) (xs : List Actor). let v : WorldState = record { shared = s; actors = xs } in v) same
-    (set_back w.actors actor state d lt (sym back)))
+    (subst (λ (o : Option Running). ShowsRunning (slice_index_or w.actors actor d).hold o (actor_at m actor).running) none own.running) in (
+      ap (λ (b : Bool). go_step b (actor_at m actor).running actor true m) (lt-ltb actor (length m.actors) (omega (arith, lt, shows.count)))
+          ∙ ap (λ (o : Option machine.Running). go_step true o actor true m) is,
+      ap₂ (λ (s : Shared) (xs : List Actor). let v : WorldState = record { shared = s; actors = xs } in v) same
+          (set_back w.actors actor state d lt (sym back)),
+    )
 
 -- THE STEP OF AN ACTOR: of its call, or none
 pub go_steps : (w : WorldState) (m : machine.World) (actor : ℕ) (d : Actor) (new : Shared) (state : Actor) (answer : Reply) → Shows w m
@@ -210,11 +213,12 @@ start_steps w m actor d c state answer shows lt is = by (slice_index_or w.actors
         hand = ap held_by told.1 ∙ own.hand;
         running = subst (λ (s : machine.Shared). ShowsRunning state.hold state.running (Some (begun (beginning c) s c))) shows.shared told.2;
       } in
-      let set = shows_set w m actor state x w.shared shows lt refl shown in
-      (ap reply_of told.0 ∙ ap (λ (s : machine_step.Step). s.reply) (sym all),
-      subst (λ (s : machine_step.Step). Shows (world_with w.shared actor state w) s.world) (sym all)
-      (subst (λ (s : machine.Shared). Shows (world_with w.shared actor state w)
-      (record m { shared = s; actors = slice_set m.actors actor x })) shows.shared set))
+      let set = shows_set w m actor state x w.shared shows lt refl shown in (
+        ap reply_of told.0 ∙ ap (λ (s : machine_step.Step). s.reply) (sym all),
+        subst (λ (s : machine_step.Step). Shows (world_with w.shared actor state w) s.world) (sym all)
+            (subst (λ (s : machine.Shared). Shows (world_with w.shared actor state w)
+            (record m { shared = s; actors = slice_set m.actors actor x })) shows.shared set),
+      )
   by (Some running) some =
       let told = is.busy running some in
       let call = shows_some (slice_index_or w.actors actor d).hold running (actor_at m actor).running
@@ -222,19 +226,22 @@ start_steps w m actor d c state answer shows lt is = by (slice_index_or w.actors
       let all : step m (machine.Start actor c) ≡ stays (machine.Refused ActorBusy) m = start_is m actor c (Some call.0) there call.1 in
       let back : world_with w.shared actor state w ≡ w =
       ap (λ (xs : List Actor). let v : WorldState = record { shared = w.shared; actors = xs } in v)
-      (set_back w.actors actor state d lt (sym told.1)) in
-      (ap reply_of told.0 ∙ ap (λ (s : machine_step.Step). s.reply) (sym all),
-      subst (λ (s : machine_step.Step). Shows (world_with w.shared actor state w) s.world) (sym all)
-      (subst (λ (v : WorldState). Shows v m) (sym back) shows))
+      (set_back w.actors actor state d lt (sym told.1)) in (
+        ap reply_of told.0 ∙ ap (λ (s : machine_step.Step). s.reply) (sym all),
+        subst (λ (s : machine_step.Step). Shows (world_with w.shared actor state w) s.world) (sym all)
+            (subst (λ (v : WorldState). Shows v m) (sym back) shows),
+      )
 
 pub start_keeps : (w : WorldState) (actor : ℕ) (d : Actor) (c : Call) (state : Actor) (answer : Reply) → actor < length w.actors → IsWorld w
     → HasStarted w (slice_index_or w.actors actor d) c answer state → IsWorld (world_with w.shared actor state w)
 start_keeps w actor d c state answer lt is has =
     let m = is.0 in
     let e = machine.Start actor c in
-    let one = start_steps w m actor d c state answer is.2.shows lt has in
-    ((step m e).world, is.1 ++ e ∷ [],
-    world_after w m is.1 e actor w.shared state is.2 lt refl one.1 has.rooms (λ k dk apart small. is.2.rooms k dk small))
+    let one = start_steps w m actor d c state answer is.2.shows lt has in (
+      (step m e).world,
+      is.1 ++ e ∷ [],
+      world_after w m is.1 e actor w.shared state is.2 lt refl one.1 has.rooms (λ k dk apart small. is.2.rooms k dk small),
+    )
 
 -- ---- nobody
 

@@ -141,8 +141,9 @@ steps_on w m actor d new state running answer shows lt is same by =
     ∙ ap (λ (x : machine.HandState). machine_step.turn w.shared.geometry.numbers.block actor granted (shared_of w.shared) x r) (sym own.hand)
     ∙ done.is.is in
     let all : step m (machine.Go actor granted) ≡ turned (turn_of done.result s h after) actor m =
-    go_is m actor granted r (omega (arith, lt, shows.count)) call.1 ∙ ap (λ (t : machine.Turn). turned t actor m) made in
-    (granted,
-    ap reply_of done.reply_is ∙ reply_turned done.result s h after actor m ∙ ap (λ (x : machine_step.Step). x.reply) (sym all),
-    subst (λ (x : machine_step.Step). Shows (world_with new actor state w) x.world) (sym all)
-    (shows_turned done.result w m actor d new state running done.after after shows lt is same done.is.shows done.waits done.still_is))
+    go_is m actor granted r (omega (arith, lt, shows.count)) call.1 ∙ ap (λ (t : machine.Turn). turned t actor m) made in (
+      granted,
+      ap reply_of done.reply_is ∙ reply_turned done.result s h after actor m ∙ ap (λ (x : machine_step.Step). x.reply) (sym all),
+      subst (λ (x : machine_step.Step). Shows (world_with new actor state w) x.world) (sym all)
+          (shows_turned done.result w m actor d new state running done.after after shows lt is same done.is.shows done.waits done.still_is),
+    )

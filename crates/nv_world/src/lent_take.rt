@@ -9,8 +9,8 @@ ghost use Rattle.nv_world.specs.Shown.{slots_in};
 
 use crate::slots::Slots;
 use nv_alloc::Hand;
-use nv_cell::InodeCell;
 use nv_calls::{Plan, SlotCells, pages_wanted};
+use nv_cell::InodeCell;
 
 /// How many log pages a call wants, with the data blocks in the hand.
 pub(crate) fn pages_in(cells: &mut [InodeCell], slots: &Slots, plan: &Plan, hand: &Hand) -> u64

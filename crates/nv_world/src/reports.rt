@@ -111,8 +111,7 @@ impl Shared {
 fn blocks_add_up()
     ensures { (blocks : ℕ) (w : machine.World) → IsEachOnce blocks (all_blocks w)
         → AddsUp blocks w.shared }
-{
-}
+{}
 
 /// A free list as maximal runs.
 fn runs_in(alloc: Global, list: &FreeList) -> Result<Vec<FreeRun>, Fault>

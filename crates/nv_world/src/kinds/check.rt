@@ -27,16 +27,16 @@ use crate::hold::Hold;
 use crate::kinds::take::want_pages;
 use crate::next::{Ending, Next};
 use crate::running::Running;
-use crate::slots::Slots;
 use crate::shared::Shared;
+use crate::slots::Slots;
 use crate::turn::Turn;
 use nv_alloc::Hand;
 use nv_base::Fault;
-use nv_cell::InodeCell;
 use nv_calls::{
-    HeldNodes, Looked, Nodes, SlotCells, Update, blocks_wanted, check_early, check_late, ends_in_page,
-    is_as_looked, is_nothing,
+    HeldNodes, Looked, Nodes, SlotCells, Update, blocks_wanted, check_early, check_late,
+    ends_in_page, is_as_looked, is_nothing,
 };
+use nv_cell::InodeCell;
 
 /// How many more log pages a call can need than data blocks: each of these in a run of its own has an entry, and there are
 /// at most four more entries.
@@ -78,7 +78,7 @@ pub(crate) fn check(shared: &mut Shared, hand: &mut Hand, running: &mut Running)
 fn note_made(shared: &Shared, hand: &Hand, running: &mut Running)
     requires { ForSome hand.now.ino (λ ino. ino < length shared.now.cells.items) }
     ensures { running.new ≡ record running.old {
-      made = made_in (shared_of shared.now) hand.now.ino running.old.made
+      made = made_in (shared_of shared.now) hand.now.ino running.old.made;
     } }
 {
     if let Some(ino) = hand.ino() {
@@ -100,7 +100,14 @@ fn ending_of(shared: &mut Shared, running: &Running, has_number: bool) -> Option
 {
     let block = shared.block();
     let update = &running.plan().update;
-    ending_in(block, &mut shared.cells, &running.slots, &running.looked, update, has_number)
+    ending_in(
+        block,
+        &mut shared.cells,
+        &running.slots,
+        &running.looked,
+        update,
+        has_number,
+    )
 }
 
 /// The same over the cells of the call's slots.
@@ -183,7 +190,12 @@ fn wanted_by(shared: &mut Shared, running: &Running) -> u64
         IsChangeWith (λ u. result ≡ wanted_over block lent u) running.now.job }
 {
     let block = shared.block();
-    wanted_in(block, &mut shared.cells, &running.slots, &running.plan().update)
+    wanted_in(
+        block,
+        &mut shared.cells,
+        &running.slots,
+        &running.plan().update,
+    )
 }
 
 /// The same over the cells of the call's slots.

@@ -89,7 +89,14 @@ pub(crate) fn take_blocks(
     if left == 0 {
         return want_pages(shared, hand, running);
     }
-    ask_on(shared, hand, running, asked, left, Next::TakeBlocks(asked + 1))
+    ask_on(
+        shared,
+        hand,
+        running,
+        asked,
+        left,
+        Next::TakeBlocks(asked + 1),
+    )
 }
 
 /// Takes log pages from one list, its lowest blocks.
@@ -122,7 +129,14 @@ pub(crate) fn take_pages(
         running.next = Next::Ready;
         return Turn::Moves;
     }
-    ask_on(shared, hand, running, asked, left, Next::TakePages(asked + 1))
+    ask_on(
+        shared,
+        hand,
+        running,
+        asked,
+        left,
+        Next::TakePages(asked + 1),
+    )
 }
 
 /// Takes the lowest blocks of the list at a place, counted from the first one round and round, and

@@ -22,8 +22,12 @@ pub returns-in-Open-clause-turn : goal.returns-in-Open-clause-turn
 returns-in-Open-clause-turn c r shows =
     turns_commit step.Open c.args.actor c.args.shared.now c.args.running.now r c.args.commit.now c.open.new.shared c.open.new.commit
     (sym c.in-Open.ensures) shows
-    (λ told is place plan. (ap (λ (cpu : ℕ). open_turn cpu (shared_of c.args.shared.now) (hand_in c.args.commit.now)
-    (shown_commit c.args.commit.now told c.args.running.now)) (sym c.cpu_of-cpu.ensures.value) ∙ c.open.ensures.turn told is, c.open.ensures.told told is, c.open.ensures.placed told))
+    (λ told is place plan. (
+      ap (λ (cpu : ℕ). open_turn cpu (shared_of c.args.shared.now) (hand_in c.args.commit.now)
+          (shown_commit c.args.commit.now told c.args.running.now)) (sym c.cpu_of-cpu.ensures.value) ∙ c.open.ensures.turn told is,
+      c.open.ensures.told told is,
+      c.open.ensures.placed told,
+    ))
 
 pub returns-in-Open-clause-rest : goal.returns-in-Open-clause-rest
 returns-in-Open-clause-rest c r shows =
@@ -45,8 +49,12 @@ pub returns-in-Close-clause-turn : goal.returns-in-Close-clause-turn
 returns-in-Close-clause-turn c r shows =
     turns_commit step.Close c.args.actor c.args.shared.now c.args.running.now r c.args.commit.now c.close.new.shared c.close.new.commit
     (sym c.in-Close.ensures) shows
-    (λ told is place plan. (ap (λ (cpu : ℕ). close_turn cpu (shared_of c.args.shared.now) (hand_in c.args.commit.now)
-    (shown_commit c.args.commit.now told c.args.running.now)) (sym c.cpu_of-cpu.ensures.value) ∙ c.close.ensures.turn told is, c.close.ensures.told told is, c.close.ensures.placed told))
+    (λ told is place plan. (
+      ap (λ (cpu : ℕ). close_turn cpu (shared_of c.args.shared.now) (hand_in c.args.commit.now)
+          (shown_commit c.args.commit.now told c.args.running.now)) (sym c.cpu_of-cpu.ensures.value) ∙ c.close.ensures.turn told is,
+      c.close.ensures.told told is,
+      c.close.ensures.placed told,
+    ))
 
 pub returns-in-Close-clause-rest : goal.returns-in-Close-clause-rest
 returns-in-Close-clause-rest c r shows =

@@ -11,7 +11,7 @@ left_is : (c : goal.After-reply) → c.if-ends.state ≡ record { hold = c.turn-
 left_is c =
     let made : Option Running → Actor = λ left. record { hold = c.turn-done.new.hold; running = left } in
     elim c.if-ends.branch [
-      then-ends w ↦ w.state-is ∙ ap made (w.forget.ensures
+      | then-ends w ↦ w.state-is ∙ ap made (w.forget.ensures
           ∙ sym (ended c.turn-done.result c.turn-done.new.running (sym (c.ends.ensures c.turn-done.new.running) ∙ w.if-ends.true)))
       | else-ends w ↦ w.state-is
           ∙ ap made (sym (goes c.turn-done.result c.turn-done.new.running (sym (c.ends.ensures c.turn-done.new.running) ∙ w.if-ends.false)))

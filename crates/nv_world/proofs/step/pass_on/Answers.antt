@@ -19,7 +19,7 @@ returns-clause-turn c r shows =
     c.match-replace.after.0 c.match-replace.running in
     subst (λ (h : Hold). IsTurn c.args.actor sh c.args.hold.now r c.match-replace.after.1 c.match-replace.shared h c.match-replace.running)
     (sym c.replace-2.ensures.after) (elim c.match-replace.branch [
-      in-Hand w ↦
+      | in-Hand w ↦
           let at = w.in-Hand.ensures.value in
           subst By at (rw (w.after-is, w.shared-is, w.running-is)
           (turns_ready c.args.actor sh w.in-Hand.hand ru r w.ready.result w.ready.new.shared w.ready.new.running
@@ -48,7 +48,7 @@ returns-clause-rest c r shows =
     let sh = c.args.shared.now in
     let ru = c.args.running.now in
     elim c.match-replace.branch [
-      in-Hand w ↦
+      | in-Hand w ↦
           let at = w.in-Hand.ensures.value in
           subst (λ (s : Shared). LeavesOthers c.args.actor r sh s) (sym w.shared-is)
           (rest_ready c.args.actor sh w.ready.new.shared ru r w.in-Hand.hand

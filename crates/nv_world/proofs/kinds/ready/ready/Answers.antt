@@ -46,7 +46,7 @@ returns-in-Ok-clause-plans c told is =
     let shared = c.args.shared.now in let hand = c.args.hand in let running = c.args.running.now in
     let slots = slots_in running.slots in let u = c.in-Change.plan.update in
     let has = at_ready shared hand running c.in-Change.plan c.in-Change.text c.requires.next (sym c.in-Change.ensures.value)
-        c.requires.rooms in
+    c.requires.rooms in
     plans_ready slots shared.cells.items (lent_cells slots c.ready_of.new.shared.cells.items) hand u c.in-Ok.ready
     (plan_by shared.geometry.numbers.block (shared_of shared) (hand_of hand) (shown told running))
     (can_ready shared slots hand running.looked u c.requires.limits c.requires.device c.requires.rooms.1 has.1.0 has.1.1.blocks)
@@ -58,7 +58,7 @@ returns-in-Ok-clause-placed c told is =
     let shared = c.args.shared.now in let hand = c.args.hand in let running = c.args.running.now in
     let slots = slots_in running.slots in let u = c.in-Change.plan.update in
     let has = at_ready shared hand running c.in-Change.plan c.in-Change.text c.requires.next (sym c.in-Change.ensures.value)
-        c.requires.rooms in
+    c.requires.rooms in
     placed_ready slots shared.cells.items hand u
     (plan_by shared.geometry.numbers.block (shared_of shared) (hand_of hand) (shown told running))
     (can_ready shared slots hand running.looked u c.requires.limits c.requires.device c.requires.rooms.1 has.1.0 has.1.1.blocks)
@@ -69,7 +69,7 @@ returns-in-Ok-clause-rooms c =
     let shared = c.args.shared.now in let hand = c.args.hand in let running = c.args.running.now in
     let slots = slots_in running.slots in let u = c.in-Change.plan.update in
     let has = at_ready shared hand running c.in-Change.plan c.in-Change.text c.requires.next (sym c.in-Change.ensures.value)
-        c.requires.rooms in
+    c.requires.rooms in
     let rooms = rooms_ready shared c.ready_of.new.shared hand running u c.in-Ok.ready
     (can_ready shared slots hand running.looked u c.requires.limits c.requires.device c.requires.rooms.1 has.1.0 has.1.1.blocks)
     c.in-Ok.ensures.cells c.in-Ok.ensures.ok c.requires.rooms.1 c.in-Ok.ensures.rest.geometry c.requires.can.answers in

@@ -38,8 +38,8 @@ pub returns-clause-wanted : goal.returns-clause-wanted
 returns-clause-wanted c =
     let slots = slots_in c.args.running.now.slots in let u = c.plan.result.now.update in
     by_with (λ (v : Update). c.pages_in.result ≡ pages_to_take c.args.shared.now slots c.args.hand.now v) c.args.running.now.job
-        c.plan.result.now
+    c.plan.result.now
     (c.pages_in.ensures.wanted ∙ ap (λ (xs : List CellValue). let lent = lent_cells slots xs in pages_wanted lent (planned_by lent
-        c.args.hand.now u))
+    c.args.hand.now u))
     c.deref_mut.ensures.value)
     c.plan.ensures

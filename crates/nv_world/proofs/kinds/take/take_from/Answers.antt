@@ -19,13 +19,22 @@ returns-clause-taken c =
       lists = ap₂ (λ (m : ℕ) (l : FreeBlocks). slice_set lists m l) c.cpu_of-cpu.ensures.value c.take.ensures.list
           ∙ ap (λ (l : FreeBlocks). slice_set lists cpu (record l { blocks = drop n l.blocks })) was;
       queue = c.take.ensures.queue
-          ∙ ap (λ (m : ℕ). record c.args.queue.now { blocks = c.args.queue.now.blocks ++ take n
-              c.index_mut-list.result.now.blocks; room = c.args.queue.now.room - m })
+          ∙ ap (λ (m : ℕ). record c.args.queue.now {
+            blocks = c.args.queue.now.blocks ++ take n
+                c.index_mut-list.result.now.blocks;
+            room = c.args.queue.now.room - m;
+          })
           c.take.ensures.taken
-          ∙ ap (λ (l : FreeBlocks). record c.args.queue.now { blocks = c.args.queue.now.blocks ++ take n l.blocks; room =
-              c.args.queue.now.room - min n (length l.blocks) })
+          ∙ ap (λ (l : FreeBlocks). record c.args.queue.now {
+            blocks = c.args.queue.now.blocks ++ take n l.blocks;
+            room =
+                c.args.queue.now.room - min n (length l.blocks);
+          })
           was;
-      own = taken_below g cpu n list (omega (arith, lt, c.requires.home.count)) (c.requires.home.each cpu (omega (arith, lt,
-          c.requires.home.count)))
+      own = taken_below g cpu n list (omega (arith, lt, c.requires.home.count)) (c.requires.home.each cpu (omega (
+        arith,
+        lt,
+        c.requires.home.count,
+      )))
           (subst IsFreeList was c.len-free.ensures.lawful);
     }

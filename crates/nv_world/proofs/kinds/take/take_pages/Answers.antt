@@ -9,7 +9,6 @@ use Rattle.nv_world.specs.declared.shared.Shared.{Shared}
 use Rattle.nv_world.proofs.Takings.{asked_rooms, asked_turn, pages_became, pages_more, pages_none, count_after, home_new, pages_device, rooms_pages, rooms_taken}
 use Rattle.nv_world.proofs.kinds.take.take_pages.Goals as goal
 
-
 pub returns-then-left-eq0-clause-rooms : goal.returns-then-left-eq0-clause-rooms
 returns-then-left-eq0-clause-rooms c =
     let shared = c.args.shared.now in let cpu = (c.args.actor + c.args.asked) % length shared.lists.items in
@@ -21,9 +20,9 @@ pub ask_on-requires-clause-device : goal.ask_on-requires-clause-device
 ask_on-requires-clause-device c =
     let shared = c.args.shared.now in let cpu = (c.args.actor + c.args.asked) % length shared.lists.items in
     subst (λ (t : Shared). IsOfDevice t.geometry.numbers (record c.args.hand.now { pages = c.take_from.new.queue })) (sym
-        c.take_from.ensures.rest)
+    c.take_from.ensures.rest)
     (pages_device shared.geometry.numbers c.args.hand.now shared.geometry.numbers.blocks c.args.running.now.wanted cpu (list_at
-        (shared_of shared) cpu)
+    (shared_of shared) cpu)
     shared.lists.items c.take_from.new.shared.lists.items c.take_from.new.queue c.requires.device refl c.take_from.ensures.taken)
 
 pub ask_on-requires-clause-home : goal.ask_on-requires-clause-home
@@ -39,13 +38,16 @@ returns-clause-turn c told =
     let left = running.wanted - c.take_from.result in
     let r = shown told running in let s = shared_of new in let h = hand_of after in
     pages_became told shared new hand running c.take_from.new.queue shared.geometry.numbers.blocks cpu c.args.asked left
-        c.take_from.ensures.rest
+    c.take_from.ensures.rest
     (ap (λ (n : ℕ). running.wanted - n) c.take_from.ensures.many) c.take_from.ensures.taken
-    ∙ asked_turn told c.ask_on.result s h running c.ask_on.new.running (record running { wanted = left; next = next.TakePages
-        (c.args.asked + 1) })
+    ∙ asked_turn told c.ask_on.result s h running c.ask_on.new.running (record running {
+      wanted = left;
+      next = next.TakePages
+          (c.args.asked + 1);
+    })
     c.args.asked (length new.lists.items) (length shared.lists.items) (λ (b : Bool). pages_turn left b c.args.asked s h r)
     (count_after shared.geometry.numbers.blocks running.wanted cpu (list_at
-        (shared_of shared) cpu) shared.lists.items new.lists.items hand.pages
+    (shared_of shared) cpu) shared.lists.items new.lists.items hand.pages
     c.take_from.new.queue c.take_from.ensures.taken)
     c.ask_on.ensures.more (c.ask_on.ensures.none told)
     (pages_more left c.args.asked s h r c.if-left-eq0.false)
@@ -61,6 +63,6 @@ returns-clause-rooms c =
     (record running { wanted = left; next = next.TakePages (c.args.asked + 1) }) c.args.asked (length new.lists.items)
     c.ask_on.ensures.more c.ask_on.ensures.rooms
     (rooms_pages shared new hand running c.take_from.new.queue shared.geometry.numbers.blocks cpu c.args.asked (list_at
-        (shared_of shared) cpu)
+    (shared_of shared) cpu)
     c.take_from.ensures.rest c.requires.rooms c.requires.next c.take_from.ensures.taken left
     (ap (λ (n : ℕ). running.wanted - n) c.take_from.ensures.many))

@@ -13,11 +13,11 @@ same : (c : After-pages_by-running) (told : Told) → IsToldOf c.args.running.no
     pages_wanted s r.slots (plan_by shared.geometry.numbers.block s (hand_of c.args.hand.now) r) ≡ c.pages_by-running.result
 same c told is =
     let shared = c.args.shared.now in let running = c.args.running.now in let slots = slots_in running.slots in let hand =
-        c.args.hand.now in
+    c.args.hand.now in
     wanted_same shared slots hand running.looked running.made running.job running.owed told.call
     (has_last_page shared.geometry.numbers.block (shared_of shared) told.call) c.pages_by-running.result is
     (over_all (λ (u : Update). HasMade shared slots hand running.made u × IsChecked shared slots hand running.looked u × HasItsBlocks
-        shared slots hand u)
+    shared slots hand u)
     (λ (u : Update). HasMade shared slots hand running.made u × IsChecked shared slots hand running.looked u) running.job
     (λ u h. (h.0, h.1)) c.requires.can)
     c.pages_by-running.ensures.wanted
@@ -40,6 +40,6 @@ returns-clause-turn c told is =
 pub returns-clause-rooms : goal.returns-clause-rooms
 returns-clause-rooms c =
     rooms_next c.args.shared.now c.pages_by-running.new.shared c.args.hand.now c.args.running.now c.pages_by-running.result
-        c.requires.limits
+    c.requires.limits
     c.requires.home c.requires.device c.requires.sizes c.requires.call c.requires.can c.pages_by-running.ensures.wanted
     c.pages_by-running.ensures.same
