@@ -14,8 +14,8 @@ use Rattle.nv_script.specs.declared.feed.Taken.{Taken}
 use Rattle.nv_script.specs.declared.feed.Taken.TheVariants as taken
 use Rattle.nv_script.specs.Lines.{IsLine, TakenIs, WritesFront, WritesSome, ended}
 use Rattle.nv_script.specs.Play.{LineFails, Ends, EndsBy, EndsWell, IsFault, Played, Plays, PlaysAll, most_lines}
-use Rattle.nv_world.specs.Worlds.{WorldState}
-use Rattle.nv_world.specs.Worlds.{ShowsAny}
+use Rattle.nv_core.specs.Worlds.{WorldState}
+use Rattle.nv_core.specs.Worlds.{ShowsAny}
 use Rattle.nv_script.specs.Grammar.{is_skipped}
 use Rattle.nv_script.specs.Results.{AtLine, LineFaultIs, ending_of, is_line, within_lines}
 use Rattle.nv_script.proofs.Breaks.{breaks_at}
@@ -402,9 +402,11 @@ ends_told told why input left Writes same e = subst (λ (f : Fault). EndsBy f in
 pub why_at : (why : LineFault) (old new : Option WorldState) (m : Option World) (slice line : List ℕ) → slice ≡ line → ShowsAny old m
     → LineFaultIs why old slice new → LineFaultIs why m line m
 why_at line_fault.OutOfMemory old new m slice line same shown is = subst (λ (bytes : List ℕ). is_skipped bytes ≡ false) same is
-why_at (line_fault.Faulty fault) old new m slice line same shown is =
-    (subst (λ (made : Bool). LineFails made line fault) (as_many old m shown)
-    (subst (λ (bytes : List ℕ). LineFails (is_some old) bytes fault) same is.0), refl)
+why_at (line_fault.Faulty fault) old new m slice line same shown is = (
+  subst (λ (made : Bool). LineFails made line fault) (as_many old m shown)
+      (subst (λ (bytes : List ℕ). LineFails (is_some old) bytes fault) same is.0),
+  refl,
+)
   where
     as_many : (old : Option WorldState) (m : Option World) → ShowsAny old m → is_some old ≡ is_some m
     as_many None None shown = refl

@@ -11,8 +11,8 @@ use Rattle.nv_script.specs.Play.{Acts, PlaysWords}
 use Rattle.nv_script.specs.Results.{IsNewWorld, MakesWorld, PlaysShown}
 use Rattle.nv_script.specs.Texts.{line_of}
 use Rattle.nv_script.specs.Words.{words_of}
-use Rattle.nv_world.specs.Worlds.{WorldState}
-use Rattle.nv_world.specs.Worlds.{Leads, ShowsAny}
+use Rattle.nv_core.specs.Worlds.{WorldState}
+use Rattle.nv_core.specs.Worlds.{Leads, ShowsAny}
 
 -- a world that was made
 pub made : (field : Option GeometryField) (numbers : GeometryNumbers) (text : List ℕ) (world : WorldState)
@@ -28,6 +28,9 @@ played old world new line text command there skipped read leads m shows = go m (
       → (n : Option machine.World) × MatchBool (is_skipped line) ((text ≡ []) × (n ≡ m)) (PlaysWords m (words_of line) text n) × ShowsAny (Some new) n
   go None shown = absurd shown
   go (Some m) shown =
-      let by = leads m shown in
-      (Some by.0, subst (λ (b : Bool). MatchBool b ((text ≡ []) × (Some by.0 ≡ Some m)) (PlaysWords (Some m) (words_of line) text (Some by.0)))
-      (sym skipped) (command, by.0, read, by.1, refl), by.2)
+      let by = leads m shown in (
+        Some by.0,
+        subst (λ (b : Bool). MatchBool b ((text ≡ []) × (Some by.0 ≡ Some m)) (PlaysWords (Some m) (words_of line) text (Some by.0)))
+            (sym skipped) (command, by.0, read, by.1, refl),
+        by.2,
+      )

@@ -22,7 +22,7 @@ use Rattle.nv_script.specs.declared.fault.LineFault.{LineFault}
 use Rattle.nv_script.specs.declared.fault.LineFault.TheVariants as line
 use Rattle.nv_script.specs.declared.field.Field.{Field}
 use Rattle.nv_script.specs.declared.field.Field.TheVariants as field
-use Rattle.nv_world.specs.Worlds.{most_goes}
+use Rattle.nv_core.specs.Worlds.{most_goes}
 use Rattle.nv_script.specs.Words.{number_of, number_up_to, positive_up_to, handle_of, text_of}
 
 -- what was read, or the fault of the line

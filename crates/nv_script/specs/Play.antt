@@ -11,9 +11,9 @@ use Rattle.nv_base.specs.declared.geometry.GeometryNumbers.{GeometryNumbers}
 use Rattle.nv_machine.specs.Format.{formatted}
 use Rattle.nv_machine.specs.Step.{after, replies, step}
 use Rattle.nv_machine.specs.World.{Moved, Reply, Start, Started, World}
-use Rattle.nv_world.specs.Reports.{lists_of, log_at, space_of}
-use Rattle.nv_world.specs.Settled.{tree_of}
-use Rattle.nv_world.specs.Worlds.{gos}
+use Rattle.nv_core.specs.Reports.{lists_of, log_at, space_of}
+use Rattle.nv_core.specs.Settled.{tree_of}
+use Rattle.nv_core.specs.Worlds.{gos}
 use Rattle.nv_script.specs.declared.command.Command.{Command}
 use Rattle.nv_script.specs.declared.command.Command.TheVariants as command
 use Rattle.nv_script.specs.Grammar.{command_of, format_of, is_skipped}

@@ -10,9 +10,9 @@ use Rattle.nv_base.specs.declared.geometry.GeometryNumbers.{GeometryNumbers}
 use Rattle.nv_machine.specs.Format.{formatted}
 use Rattle.nv_machine.specs.Step.{after, replies}
 use Rattle.nv_machine.specs.World as machine
-use Rattle.nv_world.specs.Worlds.{WorldState}
-use Rattle.nv_world.specs.declared.event.Reply.{Reply}
-use Rattle.nv_world.specs.Worlds.{Shows, ShowsAny, gos, reply_of}
+use Rattle.nv_core.specs.Worlds.{WorldState}
+use Rattle.nv_core.specs.declared.event.Reply.{Reply}
+use Rattle.nv_core.specs.Worlds.{Shows, ShowsAny, gos, reply_of}
 use Rattle.nv_script.specs.declared.fault.LineFault.{LineFault}
 use Rattle.nv_script.specs.declared.fault.LineFault.TheVariants as line_fault
 use Rattle.nv_script.specs.declared.feed.Taken.{Taken}

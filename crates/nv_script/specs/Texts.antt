@@ -12,8 +12,8 @@ use Rattle.nv_calls.specs.declared.answer.Answer.TheVariants as answer
 use Rattle.nv_cell.specs.declared.tally.PageCounts.{PageCounts}
 use Rattle.nv_entry.specs.declared.names.BoundName.{BoundName}
 use Rattle.nv_machine.specs.World.{Done, Moved, Refused, Reply, Started, Waiting}
-use Rattle.nv_world.specs.declared.reports.LogCounts.{LogCounts}
-use Rattle.nv_world.specs.declared.reports.Space.{Space}
+use Rattle.nv_core.specs.declared.reports.LogCounts.{LogCounts}
+use Rattle.nv_core.specs.declared.reports.Space.{Space}
 use Rattle.nv_entry.specs.declared.tree.TreeNode.{TreeNode}
 use Rattle.nv_script.specs.Words.{escaped}
 

@@ -6,14 +6,14 @@ ghost use Rattle.nv_machine.specs.Step.{step};
 ghost use Rattle.nv_machine.specs.World as machine;
 ghost use Rattle.nv_script.specs.Play.{Acts, GoesOn, Runs, RunsFrom};
 ghost use Rattle.nv_script.specs.Results.{IsNewWorld, LineIs, MakesWorld};
-ghost use Rattle.nv_world.specs.Worlds.{Leads, reply_of};
+ghost use Rattle.nv_core.specs.Worlds.{Leads, reply_of};
 
 use crate::command::{Command, MOST_GOES, is_skipped, read_command, read_format};
 use crate::fault::LineFault;
 use crate::text::{push_lists, push_log, push_refused, push_reply, push_space, push_tree};
 use crate::word::words;
 use nv_base::{Fault, Geometry, GeometryNumbers, Ino};
-use nv_world::{Call, Event, Reply, World};
+use nv_core::{Call, Event, Reply, World};
 use std::alloc::{AllocError, Global};
 
 /// Plays one line, which has no line end. The text that it writes is in `out` then, in place of what that held.

@@ -7,7 +7,7 @@ ghost use Rattle.nv_script.specs.Grammar.{Reads, all_calls, call_with, fields_in
 use crate::fault::LineFault;
 use crate::field::{Field, handle_at, mode_at, number_at, text_at, word_at};
 use nv_base::ScriptFaultKind;
-use nv_world::Call;
+use nv_core::Call;
 use std::alloc::Global;
 
 /// A call by its name.

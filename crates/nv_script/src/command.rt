@@ -9,10 +9,10 @@ ghost use Rattle.nv_script.specs.Results.{Counts};
 use crate::call::CallWord;
 use crate::fault::LineFault;
 use crate::field::{Field, number_at, word_at};
-use crate::word::positive;
 use crate::format::{FORMAT_WORDS, read_numbers};
+use crate::word::positive;
 use nv_base::{GeometryNumbers, ScriptFaultKind};
-use nv_world::Call;
+use nv_core::Call;
 use std::alloc::Global;
 
 /// The most steps of one line.

@@ -5,7 +5,7 @@ ghost use Rattle.std.specs.List.{Contains};
 ghost use Rattle.std.specs.Io.KnownBytes.{prepend_known};
 ghost use Rattle.std.specs.Vec.{vec_capacity};
 ghost use Rattle.nv_machine.specs.World as machine;
-ghost use Rattle.nv_world.specs.Worlds.{ShowsAny};
+ghost use Rattle.nv_core.specs.Worlds.{ShowsAny};
 ghost use Rattle.nv_script.specs.Lines.{WritesFront, WritesSome};
 ghost use Rattle.nv_script.specs.Play.{Ends, PlaysScript};
 ghost use Rattle.nv_script.specs.Results.{AtLine, TurnIs, ending_of, is_line};
@@ -16,7 +16,7 @@ use crate::feed::{Feed, MAX_LINE_BYTES, Taken};
 use crate::outbox::Outbox;
 use crate::send::WriteFailed;
 use nv_base::{Fault, ScriptFaultKind};
-use nv_world::World;
+use nv_core::World;
 use std::alloc::{AllocError, Global};
 use std::io::{Read, Write};
 

@@ -5,15 +5,14 @@ ghost use Rattle.nv_base.specs.Texts.{bracketed, fault_text};
 ghost use Rattle.nv_script.specs.Texts.{answer_text, bound_text, counted_bytes, counts_text, handle_text, kind_text, letter, lists_lines, log_line, names_text, node_line, path_text, refused_line, reply_line, run_text, runs_text, space_line, tree_lines};
 ghost use Rattle.std.specs.List.{flat_map};
 ghost use Rattle.nv_machine.specs.World.{Done};
-ghost use Rattle.nv_world.specs.Worlds.{reply_of};
+ghost use Rattle.nv_core.specs.Worlds.{reply_of};
 
 use crate::word::push_escaped;
-use nv_base::{Fault, Kind, Name};
 use nv_alloc::FreeRun;
-use nv_base::{Handle, Items};
+use nv_base::{Fault, Handle, Items, Kind, Name};
 use nv_cell::PageCounts;
+use nv_core::{Answer, LogCounts, Path, Reply, Space, TreeNode};
 use nv_entry::{BoundName, NodeCopy};
-use nv_world::{Answer, LogCounts, Path, Reply, Space, TreeNode};
 use std::alloc::{AllocError, Global};
 
 /// The text of a fault: its number, its name and, in brackets, its fields.

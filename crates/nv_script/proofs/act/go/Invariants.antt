@@ -1,5 +1,5 @@
 use Rattle.nv_script.specs.Results.{HasGone}
-use Rattle.nv_world.specs.Worlds.{Leads}
+use Rattle.nv_core.specs.Worlds.{Leads}
 use Rattle.nv_script.proofs.act.go.Given as goal
 
 abbrev pub invariant-loop-again : goal.invariant-loop-again

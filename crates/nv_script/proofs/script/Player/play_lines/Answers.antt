@@ -1,13 +1,17 @@
 use Rattle.std.proofs.Common.{None, Option, arith, refl, subst, sym}
-use Rattle.nv_world.specs.Worlds.{WorldState}
-use Rattle.nv_world.specs.Worlds.{ShowsAny}
+use Rattle.nv_core.specs.Worlds.{WorldState}
+use Rattle.nv_core.specs.Worlds.{ShowsAny}
 use Rattle.std.proofs.lemmas.Result.{err_from_is_err_and}
 use Rattle.nv_script.proofs.Endings.{at_first, none_ahead}
 use Rattle.nv_script.proofs.script.Player.play_lines.Goals as goal
 
 pub loop-number-init : goal.loop-number-init
-loop-number-init g c = (omega arith, None, at_first _ _ _ _ _ (none_ahead _ _ c.requires.ahead) c.requires.gathered refl,
-    subst (λ (w : Option WorldState). ShowsAny w None) (sym c.requires.world) tt)
+loop-number-init g c = (
+  omega arith,
+  None,
+  at_first _ _ _ _ _ (none_ahead _ _ c.requires.ahead) c.requires.gathered refl,
+  subst (λ (w : Option WorldState). ShowsAny w None) (sym c.requires.world) tt,
+)
 
 pub returns-in_err-turn : goal.returns-in_err-turn
 returns-in_err-turn g c =

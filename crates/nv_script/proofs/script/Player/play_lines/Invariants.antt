@@ -1,6 +1,6 @@
 use Rattle.std.proofs.Common.{◌≤◌, Option}
 use Rattle.nv_machine.specs.World.{World}
-use Rattle.nv_world.specs.Worlds.{ShowsAny}
+use Rattle.nv_core.specs.Worlds.{ShowsAny}
 use Rattle.std.specs.Io.KnownBytes.{prepend_known}
 use Rattle.nv_script.specs.Results.{AtLine}
 use Rattle.nv_script.proofs.script.Player.play_lines.Given as goal

@@ -1,0 +1,133 @@
+-- One of the cells that are lent changes: so does that of its slot among all, and no other.
+use Rattle.std.proofs.Common.{◌≡◌, ◌≢◌, ℕ, zero, suc, ◌+◌, ◌<◌, ◌==◌, ◌∙◌, Bool, true, false, true≢false, not, nat_lt, List, [], ◌∷◌, length, map, filter, arith, refl, ap, sym}
+use Rattle.std.specs.Prelude.{slice_index_or, slice_set}
+use Rattle.std.specs.List.{AllPairs, range_with_len}
+use Rattle.std.proofs.lemmas.Bool.{eqb-true, eqb-false, eq-eqb, ltb-true, ltb-false}
+use Rattle.std.proofs.lemmas.Grind.{get_or-set_at, get_or_default_zero}
+use Rattle.std.proofs.lemmas.List.{ext_get_or, get_or-map, get_or-set_other, get_or_past, length-map, length-set}
+use Rattle.std.proofs.lemmas.List.Folds.{Any-from_list_any, list_any_at}
+use Rattle.std.proofs.lemmas.List.FromFn.{get_or-range_with_len, length-range_with_len}
+use Rattle.nv_alloc.specs.Numbers.{has, unused}
+use Rattle.nv_cell.specs.Cell.{CellValue}
+use Rattle.nv_calls.specs.Cells.{ino_at, no_cell, value_at, with_value}
+use Rattle.nv_calls.specs.SlotCells.{cell_in, lent_cells, other_cells}
+use Rattle.nv_machine.specs.Reads.{slot_at}
+use Rattle.nv_core.specs.Parts.{HaveSlots, IsOnlyAt}
+
+pub lent_count : (slots : List ℕ) (all : List CellValue) → length (lent_cells slots all) ≡ length slots
+lent_count slots all = length-map {B = ℕ × CellValue} slots (λ (ino : ℕ). (ino, cell_in all ino))
+
+pub lent_at : (slots : List ℕ) (all : List CellValue) (k : ℕ) → k < length slots
+    → slice_index_or (lent_cells slots all) k no_cell ≡ (slice_index_or slots k 0, cell_in all (slice_index_or slots k 0))
+lent_at slots all k lt = get_or-map (λ (ino : ℕ). (ino, cell_in all ino)) slots k 0 no_cell lt
+
+apart : (slots : List ℕ) (i k : ℕ) → AllPairs (λ (a b : ℕ). a < b) slots → i < length slots → k < length slots → i ≢ k
+    → slice_index_or slots i 0 ≢ slice_index_or slots k 0
+apart slots i k rises small lt ne same = go (nat_lt i k) refl where
+  go : (b : Bool) → nat_lt i k ≡ b → ⊥
+  go true less = let up : slice_index_or slots i 0 < slice_index_or slots k 0 = rises i k 0 (ltb-true i k less) lt in absurd (omega (arith, up, same))
+  go false more =
+      let up : slice_index_or slots k 0 < slice_index_or slots i 0 = rises k i 0 (omega (arith, ltb-false i k more, ne)) small in
+      absurd (omega (arith, up, same))
+
+-- where what is kept of a list is mapped alike, so is each item that is kept
+map_told : {Y : Type 0} (f g : ℕ → Y) (p : ℕ → Bool) (ns : List ℕ) → map f (filter p ns) ≡ map g (filter p ns) → (k : ℕ) → k < length ns
+    → p (slice_index_or ns k 0) ≡ true → f (slice_index_or ns k 0) ≡ g (slice_index_or ns k 0)
+map_told f g p [] same k lt is = absurd (omega (arith, lt))
+map_told {Y} f g p (n ∷ ns) same k lt is = go (p n) refl k lt is (map_told f g p ns) where
+  go : (b : Bool) → p n ≡ b → (k : ℕ) → k < suc (length ns) → p (slice_index_or (n ∷ ns) k 0) ≡ true
+      → (map f (filter p ns) ≡ map g (filter p ns) → (j : ℕ) → j < length ns → p (slice_index_or ns j 0) ≡ true
+      → f (slice_index_or ns j 0) ≡ g (slice_index_or ns j 0))
+      → f (slice_index_or (n ∷ ns) k 0) ≡ g (slice_index_or (n ∷ ns) k 0)
+  go true q zero lt is more = let both = rw q at same in cc
+  go true q (suc k) lt is more = let both = rw q at same in more (cc) k (omega (arith, lt)) is
+  go false q zero lt is more = absurd (true≢false (sym is ∙ q))
+  go false q (suc k) lt is more = more (rw q at same) k (omega (arith, lt)) is
+
+pub only_among : (slots : List ℕ) (old new : List CellValue) (k : ℕ) → length new ≡ length old → k < length slots
+    → AllPairs (λ (a b : ℕ). a < b) slots → HaveSlots old slots
+    → lent_cells slots new ≡ with_value (lent_cells slots old) k (value_at (lent_cells slots new) k)
+    → other_cells slots new ≡ other_cells slots old → IsOnlyAt (slot_at slots k) old new
+only_among slots old new k many lt rises there only rest =
+    ext_get_or (no_cell.1) new (slice_set old (slot_at slots k) (cell_in new (slot_at slots k)))
+    (many ∙ sym (length-set old (slot_at slots k) (cell_in new (slot_at slots k)))) (λ i small. each i small (has slots i) refl) where
+      lent : (j : ℕ) → j < length slots → j ≢ k → cell_in new (slice_index_or slots j 0) ≡ cell_in old (slice_index_or slots j 0)
+      lent j small other =
+          ap (λ (c : ℕ × CellValue). c.1) (sym (lent_at slots new j small)
+          ∙ ap (λ (xs : List (ℕ × CellValue)). slice_index_or xs j no_cell) only
+          ∙ get_or-set_other (lent_cells slots old) k j (ino_at (lent_cells slots old) k, value_at (lent_cells slots new) k) no_cell other
+          ∙ lent_at slots old j small)
+
+      each : (i : ℕ) → i < length new → (b : Bool) → has slots i ≡ b
+          → cell_in new i ≡ slice_index_or (slice_set old (slot_at slots k) (cell_in new (slot_at slots k))) i (no_cell.1)
+      each i small true q = found (Any-from_list_any (λ m. m == i) slots q) where
+        found : ((j : ℕ) × (x : ℕ) × (j < length slots) × (slice_index_or slots j x ≡ x) × ((x == i) ≡ true))
+            → cell_in new i ≡ slice_index_or (slice_set old (slot_at slots k) (cell_in new (slot_at slots k))) i (no_cell.1)
+        found at = go (at.0 == k) refl where
+          here : slice_index_or slots at.0 0 ≡ i
+          here = sym (get_or_default_zero slots at.0 at.1 at.2) ∙ at.3 ∙ eqb-true at.1 i at.4
+
+          go : (b : Bool) → (at.0 == k) ≡ b
+              → cell_in new i ≡ slice_index_or (slice_set old (slot_at slots k) (cell_in new (slot_at slots k))) i (no_cell.1)
+          go true e =
+              let same : i ≡ slot_at slots k = sym here ∙ ap (λ (j : ℕ). slice_index_or slots j 0) (eqb-true at.0 k e) in
+              ap (cell_in new) same ∙ sym (get_or-set_at old (slot_at slots k) i (cell_in new (slot_at slots k))
+              (no_cell.1) same (there k lt))
+          go false e =
+              let ne : at.0 ≢ k = eqb-false at.0 k e in
+              let away : i ≢ slot_at slots k = λ same. apart slots at.0 k rises at.2 lt ne (here ∙ same) in
+              ap (cell_in new) (sym here) ∙ lent at.0 at.2 ne ∙ ap (cell_in old) here
+              ∙ sym (get_or-set_other old (slot_at slots k) i (cell_in new (slot_at slots k)) (no_cell.1) away)
+      each i small false q =
+          let away : i ≢ slot_at slots k = λ same.
+          true≢false (sym (list_any_at (λ m. m == i) slots k 0 lt (eq-eqb (slice_index_or slots k 0) i (sym same))) ∙ q) in
+          other i small q ∙ sym (get_or-set_other old (slot_at slots k) i (cell_in new (slot_at slots k)) (no_cell.1) away) where
+            other : (i : ℕ) → i < length new → has slots i ≡ false → cell_in new i ≡ cell_in old i
+            other i small q =
+                let all : map (cell_in new) (unused (has slots) 0 (length old)) ≡ other_cells slots old =
+                ap (λ (n : ℕ). map (cell_in new) (unused (has slots) 0 n)) (sym many) ∙ rest in
+                let few : i < length old = omega (arith, small, many) in
+                let at0 : slice_index_or (range_with_len 0 (length old)) i 0 ≡ 0 + i = get_or-range_with_len 0 (length old) i 0 few in
+                let at : slice_index_or (range_with_len 0 (length old)) i 0 ≡ i = omega (arith, at0) in
+                let free : not (has slots (slice_index_or (range_with_len 0 (length old)) i 0)) ≡ true =
+                ap (λ (n : ℕ). not (has slots n)) at ∙ ap not q in
+                ap (cell_in new) (sym at)
+                ∙ map_told (cell_in new) (cell_in old) (λ n. not (has slots n)) (range_with_len 0 (length old)) all i
+                (omega (arith, few, length-range_with_len 0 (length old))) free
+                ∙ ap (cell_in old) at
+
+-- the other cells stay, one by one
+pub others_at : (slots : List ℕ) (old new : List CellValue) → length new ≡ length old → other_cells slots new ≡ other_cells slots old
+    → (ino : ℕ) → has slots ino ≡ false → cell_in new ino ≡ cell_in old ino
+others_at slots old new many rest ino free = go (nat_lt ino (length old)) refl where
+  go : (b : Bool) → nat_lt ino (length old) ≡ b → cell_in new ino ≡ cell_in old ino
+  go false q =
+      let past = ltb-false ino (length old) q in
+      get_or_past new ino (no_cell.1) (omega (arith, past, many)) ∙ sym (get_or_past old ino (no_cell.1) (omega (arith, past)))
+  go true q =
+      let small = ltb-true ino (length old) q in
+      let all : map (cell_in new) (unused (has slots) 0 (length old)) ≡ other_cells slots old =
+      ap (λ (n : ℕ). map (cell_in new) (unused (has slots) 0 n)) (sym many) ∙ rest in
+      let at0 : slice_index_or (range_with_len 0 (length old)) ino 0 ≡ 0 + ino = get_or-range_with_len 0 (length old) ino 0 small in
+      let at : slice_index_or (range_with_len 0 (length old)) ino 0 ≡ ino = omega (arith, at0) in
+      let away : not (has slots (slice_index_or (range_with_len 0 (length old)) ino 0)) ≡ true =
+      ap (λ (n : ℕ). not (has slots n)) at ∙ ap not free in
+      ap (cell_in new) (sym at)
+      ∙ map_told (cell_in new) (cell_in old) (λ n. not (has slots n)) (range_with_len 0 (length old)) all ino
+      (omega (arith, small, length-range_with_len 0 (length old))) away
+      ∙ ap (cell_in old) at
+
+-- where no lent cell changes and no other, none does
+pub all_still : (slots : List ℕ) (old new : List CellValue) → length new ≡ length old → lent_cells slots new ≡ lent_cells slots old
+    → other_cells slots new ≡ other_cells slots old → new ≡ old
+all_still slots old new many lent rest = ext_get_or (no_cell.1) new old many (λ i small. each i (has slots i) refl) where
+  each : (i : ℕ) (b : Bool) → has slots i ≡ b → cell_in new i ≡ cell_in old i
+  each i false q = others_at slots old new many rest i q
+  each i true q = found (Any-from_list_any (λ m. m == i) slots q) where
+    found : ((j : ℕ) × (x : ℕ) × (j < length slots) × (slice_index_or slots j x ≡ x) × ((x == i) ≡ true)) → cell_in new i ≡ cell_in old i
+    found at =
+        let here : slice_index_or slots at.0 0 ≡ i = sym (get_or_default_zero slots at.0 at.1 at.2) ∙ at.3 ∙ eqb-true at.1 i at.4 in
+        ap (cell_in new) (sym here)
+        ∙ ap (λ (c : ℕ × CellValue). c.1) (sym (lent_at slots new at.0 at.2)
+        ∙ ap (λ (xs : List (ℕ × CellValue)). slice_index_or xs at.0 no_cell) lent ∙ lent_at slots old at.0 at.2)
+        ∙ ap (cell_in old) here

@@ -1,5 +1,0 @@
-use Rattle.nv_world.proofs.SpaceLaw.{adds_up}
-use Rattle.nv_world.proofs.reports.blocks_add_up.Goals as goal
-
-pub returns : goal.returns
-returns c = adds_up
