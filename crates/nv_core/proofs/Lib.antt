@@ -41,6 +41,7 @@ pub mod Runs
 pub mod SameCells
 pub mod Sequence
 pub mod Settled
+pub mod SettledPages
 pub mod ShownCalls
 pub mod SlotLists
 pub mod SpaceLaw
