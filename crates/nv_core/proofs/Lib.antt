@@ -42,6 +42,7 @@ pub mod SameCells
 pub mod Sequence
 pub mod Settled
 pub mod SettledLogs
+pub mod SettledPages
 pub mod ShownCalls
 pub mod SlotLists
 pub mod SpaceLaw
