@@ -1,22 +1,20 @@
 -- In every world a noted tail is no further than the cell's own, and each cell has its blocks once.
-use Rattle.std.proofs.Common.{◌≡◌, ℕ, ◌≤◌, ◌==◌, ◌∙◌, Bool, true, false, Option, Some, None, ap, arith, length, nat_lt, refl, subst, sym}
+use Rattle.std.proofs.Common.{◌≡◌, ℕ, ◌∙◌, Bool, true, false, Option, Some, None, ap, arith, length, nat_lt, refl, subst, sym}
 use Rattle.std.proofs.lemmas.Bool.{eq-eqb, false≢true}
 use Rattle.nv_machine.specs.Kept.{AreClosed, IsNotedIf, Knows, KnowsOf}
 use Rattle.nv_machine.specs.Locks.{HoldsIts, commits_at, commits_by, is_owner}
 use Rattle.nv_machine.specs.Reached.{IsReached}
 use Rattle.nv_machine.specs.Reads.{written_slots}
-use Rattle.nv_machine.specs.Settled.{settled_tail}
 use Rattle.nv_machine.specs.World as machine
 use Rattle.nv_machine.specs.World.{Append, Back, Check, Close, Enter, Give, HandState, Leave, Lock, Look, Next, Number, Open, Publish, Ready, Retire, Running, Shared, TakeBlocks, TakePages, Unlock, Visit, actor_at, cell_at}
 use Rattle.nv_machine.proofs.Checking.{own_bytes}
 use Rattle.nv_machine.proofs.Journals.{closed_tail}
 use Rattle.nv_machine.proofs.Reached.{reached}
+use Rattle.nv_core.proofs.SettledPages.{IsTailWithin, none_out}
+use Rattle.nv_core.specs.Settled.{AreSettled}
 use Rattle.nv_core.specs.Shown.{shared_of}
 use Rattle.nv_core.specs.Visits.{HasOwnBytes}
 use Rattle.nv_core.specs.Worlds.{IsWorld, WorldState}
-
-abbrev IsTailWithin : Shared → ℕ → Type 0
-IsTailWithin s ino = settled_tail s.book.journals ino (cell_at s ino).chain.tail ≤ (cell_at s ino).chain.tail
 
 -- ---- by what is known of journals
 
@@ -84,3 +82,8 @@ noted_tail_within w is ino = shows_reached (λ s. IsTailWithin s ino) (λ m r. t
 
 pub has_own_bytes : (w : WorldState) → IsWorld w → (ino : ℕ) → HasOwnBytes (shared_of w.shared) ino
 has_own_bytes w is ino = shows_reached (λ s. HasOwnBytes s ino) (λ m r. own_bytes m r ino) w is
+
+pub are_settled : (w : WorldState) → IsWorld w → AreSettled (shared_of w.shared)
+are_settled w is ino lt =
+    let tail = noted_tail_within w is ino in
+    record { tail = tail; own = has_own_bytes w is ino; pages = none_out w is ino lt tail }

@@ -203,7 +203,7 @@ none_out_of cell t is le has page low = go (scan_ref cell.block log (PageKey pag
 -- ---- in every world
 
 -- the noted tail is no further than the cell's own
-abbrev IsTailWithin : Shared → ℕ → Type 0
+abbrev pub IsTailWithin : Shared → ℕ → Type 0
 IsTailWithin s ino = settled_tail s.book.journals ino (cell_at s ino).chain.tail ≤ (cell_at s ino).chain.tail
 
 pub none_out : (w : WorldState) → IsWorld w → (ino : ℕ) → ino < length (shared_of w.shared).cells → IsTailWithin (shared_of w.shared) ino
