@@ -47,10 +47,13 @@ use Rattle.nv_core.specs.Worlds.{IsWorld, WorldState}
 
 -- ---- a part behind some entries
 
+same_id-self : (id : EntryId) → is_same_id id id ≡ true
+same_id-self id = rw (eq-eqb id.commit id.commit refl, eq-eqb id.place id.place refl) refl
+
 named_behind : (before : List Entry) (e : Entry) (later : List Entry) (id : PartId) (n : ℕ) → IsLog (before ++ e ∷ later) → e.id ≡ id.entry
     → place_of e.item id.part ≡ Some n → number_named (before ++ e ∷ later) id ≡ Some (part_total before + n)
 named_behind [] e later id n is same place =
-    let own : is_same_id e.id id.entry ≡ true = rw (same, eq-eqb id.entry.commit id.entry.commit refl, eq-eqb id.entry.place id.entry.place refl) refl in
+    let own : is_same_id e.id id.entry ≡ true = ap (λ (i : EntryId). is_same_id i id.entry) same ∙ same_id-self id.entry in
     let from_zero : 0 + n ≡ n = omega arith in
     rw (own, from_zero) place
 named_behind (x ∷ before) e later id n is same place =
@@ -58,7 +61,8 @@ named_behind (x ∷ before) e later id n is same place =
     let other : is_same_id x.id id.entry ≡ false = ap (is_same_id x.id) (sym same) ∙ before-same x.id e.id rises in
     rw (other, named_behind before e later id n is.1 same place) (ap Some (omega arith))
 
-covered_behind : (block : ℕ) (before rest : List Entry) (n : ℕ) → is_covered block (before ++ rest) (part_total before + n) ≡ is_covered block rest n
+covered_behind : (block : ℕ) (before rest : List Entry) (n : ℕ)
+    → is_covered block (before ++ rest) (part_total before + n) ≡ is_covered block rest n
 covered_behind block [] rest n = let from_zero : 0 + n ≡ n = omega arith in ap (is_covered block rest) from_zero
 covered_behind block (x ∷ before) rest n =
     let at : ℕ = part_count x + part_total before + n in
