@@ -1,6 +1,6 @@
 //! Plain scans over what a world reports of its blocks.
 
-use super::scene::Scene;
+use super::scene::{BLOCK, Scene};
 use crate::compare::{push, same};
 use nv_base::{BlockNo, Ino};
 use nv_core::{LogCounts, Space, TreeNode};
@@ -8,8 +8,8 @@ use nv_scenes::geometry;
 use std::process::Abort;
 use std::test::Fail;
 
-/// Each block is in one place: in one free list once, and at home there; in a log; under a page of a file; or in a hand, which has none
-/// while no call is going on.
+/// Each block is in one place: in one free list once, and at home there; in a log; under a page of a file; or in a hand,
+/// which has none while no call is going on.
 pub(super) fn check_blocks(rt: &impl Abort, scene: &Scene, is_over: bool) -> Result<(), Fail> {
     let space = scene.world.space();
     same(rt, in_lists(rt, scene)?, space.free);
@@ -82,7 +82,10 @@ fn has_room(rt: &impl Abort, log: &LogCounts, page: u64) {
     for counts in log.pages.as_slice() {
         let entries = left.min(page);
         let valid = counts.valid as u64;
-        assert!(rt; counts.live <= counts.valid && valid <= entries, "counts of a page");
+        assert!(rt;
+            counts.live <= counts.valid && valid <= entries,
+            "counts of a page"
+        );
         left = left.saturating_sub(page);
     }
     assert!(rt; left == 0, "entries without a page");
@@ -92,14 +95,14 @@ fn has_room(rt: &impl Abort, log: &LogCounts, page: u64) {
 fn in_files(scene: &Scene) -> Result<u64, Fail> {
     let mut pages = 0u64;
     for node in scene.world.tree()?.as_slice() {
-        pages = pages.saturating_add(pages_of(node, scene.row[2]));
+        pages = pages.saturating_add(pages_of(node));
     }
     Ok(pages)
 }
 
-fn pages_of(node: &TreeNode, block: u64) -> u64 {
+fn pages_of(node: &TreeNode) -> u64 {
     let mut pages = 0u64;
-    for page in node.node.bytes.as_slice().chunks(block as usize) {
+    for page in node.node.bytes.as_slice().chunks(BLOCK as usize) {
         if page.iter().any(|byte| *byte != 0) {
             pages = pages.saturating_add(1);
         }

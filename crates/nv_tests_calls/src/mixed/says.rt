@@ -36,6 +36,7 @@ pub(super) const MADE: u64 = 3;
 
 /// How many kinds of call there are, and how many calls of each.
 pub(super) const KINDS: usize = 9;
+
 const EACH: usize = 3;
 
 /// The calls, kind by kind. They leave no page without a byte that is not zero.

@@ -15,6 +15,9 @@ pub(super) struct Scene {
     pub world: World,
 }
 
+/// The bytes of a block.
+pub(super) const BLOCK: u64 = 4;
+
 /// No call alone has so many steps.
 const STEPS: u64 = 200;
 
@@ -50,14 +53,11 @@ impl Scene {
         panic!(rt; "a call that does not end");
     }
 
-    /// One step of an actor, if its call is not over.
-    pub fn go(&mut self, actor: u64, replied: &mut Option<Reply>) {
-        if replied.is_some() {
-            return;
-        }
-        let reply = self.world.step(Event::Go(actor));
-        if !matches!(reply, Reply::Moved | Reply::Waits) {
-            *replied = Some(reply);
+    /// One step of an actor, and its reply where that ends the call.
+    pub fn go(&mut self, actor: u64) -> Option<Reply> {
+        match self.world.step(Event::Go(actor)) {
+            Reply::Moved | Reply::Waits => None,
+            reply => Some(reply),
         }
     }
 }
