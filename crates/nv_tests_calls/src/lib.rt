@@ -12,6 +12,8 @@ mod calls;
 #[cfg(test)]
 mod compare;
 #[cfg(test)]
+mod mixed;
+#[cfg(test)]
 mod script;
 #[cfg(test)]
 mod world;
