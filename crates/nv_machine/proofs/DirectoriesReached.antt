@@ -34,6 +34,10 @@ pub still_reached : (nodes after : Handle → Option NodeCopy) → ((dir handle 
 still_reached nodes after still [] handle is = is
 still_reached nodes after still (dir ∷ above) handle (leads, is) = (still dir handle leads, still_reached nodes after still above dir is)
 
+pub reached_still : (nodes after : Handle → Option NodeCopy) → ((dir handle : Handle) → LeadsTo nodes dir handle → LeadsTo after dir handle)
+    → (handle : Handle) → IsReached nodes handle → IsReached after handle
+reached_still nodes after still handle (above, is) = (above, still_reached nodes after still above handle is)
+
 -- ---- a name that leaves
 
 -- a directory has a name no more, which led to a handle
@@ -107,9 +111,9 @@ unbound_fewer nodes after dir bound is have = record {
   apart at (inr other) = subst (λ names. AllPairs AreApart names) (sym (is.others at other)) (have.apart at)
 
 -- the name led to nothing else, and no other name led there
-pub unbound_unnamed : (nodes after : Handle → Option NodeCopy) (dir : Handle) (bound : BoundName) → IsUnbound nodes after dir bound → HaveOneName nodes
+pub leads_no_more : (nodes after : Handle → Option NodeCopy) (dir : Handle) (bound : BoundName) → IsUnbound nodes after dir bound → HaveOneName nodes
     → (at : Handle) → LeadsTo after at bound.to → ⊥
-unbound_unnamed nodes after dir bound is have at (b, has, to) = go (same_or at dir) where
+leads_no_more nodes after dir bound is have at (b, has, to) = go (same_or at dir) where
   go : (at ≡ dir) ⊎ (at ≢ dir) → ⊥
   go (inl same) =
       let kept = contains_filter (λ (n : BoundName). not (same_name bound.name n.name)) (names_under nodes dir) b

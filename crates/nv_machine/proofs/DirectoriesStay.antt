@@ -17,7 +17,7 @@ use Rattle.nv_machine.specs.Directories.{AreApart, AreTree, HasName, HaveOneName
 
 -- ---- elements
 
-same_self : (a : Handle) → same_handle a a ≡ true
+pub same_self : (a : Handle) → same_handle a a ≡ true
 same_self a = rw (eq-eqb a.ino a.ino refl, eq-eqb a.generation a.generation refl) refl
 
 contains_none : {X : Type 0} (x : X) → Contains [] x → ⊥
@@ -64,7 +64,7 @@ pub record HaveFewer (nodes after : Handle → Option NodeCopy) : Type 0 where
   pub names : (dir : Handle) (bound : BoundName) → HasName after dir bound → HasName nodes dir bound
   pub apart : (dir : Handle) → AllPairs AreApart (names_under after dir)
 
-some_by_kind : (a b : Option NodeCopy) → kind_of a ≡ kind_of b → IsSome b → IsSome a
+pub some_by_kind : (a b : Option NodeCopy) → kind_of a ≡ kind_of b → IsSome b → IsSome a
 some_by_kind None None is some = some
 some_by_kind None (Some n) is some = cc
 some_by_kind (Some n) b is some = refl

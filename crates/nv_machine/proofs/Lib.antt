@@ -43,6 +43,7 @@ pub mod Grown
 pub mod Appended
 pub mod Settling
 pub mod GrownRuns
+pub mod DirectoriesChanged
 pub mod DirectoriesReached
 pub mod DirectoriesStay
 pub mod Effects
