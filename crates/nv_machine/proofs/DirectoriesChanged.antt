@@ -45,21 +45,21 @@ names_with : (f : List BoundName → List BoundName) (node : Option NodeCopy) �
 names_with f None some = absurd (let z : false ≡ true = some in cc)
 names_with f (Some n) some = refl
 
-some_directory : (node : Option NodeCopy) → is_directory (kind_of node) ≡ true → IsSome node
+pub some_directory : (node : Option NodeCopy) → is_directory (kind_of node) ≡ true → IsSome node
 some_directory None is = cc
 some_directory (Some n) is = refl
 
 module _ (nodes : Handle → Option NodeCopy) (dir : Handle) (f : List BoundName → List BoundName) where
-  names_kinds : (handle : Handle) → kind_of (changed_at dir (with_names f) nodes handle) ≡ kind_of (nodes handle)
+  pub names_kinds : (handle : Handle) → kind_of (changed_at dir (with_names f) nodes handle) ≡ kind_of (nodes handle)
   names_kinds handle = go (same_handle dir handle) refl where
     go : (s : Bool) → same_handle dir handle ≡ s → kind_of (changed_at dir (with_names f) nodes handle) ≡ kind_of (nodes handle)
     go true is = rw is (kind_with f (nodes handle))
     go false is = rw is refl
 
-  names_here : is_directory (kind_of (nodes dir)) ≡ true → names_under (changed_at dir (with_names f) nodes) dir ≡ f (names_under nodes dir)
+  pub names_here : is_directory (kind_of (nodes dir)) ≡ true → names_under (changed_at dir (with_names f) nodes) dir ≡ f (names_under nodes dir)
   names_here is = ap names_of_node (changed_here dir (with_names f) nodes) ∙ names_with f (nodes dir) (some_directory (nodes dir) is)
 
-  names_elsewhere : (handle : Handle) → handle ≢ dir → names_under (changed_at dir (with_names f) nodes) handle ≡ names_under nodes handle
+  pub names_elsewhere : (handle : Handle) → handle ≢ dir → names_under (changed_at dir (with_names f) nodes) handle ≡ names_under nodes handle
   names_elsewhere handle other = ap names_of_node (changed_elsewhere dir (with_names f) nodes handle other)
 
 -- ---- a name leaves

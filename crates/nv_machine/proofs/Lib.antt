@@ -43,7 +43,9 @@ pub mod Grown
 pub mod Appended
 pub mod Settling
 pub mod GrownRuns
+pub mod DirectoriesBegun
 pub mod DirectoriesChanged
+pub mod DirectoriesKept
 pub mod DirectoriesReached
 pub mod DirectoriesStay
 pub mod Effects
