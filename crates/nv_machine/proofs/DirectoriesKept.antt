@@ -51,7 +51,7 @@ changed_nodes commit (c ∷ rest) nodes handle = go (same_handle c.handle handle
   go false is later = rw is later
 
 -- the first change, where no other is of its node
-first_change : (at : Handle) (f : Option NodeCopy → Option NodeCopy) (rest : List Change) (nodes : Handle → Option NodeCopy)
+pub first_change : (at : Handle) (f : Option NodeCopy → Option NodeCopy) (rest : List Change) (nodes : Handle → Option NodeCopy)
     → changed_by rest nodes at ≡ nodes at → changed_by (change at f ∷ rest) nodes ≡ changed_at at f (changed_by rest nodes)
 first_change at f rest nodes apart = fun_ext (λ handle. go handle (same_or handle at)) where
   here : changed_by (change at f ∷ rest) nodes at ≡ f (nodes at)
@@ -64,7 +64,7 @@ first_change at f rest nodes apart = fun_ext (λ handle. go handle (same_or hand
       ∙ sym (changed_here at f (changed_by rest nodes)) ∙ ap (changed_at at f (changed_by rest nodes)) (sym same)
   go handle (inr other) = rw (other_handle at handle (λ same. other (sym same))) refl
 
-swapped : (a b : Handle) (f g : Option NodeCopy → Option NodeCopy) (nodes : Handle → Option NodeCopy) → a ≢ b
+pub swapped : (a b : Handle) (f g : Option NodeCopy → Option NodeCopy) (nodes : Handle → Option NodeCopy) → a ≢ b
     → changed_at a f (changed_at b g nodes) ≡ changed_at b g (changed_at a f nodes)
 swapped a b f g nodes differ = fun_ext (λ handle. go handle (same_or handle a)) where
   go : (handle : Handle) → (handle ≡ a) ⊎ (handle ≢ a) → changed_at a f (changed_at b g nodes) handle ≡ changed_at b g (changed_at a f nodes) handle
@@ -83,7 +83,7 @@ swapped a b f g nodes differ = fun_ext (λ handle. go handle (same_or handle a))
         ∙ sym (changed_elsewhere b g (changed_at a f nodes) handle apart)
 
 -- two changes of the names of one node are one
-joined : (at : Handle) (f g : List BoundName → List BoundName) (nodes : Handle → Option NodeCopy)
+pub joined : (at : Handle) (f g : List BoundName → List BoundName) (nodes : Handle → Option NodeCopy)
     → changed_at at (with_names f) (changed_at at (with_names g) nodes) ≡ changed_at at (with_names (λ names. f (g names))) nodes
 joined at f g nodes = fun_ext go where
   both : (node : Option NodeCopy) → with_names f (with_names g node) ≡ with_names (λ names. f (g names)) node
@@ -97,13 +97,13 @@ joined at f g nodes = fun_ext go where
     cases true is = rw is (both (nodes handle))
     cases false is = rw is refl
 
-same_names : (at : Handle) (f g : List BoundName → List BoundName) (nodes : Handle → Option NodeCopy) → ((names : List BoundName) → f names ≡ g names)
+pub same_names : (at : Handle) (f g : List BoundName → List BoundName) (nodes : Handle → Option NodeCopy) → ((names : List BoundName) → f names ≡ g names)
     → changed_at at (with_names f) nodes ≡ changed_at at (with_names g) nodes
 same_names at f g nodes same = ap (λ (h : List BoundName → List BoundName). changed_at at (with_names h) nodes) (fun_ext same)
 
 -- ---- names that leave
 
-filter_more : {X : Type 0} (p q : X → Bool) (xs : List X) → filter p (filter q (filter p xs)) ≡ filter p (filter q xs)
+pub filter_more : {X : Type 0} (p q : X → Bool) (xs : List X) → filter p (filter q (filter p xs)) ≡ filter p (filter q xs)
 filter_more p q [] = refl
 filter_more {X} p q (x ∷ xs) = go (p x) (q x) refl refl (filter_more p q xs) where
   go : (a b : Bool) → p x ≡ a → q x ≡ b → filter p (filter q (filter p xs)) ≡ filter p (filter q xs)
@@ -113,21 +113,21 @@ filter_more {X} p q (x ∷ xs) = go (p x) (q x) refl refl (filter_more p q xs) w
   go false true pa qb rest = rw (pa, qb) (rw pa rest)
   go false false pa qb rest = rw (pa, qb) rest
 
-filter_twice : {X : Type 0} (p : X → Bool) (xs : List X) → filter p (filter p xs) ≡ filter p xs
+pub filter_twice : {X : Type 0} (p : X → Bool) (xs : List X) → filter p (filter p xs) ≡ filter p xs
 filter_twice p [] = refl
 filter_twice {X} p (x ∷ xs) = go (p x) refl (filter_twice p xs) where
   go : (a : Bool) → p x ≡ a → filter p (filter p xs) ≡ filter p xs → filter p (filter p (x ∷ xs)) ≡ filter p (x ∷ xs)
   go true is rest = rw is (rw is (ap (λ l. x ∷ l) rest))
   go false is rest = rw is rest
 
-left_none : (name : List ℕ) (names : List BoundName) → bound_to name (without name names) ≡ None
+pub left_none : (name : List ℕ) (names : List BoundName) → bound_to name (without name names) ≡ None
 left_none name [] = refl
 left_none name (b ∷ names) = go (same_name name b.name) refl (left_none name names) where
   go : (s : Bool) → same_name name b.name ≡ s → bound_to name (without name names) ≡ None → bound_to name (without name (b ∷ names)) ≡ None
   go true is rest = rw is rest
   go false is rest = rw is (rw is rest)
 
-still_none : (name other : List ℕ) (names : List BoundName) → bound_to name names ≡ None → bound_to name (without other names) ≡ None
+pub still_none : (name other : List ℕ) (names : List BoundName) → bound_to name names ≡ None → bound_to name (without other names) ≡ None
 still_none name other [] is = refl
 still_none name other (b ∷ names) is = go (same_name name b.name) (same_name other b.name) refl refl is (still_none name other names) where
   go : (s t : Bool) → same_name name b.name ≡ s → same_name other b.name ≡ t → cond s (Some b.to) (bound_to name names) ≡ None
@@ -139,11 +139,11 @@ still_none name other (b ∷ names) is = go (same_name name b.name) (same_name o
 -- ---- what the tests of a call tell
 
 -- what is found is there
-found_there : (check : Check) (to : Option Handle) (handle : Handle) → found_by (and_find check to) ≡ Some handle → to ≡ Some handle
+pub found_there : (check : Check) (to : Option Handle) (handle : Handle) → found_by (and_find check to) ≡ Some handle → to ≡ Some handle
 found_there (Ok tt) to handle is = is
 found_there (Err why) to handle is = cc
 
-none_there : (check : Check) (to : Option Handle) → check ≡ passes → found_by (and_find check to) ≡ None → to ≡ None
+pub none_there : (check : Check) (to : Option Handle) → check ≡ passes → found_by (and_find check to) ≡ None → to ≡ None
 none_there (Ok tt) to passed is = is
 none_there (Err why) to passed is = cc
 
@@ -151,14 +151,14 @@ is_none : (to : Option Handle) → is_some to ≡ false → to ≡ None
 is_none None is = refl
 is_none (Some handle) is = cc
 
-directory_of : (found : Option NodeCopy) → HasKind Dir found → is_directory (kind_of found) ≡ true
+pub directory_of : (found : Option NodeCopy) → HasKind Dir found → is_directory (kind_of found) ≡ true
 directory_of found has = ap (λ (n : Option NodeCopy). is_directory (kind_of n)) has.is ∙ ap (λ (k : Kind). is_directory (Some k)) has.kind_is
 
-file_of : (found : Option NodeCopy) → HasKind File found → is_directory (kind_of found) ≡ false
+pub file_of : (found : Option NodeCopy) → HasKind File found → is_directory (kind_of found) ≡ false
 file_of found has = ap (λ (n : Option NodeCopy). is_directory (kind_of n)) has.is ∙ ap (λ (k : Kind). is_directory (Some k)) has.kind_is
 
 -- what is no directory has no names
-no_names : (nodes : Handle → Option NodeCopy) → HaveOneName nodes → (handle : Handle) → is_directory (kind_of (nodes handle)) ≡ false
+pub no_names : (nodes : Handle → Option NodeCopy) → HaveOneName nodes → (handle : Handle) → is_directory (kind_of (nodes handle)) ≡ false
     → names_under nodes handle ≡ []
 no_names nodes have handle other = go (names_under nodes handle) refl where
   go : (names : List BoundName) → names_under nodes handle ≡ names → names ≡ []
@@ -167,14 +167,14 @@ no_names nodes have handle other = go (names_under nodes handle) refl where
       let has : HasName nodes handle b = subst (λ l. Contains l b) (sym is) (0, omega arith, refl) in
       let z : true ≡ false = sym (have.named handle b has) ∙ other in cc
 
-apart_by_kind : (nodes : Handle → Option NodeCopy) (a b : Handle) → is_directory (kind_of (nodes a)) ≡ true → is_directory (kind_of (nodes b)) ≡ false → a ≢ b
+pub apart_by_kind : (nodes : Handle → Option NodeCopy) (a b : Handle) → is_directory (kind_of (nodes a)) ≡ true → is_directory (kind_of (nodes b)) ≡ false → a ≢ b
 apart_by_kind nodes a b one other same = let z : true ≡ false = sym one ∙ ap (λ h. is_directory (kind_of (nodes h))) same ∙ other in cc
 
 -- ---- each call, where it is not refused
 
 module _ (nodes : Handle → Option NodeCopy) (tree : AreTree nodes) where
   -- a new inode's handle has no node
-  begin_kept : (dir : Handle) (name : List ℕ) (kind : Kind) (mode : ℕ) (made : Handle) → create_refusal nodes dir name ≡ passes → nodes made ≡ None
+  pub begin_kept : (dir : Handle) (name : List ℕ) (kind : Kind) (mode : ℕ) (made : Handle) → create_refusal nodes dir name ≡ passes → nodes made ≡ None
       → AreTree (changed_by (begin_effect kind dir name mode made) nodes)
   begin_kept dir name kind mode made passed new =
       let d = directory_passed (nodes dir) _ passed in
@@ -190,11 +190,11 @@ module _ (nodes : Handle → Option NodeCopy) (tree : AreTree nodes) where
       some_apart dir made directory new same =
           let z : true ≡ false = sym directory ∙ ap (λ h. is_directory (kind_of (nodes h))) same ∙ ap (λ (n : Option NodeCopy). is_directory (kind_of n)) new in cc
 
-  one_kept : (at : Handle) (f : Option NodeCopy → Option NodeCopy) → KeepsNames f → AreTree (changed_by (change at f ∷ []) nodes)
+  pub one_kept : (at : Handle) (f : Option NodeCopy → Option NodeCopy) → KeepsNames f → AreTree (changed_by (change at f ∷ []) nodes)
   one_kept at f keeps = subst AreTree (sym (first_change at f [] nodes refl)) (stays_named nodes tree at f keeps)
 
   -- a name leaves, and what it led to, which has no names
-  leave_kept : (dir : Handle) (name : List ℕ) (to : Handle) → lookup nodes dir name ≡ Some to → names_under nodes to ≡ []
+  pub leave_kept : (dir : Handle) (name : List ℕ) (to : Handle) → lookup nodes dir name ≡ Some to → names_under nodes to ≡ []
       → AreTree (changed_by (leave_effect dir name (Some to)) nodes)
   leave_kept dir name to is none =
       subst AreTree

@@ -60,7 +60,7 @@ one_of_name names b c apart (i, low, here) (j, lt, there) same = elim (cases_lt 
   at_j d = ap (λ (n : BoundName). n.name) (get_or_default names j d c lt ∙ there)
 
 -- and so are two that lead to one handle
-one_of_handle : (names : List BoundName) (b c : BoundName) → AllPairs AreApart names → Contains names b → Contains names c → b.to ≡ c.to → b ≡ c
+pub one_of_handle : (names : List BoundName) (b c : BoundName) → AllPairs AreApart names → Contains names b → Contains names c → b.to ≡ c.to → b ≡ c
 one_of_handle names b c apart (i, low, here) (j, lt, there) same = elim (cases_lt i j) [
   | inl below ↦ absurd ((apart i j b below lt).1 (ap (λ (n : BoundName). n.to) here ∙ same ∙ sym (at_j b)))
   | inr from ↦ elim (cases_lt j i) [

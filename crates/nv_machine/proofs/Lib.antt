@@ -46,6 +46,7 @@ pub mod GrownRuns
 pub mod DirectoriesBegun
 pub mod DirectoriesChanged
 pub mod DirectoriesKept
+pub mod DirectoriesMoved
 pub mod DirectoriesReached
 pub mod DirectoriesStay
 pub mod Effects
