@@ -57,14 +57,14 @@ module _ (from : Handle) (old : List ℕ) (to : Handle) (new : List ℕ) (moved 
 
   -- ---- nothing stands there
 
-  same_effect : (nodes : Handle → Option NodeCopy) → to ≡ from
+  pub same_effect : (nodes : Handle → Option NodeCopy) → to ≡ from
       → changed_at to arrives (changed_at from leaves nodes) ≡ changed_by (move_effect true from old to new moved []) nodes
   same_effect nodes same =
       ap (λ h. changed_at h arrives (changed_at from leaves nodes)) same
       ∙ joined from (with_last new moved) (without old) nodes
       ∙ sym (first_change from (with_names (λ names. with_last new moved (without old names))) [] nodes refl)
 
-  other_effect : (nodes : Handle → Option NodeCopy) → to ≢ from
+  pub other_effect : (nodes : Handle → Option NodeCopy) → to ≢ from
       → changed_at to arrives (changed_at from leaves nodes) ≡ changed_by (move_effect false from old to new moved []) nodes
   other_effect nodes other =
       swapped to from arrives leaves nodes other

@@ -49,6 +49,7 @@ pub mod DirectoriesKept
 pub mod DirectoriesMoved
 pub mod DirectoriesReached
 pub mod DirectoriesStay
+pub mod DirectoryLaws
 pub mod Effects
 pub mod Caused
 pub mod FitsCalls
