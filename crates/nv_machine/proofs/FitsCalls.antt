@@ -28,7 +28,7 @@ use Rattle.nv_machine.specs.Step.{same_found, same_looked}
 
 -- ---- looks that found the same
 
-handles_same : (a b : Handle) → same_handle a b ≡ true → a ≡ b
+pub handles_same : (a b : Handle) → same_handle a b ≡ true → a ≡ b
 handles_same a b e =
     let both = and_parts (a.ino == b.ino) (a.generation == b.generation) e in
     handle-same a b (eqb-true a.ino b.ino both.0) (eqb-true a.generation b.generation both.1)

@@ -106,7 +106,7 @@ module _ (g : GeometryNumbers) (w : World) (known : IsKnown g w) (fit : AreFit w
       inr (free.own ∙ sym (both.1 r.made.ino).generation, omega (arith, count, some))
 
   -- and its handle leads to no node
-  no_node : settled_nodes w.shared r.made ≡ None
+  pub no_node : settled_nodes w.shared r.made ≡ None
   no_node = go (r.made.generation == (cell_at w.shared r.made.ino).generation) where
     none : node_by (cell_at w.shared r.made.ino) (settled w.shared r.made.ino) ≡ None
     none = ap (node_by (cell_at w.shared r.made.ino)) free.empty

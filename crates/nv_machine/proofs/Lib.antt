@@ -43,6 +43,13 @@ pub mod Grown
 pub mod Appended
 pub mod Settling
 pub mod GrownRuns
+pub mod DirectoriesBegun
+pub mod DirectoriesChanged
+pub mod DirectoriesKept
+pub mod DirectoriesMoved
+pub mod DirectoriesReached
+pub mod DirectoriesStay
+pub mod DirectoryLaws
 pub mod Effects
 pub mod Caused
 pub mod FitsCalls

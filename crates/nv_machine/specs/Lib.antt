@@ -1,6 +1,7 @@
 pub mod Answered
 pub mod Bound
 pub mod Causes
+pub mod Directories
 pub mod Effects
 pub mod EndsDecided
 pub mod Exact
