@@ -6,3 +6,4 @@ pub mod call_laws;
 pub mod cell_laws;
 pub mod laws;
 pub mod plain_laws;
+pub mod tree_laws;
