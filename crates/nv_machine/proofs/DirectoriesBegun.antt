@@ -1,5 +1,5 @@
 -- Directories stay a tree where a node begins under a new name, and where no names change.
-use Rattle.std.proofs.Common.{arith, ◌≡◌, ◌≢◌, ◌⊎◌, inl, inr, ℕ, Bool, true, false, List, [], ◌∷◌, ◌++◌, Option, Some, None, IsSome, refl, ap, sym, subst, ◌∙◌}
+use Rattle.std.proofs.Common.{arith, ◌≡◌, ◌≢◌, ◌⊎◌, inl, inr, ℕ, true, false, List, [], ◌∷◌, ◌++◌, Option, None, IsSome, refl, ap, sym, subst, ◌∙◌}
 use Rattle.nv_base.specs.declared.node.Kind.{Kind}
 use Rattle.nv_base.specs.declared.numbers.Handle.{Handle}
 use Rattle.nv_calls.specs.Plain.{begins, with_names}
@@ -12,9 +12,9 @@ use Rattle.std.specs.List.{AllPairs, Contains}
 use Rattle.nv_entry.specs.declared.names.BoundName.{BoundName}
 use Rattle.nv_entry.specs.declared.node.NodeCopy.{NodeCopy}
 use Rattle.nv_machine.proofs.DirectoriesChanged.{changed_at, changed_elsewhere, changed_here, names_elsewhere, names_here, names_kinds, none_found, none_leaves, some_directory}
-use Rattle.nv_machine.proofs.DirectoriesReached.{IsReached, reached_but_bare, reached_still, reached_through, still_reached}
+use Rattle.nv_machine.proofs.DirectoriesReached.{IsReached, reached_but_bare, reached_still, reached_through}
 use Rattle.nv_machine.proofs.DirectoriesStay.{HaveFewer, IsBare, IsBound, bare_names, bound_names, fewer_names, leads_there, same_or, some_by_kind, still_leads}
-use Rattle.nv_machine.specs.Directories.{AreApart, AreTree, HasName, HaveOneName, IsReachedBy, LeadsTo}
+use Rattle.nv_machine.specs.Directories.{AreApart, AreTree, LeadsTo}
 
 -- ---- a node begins
 
@@ -91,7 +91,7 @@ module _ (nodes : Handle → Option NodeCopy) (tree : AreTree nodes) (dir : Hand
         (was_reached dir (tree.reached dir (some_directory (nodes dir) directory)))
     reached handle some (inr other) =
         was_reached handle (tree.reached handle (subst (λ node. IsSome node) (is_bare.others handle other)
-          (some_by_kind (with_node handle) (with_both handle) (sym (is_bound.kinds handle)) some)))
+        (some_by_kind (with_node handle) (with_both handle) (sym (is_bound.kinds handle)) some)))
 
 -- ---- no names change
 

@@ -1,21 +1,19 @@
 -- Directories stay a tree where a name leaves with its node, a node begins under a new name, and a node moves to another name.
-use Rattle.std.proofs.Common.{◌≡◌, ◌≢◌, ◌⊎◌, inl, inr, ℕ, zero, suc, ap₂, ◌<◌, Bool, true, false, cond, not, if◌then◌else◌, List, [], ◌∷◌, ◌++◌, length, filter, Option, Some, None, IsSome, arith, refl, ap, sym, subst, ◌∙◌}
-use Rattle.std.specs.Prelude.{option_map}
+use Rattle.std.proofs.Common.{◌≡◌, ◌≢◌, ◌⊎◌, inl, inr, ℕ, zero, suc, ap₂, Bool, true, false, cond, not, if◌then◌else◌, List, [], ◌∷◌, ◌++◌, filter, Option, Some, None, IsSome, arith, refl, ap, sym, subst, ◌∙◌}
 use Rattle.std.specs.List.{Contains}
 use Rattle.nv_base.specs.Names.{same_name}
-use Rattle.nv_base.specs.declared.node.Kind.{Kind}
 use Rattle.nv_base.specs.declared.numbers.Handle.{Handle}
-use Rattle.nv_calls.specs.Plain.{begins, goes, same_handle, with_names}
-use Rattle.nv_calls.specs.Refusals.{is_directory, kind_of, lookup}
+use Rattle.nv_calls.specs.Plain.{goes, same_handle, with_names}
+use Rattle.nv_calls.specs.Refusals.{is_directory, kind_of}
 use Rattle.nv_entry.proofs.Hiding.{same_name-self, same_name-equal}
 use Rattle.nv_entry.specs.Index.{bound_to, with_last, without}
-use Rattle.nv_entry.specs.Tree.{names_of_node, names_under, root}
+use Rattle.nv_entry.specs.Tree.{names_of_node, names_under}
 use Rattle.nv_entry.specs.declared.names.BoundName.{BoundName}
 use Rattle.nv_entry.specs.declared.node.NodeCopy.{NodeCopy}
 use Rattle.nv_machine.proofs.DirectoriesReached.{IsReached, IsReachedFrom, IsUnbound, alone_aside, directory_reached, leads_no_more, reached_but_bare, reached_by_name, reached_or_aside, reached_still, unbound_fewer}
-use Rattle.nv_machine.proofs.DirectoriesStay.{IsBare, IsBound, bare_names, bound_names, contains_filter, fewer_names, leads_there, same_or, same_self, some_by_kind, still_leads}
+use Rattle.nv_machine.proofs.DirectoriesStay.{IsBare, IsBound, bare_names, bound_names, fewer_names, same_or, same_self, some_by_kind, still_leads}
 use Rattle.nv_machine.proofs.FitsCalls.{handles_same}
-use Rattle.nv_machine.specs.Directories.{AreTree, HasName, HaveOneName, IsReachedBy, LeadsTo}
+use Rattle.nv_machine.specs.Directories.{AreTree, HasName, HaveOneName}
 
 -- ---- one node changed
 
@@ -215,4 +213,4 @@ module _ (nodes : Handle → Option NodeCopy) (tree : AreTree nodes) (dir : Hand
     reached : (handle : Handle) → IsSome (moved to name handle) → IsReached (moved to name) handle
     reached handle some =
         either handle (tree.reached handle (some_by_kind (nodes handle) (moved to name handle)
-          (sym (is_bound.kinds handle ∙ is_unbound.kinds handle)) some))
+        (sym (is_bound.kinds handle ∙ is_unbound.kinds handle)) some))

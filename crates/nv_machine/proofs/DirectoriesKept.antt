@@ -1,7 +1,6 @@
 -- Directories stay a tree at every commit: what each call changes, where it is not refused, keeps it.
-use Rattle.std.proofs.Common.{◌≡◌, ◌≢◌, ◌⊎◌, inl, inr, ℕ, zero, suc, Bool, true, false, cond, not, ◌&&◌, ◌||◌, if◌then◌else◌, nat_lt, List, [], ◌∷◌, ◌++◌, length, filter, Option, Some, None, IsSome, arith, refl, ap, ap₂, sym, subst, ◌∙◌}
+use Rattle.std.proofs.Common.{◌≡◌, ◌≢◌, ◌⊎◌, inl, inr, ℕ, Bool, true, false, cond, if◌then◌else◌, List, [], ◌∷◌, filter, Option, Some, None, arith, refl, ap, sym, subst, ◌∙◌}
 use Rattle.std.proofs.Math.Path.{fun_ext}
-use Rattle.std.proofs.lemmas.Bool.{ltb-false}
 use Rattle.std.specs.List.{Contains}
 use Rattle.std.specs.Prelude.{option_map, is_some, Ok, Err}
 use Rattle.nv_base.specs.Names.{same_name}
@@ -9,25 +8,17 @@ use Rattle.nv_base.specs.declared.fault.Fault.TheVariants as fault
 use Rattle.nv_base.specs.declared.node.Kind.{Kind}
 use Rattle.nv_base.specs.declared.node.Kind.TheVariants.{File, Dir}
 use Rattle.nv_base.specs.declared.numbers.Handle.{Handle}
-use Rattle.nv_calls.proofs.Passed.{HasKind, both_passed, directory_passed, elsewhere, file_passed, if_passed, lawful_passed, look_passed, node_passed}
-use Rattle.nv_calls.specs.AllCalls.{effect, refusal}
-use Rattle.nv_calls.specs.Plain.{Change, PlainNode, begins, change, goes, node_in, nodes_after, same_handle, stamped, with_mode, with_names}
-use Rattle.nv_calls.specs.Refusals.{Check, and_find, found, found_by, is_directory, kind_of, lookup, passes, refuse_if, want_directory, want_lawful}
+use Rattle.nv_calls.proofs.Passed.{HasKind, directory_passed, if_passed, lawful_passed}
+use Rattle.nv_calls.specs.Plain.{Change, PlainNode, begins, change, goes, node_in, nodes_after, same_handle, stamped, with_names}
+use Rattle.nv_calls.specs.Refusals.{Check, and_find, found, found_by, is_directory, kind_of, lookup, passes}
 use Rattle.nv_calls.specs.calls.Create.{begin_effect, create_refusal}
-use Rattle.nv_calls.specs.calls.Lookup.{lookup_refusal}
-use Rattle.nv_calls.specs.calls.Rename.{bound_effect, move_effect, moved_refusal, own_place, rename_early, replaced_effect, replaced_refusal}
-use Rattle.nv_calls.specs.calls.Rmdir.{rmdir_late}
-use Rattle.nv_calls.specs.calls.Size.{resized_node}
-use Rattle.nv_calls.specs.calls.Unlink.{leave_effect, unlink_late}
-use Rattle.nv_calls.specs.declared.call.Call.{Call}
-use Rattle.nv_calls.specs.declared.call.Call.TheVariants as call
+use Rattle.nv_calls.specs.calls.Unlink.{leave_effect}
 use Rattle.nv_entry.specs.Index.{bound_to, with_last, without}
-use Rattle.nv_entry.specs.Sound.{rewritten}
-use Rattle.nv_entry.specs.Tree.{names_of_node, names_under}
+use Rattle.nv_entry.specs.Tree.{names_under}
 use Rattle.nv_entry.specs.declared.names.BoundName.{BoundName}
 use Rattle.nv_entry.specs.declared.node.NodeCopy.{NodeCopy}
 use Rattle.nv_machine.proofs.DirectoriesBegun.{KeepsNames, stays_begun, stays_named}
-use Rattle.nv_machine.proofs.DirectoriesChanged.{changed_at, changed_elsewhere, changed_here, found_in, other_handle, stays_left, stays_moved}
+use Rattle.nv_machine.proofs.DirectoriesChanged.{changed_at, changed_elsewhere, changed_here, found_in, other_handle, stays_left}
 use Rattle.nv_machine.proofs.DirectoriesStay.{same_or, same_self}
 use Rattle.nv_machine.specs.Directories.{AreTree, HasName, HaveOneName}
 

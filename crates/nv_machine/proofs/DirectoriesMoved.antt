@@ -11,7 +11,7 @@ use Rattle.nv_entry.specs.Index.{bound_to, with_last, without}
 use Rattle.nv_entry.specs.Tree.{names_of_node, names_under}
 use Rattle.nv_entry.specs.declared.names.BoundName.{BoundName}
 use Rattle.nv_entry.specs.declared.node.NodeCopy.{NodeCopy}
-use Rattle.nv_machine.proofs.DirectoriesChanged.{changed_at, changed_elsewhere, found_in, names_elsewhere, names_here, names_kinds, stays_left, stays_moved}
+use Rattle.nv_machine.proofs.DirectoriesChanged.{changed_at, changed_elsewhere, names_elsewhere, names_here, names_kinds, stays_left, stays_moved}
 use Rattle.nv_machine.proofs.DirectoriesKept.{apart_by_kind, changed_by, filter_more, filter_twice, first_change, joined, left_none, no_names, same_names, still_none, swapped}
 use Rattle.nv_machine.proofs.DirectoriesReached.{one_of_handle}
 use Rattle.nv_machine.proofs.DirectoriesStay.{filter_contains, same_or, same_self}
@@ -128,7 +128,7 @@ module _ (from : Handle) (old : List ℕ) (to : Handle) (new : List ℕ) (moved 
         (sym (freed_names from from_apart ∙ ap (names_under (changed_at to (with_names (without new)) nodes)) same
         ∙ names_here nodes to (without new) to_is))
         (filter_contains (λ (b : BoundName). not (same_name new b.name)) (names_under nodes to) (record { name = old; to = moved })
-          (subst (λ h. HasName nodes h (record { name = old; to = moved })) same has) (ap not (names_apart same)))
+        (subst (λ h. HasName nodes h (record { name = old; to = moved })) same has) (ap not (names_apart same)))
     still_has (inr other) =
         subst (λ l. Contains l (record { name = old; to = moved }))
         (sym (freed_names from from_apart ∙ names_elsewhere nodes to (without new) from other)) has
@@ -169,7 +169,7 @@ module _ (from : Handle) (old : List ℕ) (to : Handle) (new : List ℕ) (moved 
         ∙ joined from (with_last new moved) (λ names. without old (without new names)) emptied
         ∙ same_names from (λ names. with_last new moved (without old (without new names))) (λ names. with_last new moved (without old names)) emptied thrice
         ∙ sym (first_change from (with_names (λ names. with_last new moved (without old names))) (change there goes ∷ []) nodes
-          (changed_elsewhere there goes nodes from from_apart))
+        (changed_elsewhere there goes nodes from from_apart))
 
     -- and from one to another
     pub other_replaced : to ≢ from

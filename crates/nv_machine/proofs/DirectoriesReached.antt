@@ -1,5 +1,5 @@
 -- Directories stay reached from the root where a name leaves, a node goes or begins, and a name is bound.
-use Rattle.std.proofs.Common.{◌≡◌, ◌≢◌, ◌⊎◌, inl, inr, ℕ, ◌<◌, Bool, true, false, not, List, [], ◌∷◌, length, get_or, filter, Option, IsSome, arith, refl, ap, sym, subst, ◌∙◌}
+use Rattle.std.proofs.Common.{◌≡◌, ◌≢◌, ◌⊎◌, inl, inr, Bool, true, false, not, List, [], ◌∷◌, get_or, Option, arith, refl, ap, sym, subst, ◌∙◌}
 use Rattle.std.proofs.lemmas.Bool.{cases_lt}
 use Rattle.std.proofs.lemmas.List.{get_or_default}
 use Rattle.std.proofs.lemmas.List.Kept.{AllPairs-filter}
@@ -9,7 +9,7 @@ use Rattle.nv_base.specs.declared.numbers.Handle.{Handle}
 use Rattle.nv_calls.specs.Refusals.{kind_of}
 use Rattle.nv_entry.proofs.Hiding.{same_name-self, same_name-equal}
 use Rattle.nv_entry.specs.Index.{without}
-use Rattle.nv_entry.specs.Tree.{names_of_node, names_under, root}
+use Rattle.nv_entry.specs.Tree.{names_of_node, names_under}
 use Rattle.nv_entry.specs.declared.names.BoundName.{BoundName}
 use Rattle.nv_entry.specs.declared.node.NodeCopy.{NodeCopy}
 use Rattle.nv_machine.proofs.DirectoriesStay.{HaveFewer, IsBare, IsBound, contains_filter, filter_contains, leads_there, same_or, still_leads}
@@ -77,11 +77,18 @@ unbound_cases : (nodes after : Handle → Option NodeCopy) (dir : Handle) (bound
 unbound_cases nodes after dir bound is have at handle (b, has, to) = go (same_or at dir) where
   named : (same : Bool) → same_name bound.name b.name ≡ same → at ≡ dir → HasName nodes dir b → LeadsTo after at handle ⊎ ((at ≡ dir) × (handle ≡ bound.to))
   named true one here there =
-      inr (here, sym to ∙ ap (λ (n : BoundName). n.to) (one_of_name (names_under nodes dir) b bound (have.apart dir) there is.was
-        (sym (same_name-equal bound.name b.name one))))
+      inr (
+        here,
+        sym to ∙ ap (λ (n : BoundName). n.to) (one_of_name (names_under nodes dir) b bound (have.apart dir) there is.was
+            (sym (same_name-equal bound.name b.name one))),
+      )
   named false other here there =
-      inl (b, subst (λ names. Contains names b) (sym (ap (names_under after) here ∙ is.names))
-        (filter_contains (λ (n : BoundName). not (same_name bound.name n.name)) (names_under nodes dir) b there (ap not other)), to)
+      inl (
+        b,
+        subst (λ names. Contains names b) (sym (ap (names_under after) here ∙ is.names))
+            (filter_contains (λ (n : BoundName). not (same_name bound.name n.name)) (names_under nodes dir) b there (ap not other)),
+        to,
+      )
 
   go : (at ≡ dir) ⊎ (at ≢ dir) → LeadsTo after at handle ⊎ ((at ≡ dir) × (handle ≡ bound.to))
   go (inl same) = named (same_name bound.name b.name) refl same (subst (λ h. HasName nodes h b) same has)
@@ -117,7 +124,7 @@ leads_no_more nodes after dir bound is have at (b, has, to) = go (same_or at dir
   go : (at ≡ dir) ⊎ (at ≢ dir) → ⊥
   go (inl same) =
       let kept = contains_filter (λ (n : BoundName). not (same_name bound.name n.name)) (names_under nodes dir) b
-        (subst (λ names. Contains names b) (ap (names_under after) same ∙ is.names) has) in
+      (subst (λ names. Contains names b) (ap (names_under after) same ∙ is.names) has) in
       let one = one_of_handle (names_under nodes dir) b bound (have.apart dir) kept.0 is.was to in
       let z : false ≡ true = ap not (sym (same_name-self bound.name)) ∙ ap (λ (n : BoundName). not (same_name bound.name n.name)) (sym one) ∙ kept.1 in cc
   go (inr other) =
@@ -158,7 +165,7 @@ pub alone_aside : (nodes : Handle → Option NodeCopy) (aside : Handle) → name
 alone_aside nodes aside none [] handle is = is
 alone_aside nodes aside none (dir ∷ above) handle ((b, has, to), is) =
     absurd (let at = alone_aside nodes aside none above dir is in
-      let lt = (subst (λ names. Contains names b) (ap (names_under nodes) at ∙ none) has).1 in omega (arith, lt))
+    let lt = (subst (λ names. Contains names b) (ap (names_under nodes) at ∙ none) has).1 in omega (arith, lt))
 
 -- ---- a node that goes or begins
 

@@ -1,19 +1,17 @@
 -- Directories stay a tree where a name leaves, a node goes or begins, and a name is bound.
-use Rattle.std.proofs.Common.{◌≡◌, ◌≢◌, ◌⊎◌, inl, inr, ℕ, zero, suc, ◌<◌, Bool, true, false, not, List, [], ◌∷◌, ◌++◌, length, get_or, filter, Option, Some, None, IsSome, arith, refl, ap, sym, subst, ◌∙◌}
+use Rattle.std.proofs.Common.{◌≡◌, ◌≢◌, ◌⊎◌, inl, inr, zero, suc, Bool, true, false, List, [], ◌∷◌, ◌++◌, filter, Option, Some, None, IsSome, arith, refl, ap, sym, subst, ◌∙◌}
 use Rattle.std.proofs.lemmas.Bool.{eq-eqb}
 use Rattle.std.proofs.lemmas.List.Elements.{All-append, Contains-append_cases, Contains-append_left, Contains-append_right}
-use Rattle.std.proofs.lemmas.List.Kept.{AllPairs-cons, AllPairs-filter}
+use Rattle.std.proofs.lemmas.List.Kept.{AllPairs-cons}
 use Rattle.std.specs.List.{All, AllPairs, Contains}
-use Rattle.nv_base.specs.Names.{same_name}
 use Rattle.nv_base.specs.declared.numbers.Handle.{Handle}
 use Rattle.nv_calls.specs.Plain.{same_handle}
 use Rattle.nv_calls.specs.Refusals.{is_directory, kind_of}
-use Rattle.nv_entry.specs.Index.{without}
 use Rattle.nv_entry.specs.Tree.{names_of_node, names_under, root}
 use Rattle.nv_entry.specs.declared.names.BoundName.{BoundName}
 use Rattle.nv_entry.specs.declared.node.NodeCopy.{NodeCopy}
 use Rattle.nv_machine.proofs.FitsCalls.{handles_same}
-use Rattle.nv_machine.specs.Directories.{AreApart, AreTree, HasName, HaveOneName, IsReachedBy, LeadsTo}
+use Rattle.nv_machine.specs.Directories.{AreApart, HasName, HaveOneName, LeadsTo}
 
 -- ---- elements
 
@@ -156,7 +154,7 @@ bound_cases nodes after dir bound is at b has = go (same_or at dir) where
   go : (at ≡ dir) ⊎ (at ≢ dir) → HasName nodes at b ⊎ ((at ≡ dir) × (bound ≡ b))
   go (inl same) =
       last (Contains-append_cases (names_under nodes dir) (bound ∷ []) b
-        (subst (λ names. Contains names b) (ap (names_under after) same ∙ is.names) has)) same
+      (subst (λ names. Contains names b) (ap (names_under after) same ∙ is.names) has)) same
   go (inr other) = inl (subst (λ names. Contains names b) (is.others at other) has)
 
 -- what was led to still is
@@ -179,9 +177,9 @@ pairs_push [] bound apart each = λ i j d lt within. absurd (omega (arith, lt, w
 pairs_push (b ∷ names) bound apart each =
     AllPairs-cons AreApart b (names ++ bound ∷ [])
     (All-append (AreApart b) names (bound ∷ []) (λ k d lt. apart 0 (suc k) d (omega arith) (omega (arith, lt)))
-      (All-one (each b (contains_first b names))))
+    (All-one (each b (contains_first b names))))
     (pairs_push names bound (λ i j d lt within. apart (suc i) (suc j) d (omega (arith, lt)) (omega (arith, within)))
-      (λ c at. each c (contains_later c b names at)))
+    (λ c at. each c (contains_later c b names at)))
   where
     All-one : AreApart b bound → All (AreApart b) (bound ∷ [])
     All-one h zero d lt = h

@@ -1,5 +1,5 @@
 -- Directories form a tree, whatever events come.
-use Rattle.std.proofs.Common.{◌≡◌, ◌⊎◌, inl, inr, ℕ, zero, suc, if◌then◌else◌, ◌<◌, ◌≤◌, Bool, true, false, not, ◌&&◌, ◌||◌, cond, nat_lt, List, [], ◌∷◌, ◌++◌, length, ◌==◌, get_or, take, Option, Some, None, IsSome, arith, refl, ap, sym, subst, ◌∙◌}
+use Rattle.std.proofs.Common.{◌≡◌, inl, inr, ℕ, zero, suc, if◌then◌else◌, ◌<◌, ◌≤◌, Bool, true, false, not, ◌&&◌, ◌||◌, cond, nat_lt, List, [], ◌∷◌, length, ◌==◌, get_or, take, Option, Some, None, IsSome, arith, refl, ap, sym, subst, ◌∙◌}
 use Rattle.std.proofs.Math.Path.{fun_ext}
 use Rattle.std.proofs.lemmas.Bool.{cases_lt, eqb-true, ltb-false, ltb-true, true≢false}
 use Rattle.std.proofs.lemmas.List.{get_or_default, get_or_past}
@@ -12,9 +12,9 @@ use Rattle.nv_base.specs.declared.node.Kind.{Kind}
 use Rattle.nv_base.specs.declared.node.Kind.TheVariants.{File, Dir}
 use Rattle.nv_base.specs.declared.numbers.Handle.{Handle}
 use Rattle.nv_calls.proofs.Commits.{handle-same}
-use Rattle.nv_calls.proofs.Passed.{both_passed, directory_passed, elsewhere, file_passed, if_passed, lawful_passed, look_passed, node_passed}
+use Rattle.nv_calls.proofs.Passed.{both_passed, directory_passed, elsewhere, file_passed, if_passed, node_passed}
 use Rattle.nv_calls.specs.AllCalls.{effect, refusal}
-use Rattle.nv_calls.specs.Plain.{PlainNode, change, node_in, nodes_after, same_handle, with_mode}
+use Rattle.nv_calls.specs.Plain.{PlainNode, node_in, same_handle, with_mode}
 use Rattle.nv_calls.specs.Refusals.{found, is_directory, kind_of, lookup, passes, refuse_if, want_bound, want_directory, want_lawful}
 use Rattle.nv_calls.specs.calls.Lookup.{lookup_refusal}
 use Rattle.nv_calls.specs.calls.Rename.{bound_effect, move_effect, moved_refusal, own_place, pass_if, rename_early, replaced_effect, replaced_refusal}
@@ -175,7 +175,7 @@ module _ (block : ℕ) (nodes : Handle → Option NodeCopy) (tree : AreTree node
         let k = if_passed crosses fault.MoveDirectory (replaced_refusal nodes (kind_of (nodes moved)) second) m.1 in
         moved_kept moved
         (found_in old (names_under nodes from) moved
-          (found_there (want_directory (kind_of (nodes from)) (want_lawful old passes)) (lookup nodes from old) moved is))
+        (found_there (want_directory (kind_of (nodes from)) (want_lawful old passes)) (lookup nodes from old) moved is))
         k.0 own lawful second other k.1
 
   rename_kept : (from : Handle) (old : List ℕ) (to : Handle) (new : List ℕ) → refusal block nodes (call.Rename from old to new) ≡ passes
@@ -313,7 +313,7 @@ module _ (s : Shared) where
       | inl lt ↦ lt
       | inr past ↦ absurd (let none : IsSome {T = NodeCopy} None =
           subst (λ (log : List Entry). IsSome (option_map (λ (p : PlainNode). p.node) (node_by (cell_at s handle.ino) log))) (none_past past) there in
-        let z : false ≡ true = none in cc)
+          let z : false ≡ true = none in cc)
     ]
 
     go : (same : Bool) → (handle.generation == (cell_at s handle.ino).generation) ≡ same
@@ -342,10 +342,10 @@ module _ (s : Shared) where
         → a.to ≡ b.to → j ≡ k
     same_place dir j k a b (low, here, x) (lt, there, y) same = elim (cases_lt j k) [
       | inl below ↦ absurd ((tree.one_name.apart dir j k a below lt).1 (ap (λ (n : BoundName). n.to) here ∙ same
-        ∙ sym (ap (λ (n : BoundName). n.to) (get_or_default (names_under (node_in (settled_nodes s)) dir) k a b lt ∙ there))))
+          ∙ sym (ap (λ (n : BoundName). n.to) (get_or_default (names_under (node_in (settled_nodes s)) dir) k a b lt ∙ there))))
       | inr from ↦ elim (cases_lt k j) [
         | inl below ↦ absurd ((tree.one_name.apart dir k j b below low).1 (ap (λ (n : BoundName). n.to) there ∙ sym same
-          ∙ sym (ap (λ (n : BoundName). n.to) (get_or_default (names_under (node_in (settled_nodes s)) dir) j b a low ∙ here))))
+            ∙ sym (ap (λ (n : BoundName). n.to) (get_or_default (names_under (node_in (settled_nodes s)) dir) j b a low ∙ here))))
         | inr to ↦ omega (arith, from, to)
       ]
     ]
