@@ -38,7 +38,8 @@ module _ (from : Handle) (old : List ℕ) (to : Handle) (new : List ℕ) (moved 
   both_ways false false h = inr (refl, refl)
 
   -- the name leaves, and stands in the other directory
-  pub moves : (nodes : Handle → Option NodeCopy) → AreTree nodes → CanMove nodes → AreTree (changed_at to arrives (changed_at from leaves nodes))
+  pub moves : (nodes : Handle → Option NodeCopy) → AreTree nodes → CanMove nodes
+      → AreTree (changed_at to arrives (changed_at from leaves nodes))
   moves nodes tree can =
       stays_moved nodes tree from (record { name = old; to = moved }) can.has to new can.directory (free (same_or to from))
       (place (both_ways (is_directory (kind_of (nodes moved))) (same_handle from to) can.crosses))
@@ -101,7 +102,8 @@ module _ (from : Handle) (old : List ℕ) (to : Handle) (new : List ℕ) (moved 
 
     moved_apart : moved ≢ there
     moved_apart same =
-        let one : from ≡ to = tree.one_name.one from to there (record { name = old; to = moved }, has, same) (record { name = new; to = there }, had, refl) in
+        let one : from ≡ to = tree.one_name.one from to there (record { name = old; to = moved }, has, same)
+        (record { name = new; to = there }, had, refl) in
         let b : BoundName = record { name = old; to = moved } in
         let c : BoundName = record { name = new; to = there } in
         let names : b ≡ c =
@@ -119,7 +121,8 @@ module _ (from : Handle) (old : List ℕ) (to : Handle) (new : List ℕ) (moved 
         ap kind_of (changed_elsewhere there goes (changed_at to (with_names (without new)) nodes) handle other)
         ∙ names_kinds nodes to (without new) handle
 
-    freed_names : (handle : Handle) → handle ≢ there → names_under freed handle ≡ names_under (changed_at to (with_names (without new)) nodes) handle
+    freed_names : (handle : Handle) → handle ≢ there → names_under freed handle ≡ names_under
+        (changed_at to (with_names (without new)) nodes) handle
     freed_names handle other = ap names_of_node (changed_elsewhere there goes (changed_at to (with_names (without new)) nodes) handle other)
 
     still_has : (from ≡ to) ⊎ (from ≢ to) → HasName freed from (record { name = old; to = moved })
@@ -161,26 +164,30 @@ module _ (from : Handle) (old : List ℕ) (to : Handle) (new : List ℕ) (moved 
 
     -- within one directory
     pub same_replaced : to ≡ from
-        → changed_at to arrives (changed_at from leaves freed) ≡ changed_by (move_effect true from old to new moved (replaced_effect (Some there))) nodes
+        → changed_at to arrives (changed_at from leaves freed) ≡ changed_by
+        (move_effect true from old to new moved (replaced_effect (Some there))) nodes
     same_replaced same =
         ap (λ n. changed_at to arrives (changed_at from leaves n)) first_goes
         ∙ ap (λ h. changed_at h arrives (changed_at from leaves (changed_at h (with_names (without new)) emptied))) same
         ∙ ap (changed_at from arrives) (joined from (without old) (without new) emptied)
         ∙ joined from (with_last new moved) (λ names. without old (without new names)) emptied
-        ∙ same_names from (λ names. with_last new moved (without old (without new names))) (λ names. with_last new moved (without old names)) emptied thrice
+        ∙ same_names from (λ names. with_last new moved (without old (without new names)))
+        (λ names. with_last new moved (without old names)) emptied thrice
         ∙ sym (first_change from (with_names (λ names. with_last new moved (without old names))) (change there goes ∷ []) nodes
         (changed_elsewhere there goes nodes from from_apart))
 
     -- and from one to another
     pub other_replaced : to ≢ from
-        → changed_at to arrives (changed_at from leaves freed) ≡ changed_by (move_effect false from old to new moved (replaced_effect (Some there))) nodes
+        → changed_at to arrives (changed_at from leaves freed) ≡ changed_by
+        (move_effect false from old to new moved (replaced_effect (Some there))) nodes
     other_replaced other =
         ap (λ n. changed_at to arrives (changed_at from leaves n)) first_goes
         ∙ ap (changed_at to arrives) (swapped from to leaves (with_names (without new)) emptied (λ same. other (sym same)))
         ∙ joined to (with_last new moved) (without new) (changed_at from leaves emptied)
         ∙ same_names to (λ names. with_last new moved (without new names)) (with_last new moved) (changed_at from leaves emptied) twice
         ∙ swapped to from arrives leaves emptied other
-        ∙ ap (changed_at from leaves) (sym (first_change to arrives (change there goes ∷ []) nodes (changed_elsewhere there goes nodes to to_apart)))
+        ∙ ap (changed_at from leaves) (sym (first_change to arrives (change there goes ∷ []) nodes
+        (changed_elsewhere there goes nodes to to_apart)))
         ∙ sym (first_change from leaves (change to arrives ∷ change there goes ∷ []) nodes from_unchanged)
       where
         from_unchanged : changed_by (change to arrives ∷ change there goes ∷ []) nodes from ≡ nodes from

@@ -67,7 +67,8 @@ some_by_kind None None is some = some
 some_by_kind None (Some n) is some = cc
 some_by_kind (Some n) b is some = refl
 
-led_before : (nodes after : Handle → Option NodeCopy) → HaveFewer nodes after → (dir handle : Handle) → LeadsTo after dir handle → LeadsTo nodes dir handle
+led_before : (nodes after : Handle → Option NodeCopy) → HaveFewer nodes after → (dir handle : Handle) → LeadsTo after dir handle
+    → LeadsTo nodes dir handle
 led_before nodes after fewer dir handle (bound, has, to) = (bound, fewer.names dir bound has, to)
 
 pub fewer_names : (nodes after : Handle → Option NodeCopy) → HaveFewer nodes after → HaveOneName nodes → HaveOneName after
@@ -75,9 +76,11 @@ fewer_names nodes after fewer have = record {
   top = ap is_directory (fewer.kinds root) ∙ have.top;
   unnamed = λ dir leads. have.unnamed dir (led_before nodes after fewer dir root leads);
   named = λ dir bound has. ap is_directory (fewer.kinds dir) ∙ have.named dir bound (fewer.names dir bound has);
-  leads = λ dir bound has. some_by_kind (after bound.to) (nodes bound.to) (fewer.kinds bound.to) (have.leads dir bound (fewer.names dir bound has));
+  leads = λ dir bound has. some_by_kind (after bound.to) (nodes bound.to) (fewer.kinds bound.to)
+      (have.leads dir bound (fewer.names dir bound has));
   apart = fewer.apart;
-  one = λ dir other handle a b. have.one dir other handle (led_before nodes after fewer dir handle a) (led_before nodes after fewer other handle b);
+  one = λ dir other handle a b. have.one dir other handle (led_before nodes after fewer dir handle a)
+      (led_before nodes after fewer other handle b);
 }
 
 -- ---- a node that goes or begins
@@ -121,10 +124,12 @@ bare_names nodes after bare is have = record {
       let before = bare_has nodes after bare is dir bound has in
       subst (λ node. IsSome node) (sym (is.others bound.to (λ same. is.unnamed dir (bound, before, same)))) (have.leads dir bound before);
   apart = λ dir. apart_at dir (same_or dir bare);
-  one = λ dir other handle a b. have.one dir other handle (bare_leads nodes after bare is dir handle a) (bare_leads nodes after bare is other handle b);
+  one = λ dir other handle a b. have.one dir other handle (bare_leads nodes after bare is dir handle a)
+      (bare_leads nodes after bare is other handle b);
 } where
   apart_at : (dir : Handle) → (dir ≡ bare) ⊎ (dir ≢ bare) → AllPairs AreApart (names_under after dir)
-  apart_at dir (inl same) = subst (λ names. AllPairs AreApart names) (sym (ap (names_under after) same ∙ is.names)) (λ i j d lt within. absurd (omega (arith, within)))
+  apart_at dir (inl same) = subst (λ names. AllPairs AreApart names) (sym (ap (names_under after) same ∙ is.names))
+      (λ i j d lt within. absurd (omega (arith, within)))
   apart_at dir (inr other) = subst (λ node. AllPairs AreApart (names_of_node node)) (sym (is.others dir other)) (have.apart dir)
 
 -- ---- a name that is bound
@@ -167,11 +172,17 @@ still_leads nodes after dir bound is at handle (b, has, to) = (b, go (same_or at
       (Contains-append_left (names_under nodes dir) (bound ∷ []) b (subst (λ h. HasName nodes h b) same has))
   go (inr other) = subst (λ names. Contains names b) (sym (is.others at other)) has
 
-pub leads_there : (nodes after : Handle → Option NodeCopy) (dir : Handle) (bound : BoundName) → IsBound nodes after dir bound → LeadsTo after dir bound.to
-leads_there nodes after dir bound is =
-    (bound, subst (λ names. Contains names bound) (sym is.names) (Contains-append_right (names_under nodes dir) (bound ∷ []) bound (contains_first bound [])), refl)
+pub leads_there : (nodes after : Handle → Option NodeCopy) (dir : Handle) (bound : BoundName) → IsBound nodes after dir bound
+    → LeadsTo after dir bound.to
+leads_there nodes after dir bound is = (
+  bound,
+  subst (λ names. Contains names bound) (sym is.names)
+      (Contains-append_right (names_under nodes dir) (bound ∷ []) bound (contains_first bound [])),
+  refl,
+)
 
-pairs_push : (names : List BoundName) (bound : BoundName) → AllPairs AreApart names → ((b : BoundName) → Contains names b → AreApart b bound)
+pairs_push : (names : List BoundName) (bound : BoundName) → AllPairs AreApart names
+    → ((b : BoundName) → Contains names b → AreApart b bound)
     → AllPairs AreApart (names ++ bound ∷ [])
 pairs_push [] bound apart each = λ i j d lt within. absurd (omega (arith, lt, within))
 pairs_push (b ∷ names) bound apart each =
@@ -219,7 +230,8 @@ bound_names nodes after dir bound is have = record {
       → HasName nodes at b ⊎ ((at ≡ dir) × (bound ≡ b)) → HasName nodes other c ⊎ ((other ≡ dir) × (bound ≡ c)) → at ≡ other
   one_of at other handle b c to led (inl x) (inl y) = have.one at other handle (b, x, to) (c, y, led)
   one_of at other handle b c to led (inl x) (inr y) = absurd (is.unnamed at (b, x, to ∙ sym led ∙ sym (ap (λ (n : BoundName). n.to) y.1)))
-  one_of at other handle b c to led (inr x) (inl y) = absurd (is.unnamed other (c, y, led ∙ sym to ∙ sym (ap (λ (n : BoundName). n.to) x.1)))
+  one_of at other handle b c to led (inr x) (inl y) = absurd (is.unnamed other
+      (c, y, led ∙ sym to ∙ sym (ap (λ (n : BoundName). n.to) x.1)))
   one_of at other handle b c to led (inr x) (inr y) = x.0 ∙ sym y.0
 
   one : (at other handle : Handle) → LeadsTo after at handle → LeadsTo after other handle → at ≡ other
