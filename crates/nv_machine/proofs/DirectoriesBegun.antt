@@ -1,5 +1,5 @@
 -- Directories stay a tree where a node begins under a new name, and where no names change.
-use Rattle.std.proofs.Common.{arith, ◌≡◌, ◌≢◌, ◌⊎◌, inl, inr, ℕ, Bool, true, false, List, [], ◌∷◌, ◌++◌, Option, Some, None, IsSome, refl, ap, sym, subst, ◌∙◌}
+use Rattle.std.proofs.Common.{arith, ◌≡◌, ◌≢◌, ◌⊎◌, inl, inr, ℕ, true, false, List, [], ◌∷◌, ◌++◌, Option, None, IsSome, refl, ap, sym, subst, ◌∙◌}
 use Rattle.nv_base.specs.declared.node.Kind.{Kind}
 use Rattle.nv_base.specs.declared.numbers.Handle.{Handle}
 use Rattle.nv_calls.specs.Plain.{begins, with_names}
@@ -12,14 +12,15 @@ use Rattle.std.specs.List.{AllPairs, Contains}
 use Rattle.nv_entry.specs.declared.names.BoundName.{BoundName}
 use Rattle.nv_entry.specs.declared.node.NodeCopy.{NodeCopy}
 use Rattle.nv_machine.proofs.DirectoriesChanged.{changed_at, changed_elsewhere, changed_here, names_elsewhere, names_here, names_kinds, none_found, none_leaves, some_directory}
-use Rattle.nv_machine.proofs.DirectoriesReached.{IsReached, reached_but_bare, reached_still, reached_through, still_reached}
+use Rattle.nv_machine.proofs.DirectoriesReached.{IsReached, reached_but_bare, reached_still, reached_through}
 use Rattle.nv_machine.proofs.DirectoriesStay.{HaveFewer, IsBare, IsBound, bare_names, bound_names, fewer_names, leads_there, same_or, some_by_kind, still_leads}
-use Rattle.nv_machine.specs.Directories.{AreApart, AreTree, HasName, HaveOneName, IsReachedBy, LeadsTo}
+use Rattle.nv_machine.specs.Directories.{AreApart, AreTree, LeadsTo}
 
 -- ---- a node begins
 
 module _ (nodes : Handle → Option NodeCopy) (tree : AreTree nodes) (dir : Handle) (name : List ℕ) (kind : Kind) (mode : ℕ) (made : Handle)
-    (directory : is_directory (kind_of (nodes dir)) ≡ true) (free : bound_to name (names_under nodes dir) ≡ None) (new : nodes made ≡ None) where
+    (directory : is_directory (kind_of (nodes dir)) ≡ true) (free : bound_to name (names_under nodes dir) ≡ None)
+    (new : nodes made ≡ None) where
   abbrev pub with_node : Handle → Option NodeCopy
   with_node = changed_at made (begins kind mode) nodes
 
@@ -66,7 +67,8 @@ module _ (nodes : Handle → Option NodeCopy) (tree : AreTree nodes) (dir : Hand
     others = names_elsewhere with_node dir (with_last name made);
     directory = directory_now;
     new = λ other at same.
-        let z : true ≡ false = sym (same_name-self name) ∙ ap (same_name name) (sym same) ∙ none_found name (names_under with_node dir) free_now other at in cc;
+        let z : true ≡ false = sym (same_name-self name) ∙ ap (same_name name) (sym same)
+        ∙ none_found name (names_under with_node dir) free_now other at in cc;
     below_root = is_bare.below_root;
     there = subst (λ node. IsSome node) (sym (changed_here made (begins kind mode) nodes)) refl;
     unnamed = λ at leads. is_bare.unnamed at (led_before at made leads);
@@ -87,11 +89,12 @@ module _ (nodes : Handle → Option NodeCopy) (tree : AreTree nodes) (dir : Hand
   } where
     reached : (handle : Handle) → IsSome (with_both handle) → (handle ≡ made) ⊎ (handle ≢ made) → IsReached with_both handle
     reached handle some (inl same) =
-        reached_through with_both dir handle (subst (LeadsTo with_both dir) (sym same) (leads_there with_node with_both dir made_name is_bound))
+        reached_through with_both dir handle (subst (LeadsTo with_both dir) (sym same)
+        (leads_there with_node with_both dir made_name is_bound))
         (was_reached dir (tree.reached dir (some_directory (nodes dir) directory)))
     reached handle some (inr other) =
         was_reached handle (tree.reached handle (subst (λ node. IsSome node) (is_bare.others handle other)
-          (some_by_kind (with_node handle) (with_both handle) (sym (is_bound.kinds handle)) some)))
+        (some_by_kind (with_node handle) (with_both handle) (sym (is_bound.kinds handle)) some)))
 
 -- ---- no names change
 
@@ -100,28 +103,32 @@ pub record KeepsNames (f : Option NodeCopy → Option NodeCopy) : Type 0 where
   pub kind : (node : Option NodeCopy) → kind_of (f node) ≡ kind_of node
   pub names : (node : Option NodeCopy) → names_of_node (f node) ≡ names_of_node node
 
-module _ (nodes : Handle → Option NodeCopy) (tree : AreTree nodes) (at : Handle) (f : Option NodeCopy → Option NodeCopy) (keeps : KeepsNames f) where
+module _ (nodes : Handle → Option NodeCopy) (tree : AreTree nodes) (at : Handle) (f : Option NodeCopy
+    → Option NodeCopy) (keeps : KeepsNames f) where
   abbrev pub changed : Handle → Option NodeCopy
   changed = changed_at at f nodes
 
   kinds : (handle : Handle) → kind_of (changed handle) ≡ kind_of (nodes handle)
   kinds handle = go (same_or handle at) where
     go : (handle ≡ at) ⊎ (handle ≢ at) → kind_of (changed handle) ≡ kind_of (nodes handle)
-    go (inl same) = ap (λ h. kind_of (changed h)) same ∙ ap kind_of (changed_here at f nodes) ∙ keeps.kind (nodes at) ∙ ap (λ h. kind_of (nodes h)) (sym same)
+    go (inl same) = ap (λ h. kind_of (changed h)) same ∙ ap kind_of (changed_here at f nodes) ∙ keeps.kind (nodes at)
+        ∙ ap (λ h. kind_of (nodes h)) (sym same)
     go (inr other) = ap kind_of (changed_elsewhere at f nodes handle other)
 
   names : (handle : Handle) → names_under changed handle ≡ names_under nodes handle
   names handle = go (same_or handle at) where
     go : (handle ≡ at) ⊎ (handle ≢ at) → names_under changed handle ≡ names_under nodes handle
     go (inl same) =
-        ap (names_under changed) same ∙ ap names_of_node (changed_here at f nodes) ∙ keeps.names (nodes at) ∙ ap (names_under nodes) (sym same)
+        ap (names_under changed) same ∙ ap names_of_node (changed_here at f nodes) ∙ keeps.names (nodes at)
+        ∙ ap (names_under nodes) (sym same)
     go (inr other) = ap names_of_node (changed_elsewhere at f nodes handle other)
 
   pub stays_named : AreTree changed
   stays_named = record {
     one_name = fewer_names nodes changed fewer tree.one_name;
     reached = λ handle some.
-        reached_still nodes changed still handle (tree.reached handle (some_by_kind (nodes handle) (changed handle) (sym (kinds handle)) some));
+        reached_still nodes changed still handle (tree.reached handle
+        (some_by_kind (nodes handle) (changed handle) (sym (kinds handle)) some));
   } where
     fewer : HaveFewer nodes changed
     fewer = record {

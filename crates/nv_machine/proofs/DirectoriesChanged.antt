@@ -1,28 +1,27 @@
 -- Directories stay a tree where a name leaves with its node, a node begins under a new name, and a node moves to another name.
-use Rattle.std.proofs.Common.{◌≡◌, ◌≢◌, ◌⊎◌, inl, inr, ℕ, zero, suc, ap₂, ◌<◌, Bool, true, false, cond, not, if◌then◌else◌, List, [], ◌∷◌, ◌++◌, length, filter, Option, Some, None, IsSome, arith, refl, ap, sym, subst, ◌∙◌}
-use Rattle.std.specs.Prelude.{option_map}
+use Rattle.std.proofs.Common.{◌≡◌, ◌≢◌, ◌⊎◌, inl, inr, ℕ, zero, suc, ap₂, Bool, true, false, cond, not, if◌then◌else◌, List, [], ◌∷◌, ◌++◌, filter, Option, Some, None, IsSome, arith, refl, ap, sym, subst, ◌∙◌}
 use Rattle.std.specs.List.{Contains}
 use Rattle.nv_base.specs.Names.{same_name}
-use Rattle.nv_base.specs.declared.node.Kind.{Kind}
 use Rattle.nv_base.specs.declared.numbers.Handle.{Handle}
-use Rattle.nv_calls.specs.Plain.{begins, goes, same_handle, with_names}
-use Rattle.nv_calls.specs.Refusals.{is_directory, kind_of, lookup}
+use Rattle.nv_calls.specs.Plain.{goes, same_handle, with_names}
+use Rattle.nv_calls.specs.Refusals.{is_directory, kind_of}
 use Rattle.nv_entry.proofs.Hiding.{same_name-self, same_name-equal}
 use Rattle.nv_entry.specs.Index.{bound_to, with_last, without}
-use Rattle.nv_entry.specs.Tree.{names_of_node, names_under, root}
+use Rattle.nv_entry.specs.Tree.{names_of_node, names_under}
 use Rattle.nv_entry.specs.declared.names.BoundName.{BoundName}
 use Rattle.nv_entry.specs.declared.node.NodeCopy.{NodeCopy}
 use Rattle.nv_machine.proofs.DirectoriesReached.{IsReached, IsReachedFrom, IsUnbound, alone_aside, directory_reached, leads_no_more, reached_but_bare, reached_by_name, reached_or_aside, reached_still, unbound_fewer}
-use Rattle.nv_machine.proofs.DirectoriesStay.{IsBare, IsBound, bare_names, bound_names, contains_filter, fewer_names, leads_there, same_or, same_self, some_by_kind, still_leads}
+use Rattle.nv_machine.proofs.DirectoriesStay.{IsBare, IsBound, bare_names, bound_names, fewer_names, same_or, same_self, some_by_kind, still_leads}
 use Rattle.nv_machine.proofs.FitsCalls.{handles_same}
-use Rattle.nv_machine.specs.Directories.{AreTree, HasName, HaveOneName, IsReachedBy, LeadsTo}
+use Rattle.nv_machine.specs.Directories.{AreTree, HasName, HaveOneName}
 
 -- ---- one node changed
 
 abbrev pub changed_at : Handle → (Option NodeCopy → Option NodeCopy) → (Handle → Option NodeCopy) → Handle → Option NodeCopy
 changed_at at f nodes handle = if same_handle at handle then f (nodes handle) else nodes handle
 
-pub changed_here : (at : Handle) (f : Option NodeCopy → Option NodeCopy) (nodes : Handle → Option NodeCopy) → changed_at at f nodes at ≡ f (nodes at)
+pub changed_here : (at : Handle) (f : Option NodeCopy → Option NodeCopy) (nodes : Handle → Option NodeCopy)
+    → changed_at at f nodes at ≡ f (nodes at)
 changed_here at f nodes = rw (same_self at) refl
 
 pub other_handle : (a b : Handle) → a ≢ b → same_handle a b ≡ false
@@ -31,7 +30,8 @@ other_handle a b differ = go (same_handle a b) refl where
   go true is = absurd (differ (handles_same a b is))
   go false is = refl
 
-pub changed_elsewhere : (at : Handle) (f : Option NodeCopy → Option NodeCopy) (nodes : Handle → Option NodeCopy) (handle : Handle) → handle ≢ at
+pub changed_elsewhere : (at : Handle) (f : Option NodeCopy → Option NodeCopy) (nodes : Handle → Option NodeCopy) (handle : Handle)
+    → handle ≢ at
     → changed_at at f nodes handle ≡ nodes handle
 changed_elsewhere at f nodes handle other = rw (other_handle at handle (λ same. other (sym same))) refl
 
@@ -41,7 +41,8 @@ kind_with : (f : List BoundName → List BoundName) (node : Option NodeCopy) →
 kind_with f None = refl
 kind_with f (Some n) = refl
 
-names_with : (f : List BoundName → List BoundName) (node : Option NodeCopy) → IsSome node → names_of_node (with_names f node) ≡ f (names_of_node node)
+names_with : (f : List BoundName → List BoundName) (node : Option NodeCopy) → IsSome node
+    → names_of_node (with_names f node) ≡ f (names_of_node node)
 names_with f None some = absurd (let z : false ≡ true = some in cc)
 names_with f (Some n) some = refl
 
@@ -56,10 +57,12 @@ module _ (nodes : Handle → Option NodeCopy) (dir : Handle) (f : List BoundName
     go true is = rw is (kind_with f (nodes handle))
     go false is = rw is refl
 
-  pub names_here : is_directory (kind_of (nodes dir)) ≡ true → names_under (changed_at dir (with_names f) nodes) dir ≡ f (names_under nodes dir)
+  pub names_here : is_directory (kind_of (nodes dir)) ≡ true → names_under (changed_at dir (with_names f) nodes) dir ≡ f
+      (names_under nodes dir)
   names_here is = ap names_of_node (changed_here dir (with_names f) nodes) ∙ names_with f (nodes dir) (some_directory (nodes dir) is)
 
-  pub names_elsewhere : (handle : Handle) → handle ≢ dir → names_under (changed_at dir (with_names f) nodes) handle ≡ names_under nodes handle
+  pub names_elsewhere : (handle : Handle) → handle ≢ dir → names_under
+      (changed_at dir (with_names f) nodes) handle ≡ names_under nodes handle
   names_elsewhere handle other = ap names_of_node (changed_elsewhere dir (with_names f) nodes handle other)
 
 -- ---- a name leaves
@@ -78,18 +81,24 @@ none_left : (name : List ℕ) (names : List BoundName) → names ≡ [] → with
 none_left name names is = ap (without name) is
 
 -- a directory in which something is found has a name of it
-pub found_in : (name : List ℕ) (names : List BoundName) (to : Handle) → bound_to name names ≡ Some to → Contains names (record { name = name; to = to })
+pub found_in : (name : List ℕ) (names : List BoundName) (to : Handle) → bound_to name names ≡ Some to
+    → Contains names (record { name = name; to = to })
 found_in name [] to is = cc
 found_in name (bound ∷ names) to is = go (same_name name bound.name) refl (λ h. found_in name names to h) is where
   go : (s : Bool) → same_name name bound.name ≡ s → (bound_to name names ≡ Some to → Contains names (record { name = name; to = to }))
       → cond s (Some bound.to) (bound_to name names) ≡ Some to → Contains (bound ∷ names) (record { name = name; to = to })
   go true same rest h =
-      let one : bound.to ≡ to = cc in
-      (0, omega arith, ap₂ (λ (n : List ℕ) (t : Handle). let b : BoundName = record { name = n; to = t } in b) (sym (same_name-equal name bound.name same)) one)
+      let one : bound.to ≡ to = cc in (
+        0,
+        omega arith,
+        ap₂ (λ (n : List ℕ) (t : Handle). let b : BoundName = record { name = n; to = t } in b)
+            (sym (same_name-equal name bound.name same)) one,
+      )
   go false other rest h = let at = rest h in (suc at.0, omega (arith, at.1), at.2)
 
 -- and one in which nothing is found has none
-pub none_found : (name : List ℕ) (names : List BoundName) → bound_to name names ≡ None → (b : BoundName) → Contains names b → same_name name b.name ≡ false
+pub none_found : (name : List ℕ) (names : List BoundName) → bound_to name names ≡ None → (b : BoundName) → Contains names b
+    → same_name name b.name ≡ false
 none_found name [] is b at = absurd (let lt = at.1 in omega (arith, lt))
 none_found name (bound ∷ names) is b at = go (same_name name bound.name) refl is at (none_found name names) where
   go : (s : Bool) → same_name name bound.name ≡ s → cond s (Some bound.to) (bound_to name names) ≡ None → Contains (bound ∷ names) b
@@ -100,11 +109,13 @@ none_found name (bound ∷ names) is b at = go (same_name name bound.name) refl 
 
 filter_all : {X : Type 0} (p : X → Bool) (xs : List X) → ((x : X) → Contains xs x → p x ≡ true) → filter p xs ≡ xs
 filter_all p [] each = refl
-filter_all p (x ∷ xs) each = rw (each x (0, omega arith, refl)) (ap (λ l. x ∷ l) (filter_all p xs (λ y at. each y (suc at.0, (let lt = at.1 in omega (arith, lt)), at.2))))
+filter_all p (x ∷ xs) each = rw (each x (0, omega arith, refl))
+    (ap (λ l. x ∷ l) (filter_all p xs (λ y at. each y (suc at.0, (let lt = at.1 in omega (arith, lt)), at.2))))
 
 -- a name that was not there leaves nothing behind
 pub none_leaves : (name : List ℕ) (names : List BoundName) → bound_to name names ≡ None → without name names ≡ names
-none_leaves name names is = filter_all (λ (b : BoundName). not (same_name name b.name)) names (λ b at. ap not (none_found name names is b at))
+none_leaves name names is = filter_all (λ (b : BoundName). not (same_name name b.name)) names
+    (λ b at. ap not (none_found name names is b at))
 
 module _ (nodes : Handle → Option NodeCopy) (tree : AreTree nodes) (dir : Handle) (bound : BoundName) (has : HasName nodes dir bound) where
   abbrev pub without_it : Handle → Option NodeCopy
@@ -160,17 +171,23 @@ module _ (nodes : Handle → Option NodeCopy) (tree : AreTree nodes) (dir : Hand
     reached handle some = go (same_or handle bound.to) where
       go : (handle ≡ bound.to) ⊎ (handle ≢ bound.to) → IsReached gone handle
       go (inl same) =
-          absurd (let none_now : IsSome {T = NodeCopy} None = subst (λ node. IsSome node) (ap gone same ∙ changed_here bound.to goes without_it) some in
+          absurd (let none_now : IsSome {T = NodeCopy} None = subst (λ node. IsSome node)
+          (ap gone same ∙ changed_here bound.to goes without_it) some in
           let z : false ≡ true = none_now in cc)
       go (inr other) =
           let before = then_reached handle other (tree.reached handle (some_before handle other some)) in
           (before.0, reached_but_bare without_it gone bound.to is_bare (none_there none) before.0 handle before.1)
 
   -- IT MOVES to another directory and name, where it is a file or the directory is the same
-  pub stays_moved : (to : Handle) (name : List ℕ) → is_directory (kind_of (nodes to)) ≡ true → bound_to name (names_under without_it to) ≡ None
+  pub stays_moved : (to : Handle) (name : List ℕ) → is_directory (kind_of (nodes to)) ≡ true
+      → bound_to name (names_under without_it to) ≡ None
       → (to ≡ dir) ⊎ ((names_under nodes bound.to ≡ []) × (to ≢ bound.to))
       → AreTree (moved to name)
-  stays_moved to name directory free place = record { one_name = bound_names without_it (moved to name) to (new_name name) is_bound names_left; reached = reached } where
+  stays_moved to name directory free place = record {
+    one_name = bound_names without_it (moved to name) to
+        (new_name name) is_bound names_left;
+    reached = reached;
+  } where
     directory_now : is_directory (kind_of (without_it to)) ≡ true
     directory_now = ap is_directory (is_unbound.kinds to) ∙ directory
 
@@ -182,7 +199,8 @@ module _ (nodes : Handle → Option NodeCopy) (tree : AreTree nodes) (dir : Hand
       others = names_elsewhere without_it to (with_last name bound.to);
       directory = directory_now;
       new = λ other at same.
-          let z : true ≡ false = sym (same_name-self name) ∙ ap (same_name name) (sym same) ∙ none_found name (names_under without_it to) free other at in cc;
+          let z : true ≡ false = sym (same_name-self name) ∙ ap (same_name name) (sym same)
+          ∙ none_found name (names_under without_it to) free other at in cc;
       below_root = λ same. tree.one_name.unnamed dir (bound, has, same);
       there = some_by_kind (without_it bound.to) (nodes bound.to) (is_unbound.kinds bound.to) (tree.one_name.leads dir bound has);
       unnamed = leads_no_more nodes without_it dir bound is_unbound tree.one_name;
@@ -208,11 +226,12 @@ module _ (nodes : Handle → Option NodeCopy) (tree : AreTree nodes) (dir : Hand
 
     either : (handle : Handle) → IsReached nodes handle → IsReached (moved to name) handle
     either handle (above, is) = elim (reached_or_aside nodes without_it dir bound is_unbound tree.one_name above handle is) [
-      | inl still ↦ reached_still without_it (moved to name) (still_leads without_it (moved to name) to (new_name name) is_bound) handle still
+      | inl still ↦ reached_still without_it (moved to name) (still_leads without_it (moved to name) to
+          (new_name name) is_bound) handle still
       | inr both ↦ reached_by_name without_it (moved to name) to (new_name name) is_bound (to_reached place) both.0.0 handle both.0.1
     ]
 
     reached : (handle : Handle) → IsSome (moved to name handle) → IsReached (moved to name) handle
     reached handle some =
         either handle (tree.reached handle (some_by_kind (nodes handle) (moved to name handle)
-          (sym (is_bound.kinds handle ∙ is_unbound.kinds handle)) some))
+        (sym (is_bound.kinds handle ∙ is_unbound.kinds handle)) some))

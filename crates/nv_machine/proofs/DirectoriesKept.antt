@@ -1,7 +1,6 @@
 -- Directories stay a tree at every commit: what each call changes, where it is not refused, keeps it.
-use Rattle.std.proofs.Common.{◌≡◌, ◌≢◌, ◌⊎◌, inl, inr, ℕ, zero, suc, Bool, true, false, cond, not, ◌&&◌, ◌||◌, if◌then◌else◌, nat_lt, List, [], ◌∷◌, ◌++◌, length, filter, Option, Some, None, IsSome, arith, refl, ap, ap₂, sym, subst, ◌∙◌}
+use Rattle.std.proofs.Common.{◌≡◌, ◌≢◌, ◌⊎◌, inl, inr, ℕ, Bool, true, false, cond, if◌then◌else◌, List, [], ◌∷◌, filter, Option, Some, None, arith, refl, ap, sym, subst, ◌∙◌}
 use Rattle.std.proofs.Math.Path.{fun_ext}
-use Rattle.std.proofs.lemmas.Bool.{ltb-false}
 use Rattle.std.specs.List.{Contains}
 use Rattle.std.specs.Prelude.{option_map, is_some, Ok, Err}
 use Rattle.nv_base.specs.Names.{same_name}
@@ -9,25 +8,17 @@ use Rattle.nv_base.specs.declared.fault.Fault.TheVariants as fault
 use Rattle.nv_base.specs.declared.node.Kind.{Kind}
 use Rattle.nv_base.specs.declared.node.Kind.TheVariants.{File, Dir}
 use Rattle.nv_base.specs.declared.numbers.Handle.{Handle}
-use Rattle.nv_calls.proofs.Passed.{HasKind, both_passed, directory_passed, elsewhere, file_passed, if_passed, lawful_passed, look_passed, node_passed}
-use Rattle.nv_calls.specs.AllCalls.{effect, refusal}
-use Rattle.nv_calls.specs.Plain.{Change, PlainNode, begins, change, goes, node_in, nodes_after, same_handle, stamped, with_mode, with_names}
-use Rattle.nv_calls.specs.Refusals.{Check, and_find, found, found_by, is_directory, kind_of, lookup, passes, refuse_if, want_directory, want_lawful}
+use Rattle.nv_calls.proofs.Passed.{HasKind, directory_passed, if_passed, lawful_passed}
+use Rattle.nv_calls.specs.Plain.{Change, PlainNode, begins, change, goes, node_in, nodes_after, same_handle, stamped, with_names}
+use Rattle.nv_calls.specs.Refusals.{Check, and_find, found, found_by, is_directory, kind_of, lookup, passes}
 use Rattle.nv_calls.specs.calls.Create.{begin_effect, create_refusal}
-use Rattle.nv_calls.specs.calls.Lookup.{lookup_refusal}
-use Rattle.nv_calls.specs.calls.Rename.{bound_effect, move_effect, moved_refusal, own_place, rename_early, replaced_effect, replaced_refusal}
-use Rattle.nv_calls.specs.calls.Rmdir.{rmdir_late}
-use Rattle.nv_calls.specs.calls.Size.{resized_node}
-use Rattle.nv_calls.specs.calls.Unlink.{leave_effect, unlink_late}
-use Rattle.nv_calls.specs.declared.call.Call.{Call}
-use Rattle.nv_calls.specs.declared.call.Call.TheVariants as call
+use Rattle.nv_calls.specs.calls.Unlink.{leave_effect}
 use Rattle.nv_entry.specs.Index.{bound_to, with_last, without}
-use Rattle.nv_entry.specs.Sound.{rewritten}
-use Rattle.nv_entry.specs.Tree.{names_of_node, names_under}
+use Rattle.nv_entry.specs.Tree.{names_under}
 use Rattle.nv_entry.specs.declared.names.BoundName.{BoundName}
 use Rattle.nv_entry.specs.declared.node.NodeCopy.{NodeCopy}
 use Rattle.nv_machine.proofs.DirectoriesBegun.{KeepsNames, stays_begun, stays_named}
-use Rattle.nv_machine.proofs.DirectoriesChanged.{changed_at, changed_elsewhere, changed_here, found_in, other_handle, stays_left, stays_moved}
+use Rattle.nv_machine.proofs.DirectoriesChanged.{changed_at, changed_elsewhere, changed_here, found_in, other_handle, stays_left}
 use Rattle.nv_machine.proofs.DirectoriesStay.{same_or, same_self}
 use Rattle.nv_machine.specs.Directories.{AreTree, HasName, HaveOneName}
 
@@ -45,7 +36,8 @@ pub changed_nodes : (commit : ℕ) (changes : List Change) (nodes : Handle → O
     → node_in (nodes_after commit changes nodes) handle ≡ changed_by changes (node_in nodes) handle
 changed_nodes commit [] nodes handle = refl
 changed_nodes commit (c ∷ rest) nodes handle = go (same_handle c.handle handle) refl (changed_nodes commit rest nodes handle) where
-  go : (s : Bool) → same_handle c.handle handle ≡ s → node_in (nodes_after commit rest nodes) handle ≡ changed_by rest (node_in nodes) handle
+  go : (s : Bool) → same_handle c.handle handle ≡ s → node_in (nodes_after commit rest nodes) handle ≡ changed_by rest
+      (node_in nodes) handle
       → node_in (nodes_after commit (c ∷ rest) nodes) handle ≡ changed_by (c ∷ rest) (node_in nodes) handle
   go true is later = rw is (unstamped commit (c.becomes (node_in nodes handle)))
   go false is later = rw is later
@@ -67,7 +59,8 @@ first_change at f rest nodes apart = fun_ext (λ handle. go handle (same_or hand
 pub swapped : (a b : Handle) (f g : Option NodeCopy → Option NodeCopy) (nodes : Handle → Option NodeCopy) → a ≢ b
     → changed_at a f (changed_at b g nodes) ≡ changed_at b g (changed_at a f nodes)
 swapped a b f g nodes differ = fun_ext (λ handle. go handle (same_or handle a)) where
-  go : (handle : Handle) → (handle ≡ a) ⊎ (handle ≢ a) → changed_at a f (changed_at b g nodes) handle ≡ changed_at b g (changed_at a f nodes) handle
+  go : (handle : Handle) → (handle ≡ a) ⊎ (handle ≢ a) → changed_at a f (changed_at b g nodes) handle ≡ changed_at b g
+      (changed_at a f nodes) handle
   go handle (inl same) =
       ap (changed_at a f (changed_at b g nodes)) same ∙ changed_here a f (changed_at b g nodes)
       ∙ ap f (changed_elsewhere b g nodes a differ) ∙ sym (changed_here a f nodes)
@@ -90,14 +83,17 @@ joined at f g nodes = fun_ext go where
   both None = refl
   both (Some n) = refl
 
-  go : (handle : Handle) → changed_at at (with_names f) (changed_at at (with_names g) nodes) handle ≡ changed_at at (with_names (λ names. f (g names))) nodes handle
+  go : (handle : Handle) → changed_at at (with_names f) (changed_at at (with_names g) nodes) handle ≡ changed_at at
+      (with_names (λ names. f (g names))) nodes handle
   go handle = cases (same_handle at handle) refl where
     cases : (s : Bool) → same_handle at handle ≡ s
-        → changed_at at (with_names f) (changed_at at (with_names g) nodes) handle ≡ changed_at at (with_names (λ names. f (g names))) nodes handle
+        → changed_at at (with_names f) (changed_at at (with_names g) nodes) handle ≡ changed_at at
+        (with_names (λ names. f (g names))) nodes handle
     cases true is = rw is (both (nodes handle))
     cases false is = rw is refl
 
-pub same_names : (at : Handle) (f g : List BoundName → List BoundName) (nodes : Handle → Option NodeCopy) → ((names : List BoundName) → f names ≡ g names)
+pub same_names : (at : Handle) (f g : List BoundName → List BoundName) (nodes : Handle → Option NodeCopy)
+    → ((names : List BoundName) → f names ≡ g names)
     → changed_at at (with_names f) nodes ≡ changed_at at (with_names g) nodes
 same_names at f g nodes same = ap (λ (h : List BoundName → List BoundName). changed_at at (with_names h) nodes) (fun_ext same)
 
@@ -152,7 +148,8 @@ is_none None is = refl
 is_none (Some handle) is = cc
 
 pub directory_of : (found : Option NodeCopy) → HasKind Dir found → is_directory (kind_of found) ≡ true
-directory_of found has = ap (λ (n : Option NodeCopy). is_directory (kind_of n)) has.is ∙ ap (λ (k : Kind). is_directory (Some k)) has.kind_is
+directory_of found has = ap (λ (n : Option NodeCopy). is_directory (kind_of n)) has.is
+    ∙ ap (λ (k : Kind). is_directory (Some k)) has.kind_is
 
 pub file_of : (found : Option NodeCopy) → HasKind File found → is_directory (kind_of found) ≡ false
 file_of found has = ap (λ (n : Option NodeCopy). is_directory (kind_of n)) has.is ∙ ap (λ (k : Kind). is_directory (Some k)) has.kind_is
@@ -167,14 +164,16 @@ no_names nodes have handle other = go (names_under nodes handle) refl where
       let has : HasName nodes handle b = subst (λ l. Contains l b) (sym is) (0, omega arith, refl) in
       let z : true ≡ false = sym (have.named handle b has) ∙ other in cc
 
-pub apart_by_kind : (nodes : Handle → Option NodeCopy) (a b : Handle) → is_directory (kind_of (nodes a)) ≡ true → is_directory (kind_of (nodes b)) ≡ false → a ≢ b
+pub apart_by_kind : (nodes : Handle → Option NodeCopy) (a b : Handle) → is_directory (kind_of (nodes a)) ≡ true
+    → is_directory (kind_of (nodes b)) ≡ false → a ≢ b
 apart_by_kind nodes a b one other same = let z : true ≡ false = sym one ∙ ap (λ h. is_directory (kind_of (nodes h))) same ∙ other in cc
 
 -- ---- each call, where it is not refused
 
 module _ (nodes : Handle → Option NodeCopy) (tree : AreTree nodes) where
   -- a new inode's handle has no node
-  pub begin_kept : (dir : Handle) (name : List ℕ) (kind : Kind) (mode : ℕ) (made : Handle) → create_refusal nodes dir name ≡ passes → nodes made ≡ None
+  pub begin_kept : (dir : Handle) (name : List ℕ) (kind : Kind) (mode : ℕ) (made : Handle) → create_refusal nodes dir name ≡ passes
+      → nodes made ≡ None
       → AreTree (changed_by (begin_effect kind dir name mode made) nodes)
   begin_kept dir name kind mode made passed new =
       let d = directory_passed (nodes dir) _ passed in
@@ -188,7 +187,8 @@ module _ (nodes : Handle → Option NodeCopy) (tree : AreTree nodes) where
     where
       some_apart : (dir made : Handle) → is_directory (kind_of (nodes dir)) ≡ true → nodes made ≡ None → dir ≢ made
       some_apart dir made directory new same =
-          let z : true ≡ false = sym directory ∙ ap (λ h. is_directory (kind_of (nodes h))) same ∙ ap (λ (n : Option NodeCopy). is_directory (kind_of n)) new in cc
+          let z : true ≡ false = sym directory ∙ ap (λ h. is_directory (kind_of (nodes h))) same
+          ∙ ap (λ (n : Option NodeCopy). is_directory (kind_of n)) new in cc
 
   pub one_kept : (at : Handle) (f : Option NodeCopy → Option NodeCopy) → KeepsNames f → AreTree (changed_by (change at f ∷ []) nodes)
   one_kept at f keeps = subst AreTree (sym (first_change at f [] nodes refl)) (stays_named nodes tree at f keeps)
@@ -207,4 +207,5 @@ module _ (nodes : Handle → Option NodeCopy) (tree : AreTree nodes) where
 
       apart : dir ≢ to
       apart same =
-          absurd (let lt = (subst (λ names. Contains names (record { name = name; to = to })) (ap (names_under nodes) same ∙ none) has).1 in omega (arith, lt))
+          absurd (let lt = (subst (λ names. Contains names (record { name = name; to = to }))
+          (ap (names_under nodes) same ∙ none) has).1 in omega (arith, lt))

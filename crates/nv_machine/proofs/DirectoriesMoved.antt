@@ -11,7 +11,7 @@ use Rattle.nv_entry.specs.Index.{bound_to, with_last, without}
 use Rattle.nv_entry.specs.Tree.{names_of_node, names_under}
 use Rattle.nv_entry.specs.declared.names.BoundName.{BoundName}
 use Rattle.nv_entry.specs.declared.node.NodeCopy.{NodeCopy}
-use Rattle.nv_machine.proofs.DirectoriesChanged.{changed_at, changed_elsewhere, found_in, names_elsewhere, names_here, names_kinds, stays_left, stays_moved}
+use Rattle.nv_machine.proofs.DirectoriesChanged.{changed_at, changed_elsewhere, names_elsewhere, names_here, names_kinds, stays_left, stays_moved}
 use Rattle.nv_machine.proofs.DirectoriesKept.{apart_by_kind, changed_by, filter_more, filter_twice, first_change, joined, left_none, no_names, same_names, still_none, swapped}
 use Rattle.nv_machine.proofs.DirectoriesReached.{one_of_handle}
 use Rattle.nv_machine.proofs.DirectoriesStay.{filter_contains, same_or, same_self}
@@ -38,7 +38,8 @@ module _ (from : Handle) (old : List ℕ) (to : Handle) (new : List ℕ) (moved 
   both_ways false false h = inr (refl, refl)
 
   -- the name leaves, and stands in the other directory
-  pub moves : (nodes : Handle → Option NodeCopy) → AreTree nodes → CanMove nodes → AreTree (changed_at to arrives (changed_at from leaves nodes))
+  pub moves : (nodes : Handle → Option NodeCopy) → AreTree nodes → CanMove nodes
+      → AreTree (changed_at to arrives (changed_at from leaves nodes))
   moves nodes tree can =
       stays_moved nodes tree from (record { name = old; to = moved }) can.has to new can.directory (free (same_or to from))
       (place (both_ways (is_directory (kind_of (nodes moved))) (same_handle from to) can.crosses))
@@ -101,7 +102,8 @@ module _ (from : Handle) (old : List ℕ) (to : Handle) (new : List ℕ) (moved 
 
     moved_apart : moved ≢ there
     moved_apart same =
-        let one : from ≡ to = tree.one_name.one from to there (record { name = old; to = moved }, has, same) (record { name = new; to = there }, had, refl) in
+        let one : from ≡ to = tree.one_name.one from to there (record { name = old; to = moved }, has, same)
+        (record { name = new; to = there }, had, refl) in
         let b : BoundName = record { name = old; to = moved } in
         let c : BoundName = record { name = new; to = there } in
         let names : b ≡ c =
@@ -119,7 +121,8 @@ module _ (from : Handle) (old : List ℕ) (to : Handle) (new : List ℕ) (moved 
         ap kind_of (changed_elsewhere there goes (changed_at to (with_names (without new)) nodes) handle other)
         ∙ names_kinds nodes to (without new) handle
 
-    freed_names : (handle : Handle) → handle ≢ there → names_under freed handle ≡ names_under (changed_at to (with_names (without new)) nodes) handle
+    freed_names : (handle : Handle) → handle ≢ there → names_under freed handle ≡ names_under
+        (changed_at to (with_names (without new)) nodes) handle
     freed_names handle other = ap names_of_node (changed_elsewhere there goes (changed_at to (with_names (without new)) nodes) handle other)
 
     still_has : (from ≡ to) ⊎ (from ≢ to) → HasName freed from (record { name = old; to = moved })
@@ -128,7 +131,7 @@ module _ (from : Handle) (old : List ℕ) (to : Handle) (new : List ℕ) (moved 
         (sym (freed_names from from_apart ∙ ap (names_under (changed_at to (with_names (without new)) nodes)) same
         ∙ names_here nodes to (without new) to_is))
         (filter_contains (λ (b : BoundName). not (same_name new b.name)) (names_under nodes to) (record { name = old; to = moved })
-          (subst (λ h. HasName nodes h (record { name = old; to = moved })) same has) (ap not (names_apart same)))
+        (subst (λ h. HasName nodes h (record { name = old; to = moved })) same has) (ap not (names_apart same)))
     still_has (inr other) =
         subst (λ l. Contains l (record { name = old; to = moved }))
         (sym (freed_names from from_apart ∙ names_elsewhere nodes to (without new) from other)) has
@@ -161,26 +164,30 @@ module _ (from : Handle) (old : List ℕ) (to : Handle) (new : List ℕ) (moved 
 
     -- within one directory
     pub same_replaced : to ≡ from
-        → changed_at to arrives (changed_at from leaves freed) ≡ changed_by (move_effect true from old to new moved (replaced_effect (Some there))) nodes
+        → changed_at to arrives (changed_at from leaves freed) ≡ changed_by
+        (move_effect true from old to new moved (replaced_effect (Some there))) nodes
     same_replaced same =
         ap (λ n. changed_at to arrives (changed_at from leaves n)) first_goes
         ∙ ap (λ h. changed_at h arrives (changed_at from leaves (changed_at h (with_names (without new)) emptied))) same
         ∙ ap (changed_at from arrives) (joined from (without old) (without new) emptied)
         ∙ joined from (with_last new moved) (λ names. without old (without new names)) emptied
-        ∙ same_names from (λ names. with_last new moved (without old (without new names))) (λ names. with_last new moved (without old names)) emptied thrice
+        ∙ same_names from (λ names. with_last new moved (without old (without new names)))
+        (λ names. with_last new moved (without old names)) emptied thrice
         ∙ sym (first_change from (with_names (λ names. with_last new moved (without old names))) (change there goes ∷ []) nodes
-          (changed_elsewhere there goes nodes from from_apart))
+        (changed_elsewhere there goes nodes from from_apart))
 
     -- and from one to another
     pub other_replaced : to ≢ from
-        → changed_at to arrives (changed_at from leaves freed) ≡ changed_by (move_effect false from old to new moved (replaced_effect (Some there))) nodes
+        → changed_at to arrives (changed_at from leaves freed) ≡ changed_by
+        (move_effect false from old to new moved (replaced_effect (Some there))) nodes
     other_replaced other =
         ap (λ n. changed_at to arrives (changed_at from leaves n)) first_goes
         ∙ ap (changed_at to arrives) (swapped from to leaves (with_names (without new)) emptied (λ same. other (sym same)))
         ∙ joined to (with_last new moved) (without new) (changed_at from leaves emptied)
         ∙ same_names to (λ names. with_last new moved (without new names)) (with_last new moved) (changed_at from leaves emptied) twice
         ∙ swapped to from arrives leaves emptied other
-        ∙ ap (changed_at from leaves) (sym (first_change to arrives (change there goes ∷ []) nodes (changed_elsewhere there goes nodes to to_apart)))
+        ∙ ap (changed_at from leaves) (sym (first_change to arrives (change there goes ∷ []) nodes
+        (changed_elsewhere there goes nodes to to_apart)))
         ∙ sym (first_change from leaves (change to arrives ∷ change there goes ∷ []) nodes from_unchanged)
       where
         from_unchanged : changed_by (change to arrives ∷ change there goes ∷ []) nodes from ≡ nodes from

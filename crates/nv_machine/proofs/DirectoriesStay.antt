@@ -1,19 +1,17 @@
 -- Directories stay a tree where a name leaves, a node goes or begins, and a name is bound.
-use Rattle.std.proofs.Common.{◌≡◌, ◌≢◌, ◌⊎◌, inl, inr, ℕ, zero, suc, ◌<◌, Bool, true, false, not, List, [], ◌∷◌, ◌++◌, length, get_or, filter, Option, Some, None, IsSome, arith, refl, ap, sym, subst, ◌∙◌}
+use Rattle.std.proofs.Common.{◌≡◌, ◌≢◌, ◌⊎◌, inl, inr, zero, suc, Bool, true, false, List, [], ◌∷◌, ◌++◌, filter, Option, Some, None, IsSome, arith, refl, ap, sym, subst, ◌∙◌}
 use Rattle.std.proofs.lemmas.Bool.{eq-eqb}
 use Rattle.std.proofs.lemmas.List.Elements.{All-append, Contains-append_cases, Contains-append_left, Contains-append_right}
-use Rattle.std.proofs.lemmas.List.Kept.{AllPairs-cons, AllPairs-filter}
+use Rattle.std.proofs.lemmas.List.Kept.{AllPairs-cons}
 use Rattle.std.specs.List.{All, AllPairs, Contains}
-use Rattle.nv_base.specs.Names.{same_name}
 use Rattle.nv_base.specs.declared.numbers.Handle.{Handle}
 use Rattle.nv_calls.specs.Plain.{same_handle}
 use Rattle.nv_calls.specs.Refusals.{is_directory, kind_of}
-use Rattle.nv_entry.specs.Index.{without}
 use Rattle.nv_entry.specs.Tree.{names_of_node, names_under, root}
 use Rattle.nv_entry.specs.declared.names.BoundName.{BoundName}
 use Rattle.nv_entry.specs.declared.node.NodeCopy.{NodeCopy}
 use Rattle.nv_machine.proofs.FitsCalls.{handles_same}
-use Rattle.nv_machine.specs.Directories.{AreApart, AreTree, HasName, HaveOneName, IsReachedBy, LeadsTo}
+use Rattle.nv_machine.specs.Directories.{AreApart, HasName, HaveOneName, LeadsTo}
 
 -- ---- elements
 
@@ -69,7 +67,8 @@ some_by_kind None None is some = some
 some_by_kind None (Some n) is some = cc
 some_by_kind (Some n) b is some = refl
 
-led_before : (nodes after : Handle → Option NodeCopy) → HaveFewer nodes after → (dir handle : Handle) → LeadsTo after dir handle → LeadsTo nodes dir handle
+led_before : (nodes after : Handle → Option NodeCopy) → HaveFewer nodes after → (dir handle : Handle) → LeadsTo after dir handle
+    → LeadsTo nodes dir handle
 led_before nodes after fewer dir handle (bound, has, to) = (bound, fewer.names dir bound has, to)
 
 pub fewer_names : (nodes after : Handle → Option NodeCopy) → HaveFewer nodes after → HaveOneName nodes → HaveOneName after
@@ -77,9 +76,11 @@ fewer_names nodes after fewer have = record {
   top = ap is_directory (fewer.kinds root) ∙ have.top;
   unnamed = λ dir leads. have.unnamed dir (led_before nodes after fewer dir root leads);
   named = λ dir bound has. ap is_directory (fewer.kinds dir) ∙ have.named dir bound (fewer.names dir bound has);
-  leads = λ dir bound has. some_by_kind (after bound.to) (nodes bound.to) (fewer.kinds bound.to) (have.leads dir bound (fewer.names dir bound has));
+  leads = λ dir bound has. some_by_kind (after bound.to) (nodes bound.to) (fewer.kinds bound.to)
+      (have.leads dir bound (fewer.names dir bound has));
   apart = fewer.apart;
-  one = λ dir other handle a b. have.one dir other handle (led_before nodes after fewer dir handle a) (led_before nodes after fewer other handle b);
+  one = λ dir other handle a b. have.one dir other handle (led_before nodes after fewer dir handle a)
+      (led_before nodes after fewer other handle b);
 }
 
 -- ---- a node that goes or begins
@@ -123,10 +124,12 @@ bare_names nodes after bare is have = record {
       let before = bare_has nodes after bare is dir bound has in
       subst (λ node. IsSome node) (sym (is.others bound.to (λ same. is.unnamed dir (bound, before, same)))) (have.leads dir bound before);
   apart = λ dir. apart_at dir (same_or dir bare);
-  one = λ dir other handle a b. have.one dir other handle (bare_leads nodes after bare is dir handle a) (bare_leads nodes after bare is other handle b);
+  one = λ dir other handle a b. have.one dir other handle (bare_leads nodes after bare is dir handle a)
+      (bare_leads nodes after bare is other handle b);
 } where
   apart_at : (dir : Handle) → (dir ≡ bare) ⊎ (dir ≢ bare) → AllPairs AreApart (names_under after dir)
-  apart_at dir (inl same) = subst (λ names. AllPairs AreApart names) (sym (ap (names_under after) same ∙ is.names)) (λ i j d lt within. absurd (omega (arith, within)))
+  apart_at dir (inl same) = subst (λ names. AllPairs AreApart names) (sym (ap (names_under after) same ∙ is.names))
+      (λ i j d lt within. absurd (omega (arith, within)))
   apart_at dir (inr other) = subst (λ node. AllPairs AreApart (names_of_node node)) (sym (is.others dir other)) (have.apart dir)
 
 -- ---- a name that is bound
@@ -156,7 +159,7 @@ bound_cases nodes after dir bound is at b has = go (same_or at dir) where
   go : (at ≡ dir) ⊎ (at ≢ dir) → HasName nodes at b ⊎ ((at ≡ dir) × (bound ≡ b))
   go (inl same) =
       last (Contains-append_cases (names_under nodes dir) (bound ∷ []) b
-        (subst (λ names. Contains names b) (ap (names_under after) same ∙ is.names) has)) same
+      (subst (λ names. Contains names b) (ap (names_under after) same ∙ is.names) has)) same
   go (inr other) = inl (subst (λ names. Contains names b) (is.others at other) has)
 
 -- what was led to still is
@@ -169,19 +172,25 @@ still_leads nodes after dir bound is at handle (b, has, to) = (b, go (same_or at
       (Contains-append_left (names_under nodes dir) (bound ∷ []) b (subst (λ h. HasName nodes h b) same has))
   go (inr other) = subst (λ names. Contains names b) (sym (is.others at other)) has
 
-pub leads_there : (nodes after : Handle → Option NodeCopy) (dir : Handle) (bound : BoundName) → IsBound nodes after dir bound → LeadsTo after dir bound.to
-leads_there nodes after dir bound is =
-    (bound, subst (λ names. Contains names bound) (sym is.names) (Contains-append_right (names_under nodes dir) (bound ∷ []) bound (contains_first bound [])), refl)
+pub leads_there : (nodes after : Handle → Option NodeCopy) (dir : Handle) (bound : BoundName) → IsBound nodes after dir bound
+    → LeadsTo after dir bound.to
+leads_there nodes after dir bound is = (
+  bound,
+  subst (λ names. Contains names bound) (sym is.names)
+      (Contains-append_right (names_under nodes dir) (bound ∷ []) bound (contains_first bound [])),
+  refl,
+)
 
-pairs_push : (names : List BoundName) (bound : BoundName) → AllPairs AreApart names → ((b : BoundName) → Contains names b → AreApart b bound)
+pairs_push : (names : List BoundName) (bound : BoundName) → AllPairs AreApart names
+    → ((b : BoundName) → Contains names b → AreApart b bound)
     → AllPairs AreApart (names ++ bound ∷ [])
 pairs_push [] bound apart each = λ i j d lt within. absurd (omega (arith, lt, within))
 pairs_push (b ∷ names) bound apart each =
     AllPairs-cons AreApart b (names ++ bound ∷ [])
     (All-append (AreApart b) names (bound ∷ []) (λ k d lt. apart 0 (suc k) d (omega arith) (omega (arith, lt)))
-      (All-one (each b (contains_first b names))))
+    (All-one (each b (contains_first b names))))
     (pairs_push names bound (λ i j d lt within. apart (suc i) (suc j) d (omega (arith, lt)) (omega (arith, within)))
-      (λ c at. each c (contains_later c b names at)))
+    (λ c at. each c (contains_later c b names at)))
   where
     All-one : AreApart b bound → All (AreApart b) (bound ∷ [])
     All-one h zero d lt = h
@@ -221,7 +230,8 @@ bound_names nodes after dir bound is have = record {
       → HasName nodes at b ⊎ ((at ≡ dir) × (bound ≡ b)) → HasName nodes other c ⊎ ((other ≡ dir) × (bound ≡ c)) → at ≡ other
   one_of at other handle b c to led (inl x) (inl y) = have.one at other handle (b, x, to) (c, y, led)
   one_of at other handle b c to led (inl x) (inr y) = absurd (is.unnamed at (b, x, to ∙ sym led ∙ sym (ap (λ (n : BoundName). n.to) y.1)))
-  one_of at other handle b c to led (inr x) (inl y) = absurd (is.unnamed other (c, y, led ∙ sym to ∙ sym (ap (λ (n : BoundName). n.to) x.1)))
+  one_of at other handle b c to led (inr x) (inl y) = absurd (is.unnamed other
+      (c, y, led ∙ sym to ∙ sym (ap (λ (n : BoundName). n.to) x.1)))
   one_of at other handle b c to led (inr x) (inr y) = x.0 ∙ sym y.0
 
   one : (at other handle : Handle) → LeadsTo after at handle → LeadsTo after other handle → at ≡ other

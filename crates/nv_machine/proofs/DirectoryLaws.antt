@@ -1,7 +1,8 @@
 -- Directories form a tree, whatever events come.
-use Rattle.std.proofs.Common.{◌≡◌, ◌⊎◌, inl, inr, ℕ, zero, suc, if◌then◌else◌, ◌<◌, ◌≤◌, Bool, true, false, not, ◌&&◌, ◌||◌, cond, nat_lt, List, [], ◌∷◌, ◌++◌, length, get_or, Option, Some, None, IsSome, arith, refl, ap, sym, subst, ◌∙◌}
+use Rattle.std.proofs.Common.{◌≡◌, inl, inr, ℕ, zero, suc, if◌then◌else◌, ◌<◌, ◌≤◌, Bool, true, false, not, ◌&&◌, ◌||◌, cond, nat_lt, List, [], ◌∷◌, length, ◌==◌, get_or, take, Option, Some, None, IsSome, arith, refl, ap, sym, subst, ◌∙◌}
 use Rattle.std.proofs.Math.Path.{fun_ext}
-use Rattle.std.proofs.lemmas.Bool.{ltb-false, ltb-true, true≢false}
+use Rattle.std.proofs.lemmas.Bool.{cases_lt, eqb-true, ltb-false, ltb-true, true≢false}
+use Rattle.std.proofs.lemmas.List.{get_or_default, get_or_past}
 use Rattle.std.proofs.lemmas.List.Elements.{Contains-get_or}
 use Rattle.std.specs.Prelude.{option_map}
 use Rattle.nv_base.specs.Limits.{IsWithinLimits}
@@ -10,9 +11,10 @@ use Rattle.nv_base.specs.declared.geometry.GeometryNumbers.{GeometryNumbers}
 use Rattle.nv_base.specs.declared.node.Kind.{Kind}
 use Rattle.nv_base.specs.declared.node.Kind.TheVariants.{File, Dir}
 use Rattle.nv_base.specs.declared.numbers.Handle.{Handle}
-use Rattle.nv_calls.proofs.Passed.{both_passed, directory_passed, elsewhere, file_passed, if_passed, lawful_passed, look_passed, node_passed}
+use Rattle.nv_calls.proofs.Commits.{handle-same}
+use Rattle.nv_calls.proofs.Passed.{both_passed, directory_passed, elsewhere, file_passed, if_passed, node_passed}
 use Rattle.nv_calls.specs.AllCalls.{effect, refusal}
-use Rattle.nv_calls.specs.Plain.{PlainNode, change, node_in, nodes_after, same_handle, with_mode}
+use Rattle.nv_calls.specs.Plain.{PlainNode, node_in, same_handle, with_mode}
 use Rattle.nv_calls.specs.Refusals.{found, is_directory, kind_of, lookup, passes, refuse_if, want_bound, want_directory, want_lawful}
 use Rattle.nv_calls.specs.calls.Lookup.{lookup_refusal}
 use Rattle.nv_calls.specs.calls.Rename.{bound_effect, move_effect, moved_refusal, own_place, pass_if, rename_early, replaced_effect, replaced_refusal}
@@ -21,17 +23,19 @@ use Rattle.nv_calls.specs.calls.Size.{resized_node}
 use Rattle.nv_calls.specs.calls.Unlink.{leave_effect, unlink_late}
 use Rattle.nv_calls.specs.declared.call.Call.{Call}
 use Rattle.nv_calls.specs.declared.call.Call.TheVariants as call
+use Rattle.nv_cell.specs.Cell.{CellState}
 use Rattle.nv_entry.specs.Sound.{empty_node, rewritten}
-use Rattle.nv_entry.specs.Tree.{names_of_node, names_under, root}
+use Rattle.nv_entry.specs.Tree.{FormTree, LeadsAt, names_of_node, names_under, root}
+use Rattle.nv_entry.specs.declared.item.Entry.{Entry}
 use Rattle.nv_entry.specs.declared.names.BoundName.{BoundName}
 use Rattle.nv_entry.specs.declared.node.NodeCopy.{NodeCopy}
 use Rattle.nv_machine.proofs.DirectoriesBegun.{KeepsNames}
-use Rattle.nv_machine.proofs.DirectoriesChanged.{found_in}
+use Rattle.nv_machine.proofs.DirectoriesChanged.{found_in, some_directory}
 use Rattle.nv_machine.proofs.DirectoriesKept.{begin_kept, changed_by, changed_nodes, directory_of, file_of, found_there, leave_kept, no_names, none_there, one_kept}
 use Rattle.nv_machine.proofs.DirectoriesMoved.{CanMove, moves, other_effect, other_replaced, replaces, same_effect, same_replaced}
 use Rattle.nv_machine.proofs.DirectoriesStay.{same_self}
 use Rattle.nv_machine.proofs.FitsCalls.{handles_same}
-use Rattle.nv_machine.proofs.Effects.{point_effect}
+use Rattle.nv_machine.proofs.Effects.{point_effect, take_none}
 use Rattle.nv_machine.proofs.FitsEvents.{AreFit, IsKnown, all_known, commits_if, event_fits, fits_now, new_fit, passes_now}
 use Rattle.nv_machine.proofs.Fresh.{no_node}
 use Rattle.nv_machine.proofs.KeptRuns.{nodes_stay}
@@ -42,9 +46,9 @@ use Rattle.nv_machine.specs.Format.{formatted}
 use Rattle.nv_machine.specs.Hands.{makes_inode}
 use Rattle.nv_machine.specs.PlainRun.{Commits, deed_by, deed_of, keeps_nodes, root_alone}
 use Rattle.nv_machine.specs.Sequence.{beginning}
-use Rattle.nv_machine.specs.Settled.{settled_nodes}
+use Rattle.nv_machine.specs.Settled.{node_by, settled, settled_nodes, settled_tail}
 use Rattle.nv_machine.specs.Step.{after, step}
-use Rattle.nv_machine.specs.World.{Event, Go, Running, Start, World, actor_at}
+use Rattle.nv_machine.specs.World.{Event, Go, Running, Shared, Start, World, actor_at, cell_at, no_cell}
 
 -- ---- nodes that keep their names
 
@@ -89,7 +93,8 @@ module _ (block : ℕ) (nodes : Handle → Option NodeCopy) (tree : AreTree node
   unlink_kept dir name None is passed = tree
   unlink_kept dir name (Some to) is passed =
       let file = file_of (nodes to) (file_passed (nodes to) passes passed).0 in
-      leave_kept nodes tree dir name to (found_there (want_directory (kind_of (nodes dir)) (want_lawful name passes)) (lookup nodes dir name) to is)
+      leave_kept nodes tree dir name to (found_there (want_directory (kind_of (nodes dir)) (want_lawful name passes))
+      (lookup nodes dir name) to is)
       (no_names nodes tree.one_name to file)
 
   empty_of : (names : List BoundName) → nat_lt 0 (length names) ≡ false → names ≡ []
@@ -102,7 +107,8 @@ module _ (block : ℕ) (nodes : Handle → Option NodeCopy) (tree : AreTree node
   rmdir_kept dir name (Some to) is passed =
       let t = directory_passed (nodes to) (refuse_if (nat_lt 0 (length (names_of_node (nodes to)))) fault.NotEmpty passes) passed in
       let none = if_passed (nat_lt 0 (length (names_of_node (nodes to)))) fault.NotEmpty passes t.1 in
-      leave_kept nodes tree dir name to (found_there (want_directory (kind_of (nodes dir)) (want_lawful name passes)) (lookup nodes dir name) to is)
+      leave_kept nodes tree dir name to (found_there (want_directory (kind_of (nodes dir)) (want_lawful name passes))
+      (lookup nodes dir name) to is)
       (empty_of (names_of_node (nodes to)) none.0)
 
   module _ (from : Handle) (old : List ℕ) (to : Handle) (new : List ℕ) (directory : is_directory (kind_of (nodes to)) ≡ true) where
@@ -116,8 +122,10 @@ module _ (block : ℕ) (nodes : Handle → Option NodeCopy) (tree : AreTree node
         can = record { has = has; directory = directory; free = free; crosses = crosses }
 
         go : (same : Bool) → same_handle from to ≡ same → AreTree (changed_by (move_effect same from old to new moved []) nodes)
-        go true is = subst AreTree (same_effect from old to new moved nodes (sym (handles_same from to is))) (moves from old to new moved nodes tree can)
-        go false is = subst AreTree (other_effect from old to new moved nodes (differs from to is)) (moves from old to new moved nodes tree can)
+        go true is = subst AreTree (same_effect from old to new moved nodes (sym (handles_same from to is)))
+            (moves from old to new moved nodes tree can)
+        go false is = subst AreTree (other_effect from old to new moved nodes (differs from to is))
+            (moves from old to new moved nodes tree can)
 
       -- a file stands there
       onto_moved : own_place from old to new ≡ false → (there : Handle) → lookup nodes to new ≡ Some there
@@ -127,7 +135,8 @@ module _ (block : ℕ) (nodes : Handle → Option NodeCopy) (tree : AreTree node
         had : HasName nodes to (record { name = new; to = there })
         had = found_in new (names_under nodes to) there is
 
-        go : (same : Bool) → same_handle from to ≡ same → AreTree (changed_by (move_effect same from old to new moved (replaced_effect (Some there))) nodes)
+        go : (same : Bool) → same_handle from to ≡ same → AreTree
+            (changed_by (move_effect same from old to new moved (replaced_effect (Some there))) nodes)
         go true one =
             subst AreTree (same_replaced from old to new moved nodes tree there has had file own crosses (sym (handles_same from to one)))
             (replaces from old to new moved nodes tree there has had file own crosses)
@@ -135,7 +144,8 @@ module _ (block : ℕ) (nodes : Handle → Option NodeCopy) (tree : AreTree node
             subst AreTree (other_replaced from old to new moved nodes tree there has had file own crosses (differs from to other))
             (replaces from old to new moved nodes tree there has had file own crosses)
 
-      file_there : (there : Handle) → replaced_refusal nodes (kind_of (nodes moved)) (Some there) ≡ passes → is_directory (kind_of (nodes there)) ≡ false
+      file_there : (there : Handle) → replaced_refusal nodes (kind_of (nodes moved)) (Some there) ≡ passes
+          → is_directory (kind_of (nodes there)) ≡ false
       file_there there passed =
           let n = node_passed (nodes there) _ passed in
           second (is_directory (kind_of (nodes moved))) (is_directory (kind_of (nodes there)))
@@ -145,11 +155,13 @@ module _ (block : ℕ) (nodes : Handle → Option NodeCopy) (tree : AreTree node
           second true b h = cc
           second false b h = h
 
-      moved_kept : own_place from old to new ≡ false → (lawful : want_lawful new passes ≡ passes) → (other : Option Handle) → found nodes to new ≡ other
+      moved_kept : own_place from old to new ≡ false → (lawful : want_lawful new passes ≡ passes) → (other : Option Handle)
+          → found nodes to new ≡ other
           → replaced_refusal nodes (kind_of (nodes moved)) other ≡ passes
           → AreTree (changed_by (move_effect (same_handle from to) from old to new moved (replaced_effect other)) nodes)
       moved_kept own lawful None is passed =
-          free_moved (none_there (want_directory (kind_of (nodes to)) (want_lawful new passes)) (lookup nodes to new) (both (kind_of (nodes to)) directory) is)
+          free_moved (none_there (want_directory (kind_of (nodes to)) (want_lawful new passes)) (lookup nodes to new)
+          (both (kind_of (nodes to)) directory) is)
           (same_handle from to) refl
         where
           both : (kind : Option Kind) → is_directory kind ≡ true → want_directory kind (want_lawful new passes) ≡ passes
@@ -160,8 +172,10 @@ module _ (block : ℕ) (nodes : Handle → Option NodeCopy) (tree : AreTree node
           onto_moved own there (found_there (want_directory (kind_of (nodes to)) (want_lawful new passes)) (lookup nodes to new) there is)
           (file_there there passed) (same_handle from to) refl
 
-    bound_kept : own_place from old to new ≡ false → want_lawful new passes ≡ passes → (first second : Option Handle) → found nodes from old ≡ first
-        → found nodes to new ≡ second → want_bound first (λ moved. pass_if (own_place from old to new) (moved_refusal nodes from to second moved)) ≡ passes
+    bound_kept : own_place from old to new ≡ false → want_lawful new passes ≡ passes → (first second : Option Handle)
+        → found nodes from old ≡ first
+        → found nodes to new ≡ second → want_bound first (λ moved. pass_if (own_place from old to new)
+        (moved_refusal nodes from to second moved)) ≡ passes
         → AreTree (changed_by (bound_effect from old to new first second) nodes)
     bound_kept own lawful None second is other passed = tree
     bound_kept own lawful (Some moved) second is other passed =
@@ -171,7 +185,7 @@ module _ (block : ℕ) (nodes : Handle → Option NodeCopy) (tree : AreTree node
         let k = if_passed crosses fault.MoveDirectory (replaced_refusal nodes (kind_of (nodes moved)) second) m.1 in
         moved_kept moved
         (found_in old (names_under nodes from) moved
-          (found_there (want_directory (kind_of (nodes from)) (want_lawful old passes)) (lookup nodes from old) moved is))
+        (found_there (want_directory (kind_of (nodes from)) (want_lawful old passes)) (lookup nodes from old) moved is))
         k.0 own lawful second other k.1
 
   rename_kept : (from : Handle) (old : List ℕ) (to : Handle) (new : List ℕ) → refusal block nodes (call.Rename from old to new) ≡ passes
@@ -190,7 +204,8 @@ module _ (block : ℕ) (nodes : Handle → Option NodeCopy) (tree : AreTree node
   call_kept made (call.Create dir name mode) passed new = begin_kept nodes tree dir name File mode made passed (new refl)
   call_kept made (call.Mkdir dir name mode) passed new = begin_kept nodes tree dir name Dir mode made passed (new refl)
   call_kept made (call.Write file offset []) passed new = tree
-  call_kept made (call.Write file offset (byte ∷ rest)) passed new = one_kept nodes tree file (option_map (rewritten offset (byte ∷ rest))) (texts_keep offset (byte ∷ rest))
+  call_kept made (call.Write file offset (byte ∷ rest)) passed new = one_kept nodes tree file
+      (option_map (rewritten offset (byte ∷ rest))) (texts_keep offset (byte ∷ rest))
   call_kept made (call.Read file offset count) passed new = tree
   call_kept made (call.Size file size) passed new = one_kept nodes tree file (option_map (resized_node size)) (sizes_keep size)
   call_kept made (call.Mode handle mode) passed new = one_kept nodes tree handle (with_mode mode) (modes_keep mode)
@@ -201,7 +216,8 @@ module _ (block : ℕ) (nodes : Handle → Option NodeCopy) (tree : AreTree node
       unlink_kept dir name (found nodes dir name) refl (both_passed (lookup_refusal nodes dir name) _ passed).1
   call_kept made (call.Rmdir dir name) passed new =
       rmdir_kept dir name (found nodes dir name) refl (both_passed (lookup_refusal nodes dir name) _ passed).1
-  call_kept made (call.Rename from old to new_name) passed new = rename_kept from old to new_name passed (own_place from old to new_name) refl
+  call_kept made (call.Rename from old to new_name) passed new = rename_kept from old to new_name passed
+      (own_place from old to new_name) refl
 
 -- ---- every event
 
@@ -241,7 +257,8 @@ module _ (g : GeometryNumbers) (w : World) (known : IsKnown g w) (fit : AreFit w
   event_tree : (e : Event) → AreTree (nodes_of (step w e).world)
   event_tree (Start actor c) = stays_tree (Start actor c) refl
   event_tree (Go actor granted) =
-      go_tree (nat_lt actor (length w.actors)) (actor_at w actor).running actor granted refl refl (keeps_nodes (deed_of w (Go actor granted))) refl
+      go_tree (nat_lt actor (length w.actors)) (actor_at w actor).running actor granted refl refl
+      (keeps_nodes (deed_of w (Go actor granted))) refl
 
 events_tree : (g : GeometryNumbers) (events : List Event) (w : World) → ((before : List Event) → IsKnown g (after w before))
     → AreFit w → AreTree (nodes_of w) → AreTree (nodes_of (after w events))
@@ -254,16 +271,20 @@ events_tree g (e ∷ events) w known fit tree =
 -- ---- a new world
 
 -- the root alone, without names
-new_nodes : (g : GeometryNumbers) → IsWithinLimits g → nodes_of (formatted g) ≡ (λ handle. if same_handle handle root then Some (empty_node Dir 493) else None)
-new_nodes g within = fun_ext (λ handle. ap (option_map (λ (p : PlainNode). p.node)) (plain_start g within handle) ∙ go handle (same_handle handle root)) where
-  go : (handle : Handle) (same : Bool)
-      → option_map (λ (p : PlainNode). p.node) (if same then Some root_alone else None) ≡ (if same then Some (empty_node Dir 493) else None)
-  go handle true = refl
-  go handle false = refl
+new_nodes : (g : GeometryNumbers) → IsWithinLimits g → nodes_of (formatted g) ≡
+    (λ handle. if same_handle handle root then Some (empty_node Dir 493) else None)
+new_nodes g within = fun_ext (λ handle. ap (option_map (λ (p : PlainNode). p.node)) (plain_start g within handle)
+    ∙ go handle (same_handle handle root)) where
+      go : (handle : Handle) (same : Bool)
+          → option_map (λ (p : PlainNode). p.node) (if same then Some root_alone else None)
+          ≡ (if same then Some (empty_node Dir 493) else None)
+      go handle true = refl
+      go handle false = refl
 
 pub root_tree : AreTree (λ handle. if same_handle handle root then Some (empty_node Dir 493) else None)
 root_tree = record { one_name = one_name; reached = λ handle some. ([], only handle (same_handle handle root) refl some) } where
-  only : (handle : Handle) (same : Bool) → same_handle handle root ≡ same → IsSome (if same_handle handle root then Some (empty_node Dir 493) else None) → handle ≡ root
+  only : (handle : Handle) (same : Bool) → same_handle handle root ≡ same
+      → IsSome (if same_handle handle root then Some (empty_node Dir 493) else None) → handle ≡ root
   only handle true is some = handles_same handle root is
   only handle false is some = absurd (let none : IsSome {T = NodeCopy} None = rw is at some in let z : false ≡ true = none in cc)
 
@@ -287,6 +308,80 @@ root_tree = record { one_name = one_name; reached = λ handle some. ([], only ha
   }
 
 -- WHATEVER EVENTS COME from a new world on
-pub all_trees : (g : GeometryNumbers) (events : List Event) → IsWithinLimits g → AreTree (node_in (settled_nodes (after (formatted g) events).shared))
+pub all_trees : (g : GeometryNumbers) (events : List Event) → IsWithinLimits g
+    → AreTree (node_in (settled_nodes (after (formatted g) events).shared))
 all_trees g events within =
     events_tree g events (formatted g) (all_known g within) (new_fit g within) (subst AreTree (sym (new_nodes g within)) root_tree)
+
+-- ---- numbers of inodes
+
+-- a node's handle has the generation of its slot, which is one of the world's
+module _ (s : Shared) where
+  some_under : (handle : Handle) → IsSome (node_in (settled_nodes s) handle)
+      → (handle.generation ≡ (cell_at s handle.ino).generation) × (handle.ino < length s.cells)
+  some_under handle some = go (handle.generation == (cell_at s handle.ino).generation) refl where
+    none_past : length s.cells ≤ handle.ino → settled s handle.ino ≡ []
+    none_past past =
+        let at : cell_at s handle.ino ≡ no_cell = get_or_past s.cells handle.ino no_cell past in
+        ap (λ (c : CellState). take (settled_tail s.book.journals handle.ino c.chain.tail) c.chain.entries) at
+        ∙ take_none (settled_tail s.book.journals handle.ino 0)
+
+    within : IsSome (node_in (λ h. node_by (cell_at s h.ino) (settled s h.ino)) handle) → handle.ino < length s.cells
+    within there = elim (cases_lt handle.ino (length s.cells)) [
+      | inl lt ↦ lt
+      | inr past ↦ absurd (let none : IsSome {T = NodeCopy} None =
+          subst (λ (log : List Entry). IsSome (option_map (λ (p : PlainNode). p.node) (node_by (cell_at s handle.ino) log)))
+          (none_past past) there in
+          let z : false ≡ true = none in cc)
+    ]
+
+    go : (same : Bool) → (handle.generation == (cell_at s handle.ino).generation) ≡ same
+        → (handle.generation ≡ (cell_at s handle.ino).generation) × (handle.ino < length s.cells)
+    go true is = (eqb-true handle.generation (cell_at s handle.ino).generation is, within (rw is at some))
+    go false is = absurd (let none : IsSome {T = NodeCopy} None = rw is at some in let z : false ≡ true = none in cc)
+
+  -- no two nodes have one number
+  one_handle : (a b : Handle) → IsSome (node_in (settled_nodes s) a) → IsSome (node_in (settled_nodes s) b) → a.ino ≡ b.ino → a ≡ b
+  one_handle a b one other same =
+      handle-same a b same ((some_under a one).0 ∙ ap (λ ino. (cell_at s ino).generation) same ∙ sym (some_under b other).0)
+
+  -- a tree of nodes is one by their numbers
+  pub tree_by_numbers : AreTree (node_in (settled_nodes s)) → FormTree (node_in (settled_nodes s)) (length s.cells)
+  tree_by_numbers tree = record { numbered = λ handle some. (some_under handle some).1; root_unnamed = root_unnamed; one_name = one_name }
+    where
+      top : IsSome (node_in (settled_nodes s) root)
+      top = some_directory (node_in (settled_nodes s) root) tree.one_name.top
+
+      root_unnamed : (dir : Handle) (place : ℕ) (bound : BoundName) → LeadsAt (node_in (settled_nodes s)) dir place bound
+          → root.ino < bound.to.ino
+      root_unnamed dir place bound (lt, is, some) = go bound.to.ino refl where
+        go : (n : ℕ) → bound.to.ino ≡ n → 0 < bound.to.ino
+        go zero at = absurd (tree.one_name.unnamed dir (bound, (place, lt, is), one_handle bound.to root some top at))
+        go (suc n) at = omega (arith, at)
+
+      same_place : (dir : Handle) (j k : ℕ) (a b : BoundName) → LeadsAt (node_in (settled_nodes s)) dir j a
+          → LeadsAt (node_in (settled_nodes s)) dir k b
+          → a.to ≡ b.to → j ≡ k
+      same_place dir j k a b (low, here, x) (lt, there, y) same = elim (cases_lt j k) [
+        | inl below ↦ absurd ((tree.one_name.apart dir j k a below lt).1 (ap (λ (n : BoundName). n.to) here ∙ same
+            ∙ sym (ap (λ (n : BoundName). n.to) (get_or_default (names_under (node_in (settled_nodes s)) dir) k a b lt ∙ there))))
+        | inr from ↦ elim (cases_lt k j) [
+          | inl below ↦ absurd ((tree.one_name.apart dir k j b below low).1 (ap (λ (n : BoundName). n.to) there ∙ sym same
+              ∙ sym (ap (λ (n : BoundName). n.to) (get_or_default (names_under (node_in (settled_nodes s)) dir) j b a low ∙ here))))
+          | inr to ↦ omega (arith, from, to)
+        ]
+      ]
+
+      one_name : (one other : Handle) (j k : ℕ) (a b : BoundName) → LeadsAt (node_in (settled_nodes s)) one j a
+          → LeadsAt (node_in (settled_nodes s)) other k b → a.to.ino ≡ b.to.ino → (one.ino ≡ other.ino) × (j ≡ k)
+      one_name one other j k a b first second same =
+          let to : a.to ≡ b.to = one_handle a.to b.to first.2 second.2 same in
+          let dir : one ≡ other = tree.one_name.one one other b.to (a, (j, first.0, first.1), to) (b, (k, second.0, second.1), refl) in (
+            ap (λ (h : Handle). h.ino) dir,
+            same_place other j k a b
+                (subst (λ h. LeadsAt (node_in (settled_nodes s)) h j a) dir first) second to,
+          )
+
+pub all_numbered : (g : GeometryNumbers) (events : List Event) → IsWithinLimits g
+    → FormTree (node_in (settled_nodes (after (formatted g) events).shared)) (length (after (formatted g) events).shared.cells)
+all_numbered g events within = tree_by_numbers (after (formatted g) events).shared (all_trees g events within)

@@ -1,5 +1,5 @@
 -- Directories form a tree: every node but the root is reached from it by exactly one name.
-use Rattle.std.specs.Prelude.{◌≡◌, ◌≢◌, Bool, true, false, List, [], ◌∷◌, ℕ, Option, IsSome}
+use Rattle.std.specs.Prelude.{◌≡◌, ◌≢◌, true, List, [], ◌∷◌, Option, IsSome}
 use Rattle.std.specs.List.{AllPairs, Contains}
 use Rattle.nv_base.specs.declared.numbers.Handle.{Handle}
 use Rattle.nv_calls.specs.Refusals.{is_directory, kind_of}
