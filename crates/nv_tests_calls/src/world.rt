@@ -6,6 +6,7 @@ mod reports;
 mod words;
 
 use crate::compare::{push, same};
+use Words::{Create, List, Lookup, Mkdir, Read, Rename, Size, Stat, Unlink, Write};
 use nv_base::{Fault, Kind};
 use nv_core::{Event, Reply, TreeNode, World};
 use nv_scenes::Row;
@@ -14,8 +15,6 @@ use std::alloc::Global;
 use std::process::Abort;
 use std::test::Fail;
 use words::{At, Want, Words, call, is_wanted};
-
-use Words::{Create, List, Lookup, Mkdir, Read, Rename, Size, Stat, Unlink, Write};
 
 /// An actor starts a call, goes on by a step, or goes on to the end; `Do` is the first and the last by actor 0.
 #[derive(Clone, Copy)]
@@ -57,7 +56,9 @@ const SMALL: Row = [16, 2, 4, 4, 8, 4, 3];
 const TINY: Row = [8, 1, 1, 2, 2, 1, 1];
 
 const ROOT: At = (0, 1);
+
 const ONE: At = (1, 1);
+
 const TWO: At = (2, 1);
 
 /// Writes and reads.
@@ -105,10 +106,7 @@ const REFUSALS: &[Played] = &[
     // of actors
     (Go(0), Want::Refused(Fault::ActorIdle)),
     (Go(3), Want::Refused(Fault::NoActor)),
-    (
-        Start(3, Create(ROOT, b"b")),
-        Want::Refused(Fault::NoActor),
-    ),
+    (Start(3, Create(ROOT, b"b")), Want::Refused(Fault::NoActor)),
     (Start(2, Create(ROOT, b"b")), Want::Started),
     (
         Start(2, Create(ROOT, b"c")),
@@ -135,10 +133,7 @@ const LIMITS: &[Played] = &[
         Do(Write(ONE, 65536, &[b'a'; 1025])),
         Want::Refused(Fault::WriteTooBig),
     ),
-    (
-        Do(Write(ONE, 0, b"abcdefg")),
-        Want::Refused(Fault::NoSpace),
-    ),
+    (Do(Write(ONE, 0, b"abcdefg")), Want::Refused(Fault::NoSpace)),
     (Do(Write(ONE, 0, b"abcdef")), Want::Count(6)),
     (Do(Write(ONE, 0, b"a")), Want::Refused(Fault::NoSpace)),
     (Do(Read(ONE, 0, 9)), Want::Bytes(b"abcdef")),
@@ -187,7 +182,11 @@ const CALLS: &[(u64, Words, usize)] = &[
 fn events(rt: &impl Abort, alloc: Global) -> Vec<Event> {
     let mut events = Vec::new(alloc);
     for (actor, words, steps) in CALLS {
-        push(rt, &mut events, Event::Start(*actor, call(rt, alloc, words)));
+        push(
+            rt,
+            &mut events,
+            Event::Start(*actor, call(rt, alloc, words)),
+        );
         for _step in 0..*steps {
             push(rt, &mut events, Event::Go(*actor));
         }

@@ -4,13 +4,12 @@
 use super::playing::{alone, new_world};
 use super::reports::Reports;
 use super::words::{Want, Words, is_wanted};
+use Words::{Create, List, Lookup, Mkdir, Mode, Read, Rename, Rmdir, Size, Stat, Unlink, Write};
 use nv_base::{Fault, Kind};
 use nv_core::World;
 use nv_scenes::Row;
 use std::alloc::Global;
 use std::process::Abort;
-
-use Words::{Create, List, Lookup, Mkdir, Mode, Read, Rename, Rmdir, Size, Stat, Unlink, Write};
 
 /// A call with its answer, and how many steps it has made when memory is refused at one of its steps: the steps up to that
 /// one, and then those that give back what it has.
@@ -18,7 +17,9 @@ type Made = (Words, Want, &'static [u64]);
 
 /// The root, and nodes of generation 1.
 const ROOT: (u64, u64) = (0, 1);
+
 const ONE: (u64, u64) = (1, 1);
+
 const TWO: (u64, u64) = (2, 1);
 
 const ROOMY: Row = [40, 2, 4, 4, 12, 1, 3];
@@ -32,7 +33,9 @@ const NEW_NODE: &[u64] = &[7, 10, 11];
 
 /// Of a change of one node: a lock, check, one taking, ready, enter. Back go the unlock, and then the blocks.
 const ONE_TAKING: &[u64] = &[3, 6, 7];
+
 const TWO_TAKINGS: &[u64] = &[3, 7, 8];
+
 const NO_TAKING: &[u64] = &[3, 4, 5];
 
 /// Of one visit.
@@ -103,7 +106,10 @@ fn makes(rt: &impl Abort, alloc: Global, world: &mut World, row: usize, made: &M
     let before = Reports::of(rt, alloc, world, ROOMY[4]);
     let (steps, mut reply) = alone(rt, alloc, world, ACTOR, words);
     if is_wanted(&reply, &Want::Refused(Fault::OutOfMemory)) {
-        assert!(rt; refusals.contains(&steps), "row {row} refused by step {steps}");
+        assert!(rt;
+            refusals.contains(&steps),
+            "row {row} refused by step {steps}"
+        );
         Reports::of(rt, alloc, world, ROOMY[4]).are_those(rt, &before);
         reply = alone(rt, alloc, world, ACTOR, words).1;
     }
