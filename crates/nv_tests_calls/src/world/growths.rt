@@ -58,7 +58,7 @@ const NODES: &[Made] = &[
     (Stat((3, 1)), Want::Stat(Kind::File, 420, 0, 3), &[]),
 ];
 
-/// A file is written: first a page, then three of which two are there in part, a part of the last, and past the end, where the log needs
+/// A file is written: a page; three, of which the first is there; one at the end; and one past the end, where the log needs
 /// a page. It is cut inside a page, grown, and cut between two, where the log needs a page.
 const BYTES: &[Made] = &[
     (Create(ROOT, b"a"), Want::Made(ONE), NEW_NODE),
@@ -80,8 +80,8 @@ const BYTES: &[Made] = &[
     (Stat(ONE), Want::Stat(Kind::File, 7, 8, 9), &[]),
 ];
 
-/// A file goes to another directory, and there to the place of another file, where that directory's log needs a page. It goes,
-/// and the directory too, where the log of the root needs one.
+/// A file goes to another directory, and there to the place of another file, where that directory's log needs a page.
+/// Then the file is taken away, and the directory too, where the log of the root needs a page.
 const NAMES: &[Made] = &[
     (Create(ROOT, b"a"), Want::Made(ONE), NEW_NODE),
     (Mkdir(ROOT, b"d"), Want::Made(TWO), NEW_NODE),
