@@ -80,18 +80,14 @@ impl Mixed {
             if self.is_over() {
                 return Ok(());
             }
-            self.go(below(seed, 3));
-            check_blocks(rt, &self.scene, self.is_over())?;
+            let actor = below(seed, 3);
+            let place = actor as usize;
+            if place < self.replies.len() && self.replies[place].is_none() {
+                self.replies[place] = self.scene.go(actor);
+                check_blocks(rt, &self.scene, self.is_over())?;
+            }
         }
         panic!(rt; "calls that do not end");
-    }
-
-    /// One step of an actor, if its call is not over.
-    fn go(&mut self, actor: u64) {
-        let place = actor as usize;
-        if place < self.replies.len() && self.replies[place].is_none() {
-            self.replies[place] = self.scene.go(actor);
-        }
     }
 
     /// Whether the same comes of the calls one after another in this order.
