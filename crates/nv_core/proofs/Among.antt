@@ -13,6 +13,7 @@ use Rattle.nv_calls.specs.Cells.{ino_at, no_cell, value_at, with_value}
 use Rattle.nv_calls.specs.SlotCells.{cell_in, lent_cells, other_cells}
 use Rattle.nv_machine.specs.Reads.{slot_at}
 use Rattle.nv_core.specs.Parts.{HaveSlots, IsOnlyAt}
+use Rattle.nv_core.proofs.Others.{others_stay}
 
 pub lent_count : (slots : List ℕ) (all : List CellValue) → length (lent_cells slots all) ≡ length slots
 lent_count slots all = length-map {B = ℕ × CellValue} slots (λ (ino : ℕ). (ino, cell_in all ino))
@@ -29,20 +30,6 @@ apart slots i k rises small lt ne same = go (nat_lt i k) refl where
   go false more =
       let up : slice_index_or slots k 0 < slice_index_or slots i 0 = rises k i 0 (omega (arith, ltb-false i k more, ne)) small in
       absurd (omega (arith, up, same))
-
--- where what is kept of a list is mapped alike, so is each item that is kept
-map_told : {Y : Type 0} (f g : ℕ → Y) (p : ℕ → Bool) (ns : List ℕ) → map f (filter p ns) ≡ map g (filter p ns) → (k : ℕ) → k < length ns
-    → p (slice_index_or ns k 0) ≡ true → f (slice_index_or ns k 0) ≡ g (slice_index_or ns k 0)
-map_told f g p [] same k lt is = absurd (omega (arith, lt))
-map_told {Y} f g p (n ∷ ns) same k lt is = go (p n) refl k lt is (map_told f g p ns) where
-  go : (b : Bool) → p n ≡ b → (k : ℕ) → k < suc (length ns) → p (slice_index_or (n ∷ ns) k 0) ≡ true
-      → (map f (filter p ns) ≡ map g (filter p ns) → (j : ℕ) → j < length ns → p (slice_index_or ns j 0) ≡ true
-      → f (slice_index_or ns j 0) ≡ g (slice_index_or ns j 0))
-      → f (slice_index_or (n ∷ ns) k 0) ≡ g (slice_index_or (n ∷ ns) k 0)
-  go true q zero lt is more = let both = rw q at same in cc
-  go true q (suc k) lt is more = let both = rw q at same in more (cc) k (omega (arith, lt)) is
-  go false q zero lt is more = absurd (true≢false (sym is ∙ q))
-  go false q (suc k) lt is more = more (rw q at same) k (omega (arith, lt)) is
 
 pub only_among : (slots : List ℕ) (old new : List CellValue) (k : ℕ) → length new ≡ length old → k < length slots
     → AllPairs (λ (a b : ℕ). a < b) slots → HaveSlots old slots
@@ -81,48 +68,15 @@ only_among slots old new k many lt rises there only rest =
       each i small false q =
           let away : i ≢ slot_at slots k = λ same.
           true≢false (sym (list_any_at (λ m. m == i) slots k 0 lt (eq-eqb (slice_index_or slots k 0) i (sym same))) ∙ q) in
-          other i small q ∙ sym (get_or-set_other old (slot_at slots k) i (cell_in new (slot_at slots k)) (no_cell.1) away) where
-            other : (i : ℕ) → i < length new → has slots i ≡ false → cell_in new i ≡ cell_in old i
-            other i small q =
-                let all : map (cell_in new) (unused (has slots) 0 (length old)) ≡ other_cells slots old =
-                ap (λ (n : ℕ). map (cell_in new) (unused (has slots) 0 n)) (sym many) ∙ rest in
-                let few : i < length old = omega (arith, small, many) in
-                let at0 : slice_index_or (range_with_len 0 (length old)) i 0 ≡ 0 + i = get_or-range_with_len 0 (length old) i 0 few in
-                let at : slice_index_or (range_with_len 0 (length old)) i 0 ≡ i = omega (arith, at0) in
-                let free : not (has slots (slice_index_or (range_with_len 0 (length old)) i 0)) ≡ true =
-                ap (λ (n : ℕ). not (has slots n)) at ∙ ap not q in
-                ap (cell_in new) (sym at)
-                ∙ map_told (cell_in new) (cell_in old) (λ n. not (has slots n)) (range_with_len 0 (length old)) all i
-                (omega (arith, few, length-range_with_len 0 (length old))) free
-                ∙ ap (cell_in old) at
-
--- the other cells stay, one by one
-pub others_at : (slots : List ℕ) (old new : List CellValue) → length new ≡ length old → other_cells slots new ≡ other_cells slots old
-    → (ino : ℕ) → has slots ino ≡ false → cell_in new ino ≡ cell_in old ino
-others_at slots old new many rest ino free = go (nat_lt ino (length old)) refl where
-  go : (b : Bool) → nat_lt ino (length old) ≡ b → cell_in new ino ≡ cell_in old ino
-  go false q =
-      let past = ltb-false ino (length old) q in
-      get_or_past new ino (no_cell.1) (omega (arith, past, many)) ∙ sym (get_or_past old ino (no_cell.1) (omega (arith, past)))
-  go true q =
-      let small = ltb-true ino (length old) q in
-      let all : map (cell_in new) (unused (has slots) 0 (length old)) ≡ other_cells slots old =
-      ap (λ (n : ℕ). map (cell_in new) (unused (has slots) 0 n)) (sym many) ∙ rest in
-      let at0 : slice_index_or (range_with_len 0 (length old)) ino 0 ≡ 0 + ino = get_or-range_with_len 0 (length old) ino 0 small in
-      let at : slice_index_or (range_with_len 0 (length old)) ino 0 ≡ ino = omega (arith, at0) in
-      let away : not (has slots (slice_index_or (range_with_len 0 (length old)) ino 0)) ≡ true =
-      ap (λ (n : ℕ). not (has slots n)) at ∙ ap not free in
-      ap (cell_in new) (sym at)
-      ∙ map_told (cell_in new) (cell_in old) (λ n. not (has slots n)) (range_with_len 0 (length old)) all ino
-      (omega (arith, small, length-range_with_len 0 (length old))) away
-      ∙ ap (cell_in old) at
+          others_stay slots old new many rest i q
+          ∙ sym (get_or-set_other old (slot_at slots k) i (cell_in new (slot_at slots k)) (no_cell.1) away)
 
 -- where no lent cell changes and no other, none does
 pub all_still : (slots : List ℕ) (old new : List CellValue) → length new ≡ length old → lent_cells slots new ≡ lent_cells slots old
     → other_cells slots new ≡ other_cells slots old → new ≡ old
 all_still slots old new many lent rest = ext_get_or (no_cell.1) new old many (λ i small. each i (has slots i) refl) where
   each : (i : ℕ) (b : Bool) → has slots i ≡ b → cell_in new i ≡ cell_in old i
-  each i false q = others_at slots old new many rest i q
+  each i false q = others_stay slots old new many rest i q
   each i true q = found (Any-from_list_any (λ m. m == i) slots q) where
     found : ((j : ℕ) × (x : ℕ) × (j < length slots) × (slice_index_or slots j x ≡ x) × ((x == i) ≡ true)) → cell_in new i ≡ cell_in old i
     found at =

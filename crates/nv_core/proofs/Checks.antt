@@ -93,7 +93,8 @@ early_blank n (update.Unlink dir name) text = refl
 early_blank n (update.Rmdir dir name) text = refl
 early_blank n (update.Rename from old to new) text = refl
 
-handles_blank : (before : Looked) (u : Update) (text : List ℕ) → handles before (call_of u text) ≡ handles before (blank_call u)
+-- a call with any text reads the same handles
+pub handles_blank : (before : Looked) (u : Update) (text : List ℕ) → handles before (call_of u text) ≡ handles before (blank_call u)
 handles_blank before (update.Create dir name mode) text = refl
 handles_blank before (update.Mkdir dir name mode) text = refl
 handles_blank before (update.Write file offset count) text = refl

@@ -33,6 +33,7 @@ use Rattle.nv_core.specs.declared.next.Next.TheVariants as next
 use Rattle.nv_core.specs.declared.running.Running.{Running}
 use Rattle.nv_core.specs.declared.shared.Shared.{Shared}
 use Rattle.nv_core.proofs.GivenCells.{all_lent, given_bytes, given_empty, given_own, given_still, many_cells}
+use Rattle.nv_core.proofs.Checks.{handles_blank}
 use Rattle.nv_core.proofs.GivenLaws.{IsGiven, slot_there}
 
 -- an ending that is shown as an answer is one
@@ -50,17 +51,7 @@ by_job P (job.Change plan text) owed c e is from = from plan.update text is.0
 by_job P (job.Visit visit) owed c e is from = cc
 by_job P job.Given owed c e is from = cc
 
--- a call with any text reads the same handles, and makes an inode or not
-blank_handles : (looked : Looked) (u : Update) (text : List ℕ) → handles looked (call_of u text) ≡ handles looked (blank_call u)
-blank_handles looked (update.Create dir name mode) text = refl
-blank_handles looked (update.Mkdir dir name mode) text = refl
-blank_handles looked (update.Write file offset count) text = refl
-blank_handles looked (update.Size file size) text = refl
-blank_handles looked (update.Mode handle mode) text = refl
-blank_handles looked (update.Unlink dir name) text = refl
-blank_handles looked (update.Rmdir dir name) text = refl
-blank_handles looked (update.Rename from old to new) text = refl
-
+-- a call with any text makes an inode or not
 makes_same : (u : Update) (text : List ℕ) → makes_inode (beginning (call_of u text)) ≡ makes u
 makes_same (update.Create dir name mode) text = refl
 makes_same (update.Mkdir dir name mode) text = refl
@@ -100,7 +91,7 @@ module _ (shared : Shared) (actor : ℕ) (told : Told) (hand : Hand) (running : 
               (λ ino h. given.cells ino (slot_there (length (shared_of shared).cells) slots ino given.slots.inside h))) still.still
               (all_lent (λ (c : CellState). AreApart c.blocks) shared slots given.slots.inside (λ ino h. given.apart ino));
           held = subst (λ (l : List Handle). HoldHandles slots (length shared.cells.items) l)
-              (ap (handles running.looked) same ∙ blank_handles running.looked u text)
+              (ap (handles running.looked) same ∙ handles_blank running.looked u text)
               (subst (λ (n : ℕ). HoldHandles slots n (handles running.looked told.call)) (many_cells shared) checks.held);
         }
 

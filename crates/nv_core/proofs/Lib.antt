@@ -33,8 +33,10 @@ pub mod PassTurns
 pub mod PassesSome
 pub mod Phases
 pub mod Plans
+pub mod PublishPhase
 pub mod Publishes
 pub mod Readies
+pub mod RetirePhase
 pub mod Retires
 pub mod RoomsAfter
 pub mod Runs
@@ -51,6 +53,7 @@ pub mod StartShown
 pub mod Starts
 pub mod Stays
 pub mod Takes
+pub mod TakenBlocks
 pub mod Takings
 pub mod Turns
 pub mod VisitTurns

@@ -11,7 +11,7 @@ use Rattle.nv_calls.specs.SlotCells.{cell_in, other_cells}
 use Rattle.nv_cell.specs.Cell.{CellValue}
 
 -- where what is kept of a list is mapped alike, so is each item that is kept
-pub map_told : {Y : Type 0} (f g : ℕ → Y) (p : ℕ → Bool) (ns : List ℕ) → map f (filter p ns) ≡ map g (filter p ns) → (k : ℕ) → k < length ns
+map_told : {Y : Type 0} (f g : ℕ → Y) (p : ℕ → Bool) (ns : List ℕ) → map f (filter p ns) ≡ map g (filter p ns) → (k : ℕ) → k < length ns
     → p (slice_index_or ns k 0) ≡ true → f (slice_index_or ns k 0) ≡ g (slice_index_or ns k 0)
 map_told f g p [] same k lt is = absurd (omega (arith, lt))
 map_told {Y} f g p (n ∷ ns) same k lt is = go (p n) refl k lt is (map_told f g p ns) where

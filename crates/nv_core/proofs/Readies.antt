@@ -19,7 +19,8 @@ use Rattle.nv_calls.specs.Plan.{runs_of}
 use Rattle.nv_calls.specs.declared.call.Call.{Call}
 use Rattle.nv_machine.specs.Reads.{copies, has_last_page, is_written, plan_by, slot_at}
 use Rattle.nv_machine.specs.World as machine
-use Rattle.nv_core.proofs.Among.{lent_at, others_at}
+use Rattle.nv_core.proofs.Among.{lent_at}
+use Rattle.nv_core.proofs.Others.{others_stay}
 use Rattle.nv_core.proofs.Takes.{plan_same}
 use Rattle.nv_core.proofs.Takings.{takes_at}
 use Rattle.nv_core.specs.Appends.{IsPlanOf}
@@ -89,7 +90,7 @@ states_same slots old new many more rest =
     ∙ each i (has slots i) refl
     ∙ sym (get_or-map (λ (c : CellValue). c.state) old i (no_cell.1) machine.no_cell (omega (arith, lt, many)))) where
       each : (i : ℕ) (b : Bool) → has slots i ≡ b → (cell_in new i).state ≡ (cell_in old i).state
-      each i false q = ap (λ (c : CellValue). c.state) (others_at slots old new many rest i q)
+      each i false q = ap (λ (c : CellValue). c.state) (others_stay slots old new many rest i q)
       each i true q = found (Any-from_list_any (λ m. m == i) slots q) where
         found : ((j : ℕ) × (x : ℕ) × (j < length slots) × (slice_index_or slots j x ≡ x) × ((x == i) ≡ true))
             → (cell_in new i).state ≡ (cell_in old i).state

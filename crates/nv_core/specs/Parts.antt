@@ -60,15 +60,3 @@ pub record AreStill (shared : Shared) (slots : List ℕ) : Type 0 where
   pub there : AreSlots shared slots
   pub still : AllByRecursion (λ (c : ℕ × CellValue). IsStill shared.geometry.numbers.block c.1.state)
       (lent_cells slots shared.cells.items)
-
--- a call that has passed its check and holds the data blocks that it takes can be made ready
-abbrev pub CanWant : Shared → Hand → Running → Type 0
-CanWant shared hand running =
-    AreStill shared (slots_in running.slots) × IsChangeWith (λ u. CanReady (lent_cells (slots_in running.slots) shared.cells.items) hand u) running.job
-
--- what a check asks: its cells stand still, and the hand has nothing but the number of a new inode
-pub record CanCheck (shared : Shared) (hand : Hand) (running : Running) : Type 0 where
-  pub cells : AreStill shared (slots_in running.slots)
-  pub number : ForSome hand.ino (λ ino. ino < length shared.cells.items)
-  pub empty : blocks_of hand ≡ []
-  pub size : hand.data.size ≡ shared.geometry.numbers.block

@@ -5,7 +5,7 @@ use Rattle.nv_machine.specs.World as machine
 use Rattle.nv_core.specs.Rooms.{IsHandOf}
 use Rattle.nv_core.specs.Shown.{hand_in, shared_of, shown_commit, slots_in}
 use Rattle.nv_core.proofs.Closes.{close_told, closes}
-use Rattle.nv_core.proofs.Phases.{close_full, close_goes, close_journal, close_number, close_own}
+use Rattle.nv_core.proofs.RetirePhase.{close_full, close_goes, close_journal, close_number, close_own}
 use Rattle.nv_core.proofs.Stages.{close_due}
 use Rattle.nv_core.proofs.kinds.close.close.Goals as goal
 

@@ -13,7 +13,7 @@ use Rattle.nv_core.specs.Rooms.{IsHandOf, committing_cpu}
 use Rattle.nv_core.specs.Shown.{hand_in, shared_of, shown_commit, slots_in}
 use Rattle.nv_core.proofs.Among.{all_still, lent_count}
 use Rattle.nv_core.proofs.Opens.{open_told, opens}
-use Rattle.nv_core.proofs.Phases.{open_cells, open_closed, open_cpu, open_full, open_goes, open_placed, open_shut}
+use Rattle.nv_core.proofs.PublishPhase.{open_cells, open_closed, open_cpu, open_full, open_goes, open_placed, open_shut}
 use Rattle.nv_core.proofs.Stages.{open_due}
 use Rattle.nv_core.proofs.kinds.open.open.Goals as goal
 

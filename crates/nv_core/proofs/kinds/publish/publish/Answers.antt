@@ -17,7 +17,7 @@ use Rattle.nv_core.specs.Rooms.{IsHandOf, committing_cpu}
 use Rattle.nv_core.specs.Shown.{hand_in, shared_of, shown_commit, slots_in}
 use Rattle.nv_core.proofs.Among.{lent_count, only_among}
 use Rattle.nv_core.proofs.Appends.{lent_value}
-use Rattle.nv_core.proofs.Phases.{publish_can, publish_full, publish_goes, publish_noted, publish_open, publish_within}
+use Rattle.nv_core.proofs.PublishPhase.{publish_can, publish_full, publish_goes, publish_noted, publish_open, publish_within}
 use Rattle.nv_core.proofs.Publishes.{publish_told, publishes}
 use Rattle.nv_core.proofs.Stages.{publish_due}
 use Rattle.nv_core.proofs.kinds.publish.publish.Goals as goal

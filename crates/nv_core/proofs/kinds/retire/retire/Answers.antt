@@ -16,7 +16,7 @@ use Rattle.nv_core.specs.Rooms.{committing_cpu}
 use Rattle.nv_core.specs.Shown.{hand_in, shared_of, shown_commit, slots_in}
 use Rattle.nv_core.proofs.Among.{lent_at, lent_count, only_among}
 use Rattle.nv_core.proofs.Appends.{lent_value}
-use Rattle.nv_core.proofs.Phases.{retire_can, retire_dead, retire_free, retire_full, retire_goes, retire_room, retire_shut, retire_within}
+use Rattle.nv_core.proofs.RetirePhase.{retire_can, retire_dead, retire_free, retire_full, retire_goes, retire_room, retire_shut, retire_within}
 use Rattle.nv_core.proofs.Retires.{all_appended, hand_stays, retire_told, retires}
 use Rattle.nv_core.proofs.Stages.{retire_due}
 use Rattle.nv_core.proofs.kinds.retire.retire.Goals as goal

@@ -3,7 +3,7 @@ use Rattle.nv_alloc.specs.FreeList.{FreeBlocks, IsFreeList}
 use Rattle.nv_machine.specs.World.{list_at, no_list}
 use Rattle.nv_core.specs.Shown.{shared_of}
 use Rattle.nv_core.proofs.Gives.{same_there}
-use Rattle.nv_core.proofs.Takings.{taken_below}
+use Rattle.nv_core.proofs.TakenBlocks.{taken_below}
 use Rattle.nv_core.proofs.kinds.take.take_from.Goals as goal
 
 pub returns-clause-taken : goal.returns-clause-taken

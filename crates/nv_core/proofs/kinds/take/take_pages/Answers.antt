@@ -6,7 +6,8 @@ use Rattle.nv_core.specs.Shown.{hand_of, shared_of, shown}
 use Rattle.nv_core.specs.declared.hold.Hold.TheVariants as hold
 use Rattle.nv_core.specs.declared.next.Next.TheVariants as next
 use Rattle.nv_core.specs.declared.shared.Shared.{Shared}
-use Rattle.nv_core.proofs.Takings.{asked_rooms, asked_turn, pages_became, pages_more, pages_none, count_after, home_new, pages_device, rooms_pages, rooms_taken}
+use Rattle.nv_core.proofs.TakenBlocks.{pages_device}
+use Rattle.nv_core.proofs.Takings.{asked_rooms, asked_turn, pages_became, pages_more, pages_none, count_after, home_new, rooms_pages, rooms_taken}
 use Rattle.nv_core.proofs.kinds.take.take_pages.Goals as goal
 
 pub returns-then-left-eq0-clause-rooms : goal.returns-then-left-eq0-clause-rooms
