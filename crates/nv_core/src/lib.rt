@@ -24,8 +24,6 @@ mod running;
 mod shared;
 mod slots;
 mod step;
-#[cfg(test)]
-mod tests;
 mod tree;
 mod turn;
 mod world;

@@ -82,9 +82,12 @@ const FILES: &[Played] = &[
     (Do(Read(TWO, 0, 99)), Want::Bytes(b"abXYefghij\0\0Z")),
 ];
 
+/// What may be sent to other threads, as a world may.
+fn is_sent<T: Send>(_: &T) {}
+
 #[test]
 fn files(rt: HostRuntime) {
-    plays_anew(&rt, rt.alloc(), SMALL, FILES);
+    is_sent(&plays_anew(&rt, rt.alloc(), SMALL, FILES));
 }
 
 /// Refusals of calls and of actors.
