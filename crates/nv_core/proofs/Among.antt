@@ -1,13 +1,12 @@
 -- One of the cells that are lent changes: so does that of its slot among all, and no other.
-use Rattle.std.proofs.Common.{◌≡◌, ◌≢◌, ℕ, zero, suc, ◌+◌, ◌<◌, ◌==◌, ◌∙◌, Bool, true, false, true≢false, not, nat_lt, List, [], ◌∷◌, length, map, filter, arith, refl, ap, sym}
+use Rattle.std.proofs.Common.{◌≡◌, ◌≢◌, ℕ, ◌<◌, ◌==◌, ◌∙◌, Bool, true, false, true≢false, nat_lt, List, length, arith, refl, ap, sym}
 use Rattle.std.specs.Prelude.{slice_index_or, slice_set}
-use Rattle.std.specs.List.{AllPairs, range_with_len}
+use Rattle.std.specs.List.{AllPairs}
 use Rattle.std.proofs.lemmas.Bool.{eqb-true, eqb-false, eq-eqb, ltb-true, ltb-false}
 use Rattle.std.proofs.lemmas.Grind.{get_or-set_at, get_or_default_zero}
-use Rattle.std.proofs.lemmas.List.{ext_get_or, get_or-map, get_or-set_other, get_or_past, length-map, length-set}
+use Rattle.std.proofs.lemmas.List.{ext_get_or, get_or-map, get_or-set_other, length-map, length-set}
 use Rattle.std.proofs.lemmas.List.Folds.{Any-from_list_any, list_any_at}
-use Rattle.std.proofs.lemmas.List.FromFn.{get_or-range_with_len, length-range_with_len}
-use Rattle.nv_alloc.specs.Numbers.{has, unused}
+use Rattle.nv_alloc.specs.Numbers.{has}
 use Rattle.nv_cell.specs.Cell.{CellValue}
 use Rattle.nv_calls.specs.Cells.{ino_at, no_cell, value_at, with_value}
 use Rattle.nv_calls.specs.SlotCells.{cell_in, lent_cells, other_cells}

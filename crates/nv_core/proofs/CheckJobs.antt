@@ -21,7 +21,7 @@ use Rattle.nv_machine.specs.Kinds.{check_ending}
 use Rattle.nv_machine.specs.Reads.{copies, has_last_page}
 use Rattle.nv_machine.specs.Sequence.{beginning}
 use Rattle.nv_machine.specs.Step.{is_numbered, made_in, same_looked}
-use Rattle.nv_machine.specs.World.{HandState, Overtaken}
+use Rattle.nv_machine.specs.World.{Overtaken}
 use Rattle.nv_machine.specs.World as machine
 use Rattle.nv_core.proofs.PassesSome.{some_cell}
 use Rattle.nv_core.proofs.Checks.{ends_same, few_wanted, overtaken_looks, passes_over, wanted_same}

@@ -14,7 +14,7 @@ use Rattle.nv_calls.specs.declared.update.Update.{Update}
 use Rattle.nv_machine.specs.Kinds.{check_turn, end_turn, refuse, wants_blocks, wants_pages}
 use Rattle.nv_machine.specs.Reads.{copies, has_last_page, pages_wanted, plan_by}
 use Rattle.nv_machine.specs.Step.{ending_at, made_in, with_made}
-use Rattle.nv_machine.specs.World.{HandState, Overtaken}
+use Rattle.nv_machine.specs.World.{HandState}
 use Rattle.nv_machine.specs.World as machine
 use Rattle.nv_core.proofs.CheckJobs.{Ends, ending_told, few_by_job, no_visit, overtaken_by_job, owed_by, wanted_by_job, wants_by_job}
 use Rattle.nv_core.proofs.Takes.{is_changed, over_all}

@@ -1,10 +1,9 @@
 -- The steps of a commit as turns of its call.
 use Rattle.std.specs.Prelude.{unwrap_or}
-use Rattle.std.proofs.Common.{◌≡◌, ◌∙◌, ℕ, Bool, true, false, List, Option, Some, None, ap, length, refl, subst, sym}
+use Rattle.std.proofs.Common.{◌≡◌, ◌∙◌, ℕ, true, List, Option, Some, ap, length, refl, sym}
 use Rattle.nv_alloc.specs.Numbers.{has}
 use Rattle.nv_calls.specs.Commit.{CommitValue}
 use Rattle.nv_calls.specs.Progress.{step_of}
-use Rattle.nv_calls.specs.declared.plan.Planned.{Planned}
 use Rattle.nv_calls.specs.declared.progress.CommitStep.{CommitStep}
 use Rattle.nv_calls.specs.declared.progress.CommitStep.TheVariants as step
 use Rattle.nv_machine.specs.Locks.{held_at}
@@ -13,7 +12,7 @@ use Rattle.nv_machine.specs.World as machine
 use Rattle.nv_machine.specs.World.{Moves}
 use Rattle.nv_core.proofs.Others.{others_stay}
 use Rattle.nv_core.specs.Appends.{IsPlanOf}
-use Rattle.nv_core.specs.Frames.{LeavesCells, LeavesRest}
+use Rattle.nv_core.specs.Frames.{LeavesCells}
 use Rattle.nv_core.specs.Shown.{Told, hand_in, machine_step, shared_of, shown_commit, slots_in}
 use Rattle.nv_core.specs.Told.{IsCommitOf, IsPlaceOf}
 use Rattle.nv_core.specs.Turns.{IsTurn, LeavesOthers}

@@ -1,5 +1,5 @@
 -- The logs of the cells that a call holds are sound before it is made ready.
-use Rattle.std.proofs.Common.{◌≡◌, ℕ, ◌∙◌, Bool, false, List, Some, ap, append-nil, length, subst, sym, take, take_all, ◌++◌, arith}
+use Rattle.std.proofs.Common.{◌≡◌, ℕ, ◌∙◌, Bool, List, Some, ap, append-nil, length, subst, sym, take, take_all, ◌++◌, arith}
 use Rattle.nv_cell.specs.Cell.{log_of}
 use Rattle.nv_entry.specs.declared.item.Entry.{Entry}
 use Rattle.nv_machine.specs.Effects.{AreSound, IsSoundIn}

@@ -26,7 +26,7 @@ use Rattle.nv_core.specs.Told.{IsChangeBy, IsJobOf, looking_at}
 use Rattle.nv_core.specs.declared.job.Job.{Job}
 use Rattle.nv_core.specs.declared.job.Job.TheVariants as job
 use Rattle.nv_core.specs.declared.job.Owed.{Owed}
-use Rattle.nv_machine.specs.World.{HandState, Next, Running, Shared, cell_at, no_cell, owner_at}
+use Rattle.nv_machine.specs.World.{HandState, Next, Running, Shared, cell_at, no_cell}
 use Rattle.nv_core.proofs.Visits.{no_node, node_here}
 
 -- a look by the node of the directory

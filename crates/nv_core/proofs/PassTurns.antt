@@ -1,6 +1,6 @@
 -- The steps that pass the hand on, as turns of their call.
 use Rattle.std.specs.Prelude.{is_some, unwrap_or}
-use Rattle.std.proofs.Common.{◌≡◌, ◌∙◌, ℕ, Bool, true, false, List, Option, Some, None, ap, length, refl, subst, sym}
+use Rattle.std.proofs.Common.{◌≡◌, ◌∙◌, ℕ, true, List, Option, Some, None, ap, length, refl, subst, sym}
 use Rattle.nv_alloc.specs.declared.hand.Hand.{Hand}
 use Rattle.nv_alloc.specs.Numbers.{has}
 use Rattle.nv_book.specs.Book.{BookState, BookValue}

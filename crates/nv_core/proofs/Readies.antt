@@ -45,7 +45,6 @@ use Rattle.nv_calls.specs.Updates.{call_of, text_len}
 use Rattle.nv_calls.specs.declared.looked.Looked.{Looked}
 use Rattle.std.specs.List.{AllByRecursion}
 use Rattle.nv_core.proofs.FreshPages.{pages_are, text_whole}
-use Rattle.nv_machine.specs.World.{HandState}
 use Rattle.nv_core.specs.Readied.{filled_hand}
 use Rattle.nv_core.specs.Shown.{Told, hand_of, shared_of, shown, slots_in}
 

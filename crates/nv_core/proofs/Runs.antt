@@ -1,5 +1,5 @@
 -- A run goes on by one event.
-use Rattle.std.proofs.Common.{◌≡◌, ◌∙◌, ℕ, Bool, List, [], ◌∷◌, ◌++◌, ap, arith, length, map, refl, subst, sym}
+use Rattle.std.proofs.Common.{◌≡◌, ◌∙◌, Bool, List, [], ◌∷◌, ◌++◌, ap, arith, length, map, refl, subst, sym}
 use Rattle.nv_machine.specs.Step as machine_step
 use Rattle.nv_machine.specs.World as machine
 use Rattle.nv_core.specs.declared.event.Event.{Event}

@@ -1,7 +1,7 @@
 -- A number that is put in its place in a rising list.
-use Rattle.std.proofs.Common.{rules, ◌≡◌, ℕ, zero, suc, ◌+◌, ◌-◌, ◌<◌, ◌≤◌, ◌∙◌, ◌⊎◌, Bool, true, false, List, [], ◌∷◌, ◌++◌, ap, arith, drop, if◌then◌else◌, length, nat_lt, refl, subst, sym, take, inl, inr, length-take, length-append, length-drop}
-use Rattle.std.specs.Prelude.{◌==◌, AllPairs, insert, slice_index_or, slice_set, min}
-use Rattle.std.proofs.lemmas.Bool.{ltb-false, ltb-true, lt-ltb}
+use Rattle.std.proofs.Common.{rules, ◌≡◌, ℕ, zero, suc, ◌+◌, ◌<◌, ◌≤◌, ◌∙◌, Bool, true, false, List, [], ◌∷◌, ap, arith, if◌then◌else◌, length, nat_lt, refl, subst, sym, take, length-take}
+use Rattle.std.specs.Prelude.{◌==◌, AllPairs, insert, slice_index_or}
+use Rattle.std.proofs.lemmas.Bool.{ltb-false, ltb-true}
 use Rattle.std.proofs.lemmas.List.{get_or-take}
 use Rattle.std.proofs.lemmas.Grind.{get_or_default_zero}
 use Rattle.nv_machine.specs.Reads.{with_slot}

@@ -1,11 +1,11 @@
 -- An actor whose call has started.
-use Rattle.std.proofs.Common.{◌≡◌, Some, ap, refl, subst}
+use Rattle.std.proofs.Common.{◌≡◌, refl, subst}
 use Rattle.nv_calls.specs.declared.call.Call.{Call}
 use Rattle.nv_machine.specs.World as machine
-use Rattle.nv_core.specs.Rooms.{HasRooms, IsHandOf, IsIdle}
+use Rattle.nv_core.specs.Rooms.{IsIdle}
 use Rattle.nv_core.specs.Shown.{shown}
 use Rattle.nv_core.specs.Told.{IsToldOf, starting}
-use Rattle.nv_core.specs.Worlds.{ShowsCall, told_of}
+use Rattle.nv_core.specs.Worlds.{ShowsCall}
 use Rattle.nv_core.specs.declared.hold.Hold.{Hold}
 use Rattle.nv_core.specs.declared.hold.Hold.TheVariants as hold
 use Rattle.nv_core.specs.declared.running.Running.{Running}

@@ -5,7 +5,7 @@ use Rattle.std.proofs.lemmas.Bool.{eqb-false, eqb-true, le-ltb, lt-ltb}
 use Rattle.std.proofs.lemmas.Grind.{get_or-set_at}
 use Rattle.std.proofs.lemmas.List.{get_or-set_other, length-set}
 use Rattle.nv_base.specs.Limits.{IsWithinLimits}
-use Rattle.nv_base.specs.declared.fault.Fault.TheVariants.{ActorBusy, ActorIdle, NoActor}
+use Rattle.nv_base.specs.declared.fault.Fault.TheVariants.{ActorBusy, ActorIdle}
 use Rattle.nv_base.specs.declared.geometry.GeometryNumbers.{GeometryNumbers}
 use Rattle.nv_machine.proofs.Reached.{reached}
 use Rattle.nv_machine.specs.Format.{formatted}

@@ -1,10 +1,10 @@
 -- A world after one event of an actor.
-use Rattle.std.proofs.Common.{◌≡◌, ◌∙◌, ℕ, ◌+◌, ◌<◌, Bool, true, false, List, Option, Some, None, Ok, Err, ap, ap₂, arith, length, nat_lt, refl, subst, sym}
-use Rattle.std.specs.Prelude.{◌==◌, ◌≢◌, slice_index_or, slice_set}
+use Rattle.std.proofs.Common.{◌≡◌, ◌∙◌, ℕ, ◌<◌, Bool, true, false, List, Option, Some, None, Ok, Err, ap, ap₂, arith, length, refl, subst, sym}
+use Rattle.std.specs.Prelude.{◌==◌, slice_index_or, slice_set}
 use Rattle.std.proofs.lemmas.Bool.{eqb-false, eqb-true, lt-ltb}
 use Rattle.std.proofs.lemmas.Grind.{get_or-set_at}
-use Rattle.std.proofs.lemmas.List.{ext_get_or, get_or-set_other, get_or-set_same, length-set}
-use Rattle.nv_machine.specs.Step.{changed, go_step, step, turned}
+use Rattle.std.proofs.lemmas.List.{ext_get_or, get_or-set_other, length-set}
+use Rattle.nv_machine.specs.Step.{go_step, step, turned}
 use Rattle.nv_machine.specs.Step as machine_step
 use Rattle.nv_machine.specs.World as machine
 use Rattle.nv_machine.specs.World.{actor_at, idle}

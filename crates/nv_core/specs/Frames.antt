@@ -1,5 +1,5 @@
 -- What a step leaves to the other actors.
-use Rattle.std.specs.Prelude.{◌≡◌, ◌≢◌, ℕ, false, List, length, Option, Some, None}
+use Rattle.std.specs.Prelude.{◌≡◌, ◌≢◌, ℕ, false, List, length, Some}
 use Rattle.nv_alloc.specs.Numbers.{has}
 use Rattle.nv_calls.specs.SlotCells.{cell_in, other_cells}
 use Rattle.nv_core.specs.declared.shared.Shared.{Shared}

@@ -1,7 +1,6 @@
 -- What the steps rely on of the parts that are lent to them.
-use Rattle.std.specs.Prelude.{◌≡◌, ℕ, ◌+◌, ◌<◌, ◌≤◌, List, [], length, slice_index_or, slice_set}
+use Rattle.std.specs.Prelude.{◌≡◌, ℕ, ◌+◌, ◌<◌, ◌≤◌, List, length, slice_index_or, slice_set}
 use Rattle.std.specs.List.{AllByRecursion}
-use Rattle.std.specs.Option.{ForSome}
 use Rattle.nv_alloc.specs.Block.{BlockValue}
 use Rattle.nv_alloc.specs.FreeList.{FreeBlocks}
 use Rattle.nv_alloc.specs.Hand.{blocks_of}
@@ -9,13 +8,10 @@ use Rattle.nv_alloc.specs.declared.hand.Hand.{Hand}
 use Rattle.nv_base.specs.Homes.{home_start}
 use Rattle.nv_base.specs.declared.geometry.GeometryNumbers.{GeometryNumbers}
 use Rattle.nv_machine.specs.World.{no_list}
-use Rattle.nv_calls.specs.Prepared.{CanReady, IsStill}
+use Rattle.nv_calls.specs.Prepared.{IsStill}
 use Rattle.nv_calls.specs.SlotCells.{cell_in, lent_cells}
 use Rattle.nv_cell.specs.Cell.{CellValue}
-use Rattle.nv_core.specs.declared.running.Running.{Running}
 use Rattle.nv_core.specs.declared.shared.Shared.{Shared}
-use Rattle.nv_core.specs.Shown.{slots_in}
-use Rattle.nv_core.specs.Told.{IsChangeWith}
 
 -- the list of a CPU is of its home range, and of blocks of the device's size
 pub record IsListOf (g : GeometryNumbers) (cpu : ℕ) (list : FreeBlocks) : Type 0 where

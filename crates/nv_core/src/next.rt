@@ -2,8 +2,8 @@
 
 use nv_base::Fault;
 
-/// The step of a call that comes next, while its hand is with the actor alone. In a loop with its place: of a directory,
-/// of a slot that the call locks, of how many lists were asked.
+/// The step of a call that comes next, while its hand is with the actor alone. In a loop with its place: of a
+/// directory, of a slot that the call locks, of how many lists were asked.
 ///
 /// A call that is ready enters next; which step of a commit comes next, the commit tells.
 #[derive(Clone, Copy, Debug, PartialEq, Eq)]

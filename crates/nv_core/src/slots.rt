@@ -87,7 +87,8 @@ impl Slots {
         requires few { length (slots_in self) < 4 }
         requires within { place ≤ length (slots_in self) }
         requires before { (k : ℕ) → k < place → slice_index_or (slots_in self) k 0 < ino }
-        requires there { place < length (slots_in self) → ino < slice_index_or (slots_in self) place 0 }
+        requires there { place < length (slots_in self)
+            → ino < slice_index_or (slots_in self) place 0 }
         ensures { slots_in result ≡ with_slot ino (slots_in self) }
     {
         let mut inos = self.inos;

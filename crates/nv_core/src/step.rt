@@ -91,7 +91,8 @@ impl World {
     }
 
     fn go(&mut self, actor: u64) -> Reply
-        ensures { (m : machine.World) → Shows self.old m → IsStep m (Event.Go actor) result self.new }
+        ensures { (m : machine.World) → Shows self.old m
+            → IsStep m (Event.Go actor) result self.new }
     {
         match self.actors.get_mut(actor as usize) {
             Some(state) => go_on(self.alloc, &mut self.shared, state, actor),
@@ -196,9 +197,11 @@ fn alone(shared: &mut Shared, hand: &mut Hand, running: &mut Running, actor: u64
     requires can { CanStep shared.old (Hold.Hand hand.old) running.old actor }
     requires rooms { HasRooms shared.old (Hold.Hand hand.old) running.old }
     ensures turn { (r : machine.Running) → ShowsCall (Hold.Hand hand.old) running.old r
-        → IsTurn actor shared.old (Hold.Hand hand.old) r result shared.new (Hold.Hand hand.new) running.new }
+        → IsTurn actor shared.old (Hold.Hand hand.old) r result shared.new (Hold.Hand hand.new)
+        running.new }
     ensures waits { result ≡ Turn.Waits
-        → (shared.new ≡ shared.old) × ((Hold.Hand hand.new) ≡ (Hold.Hand hand.old)) × (running.new ≡ running.old) }
+        → (shared.new ≡ shared.old) × ((Hold.Hand hand.new) ≡ (Hold.Hand hand.old))
+        × (running.new ≡ running.old) }
     ensures rooms { HasRoomsAfter result shared.new (Hold.Hand hand.new) running.new }
     ensures rest { (r : machine.Running) → ShowsCall (Hold.Hand hand.old) running.old r
         → LeavesOthers actor r shared.old shared.new }
@@ -256,7 +259,8 @@ fn commit_step(shared: &mut Shared, running: &Running, commit: &mut Commit, acto
     requires can { CanStep shared.old (Hold.Commit commit.old) running.now actor }
     requires rooms { HasRooms shared.old (Hold.Commit commit.old) running.now }
     ensures turn { (r : machine.Running) → ShowsCall (Hold.Commit commit.old) running.now r
-        → IsTurn actor shared.old (Hold.Commit commit.old) r Turn.Moves shared.new (Hold.Commit commit.new) running.now }
+        → IsTurn actor shared.old (Hold.Commit commit.old) r Turn.Moves shared.new
+        (Hold.Commit commit.new) running.now }
     ensures rooms { HasRoomsAfter Turn.Moves shared.new (Hold.Commit commit.new) running.now }
     ensures rest { (r : machine.Running) → ShowsCall (Hold.Commit commit.old) running.now r
         → LeavesOthers actor r shared.old shared.new }

@@ -38,8 +38,8 @@ use nv_calls::{
 };
 use nv_cell::InodeCell;
 
-/// How many more log pages a call can need than data blocks: each of these in a run of its own has an entry, and there are
-/// at most four more entries.
+/// How many more log pages a call can need than data blocks: each of these in a run of its own has an entry, and
+/// there are at most four more entries.
 const MORE_PAGES: u64 = 4;
 
 /// Tests the call, and settles how many blocks it takes. The hand gets room for them.

@@ -105,7 +105,8 @@ fn look_in(shared: &Shared, update: &Update, place: usize, before: &Looked) -> R
 fn bound(shared: &Shared, dir: &Handle, name: &[u8]) -> Result<Handle, Fault>
     ensures { let nodes = copies (shared_of shared.now) in
         MatchResult result
-        (λ to. (lookup_refusal nodes dir.now name.now ≡ passes) × (found nodes dir.now name.now ≡ Some to))
+        (λ to. (lookup_refusal nodes dir.now name.now ≡ passes)
+        × (found nodes dir.now name.now ≡ Some to))
         (λ fault. lookup_refusal nodes dir.now name.now ≡ Err fault) }
 {
     match look_up(shared, dir, name) {

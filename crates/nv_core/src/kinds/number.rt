@@ -41,8 +41,8 @@ pub(crate) fn number(shared: &mut Shared, hand: &mut Hand, running: &mut Running
 fn go_on(inodes: u64, running: &mut Running, number: Option<Ino>) -> Turn
     requires call { FitsCall running.old }
     requires makes { makes_inode running.old.job ≡ true }
-    ensures turn { (told : Told) (s : machine.Shared) (h : machine.HandState) → IsToldOf running.old told
-        → length s.cells ≡ inodes → let r = shown told running.old in
+    ensures turn { (told : Told) (s : machine.Shared) (h : machine.HandState)
+        → IsToldOf running.old told → length s.cells ≡ inodes → let r = shown told running.old in
         go_on machine.Number s h (record r { slots = slots_of s number r.looked r.call })
         ≡ turn_of result s h (shown told running.new) }
     ensures job { KeepsJob running.old running.new }

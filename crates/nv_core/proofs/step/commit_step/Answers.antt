@@ -1,8 +1,6 @@
-use Rattle.std.proofs.Common.{◌≡◌, ◌∙◌, ℕ, ap, sym}
+use Rattle.std.proofs.Common.{◌∙◌, ℕ, ap, sym}
 use Rattle.nv_calls.specs.declared.progress.CommitStep.TheVariants as step
 use Rattle.nv_machine.specs.Kinds.{close_turn, open_turn}
-use Rattle.nv_machine.specs.Step.{kind_turn}
-use Rattle.nv_machine.specs.World as machine
 use Rattle.nv_core.proofs.CommitTurns.{rest_commit, turns_commit}
 use Rattle.nv_core.specs.Shown.{hand_in, shared_of, shown_commit}
 use Rattle.nv_core.proofs.step.commit_step.Goals as goal

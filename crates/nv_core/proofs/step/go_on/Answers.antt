@@ -1,6 +1,5 @@
 use Rattle.std.proofs.Common.{◌≡◌, ◌∙◌, Option, ap, sym}
 use Rattle.nv_core.proofs.Actors.{ended, goes, has_turned, rooms_still, same_some}
-use Rattle.nv_core.specs.Rooms.{HasActorRooms}
 use Rattle.nv_core.specs.Turns.{still}
 use Rattle.nv_core.specs.declared.running.Running.{Running}
 use Rattle.nv_core.specs.declared.world.Actor.{Actor}

@@ -1,5 +1,4 @@
-use Rattle.std.proofs.Common.{◌≡◌, refl, subst, sym}
-use Rattle.nv_machine.specs.World as machine
+use Rattle.std.proofs.Common.{subst, sym}
 use Rattle.nv_core.proofs.PassTurns.{owes_given, rest_enter, rest_leave, rest_ready, turns_enter, turns_leave, turns_ready}
 use Rattle.nv_core.proofs.Turns.{told_same}
 use Rattle.nv_core.specs.Rooms.{HasRooms}

@@ -1,6 +1,6 @@
 use Rattle.std.proofs.Common.{arith, rules}
 use Rattle.std.proofs.lemmas.Grind.{common_steps}
-use Rattle.nv_core.proofs.Runs.{run-snoc, run-none}
+use Rattle.nv_core.proofs.Runs.{run-snoc}
 use Rattle.nv_core.proofs.world.World.run.Goals as goal
 
 pub loop-event-preserved : goal.loop-event-preserved
