@@ -72,8 +72,7 @@ const LIMITS_WITHOUT_SIZE: &str =
      do 0 write 1.1 65536 a\n\
      do 0 write 1.1 65536 ";
 
-const LIMITS: &str =
-    "format blocks=8 cpus=9 block=1 page=2 inodes=2 snaps=1 actors=1\n\
+const LIMITS: &str = "format blocks=8 cpus=9 block=1 page=2 inodes=2 snaps=1 actors=1\n\
      format blocks=8 cpus=1 block=1 page=2 inodes=2 snaps=1 actors=1\n\
      do 0 create 0.1 a 420\n\
      do 0 create 0.1 b 420\n\
@@ -83,12 +82,7 @@ const LIMITS: &str =
 
 /// What stands before so many letters, what stands behind them, and the text of that script.
 const LONGEST: [(&str, usize, &str, &str); 4] = [
-    (
-        ONE_PAGE,
-        1_024,
-        "\n",
-        "formatted\ndone 1.1\ndone 1024\n",
-    ),
+    (ONE_PAGE, 1_024, "\n", "formatted\ndone 1.1\ndone 1024\n"),
     (
         ONE_PAGE,
         1_025,
