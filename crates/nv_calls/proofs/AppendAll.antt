@@ -17,28 +17,12 @@ use Rattle.nv_calls.specs.CanCommit.{CanAppendAll, CanTakeItems, numbers_of_all}
 use Rattle.nv_calls.specs.Cells.{OnlyAt, state_at, value_at, with_value}
 use Rattle.nv_calls.specs.Commit.{CommitValue, after_append, to_append}
 use Rattle.nv_calls.specs.Committed.{block_count, entry_count, grown, hand_before, page_count, place_before, place_of}
+use Rattle.nv_calls.specs.PlanByPlan.{AppendsTo}
 use Rattle.nv_calls.specs.Ready.{ArePlaced, CellPlanValue, no_plan, plan_at}
 use Rattle.nv_calls.specs.Steps.{CanAppendPlan, hand_after, numbers_in, with_plan, without_front}
 use Rattle.nv_calls.proofs.Appends.{front, map-drop, map-take, none_front}
 use Rattle.nv_calls.proofs.CellLists.{only_value, other-only, value_with}
-use Rattle.nv_calls.proofs.Changes.{ArePlansFrom, IsChangedTo, apart, none_changed, one_more, plans_more, plans_none}
-
--- the commit once the items of the first plans are appended
-abbrev pub so_far : List (ℕ × CellValue) → CommitValue → ℕ → List CellPlanValue → CommitValue
-so_far cells start j plans = record start {
-  plans = plans;
-  hand = hand_before cells start j;
-  place = place_before start.plans j;
-  appended = j;
-}
-
-pub record AppendsTo (j : ℕ) (cells : List (ℕ × CellValue)) (start : CommitValue) (now : List (ℕ × CellValue)) (commit : CommitValue)
-    : Type 0 where
-  pub changed : IsChangedTo j start.plans (λ i. (grown cells start i).state) cells now
-  pub plans : ArePlansFrom j start.plans commit.plans
-  pub is : commit ≡ so_far cells start j commit.plans
-  pub rooms : (i : ℕ) → i < j → (value_at now (place_of start.plans i)).room ≡ (grown cells start i).room
-  pub ready : (i : ℕ) → i < j → IsReadyFor [] (value_at now (place_of start.plans i))
+use Rattle.nv_calls.proofs.Changes.{apart, none_changed, one_more, plans_more, plans_none}
 
 pub begins : (cells : List (ℕ × CellValue)) (start : CommitValue) → start.appended ≡ 0 → start.place ≡ 0 → AppendsTo 0 cells start cells start
 begins cells start none first = record {

@@ -4,8 +4,9 @@ use Rattle.std.specs.Prelude.{slice_set}
 use Rattle.std.proofs.lemmas.Bool.{eqb-true, eqb-false, ltb-true, ltb-false}
 use Rattle.std.proofs.lemmas.List.{get_or-set_other, get_or-set_same, length-set}
 use Rattle.nv_cell.specs.Cell.{CellState, CellValue}
-use Rattle.nv_calls.specs.Cells.{OnlyAt, ino_at, state_at, value_at}
-use Rattle.nv_calls.specs.Committed.{ChangesPlanned, HaveSamePlaces, IsUnplanned, place_of}
+use Rattle.nv_calls.specs.Cells.{OnlyAt, state_at, value_at}
+use Rattle.nv_calls.specs.Committed.{ChangesPlanned, place_of}
+use Rattle.nv_calls.specs.PlanByPlan.{ArePlansFrom, IsChangedTo}
 use Rattle.nv_calls.specs.Ready.{ArePlaced, CellPlanValue, no_plan, plan_at}
 use Rattle.nv_calls.proofs.CellLists.{ino-only, length-only, other-only}
 
@@ -32,14 +33,6 @@ few_plans cells [] placed = omega arith
 few_plans cells (p ∷ plans) placed =
     let last : length plans < length (p ∷ plans) = omega arith in
     omega (arith, at_least cells (p ∷ plans) placed (length plans) last, placed.within (length plans) last)
-
--- the first planned cells have new states, and the others wait
-pub record IsChangedTo (j : ℕ) (plans : List CellPlanValue) (becomes : ℕ → CellState) (old now : List (ℕ × CellValue)) : Type 0 where
-  pub count : length now ≡ length old
-  pub numbers : (k : ℕ) → ino_at now k ≡ ino_at old k
-  pub done : (i : ℕ) → i < j → state_at now (place_of plans i) ≡ becomes i
-  pub waiting : (i : ℕ) → j ≤ i → i < length plans → value_at now (place_of plans i) ≡ value_at old (place_of plans i)
-  pub others : (k : ℕ) → IsUnplanned plans k → value_at now k ≡ value_at old k
 
 pub none_changed : (plans : List CellPlanValue) (becomes : ℕ → CellState) (cells : List (ℕ × CellValue)) → IsChangedTo 0 plans becomes cells cells
 none_changed plans becomes cells = record {
@@ -76,10 +69,6 @@ all_changed j plans becomes old now all way = record {
 }
 
 -- ---- plans whose turn is over change, and stay plans of their cells
-
-pub record ArePlansFrom (j : ℕ) (old now : List CellPlanValue) : Type 0 where
-  pub same : HaveSamePlaces old now
-  pub rest : (i : ℕ) → j ≤ i → plan_at now i ≡ plan_at old i
 
 pub plans_none : (plans : List CellPlanValue) → ArePlansFrom 0 plans plans
 plans_none plans = record { same = record { count = refl; places = λ i. refl }; rest = λ i le. refl }

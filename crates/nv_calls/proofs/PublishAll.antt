@@ -4,7 +4,7 @@ use Rattle.std.specs.Prelude.{slice_get, slice_set}
 use Rattle.std.specs.Option.{option_map}
 use Rattle.std.proofs.lemmas.Option.{slice_get-get_or, slice_get-map}
 use Rattle.nv_book.specs.Book.{BookState}
-use Rattle.nv_cell.specs.Cell.{CellState, CellValue, KeepsAppendRoom, fresh_of, log_of, published}
+use Rattle.nv_cell.specs.Cell.{CellValue, KeepsAppendRoom, fresh_of, log_of, published}
 use Rattle.nv_cell.specs.Effects.{items_of}
 use Rattle.nv_cell.specs.Killed.{AreKilled}
 use Rattle.nv_cell.specs.Weights.{weights_in}
@@ -13,26 +13,11 @@ use Rattle.nv_calls.specs.CanCommit.{CanBePublished, KillsAsTold}
 use Rattle.nv_calls.specs.Cells.{OnlyAt, ino_at, state_at, value_at}
 use Rattle.nv_calls.specs.Commit.{CommitValue, HasJournal, NotesNext, after_publish, to_publish}
 use Rattle.nv_calls.specs.Committed.{place_of}
+use Rattle.nv_calls.specs.PlanByPlan.{PublishesTo, cell_of, published_of}
 use Rattle.nv_calls.specs.Ready.{ArePlaced, CellPlanValue, no_plan, old_tail, old_tails, plan_at}
 use Rattle.nv_calls.specs.Retiring.{killed_by, part_in}
 use Rattle.nv_calls.proofs.CellLists.{other-only}
-use Rattle.nv_calls.proofs.Changes.{ArePlansFrom, IsChangedTo, apart, none_changed, one_more, plan_other, plan_own, plans_more, plans_none}
-
--- the cell of a plan before it is published, and after it
-abbrev pub cell_of : List (ℕ × CellValue) → CommitValue → ℕ → CellState
-cell_of cells start i = state_at cells (place_of start.plans i)
-
-abbrev pub published_of : List (ℕ × CellValue) → CommitValue → ℕ → CellState
-published_of cells start i = published (cell_of cells start i)
-
-pub record PublishesTo (j : ℕ) (cells : List (ℕ × CellValue)) (start : CommitValue) (now : List (ℕ × CellValue)) (commit : CommitValue)
-    : Type 0 where
-  pub changed : IsChangedTo j start.plans (published_of cells start) cells now
-  pub plans : ArePlansFrom j start.plans commit.plans
-  pub is : commit ≡ (let c : CommitValue = record start { plans = commit.plans; published = j } in c)
-  pub kept : (i : ℕ) → i < j → KeepsAppendRoom (value_at cells (place_of start.plans i)).room (value_at now (place_of start.plans i)).room
-  pub killed : (i : ℕ) → i < j → (plan_at commit.plans i).killed ≡ killed_by (cell_of cells start i)
-  pub told : (i : ℕ) → i < j → KillsAsTold (cell_of cells start i)
+use Rattle.nv_calls.proofs.Changes.{apart, none_changed, one_more, plan_other, plan_own, plans_more, plans_none}
 
 pub begins : (cells : List (ℕ × CellValue)) (start : CommitValue) → start.published ≡ 0 → PublishesTo 0 cells start cells start
 begins cells start none = record {

@@ -1,5 +1,5 @@
 -- Plan by plan, what a commit killed is retired.
-use Rattle.std.proofs.Common.{◌≡◌, ℕ, suc, ◌+◌, ◌-◌, ◌<◌, ◌≤◌, ◌&&◌, Bool, true, false, cond, None, List, [], length, take, below_more, add-one, arith, refl, ap, ap₂, sym, ◌∙◌, subst}
+use Rattle.std.proofs.Common.{◌≡◌, ℕ, suc, ◌+◌, ◌-◌, ◌<◌, ◌≤◌, ◌&&◌, Bool, true, false, cond, List, [], length, take, below_more, add-one, arith, refl, ap, ap₂, sym, ◌∙◌, subst}
 use Rattle.std.specs.Prelude.{slice_set}
 use Rattle.std.specs.List.{sum_by}
 use Rattle.std.proofs.lemmas.List.Sums.{sum_by_more, sum_by_more_le}
@@ -15,51 +15,14 @@ use Rattle.nv_log.specs.Chain.{ChainState, log}
 use Rattle.nv_calls.specs.CanCommit.{CanBeRetired, CanRetireAll}
 use Rattle.nv_calls.specs.Cells.{OnlyAt, ino_at, state_at, value_at}
 use Rattle.nv_calls.specs.Commit.{CommitValue, after_retire, to_retire}
-use Rattle.nv_calls.specs.Committed.{Killing, hand_after_killings, killed_count, manifests_after, noted_killing, place_of, settled_cell, settled_room}
+use Rattle.nv_calls.specs.Committed.{Killing, hand_after_killings, killed_count, manifests_after, noted_killing, place_of}
+use Rattle.nv_calls.specs.PlanByPlan.{IsFree, NoneGone, RetiresTo, cell_of, room_of, settled_of}
 use Rattle.nv_calls.specs.Ready.{ArePlaced, CellPlanValue, no_plan, plan_at}
 use Rattle.nv_calls.specs.Retired.{CanRetire}
 use Rattle.nv_calls.specs.Retiring.{erased, freed_by, hand_retired, hand_with, number_back, retired, room_erased, with_back, with_records}
 use Rattle.nv_calls.proofs.CellLists.{other-only}
-use Rattle.nv_calls.proofs.Changes.{ArePlansFrom, IsChangedTo, apart, none_changed, one_more, plans_more, plans_none}
+use Rattle.nv_calls.proofs.Changes.{apart, none_changed, one_more, plans_more, plans_none}
 use Rattle.nv_calls.proofs.Retires.{chain_stays, data_stays, freed_within}
-
--- the cell of a plan before, and after
-abbrev pub cell_of : List (ℕ × CellValue) → CommitValue → ℕ → CellState
-cell_of cells start i = state_at cells (place_of start.plans i)
-
-abbrev pub settled_of : List ℕ → List (ℕ × CellValue) → CommitValue → ℕ → CellState
-settled_of living cells start i = settled_cell living start.stamp.epoch (noted_killing cells start i)
-
-abbrev pub room_of : List ℕ → List (ℕ × CellValue) → CommitValue → ℕ → CellRoom
-room_of living cells start i =
-    settled_room living start.stamp.epoch (noted_killing cells start i) (value_at cells (place_of start.plans i)).room
-
--- no inode among the first is gone
-abbrev NoneGone : ℕ → List (ℕ × CellValue) → CommitValue → Type 0
-NoneGone j cells start = (i : ℕ) → i < j → is_gone (log_of (cell_of cells start i)) ≡ true → ⊥
-
--- a hand has no chain and no number
-pub record IsFree (hand : Hand) : Type 0 where
-  pub chain : length hand.chain ≡ 0
-  pub number : hand.ino ≡ None
-
-pub record RetiresTo (j : ℕ) (cells : List (ℕ × CellValue)) (start : CommitValue) (shelf : BookValue) (now : List (ℕ × CellValue))
-    (commit : CommitValue) (book : BookValue) : Type 0 where
-  pub changed : IsChangedTo j start.plans (settled_of (ids shelf.state.snaps) cells start) cells now
-  pub plans : ArePlansFrom j start.plans commit.plans
-  pub is : commit ≡ (let c : CommitValue = record start {
-    plans = commit.plans;
-    hand = hand_after_killings (ids shelf.state.snaps) start.stamp.epoch (noted_killing cells start) j start.hand;
-    retired = j;
-  } in c)
-  pub state : book.state ≡ (let b : BookState = record shelf.state {
-    manifests = manifests_after (ids shelf.state.snaps) start.stamp.epoch (noted_killing cells start) j shelf.state.manifests;
-  } in b)
-  pub rooms : (i : ℕ) → i < j → (value_at now (place_of start.plans i)).room ≡ room_of (ids shelf.state.snaps) cells start i
-  pub records : shelf.room ≤ book.room + sum_by killed_count (take j start.plans)
-  pub freed : start.hand.data.room ≤ commit.hand.data.room + sum_by killed_count (take j start.plans)
-  pub size : commit.hand.data.size ≡ start.hand.data.size
-  pub free : IsFree start.hand → NoneGone j cells start → IsFree commit.hand
 
 pub begins : (cells : List (ℕ × CellValue)) (start : CommitValue) (book : BookValue) → start.retired ≡ 0
     → RetiresTo 0 cells start book cells start book

@@ -13,6 +13,8 @@ pub mod Next
 pub mod Nodes
 pub mod Plain
 pub mod Plan
+pub mod PlanByPlan
+pub mod Progress
 pub mod PublishedSlots
 pub mod PagesWanted
 pub mod Prepared

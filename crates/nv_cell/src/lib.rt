@@ -6,6 +6,7 @@ mod cell;
 mod closing;
 mod effects;
 mod erase;
+mod found;
 mod index;
 mod killed;
 mod kills;

@@ -1,86 +1,106 @@
--- What a world replies to an event, and what it leaves.
-use Rattle.std.specs.Prelude.{◌≡◌, ℕ, ◌+◌, ◌⊎◌, nat_lt, List, [], ◌∷◌, length, Option, Some, None, Result, Ok, Err, MatchBool, slice_index_or, slice_set}
-use Rattle.nv_base.specs.declared.fault.Fault.{Fault}
-use Rattle.nv_base.specs.declared.fault.Fault.TheVariants.{ActorBusy, ActorIdle, NoActor, OutOfMemory}
-use Rattle.nv_core.specs.declared.call.Answer.{Answer}
-use Rattle.nv_core.specs.declared.call.Call.{Call}
-use Rattle.nv_core.specs.declared.call.Call.TheVariants.{Create, Write}
-use Rattle.nv_core.specs.declared.event.Event.{Event}
-use Rattle.nv_core.specs.declared.event.Event.TheVariants.{Start, Go}
-use Rattle.nv_core.specs.declared.event.Reply.{Reply}
-use Rattle.nv_core.specs.declared.event.Reply.TheVariants.{Started, Done, Refused}
-use Rattle.nv_entry.specs.Bytes.{pages_touched}
-use Rattle.nv_core.specs.Plain.{Outcome, Refuses, Answers, outcome_of}
-use Rattle.nv_core.specs.World.{WorldValue, numbers_of, plain_of}
+-- What a step is given by the laws of the machine, beside what is told of its call.
+use Rattle.std.specs.Prelude.{Some, ◌≡◌, ℕ, ◌+◌, ◌<◌, ◌≤◌, ◌%◌, ◌⊎◌, false, true, [], length, None, slice_index_or}
+use Rattle.std.specs.List.{AllByRecursion}
+use Rattle.std.specs.Option.{ForSome}
+use Rattle.nv_alloc.specs.Block.{AreSized, numbers_of}
+use Rattle.nv_alloc.specs.Hand.{blocks_of}
+use Rattle.nv_alloc.specs.Numbers.{has, times}
+use Rattle.nv_alloc.specs.declared.hand.Hand.{Hand}
+use Rattle.nv_base.specs.Limits.{IsWithinLimits}
+use Rattle.nv_book.specs.Book.{after_enter}
+use Rattle.nv_base.specs.declared.limits.TheConstants.{NUMBER}
+use Rattle.nv_calls.specs.CanCommit.{TakesCommit}
+use Rattle.nv_calls.specs.Cells.{value_at}
+use Rattle.nv_calls.specs.Commit.{stamp_of}
+use Rattle.nv_calls.specs.Locked.{handles}
+use Rattle.nv_calls.specs.Prepared.{HasNumberFor, makes}
+use Rattle.nv_calls.specs.Progress.{step_of}
+use Rattle.nv_calls.specs.Ready.{ReadyValue}
+use Rattle.nv_calls.specs.declared.progress.CommitStep.TheVariants.{Leave}
+use Rattle.nv_calls.specs.SlotCells.{lent_cells}
+use Rattle.nv_calls.specs.Updates.{blank_call}
+use Rattle.nv_cell.specs.Cell.{CellValue, log_of}
+use Rattle.nv_machine.specs.Effects.{IsSoundIn}
+use Rattle.nv_machine.specs.World.{empty_hand, list_at}
+use Rattle.nv_core.specs.Nodes.{CanRead}
+use Rattle.nv_core.specs.Parts.{AreGiven, AreHome, AreSlots, AreStill, IsOfDevice}
+use Rattle.nv_core.specs.Rooms.{hand_held}
+use Rattle.nv_core.specs.Shown.{hand_of, shared_of, slots_in}
+use Rattle.nv_core.specs.Told.{IsChangeWith}
+use Rattle.nv_core.specs.Visits.{HasOwnBytes}
+use Rattle.nv_core.specs.declared.hold.Hold.{Hold}
+use Rattle.nv_core.specs.declared.hold.Hold.TheVariants as hold
+use Rattle.nv_core.specs.declared.next.Ending.TheVariants as ending
+use Rattle.nv_core.specs.declared.next.Next.{Next}
+use Rattle.nv_core.specs.declared.next.Next.TheVariants as next
+use Rattle.nv_core.specs.declared.running.Running.{Running}
+use Rattle.nv_core.specs.declared.shared.Shared.{Shared}
 
--- a call is answered as the outcome says, and the world then stands for the plain world after it, or want of
--- memory comes in place of the answer; a call that the outcome refuses is refused by that fault. A refusal changes
--- nothing.
-abbrev pub IsOutcome : Outcome → WorldValue → Result Answer Fault → WorldValue → Type 0
-IsOutcome (Answers answer after) old result new = ((result ≡ Ok answer) × (plain_of new ≡ after)) ⊎ ((result ≡ Err OutOfMemory) × (new ≡ old))
-IsOutcome (Refuses fault) old result new = (result ≡ Err fault) × (new ≡ old)
+-- before its check a call holds all cells that it reads, none of which has entries past its tail, and has nothing in its hand but
+-- the number of a new inode, whose slot is empty
+pub record CanBeChecked (shared : Shared) (hand : Hand) (running : Running) : Type 0 where
+  pub still : AreStill shared (slots_in running.slots)
+  pub empty : blocks_of hand ≡ []
+  pub inside : ForSome hand.ino (λ ino. ino < length shared.cells.items)
+  pub read : IsChangeWith (λ u. CanRead shared (slots_in running.slots) (handles running.looked (blank_call u))) running.job
+  pub number : IsChangeWith (λ u. (hand.ino ≡ None) × (makes u ≡ true)
+      ⊎ HasNumberFor (lent_cells (slots_in running.slots) shared.cells.items) (makes u) hand.ino) running.job
 
-abbrev pub reply_of : Result Answer Fault → Reply
-reply_of (Ok answer) = Done answer
-reply_of (Err fault) = Refused fault
+-- the hand has no block that was at home on a lower CPU, and none that is free
+pub record CanGive (shared : Shared) (hand : Hand) (home : ℕ) : Type 0 where
+  pub cpu : home < shared.geometry.numbers.cpus
+  pub given : AreGiven shared.geometry.numbers home (blocks_of hand)
+  pub sized : AreSized shared.geometry.numbers.block (blocks_of hand)
+  pub once : (n : ℕ) → times n (numbers_of (blocks_of hand)) + times n (numbers_of (list_at (shared_of shared) home).blocks) ≤ 1
 
--- the actor's call
-abbrev pub call_of : WorldValue → ℕ → Option Call
-call_of world actor = slice_index_or world.calls actor None
+-- the number in the hand is that of a slot, and not in the pool
+pub record CanPutBack (shared : Shared) (hand : Hand) : Type 0 where
+  pub inode : ForSome hand.ino (λ ino. ino < shared.pool.inodes)
+  pub absent : ForSome hand.ino (λ ino. has shared.pool.numbers ino ≡ false)
 
-abbrev pub with_call : WorldValue → ℕ → Option Call → WorldValue
-with_call world actor call = record world { calls = slice_set world.calls actor call }
+-- where nobody commits, the cells take a commit of the next number, and no journal is open
+pub record CanEnter (shared : Shared) (running : Running) (ready : ReadyValue) (actor : ℕ) : Type 0 where
+  pub take : AllByRecursion (λ p. TakesCommit (stamp_of (after_enter actor shared.book.state))
+      (value_at (lent_cells (slots_in running.slots) shared.cells.items) p.at)) ready.plans
+  pub cpu : actor % length shared.lists.items < length shared.book.state.journals
+  pub closed : slice_index_or shared.book.state.journals (actor % length shared.lists.items) [] ≡ []
 
--- what stays over a call
-pub record KeepsNumbers (old new : WorldValue) : Type 0 where
-  pub numbers : new.numbers ≡ old.numbers
-  pub calls : new.calls ≡ old.calls
+-- before it is made ready a call is to be answered, and the logs of the cells that it holds are sound
+pub record CanGetReady (shared : Shared) (running : Running) : Type 0 where
+  pub answers : running.ending ≡ ending.Answers
+  pub sound : AllByRecursion (λ (c : ℕ × CellValue). IsSoundIn c.1.state (log_of c.1.state))
+      (lent_cells (slots_in running.slots) shared.cells.items)
 
--- how many blocks a text takes: one for each page that it touches, none where it has no bytes
-abbrev pub text_takes : ℕ → ℕ → List ℕ → ℕ
-text_takes block offset [] = 0
-text_takes block offset (byte ∷ rest) = pages_touched block offset (length (byte ∷ rest))
+-- what the next step of a call is given that has its hand alone
+abbrev pub Given : Next → Shared → Hand → Running → Type 0
+Given next.Number shared hand running = hand.ino ≡ None
+Given (next.Lock place) shared hand running = place < length (slots_in running.slots)
+Given next.Check shared hand running = CanBeChecked shared hand running
+Given next.Ready shared hand running = CanGetReady shared running
+Given (next.Unlock place) shared hand running = place < length (slots_in running.slots)
+Given (next.Give cpu) shared hand running = CanGive shared hand cpu
+Given next.Back shared hand running = CanPutBack shared hand
+Given next.Visit shared hand running =
+    (slots_in running.slots ≡ []) × ((ino : ℕ) → HasOwnBytes (shared_of shared) ino) × (hand_of hand ≡ empty_hand)
+Given other shared hand running = Unit {0}
 
--- how many data blocks a call takes: only a write takes any
-abbrev pub blocks_taken : ℕ → Call → ℕ
-blocks_taken block (Write file offset text) = text_takes block offset text
-blocks_taken block _ = 0
+abbrev pub GivenBy : Shared → Hold → Running → ℕ → Type 0
+GivenBy shared (hold.Hand hand) running actor = Given running.next shared hand running
+GivenBy shared (hold.Ready ready) running actor = shared.holder ≡ None → shared.book.state.commit < NUMBER → CanEnter shared running ready actor
+GivenBy shared (hold.Commit commit) running actor = shared.holder ≡ Some actor
 
--- how many inode slots a call takes: only a create takes one
-abbrev pub inodes_taken : Call → ℕ
-inodes_taken (Create dir name mode) = 1
-inodes_taken _ = 0
+-- WHAT EVERY STEP OF AN ACTOR'S CALL IS GIVEN
+pub record CanStep (shared : Shared) (hold : Hold) (running : Running) (actor : ℕ) : Type 0 where
+  pub limits : IsWithinLimits shared.geometry.numbers
+  pub actors : actor < shared.geometry.numbers.actors
+  pub home : AreHome shared
+  pub device : IsOfDevice shared.geometry.numbers (hand_held hold)
+  pub slots : AreSlots shared (slots_in running.slots)
+  pub wide : length shared.owners.items ≡ length shared.cells.items
+  pub own : GivenBy shared hold running actor
 
--- the number where the call was answered, and 0 where it was refused
-abbrev pub if_answered : Result Answer Fault → ℕ → ℕ
-if_answered (Ok answer) taken = taken
-if_answered (Err fault) taken = 0
-
--- how many data blocks and inode slots are in use after a call
-pub record Takes (call : Call) (old : WorldValue) (result : Result Answer Fault) (new : WorldValue) : Type 0 where
-  pub blocks : length new.data_blocks ≡ length old.data_blocks + if_answered result (blocks_taken old.numbers.block call)
-  pub inodes : length new.logs ≡ length old.logs + if_answered result (inodes_taken call)
-
--- a call of an actor that has gone idle: it replies and leaves what its outcome says, keeps the numbers that
--- the world was made with, and uses up the blocks and slots that it takes and no more
-pub record Goes (call : Call) (old : WorldValue) (reply : Reply) (new : WorldValue) : Type 0 where
-  pub result : Result Answer Fault
-  pub replies : reply ≡ reply_of result
-  pub outcome : IsOutcome (outcome_of (numbers_of old) (plain_of old) call) old result new
-  pub kept : KeepsNumbers old new
-  pub taken : Takes call old result new
-
-abbrev pub IsStart : Option Call → WorldValue → ℕ → Call → Reply → WorldValue → Type 0
-IsStart None old actor call reply new = (reply ≡ Started) × (new ≡ with_call old actor (Some call))
-IsStart (Some running) old actor call reply new = (reply ≡ Refused ActorBusy) × (new ≡ old)
-
-abbrev pub IsGo : Option Call → WorldValue → ℕ → Reply → WorldValue → Type 0
-IsGo None old actor reply new = (reply ≡ Refused ActorIdle) × (new ≡ old)
-IsGo (Some call) old actor reply new = Goes call (with_call old actor None) reply new
-
--- one event
-abbrev pub IsStep : WorldValue → Event → Reply → WorldValue → Type 0
-IsStep old (Start actor call) reply new =
-    MatchBool (nat_lt actor (length old.calls)) (IsStart (call_of old actor) old actor call reply new) ((reply ≡ Refused NoActor) × (new ≡ old))
-IsStep old (Go actor) reply new =
-    MatchBool (nat_lt actor (length old.calls)) (IsGo (call_of old actor) old actor reply new) ((reply ≡ Refused NoActor) × (new ≡ old))
+-- the next step passes the hand on: the call is made ready, it enters, or its commit leaves
+abbrev pub PassesOn : Hold → Running → Type 0
+PassesOn (hold.Hand hand) running = running.next ≡ next.Ready
+PassesOn (hold.Ready ready) running = Unit {0}
+PassesOn (hold.Commit commit) running = step_of commit ≡ Leave

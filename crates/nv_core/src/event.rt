@@ -1,9 +1,9 @@
 //! What happens to a world, and how it replies.
 
-use crate::{Answer, Call};
 use nv_base::Fault;
+use nv_calls::{Answer, Call};
 
-/// An event of one actor: it starts a call, or its call goes on.
+/// An event of one actor: it starts a call, or its call goes on by one step.
 #[derive(Debug, Drop)]
 pub enum Event {
     Start(u64, Call),
@@ -14,6 +14,10 @@ pub enum Event {
 #[derive(Debug, Drop)]
 pub enum Reply {
     Started,
+    /// The step was made, and the call has another.
+    Moved,
+    /// Another actor holds what the step needs. Nothing changed.
+    Waits,
     Done(Answer),
     Refused(Fault),
 }

@@ -1,23 +1,35 @@
-//! The world: calls in, answers and trees out.
+//! The world of atomic steps: files and directories, which any number of actors change at once.
 //!
-//! Contracts compare the world with a plain world: nodes by handle, with their bytes or names. Each call is
-//! answered as the plain world answers it, and what the world's logs say afterwards is the plain world
-//! after that call.
+//! An actor starts a call, and each `Go` of that actor makes one step of it. Between two steps of a call any other
+//! actor may make steps. What is shared lies behind locks: a cell for each inode slot, and the book. A free list or
+//! the pool of inode numbers is held for one step alone.
 #![tactic(auto)]
 
-mod call;
-mod create;
-mod data;
+mod bounded;
+mod ending;
 mod event;
-mod file;
-pub mod machine;
-mod node;
-mod run;
+mod fill;
+mod format;
+mod hold;
+mod job;
+mod kinds;
+mod lent;
+mod lent_open;
+mod lent_ready;
+mod lent_retire;
+mod lent_take;
+mod next;
+mod reports;
+mod running;
+mod shared;
+mod slots;
 mod step;
 mod tree;
+mod turn;
 mod world;
 
-pub use call::{Answer, Call};
 pub use event::{Event, Reply};
+pub use nv_calls::{Answer, Call};
 pub use nv_entry::{Path, Tree, TreeNode};
+pub use reports::{Lists, LogCounts, Space};
 pub use world::World;

@@ -1,7 +1,7 @@
 -- The line in whose text a front of the text of some lines ends.
 use Rattle.std.proofs.Common.{◌≡◌, ℕ, ◌<◌, ◌≤◌, inl, inr, List, [], ◌∷◌, ◌++◌, length, Option, refl, ap, ◌∙◌, append_assoc, sym, arith}
 use Rattle.std.proofs.lemmas.Bool.{cases_lt}
-use Rattle.nv_core.specs.World.{WorldValue}
+use Rattle.nv_machine.specs.World.{World}
 use Rattle.nv_script.specs.Lines.{IsCutOff, IsLine}
 use Rattle.nv_script.specs.Play.{Plays, PlaysAll}
 
@@ -25,15 +25,15 @@ longer (x ∷ a) b (y ∷ c) d same most =
     (rest.0, (let more = rest.1 in cc), rest.2)
 
 -- the lines before it, it and those after it; the text before its own, and what is there of its own
-pub record BreaksAt (old : Option WorldValue) (lines : List (List ℕ)) (front : List ℕ) : Type 0 where
+pub record BreaksAt (old : Option World) (lines : List (List ℕ)) (front : List ℕ) : Type 0 where
   pub before : List (List ℕ)
   pub line : List ℕ
   pub after : List (List ℕ)
   pub text : List ℕ
   pub sent : List ℕ
   pub own : List ℕ
-  pub world : Option WorldValue
-  pub new : Option WorldValue
+  pub world : Option World
+  pub new : Option World
   pub split : lines ≡ before ++ line ∷ after
   pub front_is : front ≡ text ++ sent
   pub played : PlaysAll old before text world
@@ -45,7 +45,7 @@ none_of : (front : List ℕ) → IsCutOff front [] → ⊥
 none_of [] cut = let same = cut.1 in let some = cut.2 in omega (arith, ap length same)
 none_of (byte ∷ front) cut = let same = cut.1 in cc
 
-pub breaks_at : (old : Option WorldValue) (lines : List (List ℕ)) (text front : List ℕ) (new : Option WorldValue)
+pub breaks_at : (old : Option World) (lines : List (List ℕ)) (text front : List ℕ) (new : Option World)
     → PlaysAll old lines text new → IsCutOff front text → BreaksAt old lines front
 breaks_at old [] text front new all cut = absurd (none_of front (cut.0, sym all.0 ∙ cut.1, cut.2))
 breaks_at old (line ∷ lines) text front new all cut =

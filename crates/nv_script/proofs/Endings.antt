@@ -7,20 +7,23 @@ use Rattle.nv_base.specs.declared.fault.Fault.{Fault}
 use Rattle.nv_base.specs.declared.fault.Fault.TheVariants as fault
 use Rattle.nv_base.specs.declared.fault.ScriptFaultKind.{ScriptFaultKind}
 use Rattle.nv_base.specs.declared.fault.ScriptFaultKind.TheVariants as kind
-use Rattle.nv_core.specs.World.{WorldValue}
+use Rattle.nv_machine.specs.World.{World}
 use Rattle.nv_script.specs.declared.fault.LineFault.{LineFault}
 use Rattle.nv_script.specs.declared.fault.LineFault.TheVariants as line_fault
 use Rattle.nv_script.specs.declared.feed.Taken.{Taken}
 use Rattle.nv_script.specs.declared.feed.Taken.TheVariants as taken
 use Rattle.nv_script.specs.Lines.{IsLine, TakenIs, WritesFront, WritesSome, ended}
-use Rattle.nv_script.specs.Play.{Ends, EndsBy, EndsWell, IsFault, Played, Plays, PlaysAll, most_lines}
+use Rattle.nv_script.specs.Play.{LineFails, Ends, EndsBy, EndsWell, IsFault, Played, Plays, PlaysAll, most_lines}
+use Rattle.nv_core.specs.Worlds.{WorldState}
+use Rattle.nv_core.specs.Worlds.{ShowsAny}
+use Rattle.nv_script.specs.Grammar.{is_skipped}
 use Rattle.nv_script.specs.Results.{AtLine, LineFaultIs, ending_of, is_line, within_lines}
 use Rattle.nv_script.proofs.Breaks.{breaks_at}
 use Rattle.nv_script.proofs.Known.{writes_all, writes_grown, writes_none, writes_rest, writes_some, writes_some_of}
 use Rattle.nv_script.proofs.Lines.{ended-append, ended-push}
 
 -- before the first line
-pub at_first : (input ahead old : Option (List ℕ)) (gathered : List ℕ) (world : Option WorldValue) → Consumes input ahead []
+pub at_first : (input ahead old : Option (List ℕ)) (gathered : List ℕ) (world : Option World) → Consumes input ahead []
     → gathered ≡ [] → world ≡ None
     → AtLine input ahead old old gathered 1 world
 at_first input ahead old gathered world none empty first = record {
@@ -58,15 +61,15 @@ no_room input left old =
     whole None = ([], tt)
     whole (Some bytes) = (bytes, refl)
 
-plays-push : (old : Option WorldValue) (lines : List (List ℕ)) (text : List ℕ) (mid : Option WorldValue) (line more : List ℕ)
-    (new : Option WorldValue)
+plays-push : (old : Option World) (lines : List (List ℕ)) (text : List ℕ) (mid : Option World) (line more : List ℕ)
+    (new : Option World)
     → PlaysAll old lines text mid → IsLine line → Plays mid line more new → PlaysAll old (lines ++ line ∷ []) (text ++ more) new
 plays-push old [] text mid line more new all lawful one = (
   more,
   [],
   new,
   lawful,
-  subst (λ (world : Option WorldValue). Plays world line more new) all.1 one,
+  subst (λ (world : Option World). Plays world line more new) all.1 one,
   (refl, refl),
   ap (λ front. front ++ more) all.0 ∙ sym (append-nil more),
 )
@@ -112,7 +115,7 @@ split-push input lines line rest is =
     if_same input _ _ same is
 
 -- the fault of the next line where not all of the text of some lines was written
-broken : (input left old new : Option (List ℕ)) (lines : List (List ℕ)) (rest text : List ℕ) (world : Option WorldValue)
+broken : (input left old new : Option (List ℕ)) (lines : List (List ℕ)) (rest text : List ℕ) (world : Option World)
     → IfSome input (λ bytes. bytes ≡ ended lines ++ rest) → length lines ≤ most_lines + 1
     → PlaysAll None lines text world → WritesSome old new text → EndsBy fault.Write input left (λ text. Appends old new text)
 broken input left old new lines rest text world split few all some =
@@ -146,7 +149,7 @@ ends_on (Err _) input left Old New turn e = absurd e
 
 -- the same where some of what was gathered was written
 broken_played : (input left old mid new : Option (List ℕ)) (gathered : List ℕ) (lines : List (List ℕ)) (rest text : List ℕ)
-    (world : Option WorldValue) → Played input lines rest text world
+    (world : Option World) → Played input lines rest text world
     → WritesFront old mid text gathered → WritesSome mid new gathered → EndsBy fault.Write input left (λ text. Appends old new text)
 broken_played input left old mid new gathered lines rest text world played front some =
     let few = played.few in
@@ -224,7 +227,7 @@ some_with : (bytes : List ℕ) (byte : ℕ) → bytes ++ byte ∷ [] ≢ []
 some_with [] byte is = cc
 some_with (first ∷ bytes) byte is = cc
 
-module _ (input known old new : Option (List ℕ)) (gathered : List ℕ) (number : ℕ) (world : Option WorldValue) (few : number ≤ 1048577)
+module _ (input known old new : Option (List ℕ)) (gathered : List ℕ) (number : ℕ) (world : Option World) (few : number ≤ 1048577)
     (at : AtLine input known old new gathered number world) where
   abbrev Written : List ℕ → Type 0
   Written text = WritesFront old new text gathered
@@ -349,7 +352,7 @@ module _ (input known old new : Option (List ℕ)) (gathered : List ℕ) (number
     within_last = (line_taken number t known after line is took).1
 
     -- a line that is not played
-    pub not_played : (left : Option (List ℕ)) (why : LineFault) (world' : Option WorldValue) → LineFaultIs why world line world'
+    pub not_played : (left : Option (List ℕ)) (why : LineFault) (world' : Option World) → LineFaultIs why world line world'
         → EndsBy (ending_of number why) input left Written
     not_played left line_fault.OutOfMemory world' why =
         let p = played after (line ++ 10 ∷ []) here in
@@ -359,7 +362,7 @@ module _ (input known old new : Option (List ℕ)) (gathered : List ℕ) (number
         (λ rest. within number (is_some world) _ fault within_last (inr (inr (line, rest, lawful, refl, why.0))))
 
     -- a line that was played, and its text gathered, or written in part
-    pub next : (new' : Option (List ℕ)) (more gathered' : List ℕ) (world' : Option WorldValue) → Plays world line more world'
+    pub next : (new' : Option (List ℕ)) (more gathered' : List ℕ) (world' : Option World) → Plays world line more world'
         → WritesFront new new' (gathered ++ more) gathered' → AtLine input after old new' gathered' (number + 1) world'
     next new' more gathered' world' plays wrote = record {
       lines = at.lines ++ line ∷ [];
@@ -372,7 +375,7 @@ module _ (input known old new : Option (List ℕ)) (gathered : List ℕ) (number
           (writes_grown old new at.text gathered more at.written) wrote;
     }
 
-    pub breaks_off : (left new' : Option (List ℕ)) (more : List ℕ) (world' : Option WorldValue) → Plays world line more world'
+    pub breaks_off : (left new' : Option (List ℕ)) (more : List ℕ) (world' : Option World) → Plays world line more world'
         → WritesSome new new' (gathered ++ more) → EndsBy fault.Write input left (λ text. Appends old new' text)
     breaks_off left new' more world' plays wrote =
         let p = played after (line ++ 10 ∷ []) here in
@@ -395,10 +398,22 @@ pub ends_told : (told why : Fault) (input left : Option (List ℕ)) (Writes : Li
     → EndsBy told input left Writes
 ends_told told why input left Writes same e = subst (λ (f : Fault). EndsBy f input left Writes) (sym same) e
 
-pub why_at : (why : LineFault) (world : Option WorldValue) (slice line : List ℕ) (world' : Option WorldValue) → slice ≡ line
-    → LineFaultIs why world slice world' → LineFaultIs why world line world'
-why_at why world slice line world' same is = subst (λ (bytes : List ℕ). LineFaultIs why world bytes world') same is
+-- a fault of a line on a world is one on what the world shows
+pub why_at : (why : LineFault) (old new : Option WorldState) (m : Option World) (slice line : List ℕ) → slice ≡ line → ShowsAny old m
+    → LineFaultIs why old slice new → LineFaultIs why m line m
+why_at line_fault.OutOfMemory old new m slice line same shown is = subst (λ (bytes : List ℕ). is_skipped bytes ≡ false) same is
+why_at (line_fault.Faulty fault) old new m slice line same shown is = (
+  subst (λ (made : Bool). LineFails made line fault) (as_many old m shown)
+      (subst (λ (bytes : List ℕ). LineFails (is_some old) bytes fault) same is.0),
+  refl,
+)
+  where
+    as_many : (old : Option WorldState) (m : Option World) → ShowsAny old m → is_some old ≡ is_some m
+    as_many None None shown = refl
+    as_many None (Some m) shown = absurd shown
+    as_many (Some w) None shown = absurd shown
+    as_many (Some w) (Some m) shown = refl
 
-pub plays_at : (world : Option WorldValue) (slice line text : List ℕ) (world' : Option WorldValue) → slice ≡ line
+pub plays_at : (world : Option World) (slice line text : List ℕ) (world' : Option World) → slice ≡ line
     → Plays world slice text world' → Plays world line text world'
 plays_at world slice line text world' same is = subst (λ (bytes : List ℕ). Plays world bytes text world') same is

@@ -3,7 +3,9 @@ pub mod Breaks
 pub mod Commands
 pub mod Endings
 pub mod Escapes
+pub mod Goes
 pub mod Handles
 pub mod Known
 pub mod Lines
 pub mod Numbers
+pub mod Played

@@ -1,15 +1,19 @@
 -- The texts of replies and reports.
-use Rattle.std.specs.Prelude.{ℕ, List, [], ◌∷◌, ◌++◌, length, codes, decimal}
+use Rattle.std.specs.Prelude.{ℕ, ◌+◌, ◌==◌, if◌then◌else◌, List, [], ◌∷◌, ◌++◌, length, codes, decimal}
 use Rattle.std.specs.List.{flat_map}
 use Rattle.nv_base.specs.Texts.{fault_text}
 use Rattle.nv_base.specs.declared.fault.Fault.{Fault}
 use Rattle.nv_base.specs.declared.node.Kind.{Kind}
 use Rattle.nv_base.specs.declared.node.Kind.TheVariants.{File, Dir}
 use Rattle.nv_base.specs.declared.numbers.Handle.{Handle}
-use Rattle.nv_core.specs.declared.call.Answer.{Answer}
-use Rattle.nv_core.specs.declared.call.Answer.TheVariants as answer
-use Rattle.nv_core.specs.declared.event.Reply.{Reply}
-use Rattle.nv_core.specs.declared.event.Reply.TheVariants as reply
+use Rattle.nv_alloc.specs.declared.runs.FreeRun.{FreeRun}
+use Rattle.nv_calls.specs.declared.answer.Answer.{Answer}
+use Rattle.nv_calls.specs.declared.answer.Answer.TheVariants as answer
+use Rattle.nv_cell.specs.declared.tally.PageCounts.{PageCounts}
+use Rattle.nv_entry.specs.declared.names.BoundName.{BoundName}
+use Rattle.nv_machine.specs.World.{Done, Moved, Refused, Reply, Started, Waiting}
+use Rattle.nv_core.specs.declared.reports.LogCounts.{LogCounts}
+use Rattle.nv_core.specs.declared.reports.Space.{Space}
 use Rattle.nv_entry.specs.declared.tree.TreeNode.{TreeNode}
 use Rattle.nv_script.specs.Words.{escaped}
 
@@ -28,15 +32,31 @@ counted_bytes (byte ∷ bytes) = decimal (length (byte ∷ bytes)) ++ codes " " 
 abbrev pub handle_text : Handle → List ℕ
 handle_text handle = decimal handle.ino ++ codes "." ++ decimal handle.generation
 
+-- a file's letter, or a directory's
+abbrev pub letter : Kind → List ℕ
+letter File = codes "f"
+letter Dir = codes "d"
+
+-- a bound name, on a line of its own behind what stands before
+abbrev pub bound_text : BoundName → List ℕ
+bound_text bound = codes "\n" ++ escaped bound.name ++ codes " " ++ handle_text bound.to
+
+-- what an answer shows behind the word `done`
 abbrev pub answer_text : Answer → List ℕ
-answer_text (answer.Made handle) = handle_text handle
-answer_text (answer.Count count) = decimal count
-answer_text (answer.Bytes bytes) = counted_bytes bytes
+answer_text (answer.Made handle) = codes " " ++ handle_text handle
+answer_text (answer.Count count) = codes " " ++ decimal count
+answer_text answer.Nothing = []
+answer_text (answer.Bytes bytes) = codes " " ++ counted_bytes bytes
+answer_text (answer.Stat kind mode size commit) =
+    codes " " ++ letter kind ++ codes " " ++ decimal mode ++ codes " " ++ decimal size ++ codes " " ++ decimal commit
+answer_text (answer.Names names) = codes " " ++ decimal (length names) ++ flat_map bound_text names
 
 abbrev pub reply_line : Reply → List ℕ
-reply_line reply.Started = line_of (codes "started")
-reply_line (reply.Done answer) = line_of (codes "done " ++ answer_text answer)
-reply_line (reply.Refused fault) = refused_line fault
+reply_line Started = line_of (codes "started")
+reply_line Moved = line_of (codes "moved")
+reply_line Waiting = line_of (codes "waits")
+reply_line (Done answer) = line_of (codes "done" ++ answer_text answer)
+reply_line (Refused fault) = refused_line fault
 
 -- each name behind a `/`
 abbrev pub names_text : List (List ℕ) → List ℕ
@@ -57,3 +77,32 @@ node_line node = line_of (path_text node.path ++ codes " " ++ kind_text node.nod
 
 abbrev pub tree_lines : List TreeNode → List ℕ
 tree_lines nodes = flat_map node_line nodes ++ line_of (codes "end")
+
+-- where the blocks are
+abbrev pub space_line : Space → List ℕ
+space_line space = line_of (codes "free " ++ decimal space.free ++ codes " chain " ++ decimal space.chain ++ codes " data " ++ decimal space.«data»
+    ++ codes " pending " ++ decimal space.pending ++ codes " hand " ++ decimal space.hand)
+
+-- a run of free blocks by its ends, or one block by its number
+abbrev pub run_text : FreeRun → List ℕ
+run_text run = codes " " ++ (if run.first == run.last then decimal run.first else decimal run.first ++ codes "-" ++ decimal run.last)
+
+abbrev pub runs_text : List FreeRun → List ℕ
+runs_text [] = codes " -"
+runs_text (run ∷ runs) = flat_map run_text (run ∷ runs)
+
+-- the free lists of the CPUs from one on
+abbrev pub lists_from : ℕ → List (List FreeRun) → List ℕ
+lists_from cpu [] = []
+lists_from cpu (runs ∷ lists) = line_of (codes "cpu " ++ decimal cpu ++ runs_text runs) ++ lists_from (cpu + 1) lists
+
+abbrev pub lists_lines : List (List FreeRun) → List ℕ
+lists_lines lists = lists_from 0 lists
+
+abbrev pub counts_text : PageCounts → List ℕ
+counts_text counts = codes " " ++ decimal counts.live ++ codes ":" ++ decimal counts.valid
+
+-- the log of a slot: entries and pages, and the counts of each page
+abbrev pub log_line : ℕ → LogCounts → List ℕ
+log_line ino log = line_of (codes "log " ++ decimal ino ++ codes " " ++ decimal log.entries ++ codes " " ++ decimal (length log.pages)
+    ++ flat_map counts_text log.pages)

@@ -23,6 +23,11 @@ number_of word = if is_number word then Some (value_from 0 word) else None
 abbrev pub number_up_to : ℕ → List ℕ → Option ℕ
 number_up_to most word = if is_number word && nat_le (value_from 0 word) most then Some (value_from 0 word) else None
 
+-- a number from 1 to `most`
+abbrev pub positive_up_to : ℕ → List ℕ → Option ℕ
+positive_up_to most word =
+    if is_number word && nat_le 1 (value_from 0 word) && nat_le (value_from 0 word) most then Some (value_from 0 word) else None
+
 -- the words between single spaces
 abbrev pub words_of : List ℕ → List (List ℕ)
 words_of line = slice_split (λ byte. byte == 32) line

@@ -1,15 +1,18 @@
 //! What lines do to a world, and what they write.
 
-ghost use Rattle.std.specs.Prelude.{◌≡◌, [], None, OnOk, string_bytes};
+ghost use Rattle.std.specs.Prelude.{◌≡◌, ◌+◌, [], ℕ, None, OnOk, string_bytes};
 ghost use Rattle.nv_base.specs.Limits.{first_bad_field};
-ghost use Rattle.nv_script.specs.Play.{Acts, Formats, Makes, ShowsTree};
-ghost use Rattle.nv_script.specs.Results.{IsNewWorld, LineIs};
+ghost use Rattle.nv_machine.specs.Step.{step};
+ghost use Rattle.nv_machine.specs.World as machine;
+ghost use Rattle.nv_script.specs.Play.{Acts, GoesOn, Runs, RunsFrom};
+ghost use Rattle.nv_script.specs.Results.{IsNewWorld, LineIs, MakesWorld};
+ghost use Rattle.nv_core.specs.Worlds.{Leads, reply_of};
 
-use crate::command::{Command, is_skipped, read_command, read_format};
+use crate::command::{Command, MOST_GOES, is_skipped, read_command, read_format};
 use crate::fault::LineFault;
-use crate::text::{push_refused, push_reply, push_tree};
+use crate::text::{push_lists, push_log, push_refused, push_reply, push_space, push_tree};
 use crate::word::words;
-use nv_base::{Fault, Geometry, GeometryNumbers};
+use nv_base::{Fault, Geometry, GeometryNumbers, Ino};
 use nv_core::{Call, Event, Reply, World};
 use std::alloc::{AllocError, Global};
 
@@ -49,7 +52,7 @@ fn format(
     requires none { world.old ≡ None }
     requires empty { string_bytes out.old ≡ [] }
     ensures { OnOk result
-        (Formats (first_bad_field numbers.now) numbers.now (string_bytes out.new) world.new) }
+        (MakesWorld (first_bad_field numbers.now) numbers.now (string_bytes out.new) world.new) }
 {
     match new_world(alloc, numbers) {
         Ok(made) => {
@@ -71,31 +74,60 @@ fn new_world(alloc: Global, numbers: &GeometryNumbers) -> Result<World, Fault>
 /// Acts on a command.
 fn act(world: &mut World, command: Command, out: &mut String) -> Result<(), AllocError>
     requires { string_bytes out.old ≡ [] }
-    ensures { OnOk result (Acts world.old command (string_bytes out.new) world.new) }
+    ensures { OnOk result
+        (Leads (λ m n. Acts m command (string_bytes out.new) n) world.old world.new) }
 {
     match command {
+        Command::Start(actor, call) => push_reply(out, &world.step(Event::Start(actor, call))),
+        Command::Go(actor, more) => push_reply(out, &go(world, actor, more)),
+        Command::Run(actor) => push_reply(out, &run(world, actor)),
         Command::Do(actor, call) => push_reply(out, &make(world, actor, call)),
-        Command::Tree => show_tree(world, out),
+        Command::Tree => match world.tree() {
+            Ok(tree) => push_tree(out, tree.as_slice()),
+            Err(fault) => push_refused(out, &fault),
+        },
+        Command::Space => push_space(out, &world.space()),
+        Command::Lists => match world.lists() {
+            Ok(lists) => push_lists(out, lists.as_slice()),
+            Err(fault) => push_refused(out, &fault),
+        },
+        Command::Log(ino) => match world.log(Ino::new(ino)) {
+            Ok(log) => push_log(out, ino, &log),
+            Err(fault) => push_refused(out, &fault),
+        },
     }
 }
 
-/// Starts a call, and goes on with it if it was started. A Go makes the whole call.
+/// An actor's call goes on, and so often more at most, up to the first reply that it did not move.
+fn go(world: &mut World, actor: u64, more: u64) -> Reply
+    ensures { Leads (λ m n. GoesOn (more + 1) m actor (reply_of result) n) world.old world.new }
+{
+    let mut reply = world.step(Event::Go(actor));
+    for _again in 0..more {
+        if !matches!(reply, Reply::Moved) {
+            return reply;
+        }
+        reply = world.step(Event::Go(actor));
+    }
+    reply
+}
+
+/// An actor's call goes on until it did not move.
+fn run(world: &mut World, actor: u64) -> Reply
+    ensures { Leads (λ m n. Runs m actor (reply_of result) n) world.old world.new }
+{
+    // No call has so many steps.
+    world.bounded();
+    go(world, actor, MOST_GOES - 1)
+}
+
+/// Starts a call, and runs it if it was started.
 fn make(world: &mut World, actor: u64, call: Call) -> Reply
-    ensures { Makes world.old actor call result world.new }
+    ensures { Leads (λ m n. RunsFrom (step m (machine.Start actor call)).reply
+        (step m (machine.Start actor call)).world actor (reply_of result) n) world.old world.new }
 {
     match world.step(Event::Start(actor, call)) {
-        Reply::Started => world.step(Event::Go(actor)),
+        Reply::Started => run(world, actor),
         reply => reply,
-    }
-}
-
-/// The tree now, or a refusal for want of memory.
-fn show_tree(world: &World, out: &mut String) -> Result<(), AllocError>
-    requires { string_bytes out.old ≡ [] }
-    ensures { OnOk result (ShowsTree world.now (string_bytes out.new) world.now) }
-{
-    match world.tree() {
-        Ok(tree) => push_tree(out, tree.as_slice()),
-        Err(fault) => push_refused(out, &fault),
     }
 }

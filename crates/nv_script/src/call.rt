@@ -1,8 +1,8 @@
 //! The calls of a script. A new call is a variant of `CallWord` with its row, and an arm of `read`, each beside the
 //! definition of the same name.
 
-ghost use Rattle.std.specs.Prelude.{◌≡◌};
-ghost use Rattle.nv_script.specs.Grammar.{Reads, all_calls, call_with, fields_in, name_in, named_among, row, texts, third_call};
+ghost use Rattle.std.specs.Prelude.{◌≡◌, true};
+ghost use Rattle.nv_script.specs.Grammar.{Reads, all_calls, call_with, fields_in, name_in, named_among, reads_or_unbinds, row, texts, third_call};
 
 use crate::fault::LineFault;
 use crate::field::{Field, handle_at, mode_at, number_at, text_at, word_at};
@@ -14,8 +14,17 @@ use std::alloc::Global;
 #[derive(Clone, Copy, Drop)]
 pub(crate) enum CallWord {
     Create,
+    Mkdir,
     Write,
     Read,
+    Size,
+    Mode,
+    Stat,
+    List,
+    Lookup,
+    Unlink,
+    Rmdir,
+    Rename,
 }
 
 /// A row of the table of calls: the name, and what the words after it are.
@@ -26,26 +35,64 @@ pub(crate) struct CallRow {
 }
 
 impl CallWord {
-    const ALL: [CallWord; 3] = [CallWord::Create, CallWord::Write, CallWord::Read];
+    const ALL: [CallWord; 12] = [
+        CallWord::Create,
+        CallWord::Mkdir,
+        CallWord::Write,
+        CallWord::Read,
+        CallWord::Size,
+        CallWord::Mode,
+        CallWord::Stat,
+        CallWord::List,
+        CallWord::Lookup,
+        CallWord::Unlink,
+        CallWord::Rmdir,
+        CallWord::Rename,
+    ];
 
     /// The table of calls.
     pub(crate) fn row(self) -> CallRow
         ensures name { result.name.now ≡ name_in (row self) }
         ensures fields { result.fields.now ≡ fields_in (row self) }
     {
+        CallRow {
+            name: self.name(),
+            fields: self.fields(),
+        }
+    }
+
+    fn name(self) -> &'static [u8]
+        ensures { result.now ≡ name_in (row self) }
+    {
         match self {
-            CallWord::Create => CallRow {
-                name: b"create",
-                fields: &[Field::Handle, Field::Text, Field::Mode],
-            },
-            CallWord::Write => CallRow {
-                name: b"write",
-                fields: &[Field::Handle, Field::Number, Field::Text],
-            },
-            CallWord::Read => CallRow {
-                name: b"read",
-                fields: &[Field::Handle, Field::Number, Field::Number],
-            },
+            CallWord::Create => b"create",
+            CallWord::Mkdir => b"mkdir",
+            CallWord::Write => b"write",
+            CallWord::Read => b"read",
+            CallWord::Size => b"size",
+            CallWord::Mode => b"mode",
+            CallWord::Stat => b"stat",
+            CallWord::List => b"list",
+            CallWord::Lookup => b"lookup",
+            CallWord::Unlink => b"unlink",
+            CallWord::Rmdir => b"rmdir",
+            CallWord::Rename => b"rename",
+        }
+    }
+
+    /// What the words after the name are.
+    fn fields(self) -> &'static [Field]
+        ensures { result.now ≡ fields_in (row self) }
+    {
+        match self {
+            CallWord::Create | CallWord::Mkdir => &[Field::Handle, Field::Text, Field::Mode],
+            CallWord::Write => &[Field::Handle, Field::Number, Field::Text],
+            CallWord::Read => &[Field::Handle, Field::Number, Field::Number],
+            CallWord::Size => &[Field::Handle, Field::Number],
+            CallWord::Mode => &[Field::Handle, Field::Mode],
+            CallWord::Stat | CallWord::List => &[Field::Handle],
+            CallWord::Lookup | CallWord::Unlink | CallWord::Rmdir => &[Field::Handle, Field::Text],
+            CallWord::Rename => &[Field::Handle, Field::Text, Field::Handle, Field::Text],
         }
     }
 
@@ -81,6 +128,11 @@ impl CallWord {
                 name: text_at(alloc, words, 4)?,
                 mode: mode_at(words, 5)?,
             }),
+            CallWord::Mkdir => Ok(Call::Mkdir {
+                dir: handle_at(words, 3)?,
+                name: text_at(alloc, words, 4)?,
+                mode: mode_at(words, 5)?,
+            }),
             CallWord::Write => Ok(Call::Write {
                 file: handle_at(words, 3)?,
                 offset: number_at(words, 4)?,
@@ -91,6 +143,49 @@ impl CallWord {
                 offset: number_at(words, 4)?,
                 count: number_at(words, 5)?,
             }),
+            CallWord::Size => Ok(Call::Size {
+                file: handle_at(words, 3)?,
+                size: number_at(words, 4)?,
+            }),
+            CallWord::Mode => Ok(Call::Mode {
+                handle: handle_at(words, 3)?,
+                mode: mode_at(words, 4)?,
+            }),
+            _ => self.read_names(alloc, words),
+        }
+    }
+
+    /// The calls that read one node, and those that take names away.
+    fn read_names(self, alloc: Global, words: &[&[u8]]) -> Result<Call, LineFault>
+        requires { reads_or_unbinds self ≡ true }
+        ensures { Reads result (call_with self (texts words.now)) }
+    {
+        match self {
+            CallWord::Stat => Ok(Call::Stat {
+                handle: handle_at(words, 3)?,
+            }),
+            CallWord::List => Ok(Call::List {
+                dir: handle_at(words, 3)?,
+            }),
+            CallWord::Lookup => Ok(Call::Lookup {
+                dir: handle_at(words, 3)?,
+                name: text_at(alloc, words, 4)?,
+            }),
+            CallWord::Unlink => Ok(Call::Unlink {
+                dir: handle_at(words, 3)?,
+                name: text_at(alloc, words, 4)?,
+            }),
+            CallWord::Rmdir => Ok(Call::Rmdir {
+                dir: handle_at(words, 3)?,
+                name: text_at(alloc, words, 4)?,
+            }),
+            CallWord::Rename => Ok(Call::Rename {
+                from: handle_at(words, 3)?,
+                old: text_at(alloc, words, 4)?,
+                to: handle_at(words, 5)?,
+                new: text_at(alloc, words, 6)?,
+            }),
+            _ => unreachable!(),
         }
     }
 }

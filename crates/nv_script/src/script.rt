@@ -4,6 +4,8 @@ ghost use Rattle.std.specs.Prelude.{◌≡◌, ℕ, ◌+◌, ◌≤◌, ◌⊎�
 ghost use Rattle.std.specs.List.{Contains};
 ghost use Rattle.std.specs.Io.KnownBytes.{prepend_known};
 ghost use Rattle.std.specs.Vec.{vec_capacity};
+ghost use Rattle.nv_machine.specs.World as machine;
+ghost use Rattle.nv_core.specs.Worlds.{ShowsAny};
 ghost use Rattle.nv_script.specs.Lines.{WritesFront, WritesSome};
 ghost use Rattle.nv_script.specs.Play.{Ends, PlaysScript};
 ghost use Rattle.nv_script.specs.Results.{AtLine, TurnIs, ending_of, is_line};
@@ -110,9 +112,9 @@ impl Player {
         writer: &mut W,
     ) -> Result<bool, Fault>
         requires { number ≤ MAX_LINES + 1 }
-        ensures { (input old : Option (List ℕ))
-            → AtLine input (prepend_known self.old.feed (R.remaining reader.old))
-            old (W.contents writer.old) self.old.outbox number self.old.world
+        ensures { (input old : Option (List ℕ)) (m : Option machine.World)
+            → ShowsAny self.old.world m → AtLine input (prepend_known self.old.feed (R.remaining reader.old))
+            old (W.contents writer.old) self.old.outbox number m
             → TurnIs result input (R.remaining reader.new)
             (prepend_known self.new.feed (R.remaining reader.new))
             old (W.contents writer.new) self.new.outbox number self.new.world }

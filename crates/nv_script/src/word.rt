@@ -3,7 +3,7 @@
 ghost use Rattle.std.specs.Prelude.{◌≡◌, ◌<◌, ◌≤◌, ◌++◌, ◌∷◌, ℕ, List, length, map, IfOk, IfSome, OnOk, MatchOption, string_bytes};
 ghost use Rattle.std.specs.List.{All};
 ghost use Rattle.nv_base.specs.declared.limits.TheConstants.{MODE};
-ghost use Rattle.nv_script.specs.Words.{number_of, number_up_to, words_of, handle_from, handle_of, is_plain, hex_value, before, unescaped, text_of, escaped_byte, escaped};
+ghost use Rattle.nv_script.specs.Words.{number_of, number_up_to, positive_up_to, words_of, handle_from, handle_of, is_plain, hex_value, before, unescaped, text_of, escaped_byte, escaped};
 
 use nv_base::{Bytes, Gen, Handle, Ino, Mode, limits};
 use std::alloc::{AllocError, Global};
@@ -44,6 +44,13 @@ pub fn number_up_to(most: u64, word: &[u8]) -> Option<u64>
     ensures { result ≡ number_up_to most word.now }
 {
     number(word).filter(|value| *value <= most)
+}
+
+/// The number from 1 to `most` that a word spells in decimal digits.
+pub fn positive(most: u64, word: &[u8]) -> Option<u64>
+    ensures { result ≡ positive_up_to most word.now }
+{
+    number(word).filter(|value| 1 <= *value && *value <= most)
 }
 
 /// The mode that a word spells in decimal digits.

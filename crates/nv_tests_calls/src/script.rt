@@ -2,8 +2,10 @@
 
 mod ends;
 mod faults;
+mod growths;
 mod lines;
 mod pieces;
 mod rows;
 mod scripts;
 mod words;
+mod worked;

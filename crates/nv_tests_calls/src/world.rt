@@ -1,226 +1,200 @@
-//! A first path through a world, by events and replies.
+//! Worlds: a first path by events and replies, and each call while the runner refuses memory once.
 
-use crate::compare::same;
-use nv_base::{Bytes, CommitNo, Fault, Mode, limits};
-use nv_core::{Answer, Call, Event, Reply, TreeNode, World};
-use nv_scenes::{Row, geometry, handle, handle_of};
+mod growths;
+mod playing;
+mod reports;
+mod words;
+
+use crate::compare::{push, same};
+use Words::{Create, List, Lookup, Mkdir, Read, Rename, Size, Stat, Unlink, Write};
+use nv_base::{Fault, Kind};
+use nv_core::{Event, Reply, TreeNode, World};
+use nv_scenes::Row;
+use playing::{finish, new_world};
 use std::alloc::Global;
 use std::process::Abort;
 use std::test::Fail;
+use words::{At, Want, Words, call, is_wanted};
 
-/// A call: inode and generation of its handle, and then its name, or its offset and text or count.
+/// An actor starts a call, goes on by a step, or goes on to the end; `Do` is the first and the last by actor 0.
 #[derive(Clone, Copy)]
-enum Words<'a> {
-    Create(u64, u64, &'a [u8]),
-    Write(u64, u64, u64, &'a [u8]),
-    Read(u64, u64, u64, u64),
-}
-
-/// An actor starts a call, or goes on; `Do` is both by actor 0.
-#[derive(Clone, Copy)]
-enum Step<'a> {
-    Start(u64, Words<'a>),
+enum Step {
+    Start(u64, Words),
     Go(u64),
-    Do(Words<'a>),
+    Run(u64),
+    Do(Words),
 }
 
-#[derive(Clone, Copy)]
-enum Want<'a> {
-    Started,
-    Made(u64),
-    Count(u64),
-    Bytes(&'a [u8]),
-    Refused(Fault),
-}
+/// A step, and its last reply.
+type Played = (Step, Want);
 
-/// A step, and its reply.
-type Played = (Step<'static>, Want<'static>);
+use Step::{Do, Go, Run, Start};
 
-use Step::{Do, Go, Start};
-use Words::{Create, Read, Write};
-
-fn bytes(alloc: Global, text: &[u8]) -> Result<Bytes, Fail> {
-    Ok(Bytes::from_vec(Vec::from_slice(alloc, text)?))
-}
-
-fn call(alloc: Global, words: &Words<'_>) -> Result<Call, Fail> {
-    Ok(match words {
-        Create(ino, generation, name) => Call::Create {
-            dir: handle_of(*ino, *generation),
-            name: bytes(alloc, name)?,
-            mode: Mode::checked(420).ok_or("mode")?,
-        },
-        Write(ino, generation, offset, text) => Call::Write {
-            file: handle_of(*ino, *generation),
-            offset: *offset,
-            text: bytes(alloc, text)?,
-        },
-        Read(ino, generation, offset, count) => Call::Read {
-            file: handle_of(*ino, *generation),
-            offset: *offset,
-            count: *count,
-        },
-    })
-}
-
-fn is_wanted(reply: &Reply, want: &Want<'_>) -> bool {
-    match (reply, want) {
-        (Reply::Started, Want::Started) => true,
-        (Reply::Done(Answer::Made(made)), Want::Made(ino)) => *made == handle(*ino),
-        (Reply::Done(Answer::Count(count)), Want::Count(want)) => count == want,
-        (Reply::Done(Answer::Bytes(bytes)), Want::Bytes(want)) => bytes.as_slice() == *want,
-        (Reply::Refused(fault), Want::Refused(want)) => fault == want,
-        _ => false,
+/// The reply to an event, or the last one of several.
+fn reply_to(rt: &impl Abort, alloc: Global, world: &mut World, step: &Step) -> Reply {
+    match step {
+        Start(actor, words) => world.step(Event::Start(*actor, call(rt, alloc, words))),
+        Go(actor) => world.step(Event::Go(*actor)),
+        Run(actor) => finish(rt, world, *actor).1,
+        Do(words) => playing::alone(rt, alloc, world, 0, words).1,
     }
 }
 
-/// Makes each step, and wants its reply.
-fn plays(rt: &impl Abort, alloc: Global, world: &mut World, rows: &[Played]) -> Result<(), Fail> {
+/// Makes each step in a new world, and wants its reply.
+fn plays_anew(rt: &impl Abort, alloc: Global, row: Row, rows: &[Played]) -> World {
+    let mut world = new_world(rt, alloc, row);
     for i in 0..rows.len() {
-        let event = match &rows[i].0 {
-            Start(actor, words) => Event::Start(*actor, call(alloc, words)?),
-            Go(actor) => Event::Go(*actor),
-            Do(words) => {
-                let started = world.step(Event::Start(0, call(alloc, words)?));
-                assert!(rt; matches!(started, Reply::Started), "row {i}");
-                Event::Go(0)
-            }
-        };
-        let reply = world.step(event);
-        assert!(rt; is_wanted(&reply, &rows[i].1), "row {i}");
+        let (step, want) = &rows[i];
+        let reply = reply_to(rt, alloc, &mut world, step);
+        assert!(rt; is_wanted(&reply, want), "row {i}");
     }
-    Ok(())
+    world
 }
 
 const SMALL: Row = [16, 2, 4, 4, 8, 4, 3];
 
 const TINY: Row = [8, 1, 1, 2, 2, 1, 1];
 
+const ROOT: At = (0, 1);
+
+const ONE: At = (1, 1);
+
+const TWO: At = (2, 1);
+
 /// Writes and reads.
 const FILES: &[Played] = &[
-    (Do(Create(0, 1, b"a")), Want::Made(1)),
+    (Do(Create(ROOT, b"a")), Want::Made(ONE)),
     // partial at both ends
-    (Do(Write(1, 1, 3, b"abcdefghij")), Want::Count(10)),
-    (Do(Read(1, 1, 0, 20)), Want::Bytes(b"\0\0\0abcdefghij")),
-    (Do(Read(1, 1, 2, 3)), Want::Bytes(b"\0ab")),
-    (Do(Read(1, 1, 12, 9)), Want::Bytes(b"j")),
-    (Do(Read(1, 1, 13, 1)), Want::Bytes(b"")),
-    (Do(Read(1, 1, u64::MAX, u64::MAX)), Want::Bytes(b"")),
+    (Do(Write(ONE, 3, b"abcdefghij")), Want::Count(10)),
+    (Do(Read(ONE, 0, 20)), Want::Bytes(b"\0\0\0abcdefghij")),
+    (Do(Read(ONE, 2, 3)), Want::Bytes(b"\0ab")),
+    (Do(Read(ONE, 12, 9)), Want::Bytes(b"j")),
+    (Do(Read(ONE, 13, 1)), Want::Bytes(b"")),
+    (Do(Read(ONE, u64::MAX, u64::MAX)), Want::Bytes(b"")),
     // over old bytes, of none, and past the end
-    (Do(Create(0, 1, b"b")), Want::Made(2)),
-    (Do(Write(2, 1, 0, b"abcdefghij")), Want::Count(10)),
-    (Do(Write(2, 1, 2, b"XY")), Want::Count(2)),
-    (Do(Read(2, 1, 0, 99)), Want::Bytes(b"abXYefghij")),
-    (Do(Write(2, 1, 3, b"")), Want::Count(0)),
-    (Do(Read(2, 1, 0, 99)), Want::Bytes(b"abXYefghij")),
-    (Do(Write(2, 1, 12, b"Z")), Want::Count(1)),
-    (Do(Read(2, 1, 0, 99)), Want::Bytes(b"abXYefghij\0\0Z")),
+    (Do(Create(ROOT, b"b")), Want::Made(TWO)),
+    (Do(Write(TWO, 0, b"abcdefghij")), Want::Count(10)),
+    (Do(Write(TWO, 2, b"XY")), Want::Count(2)),
+    (Do(Read(TWO, 0, 99)), Want::Bytes(b"abXYefghij")),
+    (Do(Write(TWO, 3, b"")), Want::Count(0)),
+    (Do(Read(TWO, 0, 99)), Want::Bytes(b"abXYefghij")),
+    (Do(Write(TWO, 12, b"Z")), Want::Count(1)),
+    (Do(Read(TWO, 0, 99)), Want::Bytes(b"abXYefghij\0\0Z")),
 ];
 
-/// Makes each step in a new world, and wants its reply.
-fn plays_anew(rt: &impl Abort, alloc: Global, row: Row, rows: &[Played]) -> Result<(), Fail> {
-    let mut world = World::format(alloc, geometry(row)?)?;
-    plays(rt, alloc, &mut world, rows)
-}
+/// What may be sent to other threads, as a world may.
+fn is_sent<T: Send>(_: &T) {}
 
 #[test]
-fn files(rt: HostRuntime) -> Result<(), Fail> {
-    plays_anew(&rt, rt.alloc(), SMALL, FILES)
+fn files(rt: HostRuntime) {
+    is_sent(&plays_anew(&rt, rt.alloc(), SMALL, FILES));
 }
 
 /// Refusals of calls and of actors.
 const REFUSALS: &[Played] = &[
-    (Do(Create(0, 1, b"a")), Want::Made(1)),
-    (Do(Create(7, 1, b"..")), Want::Refused(Fault::Stale)),
-    (Do(Create(0, 2, b"b")), Want::Refused(Fault::Stale)),
-    (Do(Create(99, 1, b"b")), Want::Refused(Fault::Stale)),
-    (Do(Create(1, 1, b"..")), Want::Refused(Fault::NotDirectory)),
-    (Do(Create(0, 1, b"..")), Want::Refused(Fault::BadName)),
-    (Do(Create(0, 1, b"a/b")), Want::Refused(Fault::BadName)),
-    (Do(Create(0, 1, b"a")), Want::Refused(Fault::Exists)),
-    (Do(Write(0, 1, 0, b"")), Want::Refused(Fault::NotFile)),
-    (Do(Read(2, 1, 0, 1)), Want::Refused(Fault::Stale)),
+    (Do(Create(ROOT, b"a")), Want::Made(ONE)),
+    (Do(Create((7, 1), b"..")), Want::Refused(Fault::Stale)),
+    (Do(Create((0, 2), b"b")), Want::Refused(Fault::Stale)),
+    (Do(Create((99, 1), b"b")), Want::Refused(Fault::Stale)),
+    (Do(Create(ONE, b"..")), Want::Refused(Fault::NotDirectory)),
+    (Do(Create(ROOT, b"..")), Want::Refused(Fault::BadName)),
+    (Do(Create(ROOT, b"a/b")), Want::Refused(Fault::BadName)),
+    (Do(Create(ROOT, b"a")), Want::Refused(Fault::Exists)),
+    (Do(Write(ROOT, 0, b"")), Want::Refused(Fault::NotFile)),
+    (Do(Read(TWO, 0, 1)), Want::Refused(Fault::Stale)),
+    (Do(Size(ROOT, 1)), Want::Refused(Fault::NotFile)),
+    (Do(List(ONE)), Want::Refused(Fault::NotDirectory)),
+    (Do(Lookup(ROOT, b"b")), Want::Refused(Fault::Missing)),
+    (Do(Unlink(ROOT, b"b")), Want::Refused(Fault::Missing)),
     // of actors
     (Go(0), Want::Refused(Fault::ActorIdle)),
     (Go(3), Want::Refused(Fault::NoActor)),
-    (Start(3, Create(0, 1, b"b")), Want::Refused(Fault::NoActor)),
-    (Start(2, Create(0, 1, b"b")), Want::Started),
+    (Start(3, Create(ROOT, b"b")), Want::Refused(Fault::NoActor)),
+    (Start(2, Create(ROOT, b"b")), Want::Started),
     (
-        Start(2, Create(0, 1, b"c")),
+        Start(2, Create(ROOT, b"c")),
         Want::Refused(Fault::ActorBusy),
     ),
-    (Go(2), Want::Made(2)),
+    (Run(2), Want::Made(TWO)),
     (Go(2), Want::Refused(Fault::ActorIdle)),
 ];
 
 #[test]
-fn refusals_in_order(rt: HostRuntime) -> Result<(), Fail> {
-    plays_anew(&rt, rt.alloc(), SMALL, REFUSALS)
+fn refusals_in_order(rt: HostRuntime) {
+    plays_anew(&rt, rt.alloc(), SMALL, REFUSALS);
 }
 
-/// With two inodes and eight blocks of one byte.
+/// With two inodes and eight blocks of one byte, two of which are pages of logs.
 const LIMITS: &[Played] = &[
-    (Do(Create(0, 1, b"a")), Want::Made(1)),
-    (Do(Create(0, 1, b"b")), Want::Refused(Fault::NoInode)),
+    (Do(Create(ROOT, b"a")), Want::Made(ONE)),
+    (Do(Create(ROOT, b"b")), Want::Refused(Fault::NoInode)),
     (
-        Do(Write(1, 1, 65536, b"a")),
+        Do(Write(ONE, 65536, b"a")),
         Want::Refused(Fault::FileTooBig),
     ),
     (
-        Do(Write(1, 1, 65536, &[b'a'; 1025])),
+        Do(Write(ONE, 65536, &[b'a'; 1025])),
         Want::Refused(Fault::WriteTooBig),
     ),
-    (
-        Do(Write(1, 1, 0, b"abcdefghi")),
-        Want::Refused(Fault::NoSpace),
-    ),
-    (Do(Write(1, 1, 0, b"abcdefgh")), Want::Count(8)),
-    (Do(Write(1, 1, 0, b"a")), Want::Refused(Fault::NoSpace)),
+    (Do(Write(ONE, 0, b"abcdefg")), Want::Refused(Fault::NoSpace)),
+    (Do(Write(ONE, 0, b"abcdef")), Want::Count(6)),
+    (Do(Write(ONE, 0, b"a")), Want::Refused(Fault::NoSpace)),
+    (Do(Read(ONE, 0, 9)), Want::Bytes(b"abcdef")),
 ];
-
-/// With one commit number left.
-const LAST_COMMIT: &[Played] = &[
-    (Do(Create(0, 1, b"a")), Want::Made(1)),
-    (Do(Create(0, 1, b"b")), Want::Refused(Fault::CommitLimit)),
-    (Do(Write(1, 1, 0, b"a")), Want::Refused(Fault::CommitLimit)),
-];
-
-fn plays_to_the_last_commit(rt: &impl Abort, alloc: Global) -> Result<(), Fail> {
-    let first = CommitNo::new(limits::NUMBER - 1);
-    let mut world = World::format_at(alloc, geometry(SMALL)?, first)?;
-    plays(rt, alloc, &mut world, LAST_COMMIT)
-}
 
 #[test]
-fn limits_of_a_world(rt: HostRuntime) -> Result<(), Fail> {
-    plays_anew(&rt, rt.alloc(), TINY, LIMITS)?;
-    plays_to_the_last_commit(&rt, rt.alloc())
+fn limits_of_a_world(rt: HostRuntime) {
+    plays_anew(&rt, rt.alloc(), TINY, LIMITS);
 }
 
-/// Calls of actors.
-const CALLS: &[(u64, Words<'static>)] = &[
-    (0, Create(0, 1, b"log.txt")),
-    (1, Create(0, 1, b"b")),
-    (0, Write(1, 1, 2, b"hello")),
+/// Steps of several actors. A lock of another actor is waited for, and a call shows what was settled when it came.
+const STEPS: &[Played] = &[
+    (Start(0, Create(ROOT, b"a")), Want::Started),
+    (Start(1, Mkdir(ROOT, b"a")), Want::Started),
+    (Start(2, List(ROOT)), Want::Started),
+    // numbers 1 and 2, and the root's lock
+    (Go(0), Want::Moved),
+    (Go(1), Want::Moved),
+    (Go(1), Want::Moved),
+    (Go(0), Want::Waits),
+    (Go(2), Want::Waits),
+    (Run(1), Want::Made(TWO)),
+    (Go(2), Want::Names(&[(b"a", 2)])),
+    (Run(0), Want::Refused(Fault::Exists)),
+    (Do(Create(TWO, b"b")), Want::Made(ONE)),
+    (Do(Rename(TWO, b"b", ROOT, b"c")), Want::Nothing),
+    (Do(Lookup(ROOT, b"c")), Want::Made(ONE)),
+    (Do(Stat(ROOT)), Want::Stat(Kind::Dir, 493, 0, 3)),
+    (Do(List(TWO)), Want::Names(&[])),
 ];
 
-/// The two events of each of the calls.
-fn events(alloc: Global) -> Result<Vec<Event>, Fail> {
-    let mut events = Vec::new(alloc);
-    for (actor, words) in CALLS {
-        events.push(Event::Start(*actor, call(alloc, words)?))?;
-        events.push(Event::Go(*actor))?;
-    }
-    Ok(events)
+#[test]
+fn steps_of_several_actors(rt: HostRuntime) {
+    plays_anew(&rt, rt.alloc(), SMALL, STEPS);
 }
 
-fn run(rt: &impl Abort, alloc: Global, world: &mut World) -> Result<(), Fail> {
-    let Ok(replies) = world.run(events(alloc)?) else {
-        return Err("run".into());
-    };
-    assert!(rt; replies.len() == 6);
-    assert!(rt; is_wanted(&replies[5], &Want::Count(5)));
-    Ok(())
+/// Calls of actors, with how many steps each has.
+const CALLS: &[(u64, Words, usize)] = &[
+    (0, Create(ROOT, b"log.txt"), 18),
+    (1, Create(ROOT, b"b"), 18),
+    // lock, check, blocks, ready, enter, append, publish, retire, leave, unlock
+    (0, Write(ONE, 2, b"hello"), 10),
+];
+
+/// The events of each of the calls.
+fn events(rt: &impl Abort, alloc: Global) -> Vec<Event> {
+    let mut events = Vec::new(alloc);
+    for (actor, words, steps) in CALLS {
+        push(
+            rt,
+            &mut events,
+            Event::Start(*actor, call(rt, alloc, words)),
+        );
+        for _step in 0..*steps {
+            push(rt, &mut events, Event::Go(*actor));
+        }
+    }
+    events
 }
 
 /// The names and the bytes of the nodes behind the root.
@@ -240,10 +214,24 @@ fn has_nodes(rt: &impl Abort, nodes: &[TreeNode]) {
     }
 }
 
+/// The events are made all together. Where memory for the replies is refused they come back, and are given again.
 #[test]
 fn a_tree_after_a_run(rt: HostRuntime) -> Result<(), Fail> {
-    let mut world = World::format(rt.alloc(), geometry(SMALL)?)?;
-    run(&rt, rt.alloc(), &mut world)?;
+    let mut world = new_world(&rt, rt.alloc(), SMALL);
+    let replies = match world.run(events(&rt, rt.alloc())) {
+        Ok(replies) => replies,
+        Err((fault, back)) => {
+            same(&rt, fault, Fault::OutOfMemory);
+            match world.run(back) {
+                Ok(replies) => replies,
+                Err(_) => panic!(&rt; "memory for replies"),
+            }
+        }
+    };
+    assert!(&rt; replies.len() == 49);
+    assert!(&rt; is_wanted(&replies[18], &Want::Made(ONE)));
+    assert!(&rt; is_wanted(&replies[37], &Want::Made(TWO)));
+    assert!(&rt; is_wanted(&replies[48], &Want::Count(5)));
     has_nodes(&rt, world.tree()?.as_slice());
     Ok(())
 }

@@ -2,6 +2,7 @@
 
 use super::pieces::play_in_pieces;
 use super::rows::{FAULTS, FORMAT, SCRIPTS};
+use super::worked::{Row, WORKED};
 use crate::compare::{same, same_for};
 use nv_base::{Fault, ScriptFaultKind};
 use nv_script::{fault_line, fault_text, play};
@@ -40,13 +41,19 @@ pub(super) fn filled(
     Ok(bytes)
 }
 
+/// Plays each script whole, and asserts what it writes.
+fn check_all<R: AllocGlobal + Abort>(rt: &R, rows: &[Row]) {
+    for (script, text) in rows {
+        check(rt, script.as_bytes(), Ok(()), text.as_bytes());
+    }
+}
+
 #[test]
 fn scripts_write_their_texts(rt: HostRuntime) -> Result<(), Fail> {
-    for (script, text) in SCRIPTS {
-        check(&rt, script.as_bytes(), Ok(()), text.as_bytes());
-    }
-    for (letters, text) in LONGEST {
-        let script = filled(rt.alloc(), ONE_PAGE, b'a', *letters, b"\n")?;
+    check_all(&rt, &WORKED);
+    check_all(&rt, &SCRIPTS);
+    for (front, letters, end, text) in LONGEST {
+        let script = filled(rt.alloc(), front, b'a', letters, end.as_bytes())?;
         check(&rt, &script, Ok(()), text.as_bytes());
     }
     Ok(())
@@ -56,10 +63,59 @@ const ONE_PAGE: &str = "format blocks=2000 cpus=1 block=1 page=2 inodes=2 snaps=
                         do 0 create 0.1 a 420\n\
                         do 0 write 1.1 0 ";
 
-/// How many letters are written to `ONE_PAGE`, and the text of that script.
-const LONGEST: &[(usize, &str)] = &[
-    (1_024, "formatted\ndone 1.1\ndone 1024\n"),
-    (1_025, "formatted\ndone 1.1\nrefused E11 WriteTooBig\n"),
+/// The rows `limits_without_size` and `limits`, up to a write of 1,025 letters.
+const LIMITS_WITHOUT_SIZE: &str =
+    "format blocks=8 cpus=9 block=1 page=2 inodes=2 snaps=1 actors=1\n\
+     format blocks=8 cpus=1 block=1 page=2 inodes=2 snaps=1 actors=1\n\
+     do 0 create 0.1 a 420\n\
+     do 0 create 0.1 b 420\n\
+     do 0 write 1.1 65536 a\n\
+     do 0 write 1.1 65536 ";
+
+const LIMITS: &str = "format blocks=8 cpus=9 block=1 page=2 inodes=2 snaps=1 actors=1\n\
+     format blocks=8 cpus=1 block=1 page=2 inodes=2 snaps=1 actors=1\n\
+     do 0 create 0.1 a 420\n\
+     do 0 create 0.1 b 420\n\
+     do 0 size 1.1 65536\n\
+     do 0 write 1.1 65536 a\n\
+     do 0 write 1.1 65536 ";
+
+/// What stands before so many letters, what stands behind them, and the text of that script.
+const LONGEST: [(&str, usize, &str, &str); 4] = [
+    (ONE_PAGE, 1_024, "\n", "formatted\ndone 1.1\ndone 1024\n"),
+    (
+        ONE_PAGE,
+        1_025,
+        "\n",
+        "formatted\ndone 1.1\nrefused E11 WriteTooBig\n",
+    ),
+    (
+        LIMITS_WITHOUT_SIZE,
+        1_025,
+        "\n",
+        "refused E2 BadGeometry(cpus)\n\
+         formatted\n\
+         done 1.1\n\
+         refused E12 NoInode\n\
+         refused E10 FileTooBig\n\
+         refused E11 WriteTooBig\n",
+    ),
+    (
+        LIMITS,
+        1_025,
+        "\n\
+         do 0 read 1.1 65535 9\n\
+         do 0 read 1.1 65536 9\n",
+        "refused E2 BadGeometry(cpus)\n\
+         formatted\n\
+         done 1.1\n\
+         refused E12 NoInode\n\
+         done\n\
+         refused E10 FileTooBig\n\
+         refused E11 WriteTooBig\n\
+         done 1 %00\n\
+         done 0\n",
+    ),
 ];
 
 /// Gives one line at a time, or takes any bytes. Each line's text must have been taken before the next line
@@ -148,12 +204,17 @@ fn counts_of(alloc: Global, script: &str) -> (Result<(), Fault>, usize, usize) {
     (outcome, taken.get(), writer.calls)
 }
 
+fn are_one_write<R: AllocGlobal + Abort>(rt: &R, rows: &[Row]) {
+    for (script, text) in rows {
+        let want = (Ok(()), text.len(), text.len().min(1));
+        same_for(rt, script, counts_of(rt.alloc(), script), want);
+    }
+}
+
 #[test]
 fn answers_are_one_write_where_no_line_is_waited_for(rt: HostRuntime) {
-    for (script, text) in SCRIPTS {
-        let want = (Ok(()), text.len(), text.len().min(1));
-        same_for(&rt, &script, counts_of(rt.alloc(), script), want);
-    }
+    are_one_write(&rt, &WORKED);
+    are_one_write(&rt, &SCRIPTS);
 }
 
 /// Fronts of texts, how many zeros follow, and their ends.
@@ -196,14 +257,19 @@ fn long_texts(rt: HostRuntime) -> Result<(), Fail> {
     Ok(())
 }
 
+fn come_and_go_byte_by_byte<R: AllocGlobal + Abort>(rt: &R, rows: &[Row]) {
+    let by_byte = (1, usize::MAX);
+    for (script, want) in rows {
+        let (outcome, written) = play_in_pieces(rt.alloc(), script.as_bytes(), by_byte, by_byte);
+        same_for(rt, script, outcome, Ok(()));
+        same_for(rt, script, written.as_slice(), want.as_bytes());
+    }
+}
+
 #[test]
 fn scripts_come_and_go_byte_by_byte(rt: HostRuntime) {
-    let by_byte = (1, usize::MAX);
-    for (script, want) in SCRIPTS {
-        let (outcome, written) = play_in_pieces(rt.alloc(), script.as_bytes(), by_byte, by_byte);
-        same_for(&rt, &script, outcome, Ok(()));
-        same_for(&rt, &script, written.as_slice(), want.as_bytes());
-    }
+    come_and_go_byte_by_byte(&rt, &WORKED);
+    come_and_go_byte_by_byte(&rt, &SCRIPTS);
 }
 
 #[test]

@@ -1,5 +1,5 @@
 use Rattle.std.proofs.Common.{◌≡◌}
-use Rattle.nv_calls.proofs.AppendAll.{AppendsTo}
+use Rattle.nv_calls.specs.PlanByPlan.{AppendsTo}
 use Rattle.nv_calls.proofs.whole.append_all.Given as goal
 
 abbrev pub invariant-loop-plan : goal.invariant-loop-plan

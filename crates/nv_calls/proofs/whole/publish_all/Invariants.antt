@@ -1,5 +1,5 @@
 use Rattle.std.proofs.Common.{◌≡◌}
-use Rattle.nv_calls.proofs.PublishAll.{PublishesTo}
+use Rattle.nv_calls.specs.PlanByPlan.{PublishesTo}
 use Rattle.nv_calls.proofs.whole.publish_all.Given as goal
 
 abbrev pub invariant-loop-plan : goal.invariant-loop-plan

@@ -1,5 +1,5 @@
 use Rattle.std.proofs.Common.{◌≡◌}
-use Rattle.nv_calls.proofs.RetireAll.{RetiresTo}
+use Rattle.nv_calls.specs.PlanByPlan.{RetiresTo}
 use Rattle.nv_calls.proofs.whole.retire_all.Given as goal
 
 abbrev pub invariant-loop-plan : goal.invariant-loop-plan

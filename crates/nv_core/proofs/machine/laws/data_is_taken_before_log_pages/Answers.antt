@@ -1,5 +1,0 @@
-use Rattle.nv_core.proofs.steps.Wanting.{takes_in_turn}
-use Rattle.nv_core.proofs.machine.laws.data_is_taken_before_log_pages.Goals as goal
-
-pub returns : goal.returns
-returns c = λ block actor granted s h r. takes_in_turn r.next block actor granted s h r

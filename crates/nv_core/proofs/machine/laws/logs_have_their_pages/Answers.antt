@@ -1,8 +1,0 @@
-use Rattle.nv_core.proofs.steps.PageEvents.{hands_paged, logs_paged}
-use Rattle.nv_core.proofs.machine.laws.logs_have_their_pages.Goals as goal
-
-pub returns-clause-pages : goal.returns-clause-pages
-returns-clause-pages c = logs_paged
-
-pub returns-clause-hands : goal.returns-clause-hands
-returns-clause-hands c = hands_paged

@@ -1,8 +1,0 @@
-use Rattle.nv_core.proofs.steps.Reached.{reached, reached_nodes}
-use Rattle.nv_core.proofs.machine.plain_laws.new_worlds_lead_where_laws_hold.Goals as goal
-
-pub returns-clause-reached : goal.returns-clause-reached
-returns-clause-reached c = reached
-
-pub returns-clause-nodes : goal.returns-clause-nodes
-returns-clause-nodes c = reached_nodes

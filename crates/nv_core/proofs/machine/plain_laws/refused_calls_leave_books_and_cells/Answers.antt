@@ -1,5 +1,0 @@
-use Rattle.nv_core.proofs.steps.Refusing.{refused_books}
-use Rattle.nv_core.proofs.machine.plain_laws.refused_calls_leave_books_and_cells.Goals as goal
-
-pub returns : goal.returns
-returns c = refused_books

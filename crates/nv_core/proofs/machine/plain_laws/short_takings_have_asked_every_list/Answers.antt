@@ -1,5 +1,0 @@
-use Rattle.nv_core.proofs.steps.Asking.{lists_asked}
-use Rattle.nv_core.proofs.machine.plain_laws.short_takings_have_asked_every_list.Goals as goal
-
-pub returns : goal.returns
-returns c = lists_asked

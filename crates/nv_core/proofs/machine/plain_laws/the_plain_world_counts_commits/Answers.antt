@@ -1,5 +1,0 @@
-use Rattle.nv_core.proofs.steps.CommitNumbers.{events_counted}
-use Rattle.nv_core.proofs.machine.plain_laws.the_plain_world_counts_commits.Goals as goal
-
-pub returns : goal.returns
-returns c = events_counted
