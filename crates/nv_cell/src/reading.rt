@@ -9,7 +9,7 @@ ghost use Rattle.nv_entry.specs.Index.{bound_to, names_of};
 ghost use Rattle.nv_entry.specs.Keys.{key_named};
 ghost use Rattle.nv_entry.specs.Log.{value_now};
 ghost use Rattle.nv_entry.specs.Refs.{scan_ref};
-ghost use Rattle.nv_entry.specs.Stored.{kind_in};
+ghost use Rattle.nv_entry.specs.Stored.{kind_in, stored};
 ghost use Rattle.nv_log.specs.Chain.{log};
 ghost use Rattle.nv_nindex.specs.NameIndex.{AreLawful, binding_of, lent};
 
@@ -26,6 +26,13 @@ impl InodeCell {
         ensures { result ≡ bound_to name.now (names_of (log_of self.now.state)) }
     {
         bound_in(&self.index, name)
+    }
+
+    /// The kind; `None` in an empty slot and where the inode is gone. Costs one look-up.
+    pub fn kind(&self) -> Option<Kind>
+        ensures { result ≡ (stored self.now.state.block (log_of self.now.state)).kind }
+    {
+        kind_of(self.block, &self.chain, &self.index)
     }
 
     /// Kind, mode, size, and the last commit that changed the inode; `None` in an empty slot and where it is gone.
@@ -57,13 +64,22 @@ fn bound_in(index: &CellIndex, name: &[u8]) -> Option<Handle>
     Some(binding.to)
 }
 
+/// The kind of the inode of a log, by the log's index.
+fn kind_of(block: u64, chain: &Chain, index: &CellIndex) -> Option<Kind>
+    requires block { 0 < block }
+    requires index { IsIndexOf block (log chain.now.state) index.now }
+    ensures { result ≡ (stored block (log chain.now.state)).kind }
+{
+    kind_by(value_by(block, chain, index.kind(), Key::Kind))
+}
+
 /// What the inode of a log tells of itself, by the log's index.
 fn stat_of(block: u64, chain: &Chain, index: &CellIndex) -> Option<Stat>
     requires block { 0 < block }
     requires index { IsIndexOf block (log chain.now.state) index.now }
     ensures { result ≡ stat_now block (log chain.now.state) }
 {
-    let kind = kind_by(value_by(block, chain, index.kind(), Key::Kind))?;
+    let kind = kind_of(block, chain, index)?;
     let mode = mode_by(value_by(block, chain, index.mode(), Key::Mode));
     let size = size_by(value_by(block, chain, index.size(), Key::Size));
     let last = chain.last_published()?;
