@@ -1,15 +1,19 @@
 -- The value of a key by the part that holds it, found among all entries.
-use Rattle.std.proofs.Common.{◌≡◌, ℕ, zero, suc, List, [], ◌∷◌, ◌++◌, take, drop, Option, Some, None, refl, ap, sym, ◌∙◌, subst}
+use Rattle.std.proofs.Common.{◌≡◌, ℕ, zero, suc, List, [], ◌∷◌, ◌++◌, take, drop, is_some, Option, Some, None, refl, ap, sym, ◌∙◌, subst}
 use Rattle.std.specs.List.{AllByRecursion}
 use Rattle.std.specs.Prelude.{option_and_then}
 use Rattle.nv_base.specs.declared.numbers.EntryId.{EntryId}
 use Rattle.nv_entry.specs.declared.item.Entry.{Entry}
+use Rattle.nv_entry.specs.declared.item.Item.{Item}
+use Rattle.nv_entry.specs.declared.item.Item.TheVariants.{Init, Write, SetSize, SetMode, Bind, Unbind, Gone}
 use Rattle.nv_entry.specs.declared.part_ref.PartRef.{PartRef}
 use Rattle.nv_entry.specs.declared.key.Datum.{Datum}
-use Rattle.nv_entry.specs.Keys.{Key, sets}
+use Rattle.nv_entry.specs.Index.{last_cover}
+use Rattle.nv_entry.specs.Keys.{Key, KindKey, sets}
 use Rattle.nv_entry.specs.Log.{IsLog, MayFollow, value_now, value_of}
-use Rattle.nv_entry.specs.Refs.{IsCurrentPart, entry_with, scan_ref, value_in}
-use Rattle.nv_entry.proofs.Refs.{current_part, entry_with-own, refs_give}
+use Rattle.nv_entry.specs.Refs.{IsCurrentPart, entry_with, left_by, part_ref, place_in, ref_after, scan_ref, value_in}
+use Rattle.nv_entry.specs.Stored.{kind_in, stored}
+use Rattle.nv_entry.proofs.Refs.{current_part, entry_with-own, refs_give, value_now-last}
 
 abbrev set_by : ℕ → Key → Entry → Option Datum
 set_by block key e = value_of (sets block e.item key)
@@ -62,3 +66,30 @@ value_is block t es key part is q = (refs_give block (take t es) (IsLog-take t e
   go (Some r) q =
       ap (option_and_then (value_in block (take t es) key)) (sym q)
       ∙ ap (option_and_then (set_by block key)) (found block t es key r is ((current_part block (take t es) key r).0 (sym q)))
+
+-- ---- the kind
+
+-- what an item sets the kind to is a kind
+set_kind : (block : ℕ) (e : Entry) (own : PartRef)
+    → is_some (option_and_then kind_in (value_of (sets block e.item KindKey))) ≡ is_some (left_by (sets block e.item KindKey) own None)
+set_kind block e own = go e.item where
+  go : (item : Item)
+      → is_some (option_and_then kind_in (value_of (sets block item KindKey))) ≡ is_some (left_by (sets block item KindKey) own None)
+  go (Init kind mode) = refl
+  go (Write first run size) = refl
+  go (SetSize size) = refl
+  go (SetMode mode) = refl
+  go (Bind name to) = refl
+  go (Unbind name) = refl
+  go Gone = refl
+
+-- an inode has a kind where a part holds one
+pub kind_held : (block : ℕ) (log : List Entry)
+    → is_some (stored block log).kind ≡ is_some (scan_ref block log KindKey)
+kind_held block log =
+    ap (λ (v : Option Datum). is_some (option_and_then kind_in v)) (value_now-last block log KindKey) ∙ go (last_cover block log KindKey) where
+  go : (o : Option Entry)
+      → is_some (option_and_then kind_in (option_and_then (λ (e : Entry). value_of (sets block e.item KindKey)) o))
+      ≡ is_some (option_and_then (λ (e : Entry). ref_after block e KindKey None) o)
+  go None = refl
+  go (Some e) = set_kind block e (part_ref e.id (place_in e.item KindKey))

@@ -1,6 +1,6 @@
 //! What an inode is now, read by its index.
 
-ghost use Rattle.std.specs.Prelude.{◌≡◌, ◌<◌, IfErr, IfOk, map, option_and_then, option_map, unwrap_or};
+ghost use Rattle.std.specs.Prelude.{◌≡◌, ◌<◌, IfErr, IfOk, is_some, map, option_and_then, option_map, unwrap_or};
 ghost use Rattle.nv_base.specs.declared.fault.Fault.TheVariants.{OutOfMemory};
 ghost use Rattle.nv_cell.specs.Cell.{log_of};
 ghost use Rattle.nv_cell.specs.Reading.{IsIndexOf, named, stat_now};
@@ -8,6 +8,7 @@ ghost use Rattle.nv_entry.specs.Data.{mode_in, size_in};
 ghost use Rattle.nv_entry.specs.Index.{bound_to, names_of};
 ghost use Rattle.nv_entry.specs.Keys.{key_named};
 ghost use Rattle.nv_entry.specs.Log.{value_now};
+ghost use Rattle.nv_entry.specs.Node.{size_now};
 ghost use Rattle.nv_entry.specs.Refs.{scan_ref};
 ghost use Rattle.nv_entry.specs.Stored.{kind_in, stored};
 ghost use Rattle.nv_log.specs.Chain.{log};
@@ -33,6 +34,21 @@ impl InodeCell {
         ensures { result ≡ (stored self.now.state.block (log_of self.now.state)).kind }
     {
         kind_of(self.block, &self.chain, &self.index)
+    }
+
+    /// Whether the inode has a kind, as it has but in an empty slot and where it is gone. Costs no look-up.
+    #[tactic(auto, using(crate::proofs::ValuesNow::kind_held))]
+    pub fn has_kind(&self) -> bool
+        ensures { result ≡ is_some (stored self.now.state.block (log_of self.now.state)).kind }
+    {
+        self.index.kind().is_some()
+    }
+
+    /// How many bytes a file has; 0 where there is none. Costs one look-up.
+    pub fn size(&self) -> u64
+        ensures { result ≡ size_now self.now.state.block (log_of self.now.state) }
+    {
+        size_of(self.block, &self.chain, &self.index)
     }
 
     /// Kind, mode, size, and the last commit that changed the inode; `None` in an empty slot and where it is gone.
@@ -73,6 +89,15 @@ fn kind_of(block: u64, chain: &Chain, index: &CellIndex) -> Option<Kind>
     kind_by(value_by(block, chain, index.kind(), Key::Kind))
 }
 
+/// The size of the inode of a log, by the log's index.
+fn size_of(block: u64, chain: &Chain, index: &CellIndex) -> u64
+    requires block { 0 < block }
+    requires index { IsIndexOf block (log chain.now.state) index.now }
+    ensures { result ≡ size_now block (log chain.now.state) }
+{
+    size_by(value_by(block, chain, index.size(), Key::Size))
+}
+
 /// What the inode of a log tells of itself, by the log's index.
 fn stat_of(block: u64, chain: &Chain, index: &CellIndex) -> Option<Stat>
     requires block { 0 < block }
@@ -81,7 +106,7 @@ fn stat_of(block: u64, chain: &Chain, index: &CellIndex) -> Option<Stat>
 {
     let kind = kind_of(block, chain, index)?;
     let mode = mode_by(value_by(block, chain, index.mode(), Key::Mode));
-    let size = size_by(value_by(block, chain, index.size(), Key::Size));
+    let size = size_of(block, chain, index);
     let last = chain.last_published()?;
     Some(Stat {
         kind,
