@@ -14,12 +14,11 @@ ghost use Rattle.nv_cell.specs.Pages.{AreBytesOf, IsStretch, block_at_page, own_
 ghost use Rattle.nv_cell.specs.Reading.{IsIndexOf};
 ghost use Rattle.nv_cell.specs.Tallies.{start_at};
 
-use crate::reading::{size_by, value_by};
+use crate::reading::size_of;
 use crate::{CellIndex, InodeCell, Marks};
 use nv_alloc::Block;
 use nv_base::limits::FILE_PAGES;
 use nv_base::{Bytes, Fault};
-use nv_entry::Key;
 use nv_findex::PageRun;
 use nv_log::Chain;
 use std::alloc::AllocError;
@@ -46,7 +45,7 @@ impl InodeCell {
     {
         // Ids rise along all entries, so that the one of an id stands in the log.
         let _ends = self.chain.ends();
-        let size = size_by(value_by(self.block, &self.chain, self.index.size(), Key::Size));
+        let size = size_of(self.block, &self.chain, &self.index);
         let end = size.min(at.saturating_add(len));
         let start = at.min(end);
         let mut bytes = Vec::with_capacity(self.alloc, (end - start) as usize)?;

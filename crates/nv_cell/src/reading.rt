@@ -90,7 +90,7 @@ fn kind_of(block: u64, chain: &Chain, index: &CellIndex) -> Option<Kind>
 }
 
 /// The size of the inode of a log, by the log's index.
-fn size_of(block: u64, chain: &Chain, index: &CellIndex) -> u64
+pub(crate) fn size_of(block: u64, chain: &Chain, index: &CellIndex) -> u64
     requires block { 0 < block }
     requires index { IsIndexOf block (log chain.now.state) index.now }
     ensures { result ≡ size_now block (log chain.now.state) }
@@ -118,7 +118,7 @@ fn stat_of(block: u64, chain: &Chain, index: &CellIndex) -> Option<Stat>
 
 /// The value of a key by the part that holds it.
 #[tactic(auto, using(crate::proofs::ValuesNow::value_is))]
-pub(crate) fn value_by(
+fn value_by(
     block: u64,
     chain: &Chain,
     part: Option<PartRef>,
@@ -155,7 +155,7 @@ fn mode_by(value: Option<Datum>) -> Mode
 }
 
 /// The size that a value is; 0 where it is none.
-pub(crate) fn size_by(value: Option<Datum>) -> u64
+fn size_by(value: Option<Datum>) -> u64
     ensures { result ≡ unwrap_or (option_and_then size_in value) 0 }
 {
     value.and_then(Datum::size).unwrap_or(0)

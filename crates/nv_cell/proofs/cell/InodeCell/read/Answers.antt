@@ -1,10 +1,7 @@
 use Rattle.std.proofs.Common.{◌≡◌, ℕ, ◌+◌, ◌-◌, ◌*◌, ◌≤◌, List, Option, min, arith, ap, sym, ◌∙◌, subst, take}
-use Rattle.std.specs.Prelude.{option_and_then, unwrap_or}
 use Rattle.std.proofs.lemmas.Grind.{div_ceil_times}
 use Rattle.nv_alloc.specs.Block.{BlockValue}
-use Rattle.nv_entry.specs.declared.key.Datum.{Datum}
 use Rattle.nv_entry.specs.Bytes.{read_at}
-use Rattle.nv_entry.specs.Data.{size_in}
 use Rattle.nv_entry.specs.Keys.{pages_for}
 use Rattle.nv_entry.specs.Node.{size_now}
 use Rattle.nv_cell.specs.Cell.{CellValue, IsCell, log_of}
@@ -28,10 +25,8 @@ read c =
     let size : ℕ = size_now s.block (log_of s) in
     let numbers : ℕ → Option ℕ = page_number s.chain.entries c.self.inside.index in
     let all : List ℕ = pages_now s.block s.blocks numbers (pages_for s.block size) in
-    let sized : c.size_by-size.result ≡ size =
-    c.size_by-size.ensures ∙ ap (λ (v : Option Datum). unwrap_or (option_and_then size_in v) 0) c.value_by.ensures in
     let ended : c.min-end.result ≡ min size (c.args.at + c.args.len) =
-    omega (arith, c.min-end.ensures, c.saturating_add.ensures, sized, c.size_by-size.type_inv) in
+    omega (arith, c.min-end.ensures, c.saturating_add.ensures, c.size_of-size.ensures, c.size_of-size.type_inv) in
     let begun : c.min-start.result ≡ min c.args.at c.min-end.result = c.min-start.ensures in
     let fits : c.min-end.result ≤ pages_for s.block size * s.block = omega (arith, ended, (div_ceil_times size s.block inv.some).0) in
     let slots : c.deref.result.now ≡ s.blocks = c.deref.ensures.value in
