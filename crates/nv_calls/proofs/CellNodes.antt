@@ -13,7 +13,7 @@ use Rattle.nv_entry.specs.Index.{bound_to, names_of}
 use Rattle.nv_entry.specs.Keys.{KindKey}
 use Rattle.nv_entry.specs.Log.{value_now}
 use Rattle.nv_entry.specs.Node.{file_bytes, mode_now, node_now, node_of_kind, size_now}
-use Rattle.nv_entry.specs.Stored.{kind_in}
+use Rattle.nv_entry.specs.Stored.{kind_in, stored}
 use Rattle.nv_entry.specs.Tree.{names_of_node}
 use Rattle.nv_log.specs.Chain.{last_of}
 use Rattle.nv_cell.specs.Cell.{CellState, log_of}
@@ -57,6 +57,19 @@ stat_is bytes block (e ∷ log) = go (value_now block (e ∷ log) KindKey) where
   go None = refl
   go (Some (datum.Kind kind)) =
       by_commit block (e ∷ log) kind (last_of (e ∷ log)) ∙ ap (option_map (stat_with block (e ∷ log) kind)) (last_of_is e log)
+  go (Some (datum.Mode mode)) = refl
+  go (Some (datum.Size size)) = refl
+  go (Some (datum.Node to)) = refl
+  go (Some (datum.Block number)) = refl
+
+-- and so are its kind, and whether it has one
+pub kind_is : (bytes : ℕ → List ℕ) (block : ℕ) (log : List Entry)
+    → (stored block log).kind ≡ kind_of (option_map (λ (p : PlainNode). p.node) (stamped (last_commit log) (node_now bytes block log)))
+kind_is bytes block log = go (value_now block log KindKey) where
+  go : (v : Option Datum) → option_and_then kind_in v
+      ≡ kind_of (option_map (λ (p : PlainNode). p.node) (stamped (last_commit log) (node_of_kind v bytes block log)))
+  go None = refl
+  go (Some (datum.Kind kind)) = refl
   go (Some (datum.Mode mode)) = refl
   go (Some (datum.Size size)) = refl
   go (Some (datum.Node to)) = refl

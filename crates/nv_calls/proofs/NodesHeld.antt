@@ -17,14 +17,12 @@ use Rattle.nv_entry.specs.Refs.{scan_ref}
 use Rattle.nv_cell.specs.Cell.{CellState, CellValue, IsCell, log_of}
 use Rattle.nv_cell.specs.Numbers.{number}
 use Rattle.nv_cell.specs.Pages.{AreBytesOf, own_bytes, own_page, slot_bytes}
-use Rattle.nv_cell.specs.declared.stat.Stat.{Stat}
 use Rattle.nv_cell.proofs.PageBlocks.{file_is}
 use Rattle.nv_calls.specs.Nodes.{HasBytes, HaveBytes, cell_has_page, cell_of, has_page_in, own_node, plain_nodes, slot_by, slots_by, with_bytes}
 use Rattle.nv_calls.specs.Plain.{PlainNode, node_in, stamped}
 use Rattle.nv_calls.specs.Refusals.{bytes_of, kind_of, passes, want_file}
 use Rattle.nv_calls.specs.Slots.{Slot, last_commit, node_under}
-use Rattle.nv_calls.specs.Views.{copy_of, node_of, stat_of}
-use Rattle.nv_calls.proofs.CellNodes.{of_log}
+use Rattle.nv_calls.specs.Views.{copy_of, node_of}
 
 -- ---- the size of a file
 
@@ -56,21 +54,17 @@ own_len cell is =
       (div_ceil_times size cell.block is.some).0,
     )
 
--- a stat tells how many bytes the node has
-pub size_is : (cell : CellState) (handle : Handle) (stat : Stat) → IsCell cell
-    → Some stat ≡ option_map stat_of (node_of (λ number. []) cell handle)
-    → stat.size ≡ length (bytes_of (node_in (own_node cell) handle))
-size_is cell handle stat is h = go (node_of (λ number. []) cell handle) refl h where
-  go : (o : Option PlainNode) → node_of (λ number. []) cell handle ≡ o → Some stat ≡ option_map stat_of o
-      → stat.size ≡ length (bytes_of (node_in (own_node cell) handle))
+-- where there is a node, the size of its cell tells how many bytes it has
+pub size_is : (cell : CellState) (handle : Handle) → IsCell cell → is_some (copy_of (λ number. []) cell handle) ≡ true
+    → size_now cell.block (log_of cell) ≡ length (bytes_of (node_in (own_node cell) handle))
+size_is cell handle is h = go (node_of (λ number. []) cell handle) refl h where
+  go : (o : Option PlainNode) → node_of (λ number. []) cell handle ≡ o → is_some (option_map (λ (p : PlainNode). p.node) o) ≡ true
+      → size_now cell.block (log_of cell) ≡ length (bytes_of (node_in (own_node cell) handle))
   go None q k = cc
   go (Some p) q k =
-      let told : Some stat.size ≡ Some p.node.size = ap (λ (o : Option Stat). option_map (λ (t : Stat). t.size) o) k in
-      let node : copy_of (λ number. []) cell handle ≡ Some p.node = ap (λ (o : Option PlainNode). option_map (λ (x : PlainNode). x.node) o) q in
       let own : bytes_of (node_in (own_node cell) handle) ≡ own_bytes cell =
       ap (λ (o : Option PlainNode). bytes_of (option_map (λ (x : PlainNode). x.node) (option_map (with_bytes (own_bytes cell)) o))) q in
-      let same : stat.size ≡ p.node.size = cc in
-      same ∙ (of_log (λ number. []) cell handle p.node node).size ∙ sym (own_len cell is) ∙ ap (λ (xs : List ℕ). length xs) (sym own)
+      sym (own_len cell is) ∙ ap (λ (xs : List ℕ). length xs) (sym own)
 
 -- ---- a file that is read
 

@@ -4,7 +4,7 @@ ghost use Rattle.std.specs.Prelude.{◌≡◌, ◌≤◌, length, option_map};
 ghost use Rattle.nv_calls.specs.Nodes.{cell_of};
 ghost use Rattle.nv_calls.specs.Prepared.{handle_in};
 
-use crate::view::{kind_in, stat_in};
+use crate::view::{has_node, kind_in};
 use crate::{Cells, Nodes};
 use nv_base::{Gen, Handle, Ino, Kind};
 use nv_cell::InodeCell;
@@ -64,7 +64,9 @@ impl<C: Cells> Nodes for HeldNodes<'_, C> {
 
     fn lookup(&self, dir: &Handle, name: &[u8]) -> Option<Handle> {
         let cell = self.cell_of(dir.ino)?;
-        let _kind = kind_in(cell, dir)?;
+        if !has_node(cell, dir) {
+            return None;
+        }
         cell.lookup(name)
     }
 
@@ -72,9 +74,10 @@ impl<C: Cells> Nodes for HeldNodes<'_, C> {
         let Some(cell) = self.cell_of(dir.ino) else {
             return 0;
         };
-        match kind_in(cell, dir) {
-            Some(_) => cell.name_count(),
-            None => 0,
+        if has_node(cell, dir) {
+            cell.name_count()
+        } else {
+            0
         }
     }
 
@@ -84,9 +87,10 @@ impl<C: Cells> Nodes for HeldNodes<'_, C> {
         };
         // Each block that the cell has is of the size that it says.
         cell.known();
-        match stat_in(cell, file) {
-            Some(stat) => stat.size,
-            None => 0,
+        if has_node(cell, file) {
+            cell.size()
+        } else {
+            0
         }
     }
 

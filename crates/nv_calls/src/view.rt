@@ -1,10 +1,10 @@
 //! What calls that only read find in the cell of an inode. Each is given the number of that inode, and a handle of
 //! another is stale.
 
-ghost use Rattle.std.specs.Prelude.{◌≡◌, ℕ, List, Err, MatchResult, IfOk, Some, option_map, true};
+ghost use Rattle.std.specs.Prelude.{◌≡◌, ℕ, List, Err, MatchResult, IfOk, Some, is_some, option_map, true};
 ghost use Rattle.nv_base.specs.Refusals.{FailsAsChecked};
 ghost use Rattle.nv_cell.specs.Pages.{AreBytesOf};
-ghost use Rattle.nv_calls.specs.Nodes.{IsOwnView, IsView, alone, copies_by, nodes_by, view_refusal};
+ghost use Rattle.nv_calls.specs.Nodes.{IsOwnView, IsView, alone, cell_of, copies_by, nodes_by, view_refusal};
 ghost use Rattle.nv_calls.specs.Refusals.{kind_of, look, lookup};
 ghost use Rattle.nv_calls.specs.calls.Lookup.{lookup_refusal};
 ghost use Rattle.nv_calls.specs.Views.{check_of, copy_of, is_list, is_lookup, is_read, is_stat, node_of, stat_of};
@@ -52,7 +52,7 @@ impl View {
 }
 
 /// What the node under a handle of the cell's slot tells of itself, if there is one.
-pub(crate) fn stat_in(cell: &InodeCell, handle: &Handle) -> Option<Stat>
+fn stat_in(cell: &InodeCell, handle: &Handle) -> Option<Stat>
     ensures { (bytes : ℕ → List ℕ) → result
         ≡ option_map stat_of (node_of bytes cell.now.state handle.now) }
 {
@@ -67,8 +67,28 @@ pub(crate) fn kind_in(cell: &InodeCell, handle: &Handle) -> Option<Kind>
     ensures { (bytes : ℕ → List ℕ) → result
         ≡ kind_of (copy_of bytes cell.now.state handle.now) }
 {
-    let stat = stat_in(cell, handle)?;
-    Some(stat.kind)
+    if handle.generation != cell.generation() {
+        return None;
+    }
+    cell.kind()
+}
+
+/// Whether there is a node under a handle of the cell's slot. Costs no look-up.
+pub(crate) fn has_node(cell: &InodeCell, handle: &Handle) -> bool
+    ensures { (bytes : ℕ → List ℕ) → result
+        ≡ is_some (copy_of bytes cell.now.state handle.now) }
+{
+    handle.generation == cell.generation() && cell.has_kind()
+}
+
+/// The cell of an inode, if a handle is of that inode.
+fn cell_at<'a>(ino: Ino, cell: &'a InodeCell, handle: &Handle) -> Option<&'a InodeCell>
+    ensures { option_map (λ cell. cell.now) result ≡ cell_of (alone ino cell.now) handle.now.ino }
+{
+    if ino != handle.ino {
+        return None;
+    }
+    Some(cell)
 }
 
 /// What the node under a handle tells of itself, by the cell of an inode: none where the handle is of another.
@@ -76,10 +96,7 @@ fn stat_at(ino: Ino, cell: &InodeCell, handle: &Handle) -> Option<Stat>
     ensures { (bytes : ℕ → List ℕ) → result
         ≡ option_map stat_of (nodes_by bytes (alone ino cell.now) handle.now) }
 {
-    if ino != handle.ino {
-        return None;
-    }
-    stat_in(cell, handle)
+    stat_in(cell_at(ino, cell, handle)?, handle)
 }
 
 /// The kind of the node under a handle, by the cell of an inode.
@@ -87,8 +104,7 @@ fn kind_at(ino: Ino, cell: &InodeCell, handle: &Handle) -> Option<Kind>
     ensures { (bytes : ℕ → List ℕ) → result
         ≡ kind_of (copies_by bytes (alone ino cell.now) handle.now) }
 {
-    let stat = stat_at(ino, cell, handle)?;
-    Some(stat.kind)
+    kind_in(cell_at(ino, cell, handle)?, handle)
 }
 
 /// What a name of a directory leads to, by the cell of an inode: nothing where the name isn't bound. Takes no memory.
