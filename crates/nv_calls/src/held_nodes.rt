@@ -11,7 +11,7 @@ use nv_cell::InodeCell;
 
 /// The nodes of a call's cells, of any generation. A handle whose number is none of the cells' has no node.
 ///
-/// Each question costs a search among the cells and one look-up. None takes memory.
+/// Each question costs a search among the cells and at most one look-up. None takes memory.
 #[derive(Drop)]
 pub struct HeldNodes<'a, C: Cells> {
     cells: &'a C,

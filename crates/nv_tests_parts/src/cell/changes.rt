@@ -3,7 +3,7 @@
 use super::entries::Says;
 use super::scene::Scene;
 use super::slow::SlowCell;
-use super::told::{is_empty, list, read};
+use super::told::{is_empty, list, read, tells};
 use crate::compare::{same, same_for};
 use nv_base::Epoch;
 use nv_cell::{InodeCell, Mark, Stat};
@@ -185,7 +185,7 @@ fn is_node(rt: &impl Abort, cell: &InodeCell, slow: &SlowCell, node: &NodeCopy) 
         size: node.size,
         commit: last.id.commit,
     };
-    same(rt, cell.stat(), Some(stat));
+    tells(rt, cell, Some(stat));
     let bytes = node.bytes.as_slice();
     same(rt, read(rt, cell, 0, u64::MAX).as_slice(), bytes);
     let start = bytes.len().min(3);

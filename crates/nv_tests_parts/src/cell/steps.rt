@@ -2,7 +2,7 @@
 
 use super::entries::{Says, mode};
 use super::scene::Scene;
-use super::told::{has_counts, has_names, is_empty, is_slot, reads};
+use super::told::{has_counts, has_names, is_empty, is_slot, reads, tells};
 use crate::compare::{same, same_for};
 use nv_base::{BlockNo, CommitNo, Epoch, Kind};
 use nv_cell::{InodeCell, KilledPart, Stat};
@@ -164,5 +164,5 @@ fn has_stat(rt: &impl Abort, cell: &InodeCell, kind: Kind, bits: u16, size: u64,
         size,
         commit: CommitNo::new(commit),
     };
-    same(rt, cell.stat(), Some(stat));
+    tells(rt, cell, Some(stat));
 }

@@ -3,7 +3,7 @@
 use super::device::BLOCK;
 use crate::compare::{same, same_for};
 use nv_base::{Bytes, Fault, Gen};
-use nv_cell::{InodeCell, PageCounts};
+use nv_cell::{InodeCell, PageCounts, Stat};
 use nv_entry::NameList;
 use nv_scenes::handle;
 use std::process::Abort;
@@ -70,6 +70,18 @@ pub fn has_counts(rt: &impl Abort, cell: &InodeCell, want: &[(usize, usize)]) {
     );
 }
 
+/// What the inode tells of itself, and the kind and the size of that alone.
+pub fn tells(rt: &impl Abort, cell: &InodeCell, want: Option<Stat>) {
+    same(rt, cell.stat(), want);
+    same(rt, cell.has_kind(), want.is_some());
+    let (kind, size) = match want {
+        Some(stat) => (Some(stat.kind), stat.size),
+        None => (None, 0),
+    };
+    same(rt, cell.kind(), kind);
+    same(rt, cell.size(), size);
+}
+
 /// Whether it is gone, keeps nothing, and is withheld; its generation and version.
 pub fn is_slot(rt: &impl Abort, cell: &InodeCell, is: [bool; 3], generation: u64, version: u64) {
     cell.known();
@@ -81,7 +93,7 @@ pub fn is_slot(rt: &impl Abort, cell: &InodeCell, is: [bool; 3], generation: u64
 
 /// An empty slot or a gone inode, which has no bytes and no names.
 pub fn is_empty(rt: &impl Abort, cell: &InodeCell) {
-    same(rt, cell.stat(), None);
+    tells(rt, cell, None);
     reads(rt, cell, b"");
     has_names(rt, cell, &[]);
 }
