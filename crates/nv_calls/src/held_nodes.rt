@@ -87,11 +87,7 @@ impl<C: Cells> Nodes for HeldNodes<'_, C> {
         };
         // Each block that the cell has is of the size that it says.
         cell.known();
-        if has_node(cell, file) {
-            cell.size()
-        } else {
-            0
-        }
+        if has_node(cell, file) { cell.size() } else { 0 }
     }
 
     fn has_page(&self, file: &Handle, page: u32) -> bool {

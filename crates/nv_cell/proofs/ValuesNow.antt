@@ -87,9 +87,10 @@ set_kind block e own = go e.item where
 pub kind_held : (block : ℕ) (log : List Entry)
     → is_some (stored block log).kind ≡ is_some (scan_ref block log KindKey)
 kind_held block log =
-    ap (λ (v : Option Datum). is_some (option_and_then kind_in v)) (value_now-last block log KindKey) ∙ go (last_cover block log KindKey) where
-  go : (o : Option Entry)
-      → is_some (option_and_then kind_in (option_and_then (λ (e : Entry). value_of (sets block e.item KindKey)) o))
-      ≡ is_some (option_and_then (λ (e : Entry). ref_after block e KindKey None) o)
-  go None = refl
-  go (Some e) = set_kind block e (part_ref e.id (place_in e.item KindKey))
+    ap (λ (v : Option Datum). is_some (option_and_then kind_in v)) (value_now-last block log KindKey)
+    ∙ go (last_cover block log KindKey) where
+      go : (o : Option Entry)
+          → is_some (option_and_then kind_in (option_and_then (λ (e : Entry). value_of (sets block e.item KindKey)) o))
+          ≡ is_some (option_and_then (λ (e : Entry). ref_after block e KindKey None) o)
+      go None = refl
+      go (Some e) = set_kind block e (part_ref e.id (place_in e.item KindKey))

@@ -118,12 +118,7 @@ fn stat_of(block: u64, chain: &Chain, index: &CellIndex) -> Option<Stat>
 
 /// The value of a key by the part that holds it.
 #[tactic(auto, using(crate::proofs::ValuesNow::value_is))]
-fn value_by(
-    block: u64,
-    chain: &Chain,
-    part: Option<PartRef>,
-    key: Key<'_>,
-) -> Option<Datum>
+fn value_by(block: u64, chain: &Chain, part: Option<PartRef>, key: Key<'_>) -> Option<Datum>
     requires block { 0 < block }
     requires part { part ≡ scan_ref block (log chain.now.state) (key_named key) }
     ensures { result ≡ value_now block (log chain.now.state) (key_named key.entry) }

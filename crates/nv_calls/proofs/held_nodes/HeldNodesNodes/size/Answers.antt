@@ -12,8 +12,10 @@ pub returns-then-has_node : goal.returns-then-has_node
 returns-then-has_node g c =
     let file = c.args.file.now in
     let cell = c.in-Some.cell.now in
-    let found : cell_of (g.C.Cells.cells c.args.self.now.cells.now) file.ino ≡ Some cell = sym (rw c.in-Some.is at c.cell_of.ensures) in
-    let there : is_some (copy_of (λ number. []) cell.state file) ≡ true = sym (c.has_node.ensures (λ number. [])) ∙ c.if-has_node.true in
+    let found : cell_of (g.C.Cells.cells c.args.self.now.cells.now) file.ino ≡ Some cell =
+    sym (rw c.in-Some.is at c.cell_of.ensures) in
+    let there : is_some (copy_of (λ number. []) cell.state file) ≡ true =
+    sym (c.has_node.ensures (λ number. [])) ∙ c.if-has_node.true in
     c.size.ensures ∙ size_is cell.state file c.known.ensures there
     ∙ ap (λ (o : Option CellValue). length (bytes_of (option_map (λ (p : PlainNode). p.node) (option_and_then (λ (v : CellValue). own_node v.state file) o))))
     (sym found)
