@@ -67,7 +67,12 @@ fn ended_by(runs: &[PageRun], page: u32) -> usize
     ensures within { result ≤ length runs.now }
     ensures border { IsBorder page result runs.now }
 {
-    ended_near(runs, guess(runs, page), page)
+    let guess = guess(runs, page).min(runs.len());
+    // Where the runs lie evenly it is right.
+    if is_border(runs, guess, page) {
+        return guess;
+    }
+    ended_near(runs, guess, page)
 }
 
 /// The run that holds a page, or else the first one behind it.
