@@ -84,6 +84,8 @@ pub mod EndsWritten
 pub mod EndsTold
 pub mod EndsTurns
 pub mod EndsRuns
+pub mod MarksInUse
+pub mod GoneLogs
 pub mod HeldParts
 pub mod HeldTurns
 pub mod HeldRuns
