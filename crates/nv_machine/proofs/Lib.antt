@@ -91,6 +91,11 @@ pub mod HeldTurns
 pub mod HeldRuns
 pub mod HeldPairs
 pub mod HeldLaw
+pub mod Erased
+pub mod GoneTurns
+pub mod GoneRuns
+pub mod Erasing
+pub mod Returning
 pub mod HeldRows
 pub mod Firsts
 pub mod Asking
