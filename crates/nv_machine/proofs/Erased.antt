@@ -1,16 +1,14 @@
 -- A cell whose inode is gone, once its killed parts are retired: nothing is there of it, and all blocks are in the hand.
-use Rattle.std.proofs.Common.{◌≡◌, ℕ, zero, suc, ◌+◌, ◌<◌, ◌≤◌, ◌==◌, ◌&&◌, ◌||◌, ◌++◌, ◌∙◌, Bool, true, false, List, [], ◌∷◌, Option, Some, None, ap, arith, cond, get_or-set_other, if◌then◌else◌, inl, inr, length, not, refl, slice_index_or, subst, sym}
+use Rattle.std.proofs.Common.{◌≡◌, ℕ, suc, ◌<◌, ◌≤◌, ◌==◌, ◌&&◌, ◌||◌, ◌++◌, ◌∙◌, Bool, true, false, List, [], ◌∷◌, Option, Some, None, ap, arith, get_or-set_other, if◌then◌else◌, inl, inr, length, not, refl, slice_index_or, sym}
 use Rattle.std.specs.Prelude.{option_to_list, unwrap_or}
 use Rattle.std.specs.List.{AllByRecursion, list_any}
 use Rattle.std.specs.Option.{option_map}
 use Rattle.std.proofs.lemmas.Bool.{cases_lt, eqb-false, eqb-true, false≢true, true≢false}
 use Rattle.std.proofs.lemmas.List.{get_or_past}
-use Rattle.std.proofs.lemmas.List.Folds.{list_any-append}
 use Rattle.std.proofs.lemmas.Option.{none-some}
 use Rattle.nv_alloc.specs.Block.{BlockValue, number_of, numbers_of}
 use Rattle.nv_alloc.specs.Numbers.{has}
 use Rattle.nv_calls.specs.Retiring.{erased, freed_by, is_erased, keeper_of, retired, retired_one, settled}
-use Rattle.nv_calls.proofs.Retires.{chain_stays}
 use Rattle.nv_cell.specs.Cell.{CellState, log_of, number_in, page_block, without_part}
 use Rattle.nv_cell.specs.Marks.{is_there, mark_at}
 use Rattle.nv_cell.specs.Named.{number_named}
@@ -19,10 +17,8 @@ use Rattle.nv_cell.specs.Readers.{is_gone, keeps_nothing}
 use Rattle.nv_cell.specs.declared.killed.KilledPart.{KilledPart}
 use Rattle.nv_cell.specs.declared.mark.Mark.{Mark}
 use Rattle.nv_entry.specs.Covered.{is_covered, part_total}
-use Rattle.nv_entry.specs.declared.item.Entry.{Entry}
-use Rattle.nv_log.specs.Chain.{log}
 use Rattle.nv_machine.specs.Erasing.{emptied}
-use Rattle.nv_machine.specs.Held.{block_in_use, is_among, is_in_use}
+use Rattle.nv_machine.specs.Held.{is_among, is_in_use}
 use Rattle.nv_machine.proofs.FromScratch.{none_true}
 use Rattle.nv_machine.proofs.GoneLogs.{gone_covered}
 use Rattle.nv_machine.proofs.HeldParts.{HasInUse, IsDead}

@@ -1,43 +1,39 @@
 -- The law of erasing: in its retire step an inode that is gone is erased whole, and its number goes back to the pool.
-use Rattle.std.proofs.Common.{◌≡◌, ◌≢◌, ◌⊎◌, inl, inr, ℕ, ◌+◌, ◌<◌, ◌≤◌, ◌==◌, ◌++◌, ◌∙◌, Bool, true, false, List, [], ◌∷◌, Option, Some, None, ap, arith, drop, get_or-set_other, get_or-set_same, if◌then◌else◌, length, nat_lt, refl, set, slice_index_or, subst, sym, take}
+use Rattle.std.proofs.Common.{◌≡◌, inl, inr, ℕ, ◌+◌, ◌<◌, ◌++◌, ◌∙◌, Bool, true, false, List, [], Option, Some, None, ap, get_or-set_same, if◌then◌else◌, length, nat_lt, refl, slice_index_or, subst, sym, take}
 use Rattle.std.specs.Prelude.{nat_le}
-use Rattle.std.proofs.lemmas.Bool.{cases_lt, eqb-false, eqb-true, false≢true, ltb-true, true≢false}
-use Rattle.std.proofs.lemmas.List.{get_or_past, map-id}
+use Rattle.std.proofs.lemmas.Bool.{cases_lt}
+use Rattle.std.proofs.lemmas.List.{get_or_past}
 use Rattle.std.proofs.lemmas.Option.{none-some}
 use Rattle.nv_alloc.specs.Block.{BlockValue, numbers_of}
-use Rattle.nv_alloc.specs.Numbers.{has, put_by, times}
-use Rattle.nv_alloc.proofs.Lists.{times-put_by, times-yes}
+use Rattle.nv_alloc.specs.Numbers.{has}
 use Rattle.nv_base.specs.Limits.{IsWithinLimits}
 use Rattle.nv_base.specs.declared.geometry.GeometryNumbers.{GeometryNumbers}
 use Rattle.nv_base.specs.declared.limits.TheConstants.{NUMBER}
 use Rattle.nv_calls.specs.Retiring.{erased, freed_by, is_erased, number_back}
-use Rattle.nv_calls.specs.declared.call.Call.{Call}
 use Rattle.nv_calls.proofs.Retires.{chain_stays, generation_stays}
 use Rattle.nv_cell.specs.Cell.{CellState, log_of}
 use Rattle.nv_cell.specs.Readers.{is_gone}
 use Rattle.nv_cell.specs.declared.killed.KilledPart.{KilledPart}
 use Rattle.nv_cell.proofs.Publishing.{take_whole}
 use Rattle.nv_entry.specs.Covered.{part_total}
-use Rattle.nv_entry.specs.declared.item.Entry.{Entry}
 use Rattle.nv_epoch.specs.SnapList.{ids}
 use Rattle.nv_log.specs.Chain.{ChainState, log}
-use Rattle.nv_machine.specs.Erasing.{IsBack, IsErasedWhole, IsOnItsWay, IsOnItsWayOrBack, IsOver, emptied, is_late}
+use Rattle.nv_machine.specs.Erasing.{IsErasedWhole, IsOnItsWay, IsOver, emptied, is_late}
 use Rattle.nv_machine.specs.Format.{formatted}
-use Rattle.nv_machine.specs.Grown.{HasGrown}
-use Rattle.nv_machine.specs.Hands.{AreNumbers, HandAt, HandOf}
+use Rattle.nv_machine.specs.Hands.{AreNumbers}
 use Rattle.nv_machine.specs.Held.{killed_slots, parts_for}
 use Rattle.nv_machine.specs.Kept.{AreClosed}
-use Rattle.nv_machine.specs.Kinds.{end_turn, first_killed, over_turn, rest_turn, retired_book, retired_cell, with_erased, with_freed}
+use Rattle.nv_machine.specs.Kinds.{first_killed, retired_book, retired_cell, with_erased, with_freed}
 use Rattle.nv_machine.specs.PoolScan.{is_withheld}
 use Rattle.nv_machine.specs.Reached.{IsReached}
 use Rattle.nv_machine.specs.Reads.{slot_at, written_slots}
 use Rattle.nv_machine.specs.Sequence.{retiring}
 use Rattle.nv_machine.specs.Settled.{settled}
-use Rattle.nv_machine.specs.Step.{Step, after, changed, kind_turn, step, turn, turned}
-use Rattle.nv_machine.specs.World.{Actor, Answers, Back, Ending, Ends, Event, Give, Go, HandState, Leave, Moves, Next, Overtaken, Refuses, Retire, Running, Shared, Start, Turn, Unlock, Waits, World, actor_at, cell_at, go_to, idle, no_cell, owner_at, with_book, with_cell}
+use Rattle.nv_machine.specs.Step.{Step, after, changed, kind_turn, step, turned}
+use Rattle.nv_machine.specs.World.{Actor, Event, Go, HandState, Leave, Next, Retire, Running, Shared, World, actor_at, cell_at, go_to, idle, no_cell, owner_at, with_book, with_cell}
 use Rattle.nv_machine.proofs.Erased.{behind, erased_slot, gone_erased, gone_freed}
-use Rattle.nv_machine.proofs.Events.{goes, turned_others}
-use Rattle.nv_machine.proofs.FromScratch.{all_numbers, none_true, not_counted}
+use Rattle.nv_machine.proofs.Events.{goes}
+use Rattle.nv_machine.proofs.FromScratch.{all_numbers}
 use Rattle.nv_machine.proofs.GoneRuns.{none_retiring}
 use Rattle.nv_machine.proofs.HeldLaw.{all_in_use}
 use Rattle.nv_machine.proofs.HeldParts.{HasInUse}
@@ -46,9 +42,7 @@ use Rattle.nv_machine.proofs.HeldTurns.{AllInUse, retire_left, retire_told, risi
 use Rattle.nv_machine.proofs.Journals.{closed_tail}
 use Rattle.nv_machine.proofs.KeptRuns.{standing as kept_standing}
 use Rattle.nv_machine.proofs.KeptTurns.{Standing as KeptStanding}
-use Rattle.nv_machine.proofs.Lists.{self}
-use Rattle.nv_machine.proofs.Locked.{Before, lent_cell, lent_holder}
-use Rattle.nv_machine.proofs.Locks.{before}
+use Rattle.nv_machine.proofs.Locked.{lent_cell, lent_holder}
 use Rattle.nv_machine.proofs.Numbered.{lent_inside}
 use Rattle.nv_machine.proofs.Parted.{retired_parted}
 use Rattle.nv_machine.proofs.PoolCommits.{erased_number}

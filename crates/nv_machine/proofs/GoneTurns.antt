@@ -1,16 +1,14 @@
 -- The slots whose inodes are gone are those that a commit has published and not yet retired: every kind of step keeps that.
-use Rattle.std.proofs.Common.{◌≡◌, ◌≢◌, ℕ, ◌+◌, ◌<◌, ◌≤◌, ◌==◌, ◌∙◌, Bool, true, false, List, [], Option, Some, None, ap, arith, drop, length, refl, subst, sym, take}
+use Rattle.std.proofs.Common.{◌≡◌, ◌≢◌, ℕ, ◌+◌, ◌<◌, ◌≤◌, ◌==◌, ◌∙◌, Bool, true, false, List, [], ap, drop, length, refl, subst, sym, take}
 use Rattle.std.specs.Prelude.{◌||◌}
 use Rattle.std.proofs.lemmas.Bool.{eqb-true, false≢true, true≢false}
-use Rattle.nv_alloc.specs.Numbers.{IsRising, has}
+use Rattle.nv_alloc.specs.Numbers.{has}
 use Rattle.nv_base.specs.declared.geometry.GeometryNumbers.{GeometryNumbers}
 use Rattle.nv_calls.specs.Retiring.{erased}
-use Rattle.nv_calls.proofs.Retires.{chain_stays}
 use Rattle.nv_cell.specs.Cell.{CellState, log_of, published}
 use Rattle.nv_cell.specs.Readers.{is_gone}
 use Rattle.nv_entry.specs.Covered.{part_total}
 use Rattle.nv_epoch.specs.SnapList.{ids}
-use Rattle.nv_log.specs.Chain.{ChainState, log}
 use Rattle.nv_machine.specs.Hands.{HandAt, IsParted}
 use Rattle.nv_machine.specs.Held.{killed_slots, parts_for}
 use Rattle.nv_machine.specs.Kinds.{entries_for, first_killed, retired_book, retired_cell, with_entries, with_pages}

@@ -3,7 +3,7 @@ use Rattle.std.proofs.Common.{◌≡◌, ℕ, zero, suc, ◌+◌, ◌-◌, ◌<�
 use Rattle.std.specs.Prelude.{is_some, option_to_list, unwrap_or}
 use Rattle.std.specs.List.{AllByRecursion, list_any, range_with_len}
 use Rattle.std.specs.Option.{option_map}
-use Rattle.std.proofs.lemmas.Bool.{and_parts, cases_lt, eqb-false, eqb-true, false≢true, le-ltb, lt-ltb, ltb-true}
+use Rattle.std.proofs.lemmas.Bool.{and_parts, cases_lt, eqb-false, eqb-true, false≢true, lt-ltb, ltb-true}
 use Rattle.std.proofs.lemmas.List.{get_or_append_left, get_or-append_right, get_or_past, set_past, take-append-le}
 use Rattle.std.proofs.lemmas.List.Folds.{list_any-append}
 use Rattle.nv_alloc.specs.Block.{BlockValue, number_of, numbers_of}
@@ -23,7 +23,7 @@ use Rattle.nv_cell.proofs.Numbers.{total_append}
 use Rattle.nv_cell.proofs.PagesNow.{front_block}
 use Rattle.nv_cell.proofs.Publishing.{covered_take, take_whole, total_take}
 use Rattle.nv_entry.specs.Blocks.{item_blocks}
-use Rattle.nv_entry.specs.Covered.{is_covered, part_count, part_total}
+use Rattle.nv_entry.specs.Covered.{is_covered, part_total}
 use Rattle.nv_entry.specs.Log.{IsLog}
 use Rattle.nv_entry.specs.declared.item.Entry.{Entry}
 use Rattle.nv_log.specs.Chain.{ChainState}

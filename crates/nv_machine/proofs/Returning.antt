@@ -1,6 +1,6 @@
 -- A number in the hand of a call that is late stays there, up to the step that ends the call and puts it into the pool.
-use Rattle.std.proofs.Common.{◌≡◌, ◌≢◌, ◌⊎◌, inl, inr, ℕ, ◌+◌, ◌<◌, ◌==◌, ◌++◌, ◌∙◌, Bool, true, false, List, [], ◌∷◌, Option, Some, None, ap, arith, get_or-set_other, get_or-set_same, if◌then◌else◌, length, map, nat_lt, refl, set, subst, sym}
-use Rattle.std.proofs.lemmas.Bool.{cases_lt, eqb-false, eqb-true, false≢true, ltb-true}
+use Rattle.std.proofs.Common.{◌≡◌, ◌≢◌, inl, inr, ℕ, ◌+◌, ◌<◌, ◌==◌, ◌++◌, ◌∙◌, Bool, true, false, List, [], ◌∷◌, Option, Some, None, ap, arith, get_or-set_other, get_or-set_same, if◌then◌else◌, length, map, nat_lt, refl, set, subst, sym}
+use Rattle.std.proofs.lemmas.Bool.{eqb-false, eqb-true, false≢true}
 use Rattle.std.proofs.lemmas.List.{map-id}
 use Rattle.std.proofs.lemmas.Option.{none-some}
 use Rattle.nv_alloc.specs.Numbers.{has, put_by, times}
@@ -10,7 +10,7 @@ use Rattle.nv_base.specs.declared.geometry.GeometryNumbers.{GeometryNumbers}
 use Rattle.nv_calls.specs.Retiring.{is_erased, number_back}
 use Rattle.nv_calls.specs.declared.call.Call.{Call}
 use Rattle.nv_cell.specs.Cell.{CellState}
-use Rattle.nv_machine.specs.Erasing.{IsBack, IsOnItsWay, IsOnItsWayOrBack, is_late}
+use Rattle.nv_machine.specs.Erasing.{IsOnItsWay, IsOnItsWayOrBack, is_late}
 use Rattle.nv_machine.specs.Format.{formatted}
 use Rattle.nv_machine.specs.Hands.{HandOf, is_going}
 use Rattle.nv_machine.specs.Kinds.{back_turn, end_turn, first_killed, over_turn, rest_turn, retired_cell, unlocked_turn, with_freed}
