@@ -96,6 +96,7 @@ pub mod GoneTurns
 pub mod GoneRuns
 pub mod Erasing
 pub mod Returning
+pub mod ErasedRows
 pub mod HeldRows
 pub mod Firsts
 pub mod Asking
