@@ -110,7 +110,9 @@ freed_has ino epoch (k ∷ killed) cell n b dead among is =
 
       own : (o : Option BlockValue) → o ≡ Some b → has_block (option_to_list o) b.number ≡ true
       own None e = absurd (none-some b e)
-      own (Some c) e = ap (λ (o : Option BlockValue). has_block (option_to_list o) b.number) e ∙ or_left (b.number == b.number) false (self b.number)
+      own (Some c) e =
+          ap (λ (o : Option BlockValue). has_block (option_to_list o) b.number) e
+          ∙ or_left (b.number == b.number) false (self b.number)
 
       go : (c : Bool) → is_number (number_named (log_of cell) k.part) n ≡ c → (c || is_among (log_of cell) killed n) ≡ true
           → (is_among (log_of cell) killed n ≡ true → slice_index_or (without_part cell m).blocks n None ≡ Some b

@@ -151,7 +151,8 @@ event_retiring g w (Go a granted) locks all used was =
 
 -- ---- every world
 
-new_cells : (g : GeometryNumbers) (n ino : ℕ) → is_gone (log_of (slice_index_or (replicate n (empty_cell g.block g.page 1 0)) ino no_cell)) ≡ false
+new_cells : (g : GeometryNumbers) (n ino : ℕ)
+    → is_gone (log_of (slice_index_or (replicate n (empty_cell g.block g.page 1 0)) ino no_cell)) ≡ false
 new_cells g zero ino = refl
 new_cells g (suc n) zero = refl
 new_cells g (suc n) (suc ino) = new_cells g n ino

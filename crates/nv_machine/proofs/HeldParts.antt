@@ -379,7 +379,8 @@ retired_in_use ino epoch parts cell h =
 -- ---- erased
 
 pub empty_in_use : (block page generation version : ℕ) → HasInUse [] (empty_cell block page generation version)
-empty_in_use block page generation version = record { blocks = λ n. refl; dead = tt; marks = λ n there. absurd (false≢true there); within = omega arith; len = refl }
+empty_in_use block page generation version =
+    record { blocks = λ n. refl; dead = tt; marks = λ n there. absurd (false≢true there); within = omega arith; len = refl }
 
 pub erased_in_use : (cell : CellState) → HasInUse [] cell → HasInUse [] (erased cell)
 erased_in_use cell h = go (is_erased cell) where
