@@ -1,12 +1,20 @@
 -- The law of erasing: in its retire step an inode that is gone is erased whole, and its number goes back to the pool.
-use Rattle.std.proofs.Common.{◌≡◌, inl, inr, ℕ, ◌+◌, ◌<◌, ◌++◌, ◌∙◌, Bool, true, false, List, [], Option, Some, None, ap, get_or-set_same, if◌then◌else◌, length, nat_lt, refl, slice_index_or, subst, sym, take}
+use Rattle.std.proofs.Common.{◌≡◌, inl, inr, ℕ, ◌+◌, ◌<◌, ◌==◌, ◌||◌, ◌++◌, ◌∷◌, filter, map, ◌∙◌, Bool, true, false, List, [], Option, Some, None, ap, get_or-set_same, if◌then◌else◌, length, nat_lt, refl, slice_index_or, subst, sym, take}
 use Rattle.std.specs.Prelude.{nat_le}
 use Rattle.std.proofs.lemmas.Bool.{cases_lt}
 use Rattle.std.proofs.lemmas.List.{get_or_past}
 use Rattle.std.proofs.lemmas.Option.{none-some}
+use Rattle.std.specs.List.{AllByRecursion}
 use Rattle.nv_alloc.specs.Block.{BlockValue, numbers_of}
 use Rattle.nv_alloc.specs.Numbers.{has}
 use Rattle.nv_base.specs.Limits.{IsWithinLimits}
+use Rattle.nv_book.specs.declared.record.Record.{Record}
+use Rattle.nv_entry.specs.Held.{is_current, is_named, is_needed, keeps}
+use Rattle.nv_entry.specs.Log.{pairs}
+use Rattle.nv_entry.specs.declared.held.Pair.{Pair}
+use Rattle.nv_machine.specs.Held.{name_of}
+use Rattle.nv_machine.proofs.GoneLogs.{none_current}
+use Rattle.nv_machine.proofs.HeldTurns.{KeepsNothing}
 use Rattle.nv_base.specs.declared.geometry.GeometryNumbers.{GeometryNumbers}
 use Rattle.nv_base.specs.declared.limits.TheConstants.{NUMBER}
 use Rattle.nv_calls.specs.Retiring.{erased, freed_by, is_erased, number_back}
@@ -18,7 +26,7 @@ use Rattle.nv_cell.proofs.Publishing.{take_whole}
 use Rattle.nv_entry.specs.Covered.{part_total}
 use Rattle.nv_epoch.specs.SnapList.{ids}
 use Rattle.nv_log.specs.Chain.{ChainState, log}
-use Rattle.nv_machine.specs.Erasing.{IsErasedWhole, IsOnItsWay, IsOver, emptied, is_late}
+use Rattle.nv_machine.specs.Erasing.{IsErasedWhole, IsOnItsWay, IsOver, emptied, is_late, keepers_of}
 use Rattle.nv_machine.specs.Format.{formatted}
 use Rattle.nv_machine.specs.Hands.{AreNumbers}
 use Rattle.nv_machine.specs.Held.{killed_slots, parts_for}
@@ -248,3 +256,34 @@ none_stays g events ino within free over =
     let same : settled s ino ≡ log_of (cell_at s ino) =
     ap (λ (n : ℕ). take n (cell_at s ino).chain.entries) (closed_tail s.book.journals ino (cell_at s ino).chain.tail closed) in
     none_retiring g events ino within free (sym (ap is_gone same) ∙ over.gone)
+
+-- ---- no step makes a snapshot yet, so that of an inode that is gone nothing is kept
+
+all_over : (P Q : Pair → Type 0) → ((pair : Pair) → P pair → Q pair) → (pairs : List Pair) → AllByRecursion P pairs
+    → AllByRecursion Q pairs
+all_over P Q each [] all = tt
+all_over P Q each (pair ∷ pairs) all = (each pair all.0, all_over P Q each pairs all.1)
+
+pub gone_is_over : (g : GeometryNumbers) (events : List Event) (ino : ℕ) → IsWithinLimits g
+    → is_gone (settled (after (formatted g) events).shared ino) ≡ true → IsOver (after (formatted g) events).shared ino
+gone_is_over g events ino within gone = record {
+  gone = gone;
+  kept = all_over (λ (pair : Pair). is_current pair ≡ false) (λ (pair : Pair). keeps (keepers_of s ino) pair ≡ false) kept_none
+      (pairs block (settled s ino)) (none_current block (settled s ino) gone);
+} where
+  s : Shared
+  s = (after (formatted g) events).shared
+
+  block : ℕ
+  block = (cell_at s ino).block
+
+  living : KeepsNothing s.book
+  living = (all_in_use g events within).living
+
+  kept_none : (pair : Pair) → is_current pair ≡ false → keeps (keepers_of s ino) pair ≡ false
+  kept_none pair past =
+      ap (λ (list : List ℕ). is_needed list pair
+      || is_named (map name_of (filter (λ (d : Record). d.ino == ino) s.book.deferred)) pair) living.0
+      ∙ ap (λ (deferred : List Record). is_needed [] pair
+      || is_named (map name_of (filter (λ (d : Record). d.ino == ino) deferred)) pair) living.1
+      ∙ ap (λ (b : Bool). (b || false) || false) past
