@@ -1,22 +1,16 @@
 -- The law of erasing: in its retire step an inode that is gone is erased whole, and its number goes back to the pool.
-use Rattle.std.proofs.Common.{◌≡◌, inl, inr, ℕ, ◌+◌, ◌<◌, ◌==◌, ◌||◌, ◌++◌, ◌∷◌, filter, map, ◌∙◌, Bool, true, false, List, [], Option, Some, None, ap, get_or-set_same, if◌then◌else◌, length, nat_lt, refl, slice_index_or, subst, sym, take}
+use Rattle.std.proofs.Common.{◌≡◌, inl, inr, ℕ, ◌+◌, ◌<◌, ◌==◌, ◌||◌, ◌++◌, ◌∙◌, Bool, true, false, List, [], ◌∷◌, Option, Some, None, ap, filter, get_or-set_same, if◌then◌else◌, length, map, nat_lt, refl, slice_index_or, subst, sym, take}
+use Rattle.std.specs.List.{AllByRecursion}
 use Rattle.std.specs.Prelude.{nat_le}
 use Rattle.std.proofs.lemmas.Bool.{cases_lt}
 use Rattle.std.proofs.lemmas.List.{get_or_past}
 use Rattle.std.proofs.lemmas.Option.{none-some}
-use Rattle.std.specs.List.{AllByRecursion}
 use Rattle.nv_alloc.specs.Block.{BlockValue, numbers_of}
 use Rattle.nv_alloc.specs.Numbers.{has}
 use Rattle.nv_base.specs.Limits.{IsWithinLimits}
-use Rattle.nv_book.specs.declared.record.Record.{Record}
-use Rattle.nv_entry.specs.Held.{is_current, is_named, is_needed, keeps}
-use Rattle.nv_entry.specs.Log.{pairs}
-use Rattle.nv_entry.specs.declared.held.Pair.{Pair}
-use Rattle.nv_machine.specs.Held.{name_of}
-use Rattle.nv_machine.proofs.GoneLogs.{none_current}
-use Rattle.nv_machine.proofs.HeldTurns.{KeepsNothing}
 use Rattle.nv_base.specs.declared.geometry.GeometryNumbers.{GeometryNumbers}
 use Rattle.nv_base.specs.declared.limits.TheConstants.{NUMBER}
+use Rattle.nv_book.specs.declared.record.Record.{Record}
 use Rattle.nv_calls.specs.Retiring.{erased, freed_by, is_erased, number_back}
 use Rattle.nv_calls.proofs.Retires.{chain_stays, generation_stays}
 use Rattle.nv_cell.specs.Cell.{CellState, log_of}
@@ -24,12 +18,15 @@ use Rattle.nv_cell.specs.Readers.{is_gone}
 use Rattle.nv_cell.specs.declared.killed.KilledPart.{KilledPart}
 use Rattle.nv_cell.proofs.Publishing.{take_whole}
 use Rattle.nv_entry.specs.Covered.{part_total}
+use Rattle.nv_entry.specs.Held.{is_current, is_named, is_needed, keeps}
+use Rattle.nv_entry.specs.Log.{pairs}
+use Rattle.nv_entry.specs.declared.held.Pair.{Pair}
 use Rattle.nv_epoch.specs.SnapList.{ids}
 use Rattle.nv_log.specs.Chain.{ChainState, log}
 use Rattle.nv_machine.specs.Erasing.{IsErasedWhole, IsOnItsWay, IsOver, emptied, is_late, keepers_of}
 use Rattle.nv_machine.specs.Format.{formatted}
 use Rattle.nv_machine.specs.Hands.{AreNumbers}
-use Rattle.nv_machine.specs.Held.{killed_slots, parts_for}
+use Rattle.nv_machine.specs.Held.{killed_slots, name_of, parts_for}
 use Rattle.nv_machine.specs.Kept.{AreClosed}
 use Rattle.nv_machine.specs.Kinds.{first_killed, retired_book, retired_cell, with_erased, with_freed}
 use Rattle.nv_machine.specs.PoolScan.{is_withheld}
@@ -42,11 +39,12 @@ use Rattle.nv_machine.specs.World.{Actor, Event, Go, HandState, Leave, Next, Ret
 use Rattle.nv_machine.proofs.Erased.{behind, erased_slot, gone_erased, gone_freed}
 use Rattle.nv_machine.proofs.Events.{goes}
 use Rattle.nv_machine.proofs.FromScratch.{all_numbers}
+use Rattle.nv_machine.proofs.GoneLogs.{none_current}
 use Rattle.nv_machine.proofs.GoneRuns.{none_retiring}
 use Rattle.nv_machine.proofs.HeldLaw.{all_in_use}
 use Rattle.nv_machine.proofs.HeldParts.{HasInUse}
 use Rattle.nv_machine.proofs.HeldRuns.{AreInUse, own_in_use}
-use Rattle.nv_machine.proofs.HeldTurns.{AllInUse, retire_left, retire_told, rising_in}
+use Rattle.nv_machine.proofs.HeldTurns.{AllInUse, KeepsNothing, retire_left, retire_told, rising_in}
 use Rattle.nv_machine.proofs.Journals.{closed_tail}
 use Rattle.nv_machine.proofs.KeptRuns.{standing as kept_standing}
 use Rattle.nv_machine.proofs.KeptTurns.{Standing as KeptStanding}

@@ -7,8 +7,8 @@ use Rattle.std.proofs.lemmas.Bool.{lt-ltb, ltb-false, ltb-true}
 use Rattle.nv_calls.proofs.Grown.{last_step}
 use Rattle.nv_cell.specs.Readers.{is_gone, is_last_word}
 use Rattle.nv_entry.specs.Covered.{any_cover, is_covered, part_count, part_key, part_total}
-use Rattle.nv_entry.specs.Keys.{IsFileKey, Key, KindKey, ModeKey, NameKey, PageKey, SizeKey, covers, key_of, parts_of, sets}
 use Rattle.nv_entry.specs.Held.{is_current}
+use Rattle.nv_entry.specs.Keys.{IsFileKey, Key, KindKey, ModeKey, NameKey, PageKey, SizeKey, covers, key_of, parts_of, sets}
 use Rattle.nv_entry.specs.Laws.{is_present}
 use Rattle.nv_entry.specs.Log.{first_cover, pair_of, pairs}
 use Rattle.nv_entry.specs.declared.held.Pair.{Pair}
