@@ -3,7 +3,7 @@ use Rattle.std.proofs.Common.{◌≡◌, ℕ, zero, suc, ◌+◌, ◌-◌, ◌<�
 use Rattle.std.specs.Prelude.{is_some, option_to_list, unwrap_or}
 use Rattle.std.specs.List.{AllByRecursion, list_any, range_with_len}
 use Rattle.std.specs.Option.{option_map}
-use Rattle.std.proofs.lemmas.Bool.{and_parts, cases_lt, eqb-false, eqb-true, false≢true, le-ltb, lt-ltb, ltb-true}
+use Rattle.std.proofs.lemmas.Bool.{and_parts, cases_lt, eqb-false, eqb-true, false≢true, lt-ltb, ltb-true}
 use Rattle.std.proofs.lemmas.List.{get_or_append_left, get_or-append_right, get_or_past, set_past, take-append-le}
 use Rattle.std.proofs.lemmas.List.Folds.{list_any-append}
 use Rattle.nv_alloc.specs.Block.{BlockValue, number_of, numbers_of}
@@ -11,22 +11,26 @@ use Rattle.nv_alloc.specs.Numbers.{has}
 use Rattle.nv_calls.specs.Retiring.{killed_by, erased, is_erased, retired}
 use Rattle.nv_cell.specs.Append.{IsWithinFile, appended, blocks_for, slots_of}
 use Rattle.nv_cell.specs.Cell.{CellState, empty_cell, log_of, number_in, page_block, published, without_part}
+use Rattle.nv_cell.specs.Marks.{is_there, mark_at}
 use Rattle.nv_cell.specs.Named.{number_named}
 use Rattle.nv_cell.specs.Numbers.{dies, is_number, killed_part}
 use Rattle.nv_cell.specs.declared.killed.KilledPart.{KilledPart}
+use Rattle.nv_cell.specs.declared.mark.Mark.{Mark}
+use Rattle.nv_cell.specs.declared.mark.Mark.TheVariants.{Out}
 use Rattle.nv_cell.proofs.Appending.{back_block, length_slots, slot_block}
 use Rattle.nv_cell.proofs.NamedParts.{names_of_parts}
 use Rattle.nv_cell.proofs.Numbers.{total_append}
 use Rattle.nv_cell.proofs.PagesNow.{front_block}
 use Rattle.nv_cell.proofs.Publishing.{covered_take, take_whole, total_take}
 use Rattle.nv_entry.specs.Blocks.{item_blocks}
-use Rattle.nv_entry.specs.Covered.{is_covered, part_count, part_total}
+use Rattle.nv_entry.specs.Covered.{is_covered, part_total}
 use Rattle.nv_entry.specs.Log.{IsLog}
 use Rattle.nv_entry.specs.declared.item.Entry.{Entry}
 use Rattle.nv_log.specs.Chain.{ChainState}
 use Rattle.nv_calls.proofs.Appends.{front, map-drop, map-take}
 use Rattle.nv_machine.specs.Held.{block_in_use, is_among, is_in_use}
 use Rattle.nv_machine.specs.Kinds.{with_entries, with_pages}
+use Rattle.nv_machine.proofs.MarksInUse.{mark_out, past_log, there_before}
 use Rattle.nv_machine.proofs.Parted.{entry_blocks}
 
 -- ---- what holds of a cell
@@ -44,16 +48,11 @@ pub record IsDead (log : List Entry) (block : ℕ) (k : KilledPart) : Type 0 whe
 pub record HasInUse (killed : List KilledPart) (cell : CellState) : Type 0 where
   pub blocks : (n : ℕ) → HasBlock killed cell n
   pub dead : AllByRecursion (IsDead (log_of cell) cell.block) killed
+  pub marks : (n : ℕ) → is_there (mark_at cell.marks n) ≡ true → is_in_use killed cell n ≡ true
   pub within : cell.chain.tail ≤ length cell.chain.entries
   pub len : length cell.blocks ≡ part_total cell.chain.entries
 
--- ---- past the end
-
-pub past_log : (block : ℕ) (log : List Entry) (n : ℕ) → part_total log ≤ n → is_covered block log n ≡ false
-past_log block [] n le = refl
-past_log block (e ∷ log) n le =
-    let past : nat_lt n (part_count e) ≡ false = le-ltb n (part_count e) (omega (arith, le)) in
-    rw past (past_log block log (n - part_count e) (omega (arith, le)))
+-- ---- truth values and lists
 
 or_none : (b : Bool) → (b || false) ≡ b
 or_none true = refl
@@ -116,6 +115,7 @@ module _ (e : Entry) (bs : List BlockValue) (cell : CellState) (h : HasInUse [] 
       | inr ge ↦ high within nums n ge
     ];
     dead = tt;
+    marks = λ n there. ap (λ (log : List Entry). not (is_covered cell.block log n) || false) same_log ∙ h.marks n there;
     within = omega (arith, h.within, length-append es (e ∷ []));
     len = omega (arith, length-append cell.blocks slots, h.len, length_slots e.item bs within nums, total_append es (e ∷ []));
   }
@@ -125,7 +125,7 @@ paged_in_use : (pages : List BlockValue) (cell : CellState) → HasInUse [] cell
 paged_in_use [] cell h = h
 paged_in_use (b ∷ pages) cell h =
     paged_in_use pages (record cell { chain = record cell.chain { blocks = cell.chain.blocks ++ b ∷ [] } })
-    (record { blocks = h.blocks; dead = tt; within = h.within; len = h.len })
+    (record { blocks = h.blocks; dead = tt; marks = h.marks; within = h.within; len = h.len })
 
 entries_in_use : (entries : List Entry) (bs : List BlockValue) (cell : CellState)
     → AllByRecursion (λ (e : Entry). IsWithinFile e.item) entries
@@ -252,11 +252,16 @@ module _ (cell : CellState) (is : IsLog cell.chain.entries) where
           ∙ ap (λ (b : Bool). not b || is_among all (killed_by cell) n) (sym after)
     ]
 
+    -- as the published cell tells it
+    same_use_told : (n : ℕ) → is_in_use [] cell n ≡ is_in_use (killed_by cell) (published cell) n
+    same_use_told n =
+        same_use n ∙ ap (λ (log : List Entry). not (is_covered cell.block log n) || is_among log (killed_by cell) n) (sym whole)
+
     pub published_in_use : HasInUse (killed_by cell) (published cell)
     published_in_use = record {
-      blocks = λ n. h.blocks n
-          ∙ ap (λ (b : Bool). if b then page_block cell.block all n else None) (same_use n
-          ∙ ap (λ (log : List Entry). not (is_covered cell.block log n) || is_among log (killed_by cell) n) (sym whole));
+      blocks = λ n. h.blocks n ∙ ap (λ (b : Bool). if b then page_block cell.block all n else None) (same_use_told n);
+      marks = λ n there. sym (same_use_told n) ∙ or_none (not (is_covered cell.block (log_of cell) n))
+          ∙ there_before cell n (λ was. sym (or_none (not (is_covered cell.block (log_of cell) n))) ∙ h.marks n was) there;
       dead = subst (λ (log : List Entry). AllByRecursion (IsDead log cell.block) (killed_by cell)) (sym whole)
           (all_dead (range_with_len 0 (part_total all)));
       within = omega arith;
@@ -284,6 +289,7 @@ record GoesOut (parts : List KilledPart) (old new : CellState) : Type 0 where
   len : length new.blocks ≡ length old.blocks
   slots : (n : ℕ) → slice_index_or new.blocks n None
       ≡ (if is_among (log_of old) parts n then None else slice_index_or old.blocks n None)
+  marks : (n : ℕ) → mark_at new.marks n ≡ (if is_among (log_of old) parts n then Out else mark_at old.marks n)
 
 one_out : (k : KilledPart) (parts : List KilledPart) (cell new : CellState) → IsDead (log_of cell) cell.block k
     → GoesOut parts (without_part cell (number_in cell k.part)) new → GoesOut (k ∷ parts) cell new
@@ -292,8 +298,11 @@ one_out k parts cell new dead more = record {
   block = more.block;
   len = more.len ∙ length-set cell.blocks m None;
   slots = λ n. more.slots n ∙ ap (λ (o : Option BlockValue). if is_among (log_of cell) parts n then None else o) (slot_out cell.blocks m n)
-      ∙ either (is_among (log_of cell) parts n) (m == n) (slice_index_or cell.blocks n None)
+      ∙ either (is_among (log_of cell) parts n) (m == n) None (slice_index_or cell.blocks n None)
       ∙ ap (λ (b : Bool). if b || is_among (log_of cell) parts n then None else slice_index_or cell.blocks n None) (sym (is_it n));
+  marks = λ n. more.marks n ∙ ap (λ (o : Mark). if is_among (log_of cell) parts n then Out else o) (mark_out cell.marks m n)
+      ∙ either (is_among (log_of cell) parts n) (m == n) Out (mark_at cell.marks n)
+      ∙ ap (λ (b : Bool). if b || is_among (log_of cell) parts n then Out else mark_at cell.marks n) (sym (is_it n));
 } where
   m : ℕ
   m = number_in cell k.part
@@ -304,15 +313,15 @@ one_out k parts cell new dead more = record {
   is_it : (n : ℕ) → is_number (number_named (log_of cell) k.part) n ≡ (m == n)
   is_it n = ap (λ (o : Option ℕ). is_number o n) dead.named ∙ ap (λ (i : ℕ). i == n) (sym m_is)
 
-  either : (b c : Bool) (o : Option BlockValue) → (if b then None else if c then None else o) ≡ (if c || b then None else o)
-  either true true o = refl
-  either true false o = refl
-  either false true o = refl
-  either false false o = refl
+  either : {X : Type 0} (b c : Bool) (d o : X) → (if b then d else if c then d else o) ≡ (if c || b then d else o)
+  either true true d o = refl
+  either true false d o = refl
+  either false true d o = refl
+  either false false d o = refl
 
 retired_out : (ino epoch : ℕ) (parts : List KilledPart) (cell : CellState) → AllByRecursion (IsDead (log_of cell) cell.block) parts
     → GoesOut parts cell (retired [] ino epoch parts cell)
-retired_out ino epoch [] cell dead = record { chain = refl; block = refl; len = refl; slots = λ n. refl }
+retired_out ino epoch [] cell dead = record { chain = refl; block = refl; len = refl; slots = λ n. refl; marks = λ n. refl }
 retired_out ino epoch (k ∷ parts) cell dead =
     one_out k parts cell (retired [] ino epoch (k ∷ parts) cell) dead.0
     (retired_out ino epoch parts (without_part cell (number_in cell k.part)) dead.1)
@@ -334,14 +343,25 @@ abbrev chosen_by : ℕ → ChainState → ℕ → Option ℕ
 chosen_by block chain n =
     if not (is_covered block (take chain.tail chain.entries) n) || false then page_block block chain.entries n else None
 
+abbrev is_told : ℕ → ChainState → ℕ → Bool
+is_told block chain n = not (is_covered block (take chain.tail chain.entries) n) || false
+
 gone_in_use : (parts : List KilledPart) (old new : CellState) → GoesOut parts old new → HasInUse parts old → HasInUse [] new
 gone_in_use parts old new out h = record {
   blocks = λ n. ap (option_map number_of) (out.slots n) ∙ at n (is_among (log_of old) parts n) refl
       ∙ ap (λ (b : ℕ). chosen_by b old.chain n) (sym out.block) ∙ ap (λ (c : ChainState). chosen_by new.block c n) (sym out.chain);
   dead = tt;
+  marks = λ n there. ap (λ (c : ChainState). is_told new.block c n) out.chain ∙ ap (λ (b : ℕ). is_told b old.chain n) out.block
+      ∙ used n (is_among (log_of old) parts n) refl (sym (ap is_there (out.marks n)) ∙ there);
   within = rw out.chain h.within;
   len = out.len ∙ h.len ∙ ap (λ (c : ChainState). part_total c.entries) (sym out.chain);
 } where
+  -- a part that is there yet is none of these
+  used : (n : ℕ) (b : Bool) → is_among (log_of old) parts n ≡ b → is_there (if b then Out else mark_at old.marks n) ≡ true
+      → is_told old.block old.chain n ≡ true
+  used n true q there = absurd (false≢true there)
+  used n false q there = ap (λ (b : Bool). not (is_covered old.block (log_of old) n) || b) (sym q) ∙ h.marks n there
+
   at : (n : ℕ) (b : Bool) → is_among (log_of old) parts n ≡ b
       → option_map number_of (if b then None else slice_index_or old.blocks n None) ≡ chosen_by old.block old.chain n
   at n true q = let c = among_covered old.block (log_of old) parts n h.dead q in rw c refl
@@ -359,7 +379,8 @@ retired_in_use ino epoch parts cell h =
 -- ---- erased
 
 pub empty_in_use : (block page generation version : ℕ) → HasInUse [] (empty_cell block page generation version)
-empty_in_use block page generation version = record { blocks = λ n. refl; dead = tt; within = omega arith; len = refl }
+empty_in_use block page generation version =
+    record { blocks = λ n. refl; dead = tt; marks = λ n there. absurd (false≢true there); within = omega arith; len = refl }
 
 pub erased_in_use : (cell : CellState) → HasInUse [] cell → HasInUse [] (erased cell)
 erased_in_use cell h = go (is_erased cell) where

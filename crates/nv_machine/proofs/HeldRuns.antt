@@ -12,7 +12,7 @@ use Rattle.nv_cell.specs.declared.killed.KilledPart.{KilledPart}
 use Rattle.nv_machine.specs.Format.{formatted, root_cell}
 use Rattle.nv_machine.specs.Frame.{IsFramed, lent}
 use Rattle.nv_machine.specs.Hands.{AreNumbers, HandOf}
-use Rattle.nv_machine.specs.Held.{block_in_use, killed_by_actor, killed_by_call, killed_in, killed_slots, parts_for}
+use Rattle.nv_machine.specs.Held.{block_in_use, is_in_use, killed_by_actor, killed_by_call, killed_in, killed_slots, parts_for}
 use Rattle.nv_machine.specs.Locks.{AreLocks, commits_at, commits_by, is_owner}
 use Rattle.nv_machine.specs.Order.{IsInOrder}
 use Rattle.nv_machine.specs.Reads.{slots_of, written_slots}
@@ -21,7 +21,7 @@ use Rattle.nv_machine.specs.Step.{after, go_step, kind_turn, start_step, step, t
 use Rattle.nv_machine.specs.World.{Actor, Append, Back, Check, Close, Ends, Enter, Event, Give, Go, HandState, Leave, Lock, Look, Moves, Next, Number, Open, Publish, Ready, Retire, Running, Shared, Start, TakeBlocks, TakePages, Turn, Unlock, Visit, Waits, World, actor_at, cell_at, idle, no_cell}
 use Rattle.nv_machine.proofs.Framed.{framed}
 use Rattle.nv_machine.proofs.HeldParts.{HasInUse, empty_in_use}
-use Rattle.nv_machine.proofs.HeldTurns.{KeepsNothing, OnInUse, in_use_kept, none_for, none_killed, none_kept, none_living}
+use Rattle.nv_machine.proofs.HeldTurns.{AllInUse, KeepsNothing, OnInUse, in_use_kept, none_for, none_killed, none_kept, none_living}
 use Rattle.nv_machine.proofs.InOrder.{event_order}
 use Rattle.nv_machine.proofs.Kept.{AfterTurn}
 use Rattle.nv_machine.proofs.Locked.{lent_holder}
@@ -68,13 +68,14 @@ outside (Some r) h ino out = go r.next out where
   go other e = refl
 
 -- another actor than the one that has the commit lock
+pub others_out : (w : World) (a b : ℕ) → AreLocks w → w.shared.holder ≡ Some a → b ≢ a → commits_by (actor_at w b).running ≡ false
+others_out w a b locks held ne = sym (locks.each b).holder ∙ ap (is_owner b) held ∙ other (a == b) refl where
+  other : (c : Bool) → (a == b) ≡ c → c ≡ false
+  other true q = absurd (ne (sym (eqb-true a b q)))
+  other false q = refl
+
 others : (w : World) (a b ino : ℕ) → AreLocks w → w.shared.holder ≡ Some a → b ≢ a → killed_by_actor ino (actor_at w b) ≡ []
-others w a b ino locks held ne =
-    outside (actor_at w b).running (actor_at w b).hand ino
-    (sym (locks.each b).holder ∙ ap (is_owner b) held ∙ other (a == b) refl) where
-      other : (c : Bool) → (a == b) ≡ c → c ≡ false
-      other true q = absurd (ne (sym (eqb-true a b q)))
-      other false q = refl
+others w a b ino locks held ne = outside (actor_at w b).running (actor_at w b).hand ino (others_out w a b locks held ne)
 
 own_parts : (w : World) (a ino : ℕ) → a < length w.actors → AreLocks w → w.shared.holder ≡ Some a
     → killed_in w ino ≡ killed_by_actor ino (actor_at w a)
@@ -109,7 +110,7 @@ turned_commit (Ends result s h) a w there locks held was living on = record {
 }
 
 -- and of any other
-no_cell_lent : (k : Next) (cpus a : ℕ) (r : Running) (ino : ℕ) → commits_at k ≡ false → (lent k cpus a r).cell ≢ Some ino
+pub no_cell_lent : (k : Next) (cpus a : ℕ) (r : Running) (ino : ℕ) → commits_at k ≡ false → (lent k cpus a r).cell ≢ Some ino
 no_cell_lent Number cpus a r ino out e = none-some ino e
 no_cell_lent (Look place) cpus a r ino out e = none-some ino e
 no_cell_lent (Lock place) cpus a r ino out e = none-some ino e
@@ -155,6 +156,14 @@ turned_other (Ends result s h) a w r is out was living none frame = record {
       (frame.cells ino (no_cell_lent r.next (length w.shared.lists) a r ino out)) (was.cells ino);
 }
 
+-- the killed parts of each slot are those that the hand of the commit has
+pub own_in_use : (w : World) (a : ℕ) (r : Running) → a < length w.actors → (actor_at w a).running ≡ Some r → AreLocks w
+    → w.shared.holder ≡ Some a → AreInUse w
+    → AllInUse (parts_for (killed_slots r.next (written_slots r)) (actor_at w a).hand.killed) w.shared
+own_in_use w a r there is locks held was ino =
+    subst (λ (parts : List KilledPart). HasInUse parts (cell_at w.shared ino))
+    (own_parts w a ino there locks held ∙ ap (λ (o : Option Running). killed_by_call o (actor_at w a).hand ino) is) (was.cells ino)
+
 running_in_use : (g : GeometryNumbers) (w : World) (a : ℕ) (granted : Bool) (r : Running) → a < length w.actors
     → (actor_at w a).running ≡ Some r → AreLocks w → IsInOrder w → AreNumbers g w → AreInUse w → (b : Bool) → commits_at r.next ≡ b
     → AreInUse (turned (kind_turn r.next w.numbers.block a granted w.shared (actor_at w a).hand r) a w).world
@@ -173,8 +182,7 @@ running_in_use g w a granted r there is locks order all was b c = go b c where
       let held = lent_holder r.next a w.shared r (before w a r locks is) c in
       turned_commit t a w there locks held was (none_living r.next w.numbers.block a granted w.shared h r was.living)
       (in_use_kept g r.next w.numbers.block a granted w.shared h r c (before w a r locks is) own.0 order.logs was.living.0
-      (λ ino. subst (λ (parts : List KilledPart). HasInUse parts (cell_at w.shared ino))
-      (own_parts w a ino there locks held ∙ ap (λ (o : Option Running). killed_by_call o h ino) is) (was.cells ino)))
+      (own_in_use w a r there is locks held was))
   go false c =
       turned_other t a w r is c was (none_living r.next w.numbers.block a granted w.shared h r was.living)
       (none_kept r.next w.numbers.block a granted w.shared h r c (none_killed g r.next h r c own.0))
@@ -190,7 +198,7 @@ go_in_use g true (Some r) w a granted e is locks order all was =
 
 -- ---- a Start
 
-begun_outside : (b : Beginning) (s : Shared) (c : Call) → commits_by (Some (begun b s c)) ≡ false
+pub begun_outside : (b : Beginning) (s : Shared) (c : Call) → commits_by (Some (begun b s c)) ≡ false
 begun_outside Numbers s c = refl
 begun_outside Looks s c = refl
 begun_outside Visits s c = refl
@@ -242,6 +250,14 @@ root_blocks g (suc (suc (suc n))) =
     let past : nat_lt (suc (suc (suc n))) 3 ≡ false = le-ltb (suc (suc (suc n))) 3 (omega arith) in
     rw past refl
 
+root_marks : (g : GeometryNumbers) (n : ℕ) → is_in_use [] (root_cell g) n ≡ true
+root_marks g zero = refl
+root_marks g (suc zero) = refl
+root_marks g (suc (suc zero)) = refl
+root_marks g (suc (suc (suc n))) =
+    let past : nat_lt (suc (suc (suc n))) 3 ≡ false = le-ltb (suc (suc (suc n))) 3 (omega arith) in
+    rw past refl
+
 new_cells : (g : GeometryNumbers) (n ino : ℕ)
     → HasInUse [] (slice_index_or (replicate n (empty_cell g.block g.page 1 0)) ino no_cell)
 new_cells g zero ino = empty_in_use 0 0 0 0
@@ -249,7 +265,8 @@ new_cells g (suc n) zero = empty_in_use g.block g.page 1 0
 new_cells g (suc n) (suc ino) = new_cells g n ino
 
 new_cell : (g : GeometryNumbers) (ino : ℕ) → HasInUse [] (cell_at (formatted g).shared ino)
-new_cell g zero = record { blocks = root_blocks g; dead = tt; within = omega arith; len = refl }
+new_cell g zero =
+    record { blocks = root_blocks g; dead = tt; marks = λ n there. root_marks g n; within = omega arith; len = refl }
 new_cell g (suc ino) = new_cells g (g.inodes - 1) ino
 
 pub new_in_use : (g : GeometryNumbers) → AreInUse (formatted g)

@@ -100,14 +100,14 @@ later_for slot ino slots (parts ∷ rest) some ne = go (slot == ino) refl where
 
 -- ---- loops
 
-retiring_slots : (place : ℕ) (written : List ℕ) → killed_slots (retiring place written) written ≡ drop place written
+pub retiring_slots : (place : ℕ) (written : List ℕ) → killed_slots (retiring place written) written ≡ drop place written
 retiring_slots place written = go (nat_lt place (length written)) refl where
   go : (b : Bool) → nat_lt place (length written) ≡ b
       → killed_slots (if b then Retire place else Leave) written ≡ drop place written
   go true e = refl
   go false e = sym (drop_all place written (ltb-false place (length written) e))
 
-publishing_slots : (place : ℕ) (written : List ℕ) → killed_slots (publishing place written) written ≡ take place written
+pub publishing_slots : (place : ℕ) (written : List ℕ) → killed_slots (publishing place written) written ≡ take place written
 publishing_slots place written = go (nat_lt place (length written)) refl where
   end : (b : Bool) → killed_slots (if b then Close else retiring 0 written) written ≡ written
   end true = refl
@@ -136,6 +136,9 @@ module _ (s : Shared) (h : HandState) (r : Running) (rising : IsRising (written_
 
   abbrev cell : CellState
   cell = cell_at s slot
+
+  retire_slots : drop place written ≡ slot ∷ drop (place + 1) written
+  retire_slots = drop-cons written place 0 inside ∙ ap (λ (n : ℕ). slot ∷ drop n written) (sym (add-one place))
 
   module _ (low : slot < length s.cells) where
     publish_in_use : AreLogsOrdered s → length h.killed ≡ place → AllInUse (parts_for (take place written) h.killed) s
@@ -177,6 +180,21 @@ module _ (s : Shared) (h : HandState) (r : Running) (rising : IsRising (written_
     abbrev with_less : Shared
     with_less = with_cell slot (erased left) (with_book (retired_book slot killed s r) s)
 
+    -- the hand has the killed parts of the slot
+    pub retire_told : length h.killed + place ≡ length written → AllInUse (parts_for (drop place written) h.killed) s
+        → HasInUse killed cell
+    retire_told many all =
+        subst (λ (parts : List KilledPart). HasInUse parts cell)
+        (ap (λ (l : List ℕ). parts_for l h.killed slot) retire_slots
+        ∙ first_for slot (drop (place + 1) written) h.killed (omega (arith, many, inside)))
+        (all slot)
+
+    -- and none is left
+    pub retire_left : ids s.book.snaps ≡ [] → HasInUse killed cell → HasInUse [] left
+    retire_left living was =
+        subst (λ (list : List ℕ). HasInUse [] (retired list slot r.epoch killed cell)) (sym living)
+        (retired_in_use slot r.epoch killed cell was)
+
     retire_in_use : ids s.book.snaps ≡ [] → length h.killed + place ≡ length written
         → AllInUse (parts_for (drop place written) h.killed) s → OnInUse (retire_turn slot killed place s h r)
     retire_in_use living many all ino =
@@ -192,26 +210,15 @@ module _ (s : Shared) (h : HandState) (r : Running) (rising : IsRising (written_
           some : 0 < length h.killed
           some = omega (arith, many, inside)
 
-          slots : drop place written ≡ slot ∷ drop (place + 1) written
-          slots = drop-cons written place 0 inside ∙ ap (λ (n : ℕ). slot ∷ drop n written) (sym (add-one place))
-
-          was : HasInUse killed cell
-          was = subst (λ (parts : List KilledPart). HasInUse parts cell)
-              (ap (λ (l : List ℕ). parts_for l h.killed slot) slots ∙ first_for slot (drop (place + 1) written) h.killed some) (all slot)
-
-          gone : HasInUse [] left
-          gone = subst (λ (list : List ℕ). HasInUse [] (retired list slot r.epoch killed cell)) (sym living)
-              (retired_in_use slot r.epoch killed cell was)
-
           here : slot ≡ ino → HasInUse (parts_for (drop (place + 1) written) (drop 1 h.killed) ino) (erased left)
           here e = subst (λ (n : ℕ). HasInUse (parts_for (drop (place + 1) written) (drop 1 h.killed) n) (erased left)) e
               (subst (λ (parts : List KilledPart). HasInUse parts (erased left))
               (sym (none_there (drop (place + 1) written) (drop 1 h.killed) slot (drop_apart place written rising inside)))
-              (erased_in_use left gone))
+              (erased_in_use left (retire_left living (retire_told many all))))
 
           there : slot ≢ ino → HasInUse (parts_for (drop (place + 1) written) (drop 1 h.killed) ino) (cell_at s ino)
           there ne = subst (λ (parts : List KilledPart). HasInUse parts (cell_at s ino))
-              (ap (λ (l : List ℕ). parts_for l h.killed ino) slots
+              (ap (λ (l : List ℕ). parts_for l h.killed ino) retire_slots
               ∙ later_for slot ino (drop (place + 1) written) h.killed some ne) (all ino)
 
 close_in_use : (cpu : ℕ) (s : Shared) (h : HandState) (r : Running) → AllInUse (parts_for (written_slots r) h.killed) s
@@ -254,7 +261,7 @@ append_in_use place pages s h r inside low planned all ino =
 
 -- ---- every kind of a commit
 
-rising_in : (a : ℕ) (k : Next) (s : Shared) (r : Running) → Before a s k r → IsRising (written_slots r)
+pub rising_in : (a : ℕ) (k : Next) (s : Shared) (r : Running) → Before a s k r → IsRising (written_slots r)
 rising_in a k s r b = rising_filter (is_written r.plan) r.slots b.are.rising
 
 pub in_use_kept : (g : GeometryNumbers) (k : Next) (block a : ℕ) (granted : Bool) (s : Shared) (h : HandState) (r : Running)

@@ -25,7 +25,7 @@ use Rattle.nv_entry.specs.declared.item.Entry.{Entry}
 use Rattle.nv_machine.specs.Kept.{AreCovered}
 use Rattle.nv_machine.specs.Kinds.{with_entries, with_pages}
 use Rattle.nv_machine.specs.Whole.{HasItsParts}
-use Rattle.nv_machine.proofs.HeldParts.{past_log}
+use Rattle.nv_machine.proofs.MarksInUse.{past_log}
 use Rattle.nv_machine.proofs.Parted.{entry_blocks, sized_first, sized_later}
 
 -- ---- more log pages, and more entries

@@ -4,6 +4,7 @@ pub mod Causes
 pub mod Directories
 pub mod Effects
 pub mod EndsDecided
+pub mod Erasing
 pub mod Exact
 pub mod FitsNow
 pub mod Format

@@ -3,6 +3,7 @@
 
 pub mod call_laws;
 pub mod cell_laws;
+pub mod erasing_laws;
 pub mod hand_laws;
 pub mod laws;
 pub mod plain_laws;
