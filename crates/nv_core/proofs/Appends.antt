@@ -134,7 +134,7 @@ append_told slots old new cell told commit is =
     later j from lt =
         subst (λ (p : CellPlanValue). p.items ≡ items_for told.plan (slot_at slots p.at))
         (sym (get_or-set_other old.plans old.appended j (record (to_append old) { items = [] }) no_plan
-            (λ same. absurd (omega (arith, from, same)))))
+        (λ same. absurd (omega (arith, from, same)))))
         (is.plans.items j (omega (arith, from)) lt)
 
 pub append_way : (old new : CommitValue) (cell : CellState) → IsOnItsWay old → old.appended < length old.plans
@@ -164,7 +164,7 @@ pub appends : (shared : Shared) (running : Running) (old new : CommitValue) (cel
     → let r = shown_commit old told running in let ino = slot_at (written_slots r) old.appended in
     append_turn ino (pages_needed (shared_of shared) told.plan ino) old.appended (shared_of shared) (hand_in old) r
     ≡ machine.Moves (record (shared_of shared) { cells = map (λ (c : CellValue). c.state) cells }) (hand_in new)
-        (shown_commit new told running)
+    (shown_commit new told running)
 appends shared running old new cells told i is placed way lt place there only value commit =
     let s = shared_of shared in
     let h = hand_in old in
@@ -196,7 +196,7 @@ appends shared running old new cells told i is placed way lt place there only va
     ap (with_entries es h.blocks) (pages_same (take n h.pages) cell)
     ∙ sym (ap (λ (c : CellValue). c.state) value
     ∙ entries_same es old.hand.data.blocks (code.with_pages (pages_from old.hand cell.chain (length its))
-        (cell_in shared.cells.items i))) in
+    (cell_in shared.cells.items i))) in
     let rest : slice_set s.cells i (cell_in cells i).state ≡ map (λ (c : CellValue). c.state) cells =
     sym (ap (λ (xs : List CellValue). map (λ (c : CellValue). c.state) xs) only ∙ states_set shared.cells.items i (cell_in cells i)) in
     let many : length (slice_set old.plans a (record (to_append old) { items = [] })) ≡ length old.plans =
@@ -224,9 +224,9 @@ appends shared running old new cells told i is placed way lt place there only va
     ∙ ap (λ (parts : List (List KilledPart)). machine.Moves (record s { cells = map (λ (c : CellValue). c.state) cells })
     (hand_with parts after.hand) (go_to (appending (a + 1) w) r)) killed
     ∙ ap (λ (x : machine.Next). machine.Moves (record s { cells = map (λ (c : CellValue). c.state) cells }) (hand_in after)
-        (go_to x r)) next
+    (go_to x r)) next
     ∙ sym (ap (λ (c : CommitValue). machine.Moves (record s { cells = map (λ (x : CellValue). x.state) cells }) (hand_in c)
-        (shown_commit c told running)) commit)
+    (shown_commit c told running)) commit)
 
 -- ---- places
 
@@ -267,7 +267,7 @@ pub place_first : (slots : List ℕ) (plan : List Planned) → AllPairs (λ (a b
 place_first slots plan rises is some =
     ap (place_in plan) (let e : slot_at w 0 ≡ 0 + slot_at w 0 = omega arith in e)
     ∙ stays plan is.placed 0 (slot_at w 0) (λ x low high. between slots plan rises is x
-        (λ j lt same. below j lt x same (omega (arith, high))))
+    (λ j lt same. below j lt x same (omega (arith, high))))
     ∙ is.placed.first
   where
     w : List ℕ

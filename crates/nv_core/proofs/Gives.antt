@@ -123,29 +123,29 @@ later_from : (g : GeometryNumbers) (from k : ℕ) (lists : List FreeBlocks) (bs 
 later_from g from k [] bs some homes all = refl
 later_from g from k (list ∷ lists) bs some homes all = rw (none_below k)
     (go (nat_lt k from) refl (later_from g from (k + 1) lists bs some homes.1 all)) where
-  any : Bool
-  any = list_any (λ (b : BlockValue). is_home list b.number) bs
+      any : Bool
+      any = list_any (λ (b : BlockValue). is_home list b.number) bs
 
-  pick : home_from from (k + 1) lists bs ≡ home_from 0 (k + 1) lists bs → (c : Bool)
-      → (if c then Some k else home_from from (k + 1) lists bs) ≡ (if c then Some k else home_from 0 (k + 1) lists bs)
-  pick rest true = refl
-  pick rest false = rest
+      pick : home_from from (k + 1) lists bs ≡ home_from 0 (k + 1) lists bs → (c : Bool)
+          → (if c then Some k else home_from from (k + 1) lists bs) ≡ (if c then Some k else home_from 0 (k + 1) lists bs)
+      pick rest true = refl
+      pick rest false = rest
 
-  skip : home_from from (k + 1) lists bs ≡ home_from 0 (k + 1) lists bs → (c : Bool) → c ≡ false
-      → home_from from (k + 1) lists bs ≡ (if c then Some k else home_from 0 (k + 1) lists bs)
-  skip rest true q = absurd (false≢true (sym q))
-  skip rest false q = rest
+      skip : home_from from (k + 1) lists bs ≡ home_from 0 (k + 1) lists bs → (c : Bool) → c ≡ false
+          → home_from from (k + 1) lists bs ≡ (if c then Some k else home_from 0 (k + 1) lists bs)
+      skip rest true q = absurd (false≢true (sym q))
+      skip rest false q = rest
 
-  go : (x : Bool) → nat_lt k from ≡ x → home_from from (k + 1) lists bs ≡ home_from 0 (k + 1) lists bs
-      → (if x then home_from from (k + 1) lists bs else if any then Some k else home_from from (k + 1) lists bs)
-      ≡ (if any then Some k else home_from 0 (k + 1) lists bs)
-  go true q rest =
-      let lt = ltb-true k from q in
-      let more = starts_rise g.blocks g.cpus (k + 1) (from - (k + 1)) some in
-      let same : k + 1 + (from - (k + 1)) ≡ from = omega (arith, lt) in
-      let mono = subst (λ (m : ℕ). home_start g.blocks g.cpus (k + 1) ≤ home_start g.blocks g.cpus m) same more in
-      skip rest any (none_home list bs (home_start g.blocks g.cpus from) (omega (arith, mono, homes.0.1)) all)
-  go false q rest = pick rest any
+      go : (x : Bool) → nat_lt k from ≡ x → home_from from (k + 1) lists bs ≡ home_from 0 (k + 1) lists bs
+          → (if x then home_from from (k + 1) lists bs else if any then Some k else home_from from (k + 1) lists bs)
+          ≡ (if any then Some k else home_from 0 (k + 1) lists bs)
+      go true q rest =
+          let lt = ltb-true k from q in
+          let more = starts_rise g.blocks g.cpus (k + 1) (from - (k + 1)) some in
+          let same : k + 1 + (from - (k + 1)) ≡ from = omega (arith, lt) in
+          let mono = subst (λ (m : ℕ). home_start g.blocks g.cpus (k + 1) ≤ home_start g.blocks g.cpus m) same more in
+          skip rest any (none_home list bs (home_start g.blocks g.cpus from) (omega (arith, mono, homes.0.1)) all)
+      go false q rest = pick rest any
 
 -- homes are told by the ranges alone
 same_from : (g : GeometryNumbers) (from k : ℕ) (old new : List FreeBlocks) (bs : List BlockValue) → AreHomes g k old → AreHomes g k new
@@ -199,4 +199,4 @@ gives g cpu s old new list r lt are sized once low hand took =
     ∙ ap (λ (x : HandState). rest_turn (home_from 0 0 (slice_set s.lists cpu (after_giving l (blocks_in old))) (blocks_in x)) x.ino
     (with_given cpu old s) x r) (sym hand)
     ∙ ap (λ (x : FreeBlocks). rest_turn (home_from 0 0 (slice_set s.lists cpu x) (blocks_in new)) new.ino (with_list cpu x s) new r)
-        (sym took)
+    (sym took)

@@ -10,7 +10,7 @@ with_if inodes (Some n) rest = refl
 
 pub with_four : (inodes : ℕ) (a b c d : Option ℕ)
     → reads.slots_in inodes (all_some (a ∷ b ∷ c ∷ d ∷ [])) ≡ with_some inodes a
-        (with_some inodes b (with_some inodes c (with_some inodes d [])))
+    (with_some inodes b (with_some inodes c (with_some inodes d [])))
 with_four inodes a b c d =
     with_if inodes a (all_some (b ∷ c ∷ d ∷ []))
     ∙ ap (with_some inodes a) (with_if inodes b (all_some (c ∷ d ∷ []))

@@ -88,17 +88,17 @@ own_is_node : (block : ℕ) (c : CellValue) (handle : Handle) → HasOwn block c
     → own_node c.state handle ≡ cond (handle.generation == c.state.generation) (node_of c.state) None
 own_is_node block c handle own = alone_is (eq-eqb handle.ino handle.ino refl)
     (nodes_are bytes block (alone handle.ino c) handle (own, tt)) where
-  bytes : ℕ → List ℕ
-  bytes = bytes_among c.state.blocks
+      bytes : ℕ → List ℕ
+      bytes = bytes_among c.state.blocks
 
-  alone_is : (handle.ino == handle.ino) ≡ true → plain_nodes (alone handle.ino c) handle ≡ node_under bytes block
-      (slots_by (alone handle.ino c)) handle
-      → own_node c.state handle ≡ cond (handle.generation == c.state.generation) (node_of c.state) None
-  alone_is self one =
-      (rw self at one)
-      ∙ ap (λ (n : ℕ). cond (handle.generation == c.state.generation)
+      alone_is : (handle.ino == handle.ino) ≡ true → plain_nodes (alone handle.ino c) handle ≡ node_under bytes block
+          (slots_by (alone handle.ino c)) handle
+          → own_node c.state handle ≡ cond (handle.generation == c.state.generation) (node_of c.state) None
+      alone_is self one =
+          (rw self at one)
+          ∙ ap (λ (n : ℕ). cond (handle.generation == c.state.generation)
           (stamped (last_commit (log_of c.state)) (node_now bytes n (log_of c.state))) None)
-      (sym own.size)
+          (sym own.size)
 
 pub cell_is : (shared : Shared) (ino : ℕ) → ino < length shared.cells.items
     → cell_at (shared_of shared) ino ≡ (cell_in shared.cells.items ino).state

@@ -57,8 +57,10 @@ pub noted_two : (cpu : ℕ) (cells : List (ℕ × CellValue)) (c : CommitValue) 
 noted_two cpu cells c two = rw (lt-ltb 1 (length c.plans) (omega (arith, two))) refl
 
 pub shelf_two : (cpu : ℕ) (cells : List (ℕ × CellValue)) (c : CommitValue) (shelf : BookValue) → 2 ≤ length c.plans
-    → shelf_by cpu cells c shelf ≡ (let b : BookValue = record shelf { state = with_journal cpu
-        (old_tails cells c.plans) shelf.state } in b)
+    → shelf_by cpu cells c shelf ≡ (let b : BookValue = record shelf {
+      state = with_journal cpu
+          (old_tails cells c.plans) shelf.state;
+    } in b)
 shelf_two cpu cells c shelf two = rw (lt-ltb 1 (length c.plans) (omega (arith, two))) refl
 
 pub noted_one : (cpu : ℕ) (cells : List (ℕ × CellValue)) (c : CommitValue) → length c.plans < 2 → noted_by cpu cells c ≡ c
@@ -147,7 +149,7 @@ module _ (cpu : ℕ) (now : List (ℕ × CellValue)) (book : BookValue) (commit 
           phase = inl (record {
             to = subst (λ (j : ℕ). AppendsTo j b.cells (first_of b) new later) count
                 (append_all.goes_on commit.appended b.cells (first_of b) now commit w.can.placed append_inside appending.to new later only
-                    is ready);
+                is ready);
             book_is = appending.book_is;
           });
         }
@@ -277,7 +279,7 @@ module _ (b : Begin) (cpu : ℕ) (can : CanCommit b.cells b.shelf cpu b.ready) (
         (subst (λ (ps : List CellPlanValue). HaveAppendRoom ps (λ j. (value_at full (place_of ps j)).room) over) start_plans
         (λ j lt. done.kept j (omega (arith, lt, start_many))))
         (subst (λ (ps : List CellPlanValue). (j : ℕ) → j < length ps → (plan_at last.plans j).killed ≡ killed_by
-            (state_at full (place_of ps j)))
+        (state_at full (place_of ps j)))
         start_plans (λ j lt. done.killed j (omega (arith, lt, start_many))))
         (subst (λ (ps : List CellPlanValue). (j : ℕ) → j < length ps → KillsAsTold (state_at full (place_of ps j)))
         start_plans (λ j lt. done.told j (omega (arith, lt, start_many))))

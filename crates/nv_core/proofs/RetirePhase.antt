@@ -116,7 +116,7 @@ module _ (cpu : ℕ) (now : List (ℕ × CellValue)) (book : BookValue) (commit 
         } in x) close_own
         ∙ ap (λ (x : BookValue). let y : BookValue = record x { state = with_journal cpu [] x.state } in y) close_book
         ∙ ap (λ (js : List (List OldTail)). let x : BookValue = record w.begin.shelf
-            { state = record w.begin.shelf.state { journals = js } } in x)
+        { state = record w.begin.shelf.state { journals = js } } in x)
         (journal_back w.begin.shelf.state.journals cpu tails w.can.closed) in
         record {
           begin = w.begin;
@@ -266,7 +266,7 @@ module _ (cpu : ℕ) (now : List (ℕ × CellValue)) (book : BookValue) (commit 
             done = retiring.done;
             to = subst (λ (j : ℕ). RetiresTo j retiring.over shut_then w.begin.shelf new later after) count
                 (retire_all.goes_on commit.retired retiring.over shut_then w.begin.shelf now commit book retire_placed retire_inside
-                    retiring.to
+                retiring.to
                 new later after only state book_is room is cell_room);
           }));
         }

@@ -87,7 +87,7 @@ shifted old new place n count s =
     let long : length (take (count + 1) new) ≡ count + 1 = omega (arith, length-take (count + 1) new, s.room, s.many) in
     let few : place ≤ length (take count old) = omega (arith, many, s.within) in
     same_lists (take (count + 1) new) (insert (take count old) place n)
-        (omega (arith, long, many, insert_length (take count old) place n few))
+    (omega (arith, long, many, insert_length (take count old) place n few))
     (λ k lt. at k (omega (arith, lt, long)) few (nat_lt k place) refl) where
       at : (k : ℕ) → k < count + 1 → place ≤ length (take count old) → (b : Bool) → nat_lt k place ≡ b
           → slice_index_or (take (count + 1) new) k 0 ≡ slice_index_or (insert (take count old) place n) k 0
@@ -107,7 +107,7 @@ shifted old new place n count s =
             let same : k ≡ place = omega (arith, ltb-false place k q, le) in
             get_or-take (count + 1) new k 0 lt ∙ ap (λ (j : ℕ). slice_index_or new j 0) same ∙ s.here
             ∙ sym (insert_here (take count old) place n few) ∙ ap (λ (j : ℕ). slice_index_or (insert (take count old) place n) j 0)
-                (sym same)
+            (sym same)
 
 -- ---- a rising list stays rising
 
@@ -170,4 +170,4 @@ rises xs n place few all before there i j d lt within =
             let two = insert_here xs place n few in
             let less = before i (omega (arith, lt, same)) in
             subst (λ (k : ℕ). slice_index_or (insert xs place n) i 0 < slice_index_or (insert xs place n) k 0) same
-                (omega (arith, one, two, less))
+            (omega (arith, one, two, less))

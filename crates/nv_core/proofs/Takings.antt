@@ -305,7 +305,7 @@ module _ (old new : Shared) (hand : Hand) (running : Running) (queue : QueueValu
           hand_moved (record hand { «data» = queue }) (ap (λ (v : QueueValue). v.size) is.queue) refl,
           over_all _ _ running.job (λ u h.
               blocks_next old new slots hand running.looked running.made u below running.wanted cpu asked list queue geometry cells is h
-                  left
+              left
               (asked + 1) q lt)
               had,
         )
@@ -320,7 +320,7 @@ module _ (old new : Shared) (hand : Hand) (running : Running) (queue : QueueValu
           hand_moved (record hand { pages = queue }) refl (ap (λ (v : QueueValue). v.size) is.queue),
           over_all _ _ running.job (λ u h.
               pages_taken old new slots hand running.looked running.made u below running.wanted cpu asked list queue geometry cells is h
-                  none)
+              none)
               had,
         )
 

@@ -36,7 +36,7 @@ abbrev pub TurnsAlone : Next → ℕ → Shared → Hand → Running → Turn �
 TurnsAlone next actor shared hand running result shared_after hand_after after =
     (told : Told) → IsToldOf running told
     → (granted : Bool) × (machine_step.kind_turn (next_of next) shared.geometry.numbers.block actor granted (shared_of shared)
-        (hand_of hand)
+    (hand_of hand)
     (shown told running)
     ≡ turn_of result (shared_of shared_after) (hand_of hand_after) (shown told after))
 
@@ -49,7 +49,7 @@ shows_after (turn.Ends result) hand after told is = tt
 -- a call whose hand is alone
 pub turns_alone : (next : Next) (actor : ℕ) (shared : Shared) (hand : Hand) (running : Running) (r : machine.Running) (result : Turn)
     (shared_after : Shared) (hand_after : Hand) (after : Running) → running.next ≡ next → ShowsCall (hold.Hand hand) running r
-        → KeepsJob running after
+    → KeepsJob running after
     → TurnsAlone next actor shared hand running result shared_after hand_after after
     → IsTurn actor shared (hold.Hand hand) r result shared_after (hold.Hand hand_after) after
 turns_alone next actor shared hand running r result shared_after hand_after after here shows keeps by =
@@ -89,13 +89,13 @@ pub owes_unlock : (place : ℕ) (running : Running) (told : Told) → running.ne
     → OwesAt running.ending running told
 owes_unlock place running told here fits is answers =
     owed_by running.job running.owed told.call (last_unlock place running.job
-        (subst (λ (n : Next). FitsNext n running.job) here fits.before)) is
+    (subst (λ (n : Next). FitsNext n running.job) here fits.before)) is
 
 pub owes_give : (cpu : ℕ) (running : Running) (told : Told) → running.next ≡ next.Give cpu → FitsCall running → IsToldOf running told
     → OwesAt running.ending running told
 owes_give cpu running told here fits is answers =
     owed_by running.job running.owed told.call (last_give cpu running.job
-        (subst (λ (n : Next). FitsNext n running.job) here fits.before)) is
+    (subst (λ (n : Next). FitsNext n running.job) here fits.before)) is
 
 pub owes_back : (running : Running) (told : Told) → running.next ≡ next.Back → FitsCall running → IsToldOf running told
     → OwesAt running.ending running told

@@ -148,7 +148,7 @@ go_steps w m actor d new state answer shows lt is idle turns leaves = by (slice_
       let own = is.2.shows.each actor d lt in
       let call = shows_some (slice_index_or w.actors actor d).hold running (actor_at is.0 actor).running
       (subst (λ (o : Option Running). ShowsRunning (slice_index_or w.actors actor d).hold o
-          (actor_at is.0 actor).running) some own.running) in
+      (actor_at is.0 actor).running) some own.running) in
       let one = steps_on w m actor d new state running answer shows lt some (leaves running call.0 some call.2).geometry
       (λ r shown. turns running r some shown) in
       record { granted = one.0; reply_is = one.1; shows = one.2 }
@@ -171,7 +171,7 @@ go_keeps w actor d new state answer lt is idle turns leaves rooms = by (slice_in
       subst IsWorld (sym (stays_idle w is.0 actor d new state is.2.shows lt none told.1 told.2).1) is
   by (Some running) some =
       goes_on w is actor d new state running answer lt some (λ r shown. turns running r some shown)
-          (λ r shown. leaves running r some shown) rooms
+      (λ r shown. leaves running r some shown) rooms
 
 -- ---- an actor that starts a call
 
@@ -212,8 +212,11 @@ start_steps w m actor d c state answer shows lt is = by (slice_index_or w.actors
       (subst (λ (o : Option Running). ShowsRunning (slice_index_or w.actors actor d).hold o (actor_at m actor).running) none own.running) in
       let r = begun (beginning c) m.shared c in
       let x : machine.Actor = record { hand = (actor_at m actor).hand; running = Some r } in
-      let all : step m (machine.Start actor c) ≡ record { reply = machine.Started; world = changed m.shared (actor_at m actor).hand
-          (Some r) actor m } =
+      let all : step m (machine.Start actor c) ≡ record {
+        reply = machine.Started;
+        world = changed m.shared (actor_at m actor).hand
+            (Some r) actor m;
+      } =
       start_is m actor c None there idle in
       let shown : ShowsActor state x = record {
         hand = ap held_by told.1 ∙ own.hand;

@@ -113,7 +113,7 @@ shows_turned (turn.Ends result) w m actor d new state running after r shows lt i
 go_is : (m : machine.World) (actor : ℕ) (granted : Bool) (r : machine.Running) → actor < length m.actors
     → (actor_at m actor).running ≡ Some r
     → step m (machine.Go actor granted) ≡ turned (machine_step.turn m.numbers.block actor granted m.shared
-        (actor_at m actor).hand r) actor m
+    (actor_at m actor).hand r) actor m
 go_is m actor granted r lt is =
     ap (λ (b : Bool). go_step b (actor_at m actor).running actor granted m) (lt-ltb actor (length m.actors) lt)
     ∙ ap (λ (o : Option machine.Running). go_step true o actor granted m) is
@@ -141,9 +141,9 @@ steps_on w m actor d new state running answer shows lt is same by =
     let made : machine_step.turn m.numbers.block actor granted m.shared (actor_at m actor).hand r ≡ turn_of done.result s h after =
     ap (λ g. machine_step.turn g.block actor granted m.shared (actor_at m actor).hand r) (sym shows.numbers)
     ∙ ap (λ (x : machine.Shared). machine_step.turn w.shared.geometry.numbers.block actor granted x (actor_at m actor).hand r)
-        (sym shows.shared)
+    (sym shows.shared)
     ∙ ap (λ (x : machine.HandState). machine_step.turn w.shared.geometry.numbers.block actor granted (shared_of w.shared) x r)
-        (sym own.hand)
+    (sym own.hand)
     ∙ done.is.is in
     let all : step m (machine.Go actor granted) ≡ turned (turn_of done.result s h after) actor m =
     go_is m actor granted r (omega (arith, lt, shows.count)) call.1 ∙ ap (λ (t : machine.Turn). turned t actor m) made in (

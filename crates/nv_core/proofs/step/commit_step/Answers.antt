@@ -35,7 +35,7 @@ returns-in-Open-clause-rest c r shows =
 pub returns-in-Publish-clause-turn : goal.returns-in-Publish-clause-turn
 returns-in-Publish-clause-turn c r shows =
     turns_commit step.Publish c.args.actor c.args.shared.now c.args.running.now r c.args.commit.now c.publish.new.shared
-        c.publish.new.commit
+    c.publish.new.commit
     (sym c.in-Publish.ensures) shows
     (λ told is place plan. (c.publish.ensures.turn told is, c.publish.ensures.told told is, c.publish.ensures.placed told))
 
