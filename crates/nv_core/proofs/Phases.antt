@@ -14,7 +14,7 @@ use Rattle.nv_calls.specs.Committed.{ChangesPlanned, HaveAppendRoom, HaveSamePla
 use Rattle.nv_calls.specs.PlanByPlan.{AppendsTo, PublishesTo, published_of}
 use Rattle.nv_calls.specs.Progress.{is_open}
 use Rattle.nv_calls.specs.Ready.{ArePlaced, CellPlanValue, ReadyValue, old_tails, plan_at}
-use Rattle.nv_calls.specs.Retiring.{killed_by, retired}
+use Rattle.nv_calls.specs.Retiring.{killed_by}
 use Rattle.nv_calls.specs.Steps.{CanAppendPlan, with_plan}
 use Rattle.nv_calls.proofs.AppendAll as append_all
 use Rattle.nv_calls.proofs.Changes.{all_changed}

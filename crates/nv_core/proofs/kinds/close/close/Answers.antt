@@ -1,4 +1,4 @@
-use Rattle.std.proofs.Common.{◌≡◌, ◌∙◌, arith, length, Some, refl, ap, ap₂, subst, sym}
+use Rattle.std.proofs.Common.{◌∙◌, length, Some, refl, ap, ap₂, subst, sym}
 use Rattle.nv_book.specs.Book.{BookValue}
 use Rattle.nv_calls.specs.Commit.{CommitValue}
 use Rattle.nv_machine.specs.World as machine
