@@ -187,7 +187,8 @@ few_apart bytes block slots taken c h r =
     all_apart block (node_in (node_under bytes block slots)) taken (one_handle bytes block slots) c h (is_new c r)
   where
     is_new : (c : Call) → IsReady bytes block slots (node_in (node_under bytes block slots)) taken c
-        → AllByRecursion (λ (made : Handle). (other : Handle) → IsThere (node_in (node_under bytes block slots) other) → made.ino ≢ other.ino)
+        → AllByRecursion (λ (made : Handle). (other : Handle) → IsThere (node_in (node_under bytes block slots) other)
+        → made.ino ≢ other.ino)
         (made_by taken.made c)
     is_new (call.Create dir name mode) r = (λ other t. free_apart bytes block slots taken.made other r t, tt)
     is_new (call.Mkdir dir name mode) r = (λ other t. free_apart bytes block slots taken.made other r t, tt)

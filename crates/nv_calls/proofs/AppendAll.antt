@@ -24,7 +24,8 @@ use Rattle.nv_calls.proofs.Appends.{front, map-drop, map-take, none_front}
 use Rattle.nv_calls.proofs.CellLists.{only_value, other-only, value_with}
 use Rattle.nv_calls.proofs.Changes.{apart, none_changed, one_more, plans_more, plans_none}
 
-pub begins : (cells : List (ℕ × CellValue)) (start : CommitValue) → start.appended ≡ 0 → start.place ≡ 0 → AppendsTo 0 cells start cells start
+pub begins : (cells : List (ℕ × CellValue)) (start : CommitValue) → start.appended ≡ 0 → start.place ≡ 0
+    → AppendsTo 0 cells start cells start
 begins cells start none first = record {
   changed = none_changed start.plans (λ i. (grown cells start i).state) cells;
   plans = plans_none start.plans;
@@ -51,7 +52,8 @@ hand_more : (cells : List (ℕ × CellValue)) (start : CommitValue) (j : ℕ) �
     → hand_after (plan_at start.plans j).items (state_at cells (place_of start.plans j)).chain (hand_before cells start j)
     ≡ hand_before cells start (j + 1)
 hand_more cells start j lt =
-    let blocks : sum_by block_count (take (j + 1) start.plans) ≡ sum_by block_count (take j start.plans) + block_count (plan_at start.plans j) =
+    let blocks : sum_by block_count (take (j + 1) start.plans) ≡ sum_by block_count (take j start.plans) + block_count
+    (plan_at start.plans j) =
     sum_by_more block_count start.plans j no_plan lt in
     let pages : sum_by (page_count cells) (take (j + 1) start.plans)
     ≡ sum_by (page_count cells) (take j start.plans) + page_count cells (plan_at start.plans j) =
@@ -69,7 +71,8 @@ counted plans = length-flat_map (λ (p : CellPlanValue). numbers_in p.items) pla
 -- the blocks of a plan's pages are behind those of the plans before it
 own_blocks : (j : ℕ) (plans : List CellPlanValue) (blocks : List BlockValue) → j < length plans
     → numbers_of (take (length (numbers_of_all plans)) blocks) ≡ numbers_of_all plans
-    → numbers_of (take (block_count (plan_at plans j)) (drop (sum_by block_count (take j plans)) blocks)) ≡ numbers_in (plan_at plans j).items
+    → numbers_of (take (block_count (plan_at plans j)) (drop (sum_by block_count (take j plans)) blocks)) ≡ numbers_in
+    (plan_at plans j).items
 own_blocks j plans blocks lt h =
     let f : CellPlanValue → List ℕ = λ p. numbers_in p.items in
     let xs : List ℕ = numbers_of_all (take j plans) in
@@ -194,12 +197,17 @@ module _ (j : ℕ) (cells : List (ℕ × CellValue)) (start : CommitValue) (now 
       sum_by_more_le (page_count cells) start.plans j no_plan lt in
       let entries : place_before start.plans j + entry_count plan ≤ sum_by entry_count start.plans =
       sum_by_more_le entry_count start.plans j no_plan lt in
-      let own : CanAppendPlan start.stamp (place_before start.plans j) plan.items (hand_before cells start j) (value_at cells plan.at) = record {
+      let own : CanAppendPlan start.stamp (place_before start.plans j) plan.items (hand_before cells start j)
+      (value_at cells plan.at) = record {
         ready = each.ready;
         later = each.later;
         pages = omega (arith, can.pages, pages, length-drop (sum_by (page_count cells) (take j start.plans)) start.hand.pages.blocks);
         page_size = each.page_size;
-        blocks = record { size = each.block_size; numbers = own_blocks j start.plans start.hand.data.blocks lt can.blocks; within = each.within };
+        blocks = record {
+          size = each.block_size;
+          numbers = own_blocks j start.plans start.hand.data.blocks lt can.blocks;
+          within = each.within;
+        };
         places = omega (arith, can.few, entries);
       } in
       let P : CommitValue → CellPlanValue → CellValue → Type 0 = λ c p v. CanAppendPlan c.stamp c.place p.items c.hand v in

@@ -30,7 +30,8 @@ pub record IsUnderway (stamp : Stamp) (place : ℕ) (items : List Item) (queue :
 
 -- ---- blocks
 
-pub front : (xs ys ns : List ℕ) → take (length (xs ++ ys)) ns ≡ xs ++ ys → (take (length xs) ns ≡ xs) × (take (length ys) (drop (length xs) ns) ≡ ys)
+pub front : (xs ys ns : List ℕ) → take (length (xs ++ ys)) ns ≡ xs ++ ys
+    → (take (length xs) ns ≡ xs) × (take (length ys) (drop (length xs) ns) ≡ ys)
 front [] ys ns h = (refl, h)
 front (x ∷ xs) ys [] h = cc
 front (x ∷ xs) ys (n ∷ ns) h =
@@ -53,7 +54,8 @@ pub numbers-cons : (item : Item) (items : List Item) → numbers_in (item ∷ it
 numbers-cons item items = flat_map-cons item_blocks item items
 
 split : (item : Item) (items : List Item) (block : ℕ) (queue : QueueValue) → HaveBlocks (item ∷ items) block queue
-    → (numbers_of (blocks_for item queue.blocks) ≡ item_blocks item) × HaveBlocks items block (without_front (length (item_blocks item)) queue)
+    → (numbers_of (blocks_for item queue.blocks) ≡ item_blocks item) × HaveBlocks items block
+    (without_front (length (item_blocks item)) queue)
 split item items block queue h =
     let xs = item_blocks item in
     let ys = numbers_in items in
@@ -163,14 +165,16 @@ no_pages v =
       room = record v.room { pages = p };
     } in w) blocks pages
 
-pub one_front : (n : ℕ) (queue now new : QueueValue) (b : Option BlockValue) (block : BlockValue) → b ≡ Some block → now ≡ without_front n queue
+pub one_front : (n : ℕ) (queue now new : QueueValue) (b : Option BlockValue) (block : BlockValue) → b ≡ Some block
+    → now ≡ without_front n queue
     → new ≡ (let q : QueueValue = record now { blocks = drop 1 now.blocks; room = now.room + length (option_to_list b) } in q)
     → new ≡ without_front (n + 1) queue
 one_front n queue now new b block some is e =
     let one : length (option_to_list b) ≡ 1 = ap (λ (o : Option BlockValue). length (option_to_list o)) some in
     let room : queue.room + n + 1 ≡ queue.room + (n + 1) = omega arith in
     e ∙ ap₂ (λ (q : QueueValue) (m : ℕ). let r : QueueValue = record q { blocks = drop 1 q.blocks; room = q.room + m } in r) is one
-    ∙ ap₂ (λ (bs : List BlockValue) (r : ℕ). let q : QueueValue = record { blocks = bs; size = queue.size; room = r } in q) (drop-drop 1 n queue.blocks) room
+    ∙ ap₂ (λ (bs : List BlockValue) (r : ℕ). let q : QueueValue = record { blocks = bs; size = queue.size; room = r } in q)
+    (drop-drop 1 n queue.blocks) room
 
 pub first_sized : (size : ℕ) (bs : List BlockValue) (b : BlockValue) → AreSized size bs → Some b ≡ slice_get bs 0 → length b.bytes ≡ size
 first_sized size [] b sized h = cc

@@ -50,7 +50,8 @@ ino_stays (x ∷ xs) zero (suc other) v = refl
 ino_stays (x ∷ xs) (suc k) zero v = refl
 ino_stays (x ∷ xs) (suc k) (suc other) v = ino_stays xs k other v
 
-pub other-only : (cells now : List (ℕ × CellValue)) (k other : ℕ) → OnlyAt k cells now → (other ≡ k → ⊥) → value_at now other ≡ value_at cells other
+pub other-only : (cells now : List (ℕ × CellValue)) (k other : ℕ) → OnlyAt k cells now → (other ≡ k → ⊥)
+    → value_at now other ≡ value_at cells other
 other-only cells now k other only apart =
     ap (λ (cs : List (ℕ × CellValue)). value_at cs other) only ∙ value_other cells k other (value_at now k) apart
 
@@ -59,7 +60,8 @@ ino-only cells now k other only =
     ap (λ (cs : List (ℕ × CellValue)). ino_at cs other) only ∙ ino_stays cells k other (value_at now k)
 
 -- a cell that has a new value is all that changes
-pub only_value : (cells now : List (ℕ × CellValue)) (k : ℕ) (v : CellValue) → k < length cells → now ≡ with_value cells k v → OnlyAt k cells now
+pub only_value : (cells now : List (ℕ × CellValue)) (k : ℕ) (v : CellValue) → k < length cells → now ≡ with_value cells k v
+    → OnlyAt k cells now
 only_value cells now k v lt is =
     is ∙ ap (with_value cells k) (sym (ap (λ (cs : List (ℕ × CellValue)). value_at cs k) is ∙ value_with cells k v lt))
 

@@ -52,7 +52,8 @@ pub stat_is : (bytes : ℕ → List ℕ) (block : ℕ) (log : List Entry)
     → stat_now block log ≡ option_map stat_of (stamped (last_commit log) (node_now bytes block log))
 stat_is bytes block [] = refl
 stat_is bytes block (e ∷ log) = go (value_now block (e ∷ log) KindKey) where
-  go : (v : Option Datum) → option_and_then (λ (kind : Kind). option_map (stat_by block (e ∷ log) kind) (last_of (e ∷ log))) (option_and_then kind_in v)
+  go : (v : Option Datum) → option_and_then (λ (kind : Kind). option_map (stat_by block (e ∷ log) kind) (last_of (e ∷ log)))
+      (option_and_then kind_in v)
       ≡ option_map stat_of (stamped (last_commit (e ∷ log)) (node_of_kind v bytes block (e ∷ log)))
   go None = refl
   go (Some (datum.Kind kind)) =
@@ -86,12 +87,20 @@ pub of_log : (bytes : ℕ → List ℕ) (cell : CellState) (handle : Handle) (no
 of_log bytes cell handle node h =
     go (handle.generation == cell.generation) (value_now cell.block (log_of cell) KindKey) h where
       go : (b : Bool) (v : Option Datum)
-          → option_map (λ (p : PlainNode). p.node) (cond b (stamped (last_commit (log_of cell)) (node_of_kind v bytes cell.block (log_of cell))) None) ≡ Some node
+          → option_map (λ (p : PlainNode). p.node) (cond b (stamped (last_commit (log_of cell))
+          (node_of_kind v bytes cell.block (log_of cell))) None) ≡ Some node
           → IsOfLog bytes cell node
       go false v k = cc
       go true None k = cc
       go true (Some (datum.Kind kind)) k =
-          let full : NodeCopy = record { kind = kind; mode = mode_now cell.block (log_of cell); size = size_now cell.block (log_of cell); bytes = file_bytes bytes cell.block (log_of cell); names = names_of (log_of cell) } in
+          let full : NodeCopy = record {
+            kind = kind;
+            mode = mode_now cell.block (log_of cell);
+            size = size_now cell.block
+                (log_of cell);
+            bytes = file_bytes bytes cell.block (log_of cell);
+            names = names_of (log_of cell);
+          } in
           let e : full ≡ node = cc in
           record {
             names = ap (λ (n : NodeCopy). n.names) (sym e);

@@ -18,7 +18,8 @@ all_at P [] d j all lt = absurd (omega (arith, lt))
 all_at P (x ∷ xs) d zero all lt = all.0
 all_at P (x ∷ xs) d (suc j) all lt = all_at P xs d j all.1 (omega (arith, lt))
 
-pub all_by : {X : Type 0} (P : X → Type 0) (xs : List X) (d : X) → ((j : ℕ) → j < length xs → P (slice_index_or xs j d)) → AllByRecursion P xs
+pub all_by : {X : Type 0} (P : X → Type 0) (xs : List X) (d : X) → ((j : ℕ) → j < length xs → P (slice_index_or xs j d))
+    → AllByRecursion P xs
 all_by P [] d each = tt
 all_by P (x ∷ xs) d each = (each 0 (omega arith), all_by P xs d (λ j lt. each (suc j) (omega (arith, lt))))
 
@@ -68,7 +69,8 @@ plan_step plan at (suc k) (c ∷ cells) lt =
 abbrev pub plan_for : ℕ → List Item → CellPlanValue
 plan_for at items = record { at = at; items = items; killed = [] }
 
-pub if_some : (at : ℕ) (items : List Item) (plans : List CellPlanValue) → 0 < length items → if_items at items plans ≡ plan_for at items ∷ plans
+pub if_some : (at : ℕ) (items : List Item) (plans : List CellPlanValue) → 0 < length items
+    → if_items at items plans ≡ plan_for at items ∷ plans
 if_some at [] plans some = absurd (omega (arith, some))
 if_some at (item ∷ items) plans some = refl
 
@@ -77,14 +79,16 @@ if_none at [] plans none = refl
 if_none at (item ∷ items) plans none = absurd (omega (arith, none))
 
 -- one cell more of those gone over
-module _ (plan : List Planned) (at : ℕ) (cells : List (ℕ × CellValue)) (plans : List CellPlanValue) (items : List Item) (lt : at < length cells)
+module _ (plan : List Planned) (at : ℕ) (cells : List (ℕ × CellValue)) (plans : List CellPlanValue) (items : List Item)
+    (lt : at < length cells)
     (is : items ≡ items_for plan (ino_at cells at)) (so_far : plans ++ cell_plans plan at (drop at cells) ≡ cell_plans plan 0 cells) where
   step : plans ++ if_items at items (cell_plans plan (at + 1) (drop (at + 1) cells)) ≡ cell_plans plan 0 cells
   step =
       ap (λ (xs : List Item). plans ++ if_items at xs (cell_plans plan (at + 1) (drop (at + 1) cells))) is
       ∙ ap (λ (ps : List CellPlanValue). plans ++ ps) (sym (plan_step plan at at cells lt)) ∙ so_far
 
-  pub with_items : 0 < length items → (plans ++ plan_for at items ∷ []) ++ cell_plans plan (at + 1) (drop (at + 1) cells) ≡ cell_plans plan 0 cells
+  pub with_items : 0 < length items → (plans ++ plan_for at items ∷ []) ++ cell_plans plan (at + 1)
+      (drop (at + 1) cells) ≡ cell_plans plan 0 cells
   with_items some =
       append_assoc plans (plan_for at items ∷ []) (cell_plans plan (at + 1) (drop (at + 1) cells))
       ∙ ap (λ (ps : List CellPlanValue). plans ++ ps) (sym (if_some at items (cell_plans plan (at + 1) (drop (at + 1) cells)) some)) ∙ step
@@ -95,7 +99,8 @@ module _ (plan : List Planned) (at : ℕ) (cells : List (ℕ × CellValue)) (pla
 
 -- ---- cells with more room
 
-pub value_beside : (cells : List (ℕ × CellValue)) (k j : ℕ) (v : CellValue) → (j ≡ k → ⊥) → value_at (with_value cells k v) j ≡ value_at cells j
+pub value_beside : (cells : List (ℕ × CellValue)) (k j : ℕ) (v : CellValue) → (j ≡ k → ⊥)
+    → value_at (with_value cells k v) j ≡ value_at cells j
 value_beside [] k j v apart = refl
 value_beside (c ∷ cells) zero zero v apart = absurd (apart refl)
 value_beside (c ∷ cells) zero (suc j) v apart = refl
@@ -154,7 +159,8 @@ ready_more plans now new index k lt is rising only before here j less = go (j ==
       ∙ value_beside now k (plan_at plans j).at (value_at new k) (λ e. omega (arith, e, rises, is))))
       (before j lower)
 
-pub more_again : (cells now new : List (ℕ × CellValue)) (k : ℕ) → HaveNoLessRoom cells now → OnlyAt k now new → state_at new k ≡ state_at now k
+pub more_again : (cells now new : List (ℕ × CellValue)) (k : ℕ) → HaveNoLessRoom cells now → OnlyAt k now new
+    → state_at new k ≡ state_at now k
     → HasNoLess (value_at now k).room (value_at new k).room
     → HaveNoLessRoom cells new
 more_again cells now new k more only state room = record {

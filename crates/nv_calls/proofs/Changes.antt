@@ -11,7 +11,8 @@ use Rattle.nv_calls.specs.Ready.{ArePlaced, CellPlanValue, no_plan, plan_at}
 use Rattle.nv_calls.proofs.CellLists.{ino-only, length-only, other-only}
 
 -- two plans are of two cells
-pub apart : (cells : List (ℕ × CellValue)) (plans : List CellPlanValue) → ArePlaced cells plans → (i j : ℕ) → i < length plans → j < length plans
+pub apart : (cells : List (ℕ × CellValue)) (plans : List CellPlanValue) → ArePlaced cells plans → (i j : ℕ) → i < length plans
+    → j < length plans
     → (i ≡ j → ⊥) → place_of plans i ≡ place_of plans j → ⊥
 apart cells plans placed i j li lj differ same = go (nat_lt i j) refl where
   go : (b : Bool) → nat_lt i j ≡ b → ⊥
@@ -22,7 +23,8 @@ apart cells plans placed i j li lj differ same = go (nat_lt i j) refl where
       omega (arith, less, same)
 
 -- there are no more plans than cells
-at_least : (cells : List (ℕ × CellValue)) (plans : List CellPlanValue) → ArePlaced cells plans → (j : ℕ) → j < length plans → j ≤ place_of plans j
+at_least : (cells : List (ℕ × CellValue)) (plans : List CellPlanValue) → ArePlaced cells plans → (j : ℕ) → j < length plans
+    → j ≤ place_of plans j
 at_least cells plans placed zero lt = omega arith
 at_least cells plans placed (suc j) lt =
     let step : j < suc j = omega arith in
@@ -34,7 +36,8 @@ few_plans cells (p ∷ plans) placed =
     let last : length plans < length (p ∷ plans) = omega arith in
     omega (arith, at_least cells (p ∷ plans) placed (length plans) last, placed.within (length plans) last)
 
-pub none_changed : (plans : List CellPlanValue) (becomes : ℕ → CellState) (cells : List (ℕ × CellValue)) → IsChangedTo 0 plans becomes cells cells
+pub none_changed : (plans : List CellPlanValue) (becomes : ℕ → CellState) (cells : List (ℕ × CellValue))
+    → IsChangedTo 0 plans becomes cells cells
 none_changed plans becomes cells = record {
   count = refl;
   numbers = λ k. refl;
@@ -73,13 +76,15 @@ all_changed j plans becomes old now all way = record {
 pub plans_none : (plans : List CellPlanValue) → ArePlansFrom 0 plans plans
 plans_none plans = record { same = record { count = refl; places = λ i. refl }; rest = λ i le. refl }
 
-pub plan_other : (now new : List CellPlanValue) (j i : ℕ) (p : CellPlanValue) → new ≡ slice_set now j p → (i ≡ j → ⊥) → plan_at new i ≡ plan_at now i
+pub plan_other : (now new : List CellPlanValue) (j i : ℕ) (p : CellPlanValue) → new ≡ slice_set now j p → (i ≡ j → ⊥)
+    → plan_at new i ≡ plan_at now i
 plan_other now new j i p is differ = ap (λ (ps : List CellPlanValue). plan_at ps i) is ∙ get_or-set_other now j i p no_plan differ
 
 pub plan_own : (now new : List CellPlanValue) (j : ℕ) (p : CellPlanValue) → new ≡ slice_set now j p → j < length now → plan_at new j ≡ p
 plan_own now new j p is lt = ap (λ (ps : List CellPlanValue). plan_at ps j) is ∙ get_or-set_same now j p no_plan lt
 
-pub plans_more : (j : ℕ) (old now new : List CellPlanValue) (p : CellPlanValue) → j < length old → ArePlansFrom j old now → new ≡ slice_set now j p
+pub plans_more : (j : ℕ) (old now new : List CellPlanValue) (p : CellPlanValue) → j < length old → ArePlansFrom j old now
+    → new ≡ slice_set now j p
     → p.at ≡ place_of now j → ArePlansFrom (j + 1) old new
 plans_more j old now new p lt way is at =
     let within : j < length now = omega (arith, lt, way.same.count) in

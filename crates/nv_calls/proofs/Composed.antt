@@ -30,7 +30,8 @@ use Rattle.nv_calls.proofs.Grown.{IsGrown, is_grown}
 
 -- ---- cells and plans stay cells and plans
 
-pub cells_stay : (old new : List (ℕ × CellValue)) → length new ≡ length old → ((k : ℕ) → ino_at new k ≡ ino_at old k) → AreCells old → AreCells new
+pub cells_stay : (old new : List (ℕ × CellValue)) → length new ≡ length old → ((k : ℕ) → ino_at new k ≡ ino_at old k) → AreCells old
+    → AreCells new
 cells_stay old new count numbers are = record {
   few = omega (arith, are.few, count);
   rising = λ i j d lt lj.
@@ -49,7 +50,8 @@ places_stay cells now old new count same placed = record {
       let oj : j < length old = omega (arith, lj, same.count) in
       let first : (get_or new i d).at ≡ place_of old i =
       ap (λ (p : CellPlanValue). p.at) (get_or_default new i d no_plan (omega (arith, lt, lj))) ∙ same.places i in
-      let second : (get_or new j d).at ≡ place_of old j = ap (λ (p : CellPlanValue). p.at) (get_or_default new j d no_plan lj) ∙ same.places j in
+      let second : (get_or new j d).at ≡ place_of old j = ap (λ (p : CellPlanValue). p.at) (get_or_default new j d no_plan lj)
+      ∙ same.places j in
       omega (arith, first, second, placed.rising i j no_plan lt oj);
 }
 
@@ -213,7 +215,8 @@ module _ (cells : List (ℕ × CellValue)) (book : BookValue) (cpu : ℕ) (ready
       pub record ArePublished : Type 0 where
         pub changes : ChangesPlanned appended.plans (λ j. published (state_at full (place_of appended.plans j))) full now
         pub kept : HaveAppendRoom appended.plans (λ j. (value_at full (place_of appended.plans j)).room) now
-        pub killed : (j : ℕ) → j < length appended.plans → (plan_at done.plans j).killed ≡ killed_by (state_at full (place_of appended.plans j))
+        pub killed : (j : ℕ) → j < length appended.plans → (plan_at done.plans j).killed ≡ killed_by
+            (state_at full (place_of appended.plans j))
         pub told : (j : ℕ) → j < length appended.plans → KillsAsTold (state_at full (place_of appended.plans j))
         pub plans : HaveSamePlaces appended.plans done.plans
         pub is : done ≡ (let c : CommitValue = record appended {
@@ -301,7 +304,8 @@ module _ (cells : List (ℕ × CellValue)) (book : BookValue) (cpu : ℕ) (ready
               let size : done.hand.data.size ≡ (state_at cells (place_of start.plans j)).block =
               ap (λ (h : Hand). h.data.size) hand_is ∙ (can.append.each j lt).block_size in
               let marked : AreKilled (map part_in (plan_at done.plans j).killed) (published (grown cells start j).state) =
-              subst (λ (ks : List KilledPart). AreKilled (map part_in ks) (published (grown cells start j).state)) (sym (killed_is j lt)) told.marked in
+              subst (λ (ks : List KilledPart). AreKilled (map part_in ks) (published (grown cells start j).state))
+              (sym (killed_is j lt)) told.marked in
               record {
                 marked = subst (AreKilled (map part_in (plan_at done.plans j).killed)) (sym (cell_is j lt)) marked;
                 size = size ∙ sym g.grows.block ∙ sym (ap (λ (s : CellState). s.block) (cell_is j lt));
@@ -329,8 +333,10 @@ module _ (cells : List (ℕ × CellValue)) (book : BookValue) (cpu : ℕ) (ready
             → ChangesPlanned done.plans (λ j. settled_cell living done.stamp.epoch (noted_killing now done j)) now last
             → ChangesPlanned ready.plans (committed living cells start) cells last
         all_changes last living r =
-            let second = changes_by start.plans appended.plans (λ j. published (state_at full (place_of appended.plans j))) full now a.plans p.changes in
-            let third = changes_by start.plans done.plans (λ j. settled_cell living done.stamp.epoch (noted_killing now done j)) now last same_places r in
+            let second = changes_by start.plans appended.plans
+            (λ j. published (state_at full (place_of appended.plans j))) full now a.plans p.changes in
+            let third = changes_by start.plans done.plans (λ j. settled_cell living done.stamp.epoch
+            (noted_killing now done j)) now last same_places r in
             record {
               count = third.count ∙ second.count ∙ a.changes.count;
               numbers = λ k. third.numbers k ∙ second.numbers k ∙ a.changes.numbers k;
@@ -372,11 +378,14 @@ module _ (cells : List (ℕ × CellValue)) (book : BookValue) (cpu : ℕ) (ready
             ∙ ap₂ (λ (c : CommitValue) (ts : List OldTail). let r : ReceiptValue = record (receipt_of c) { noted = ts } in r)
             a.is journal_is
 
-        pub all_manifests : manifests_after (ids book.state.snaps) done.stamp.epoch (noted_killing now done) (length done.plans) book.state.manifests
+        pub all_manifests : manifests_after (ids book.state.snaps) done.stamp.epoch (noted_killing now done)
+            (length done.plans) book.state.manifests
             ≡ manifests_after (ids book.state.snaps) start.stamp.epoch (killing cells start) count book.state.manifests
         all_manifests =
-            ap₂ (λ (e n : ℕ). manifests_after (ids book.state.snaps) e (noted_killing now done) n book.state.manifests) stamp_is same_places.count
-            ∙ same_manifests (ids book.state.snaps) start.stamp.epoch (noted_killing now done) (killing cells start) count book.state.manifests killing_is
+            ap₂ (λ (e n : ℕ). manifests_after (ids book.state.snaps) e
+            (noted_killing now done) n book.state.manifests) stamp_is same_places.count
+            ∙ same_manifests (ids book.state.snaps) start.stamp.epoch (noted_killing now done)
+            (killing cells start) count book.state.manifests killing_is
 
         pub all_hand : hand_after_killings (ids book.state.snaps) done.stamp.epoch (noted_killing now done) (length done.plans) done.hand
             ≡ hand_after_killings (ids book.state.snaps) start.stamp.epoch (killing cells start) count

@@ -142,11 +142,13 @@ module _ (bytes : ℕ → List ℕ) (block : ℕ) (living : List ℕ) (cells : L
     go true q =
         let gone : is_gone (log_of (after j)) ≡ true = gone_erased (is_gone (log_of (after j))) (keeps_nothing (after j)) q in
         let cell : is_gone (log_of (killing cells start j).cell) ≡ true =
-        sym (ap (λ (ch : ChainState). is_gone (log ch)) (chain_stays living (killing cells start j).ino start.stamp.epoch (killing cells start j).parts
+        sym (ap (λ (ch : ChainState). is_gone (log ch)) (chain_stays living (killing cells start j).ino start.stamp.epoch
+        (killing cells start j).parts
         (killing cells start j).cell)) ∙ gone in
         let made = published_slots.planned j lt in
         let none : node_of_slot (slot_of (killing cells start j).cell) handle ≡ None =
-        none_by bytes block (slot_of (killing cells start j).cell) handle (gone_node bytes block (log_of (killing cells start j).cell) cell) in
+        none_by bytes block (slot_of (killing cells start j).cell) handle
+        (gone_node bytes block (log_of (killing cells start j).cell) cell) in
         ap (λ (c : CellState). node_of_slot (slot_of c) handle) (pick (is_erased (after j)) (emptied (after j)) (after j) q)
         ∙ none_by bytes block (slot_of (emptied (after j))) handle refl
         ∙ sym none ∙ ap (λ (s : Slot). node_of_slot s handle) made

@@ -58,7 +58,8 @@ pub record HasPagesFor (blocks : QueueValue) (offset count : ℕ) : Type 0 where
   pub fits : 0 < length blocks.blocks → offset + count ≤ 65536 * blocks.size
   pub count_is : 0 < length blocks.blocks → length blocks.blocks ≡ pages_touched blocks.size offset count
 
-pub write_can : (cells : List (ℕ × CellValue)) (u : Update) (blocks : QueueValue) (file : Handle) (offset count : ℕ) → CanFill cells u blocks
+pub write_can : (cells : List (ℕ × CellValue)) (u : Update) (blocks : QueueValue) (file : Handle) (offset count : ℕ)
+    → CanFill cells u blocks
     → u ≡ update.Write file offset count → HasPagesFor blocks offset count
 write_can cells u blocks file offset count can is =
     let c = subst (λ x. CanFill cells x blocks) is can in

@@ -142,7 +142,8 @@ module _ (block offset : ℕ) (text bytes : List ℕ) (page : ℕ) where
 pub cut_is : (block size : ℕ) (bytes : List ℕ) → 0 < block
     → cut_page block (size % block) (page_of block (size / block) bytes) ≡ page_of block (size / block) (resized size bytes)
 cut_is block size bytes some =
-    ext_get_or 0 (cut_page block place old) (page_of block page (resized size bytes)) (len ∙ sym (page_size block page (resized size bytes)))
+    ext_get_or 0 (cut_page block place old) (page_of block page (resized size bytes)) (len
+    ∙ sym (page_size block page (resized size bytes)))
     (λ k lt. let small : k < block = omega (arith, lt, len) in
     each k small (cases_lt k place) ∙ sym (page_at block page (resized size bytes) k small)) where
       page : ℕ
@@ -199,7 +200,8 @@ cell_page bytes block cell page has =
 
 module _ (bytes : ℕ → List ℕ) (block : ℕ) (cells : List (ℕ × CellValue)) (have : HaveBytes bytes block cells)
     (sound : (ino : ℕ) → IsSound bytes block (slots_by cells ino).log) where
-  slot_page : (file : Handle) (page : ℕ) → page_in cells block file page ≡ page_bytes bytes block (block_now block (slots_by cells file.ino).log page)
+  slot_page : (file : Handle) (page : ℕ) → page_in cells block file page ≡ page_bytes bytes block
+      (block_now block (slots_by cells file.ino).log page)
   slot_page file page = go (cell_of cells file.ino) refl where
     go : (o : Option CellValue) → cell_of cells file.ino ≡ o
         → slot_bytes block (option_and_then (λ (c : CellValue). block_at_page c.state page) (cell_of cells file.ino))

@@ -30,11 +30,13 @@ found_size (x ∷ cells) ino size c all h = go (x.0 == ino) h (found_size cells 
   go false k rest = rest k
 
 -- a page has the bytes of a block
-pub page_len : (size : ℕ) (cells : List (ℕ × CellValue)) (file : Handle) (page : ℕ) (old : Option BlockValue) → old ≡ block_for cells file page
+pub page_len : (size : ℕ) (cells : List (ℕ × CellValue)) (file : Handle) (page : ℕ) (old : Option BlockValue)
+    → old ≡ block_for cells file page
     → ForSome old (λ b. length b.bytes ≡ size) → length (page_in cells size file page) ≡ size
-page_len size cells file page old is sized = go (block_for cells file page) (subst (λ o. ForSome o (λ b. length b.bytes ≡ size)) is sized) where
-  go : (o : Option BlockValue) → ForSome o (λ b. length b.bytes ≡ size) → length (slot_bytes size o) ≡ size
-  go o h = old_len size o h
+page_len size cells file page old is sized = go (block_for cells file page)
+    (subst (λ o. ForSome o (λ b. length b.bytes ≡ size)) is sized) where
+      go : (o : Option BlockValue) → ForSome o (λ b. length b.bytes ≡ size) → length (slot_bytes size o) ≡ size
+      go o h = old_len size o h
 
 -- ---- parts of a text
 
@@ -126,7 +128,15 @@ filled_first size w (b ∷ blocks) sized len some =
 
 pub length-cut : (block place : ℕ) (old : List ℕ) → length old ≡ block → place ≤ block → length (cut_page block place old) ≡ block
 length-cut block place old len within =
-    omega (arith, length-append (take place old) (replicate (block - place) 0), length-take place old, length-replicate {A = ℕ} (block - place) 0, len, within)
+    omega (
+      arith,
+      length-append (take place old) (replicate (block - place) 0),
+      length-take place old,
+      length-replicate {A = ℕ}
+          (block - place) 0,
+      len,
+      within,
+    )
 
 pub filled_numbers : (pages : List (List ℕ)) (blocks : List BlockValue) → numbers_of (filled pages blocks) ≡ numbers_of blocks
 filled_numbers [] blocks = refl

@@ -91,7 +91,8 @@ count_is (n ∷ numbers) all = sym (runs_count (stretches (n ∷ numbers)) (stre
 pub count_within : (next : Option ℕ) (numbers : List ℕ) → runs_begun next numbers ≤ length numbers
 count_within next [] = omega arith
 count_within next (n ∷ numbers) = go (goes_on next n) (count_within (Some (n + 1)) numbers) where
-  go : (b : Bool) → runs_begun (Some (n + 1)) numbers ≤ length numbers → cond b 0 1 + runs_begun (Some (n + 1)) numbers ≤ suc (length numbers)
+  go : (b : Bool) → runs_begun (Some (n + 1)) numbers ≤ length numbers
+      → cond b 0 1 + runs_begun (Some (n + 1)) numbers ≤ suc (length numbers)
   go true h = omega (arith, h)
   go false h = omega (arith, h)
 

@@ -17,10 +17,12 @@ pub old_len : (n : ℕ) (page : Option BlockValue) → ForSome page (λ b. lengt
 old_len n None h = length-replicate n 0
 old_len n (Some b) h = h b refl
 
-pub put_is : (from to : ℕ) (now part old : List ℕ) → from ≤ to → length part ≡ to - from → take from now ≡ take from old → drop to now ≡ drop to old
+pub put_is : (from to : ℕ) (now part old : List ℕ) → from ≤ to → length part ≡ to - from → take from now ≡ take from old
+    → drop to now ≡ drop to old
     → put_mid from (to - from) now part ≡ overlaid from part old
 put_is from to now part old le len front rest =
     let end : from + (to - from) ≡ to = omega arith in
     let after : from + length part ≡ to = omega (arith, len) in
-    ap₂ (λ (xs ys : List ℕ). xs ++ (part ++ ys)) front (drop-drop (to - from) from now ∙ ap (λ (n : ℕ). drop n now) end ∙ rest ∙ ap (λ (n : ℕ). drop n old) (sym after))
+    ap₂ (λ (xs ys : List ℕ). xs ++ (part ++ ys)) front (drop-drop (to - from) from now ∙ ap (λ (n : ℕ). drop n now) end ∙ rest
+    ∙ ap (λ (n : ℕ). drop n old) (sym after))
     ∙ sym (append_assoc (take from old) part (drop (from + length part) old))

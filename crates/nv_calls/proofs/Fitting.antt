@@ -96,7 +96,12 @@ module _ (block : ℕ) (nodes : Handle → Option NodeCopy) (taken : Taken) (som
       let size : ℕ = length (written offset text (bytes_of (nodes file))) in
       let items : List Item = write_items first taken.runs size in
       let passed = count_passed block offset (length text) (file_passed (nodes file) (text_refusal block offset text) h).1 in
-      let fits : first + length blocks ≤ 65536 = omega (arith, count, touched_within block offset (length text) some (omega arith) passed.1) in (
+      let fits : first + length blocks ≤ 65536 = omega (
+        arith,
+        count,
+        touched_within block offset (length text) some
+            (omega arith) passed.1,
+      ) in (
         record {
           one = subst BindOne (append-nil items) (writes_bind_none first size taken.runs [] (λ item. tt) tt);
           few = omega (arith, one_item_a_run first size taken.runs, few_runs taken.runs (have_blocks taken.runs maximal), count, passed.0);

@@ -54,7 +54,8 @@ plan_grows stamp place items hand cell =
 
 pub entry_count_is : (stamp : Stamp) (place : ℕ) (items : List Item) → length (stamped_entries stamp place items) ≡ length items
 entry_count_is stamp place items =
-    sym (length-map (stamped_entries stamp place items) (λ (e : Entry). e.item)) ∙ ap length (entries-items stamp.commit stamp.epoch place items)
+    sym (length-map (stamped_entries stamp place items) (λ (e : Entry). e.item))
+    ∙ ap length (entries-items stamp.commit stamp.epoch place items)
 
 -- ---- the last entry
 
@@ -69,7 +70,8 @@ last_behind (x ∷ z ∷ xs) y ys = last_step x z (xs ++ y ∷ ys) ∙ last_behi
 last_map : {X Y : Type 0} (f : X → Y) (xs : List X) → last_of (map f xs) ≡ option_map f (last_of xs)
 last_map f xs = ap (λ (n : ℕ). slice_get (map f xs) (n - 1)) (length-map xs f) ∙ slice_get-map f xs (length xs - 1)
 
-map_twice : (o : Option Entry) → option_map is_last_word (option_map (λ (e : Entry). e.item) o) ≡ option_map (λ (e : Entry). is_last_word e.item) o
+map_twice : (o : Option Entry) → option_map is_last_word (option_map (λ (e : Entry). e.item) o) ≡ option_map
+    (λ (e : Entry). is_last_word e.item) o
 map_twice (Some e) = refl
 map_twice None = refl
 

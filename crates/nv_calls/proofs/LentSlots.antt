@@ -28,7 +28,8 @@ apart : (slots : List ℕ) (i k : ℕ) → Rises slots → i < length slots → 
     → slice_index_or slots i 0 ≢ slice_index_or slots k 0
 apart slots i k rises small lt ne same = go (nat_lt i k) refl where
   go : (b : Bool) → nat_lt i k ≡ b → ⊥
-  go true less = let up : slice_index_or slots i 0 < slice_index_or slots k 0 = rises i k 0 (ltb-true i k less) lt in absurd (omega (arith, up, same))
+  go true less = let up : slice_index_or slots i 0 < slice_index_or slots k 0 = rises i k 0 (ltb-true i k less) lt in absurd
+      (omega (arith, up, same))
   go false more =
       let up : slice_index_or slots k 0 < slice_index_or slots i 0 = rises k i 0 (omega (arith, ltb-false i k more, ne)) small in
       absurd (omega (arith, up, same))

@@ -69,12 +69,14 @@ size_is cell handle is h = go (node_of (λ number. []) cell handle) refl h where
 -- ---- a file that is read
 
 own_kind_is : (bytes : List ℕ) (found : Option PlainNode)
-    → kind_of (option_map (λ (p : PlainNode). p.node) (option_map (with_bytes bytes) found)) ≡ kind_of (option_map (λ (p : PlainNode). p.node) found)
+    → kind_of (option_map (λ (p : PlainNode). p.node) (option_map (with_bytes bytes) found)) ≡ kind_of
+    (option_map (λ (p : PlainNode). p.node) found)
 own_kind_is bytes None = refl
 own_kind_is bytes (Some p) = refl
 
 -- a cell's own node is of the kind that any bytes give
-pub own_kind : (cell : CellState) (handle : Handle) → kind_of (node_in (own_node cell) handle) ≡ kind_of (copy_of (λ number. []) cell handle)
+pub own_kind : (cell : CellState) (handle : Handle) → kind_of (node_in (own_node cell) handle) ≡ kind_of
+    (copy_of (λ number. []) cell handle)
 own_kind cell handle = own_kind_is (own_bytes cell) (node_of (λ number. []) cell handle)
 
 -- and a file has the cell's own bytes
@@ -93,13 +95,21 @@ own_is : (bytes : ℕ → List ℕ) (cell : CellState) (handle : Handle) → IsC
     → own_node cell handle ≡ node_of bytes cell handle
 own_is bytes cell handle is are = go (handle.generation == cell.generation) (value_now cell.block (log_of cell) KindKey) where
   go : (b : Bool) (v : Option Datum)
-      → option_map (with_bytes (own_bytes cell)) (cond b (stamped (last_commit (log_of cell)) (node_of_kind v (λ number. []) cell.block (log_of cell))) None)
+      → option_map (with_bytes (own_bytes cell)) (cond b (stamped (last_commit (log_of cell))
+      (node_of_kind v (λ number. []) cell.block (log_of cell))) None)
       ≡ cond b (stamped (last_commit (log_of cell)) (node_of_kind v bytes cell.block (log_of cell))) None
   go false v = refl
   go true None = refl
   go true (Some (datum.Kind kind)) =
       ap (λ (xs : List ℕ). let p : PlainNode = record {
-        node = record { kind = kind; mode = mode_now cell.block (log_of cell); size = size_now cell.block (log_of cell); bytes = xs; names = names_of (log_of cell) };
+        node = record {
+          kind = kind;
+          mode = mode_now cell.block (log_of cell);
+          size = size_now cell.block
+              (log_of cell);
+          bytes = xs;
+          names = names_of (log_of cell);
+        };
         changed = last_commit (log_of cell);
       } in Some p)
       (file_is cell bytes is are)
@@ -136,7 +146,8 @@ nodes_are bytes block cells handle all = go (cell_of cells handle.ino) refl wher
   go (Some c) q =
       let has = found_has bytes block cells handle.ino c all q in
       rw q (own_is bytes c.state handle has.is has.are
-      ∙ ap (λ (n : ℕ). cond (handle.generation == c.state.generation) (stamped (last_commit (log_of c.state)) (node_now bytes n (log_of c.state))) None) has.size)
+      ∙ ap (λ (n : ℕ). cond (handle.generation == c.state.generation)
+      (stamped (last_commit (log_of c.state)) (node_now bytes n (log_of c.state))) None) has.size)
 
 -- and so are the pages that are present
 pub pages_are : (bytes : ℕ → List ℕ) (block : ℕ) (cells : List (ℕ × CellValue)) (handle : Handle) (page : ℕ) → HaveBytes bytes block cells

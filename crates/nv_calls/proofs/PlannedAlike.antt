@@ -78,7 +78,8 @@ place_found plan at [] k lt some = absurd (omega (arith, lt))
 place_found plan at (c ∷ cells) zero lt some =
     let rest : List CellPlanValue = cell_plans plan (at + 1) cells in
     let here : at ≡ at + zero = omega arith in
-    subst (λ (ps : List CellPlanValue). (j : ℕ) × (j < length ps) × (place_of ps j ≡ at + zero)) (sym (if_some at (items_for plan c.0) rest some))
+    subst (λ (ps : List CellPlanValue). (j : ℕ) × (j < length ps) × (place_of ps j ≡ at + zero))
+    (sym (if_some at (items_for plan c.0) rest some))
     (0, omega arith, here)
 place_found plan at (c ∷ cells) (suc k) lt some =
     go (items_for plan c.0) (place_found plan (at + 1) cells k (omega (arith, lt)) some)
@@ -137,7 +138,8 @@ same_places a b x y items (suc n) =
       ap (λ (xs : List Item). length xs) (items n),
     )
 
-tail_placed : (cells : List (ℕ × CellValue)) (p : CellPlanValue) (plans : List CellPlanValue) → ArePlaced cells (p ∷ plans) → ArePlaced cells plans
+tail_placed : (cells : List (ℕ × CellValue)) (p : CellPlanValue) (plans : List CellPlanValue) → ArePlaced cells (p ∷ plans)
+    → ArePlaced cells plans
 tail_placed cells p plans placed = record {
   within = λ j lt. let more : suc j < length (p ∷ plans) = omega (arith, lt) in placed.within (suc j) more;
   rising = λ i j d lt within.
@@ -146,12 +148,14 @@ tail_placed cells p plans placed = record {
       placed.rising (suc i) (suc j) d less more;
 }
 
-other_numbers : (cells : List (ℕ × CellValue)) (ino : ℕ) (plans : List CellPlanValue) → AllByRecursion (λ (p : CellPlanValue). ino_at cells p.at ≢ ino) plans
+other_numbers : (cells : List (ℕ × CellValue)) (ino : ℕ) (plans : List CellPlanValue)
+    → AllByRecursion (λ (p : CellPlanValue). ino_at cells p.at ≢ ino) plans
     → AllByRecursion (λ (p : Planned). p.handle.ino ≢ ino) (planned_in cells plans)
 other_numbers cells ino [] all = tt
 other_numbers cells ino (p ∷ plans) all = (all.0, other_numbers cells ino plans all.1)
 
-planned_apart : (cells : List (ℕ × CellValue)) (plans : List CellPlanValue) → AreCells cells → ArePlaced cells plans → AreApart (planned_in cells plans)
+planned_apart : (cells : List (ℕ × CellValue)) (plans : List CellPlanValue) → AreCells cells → ArePlaced cells plans
+    → AreApart (planned_in cells plans)
 planned_apart cells [] are placed = tt
 planned_apart cells (p ∷ plans) are placed = (
   other_numbers cells (ino_at cells p.at) plans
@@ -172,7 +176,8 @@ module _ (cells : List (ℕ × CellValue)) (hand : Hand) (u : Update) (can : Can
   pub held : AllByRecursion (λ (p : Planned). IsHeld cells p.handle) by_call
   held =
       all_held (block_in cells) (nodes_in cells) (taken_by cells hand u) (IsHeld cells) (held_there cells) (blank_call u) can.passed
-      (all_map (IsNew cells) (IsHeld cells) (λ made new. held_by cells made new.cell new.is new.own) _ (made_new cells hand.ino u can.number))
+      (all_map (IsNew cells) (IsHeld cells) (λ made new. held_by cells made new.cell new.is new.own) _
+      (made_new cells hand.ino u can.number))
 
   pub few_apart_by : AreFewApart by_call
   few_apart_by =
@@ -202,7 +207,8 @@ module _ (cells : List (ℕ × CellValue)) (hand : Hand) (u : Update) (can : Can
         omega (arith, some, ap (λ (xs : List Item). length xs) none)) ∙ sym q
     go (item ∷ items) q =
         let f = found_for ino (omega (arith, ap (λ (xs : List Item). length xs) q)) in
-        items_at cells by_cell ino f.0 f.1 (λ i li same. omega (arith, ino_rises cells by_cell can.lent placed_by i f.0 li f.1, same, f.2)) f.2
+        items_at cells by_cell ino f.0 f.1 (λ i li same. omega
+        (arith, ino_rises cells by_cell can.lent placed_by i f.0 li f.1, same, f.2)) f.2
         ∙ items_are by_call cells f.0 f.1 ∙ ap (items_for by_call) f.2
 
   pub publish_alike : PublishAlike (planned_in cells by_cell) by_call

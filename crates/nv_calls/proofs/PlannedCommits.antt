@@ -46,7 +46,8 @@ none_used : (plan : List Planned) → plan_blocks plan ≡ [] → AllByRecursion
 none_used [] h = tt
 none_used (p ∷ plan) h = let both = nil_left (numbers_in p.items) (plan_blocks plan) h in (both.0, none_used plan both.1)
 
-none_in_all : (plans : List CellPlanValue) → AllByRecursion (λ (p : CellPlanValue). numbers_in p.items ≡ []) plans → numbers_of_all plans ≡ []
+none_in_all : (plans : List CellPlanValue) → AllByRecursion (λ (p : CellPlanValue). numbers_in p.items ≡ []) plans
+    → numbers_of_all plans ≡ []
 none_in_all [] all = refl
 none_in_all (p ∷ plans) all = ap (λ (xs : List ℕ). xs ++ numbers_of_all plans) all.0 ∙ none_in_all plans all.1
 
@@ -72,7 +73,8 @@ number_is cells true (Some ino) has = refl
 number_is cells true None has = refl
 number_is cells false number has = has
 
-made_some : (cells : List (ℕ × CellValue)) (b : Bool) (number : Option ℕ) → IsSome (cond b (option_map (handle_in cells) number) None) → b ≡ true
+made_some : (cells : List (ℕ × CellValue)) (b : Bool) (number : Option ℕ) → IsSome (cond b (option_map (handle_in cells) number) None)
+    → b ≡ true
 made_some cells true number h = refl
 made_some cells false number h = cc
 
@@ -175,7 +177,8 @@ module _ (cells : List (ℕ × CellValue)) (hand : Hand) (u : Update) (can : Can
 
   -- ---- an inode that goes
 
-  one_gone : (i j : ℕ) → i < length by_cell → j < length by_cell → goes (plan_at by_cell i).items ≡ true → goes (plan_at by_cell j).items ≡ true
+  one_gone : (i j : ℕ) → i < length by_cell → j < length by_cell → goes (plan_at by_cell i).items ≡ true
+      → goes (plan_at by_cell j).items ≡ true
       → i ≡ j
   one_gone i j li lj gi gj =
       let one = one_goes (block_in cells) (nodes_in cells) (taken_by cells hand u) (blank_call u) in
@@ -184,7 +187,8 @@ module _ (cells : List (ℕ × CellValue)) (hand : Hand) (u : Update) (can : Can
       one_place i j li lj (first ∙ sym second)
 
 -- what makes an inode plans for its directory and for it
-pair_planned : (cells : List (ℕ × CellValue)) (hand : Hand) (u : Update) → CanReady cells hand u → makes u ≡ true → 2 ≤ length (plans_by cells hand u)
+pair_planned : (cells : List (ℕ × CellValue)) (hand : Hand) (u : Update) → CanReady cells hand u → makes u ≡ true
+    → 2 ≤ length (plans_by cells hand u)
 pair_planned cells hand (update.Create dir name mode) can h =
     two_plans cells hand (update.Create dir name mode) can _ _ [] refl (omega arith) (omega arith)
 pair_planned cells hand (update.Mkdir dir name mode) can h =
@@ -238,7 +242,8 @@ module _ (cells now : List (ℕ × CellValue)) (hand : Hand) (u : Update) (book 
   settled : (j : ℕ) → j < length plans → IsSettledFor (plan_at plans j).items (cell_of_plan j).state
   settled j lt = record {
     some = all_at (λ (p : CellPlanValue). 0 < length p.items) plans no_plan j
-        (subst (AllByRecursion (λ (p : CellPlanValue). 0 < length p.items)) same_plans (plans_have_items (planned_by cells hand u) 0 cells)) lt;
+        (subst (AllByRecursion (λ (p : CellPlanValue). 0 < length p.items)) same_plans
+        (plans_have_items (planned_by cells hand u) 0 cells)) lt;
     settled = (still j lt).settled;
     version = (takes j lt).version;
     generation = λ goes. (takes j lt).generation;
@@ -261,7 +266,8 @@ module _ (cells now : List (ℕ × CellValue)) (hand : Hand) (u : Update) (book 
     append = record {
       each = each;
       blocks = joined plans (block_in cells) ready.hand.«data»
-          (subst (λ (ps : List CellPlanValue). (length ps ≤ 1) ⊎ AllByRecursion (λ (p : CellPlanValue). numbers_in p.items ≡ []) ps) same_plans
+          (subst (λ (ps : List CellPlanValue). (length ps ≤ 1) ⊎ AllByRecursion
+          (λ (p : CellPlanValue). numbers_in p.items ≡ []) ps) same_plans
           (few_use_blocks cells hand u can)) is.blocks;
       pages = is.pages;
       few = is.few;

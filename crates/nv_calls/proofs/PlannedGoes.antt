@@ -80,7 +80,10 @@ one_goes block nodes taken (call.Write file offset []) = none_go
 one_goes block nodes taken (call.Write file offset (byte ∷ rest)) =
     record { ino = 0; only = (λ h. absurd (writes_stay _ taken.runs _ h), tt) }
 one_goes block nodes taken (call.Read file offset count) = none_go
-one_goes block nodes taken (call.Size file size) = record { ino = 0; only = (λ h. absurd (size_stays (write_items (size / block) taken.runs size) size h), tt) }
+one_goes block nodes taken (call.Size file size) = record {
+  ino = 0;
+  only = (λ h. absurd (size_stays (write_items (size / block) taken.runs size) size h), tt);
+}
 one_goes block nodes taken (call.Mode handle mode) = record { ino = 0; only = (λ h. cc, tt) }
 one_goes block nodes taken (call.Stat handle) = none_go
 one_goes block nodes taken (call.List dir) = none_go

@@ -42,29 +42,36 @@ has_cell cells handle t = go (cell_of cells handle.ino) refl t.is where
   node_by : CellValue → List Entry → Option PlainNode
   node_by c log = stamped (last_commit log) (node_now (λ number. []) c.state.block log)
 
-  none : (c : CellValue) → log_of c.state ≡ [] → option_map (λ (p : PlainNode). p.node) (option_map (with_bytes (own_bytes c.state)) (node_by c (log_of c.state))) ≡ None
-  none c empty = ap (λ (log : List Entry). option_map (λ (p : PlainNode). p.node) (option_map (with_bytes (own_bytes c.state)) (node_by c log))) empty
+  none : (c : CellValue) → log_of c.state ≡ [] → option_map (λ (p : PlainNode). p.node)
+      (option_map (with_bytes (own_bytes c.state)) (node_by c (log_of c.state))) ≡ None
+  none c empty = ap (λ (log : List Entry). option_map (λ (p : PlainNode). p.node)
+      (option_map (with_bytes (own_bytes c.state)) (node_by c log))) empty
 
   own_of : (c : CellValue) (b : Bool) → (handle.generation == c.state.generation) ≡ b
-      → option_map (λ (p : PlainNode). p.node) (option_map (with_bytes (own_bytes c.state)) (cond b (node_by c (log_of c.state)) None)) ≡ Some t.node
+      → option_map (λ (p : PlainNode). p.node) (option_map (with_bytes (own_bytes c.state))
+      (cond b (node_by c (log_of c.state)) None)) ≡ Some t.node
       → (handle.generation ≡ c.state.generation) × (log_of c.state ≡ [] → ⊥)
   own_of c true q h = (eqb-true handle.generation c.state.generation q, λ empty. let z : None ≡ Some t.node = sym (none c empty) ∙ h in cc)
   own_of c false q h = cc
 
   go : (o : Option CellValue) → cell_of cells handle.ino ≡ o
-      → option_map (λ (p : PlainNode). p.node) (option_and_then (λ (c : CellValue). own_node c.state handle) (cell_of cells handle.ino)) ≡ Some t.node
+      → option_map (λ (p : PlainNode). p.node) (option_and_then (λ (c : CellValue). own_node c.state handle)
+      (cell_of cells handle.ino)) ≡ Some t.node
       → HasCell cells handle
   go None q h =
-      let z : None ≡ Some t.node = sym (ap (λ (o : Option CellValue). option_map (λ (p : PlainNode). p.node) (option_and_then (λ (c : CellValue). own_node c.state handle) o)) q) ∙ h in
+      let z : None ≡ Some t.node = sym (ap (λ (o : Option CellValue). option_map (λ (p : PlainNode). p.node)
+      (option_and_then (λ (c : CellValue). own_node c.state handle) o)) q) ∙ h in
       cc
   go (Some c) q h =
       let at : option_map (λ (p : PlainNode). p.node) (own_node c.state handle) ≡ Some t.node =
-      sym (ap (λ (o : Option CellValue). option_map (λ (p : PlainNode). p.node) (option_and_then (λ (c : CellValue). own_node c.state handle) o)) q) ∙ h in
+      sym (ap (λ (o : Option CellValue). option_map (λ (p : PlainNode). p.node)
+      (option_and_then (λ (c : CellValue). own_node c.state handle) o)) q) ∙ h in
       let both = own_of c (handle.generation == c.state.generation) refl at in
       record { cell = c; is = q; own = both.0; some = both.1 }
 
 -- one inode has one handle that leads to a node
-pub one_handle_in : (cells : List (ℕ × CellValue)) (a b : Handle) → IsThere (nodes_in cells a) → IsThere (nodes_in cells b) → a.ino ≡ b.ino → a ≡ b
+pub one_handle_in : (cells : List (ℕ × CellValue)) (a b : Handle) → IsThere (nodes_in cells a) → IsThere (nodes_in cells b)
+    → a.ino ≡ b.ino → a ≡ b
 one_handle_in cells a b x y i =
     let f = has_cell cells a x in
     let g = has_cell cells b y in
@@ -73,7 +80,8 @@ one_handle_in cells a b x y i =
     handle-same a b i (f.own ∙ ap (λ (c : CellValue). c.state.generation) same ∙ sym g.own)
 
 -- an empty slot has no node
-pub empty_apart : (cells : List (ℕ × CellValue)) (c : CellValue) (ino : ℕ) (other : Handle) → cell_of cells ino ≡ Some c → log_of c.state ≡ []
+pub empty_apart : (cells : List (ℕ × CellValue)) (c : CellValue) (ino : ℕ) (other : Handle) → cell_of cells ino ≡ Some c
+    → log_of c.state ≡ []
     → IsThere (nodes_in cells other) → ino ≢ other.ino
 empty_apart cells c ino other is empty t i =
     let f = has_cell cells other t in

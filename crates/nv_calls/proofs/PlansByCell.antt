@@ -87,7 +87,8 @@ plans_placed plan cells =
 abbrev pub entry_count : List CellPlanValue → ℕ
 entry_count plans = sum_by (λ (p : CellPlanValue). length p.items) plans
 
-if_few : (at : ℕ) (items : List Item) (plans : List CellPlanValue) → entry_count (if_items at items plans) ≤ length items + entry_count plans
+if_few : (at : ℕ) (items : List Item) (plans : List CellPlanValue)
+    → entry_count (if_items at items plans) ≤ length items + entry_count plans
 if_few at [] plans = omega arith
 if_few at (item ∷ items) plans =
     omega (arith, sum_by-cons (λ (p : CellPlanValue). length p.items) (plan_for at (item ∷ items)) plans)

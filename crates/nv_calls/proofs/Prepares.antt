@@ -39,11 +39,13 @@ module _ (cells : List (ℕ × CellValue)) (hand : Hand) (u : Update) (can : Can
   items_fit : (ino : ℕ) → AreFit (numbers_of hand.«data».blocks) (items_for (planned_by cells hand u) ino)
   items_fit ino =
       subst (λ (xs : List ℕ). AreFit xs (items_for (planned_by cells hand u) ino)) are
-      (items_all (AreFit (blocks_of (taken_by cells hand u).runs)) (planned_by cells hand u) ino (none_fit (blocks_of (taken_by cells hand u).runs))
+      (items_all (AreFit (blocks_of (taken_by cells hand u).runs)) (planned_by cells hand u) ino
+      (none_fit (blocks_of (taken_by cells hand u).runs))
       (plan_fits (block_in cells) (nodes_in cells) (taken_by cells hand u) some_bytes maximal (blank_call u) can.passed wanted))
 
   pub planned_one : AllByRecursion (λ (p : CellPlanValue). BindOne p.items) (plans_by cells hand u)
-  planned_one = plans_all (λ (n : ℕ) (items : List Item). BindOne items) (planned_by cells hand u) cells (λ k lt. (items_fit (ino_at cells k)).one)
+  planned_one = plans_all (λ (n : ℕ) (items : List Item). BindOne items) (planned_by cells hand u) cells
+      (λ k lt. (items_fit (ino_at cells k)).one)
 
   pub planned_few : sum_by (λ (p : CellPlanValue). length p.items) (plans_by cells hand u) < 2 ^ 32
   planned_few = few_entries (planned_by cells hand u) cells can.lent.few (λ ino. (items_fit ino).few)
@@ -66,7 +68,8 @@ holds_the_same old new more = record {
 }
 
 -- what is put together is ready, where its parts are
-pub ready_is : (cells now : List (ℕ × CellValue)) (hand : Hand) (u : Update) (made : Option Handle) (plans : List CellPlanValue) (left : Hand)
+pub ready_is : (cells now : List (ℕ × CellValue)) (hand : Hand) (u : Update) (made : Option Handle) (plans : List CellPlanValue)
+    (left : Hand)
     (need : ℕ) (ready : ReadyValue) → ready.update ≡ u → ready.made ≡ made → ready.plans ≡ plans → ready.hand ≡ left → ready.need ≡ need
     → made ≡ made_by cells hand.ino u
     → AreMaximal (taken_by cells hand u).runs × (blocks_of (taken_by cells hand u).runs ≡ numbers_of hand.«data».blocks)
@@ -81,7 +84,8 @@ pub ready_is : (cells now : List (ℕ × CellValue)) (hand : Hand) (u : Update) 
     → HasLogPages cells hand u
     → HaveNoLessRoom cells now
     → IsReadyBy cells hand u now ready
-ready_is cells now hand u made plans left need ready eu em ep eh en made_is runs plans_are some_bytes more are need_is room blocks few has same =
+ready_is cells now hand u made plans left need ready eu em ep eh en made_is runs plans_are some_bytes more are need_is room blocks few has
+    same =
     let h : left ≡ ready.hand = sym eh in
     let p : plans ≡ ready.plans = sym ep in
     record {

@@ -88,7 +88,8 @@ module _ (j : ℕ) (cells : List (ℕ × CellValue)) (start : CommitValue) (now 
       let count : later.published ≡ j + 1 = ap (λ (c : CommitValue). c.published) is ∙ ap (λ (n : ℕ). n + 1) published_is in
       record {
         changed = one_more j start.plans (published_of cells start) cells now new placed lt way.changed changed own_state;
-        plans = plans_more j start.plans commit.plans later.plans p lt way.plans plans (ap (λ (n : ℕ). place_of commit.plans n) published_is);
+        plans = plans_more j start.plans commit.plans later.plans p lt way.plans plans
+            (ap (λ (n : ℕ). place_of commit.plans n) published_is);
         is = is ∙ ap (λ (c : CommitValue). let d : CommitValue = record c {
           plans = (after_publish (killed_by (state_at now (to_publish commit).at)) commit).plans;
           published = (after_publish (killed_by (state_at now (to_publish commit).at)) commit).published;
@@ -104,7 +105,8 @@ module _ (j : ℕ) (cells : List (ℕ × CellValue)) (start : CommitValue) (now 
             (subst (λ (v : CellValue). KeepsAppendRoom v.room (value_at new plan.at).room) value_is
             (subst (λ (k : ℕ). KeepsAppendRoom (value_at now (to_publish commit).at).room (value_at new k).room) at_is room));
         killed = below_more (λ i. (plan_at later.plans i).killed ≡ killed_by (cell_of cells start i)) j
-            (λ i li. ap (λ (q : CellPlanValue). q.killed) (plan_other commit.plans later.plans j i p plans (λ e. omega (arith, li, e))) ∙ way.killed i li)
+            (λ i li. ap (λ (q : CellPlanValue). q.killed) (plan_other commit.plans later.plans j i p plans (λ e. omega (arith, li, e)))
+            ∙ way.killed i li)
             (ap (λ (q : CellPlanValue). q.killed) (plan_own commit.plans later.plans j p plans inside) ∙ ap killed_by cell);
         told = below_more (λ i. KillsAsTold (cell_of cells start i)) j way.told
             (subst KillsAsTold cell (record {

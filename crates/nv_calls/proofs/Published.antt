@@ -135,7 +135,8 @@ items_at cells [] number j lt before own = absurd (omega (arith, lt))
 items_at cells (p ∷ plans) number zero lt before own = rw (eq-eqb (ino_at cells p.at) number own) refl
 items_at cells (p ∷ plans) number (suc j) lt before own =
     go (ino_at cells p.at == number) refl
-    (items_at cells plans number j (omega (arith, lt)) (λ i li. let more : suc i < suc j = omega (arith, li) in before (suc i) more) own) where
+    (items_at cells plans number j (omega (arith, lt)) (λ i li. let more : suc i < suc j = omega (arith, li) in before
+    (suc i) more) own) where
       go : (b : Bool) → (ino_at cells p.at == number) ≡ b → items_for (planned_in cells plans) number ≡ (plan_at plans j).items
           → cond b p.items (items_for (planned_in cells plans) number) ≡ (plan_at plans j).items
       go true q rest = let first : 0 < suc j = omega arith in absurd (before 0 first (eqb-true (ino_at cells p.at) number q))
@@ -180,12 +181,14 @@ module _ (cells : List (ℕ × CellValue)) (book : BookValue) (cpu : ℕ) (ready
       items_at cells start.plans ino j lt
       (λ i li same. let less = ino_rises cells start.plans can.cells_are can.placed i j li lt in omega (arith, less, same)) refl in
       let place : place_in made ino ≡ place_before start.plans j = place_is cells start.plans can.cells_are can.placed j lt in
-      let entries : List Entry = entries_of start.stamp.commit start.stamp.epoch (place_before start.plans j) (plan_at start.plans j).items in
+      let entries : List Entry = entries_of start.stamp.commit start.stamp.epoch (place_before start.plans j)
+      (plan_at start.plans j).items in
       let log : log_of (published (grown cells start j).state)
       ≡ (slots ino).log ++ entries_of start.stamp.commit start.stamp.epoch (place_in made ino) (items_for made ino) =
       g.after ∙ ap (λ (s : Slot). s.log ++ entries) (sym own)
       ∙ ap₂ (λ (n : ℕ) (xs : List Item). (slots ino).log ++ entries_of start.stamp.commit start.stamp.epoch n xs) (sym place) (sym items) in
-      slot_is (grown cells start j).state.generation (slots ino).generation _ _ (g.grows.generation ∙ ap (λ (s : Slot). s.generation) (sym own)) log
+      slot_is (grown cells start j).state.generation (slots ino).generation _ _ (g.grows.generation
+      ∙ ap (λ (s : Slot). s.generation) (sym own)) log
 
   pub publishes : PublishesPlans cells start slots
   publishes = record {

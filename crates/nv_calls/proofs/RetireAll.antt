@@ -44,7 +44,8 @@ begins cells start book none = record {
 not_gone : (ino : ℕ) (cell : CellState) (hand : Hand) → is_gone (log_of cell) ≡ false → hand_with ino cell hand ≡ hand
 not_gone ino cell hand stays = go (is_gone (log_of cell)) stays where
   go : (b : Bool) → b ≡ false
-      → cond (b && keeps_nothing cell) (let h : Hand = record hand { chain = cell.chain.blocks; ino = number_back ino cell hand.ino } in h) hand ≡ hand
+      → cond (b && keeps_nothing cell) (let h : Hand = record hand { chain = cell.chain.blocks; ino = number_back ino cell hand.ino } in
+      h) hand ≡ hand
   go true q = cc
   go false q = refl
 
@@ -52,7 +53,10 @@ not_gone ino cell hand stays = go (is_gone (log_of cell)) stays where
 pub hand_keeps : (living : List ℕ) (ino epoch : ℕ) (killed : List KilledPart) (cell : CellState) (hand : Hand)
     → (hand_retired living ino epoch killed cell hand).data ≡ with_back (freed_by living ino epoch killed cell) hand.data
 hand_keeps living ino epoch killed cell hand =
-    data_stays ino (retired living ino epoch killed cell) (record hand { «data» = with_back (freed_by living ino epoch killed cell) hand.data })
+    data_stays ino (retired living ino epoch killed cell) (record hand {
+      «data» = with_back
+          (freed_by living ino epoch killed cell) hand.data;
+    })
 
 free_still : (living : List ℕ) (ino epoch : ℕ) (killed : List KilledPart) (cell : CellState) (hand : Hand)
     → is_gone (log_of cell) ≡ false → IsFree hand → IsFree (hand_retired living ino epoch killed cell hand)
@@ -75,8 +79,10 @@ next_is f j = rw add-one refl
 
 -- ---- one plan more
 
-module _ (j : ℕ) (cells : List (ℕ × CellValue)) (start : CommitValue) (shelf : BookValue) (now : List (ℕ × CellValue)) (commit : CommitValue)
-    (book : BookValue) (placed : ArePlaced cells start.plans) (lt : j < length start.plans) (way : RetiresTo j cells start shelf now commit book) where
+module _ (j : ℕ) (cells : List (ℕ × CellValue)) (start : CommitValue) (shelf : BookValue) (now : List (ℕ × CellValue))
+    (commit : CommitValue)
+    (book : BookValue) (placed : ArePlaced cells start.plans) (lt : j < length start.plans)
+    (way : RetiresTo j cells start shelf now commit book) where
   abbrev plan : CellPlanValue
   plan = plan_at start.plans j
 
@@ -173,7 +179,8 @@ module _ (j : ℕ) (cells : List (ℕ × CellValue)) (start : CommitValue) (shel
       let settle : List ℕ → ℕ → ℕ → List KilledPart → CellState → CellState = λ l m e ks c. erased (retired l m e ks c) in
       let own_state : state_at new plan.at ≡ settled_of living cells start j =
       ap (state_at new) (sym at_is) ∙ state
-      ∙ ap₂ (λ (l : List ℕ) (m : ℕ). settle l m commit.stamp.epoch (to_retire commit).killed (state_at now (to_retire commit).at)) lives ino_is
+      ∙ ap₂ (λ (l : List ℕ) (m : ℕ). settle l m commit.stamp.epoch (to_retire commit).killed
+      (state_at now (to_retire commit).at)) lives ino_is
       ∙ ap₂ (λ (e : ℕ) (ks : List KilledPart). settle living noted.ino e ks (state_at now (to_retire commit).at)) epoch_is killed_is
       ∙ ap (settle living noted.ino start.stamp.epoch plan.killed) cell_is in
       let leave : List ℕ → ℕ → ℕ → List KilledPart → CellValue → CellRoom = λ l m e ks v. room_erased (retired l m e ks v.state) v.room in
@@ -189,14 +196,17 @@ module _ (j : ℕ) (cells : List (ℕ × CellValue)) (start : CommitValue) (shel
       let count : later.retired ≡ j + 1 = ap (λ (c : CommitValue). c.retired) is ∙ ap (λ (n : ℕ). n + 1) retired_is in
       let own_hand : later.hand ≡ hand_retired living noted.ino start.stamp.epoch plan.killed (cell_of cells start j) commit.hand =
       ap (λ (c : CommitValue). c.hand) is
-      ∙ ap₂ (λ (l : List ℕ) (m : ℕ). hand_retired l m commit.stamp.epoch (to_retire commit).killed (state_at now (to_retire commit).at) commit.hand)
+      ∙ ap₂ (λ (l : List ℕ) (m : ℕ). hand_retired l m commit.stamp.epoch (to_retire commit).killed
+      (state_at now (to_retire commit).at) commit.hand)
       lives ino_is
-      ∙ ap₂ (λ (e : ℕ) (ks : List KilledPart). hand_retired living noted.ino e ks (state_at now (to_retire commit).at) commit.hand) epoch_is killed_is
+      ∙ ap₂ (λ (e : ℕ) (ks : List KilledPart). hand_retired living noted.ino e ks
+      (state_at now (to_retire commit).at) commit.hand) epoch_is killed_is
       ∙ ap (λ (c : CellState). hand_retired living noted.ino start.stamp.epoch plan.killed c commit.hand) cell_is in
       let hand : later.hand ≡ hand_after_killings living start.stamp.epoch (noted_killing cells start) (j + 1) start.hand =
       own_hand ∙ ap (λ (c : CommitValue). hand_retired living noted.ino start.stamp.epoch plan.killed (cell_of cells start j) c.hand) way.is
       ∙ hand_suc in
-      let own_data : later.hand.data ≡ with_back (freed_by living noted.ino start.stamp.epoch plan.killed (cell_of cells start j)) commit.hand.data =
+      let own_data : later.hand.data ≡ with_back (freed_by living noted.ino start.stamp.epoch plan.killed
+      (cell_of cells start j)) commit.hand.data =
       ap (λ (h : Hand). h.data) own_hand ∙ hand_keeps living noted.ino start.stamp.epoch plan.killed (cell_of cells start j) commit.hand in
       let few : length (freed_by living noted.ino start.stamp.epoch plan.killed (cell_of cells start j)) ≤ killed_count plan =
       freed_within living noted.ino start.stamp.epoch plan.killed (cell_of cells start j) in
@@ -212,11 +222,14 @@ module _ (j : ℕ) (cells : List (ℕ × CellValue)) (start : CommitValue) (shel
         changed = one_more j start.plans (settled_of living cells start) cells now new placed lt way.changed changed own_state;
         plans = plans_more j start.plans commit.plans later.plans p lt way.plans plans (ap (λ (n : ℕ). place_of commit.plans n) retired_is);
         is = is ∙ ap (λ (c : CommitValue). let d : CommitValue = record c {
-          plans = (after_retire (ids book.state.snaps) (ino_at now (to_retire commit).at) (state_at now (to_retire commit).at) commit).plans;
+          plans = (after_retire (ids book.state.snaps) (ino_at now (to_retire commit).at)
+              (state_at now (to_retire commit).at) commit).plans;
           hand = (after_retire (ids book.state.snaps) (ino_at now (to_retire commit).at) (state_at now (to_retire commit).at) commit).hand;
-          retired = (after_retire (ids book.state.snaps) (ino_at now (to_retire commit).at) (state_at now (to_retire commit).at) commit).retired;
+          retired = (after_retire (ids book.state.snaps) (ino_at now (to_retire commit).at)
+              (state_at now (to_retire commit).at) commit).retired;
         } in d) way.is
-            ∙ sym (ap (λ (c : CommitValue). let d : CommitValue = record start { plans = c.plans; hand = c.hand; retired = c.retired } in d) is)
+            ∙ sym (ap (λ (c : CommitValue). let d : CommitValue = record start { plans = c.plans; hand = c.hand; retired = c.retired } in
+            d) is)
             ∙ ap₂ (λ (h : Hand) (n : ℕ). let d : CommitValue = record start { plans = later.plans; hand = h; retired = n } in d) hand count;
         state = book_is ∙ ap (λ (m : List Manifest). let b : BookState = record book.state { manifests = m } in b) own_records
             ∙ ap (λ (s : BookState). let b : BookState = record s { manifests = records s.manifests } in b) way.state
@@ -229,7 +242,8 @@ module _ (j : ℕ) (cells : List (ℕ × CellValue)) (start : CommitValue) (shel
         freed = omega (arith, way.freed, own_room, few, sum_is);
         size = ap (λ (q : QueueValue). q.size) own_data ∙ way.size;
         free = λ free none.
-            let stays : is_gone (log_of (cell_of cells start j)) ≡ false = told (is_gone (log_of (cell_of cells start j))) (none j (omega arith)) in
+            let stays : is_gone (log_of (cell_of cells start j)) ≡ false = told (is_gone (log_of (cell_of cells start j)))
+            (none j (omega arith)) in
             subst IsFree (sym own_hand) (free_still living noted.ino start.stamp.epoch plan.killed (cell_of cells start j) commit.hand stays
             (way.free free (λ i li. none i (omega (arith, li)))));
       } where

@@ -41,7 +41,8 @@ others_wait living ino epoch killed later cell are = go (keeper_of living ino ep
 -- erasing leaves the data blocks of a hand
 pub data_stays : (ino : ℕ) (cell : CellState) (hand : Hand) → (hand_with ino cell hand).data ≡ hand.data
 data_stays ino cell hand = go (is_erased cell) where
-  go : (b : Bool) → (cond b (let h : Hand = record hand { chain = cell.chain.blocks; ino = number_back ino cell hand.ino } in h) hand).data ≡ hand.data
+  go : (b : Bool) → (cond b (let h : Hand = record hand { chain = cell.chain.blocks; ino = number_back ino cell hand.ino } in h)
+      hand).data ≡ hand.data
   go true = refl
   go false = refl
 
@@ -54,7 +55,8 @@ one_generation : (keeper : Option ℕ) (n : ℕ) (cell : CellState) → (settled
 one_generation (Some s) n cell = refl
 one_generation None n cell = refl
 
-pub chain_stays : (living : List ℕ) (ino epoch : ℕ) (all : List KilledPart) (cell : CellState) → (retired living ino epoch all cell).chain ≡ cell.chain
+pub chain_stays : (living : List ℕ) (ino epoch : ℕ) (all : List KilledPart) (cell : CellState)
+    → (retired living ino epoch all cell).chain ≡ cell.chain
 chain_stays living ino epoch [] cell = refl
 chain_stays living ino epoch (killed ∷ later) cell =
     chain_stays living ino epoch later (retired_one living ino epoch killed cell)
@@ -82,7 +84,8 @@ back_more xs ys queue =
     (append_assoc queue.blocks xs ys) room
 
 -- a part sets at most one block free
-pub freed_few : (living : List ℕ) (ino epoch : ℕ) (killed : KilledPart) (cell : CellState) → length (freed_one living ino epoch killed cell) ≤ 1
+pub freed_few : (living : List ℕ) (ino epoch : ℕ) (killed : KilledPart) (cell : CellState)
+    → length (freed_one living ino epoch killed cell) ≤ 1
 freed_few living ino epoch killed cell = go (keeper_of living ino epoch killed) where
   one : (b : Option BlockValue) → length (option_to_list b) ≤ 1
   one (Some b) = omega arith

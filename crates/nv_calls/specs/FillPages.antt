@@ -51,7 +51,8 @@ cut_page block place old = take place old ++ replicate (block - place) 0
 -- the same pages by those of the file before
 abbrev pub pages_over : ℕ → (Handle → ℕ → List ℕ) → Call → List (List ℕ)
 pages_over block old (call.Write file offset text) =
-    map (λ page. page_with block offset text page (old file page)) (range_with_len (offset / block) (pages_touched block offset (length text)))
+    map (λ page. page_with block offset text page (old file page))
+    (range_with_len (offset / block) (pages_touched block offset (length text)))
 pages_over block old (call.Size file size) = cut_page block (size % block) (old file (size / block)) ∷ []
 pages_over block old other = []
 

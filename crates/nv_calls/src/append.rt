@@ -101,7 +101,8 @@ pub(crate) fn append_plan<C: Cells>(
     hand: &mut Hand,
 )
     requires within { k < length (C.cells cells.old) }
-    requires can { CanAppendPlan stamp.now place items.items hand.old (value_at (C.cells cells.old) k) }
+    requires can { CanAppendPlan stamp.now place items.items hand.old
+        (value_at (C.cells cells.old) k) }
     ensures cells { C.cells cells.new ≡ with_value (C.cells cells.old) k
         (with_plan stamp.now place items.items hand.old (value_at (C.cells cells.old) k)) }
     ensures ready { IsReadyFor [] (value_at (C.cells cells.new) k) }

@@ -65,7 +65,8 @@ pub trait Cells {
         ensures state { state_at (cells self.new) k ≡ state_at (cells self.old) k }
         ensures ok { OnOk result (IsReadyFor items.now (value_at (cells self.new) k)) }
         ensures enough { IsReadyFor items.now (value_at (cells self.old) k) → IsOk result }
-        ensures room { HasNoLess (value_at (cells self.old) k).room (value_at (cells self.new) k).room }
+        ensures room { HasNoLess (value_at (cells self.old) k).room
+            (value_at (cells self.new) k).room }
         ensures name { OnErr result ((value_at (cells self.new) k).room.name
             ≡ (value_at (cells self.old) k).room.name) }
         ensures err { FailsOnly OutOfMemory result }
@@ -81,9 +82,10 @@ pub trait Cells {
         ensures state { state_at (cells self.new) k ≡ record (state_at (cells self.old) k) {
           chain = with_page block (state_at (cells self.old) k).chain;
         } }
-        ensures room { (value_at (cells self.new) k).room ≡ record ((value_at (cells self.old) k).room) {
-          pages = (value_at (cells self.old) k).room.pages - 1;
-        } }
+        ensures room { (value_at (cells self.new) k).room
+            ≡ record ((value_at (cells self.old) k).room) {
+              pages = (value_at (cells self.old) k).room.pages - 1;
+            } }
         ensures pages { AddsPage (state_at (cells self.old) k).chain
             (state_at (cells self.new) k).chain }
         ensures ready { (items : List ItemValue) → IsReadyFor items (value_at (cells self.old) k)
@@ -101,7 +103,8 @@ pub trait Cells {
             ≡ item_blocks entry.item }
         ensures cells { OnlyAt k (cells self.old) (cells self.new) }
         ensures state { state_at (cells self.new) k
-            ≡ appended entry (blocks_for entry.item queue.old.blocks) (state_at (cells self.old) k) }
+            ≡ appended entry (blocks_for entry.item queue.old.blocks)
+            (state_at (cells self.old) k) }
         ensures room { (value_at (cells self.new) k).room
             ≡ after_append (part_count entry) (value_at (cells self.old) k).room }
         ensures pages { AppendsEntry entry (state_at (cells self.old) k).chain
@@ -129,11 +132,15 @@ pub trait Cells {
             ≡ map (killed_part (state_at (cells self.old) k).chain.entries)
             (killed_of (state_at (cells self.old) k)) }
         ensures few { vec_len result ≤ weights_in (state_at (cells self.old) k).block
-            (log_of (state_at (cells self.old) k)) (items_of (fresh_of (state_at (cells self.old) k))) }
-        ensures marked { AreKilled (map (λ killed. killed.part) result.items) (state_at (cells self.new) k) }
-        ensures room { KeepsAppendRoom (value_at (cells self.old) k).room (value_at (cells self.new) k).room }
+            (log_of (state_at (cells self.old) k))
+            (items_of (fresh_of (state_at (cells self.old) k))) }
+        ensures marked { AreKilled (map (λ killed. killed.part) result.items)
+            (state_at (cells self.new) k) }
+        ensures room { KeepsAppendRoom (value_at (cells self.old) k).room
+            (value_at (cells self.new) k).room }
         ensures runs { (value_at (cells self.old) k).room.runs
-            ≤ (value_at (cells self.new) k).room.runs + sum_by runs_of (items_of (fresh_of (state_at (cells self.old) k))) }
+            ≤ (value_at (cells self.new) k).room.runs
+            + sum_by runs_of (items_of (fresh_of (state_at (cells self.old) k))) }
         ensures name { BindNone (items_of (fresh_of (state_at (cells self.old) k)))
             → (value_at (cells self.new) k).room.name ≡ (value_at (cells self.old) k).room.name }
         ensures places { places self.new ≡ places self.old }

@@ -25,7 +25,8 @@ fn block_for<'a, C: Cells>(
 ) -> Option<&'a Block>
     requires { page < FILE_PAGES }
     ensures block { option_copied result ≡ block_for (C.cells nodes.now.cells.now) file.now page }
-    ensures sized { (size : ℕ) → AllByRecursion (λ c. c.1.state.block ≡ size) (C.cells nodes.now.cells.now)
+    ensures sized { (size : ℕ)
+        → AllByRecursion (λ c. c.1.state.block ≡ size) (C.cells nodes.now.cells.now)
         → ForSome (option_copied result) (λ b. length b.bytes ≡ size) }
 {
     let cell = nodes.cell_of(file.ino)?;
@@ -91,7 +92,8 @@ fn fill_pages<C: Cells, S: Source>(
     requires failures { S.failed source.old < 2 ^ 64 - 1 }
     ensures pages { OnOk result (queue.new ≡ record queue.old {
       blocks = filled
-          (map (λ page. page_with queue.old.size offset (text_part (S.byte_at source.old) 0 count) page
+          (map (λ page. page_with queue.old.size offset
+          (text_part (S.byte_at source.old) 0 count) page
           (page_in (C.cells nodes.now.cells.now) queue.old.size file.now page))
           (range_with_len (offset / queue.old.size) (length queue.old.blocks)))
           queue.old.blocks;
@@ -123,7 +125,8 @@ fn fill_cut<C: Cells>(queue: &mut BlockQueue, nodes: &HeldNodes<'_, C>, file: &H
     requires fits { 0 < length queue.old.blocks → size / queue.old.size < FILE_PAGES }
     ensures { queue.new ≡ record queue.old {
       blocks = filled (cut_page queue.old.size (size % queue.old.size)
-          (page_in (C.cells nodes.now.cells.now) queue.old.size file.now (size / queue.old.size)) ∷ [])
+          (page_in (C.cells nodes.now.cells.now) queue.old.size file.now
+          (size / queue.old.size)) ∷ [])
           queue.old.blocks;
     } }
 {
@@ -151,7 +154,8 @@ fn fill_blocks<C: Cells, S: Source>(
     }) }
     ensures fresh { (bytes : ℕ → List ℕ)
         → HaveBytes bytes queue.old.size (C.cells nodes.now.cells.now)
-        → ((ino : ℕ) → IsSound bytes queue.old.size (slots_by (C.cells nodes.now.cells.now) ino).log)
+        → ((ino : ℕ) → IsSound bytes queue.old.size
+        (slots_by (C.cells nodes.now.cells.now) ino).log)
         → OnOk result (queue.new.blocks
         ≡ filled (fresh_pages queue.old.size (nodes_in (C.cells nodes.now.cells.now))
         (sourced (S.byte_at source.old) update.now)) queue.old.blocks) }
@@ -196,7 +200,8 @@ pub fn fill<C: Cells, S: Source>(ready: &mut Ready, cells: &C, source: &mut S) -
         (sourced (S.byte_at source.old) ready.old.update)) ready.old.hand.data.blocks) }
     ensures fresh { (bytes : ℕ → List ℕ)
         → HaveBytes bytes ready.old.hand.data.size (C.cells cells.now)
-        → ((ino : ℕ) → IsSound bytes ready.old.hand.data.size (slots_by (C.cells cells.now) ino).log)
+        → ((ino : ℕ) → IsSound bytes ready.old.hand.data.size
+        (slots_by (C.cells cells.now) ino).log)
         → OnOk result (ready.new.hand.data.blocks
         ≡ filled (fresh_pages ready.old.hand.data.size (nodes_in (C.cells cells.now))
         (sourced (S.byte_at source.old) ready.old.update)) ready.old.hand.data.blocks) }

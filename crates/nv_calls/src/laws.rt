@@ -132,41 +132,43 @@ pub fn plans_use_the_blocks_wanted()
 
 /// The nodes that cells hold are those of their slots, whatever gives the bytes of their blocks.
 pub fn cells_hold_the_nodes_of_their_slots()
-    ensures nodes { (bytes : ℕ → List ℕ) (block : ℕ) (cells : List (ℕ × CellValue)) (handle : Handle)
-        → HaveBytes bytes block cells
+    ensures nodes { (bytes : ℕ → List ℕ) (block : ℕ) (cells : List (ℕ × CellValue))
+        (handle : Handle) → HaveBytes bytes block cells
         → plain_nodes cells handle ≡ node_under bytes block (slots_by cells) handle }
-    ensures pages { (bytes : ℕ → List ℕ) (block : ℕ) (cells : List (ℕ × CellValue)) (handle : Handle)
-        (page : ℕ) → HaveBytes bytes block cells → has_page_in cells handle page
+    ensures pages { (bytes : ℕ → List ℕ) (block : ℕ) (cells : List (ℕ × CellValue))
+        (handle : Handle) (page : ℕ) → HaveBytes bytes block cells → has_page_in cells handle page
         ≡ is_some (block_now block (slots_by cells handle.ino).log page) }
 {}
 
 /// A call that was made ready can be committed, where its cells, the book and a CPU's journal allow it.
 pub fn what_is_ready_can_be_committed()
-    ensures { (cells now : List (ℕ × CellValue)) (hand : Hand) (update : Update) (book : BookValue) (cpu : ℕ)
-        (ready : ReadyValue) → CanReady cells hand update → HaveNoLessRoom cells now
+    ensures { (cells now : List (ℕ × CellValue)) (hand : Hand) (update : Update)
+        (book : BookValue) (cpu : ℕ) (ready : ReadyValue)
+        → CanReady cells hand update → HaveNoLessRoom cells now
         → IsReadyBy cells hand update now ready → AllowsCommit now book cpu ready
         → CanCommit now book cpu ready }
 {}
 
 /// It can be filled, as long as its cells stay the same but for room.
 pub fn what_is_ready_can_be_filled()
-    ensures { (cells now : List (ℕ × CellValue)) (hand : Hand) (update : Update) (ready : ReadyValue)
-        → CanReady cells hand update → HaveNoLessRoom cells now
+    ensures { (cells now : List (ℕ × CellValue)) (hand : Hand) (update : Update)
+        (ready : ReadyValue) → CanReady cells hand update → HaveNoLessRoom cells now
         → IsReadyBy cells hand update now ready → CanFill now ready.update ready.hand.data }
 {}
 
 /// And it stays ready, whatever bytes its blocks are filled with.
 pub fn what_is_filled_stays_ready()
-    ensures { (cells now : List (ℕ × CellValue)) (hand : Hand) (update : Update) (ready : ReadyValue)
-        (blocks : QueueValue) → IsReadyBy cells hand update now ready
+    ensures { (cells now : List (ℕ × CellValue)) (hand : Hand) (update : Update)
+        (ready : ReadyValue) (blocks : QueueValue) → IsReadyBy cells hand update now ready
         → HasOtherBytes ready.hand.data blocks
         → IsReadyBy cells hand update now (with_blocks blocks ready) }
 {}
 
 /// Where its blocks have the pages that a fill puts there, its plan fits its effect, in all slots that its cells are of.
 pub fn filled_plans_fit()
-    ensures { (bytes : ℕ → List ℕ) (cells now : List (ℕ × CellValue)) (hand : Hand) (update : Update)
-        (ready : ReadyValue) (byte_at : ℕ → ℕ) (blocks : List BlockValue) (slots : ℕ → Slot)
+    ensures { (bytes : ℕ → List ℕ) (cells now : List (ℕ × CellValue)) (hand : Hand)
+        (update : Update) (ready : ReadyValue) (byte_at : ℕ → ℕ) (blocks : List BlockValue)
+        (slots : ℕ → Slot)
         → CanReady cells hand update → HaveNoLessRoom cells now
         → IsReadyBy cells hand update now ready
         → HaveBytes bytes (block_in cells) now
@@ -178,8 +180,8 @@ pub fn filled_plans_fit()
 
 /// The log pages that its commit counts are those that its plan needs.
 pub fn pages_counted_are_those_wanted()
-    ensures { (cells now : List (ℕ × CellValue)) (hand : Hand) (update : Update) (ready : ReadyValue)
-        → HaveNoLessRoom cells now → IsReadyBy cells hand update now ready
+    ensures { (cells now : List (ℕ × CellValue)) (hand : Hand) (update : Update)
+        (ready : ReadyValue) → HaveNoLessRoom cells now → IsReadyBy cells hand update now ready
         → sum_by (page_count now) ready.plans
         ≡ pages_wanted cells (planned_by cells hand update) }
 {}
@@ -196,22 +198,24 @@ pub fn commits_publish_their_plans()
 pub fn cells_publish_what_is_planned()
     ensures { (cells : List (ℕ × CellValue)) (hand : Hand) (update : Update)
         → CanReady cells hand update
-        → PublishAlike (planned_in cells (plans_by cells hand update)) (planned_by cells hand update) }
+        → PublishAlike (planned_in cells (plans_by cells hand update))
+        (planned_by cells hand update) }
 {}
 
 /// A call looks up, is checked and planned with any text as with a text of as many zeros.
 pub fn a_write_is_planned_by_its_length()
-    ensures { (block : ℕ) (nodes : Handle → Option NodeCopy) (has_page : Handle → ℕ → Bool) (taken : Taken)
-        (update : Update) (text : List ℕ) → length text ≡ text_len update
+    ensures { (block : ℕ) (nodes : Handle → Option NodeCopy) (has_page : Handle → ℕ → Bool)
+        (taken : Taken) (update : Update) (text : List ℕ) → length text ≡ text_len update
         → SamePlan block nodes has_page taken (blank_call update) (call_of update text) }
 {}
 
-/// A commit over cells has the effect that a plan fits which publishes alike: the nodes of the slots are afterwards those of the effect, also
-/// where an inode was erased.
+/// A commit over cells has the effect that a plan fits which publishes alike: the nodes of the slots are afterwards
+/// those of the effect, also where an inode was erased.
 pub fn commits_have_their_effect()
     ensures { (bytes : ℕ → List ℕ) (block : ℕ) (living : List ℕ) (cells : List (ℕ × CellValue))
         (book : BookValue) (cpu : ℕ) (ready : ReadyValue) (slots : ℕ → Slot)
-        (now : List (ℕ × CellValue)) (later : ℕ → Slot) (plan : List Planned) (effect : List Change) → 0 < block
+        (now : List (ℕ × CellValue)) (later : ℕ → Slot) (plan : List Planned)
+        (effect : List Change) → 0 < block
         → ((ino : ℕ) → IsSound bytes block (slots ino).log)
         → IsCommitted living cells book cpu ready slots now later
         → PublishAlike (planned_in cells ready.plans) plan → IsPlan bytes block slots plan effect
@@ -223,7 +227,8 @@ pub fn commits_have_their_effect()
 pub fn commits_leave_cells_settled()
     ensures { (cells now : List (ℕ × CellValue)) (book : BookValue) (cpu : ℕ) (ready : ReadyValue)
         (living : List ℕ) (block : ℕ) → CanCommit cells book cpu ready
-        → ChangesPlanned ready.plans (committed living cells (begun (stamp_of book.state) ready)) cells now
+        → ChangesPlanned ready.plans
+        (committed living cells (begun (stamp_of book.state) ready)) cells now
         → AllByRecursion (λ c. IsStill block c.1.state) cells
         → AreCells now × AllByRecursion (λ c. IsStill block c.1.state) now }
 {}
@@ -239,7 +244,8 @@ pub fn commits_keep_cells_up_to_the_book()
     ensures { (cells now : List (ℕ × CellValue)) (book : BookValue) (cpu : ℕ) (ready : ReadyValue)
         (living : List ℕ) (stamp : Stamp) (before : ℕ → ℕ) → CanCommit cells book cpu ready
         → AllowsCommit cells book cpu ready
-        → ChangesPlanned ready.plans (committed living cells (begun (stamp_of book.state) ready)) cells now
+        → ChangesPlanned ready.plans
+        (committed living cells (begun (stamp_of book.state) ready)) cells now
         → stamp.commit < book.state.commit → stamp.epoch ≤ book.state.snaps.epoch
         → AreUpTo stamp before cells → AreUpTo (stamp_of book.state) before now }
 {}
@@ -256,7 +262,8 @@ pub fn cells_up_to_the_book_take_its_next_commit()
 pub fn commits_leave_sound_logs()
     ensures { (bytes : ℕ → List ℕ) (block : ℕ) (living : List ℕ) (cells : List (ℕ × CellValue))
         (book : BookValue) (cpu : ℕ) (ready : ReadyValue) (slots : ℕ → Slot)
-        (now : List (ℕ × CellValue)) (later : ℕ → Slot) (plan : List Planned) (effect : List Change) → 0 < block
+        (now : List (ℕ × CellValue)) (later : ℕ → Slot) (plan : List Planned)
+        (effect : List Change) → 0 < block
         → ((ino : ℕ) → IsSound bytes block (slots ino).log)
         → IsCommitted living cells book cpu ready slots now later
         → PublishAlike (planned_in cells ready.plans) plan → IsPlan bytes block slots plan effect
@@ -267,7 +274,8 @@ pub fn commits_leave_sound_logs()
 pub fn commits_keep_the_bytes_of_cells()
     ensures { (bytes : ℕ → List ℕ) (block : ℕ) (cells now : List (ℕ × CellValue)) (book : BookValue)
         (cpu : ℕ) (ready : ReadyValue) (living : List ℕ) → CanCommit cells book cpu ready
-        → ChangesPlanned ready.plans (committed living cells (begun (stamp_of book.state) ready)) cells now
+        → ChangesPlanned ready.plans
+        (committed living cells (begun (stamp_of book.state) ready)) cells now
         → HaveBytes bytes block cells → AreRead bytes ready.hand.data.blocks
         → AllByRecursion (λ c. IsCell c.1.state) now → HaveBytes bytes block now }
 {}

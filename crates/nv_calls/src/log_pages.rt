@@ -22,7 +22,8 @@ use nv_base::{Handle, Ino};
 fn item_count<N: Nodes>(nodes: &N, made: Ino, runs: usize, update: &Update, ino: Ino) -> usize
     requires { runs < 2 ^ 63 }
     ensures count { (block : ℕ) (taken : Taken) → taken.made.ino ≡ made → length taken.runs ≡ runs
-        → result ≡ length (items_for (plan block (N.nodes_of nodes.now) taken (blank_call update.now)) ino) }
+        → result ≡ length
+        (items_for (plan block (N.nodes_of nodes.now) taken (blank_call update.now)) ino) }
     ensures few { result ≤ runs + 2 }
 {
     match update {
@@ -54,7 +55,8 @@ fn item_count<N: Nodes>(nodes: &N, made: Ino, runs: usize, update: &Update, ino:
 /// How many of them for a rename, which commits nothing onto its own place.
 fn rename_count(own: bool, from: &Handle, to: &Handle, looked: &Looked, ino: Ino) -> usize
     ensures count { result ≡ (if own then 0
-        else length (items_for (bound_plan from.now [] to.now [] looked.now.first looked.now.second) ino)) }
+        else length
+        (items_for (bound_plan from.now [] to.now [] looked.now.first looked.now.second) ino)) }
     ensures few { result ≤ 2 }
 {
     if own || looked.first.is_none() {

@@ -91,7 +91,8 @@ pub fn plan_items<N: Nodes>(
     requires passed { refusal block (N.nodes_of nodes.now) (blank_call call.now) ≡ passes }
     requires wanted { length (blocks_of taken.now.runs)
         ≡ blocks_wanted block (N.nodes_of nodes.now) taken.now.present (blank_call call.now) }
-    ensures ok { IfOk result (λ list. list ≡ plan block (N.nodes_of nodes.now) taken.now (blank_call call.now)) }
+    ensures ok { IfOk result
+        (λ list. list ≡ plan block (N.nodes_of nodes.now) taken.now (blank_call call.now)) }
     ensures err { FailsOnly OutOfMemory result }
 {
     let made = taken.made;

@@ -218,7 +218,8 @@ pub fn ready_on<C: Cells>(
     ensures ok { IfOk result (λ ready. IsReadyBy (C.cells cells.old) hand plan.update
         (C.cells cells.new) ready) }
     ensures hand { IfOk result (λ ready. HasNoLessRoom hand ready.hand) }
-    ensures err { IfErr result (λ refused. (refused.0 ≡ OutOfMemory) × HasNoLessRoom hand refused.1) }
+    ensures err { IfErr result
+        (λ refused. (refused.0 ≡ OutOfMemory) × HasNoLessRoom hand refused.1) }
     ensures cells { HaveNoLessRoom (C.cells cells.old) (C.cells cells.new) }
     ensures places { C.places cells.new ≡ C.places cells.old }
     ensures beside { C.beside cells.new ≡ C.beside cells.old }

@@ -104,7 +104,8 @@ pub fn publish_on<C: Cells>(_book: &Book, cells: &mut C, commit: &mut Commit)
         AreKilled (map part_in (killed_by (state_at (C.cells cells.old) k)))
         (state_at (C.cells cells.new) k) }
     ensures room { let k = (to_publish commit.old).at in
-        KeepsAppendRoom (value_at (C.cells cells.old) k).room (value_at (C.cells cells.new) k).room }
+        KeepsAppendRoom (value_at (C.cells cells.old) k).room
+        (value_at (C.cells cells.new) k).room }
     ensures runs { let k = (to_publish commit.old).at in
         let fresh = items_of (fresh_of (state_at (C.cells cells.old) k)) in
         (value_at (C.cells cells.old) k).room.runs

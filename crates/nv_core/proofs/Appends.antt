@@ -133,7 +133,8 @@ append_told slots old new cell told commit is =
         ≡ items_for told.plan (slot_at slots (plan_at (slice_set old.plans old.appended (record (to_append old) { items = [] })) j).at)
     later j from lt =
         subst (λ (p : CellPlanValue). p.items ≡ items_for told.plan (slot_at slots p.at))
-        (sym (get_or-set_other old.plans old.appended j (record (to_append old) { items = [] }) no_plan (λ same. absurd (omega (arith, from, same)))))
+        (sym (get_or-set_other old.plans old.appended j (record (to_append old) { items = [] }) no_plan
+        (λ same. absurd (omega (arith, from, same)))))
         (is.plans.items j (omega (arith, from)) lt)
 
 pub append_way : (old new : CommitValue) (cell : CellState) → IsOnItsWay old → old.appended < length old.plans
@@ -162,7 +163,8 @@ pub appends : (shared : Shared) (running : Running) (old new : CommitValue) (cel
     → new ≡ after_append (cell_in shared.cells.items i).state.chain old
     → let r = shown_commit old told running in let ino = slot_at (written_slots r) old.appended in
     append_turn ino (pages_needed (shared_of shared) told.plan ino) old.appended (shared_of shared) (hand_in old) r
-    ≡ machine.Moves (record (shared_of shared) { cells = map (λ (c : CellValue). c.state) cells }) (hand_in new) (shown_commit new told running)
+    ≡ machine.Moves (record (shared_of shared) { cells = map (λ (c : CellValue). c.state) cells }) (hand_in new)
+    (shown_commit new told running)
 appends shared running old new cells told i is placed way lt place there only value commit =
     let s = shared_of shared in
     let h = hand_in old in
@@ -193,7 +195,8 @@ appends shared running old new cells told i is placed way lt place there only va
     let whole : with_entries es h.blocks (with_pages (take n h.pages) cell) ≡ (cell_in cells i).state =
     ap (with_entries es h.blocks) (pages_same (take n h.pages) cell)
     ∙ sym (ap (λ (c : CellValue). c.state) value
-    ∙ entries_same es old.hand.data.blocks (code.with_pages (pages_from old.hand cell.chain (length its)) (cell_in shared.cells.items i))) in
+    ∙ entries_same es old.hand.data.blocks (code.with_pages (pages_from old.hand cell.chain (length its))
+    (cell_in shared.cells.items i))) in
     let rest : slice_set s.cells i (cell_in cells i).state ≡ map (λ (c : CellValue). c.state) cells =
     sym (ap (λ (xs : List CellValue). map (λ (c : CellValue). c.state) xs) only ∙ states_set shared.cells.items i (cell_in cells i)) in
     let many : length (slice_set old.plans a (record (to_append old) { items = [] })) ≡ length old.plans =
@@ -220,8 +223,10 @@ appends shared running old new cells told i is placed way lt place there only va
     (record h { blocks = xs; pages = drop n h.pages }) (go_to (appending (a + 1) w) r)) left
     ∙ ap (λ (parts : List (List KilledPart)). machine.Moves (record s { cells = map (λ (c : CellValue). c.state) cells })
     (hand_with parts after.hand) (go_to (appending (a + 1) w) r)) killed
-    ∙ ap (λ (x : machine.Next). machine.Moves (record s { cells = map (λ (c : CellValue). c.state) cells }) (hand_in after) (go_to x r)) next
-    ∙ sym (ap (λ (c : CommitValue). machine.Moves (record s { cells = map (λ (x : CellValue). x.state) cells }) (hand_in c) (shown_commit c told running)) commit)
+    ∙ ap (λ (x : machine.Next). machine.Moves (record s { cells = map (λ (c : CellValue). c.state) cells }) (hand_in after)
+    (go_to x r)) next
+    ∙ sym (ap (λ (c : CommitValue). machine.Moves (record s { cells = map (λ (x : CellValue). x.state) cells }) (hand_in c)
+    (shown_commit c told running)) commit)
 
 -- ---- places
 
@@ -261,7 +266,8 @@ pub place_first : (slots : List ℕ) (plan : List Planned) → AllPairs (λ (a b
     → 0 < length (filter (is_written plan) slots) → place_in plan (slot_at (filter (is_written plan) slots) 0) ≡ 0
 place_first slots plan rises is some =
     ap (place_in plan) (let e : slot_at w 0 ≡ 0 + slot_at w 0 = omega arith in e)
-    ∙ stays plan is.placed 0 (slot_at w 0) (λ x low high. between slots plan rises is x (λ j lt same. below j lt x same (omega (arith, high))))
+    ∙ stays plan is.placed 0 (slot_at w 0) (λ x low high. between slots plan rises is x
+    (λ j lt same. below j lt x same (omega (arith, high))))
     ∙ is.placed.first
   where
     w : List ℕ
@@ -272,7 +278,8 @@ place_first slots plan rises is some =
 
     below : (j : ℕ) → j < length w → (x : ℕ) → slot_at w j ≡ x → x < slot_at w 0 → ⊥
     below zero lt x same less = omega (arith, same, less)
-    below (suc j) lt x same less = let more : slot_at w 0 < slot_at w (suc j) = up 0 (suc j) 0 (omega arith) lt in omega (arith, more, same, less)
+    below (suc j) lt x same less = let more : slot_at w 0 < slot_at w (suc j) = up 0 (suc j) 0 (omega arith) lt in omega
+        (arith, more, same, less)
 
 -- and each further one the place behind the entries of the one before
 pub place_next : (slots : List ℕ) (plan : List Planned) → AllPairs (λ (a b : ℕ). a < b) slots → IsPlanOf slots plan

@@ -41,8 +41,10 @@ turns_commit next actor shared running r commit shared_after after here shows by
     record {
       granted = true;
       after = shown_commit after told running;
-      is = ap (λ (x : machine.Running). turn shared.geometry.numbers.block actor true (shared_of shared) (hand_in commit) x) (sym shows.shown)
-          ∙ ap (λ (n : CommitStep). kind_turn (machine_step n commit) shared.geometry.numbers.block actor true (shared_of shared) (hand_in commit)
+      is = ap (λ (x : machine.Running). turn shared.geometry.numbers.block actor true (shared_of shared) (hand_in commit) x)
+          (sym shows.shown)
+          ∙ ap (λ (n : CommitStep). kind_turn (machine_step n commit) shared.geometry.numbers.block actor true (shared_of shared)
+          (hand_in commit)
           (shown_commit commit told running)) here
           ∙ one.0;
       shows = record { shown = refl; job = shows.job; plan = one.1; place = (shows.place.0, one.2) };

@@ -50,7 +50,8 @@ all_given g cpu list bs home sized once given =
     subst (λ (l : List BlockValue). AreGiven g (cpu + 1) l) (sym goes.kept) (kept_given g cpu list bs home.start home.end given)
 
 -- what is kept is of those that were offered
-pub kept_all : (P : BlockValue → Type 0) (list : FreeBlocks) (bs : List BlockValue) → AllByRecursion P bs → AllByRecursion P (kept_of list bs)
+pub kept_all : (P : BlockValue → Type 0) (list : FreeBlocks) (bs : List BlockValue) → AllByRecursion P bs
+    → AllByRecursion P (kept_of list bs)
 kept_all P list [] all = tt
 kept_all P list (b ∷ bs) all = go (takes list b) (kept_all P (after_offer list b) bs all.1) where
   go : (t : Bool) → AllByRecursion P (kept_of (after_offer list b) bs)
@@ -120,28 +121,31 @@ none_below k = go (nat_lt k 0) refl where
 later_from : (g : GeometryNumbers) (from k : ℕ) (lists : List FreeBlocks) (bs : List BlockValue) → 0 < g.cpus → AreHomes g k lists
     → AllByRecursion (λ m. home_start g.blocks g.cpus from ≤ m) (numbers_of bs) → home_from from k lists bs ≡ home_from 0 k lists bs
 later_from g from k [] bs some homes all = refl
-later_from g from k (list ∷ lists) bs some homes all = rw (none_below k) (go (nat_lt k from) refl (later_from g from (k + 1) lists bs some homes.1 all)) where
-  any : Bool
-  any = list_any (λ (b : BlockValue). is_home list b.number) bs
+later_from g from k (list ∷ lists) bs some homes all = rw (none_below k)
+    (go (nat_lt k from) refl (later_from g from (k + 1) lists bs some homes.1 all)) where
+      any : Bool
+      any = list_any (λ (b : BlockValue). is_home list b.number) bs
 
-  pick : home_from from (k + 1) lists bs ≡ home_from 0 (k + 1) lists bs → (c : Bool) → (if c then Some k else home_from from (k + 1) lists bs) ≡ (if c then Some k else home_from 0 (k + 1) lists bs)
-  pick rest true = refl
-  pick rest false = rest
+      pick : home_from from (k + 1) lists bs ≡ home_from 0 (k + 1) lists bs → (c : Bool)
+          → (if c then Some k else home_from from (k + 1) lists bs) ≡ (if c then Some k else home_from 0 (k + 1) lists bs)
+      pick rest true = refl
+      pick rest false = rest
 
-  skip : home_from from (k + 1) lists bs ≡ home_from 0 (k + 1) lists bs → (c : Bool) → c ≡ false → home_from from (k + 1) lists bs ≡ (if c then Some k else home_from 0 (k + 1) lists bs)
-  skip rest true q = absurd (false≢true (sym q))
-  skip rest false q = rest
+      skip : home_from from (k + 1) lists bs ≡ home_from 0 (k + 1) lists bs → (c : Bool) → c ≡ false
+          → home_from from (k + 1) lists bs ≡ (if c then Some k else home_from 0 (k + 1) lists bs)
+      skip rest true q = absurd (false≢true (sym q))
+      skip rest false q = rest
 
-  go : (x : Bool) → nat_lt k from ≡ x → home_from from (k + 1) lists bs ≡ home_from 0 (k + 1) lists bs
-      → (if x then home_from from (k + 1) lists bs else if any then Some k else home_from from (k + 1) lists bs)
-      ≡ (if any then Some k else home_from 0 (k + 1) lists bs)
-  go true q rest =
-      let lt = ltb-true k from q in
-      let more = starts_rise g.blocks g.cpus (k + 1) (from - (k + 1)) some in
-      let same : k + 1 + (from - (k + 1)) ≡ from = omega (arith, lt) in
-      let mono = subst (λ (m : ℕ). home_start g.blocks g.cpus (k + 1) ≤ home_start g.blocks g.cpus m) same more in
-      skip rest any (none_home list bs (home_start g.blocks g.cpus from) (omega (arith, mono, homes.0.1)) all)
-  go false q rest = pick rest any
+      go : (x : Bool) → nat_lt k from ≡ x → home_from from (k + 1) lists bs ≡ home_from 0 (k + 1) lists bs
+          → (if x then home_from from (k + 1) lists bs else if any then Some k else home_from from (k + 1) lists bs)
+          ≡ (if any then Some k else home_from 0 (k + 1) lists bs)
+      go true q rest =
+          let lt = ltb-true k from q in
+          let more = starts_rise g.blocks g.cpus (k + 1) (from - (k + 1)) some in
+          let same : k + 1 + (from - (k + 1)) ≡ from = omega (arith, lt) in
+          let mono = subst (λ (m : ℕ). home_start g.blocks g.cpus (k + 1) ≤ home_start g.blocks g.cpus m) same more in
+          skip rest any (none_home list bs (home_start g.blocks g.cpus from) (omega (arith, mono, homes.0.1)) all)
+      go false q rest = pick rest any
 
 -- homes are told by the ranges alone
 same_from : (g : GeometryNumbers) (from k : ℕ) (old new : List FreeBlocks) (bs : List BlockValue) → AreHomes g k old → AreHomes g k new
@@ -163,7 +167,8 @@ home_later g from old new bs some olds news given =
 -- ---- the step
 
 -- an item that is there, whatever else would be
-pub same_there : (lists : List FreeBlocks) (i : ℕ) (a b : FreeBlocks) → i < length lists → slice_index_or lists i a ≡ slice_index_or lists i b
+pub same_there : (lists : List FreeBlocks) (i : ℕ) (a b : FreeBlocks) → i < length lists
+    → slice_index_or lists i a ≡ slice_index_or lists i b
 same_there [] i a b lt = absurd (omega (arith, lt))
 same_there (l ∷ lists) zero a b lt = refl
 same_there (l ∷ lists) (suc i) a b lt = same_there lists i a b (omega (arith, lt))
@@ -176,7 +181,8 @@ pub handed : (cpu : ℕ) (s : Shared) (old new : Hand) → new.data ≡ after_ho
 handed cpu s old new front pages chain ino = rw (front, pages, chain, ino) refl
 
 -- the machine's turn, over the hand and the list after it
-pub gives : (g : GeometryNumbers) (cpu : ℕ) (s : Shared) (old : HandState) (new : HandState) (list : FreeBlocks) (r : Running) → cpu < g.cpus
+pub gives : (g : GeometryNumbers) (cpu : ℕ) (s : Shared) (old : HandState) (new : HandState) (list : FreeBlocks) (r : Running)
+    → cpu < g.cpus
     → AreListsOf g s.lists → AreSized g.block (blocks_in old)
     → ((n : ℕ) → times n (numbers_of (blocks_in old)) + times n (numbers_of (list_at s cpu).blocks) ≤ 1) → AreGiven g cpu (blocks_in old)
     → new ≡ given cpu s old → list ≡ after_giving (list_at s cpu) (blocks_in old)
@@ -192,4 +198,5 @@ gives g cpu s old new list r lt are sized once low hand took =
     ap (λ (x : Option ℕ). rest_turn x old.ino (with_given cpu old s) (given cpu s old) r) home
     ∙ ap (λ (x : HandState). rest_turn (home_from 0 0 (slice_set s.lists cpu (after_giving l (blocks_in old))) (blocks_in x)) x.ino
     (with_given cpu old s) x r) (sym hand)
-    ∙ ap (λ (x : FreeBlocks). rest_turn (home_from 0 0 (slice_set s.lists cpu x) (blocks_in new)) new.ino (with_list cpu x s) new r) (sym took)
+    ∙ ap (λ (x : FreeBlocks). rest_turn (home_from 0 0 (slice_set s.lists cpu x) (blocks_in new)) new.ino (with_list cpu x s) new r)
+    (sym took)

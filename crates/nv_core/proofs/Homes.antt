@@ -122,7 +122,8 @@ from_home g from c cpu (list ∷ lists) bs n some homes first low below there ho
       go more false q =
           let ge = ltb-false cpu c q in
           let same : cpu ≡ c = omega (arith, ge, low) in
-          let start : list.start ≤ n = subst (λ (m : ℕ). list.start ≤ n) same (omega (arith, homes.0.0, ap (home_start g.blocks g.cpus) same, home.from)) in
+          let start : list.start ≤ n = subst (λ (m : ℕ). list.start ≤ n) same
+          (omega (arith, homes.0.0, ap (home_start g.blocks g.cpus) same, home.from)) in
           let end : n < list.end = omega (arith, homes.0.1, ap (λ (m : ℕ). home_start g.blocks g.cpus (m + 1)) same, home.below) in
           here (nat_lt cpu from) (list_any (λ (b : BlockValue). is_home list b.number) bs) (not_below (nat_lt cpu from) refl ge)
           (some_home list bs n start end there) same where
@@ -134,7 +135,8 @@ pub home_some : (g : GeometryNumbers) (from c : ℕ) (lists : List FreeBlocks) (
     → c < g.cpus → has (numbers_of bs) n ≡ true → IsHome g.blocks g.cpus c n
     → AllByRecursion (λ m. home_start g.blocks g.cpus c ≤ m) (numbers_of bs) → home_from from 0 lists bs ≡ Some c
 home_some g from c lists bs n are first below there home all =
-    from_home g from c 0 lists bs n (omega (arith, below)) (are_homes g lists are) first (omega arith) (omega (arith, below, are.count)) there home all
+    from_home g from c 0 lists bs n (omega (arith, below)) (are_homes g lists are) first (omega arith)
+    (omega (arith, below, are.count)) there home all
 
 -- where there is no block there is no home
 pub no_home : (from cpu : ℕ) (lists : List FreeBlocks) → home_from from cpu lists [] ≡ None

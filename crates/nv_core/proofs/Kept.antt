@@ -36,7 +36,8 @@ kept_more book birth k marks blocks in_marks in_blocks =
     rw on (go k marks blocks in_marks in_blocks) where
       go : (k : ℕ) (marks : List Mark) (blocks : List (Option BlockValue)) → k < length marks → k < length blocks
           → kept_among book (replicate (suc k) birth) marks blocks
-          ≡ kept_among book (replicate k birth) marks blocks + one_of book birth (slice_index_or marks k Current) (slice_index_or blocks k None)
+          ≡ kept_among book (replicate k birth) marks blocks + one_of book birth (slice_index_or marks k Current)
+          (slice_index_or blocks k None)
       go k [] blocks in_marks in_blocks = absurd (omega (arith, in_marks))
       go k (m ∷ marks) [] in_marks in_blocks = absurd (omega (arith, in_blocks))
       go zero (m ∷ marks) (b ∷ blocks) in_marks in_blocks = omega arith

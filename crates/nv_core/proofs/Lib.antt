@@ -52,6 +52,7 @@ pub mod Stages
 pub mod StartShown
 pub mod Starts
 pub mod Stays
+pub mod Stepped
 pub mod Takes
 pub mod TakenBlocks
 pub mod Takings

@@ -29,10 +29,12 @@ use Rattle.nv_core.specs.declared.shared.Shared.{Shared}
 
 -- ---- the cells of slots
 
-pub lent_of : (slots : List ℕ) (all : List CellValue) (ino : ℕ) → has slots ino ≡ true → cell_of (lent_cells slots all) ino ≡ Some (cell_in all ino)
+pub lent_of : (slots : List ℕ) (all : List CellValue) (ino : ℕ) → has slots ino ≡ true
+    → cell_of (lent_cells slots all) ino ≡ Some (cell_in all ino)
 lent_of [] all ino h = cc
 lent_of (n ∷ slots) all ino h = go (n == ino) refl h (lent_of slots all ino) where
-  go : (b : Bool) → (n == ino) ≡ b → has (n ∷ slots) ino ≡ true → (has slots ino ≡ true → cell_of (lent_cells slots all) ino ≡ Some (cell_in all ino))
+  go : (b : Bool) → (n == ino) ≡ b → has (n ∷ slots) ino ≡ true
+      → (has slots ino ≡ true → cell_of (lent_cells slots all) ino ≡ Some (cell_in all ino))
       → cond (n == ino) (Some (cell_in all n)) (cell_of (lent_cells slots all) ino) ≡ Some (cell_in all ino)
   go true q h rest = rw q (ap (λ (k : ℕ). Some (cell_in all k)) (eqb-true n ino q))
   go false q h rest = rw q (rest (rw q at h))
@@ -84,18 +86,22 @@ lent_has slots all ino lent = go (has slots ino) refl where
 -- a cell's own node is the machine's
 own_is_node : (block : ℕ) (c : CellValue) (handle : Handle) → HasOwn block c.state
     → own_node c.state handle ≡ cond (handle.generation == c.state.generation) (node_of c.state) None
-own_is_node block c handle own = alone_is (eq-eqb handle.ino handle.ino refl) (nodes_are bytes block (alone handle.ino c) handle (own, tt)) where
-  bytes : ℕ → List ℕ
-  bytes = bytes_among c.state.blocks
+own_is_node block c handle own = alone_is (eq-eqb handle.ino handle.ino refl)
+    (nodes_are bytes block (alone handle.ino c) handle (own, tt)) where
+      bytes : ℕ → List ℕ
+      bytes = bytes_among c.state.blocks
 
-  alone_is : (handle.ino == handle.ino) ≡ true → plain_nodes (alone handle.ino c) handle ≡ node_under bytes block (slots_by (alone handle.ino c)) handle
-      → own_node c.state handle ≡ cond (handle.generation == c.state.generation) (node_of c.state) None
-  alone_is self one =
-      (rw self at one)
-      ∙ ap (λ (n : ℕ). cond (handle.generation == c.state.generation) (stamped (last_commit (log_of c.state)) (node_now bytes n (log_of c.state))) None)
-      (sym own.size)
+      alone_is : (handle.ino == handle.ino) ≡ true → plain_nodes (alone handle.ino c) handle ≡ node_under bytes block
+          (slots_by (alone handle.ino c)) handle
+          → own_node c.state handle ≡ cond (handle.generation == c.state.generation) (node_of c.state) None
+      alone_is self one =
+          (rw self at one)
+          ∙ ap (λ (n : ℕ). cond (handle.generation == c.state.generation)
+          (stamped (last_commit (log_of c.state)) (node_now bytes n (log_of c.state))) None)
+          (sym own.size)
 
-pub cell_is : (shared : Shared) (ino : ℕ) → ino < length shared.cells.items → cell_at (shared_of shared) ino ≡ (cell_in shared.cells.items ino).state
+pub cell_is : (shared : Shared) (ino : ℕ) → ino < length shared.cells.items
+    → cell_at (shared_of shared) ino ≡ (cell_in shared.cells.items ino).state
 cell_is shared ino lt = get_or-map (λ (c : CellValue). c.state) shared.cells.items ino (no_cell.1) machine.no_cell lt
 
 pub node_same : (shared : Shared) (slots : List ℕ) (handle : Handle) → CanRead shared slots (handle ∷ [])
@@ -116,11 +122,13 @@ node_same shared slots handle can = go (nat_lt handle.ino (length all)) refl whe
   empty true = refl
   empty false = refl
 
-  blank : (b : Bool) → option_map (with_bytes (own_bytes (no_cell.1).state)) (cond b (stamped (last_commit []) (node_now (λ number. []) 1 [])) None) ≡ None
+  blank : (b : Bool) → option_map (with_bytes (own_bytes (no_cell.1).state))
+      (cond b (stamped (last_commit []) (node_now (λ number. []) 1 [])) None) ≡ None
   blank true = refl
   blank false = refl
 
-  past : cell_in all handle.ino ≡ no_cell.1 → cell_at (shared_of shared) handle.ino ≡ machine.no_cell → (b : Bool) → has slots handle.ino ≡ b
+  past : cell_in all handle.ino ≡ no_cell.1 → cell_at (shared_of shared) handle.ino ≡ machine.no_cell → (b : Bool)
+      → has slots handle.ino ≡ b
       → plain_nodes (lent_cells slots all) handle ≡ nodes (shared_of shared) handle
   past none gone true h =
       ap (option_and_then (λ (c : CellValue). own_node c.state handle)) (lent_of slots all handle.ino h ∙ ap Some none)

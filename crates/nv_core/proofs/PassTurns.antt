@@ -72,8 +72,10 @@ call_entered (hold.Commit commit) book told after is = is
 pub turns_ready : (actor : ℕ) (shared : Shared) (hand : Hand) (running : Running) (r : machine.Running) (done : Hold × Turn)
     (shared_after : Shared) (after : Running) → running.next ≡ next.Ready → ShowsCall (hold.Hand hand) running r
     → after.slots ≡ running.slots → ((told : Told) → IsToldOf running told → IsToldOf after told)
-    → ((told : Told) → IsToldOf running told → let t = planned done.0 shared.geometry.numbers.block (shared_of shared) (hand_of hand) (shown told running) told in
-    IsEither (λ granted. kind_turn machine.Ready shared.geometry.numbers.block actor granted (shared_of shared) (hand_of hand) (shown told running))
+    → ((told : Told) → IsToldOf running told → let t = planned done.0 shared.geometry.numbers.block (shared_of shared) (hand_of hand)
+    (shown told running) told in
+    IsEither (λ granted. kind_turn machine.Ready shared.geometry.numbers.block actor granted (shared_of shared) (hand_of hand)
+    (shown told running))
     (turn_of done.1 (shared_of shared_after) (held_by done.0) (shown_by done.0 t after))
     × IsHoldOf (slots_in running.slots) done.0 t × IsPlacedBy (slots_in running.slots) done.0 t)
     → IsTurn actor shared (hold.Hand hand) r done.1 shared_after done.0 after
@@ -101,7 +103,8 @@ turns_ready actor shared hand running r done shared_after after here shows same 
 pub turns_enter : (actor : ℕ) (shared : Shared) (ready : ReadyValue) (running : Running) (r : machine.Running) (done : Hold × Turn)
     (shared_after : Shared) (after : Running) → ShowsCall (hold.Ready ready) running r → after.slots ≡ running.slots
     → ((told : Told) → IsToldOf running told → IsToldOf after told)
-    → ((told : Told) → IsHoldOf (slots_in running.slots) (hold.Ready ready) told → IsPlacedBy (slots_in running.slots) (hold.Ready ready) told
+    → ((told : Told) → IsHoldOf (slots_in running.slots) (hold.Ready ready) told
+    → IsPlacedBy (slots_in running.slots) (hold.Ready ready) told
     → let t = told_by done.0 shared.book.state told in
     IsEither (λ granted. kind_turn machine.Enter shared.geometry.numbers.block actor granted (shared_of shared) (hand_of ready.hand)
     (shown_by (hold.Ready ready) told running))
@@ -153,7 +156,8 @@ held_ready : (r : machine.Running) (slots : List ℕ) → r.next ≡ machine.Rea
 held_ready r slots e f = ap (λ (n : machine.Next). held_at n r.slots) e ∙ f
 
 pub rest_ready : (actor : ℕ) (old new : Shared) (running : Running) (r : machine.Running) (hand : Hand) → running.next ≡ next.Ready
-    → ShowsCall (hold.Hand hand) running r → LeavesCells (slots_in running.slots) old new → new.book ≡ old.book → LeavesOthers actor r old new
+    → ShowsCall (hold.Hand hand) running r → LeavesCells (slots_in running.slots) old new → new.book ≡ old.book
+    → LeavesOthers actor r old new
 rest_ready actor old new running r hand here shows leaves book =
     let held : held_at r.next r.slots ≡ slots_in running.slots =
     held_ready r (slots_in running.slots) (ap (λ (x : machine.Running). x.next) (sym shows.shown) ∙ ap next_of here)

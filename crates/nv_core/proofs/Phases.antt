@@ -14,7 +14,7 @@ use Rattle.nv_calls.specs.Committed.{ChangesPlanned, HaveAppendRoom, HaveSamePla
 use Rattle.nv_calls.specs.PlanByPlan.{AppendsTo, PublishesTo, published_of}
 use Rattle.nv_calls.specs.Progress.{is_open}
 use Rattle.nv_calls.specs.Ready.{ArePlaced, CellPlanValue, ReadyValue, old_tails, plan_at}
-use Rattle.nv_calls.specs.Retiring.{killed_by, retired}
+use Rattle.nv_calls.specs.Retiring.{killed_by}
 use Rattle.nv_calls.specs.Steps.{CanAppendPlan, with_plan}
 use Rattle.nv_calls.proofs.AppendAll as append_all
 use Rattle.nv_calls.proofs.Changes.{all_changed}
@@ -57,7 +57,10 @@ pub noted_two : (cpu : ℕ) (cells : List (ℕ × CellValue)) (c : CommitValue) 
 noted_two cpu cells c two = rw (lt-ltb 1 (length c.plans) (omega (arith, two))) refl
 
 pub shelf_two : (cpu : ℕ) (cells : List (ℕ × CellValue)) (c : CommitValue) (shelf : BookValue) → 2 ≤ length c.plans
-    → shelf_by cpu cells c shelf ≡ (let b : BookValue = record shelf { state = with_journal cpu (old_tails cells c.plans) shelf.state } in b)
+    → shelf_by cpu cells c shelf ≡ (let b : BookValue = record shelf {
+      state = with_journal cpu
+          (old_tails cells c.plans) shelf.state;
+    } in b)
 shelf_two cpu cells c shelf two = rw (lt-ltb 1 (length c.plans) (omega (arith, two))) refl
 
 pub noted_one : (cpu : ℕ) (cells : List (ℕ × CellValue)) (c : CommitValue) → length c.plans < 2 → noted_by cpu cells c ≡ c
@@ -145,7 +148,8 @@ module _ (cpu : ℕ) (now : List (ℕ × CellValue)) (book : BookValue) (commit 
           way = append_way commit later (state_at now (to_append commit).at) w.way lt is;
           phase = inl (record {
             to = subst (λ (j : ℕ). AppendsTo j b.cells (first_of b) new later) count
-                (append_all.goes_on commit.appended b.cells (first_of b) now commit w.can.placed append_inside appending.to new later only is ready);
+                (append_all.goes_on commit.appended b.cells (first_of b) now commit w.can.placed append_inside appending.to new later only
+                is ready);
             book_is = appending.book_is;
           });
         }
@@ -187,7 +191,8 @@ module _ (b : Begin) (cpu : ℕ) (can : CanCommit b.cells b.shelf cpu b.ready) (
       (can_publish b.cells b.shelf cpu b.ready can full appended are)
 
   -- the journal of two or more is open, with their tails
-  pub start_journal : (book : BookValue) → book ≡ shelf_by cpu full appended b.shelf → 2 ≤ length appended.plans → HasJournal book.state start
+  pub start_journal : (book : BookValue) → book ≡ shelf_by cpu full appended b.shelf → 2 ≤ length appended.plans
+      → HasJournal book.state start
   start_journal book is two =
       journal_open b.shelf book appended start cpu (old_tails full appended.plans) can.cpu_is
       (is ∙ shelf_two cpu full appended b.shelf two) (noted_two cpu full appended two)
@@ -273,7 +278,8 @@ module _ (b : Begin) (cpu : ℕ) (can : CanCommit b.cells b.shelf cpu b.ready) (
         (all_changed (length b.ready.plans) start.plans (published_of full start) full over (omega (arith, start_many)) done.changed))
         (subst (λ (ps : List CellPlanValue). HaveAppendRoom ps (λ j. (value_at full (place_of ps j)).room) over) start_plans
         (λ j lt. done.kept j (omega (arith, lt, start_many))))
-        (subst (λ (ps : List CellPlanValue). (j : ℕ) → j < length ps → (plan_at last.plans j).killed ≡ killed_by (state_at full (place_of ps j)))
+        (subst (λ (ps : List CellPlanValue). (j : ℕ) → j < length ps → (plan_at last.plans j).killed ≡ killed_by
+        (state_at full (place_of ps j)))
         start_plans (λ j lt. done.killed j (omega (arith, lt, start_many))))
         (subst (λ (ps : List CellPlanValue). (j : ℕ) → j < length ps → KillsAsTold (state_at full (place_of ps j)))
         start_plans (λ j lt. done.told j (omega (arith, lt, start_many))))

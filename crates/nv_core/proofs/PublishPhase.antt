@@ -84,7 +84,10 @@ module _ (cpu : ℕ) (now : List (ℕ × CellValue)) (book : BookValue) (commit 
                 (subst (λ (j : ℕ). PublishesTo j now (noted_by cpu now commit) now (noted_by cpu now commit)) (sym zero)
                 (publish_all.begins now (noted_by cpu now commit) zero));
             book_is = book_is
-                ∙ ap (λ (x : BookValue). let y : BookValue = record x { state = with_journal cpu (old_tails now commit.plans) x.state } in y)
+                ∙ ap (λ (x : BookValue). let y : BookValue = record x {
+                  state = with_journal cpu
+                      (old_tails now commit.plans) x.state;
+                } in y)
                 opening.book_is
                 ∙ sym (shelf_two cpu now commit w.begin.shelf next.two);
           }));
@@ -155,7 +158,8 @@ module _ (cpu : ℕ) (now : List (ℕ × CellValue)) (book : BookValue) (commit 
     pub publish_noted : 2 ≤ length commit.plans → NotesNext book.state now commit
     publish_noted =
         publish_all.notes_next commit.published publishing.full begun_with now commit publish_placed publish_inside publishing.to book.state
-        (λ two. start_journal w.begin cpu w.can publishing.full publishing.appended publishing.all book publishing.book_is (two_appended two))
+        (λ two. start_journal w.begin cpu w.can publishing.full publishing.appended publishing.all book publishing.book_is
+        (two_appended two))
         (start_noted w.begin cpu w.can publishing.full publishing.appended publishing.all)
 
     pub publish_open : 2 ≤ length commit.plans → is_open commit ≡ true

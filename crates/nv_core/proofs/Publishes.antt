@@ -45,7 +45,8 @@ killed_more (p ∷ plans) zero zero killed le lt = refl
 killed_more (p ∷ plans) zero (suc count) killed le lt =
     ap (λ (rest : List (List KilledPart)). p.killed ∷ rest) (killed_more plans zero count killed (omega arith) (omega (arith, lt)))
 killed_more (p ∷ plans) (suc retired) zero killed le lt = absurd (omega (arith, le))
-killed_more (p ∷ plans) (suc retired) (suc count) killed le lt = killed_more plans retired count killed (omega (arith, le)) (omega (arith, lt))
+killed_more (p ∷ plans) (suc retired) (suc count) killed le lt = killed_more plans retired count killed (omega (arith, le))
+    (omega (arith, lt))
 
 -- the plans of which one has noted what was killed are at the same places
 pub same_ats : (slots : List ℕ) (plans : List CellPlanValue) (j : ℕ) (killed : List KilledPart)
@@ -58,12 +59,14 @@ same_ats slots (p ∷ plans) (suc j) killed = ap (λ (rest : List ℕ). slot_at 
 -- the machine's publish of the cell that the commit publishes
 pub publishes : (shared : Shared) (running : Running) (old new : CommitValue) (cells : List CellValue) (told : Told) (i : ℕ)
     → IsCommitOf (slots_in running.slots) old told → IsOnItsWay old → old.published < length old.plans → old.appended ≡ length old.plans
-    → (2 ≤ length old.plans → (is_open old) ≡ true) → i ≡ slot_at (slots_in running.slots) (to_publish old).at → i < length shared.cells.items
+    → (2 ≤ length old.plans → (is_open old) ≡ true) → i ≡ slot_at (slots_in running.slots) (to_publish old).at
+    → i < length shared.cells.items
     → cells ≡ slice_set shared.cells.items i (cell_in cells i) → (cell_in cells i).state ≡ published (cell_in shared.cells.items i).state
     → new ≡ after_publish (killed_by (cell_in shared.cells.items i).state) old
     → publish_turn (slot_at (written_slots (shown_commit old told running)) old.published) old.published (shared_of shared) (hand_in old)
     (shown_commit old told running)
-    ≡ machine.Moves (record (shared_of shared) { cells = map (λ (c : CellValue). c.state) cells }) (hand_in new) (shown_commit new told running)
+    ≡ machine.Moves (record (shared_of shared) { cells = map (λ (c : CellValue). c.state) cells }) (hand_in new)
+    (shown_commit new told running)
 publishes shared running old new cells told i is way lt appended journal place there only state commit =
     let s = shared_of shared in
     let h = hand_in old in
@@ -95,11 +98,16 @@ publishes shared running old new cells told i is way lt appended journal place t
     (record (plan_at old.plans p) { killed = killed_by cell }))))) plus
     ∙ killed_more old.plans old.retired p (killed_by cell) (omega (arith, back)) lt)) in
     ap (λ (ino : ℕ). publish_turn ino p s h r) at
-    ∙ ap (λ (c : CellState). machine.Moves (with_cell i (published c) s) (with_killed (killed_by c) h) (go_to (publishing (p + 1) w) r)) here
-    ∙ ap (λ (xs : List CellState). machine.Moves (record s { cells = xs }) (with_killed (killed_by cell) h) (go_to (publishing (p + 1) w) r)) (sym rest)
-    ∙ ap (λ (x : machine.HandState). machine.Moves (record s { cells = map (λ (c : CellValue). c.state) cells }) x (go_to (publishing (p + 1) w) r)) hand
-    ∙ ap (λ (x : machine.Next). machine.Moves (record s { cells = map (λ (c : CellValue). c.state) cells }) (hand_in after) (go_to x r)) next
-    ∙ sym (ap (λ (c : CommitValue). machine.Moves (record s { cells = map (λ (x : CellValue). x.state) cells }) (hand_in c) (shown_commit c told running)) commit)
+    ∙ ap (λ (c : CellState). machine.Moves (with_cell i (published c) s) (with_killed (killed_by c) h)
+    (go_to (publishing (p + 1) w) r)) here
+    ∙ ap (λ (xs : List CellState). machine.Moves (record s { cells = xs }) (with_killed (killed_by cell) h)
+    (go_to (publishing (p + 1) w) r)) (sym rest)
+    ∙ ap (λ (x : machine.HandState). machine.Moves (record s { cells = map (λ (c : CellValue). c.state) cells }) x
+    (go_to (publishing (p + 1) w) r)) hand
+    ∙ ap (λ (x : machine.Next). machine.Moves (record s { cells = map (λ (c : CellValue). c.state) cells }) (hand_in after)
+    (go_to x r)) next
+    ∙ sym (ap (λ (c : CommitValue). machine.Moves (record s { cells = map (λ (x : CellValue). x.state) cells }) (hand_in c)
+    (shown_commit c told running)) commit)
   where
     plus : old.published + 1 ≡ suc old.published
     plus = omega arith
@@ -115,7 +123,8 @@ publishes shared running old new cells told i is way lt appended journal place t
 pub publish_told : (slots : List ℕ) (old new : CommitValue) (killed : List KilledPart) (told : Told) → old.appended ≡ length old.plans
     → new ≡ after_publish killed old → IsCommitOf slots old told → IsCommitOf slots new told
 publish_told slots old new killed told appended commit is =
-    let many : length (slice_set old.plans old.published (record (plan_at old.plans old.published) { killed = killed })) ≡ length old.plans =
+    let many : length (slice_set old.plans old.published (record
+    (plan_at old.plans old.published) { killed = killed })) ≡ length old.plans =
     length-set old.plans old.published (record (plan_at old.plans old.published) { killed = killed }) in
     subst (λ (c : CommitValue). IsCommitOf slots c told) (sym commit) (record {
       number = is.number;
@@ -129,7 +138,8 @@ publish_told slots old new killed told appended commit is =
 pub publish_way : (old new : CommitValue) (killed : List KilledPart) → IsOnItsWay old → old.published < length old.plans
     → old.appended ≡ length old.plans → (2 ≤ length old.plans → (is_open old) ≡ true) → new ≡ after_publish killed old → IsOnItsWay new
 publish_way old new killed way lt appended journal commit =
-    let many : length (slice_set old.plans old.published (record (plan_at old.plans old.published) { killed = killed })) ≡ length old.plans =
+    let many : length (slice_set old.plans old.published (record
+    (plan_at old.plans old.published) { killed = killed })) ≡ length old.plans =
     length-set old.plans old.published (record (plan_at old.plans old.published) { killed = killed }) in
     let back : old.retired ≡ 0 = way.publishes lt in
     subst IsOnItsWay (sym commit) (record {

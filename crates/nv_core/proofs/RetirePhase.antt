@@ -6,7 +6,7 @@ use Rattle.std.proofs.lemmas.Bool.{ltb-false, ltb-true}
 use Rattle.std.proofs.lemmas.List.{length-set}
 use Rattle.nv_base.specs.declared.numbers.Handle.{Handle}
 use Rattle.nv_book.specs.Book.{BookState, BookValue, with_journal}
-use Rattle.nv_cell.specs.Cell.{CellValue, published}
+use Rattle.nv_cell.specs.Cell.{CellValue}
 use Rattle.nv_epoch.specs.SnapList.{ids}
 use Rattle.nv_journal.specs.declared.old_tail.OldTail.{OldTail}
 use Rattle.nv_calls.specs.CanCommit.{CanRetireAll}
@@ -115,7 +115,8 @@ module _ (cpu : ℕ) (now : List (ℕ × CellValue)) (book : BookValue) (commit 
           state = unwrap_or (option_map (λ m. with_journal m [] book.state) j) book.state;
         } in x) close_own
         ∙ ap (λ (x : BookValue). let y : BookValue = record x { state = with_journal cpu [] x.state } in y) close_book
-        ∙ ap (λ (js : List (List OldTail)). let x : BookValue = record w.begin.shelf { state = record w.begin.shelf.state { journals = js } } in x)
+        ∙ ap (λ (js : List (List OldTail)). let x : BookValue = record w.begin.shelf
+        { state = record w.begin.shelf.state { journals = js } } in x)
         (journal_back w.begin.shelf.state.journals cpu tails w.can.closed) in
         record {
           begin = w.begin;
@@ -264,7 +265,8 @@ module _ (cpu : ℕ) (now : List (ℕ × CellValue)) (book : BookValue) (commit 
             published = retiring.published;
             done = retiring.done;
             to = subst (λ (j : ℕ). RetiresTo j retiring.over shut_then w.begin.shelf new later after) count
-                (retire_all.goes_on commit.retired retiring.over shut_then w.begin.shelf now commit book retire_placed retire_inside retiring.to
+                (retire_all.goes_on commit.retired retiring.over shut_then w.begin.shelf now commit book retire_placed retire_inside
+                retiring.to
                 new later after only state book_is room is cell_room);
           }));
         }

@@ -38,7 +38,8 @@ next_by c =
 
 -- while entries are appended
 appends_by : (appended : ℕ) (b two some : Bool)
-    → (if b then Append appended else if two then Open else if some then Publish 0 else if two then Close else if some then Retire 0 else Leave)
+    → (if b then Append appended else if two then Open else if some then Publish 0 else if two then Close else if some then Retire 0 else
+    Leave)
     ≡ (if b then Append appended else if two && true && true then Open else if some then Publish 0 else if false then Close
     else if some then Retire 0 else Leave)
 appends_by appended true two some = refl
@@ -81,8 +82,10 @@ none_past n = go (nat_lt n n) refl where
 pub publishes_next : (c : CommitValue) (written : List ℕ) (before : ℕ) → length written ≡ length c.plans → c.appended ≡ length c.plans
     → c.published ≡ suc before → c.retired ≡ 0 → (is_open c) ≡ nat_lt 1 (length c.plans) → publishing (suc before) written ≡ commit_next c
 publishes_next c written before many appended published retired opened =
-    ap (λ (n : ℕ). if nat_lt (suc before) n then Publish (suc before) else if nat_lt 1 n then Close else if nat_lt 0 n then Retire 0 else Leave) many
-    ∙ publishes_by (length c.plans) (suc before) (nat_lt (suc before) (length c.plans)) (nat_lt 1 (length c.plans)) (nat_lt 0 (length c.plans))
+    ap (λ (n : ℕ). if nat_lt (suc before) n then Publish (suc before) else if nat_lt 1 n then Close else if nat_lt 0 n then Retire 0 else
+    Leave) many
+    ∙ publishes_by (length c.plans) (suc before) (nat_lt (suc before) (length c.plans)) (nat_lt 1 (length c.plans))
+    (nat_lt 0 (length c.plans))
     ∙ sym (ap (λ (a : ℕ). step_by (length c.plans) a c.published c.retired (is_open c)) appended
     ∙ ap (λ (p : ℕ). step_by (length c.plans) (length c.plans) p c.retired (is_open c)) published
     ∙ ap (λ (r : ℕ). step_by (length c.plans) (length c.plans) (suc before) r (is_open c)) retired
@@ -91,7 +94,8 @@ publishes_next c written before many appended published retired opened =
     else if nat_lt 1 (length c.plans) && z && not (nat_lt 1 (length c.plans)) then Open
     else if nat_lt (suc before) (length c.plans) then Publish (suc before) else if nat_lt 1 (length c.plans) then Close
     else if nat_lt 0 (length c.plans) then Retire 0 else Leave) (some_left before)
-    ∙ ap (λ (b : Bool). if b then Append (length c.plans) else if nat_lt 1 (length c.plans) && false && not (nat_lt 1 (length c.plans)) then Open
+    ∙ ap (λ (b : Bool). if b then Append (length c.plans) else if nat_lt 1 (length c.plans) && false && not
+    (nat_lt 1 (length c.plans)) then Open
     else if nat_lt (suc before) (length c.plans) then Publish (suc before) else if nat_lt 1 (length c.plans) then Close
     else if nat_lt 0 (length c.plans) then Retire 0 else Leave) (none_past (length c.plans)))
     ∙ sym (next_by c)

@@ -16,7 +16,8 @@ same_lists (x ∷ xs) (y ∷ ys) same each =
     cc
 
 -- what an insertion has at each place
-insert_front : (xs : List ℕ) (place n k : ℕ) → k < place → place ≤ length xs → slice_index_or (insert xs place n) k 0 ≡ slice_index_or xs k 0
+insert_front : (xs : List ℕ) (place n k : ℕ) → k < place → place ≤ length xs
+    → slice_index_or (insert xs place n) k 0 ≡ slice_index_or xs k 0
 insert_front xs zero n k lt few = absurd (omega (arith, lt))
 insert_front [] (suc place) n k lt few = absurd (omega (arith, few))
 insert_front (x ∷ xs) (suc place) n zero lt few = refl
@@ -27,7 +28,8 @@ insert_here xs zero n few = refl
 insert_here [] (suc place) n few = absurd (omega (arith, few))
 insert_here (x ∷ xs) (suc place) n few = insert_here xs place n (omega (arith, few))
 
-insert_rest : (xs : List ℕ) (place n k : ℕ) → place ≤ k → place ≤ length xs → slice_index_or (insert xs place n) (suc k) 0 ≡ slice_index_or xs k 0
+insert_rest : (xs : List ℕ) (place n k : ℕ) → place ≤ k → place ≤ length xs
+    → slice_index_or (insert xs place n) (suc k) 0 ≡ slice_index_or xs k 0
 insert_rest xs zero n k le few = refl
 insert_rest [] (suc place) n k le few = absurd (omega (arith, few))
 insert_rest (x ∷ xs) (suc place) n zero le few = absurd (omega (arith, le))
@@ -78,12 +80,14 @@ pub record IsShifted (old new : List ℕ) (place n count : ℕ) : Type 0 where
   pub here : slice_index_or new place 0 ≡ n
   pub rest : (k : ℕ) → place ≤ k → k < count → slice_index_or new (suc k) 0 ≡ slice_index_or old k 0
 
-pub shifted : (old new : List ℕ) (place n count : ℕ) → IsShifted old new place n count → take (count + 1) new ≡ insert (take count old) place n
+pub shifted : (old new : List ℕ) (place n count : ℕ) → IsShifted old new place n count
+    → take (count + 1) new ≡ insert (take count old) place n
 shifted old new place n count s =
     let many : length (take count old) ≡ count = omega (arith, length-take count old, s.room) in
     let long : length (take (count + 1) new) ≡ count + 1 = omega (arith, length-take (count + 1) new, s.room, s.many) in
     let few : place ≤ length (take count old) = omega (arith, many, s.within) in
-    same_lists (take (count + 1) new) (insert (take count old) place n) (omega (arith, long, many, insert_length (take count old) place n few))
+    same_lists (take (count + 1) new) (insert (take count old) place n)
+    (omega (arith, long, many, insert_length (take count old) place n few))
     (λ k lt. at k (omega (arith, lt, long)) few (nat_lt k place) refl) where
       at : (k : ℕ) → k < count + 1 → place ≤ length (take count old) → (b : Bool) → nat_lt k place ≡ b
           → slice_index_or (take (count + 1) new) k 0 ≡ slice_index_or (insert (take count old) place n) k 0
@@ -102,7 +106,8 @@ shifted old new place n count s =
         high k lt few le false q =
             let same : k ≡ place = omega (arith, ltb-false place k q, le) in
             get_or-take (count + 1) new k 0 lt ∙ ap (λ (j : ℕ). slice_index_or new j 0) same ∙ s.here
-            ∙ sym (insert_here (take count old) place n few) ∙ ap (λ (j : ℕ). slice_index_or (insert (take count old) place n) j 0) (sym same)
+            ∙ sym (insert_here (take count old) place n few) ∙ ap (λ (j : ℕ). slice_index_or (insert (take count old) place n) j 0)
+            (sym same)
 
 -- ---- a rising list stays rising
 
@@ -119,7 +124,8 @@ rises xs n place few all before there i j d lt within =
       up i j lt within = all i j 0 lt within
 
       top : (j : ℕ) → place ≤ j → j < length xs → (b : Bool) → nat_lt place j ≡ b → n < slice_index_or xs j 0
-      top j le within true q = let first = there (omega (arith, le, within)) in let more = all place j 0 (ltb-true place j q) within in omega (arith, first, more)
+      top j le within true q = let first = there (omega (arith, le, within)) in let more = all place j 0
+          (ltb-true place j q) within in omega (arith, first, more)
       top j le within false q =
           let same : place ≡ j = omega (arith, le, ltb-false place j q) in
           subst (λ (k : ℕ). n < slice_index_or xs k 0) same (there (omega (arith, le, within)))
@@ -163,4 +169,5 @@ rises xs n place few all before there i j d lt within =
             let one = insert_front xs place n i (omega (arith, lt, same)) few in
             let two = insert_here xs place n few in
             let less = before i (omega (arith, lt, same)) in
-            subst (λ (k : ℕ). slice_index_or (insert xs place n) i 0 < slice_index_or (insert xs place n) k 0) same (omega (arith, one, two, less))
+            subst (λ (k : ℕ). slice_index_or (insert xs place n) i 0 < slice_index_or (insert xs place n) k 0) same
+            (omega (arith, one, two, less))

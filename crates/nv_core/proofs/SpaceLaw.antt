@@ -132,7 +132,8 @@ cell_few book cell =
     let long = length-append (numbers_of cell.chain.blocks) (flat_map of_part cell.blocks) in
     omega (arith, kept, chain, long)
 
-cells_few : (book : BookState) (cells : List CellState) → sum_by chain_in cells + sum_by (kept_in book) cells ≤ length (flat_map stored_in cells)
+cells_few : (book : BookState) (cells : List CellState) → sum_by chain_in cells + sum_by (kept_in book) cells ≤ length
+    (flat_map stored_in cells)
 cells_few book [] = omega arith
 cells_few book (cell ∷ cells) =
     let one = cell_few book cell in

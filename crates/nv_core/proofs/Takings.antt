@@ -304,7 +304,8 @@ module _ (old new : Shared) (hand : Hand) (running : Running) (queue : QueueValu
               (is_changed _ running.job had),
           hand_moved (record hand { «data» = queue }) (ap (λ (v : QueueValue). v.size) is.queue) refl,
           over_all _ _ running.job (λ u h.
-              blocks_next old new slots hand running.looked running.made u below running.wanted cpu asked list queue geometry cells is h left
+              blocks_next old new slots hand running.looked running.made u below running.wanted cpu asked list queue geometry cells is h
+              left
               (asked + 1) q lt)
               had,
         )
@@ -318,7 +319,8 @@ module _ (old new : Shared) (hand : Hand) (running : Running) (queue : QueueValu
           fits_still running (record running { wanted = 0; next = next.Ready }) has.0 refl refl refl (is_changed _ running.job had),
           hand_moved (record hand { pages = queue }) refl (ap (λ (v : QueueValue). v.size) is.queue),
           over_all _ _ running.job (λ u h.
-              pages_taken old new slots hand running.looked running.made u below running.wanted cpu asked list queue geometry cells is h none)
+              pages_taken old new slots hand running.looked running.made u below running.wanted cpu asked list queue geometry cells is h
+              none)
               had,
         )
 

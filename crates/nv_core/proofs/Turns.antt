@@ -35,7 +35,8 @@ told_same old new told keeps is =
 abbrev pub TurnsAlone : Next → ℕ → Shared → Hand → Running → Turn → Shared → Hand → Running → Type 0
 TurnsAlone next actor shared hand running result shared_after hand_after after =
     (told : Told) → IsToldOf running told
-    → (granted : Bool) × (machine_step.kind_turn (next_of next) shared.geometry.numbers.block actor granted (shared_of shared) (hand_of hand)
+    → (granted : Bool) × (machine_step.kind_turn (next_of next) shared.geometry.numbers.block actor granted (shared_of shared)
+    (hand_of hand)
     (shown told running)
     ≡ turn_of result (shared_of shared_after) (hand_of hand_after) (shown told after))
 
@@ -47,7 +48,8 @@ shows_after (turn.Ends result) hand after told is = tt
 
 -- a call whose hand is alone
 pub turns_alone : (next : Next) (actor : ℕ) (shared : Shared) (hand : Hand) (running : Running) (r : machine.Running) (result : Turn)
-    (shared_after : Shared) (hand_after : Hand) (after : Running) → running.next ≡ next → ShowsCall (hold.Hand hand) running r → KeepsJob running after
+    (shared_after : Shared) (hand_after : Hand) (after : Running) → running.next ≡ next → ShowsCall (hold.Hand hand) running r
+    → KeepsJob running after
     → TurnsAlone next actor shared hand running result shared_after hand_after after
     → IsTurn actor shared (hold.Hand hand) r result shared_after (hold.Hand hand_after) after
 turns_alone next actor shared hand running r result shared_after hand_after after here shows keeps by =
@@ -56,7 +58,8 @@ turns_alone next actor shared hand running r result shared_after hand_after afte
     record {
       granted = one.0;
       after = shown told after;
-      is = ap (λ (x : machine.Running). machine_step.turn shared.geometry.numbers.block actor one.0 (shared_of shared) (hand_of hand) x) (sym shows.shown)
+      is = ap (λ (x : machine.Running). machine_step.turn shared.geometry.numbers.block actor one.0 (shared_of shared) (hand_of hand) x)
+          (sym shows.shown)
           ∙ ap (λ (n : Next). machine_step.kind_turn (next_of n) shared.geometry.numbers.block actor one.0 (shared_of shared) (hand_of hand)
           (shown told running)) here
           ∙ one.1;
@@ -81,15 +84,18 @@ last_give cpu (job.Change plan text) fits = tt
 last_give cpu (job.Visit visit) fits = fits
 last_give cpu job.Given fits = tt
 
-pub owes_unlock : (place : ℕ) (running : Running) (told : Told) → running.next ≡ next.Unlock place → FitsCall running → IsToldOf running told
+pub owes_unlock : (place : ℕ) (running : Running) (told : Told) → running.next ≡ next.Unlock place → FitsCall running
+    → IsToldOf running told
     → OwesAt running.ending running told
 owes_unlock place running told here fits is answers =
-    owed_by running.job running.owed told.call (last_unlock place running.job (subst (λ (n : Next). FitsNext n running.job) here fits.before)) is
+    owed_by running.job running.owed told.call (last_unlock place running.job
+    (subst (λ (n : Next). FitsNext n running.job) here fits.before)) is
 
 pub owes_give : (cpu : ℕ) (running : Running) (told : Told) → running.next ≡ next.Give cpu → FitsCall running → IsToldOf running told
     → OwesAt running.ending running told
 owes_give cpu running told here fits is answers =
-    owed_by running.job running.owed told.call (last_give cpu running.job (subst (λ (n : Next). FitsNext n running.job) here fits.before)) is
+    owed_by running.job running.owed told.call (last_give cpu running.job
+    (subst (λ (n : Next). FitsNext n running.job) here fits.before)) is
 
 pub owes_back : (running : Running) (told : Told) → running.next ≡ next.Back → FitsCall running → IsToldOf running told
     → OwesAt running.ending running told
@@ -115,7 +121,8 @@ turns_visit actor shared hand running r result after here shows ends waits by =
     record {
       granted = one.0;
       after = shown told after;
-      is = ap (λ (x : machine.Running). machine_step.turn shared.geometry.numbers.block actor one.0 (shared_of shared) (hand_of hand) x) (sym shows.shown)
+      is = ap (λ (x : machine.Running). machine_step.turn shared.geometry.numbers.block actor one.0 (shared_of shared) (hand_of hand) x)
+          (sym shows.shown)
           ∙ ap (λ (n : Next). machine_step.kind_turn (next_of n) shared.geometry.numbers.block actor one.0 (shared_of shared) (hand_of hand)
           (shown told running)) here
           ∙ one.1;

@@ -32,7 +32,8 @@ node_here s handle cell same =
 -- a slot that is not there has no node
 pub no_node : (s : Shared) (handle : Handle) → cell_at s handle.ino ≡ no_cell → nodes s handle ≡ None
 no_node s handle same =
-    ap (λ (c : CellState). if handle.generation == c.generation then node_of c else None) same ∙ go (handle.generation == no_cell.generation)
+    ap (λ (c : CellState). if handle.generation == c.generation then node_of c else None) same
+    ∙ go (handle.generation == no_cell.generation)
   where
     go : (b : Bool) → (if b then node_of no_cell else None) ≡ None
     go true = refl

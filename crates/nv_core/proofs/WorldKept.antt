@@ -37,7 +37,8 @@ locks_of w m events is =
     subst AreLocks (sym is.reached) (reached w.shared.geometry.numbers events is.limits).locks
 
 -- one event more
-pub world_after : (w : WorldState) (m : machine.World) (events : List machine.Event) (e : machine.Event) (actor : ℕ) (new : Shared) (state : Actor)
+pub world_after : (w : WorldState) (m : machine.World) (events : List machine.Event) (e : machine.Event) (actor : ℕ) (new : Shared)
+    (state : Actor)
     → IsWorldAfter w m events → actor < length w.actors → new.geometry ≡ w.shared.geometry
     → Shows (world_with new actor state w) (step m e).world → HasActorRooms new state.hold state.running
     → ((k : ℕ) (d : Actor) → k ≢ actor → k < length w.actors
@@ -132,7 +133,8 @@ pub go_steps : (w : WorldState) (m : machine.World) (actor : ℕ) (d : Actor) (n
     → ShowsCall (slice_index_or w.actors actor d).hold running r → LeavesOthers actor r w.shared new)
     → IsStep m (event.Go actor) answer (world_with new actor state w)
 go_steps w m actor d new state answer shows lt is idle turns leaves = by (slice_index_or w.actors actor d).running refl where
-  by : (o : Option Running) → (slice_index_or w.actors actor d).running ≡ o → IsStep m (event.Go actor) answer (world_with new actor state w)
+  by : (o : Option Running) → (slice_index_or w.actors actor d).running ≡ o
+      → IsStep m (event.Go actor) answer (world_with new actor state w)
   by None none =
       let told = idle none in
       let all = stays_idle w m actor d new state shows lt none told.1 told.2 in
@@ -145,7 +147,8 @@ go_steps w m actor d new state answer shows lt is idle turns leaves = by (slice_
   by (Some running) some =
       let own = is.2.shows.each actor d lt in
       let call = shows_some (slice_index_or w.actors actor d).hold running (actor_at is.0 actor).running
-      (subst (λ (o : Option Running). ShowsRunning (slice_index_or w.actors actor d).hold o (actor_at is.0 actor).running) some own.running) in
+      (subst (λ (o : Option Running). ShowsRunning (slice_index_or w.actors actor d).hold o
+      (actor_at is.0 actor).running) some own.running) in
       let one = steps_on w m actor d new state running answer shows lt some (leaves running call.0 some call.2).geometry
       (λ r shown. turns running r some shown) in
       record { granted = one.0; reply_is = one.1; shows = one.2 }
@@ -167,11 +170,13 @@ go_keeps w actor d new state answer lt is idle turns leaves rooms = by (slice_in
       let told = idle none in
       subst IsWorld (sym (stays_idle w is.0 actor d new state is.2.shows lt none told.1 told.2).1) is
   by (Some running) some =
-      goes_on w is actor d new state running answer lt some (λ r shown. turns running r some shown) (λ r shown. leaves running r some shown) rooms
+      goes_on w is actor d new state running answer lt some (λ r shown. turns running r some shown)
+      (λ r shown. leaves running r some shown) rooms
 
 -- ---- an actor that starts a call
 
-start_is : (m : machine.World) (actor : ℕ) (c : Call) (o : Option machine.Running) → actor < length m.actors → (actor_at m actor).running ≡ o
+start_is : (m : machine.World) (actor : ℕ) (c : Call) (o : Option machine.Running) → actor < length m.actors
+    → (actor_at m actor).running ≡ o
     → step m (machine.Start actor c) ≡ start_step true o actor c m
 start_is m actor c o lt is =
     ap (λ (b : Bool). start_step b (actor_at m actor).running actor c m) (lt-ltb actor (length m.actors) lt)
@@ -207,11 +212,16 @@ start_steps w m actor d c state answer shows lt is = by (slice_index_or w.actors
       (subst (λ (o : Option Running). ShowsRunning (slice_index_or w.actors actor d).hold o (actor_at m actor).running) none own.running) in
       let r = begun (beginning c) m.shared c in
       let x : machine.Actor = record { hand = (actor_at m actor).hand; running = Some r } in
-      let all : step m (machine.Start actor c) ≡ record { reply = machine.Started; world = changed m.shared (actor_at m actor).hand (Some r) actor m } =
+      let all : step m (machine.Start actor c) ≡ record {
+        reply = machine.Started;
+        world = changed m.shared (actor_at m actor).hand
+            (Some r) actor m;
+      } =
       start_is m actor c None there idle in
       let shown : ShowsActor state x = record {
         hand = ap held_by told.1 ∙ own.hand;
-        running = subst (λ (s : machine.Shared). ShowsRunning state.hold state.running (Some (begun (beginning c) s c))) shows.shared told.2;
+        running = subst (λ (s : machine.Shared). ShowsRunning state.hold state.running
+            (Some (begun (beginning c) s c))) shows.shared told.2;
       } in
       let set = shows_set w m actor state x w.shared shows lt refl shown in (
         ap reply_of told.0 ∙ ap (λ (s : machine_step.Step). s.reply) (sym all),

@@ -87,7 +87,8 @@ reply_turned (turn.Ends (Ok answer)) s h r actor m = refl
 reply_turned (turn.Ends (Err fault)) s h r actor m = refl
 
 -- and what it leads to is shown
-shows_turned : (t : Turn) (w : WorldState) (m : machine.World) (actor : ℕ) (d : Actor) (new : Shared) (state : Actor) (running after : Running)
+shows_turned : (t : Turn) (w : WorldState) (m : machine.World) (actor : ℕ) (d : Actor) (new : Shared) (state : Actor)
+    (running after : Running)
     (r : machine.Running) → Shows w m → actor < length w.actors → (slice_index_or w.actors actor d).running ≡ Some running
     → new.geometry ≡ w.shared.geometry → ShowsAfter t state.hold after r
     → (t ≡ turn.Waits → (new ≡ w.shared) × (state.hold ≡ (slice_index_or w.actors actor d).hold) × (after ≡ running))
@@ -111,13 +112,15 @@ shows_turned (turn.Ends result) w m actor d new state running after r shows lt i
 -- the step of the machine, where an actor has a call
 go_is : (m : machine.World) (actor : ℕ) (granted : Bool) (r : machine.Running) → actor < length m.actors
     → (actor_at m actor).running ≡ Some r
-    → step m (machine.Go actor granted) ≡ turned (machine_step.turn m.numbers.block actor granted m.shared (actor_at m actor).hand r) actor m
+    → step m (machine.Go actor granted) ≡ turned (machine_step.turn m.numbers.block actor granted m.shared
+    (actor_at m actor).hand r) actor m
 go_is m actor granted r lt is =
     ap (λ (b : Bool). go_step b (actor_at m actor).running actor granted m) (lt-ltb actor (length m.actors) lt)
     ∙ ap (λ (o : Option machine.Running). go_step true o actor granted m) is
 
 -- AN ACTOR'S CALL HAS GONE ON: reply and world are those of the machine's step
-pub steps_on : (w : WorldState) (m : machine.World) (actor : ℕ) (d : Actor) (new : Shared) (state : Actor) (running : Running) (answer : Reply)
+pub steps_on : (w : WorldState) (m : machine.World) (actor : ℕ) (d : Actor) (new : Shared) (state : Actor) (running : Running)
+    (answer : Reply)
     → Shows w m → actor < length w.actors → (slice_index_or w.actors actor d).running ≡ Some running
     → new.geometry ≡ w.shared.geometry
     → ((r : machine.Running) → ShowsCall (slice_index_or w.actors actor d).hold running r
@@ -137,8 +140,10 @@ steps_on w m actor d new state running answer shows lt is same by =
     let h = held_by state.hold in
     let made : machine_step.turn m.numbers.block actor granted m.shared (actor_at m actor).hand r ≡ turn_of done.result s h after =
     ap (λ g. machine_step.turn g.block actor granted m.shared (actor_at m actor).hand r) (sym shows.numbers)
-    ∙ ap (λ (x : machine.Shared). machine_step.turn w.shared.geometry.numbers.block actor granted x (actor_at m actor).hand r) (sym shows.shared)
-    ∙ ap (λ (x : machine.HandState). machine_step.turn w.shared.geometry.numbers.block actor granted (shared_of w.shared) x r) (sym own.hand)
+    ∙ ap (λ (x : machine.Shared). machine_step.turn w.shared.geometry.numbers.block actor granted x (actor_at m actor).hand r)
+    (sym shows.shared)
+    ∙ ap (λ (x : machine.HandState). machine_step.turn w.shared.geometry.numbers.block actor granted (shared_of w.shared) x r)
+    (sym own.hand)
     ∙ done.is.is in
     let all : step m (machine.Go actor granted) ≡ turned (turn_of done.result s h after) actor m =
     go_is m actor granted r (omega (arith, lt, shows.count)) call.1 ∙ ap (λ (t : machine.Turn). turned t actor m) made in (

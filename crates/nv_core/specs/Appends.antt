@@ -14,11 +14,6 @@ pub record IsPlanOf (slots : List ℕ) (plan : List Planned) : Type 0 where
   pub placed : ArePlaced plan
   pub within : (ino : ℕ) → is_written plan ino ≡ true → has slots ino ≡ true
 
--- the next entries of a commit have the places that the plan says
-abbrev pub IsPlaceBy : List ℕ → Hold → Told → Type 0
-IsPlaceBy slots (hold.Commit commit) told = IsPlaceOf slots commit told
-IsPlaceBy slots other told = Unit {0}
-
 -- what is ready has a plan for the call's slots alone, and so has a commit, whose next entries have their place
 abbrev pub IsPlacedBy : List ℕ → Hold → Told → Type 0
 IsPlacedBy slots (hold.Hand hand) told = Unit {0}

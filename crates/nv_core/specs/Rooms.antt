@@ -167,7 +167,8 @@ CanWantPages shared hand running =
 abbrev pub WantsBlocks : ℕ → Shared → Hand → Running → Type 0
 WantsBlocks wanted shared hand running =
     IsChangeWith (λ u. HasMade shared (slots_in running.slots) hand running.made u
-    × IsChecked shared (slots_in running.slots) hand running.looked u × (wanted ≡ blocks_to_take shared (slots_in running.slots) u)) running.job
+    × IsChecked shared (slots_in running.slots) hand running.looked u ×
+    (wanted ≡ blocks_to_take shared (slots_in running.slots) u)) running.job
 
 -- ---- ready
 

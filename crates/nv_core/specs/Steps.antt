@@ -86,7 +86,8 @@ Given other shared hand running = Unit {0}
 
 abbrev pub GivenBy : Shared → Hold → Running → ℕ → Type 0
 GivenBy shared (hold.Hand hand) running actor = Given running.next shared hand running
-GivenBy shared (hold.Ready ready) running actor = shared.holder ≡ None → shared.book.state.commit < NUMBER → CanEnter shared running ready actor
+GivenBy shared (hold.Ready ready) running actor = shared.holder ≡ None → shared.book.state.commit < NUMBER
+    → CanEnter shared running ready actor
 GivenBy shared (hold.Commit commit) running actor = shared.holder ≡ Some actor
 
 -- WHAT EVERY STEP OF AN ACTOR'S CALL IS GIVEN

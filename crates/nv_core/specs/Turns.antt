@@ -22,7 +22,8 @@ ShowsAfter (turn.Ends result) hold running r = Unit {0}
 ShowsAfter other hold running r = ShowsCall hold running r
 
 -- the turn of a call is the machine's, where the memory that it asked for was granted or refused
-pub record IsTurn (actor : ℕ) (old : Shared) (before : Hold) (r : machine.Running) (result : Turn) (new : Shared) (hold : Hold) (running : Running)
+pub record IsTurn (actor : ℕ) (old : Shared) (before : Hold) (r : machine.Running) (result : Turn) (new : Shared) (hold : Hold)
+    (running : Running)
     : Type 0 where
   pub granted : Bool
   pub after : machine.Running

@@ -19,7 +19,8 @@ use std::alloc::Global;
 impl World {
     /// The tree now, by the settled logs: the nodes that are reached from the root through names.
     pub fn tree(&self) -> Result<Tree, Fault>
-        ensures ok { (m : machine.World) → Shows self.now m → IfOk result (λ tree. tree ≡ tree_of m) }
+        ensures ok { (m : machine.World) → Shows self.now m
+            → IfOk result (λ tree. tree ≡ tree_of m) }
         ensures err { FailsOnly OutOfMemory result }
     {
         self.shared.tree(self.alloc)

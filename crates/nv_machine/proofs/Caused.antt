@@ -32,7 +32,8 @@ rest_unrefused P Q (Some cpu) number s h r e = unrefused P Q (Give cpu) r.ending
 rest_unrefused P Q None (Some ino) s h r e = unrefused P Q Back r.ending e
 rest_unrefused P Q None None s h r e = rw e tt
 
-over_unrefused : (P : Fault → Type 0) (Q : Type 0) (e : Ending) (s : Shared) (h : HandState) (r : Running) → e ≡ Answers → r.ending ≡ Answers
+over_unrefused : (P : Fault → Type 0) (Q : Type 0) (e : Ending) (s : Shared) (h : HandState) (r : Running) → e ≡ Answers
+    → r.ending ≡ Answers
     → RefusesFor P Q (over_turn e s h r)
 over_unrefused P Q Answers s h r e f = rest_unrefused P Q _ h.ino s h r f
 over_unrefused P Q (Refuses fault) s h r e f = cc
@@ -45,7 +46,8 @@ end_unrefused P Q (slot ∷ slots) s h r e = unrefused P Q (Unlock 0) r.ending e
 
 -- ---- a call that is refused
 
-rest_refused : (P : Fault → Type 0) (Q : Type 0) (fault : Fault) (home number : Option ℕ) (s : Shared) (h : HandState) (r : Running) → P fault
+rest_refused : (P : Fault → Type 0) (Q : Type 0) (fault : Fault) (home number : Option ℕ) (s : Shared) (h : HandState) (r : Running)
+    → P fault
     → RefusesFor P Q (rest_turn home number s h (record r { ending = Refuses fault }))
 rest_refused P Q fault (Some cpu) number s h r p = (p, tt)
 rest_refused P Q fault None (Some ino) s h r p = (p, tt)
@@ -72,14 +74,16 @@ pub look_told : (place : ℕ) (tests : Tests) (fault : Fault) → look_tests pla
 look_told zero tests fault e = e
 look_told (suc place) tests fault e = cc
 
-pub look_caused : (P : Fault → Type 0) (Q : Type 0) (owner : Option ℕ) (tests : Tests) (found : Looked) (place : ℕ) (s : Shared) (h : HandState) (r : Running)
+pub look_caused : (P : Fault → Type 0) (Q : Type 0) (owner : Option ℕ) (tests : Tests) (found : Looked) (place : ℕ) (s : Shared)
+    (h : HandState) (r : Running)
     → ((fault : Fault) → tests ≡ Err fault → P fault) → r.ending ≡ Answers → RefusesFor P Q (look_turn owner tests found place s h r)
 look_caused P Q (Some other) tests found place s h r told e = tt
 look_caused P Q None (Err fault) found place s h r told e = refused P Q fault [] s h r (told fault refl)
 look_caused P Q None (Ok passed) found place s h r told e =
     unrefused P Q (looking (place + 1) (record r { looked = found; slots = slots_of s None found r.call })) r.ending e
 
-lock_caused : (P : Fault → Type 0) (Q : Type 0) (owner : Option ℕ) (actor place : ℕ) (s : Shared) (h : HandState) (r : Running) → r.ending ≡ Answers
+lock_caused : (P : Fault → Type 0) (Q : Type 0) (owner : Option ℕ) (actor place : ℕ) (s : Shared) (h : HandState) (r : Running)
+    → r.ending ≡ Answers
     → RefusesFor P Q (lock_turn owner actor place s h r)
 lock_caused P Q (Some other) actor place s h r e = tt
 lock_caused P Q None actor place s h r e = unrefused P Q (locking (place + 1) r.slots) r.ending e
@@ -176,7 +180,8 @@ enter_caused None block actor a true granted s h r limit e = refused _ _ CommitL
 enter_caused None block actor a false granted s h r limit e =
     denied _ _ granted _ s h r (λ lack. inr (refl, lack)) (unrefused _ _ (appending 0 (written_slots r)) r.ending e)
 
-unlocked_caused : (P : Fault → Type 0) (Q : Type 0) (more : Bool) (place : ℕ) (s : Shared) (h : HandState) (r : Running) → r.ending ≡ Answers
+unlocked_caused : (P : Fault → Type 0) (Q : Type 0) (more : Bool) (place : ℕ) (s : Shared) (h : HandState) (r : Running)
+    → r.ending ≡ Answers
     → RefusesFor P Q (unlocked_turn more place s h r)
 unlocked_caused P Q true place s h r e = unrefused P Q (Unlock (place + 1)) r.ending e
 unlocked_caused P Q false place s h r e = over_unrefused P Q r.ending s h r e e
@@ -192,7 +197,8 @@ no_growth false true e = (refl, refl)
 no_growth false false e = cc
 
 pub visit_caused : (nodes : Handle → Option NodeCopy) (owner : Option ℕ) (tests : Tests) (block actor : ℕ) (given granted : Bool)
-    (found : Answer) (s : Shared) (h : HandState) (r : Running) → (owner ≡ None → tests ≡ refusal block nodes r.call) → (given ≡ false → (granted ≡ false) × (visit_grows r.call ≡ true))
+    (found : Answer) (s : Shared) (h : HandState) (r : Running) → (owner ≡ None → tests ≡ refusal block nodes r.call)
+    → (given ≡ false → (granted ≡ false) × (visit_grows r.call ≡ true))
     → RefusesFor (IsCause Visit block actor granted nodes s h r) ⊥ (visit_turn owner tests given found s h r)
 visit_caused nodes (Some other) tests block actor given granted found s h r is lack = tt
 visit_caused nodes None (Err fault) block actor given granted found s h r is lack = refused _ _ fault r.slots s h r (inl (sym (is refl)))

@@ -140,7 +140,14 @@ pub append_grows : (t : ℕ) (entries : List Entry) (bs pages : List BlockValue)
     → HasPages (take t cell.chain.entries) cell → Grows t cell (with_entries entries bs (with_pages pages cell))
 append_grows t entries bs pages cell le within front h =
     rw (paged pages cell)
-    (grows_on t cell _ _ (record { log = refl; pages = record { pages = h.pages; len = h.len; within = h.within }; node = refl; sound = λ x. x; tail = refl; generation = refl })
+    (grows_on t cell _ _ (record {
+      log = refl;
+      pages = record { pages = h.pages; len = h.len; within = h.within };
+      node = refl;
+      sound = λ x. x;
+      tail = refl;
+      generation = refl;
+    })
     (λ h. entries_grow t entries bs _ le within front h))
 
 -- ---- what a publish kills is covered

@@ -90,7 +90,8 @@ wants_blocks_left (suc n) block s h r = omega arith
 
 check_left : (ending : Option Ending) (granted : Bool) (wanted block : ℕ) (s : Shared) (h : HandState) (r : Running)
     → KeepsLeft (checks_left r.ending r.rounds) (fails_by Check ending) (check_turn ending granted wanted block s h r)
-check_left None granted wanted block s h r = grown_left granted (wants_blocks wanted block s h r) s h r (wants_blocks_left wanted block s h r)
+check_left None granted wanted block s h r = grown_left granted (wants_blocks wanted block s h r) s h r
+    (wants_blocks_left wanted block s h r)
 check_left (Some Answers) granted wanted block s h r = end_left r.slots Answers s h r _ 0 (omega (arith, one_more r.ending r.rounds))
 check_left (Some (Refuses fault)) granted wanted block s h r = refuse_left r.slots fault s h r
 check_left (Some Overtaken) granted wanted block s h r =

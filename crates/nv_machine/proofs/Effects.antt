@@ -112,7 +112,8 @@ module _ (bytes : ℕ → List ℕ) (block : ℕ) (s t : Shared) (r : Running) (
 
 read_before : (bytes : ℕ → List ℕ) (block : ℕ) (w : World) (r : Running) → IsKept w → AreBlocksApart w → HasPlanNow bytes block w.shared r
     → IsRead bytes block w.shared
-read_before bytes block w r kept apart plan = record { pages = kept.logs.pages; apart = apart.cells; blocks = plan.blocks; sizes = plan.sizes }
+read_before bytes block w r kept apart plan = record
+    { pages = kept.logs.pages; apart = apart.cells; blocks = plan.blocks; sizes = plan.sizes }
 
 module _ (bytes : ℕ → List ℕ) (w : World) (actor : ℕ) (granted : Bool) (r : Running) (locks : AreLocks w) (order : IsInOrder w)
     (kept : IsKept w)

@@ -35,7 +35,8 @@ module _ (asked block actor : ℕ) (granted : Bool) (s : Shared) (h : HandState)
   given : HasGiven s cpu r (less_list cpu r.wanted s)
   given = get_or-set_at s.lists cpu cpu (record (list_at s cpu) { blocks = drop r.wanted (list_at s cpu).blocks }) no_list refl within
 
-  pub data_taken : Leaves (TakesData s (asked_list (length s.lists) actor asked) h r) (kind_turn (TakeBlocks asked) block actor granted s h r)
+  pub data_taken : Leaves (TakesData s (asked_list (length s.lists) actor asked) h r)
+      (kind_turn (TakeBlocks asked) block actor granted s h r)
   data_taken =
       leaves (TakesData s cpu h r) (kind_turn (TakeBlocks asked) block actor granted s h r)
       (blocks_keep (TakesData s cpu h r) _ _ asked block _ _ r (record { hand = refl; list = given }))

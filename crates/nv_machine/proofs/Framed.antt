@@ -1,8 +1,9 @@
 -- A step leaves what it is not lent.
-use Rattle.std.proofs.Common.{ℕ, zero, suc, Bool, true, false, List, [], ◌∷◌, length, Option, Some, None, ap, refl, sym, get_or-set_other, length-set}
+use Rattle.std.proofs.Common.{◌≡◌, ℕ, zero, suc, Bool, true, false, List, [], ◌∷◌, length, Option, Some, None, ap, refl, sym, get_or-set_other, length-set}
 use Rattle.std.specs.Prelude.{Ok, Err}
 use Rattle.nv_calls.specs.declared.looked.Looked.{Looked}
 use Rattle.nv_alloc.specs.FreeList.{FreeBlocks}
+use Rattle.nv_alloc.specs.InodePool.{FreeInodes}
 use Rattle.nv_book.specs.Book.{BookState}
 use Rattle.nv_calls.specs.Refusals.{Check as Tests}
 use Rattle.nv_calls.specs.declared.answer.Answer.{Answer}
@@ -19,18 +20,33 @@ stays_same : (b : Bool) {claim : Type 0} → claim → Stays b claim
 stays_same true h = tt
 stays_same false h = h
 
-pub same_frame : (l : Lent) (s : Shared) → Frame l s s
-same_frame l s = record {
+-- pool, book and commit lock may be others
+parts_frame : (l : Lent) (pool : FreeInodes) (book : BookState) (holder : Option ℕ) (s : Shared) → Stays l.pool (pool ≡ s.pool)
+    → Stays l.book (book ≡ s.book) → Stays l.commit_lock (holder ≡ s.holder)
+    → Frame l s (record s { pool = pool; book = book; holder = holder })
+parts_frame l pool book holder s pools books holders = record {
   lists = λ cpu h. refl;
-  pool = stays_same l.pool refl;
+  pool = pools;
   cells = λ ino h. refl;
   owners = λ ino h. refl;
-  book = stays_same l.book refl;
-  holder = stays_same l.commit_lock refl;
+  book = books;
+  holder = holders;
   cpus = refl;
   slots = refl;
   locks = refl;
 }
+
+pub same_frame : (l : Lent) (s : Shared) → Frame l s s
+same_frame l s = parts_frame l s.pool s.book s.holder s (stays_same l.pool refl) (stays_same l.book refl) (stays_same l.commit_lock refl)
+
+pool_frame : (pool : FreeInodes) (s : Shared) → Frame (record nothing_lent { pool = true }) s (record s { pool = pool })
+pool_frame pool s = parts_frame _ pool s.book s.holder s tt refl refl
+
+book_frame : (book : BookState) (s : Shared) → Frame (record nothing_lent { book = true }) s (with_book book s)
+book_frame book s = parts_frame _ s.pool book s.holder s refl tt refl
+
+leave_frame : (s : Shared) → Frame (record nothing_lent { commit_lock = true }) s (record s { holder = None })
+leave_frame s = parts_frame _ s.pool s.book None s refl refl tt
 
 list_frame : (cpu : ℕ) (list : FreeBlocks) (s : Shared) → Frame (record nothing_lent { list = Some cpu }) s (with_list cpu list s)
 list_frame cpu list s = record {
@@ -45,13 +61,15 @@ list_frame cpu list s = record {
   locks = refl;
 }
 
-cell_frame : (ino : ℕ) (cell : CellState) (s : Shared) → Frame (record nothing_lent { cell = Some ino }) s (with_cell ino cell s)
-cell_frame ino cell s = record {
+-- a cell, and the book where it is lent too
+cell_frame : (lent : Bool) (ino : ℕ) (book : BookState) (cell : CellState) (s : Shared) → Stays lent (book ≡ s.book)
+    → Frame (record nothing_lent { book = lent; cell = Some ino }) s (with_cell ino cell (with_book book s))
+cell_frame lent ino book cell s books = record {
   lists = λ cpu h. refl;
   pool = refl;
   cells = λ n h. get_or-set_other s.cells ino n cell no_cell (λ e. h (ap Some (sym e)));
   owners = λ n h. refl;
-  book = refl;
+  book = books;
   holder = refl;
   cpus = refl;
   slots = length-set s.cells ino cell;
@@ -69,47 +87,6 @@ lock_frame ino owner s = record {
   cpus = refl;
   slots = refl;
   locks = length-set s.owners ino owner;
-}
-
-book_frame : (book : BookState) (s : Shared) → Frame (record nothing_lent { book = true }) s (with_book book s)
-book_frame book s = record {
-  lists = λ cpu h. refl;
-  pool = refl;
-  cells = λ ino h. refl;
-  owners = λ ino h. refl;
-  book = tt;
-  holder = refl;
-  cpus = refl;
-  slots = refl;
-  locks = refl;
-}
-
-leave_frame : (s : Shared) → Frame (record nothing_lent { commit_lock = true }) s (record s { holder = None })
-leave_frame s = record {
-  lists = λ cpu h. refl;
-  pool = refl;
-  cells = λ n h. refl;
-  owners = λ n h. refl;
-  book = refl;
-  holder = tt;
-  cpus = refl;
-  slots = refl;
-  locks = refl;
-}
-
--- a cell and the book
-retired_frame : (ino : ℕ) (book : BookState) (cell : CellState) (s : Shared)
-    → Frame (record nothing_lent { book = true; cell = Some ino }) s (with_cell ino cell (with_book book s))
-retired_frame ino book cell s = record {
-  lists = λ cpu h. refl;
-  pool = refl;
-  cells = λ n h. get_or-set_other s.cells ino n cell no_cell (λ e. h (ap Some (sym e)));
-  owners = λ n h. refl;
-  book = tt;
-  holder = refl;
-  cpus = refl;
-  slots = length-set s.cells ino cell;
-  locks = refl;
 }
 
 -- ---- the last steps, and what grows
@@ -144,17 +121,7 @@ grown_framed l s t false turn h r f g = end_framed l s t r.slots _ h r f
 number_framed : (numbers : List ℕ) (s : Shared) (h : HandState) (r : Running)
     → IsFramed (record nothing_lent { pool = true }) s (number_turn numbers s h r)
 number_framed [] s h r = same_frame _ s
-number_framed (ino ∷ numbers) s h r = record {
-  lists = λ cpu h. refl;
-  pool = tt;
-  cells = λ n h. refl;
-  owners = λ n h. refl;
-  book = refl;
-  holder = refl;
-  cpus = refl;
-  slots = refl;
-  locks = refl;
-}
+number_framed (ino ∷ numbers) s h r = pool_frame _ s
 
 look_framed : (owner : Option ℕ) (tests : Tests) (found : Looked) (place : ℕ) (s : Shared) (h : HandState) (r : Running)
     → IsFramed nothing_lent s (look_turn owner tests found place s h r)
@@ -196,17 +163,8 @@ enter_framed : (holder : Option ℕ) (last granted : Bool) (actor : ℕ) (s : Sh
     → IsFramed (record nothing_lent { book = true; commit_lock = true }) s (enter_turn holder last granted actor s h r)
 enter_framed (Some other) last granted actor s h r = tt
 enter_framed None true granted actor s h r = end_framed _ s s r.slots _ h r (same_frame _ s)
-enter_framed None false granted actor s h r = grown_framed _ s s granted _ h r (same_frame _ s) (record {
-  lists = λ cpu h. refl;
-  pool = refl;
-  cells = λ n h. refl;
-  owners = λ n h. refl;
-  book = tt;
-  holder = tt;
-  cpus = refl;
-  slots = refl;
-  locks = refl;
-})
+enter_framed None false granted actor s h r =
+    grown_framed _ s s granted _ h r (same_frame _ s) (parts_frame _ s.pool _ _ s refl tt tt)
 
 unlock_framed : (l : Lent) (more : Bool) (place : ℕ) (s t : Shared) (h : HandState) (r : Running) → Frame l s t
     → IsFramed l s (unlocked_turn more place t h r)
@@ -216,17 +174,7 @@ unlock_framed l false place s t h r f = over_framed l s t r.ending h r f
 back_framed : (number : Option ℕ) (s : Shared) (h : HandState) (r : Running)
     → IsFramed (record nothing_lent { pool = true }) s (back_turn number s h r)
 back_framed None s h r = same_frame _ s
-back_framed (Some ino) s h r = record {
-  lists = λ cpu h. refl;
-  pool = tt;
-  cells = λ n h. refl;
-  owners = λ n h. refl;
-  book = refl;
-  holder = refl;
-  cpus = refl;
-  slots = refl;
-  locks = refl;
-}
+back_framed (Some ino) s h r = pool_frame _ s
 
 visit_framed : (owner : Option ℕ) (tests : Tests) (granted : Bool) (found : Answer) (s : Shared) (h : HandState) (r : Running)
     → IsFramed nothing_lent s (visit_turn owner tests granted found s h r)
@@ -244,11 +192,11 @@ framed (TakeBlocks asked) block actor granted s h r = take_framed _ _ _ asked bl
 framed (TakePages asked) block actor granted s h r = take_pages_framed _ _ _ asked s _ _ r (list_frame _ _ s)
 framed Ready block actor granted s h r = grown_framed _ s s granted _ h r (same_frame _ s) (same_frame _ s)
 framed Enter block actor granted s h r = enter_framed s.holder _ granted actor s h r
-framed (Append place) block actor granted s h r = cell_frame _ _ s
+framed (Append place) block actor granted s h r = cell_frame false _ s.book _ s refl
 framed Open block actor granted s h r = book_frame _ s
-framed (Publish place) block actor granted s h r = cell_frame _ _ s
+framed (Publish place) block actor granted s h r = cell_frame false _ s.book _ s refl
 framed Close block actor granted s h r = book_frame _ s
-framed (Retire place) block actor granted s h r = retired_frame _ _ _ s
+framed (Retire place) block actor granted s h r = cell_frame true _ _ _ s tt
 framed Leave block actor granted s h r = end_framed _ s (record s { holder = None }) r.slots _ h r (leave_frame s)
 framed (Unlock place) block actor granted s h r = unlock_framed _ _ place s _ h r (lock_frame _ _ s)
 framed (Give cpu) block actor granted s h r = rest_framed _ s _ _ h.ino _ r (list_frame cpu _ s)

@@ -181,7 +181,8 @@ has_either (x ∷ xs) ys handle e = elim (or_cases (same_handle x handle) (has_h
 ]
 
 events_made : (g : GeometryNumbers) (events : List Event) (w : World) (handle : Handle)
-    → ((before : List Event) → IsKnown g (after w before)) → ((before : List Event) → AreFit (after w before)) → has_handle (handles_made w events) handle ≡ true
+    → ((before : List Event) → IsKnown g (after w before)) → ((before : List Event) → AreFit (after w before))
+    → has_handle (handles_made w events) handle ≡ true
     → IsUsed (after w events).shared handle
 events_made g [] w handle known fit made = cc
 events_made g (e ∷ events) w handle known fit made =

@@ -24,45 +24,33 @@ OnGrown a s (Ends result t h) = CellsLeft a s t × AllFree t
 
 -- ---- outside of commits
 
+-- no entry of a call that does not commit now is appended, and none is behind
+neither : (k : Next) (written : List ℕ) (ino : ℕ) → commits_at k ≡ false
+    → (is_appended k written ino ≡ false) × (is_behind k written ino ≡ false)
+neither Number written ino e = (refl, refl)
+neither (Look place) written ino e = (refl, refl)
+neither (Lock place) written ino e = (refl, refl)
+neither Check written ino e = (refl, refl)
+neither (TakeBlocks asked) written ino e = (refl, refl)
+neither (TakePages asked) written ino e = (refl, refl)
+neither Ready written ino e = (refl, refl)
+neither Enter written ino e = (refl, refl)
+neither (Append place) written ino e = (cc, cc)
+neither Open written ino e = (cc, cc)
+neither (Publish place) written ino e = (cc, cc)
+neither Close written ino e = (cc, cc)
+neither (Retire place) written ino e = (refl, refl)
+neither Leave written ino e = (refl, refl)
+neither (Unlock place) written ino e = (refl, refl)
+neither (Give cpu) written ino e = (refl, refl)
+neither Back written ino e = (refl, refl)
+neither Visit written ino e = (refl, refl)
+
 pub not_appended : (k : Next) (written : List ℕ) (ino : ℕ) → commits_at k ≡ false → is_appended k written ino ≡ false
-not_appended Number written ino e = refl
-not_appended (Look place) written ino e = refl
-not_appended (Lock place) written ino e = refl
-not_appended Check written ino e = refl
-not_appended (TakeBlocks asked) written ino e = refl
-not_appended (TakePages asked) written ino e = refl
-not_appended Ready written ino e = refl
-not_appended Enter written ino e = refl
-not_appended (Append place) written ino e = cc
-not_appended Open written ino e = cc
-not_appended (Publish place) written ino e = cc
-not_appended Close written ino e = cc
-not_appended (Retire place) written ino e = refl
-not_appended Leave written ino e = refl
-not_appended (Unlock place) written ino e = refl
-not_appended (Give cpu) written ino e = refl
-not_appended Back written ino e = refl
-not_appended Visit written ino e = refl
+not_appended k written ino e = (neither k written ino e).0
 
 pub not_behind : (k : Next) (written : List ℕ) (ino : ℕ) → commits_at k ≡ false → is_behind k written ino ≡ false
-not_behind Number written ino e = refl
-not_behind (Look place) written ino e = refl
-not_behind (Lock place) written ino e = refl
-not_behind Check written ino e = refl
-not_behind (TakeBlocks asked) written ino e = refl
-not_behind (TakePages asked) written ino e = refl
-not_behind Ready written ino e = refl
-not_behind Enter written ino e = refl
-not_behind (Append place) written ino e = cc
-not_behind Open written ino e = cc
-not_behind (Publish place) written ino e = cc
-not_behind Close written ino e = cc
-not_behind (Retire place) written ino e = refl
-not_behind Leave written ino e = refl
-not_behind (Unlock place) written ino e = refl
-not_behind (Give cpu) written ino e = refl
-not_behind Back written ino e = refl
-not_behind Visit written ino e = refl
+not_behind k written ino e = (neither k written ino e).1
 
 -- a call with nothing past its settled logs
 pub all_settled : (k : Next) (s : Shared) (a : ℕ) (r : Running) → ((ino : ℕ) → is_appended k (written_slots r) ino ≡ false)

@@ -203,7 +203,8 @@ passed_check (Ok passed) true (Ok all) numbered effect e = refl
 
 pub wanted_in_file : (block : ℕ) (nodes : Handle → Option NodeCopy) (present : Bool) (c : Call) → 0 < block → refusal block nodes c ≡ passes
     → IsInFile block c (blocks_wanted block nodes present c)
-wanted_in_file block nodes present (call.Write file offset text) some h = λ any. write_within block nodes some file offset text present _ h refl any
+wanted_in_file block nodes present (call.Write file offset text) some h = λ any. write_within block nodes some file offset text present _
+    h refl any
 wanted_in_file block nodes present (call.Size file size) some h = size_within block nodes some file size present _ h refl
 wanted_in_file block nodes present (call.Create dir name mode) some h = tt
 wanted_in_file block nodes present (call.Mkdir dir name mode) some h = tt

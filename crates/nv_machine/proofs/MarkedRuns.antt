@@ -263,7 +263,8 @@ are_cells g events ino within lt =
 -- with the bytes that a search among its blocks finds
 pub have_bytes : (g : GeometryNumbers) (events : List Event) (ino : ℕ) → IsWithinLimits g
     → ino < length (after (formatted g) events).shared.cells
-    → HasBytes (bytes_among (cell_at (after (formatted g) events).shared ino).blocks) g.block (cell_at (after (formatted g) events).shared ino)
+    → HasBytes (bytes_among (cell_at (after (formatted g) events).shared ino).blocks) g.block
+    (cell_at (after (formatted g) events).shared ino)
 have_bytes g events ino within lt = record {
   is = are_cells g events ino within lt;
   size = (all_parts g events within ino lt).size;

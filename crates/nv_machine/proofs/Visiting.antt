@@ -31,7 +31,8 @@ module _ (w : World) (logs : AreGrown w) where
   free_log : (ino : ℕ) → owner_at w.shared ino ≡ None → log_of (cell_at w.shared ino) ≡ settled w.shared ino
   free_log ino free =
       let whole = logs.free ino free in
-      ap (λ (n : ℕ). take n (cell_at w.shared ino).chain.entries) whole.tail ∙ take-length (cell_at w.shared ino).chain.entries ∙ whole.entries
+      ap (λ (n : ℕ). take n (cell_at w.shared ino).chain.entries) whole.tail ∙ take-length (cell_at w.shared ino).chain.entries
+      ∙ whole.entries
 
   pub free_node : (handle : Handle) → owner_at w.shared handle.ino ≡ None → nodes w.shared handle ≡ settled_nodes w.shared handle
   free_node handle free = ap (λ (log : List Entry). cond (handle.generation == (cell_at w.shared handle.ino).generation)
@@ -115,5 +116,6 @@ visit_answers w actor granted r told logs there is next begins e =
     (lt-ltb actor (length w.actors) there) is ∙ ap (λ (t : Turn). turned t actor w) turn_is in
     let both = is_answered owner found (step w (Go actor granted)).reply told
     (subst (λ x. IsAnswered owner found (answer_in x.reply)) (sym same)
-    (visit_told owner (refusal w.numbers.block (copies w.shared) r.call) (granted || not (visit_grows r.call)) found w.shared h r actor w)) e in
+    (visit_told owner (refusal w.numbers.block (copies w.shared) r.call)
+    (granted || not (visit_grows r.call)) found w.shared h r actor w)) e in
     both.1 ∙ (visit_same w logs (record { made = r.made; runs = []; present = false }) r.call begins both.0).answer

@@ -39,7 +39,8 @@ pub fn one_step()
     ensures goes { (w : World) (actor : ℕ) (granted : Bool) (r : Running) → actor < length w.actors
         → (actor_at w actor).running ≡ Some r
         → IsOneStep w actor granted r (step w (Go actor granted)) }
-    ensures starts { (w : World) (actor : ℕ) (c : Call) → IsStart w actor c (step w (Start actor c)) }
+    ensures starts { (w : World) (actor : ℕ) (c : Call)
+        → IsStart w actor c (step w (Start actor c)) }
     ensures nobody { (w : World) (actor : ℕ) (c : Call) (granted : Bool) → length w.actors ≤ actor
         → (step w (Start actor c) ≡ stays (Refused NoActor) w)
         × (step w (Go actor granted) ≡ stays (Refused NoActor) w) }
@@ -146,7 +147,8 @@ pub fn lists_are_sorted()
 /// Each CPU's free list is what one scan leaves: the numbers of its home range that no page of a chain, no part
 /// and no hand has.
 pub fn lists_are_from_scratch()
-    ensures { (g : GeometryNumbers) (events : List Event) (cpu : ℕ) → IsWithinLimits g → cpu < g.cpus
+    ensures { (g : GeometryNumbers) (events : List Event) (cpu : ℕ) → IsWithinLimits g
+        → cpu < g.cpus
         → free_of (list_at (after (formatted g) events).shared cpu)
         ≡ free_from_scratch g (after (formatted g) events) cpu }
 {}
@@ -179,7 +181,8 @@ pub fn lists_are_told_by_logs()
 /// their logs and are not of the last generation, and that no hand has.
 pub fn pool_is_from_scratch()
     ensures { (g : GeometryNumbers) (events : List Event) → IsWithinLimits g
-        → (after (formatted g) events).shared.pool.numbers ≡ pool_from_scratch g (after (formatted g) events) }
+        → (after (formatted g) events).shared.pool.numbers
+        ≡ pool_from_scratch g (after (formatted g) events) }
 {}
 
 /// No two hands have one inode number; with [`pool_is_from_scratch`], none that a hand has is in the pool.

@@ -140,27 +140,28 @@ pub fn new_worlds_lead_where_laws_hold()
     ensures reached { (g : GeometryNumbers) (events : List Event) → IsWithinLimits g
         → IsReached (after (formatted g) events) }
     ensures nodes { (w : World) (e : Event) → IsReached w → keeps_nodes (deed_of w e) ≡ true
-        → (handle : Handle) → settled_nodes (step w e).world.shared handle ≡ settled_nodes w.shared handle }
+        → (handle : Handle)
+        → settled_nodes (step w e).world.shared handle ≡ settled_nodes w.shared handle }
 {}
 
 /// At each commit point, whatever events come from a new world on, the plain world does not refuse the call, the plan
-/// that stands fits the effect that its call has on the nodes of now, and so the commit point has that effect. `bytes_in` gives the bytes of all blocks
-/// of all cells.
+/// that stands fits the effect that its call has on the nodes of now, and so the commit point has that effect. `bytes_in`
+/// gives the bytes of all blocks of all cells.
 pub fn plans_fit_at_commit_points()
-    ensures fits { (g : GeometryNumbers) (events : List Event) (actor : ℕ) (granted : Bool) (r : Running)
-        → IsWithinLimits g → actor < length (after (formatted g) events).actors
+    ensures fits { (g : GeometryNumbers) (events : List Event) (actor : ℕ) (granted : Bool)
+        (r : Running) → IsWithinLimits g → actor < length (after (formatted g) events).actors
         → (actor_at (after (formatted g) events) actor).running ≡ Some r
         → deed_of (after (formatted g) events) (Go actor granted) ≡ Commits
         → HasPlanNow (bytes_in (after (formatted g) events).shared)
         (after (formatted g) events).numbers.block (after (formatted g) events).shared r }
-    ensures passes { (g : GeometryNumbers) (events : List Event) (actor : ℕ) (granted : Bool) (r : Running)
-        → IsWithinLimits g → actor < length (after (formatted g) events).actors
+    ensures passes { (g : GeometryNumbers) (events : List Event) (actor : ℕ) (granted : Bool)
+        (r : Running) → IsWithinLimits g → actor < length (after (formatted g) events).actors
         → (actor_at (after (formatted g) events) actor).running ≡ Some r
         → deed_of (after (formatted g) events) (Go actor granted) ≡ Commits
         → refusal (after (formatted g) events).numbers.block
         (node_in (settled_nodes (after (formatted g) events).shared)) r.call ≡ passes }
-    ensures nodes { (g : GeometryNumbers) (events : List Event) (actor : ℕ) (granted : Bool) (r : Running)
-        → IsWithinLimits g → actor < length (after (formatted g) events).actors
+    ensures nodes { (g : GeometryNumbers) (events : List Event) (actor : ℕ) (granted : Bool)
+        (r : Running) → IsWithinLimits g → actor < length (after (formatted g) events).actors
         → (actor_at (after (formatted g) events) actor).running ≡ Some r
         → deed_of (after (formatted g) events) (Go actor granted) ≡ Commits → (handle : Handle)
         → settled_nodes (step (after (formatted g) events) (Go actor granted)).world.shared handle
@@ -193,8 +194,8 @@ pub fn the_plain_world_begins_with_the_root()
 
 /// The plain world's nodes are those of the settled logs after every list of events, and these logs are sound.
 pub fn the_plain_world_is_that_of_settled_logs()
-    ensures nodes { (g : GeometryNumbers) (events : List Event) → IsWithinLimits g → (handle : Handle)
-        → settled_nodes (after (formatted g) events).shared handle
+    ensures nodes { (g : GeometryNumbers) (events : List Event) → IsWithinLimits g
+        → (handle : Handle) → settled_nodes (after (formatted g) events).shared handle
         ≡ (plain_after (formatted g) events (plain_of (formatted g))).nodes handle }
     ensures sound { (g : GeometryNumbers) (events : List Event) → IsWithinLimits g
         → AreSound (after (formatted g) events).shared }
@@ -202,10 +203,11 @@ pub fn the_plain_world_is_that_of_settled_logs()
 
 /// A step that refuses a call does so for a fault whose cause is there at that step: the plain world refuses the call at
 /// the look, the check or the visit; it does not, and no number was free; the last list was asked and is short; no
-/// further commit number is there, and then it always refuses; no round of looks is left; or memory that the step asks for was not granted. A call is
-/// overtaken at its check alone, where a name is bound anew. A refused call has only its last steps left, which lead
-/// to that refusal ([`what_commits_is_answered`]). The tests are those over the nodes of the cells, whatever the state;
-/// from a new world on and whatever events come, they are those over the settled nodes, which the plain world has.
+/// further commit number is there, and then it always refuses; no round of looks is left; or memory that the step asks
+/// for was not granted. A call is overtaken at its check alone, where a name is bound anew. A refused call has only its
+/// last steps left, which lead to that refusal ([`what_commits_is_answered`]). The tests are those over the nodes of the
+/// cells, whatever the state; from a new world on and whatever events come, they are those over the settled nodes, which
+/// the plain world has.
 pub fn refusals_have_causes()
     ensures causes { (block actor : ℕ) (granted : Bool) (s : Shared) (h : HandState) (r : Running)
         → r.ending ≡ Answers
@@ -224,9 +226,10 @@ pub fn refusals_have_causes()
         (after (formatted g) events).shared (actor_at (after (formatted g) events) actor).hand r) }
     ensures number { (block actor : ℕ) (granted : Bool) (s : Shared) (h : HandState) (r : Running)
         → FindsNone s (kind_turn Number block actor granted s h r) }
-    ensures contended { (place block actor : ℕ) (granted : Bool) (s : Shared) (h : HandState) (r : Running)
-        → r.ending ≡ Overtaken
-        → RefusesFor (IsRoundless r) (Unit {0}) (kind_turn (Unlock place) block actor granted s h r) }
+    ensures contended { (place block actor : ℕ) (granted : Bool) (s : Shared) (h : HandState)
+        (r : Running) → r.ending ≡ Overtaken
+        → RefusesFor (IsRoundless r) (Unit {0})
+        (kind_turn (Unlock place) block actor granted s h r) }
     ensures limit { (block actor : ℕ) (granted : Bool) (s : Shared) (h : HandState) (r : Running)
         → s.holder ≡ None → NUMBER ≤ s.book.commit
         → kind_turn Enter block actor granted s h r ≡ refuse CommitLimit s h r }
@@ -264,7 +267,8 @@ pub fn contended_calls_have_failed_eight_checks()
         → HasRounds 8 0 (actor_at (step w (Start actor c)).world actor).running }
     ensures fails { (events : List Event) (w : World) (actor all failed : ℕ)
         → AreNoStarts actor events → HasRounds all failed (actor_at w actor).running
-        → HasRounds all (failed + failed_checks actor w events) (actor_at (after w events) actor).running }
+        → HasRounds all (failed + failed_checks actor w events)
+        (actor_at (after w events) actor).running }
     ensures eight { (w : World) (actor : ℕ) (c : Call) (events : List Event) (r : Running)
         → (step w (Start actor c)).reply ≡ Started → AreNoStarts actor events
         → (actor_at (after (step w (Start actor c)).world events) actor).running ≡ Some r

@@ -47,7 +47,8 @@ module _ (bytes : ℕ → List ℕ) (block : ℕ) (slots : ℕ → Slot) (some :
   bound_fits own None other is f t h = cc
   bound_fits true (Some moved) other is f t h = no_plan bytes block slots some
   bound_fits false (Some moved) other is f t h =
-      let m = moved_passed block nodes from old to new moved other (elsewhere (own_place from old to new) (moved_refusal nodes from to other moved) is h) in
+      let m = moved_passed block nodes from old to new moved other
+      (elsewhere (own_place from old to new) (moved_refusal nodes from to other moved) is h) in
       move_fits (same_handle from to) moved (replaced_plan other) (replaced_effect other) f t
       (replaced_fits (kind_of (nodes moved)) other m.1)
 

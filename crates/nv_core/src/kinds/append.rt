@@ -1,18 +1,13 @@
 //! Entries are appended past the tail of one inode's log.
 
 ghost use Rattle.std.specs.Prelude.{◌≡◌};
-ghost use Rattle.nv_calls.specs.Progress.{step_of};
-ghost use Rattle.nv_calls.specs.SlotCells.{lent_cells};
 ghost use Rattle.nv_machine.specs.Kinds.{append_turn};
 ghost use Rattle.nv_machine.specs.Reads.{pages_needed, slot_at, written_slots};
 ghost use Rattle.nv_machine.specs.World.{Moves};
 ghost use Rattle.nv_core.specs.Appends.{IsPlanOf};
-ghost use Rattle.nv_core.specs.Committing.{IsCommitting};
-ghost use Rattle.nv_core.specs.Frames.{LeavesCells};
-ghost use Rattle.nv_core.specs.Parts.{AreSlots};
-ghost use Rattle.nv_core.specs.Rooms.{IsHandOf, committing_cpu};
+ghost use Rattle.nv_core.specs.CommitSteps.{HasStepped, IsAtStep};
 ghost use Rattle.nv_core.specs.Shown.{Told, hand_in, shared_of, shown_commit, slots_in};
-ghost use Rattle.nv_core.specs.Told.{IsCommitOf, IsOnItsWay, IsPlaceOf};
+ghost use Rattle.nv_core.specs.Told.{IsCommitOf, IsPlaceOf};
 
 use crate::lent::append_in;
 use crate::running::Running;
@@ -21,12 +16,7 @@ use nv_calls::{Commit, CommitStep};
 
 /// Appends the entries of the next inode.
 pub(crate) fn append(shared: &mut Shared, running: &Running, commit: &mut Commit)
-    requires slots { AreSlots shared.old (slots_in running.now.slots) }
-    requires committing { IsCommitting (committing_cpu shared.old)
-        (lent_cells (slots_in running.now.slots) shared.old.cells.items)
-        shared.old.book commit.old }
-    requires step { step_of commit.old ≡ CommitStep.Append }
-    requires sized { IsHandOf shared.old.geometry.numbers commit.old.hand }
+    requires at { IsAtStep CommitStep.Append shared.old running.now commit.old }
     ensures turn { (told : Told) → IsCommitOf (slots_in running.now.slots) commit.old told
         → IsPlaceOf (slots_in running.now.slots) commit.old told
         → let s = shared_of shared.old in let r = shown_commit commit.old told running.now in
@@ -34,18 +24,11 @@ pub(crate) fn append(shared: &mut Shared, running: &Running, commit: &mut Commit
         append_turn ino (pages_needed s r.plan ino) commit.old.appended s (hand_in commit.old) r
         ≡ Moves (shared_of shared.new) (hand_in commit.new)
         (shown_commit commit.new told running.now) }
-    ensures told { (told : Told) → IsCommitOf (slots_in running.now.slots) commit.old told
-        → IsCommitOf (slots_in running.now.slots) commit.new told }
+    ensures step { HasStepped running.now shared.old shared.new commit.old commit.new }
     ensures place { (told : Told) → IsCommitOf (slots_in running.now.slots) commit.old told
         → IsPlaceOf (slots_in running.now.slots) commit.old told
         → IsPlanOf (slots_in running.now.slots) told.plan
         → IsPlaceOf (slots_in running.now.slots) commit.new told }
-    ensures way { IsOnItsWay commit.new }
-    ensures committing { IsCommitting (committing_cpu shared.new)
-        (lent_cells (slots_in running.now.slots) shared.new.cells.items)
-        shared.new.book commit.new }
-    ensures sized { IsHandOf shared.new.geometry.numbers commit.new.hand }
-    ensures rest { LeavesCells (slots_in running.now.slots) shared.old shared.new }
 {
     append_in(&mut shared.cells, &running.slots, commit);
 }

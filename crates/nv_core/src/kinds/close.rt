@@ -1,16 +1,12 @@
 //! The journal is closed.
 
 ghost use Rattle.std.specs.Prelude.{◌≡◌};
-ghost use Rattle.nv_calls.specs.Progress.{step_of};
-ghost use Rattle.nv_calls.specs.SlotCells.{lent_cells};
 ghost use Rattle.nv_machine.specs.Kinds.{close_turn};
 ghost use Rattle.nv_machine.specs.World.{Moves};
-ghost use Rattle.nv_core.specs.Committing.{IsCommitting};
-ghost use Rattle.nv_core.specs.Frames.{LeavesCells};
-ghost use Rattle.nv_core.specs.Parts.{AreSlots};
-ghost use Rattle.nv_core.specs.Rooms.{IsHandOf, committing_cpu};
+ghost use Rattle.nv_core.specs.CommitSteps.{HasStepped, IsAtStep};
+ghost use Rattle.nv_core.specs.Rooms.{committing_cpu};
 ghost use Rattle.nv_core.specs.Shown.{Told, hand_in, shared_of, shown_commit, slots_in};
-ghost use Rattle.nv_core.specs.Told.{IsCommitOf, IsOnItsWay, IsPlaceOf};
+ghost use Rattle.nv_core.specs.Told.{IsCommitOf, IsPlaceOf};
 
 use crate::running::Running;
 use crate::shared::Shared;
@@ -18,26 +14,14 @@ use nv_calls::{Commit, CommitStep, close_on};
 
 /// Closes the journal of a CPU, once all is published: a new inode has its number from here on.
 pub(crate) fn close(shared: &mut Shared, running: &Running, commit: &mut Commit, cpu: u64)
-    requires slots { AreSlots shared.old (slots_in running.now.slots) }
-    requires committing { IsCommitting (committing_cpu shared.old)
-        (lent_cells (slots_in running.now.slots) shared.old.cells.items)
-        shared.old.book commit.old }
-    requires step { step_of commit.old ≡ CommitStep.Close }
-    requires sized { IsHandOf shared.old.geometry.numbers commit.old.hand }
+    requires at { IsAtStep CommitStep.Close shared.old running.now commit.old }
     requires cpu { cpu ≡ committing_cpu shared.old }
     ensures turn { (told : Told) → IsCommitOf (slots_in running.now.slots) commit.old told
         → close_turn cpu (shared_of shared.old) (hand_in commit.old)
         (shown_commit commit.old told running.now)
         ≡ Moves (shared_of shared.new) (hand_in commit.new)
         (shown_commit commit.new told running.now) }
-    ensures told { (told : Told) → IsCommitOf (slots_in running.now.slots) commit.old told
-        → IsCommitOf (slots_in running.now.slots) commit.new told }
-    ensures way { IsOnItsWay commit.new }
-    ensures committing { IsCommitting (committing_cpu shared.new)
-        (lent_cells (slots_in running.now.slots) shared.new.cells.items)
-        shared.new.book commit.new }
-    ensures sized { IsHandOf shared.new.geometry.numbers commit.new.hand }
-    ensures rest { LeavesCells (slots_in running.now.slots) shared.old shared.new }
+    ensures step { HasStepped running.now shared.old shared.new commit.old commit.new }
     ensures placed { (told : Told) → IsPlaceOf (slots_in running.now.slots) commit.new told }
 {
     close_on(&mut shared.book, commit);

@@ -3,7 +3,7 @@
 ghost use Rattle.std.specs.Prelude.{◌≡◌, is_some, nat_le, true};
 ghost use Rattle.nv_base.specs.declared.limits.TheConstants.{NUMBER};
 ghost use Rattle.nv_machine.specs.Kinds.{enter_turn};
-ghost use Rattle.nv_core.specs.Appends.{IsPlaceBy, IsPlacedBy, IsPlanOf};
+ghost use Rattle.nv_core.specs.Appends.{IsPlacedBy, IsPlanOf};
 ghost use Rattle.nv_core.specs.Parts.{AreHome, IsOfDevice};
 ghost use Rattle.nv_core.specs.Rooms.{HasRooms, HasRoomsAfter};
 ghost use Rattle.nv_core.specs.Shown.{Told, hand_of, held_by, shared_of, shown_by, shown_ready, slots_in, turn_of};
@@ -37,16 +37,11 @@ pub(crate) fn enter(
     ensures told { (told : Told) → IsReadyOf (slots_in running.old.slots) ready told
         → IsHoldOf (slots_in running.old.slots) result.0
         (told_by result.0 shared.old.book.state told) }
-    ensures place { (told : Told) → IsReadyOf (slots_in running.old.slots) ready told
-        → IsPlanOf (slots_in running.old.slots) told.plan
-        → IsPlaceBy (slots_in running.old.slots) result.0
-        (told_by result.0 shared.old.book.state told) }
     ensures placed { (told : Told) → IsReadyOf (slots_in running.old.slots) ready told
         → IsPlanOf (slots_in running.old.slots) told.plan
         → IsPlacedBy (slots_in running.old.slots) result.0
         (told_by result.0 shared.old.book.state told) }
-    ensures waits { is_some shared.old.holder ≡ true → (result.1 ≡ Turn.Waits)
-        × (shared.new ≡ shared.old) × (running.new ≡ running.old) × (result.0 ≡ Hold.Ready ready) }
+    ensures waits { is_some shared.old.holder ≡ true → result.1 ≡ Turn.Waits }
     ensures still { result.1 ≡ Turn.Waits → (shared.new ≡ shared.old)
         × (running.new ≡ running.old) × (result.0 ≡ Hold.Ready ready) }
     ensures job { KeepsJob running.old running.new }
@@ -54,7 +49,6 @@ pub(crate) fn enter(
     ensures rooms { HasRoomsAfter result.1 shared.new result.0 running.new }
     ensures rest { shared.new
         ≡ record shared.old { book = shared.new.book; holder = shared.new.holder } }
-    ensures held { is_some shared.old.holder ≡ true → shared.new ≡ shared.old }
 {
     if shared.holder.is_some() {
         return (Hold::Ready(ready), Turn::Waits);

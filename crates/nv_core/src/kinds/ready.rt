@@ -9,11 +9,11 @@ ghost use Rattle.nv_machine.specs.Kinds.{ready_turn};
 ghost use Rattle.nv_core.specs.Appends.{IsPlacedBy};
 ghost use Rattle.nv_core.specs.Frames.{LeavesCells};
 ghost use Rattle.nv_core.specs.Parts.{AreHome, AreSlots, IsOfDevice};
-ghost use Rattle.nv_core.specs.Readied.{IsFilledBy};
+ghost use Rattle.nv_core.specs.Readied.{IsFilledBy, planned_by};
 ghost use Rattle.nv_core.specs.Rooms.{HasRooms, HasRoomsAfter};
 ghost use Rattle.nv_core.specs.Shown.{Told, hand_of, held_by, shared_of, shown, shown_by, slots_in, turn_of};
 ghost use Rattle.nv_core.specs.Steps.{CanGetReady};
-ghost use Rattle.nv_core.specs.Told.{IsEither, IsHoldOf, IsToldOf, planned};
+ghost use Rattle.nv_core.specs.Told.{IsEither, IsHoldOf, IsToldOf};
 
 use crate::ending::refuse;
 use crate::hold::Hold;
@@ -44,20 +44,17 @@ pub(crate) fn ready(
     requires rooms { HasRooms shared.old (Hold.Hand hand) running.old }
     requires can { CanGetReady shared.old running.old }
     ensures turn { (told : Told) → IsToldOf running.old told
-        → let block = shared.old.geometry.numbers.block in let s = shared_of shared.old in
-        let h = hand_of hand in let r = shown told running.old in
-        IsEither (λ granted. ready_turn granted block s h r)
+        → IsEither (λ granted. ready_turn granted shared.old.geometry.numbers.block
+        (shared_of shared.old) (hand_of hand) (shown told running.old))
         (turn_of result.1 (shared_of shared.new) (held_by result.0)
-        (shown_by result.0 (planned result.0 block s h r told) running.new)) }
+        (shown_by result.0 (planned_by result.0 shared.old hand running.old told) running.new)) }
     ensures told { (told : Told) → IsToldOf running.old told → IsToldOf running.new told }
     ensures plans { (told : Told) → IsToldOf running.old told
-        → let block = shared.old.geometry.numbers.block in let s = shared_of shared.old in
-        IsHoldOf (slots_in running.old.slots) result.0
-        (planned result.0 block s (hand_of hand) (shown told running.old) told) }
+        → IsHoldOf (slots_in running.old.slots) result.0
+        (planned_by result.0 shared.old hand running.old told) }
     ensures placed { (told : Told) → IsToldOf running.old told
-        → let block = shared.old.geometry.numbers.block in let s = shared_of shared.old in
-        IsPlacedBy (slots_in running.old.slots) result.0
-        (planned result.0 block s (hand_of hand) (shown told running.old) told) }
+        → IsPlacedBy (slots_in running.old.slots) result.0
+        (planned_by result.0 shared.old hand running.old told) }
     ensures slots { running.new.slots ≡ running.old.slots }
     ensures goes { result.1 ≢ Turn.Waits }
     ensures rooms { HasRoomsAfter result.1 shared.new result.0 running.new }

@@ -43,7 +43,8 @@ loop-added-preserved g c =
           (with_pages (take (n + 1) bs) v0) i.cells c.add_page.ensures.cells p.value;
       ready = λ items h. p.ready items (i.ready items h);
       fewer = λ entries. omega (arith, p.fewer entries, i.fewer entries);
-      pages = one_front n c.args.pages.now l.pages c.take_next.new.self c.take_next.result c.in-Some.block c.in-Some.is i.pages c.take_next.ensures.rest;
+      pages = one_front n c.args.pages.now l.pages c.take_next.new.self c.take_next.result c.in-Some.block c.in-Some.is i.pages
+          c.take_next.ensures.rest;
       places = c.add_page.ensures.places ∙ i.places;
       beside = c.add_page.ensures.beside ∙ i.beside;
     }

@@ -10,7 +10,8 @@ abbrev pub invariant-loop-added : goal.invariant-loop-added
 invariant-loop-added g l = record {
   cells : g.C.Cells.cells l.cells ≡ with_value (g.C.Cells.cells l.fn.cells) l.k
       (with_pages (take l._added l.fn.pages.blocks) (value_at (g.C.Cells.cells l.fn.cells) l.k));
-  ready : (items : List Item) → IsReadyFor items (value_at (g.C.Cells.cells l.fn.cells) l.k) → IsReadyFor items (value_at (g.C.Cells.cells l.cells) l.k);
+  ready : (items : List Item) → IsReadyFor items (value_at (g.C.Cells.cells l.fn.cells) l.k)
+      → IsReadyFor items (value_at (g.C.Cells.cells l.cells) l.k);
   fewer : (entries : ℕ) → pages_for (state_at (g.C.Cells.cells l.cells) l.k).chain entries
       ≡ pages_for (state_at (g.C.Cells.cells l.fn.cells) l.k).chain entries - l._added;
   pages : l.pages ≡ without_front l._added l.fn.pages;

@@ -48,9 +48,11 @@ loop-done-preserved g c =
     c.append.ensures.queue ∙ ap (λ (x : Entry). without_front (length (item_blocks x.item)) l.blocks) e in
     let chain : IsChain now.state.chain = subst (λ (v : CellValue). IsChain v.state.chain) c.cell.ensures c.known.ensures.chain in
     record {
-      only = only_along (g.C.Cells.cells c.args.cells.now) (g.C.Cells.cells l.cells) (g.C.Cells.cells c.append.new.self) k i.only c.append.ensures.cells;
+      only = only_along (g.C.Cells.cells c.args.cells.now) (g.C.Cells.cells l.cells)
+          (g.C.Cells.cells c.append.new.self) k i.only c.append.ensures.cells;
       rest = ap (λ (q : QueueValue). with_entries (stamped_entries stamp (l.next + 1) rest) q.blocks new) queue
-          ∙ ap (λ (v : CellValue). with_entries (stamped_entries stamp (l.next + 1) rest) (without_front (length (item_blocks item)) l.blocks).blocks v) made
+          ∙ ap (λ (v : CellValue). with_entries (stamped_entries stamp (l.next + 1) rest)
+          (without_front (length (item_blocks item)) l.blocks).blocks v) made
           ∙ sym (ap (λ (xs : List Item). with_entries (stamped_entries stamp l.next xs) l.blocks.blocks now) items) ∙ i.rest;
       underway = subst (λ (q : QueueValue). IsUnderway stamp (l.next + 1) rest q new) (sym queue)
           (goes_on stamp l.next item rest l.blocks now new under chain made);

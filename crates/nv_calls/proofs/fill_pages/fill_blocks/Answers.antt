@@ -14,12 +14,14 @@ use Rattle.nv_calls.proofs.fill_pages.fill_blocks.Goals as goal
 
 pub fill_pages-requires-clause-begin : goal.fill_pages-requires-clause-begin
 fill_pages-requires-clause-begin g c =
-    (write_can (g.C.Cells.cells c.args.nodes.now.cells.now) c.args.update.now c.args.queue.now c.in-Write.file c.in-Write.offset c.in-Write.count
+    (write_can (g.C.Cells.cells c.args.nodes.now.cells.now) c.args.update.now c.args.queue.now c.in-Write.file c.in-Write.offset
+    c.in-Write.count
     c.requires.can c.in-Write.is).begin
 
 pub fill_pages-requires-clause-fits : goal.fill_pages-requires-clause-fits
 fill_pages-requires-clause-fits g c =
-    (write_can (g.C.Cells.cells c.args.nodes.now.cells.now) c.args.update.now c.args.queue.now c.in-Write.file c.in-Write.offset c.in-Write.count
+    (write_can (g.C.Cells.cells c.args.nodes.now.cells.now) c.args.update.now c.args.queue.now c.in-Write.file c.in-Write.offset
+    c.in-Write.count
     c.requires.can c.in-Write.is).fits
 
 pub returns-in-Write-clause-pages : goal.returns-in-Write-clause-pages
@@ -37,7 +39,10 @@ returns-in-Write-clause-pages g c =
     ∙ ap (λ (bs : List BlockValue). record queue { blocks = bs })
     (filled_as_many bytes (offset / queue.size) (pages_touched queue.size offset (length text)) queue.blocks
     (λ some. can.count_is some ∙ ap (pages_touched queue.size offset) (sym (length-map-range_with_len byte_at 0 count))))
-    ∙ ap (λ (u : Update). record queue { blocks = filled (pages_over queue.size (page_in cells queue.size) (sourced byte_at u)) queue.blocks })
+    ∙ ap (λ (u : Update). record queue {
+      blocks = filled (pages_over queue.size (page_in cells queue.size)
+          (sourced byte_at u)) queue.blocks;
+    })
     (sym c.in-Write.is)) c.fill_pages.ensures.pages
 
 pub returns-in-Write-clause-fresh : goal.returns-in-Write-clause-fresh
@@ -54,7 +59,8 @@ returns-in-Size-clause-fresh g c = λ bytes have sound.
     let queue : QueueValue = c.args.queue.now in
     let cells : List (ℕ × CellValue) = g.C.Cells.cells c.args.nodes.now.cells.now in
     ap (λ (q : QueueValue). q.blocks) c.fill_cut.ensures
-    ∙ ap (λ (u : Update). filled (pages_over queue.size (page_in cells queue.size) (sourced (g.S.Source.byte_at c.args.source.now) u)) queue.blocks)
+    ∙ ap (λ (u : Update). filled (pages_over queue.size (page_in cells queue.size)
+    (sourced (g.S.Source.byte_at c.args.source.now) u)) queue.blocks)
     (sym c.in-Size.is)
     ∙ ap (λ (pages : List (List ℕ)). filled pages queue.blocks) (fresh_are bytes queue.size cells have sound c.args.update.now
     (g.S.Source.byte_at c.args.source.now) c.requires.can.some_bytes c.requires.can.passed)

@@ -29,7 +29,10 @@ returns g c =
     (c.block_for-old.ensures.sized block c.requires.sizes) in
     let place : c.args.size % block ≤ block = omega (arith, mod-lt c.args.size c.requires.some_bytes) in
     c.cut_block.ensures
-    ∙ ap (λ (n : ℕ). record queue { blocks = with_bytes_at queue.blocks 0 (cut_page block (c.args.size % n) (slot_bytes block (option_copied c.block_for-old.result))) }) size
+    ∙ ap (λ (n : ℕ). record queue {
+      blocks = with_bytes_at queue.blocks 0
+          (cut_page block (c.args.size % n) (slot_bytes block (option_copied c.block_for-old.result)));
+    }) size
     ∙ ap (λ o. record queue { blocks = with_bytes_at queue.blocks 0 (cut_page block (c.args.size % block) (slot_bytes block o)) }) there
     ∙ ap (λ (bs : List BlockValue). record queue { blocks = bs })
     (filled_first block (cut_page block (c.args.size % block) (page_in cells block c.args.file.now page)) queue.blocks

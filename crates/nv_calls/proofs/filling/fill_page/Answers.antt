@@ -17,11 +17,19 @@ returns-clause-bytes g c =
     let byte_at : ℕ → ℕ = g.S.Source.byte_at c.args.source.now in
     let old : List ℕ = slot_bytes (length c.args.bytes.now) (option_copied c.args.page) in
     let count : length (take (to - from) (drop from now)) ≡ to - from =
-    omega (arith, length-take (to - from) (drop from now), length-drop from now, c.copy_rest.auto.bytes, c.requires.order, c.requires.within) in
+    omega (
+      arith,
+      length-take (to - from) (drop from now),
+      length-drop from now,
+      c.copy_rest.auto.bytes,
+      c.requires.order,
+      c.requires.within,
+    ) in
     let len : length (text_part byte_at c.args.at (to - from)) ≡ to - from = length-map-range_with_len byte_at c.args.at (to - from) in
     on_ok c.fill.result _ _ (λ filled.
     let part : c.fill.new.part ≡ text_part byte_at c.args.at (to - from) =
     filled ∙ ap (λ (n : ℕ). map byte_at (range_with_len c.args.at n)) count in
     ap (put_mid from (to - from) now) part
-    ∙ put_is from to now (text_part byte_at c.args.at (to - from)) old c.requires.order len c.copy_rest.ensures.front c.copy_rest.ensures.rest)
+    ∙ put_is from to now (text_part byte_at c.args.at (to - from)) old c.requires.order len c.copy_rest.ensures.front
+    c.copy_rest.ensures.rest)
     c.fill.ensures.part

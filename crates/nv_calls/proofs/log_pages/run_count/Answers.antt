@@ -32,7 +32,8 @@ loop-block-preserved c =
     c.next.ensures.steps in
     let long : length ys + 1 ≡ length (ys ++ c.in-Some.block ∷ []) = omega (arith, length-append ys (c.in-Some.block ∷ [])) in
     record {
-      count = ap (λ (n : ℕ). c.loop-block.runs + c.from-runs.result + runs_begun (Some (c.number-number.result + 1)) (drop n (numbers_of blocks)))
+      count = ap (λ (n : ℕ). c.loop-block.runs + c.from-runs.result + runs_begun (Some (c.number-number.result + 1))
+          (drop n (numbers_of blocks)))
           (sym long)
           ∙ block_step blocks (length ys) c.in-Some.block.now c.loop-block.next c.loop-block.runs c.from-runs.result c.number-number.result
           turn.0 turn.1

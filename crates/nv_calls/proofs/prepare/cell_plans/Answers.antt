@@ -30,6 +30,7 @@ loop-at-preserved g c =
             ∙ without_items plan at cells c.loop-at.plans.items c.take_items-items.result.items lt items c.loop-at.invariant.plans none
       ];
       left = λ k le small.
-          c.take_items-items.ensures.others (ino_at cells k) (λ e. omega (arith, e, c.ino.ensures, c.requires.rising at k no_cell (omega (arith, le)) small))
+          c.take_items-items.ensures.others (ino_at cells k) (λ e. omega
+          (arith, e, c.ino.ensures, c.requires.rising at k no_cell (omega (arith, le)) small))
           ∙ c.loop-at.invariant.left k (omega (arith, le)) small;
     }

@@ -9,5 +9,6 @@ invariant-loop-at g l =
     let cells = g.C.Cells.cells l.cells in
     record {
       plans : l.plans.items ++ cell_plans l.fn.planned.items l.at (drop l.at cells) ≡ cell_plans l.fn.planned.items 0 cells;
-      left : (k : ℕ) → l.at ≤ k → k < length cells → items_for l.left.items (ino_at cells k) ≡ items_for l.fn.planned.items (ino_at cells k);
+      left : (k : ℕ) → l.at ≤ k → k < length cells → items_for l.left.items (ino_at cells k) ≡ items_for l.fn.planned.items
+          (ino_at cells k);
     }

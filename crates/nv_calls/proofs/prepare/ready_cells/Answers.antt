@@ -17,9 +17,11 @@ loop-plan-preserved g c =
     let index = c.loop-plan.plan-index in
     let now = g.C.Cells.cells c.loop-plan.cells in
     let new = g.C.Cells.cells c.ready.new.self in
-    let item : c.plan-item.result ≡ plan_at plans index = at_place plans index c.plan-item.result no_plan c.loop-plan-test.true c.plan-item.is in
+    let item : c.plan-item.result ≡ plan_at plans index = at_place plans index c.plan-item.result no_plan c.loop-plan-test.true
+    c.plan-item.is in
     let at : c.plan.inside.at ≡ (plan_at plans index).at = ap (λ (p : CellPlanValue). p.at) (c.plan.view_is ∙ item) in
-    let items : c.deref.result.now ≡ (plan_at plans index).items = c.deref.ensures.value ∙ ap (λ (p : CellPlanValue). p.items) (c.plan.view_is ∙ item) in
+    let items : c.deref.result.now ≡ (plan_at plans index).items = c.deref.ensures.value
+    ∙ ap (λ (p : CellPlanValue). p.items) (c.plan.view_is ∙ item) in
     let here : IsReadyFor (plan_at plans index).items (value_at new c.plan.inside.at) =
     subst (λ (xs : List Item). IsReadyFor xs (value_at new c.plan.inside.at)) items c.in_ok-ready.ensures.ok in
     record {

@@ -66,7 +66,8 @@ loop-part-preserved g c =
     ∙ ap₂ (λ (xs : List ℕ) (m : ℕ). with_records xs m epoch (d ∷ []) l.book.state.manifests) lives i.number in
     let freed : c.retire_part.new.free ≡ with_back (freed_one living ino epoch d s) l.free =
     c.retire_part.ensures.free ∙ ap₂ (λ (xs : List ℕ) (m : ℕ). with_back (freed_one xs m epoch d s) l.free) lives i.number in
-    let room : c.retire_part.new.free.room ≡ l.free.room - length (freed_one living ino epoch d s) = ap (λ (q : QueueValue). q.room) freed in
+    let room : c.retire_part.new.free.room ≡ l.free.room - length (freed_one living ino epoch d s) = ap
+    (λ (q : QueueValue). q.room) freed in
     record {
       only = only_along cells now new k i.only (changed ∙ ap (with_value now k) (sym value_is));
       number = ap (λ (xs : List (ℕ × CellValue)). ino_at xs k) changed ∙ ino_stays now k k value ∙ i.number;
@@ -101,5 +102,6 @@ returns-clause-free g c =
     let now = g.C.Cells.cells l.cells in
     let living = ids c.args.book.now.state.snaps in
     back_none l.free
-    ∙ sym (ap (λ (xs : List KilledPart). with_back (freed_by living (ino_at cells c.args.k) c.args.epoch xs (state_at now c.args.k)) l.free) none)
+    ∙ sym (ap (λ (xs : List KilledPart). with_back (freed_by living (ino_at cells c.args.k) c.args.epoch xs
+    (state_at now c.args.k)) l.free) none)
     ∙ l.invariant.free

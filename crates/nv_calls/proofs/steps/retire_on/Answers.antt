@@ -57,7 +57,8 @@ erase_gone-requires-clause-gone g c =
       ino = c.commit-2.inside.hand.ino;
     })
     (state_at cells (plan_at commit.plans commit.retired).at) (state_at mid k)
-    (ap (λ (s : CellState). s.chain) now ∙ chain_stays living (ino_at cells k) epoch killed (state_at cells k) ∙ ap (λ (s : CellState). s.chain) at)
+    (ap (λ (s : CellState). s.chain) now ∙ chain_stays living (ino_at cells k) epoch killed (state_at cells k)
+    ∙ ap (λ (s : CellState). s.chain) at)
     (ap (λ (s : CellState). s.generation) now ∙ generation_stays living (ino_at cells k) epoch killed (state_at cells k)
     ∙ ap (λ (s : CellState). s.generation) at)
     (ap (λ (v : CommitValue). v.hand.chain) c.commit-2.view_is ∙ ap (λ (v : CommitValue). v.hand.chain) c.take_killed-killed.ensures.rest)

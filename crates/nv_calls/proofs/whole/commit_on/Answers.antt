@@ -115,7 +115,8 @@ returns-clause-hand g c =
     c.publish_noted.ensures.cells c.publish_noted.ensures.room c.publish_noted.ensures.killed c.publish_noted.ensures.told
     c.publish_noted.ensures.plans c.publish_noted.ensures.commit in
     c.finish.ensures.hand ∙ ap (λ (v : CommitValue). v.hand) c.retire_all.ensures.commit
-    ∙ ap (λ (b : BookValue). hand_after_killings (ids b.state.snaps) done.stamp.epoch (noted_killing now done) (length done.plans) done.hand)
+    ∙ ap (λ (b : BookValue). hand_after_killings (ids b.state.snaps) done.stamp.epoch (noted_killing now done)
+    (length done.plans) done.hand)
     c.publish_noted.ensures.book
     ∙ all_hand cells c.args.book.now c.args.cpu c.args.ready c.requires full c.append_all.new.commit a now done p
 

@@ -37,7 +37,8 @@ loop-plan-preserved g c =
     record {
       way = goes_on l._plan (g.C.Cells.cells c.args.cells.now) c.args.commit.now c.args.book.now (g.C.Cells.cells l.cells) l.commit l.book
           c.requires.placed lt l.invariant.way
-          (g.C.Cells.cells c.retire_on.new.cells) c.retire_on.new.commit c.retire_on.new.book c.retire_on.ensures.cells c.retire_on.ensures.state
+          (g.C.Cells.cells c.retire_on.new.cells) c.retire_on.new.commit c.retire_on.new.book c.retire_on.ensures.cells
+          c.retire_on.ensures.state
           c.retire_on.ensures.book c.retire_on.ensures.room c.retire_on.ensures.commit c.retire_on.ensures.cell_room;
       places = c.retire_on.ensures.places ∙ l.invariant.places;
       beside = c.retire_on.ensures.beside ∙ l.invariant.beside;

@@ -6,7 +6,8 @@ use Rattle.nv_core.proofs.ending.give_back.Goals as goal
 pub returns-in-Some-clause-turn : goal.returns-in-Some-clause-turn
 returns-in-Some-clause-turn c told owes =
     let low = c.in-Some.ensures in
-    let home = home_some c.args.shared.now.geometry.numbers 0 c.in-Some.cpu c.args.shared.now.lists.items (blocks_of c.args.hand.now) low.1.0
+    let home = home_some c.args.shared.now.geometry.numbers 0 c.in-Some.cpu c.args.shared.now.lists.items
+    (blocks_of c.args.hand.now) low.1.0
     c.requires.home (omega arith) low.0 low.1.1 low.1.2 low.2 in
     rw home
 

@@ -35,7 +35,8 @@ loop-k-preserved c =
     let marked = c.marks_of-marks.ensures ∙ entry_marks (log_of cell) cell.marks c.args.place e c.requires in
     let mark : c.mark_at.result ≡ slice_index_or (drop base cell.marks) c.loop-k.k Current =
     c.mark_at.ensures ∙ ap (λ (l : List Mark). slice_index_or l c.loop-k.k Current) marked
-    ∙ get_or-take (part_count e) (drop base cell.marks) c.loop-k.k Current (omega (arith, c.loop-k-test.true, c.part_count-k-end.ensures)) in
+    ∙ get_or-take (part_count e) (drop base cell.marks) c.loop-k.k Current
+    (omega (arith, c.loop-k-test.true, c.part_count-k-end.ensures)) in
     let part : c.kept_part-count.result ≡ one_of c.args.book.now.state e.epoch (slice_index_or (drop base cell.marks) c.loop-k.k Current)
     (slice_index_or (drop base cell.blocks) c.loop-k.k None) =
     rw (← mark, get_or-drop base cell.blocks c.loop-k.k None) (c.kept_part-count.ensures.value c.args.place c.requires) in

@@ -6,7 +6,8 @@ use Rattle.nv_core.proofs.reports.kept_of.Given as goal
 
 abbrev pub invariant-loop-k : goal.invariant-loop-k
 invariant-loop-k l = record {
-  count : l.count ≡ kept_among l.book.state (replicate l.k l.entry.epoch) (drop (part_base (log_of l.cell.state) l.place) l.cell.state.marks)
+  count : l.count ≡ kept_among l.book.state (replicate l.k l.entry.epoch)
+      (drop (part_base (log_of l.cell.state) l.place) l.cell.state.marks)
       (drop (part_base (log_of l.cell.state) l.place) l.cell.state.blocks);
   few : l.count ≤ l.k;
 }

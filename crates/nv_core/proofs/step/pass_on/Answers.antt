@@ -56,7 +56,7 @@ returns-clause-rest c r shows =
       | in-Ready w ↦
           subst (λ (s : Shared). LeavesOthers c.args.actor r sh s) (sym w.shared-is)
           (rest_enter c.args.actor sh w.enter.new.shared r w.enter.new.shared.book w.enter.new.shared.holder
-          w.enter.ensures.rest w.enter.ensures.held)
+          w.enter.ensures.rest (λ is. (w.enter.ensures.still (w.enter.ensures.waits is)).0))
       | in-Commit w ↦
           let at = w.in-Commit.ensures.value in
           subst (λ (s : Shared). LeavesOthers c.args.actor r sh s) (sym w.shared-is)

@@ -30,7 +30,8 @@ returns-clause-pages c =
     ∙ sym (get_or_default all place c.index-cells-slot.result (no_cell.1) there) in
     let now : value_at (lent_cells slots (slice_set all place new)) c.args.k ≡ new =
     lent_value slots all c.args.k place new rises c.requires.within is_place there in
-    subst (λ (v : CellValue). AppendsEntry c.args.entry v.state.chain (state_at (lent_cells slots (slice_set all place new)) c.args.k).chain)
+    subst (λ (v : CellValue). AppendsEntry c.args.entry v.state.chain
+    (state_at (lent_cells slots (slice_set all place new)) c.args.k).chain)
     (sym was)
     (subst (λ (v : CellValue). AppendsEntry c.args.entry old.state.chain v.state.chain) (sym now) c.append.ensures.pages)
 

@@ -25,12 +25,6 @@ returns-in-Ok-clause-told c told is =
     begun_commit c.args.shared.now c.args.ready c.args.running.now c.args.actor c.need.result c.enter.new.self c.begin-commit.result told
     c.in-Ok.ensures.ok c.begin-commit.ensures is
 
-pub returns-in-Ok-clause-place : goal.returns-in-Ok-clause-place
-returns-in-Ok-clause-place c told is plan =
-    let slots = slots_in c.args.running.now.slots in
-    subst (λ (x : CommitValue). IsPlaceOf slots x (entered c.args.shared.now.book.state told)) (sym c.begin-commit.ensures)
-    (begin_place slots c.args.ready (stamp_of c.enter.new.self.state) told c.args.running.now.slots.rising is plan)
-
 pub returns-in-Err-clause-turn : goal.returns-in-Err-clause-turn
 returns-in-Err-clause-turn c told is =
     refuses c.args.shared.now c.args.ready.hand c.args.running.now c.args.actor c.enter.new.self c.into_hand-hand.result told c.in-Err.fault
@@ -40,7 +34,12 @@ returns-in-Err-clause-turn c told is =
     c.enter.ensures.limit.1 c.in-Err.ensures.err c.commit-last.ensures.value c.commit-last.ensures.fits)
 
 pub returns-in-Ok-clause-placed : goal.returns-in-Ok-clause-placed
-returns-in-Ok-clause-placed c told is plan = (plan, returns-in-Ok-clause-place c told is plan)
+returns-in-Ok-clause-placed c told is plan =
+    let slots = slots_in c.args.running.now.slots in (
+      plan,
+      subst (λ (x : CommitValue). IsPlaceOf slots x (entered c.args.shared.now.book.state told)) (sym c.begin-commit.ensures)
+          (begin_place slots c.args.ready (stamp_of c.enter.new.self.state) told c.args.running.now.slots.rising is plan),
+    )
 
 pub returns-in-Ok-clause-rooms : goal.returns-in-Ok-clause-rooms
 returns-in-Ok-clause-rooms c =

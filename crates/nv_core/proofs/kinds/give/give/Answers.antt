@@ -14,7 +14,8 @@ use Rattle.nv_core.proofs.kinds.give.give.Goals as goal
 
 list_was : (c : goal.After-give_back-arg-1) → c.index_mut.result.now ≡ list_at (shared_of c.args.shared.now) c.args.cpu
 list_was c = c.index_mut.ensures.value
-    ∙ same_there c.args.shared.now.lists.items c.args.cpu c.index_mut.result.now no_list (omega (arith, c.requires.cpu, c.requires.home.count))
+    ∙ same_there c.args.shared.now.lists.items c.args.cpu c.index_mut.result.now no_list
+    (omega (arith, c.requires.cpu, c.requires.home.count))
 
 hand_was : (c : goal.After-give_back-arg-1)
     → hand_of c.give_home.new.self ≡ given c.args.cpu (shared_of c.args.shared.now) (hand_of c.args.hand.now)
@@ -51,7 +52,8 @@ give_back-requires-clause-device c =
 
 pub returns-clause-turn : goal.returns-clause-turn
 returns-clause-turn c told owes =
-    gives c.args.shared.now.geometry.numbers c.args.cpu (shared_of c.args.shared.now) (hand_of c.args.hand.now) (hand_of c.give_home.new.self)
+    gives c.args.shared.now.geometry.numbers c.args.cpu (shared_of c.args.shared.now) (hand_of c.args.hand.now)
+    (hand_of c.give_home.new.self)
     c.give_home.new.list (shown told c.args.running.now) c.requires.cpu c.requires.home c.requires.sized c.requires.once c.requires.given
     (hand_was c.before) (took c.before)
     ∙ c.give_back.ensures.turn told owes
