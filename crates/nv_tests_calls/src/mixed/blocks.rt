@@ -9,12 +9,23 @@ use std::process::Abort;
 use std::test::Fail;
 
 /// Each block is in one place: in one free list once, and at home there; in a log; under a page of a file; or in a hand,
-/// which has none while no call is going on.
-pub(super) fn check_blocks(rt: &impl Abort, scene: &Scene, is_over: bool) -> Result<(), Fail> {
+/// which has none while no call is going on. A file that is taken away is in the tree up to the call's commit point, and its
+/// blocks may be in the hand by then.
+pub(super) fn check_blocks(
+    rt: &impl Abort,
+    scene: &Scene,
+    is_kept: bool,
+    is_over: bool,
+) -> Result<(), Fail> {
     let space = scene.world.space();
+    let in_files = in_files(scene)?;
     same(rt, in_lists(rt, scene)?, space.free);
     same(rt, in_logs(rt, scene)?, space.chain);
-    same(rt, in_files(scene)?, space.data);
+    assert!(rt; space.data <= in_files, "blocks of no file");
+    assert!(rt;
+        !is_kept || space.data == in_files,
+        "blocks of a file are gone"
+    );
     same(rt, space.pending, 0);
     same(rt, all_of(&space), scene.row[0]);
     assert!(rt; !is_over || space.hand == 0, "blocks in hand");
