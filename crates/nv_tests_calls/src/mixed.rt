@@ -12,15 +12,16 @@ mod same;
 mod says;
 mod scene;
 
-use crate::compare::same_for;
+use crate::compare::{push, same_for};
 use blocks::check_blocks;
 use nv_base::Fault;
 use nv_core::Reply;
 use nv_scenes::{Row, below};
 use same::{Twins, are_twins, same_reply, same_tree};
-use says::{EACH, KINDS, RENAMES, Says, chosen};
+use says::{KINDS, Says, chosen};
 use scene::{BLOCK, Scene};
 use std::alloc::Global;
+use std::ops::Range;
 use std::process::Abort;
 use std::test::Fail;
 
@@ -50,6 +51,8 @@ const OF_THREE: &[&[usize]] = &[
 struct Mixed {
     calls: Vec<Says>,
     replies: Vec<Option<Reply>>,
+    /// The places of the calls that ended, in that order.
+    ended: Vec<usize>,
     scene: Scene,
 }
 
@@ -57,22 +60,25 @@ impl Mixed {
     /// Each of the calls is started by an actor of its own.
     fn started(rt: &impl Abort, mut scene: Scene, calls: Vec<Says>) -> Result<Mixed, Fail> {
         let mut replies = Vec::new(scene.alloc);
+        let ended = Vec::new(scene.alloc);
         let mut actor = 0u64;
         for says in &calls {
             scene.start(rt, actor, says)?;
+            check_blocks(rt, &scene, true, false)?;
             replies.push(None)?;
             actor = actor.saturating_add(1);
         }
         Ok(Mixed {
             calls,
             replies,
+            ended,
             scene,
         })
     }
 
     /// Whether no call is going on.
     fn is_over(&self) -> bool {
-        self.replies.iter().all(|reply| reply.is_some())
+        self.ended.len() == self.calls.len()
     }
 
     /// Whether no call is going on that can take files away.
@@ -91,18 +97,25 @@ impl Mixed {
             if self.is_over() {
                 return Ok(());
             }
-            self.go(below(seed, 3));
-            check_blocks(rt, &self.scene, self.is_kept(), self.is_over())?;
+            if self.goes(rt, below(seed, 3)) {
+                check_blocks(rt, &self.scene, self.is_kept(), self.is_over())?;
+            }
         }
         panic!(rt; "calls that do not end");
     }
 
     /// One step of an actor, if it has a call.
-    fn go(&mut self, actor: u64) {
+    fn goes(&mut self, rt: &impl Abort, actor: u64) -> bool {
         let place = actor as usize;
-        if place < self.replies.len() && self.replies[place].is_none() {
-            self.replies[place] = self.scene.go(actor);
+        if place >= self.replies.len() || self.replies[place].is_some() {
+            return false;
         }
+        let reply = self.scene.go(actor);
+        if reply.is_some() {
+            push(rt, &mut self.ended, place);
+        }
+        self.replies[place] = reply;
+        true
     }
 
     /// Whether the same comes of the calls one after another in this order.
@@ -136,8 +149,12 @@ impl Mixed {
         }
     }
 
-    /// Whether the same comes of the calls in one of their orders.
+    /// Whether the same comes of the calls in one of their orders. That in which they ended is asked first, since it
+    /// mostly is the one.
     fn is_serial(&self, rt: &impl Abort) -> Result<bool, Fail> {
+        if self.comes_of(rt, self.ended.as_slice())? {
+            return Ok(true);
+        }
         let orders = if self.calls.len() == 2 {
             OF_TWO
         } else {
@@ -168,49 +185,59 @@ fn mix(
     Ok(())
 }
 
-/// A call against each.
-fn mix_with_each(
+/// A call of each of these two kinds, and of these three.
+fn mix_two(
     rt: &impl Abort,
     alloc: Global,
     row: Row,
-    one: Says,
+    (one, other): (u64, u64),
     seed: &mut u64,
 ) -> Result<(), Fail> {
-    for kind in 0..KINDS {
-        for other in 0..EACH {
-            mix(rt, alloc, row, &[one, chosen(kind, other)?], seed)?;
+    let calls = [chosen(one, seed)?, chosen(other, seed)?];
+    mix(rt, alloc, row, &calls, seed)
+}
+
+fn mix_three(
+    rt: &impl Abort,
+    alloc: Global,
+    row: Row,
+    (one, other, third): (u64, u64, u64),
+    seed: &mut u64,
+) -> Result<(), Fail> {
+    let calls = [
+        chosen(one, seed)?,
+        chosen(other, seed)?,
+        chosen(third, seed)?,
+    ];
+    mix(rt, alloc, row, &calls, seed)
+}
+
+/// Each two kinds.
+fn mix_each_two(rt: &impl Abort, alloc: Global, row: Row, seed: &mut u64) -> Result<(), Fail> {
+    for one in 0..KINDS {
+        for other in 0..KINDS {
+            mix_two(rt, alloc, row, (one, other), seed)?;
         }
     }
     Ok(())
 }
 
-/// Three calls of these kinds by the seed.
-fn mix_kinds(
+/// Some kinds, each with each two, with much room or little.
+fn mix_each_three(
     rt: &impl Abort,
     alloc: Global,
-    row: Row,
-    kinds: [u64; 3],
-    seed: &mut u64,
+    kinds: Range<u64>,
+    mut seed: u64,
 ) -> Result<(), Fail> {
-    let [one, other, third] = kinds;
-    let one = chosen(one, below(seed, EACH))?;
-    let other = chosen(other, below(seed, EACH))?;
-    let third = chosen(third, below(seed, EACH))?;
-    mix(rt, alloc, row, &[one, other, third], seed)
-}
-
-/// Three calls of kinds from one on, each kind with each.
-fn mix_from(
-    rt: &impl Abort,
-    alloc: Global,
-    row: Row,
-    first: u64,
-    seed: &mut u64,
-) -> Result<(), Fail> {
-    for one in first..KINDS {
-        for other in first..KINDS {
-            for third in first..KINDS {
-                mix_kinds(rt, alloc, row, [one, other, third], seed)?;
+    for one in kinds {
+        for other in 0..KINDS {
+            for third in 0..KINDS {
+                let row = if below(&mut seed, 2) == 0 {
+                    ROOMY
+                } else {
+                    TIGHT
+                };
+                mix_three(rt, alloc, row, (one, other, third), &mut seed)?;
             }
         }
     }
@@ -220,31 +247,52 @@ fn mix_from(
 #[test]
 fn two_calls_at_once(rt: HostRuntime) -> Result<(), Fail> {
     let mut seed = 19;
-    for row in [ROOMY, TIGHT] {
-        for kind in 0..KINDS {
-            for one in 0..EACH {
-                mix_with_each(&rt, rt.alloc(), row, chosen(kind, one)?, &mut seed)?;
-            }
-        }
+    for _round in 0..3 {
+        mix_each_two(&rt, rt.alloc(), ROOMY, &mut seed)?;
     }
     Ok(())
 }
 
 #[test]
-fn three_calls_at_once(rt: HostRuntime) -> Result<(), Fail> {
-    let mut seed = 91;
-    for row in [ROOMY, TIGHT] {
-        mix_from(&rt, rt.alloc(), row, 0, &mut seed)?;
-    }
-    Ok(())
-}
-
-/// Over and over, since it is they that meet at the names of others.
-#[test]
-fn renames_at_once(rt: HostRuntime) -> Result<(), Fail> {
+fn two_calls_with_little_room(rt: HostRuntime) -> Result<(), Fail> {
     let mut seed = 20;
-    for _round in 0..200 {
-        mix_from(&rt, rt.alloc(), ROOMY, RENAMES, &mut seed)?;
+    for _round in 0..3 {
+        mix_each_two(&rt, rt.alloc(), TIGHT, &mut seed)?;
     }
     Ok(())
+}
+
+#[test]
+fn create_or_mkdir_and_two_calls(rt: HostRuntime) -> Result<(), Fail> {
+    mix_each_three(&rt, rt.alloc(), 0..2, 91)
+}
+
+#[test]
+fn write_or_read_and_two_calls(rt: HostRuntime) -> Result<(), Fail> {
+    mix_each_three(&rt, rt.alloc(), 2..4, 92)
+}
+
+#[test]
+fn size_or_mode_and_two_calls(rt: HostRuntime) -> Result<(), Fail> {
+    mix_each_three(&rt, rt.alloc(), 4..6, 93)
+}
+
+#[test]
+fn stat_or_list_and_two_calls(rt: HostRuntime) -> Result<(), Fail> {
+    mix_each_three(&rt, rt.alloc(), 6..8, 94)
+}
+
+#[test]
+fn lookup_and_two_calls(rt: HostRuntime) -> Result<(), Fail> {
+    mix_each_three(&rt, rt.alloc(), 8..9, 95)
+}
+
+#[test]
+fn unlink_or_rmdir_and_two_calls(rt: HostRuntime) -> Result<(), Fail> {
+    mix_each_three(&rt, rt.alloc(), 9..11, 96)
+}
+
+#[test]
+fn rename_and_two_calls(rt: HostRuntime) -> Result<(), Fail> {
+    mix_each_three(&rt, rt.alloc(), 11..KINDS, 97)
 }

@@ -2,7 +2,7 @@
 
 use nv_base::{Bytes, Mode};
 use nv_core::Call;
-use nv_scenes::handle;
+use nv_scenes::{below, handle};
 use std::alloc::Global;
 use std::test::Fail;
 
@@ -43,10 +43,7 @@ pub(super) const MADE: u64 = 5;
 /// How many rows of calls there are, and how many calls in each.
 pub(super) const KINDS: u64 = 13;
 
-pub(super) const EACH: u64 = 6;
-
-/// The first row of renames, which are the last rows.
-pub(super) const RENAMES: u64 = 11;
+const EACH: u64 = 6;
 
 /// The calls, a row for each of the twelve and two for renames, in one directory and between two. They leave no page
 /// without a byte that is not zero.
@@ -151,9 +148,10 @@ impl Says {
 }
 
 /// A call of a row.
-pub(super) fn chosen(kind: u64, one: u64) -> Result<Says, Fail> {
+pub(super) fn chosen(kind: u64, seed: &mut u64) -> Result<Says, Fail> {
     let row = CALLS.get(kind as usize).ok_or("a row")?;
-    Ok(*row.get(one as usize).ok_or("a call")?)
+    let one = below(seed, EACH) as usize;
+    Ok(*row.get(one).ok_or("a call")?)
 }
 
 fn bytes(alloc: Global, text: &[u8]) -> Result<Bytes, Fail> {
