@@ -1,20 +1,32 @@
 //! Plain scans over what a world reports of its blocks.
 
 use super::scene::{BLOCK, Scene};
-use crate::compare::{push, same};
-use nv_base::{BlockNo, Ino};
+use crate::compare::same;
+use nv_alloc::FreeRun;
+use nv_base::{Geometry, Ino};
 use nv_core::{LogCounts, Space, TreeNode};
 use nv_scenes::geometry;
 use std::process::Abort;
 use std::test::Fail;
 
 /// Each block is in one place: in one free list once, and at home there; in a log; under a page of a file; or in a hand,
-/// which has none while no call is going on.
-pub(super) fn check_blocks(rt: &impl Abort, scene: &Scene, is_over: bool) -> Result<(), Fail> {
+/// which has none while no call is going on. A file that is taken away is in the tree up to the call's commit point, and its
+/// blocks may be in the hand by then.
+pub(super) fn check_blocks(
+    rt: &impl Abort,
+    scene: &Scene,
+    is_kept: bool,
+    is_over: bool,
+) -> Result<(), Fail> {
     let space = scene.world.space();
+    let in_files = in_files(scene)?;
     same(rt, in_lists(rt, scene)?, space.free);
     same(rt, in_logs(rt, scene)?, space.chain);
-    same(rt, in_files(scene)?, space.data);
+    assert!(rt; space.data <= in_files, "blocks of no file");
+    assert!(rt;
+        !is_kept || space.data == in_files,
+        "blocks of a file are gone"
+    );
     same(rt, space.pending, 0);
     same(rt, all_of(&space), scene.row[0]);
     assert!(rt; !is_over || space.hand == 0, "blocks in hand");
@@ -34,36 +46,34 @@ fn all_of(space: &Space) -> u64 {
         .fold(0u64, |sum, part| sum.saturating_add(*part))
 }
 
-/// How many blocks the free lists name, none of them twice, and each at home.
+/// How many blocks the free lists name.
 fn in_lists(rt: &impl Abort, scene: &Scene) -> Result<u64, Fail> {
     let lists = scene.world.lists()?;
+    let geometry = geometry(scene.row)?;
     same(rt, lists.len() as u64, scene.row[1]);
-    let mut found = Vec::new(scene.alloc);
+    let mut found = 0u64;
     let mut cpu = 0u64;
     for list in lists.as_slice() {
-        for run in list.as_slice() {
-            assert!(rt; run.first <= run.last && run.last.number() < scene.row[0]);
-            for number in run.first.number()..=run.last.number() {
-                push(rt, &mut found, (cpu, number));
-            }
-        }
+        found = found.saturating_add(in_list(rt, &geometry, cpu, list.as_slice()));
         cpu = cpu.saturating_add(1);
     }
-    are_apart(rt, scene, &found)?;
-    Ok(found.len() as u64)
+    Ok(found)
 }
 
-/// Blocks of lists, each named once, by the list of its home.
-fn are_apart(rt: &impl Abort, scene: &Scene, found: &[(u64, u64)]) -> Result<(), Fail> {
-    let geometry = geometry(scene.row)?;
-    let mut seen = Vec::new(scene.alloc);
-    for (cpu, number) in found {
-        assert!(rt; *number < geometry.numbers.blocks);
-        same(rt, geometry.home_of(BlockNo::new(*number)), *cpu);
-        assert!(rt; !seen.contains(number), "block {number} twice");
-        push(rt, &mut seen, *number);
+/// How many blocks the list of a CPU names: in rising runs, so none twice, and each at home there.
+fn in_list(rt: &impl Abort, geometry: &Geometry, cpu: u64, list: &[FreeRun]) -> u64 {
+    let mut found = 0u64;
+    let mut next = 0u64;
+    for run in list {
+        let first = run.first.number();
+        let last = run.last.number();
+        assert!(rt; next <= first && first <= last && last < geometry.numbers.blocks);
+        same(rt, geometry.home_of(run.first), cpu);
+        same(rt, geometry.home_of(run.last), cpu);
+        next = last.saturating_add(1);
+        found = found.saturating_add(next.saturating_sub(first));
     }
-    Ok(())
+    found
 }
 
 /// How many pages the logs have. Entries have room in them, and of the entries of a page at most all are valid.

@@ -1,4 +1,4 @@
-//! The nine calls, each on several nodes of what is prepared.
+//! The twelve calls, each on several nodes of what is prepared.
 
 use nv_base::{Bytes, Mode};
 use nv_core::Call;
@@ -6,7 +6,7 @@ use nv_scenes::{below, handle};
 use std::alloc::Global;
 use std::test::Fail;
 
-/// A call: the inode of its handle, and then its name, or its numbers and text.
+/// A call: the inode of its handle, and then its name, or its numbers and text. A rename has two of both.
 #[derive(Clone, Copy, Debug)]
 pub(super) enum Says {
     Create(u64, &'static [u8]),
@@ -18,67 +18,140 @@ pub(super) enum Says {
     Stat(u64),
     List(u64),
     Lookup(u64, &'static [u8]),
+    Unlink(u64, &'static [u8]),
+    Rmdir(u64, &'static [u8]),
+    Rename(u64, &'static [u8], u64, &'static [u8]),
 }
 
-use Says::{Create, List, Lookup, Mkdir, Read, Size, Stat, Write};
+use Says::{Create, List, Lookup, Mkdir, Read, Rename, Rmdir, Size, Stat, Unlink, Write};
 
-/// Files 1 and 2, and directory 3.
+/// Files 1, 2 and 5, and directories 3 and 4, of which 3 is empty.
 pub(super) const PREPARED: &[Says] = &[
     Create(0, b"a"),
     Create(0, b"b"),
     Mkdir(0, b"d"),
+    Mkdir(0, b"e"),
+    Create(4, b"c"),
     Write(1, 0, b"abcdefgh"),
     Write(2, 0, b"pq"),
+    Write(5, 0, b"stu"),
 ];
 
 /// The last inode that is prepared.
-pub(super) const MADE: u64 = 3;
+pub(super) const MADE: u64 = 5;
 
-/// How many kinds of call there are, and how many calls of each.
-pub(super) const KINDS: usize = 9;
+/// How many rows of calls there are, and how many calls in each.
+pub(super) const KINDS: u64 = 13;
 
-const EACH: usize = 3;
+const EACH: u64 = 6;
 
-/// The calls, kind by kind. They leave no page without a byte that is not zero.
-const CALLS: &[Says] = &[
-    Create(0, b"n"),
-    Create(0, b"m"),
-    Create(3, b"n"),
-    Mkdir(0, b"n"),
-    Mkdir(3, b"n"),
-    Mkdir(0, b"a"),
-    Write(1, 2, b"ABCDEF"),
-    Write(1, 4, b"xy"),
-    Write(2, 6, b"PQRS"),
-    Read(1, 0, 20),
-    Read(1, 3, 4),
-    Read(2, 1, 9),
-    Size(1, 5),
-    Size(1, 3),
-    Size(2, 9),
-    Says::Mode(1, 7),
-    Says::Mode(2, 8),
-    Says::Mode(0, 9),
-    Stat(1),
-    Stat(2),
-    Stat(0),
-    List(0),
-    List(3),
-    List(1),
-    Lookup(0, b"n"),
-    Lookup(3, b"n"),
-    Lookup(0, b"a"),
+/// The calls, a row for each of the twelve and two for renames, in one directory and between two. They leave no page
+/// without a byte that is not zero.
+const CALLS: &[[Says; EACH as usize]] = &[
+    [
+        Create(0, b"n"),
+        Create(0, b"m"),
+        Create(3, b"n"),
+        Create(4, b"n"),
+        Create(0, b"a"),
+        Create(4, b"c"),
+    ],
+    [
+        Mkdir(0, b"n"),
+        Mkdir(3, b"n"),
+        Mkdir(4, b"n"),
+        Mkdir(0, b"a"),
+        Mkdir(0, b"d"),
+        Mkdir(4, b"c"),
+    ],
+    [
+        Write(1, 2, b"ABCDEF"),
+        Write(1, 4, b"xy"),
+        Write(2, 6, b"PQRS"),
+        Write(2, 0, b"vw"),
+        Write(5, 0, b"ST"),
+        Write(5, 3, b"kl"),
+    ],
+    [
+        Read(1, 0, 20),
+        Read(1, 3, 4),
+        Read(2, 1, 9),
+        Read(2, 0, 2),
+        Read(5, 0, 8),
+        Read(3, 0, 1),
+    ],
+    [
+        Size(1, 5),
+        Size(1, 3),
+        Size(1, 8),
+        Size(2, 9),
+        Size(5, 2),
+        Size(5, 7),
+    ],
+    [
+        Says::Mode(0, 9),
+        Says::Mode(1, 7),
+        Says::Mode(2, 8),
+        Says::Mode(3, 6),
+        Says::Mode(4, 5),
+        Says::Mode(5, 4),
+    ],
+    [Stat(0), Stat(1), Stat(2), Stat(3), Stat(4), Stat(5)],
+    [List(0), List(1), List(3), List(4), List(0), List(3)],
+    [
+        Lookup(0, b"n"),
+        Lookup(3, b"n"),
+        Lookup(0, b"a"),
+        Lookup(0, b"b"),
+        Lookup(0, b"d"),
+        Lookup(4, b"c"),
+    ],
+    [
+        Unlink(0, b"a"),
+        Unlink(0, b"b"),
+        Unlink(4, b"c"),
+        Unlink(0, b"n"),
+        Unlink(3, b"n"),
+        Unlink(0, b"d"),
+    ],
+    [
+        Rmdir(0, b"d"),
+        Rmdir(0, b"e"),
+        Rmdir(0, b"n"),
+        Rmdir(3, b"n"),
+        Rmdir(4, b"n"),
+        Rmdir(0, b"a"),
+    ],
+    [
+        Rename(0, b"a", 0, b"b"),
+        Rename(0, b"b", 0, b"a"),
+        Rename(0, b"a", 0, b"n"),
+        Rename(0, b"n", 0, b"b"),
+        Rename(0, b"d", 0, b"n"),
+        Rename(0, b"a", 0, b"a"),
+    ],
+    [
+        Rename(0, b"a", 4, b"c"),
+        Rename(4, b"c", 0, b"a"),
+        Rename(0, b"b", 4, b"c"),
+        Rename(4, b"c", 3, b"n"),
+        Rename(3, b"n", 0, b"a"),
+        Rename(0, b"d", 4, b"n"),
+    ],
 ];
 
-/// A call of each of these kinds.
-pub(super) fn chosen(alloc: Global, kinds: &[usize], seed: &mut u64) -> Result<Vec<Says>, Fail> {
-    let mut calls = Vec::new(alloc);
-    for kind in kinds {
-        let one = below(seed, EACH as u64) as usize;
-        let place = kind.saturating_mul(EACH).saturating_add(one);
-        calls.push(*CALLS.get(place).ok_or("a call")?)?;
+impl Says {
+    /// Whether the call can take a file away.
+    pub fn takes_files(&self) -> bool {
+        matches!(self, Unlink(..) | Rename(..))
     }
-    Ok(calls)
+}
+
+/// A call of a row.
+pub(super) fn chosen(kind: u64, seed: &mut u64) -> Result<Says, Fail> {
+    let row = CALLS.get(kind as usize).ok_or("a row")?;
+    let one = below(seed, EACH) as usize;
+    Ok(*row.get(one).ok_or("a call")?)
 }
 
 fn bytes(alloc: Global, text: &[u8]) -> Result<Bytes, Fail> {
@@ -91,42 +164,76 @@ fn mode(bits: u16) -> Result<Mode, Fail> {
 
 /// The call that is said.
 pub(super) fn call(alloc: Global, says: &Says) -> Result<Call, Fail> {
-    Ok(match says {
-        Create(dir, name) => Call::Create {
-            dir: handle(*dir),
-            name: bytes(alloc, name)?,
-            mode: mode(420)?,
-        },
-        Mkdir(dir, name) => Call::Mkdir {
-            dir: handle(*dir),
-            name: bytes(alloc, name)?,
-            mode: mode(493)?,
-        },
-        Write(file, offset, text) => Call::Write {
-            file: handle(*file),
-            offset: *offset,
-            text: bytes(alloc, text)?,
-        },
-        Read(file, offset, count) => Call::Read {
-            file: handle(*file),
-            offset: *offset,
-            count: *count,
-        },
-        Size(file, size) => Call::Size {
-            file: handle(*file),
-            size: *size,
-        },
-        Says::Mode(node, bits) => Call::Mode {
-            handle: handle(*node),
-            mode: mode(*bits)?,
-        },
-        Stat(node) => Call::Stat {
-            handle: handle(*node),
-        },
-        List(dir) => Call::List { dir: handle(*dir) },
-        Lookup(dir, name) => Call::Lookup {
-            dir: handle(*dir),
-            name: bytes(alloc, name)?,
-        },
-    })
+    match *says {
+        Create(dir, name) => create(alloc, dir, name),
+        Mkdir(dir, name) => mkdir(alloc, dir, name),
+        Write(file, offset, text) => write(alloc, file, offset, text),
+        Lookup(dir, name) => lookup(alloc, dir, name),
+        Unlink(dir, name) => unlink(alloc, dir, name),
+        Rmdir(dir, name) => rmdir(alloc, dir, name),
+        Rename(from, old, to, new) => rename(alloc, from, old, to, new),
+        Says::Mode(node, bits) => Ok(Call::Mode {
+            handle: handle(node),
+            mode: mode(bits)?,
+        }),
+        Read(file, offset, count) => Ok(Call::Read {
+            file: handle(file),
+            offset,
+            count,
+        }),
+        Size(file, size) => Ok(Call::Size {
+            file: handle(file),
+            size,
+        }),
+        Stat(node) => Ok(Call::Stat {
+            handle: handle(node),
+        }),
+        List(dir) => Ok(Call::List { dir: handle(dir) }),
+    }
+}
+
+fn create(alloc: Global, dir: u64, name: &[u8]) -> Result<Call, Fail> {
+    let mode = mode(420)?;
+    let name = bytes(alloc, name)?;
+    let dir = handle(dir);
+    Ok(Call::Create { dir, name, mode })
+}
+
+fn mkdir(alloc: Global, dir: u64, name: &[u8]) -> Result<Call, Fail> {
+    let mode = mode(493)?;
+    let name = bytes(alloc, name)?;
+    let dir = handle(dir);
+    Ok(Call::Mkdir { dir, name, mode })
+}
+
+fn write(alloc: Global, file: u64, offset: u64, text: &[u8]) -> Result<Call, Fail> {
+    let text = bytes(alloc, text)?;
+    let file = handle(file);
+    Ok(Call::Write { file, offset, text })
+}
+
+fn lookup(alloc: Global, dir: u64, name: &[u8]) -> Result<Call, Fail> {
+    let name = bytes(alloc, name)?;
+    let dir = handle(dir);
+    Ok(Call::Lookup { dir, name })
+}
+
+fn unlink(alloc: Global, dir: u64, name: &[u8]) -> Result<Call, Fail> {
+    let name = bytes(alloc, name)?;
+    let dir = handle(dir);
+    Ok(Call::Unlink { dir, name })
+}
+
+fn rmdir(alloc: Global, dir: u64, name: &[u8]) -> Result<Call, Fail> {
+    let name = bytes(alloc, name)?;
+    let dir = handle(dir);
+    Ok(Call::Rmdir { dir, name })
+}
+
+fn rename(alloc: Global, from: u64, old: &[u8], to: u64, new: &[u8]) -> Result<Call, Fail> {
+    let old = bytes(alloc, old)?;
+    let new = bytes(alloc, new)?;
+    let from = handle(from);
+    let to = handle(to);
+    Ok(Call::Rename { from, old, to, new })
 }
