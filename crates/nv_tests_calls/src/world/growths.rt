@@ -5,6 +5,7 @@
 use super::playing::{alone, new_world};
 use super::reports::Reports;
 use super::words::{Want, Words, is_wanted};
+use crate::compare::same_for;
 use Words::{Create, List, Lookup, Mkdir, Mode, Read, Rename, Rmdir, Size, Stat, Unlink, Write};
 use nv_base::{Fault, Kind};
 use nv_core::World;
@@ -226,6 +227,13 @@ fn step_of(growths: &'static [Growth], steps: u64) -> Option<&'static str> {
     Some(*step)
 }
 
+/// Wants a world to report what one reports that never began the call.
+fn is_untouched(rt: &impl Abort, alloc: Global, world: &World, before: &[Words]) {
+    let untouched = prepared(rt, alloc, before);
+    let reports = Reports::of(rt, alloc, world, ROOMY[4]);
+    reports.are_those(rt, &Reports::of(rt, alloc, &untouched, ROOMY[4]));
+}
+
 /// Makes the call of a row. Where it is refused memory, tells at which step.
 fn makes(rt: &impl Abort, alloc: Global, row: &Row) -> Option<&'static str> {
     let (name, before, words, want, growths) = row;
@@ -234,14 +242,12 @@ fn makes(rt: &impl Abort, alloc: Global, row: &Row) -> Option<&'static str> {
     if is_wanted(&reply, want) {
         return None;
     }
-    assert!(rt; is_wanted(&reply, &REFUSED), "{name}");
-    let untouched = prepared(rt, alloc, before);
-    let reports = Reports::of(rt, alloc, &world, ROOMY[4]);
-    reports.are_those(rt, &Reports::of(rt, alloc, &untouched, ROOMY[4]));
+    same_for(rt, name, is_wanted(&reply, &REFUSED), true);
+    is_untouched(rt, alloc, &world, before);
     let (_, again) = alone(rt, alloc, &mut world, ACTOR, words);
-    assert!(rt; is_wanted(&again, want), "{name}");
+    same_for(rt, name, is_wanted(&again, want), true);
     let step = step_of(growths, steps);
-    assert!(rt; step.is_some(), "{name} refused by step {steps}");
+    same_for(rt, &(*name, steps), step.is_some(), true);
     step
 }
 
