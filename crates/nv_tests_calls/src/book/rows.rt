@@ -67,15 +67,13 @@ const KILLED: [(u64, u32); 6] = [(1, 0), (1, 1), (1, 2), (1, 3), (1, 5), (2, 6)]
 // How many runs there are after each of them is picked.
 const RUNS: [u64; 6] = [3, 3, 3, 2, 1, 0];
 
-fn killed(place: usize) -> Record
-    requires { place < 6 }
-{
-    let (commit, page) = KILLED[place];
+fn killed(place: usize) -> Record {
+    let (commit, page) = KILLED[place % KILLED.len()];
     record(commit, Part::Page(page), 1, 2)
 }
 
 fn lists_killed(rt: &impl Abort, book: &Book) {
-    for (place, listed) in book.deferred().iter().enumerate().take(6) {
+    for (place, listed) in book.deferred().iter().enumerate() {
         same_for(rt, &place, listed, killed(place));
     }
 }
