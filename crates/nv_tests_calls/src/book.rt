@@ -62,6 +62,39 @@ fn enter(rt: &impl Abort, book: &mut Book, seat: u64, need: u64) -> (Epoch, Comm
     }
 }
 
+// The same calls with the answers that are wanted. What they do to a book no clause says here, so that no test carries it along.
+fn enters(rt: &impl Abort, book: &mut Book, need: u64, epoch: u64, number: u64) {
+    let fixed = enter(rt, book, 0, need);
+    same(rt, fixed, (Epoch::new(epoch), CommitNo::new(number)));
+}
+
+fn makes(rt: &impl Abort, book: &mut Book, want: Result<Epoch, Fault>) {
+    same(rt, book.make_snapshot(), want);
+}
+
+fn drops(rt: &impl Abort, book: &mut Book, s: u64, want: Result<(), Fault>) {
+    same(rt, book.drop_snapshot(Epoch::new(s)), want);
+}
+
+fn picks(rt: &impl Abort, book: &mut Book, want: Option<Record>) {
+    same(rt, book.pick(), want);
+}
+
+fn retires(rt: &impl Abort, book: &mut Book, killed: Record, want: Retired) {
+    same(rt, retire(rt, book, killed), want);
+}
+
+fn is_at(rt: &impl Abort, book: &Book, epoch: u64, commit: u64) {
+    let found = (book.epoch(), book.commit());
+    same(rt, found, (Epoch::new(epoch), CommitNo::new(commit)));
+}
+
+// How many records a snapshot has, and how many its drop lets go.
+fn has_records(rt: &impl Abort, book: &Book, s: u64, held: u64, gain: u64) {
+    let s = Epoch::new(s);
+    same(rt, (book.held(s), book.gain(s)), (held, gain));
+}
+
 // Retires a record, with room made for it.
 fn retire(rt: &impl Abort, book: &mut Book, killed: Record) -> Retired {
     assert!(rt; killed.death <= book.epoch());

@@ -5,9 +5,9 @@ mod playing;
 mod reports;
 mod words;
 
-use crate::compare::{push, same};
+use crate::compare::{holds_for, push, same};
 use Words::{Create, List, Lookup, Mkdir, Read, Rename, Size, Stat, Unlink, Write};
-use nv_base::{Fault, Kind};
+use nv_base::{Fault, Kind, Name};
 use nv_core::{Event, Reply, TreeNode, World};
 use nv_scenes::Row;
 use playing::{finish, new_world};
@@ -46,7 +46,7 @@ fn plays_anew(rt: &impl Abort, alloc: Global, row: Row, rows: &[Played]) -> Worl
     for i in 0..rows.len() {
         let (step, want) = &rows[i];
         let reply = reply_to(rt, alloc, &mut world, step);
-        assert!(rt; is_wanted(&reply, want), "row {i}");
+        holds_for(rt, i, is_wanted(&reply, want));
     }
     world
 }
@@ -204,34 +204,58 @@ fn has_nodes(rt: &impl Abort, nodes: &[TreeNode]) {
     let [root, named @ ..] = nodes else {
         panic!(rt; "a root");
     };
-    assert!(rt; root.path.as_slice().is_empty());
+    same(rt, root.path.len(), 0);
     same(rt, root.node.names.as_slice().len(), 2);
     same(rt, named.len(), NODES.len());
     for (node, (name, bytes)) in named.iter().zip(&NODES) {
-        let path = node.path.as_slice();
-        assert!(rt; path.len() == 1 && path[0].bytes() == *name, "{name:?}");
-        same(rt, node.node.bytes.as_slice(), *bytes);
+        has_bytes(rt, node, name, bytes);
     }
 }
 
-/// The events are made all together. Where memory for the replies is refused they come back, and are given again.
+fn has_bytes(rt: &impl Abort, node: &TreeNode, name: &[u8], bytes: &[u8]) {
+    let found = node.path.as_slice().first().map(Name::bytes);
+    same(rt, found, Some(name));
+    same(rt, node.path.len(), 1);
+    same(rt, node.node.bytes.as_slice(), bytes);
+}
+
+/// Makes events all together. Where memory for the replies is refused they come back, and are given again.
+fn run_all(rt: &impl Abort, world: &mut World, events: Vec<Event>) -> Vec<Reply> {
+    let back = match world.run(events) {
+        Ok(replies) => return replies,
+        Err((fault, back)) => {
+            same(rt, fault, Fault::OutOfMemory);
+            back
+        }
+    };
+    match world.run(back) {
+        Ok(replies) => replies,
+        Err(_) => panic!(rt; "memory for replies"),
+    }
+}
+
+/// The last reply of each call, by its place.
+const REPLIES: [(usize, Want); 3] = [
+    (18, Want::Made(ONE)),
+    (37, Want::Made(TWO)),
+    (48, Want::Count(5)),
+];
+
+fn are_wanted(rt: &impl Abort, replies: &[Reply]) {
+    same(rt, replies.len(), 49);
+    for (place, want) in REPLIES {
+        let is_there = replies
+            .get(place)
+            .is_some_and(|reply| is_wanted(reply, &want));
+        holds_for(rt, place, is_there);
+    }
+}
+
 #[test]
 fn a_tree_after_a_run(rt: HostRuntime) -> Result<(), Fail> {
     let mut world = new_world(&rt, rt.alloc(), SMALL);
-    let replies = match world.run(events(&rt, rt.alloc())) {
-        Ok(replies) => replies,
-        Err((fault, back)) => {
-            same(&rt, fault, Fault::OutOfMemory);
-            match world.run(back) {
-                Ok(replies) => replies,
-                Err(_) => panic!(&rt; "memory for replies"),
-            }
-        }
-    };
-    assert!(&rt; replies.len() == 49);
-    assert!(&rt; is_wanted(&replies[18], &Want::Made(ONE)));
-    assert!(&rt; is_wanted(&replies[37], &Want::Made(TWO)));
-    assert!(&rt; is_wanted(&replies[48], &Want::Count(5)));
+    let replies = run_all(&rt, &mut world, events(&rt, rt.alloc()));
+    are_wanted(&rt, &replies);
     has_nodes(&rt, world.tree()?.as_slice());
     Ok(())
 }

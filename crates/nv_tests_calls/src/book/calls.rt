@@ -5,7 +5,7 @@ use crate::compare::{same, same_for};
 use nv_base::{Epoch, Fault};
 use nv_book::{Book, Retired};
 use nv_entry::Part;
-use nv_scenes::next_number;
+use nv_scenes::{below, next_number};
 use std::alloc::Global;
 use std::process::Abort;
 
@@ -134,14 +134,17 @@ fn some_call(rt: &impl Abort, both: &mut Both, seed: &mut u64) {
             let _some = both.pick(rt);
         }
         3..=7 => some_call_on(rt, both, seed),
-        _ => {
-            let epoch = both.book.epoch().number();
-            let death = epoch.saturating_sub(next_number(seed) % 2);
-            let birth = death.saturating_sub(next_number(seed) % 4);
-            let page = (next_number(seed) % 4) as u32;
-            both.retire(rt, next_number(seed) % 3, Part::Page(page), birth, death);
-        }
+        _ => some_death(rt, both, seed),
     }
+}
+
+// Some page dies, now or an epoch ago.
+fn some_death(rt: &impl Abort, both: &mut Both, seed: &mut u64) {
+    let epoch = both.book.epoch().number();
+    let death = epoch.saturating_sub(below(seed, 2));
+    let birth = death.saturating_sub(below(seed, 4));
+    let page = below(seed, 4) as u32;
+    both.retire(rt, below(seed, 3), Part::Page(page), birth, death);
 }
 
 // One call on a living snapshot, if any lives; pins go more often than they come.

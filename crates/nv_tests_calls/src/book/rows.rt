@@ -1,5 +1,7 @@
 //! Rows worked by hand, and limits.
-use crate::book::{device, enter, new_book, record, retire};
+use crate::book::{
+    device, drops, enter, enters, has_records, is_at, makes, new_book, picks, record, retires,
+};
 use crate::compare::{same, same_for};
 use nv_base::{CommitNo, Epoch, Fault, Ino, limits};
 use nv_book::{Base, Book, Event, LATEST, Record, Retired};
@@ -15,119 +17,118 @@ use std::thread;
 // anew, which kills the size and the page that commit 2 set.
 fn overwritten(rt: &impl Abort, book: &mut Book, snaps: u32) {
     for number in 1..3 {
-        let fixed = enter(rt, book, 0, 0);
-        same(rt, fixed, (Epoch::new(1), CommitNo::new(number)));
+        enters(rt, book, 0, 1, number);
     }
     let now = u64::from(snaps) + 1;
     for s in 1..now {
-        same(rt, book.make_snapshot(), Ok(Epoch::new(s)));
+        makes(rt, book, Ok(Epoch::new(s)));
     }
-    let fixed = enter(rt, book, 0, 2);
-    same(rt, fixed, (Epoch::new(now), CommitNo::new(3)));
+    enters(rt, book, 2, now, 3);
     for part in [Part::Size, Part::Page(0)] {
-        same(rt, retire(rt, book, record(2, part, 1, now)), Retired::Kept);
+        retires(rt, book, record(2, part, 1, now), Retired::Kept);
     }
 }
 
 #[test]
-fn a_record_moves_down(rt: HostRuntime) -> Result<(), Fail> {
+fn a_record_moves_down(rt: HostRuntime) {
     let mut book = new_book(&rt, rt.alloc());
     overwritten(&rt, &mut book, 2);
-    let (first, second) = (Epoch::new(1), Epoch::new(2));
-    same(&rt, (book.held(first), book.gain(first)), (1, 0));
-    same(&rt, (book.held(second), book.gain(second)), (1, 0));
-    same(
-        &rt,
-        (book.epoch(), book.commit()),
-        (Epoch::new(3), CommitNo::new(3)),
-    );
-    book.drop_snapshot(second)?;
-    same(&rt, (book.held(first), book.gain(first)), (1, 1));
-    same(&rt, book.pick(), None);
-    book.drop_snapshot(first)?;
-    same(&rt, book.pick(), Some(record(2, Part::Size, 1, 3)));
-    same(&rt, book.pick(), Some(record(2, Part::Page(0), 1, 3)));
-    same(&rt, book.pick(), None);
-    Ok(())
+    has_records(&rt, &book, 1, 1, 0);
+    has_records(&rt, &book, 2, 1, 0);
+    is_at(&rt, &book, 3, 3);
+    drops(&rt, &mut book, 2, Ok(()));
+    has_records(&rt, &book, 1, 1, 1);
+    picks(&rt, &mut book, None);
+    drops(&rt, &mut book, 1, Ok(()));
+    picks(&rt, &mut book, Some(record(2, Part::Size, 1, 3)));
+    picks(&rt, &mut book, Some(record(2, Part::Page(0), 1, 3)));
+    picks(&rt, &mut book, None);
 }
 
 #[test]
-fn deferred_is_not_free(rt: HostRuntime) -> Result<(), Fail> {
+fn deferred_is_not_free(rt: HostRuntime) {
     let mut book = new_book(&rt, rt.alloc());
     overwritten(&rt, &mut book, 1);
-    book.drop_snapshot(Epoch::new(1))?;
+    drops(&rt, &mut book, 1, Ok(()));
     // What was born and died in one epoch is free at once.
-    let fixed = enter(&rt, &mut book, 0, 1);
-    same(&rt, fixed, (Epoch::new(2), CommitNo::new(4)));
-    same(
-        &rt,
-        retire(&rt, &mut book, record(3, Part::Page(0), 2, 2)),
-        Retired::Free,
-    );
+    enters(&rt, &mut book, 1, 2, 4);
+    let killed = record(3, Part::Page(0), 2, 2);
+    retires(&rt, &mut book, killed, Retired::Free);
     same(&rt, book.stored(), 2);
-    same(&rt, book.pick(), Some(record(2, Part::Size, 1, 2)));
-    same(&rt, book.pick(), Some(record(2, Part::Page(0), 1, 2)));
-    same(&rt, (book.pick(), book.stored()), (None, 0));
-    Ok(())
+    picks(&rt, &mut book, Some(record(2, Part::Size, 1, 2)));
+    picks(&rt, &mut book, Some(record(2, Part::Page(0), 1, 2)));
+    picks(&rt, &mut book, None);
+    same(&rt, book.stored(), 0);
+}
+
+// Four pages of one entry, a gap, and a page of another entry, each with its commit.
+const KILLED: [(u64, u32); 6] = [(1, 0), (1, 1), (1, 2), (1, 3), (1, 5), (2, 6)];
+
+// How many runs there are after each of them is picked.
+const RUNS: [u64; 6] = [3, 3, 3, 2, 1, 0];
+
+fn killed(place: usize) -> Record {
+    let (commit, page) = KILLED[place % KILLED.len()];
+    record(commit, Part::Page(page), 1, 2)
+}
+
+fn lists_killed(rt: &impl Abort, book: &Book) {
+    for (place, listed) in book.deferred().iter().enumerate() {
+        same_for(rt, &place, listed, killed(place));
+    }
 }
 
 #[test]
-fn drain_within_a_run(rt: HostRuntime) -> Result<(), Fail> {
+fn drain_within_a_run(rt: HostRuntime) {
     let mut book = new_book(&rt, rt.alloc());
-    book.make_snapshot()?;
-    let _fixed = enter(&rt, &mut book, 0, 6);
-    // Four pages of one entry, a gap, and a page of another entry.
-    let killed = [(1, 0), (1, 1), (1, 2), (1, 3), (1, 5), (2, 6)];
-    for (commit, page) in killed {
-        let killed = record(commit, Part::Page(page), 1, 2);
-        same(&rt, retire(&rt, &mut book, killed), Retired::Kept);
+    makes(&rt, &mut book, Ok(Epoch::new(1)));
+    enters(&rt, &mut book, 6, 2, 1);
+    for place in 0..6 {
+        retires(&rt, &mut book, killed(place), Retired::Kept);
     }
     same(&rt, book.stored(), 3);
-    book.drop_snapshot(Epoch::new(1))?;
+    drops(&rt, &mut book, 1, Ok(()));
     same(&rt, (book.stored(), book.deferred_blocks()), (3, 6));
-    for (listed, (commit, page)) in book.deferred().iter().zip(killed) {
-        let killed = record(commit, Part::Page(page), 1, 2);
-        same_for(&rt, &page, listed, killed);
+    lists_killed(&rt, &book);
+    for place in 0..6 {
+        picks(&rt, &mut book, Some(killed(place)));
+        same_for(&rt, &place, book.stored(), RUNS[place]);
     }
-    for (stored, (commit, page)) in [3, 3, 3, 2, 1, 0].into_iter().zip(killed) {
-        same(
-            &rt,
-            book.pick(),
-            Some(record(commit, Part::Page(page), 1, 2)),
-        );
-        same_for(&rt, &page, book.stored(), stored);
-    }
-    Ok(())
+}
+
+fn pins(rt: &impl Abort, book: &mut Book, s: Epoch, want: Result<(), Fault>) {
+    same(rt, book.pin(s), want);
+}
+
+fn has_pins(rt: &impl Abort, book: &Book, s: Epoch, want: Option<u32>) {
+    same(rt, book.snaps().pins(s), want);
+}
+
+fn unpins(rt: &impl Abort, book: &mut Book, s: Epoch) {
+    assert!(rt; book.snaps().pins(s).is_some_and(|pins| pins > 0));
+    book.unpin(s);
 }
 
 #[test]
-fn refuses_in_order(rt: HostRuntime) -> Result<(), Fail> {
+fn refuses_in_order(rt: HostRuntime) {
     let mut book = new_book(&rt, rt.alloc());
     let second = Epoch::new(2);
-    same(
-        &rt,
-        book.drop_snapshot(Epoch::new(7)),
-        Err(Fault::NoSnapshot),
-    );
-    assert_eq!(rt; book.snaps().pins(second), None);
-
-    same(&rt, book.pin(second), Err(Fault::NoSnapshot));
+    drops(&rt, &mut book, 7, Err(Fault::NoSnapshot));
+    has_pins(&rt, &book, second, None);
+    pins(&rt, &mut book, second, Err(Fault::NoSnapshot));
     for s in 1..5 {
-        same(&rt, book.make_snapshot(), Ok(Epoch::new(s)));
+        makes(&rt, &mut book, Ok(Epoch::new(s)));
     }
-    same(&rt, book.make_snapshot(), Err(Fault::TooManySnapshots));
-    assert_eq!(rt; book.snaps().pins(second), Some(0));
-
-    book.pin(second)?;
-    same(&rt, book.drop_snapshot(second), Err(Fault::Pinned));
-    assert_eq!(rt; book.snaps().pins(second), Some(1));
-
-    book.unpin(second);
-    book.drop_snapshot(second)?;
-    assert!(rt; !book.snaps().has(second));
+    makes(&rt, &mut book, Err(Fault::TooManySnapshots));
+    has_pins(&rt, &book, second, Some(0));
+    pins(&rt, &mut book, second, Ok(()));
+    drops(&rt, &mut book, 2, Err(Fault::Pinned));
+    has_pins(&rt, &book, second, Some(1));
+    unpins(&rt, &mut book, second);
+    drops(&rt, &mut book, 2, Ok(()));
+    same(&rt, book.snaps().has(second), false);
     same(&rt, (book.snaps().len(), book.epoch()), (3, Epoch::new(5)));
     same(&rt, book.history().len(), 5);
-    Ok(())
 }
 
 // A book with at most one snapshot, which has one more epoch and one more commit.
@@ -144,22 +145,20 @@ fn nearly_last_book(rt: &impl Abort, alloc: Global) -> Book {
     }
 }
 
+fn refuses_to_enter(rt: &impl Abort, book: &mut Book, need: u64, want: Fault) {
+    same(rt, book.enter(0, need), Err(want));
+}
+
 #[test]
 fn ends_at_the_last_numbers(rt: HostRuntime) {
     let last = limits::NUMBER;
-    let epoch = Epoch::new(last - 1);
     let mut book = nearly_last_book(&rt, rt.alloc());
-    let fixed = enter(&rt, &mut book, 0, 1);
-    same(&rt, fixed, (epoch, CommitNo::new(last)));
-    same(&rt, book.enter(0, 1), Err(Fault::CommitLimit));
-    same(&rt, book.make_snapshot(), Ok(epoch));
+    enters(&rt, &mut book, 1, last - 1, last);
+    refuses_to_enter(&rt, &mut book, 1, Fault::CommitLimit);
+    makes(&rt, &mut book, Ok(Epoch::new(last - 1)));
     // The limit of epochs comes before that of snapshots.
-    same(&rt, book.make_snapshot(), Err(Fault::EpochLimit));
-    same(
-        &rt,
-        (book.epoch(), book.commit()),
-        (Epoch::new(last), CommitNo::new(last)),
-    );
+    makes(&rt, &mut book, Err(Fault::EpochLimit));
+    is_at(&rt, &book, last, last);
     same(&rt, (book.history().len(), book.room()), (2, 1));
 }
 
@@ -167,38 +166,46 @@ fn ends_at_the_last_numbers(rt: HostRuntime) {
 #[test]
 fn has_room_for_no_more_than_it_counts(rt: HostRuntime) {
     let mut book = new_book(&rt, rt.alloc());
-    same(
-        &rt,
-        book.enter(3, limits::NUMBER + 1),
-        Err(Fault::OutOfMemory),
-    );
-    same(&rt, (book.commit(), book.room()), (CommitNo::new(0), 0));
-    let fixed = enter(&rt, &mut book, 3, 7);
-    same(&rt, fixed, (Epoch::new(1), CommitNo::new(1)));
-    same(&rt, (book.commit(), book.room()), (CommitNo::new(1), 7));
+    refuses_to_enter(&rt, &mut book, limits::NUMBER + 1, Fault::OutOfMemory);
+    is_at(&rt, &book, 1, 0);
+    same(&rt, book.room(), 0);
+    enters(&rt, &mut book, 7, 1, 1);
+    is_at(&rt, &book, 1, 1);
+    same(&rt, book.room(), 7);
+}
+
+// How many commits there are, the last in the base, and how many events are kept.
+const LATEST_EVENTS: [(u64, u64, usize); 4] = [
+    (255, 0, 255),
+    (256, 0, 256),
+    (257, 1, 256),
+    (300, 44, 256),
+];
+
+fn enter_all(rt: &impl Abort, book: &mut Book, seat: u64, commits: u64) {
+    for _ in 0..commits {
+        let _fixed = enter(rt, book, seat, 0);
+    }
+}
+
+fn keeps(rt: &impl Abort, book: &Book, base: u64, kept: usize) {
+    same(rt, base_of(rt, book).commit(), CommitNo::new(base));
+    let history = book.history();
+    same_for(rt, &base, history.len(), kept);
+    let first = Event::Committed {
+        seat: 5,
+        number: CommitNo::new(base.saturating_add(1)),
+        epoch: Epoch::new(1),
+    };
+    same_for(rt, &base, history.event(0), Some(first));
 }
 
 #[test]
 fn keeps_the_latest_events(rt: HostRuntime) {
-    for (commits, base, kept) in [(255, 0, 255), (256, 0, 256), (257, 1, 256), (300, 44, 256)] {
+    for (commits, base, kept) in LATEST_EVENTS {
         let mut book = new_book(&rt, rt.alloc());
-        for _ in 0..commits {
-            let _fixed = enter(&rt, &mut book, 5, 0);
-        }
-        let history = book.history();
-        same_for(
-            &rt,
-            &commits,
-            base_of(&rt, &book).commit(),
-            CommitNo::new(base),
-        );
-        same_for(&rt, &commits, history.len(), kept);
-        let first = Event::Committed {
-            seat: 5,
-            number: CommitNo::new(base + 1),
-            epoch: Epoch::new(1),
-        };
-        same_for(&rt, &commits, history.event(0), Some(first));
+        enter_all(&rt, &mut book, 5, commits);
+        keeps(&rt, &book, base, kept);
     }
 }
 
@@ -213,39 +220,37 @@ fn base_of(rt: &impl Abort, book: &Book) -> Base {
     }
 }
 
+// The commits since, and of what lived at the base how many and the second.
+const FOLDED: [(u64, usize, Option<u64>); 4] = [
+    (0, 0, None),
+    (LATEST as u64 - 2, 2, Some(2)),
+    (1, 3, Some(2)),
+    (1, 2, Some(3)),
+];
+
+fn has_lived(rt: &impl Abort, book: &Book, count: usize, second: Option<u64>) {
+    let base = base_of(rt, book);
+    same_for(rt, &count, base.living().len(), count);
+    let found = base.living().get(1).copied();
+    same_for(rt, &count, found, second.map(Epoch::new));
+}
+
 #[test]
-fn folds_snapshots_into_the_base(rt: HostRuntime) -> Result<(), Fail> {
+fn folds_snapshots_into_the_base(rt: HostRuntime) {
     let mut book = new_book(&rt, rt.alloc());
-    for _ in 0..3 {
-        let _made = book.make_snapshot()?;
+    for s in 1..4 {
+        makes(&rt, &mut book, Ok(Epoch::new(s)));
     }
-    book.drop_snapshot(Epoch::new(2))?;
-    same(
-        &rt,
-        book.history().event(3),
-        Some(Event::Dropped(Epoch::new(2))),
-    );
-    // The commits since, and of what lived at the base how many and the second.
-    for (commits, count, second) in [
-        (0, 0, None),
-        (LATEST - 2, 2, Some(Epoch::new(2))),
-        (1, 3, Some(Epoch::new(2))),
-        (1, 2, Some(Epoch::new(3))),
-    ] {
-        for _ in 0..commits {
-            let _fixed = enter(&rt, &mut book, 0, 0);
-        }
-        let base = base_of(&rt, &book);
-        same_for(&rt, &commits, base.living().len(), count);
-        same_for(&rt, &commits, base.living().get(1).copied(), second);
+    drops(&rt, &mut book, 2, Ok(()));
+    let dropped = Event::Dropped(Epoch::new(2));
+    same(&rt, book.history().event(3), Some(dropped));
+    for (commits, count, second) in FOLDED {
+        enter_all(&rt, &mut book, 0, commits);
+        has_lived(&rt, &book, count, second);
     }
     let base = base_of(&rt, &book);
-    same(
-        &rt,
-        (base.epoch(), base.commit()),
-        (Epoch::new(4), CommitNo::new(0)),
-    );
-    Ok(())
+    same(&rt, base.epoch(), Epoch::new(4));
+    same(&rt, base.commit(), CommitNo::new(0));
 }
 
 #[test]

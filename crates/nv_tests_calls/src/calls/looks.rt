@@ -1,12 +1,14 @@
 //! What looks find, and the calls that no row makes.
 
+use super::known::Known;
 use super::refusals::known;
 use super::says::{Says, update};
-use crate::compare::{same, same_for};
+use crate::compare::{holds_for, same, same_for};
 use Says::{Create, Mkdir, Rename, Rmdir, Unlink};
 use nv_base::{Fault, Ino};
-use nv_calls::{Looked, found, is_as_looked, laws, look, look_all, place_in};
+use nv_calls::{Looked, Update, found, is_as_looked, laws, look, look_all, place_in};
 use nv_scenes::handle;
+use std::process::Abort;
 use std::test::Fail;
 
 /// A call, and the inodes that its names lead to. Where a look would be refused it finds nothing.
@@ -29,21 +31,25 @@ const LOOKS: &[(Says, Option<u64>, Option<u64>)] = &[
 #[test]
 fn looks_find_what_names_lead_to(rt: HostRuntime) -> Result<(), Fail> {
     let nodes = known(rt.alloc())?;
-    for (says, first, second) in LOOKS {
-        let call = update(rt.alloc(), *says)?;
+    for row in 0..LOOKS.len() {
+        let (says, first, second) = LOOKS[row];
         let wanted = Looked {
             first: first.map(handle),
             second: second.map(handle),
         };
-        same_for(&rt, says, look_all(&nodes, &call), wanted);
-        assert!(rt; is_as_looked(&nodes, &wanted, &call), "{says:?}");
-        let other = Looked {
-            first: Some(handle(8)),
-            second: wanted.second,
-        };
-        assert!(rt; !is_as_looked(&nodes, &other, &call), "{says:?}");
+        is_found(&rt, &nodes, row, &update(rt.alloc(), says)?, wanted);
     }
     Ok(())
+}
+
+fn is_found(rt: &impl Abort, nodes: &Known, row: usize, call: &Update, wanted: Looked) {
+    same_for(rt, &row, look_all(nodes, call), wanted);
+    holds_for(rt, row, is_as_looked(nodes, &wanted, call));
+    let other = Looked {
+        first: Some(handle(8)),
+        second: wanted.second,
+    };
+    holds_for(rt, row, !is_as_looked(nodes, &other, call));
 }
 
 #[test]

@@ -2,7 +2,7 @@
 
 use super::says::Says;
 use super::world::{Outcome, Row, World};
-use crate::compare::{same, same_for};
+use crate::compare::{same, same_for, same_shown};
 use LogSays::{Bind, Directory, File, Gone, Size, Unbind, Write};
 use Outcome::{Commits, Nothing, Refused};
 use nv_base::Fault;
@@ -15,7 +15,7 @@ use std::process::Abort;
 use std::test::Fail;
 
 /// What a node has.
-#[derive(Clone, Copy, Debug)]
+#[derive(Clone, Copy)]
 enum Has {
     Bytes(&'static [u8]),
     /// So many bytes, all of them 0.
@@ -205,10 +205,15 @@ const A_REPLACED_FILE: Scenario = (
 fn rows_by_their_plans(rt: HostRuntime) -> Result<(), Fail> {
     for (block, rows, wanted) in SCENARIOS {
         let mut world = World::new(&rt, rt.alloc(), *block)?;
-        for row in *rows {
-            world.make(&rt, rt.alloc(), row)?;
-        }
+        make_all(&rt, rt.alloc(), &mut world, rows)?;
         is_as_wanted(&rt, rt.alloc(), &world, wanted)?;
+    }
+    Ok(())
+}
+
+fn make_all(rt: &impl Abort, alloc: Global, world: &mut World, rows: &[Row]) -> Result<(), Fail> {
+    for row in 0..rows.len() {
+        world.make(rt, alloc, row, &rows[row])?;
     }
     Ok(())
 }
@@ -221,18 +226,23 @@ fn is_as_wanted(
 ) -> Result<(), Fail> {
     same(rt, world.logs.len(), wanted.len());
     for ((ino, log), (lines, has)) in world.logs.iter().enumerate().zip(wanted) {
-        is_log(rt, alloc, log, lines)?;
+        is_log(rt, alloc, ino, log, lines)?;
         is_node(rt, world, ino as u64, *has)?;
     }
     Ok(())
 }
 
-fn is_log(rt: &impl Abort, alloc: Global, log: &[Entry], lines: &[Line]) -> Result<(), Fail> {
+fn is_log(
+    rt: &impl Abort,
+    alloc: Global,
+    ino: usize,
+    log: &[Entry],
+    lines: &[Line],
+) -> Result<(), Fail> {
     let wanted = log_of(alloc, lines)?;
-    same_for(rt, &lines, log.len(), wanted.len());
+    same_for(rt, &ino, log.len(), wanted.len());
     for (entry, want) in log.iter().zip(&wanted) {
-        let found = format!(in alloc; "{entry:?}")?;
-        same_for(rt, &lines, found, format!(in alloc; "{want:?}")?);
+        same_shown(rt, alloc, ino, entry, want)?;
     }
     Ok(())
 }

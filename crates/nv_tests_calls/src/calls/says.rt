@@ -8,7 +8,7 @@ use std::alloc::Global;
 use std::test::Fail;
 
 /// A call.
-#[derive(Clone, Copy, Debug)]
+#[derive(Clone, Copy)]
 pub enum Says {
     Create(u64, &'static str),
     Mkdir(u64, &'static str),

@@ -8,8 +8,8 @@ use super::says::{Says, update};
 use crate::compare::same_for;
 use nv_base::{BlockNo, Epoch, Fault, Handle, Ino, Items};
 use nv_calls::{
-    Planned, PlannedItems, Taken, Update, blocks_wanted, check, ends_in_page, plan_items, plan_of,
-    runs_of,
+    Plan, Planned, PlannedItems, Taken, Update, blocks_wanted, check, ends_in_page, plan_items,
+    plan_of, runs_of,
 };
 use nv_entry::{Entry, Item, When, node_when, page_source};
 use nv_scenes::logs::{Device, Says as LogSays, log_of};
@@ -65,50 +65,51 @@ impl World {
     /// Reads the nodes of all logs anew.
     fn read_all(&mut self, rt: &impl Abort, alloc: Global) -> Result<(), Fail> {
         let block = self.block;
-        assert!(rt; block > 0);
         let blocks = Device {
             blocks: &self.device,
         };
-        let mut nodes = Vec::new(alloc);
-        for (ino, log) in self.logs.iter().enumerate() {
-            if let Some(known) = known_node(rt, alloc, block, ino as u64, log, &blocks)? {
-                nodes.push(known)?;
-            }
-        }
-        self.nodes = Known { nodes };
+        self.nodes = known_nodes(rt, alloc, block, &self.logs, &blocks)?;
         Ok(())
     }
 
-    /// Makes a call.
-    pub fn make(&mut self, rt: &impl Abort, alloc: Global, row: &Row) -> Result<(), Fail> {
+    /// Makes the call of a row.
+    pub fn make(
+        &mut self,
+        rt: &impl Abort,
+        alloc: Global,
+        number: usize,
+        row: &Row,
+    ) -> Result<(), Fail> {
         let (says, epoch, blocks, wanted) = *row;
-        let block = self.block;
-        assert!(rt; 0 < block && block <= 4_096);
-        if let Some(found) = of_a_read(&self.nodes, says) {
-            let found = match found {
-                Ok(()) => Outcome::Nothing,
-                Err(fault) => Outcome::Refused(fault),
-            };
-            same_for(rt, row, found, wanted);
+        let (outcome, plan) = self.outcome(rt, alloc, says)?;
+        same_for(rt, &number, outcome, wanted);
+        let Some(plan) = plan else {
             return Ok(());
-        }
-        let plan = match plan_of(block, &self.nodes, update(alloc, says)?) {
-            Ok(plan) => plan,
-            Err(fault) => {
-                same_for(rt, row, Outcome::Refused(fault), wanted);
-                return Ok(());
-            }
         };
-        if plan.nothing() {
-            same_for(rt, row, Outcome::Nothing, wanted);
-            return Ok(());
-        }
-        same_for(rt, row, Outcome::Commits, wanted);
-        same_for(rt, row, plan.blocks, blocks.len() as u64);
+        same_for(rt, &number, plan.blocks, blocks.len() as u64);
         let planned = self.planned(rt, alloc, &plan.update, blocks)?;
         self.fill(rt, alloc, says, blocks)?;
         self.append(alloc, planned, epoch)?;
         self.read_all(rt, alloc)
+    }
+
+    /// What a call comes to, and its plan where it commits.
+    fn outcome(
+        &self,
+        rt: &impl Abort,
+        alloc: Global,
+        says: Says,
+    ) -> Result<(Outcome, Option<Plan>), Fail> {
+        if let Some(found) = of_a_read(&self.nodes, says) {
+            return Ok((of_a_check(found), None));
+        }
+        let block = self.block;
+        assert!(rt; 0 < block && block <= 4_096);
+        match plan_of(block, &self.nodes, update(alloc, says)?) {
+            Ok(plan) if plan.nothing() => Ok((Outcome::Nothing, None)),
+            Ok(plan) => Ok((Outcome::Commits, Some(plan))),
+            Err(fault) => Ok((Outcome::Refused(fault), None)),
+        }
     }
 
     /// What a call plans that takes these blocks.
@@ -183,10 +184,7 @@ impl World {
     fn append(&mut self, alloc: Global, planned: PlannedItems, epoch: u64) -> Result<(), Fail> {
         self.commit = self.commit.saturating_add(1);
         let planned = planned.into_vec();
-        let mut places = Vec::new(alloc);
-        for p in &planned {
-            places.push(place_by_hand(&planned, p.handle.ino))?;
-        }
+        let places = places_by_hand(alloc, &planned)?;
         for (p, place) in planned.into_iter().zip(places) {
             let Planned { handle, items } = p;
             self.append_items(alloc, handle.ino, epoch, place, items.into_vec())?;
@@ -221,6 +219,22 @@ impl World {
     }
 }
 
+fn of_a_check(found: Result<(), Fault>) -> Outcome {
+    match found {
+        Ok(()) => Outcome::Nothing,
+        Err(fault) => Outcome::Refused(fault),
+    }
+}
+
+/// The place of the first item of each inode in their commit.
+fn places_by_hand(alloc: Global, planned: &[Planned]) -> Result<Vec<u32>, Fail> {
+    let mut places = Vec::new(alloc);
+    for p in planned {
+        places.push(place_by_hand(planned, p.handle.ino))?;
+    }
+    Ok(places)
+}
+
 /// How many items are planned for inodes of lower numbers.
 fn place_by_hand(planned: &[Planned], ino: Ino) -> u32 {
     let mut place = 0u32;
@@ -232,6 +246,23 @@ fn place_by_hand(planned: &[Planned], ino: Ino) -> u32 {
         }
     }
     place
+}
+
+/// The nodes of all logs.
+fn known_nodes(
+    rt: &impl Abort,
+    alloc: Global,
+    block: u64,
+    logs: &[Vec<Entry>],
+    blocks: &Device<'_>,
+) -> Result<Known, Fail> {
+    let mut nodes = Vec::new(alloc);
+    for (ino, log) in logs.iter().enumerate() {
+        if let Some(known) = known_node(rt, alloc, block, ino as u64, log, blocks)? {
+            nodes.push(known)?;
+        }
+    }
+    Ok(Known { nodes })
 }
 
 /// The node of a log, if there is one.

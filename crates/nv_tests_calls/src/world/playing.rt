@@ -15,11 +15,12 @@ const STEPS: u64 = 200;
 pub(super) fn new_world(rt: &impl Abort, alloc: Global, row: Row) -> World {
     let device = geometry(row).expect(rt, "a geometry");
     match World::format(alloc, device) {
+        Ok(world) => return world,
+        Err(fault) => same(rt, fault, Fault::OutOfMemory),
+    }
+    match World::format(alloc, device) {
         Ok(world) => world,
-        Err(fault) => {
-            same(rt, fault, Fault::OutOfMemory);
-            World::format(alloc, device).expect(rt, "memory for a world")
-        }
+        Err(_) => panic!(rt; "memory for a world"),
     }
 }
 

@@ -1,6 +1,6 @@
 //! Calls by their words, and replies that are wanted.
 
-use nv_base::{Bytes, Fault, Kind, Mode};
+use nv_base::{Bytes, Fault, Handle, Kind, Mode};
 use nv_core::{Answer, Call, Reply};
 use nv_entry::BoundName;
 use nv_scenes::handle_of;
@@ -54,31 +54,35 @@ fn mode(rt: &impl Abort, bits: u16) -> Mode {
     Mode::checked(bits).expect(rt, "a mode")
 }
 
+fn at_handle((ino, generation): At) -> Handle {
+    handle_of(ino, generation)
+}
+
 /// The call of some words. New files have mode 420, and new directories mode 493.
 pub(super) fn call(rt: &impl Abort, alloc: Global, words: &Words) -> Call {
-    match words {
+    match *words {
         Words::Create(at, name) => Call::Create {
-            dir: handle_of(at.0, at.1),
+            dir: at_handle(at),
             name: bytes(rt, alloc, name),
             mode: mode(rt, 420),
         },
         Words::Mkdir(at, name) => Call::Mkdir {
-            dir: handle_of(at.0, at.1),
+            dir: at_handle(at),
             name: bytes(rt, alloc, name),
             mode: mode(rt, 493),
         },
         Words::Unlink(at, name) => Call::Unlink {
-            dir: handle_of(at.0, at.1),
+            dir: at_handle(at),
             name: bytes(rt, alloc, name),
         },
         Words::Rmdir(at, name) => Call::Rmdir {
-            dir: handle_of(at.0, at.1),
+            dir: at_handle(at),
             name: bytes(rt, alloc, name),
         },
         Words::Rename(from, old, to, new) => Call::Rename {
-            from: handle_of(from.0, from.1),
+            from: at_handle(from),
             old: bytes(rt, alloc, old),
-            to: handle_of(to.0, to.1),
+            to: at_handle(to),
             new: bytes(rt, alloc, new),
         },
         _ => call_on_a_node(rt, alloc, words),
@@ -87,42 +91,44 @@ pub(super) fn call(rt: &impl Abort, alloc: Global, words: &Words) -> Call {
 
 /// The same for calls that change or show one node.
 fn call_on_a_node(rt: &impl Abort, alloc: Global, words: &Words) -> Call {
-    match words {
+    match *words {
         Words::Write(at, offset, text) => Call::Write {
-            file: handle_of(at.0, at.1),
-            offset: *offset,
+            file: at_handle(at),
+            offset,
             text: bytes(rt, alloc, text),
         },
         Words::Read(at, offset, count) => Call::Read {
-            file: handle_of(at.0, at.1),
-            offset: *offset,
-            count: *count,
+            file: at_handle(at),
+            offset,
+            count,
         },
         Words::Size(at, size) => Call::Size {
-            file: handle_of(at.0, at.1),
-            size: *size,
+            file: at_handle(at),
+            size,
         },
         Words::Mode(at, bits) => Call::Mode {
-            handle: handle_of(at.0, at.1),
-            mode: mode(rt, *bits),
+            handle: at_handle(at),
+            mode: mode(rt, bits),
         },
         Words::Stat(at) => Call::Stat {
-            handle: handle_of(at.0, at.1),
+            handle: at_handle(at),
         },
-        Words::List(at) => Call::List {
-            dir: handle_of(at.0, at.1),
-        },
+        Words::List(at) => Call::List { dir: at_handle(at) },
         Words::Lookup(at, name) => Call::Lookup {
-            dir: handle_of(at.0, at.1),
+            dir: at_handle(at),
             name: bytes(rt, alloc, name),
         },
         _ => panic!(rt; "a call on names"),
     }
 }
 
+fn is_named(name: &BoundName, bytes: &[u8], ino: u64) -> bool {
+    name.name.bytes() == bytes && name.to == handle_of(ino, 1)
+}
+
 fn are_named(names: &[BoundName], wanted: &[(&[u8], u64)]) -> bool {
     for (name, (bytes, ino)) in names.iter().zip(wanted) {
-        if name.name.bytes() != *bytes || name.to != handle_of(*ino, 1) {
+        if !is_named(name, bytes, *ino) {
             return false;
         }
     }
@@ -130,11 +136,11 @@ fn are_named(names: &[BoundName], wanted: &[(&[u8], u64)]) -> bool {
 }
 
 fn is_answer(answer: &Answer, want: &Want) -> bool {
-    match (answer, want) {
-        (Answer::Made(made), Want::Made(at)) => *made == handle_of(at.0, at.1),
-        (Answer::Count(count), Want::Count(want)) => count == want,
+    match (answer, *want) {
+        (Answer::Made(made), Want::Made(at)) => *made == at_handle(at),
+        (Answer::Count(count), Want::Count(want)) => *count == want,
         (Answer::Nothing, Want::Nothing) => true,
-        (Answer::Bytes(bytes), Want::Bytes(want)) => bytes.as_slice() == *want,
+        (Answer::Bytes(bytes), Want::Bytes(want)) => bytes.as_slice() == want,
         (Answer::Names(names), Want::Names(want)) => are_named(names.as_slice(), want),
         (
             Answer::Stat {
@@ -145,19 +151,25 @@ fn is_answer(answer: &Answer, want: &Want) -> bool {
             },
             Want::Stat(wanted, bits, bytes, number),
         ) => {
-            kind == wanted && mode.bits() == *bits && size == bytes && commit.number() == *number
+            *kind == wanted && mode.bits() == bits && *size == bytes && commit.number() == number
         }
         _ => false,
     }
 }
 
-pub(super) fn is_wanted(reply: &Reply, want: &Want) -> bool {
-    match (reply, want) {
-        (Reply::Started, Want::Started) => true,
-        (Reply::Moved, Want::Moved) => true,
-        (Reply::Waits, Want::Waits) => true,
-        (Reply::Refused(fault), Want::Refused(want)) => fault == want,
-        (Reply::Done(answer), _) => is_answer(answer, want),
+fn is_fault(fault: Fault, want: &Want) -> bool {
+    match *want {
+        Want::Refused(wanted) => fault == wanted,
         _ => false,
+    }
+}
+
+pub(super) fn is_wanted(reply: &Reply, want: &Want) -> bool {
+    match reply {
+        Reply::Started => matches!(want, Want::Started),
+        Reply::Moved => matches!(want, Want::Moved),
+        Reply::Waits => matches!(want, Want::Waits),
+        Reply::Refused(fault) => is_fault(*fault, want),
+        Reply::Done(answer) => is_answer(answer, want),
     }
 }
