@@ -1,4 +1,4 @@
-use Rattle.std.proofs.Common.{◌≡◌, ◌∷◌, ◌∙◌, Some, rules, sym, ap}
+use Rattle.std.proofs.Common.{◌∷◌, ◌∙◌, Some, rules, sym, ap}
 use Rattle.nv_script.proofs.Escapes.{text_of-unescaped, behind-None, behind-more, behind-end}
 use Rattle.nv_script.proofs.word.text.Goals as goal
 
