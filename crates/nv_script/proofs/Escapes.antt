@@ -1,10 +1,10 @@
 -- Escaped text.
-use Rattle.std.proofs.Common.{◌≡◌, ◌<◌, ℕ, ◌+◌, ◌*◌, ◌/◌, ◌%◌, ◌==◌, Bool, true, false, cond, List, [], ◌∷◌, ◌++◌, length, Option, Some, None, option_map, refl, sym, ap, ◌∙◌, append_assoc, arith}
+use Rattle.std.proofs.Common.{◌≡◌, ◌<◌, ℕ, ◌+◌, ◌*◌, ◌/◌, ◌%◌, ◌==◌, Bool, true, false, cond, List, [], ◌∷◌, ◌++◌, length, Option, Some, None, option_map, refl, sym, ap, ◌∙◌, append_assoc, append-nil, arith}
 use Rattle.std.specs.List.{All}
 use Rattle.std.specs.Fmt.{digit_glyph}
 use Rattle.std.proofs.lemmas.List.Elements.{All-head, All-tail}
 use Rattle.std.proofs.lemmas.Bool.Decides.{nat_tests}
-use Rattle.nv_script.specs.Words.{is_plain, plain_byte, hex_value, before, unescaped, text_of, escaped_byte, escaped}
+use Rattle.nv_script.specs.Words.{is_plain, plain_byte, hex_value, before, unescaped, unescaped_behind, text_of, escaped_byte, escaped}
 
 -- one byte more is read
 unescaped-push : (bytes : List ℕ) (byte : ℕ) (more : Option (List ℕ))
@@ -12,25 +12,30 @@ unescaped-push : (bytes : List ℕ) (byte : ℕ) (more : Option (List ℕ))
 unescaped-push bytes byte None = refl
 unescaped-push bytes byte (Some rest) = ap (λ (text : List ℕ). Some text) (sym (append_assoc bytes (byte ∷ []) rest))
 
-text_of-unescaped : (word : List ℕ) (b : Bool) → b ≡ (length word == 0) → b ≡ false → text_of word ≡ unescaped word
+pub text_of-unescaped : (word : List ℕ) (b : Bool) → b ≡ (length word == 0) → b ≡ false → text_of word ≡ unescaped_behind [] word
 text_of-unescaped [] b e f = absurd (cc)
-text_of-unescaped (byte ∷ bytes) b e f = refl
+text_of-unescaped (byte ∷ bytes) b e f = again (unescaped (byte ∷ bytes))
+  where
+  again : (more : Option (List ℕ)) → more ≡ option_map (λ rest. [] ++ rest) more
+  again None = refl
+  again (Some rest) = refl
 
 -- the rest begins with what stands for no byte
-pub text_of-None : (word rest text bytes : List ℕ) (b : Bool) → b ≡ (length word == 0) → b ≡ false
-    → unescaped word ≡ option_map (λ more. bytes ++ more) (unescaped rest) → rest ≡ text → unescaped text ≡ None → text_of word ≡ None
-text_of-None word rest text bytes b e f so_far same none =
-    text_of-unescaped word b e f ∙ so_far ∙ ap (λ (more : Option (List ℕ)). option_map (λ m. bytes ++ m) more) (ap unescaped same ∙ none)
+pub behind-None : (rest text bytes : List ℕ) → rest ≡ text → unescaped text ≡ None → unescaped_behind bytes rest ≡ None
+behind-None rest text bytes same none = ap (λ (more : Option (List ℕ)). option_map (λ m. bytes ++ m) more) (ap unescaped same ∙ none)
 
 -- the rest begins with what stands for a byte
-pub unescaped-more : (word rest text left bytes added : List ℕ) (byte : ℕ)
-    → unescaped word ≡ option_map (λ more. bytes ++ more) (unescaped rest) → rest ≡ text
-    → unescaped text ≡ before (Some byte) (unescaped left) → added ≡ bytes ++ byte ∷ []
-    → unescaped word ≡ option_map (λ more. added ++ more) (unescaped left)
-unescaped-more word rest text left bytes added byte so_far same next pushed =
-    so_far ∙ ap (λ (more : Option (List ℕ)). option_map (λ m. bytes ++ m) more) (ap unescaped same ∙ next)
+pub behind-more : (rest text left bytes added : List ℕ) (byte : ℕ) → rest ≡ text → unescaped text ≡ before (Some byte) (unescaped left)
+    → added ≡ bytes ++ byte ∷ [] → unescaped_behind bytes rest ≡ unescaped_behind added left
+behind-more rest text left bytes added byte same next pushed =
+    ap (λ (more : Option (List ℕ)). option_map (λ m. bytes ++ m) more) (ap unescaped same ∙ next)
     ∙ unescaped-push bytes byte (unescaped left)
     ∙ ap (λ (front : List ℕ). option_map (λ m. front ++ m) (unescaped left)) (sym pushed)
+
+-- the rest has no byte
+pub behind-end : (rest bytes : List ℕ) → length rest ≡ 0 → unescaped_behind bytes rest ≡ Some bytes
+behind-end [] bytes none = ap (λ (text : List ℕ). Some text) (append-nil bytes)
+behind-end (byte ∷ rest) bytes none = absurd (omega (arith, none))
 
 -- Printed text reads back as itself.
 
@@ -44,7 +49,7 @@ second : (b : Bool) (x y : Option (List ℕ)) → b ≡ false → cond b x y ≡
 second true x y h = absurd (cc)
 second false x y h = refl
 
-unescaped-plain : (byte : ℕ) (rest : List ℕ) → is_plain byte ≡ true → unescaped (byte ∷ rest) ≡ before (Some byte) (unescaped rest)
+pub unescaped-plain : (byte : ℕ) (rest : List ℕ) → is_plain byte ≡ true → unescaped (byte ∷ rest) ≡ before (Some byte) (unescaped rest)
 unescaped-plain byte [] plain = rw plain refl
 unescaped-plain byte (a ∷ []) plain = rw plain refl
 unescaped-plain byte (a ∷ b ∷ rest) plain =

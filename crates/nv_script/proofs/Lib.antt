@@ -8,4 +8,5 @@ pub mod Handles
 pub mod Known
 pub mod Lines
 pub mod Numbers
+pub mod Plain
 pub mod Played

@@ -1,5 +1,5 @@
 -- What a word of a line spells: a number, a handle, a mode, escaped bytes.
-use Rattle.std.specs.Prelude.{ℕ, ◌+◌, ◌-◌, ◌*◌, ◌^◌, ◌/◌, ◌%◌, ◌==◌, ◌&&◌, Bool, false, not, if◌then◌else◌, nat_lt, nat_le, List, [], ◌∷◌, length, Option, Some, None}
+use Rattle.std.specs.Prelude.{ℕ, ◌+◌, ◌-◌, ◌*◌, ◌^◌, ◌/◌, ◌%◌, ◌==◌, ◌&&◌, Bool, false, not, if◌then◌else◌, nat_lt, nat_le, List, [], ◌∷◌, ◌++◌, length, Option, Some, None, option_map}
 use Rattle.std.specs.List.{list_all, slice_split, flat_map}
 use Rattle.std.specs.Fmt.{digit_glyph}
 use Rattle.nv_base.specs.declared.numbers.Handle.{Handle}
@@ -86,6 +86,10 @@ unescaped (a ∷ b ∷ []) = before (plain_byte a) (unescaped (b ∷ []))
 unescaped (a ∷ b ∷ c ∷ rest) =
     if a == 37 then before (hex_pair (hex_value b) (hex_value c)) (unescaped rest)
     else before (plain_byte a) (unescaped (b ∷ c ∷ rest))
+
+-- the bytes that escaped text stands for, behind these bytes
+abbrev pub unescaped_behind : List ℕ → List ℕ → Option (List ℕ)
+unescaped_behind front text = option_map (λ bytes. front ++ bytes) (unescaped text)
 
 -- text has one byte or more
 abbrev pub text_of : List ℕ → Option (List ℕ)

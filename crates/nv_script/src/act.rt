@@ -1,6 +1,6 @@
 //! What lines do to a world, and what they write.
 
-ghost use Rattle.std.specs.Prelude.{◌≡◌, ◌+◌, [], ℕ, None, OnOk, string_bytes};
+ghost use Rattle.std.specs.Prelude.{◌≡◌, ◌+◌, [], ℕ, None, OnOk};
 ghost use Rattle.nv_base.specs.Limits.{first_bad_field};
 ghost use Rattle.nv_machine.specs.Step.{step};
 ghost use Rattle.nv_machine.specs.World as machine;
@@ -21,9 +21,9 @@ pub(crate) fn play_line(
     alloc: Global,
     world: &mut Option<World>,
     line: &[u8],
-    out: &mut String,
+    out: &mut Vec<u8>,
 ) -> Result<(), LineFault>
-    ensures { LineIs result world.old line.now (string_bytes out.new) world.new }
+    ensures { LineIs result world.old line.now out.new.items world.new }
 {
     out.clear();
     if is_skipped(line) {
@@ -47,17 +47,17 @@ fn format(
     alloc: Global,
     world: &mut Option<World>,
     numbers: &GeometryNumbers,
-    out: &mut String,
+    out: &mut Vec<u8>,
 ) -> Result<(), AllocError>
     requires none { world.old ≡ None }
-    requires empty { string_bytes out.old ≡ [] }
+    requires empty { out.old.items ≡ [] }
     ensures { OnOk result
-        (MakesWorld (first_bad_field numbers.now) numbers.now (string_bytes out.new) world.new) }
+        (MakesWorld (first_bad_field numbers.now) numbers.now out.new.items world.new) }
 {
     match new_world(alloc, numbers) {
         Ok(made) => {
             *world = Some(made);
-            out.push_str("formatted\n")
+            out.extend_from_slice(b"formatted\n")
         }
         Err(fault) => push_refused(out, &fault),
     }
@@ -72,10 +72,10 @@ fn new_world(alloc: Global, numbers: &GeometryNumbers) -> Result<World, Fault>
 }
 
 /// Acts on a command.
-fn act(world: &mut World, command: Command, out: &mut String) -> Result<(), AllocError>
-    requires { string_bytes out.old ≡ [] }
+fn act(world: &mut World, command: Command, out: &mut Vec<u8>) -> Result<(), AllocError>
+    requires { out.old.items ≡ [] }
     ensures { OnOk result
-        (Leads (λ m n. Acts m command (string_bytes out.new) n) world.old world.new) }
+        (Leads (λ m n. Acts m command out.new.items n) world.old world.new) }
 {
     match command {
         Command::Start(actor, call) => push_reply(out, &world.step(Event::Start(actor, call))),

@@ -58,7 +58,7 @@ pub fn play<R: Read, W: Write>(alloc: Global, reader: &mut R, writer: &mut W) ->
 struct Player {
     feed: Feed,
     line: Vec<u8>,
-    text: String,
+    text: Vec<u8>,
     outbox: Outbox,
     world: Option<World>,
     ghost room: { 4096 ≤ vec_capacity line },
@@ -74,7 +74,7 @@ impl Player {
         Ok(Player {
             feed: Feed::new(alloc)?,
             line: Vec::with_capacity(alloc, MAX_LINE_BYTES)?,
-            text: String::with_capacity(alloc, TEXT_BYTES)?,
+            text: Vec::with_capacity(alloc, TEXT_BYTES)?,
             outbox: Outbox::new(alloc)?,
             world: None,
         })
@@ -132,7 +132,7 @@ impl Player {
         if let Err(fault) = played {
             return Err(ending_of(number, fault));
         }
-        let Ok(()) = self.outbox.add(writer, self.text.as_bytes()) else {
+        let Ok(()) = self.outbox.add(writer, self.text.as_slice()) else {
             return Err(Fault::Write);
         };
         Ok(true)

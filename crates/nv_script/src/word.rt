@@ -1,9 +1,10 @@
 //! The words of a line, and what a word spells: a number, a mode, a handle, escaped bytes.
 
-ghost use Rattle.std.specs.Prelude.{◌≡◌, ◌<◌, ◌≤◌, ◌++◌, ◌∷◌, ℕ, List, length, map, IfOk, IfSome, OnOk, MatchOption, string_bytes};
-ghost use Rattle.std.specs.List.{All};
+ghost use Rattle.std.specs.Prelude.{◌≡◌, ◌<◌, ◌≤◌, ◌++◌, ◌∷◌, ℕ, List, false, length, map, IfOk, IfSome, OnOk, MatchOption, decimal, take, true};
+ghost use Rattle.std.specs.List.{All, list_all};
+ghost use Rattle.std.specs.Fmt.{digit_glyph};
 ghost use Rattle.nv_base.specs.declared.limits.TheConstants.{MODE};
-ghost use Rattle.nv_script.specs.Words.{number_of, number_up_to, positive_up_to, words_of, handle_from, handle_of, is_plain, hex_value, before, unescaped, text_of, escaped_byte, escaped};
+ghost use Rattle.nv_script.specs.Words.{number_of, number_up_to, positive_up_to, words_of, handle_from, handle_of, is_plain, hex_value, before, unescaped, unescaped_behind, text_of, escaped_byte, escaped};
 
 use nv_base::{Bytes, Gen, Handle, Ino, Mode, limits};
 use std::alloc::{AllocError, Global};
@@ -16,6 +17,9 @@ const MOST_WORDS: usize = 8;
 
 /// What parts the inode number of a handle from its generation.
 const POINT: u8 = b'.';
+
+/// How many bytes are tested together.
+const PIECE: usize = 32;
 
 /// What begins the two digits of an escaped byte.
 const ESCAPE: u8 = b'%';
@@ -127,6 +131,45 @@ fn taken(first: u8, after: &[u8]) -> Option<(u8, &[u8])>
     Some((16 * hex_value(*high)? + hex_value(*low)?, rest))
 }
 
+/// Whether each byte is plain. All are asked whatever the first ones are, so that many are asked at once.
+fn all_plain(bytes: &[u8]) -> bool
+    ensures { result ≡ list_all is_plain bytes.now }
+{
+    let mut plain = true;
+    for byte in bytes {
+        plain &= is_plain(*byte);
+    }
+    plain
+}
+
+/// How many bytes are plain in front.
+fn plain_count(bytes: &[u8]) -> usize
+    ensures within { result ≤ length bytes.now }
+    ensures plain { list_all is_plain (take result bytes.now) ≡ true }
+{
+    let mut count = 0;
+    while PIECE <= bytes.len() - count && all_plain(&bytes[count..count + PIECE]) {
+        count += PIECE;
+    }
+    while count < bytes.len() && is_plain(bytes[count]) {
+        count += 1;
+    }
+    count
+}
+
+/// Adds the plain bytes in front as they are, all together, and returns the bytes after them.
+fn push_plain<'a>(out: &mut Vec<u8>, bytes: &'a [u8]) -> Result<&'a [u8], AllocError>
+    ensures printed { IfOk result (λ rest.
+        out.new.items ++ escaped rest.now ≡ out.old.items ++ escaped bytes.now) }
+    ensures read { IfOk result (λ rest. unescaped_behind out.new.items rest.now
+        ≡ unescaped_behind out.old.items bytes.now) }
+    ensures shorter { IfOk result (λ rest. length rest.now ≤ length bytes.now) }
+{
+    let (plain, rest) = bytes.split_at(plain_count(bytes));
+    out.extend_from_slice(plain)?;
+    Ok(rest)
+}
+
 /// The bytes that a word of escaped text stands for. It has one or more.
 pub fn text(alloc: Global, word: &[u8]) -> Result<Option<Bytes>, AllocError>
     ensures { IfOk result (λ t. t ≡ text_of word.now) }
@@ -135,36 +178,60 @@ pub fn text(alloc: Global, word: &[u8]) -> Result<Option<Bytes>, AllocError>
         return Ok(None);
     }
     let mut bytes = Vec::with_capacity(alloc, word.len())?;
-    let mut rest = word;
+    let mut rest = push_plain(&mut bytes, word)?;
     while let Some((first, after)) = rest.split_first() {
         let Some((byte, left)) = taken(*first, after) else {
             return Ok(None);
         };
         bytes.push(byte)?;
-        rest = left;
+        rest = push_plain(&mut bytes, left)?;
     }
     Ok(Some(Bytes::from_vec(bytes)))
 }
 
-/// Adds one byte as it is printed.
-fn push_byte(out: &mut String, byte: u8) -> Result<(), AllocError>
-    ensures { OnOk result (string_bytes out.new ≡ string_bytes out.old ++ escaped_byte byte) }
+/// A lower-case hexadecimal digit.
+fn hex_digit(value: u8) -> u8
+    requires { value < 16 }
+    ensures { result ≡ digit_glyph false value }
 {
-    if is_plain(byte) {
-        out.push(char::from(byte))
+    if value < 10 {
+        b'0' + value
     } else {
-        write!(out, "%{byte:02x}")
+        b'a' - 10 + value
     }
 }
 
-/// Adds bytes as they are printed.
-pub fn push_escaped(out: &mut String, bytes: &[u8]) -> Result<(), AllocError>
-    ensures { OnOk result (string_bytes out.new ≡ string_bytes out.old ++ escaped bytes.now) }
+/// Adds one byte as it is printed.
+fn push_byte(out: &mut Vec<u8>, byte: u8) -> Result<(), AllocError>
+    ensures { OnOk result (out.new.items ≡ out.old.items ++ escaped_byte byte) }
 {
-    for byte in bytes {
+    if is_plain(byte) {
+        Ok(out.push(byte)?)
+    } else {
+        out.extend_from_slice(&[ESCAPE, hex_digit(byte / 16), hex_digit(byte % 16)])
+    }
+}
+
+/// Adds bytes as they are printed. Plain ones are copied together.
+pub fn push_escaped(out: &mut Vec<u8>, bytes: &[u8]) -> Result<(), AllocError>
+    ensures { OnOk result (out.new.items ≡ out.old.items ++ escaped bytes.now) }
+{
+    let mut rest = push_plain(out, bytes)?;
+    while let Some((byte, after)) = rest.split_first() {
         push_byte(out, *byte)?;
+        rest = push_plain(out, after)?;
     }
     Ok(())
+}
+
+/// Adds a number in decimal digits.
+pub fn push_number(out: &mut Vec<u8>, number: u64) -> Result<(), AllocError>
+    ensures { OnOk result (out.new.items ≡ out.old.items ++ decimal number) }
+{
+    if number >= 10 {
+        push_number(out, number / 10)?;
+    }
+    Ok(out.push(b'0' + (number % 10) as u8)?)
 }
 
 /// A law: printed text reads back as the bytes that were printed.

@@ -1,7 +1,7 @@
 //! Words by worked values.
 
 use crate::compare::{same, same_for};
-use nv_script::word::{handle, mode, number, number_up_to, push_escaped, text, words};
+use nv_script::word::{handle, mode, number, number_up_to, push_escaped, push_number, text, words};
 use std::alloc::Global;
 use std::process::Abort;
 use std::test::Fail;
@@ -104,8 +104,41 @@ fn texts(rt: HostRuntime) -> Result<(), Fail> {
 }
 
 fn is_escaped(rt: &impl Abort, alloc: Global) -> Result<(), Fail> {
-    let mut out = String::from_str(alloc, "> ")?;
+    let mut out = Vec::from_slice(alloc, b"> ")?;
     push_escaped(&mut out, &[0, 33, 37, 126, 127, 255])?;
-    same(rt, out.as_str(), "> %00!%25~%7f%ff");
+    same(rt, out.as_slice(), b"> %00!%25~%7f%ff".as_slice());
+    Ok(())
+}
+
+// Longer than what is tested together, with bytes to escape in the first, between, and last.
+const LONG: &[u8] =
+    b" to-be-or-not-to-be-that-is-the-question\nwhether-it-is-nobler-in-the-mind-to-suffer\t";
+
+const LONG_ESCAPED: &[u8] =
+    b"%20to-be-or-not-to-be-that-is-the-question%0awhether-it-is-nobler-in-the-mind-to-suffer%09";
+
+#[test]
+fn long_text_is_printed_and_read(rt: HostRuntime) -> Result<(), Fail> {
+    let alloc = rt.alloc();
+    let mut out = Vec::new(alloc);
+    push_escaped(&mut out, LONG)?;
+    same(&rt, out.as_slice(), LONG_ESCAPED);
+    let read = text(alloc, out.as_slice())?;
+    same(&rt, read.as_ref().map(|bytes| bytes.as_slice()), Some(LONG));
+    out.push(b' ')?;
+    same(&rt, text(alloc, out.as_slice())?.is_none(), true);
+    Ok(())
+}
+
+#[test]
+fn numbers_are_printed_in_decimal(rt: HostRuntime) -> Result<(), Fail> {
+    let alloc = rt.alloc();
+    let mut out = Vec::new(alloc);
+    for number in [0, 9, 10, 420, 1_000_000, u64::MAX] {
+        push_number(&mut out, number)?;
+        out.push(b' ')?;
+    }
+    let shown = b"0 9 10 420 1000000 18446744073709551615 ".as_slice();
+    same(&rt, out.as_slice(), shown);
     Ok(())
 }

@@ -1,6 +1,9 @@
-use Rattle.std.proofs.Common.{◌≡◌, ◌++◌, take, string_bytes}
+use Rattle.std.proofs.Common.{◌≡◌, ◌++◌, length}
 use Rattle.nv_script.specs.Words.{escaped}
 use Rattle.nv_script.proofs.word.push_escaped.Given as goal
 
 abbrev pub invariant-loop-byte : goal.invariant-loop-byte
-invariant-loop-byte l = string_bytes l.out ≡ string_bytes l.initial.out ++ escaped (take l.byte-index l.bytes)
+invariant-loop-byte l = l.out.items ++ escaped l.rest ≡ l.fn.out.items ++ escaped l.bytes
+
+abbrev pub decreases-loop-byte : goal.decreases-loop-byte
+decreases-loop-byte l = length l.rest

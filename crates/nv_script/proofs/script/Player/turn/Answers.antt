@@ -53,7 +53,7 @@ returns-in_default-add g c = λ input old m shown at.
     let plays = plays_at _ _ _ _ _ c.as_slice.ensures.value led.1 in
     let wrote = c.in_default-add.ensures in
     let some = subst (λ (bytes : List ℕ). WritesSome (g.W.Write.contents c.write_before_read.new.writer)
-    (g.W.Write.contents c.add.new.writer) (c.write_before_read.new.outbox ++ bytes)) c.as_bytes.ensures.value wrote.0 in
+    (g.W.Write.contents c.add.new.writer) (c.write_before_read.new.outbox ++ bytes)) c.as_slice-2.ensures.value wrote.0 in
     none_gathered input left old _ _ wrote.1
     (breaks_off _ _ _ _ _ _ _ c.requires now c.in-Ok-next_line.taken _ _ one took.line took.taken left _ _ _ plays some)
 
@@ -66,6 +66,6 @@ returns g c = λ input old m shown at.
     let plays = plays_at _ _ _ _ _ c.as_slice.ensures.value led.1 in
     let wrote = subst (λ (bytes : List ℕ). WritesFront (g.W.Write.contents c.write_before_read.new.writer)
     (g.W.Write.contents c.add.new.writer)
-    (c.write_before_read.new.outbox ++ bytes) c.add.new.self) c.as_bytes.ensures.value c.in-Ok-add.ensures in
+    (c.write_before_read.new.outbox ++ bytes) c.add.new.self) c.as_slice-2.ensures.value c.in-Ok-add.ensures in
     let inside = within_last _ _ _ _ _ _ _ c.requires now c.in-Ok-next_line.taken _ _ one took.line took.taken in
     (inside, led.0, next _ _ _ _ _ _ _ c.requires now c.in-Ok-next_line.taken _ _ one took.line took.taken _ _ _ _ plays wrote, led.2)
