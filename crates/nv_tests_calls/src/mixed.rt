@@ -155,11 +155,13 @@ impl Mixed {
         if self.comes_of(rt, self.ended.as_slice())? {
             return Ok(true);
         }
-        let orders = if self.calls.len() == 2 {
-            OF_TWO
-        } else {
-            OF_THREE
-        };
+        if self.calls.len() == 2 {
+            return self.comes_of_any(rt, OF_TWO);
+        }
+        self.comes_of_any(rt, OF_THREE)
+    }
+
+    fn comes_of_any(&self, rt: &impl Abort, orders: &[&[usize]]) -> Result<bool, Fail> {
         for order in orders {
             if self.comes_of(rt, order)? {
                 return Ok(true);
@@ -247,7 +249,7 @@ fn mix_each_three(
 #[test]
 fn two_calls_at_once(rt: HostRuntime) -> Result<(), Fail> {
     let mut seed = 19;
-    for _round in 0..3 {
+    for _round in 0..2 {
         mix_each_two(&rt, rt.alloc(), ROOMY, &mut seed)?;
     }
     Ok(())
@@ -256,7 +258,7 @@ fn two_calls_at_once(rt: HostRuntime) -> Result<(), Fail> {
 #[test]
 fn two_calls_with_little_room(rt: HostRuntime) -> Result<(), Fail> {
     let mut seed = 20;
-    for _round in 0..3 {
+    for _round in 0..2 {
         mix_each_two(&rt, rt.alloc(), TIGHT, &mut seed)?;
     }
     Ok(())

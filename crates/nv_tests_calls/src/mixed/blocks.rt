@@ -66,14 +66,20 @@ fn in_list(rt: &impl Abort, geometry: &Geometry, cpu: u64, list: &[FreeRun]) -> 
     let mut next = 0u64;
     for run in list {
         let first = run.first.number();
-        let last = run.last.number();
-        assert!(rt; next <= first && first <= last && last < geometry.numbers.blocks);
-        same(rt, geometry.home_of(run.first), cpu);
-        same(rt, geometry.home_of(run.last), cpu);
-        next = last.saturating_add(1);
+        same(rt, first.max(next), first);
+        same(rt, is_at_home(geometry, cpu, run), true);
+        next = run.last.number().saturating_add(1);
         found = found.saturating_add(next.saturating_sub(first));
     }
     found
+}
+
+/// Whether the ends of a run are blocks of a CPU's home range.
+fn is_at_home(geometry: &Geometry, cpu: u64, run: &FreeRun) -> bool {
+    run.first.number() <= run.last.number()
+        && run.last.number() < geometry.numbers.blocks
+        && geometry.home_of(run.first) == cpu
+        && geometry.home_of(run.last) == cpu
 }
 
 /// How many pages the logs have. Entries have room in them, and of the entries of a page at most all are valid.

@@ -45,99 +45,128 @@ pub(super) const KINDS: u64 = 13;
 
 const EACH: u64 = 6;
 
-/// The calls, a row for each of the twelve and two for renames, in one directory and between two. They leave no page
-/// without a byte that is not zero.
-const CALLS: &[[Says; EACH as usize]] = &[
-    [
-        Create(0, b"n"),
-        Create(0, b"m"),
-        Create(3, b"n"),
-        Create(4, b"n"),
-        Create(0, b"a"),
-        Create(4, b"c"),
-    ],
-    [
-        Mkdir(0, b"n"),
-        Mkdir(3, b"n"),
-        Mkdir(4, b"n"),
-        Mkdir(0, b"a"),
-        Mkdir(0, b"d"),
-        Mkdir(4, b"c"),
-    ],
-    [
-        Write(1, 2, b"ABCDEF"),
-        Write(1, 4, b"xy"),
-        Write(2, 6, b"PQRS"),
-        Write(2, 0, b"vw"),
-        Write(5, 0, b"ST"),
-        Write(5, 3, b"kl"),
-    ],
-    [
-        Read(1, 0, 20),
-        Read(1, 3, 4),
-        Read(2, 1, 9),
-        Read(2, 0, 2),
-        Read(5, 0, 8),
-        Read(3, 0, 1),
-    ],
-    [
-        Size(1, 5),
-        Size(1, 3),
-        Size(1, 8),
-        Size(2, 9),
-        Size(5, 2),
-        Size(5, 7),
-    ],
-    [
-        Says::Mode(0, 9),
-        Says::Mode(1, 7),
-        Says::Mode(2, 8),
-        Says::Mode(3, 6),
-        Says::Mode(4, 5),
-        Says::Mode(5, 4),
-    ],
-    [Stat(0), Stat(1), Stat(2), Stat(3), Stat(4), Stat(5)],
-    [List(0), List(1), List(3), List(4), List(0), List(3)],
-    [
-        Lookup(0, b"n"),
-        Lookup(3, b"n"),
-        Lookup(0, b"a"),
-        Lookup(0, b"b"),
-        Lookup(0, b"d"),
-        Lookup(4, b"c"),
-    ],
-    [
-        Unlink(0, b"a"),
-        Unlink(0, b"b"),
-        Unlink(4, b"c"),
-        Unlink(0, b"n"),
-        Unlink(3, b"n"),
-        Unlink(0, b"d"),
-    ],
-    [
-        Rmdir(0, b"d"),
-        Rmdir(0, b"e"),
-        Rmdir(0, b"n"),
-        Rmdir(3, b"n"),
-        Rmdir(4, b"n"),
-        Rmdir(0, b"a"),
-    ],
-    [
-        Rename(0, b"a", 0, b"b"),
-        Rename(0, b"b", 0, b"a"),
-        Rename(0, b"a", 0, b"n"),
-        Rename(0, b"n", 0, b"b"),
-        Rename(0, b"d", 0, b"n"),
-        Rename(0, b"a", 0, b"a"),
-    ],
-    [
-        Rename(0, b"a", 4, b"c"),
-        Rename(4, b"c", 0, b"a"),
-        Rename(0, b"b", 4, b"c"),
-        Rename(4, b"c", 3, b"n"),
-        Rename(3, b"n", 0, b"a"),
-        Rename(0, b"d", 4, b"n"),
-    ],
+// Rows of calls, a constant each. They leave no page without a byte that is not zero.
+
+const CREATES: &[Says] = &[
+    Create(0, b"n"),
+    Create(0, b"m"),
+    Create(3, b"n"),
+    Create(4, b"n"),
+    Create(0, b"a"),
+    Create(4, b"c"),
+];
+
+const MKDIRS: &[Says] = &[
+    Mkdir(0, b"n"),
+    Mkdir(3, b"n"),
+    Mkdir(4, b"n"),
+    Mkdir(0, b"a"),
+    Mkdir(0, b"d"),
+    Mkdir(4, b"c"),
+];
+
+const WRITES: &[Says] = &[
+    Write(1, 2, b"ABCDEF"),
+    Write(1, 4, b"xy"),
+    Write(2, 6, b"PQRS"),
+    Write(2, 0, b"vw"),
+    Write(5, 0, b"ST"),
+    Write(5, 3, b"kl"),
+];
+
+const READS: &[Says] = &[
+    Read(1, 0, 20),
+    Read(1, 3, 4),
+    Read(2, 1, 9),
+    Read(2, 0, 2),
+    Read(5, 0, 8),
+    Read(3, 0, 1),
+];
+
+const SIZES: &[Says] = &[
+    Size(1, 5),
+    Size(1, 3),
+    Size(1, 8),
+    Size(2, 9),
+    Size(5, 2),
+    Size(5, 7),
+];
+
+const MODES: &[Says] = &[
+    Says::Mode(0, 9),
+    Says::Mode(1, 7),
+    Says::Mode(2, 8),
+    Says::Mode(3, 6),
+    Says::Mode(4, 5),
+    Says::Mode(5, 4),
+];
+
+const STATS: &[Says] = &[Stat(0), Stat(1), Stat(2), Stat(3), Stat(4), Stat(5)];
+
+const LISTS: &[Says] = &[List(0), List(1), List(3), List(4), List(0), List(3)];
+
+const LOOKUPS: &[Says] = &[
+    Lookup(0, b"n"),
+    Lookup(3, b"n"),
+    Lookup(0, b"a"),
+    Lookup(0, b"b"),
+    Lookup(0, b"d"),
+    Lookup(4, b"c"),
+];
+
+const UNLINKS: &[Says] = &[
+    Unlink(0, b"a"),
+    Unlink(0, b"b"),
+    Unlink(4, b"c"),
+    Unlink(0, b"n"),
+    Unlink(3, b"n"),
+    Unlink(0, b"d"),
+];
+
+const RMDIRS: &[Says] = &[
+    Rmdir(0, b"d"),
+    Rmdir(0, b"e"),
+    Rmdir(0, b"n"),
+    Rmdir(3, b"n"),
+    Rmdir(4, b"n"),
+    Rmdir(0, b"a"),
+];
+
+/// In one directory.
+const RENAMES_WITHIN: &[Says] = &[
+    Rename(0, b"a", 0, b"b"),
+    Rename(0, b"b", 0, b"a"),
+    Rename(0, b"a", 0, b"n"),
+    Rename(0, b"n", 0, b"b"),
+    Rename(0, b"d", 0, b"n"),
+    Rename(0, b"a", 0, b"a"),
+];
+
+/// From one directory to another.
+const RENAMES_BETWEEN: &[Says] = &[
+    Rename(0, b"a", 4, b"c"),
+    Rename(4, b"c", 0, b"a"),
+    Rename(0, b"b", 4, b"c"),
+    Rename(4, b"c", 3, b"n"),
+    Rename(3, b"n", 0, b"a"),
+    Rename(0, b"d", 4, b"n"),
+];
+
+/// The calls, a row for each of the twelve and two for renames.
+const CALLS: &[&[Says]] = &[
+    CREATES,
+    MKDIRS,
+    WRITES,
+    READS,
+    SIZES,
+    MODES,
+    STATS,
+    LISTS,
+    LOOKUPS,
+    UNLINKS,
+    RMDIRS,
+    RENAMES_WITHIN,
+    RENAMES_BETWEEN,
 ];
 
 impl Says {
