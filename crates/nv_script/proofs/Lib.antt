@@ -3,6 +3,7 @@ pub mod Breaks
 pub mod Commands
 pub mod Endings
 pub mod Escapes
+pub mod Firsts
 pub mod Goes
 pub mod Handles
 pub mod Known

@@ -13,6 +13,7 @@ mod field;
 mod format;
 mod outbox;
 mod outcome;
+mod scan;
 mod script;
 mod send;
 mod text;

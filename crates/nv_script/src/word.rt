@@ -6,6 +6,7 @@ ghost use Rattle.std.specs.Fmt.{digit_glyph};
 ghost use Rattle.nv_base.specs.declared.limits.TheConstants.{MODE};
 ghost use Rattle.nv_script.specs.Words.{number_of, number_up_to, positive_up_to, words_of, handle_from, handle_of, is_plain, hex_value, before, unescaped, unescaped_behind, text_of, escaped_byte, escaped};
 
+use crate::scan::PIECE;
 use nv_base::{Bytes, Gen, Handle, Ino, Mode, limits};
 use std::alloc::{AllocError, Global};
 
@@ -17,9 +18,6 @@ const MOST_WORDS: usize = 8;
 
 /// What parts the inode number of a handle from its generation.
 const POINT: u8 = b'.';
-
-/// How many bytes are tested together.
-const PIECE: usize = 32;
 
 /// What begins the two digits of an escaped byte.
 const ESCAPE: u8 = b'%';
