@@ -103,26 +103,41 @@ fn bordered(rt: &impl Abort, alloc: Global) -> Both {
     both
 }
 
+const ORDERS: [[u64; 3]; 6] = [
+    [1, 2, 3],
+    [1, 3, 2],
+    [2, 1, 3],
+    [2, 3, 1],
+    [3, 1, 2],
+    [3, 2, 1],
+];
+
+fn drop_next(rt: &impl Abort, both: &mut Both, s: u64) {
+    both.drop_snapshot(rt, Epoch::new(s));
+    compare(rt, &both.book, &both.slow);
+}
+
+// Picks so many records, and no more.
+fn pick_all(rt: &impl Abort, both: &mut Both, count: u64) {
+    for _ in 0..count {
+        same(rt, both.pick(rt), true);
+    }
+    same(rt, both.pick(rt), false);
+}
+
+fn drops_in_order(rt: &impl Abort, alloc: Global, order: [u64; 3]) {
+    let mut both = bordered(rt, alloc);
+    compare(rt, &both.book, &both.slow);
+    for s in order {
+        drop_next(rt, &mut both, s);
+    }
+    pick_all(rt, &mut both, 18);
+}
+
 #[test]
 fn drops_in_each_order(rt: HostRuntime) {
-    for order in [
-        [1, 2, 3],
-        [1, 3, 2],
-        [2, 1, 3],
-        [2, 3, 1],
-        [3, 1, 2],
-        [3, 2, 1],
-    ] {
-        let mut both = bordered(&rt, rt.alloc());
-        compare(&rt, &both.book, &both.slow);
-        for s in order {
-            both.drop_snapshot(&rt, Epoch::new(s));
-            compare(&rt, &both.book, &both.slow);
-        }
-        for _ in 0..18 {
-            assert!(rt; both.pick(&rt));
-        }
-        assert!(rt; !both.pick(&rt));
+    for order in ORDERS {
+        drops_in_order(&rt, rt.alloc(), order);
     }
 }
 
