@@ -10,7 +10,11 @@ pub returns-in-Append-clause-turn : goal.returns-in-Append-clause-turn
 returns-in-Append-clause-turn c r shows =
     turns_commit step.Append c.args.actor c.args.shared.now c.args.running.now r c.args.commit.now c.append.new.shared c.append.new.commit
     (sym c.in-Append.ensures) shows
-    (λ told is place plan. (c.append.ensures.turn told is place, c.append.ensures.step.told told is, c.append.ensures.place told is place plan))
+    (λ told is place plan. (
+      c.append.ensures.turn told is place,
+      c.append.ensures.step.told told is,
+      c.append.ensures.place told is place plan,
+    ))
 
 pub returns-in-Append-clause-rest : goal.returns-in-Append-clause-rest
 returns-in-Append-clause-rest c r shows =
@@ -98,7 +102,12 @@ publish-requires c = record {
 }
 
 pub returns-in-Publish-clause-rooms : goal.returns-in-Publish-clause-rooms
-returns-in-Publish-clause-rooms c = (c.requires.rooms.0, c.requires.rooms.1, c.publish.ensures.step.sized, c.publish.ensures.step.committing)
+returns-in-Publish-clause-rooms c = (
+  c.requires.rooms.0,
+  c.requires.rooms.1,
+  c.publish.ensures.step.sized,
+  c.publish.ensures.step.committing,
+)
 
 pub close-requires-clause-at : goal.close-requires-clause-at
 close-requires-clause-at c =

@@ -64,7 +64,8 @@ returns-clause-turn c told is placed =
     only_among slots cells new k many within
     c.args.running.now.slots.rising c.requires.at.slots (lent_only slots cells new k value within lent)
     (subst (λ (xs : List CellValue). other_cells slots new ≡ other_cells slots xs) was c.append_in.ensures.others) in
-    appends c.args.shared.now c.args.running.now old c.append_in.new.commit new told (slot_at slots k) is placed c.requires.at.committing.way
+    appends c.args.shared.now c.args.running.now old c.append_in.new.commit new told
+    (slot_at slots k) is placed c.requires.at.committing.way
     (append_due old c.requires.at.step) refl (c.requires.at.slots k within) only
     (sym (lent_value slots new k within) ∙ lent_with slots cells new k value within lent
     ∙ ap (with_plan old.stamp old.place (to_append old).items old.hand) here)

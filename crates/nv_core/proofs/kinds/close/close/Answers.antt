@@ -11,14 +11,16 @@ use Rattle.nv_core.proofs.Stepped.{placed_all}
 use Rattle.nv_core.proofs.kinds.close.close.Goals as goal
 
 pub close_on-requires-clause-turn : goal.close_on-requires-clause-turn
-close_on-requires-clause-turn c = close_full _ _ _ c.args.commit.now c.requires.at.committing (close_due c.args.commit.now c.requires.at.step)
+close_on-requires-clause-turn c = close_full _ _ _ c.args.commit.now c.requires.at.committing
+    (close_due c.args.commit.now c.requires.at.step)
 
 pub close_on-requires-clause-journal : goal.close_on-requires-clause-journal
 close_on-requires-clause-journal c =
     close_journal _ _ _ c.args.commit.now c.requires.at.committing (close_due c.args.commit.now c.requires.at.step)
 
 pub close_on-requires-clause-number : goal.close_on-requires-clause-number
-close_on-requires-clause-number c = close_number _ _ _ c.args.commit.now c.requires.at.committing (close_due c.args.commit.now c.requires.at.step)
+close_on-requires-clause-number c = close_number _ _ _ c.args.commit.now c.requires.at.committing
+    (close_due c.args.commit.now c.requires.at.step)
 
 pub returns-clause-turn : goal.returns-clause-turn
 returns-clause-turn c told is =

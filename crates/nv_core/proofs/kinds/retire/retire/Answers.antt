@@ -42,13 +42,16 @@ retire_in-requires-clause-within c =
     )
 
 pub retire_in-requires-clause-dead : goal.retire_in-requires-clause-dead
-retire_in-requires-clause-dead c = retire_dead _ _ _ c.args.commit.now c.requires.at.committing (retire_due c.args.commit.now c.requires.at.step)
+retire_in-requires-clause-dead c = retire_dead _ _ _ c.args.commit.now c.requires.at.committing
+    (retire_due c.args.commit.now c.requires.at.step)
 
 pub retire_in-requires-clause-room : goal.retire_in-requires-clause-room
-retire_in-requires-clause-room c = retire_room _ _ _ c.args.commit.now c.requires.at.committing (retire_due c.args.commit.now c.requires.at.step)
+retire_in-requires-clause-room c = retire_room _ _ _ c.args.commit.now c.requires.at.committing
+    (retire_due c.args.commit.now c.requires.at.step)
 
 pub retire_in-requires-clause-free : goal.retire_in-requires-clause-free
-retire_in-requires-clause-free c = retire_free _ _ _ c.args.commit.now c.requires.at.committing (retire_due c.args.commit.now c.requires.at.step)
+retire_in-requires-clause-free c = retire_free _ _ _ c.args.commit.now c.requires.at.committing
+    (retire_due c.args.commit.now c.requires.at.step)
 
 pub retire_in-requires-clause-can : goal.retire_in-requires-clause-can
 retire_in-requires-clause-can c =
@@ -83,7 +86,8 @@ returns-clause-turn c told is =
     (subst (λ (xs : List CellValue). OnlyAt k (lent_cells slots xs) (lent_cells slots new)) was c.retire_in.ensures.cells)
     (subst (λ (xs : List CellValue). other_cells slots new ≡ other_cells slots xs) was c.retire_in.ensures.others) in
     retires c.args.shared.now c.args.running.now old c.retire_in.new.commit c.retire_in.new.book new told i is
-    (all_appended w.way due.2 (retire_full _ _ _ old w due)) due.2 (retire_full _ _ _ old w due) due.1 refl (c.requires.at.slots k within) only
+    (all_appended w.way due.2 (retire_full _ _ _ old w due)) due.2 (retire_full _ _ _ old w due) due.1 refl
+    (c.requires.at.slots k within) only
     (subst (λ (xs : List CellValue). (cell_in new i).state ≡ erased (retired (ids b.state.snaps) i old.stamp.epoch (to_retire old).killed
     (cell_in xs i).state)) was c.retire_in.ensures.state)
     c.retire_in.ensures.book
@@ -137,14 +141,16 @@ returns-clause-step c = record {
       ∙ ap (λ (x : ℕ
       × CellValue). let y : BookState = record b.state { manifests = with_records living x.0 epoch parts b.state.manifests } in y) here)
       c.retire_in.ensures.room
-      (subst (λ (xs : List CellValue). c.retire_in.new.commit ≡ after_retire living i (cell_in xs i).state old) was c.retire_in.ensures.commit
+      (subst (λ (xs : List CellValue). c.retire_in.new.commit ≡ after_retire living i
+      (cell_in xs i).state old) was c.retire_in.ensures.commit
       ∙ ap (λ (x : ℕ × CellValue). after_retire living x.0 x.1.state old) here)
       (subst (λ (xs : List CellValue). (value_at (lent_cells slots new) k).room
       ≡ room_erased (retired living (ino_at (lent_cells slots xs) k) epoch parts (state_at (lent_cells slots xs) k))
       (value_at (lent_cells slots xs) k).room)
       was c.retire_in.ensures.cell_room));
   sized =
-      hand_stays c.args.commit.now c.retire_in.new.commit _ _ _ c.args.shared.now.geometry.numbers c.retire_in.ensures.commit c.requires.at.sized;
+      hand_stays c.args.commit.now c.retire_in.new.commit _ _ _ c.args.shared.now.geometry.numbers c.retire_in.ensures.commit
+      c.requires.at.sized;
   rest =
       cells_left (slots_in c.args.running.now.slots) c.args.shared.now c.retire_in.new.book c.deref_mut.result.now c.retire_in.new.cells
       c.deref_mut.ensures.value c.retire_in.ensures.count c.retire_in.ensures.others;
