@@ -16,9 +16,9 @@ pub text_of-unescaped : (word : List ℕ) (b : Bool) → b ≡ (length word == 0
 text_of-unescaped [] b e f = absurd (cc)
 text_of-unescaped (byte ∷ bytes) b e f = again (unescaped (byte ∷ bytes))
   where
-  again : (more : Option (List ℕ)) → more ≡ option_map (λ rest. [] ++ rest) more
-  again None = refl
-  again (Some rest) = refl
+    again : (more : Option (List ℕ)) → more ≡ option_map (λ rest. [] ++ rest) more
+    again None = refl
+    again (Some rest) = refl
 
 -- the rest begins with what stands for no byte
 pub behind-None : (rest text bytes : List ℕ) → rest ≡ text → unescaped text ≡ None → unescaped_behind bytes rest ≡ None

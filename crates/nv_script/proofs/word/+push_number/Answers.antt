@@ -6,7 +6,7 @@ use Rattle.nv_script.proofs.word.+push_number.Goals.{then-number-ge10+in_ok-push
 
 pub returns : goal.returns
 returns t c = elim c.if-number-ge10.branch [
-    then-number-ge10+in_ok-push_number w ↦ decimal-more c.args.out.now.items _ _ c.args.number (search rules) (search rules)
+  | then-number-ge10+in_ok-push_number w ↦ decimal-more c.args.out.now.items _ _ c.args.number (search rules) (search rules)
       w.in_ok-push_number.ensures (search rules)
   | else-number-ge10 w ↦ search (rules, decimal_digit c.args.number)
-  ]
+]
