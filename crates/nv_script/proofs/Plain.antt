@@ -1,9 +1,9 @@
 -- Plain bytes in front of others.
-use Rattle.std.proofs.Common.{◌≡◌, ℕ, zero, suc, ◌+◌, ◌&&◌, Bool, true, false, List, [], ◌∷◌, ◌++◌, length, take, drop, Option, Some, None, option_map, refl, sym, ap, ◌∙◌, append_assoc, decimal, arith, ◌≤◌, ◌<◌, ◌^◌, ◌/◌, ◌%◌}
+use Rattle.std.proofs.Common.{◌≡◌, ℕ, zero, suc, ◌+◌, ◌&&◌, Bool, true, false, List, [], ◌∷◌, ◌++◌, take, drop, Option, Some, None, option_map, refl, sym, ap, ◌∙◌, append_assoc, decimal, arith, ◌≤◌, ◌<◌, ◌^◌, ◌/◌, ◌%◌}
 use Rattle.std.proofs.lemmas.Fmt.{decimal_step}
 use Rattle.std.proofs.lemmas.List.{take-append-drop}
 use Rattle.std.specs.List.{list_all}
-use Rattle.nv_script.specs.Words.{is_plain, before, unescaped, unescaped_behind, escaped_byte, escaped}
+use Rattle.nv_script.specs.Words.{is_plain, before, unescaped, unescaped_behind, escaped}
 use Rattle.nv_script.proofs.Escapes.{unescaped-plain}
 
 both : (a b : Bool) → (a && b) ≡ true → (a ≡ true) × (b ≡ true)
