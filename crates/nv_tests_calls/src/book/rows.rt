@@ -73,8 +73,8 @@ fn killed(place: usize) -> Record {
 }
 
 fn lists_killed(rt: &impl Abort, book: &Book) {
-    for (place, listed) in book.deferred().iter().enumerate() {
-        same_for(rt, &place, listed, killed(place));
+    for (listed, (commit, page)) in book.deferred().iter().zip(KILLED) {
+        same_for(rt, &page, listed, record(commit, Part::Page(page), 1, 2));
     }
 }
 
@@ -96,12 +96,18 @@ fn drain_within_a_run(rt: HostRuntime) {
     }
 }
 
-fn pins(rt: &impl Abort, book: &mut Book, s: Epoch, want: Result<(), Fault>) {
-    same(rt, book.pin(s), want);
+fn pins(rt: &impl Abort, book: &mut Book, s: Epoch) {
+    assert!(rt; book.snaps().can_pin(s));
+    same(rt, book.pin(s), Ok(()));
 }
 
-fn has_pins(rt: &impl Abort, book: &Book, s: Epoch, want: Option<u32>) {
-    same(rt, book.snaps().pins(s), want);
+fn pins_nothing(rt: &impl Abort, book: &mut Book, s: Epoch) {
+    assert_eq!(rt; book.snaps().pins(s), None);
+    same(rt, book.pin(s), Err(Fault::NoSnapshot));
+}
+
+fn has_pins(rt: &impl Abort, book: &Book, s: Epoch, want: u32) {
+    same(rt, book.snaps().pins(s), Some(want));
 }
 
 fn unpins(rt: &impl Abort, book: &mut Book, s: Epoch) {
@@ -114,16 +120,15 @@ fn refuses_in_order(rt: HostRuntime) {
     let mut book = new_book(&rt, rt.alloc());
     let second = Epoch::new(2);
     drops(&rt, &mut book, 7, Err(Fault::NoSnapshot));
-    has_pins(&rt, &book, second, None);
-    pins(&rt, &mut book, second, Err(Fault::NoSnapshot));
+    pins_nothing(&rt, &mut book, second);
     for s in 1..5 {
         makes(&rt, &mut book, Ok(Epoch::new(s)));
     }
     makes(&rt, &mut book, Err(Fault::TooManySnapshots));
-    has_pins(&rt, &book, second, Some(0));
-    pins(&rt, &mut book, second, Ok(()));
+    has_pins(&rt, &book, second, 0);
+    pins(&rt, &mut book, second);
     drops(&rt, &mut book, 2, Err(Fault::Pinned));
-    has_pins(&rt, &book, second, Some(1));
+    has_pins(&rt, &book, second, 1);
     unpins(&rt, &mut book, second);
     drops(&rt, &mut book, 2, Ok(()));
     same(&rt, book.snaps().has(second), false);
