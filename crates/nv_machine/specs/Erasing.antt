@@ -1,5 +1,5 @@
 -- What becomes of an inode that is gone, once nothing is kept of it.
-use Rattle.std.specs.Prelude.{◌≡◌, ◌⊎◌, ℕ, ◌+◌, ◌++◌, Bool, true, false, if◌then◌else◌, List, Some, None, filter, map, slice_index_or}
+use Rattle.std.specs.Prelude.{◌≡◌, ◌⊎◌, ℕ, ◌+◌, ◌++◌, Bool, true, false, if◌then◌else◌, List, Option, Some, None, filter, map, slice_index_or}
 use Rattle.std.specs.List.{AllByRecursion}
 use Rattle.nv_alloc.specs.Block.{BlockValue, numbers_of}
 use Rattle.nv_alloc.specs.Numbers.{has}
@@ -15,7 +15,7 @@ use Rattle.nv_machine.specs.Held.{is_of_slot, pending_in}
 use Rattle.nv_machine.specs.PoolScan.{is_withheld}
 use Rattle.nv_machine.specs.Settled.{settled}
 use Rattle.nv_machine.specs.Step.{changed}
-use Rattle.nv_machine.specs.World.{Back, Give, Leave, Next, Retire, Running, Shared, Unlock, World, actor_at, cell_at, empty_hand}
+use Rattle.nv_machine.specs.World.{Back, Give, Leave, Next, Pick, Retire, Running, Shared, Snapshots, Unlock, World, actor_at, cell_at, empty_hand}
 
 -- what keeps the pairs of a slot, but for a hand that has killed them: the living snapshots and, by name, these that are pending
 abbrev pub keepers_of : List Record → Shared → ℕ → Retention
@@ -67,9 +67,17 @@ pub record IsOnItsWay (actor ino : ℕ) (w : World) : Type 0 where
   pub late : is_late running.next ≡ true
   pub number : (actor_at w actor).hand.ino ≡ Some ino
 
--- a call has ended, and the pool has the number
+-- a call has ended, or a drain is to pick its next record
+abbrev pub is_done_with : Option Running → Bool
+is_done_with None = true
+is_done_with (Some r) = picks_next r.next where
+  picks_next : Next → Bool
+  picks_next (Snapshots (Pick draining)) = true
+  picks_next other = false
+
+-- so it is, and the pool has the number
 pub record IsBack (actor ino : ℕ) (w : World) : Type 0 where
-  pub ended : (actor_at w actor).running ≡ None
+  pub ended : is_done_with (actor_at w actor).running ≡ true
   pub pool : has w.shared.pool.numbers ino ≡ true
 
 abbrev pub IsOnItsWayOrBack : ℕ → ℕ → World → Type 0

@@ -48,8 +48,8 @@ killed_in w ino = flat_map (killed_by_actor ino) w.actors
 -- ---- what is pending: deferred, or picked by a drain and not yet released
 
 abbrev pub picked_on : SnapshotStep → List Record
-picked_on (LockPicked released picked) = picked ∷ []
-picked_on (Release released picked) = picked ∷ []
+picked_on (LockPicked draining picked) = picked ∷ []
+picked_on (Release draining picked) = picked ∷ []
 picked_on other = []
 
 abbrev pub picked_at : Next → List Record

@@ -85,7 +85,7 @@ tests_on other snaps = passes
 -- ---- releases
 
 abbrev pub releases_at : Next → ℕ
-releases_at (Snapshots (Release released picked)) = 1
+releases_at (Snapshots (Release draining picked)) = 1
 releases_at other = 0
 
 abbrev pub releases_of : Option Running → ℕ

@@ -40,7 +40,7 @@ after_retire other s h r rs = rs
 -- a drop moves those of its snapshot to the end, and a pick takes out the first that no living one holds
 abbrev pub after_deed : Deed → List ℕ → List Record → List Record
 after_deed (OnSnapshots (Drop snapshot)) living rs = with_moved snapshot living rs
-after_deed (OnSnapshots (Pick released)) living rs = without_first living rs
+after_deed (OnSnapshots (Pick draining)) living rs = without_first living rs
 after_deed other living rs = rs
 
 abbrev pub retired_in : World → Event → Option Running → List Record → List Record

@@ -1,6 +1,6 @@
 //! A law of the machine of steps on inodes that are gone: nothing stays of one, once nothing is to be kept of it.
 
-ghost use Rattle.std.specs.Prelude.{◌≡◌, ℕ, ⊥, Bool, List, None, Some, false};
+ghost use Rattle.std.specs.Prelude.{◌≡◌, ℕ, Bool, List, None, Some, false};
 ghost use Rattle.nv_base.specs.Limits.{IsWithinLimits};
 ghost use Rattle.nv_base.specs.declared.geometry.GeometryNumbers.{GeometryNumbers};
 ghost use Rattle.nv_book.specs.declared.record.Record.{Record};
@@ -10,7 +10,7 @@ ghost use Rattle.nv_machine.specs.Held.{pending_in};
 ghost use Rattle.nv_machine.specs.PoolScan.{is_withheld};
 ghost use Rattle.nv_machine.specs.Reads.{slot_at, written_slots};
 ghost use Rattle.nv_machine.specs.Step.{after, step};
-ghost use Rattle.nv_machine.specs.World.{Event, Go, Release, Retire, Running, Snapshots, actor_at, cell_at};
+ghost use Rattle.nv_machine.specs.World.{Draining, Event, Go, Release, Retire, Running, Snapshots, actor_at, cell_at};
 
 /// Whatever events came from a new world on, an inode that is gone and of which nothing is kept is erased in the step that
 /// retires what was killed of it, or in the one that releases its last record: its chain and the blocks of its parts go to the
@@ -25,10 +25,10 @@ pub fn gone_inodes_are_erased()
         (slot_at (written_slots r) place)
         → IsErasedWhole actor (slot_at (written_slots r) place) (after (formatted g) events)
         (step (after (formatted g) events) (Go actor granted)).world }
-    ensures release { (g : GeometryNumbers) (events : List Event) (actor released : ℕ)
-        (picked : Record) (granted : Bool) (r : Running) → IsWithinLimits g
+    ensures release { (g : GeometryNumbers) (events : List Event) (actor : ℕ)
+        (draining : Draining) (picked : Record) (granted : Bool) (r : Running) → IsWithinLimits g
         → (actor_at (after (formatted g) events) actor).running ≡ Some r
-        → r.next ≡ Snapshots (Release released picked)
+        → r.next ≡ Snapshots (Release draining picked)
         → IsOver (pending_but actor (after (formatted g) events)) (after (formatted g) events).shared
         picked.ino
         → IsErasedWhole actor picked.ino (after (formatted g) events)
@@ -42,10 +42,10 @@ pub fn gone_inodes_are_erased()
         (slot_at (written_slots r) place)) ≡ false
         → IsOnItsWay actor (slot_at (written_slots r) place)
         (step (after (formatted g) events) (Go actor granted)).world }
-    ensures released { (g : GeometryNumbers) (events : List Event) (actor released : ℕ)
-        (picked : Record) (granted : Bool) (r : Running) → IsWithinLimits g
+    ensures released { (g : GeometryNumbers) (events : List Event) (actor : ℕ)
+        (draining : Draining) (picked : Record) (granted : Bool) (r : Running) → IsWithinLimits g
         → (actor_at (after (formatted g) events) actor).running ≡ Some r
-        → r.next ≡ Snapshots (Release released picked)
+        → r.next ≡ Snapshots (Release draining picked)
         → IsOver (pending_but actor (after (formatted g) events)) (after (formatted g) events).shared
         picked.ino
         → is_withheld (cell_at (step (after (formatted g) events) (Go actor granted)).world.shared

@@ -26,7 +26,7 @@ ghost use Rattle.nv_machine.specs.Recorded.{AreRecordedOnce, IsOfPair, is_killed
 ghost use Rattle.nv_machine.specs.Settled.{settled_copies, snapshot_tree};
 ghost use Rattle.nv_machine.specs.Snapshots.{snapshot_turn};
 ghost use Rattle.nv_machine.specs.Step.{after, step};
-ghost use Rattle.nv_machine.specs.World.{Done, Ends, Event, Go, HandState, Pick, Running, Shared, SnapshotStep, Snapshots, Start, Started, Unpin, actor_at, cell_at};
+ghost use Rattle.nv_machine.specs.World.{Done, Draining, Ends, Event, Go, HandState, Pick, Running, Shared, SnapshotStep, Snapshots, Start, Started, Unpin, actor_at, cell_at};
 
 /// The records are one list, whatever events came from a new world on: a retire step puts the killed parts of its inode to its
 /// end, in order, that a living snapshot holds; a drop moves there, in order, the records that its snapshot was the youngest to
@@ -114,8 +114,8 @@ pub fn drains_count_their_releases()
         (Go actor granted)).reply ≡ Done (answers.Count told)
         → told ≡ releases actor (step (after (formatted g) before) (Start actor (call.Snapshots (on.Drain count)))).world
         (events ++ Go actor granted ∷ []) }
-    ensures nothing { (released actor told : ℕ) (granted : Bool) (s t : Shared)
+    ensures nothing { (draining : Draining) (actor told : ℕ) (granted : Bool) (s t : Shared)
         (h after : HandState) (r : Running)
-        → snapshot_turn (Pick released) actor granted s h r ≡ Ends (Ok (answers.Count told)) t after
+        → snapshot_turn (Pick draining) actor granted s h r ≡ Ends (Ok (answers.Count told)) t after
         → s.book.deferred ≡ [] }
 {}
