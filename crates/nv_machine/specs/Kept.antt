@@ -17,7 +17,7 @@ use Rattle.nv_entry.specs.declared.item.Entry.{Entry}
 use Rattle.nv_journal.specs.declared.old_tail.OldTail.{OldTail}
 use Rattle.nv_machine.specs.Reads.{written_slots}
 use Rattle.nv_machine.specs.Settled.{settled, settled_tail}
-use Rattle.nv_machine.specs.World.{Answers, Append, Back, Check, Close, Enter, Give, HandState, Leave, Lock, Look, Next, Number, Open, Overtaken, Publish, Ready, Retire, Running, Shared, TakeBlocks, TakePages, Unlock, Visit, World, actor_at, cell_at, empty_hand}
+use Rattle.nv_machine.specs.World.{Answers, Append, Back, Check, Close, Enter, Give, HandState, Leave, Lock, Look, Next, Number, Open, Overtaken, Publish, Ready, Retire, Running, Shared, Snapshots, TakeBlocks, TakePages, Unlock, Visit, World, actor_at, cell_at, empty_hand}
 
 -- ---- blocks
 
@@ -116,6 +116,7 @@ Knows (Unlock place) block s cpu h r = r.ending ≡ Overtaken → HasNothing h
 Knows (Give home) block s cpu h r = Unit {0}
 Knows Back block s cpu h r = Unit {0}
 Knows Visit block s cpu h r = Unit {0}
+Knows (Snapshots step) block s cpu h r = Unit {0}
 
 abbrev pub KnowsOf : Option Running → ℕ → Shared → ℕ → HandState → Type 0
 KnowsOf None block s cpu h = Unit {0}

@@ -1,11 +1,12 @@
 -- The steps, one function a kind. What decides a step is an argument.
-use Rattle.std.specs.Prelude.{ℕ, zero, suc, ◌+◌, ◌-◌, ◌%◌, Bool, true, false, if◌then◌else◌, nat_lt, List, [], ◌∷◌, ◌++◌, drop, length, map, take, Option, Some, None, Result, Ok, Err}
+use Rattle.std.specs.Prelude.{ℕ, zero, suc, ◌+◌, ◌-◌, ◌%◌, Bool, true, false, if◌then◌else◌, nat_lt, List, [], ◌∷◌, ◌++◌, drop, length, map, max, min, take, Option, Some, None, Result, Ok, Err}
 use Rattle.nv_calls.specs.declared.looked.Looked.{Looked}
 use Rattle.nv_alloc.specs.Block.{BlockValue}
 use Rattle.nv_alloc.specs.Giving.{after_giving, kept_of}
 use Rattle.nv_alloc.specs.Numbers.{put_by}
 use Rattle.nv_base.specs.declared.fault.Fault.{Fault}
 use Rattle.nv_base.specs.declared.fault.Fault.TheVariants.{CommitLimit, Contended, NoInode, NoSpace, OutOfMemory}
+use Rattle.nv_base.specs.declared.limits.TheConstants.{DRAIN}
 use Rattle.nv_base.specs.declared.numbers.Handle.{Handle}
 use Rattle.nv_book.specs.Book.{BookState, after_enter, with_journal}
 use Rattle.nv_calls.specs.AllCalls.{answer}
@@ -14,6 +15,10 @@ use Rattle.nv_calls.specs.Refusals.{Check as Tests}
 use Rattle.nv_calls.specs.Retiring.{erased, freed_by, is_erased, killed_by, number_back, retired, with_records}
 use Rattle.nv_calls.specs.Slots.{entries_of, items_for, place_in}
 use Rattle.nv_calls.specs.declared.answer.Answer.{Answer}
+use Rattle.nv_calls.specs.declared.answer.Answer.TheVariants as answers
+use Rattle.nv_calls.specs.declared.call.Call.{Call}
+use Rattle.nv_calls.specs.declared.call.Call.TheVariants as call
+use Rattle.nv_calls.specs.declared.snapshot_call.SnapshotCall.TheVariants as on
 use Rattle.nv_entry.specs.Blocks.{item_blocks}
 use Rattle.nv_cell.specs.Append.{appended, blocks_for}
 use Rattle.nv_cell.specs.Cell.{CellState, published}
@@ -25,7 +30,7 @@ use Rattle.nv_log.specs.Chain.{with_page}
 use Rattle.nv_calls.specs.FillPages.{filled, fresh_pages}
 use Rattle.nv_machine.specs.Reads.{copies, home_from, pages_wanted, plan_by, slot_at, slots_of, written_slots}
 use Rattle.nv_machine.specs.Sequence.{sequel}
-use Rattle.nv_machine.specs.World.{Answers, Append, Back, Close, Ending, Ends, Enter, Give, HandState, Lock, Look, Moves, Next, Number, Open, Overtaken, Publish, Ready, Refuses, Retire, Running, Shared, TakeBlocks, TakePages, Turn, Unlock, Waits, cell_at, go_to, list_at, with_book, with_cell, with_list, with_numbers, with_owner}
+use Rattle.nv_machine.specs.World.{Answers, Append, Back, Close, Drains, Ending, Ends, Enter, Give, HandState, Lock, Look, Moves, Next, Number, Open, Overtaken, Pick, Publish, Ready, Refuses, Retire, Running, Shared, Snapshots, TakeBlocks, TakePages, Turn, Unlock, Waits, cell_at, go_to, list_at, with_book, with_cell, with_list, with_numbers, with_owner}
 
 -- ---- how a call ends
 
@@ -37,12 +42,31 @@ abbrev pub result_by : Ending → Running → Result Answer Fault
 result_by Answers r = Ok (answer (λ handle. None) r.made r.call)
 result_by (Refuses fault) r = Err fault
 result_by Overtaken r = Err Contended
+result_by (Drains released) r = Ok (answers.Count released)
 
--- nothing is locked: blocks go home, CPU by CPU, and then a number goes back; where nothing is left, the step replies
+-- how many records a drain releases at most: a number outside 1 to 1,048,576 counts as the nearest of these
+abbrev pub most_released : Call → ℕ
+most_released (call.Snapshots (on.Drain count)) = max 1 (min count DRAIN)
+most_released other = 0
+
+-- a drain picks the next record, up to its number
+abbrev pub drained_turn : Bool → ℕ → Shared → HandState → Running → Turn
+drained_turn true released s h r = Moves s h (record r { ending = Answers; slots = []; next = Snapshots (Pick released) })
+drained_turn false released s h r = Ends (Ok (answers.Count released)) s h
+
+-- nothing is locked, and nothing in the hand
+abbrev pub last_turn : Ending → Shared → HandState → Running → Turn
+last_turn Answers s h r = Ends (result_by Answers r) s h
+last_turn (Refuses fault) s h r = Ends (Err fault) s h
+last_turn Overtaken s h r = Ends (Err Contended) s h
+last_turn (Drains released) s h r = drained_turn (nat_lt released (most_released r.call)) released s h r
+
+-- nothing is locked: blocks go home, CPU by CPU, and then a number goes back; where nothing is left, the step replies, or a drain
+-- goes on
 abbrev pub rest_turn : Option ℕ → Option ℕ → Shared → HandState → Running → Turn
 rest_turn (Some cpu) number s h r = Moves s h (go_to (Give cpu) r)
 rest_turn None (Some ino) s h r = Moves s h (go_to Back r)
-rest_turn None None s h r = Ends (result_by r.ending r) s h
+rest_turn None None s h r = last_turn r.ending s h r
 
 -- the next round of looks, if there is one
 abbrev pub again_turn : ℕ → Shared → HandState → Running → Turn
@@ -52,6 +76,7 @@ again_turn (suc rounds) s h r = Moves s h (record r { ending = Answers; rounds =
 abbrev pub over_turn : Ending → Shared → HandState → Running → Turn
 over_turn Answers s h r = rest_turn (home_from 0 0 s.lists (blocks_in h)) h.ino s h r
 over_turn (Refuses fault) s h r = rest_turn (home_from 0 0 s.lists (blocks_in h)) h.ino s h r
+over_turn (Drains released) s h r = rest_turn (home_from 0 0 s.lists (blocks_in h)) h.ino s h r
 over_turn Overtaken s h r = again_turn r.rounds s h r
 
 -- the call turns to its last steps, of which the first is to unlock what is locked
@@ -287,8 +312,8 @@ give_turn cpu s h r =
 -- ---- back: the number in the hand goes to the pool
 
 abbrev pub back_turn : Option ℕ → Shared → HandState → Running → Turn
-back_turn None s h r = Ends (result_by r.ending r) s h
-back_turn (Some ino) s h r = Ends (result_by r.ending r) (with_numbers (put_by (λ n. n) ino s.pool.numbers) s) (record h { ino = None })
+back_turn None s h r = last_turn r.ending s h r
+back_turn (Some ino) s h r = last_turn r.ending (with_numbers (put_by (λ n. n) ino s.pool.numbers) s) (record h { ino = None }) r
 
 -- ---- visit
 

@@ -28,6 +28,7 @@ pub mod Refusing
 pub mod Rounds
 pub mod Sequence
 pub mod Settled
+pub mod Snapshots
 pub mod Step
 pub mod Takings
 pub mod Versions

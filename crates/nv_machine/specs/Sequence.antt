@@ -5,18 +5,28 @@ use Rattle.nv_base.specs.declared.numbers.Handle.{Handle}
 use Rattle.nv_calls.specs.Plain.{same_handle}
 use Rattle.nv_calls.specs.declared.call.Call.{Call}
 use Rattle.nv_calls.specs.declared.call.Call.TheVariants as call
+use Rattle.nv_calls.specs.declared.snapshot_call.SnapshotCall.{SnapshotCall}
+use Rattle.nv_calls.specs.declared.snapshot_call.SnapshotCall.TheVariants as on
 use Rattle.nv_entry.specs.Tree.{root}
 use Rattle.nv_machine.specs.Reads.{slots_of, written_slots}
-use Rattle.nv_machine.specs.World.{Answers, Append, Check, Close, Enter, Leave, Lock, Look, Next, Number, Open, Publish, Ready, Retire, Running, Shared, Visit}
+use Rattle.nv_machine.specs.World.{Answers, Append, Check, Close, Drop, Enter, Leave, Lock, Look, Make, Next, Number, Open, Pick, Pin, Publish, Ready, Retire, Running, Shared, SnapshotStep, Snapshots, Visit}
 
 -- ---- how calls begin
 
--- a new inode takes its number first; names are looked up; slots that are told are locked; a visit is its call's only step
+-- a new inode takes its number first; names are looked up; slots that are told are locked; a visit is its call's only step; and
+-- a call on snapshots begins with this step
 pub data Beginning : Type 0 where
   Numbers : Beginning
   Looks : Beginning
   Locks : Beginning
   Visits : Beginning
+  OnSnapshots : (first : SnapshotStep) → Beginning
+
+abbrev pub first_step : SnapshotCall → SnapshotStep
+first_step on.Snap = Make
+first_step (on.Drop snapshot) = Drop snapshot
+first_step (on.Show snapshot) = Pin snapshot
+first_step (on.Drain count) = Pick 0
 
 abbrev pub beginning : Call → Beginning
 beginning (call.Create dir name mode) = Numbers
@@ -31,6 +41,7 @@ beginning (call.Lookup dir name) = Visits
 beginning (call.Unlink dir name) = Looks
 beginning (call.Rmdir dir name) = Looks
 beginning (call.Rename from old to new) = Looks
+beginning (call.Snapshots c) = OnSnapshots (first_step c)
 
 -- the directories in which a call looks its names up, one look for each
 abbrev pub directories : Call → List Handle
@@ -103,3 +114,4 @@ begun Numbers s c = started c Number []
 begun Looks s c = started c (Look 0) []
 begun Locks s c = started c (locking 0 (slots_of s None nothing_looked c)) (slots_of s None nothing_looked c)
 begun Visits s c = started c Visit []
+begun (OnSnapshots first) s c = started c (Snapshots first) []
