@@ -10,9 +10,10 @@ ghost use Rattle.nv_core.specs.Shown.{Told, ending_of, hand_of, shared_of, shown
 ghost use Rattle.nv_core.specs.Told.{IsOwed, KeepsJob, OwesAt};
 
 use crate::hold::Hold;
-use crate::next::{Ending, Next};
+use crate::next::{Ending, Next, SnapshotStep};
 use crate::running::Running;
 use crate::shared::Shared;
+use crate::slots::Slots;
 use crate::turn::Turn;
 use nv_alloc::Hand;
 use nv_base::Fault;
@@ -27,6 +28,7 @@ pub(crate) fn result_of(running: &Running) -> Result<Answer, Fault>
         Ending::Answers => Ok(running.owed.answer(running.made)),
         Ending::Refuses(fault) => Err(fault),
         Ending::Overtaken => Err(Fault::Contended),
+        Ending::Drains(released) => Ok(Answer::Count(released)),
     }
 }
 
@@ -71,8 +73,21 @@ fn give_number(hand: &Hand, running: &mut Running) -> Turn
             running.next = Next::Back;
             Turn::Moves
         }
-        None => Turn::Ends(result_of(running)),
+        None => last(running),
     }
+}
+
+/// Nothing is locked, and nothing in the hand: the step replies, or a drain picks the next record, up to its number.
+pub(crate) fn last(running: &mut Running) -> Turn {
+    if let Ending::Drains(released) = running.ending {
+        if released < running.job.most_released() {
+            running.ending = Ending::Answers;
+            running.slots = Slots::none();
+            running.next = Next::Snapshots(SnapshotStep::Pick(released));
+            return Turn::Moves;
+        }
+    }
+    Turn::Ends(result_of(running))
 }
 
 /// Nothing is locked: the next round of looks comes, if there is one, or what is in the hand goes back.
@@ -91,7 +106,9 @@ pub(crate) fn end_unlocked(shared: &Shared, hand: &Hand, running: &mut Running) 
     ensures rooms { HasRoomsAfter result shared.now (Hold.Hand hand.now) running.new }
 {
     match running.ending {
-        Ending::Answers | Ending::Refuses(_) => give_back(shared, hand, running),
+        Ending::Answers | Ending::Refuses(_) | Ending::Drains(_) => {
+            give_back(shared, hand, running)
+        }
         Ending::Overtaken => again(running),
     }
 }

@@ -12,8 +12,8 @@ ghost use Rattle.nv_machine.specs.Step.{handle_at};
 ghost use Rattle.nv_core.specs.Shown.{answered};
 ghost use Rattle.nv_core.specs.Told.{IsJobOf, IsVisit, IsVisitOf, all_some, is_change};
 
-use nv_base::{Bytes, Handle, Ino};
-use nv_calls::{Answer, Call, Looked, Plan, Update};
+use nv_base::{Bytes, Handle, Ino, limits};
+use nv_calls::{Answer, Call, Looked, Plan, SnapshotCall, Update};
 use std::alloc::Global;
 
 /// What a call is to do.
@@ -23,6 +23,8 @@ pub(crate) enum Job {
     Change(Plan, Bytes),
     /// It reads one node.
     Visit(Call),
+    /// It is on snapshots.
+    Snapshots(SnapshotCall),
     /// Its commit has it.
     Given,
 }
@@ -64,10 +66,21 @@ pub(crate) fn job_of(alloc: Global, call: Call) -> (Job, Owed)
         Call::Rename { from, old, to, new } => {
             (Update::Rename { from, old, to, new }, Owed::Nothing)
         }
+        Call::Snapshots(call) => return (Job::Snapshots(call), Owed::Nothing),
         visit => return (Job::Visit(visit), Owed::Nothing),
     };
     let plan = Plan { update, blocks: 0 };
     (Job::Change(plan, Bytes::empty(alloc)), owed)
+}
+
+impl Job {
+    /// How many records a drain releases at most; another call releases none.
+    pub(crate) fn most_released(&self) -> u64 {
+        match self {
+            Job::Snapshots(SnapshotCall::Drain(number)) => limits::most_drained(*number),
+            _ => 0,
+        }
+    }
 }
 
 fn job_of_write(file: Handle, offset: u64, text: Bytes) -> (Job, Owed)

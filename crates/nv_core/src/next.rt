@@ -1,12 +1,15 @@
 //! The steps of a call that stand before it is ready and after its commit, and how it is to end.
 
-use nv_base::Fault;
+use crate::showing::Showing;
+use nv_base::{Epoch, Fault};
+use nv_book::Record;
+use nv_entry::TreeNode;
 
 /// The step of a call that comes next, while its hand is with the actor alone. In a loop with its place: of a
 /// directory, of a slot that the call locks, of how many lists were asked.
 ///
 /// A call that is ready enters next; which step of a commit comes next, the commit tells.
-#[derive(Clone, Copy, Debug, PartialEq, Eq)]
+#[derive(Drop)]
 pub(crate) enum Next {
     Number,
     Look(usize),
@@ -19,12 +22,30 @@ pub(crate) enum Next {
     Give(u64),
     Back,
     Visit,
+    Snapshots(SnapshotStep),
 }
 
-/// How a call is to end: with its answer, refused, or not yet, since a name was bound anew after the looks.
+/// The step of a call on snapshots. It makes one, or drops one; it pins one, shows its nodes inode by inode, and unpins
+/// it, with what it has seen; or it picks a deferred record, with how many it has released before, locks its inode and
+/// releases it.
+#[derive(Drop)]
+pub(crate) enum SnapshotStep {
+    Make,
+    Drop(Epoch),
+    Pin(Epoch),
+    Show(Epoch, Showing),
+    Unpin(Epoch, Vec<TreeNode>),
+    Pick(u64),
+    LockPicked(u64, Record),
+    Release(u64, Record),
+}
+
+/// How a call is to end: with its answer, refused, or not yet, since a name was bound anew after the looks, or since a
+/// drain that has released so many records goes on to the next, up to its number.
 #[derive(Clone, Copy, Debug, PartialEq, Eq)]
 pub(crate) enum Ending {
     Answers,
     Refuses(Fault),
     Overtaken,
+    Drains(u64),
 }

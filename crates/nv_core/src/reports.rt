@@ -15,7 +15,10 @@ ghost use Rattle.nv_core.specs.Shown.{shared_of};
 ghost use Rattle.nv_core.specs.Worlds.{Shows};
 
 use crate::World;
+use crate::next::{Next, SnapshotStep};
+use crate::running::Running;
 use crate::shared::Shared;
+use crate::world::Actor;
 use nv_alloc::{FreeList, FreeRun};
 use nv_base::{Epoch, Fault, Ino, Items};
 use nv_book::Book;
@@ -32,7 +35,7 @@ pub struct Space {
     pub chain: u64,
     /// Data blocks that are current or held by a living snapshot.
     pub data: u64,
-    /// Data blocks whose record is deferred.
+    /// Data blocks whose record is deferred, or picked and not yet released.
     pub pending: u64,
     /// All others.
     pub hand: u64,
@@ -53,7 +56,8 @@ impl World {
     pub fn space(&self) -> Space
         ensures { (m : machine.World) → Shows self.now m → result ≡ space_of m }
     {
-        self.shared.space()
+        let picked = picked_blocks(&self.actors);
+        self.shared.space(picked)
     }
 
     /// The free lists, CPU by CPU. `OutOfMemory` where room for them was refused.
@@ -86,15 +90,15 @@ impl World {
 }
 
 impl Shared {
-    /// Where the blocks are.
-    fn space(&self) -> Space
+    /// Where the blocks are, of which so many are those of picked records.
+    fn space(&self, picked: u64) -> Space
         requires { AddsUp self.now.geometry.numbers.blocks (shared_of self.now) }
         ensures { result ≡ space_in self.now.geometry.numbers.blocks (shared_of self.now) }
     {
         let free = free_blocks(&self.lists);
         let chain = log_pages(&self.cells);
         let kept = data_blocks(&self.cells, &self.book);
-        let pending = self.book.deferred_blocks();
+        let pending = self.book.deferred_blocks() + picked;
         let data = kept.saturating_sub(pending);
         let hand = self.geometry.numbers.blocks - free - chain - kept;
         Space {
@@ -136,6 +140,29 @@ fn log_counts(alloc: Global, cell: &InodeCell) -> Result<LogCounts, Fault>
         entries: cell.tail(),
         pages: Items::from_vec(pages),
     })
+}
+
+/// How many blocks are those of records that drains have picked and not yet released.
+fn picked_blocks(actors: &[Actor]) -> u64 {
+    let mut count = 0;
+    for actor in actors {
+        count += picked_by(actor);
+    }
+    count
+}
+
+/// How many are those of one actor: one or none.
+fn picked_by(actor: &Actor) -> u64 {
+    match &actor.running {
+        Some(Running {
+            next:
+                Next::Snapshots(
+                    SnapshotStep::LockPicked(_, picked) | SnapshotStep::Release(_, picked),
+                ),
+            ..
+        }) if picked.is_page() => 1,
+        _ => 0,
+    }
 }
 
 /// How many blocks the lists have.

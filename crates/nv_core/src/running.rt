@@ -12,20 +12,20 @@ ghost use Rattle.nv_core.specs.Told.{IsChangeBy, IsJobOf, IsToldOf, IsVisitOf, K
 
 use crate::hold::Hold;
 use crate::job::{Job, Owed, job_of, locked, look_count};
-use crate::next::{Ending, Next};
+use crate::next::{Ending, Next, SnapshotStep};
 use crate::shared::Shared;
 use crate::slots::Slots;
 use crate::turn::Turn;
 use nv_alloc::Hand;
 use nv_base::{Gen, Handle, Ino};
-use nv_calls::{Call, Looked, Plan, Update};
+use nv_calls::{Call, Looked, Plan, SnapshotCall, Update};
 use std::alloc::Global;
 
 /// How many more rounds of looks a call may make after its first.
 const ROUNDS: u64 = 7;
 
 /// A call that runs.
-#[derive(Debug, Drop)]
+#[derive(Drop)]
 pub(crate) struct Running {
     pub(crate) job: Job,
     pub(crate) owed: Owed,
@@ -94,9 +94,26 @@ fn first_step(inodes: u64, job: &Job, looked: &Looked) -> (Next, Slots)
     ensures none { takes result.0 ≡ false }
 {
     let none = Slots::none();
-    let Job::Change(Plan { update, .. }, _) = job else {
-        return (Next::Visit, none);
-    };
+    match job {
+        Job::Change(Plan { update, .. }, _) => first_of_change(inodes, update, looked),
+        Job::Snapshots(call) => (Next::Snapshots(first_on_snapshots(call)), none),
+        Job::Visit(_) | Job::Given => (Next::Visit, none),
+    }
+}
+
+/// The first step of a call on snapshots.
+fn first_on_snapshots(call: &SnapshotCall) -> SnapshotStep {
+    match call {
+        SnapshotCall::Snap => SnapshotStep::Make,
+        SnapshotCall::Drop(snapshot) => SnapshotStep::Drop(*snapshot),
+        SnapshotCall::Show(snapshot) => SnapshotStep::Pin(*snapshot),
+        SnapshotCall::Drain(_) => SnapshotStep::Pick(0),
+    }
+}
+
+/// The first step of a call that changes nodes, and its slots as far as they are known.
+fn first_of_change(inodes: u64, update: &Update, looked: &Looked) -> (Next, Slots) {
+    let none = Slots::none();
     match update {
         Update::Create { .. } | Update::Mkdir { .. } => (Next::Number, none),
         Update::Unlink { .. } | Update::Rmdir { .. } | Update::Rename { .. } => {
@@ -149,7 +166,7 @@ impl Running {
     {
         match &self.job {
             Job::Change(plan, _) => plan,
-            Job::Visit(_) | Job::Given => unreachable!(),
+            Job::Visit(_) | Job::Snapshots(_) | Job::Given => unreachable!(),
         }
     }
 }

@@ -11,9 +11,10 @@ ghost use Rattle.nv_core.specs.Worlds.{Shows};
 
 use crate::World;
 use crate::shared::Shared;
-use nv_base::{Fault, Gen, Handle, Ino};
+use crate::showing::root;
+use nv_base::{Epoch, Fault, Handle, Ino};
 use nv_entry::{NodeCopy, Tree};
-use nv_reader::{Walk, settled_on};
+use nv_reader::{Walk, settled_on, show_on};
 use std::alloc::Global;
 
 impl World {
@@ -25,6 +26,14 @@ impl World {
     {
         self.shared.tree(self.alloc)
     }
+
+    /// The tree of a living snapshot: the nodes at its epoch. `NoSnapshot` where it doesn't live, before `OutOfMemory`.
+    pub fn snap_tree(&self, snapshot: Epoch) -> Result<Tree, Fault> {
+        if !self.shared.book.snaps().has(snapshot) {
+            return Err(Fault::NoSnapshot);
+        }
+        self.shared.tree_at(self.alloc, snapshot)
+    }
 }
 
 impl Shared {
@@ -34,11 +43,7 @@ impl Shared {
         ensures ok { IfOk result (λ tree. tree ≡ tree_in (shared_of self.now)) }
         ensures err { FailsOnly OutOfMemory result }
     {
-        let root = Handle {
-            ino: Ino::new(0),
-            generation: Gen::new(1),
-        };
-        let mut walk = Walk::new(alloc, root, self.cells.len())?;
+        let mut walk = Walk::new(alloc, root(), self.cells.len())?;
         let mut nodes = Vec::new(alloc);
         while let Some(handle) = walk.wanted() {
             let node = self.settled_node(alloc, &handle)?;
@@ -47,6 +52,37 @@ impl Shared {
             }
         }
         Ok(Tree::from_vec(nodes))
+    }
+
+    /// The tree of these cells at the end of an epoch, from the root.
+    fn tree_at(&self, alloc: Global, epoch: Epoch) -> Result<Tree, Fault> {
+        let mut walk = Walk::new(alloc, root(), self.cells.len())?;
+        let mut nodes = Vec::new(alloc);
+        while let Some(handle) = walk.wanted() {
+            let node = self.node_at(alloc, &handle, epoch)?;
+            if let Some(given) = walk.hand_in(node)? {
+                nodes.push(given)?;
+            }
+        }
+        Ok(Tree::from_vec(nodes))
+    }
+
+    /// The node under a handle at the end of an epoch; none where the handle is stale.
+    pub(crate) fn node_at(
+        &self,
+        alloc: Global,
+        handle: &Handle,
+        epoch: Epoch,
+    ) -> Result<Option<NodeCopy>, Fault> {
+        let place = handle.ino.number() as usize;
+        if place >= self.cells.len() {
+            return Ok(None);
+        }
+        let cell = &self.cells[place];
+        if cell.generation() != handle.generation {
+            return Ok(None);
+        }
+        show_on(alloc, cell, epoch)
     }
 
     /// The node under a handle by its settled log; none where the handle is stale.

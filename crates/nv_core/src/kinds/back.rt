@@ -8,7 +8,7 @@ ghost use Rattle.nv_core.specs.Rooms.{HasRooms, HasRoomsAfter};
 ghost use Rattle.nv_core.specs.Shown.{Told, hand_of, shared_of, shown, turn_of};
 ghost use Rattle.nv_core.specs.Told.{OwesAt};
 
-use crate::ending::result_of;
+use crate::ending::last;
 use crate::hold::Hold;
 use crate::running::Running;
 use crate::shared::Shared;
@@ -16,7 +16,7 @@ use crate::turn::Turn;
 use nv_alloc::Hand;
 
 /// Gives the number in the hand back, which is the call's last step.
-pub(crate) fn back(shared: &mut Shared, hand: &mut Hand, running: &Running) -> Turn
+pub(crate) fn back(shared: &mut Shared, hand: &mut Hand, running: &mut Running) -> Turn
     requires rooms { HasRooms shared.old (Hold.Hand hand.old) running.now }
     requires inode { ForSome hand.old.ino (λ ino. ino < shared.old.pool.inodes) }
     requires absent { ForSome hand.old.ino (λ ino. has shared.old.pool.numbers ino ≡ false) }
@@ -31,5 +31,5 @@ pub(crate) fn back(shared: &mut Shared, hand: &mut Hand, running: &Running) -> T
     if let Some(ino) = hand.take_ino() {
         shared.pool.give(ino);
     }
-    Turn::Ends(result_of(running))
+    last(running)
 }
