@@ -6,14 +6,15 @@ use Rattle.nv_base.specs.Limits.{IsWithinLimits}
 use Rattle.nv_base.specs.declared.geometry.GeometryNumbers.{GeometryNumbers}
 use Rattle.nv_book.specs.Book.{BookState}
 use Rattle.nv_calls.specs.declared.call.Call.{Call}
+use Rattle.nv_calls.specs.declared.snapshot_call.SnapshotCall.TheVariants as on
 use Rattle.nv_cell.specs.Cell.{empty_cell}
 use Rattle.nv_machine.specs.Format.{formatted}
 use Rattle.nv_machine.specs.Frame.{lent}
 use Rattle.nv_machine.specs.Locks.{AllRecords, AreLocks, AreSlots, HasSlots, HasLent, HoldsIts, IsInside, IsOfSlot, WaitsFor, held_on, is_owner, slots_on}
-use Rattle.nv_machine.specs.Sequence.{Beginning, Looks, Locks, Numbers, OnSnapshots, Visits, beginning, begun, nothing_looked, started}
+use Rattle.nv_machine.specs.Sequence.{Beginning, Looks, Locks, Numbers, OnSnapshots, Visits, beginning, begun, new_draining, nothing_looked, started}
 use Rattle.nv_machine.specs.Step.{Step, after, go_step, start_step, step, turn, turned}
 use Rattle.nv_machine.specs.Reads.{slots_of, written_slots}
-use Rattle.nv_machine.specs.World.{Actor, Check, Drop, Ends, Event, Go, LockPicked, Make, Moves, Next, Pick, Pin, Release, Reply, Retire, Running, Shared, Show, SnapshotStep, Start, Turn, Unpin, Waiting, Waits, World, actor_at, idle}
+use Rattle.nv_machine.specs.World.{Actor, Check, Drop, Ends, Event, Go, Make, Moves, Next, Pick, Pin, Reply, Retire, Running, Shared, SnapshotStep, Snapshots, Start, Turn, Waiting, Waits, World, actor_at, idle}
 use Rattle.nv_machine.proofs.BookRecords.{OnRecords, records_all}
 use Rattle.nv_machine.proofs.Events.{go_is_turn, turned_frame}
 use Rattle.nv_machine.proofs.Framed.{framed}
@@ -111,8 +112,8 @@ no_slots : (n : ℕ) → AreSlots n []
 no_slots n = record { rising = tt; inside = tt }
 
 first_holds : (step : SnapshotStep) (s : Shared) (actor : ℕ) (c : Call) → Holds s actor [] false
-    → held_on step [] ≡ [] → [] ≡ slots_on step → HoldsIts s actor (Some (begun (OnSnapshots step) s c))
-first_holds step s actor c h e f = holds_as s actor (begun (OnSnapshots step) s c) [] false h e refl (no_slots (length s.owners)) f
+    → held_on step [] ≡ [] → [] ≡ slots_on step → HoldsIts s actor (Some (started c (Snapshots step) []))
+first_holds step s actor c h e f = holds_as s actor (started c (Snapshots step) []) [] false h e refl (no_slots (length s.owners)) f
 
 begun_locks : (b : Beginning) (w : World) (actor : ℕ) (c : Call) → AreLocks w → Holds w.shared actor [] false
     → HoldsIts w.shared actor (Some (begun b w.shared c))
@@ -125,14 +126,10 @@ begun_locks Locks w actor c locks h =
     locking_holds w.shared actor 0 (started c Check slots) h (new_slots w.shared None nothing_looked (started c Check slots) locks.wide)
 begun_locks Visits w actor c locks h = holds_as w.shared actor (begun Visits w.shared c) [] false h refl refl
     (no_slots (length w.shared.owners)) refl
-begun_locks (OnSnapshots Make) w actor c locks h = first_holds Make w.shared actor c h refl refl
-begun_locks (OnSnapshots (Drop snapshot)) w actor c locks h = first_holds (Drop snapshot) w.shared actor c h refl refl
-begun_locks (OnSnapshots (Pin snapshot)) w actor c locks h = first_holds (Pin snapshot) w.shared actor c h refl refl
-begun_locks (OnSnapshots (Show snapshot showing)) w actor c locks h = first_holds (Show snapshot showing) w.shared actor c h refl refl
-begun_locks (OnSnapshots (Unpin snapshot seen)) w actor c locks h = first_holds (Unpin snapshot seen) w.shared actor c h refl refl
-begun_locks (OnSnapshots (Pick draining)) w actor c locks h = first_holds (Pick draining) w.shared actor c h refl refl
-begun_locks (OnSnapshots (LockPicked draining picked)) w actor c locks h = ?
-begun_locks (OnSnapshots (Release draining picked)) w actor c locks h = ?
+begun_locks (OnSnapshots on.Snap) w actor c locks h = first_holds Make w.shared actor c h refl refl
+begun_locks (OnSnapshots (on.Drop snapshot)) w actor c locks h = first_holds (Drop snapshot) w.shared actor c h refl refl
+begun_locks (OnSnapshots (on.Show snapshot)) w actor c locks h = first_holds (Pin snapshot) w.shared actor c h refl refl
+begun_locks (OnSnapshots (on.Drain count)) w actor c locks h = first_holds (Pick (new_draining count)) w.shared actor c h refl refl
 
 start_locks : (b : Bool) (running : Option Running) (w : World) (actor : ℕ) (c : Call) → nat_lt actor (length w.actors) ≡ b
     → (actor_at w actor).running ≡ running → AreLocks w
