@@ -1,0 +1,5 @@
+pub mod PartNames
+pub mod PartLists
+pub mod Pages
+pub mod BoundNames
+pub mod PageEntries

@@ -1,0 +1,4 @@
+pub mod PartLists
+pub mod Index
+pub mod Names
+pub mod Counts
