@@ -26,13 +26,11 @@ binding_list es = flat_map (λ (e : Entry). bound_by e.id e.item) es
 -- what holds of each name of a list holds of a name that is bound in it
 bound_there : (P : List ℕ → Type 0) (name : List ℕ) (bs : List Bound) → AllByRecursion (λ (b : Bound). P b.0) bs → (binding_of name bs ≡ None) ⊎ P name
 bound_there P name [] h = inl refl
-bound_there P name (b ∷ bs) h = go (same_name name b.0) refl where
-  go : (t : Bool) → same_name name b.0 ≡ t → (binding_of name (b ∷ bs) ≡ None) ⊎ P name
-  go true e = inr (subst P (sym (same_name-equal name b.0 e)) h.0)
-  go false e = elim (bound_there P name bs h.1) [
-    | inl none ↦ inl (rw e none)
-    | inr p ↦ inr p
-  ]
+bound_there P name (b ∷ bs) h = go (same_name name b.0) refl (bound_there P name bs h.1) where
+  go : (t : Bool) → same_name name b.0 ≡ t → (binding_of name bs ≡ None) ⊎ P name → (binding_of name (b ∷ bs) ≡ None) ⊎ P name
+  go true e rest = inr (subst P (sym (same_name-equal name b.0 e)) h.0)
+  go false e (inl none) = inl (rw e none)
+  go false e (inr p) = inr p
 
 -- what holds of the name of each binding entry
 abbrev OfItem : (List ℕ → Type 0) → Item → Type 0
@@ -43,7 +41,7 @@ OfItem P item = Unit {0}
 log_bound : (P : List ℕ → Type 0) (es : List Entry) → AllByRecursion (λ (e : Entry). OfItem P e.item) es
     → AllByRecursion (λ (b : Bound). P b.0) (bindings_of es)
 log_bound P [] h = tt
-log_bound P (e ∷ es) h = go (is_bind e.item && not (any_cover 1 es (NameKey (name_of e.item)))) where
+log_bound P (e ∷ es) h = go (is_bind e.item && not (any_cover 1 es (NameKey (name_of e.item)))) (log_bound P es h.1) where
   one : (item : Item) → OfItem P item → (rest : List Bound) → AllByRecursion (λ (b : Bound). P b.0) rest
       → AllByRecursion (λ (b : Bound). P b.0) (bound_by e.id item ++ rest)
   one (Bind name to) p rest all = (p, all)
@@ -54,10 +52,11 @@ log_bound P (e ∷ es) h = go (is_bind e.item && not (any_cover 1 es (NameKey (n
   one (Unbind name) p rest all = all
   one Gone p rest all = all
 
-  go : (t : Bool) → AllByRecursion (λ (b : Bound). P b.0) (binding_list (cond t (e ∷ binders_of es) (binders_of es)))
-  go true = subst (λ (bs : List Bound). AllByRecursion (λ (b : Bound). P b.0) bs)
-      (sym (flat_map-cons (λ (x : Entry). bound_by x.id x.item) e (binders_of es))) (one e.item h.0 (bindings_of es) (log_bound P es h.1))
-  go false = log_bound P es h.1
+  go : (t : Bool) → AllByRecursion (λ (b : Bound). P b.0) (bindings_of es)
+      → AllByRecursion (λ (b : Bound). P b.0) (binding_list (cond t (e ∷ binders_of es) (binders_of es)))
+  go true rest = subst (λ (bs : List Bound). AllByRecursion (λ (b : Bound). P b.0) bs)
+      (sym (flat_map-cons (λ (x : Entry). bound_by x.id x.item) e (binders_of es))) (one e.item h.0 (bindings_of es) rest)
+  go false rest = rest
 
 as_item : (log : List Entry) (names : List Bound) (item : Item) → IsItemName log names item → OfItem (IsNameOf log names) item
 as_item log names (Bind name to) h = h

@@ -2,6 +2,7 @@
 use Rattle.std.proofs.Common.{◌≡◌, ℕ, ◌+◌, ◌⊎◌, inl, inr, Bool, true, false, cond, List, [], ◌∷◌, refl, ap, sym, ◌∙◌, subst}
 use Rattle.std.specs.List.{AllByRecursion}
 use Rattle.std.proofs.lemmas.List.Elements.{recursion_from_All}
+use Rattle.nv_cell.proofs.Runs.{count_cons}
 use Rattle.nv_audit.specs.PartLists.{HaveSameOf, HaveSameParts, is_same, times}
 use Rattle.nv_audit.specs.declared.part_list.InodePart.{InodePart}
 use Rattle.nv_audit.proofs.PartNames.{same_is}
@@ -9,13 +10,11 @@ use Rattle.nv_audit.proofs.PartNames.{same_is}
 -- what holds of each part of a list holds of a part that stands in it
 there : (P : InodePart → Type 0) (part : InodePart) (xs : List InodePart) → AllByRecursion P xs → (times part xs ≡ 0) ⊎ P part
 there P part [] h = inl refl
-there P part (x ∷ xs) h = go (is_same part x) refl where
-  go : (b : Bool) → is_same part x ≡ b → (times part (x ∷ xs) ≡ 0) ⊎ P part
-  go true e = inr (subst P (same_is part x e) h.0)
-  go false e = elim (there P part xs h.1) [
-    | inl none ↦ inl (ap (λ (b : Bool). cond b 1 0 + times part xs) e ∙ none)
-    | inr p ↦ inr p
-  ]
+there P part (x ∷ xs) h = go (is_same part x) refl (there P part xs h.1) where
+  go : (b : Bool) → is_same part x ≡ b → (times part xs ≡ 0) ⊎ P part → (times part (x ∷ xs) ≡ 0) ⊎ P part
+  go true e rest = inr (subst P (same_is part x e) h.0)
+  go false e (inl none) = inl (count_cons (is_same part) x xs ∙ ap (λ (b : Bool). cond b 1 0 + times part xs) e ∙ none)
+  go false e (inr p) = inr p
 
 -- lists that have the parts of both as often have all so
 pub same_of_both : (one other : List InodePart) → HaveSameOf one one other → HaveSameOf other one other → HaveSameParts one other

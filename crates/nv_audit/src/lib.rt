@@ -7,10 +7,18 @@
 
 mod counts;
 mod index;
+mod lists;
 mod names;
 mod part_list;
+mod pending;
+mod records;
+mod whole;
 
 pub use counts::are_counted;
 pub use index::{are_pages_of, is_part_of};
+pub use lists::are_free;
 pub use names::are_names_of;
 pub use part_list::InodePart;
+pub use pending::{InHands, pending_of};
+pub use records::are_recorded;
+pub use whole::audit;

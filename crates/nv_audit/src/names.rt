@@ -1,6 +1,6 @@
 //! The names of an inode.
 
-ghost use Rattle.std.specs.Prelude.{◌≡◌, ◌↔◌, IsTrue};
+ghost use Rattle.std.specs.Prelude.{◌≡◌, ◌↔◌, ◌<◌, ℕ, IsTrue, List, length, slice_index_or};
 ghost use Rattle.nv_cell.specs.Index.{bindings_of};
 ghost use Rattle.nv_nindex.specs.NameIndex.{HaveSameBindings, binding_of};
 ghost use Rattle.nv_audit.specs.Names.{AreIndexNames, AreLogNames, IsItemName, IsNameOf, bound_after};
@@ -43,13 +43,23 @@ fn are_index_names(log: &[Entry], index: &NameIndex) -> bool
     ensures { IsTrue result ↔ AreIndexNames log.now index.now.names index.now.names }
 {
     for place in 0..index.len() {
-        if let Some((name, _)) = index.at(place)
-            && !is_name_of(log, index, name)
-        {
+        if !is_name_at(log, index, place) {
             return false;
         }
     }
     true
+}
+
+/// Whether it does so for the name at a place.
+fn is_name_at(log: &[Entry], index: &NameIndex, place: usize) -> bool
+    requires { place < length index.now.names }
+    ensures { (default : List ℕ × Binding) → IsTrue result ↔ IsNameOf log.now index.now.names
+        (slice_index_or index.now.names place default).0 }
+{
+    match index.at(place) {
+        Some((name, _)) => is_name_of(log, index, name),
+        None => true,
+    }
 }
 
 /// The same for one name.

@@ -35,11 +35,18 @@ fn have_same_of(parts: &[InodePart], one: &[InodePart], other: &[InodePart]) -> 
     ensures { IsTrue result ↔ HaveSameOf parts.now one.now other.now }
 {
     for part in parts {
-        if times(part, one) != times(part, other) {
+        if !is_alike(part, one, other) {
             return false;
         }
     }
     true
+}
+
+/// Whether a part stands in one list as often as in the other.
+fn is_alike(part: &InodePart, one: &[InodePart], other: &[InodePart]) -> bool
+    ensures { IsTrue result ↔ (times part.now one.now ≡ times part.now other.now) }
+{
+    times(part, one) == times(part, other)
 }
 
 /// How often a part stands in a list.
