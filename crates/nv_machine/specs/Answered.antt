@@ -27,7 +27,7 @@ abbrev pub IsFinal : Ending → Type 0
 IsFinal Answers = Unit {0}
 IsFinal (Refuses fault) = Unit {0}
 IsFinal Overtaken = ⊥
-IsFinal (Drains released) = ⊥
+IsFinal (Drains draining) = ⊥
 
 -- a call is to end so, and has only such steps left
 pub record IsToEnd (e : Ending) (r : Running) : Type 0 where

@@ -5,20 +5,23 @@ use Rattle.nv_base.specs.declared.limits.TheConstants.{DRAIN, INODES}
 use Rattle.nv_calls.specs.declared.call.Call.{Call}
 use Rattle.nv_calls.specs.declared.call.Call.TheVariants as call
 use Rattle.nv_calls.specs.declared.snapshot_call.SnapshotCall.TheVariants as on
-use Rattle.nv_machine.specs.Kinds.{most_released}
 use Rattle.nv_machine.specs.Step.{step}
 use Rattle.nv_machine.specs.World.{Append, Back, Check, Close, Drains, Drop, Ending, Ends, Enter, Event, Give, Go, Leave, Lock, LockPicked, Look, Make, Moved, Moves, Next, Number, Open, Pick, Pin, Publish, Ready, Release, Reply, Retire, Running, Show, SnapshotStep, Snapshots, Start, TakeBlocks, TakePages, Turn, Unlock, Unpin, Visit, Waits, World, actor_at}
 
--- the steps left of a call on snapshots, of a drain up to the end of its record
+-- a whole round, whatever its looks find
+abbrev pub round : ℕ → ℕ
+round cpus = 44 + 3 * cpus
+
+-- the steps left of a call on snapshots, of a drain with the records that it may still release
 abbrev pub rank_on : ℕ → ℕ → SnapshotStep → ℕ
 rank_on cpus slots Make = 1
 rank_on cpus slots (Drop snapshot) = 1
 rank_on cpus slots (Pin snapshot) = 3 + INODES
 rank_on cpus slots (Show snapshot showing) = 2 + showing.left
 rank_on cpus slots (Unpin snapshot seen) = 1
-rank_on cpus slots (Release released picked) = 4 + cpus + slots
-rank_on cpus slots (LockPicked released picked) = 5 + cpus + slots
-rank_on cpus slots (Pick released) = 7 + cpus + slots
+rank_on cpus slots (Release draining picked) = draining.left * round cpus + (4 + cpus + slots)
+rank_on cpus slots (LockPicked draining picked) = draining.left * round cpus + (5 + cpus + slots)
+rank_on cpus slots (Pick draining) = draining.left * round cpus + (7 + cpus)
 
 -- the steps left in one round, by the step that comes next, with so many CPUs and slots to lock
 abbrev pub rank : ℕ → ℕ → Next → ℕ
@@ -42,29 +45,14 @@ rank cpus slots Number = 41 + 3 * cpus
 rank cpus slots (Look place) = 41 + 3 * cpus + (2 - place)
 rank cpus slots (Snapshots step) = rank_on cpus slots step
 
--- a whole round, whatever its looks find
-abbrev pub round : ℕ → ℕ
-round cpus = 44 + 3 * cpus
+-- and behind a record that a drain has released, those of the records that it may still release
+abbrev pub rank_behind : ℕ → Ending → ℕ
+rank_behind cpus (Drains draining) = draining.left * round cpus
+rank_behind cpus other = 0
 
--- how many records a drain has released with the one that it has in hand
-abbrev pub released_by : Ending → ℕ
-released_by (Drains released) = released
-released_by other = 0
-
-abbrev pub released_on : SnapshotStep → ℕ
-released_on (Pick released) = released + 1
-released_on (LockPicked released picked) = released + 1
-released_on (Release released picked) = released + 1
-released_on other = 0
-
-abbrev pub released_at : Next → Ending → ℕ
-released_at (Snapshots step) ending = released_on step
-released_at other ending = released_by ending
-
--- the steps left of a call, with the rounds that it may still make, and the records that it may still release
+-- the steps left of a call, with the rounds that it may still make
 abbrev pub bound : ℕ → Running → ℕ
-bound cpus r =
-    (r.rounds + (most_released r.call - released_at r.next r.ending)) * round cpus + rank cpus (length r.slots) r.next
+bound cpus r = rank_behind cpus r.ending + r.rounds * round cpus + rank cpus (length r.slots) r.next
 
 -- the steps of a call: eight rounds, a visit for each inode that there can be, or a round for each record that it may release
 abbrev pub most_steps_of : Call → ℕ → ℕ

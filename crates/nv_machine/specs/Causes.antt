@@ -1,5 +1,5 @@
 -- For what a step refuses its call.
-use Rattle.std.specs.Prelude.{◌≡◌, ℕ, zero, ◌+◌, ◌<◌, ◌≤◌, ◌⊎◌, Bool, true, false, [], length, Option, None, Result, Ok, Err}
+use Rattle.std.specs.Prelude.{◌≡◌, ℕ, ◌+◌, ◌<◌, ◌≤◌, ◌⊎◌, Bool, true, false, [], length, Option, None, Result, Ok, Err}
 use Rattle.nv_base.specs.declared.fault.Fault.{Fault}
 use Rattle.nv_base.specs.declared.fault.Fault.TheVariants.{CommitLimit, Contended, NoInode, NoSnapshot, NoSpace, OutOfMemory}
 use Rattle.nv_base.specs.declared.limits.TheConstants.{NUMBER}
@@ -12,7 +12,7 @@ use Rattle.nv_machine.specs.Answered.{IsLast}
 use Rattle.nv_machine.specs.Kinds.{asked_list}
 use Rattle.nv_machine.specs.Sequence.{beginning}
 use Rattle.nv_epoch.specs.SnapList.{pins_of}
-use Rattle.nv_machine.specs.Snapshots.{drop_tests, make_tests}
+use Rattle.nv_machine.specs.Snapshots.{drop_tests, is_first, make_tests}
 use Rattle.nv_machine.specs.Step.{is_numbered, same_looked, visit_grows}
 use Rattle.nv_machine.specs.World.{Answers, Check, Drains, Drop, Ending, Ends, Enter, HandState, Look, Make, Moves, Next, Overtaken, Pick, Pin, Ready, Refuses, Running, Shared, Show, SnapshotStep, Snapshots, TakeBlocks, TakePages, Turn, Visit, Waits, list_at}
 
@@ -63,7 +63,7 @@ IsCauseOn Make granted s fault = make_tests s.book.snaps ≡ Err fault
 IsCauseOn (Drop snapshot) granted s fault = drop_tests (pins_of s.book.snaps snapshot) ≡ Err fault
 IsCauseOn (Pin snapshot) granted s fault = (fault ≡ NoSnapshot) × (pins_of s.book.snaps snapshot ≡ None)
 IsCauseOn (Show snapshot showing) granted s fault = IsDenied granted fault
-IsCauseOn (Pick zero) granted s fault = IsDenied granted fault
+IsCauseOn (Pick draining) granted s fault = IsDenied granted fault × (is_first draining ≡ true)
 IsCauseOn other granted s fault = ⊥
 
 -- for what each step refuses its call, where it reads these nodes; the others refuse nothing
@@ -93,7 +93,7 @@ abbrev pub EndsFor : (Fault → Type 0) → Type 0 → Next → Ending → Type 
 EndsFor P Q next (Refuses fault) = P fault × IsLast next
 EndsFor P Q next Answers = Unit {0}
 EndsFor P Q next Overtaken = Q
-EndsFor P Q next (Drains released) = Unit {0}
+EndsFor P Q next (Drains draining) = Unit {0}
 
 abbrev pub ResultFor : (Fault → Type 0) → Result Answer Fault → Type 0
 ResultFor P (Ok found) = Unit {0}

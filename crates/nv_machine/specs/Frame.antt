@@ -23,8 +23,8 @@ nothing_lent = record { list = None; pool = false; cell = None; lock = None; boo
 -- what a step of a call on snapshots is lent
 abbrev pub lent_on : SnapshotStep → Lent
 lent_on (Show snapshot showing) = nothing_lent
-lent_on (LockPicked released picked) = record nothing_lent { lock = Some picked.ino }
-lent_on (Release released picked) = record nothing_lent { cell = Some picked.ino }
+lent_on (LockPicked draining picked) = record nothing_lent { lock = Some picked.ino }
+lent_on (Release draining picked) = record nothing_lent { cell = Some picked.ino }
 lent_on other = record nothing_lent { book = true }
 
 -- what an actor's step is lent, with so many CPUs

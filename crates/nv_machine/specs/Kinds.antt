@@ -1,12 +1,11 @@
 -- The steps, one function a kind. What decides a step is an argument.
-use Rattle.std.specs.Prelude.{ℕ, zero, suc, ◌+◌, ◌-◌, ◌%◌, Bool, true, false, if◌then◌else◌, nat_lt, List, [], ◌∷◌, ◌++◌, drop, length, map, max, min, take, Option, Some, None, Result, Ok, Err}
+use Rattle.std.specs.Prelude.{ℕ, zero, suc, ◌+◌, ◌-◌, ◌%◌, Bool, true, false, if◌then◌else◌, nat_lt, List, [], ◌∷◌, ◌++◌, drop, length, map, take, Option, Some, None, Result, Ok, Err}
 use Rattle.nv_calls.specs.declared.looked.Looked.{Looked}
 use Rattle.nv_alloc.specs.Block.{BlockValue}
 use Rattle.nv_alloc.specs.Giving.{after_giving, kept_of}
 use Rattle.nv_alloc.specs.Numbers.{put_by}
 use Rattle.nv_base.specs.declared.fault.Fault.{Fault}
 use Rattle.nv_base.specs.declared.fault.Fault.TheVariants.{CommitLimit, Contended, NoInode, NoSpace, OutOfMemory}
-use Rattle.nv_base.specs.declared.limits.TheConstants.{DRAIN}
 use Rattle.nv_base.specs.declared.numbers.Handle.{Handle}
 use Rattle.nv_book.specs.Book.{BookState, after_enter, with_journal}
 use Rattle.nv_calls.specs.AllCalls.{answer}
@@ -16,9 +15,6 @@ use Rattle.nv_calls.specs.Retiring.{erased, freed_by, is_erased, killed_by, numb
 use Rattle.nv_calls.specs.Slots.{entries_of, items_for, place_in}
 use Rattle.nv_calls.specs.declared.answer.Answer.{Answer}
 use Rattle.nv_calls.specs.declared.answer.Answer.TheVariants as answers
-use Rattle.nv_calls.specs.declared.call.Call.{Call}
-use Rattle.nv_calls.specs.declared.call.Call.TheVariants as call
-use Rattle.nv_calls.specs.declared.snapshot_call.SnapshotCall.TheVariants as on
 use Rattle.nv_entry.specs.Blocks.{item_blocks}
 use Rattle.nv_cell.specs.Append.{appended, blocks_for}
 use Rattle.nv_cell.specs.Cell.{CellState, published}
@@ -42,24 +38,20 @@ abbrev pub result_by : Ending → Running → Result Answer Fault
 result_by Answers r = Ok (answer (λ handle. None) r.made r.call)
 result_by (Refuses fault) r = Err fault
 result_by Overtaken r = Err Contended
-result_by (Drains released) r = Ok (answers.Count released)
+result_by (Drains draining) r = Ok (answers.Count draining.released)
 
--- how many records a drain releases at most: a number outside 1 to 1,048,576 counts as the nearest of these
-abbrev pub most_released : Call → ℕ
-most_released (call.Snapshots (on.Drain count)) = max 1 (min count DRAIN)
-most_released other = 0
-
--- a drain picks the next record, up to its number
-abbrev pub drained_turn : Bool → ℕ → Shared → HandState → Running → Turn
-drained_turn true released s h r = Moves s h (record r { ending = Answers; slots = []; next = Snapshots (Pick released) })
-drained_turn false released s h r = Ends (Ok (answers.Count released)) s h
+-- a drain picks the next record, if it may release more
+abbrev pub drained_turn : ℕ → ℕ → Shared → HandState → Running → Turn
+drained_turn zero released s h r = Ends (Ok (answers.Count released)) s h
+drained_turn (suc left) released s h r =
+    Moves s h (record r { ending = Answers; slots = []; next = Snapshots (Pick (record { released = released; left = left })) })
 
 -- nothing is locked, and nothing in the hand
 abbrev pub last_turn : Ending → Shared → HandState → Running → Turn
 last_turn Answers s h r = Ends (result_by Answers r) s h
 last_turn (Refuses fault) s h r = Ends (Err fault) s h
 last_turn Overtaken s h r = Ends (Err Contended) s h
-last_turn (Drains released) s h r = drained_turn (nat_lt released (most_released r.call)) released s h r
+last_turn (Drains draining) s h r = drained_turn draining.left draining.released s h r
 
 -- nothing is locked: blocks go home, CPU by CPU, and then a number goes back; where nothing is left, the step replies, or a drain
 -- goes on
@@ -76,7 +68,7 @@ again_turn (suc rounds) s h r = Moves s h (record r { ending = Answers; rounds =
 abbrev pub over_turn : Ending → Shared → HandState → Running → Turn
 over_turn Answers s h r = rest_turn (home_from 0 0 s.lists (blocks_in h)) h.ino s h r
 over_turn (Refuses fault) s h r = rest_turn (home_from 0 0 s.lists (blocks_in h)) h.ino s h r
-over_turn (Drains released) s h r = rest_turn (home_from 0 0 s.lists (blocks_in h)) h.ino s h r
+over_turn (Drains draining) s h r = rest_turn (home_from 0 0 s.lists (blocks_in h)) h.ino s h r
 over_turn Overtaken s h r = again_turn r.rounds s h r
 
 -- the call turns to its last steps, of which the first is to unlock what is locked

@@ -23,7 +23,9 @@ pub mod Pages
 pub mod PlainRun
 pub mod PoolScan
 pub mod Reached
+pub mod Reading
 pub mod Reads
+pub mod Recorded
 pub mod Refusing
 pub mod Rounds
 pub mod Sequence

@@ -14,7 +14,7 @@ use Rattle.nv_machine.specs.World.{Append, Back, Close, Enter, Give, Leave, Lock
 
 -- a drain has locked the inode of a record that it releases
 abbrev pub held_on : SnapshotStep → List ℕ → List ℕ
-held_on (Release released picked) slots = slots
+held_on (Release draining picked) slots = slots
 held_on other slots = []
 
 -- the slots that a call holds before a step: those that it has locked and not yet unlocked
@@ -58,8 +58,8 @@ pub record AreSlots (slots : ℕ) (list : List ℕ) : Type 0 where
 
 -- a call on snapshots locks the inode of the record that it has picked, and none else
 abbrev pub slots_on : SnapshotStep → List ℕ
-slots_on (LockPicked released picked) = picked.ino ∷ []
-slots_on (Release released picked) = picked.ino ∷ []
+slots_on (LockPicked draining picked) = picked.ino ∷ []
+slots_on (Release draining picked) = picked.ino ∷ []
 slots_on other = []
 
 -- a loop stands at one of those that it goes over; a visit has no slots
@@ -97,8 +97,8 @@ IsHeldByOther actor owner = (other : ℕ) × (owner ≡ Some other) × (other �
 -- the lock that a step of a call on snapshots needs
 abbrev pub WaitsOn : Shared → ℕ → SnapshotStep → Type 0
 WaitsOn s actor (Show snapshot showing) = IsHeldByOther actor (owner_at s (visited showing.visits).ino)
-WaitsOn s actor (LockPicked released picked) = IsHeldByOther actor (owner_at s picked.ino)
-WaitsOn s actor (Release released picked) = ⊥
+WaitsOn s actor (LockPicked draining picked) = IsHeldByOther actor (owner_at s picked.ino)
+WaitsOn s actor (Release draining picked) = ⊥
 WaitsOn s actor other = IsHeldByOther actor s.holder
 
 -- the lock that a step needs; most need none that is not held already

@@ -1,17 +1,18 @@
 -- Memory that is refused: the one turn that it makes of a step, whatever the step grows.
-use Rattle.std.specs.Prelude.{ℕ, zero, ◌||◌, ◌≢◌, if◌then◌else◌, Bool, true, false, [], Ok}
+use Rattle.std.specs.Prelude.{◌||◌, ◌≢◌, if◌then◌else◌, Bool, true, false, [], Ok}
 use Rattle.nv_base.specs.declared.fault.Fault.{Fault}
 use Rattle.nv_base.specs.declared.fault.Fault.TheVariants.{OutOfMemory}
 use Rattle.nv_calls.specs.declared.call.Call.{Call}
 use Rattle.nv_machine.specs.Hands.{is_going}
 use Rattle.nv_machine.specs.Kinds.{refuse}
+use Rattle.nv_machine.specs.Snapshots.{is_first}
 use Rattle.nv_machine.specs.Step.{visit_grows, with_made}
 use Rattle.nv_machine.specs.World.{Check, Ends, Enter, HandState, Look, Moves, Next, Pick, Ready, Refuses, Running, Shared, Show, SnapshotStep, Snapshots, Turn, Unpin, Visit}
 
 -- of the steps of calls on snapshots those that show a node, and the first pick of a drain
 abbrev pub grows_on : SnapshotStep → Bool
 grows_on (Show snapshot showing) = true
-grows_on (Pick zero) = true
+grows_on (Pick draining) = is_first draining
 grows_on other = false
 
 -- the steps that grow anything

@@ -8,7 +8,7 @@ abbrev pub IsUnanswered : Ending → Type 0
 IsUnanswered Answers = ⊥
 IsUnanswered (Refuses fault) = Unit {0}
 IsUnanswered Overtaken = Unit {0}
-IsUnanswered (Drains released) = ⊥
+IsUnanswered (Drains draining) = ⊥
 
 -- the book as it was: a show that is refused takes its pin off
 abbrev pub book_left : Next → BookState → BookState

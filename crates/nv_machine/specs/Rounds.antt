@@ -7,7 +7,7 @@ use Rattle.nv_machine.specs.World.{Answers, Check, Drains, Ending, Event, Go, Ha
 abbrev pub checks_left : Ending → ℕ → ℕ
 checks_left Answers rounds = rounds + 1
 checks_left (Refuses fault) rounds = rounds + 1
-checks_left (Drains released) rounds = rounds + 1
+checks_left (Drains draining) rounds = rounds + 1
 checks_left Overtaken rounds = rounds
 
 -- one where a step is a check that finds a name bound anew

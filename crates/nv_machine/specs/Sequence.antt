@@ -1,6 +1,7 @@
 -- The order of a call's steps.
-use Rattle.std.specs.Prelude.{ℕ, ◌+◌, if◌then◌else◌, nat_lt, List, [], ◌∷◌, length, None}
+use Rattle.std.specs.Prelude.{ℕ, ◌+◌, ◌-◌, if◌then◌else◌, max, min, nat_lt, List, [], ◌∷◌, length, None}
 use Rattle.nv_calls.specs.declared.looked.Looked.{Looked}
+use Rattle.nv_base.specs.declared.limits.TheConstants.{DRAIN}
 use Rattle.nv_base.specs.declared.numbers.Handle.{Handle}
 use Rattle.nv_calls.specs.Plain.{same_handle}
 use Rattle.nv_calls.specs.declared.call.Call.{Call}
@@ -9,7 +10,7 @@ use Rattle.nv_calls.specs.declared.snapshot_call.SnapshotCall.{SnapshotCall}
 use Rattle.nv_calls.specs.declared.snapshot_call.SnapshotCall.TheVariants as on
 use Rattle.nv_entry.specs.Tree.{root}
 use Rattle.nv_machine.specs.Reads.{slots_of, written_slots}
-use Rattle.nv_machine.specs.World.{Answers, Append, Check, Close, Drop, Enter, Leave, Lock, Look, Make, Next, Number, Open, Pick, Pin, Publish, Ready, Retire, Running, Shared, SnapshotStep, Snapshots, Visit}
+use Rattle.nv_machine.specs.World.{Answers, Append, Check, Close, Draining, Drop, Enter, Leave, Lock, Look, Make, Next, Number, Open, Pick, Pin, Publish, Ready, Retire, Running, Shared, SnapshotStep, Snapshots, Visit}
 
 -- ---- how calls begin
 
@@ -22,11 +23,15 @@ pub data Beginning : Type 0 where
   Visits : Beginning
   OnSnapshots : (first : SnapshotStep) → Beginning
 
+-- a drain may release as many records as its number says, where a number outside 1 to 1,048,576 counts as the nearest of these
+abbrev pub new_draining : ℕ → Draining
+new_draining count = record { released = 0; left = max 1 (min count DRAIN) - 1 }
+
 abbrev pub first_step : SnapshotCall → SnapshotStep
 first_step on.Snap = Make
 first_step (on.Drop snapshot) = Drop snapshot
 first_step (on.Show snapshot) = Pin snapshot
-first_step (on.Drain count) = Pick 0
+first_step (on.Drain count) = Pick (new_draining count)
 
 abbrev pub beginning : Call → Beginning
 beginning (call.Create dir name mode) = Numbers

@@ -1,5 +1,5 @@
 -- The steps of calls on snapshots, one function a kind. What decides a step is an argument.
-use Rattle.std.specs.Prelude.{ℕ, zero, suc, ◌+◌, ◌-◌, ◌==◌, ◌++◌, ◌||◌, Bool, true, false, if◌then◌else◌, nat_le, nat_lt, List, [], ◌∷◌, length, Option, Some, None, Result, Ok, Err}
+use Rattle.std.specs.Prelude.{ℕ, zero, suc, ◌+◌, ◌-◌, ◌==◌, ◌++◌, ◌||◌, Bool, true, false, if◌then◌else◌, nat_le, not, List, [], ◌∷◌, length, Option, Some, None, Result, Ok, Err}
 use Rattle.std.specs.Option.{option_to_list}
 use Rattle.nv_base.specs.declared.fault.Fault.{Fault}
 use Rattle.nv_base.specs.declared.fault.Fault.TheVariants.{EpochLimit, NoSnapshot, OutOfMemory, Pinned, TooManySnapshots}
@@ -8,7 +8,7 @@ use Rattle.nv_base.specs.declared.numbers.Handle.{Handle}
 use Rattle.nv_book.specs.Book.{after_drop_snapshot, after_make_snapshot, after_pick, after_pin_snapshot, after_unpin_snapshot}
 use Rattle.nv_book.specs.declared.record.Record.{Record}
 use Rattle.nv_calls.specs.Refusals.{Check as Tests}
-use Rattle.nv_calls.specs.Retiring.{erased, released as released_cell, released_blocks}
+use Rattle.nv_calls.specs.Retiring.{erased, released, released_blocks}
 use Rattle.nv_calls.specs.declared.answer.Answer.{Answer}
 use Rattle.nv_calls.specs.declared.answer.Answer.TheVariants as answers
 use Rattle.nv_cell.specs.Cell.{log_of}
@@ -20,7 +20,7 @@ use Rattle.nv_epoch.specs.SnapList.{Snapshots as Living, pins_of}
 use Rattle.nv_reader.specs.Walk as walk
 use Rattle.nv_machine.specs.Kinds.{end_turn, grown, refuse, with_erased}
 use Rattle.nv_machine.specs.Reads.{bytes_among}
-use Rattle.nv_machine.specs.World.{Drains, Drop, Ending, Ends, HandState, LockPicked, Make, Moves, Pick, Pin, Refuses, Release, Running, Shared, Show, Showing, SnapshotStep, Snapshots, Turn, Unpin, Waits, cell_at, go_to, owner_at, with_book, with_cell, with_owner}
+use Rattle.nv_machine.specs.World.{Draining, Drains, Drop, Ending, Ends, HandState, LockPicked, Make, Moves, Pick, Pin, Refuses, Release, Running, Shared, Show, Showing, SnapshotStep, Snapshots, Turn, Unpin, Waits, cell_at, go_to, owner_at, with_book, with_cell, with_owner}
 
 -- a step that is lent the book waits while a commit is under way
 abbrev pub if_free : Option ℕ → Turn → Turn
@@ -106,31 +106,37 @@ unpin_turn snapshot seen s h r = Ends (shown_by r.ending seen) (with_book (after
 
 -- ---- pick: the first deferred record; where there is none, a drain is over
 
-abbrev pub picked_turn : List Record → ℕ → Shared → HandState → Running → Turn
-picked_turn [] released s h r = Ends (Ok (answers.Count released)) s h
-picked_turn (picked ∷ deferred) released s h r =
-    Moves (with_book (after_pick s.book) s) h (record r { slots = picked.ino ∷ []; next = Snapshots (LockPicked released picked) })
+abbrev pub picked_turn : List Record → Draining → Shared → HandState → Running → Turn
+picked_turn [] draining s h r = Ends (Ok (answers.Count draining.released)) s h
+picked_turn (picked ∷ deferred) draining s h r =
+    Moves (with_book (after_pick s.book) s) h (record r { slots = picked.ino ∷ []; next = Snapshots (LockPicked draining picked) })
 
 -- the first pick of a drain makes room in the hand for a block
-abbrev pub pick_turn : ℕ → Bool → Shared → HandState → Running → Turn
-pick_turn released granted s h r = grown (granted || nat_lt 0 released) (picked_turn s.book.deferred released s h r) s h r
+abbrev pub is_first : Draining → Bool
+is_first draining = draining.released == 0
+
+abbrev pub pick_turn : Draining → Bool → Shared → HandState → Running → Turn
+pick_turn draining granted s h r = grown (granted || not (is_first draining)) (picked_turn s.book.deferred draining s h r) s h r
 
 -- ---- lock the inode of the picked record
 
-abbrev pub lock_picked_turn : Option ℕ → ℕ → ℕ → Record → Shared → HandState → Running → Turn
-lock_picked_turn (Some other) actor released picked s h r = Waits
-lock_picked_turn None actor released picked s h r =
-    Moves (with_owner picked.ino (Some actor) s) h (go_to (Snapshots (Release released picked)) r)
+abbrev pub lock_picked_turn : Option ℕ → ℕ → Draining → Record → Shared → HandState → Running → Turn
+lock_picked_turn (Some other) actor draining picked s h r = Waits
+lock_picked_turn None actor draining picked s h r =
+    Moves (with_owner picked.ino (Some actor) s) h (go_to (Snapshots (Release draining picked)) r)
 
 -- ---- release: the part goes out, and its block goes to the hand; a gone inode that keeps nothing is erased
 
 abbrev pub with_released : Record → Shared → HandState → HandState
 with_released picked s h = record h { blocks = h.blocks ++ released_blocks picked (cell_at s picked.ino) }
 
-abbrev pub release_turn : ℕ → Record → Shared → HandState → Running → Turn
-release_turn released picked s h r =
-    end_turn r.slots (Drains (released + 1)) (with_cell picked.ino (erased (released_cell picked (cell_at s picked.ino))) s)
-    (with_erased picked.ino (released_cell picked (cell_at s picked.ino)) (with_released picked s h)) r
+abbrev pub one_more : Draining → Draining
+one_more draining = record draining { released = draining.released + 1 }
+
+abbrev pub release_turn : Draining → Record → Shared → HandState → Running → Turn
+release_turn draining picked s h r =
+    end_turn r.slots (Drains (one_more draining)) (with_cell picked.ino (erased (released picked (cell_at s picked.ino))) s)
+    (with_erased picked.ino (released picked (cell_at s picked.ino)) (with_released picked s h)) r
 
 -- ---- THE STEP of a call on snapshots
 
@@ -142,7 +148,7 @@ snapshot_turn (Pin snapshot) actor granted s h r = if_free s.holder (pin_turn sn
 snapshot_turn (Show snapshot showing) actor granted s h r =
     show_turn (owner_at s (visited showing.visits).ino) granted (copies_at s snapshot (visited showing.visits)) snapshot showing s h r
 snapshot_turn (Unpin snapshot seen) actor granted s h r = if_free s.holder (unpin_turn snapshot seen s h r)
-snapshot_turn (Pick released) actor granted s h r = if_free s.holder (pick_turn released granted s h r)
-snapshot_turn (LockPicked released picked) actor granted s h r =
-    lock_picked_turn (owner_at s picked.ino) actor released picked s h r
-snapshot_turn (Release released picked) actor granted s h r = release_turn released picked s h r
+snapshot_turn (Pick draining) actor granted s h r = if_free s.holder (pick_turn draining granted s h r)
+snapshot_turn (LockPicked draining picked) actor granted s h r =
+    lock_picked_turn (owner_at s picked.ino) actor draining picked s h r
+snapshot_turn (Release draining picked) actor granted s h r = release_turn draining picked s h r

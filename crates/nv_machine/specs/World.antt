@@ -46,17 +46,22 @@ pub record Showing : Type 0 where
   pub visits : List walk.Visit
   pub seen : List TreeNode
 
+-- a drain that goes on: how many records it has released, and how many more it may release behind the next one
+pub record Draining : Type 0 where
+  pub released : ℕ
+  pub left : ℕ
+
 -- a step of a call on snapshots. It makes one, or drops one; it pins one, shows its nodes inode by inode and unpins it, with what
--- it has seen; or it picks a deferred record, with how many it has released before, locks its inode and releases it
+-- it has seen; or it picks a deferred record, locks its inode and releases it
 pub data SnapshotStep : Type 0 where
   Make : SnapshotStep
   Drop : (snapshot : ℕ) → SnapshotStep
   Pin : (snapshot : ℕ) → SnapshotStep
   Show : (snapshot : ℕ) (showing : Showing) → SnapshotStep
   Unpin : (snapshot : ℕ) (seen : List TreeNode) → SnapshotStep
-  Pick : (released : ℕ) → SnapshotStep
-  LockPicked : (released : ℕ) (picked : Record) → SnapshotStep
-  Release : (released : ℕ) (picked : Record) → SnapshotStep
+  Pick : (draining : Draining) → SnapshotStep
+  LockPicked : (draining : Draining) (picked : Record) → SnapshotStep
+  Release : (draining : Draining) (picked : Record) → SnapshotStep
 
 -- the step of a call that comes next; in a loop with its place: of a directory, a slot, a list asked, an inode written
 pub data Next : Type 0 where
@@ -80,13 +85,13 @@ pub data Next : Type 0 where
   Visit : Next
   Snapshots : (step : SnapshotStep) → Next
 
--- how a call is to end: with its answer, refused, or not yet, since a name was bound anew after the looks; a drain that has
--- released so many records goes on to the next, up to its number
+-- how a call is to end: with its answer, refused, or not yet, since a name was bound anew after the looks; a drain goes on to
+-- the next record, as long as it may release more
 pub data Ending : Type 0 where
   Answers : Ending
   Refuses : (fault : Fault) → Ending
   Overtaken : Ending
-  Drains : (released : ℕ) → Ending
+  Drains : (draining : Draining) → Ending
 
 -- a call that runs: what its looks found, and how many more rounds of them it may make; the slots that it locks, in rising
 -- number; the handle of a new inode; how many blocks of a taking it still wants; its plan; its commit's number and epoch

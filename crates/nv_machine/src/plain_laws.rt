@@ -22,7 +22,7 @@ ghost use Rattle.nv_entry.specs.Tree.{root};
 ghost use Rattle.nv_machine.specs.Answered.{GoesTo, IsFinal, IsToEnd};
 ghost use Rattle.nv_machine.specs.Causes.{FindsNone, IsCause, IsRoundless, MayBeOvertaken, RefusesFor};
 ghost use Rattle.nv_machine.specs.Effects.{AreSound, HasPlanNow};
-ghost use Rattle.nv_machine.specs.EndsDecided.{decided};
+ghost use Rattle.nv_machine.specs.EndsDecided.{decided, is_on_snapshots};
 ghost use Rattle.nv_machine.specs.FitsNow.{bytes_in, is_checked};
 ghost use Rattle.nv_machine.specs.Format.{formatted};
 ghost use Rattle.nv_machine.specs.Frame.{lent};
@@ -249,13 +249,13 @@ pub fn short_takings_have_asked_every_list()
         (after (formatted g) events).shared (actor_at (after (formatted g) events) actor).hand r) }
 {}
 
-/// A step that refuses its call leaves the book (the number of the last commit, the epoch, journals and records) and all
-/// cells as they were, also an enter, which is lent the book; and so does each further step of a call that is
-/// not to be answered.
+/// A step that refuses its call leaves the book (the number of the last commit, the epoch, journals, snapshots and records) and
+/// all cells as they were, also an enter, which is lent the book; and so does each further step of a call that is
+/// not to be answered, but that the last step of a show takes its pin off.
 pub fn refused_calls_leave_books_and_cells()
     ensures { (w : World) (actor : ℕ) (granted : Bool) (r : Running) → IsKept w
         → (actor_at w actor).running ≡ Some r
-        → LeavesBooks w.shared
+        → LeavesBooks r.next w.shared
         (turn w.numbers.block actor granted w.shared (actor_at w actor).hand r) }
 {}
 
@@ -306,14 +306,16 @@ pub fn visits_read_settled_nodes()
         → told ≡ answer (settled_nodes w.shared) r.made r.call }
 {}
 
-/// A call is answered only where that was decided, and once: whatever events come from a new world on, a call that
+/// A call on files and directories is answered only where that was decided, and once: whatever events come from a new world on, a call that
 /// is Done has made its commit since it was started, or is a visit, or had nothing to change at its check, and at that
 /// event the plain world does not refuse it (at a commit point by [`plans_fit_at_commit_points`]); it is told what the
 /// plain world answers there, on the settled nodes. Of a call that is refused nothing was decided. And what commits has
 /// something to change.
 pub fn calls_are_decided_once()
     ensures done { (g : GeometryNumbers) (events : List Event) (actor : ℕ) (granted : Bool)
-        (told : Answer) → IsWithinLimits g
+        (r : Running) (told : Answer) → IsWithinLimits g
+        → (actor_at (after (formatted g) events) actor).running ≡ Some r
+        → is_on_snapshots r.call ≡ false
         → (step (after (formatted g) events) (Go actor granted)).reply ≡ Done told
         → decided actor (formatted g) (events ++ Go actor granted ∷ []) [] ≡ told ∷ [] }
     ensures refused { (g : GeometryNumbers) (events : List Event) (actor : ℕ) (granted : Bool)
