@@ -10,7 +10,7 @@ ghost use Rattle.nv_core.specs.Shown.{Told, ending_of, hand_of, shared_of, shown
 ghost use Rattle.nv_core.specs.Told.{IsOwed, KeepsJob, OwesAt};
 
 use crate::hold::Hold;
-use crate::next::{Ending, Next, SnapshotStep};
+use crate::next::{Draining, Ending, Next, SnapshotStep};
 use crate::running::Running;
 use crate::shared::Shared;
 use crate::slots::Slots;
@@ -28,7 +28,7 @@ pub(crate) fn result_of(running: &Running) -> Result<Answer, Fault>
         Ending::Answers => Ok(running.owed.answer(running.made)),
         Ending::Refuses(fault) => Err(fault),
         Ending::Overtaken => Err(Fault::Contended),
-        Ending::Drains(released) => Ok(Answer::Count(released)),
+        Ending::Drains(draining) => Ok(Answer::Count(draining.released)),
     }
 }
 
@@ -77,17 +77,27 @@ fn give_number(hand: &Hand, running: &mut Running) -> Turn
     }
 }
 
-/// Nothing is locked, and nothing in the hand: the step replies, or a drain picks the next record, up to its number.
+/// Nothing is locked, and nothing in the hand: the step replies, or a drain goes on.
 pub(crate) fn last(running: &mut Running) -> Turn {
-    if let Ending::Drains(released) = running.ending {
-        if released < running.job.most_released() {
-            running.ending = Ending::Answers;
-            running.slots = Slots::none();
-            running.next = Next::Snapshots(SnapshotStep::Pick(released));
-            return Turn::Moves;
-        }
+    match running.ending {
+        Ending::Drains(draining) => drained(draining, running),
+        _ => Turn::Ends(result_of(running)),
     }
-    Turn::Ends(result_of(running))
+}
+
+/// A drain picks the next record, if it may release more.
+fn drained(draining: Draining, running: &mut Running) -> Turn {
+    if draining.left == 0 {
+        return Turn::Ends(Ok(Answer::Count(draining.released)));
+    }
+    let next = Draining {
+        released: draining.released,
+        left: draining.left - 1,
+    };
+    running.ending = Ending::Answers;
+    running.slots = Slots::none();
+    running.next = Next::Snapshots(SnapshotStep::Pick(next));
+    Turn::Moves
 }
 
 /// Nothing is locked: the next round of looks comes, if there is one, or what is in the hand goes back.

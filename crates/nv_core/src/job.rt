@@ -12,7 +12,7 @@ ghost use Rattle.nv_machine.specs.Step.{handle_at};
 ghost use Rattle.nv_core.specs.Shown.{answered};
 ghost use Rattle.nv_core.specs.Told.{IsJobOf, IsVisit, IsVisitOf, all_some, is_change};
 
-use nv_base::{Bytes, Handle, Ino, limits};
+use nv_base::{Bytes, Handle, Ino};
 use nv_calls::{Answer, Call, Looked, Plan, SnapshotCall, Update};
 use std::alloc::Global;
 
@@ -71,16 +71,6 @@ pub(crate) fn job_of(alloc: Global, call: Call) -> (Job, Owed)
     };
     let plan = Plan { update, blocks: 0 };
     (Job::Change(plan, Bytes::empty(alloc)), owed)
-}
-
-impl Job {
-    /// How many records a drain releases at most; another call releases none.
-    pub(crate) fn most_released(&self) -> u64 {
-        match self {
-            Job::Snapshots(SnapshotCall::Drain(number)) => limits::most_drained(*number),
-            _ => 0,
-        }
-    }
 }
 
 fn job_of_write(file: Handle, offset: u64, text: Bytes) -> (Job, Owed)

@@ -25,9 +25,15 @@ pub(crate) enum Next {
     Snapshots(SnapshotStep),
 }
 
+/// A drain that goes on: how many records it has released, and how many more it may release behind the next one.
+#[derive(Clone, Copy, Debug, PartialEq, Eq)]
+pub(crate) struct Draining {
+    pub(crate) released: u64,
+    pub(crate) left: u64,
+}
+
 /// The step of a call on snapshots. It makes one, or drops one; it pins one, shows its nodes inode by inode, and unpins
-/// it, with what it has seen; or it picks a deferred record, with how many it has released before, locks its inode and
-/// releases it.
+/// it, with what it has seen; or it picks a deferred record, locks its inode and releases it.
 #[derive(Drop)]
 pub(crate) enum SnapshotStep {
     Make,
@@ -35,17 +41,17 @@ pub(crate) enum SnapshotStep {
     Pin(Epoch),
     Show(Epoch, Showing),
     Unpin(Epoch, Vec<TreeNode>),
-    Pick(u64),
-    LockPicked(u64, Record),
-    Release(u64, Record),
+    Pick(Draining),
+    LockPicked(Draining, Record),
+    Release(Draining, Record),
 }
 
-/// How a call is to end: with its answer, refused, or not yet, since a name was bound anew after the looks, or since a
-/// drain that has released so many records goes on to the next, up to its number.
+/// How a call is to end: with its answer, refused, or not yet, since a name was bound anew after the looks; a drain goes on
+/// to the next record, as long as it may release more.
 #[derive(Clone, Copy, Debug, PartialEq, Eq)]
 pub(crate) enum Ending {
     Answers,
     Refuses(Fault),
     Overtaken,
-    Drains(u64),
+    Drains(Draining),
 }

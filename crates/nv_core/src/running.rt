@@ -12,12 +12,12 @@ ghost use Rattle.nv_core.specs.Told.{IsChangeBy, IsJobOf, IsToldOf, IsVisitOf, K
 
 use crate::hold::Hold;
 use crate::job::{Job, Owed, job_of, locked, look_count};
-use crate::next::{Ending, Next, SnapshotStep};
+use crate::next::{Draining, Ending, Next, SnapshotStep};
 use crate::shared::Shared;
 use crate::slots::Slots;
 use crate::turn::Turn;
 use nv_alloc::Hand;
-use nv_base::{Gen, Handle, Ino};
+use nv_base::{Gen, Handle, Ino, limits};
 use nv_calls::{Call, Looked, Plan, SnapshotCall, Update};
 use std::alloc::Global;
 
@@ -107,7 +107,15 @@ fn first_on_snapshots(call: &SnapshotCall) -> SnapshotStep {
         SnapshotCall::Snap => SnapshotStep::Make,
         SnapshotCall::Drop(snapshot) => SnapshotStep::Drop(*snapshot),
         SnapshotCall::Show(snapshot) => SnapshotStep::Pin(*snapshot),
-        SnapshotCall::Drain(_) => SnapshotStep::Pick(0),
+        SnapshotCall::Drain(number) => SnapshotStep::Pick(new_draining(*number)),
+    }
+}
+
+/// A drain that may release so many records. A number outside 1 to [`limits::DRAIN`] counts as the nearest of these.
+fn new_draining(number: u64) -> Draining {
+    Draining {
+        released: 0,
+        left: limits::most_drained(number) - 1,
     }
 }
 

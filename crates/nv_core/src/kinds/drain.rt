@@ -1,6 +1,6 @@
 //! A deferred record is picked, and its inode locked.
 
-use crate::next::{Next, SnapshotStep};
+use crate::next::{Draining, Next, SnapshotStep};
 use crate::running::Running;
 use crate::shared::Shared;
 use crate::slots::Slots;
@@ -15,18 +15,18 @@ pub(crate) fn pick(
     shared: &mut Shared,
     hand: &mut Hand,
     running: &mut Running,
-    released: u64,
+    draining: Draining,
 ) -> Turn {
-    if released == 0 {
+    if draining.released == 0 {
         if let Err(fault) = hand.data.reserve(1) {
             return Turn::Ends(Err(fault));
         }
     }
     let Some(picked) = shared.book.pick() else {
-        return Turn::Ends(Ok(Answer::Count(released)));
+        return Turn::Ends(Ok(Answer::Count(draining.released)));
     };
     running.slots = Slots::one(picked.ino);
-    running.next = Next::Snapshots(SnapshotStep::LockPicked(released, picked));
+    running.next = Next::Snapshots(SnapshotStep::LockPicked(draining, picked));
     Turn::Moves
 }
 
@@ -35,13 +35,13 @@ pub(crate) fn lock_picked(
     shared: &mut Shared,
     running: &mut Running,
     actor: u64,
-    released: u64,
+    draining: Draining,
     picked: Record,
 ) -> Turn {
     if shared.is_locked(picked.ino) {
         return Turn::Waits;
     }
     shared.set_owner(picked.ino, Some(actor));
-    running.next = Next::Snapshots(SnapshotStep::Release(released, picked));
+    running.next = Next::Snapshots(SnapshotStep::Release(draining, picked));
     Turn::Moves
 }

@@ -1,7 +1,7 @@
 //! A deferred record is released.
 
 use crate::ending::end;
-use crate::next::Ending;
+use crate::next::{Draining, Ending};
 use crate::running::Running;
 use crate::shared::Shared;
 use crate::turn::Turn;
@@ -16,11 +16,15 @@ pub(crate) fn release(
     shared: &mut Shared,
     hand: &mut Hand,
     running: &mut Running,
-    released: u64,
+    draining: Draining,
     picked: Record,
 ) -> Turn {
     release_on(&mut shared.cells[picked.ino.number() as usize], picked, hand);
-    end(shared, hand, running, Ending::Drains(released + 1))
+    let drained = Draining {
+        released: draining.released + 1,
+        left: draining.left,
+    };
+    end(shared, hand, running, Ending::Drains(drained))
 }
 
 /// Puts the part of a record out, and its block to the hand. An inode that is gone and keeps nothing more is erased, and its

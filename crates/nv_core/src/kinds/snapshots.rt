@@ -22,11 +22,11 @@ pub(crate) fn on_snapshots(
 ) -> Turn {
     match running.next {
         Next::Snapshots(SnapshotStep::Show(..)) => show(alloc, shared, running),
-        Next::Snapshots(SnapshotStep::LockPicked(released, picked)) => {
-            lock_picked(shared, running, actor, released, picked)
+        Next::Snapshots(SnapshotStep::LockPicked(draining, picked)) => {
+            lock_picked(shared, running, actor, draining, picked)
         }
-        Next::Snapshots(SnapshotStep::Release(released, picked)) => {
-            release(shared, hand, running, released, picked)
+        Next::Snapshots(SnapshotStep::Release(draining, picked)) => {
+            release(shared, hand, running, draining, picked)
         }
         _ => on_book(alloc, shared, hand, running),
     }
@@ -42,7 +42,7 @@ fn on_book(alloc: Global, shared: &mut Shared, hand: &mut Hand, running: &mut Ru
         Next::Snapshots(SnapshotStep::Drop(snapshot)) => drop_snapshot(shared, snapshot),
         Next::Snapshots(SnapshotStep::Pin(snapshot)) => pin(alloc, shared, running, snapshot),
         Next::Snapshots(SnapshotStep::Unpin(..)) => unpin(shared, running),
-        Next::Snapshots(SnapshotStep::Pick(released)) => pick(shared, hand, running, released),
+        Next::Snapshots(SnapshotStep::Pick(draining)) => pick(shared, hand, running, draining),
         _ => unreachable!(),
     }
 }
