@@ -24,7 +24,6 @@ use Rattle.nv_script.specs.declared.fault.LineFault.{LineFault}
 use Rattle.nv_script.specs.declared.fault.LineFault.TheVariants as line
 use Rattle.nv_script.specs.declared.field.Field.{Field}
 use Rattle.nv_script.specs.declared.field.Field.TheVariants as field
-use Rattle.nv_core.specs.Worlds.{most_goes}
 use Rattle.nv_script.specs.Words.{number_of, number_up_to, positive_up_to, handle_of, text_of}
 
 -- what was read, or the fault of the line
@@ -205,6 +204,10 @@ none_empty words = list_all (λ w. nat_lt 0 (length w)) words
 -- the words are so many, of which some may be left out, and each has a byte
 abbrev pub are_counted : (most optional : ℕ) → List (List ℕ) → Bool
 are_counted most optional words = nat_le most (length words + optional) && nat_le (length words) most && none_empty words
+
+-- the most steps of a `go`
+abbrev pub most_goes : ℕ
+most_goes = 1048576
 
 -- how often a `go` goes
 abbrev pub goes_in : List (List ℕ) → Parsed ℕ

@@ -1,13 +1,29 @@
 //! A snapshot is pinned, shown inode by inode, and unpinned.
 
+ghost use Rattle.std.specs.Prelude.{◌≡◌, ◌≢◌, ◌<◌, ℕ, [], IfOk, None, false};
+ghost use Rattle.std.specs.Option.{ForSome, IsSomeAnd};
+ghost use Rattle.nv_base.specs.Refusals.{FailsOnly};
+ghost use Rattle.nv_base.specs.declared.fault.Fault.TheVariants.{OutOfMemory};
+ghost use Rattle.nv_base.specs.declared.limits.TheConstants.{PINS};
+ghost use Rattle.nv_epoch.specs.SnapList.{pins_of};
+ghost use Rattle.nv_machine.specs.Snapshots.{copies_at, pin_turn, seen_on, show_turn, showing_on, unpin_turn, visited};
+ghost use Rattle.nv_machine.specs.World as machine;
+ghost use Rattle.nv_machine.specs.World.{HandState, empty_hand, owner_at};
+ghost use Rattle.nv_core.specs.Rooms.{HasRooms, HasRoomsAfter, HasStepRoom, IsShow, IsUnpin};
+ghost use Rattle.nv_core.specs.Shown.{Told, is_over, shared_of, showing_of, shown, slots_in, step_on, turn_of};
+ghost use Rattle.nv_core.specs.Steps.{CanShow};
+ghost use Rattle.nv_core.specs.Told.{IsEither, KeepsJob};
+
+use crate::hold::Hold;
 use crate::next::{Ending, Next, SnapshotStep};
 use crate::running::Running;
 use crate::shared::Shared;
 use crate::showing::Showing;
 use crate::turn::Turn;
+use nv_alloc::Hand;
 use nv_base::{Epoch, Fault};
 use nv_calls::Answer;
-use nv_entry::Tree;
+use nv_entry::{Tree, TreeNode};
 use std::alloc::Global;
 use std::mem;
 
@@ -17,7 +33,19 @@ pub(crate) fn pin(
     shared: &mut Shared,
     running: &mut Running,
     snapshot: Epoch,
-) -> Turn {
+) -> Turn
+    requires next { running.old.next ≡ Next.Snapshots (SnapshotStep.Pin snapshot) }
+    requires slots { slots_in running.old.slots ≡ [] }
+    requires pins { ForSome (pins_of shared.old.book.state.snaps snapshot) (λ pins. pins < PINS) }
+    ensures turn { (told : Told) → let s = shared_of shared.old in
+        pin_turn snapshot (pins_of s.book.snaps snapshot) s empty_hand (shown told running.old)
+        ≡ turn_of result (shared_of shared.new) empty_hand (shown told running.new) }
+    ensures job { KeepsJob running.old running.new }
+    ensures goes { result ≢ Turn.Waits }
+    ensures rooms { (hand : Hand) → HasRooms shared.old (Hold.Hand hand) running.old
+        → HasRoomsAfter result shared.new (Hold.Hand hand) running.new }
+    ensures rest { shared.new ≡ record shared.old { book = shared.new.book } }
+{
     if let Err(fault) = shared.book.pin(snapshot) {
         return Turn::Ends(Err(fault));
     }
@@ -27,38 +55,52 @@ pub(crate) fn pin(
 }
 
 /// The next visit, or the end where there is none.
-fn showing_on(snapshot: Epoch, showing: Showing) -> SnapshotStep {
-    if showing.wanted().is_some() {
-        return SnapshotStep::Show(snapshot, showing);
+fn showing_on(snapshot: Epoch, showing: Showing) -> SnapshotStep
+    ensures step { step_on result ≡ showing_on snapshot (showing_of showing) }
+    ensures room { (hand : Hand) → HasStepRoom result hand }
+{
+    if showing.is_over() {
+        let Showing { seen, .. } = showing;
+        return SnapshotStep::Unpin(snapshot, seen);
     }
-    let Showing { seen, .. } = showing;
-    SnapshotStep::Unpin(snapshot, seen)
+    SnapshotStep::Show(snapshot, showing)
 }
 
 /// Visits one inode at the epoch of a snapshot, or waits for its lock. Where memory is refused, the pin is to go.
-pub(crate) fn show(alloc: Global, shared: &Shared, running: &mut Running) -> Turn {
+pub(crate) fn show(alloc: Global, shared: &Shared, running: &mut Running) -> Turn
+    requires next { IsShow running.old.next }
+    requires can { (snapshot : ℕ) (showing : Showing)
+        → running.old.next ≡ Next.Snapshots (SnapshotStep.Show snapshot showing)
+        → CanShow shared.now snapshot × (is_over (showing_of showing) ≡ false) }
+    ensures turn { (told : Told) (h : HandState) (snapshot : ℕ) (showing : Showing)
+        → running.old.next ≡ Next.Snapshots (SnapshotStep.Show snapshot showing)
+        → let s = shared_of shared.now in let to = showing_of showing in
+        IsEither (λ granted. show_turn (owner_at s (visited to.visits).ino) granted
+        (copies_at s snapshot (visited to.visits)) snapshot to s h (shown told running.old))
+        (turn_of result s h (shown told running.new)) }
+    ensures waits { result ≡ Turn.Waits → running.new ≡ running.old }
+    ensures job { KeepsJob running.old running.new }
+    ensures rooms { (hand : Hand) → HasRooms shared.now (Hold.Hand hand) running.old
+        → HasRoomsAfter result shared.now (Hold.Hand hand) running.new }
+{
     let Next::Snapshots(SnapshotStep::Show(_, showing)) = &running.next else {
         unreachable!()
     };
-    let Some(handle) = showing.wanted() else {
-        unreachable!()
-    };
-    if shared.is_locked(handle.ino) {
+    if shared.is_locked(showing.visited().ino) {
         return Turn::Waits;
     }
-    let Next::Snapshots(SnapshotStep::Show(snapshot, mut showing)) =
+    let Next::Snapshots(SnapshotStep::Show(snapshot, showing)) =
         mem::replace(&mut running.next, Next::Visit)
     else {
         unreachable!()
     };
-    let step = match see(alloc, shared, snapshot, &mut showing) {
-        Ok(()) => showing_on(snapshot, showing),
+    match see(alloc, shared, snapshot, showing) {
+        Ok(showing) => running.next = Next::Snapshots(showing_on(snapshot, showing)),
         Err(fault) => {
             running.ending = Ending::Refuses(fault);
-            SnapshotStep::Unpin(snapshot, Vec::new(alloc))
+            running.next = Next::Snapshots(SnapshotStep::Unpin(snapshot, Vec::new(alloc)));
         }
-    };
-    running.next = Next::Snapshots(step);
+    }
     Turn::Moves
 }
 
@@ -67,17 +109,34 @@ fn see(
     alloc: Global,
     shared: &Shared,
     snapshot: Epoch,
-    showing: &mut Showing,
-) -> Result<(), Fault> {
-    let Some(handle) = showing.wanted() else {
-        unreachable!()
-    };
+    showing: Showing,
+) -> Result<Showing, Fault>
+    requires can { CanShow shared.now snapshot }
+    requires more { is_over (showing_of showing) ≡ false }
+    ensures ok { IfOk result (λ after. let s = shared_of shared.now in
+        let to = showing_of showing in
+        showing_of after ≡ seen_on (copies_at s snapshot (visited to.visits)) to) }
+    ensures err { FailsOnly OutOfMemory result }
+{
+    let handle = showing.visited();
     let node = shared.node_at(alloc, &handle, snapshot)?;
     showing.see(alloc, node)
 }
 
 /// Takes the pin off, and answers the nodes that were seen. This is the call's last step.
-pub(crate) fn unpin(shared: &mut Shared, running: &mut Running) -> Turn {
+pub(crate) fn unpin(shared: &mut Shared, running: &mut Running) -> Turn
+    requires next { IsUnpin running.old.next }
+    requires pins { (snapshot : ℕ) (seen : Vec TreeNode)
+        → running.old.next ≡ Next.Snapshots (SnapshotStep.Unpin snapshot seen)
+        → IsSomeAnd (pins_of shared.old.book.state.snaps snapshot) (λ pins. 0 < pins) }
+    ensures turn { (told : Told) (h : HandState) (snapshot : ℕ) (seen : Vec TreeNode)
+        → running.old.next ≡ Next.Snapshots (SnapshotStep.Unpin snapshot seen)
+        → unpin_turn snapshot seen.items (shared_of shared.old) h (shown told running.old)
+        ≡ turn_of result (shared_of shared.new) h (shown told running.new) }
+    ensures ends { (result ≢ Turn.Moves) × (result ≢ Turn.Waits) }
+    ensures job { KeepsJob running.old running.new }
+    ensures rest { shared.new ≡ record shared.old { book = shared.new.book } }
+{
     let Next::Snapshots(SnapshotStep::Unpin(snapshot, seen)) =
         mem::replace(&mut running.next, Next::Visit)
     else {

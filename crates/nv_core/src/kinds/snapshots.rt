@@ -1,5 +1,15 @@
 //! The steps of calls on snapshots.
 
+ghost use Rattle.std.specs.Prelude.{◌≡◌, None};
+ghost use Rattle.nv_machine.specs.Step.{kind_turn};
+ghost use Rattle.nv_core.specs.Frames.{LeavesRest};
+ghost use Rattle.nv_core.specs.Rooms.{HasRooms, HasRoomsAfter, IsOnBook, IsSnapshotStep};
+ghost use Rattle.nv_core.specs.Shown.{Told, hand_of, next_of, shared_of, shown, slots_in, turn_of};
+ghost use Rattle.nv_core.specs.Steps.{CanStep};
+ghost use Rattle.nv_core.specs.Told.{IsEither, KeepsJob};
+ghost use Rattle.nv_machine.specs.Locks.{held_at};
+
+use crate::hold::Hold;
 use crate::kinds::drain::{lock_picked, pick};
 use crate::kinds::drop_snapshot::drop_snapshot;
 use crate::kinds::make_snapshot::make_snapshot;
@@ -19,7 +29,21 @@ pub(crate) fn on_snapshots(
     hand: &mut Hand,
     running: &mut Running,
     actor: u64,
-) -> Turn {
+) -> Turn
+    requires step { IsSnapshotStep running.old.next }
+    requires can { CanStep shared.old (Hold.Hand hand.old) running.old actor }
+    requires rooms { HasRooms shared.old (Hold.Hand hand.old) running.old }
+    ensures turn { (told : Told) → IsEither (λ granted. kind_turn (next_of running.old.next)
+        shared.old.geometry.numbers.block actor granted (shared_of shared.old) (hand_of hand.old)
+        (shown told running.old))
+        (turn_of result (shared_of shared.new) (hand_of hand.new) (shown told running.new)) }
+    ensures waits { result ≡ Turn.Waits
+        → (shared.new ≡ shared.old) × (hand.new ≡ hand.old) × (running.new ≡ running.old) }
+    ensures job { KeepsJob running.old running.new }
+    ensures rooms { HasRoomsAfter result shared.new (Hold.Hand hand.new) running.new }
+    ensures rest { LeavesRest actor (held_at (next_of running.old.next)
+        (slots_in running.old.slots)) shared.old shared.new }
+{
     match running.next {
         Next::Snapshots(SnapshotStep::Show(..)) => show(alloc, shared, running),
         Next::Snapshots(SnapshotStep::LockPicked(draining, picked)) => {
@@ -28,12 +52,31 @@ pub(crate) fn on_snapshots(
         Next::Snapshots(SnapshotStep::Release(draining, picked)) => {
             release(shared, hand, running, draining, picked)
         }
-        _ => on_book(alloc, shared, hand, running),
+        _ => on_book(alloc, shared, hand, running, actor),
     }
 }
 
 /// A step that is lent the book: it waits while a commit is under way.
-fn on_book(alloc: Global, shared: &mut Shared, hand: &mut Hand, running: &mut Running) -> Turn {
+fn on_book(
+    alloc: Global,
+    shared: &mut Shared,
+    hand: &mut Hand,
+    running: &mut Running,
+    actor: u64,
+) -> Turn
+    requires step { IsOnBook running.old.next }
+    requires can { CanStep shared.old (Hold.Hand hand.old) running.old actor }
+    requires rooms { HasRooms shared.old (Hold.Hand hand.old) running.old }
+    ensures turn { (told : Told) → IsEither (λ granted. kind_turn (next_of running.old.next)
+        shared.old.geometry.numbers.block actor granted (shared_of shared.old) (hand_of hand.old)
+        (shown told running.old))
+        (turn_of result (shared_of shared.new) (hand_of hand.new) (shown told running.new)) }
+    ensures waits { result ≡ Turn.Waits
+        → (shared.new ≡ shared.old) × (hand.new ≡ hand.old) × (running.new ≡ running.old) }
+    ensures job { KeepsJob running.old running.new }
+    ensures rooms { HasRoomsAfter result shared.new (Hold.Hand hand.new) running.new }
+    ensures free { shared.old.holder ≡ None → shared.new ≡ record shared.old { book = shared.new.book } }
+{
     if shared.holder.is_some() {
         return Turn::Waits;
     }
