@@ -1,9 +1,13 @@
 -- Settled logs, the tree that they give, and what of a cell shows its node.
-pub use Rattle.nv_machine.specs.Settled.{noted_or, settled_tail, settled, node_by, settled_nodes, tree_of}
-use Rattle.std.specs.Prelude.{ℕ, ◌<◌, ◌≤◌, List, [], length}
+pub use Rattle.nv_machine.specs.Settled.{noted_or, settled_tail, settled, node_by, settled_copies, settled_nodes, snapshot_tree, tree_of}
+use Rattle.std.specs.Prelude.{◌≡◌, ℕ, ◌<◌, ◌≤◌, List, [], length, Option, Some, None}
+use Rattle.nv_base.specs.declared.fault.Fault.{Fault}
+use Rattle.nv_base.specs.declared.fault.Fault.TheVariants.{NoSnapshot, OutOfMemory}
+use Rattle.nv_base.specs.declared.numbers.Handle.{Handle}
 use Rattle.nv_calls.specs.Plain.{node_in}
 use Rattle.nv_entry.specs.Tree.{root, tree_from}
 use Rattle.nv_entry.specs.declared.tree.TreeNode.{TreeNode}
+use Rattle.nv_machine.specs.Snapshots.{copies_at}
 use Rattle.nv_machine.specs.World.{Shared, cell_at}
 use Rattle.nv_reader.specs.Cells.{NoneOut}
 use Rattle.nv_core.specs.Visits.{HasOwnBytes}
@@ -16,6 +20,18 @@ pub record CanSettle (s : Shared) (ino : ℕ) : Type 0 where
 
 abbrev pub AreSettled : Shared → Type 0
 AreSettled s = (ino : ℕ) → ino < length s.cells → CanSettle s ino
+
+-- a living snapshot is read by the logs up to their tails: at its epoch they have the nodes of the settled logs
+abbrev pub AreSettledAt : ℕ → Shared → Type 0
+AreSettledAt epoch s = (handle : Handle) → copies_at s epoch handle ≡ settled_copies s epoch handle
+
+abbrev pub tree_at : ℕ → Shared → List TreeNode
+tree_at epoch s = tree_from (settled_copies s epoch) (length s.cells) [] root
+
+-- what a tree of a snapshot is refused for: no such snapshot; or where there is one, memory
+abbrev pub IsNoTree : Option ℕ → Fault → Type 0
+IsNoTree None fault = fault ≡ NoSnapshot
+IsNoTree (Some pins) fault = fault ≡ OutOfMemory
 
 abbrev pub tree_in : Shared → List TreeNode
 tree_in s = tree_from (node_in (settled_nodes s)) (length s.cells) [] root

@@ -1,6 +1,6 @@
 //! What a world reports of its blocks and logs.
 
-ghost use Rattle.std.specs.Prelude.{◌≡◌, ◌⊎◌, ◌<◌, ◌≤◌, ◌^◌, ℕ, IfErr, IfOk, Some, is_some, length, slice_get, slice_index_or};
+ghost use Rattle.std.specs.Prelude.{◌≡◌, ◌⊎◌, ◌+◌, ◌<◌, ◌≤◌, ◌^◌, ℕ, IfErr, IfOk, Some, is_some, length, slice_get, slice_index_or};
 ghost use Rattle.std.specs.List.{sum_by};
 ghost use Rattle.nv_alloc.specs.Block.{numbers_of};
 ghost use Rattle.nv_alloc.specs.Runs.{runs_of};
@@ -10,7 +10,9 @@ ghost use Rattle.nv_machine.specs.Numbers.{IsEachOnce, all_blocks};
 ghost use Rattle.nv_machine.specs.World as machine;
 ghost use Rattle.nv_cell.specs.Cell.{log_of};
 ghost use Rattle.nv_entry.specs.Covered.{part_count};
+ghost use Rattle.nv_book.specs.Records.{block_count};
 ghost use Rattle.nv_core.specs.Reports.{AddsUp, block_at, chain_in, counts_in, free_in, is_kept, kept_at, kept_in, lists_of, log_at, one_of, space_in, space_of};
+ghost use Rattle.nv_core.specs.Picked.{picked_of};
 ghost use Rattle.nv_core.specs.Shown.{shared_of};
 ghost use Rattle.nv_core.specs.Worlds.{Shows};
 
@@ -92,8 +94,10 @@ impl World {
 impl Shared {
     /// Where the blocks are, of which so many are those of picked records.
     fn space(&self, picked: u64) -> Space
-        requires { AddsUp self.now.geometry.numbers.blocks (shared_of self.now) }
-        ensures { result ≡ space_in self.now.geometry.numbers.blocks (shared_of self.now) }
+        requires blocks { AddsUp self.now.geometry.numbers.blocks (shared_of self.now) }
+        requires few { block_count self.now.book.state.deferred + picked < 2 ^ 64 }
+        ensures { result ≡ space_in self.now.geometry.numbers.blocks
+            (block_count self.now.book.state.deferred + picked) (shared_of self.now) }
     {
         let free = free_blocks(&self.lists);
         let chain = log_pages(&self.cells);
@@ -143,7 +147,11 @@ fn log_counts(alloc: Global, cell: &InodeCell) -> Result<LogCounts, Fault>
 }
 
 /// How many blocks are those of records that drains have picked and not yet released.
-fn picked_blocks(actors: &[Actor]) -> u64 {
+fn picked_blocks(actors: &[Actor]) -> u64
+    requires { length actors.now ≤ 64 }
+    ensures value { result ≡ sum_by picked_of actors.now }
+    ensures few { result ≤ length actors.now }
+{
     let mut count = 0;
     for actor in actors {
         count += picked_by(actor);
@@ -152,7 +160,10 @@ fn picked_blocks(actors: &[Actor]) -> u64 {
 }
 
 /// How many are those of one actor: one or none.
-fn picked_by(actor: &Actor) -> u64 {
+fn picked_by(actor: &Actor) -> u64
+    ensures value { result ≡ picked_of actor.now }
+    ensures few { result ≤ 1 }
+{
     match &actor.running {
         Some(Running {
             next:

@@ -1,12 +1,15 @@
 //! The tree of a world: its nodes with their paths.
 
-ghost use Rattle.std.specs.Prelude.{◌≡◌, ℕ, IfOk};
+ghost use Rattle.std.specs.Prelude.{◌≡◌, ℕ, IfErr, IfOk, IsSome};
 ghost use Rattle.nv_base.specs.Refusals.{FailsOnly};
 ghost use Rattle.nv_base.specs.declared.fault.Fault.TheVariants.{OutOfMemory};
 ghost use Rattle.nv_calls.specs.Plain.{node_in};
+ghost use Rattle.nv_epoch.specs.SnapList.{pins_of};
+ghost use Rattle.nv_machine.specs.Snapshots.{copies_at};
 ghost use Rattle.nv_machine.specs.World as machine;
-ghost use Rattle.nv_core.specs.Settled.{AreSettled, noted_or, settled_nodes, settled_tail, tree_in, tree_of};
+ghost use Rattle.nv_core.specs.Settled.{AreSettled, AreSettledAt, IsNoTree, noted_or, settled_nodes, settled_tail, snapshot_tree, tree_at, tree_in, tree_of};
 ghost use Rattle.nv_core.specs.Shown.{shared_of};
+ghost use Rattle.nv_core.specs.Steps.{CanShow};
 ghost use Rattle.nv_core.specs.Worlds.{Shows};
 
 use crate::World;
@@ -28,7 +31,12 @@ impl World {
     }
 
     /// The tree of a living snapshot: the nodes at its epoch. `NoSnapshot` where it doesn't live, before `OutOfMemory`.
-    pub fn snap_tree(&self, snapshot: Epoch) -> Result<Tree, Fault> {
+    pub fn snap_tree(&self, snapshot: Epoch) -> Result<Tree, Fault>
+        ensures ok { (m : machine.World) → Shows self.now m → IfOk result (λ tree.
+            (tree ≡ snapshot_tree m snapshot) × IsSome (pins_of m.shared.book.snaps snapshot)) }
+        ensures err { (m : machine.World) → Shows self.now m
+            → IfErr result (IsNoTree (pins_of m.shared.book.snaps snapshot)) }
+    {
         if !self.shared.book.snaps().has(snapshot) {
             return Err(Fault::NoSnapshot);
         }
@@ -55,7 +63,12 @@ impl Shared {
     }
 
     /// The tree of these cells at the end of an epoch, from the root.
-    fn tree_at(&self, alloc: Global, epoch: Epoch) -> Result<Tree, Fault> {
+    fn tree_at(&self, alloc: Global, epoch: Epoch) -> Result<Tree, Fault>
+        requires can { CanShow self.now epoch }
+        requires settled { AreSettledAt epoch (shared_of self.now) }
+        ensures ok { IfOk result (λ tree. tree ≡ tree_at epoch (shared_of self.now)) }
+        ensures err { FailsOnly OutOfMemory result }
+    {
         let mut walk = Walk::new(alloc, root(), self.cells.len())?;
         let mut nodes = Vec::new(alloc);
         while let Some(handle) = walk.wanted() {
@@ -73,7 +86,11 @@ impl Shared {
         alloc: Global,
         handle: &Handle,
         epoch: Epoch,
-    ) -> Result<Option<NodeCopy>, Fault> {
+    ) -> Result<Option<NodeCopy>, Fault>
+        requires { CanShow self.now epoch }
+        ensures ok { IfOk result (λ node. node ≡ copies_at (shared_of self.now) epoch handle.now) }
+        ensures err { FailsOnly OutOfMemory result }
+    {
         let place = handle.ino.number() as usize;
         if place >= self.cells.len() {
             return Ok(None);
