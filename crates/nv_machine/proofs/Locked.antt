@@ -16,7 +16,7 @@ use Rattle.nv_machine.specs.Locks.{AreSlots, HoldsIts, IsHeldByOther, IsInside, 
 use Rattle.nv_calls.specs.declared.looked.Looked.{Looked}
 use Rattle.nv_machine.specs.Reads.{is_written, slot_at, slots_of, written_slots}
 use Rattle.nv_machine.specs.Sequence.{directories}
-use Rattle.nv_machine.specs.Snapshots.{drop_turn, if_free, lock_picked_turn, make_tests, make_turn, picked_turn, pin_turn, show_or_unpin, show_turn, snapshot_turn, visited}
+use Rattle.nv_machine.specs.Snapshots.{drop_turn, if_free, lock_picked_turn, make_tests, make_turn, picked_turn, pin_turn, show_or_unpin, show_turn, snapshot_turn, visited, first_showing, seen_on}
 use Rattle.nv_machine.specs.Step.{ending_at, kind_turn, with_made}
 use Rattle.nv_machine.specs.World.{Append, Back, Check, Close, Draining, Drop, Ending, Ends, Enter, Give, HandState, Leave, Lock, LockPicked, Look, Make, Next, Number, Open, Pick, Pin, Publish, Ready, Refuses, Release, Retire, Running, Shared, Show, Showing, SnapshotStep, Snapshots, TakeBlocks, TakePages, Turn, Unlock, Unpin, Visit, go_to, owner_at, with_owner}
 use Rattle.nv_machine.proofs.Lists.{drop_all, has_at, has_drop, has_filter, self, slot_inside, slots_are, take_apart}
@@ -221,7 +221,8 @@ pin_locks a w snapshot None s h r none mine are =
     end_locks a s s w r.slots _ h r refl (same_locks a s) (none_held s a r none mine) are
 pin_locks a w snapshot (Some pins) s h r none mine are = (
   as_before a s _ refl refl,
-  showing_locks a _ snapshot _ _ _ r none (record { owners = mine.owners; holder = mine.holder }) are,
+  showing_locks a _ snapshot (first_showing s).left (first_showing s).visits (first_showing s) r none
+      (record { owners = mine.owners; holder = mine.holder }) are,
 )
 
 show_locks : (a : ℕ) (owner : Option ℕ) (granted : Bool) (found : Option NodeCopy) (slot snapshot : ℕ) (showing : Showing) (s : Shared)
@@ -230,7 +231,10 @@ show_locks : (a : ℕ) (owner : Option ℕ) (granted : Bool) (found : Option Nod
 show_locks a (Some other) granted found slot snapshot showing s h r e none mine are =
     not_mine a (owner_at s slot) other e (mine.owners slot)
 show_locks a None true found slot snapshot showing s h r e none mine are =
-    (same_locks a s, showing_locks a s snapshot _ _ _ r none mine are)
+    (
+      same_locks a s,
+      showing_locks a s snapshot (seen_on found showing).left (seen_on found showing).visits (seen_on found showing) r none mine are,
+    )
 show_locks a None false found slot snapshot showing s h r e none mine are =
     (same_locks a s, holds_as s a _ [] false mine refl refl are none)
 
@@ -241,7 +245,7 @@ picked_locks a w [] draining s h r are mine = (same_locks a s, idle_as s a mine)
 picked_locks a w (picked ∷ deferred) draining s h r are mine = (
   as_before a s _ refl refl,
   holds_as _ a _ [] false (record { owners = mine.owners; holder = mine.holder }) refl refl
-      (record { rising = tt; inside = (are.0, tt) }) refl,
+      (record { rising = (tt, tt); inside = (are.0, tt) }) refl,
 )
 
 lock_picked_locks : (a : ℕ) (owner : Option ℕ) (draining : Draining) (picked : Record) (s : Shared) (h : HandState) (r : Running)
