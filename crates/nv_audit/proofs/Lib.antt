@@ -3,3 +3,6 @@ pub mod PartLists
 pub mod Pages
 pub mod BoundNames
 pub mod PageEntries
+pub mod Pushing
+pub mod Loops
+pub mod States

@@ -1,5 +1,5 @@
 -- Lists that have each part as often.
-use Rattle.std.proofs.Common.{◌≡◌, ℕ, ◌+◌, ◌⊎◌, inl, inr, Bool, true, false, cond, List, [], ◌∷◌, refl, ap, sym, ◌∙◌, subst}
+use Rattle.std.proofs.Common.{◌≡◌, ℕ, ◌+◌, ◌⊎◌, inl, inr, Bool, true, false, cond, List, [], ◌∷◌, refl, arith, ap, sym, ◌∙◌, subst}
 use Rattle.std.specs.List.{AllByRecursion}
 use Rattle.std.proofs.lemmas.List.Elements.{recursion_from_All}
 use Rattle.nv_cell.proofs.Runs.{count_cons}
@@ -13,7 +13,7 @@ there P part [] h = inl refl
 there P part (x ∷ xs) h = go (is_same part x) refl (there P part xs h.1) where
   go : (b : Bool) → is_same part x ≡ b → (times part xs ≡ 0) ⊎ P part → (times part (x ∷ xs) ≡ 0) ⊎ P part
   go true e rest = inr (subst P (same_is part x e) h.0)
-  go false e (inl none) = inl (count_cons (is_same part) x xs ∙ ap (λ (b : Bool). cond b 1 0 + times part xs) e ∙ none)
+  go false e (inl none) = inl (omega (arith, count_cons (is_same part) x xs, ap (λ (b : Bool). cond b 1 0) e, none))
   go false e (inr p) = inr p
 
 -- lists that have the parts of both as often have all so

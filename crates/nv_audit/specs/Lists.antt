@@ -11,7 +11,8 @@ use Rattle.nv_cell.specs.Cell.{CellState, fresh_of, log_of}
 use Rattle.nv_entry.specs.Data.{block_in}
 use Rattle.nv_entry.specs.Held.{Retention, keeps}
 use Rattle.nv_entry.specs.Keys.{key_of, parts_of, sets}
-use Rattle.nv_entry.specs.Log.{pair_of, value_of}
+use Rattle.nv_entry.specs.Log.{pairs_of, value_of}
+use Rattle.nv_entry.specs.declared.held.Pair.{Pair}
 use Rattle.nv_entry.specs.declared.item.Entry.{Entry}
 use Rattle.nv_entry.specs.declared.item.Item.{Item}
 use Rattle.nv_entry.specs.declared.part.Part.{Part}
@@ -37,11 +38,11 @@ abbrev pub blocks_said : ℕ → List Entry → List ℕ
 blocks_said block entries = flat_map (λ (e : Entry). said_of block e.item) entries
 
 -- the blocks of the pairs of an entry that are kept, where `later` are the entries behind it
-abbrev pub kept_part : Retention → Entry → List Entry → Part → List ℕ
-kept_part r e later part = if keeps r (pair_of r.block e later part) then said_part r.block e.item part else []
+abbrev pub kept_pair : Retention → Item → Pair → List ℕ
+kept_pair r item pair = if keeps r pair then said_part r.block item pair.part else []
 
 abbrev pub kept_of : Retention → Entry → List Entry → List ℕ
-kept_of r e later = flat_map (kept_part r e later) (parts_of e.item)
+kept_of r e later = flat_map (kept_pair r e.item) (pairs_of r.block e later)
 
 -- the same of a log
 abbrev pub blocks_kept : Retention → List Entry → List ℕ
@@ -89,4 +90,4 @@ mark_at marks n = slice_index_or marks n false
 
 pub record AreMarked (blocks : ℕ) (used : List ℕ) (marks : List Bool) : Type 0 where
   pub len : length marks ≡ blocks
-  pub marks : (n : ℕ) → n < blocks → mark_at marks n ≡ has used n
+  pub marked : (n : ℕ) → n < blocks → mark_at marks n ≡ has used n

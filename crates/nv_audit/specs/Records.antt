@@ -1,5 +1,5 @@
 -- Records that are those of a scan of all logs.
-use Rattle.std.specs.Prelude.{ℕ, ◌+◌, ◌&&◌, All, Bool, not, List, [], ◌∷◌, ◌++◌, filter, map}
+use Rattle.std.specs.Prelude.{ℕ, ◌+◌, ◌&&◌, All, Bool, not, if◌then◌else◌, List, [], ◌∷◌, ◌++◌, filter, map}
 use Rattle.std.specs.List.{flat_map}
 use Rattle.nv_entry.specs.declared.held.Pair.{Pair}
 use Rattle.nv_entry.specs.declared.item.Entry.{Entry}
@@ -41,12 +41,15 @@ is_owed s named pair = holds s pair && (not (is_current pair) && not (is_named n
 abbrev pub part_in : ℕ → Pair → InodePart
 part_in ino pair = record { ino = ino; part = pair_name pair }
 
+abbrev pub owed_pair : ℕ → List PartId → ℕ → Pair → List InodePart
+owed_pair s named ino pair = if is_owed s named pair then part_in ino pair ∷ [] else []
+
 -- those of an entry, where `later` are the entries behind it, and those of an inode's log
 abbrev pub owed_of : ℕ → List PartId → ℕ → ℕ → Entry → List Entry → List InodePart
-owed_of s named ino block e later = map (part_in ino) (filter (is_owed s named) (pairs_of block e later))
+owed_of s named ino block e later = flat_map (owed_pair s named ino) (pairs_of block e later)
 
 abbrev pub owed_in : ℕ → List PartId → ℕ → ℕ → List Entry → List InodePart
-owed_in s named ino block log = map (part_in ino) (filter (is_owed s named) (pairs block log))
+owed_in s named ino block log = flat_map (owed_pair s named ino) (pairs block log)
 
 abbrev pub owed_by : ℕ → List PartId → ℕ → CellState → List InodePart
 owed_by s named ino cell = owed_in s named ino cell.block (log_of cell)
@@ -56,6 +59,10 @@ abbrev pub owed_from : ℕ → List InodePart → ℕ → List CellState → Lis
 owed_from s in_hands ino [] = []
 owed_from s in_hands ino (cell ∷ cells) = owed_by s (of_inode ino in_hands) ino cell ++ owed_from s in_hands (ino + 1) cells
 
--- each living snapshot holds by the records just what it holds by the logs and what is neither current nor in a hand
+-- a snapshot holds by the records just what it holds by the logs and is neither current nor in a hand
+abbrev pub IsRecorded : List CellState → BookState → List InodePart → ℕ → Type 0
+IsRecorded cells book in_hands s = HaveSameParts (recorded_as s book) (owed_from s in_hands 0 cells)
+
+-- each living snapshot does
 abbrev pub AreRecorded : List CellState → BookState → List InodePart → Type 0
-AreRecorded cells book in_hands = All (λ s. HaveSameParts (recorded_as s book) (owed_from s in_hands 0 cells)) (ids book.snaps)
+AreRecorded cells book in_hands = All (IsRecorded cells book in_hands) (ids book.snaps)

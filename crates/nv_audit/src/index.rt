@@ -45,9 +45,23 @@ fn pages_end(block: u64, log: &[Entry]) -> u32
     let _block = block;
     let mut end = 0;
     for entry in log {
-        end = end.max(item_end(&entry.item));
+        end = later_of(end, item_end(&entry.item));
     }
     end
+}
+
+/// The later of two pages.
+fn later_of(one: u32, other: u32) -> u32
+    requires one { one ≤ FILE_PAGES }
+    requires other { other ≤ FILE_PAGES }
+    ensures first { one ≤ result }
+    ensures second { other ≤ result }
+    ensures within { result ≤ FILE_PAGES }
+{
+    if one < other {
+        return other;
+    }
+    one
 }
 
 /// A page from which on the item sets none to a value.

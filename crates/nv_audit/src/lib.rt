@@ -10,6 +10,7 @@ mod index;
 mod lists;
 mod names;
 mod part_list;
+mod parts;
 mod pending;
 mod records;
 mod whole;

@@ -6,17 +6,18 @@ ghost use Rattle.nv_base.specs.declared.fault.Fault.TheVariants.{OutOfMemory};
 ghost use Rattle.nv_alloc.specs.Block.{numbers_of};
 ghost use Rattle.nv_alloc.specs.Numbers.{has};
 ghost use Rattle.nv_entry.specs.Held.{retention_of};
-ghost use Rattle.nv_audit.specs.Lists.{AreAllFree, AreFree, AreMarked, IsRangeFree, block_said, blocks_kept, blocks_said, kept_of, list_or_none, mark_at, said_of, used_by, used_from, used_of};
+ghost use Rattle.nv_audit.specs.Lists.{AreAllFree, AreFree, AreMarked, IsRangeFree, block_said, blocks_kept, blocks_said, kept_of, kept_pair, list_or_none, mark_at, said_of, said_part, used_by, used_from, used_of};
 ghost use Rattle.nv_audit.specs.Records.{states_of};
-ghost use Rattle.std.specs.Option.{option_copied, option_to_list};
+ghost use Rattle.std.specs.Option.{option_copied};
 
-use crate::pending::pending_of;
+use crate::parts::{pair_at, part_at};
+use crate::pending::{listed, pending_of};
 use crate::{InHands, InodePart};
 use nv_alloc::{Block, FreeList};
 use nv_base::{BlockNo, Epoch, Fault, Geometry, Ino};
-use nv_book::{Book, Records};
+use nv_book::{Book, Record};
 use nv_cell::InodeCell;
-use nv_entry::{Entry, Item, Key, Pair, Part, Retention};
+use nv_entry::{Entry, Item, Pair, Part, Retention};
 use std::alloc::{AllocError, Global};
 
 /// Whether the free list of each CPU has the numbers of its home range that are not used: neither by a page of a log, nor
@@ -35,7 +36,8 @@ pub fn are_free(
     ensures err { FailsOnly OutOfMemory result }
 {
     let snapshots: Vec<Epoch> = book.snaps().ids().collect(alloc)?;
-    let mut used = used_from(alloc, cells, &snapshots, book.deferred(), hands.parts)?;
+    let deferred = listed(alloc, book.deferred())?;
+    let mut used = used_from(alloc, cells, &snapshots, &deferred, hands.parts)?;
     used.extend_from_slice(hands.blocks)?;
     let marked = marked(alloc, geometry.numbers.blocks, &used)?;
     Ok(are_all_free(geometry, lists, &marked))
@@ -46,7 +48,7 @@ fn used_from(
     alloc: Global,
     cells: &[InodeCell],
     snapshots: &[Epoch],
-    deferred: &Records,
+    deferred: &[Record],
     in_hands: &[InodePart],
 ) -> Result<Vec<BlockNo>, Fault>
     ensures ok { IfOk result (λ used. used.items
@@ -118,11 +120,24 @@ fn push_kept_of(
         ≡ used.old.items ++ kept_of (retention_of retention.now) entry.now later.now) }
 {
     for place in 0..entry.item.part_count() {
-        if let Some(pair) = Pair::at(retention.block, entry, later, place)
-            && (pair.is_needed(retention.snapshots) || pair.is_named(retention.pending))
-        {
-            push_block(used, block_said(retention.block, &entry.item, pair.part))?;
-        }
+        let pair = pair_at(retention.block, entry, later, place);
+        push_kept_pair(used, retention, &entry.item, &pair)?;
+    }
+    Ok(())
+}
+
+/// Puts the block of a pair to the end, if it is kept and has one.
+fn push_kept_pair(
+    used: &mut Vec<BlockNo>,
+    retention: &Retention<'_>,
+    item: &Item,
+    pair: &Pair,
+) -> Result<(), AllocError>
+    ensures { OnOk result (used.new.items
+        ≡ used.old.items ++ kept_pair (retention_of retention.now) item.now pair.now) }
+{
+    if pair.is_needed(retention.snapshots) || pair.is_named(retention.pending) {
+        return push_said_part(used, retention.block, item, pair.part);
     }
     Ok(())
 }
@@ -144,21 +159,25 @@ fn push_said_of(used: &mut Vec<BlockNo>, block: u64, item: &Item) -> Result<(), 
     ensures { OnOk result (used.new.items ≡ used.old.items ++ said_of block item.now) }
 {
     for place in 0..item.part_count() {
-        if let Some(part) = item.part_at(place) {
-            push_block(used, block_said(block, item, part))?;
-        }
+        push_said_part(used, block, item, part_at(item, place))?;
     }
     Ok(())
 }
 
-/// Puts a block to the end, if there is one.
-fn push_block(used: &mut Vec<BlockNo>, block: Option<BlockNo>) -> Result<(), AllocError>
-    ensures { OnOk result (used.new.items ≡ used.old.items ++ option_to_list block) }
+/// Puts the block of a part to the end, if it has one.
+fn push_said_part(
+    used: &mut Vec<BlockNo>,
+    block: u64,
+    item: &Item,
+    part: Part,
+) -> Result<(), AllocError>
+    requires { 0 < block }
+    ensures { OnOk result (used.new.items ≡ used.old.items ++ said_part block item.now part) }
 {
-    match block {
-        None => Ok(()),
-        Some(block) => used.push(block),
+    if let Some(number) = block_said(block, item, part) {
+        used.push(number)?;
     }
+    Ok(())
 }
 
 /// The block that an item says of one of its parts, if that is a page.
@@ -202,7 +221,7 @@ fn are_all_free(geometry: &Geometry, lists: &[FreeList], marks: &[bool]) -> bool
 /// Whether a list has the unmarked numbers of a range, and no others of it.
 fn is_range_free(list: Option<&FreeList>, start: u64, end: u64, marks: &[bool]) -> bool
     requires { end ≤ length marks.now }
-    ensures { IsTrue result ↔ IsRangeFree (list_or_none (option_copied list))
+    ensures { IsTrue result ↔ IsRangeFree (list_or_none (option_copied list.entry))
         (mark_at marks.now) start end }
 {
     for number in start..end {
@@ -214,7 +233,7 @@ fn is_range_free(list: Option<&FreeList>, start: u64, end: u64, marks: &[bool]) 
 }
 
 fn is_free(list: Option<&FreeList>, number: u64) -> bool
-    ensures { result ≡ has (numbers_of (list_or_none (option_copied list)).blocks) number }
+    ensures { result ≡ has (numbers_of (list_or_none (option_copied list.entry)).blocks) number }
 {
     match list {
         Some(list) => list.has(BlockNo::new(number)),

@@ -7,7 +7,7 @@ ghost use Rattle.nv_audit.specs.Pending.{deferred_of, of_inode, pending_of};
 
 use crate::InodePart;
 use nv_base::{BlockNo, Fault, Ino};
-use nv_book::Records;
+use nv_book::{Record, Records};
 use nv_entry::PartId;
 use std::alloc::{AllocError, Global};
 
@@ -23,29 +23,42 @@ pub struct InHands<'a> {
 pub fn pending_of(
     alloc: Global,
     ino: Ino,
-    deferred: &Records,
+    deferred: &[Record],
     parts: &[InodePart],
 ) -> Result<Vec<PartId>, Fault>
     ensures ok { IfOk result (λ pending. pending.items ≡ pending_of ino deferred.now parts.now) }
     ensures err { FailsOnly OutOfMemory result }
 {
-    let mut pending = deferred_of(alloc, ino, deferred)?;
+    let mut pending = Vec::new(alloc);
+    push_deferred(&mut pending, ino, deferred)?;
     push_of_inode(&mut pending, ino, parts)?;
     Ok(pending)
 }
 
-/// The deferred parts of an inode.
-fn deferred_of(alloc: Global, ino: Ino, deferred: &Records) -> Result<Vec<PartId>, AllocError>
-    ensures { IfOk result (λ pending. pending.items ≡ deferred_of ino deferred.now) }
+/// Records one by one.
+pub(crate) fn listed(alloc: Global, records: &Records) -> Result<Vec<Record>, AllocError>
+    ensures { IfOk result (λ list. list.items ≡ records.now) }
 {
-    deferred
-        .iter()
-        .filter(|deferred| deferred.ino == ino)
-        .map(|deferred| PartId {
-            entry: deferred.entry,
-            part: deferred.part,
-        })
-        .collect(alloc)
+    records.iter().collect(alloc)
+}
+
+/// Puts the parts of an inode among these records to the end of a list.
+fn push_deferred(
+    named: &mut Vec<PartId>,
+    ino: Ino,
+    deferred: &[Record],
+) -> Result<(), AllocError>
+    ensures { OnOk result (named.new.items ≡ named.old.items ++ deferred_of ino deferred.now) }
+{
+    for gone in deferred {
+        if gone.ino == ino {
+            named.push(PartId {
+                entry: gone.entry,
+                part: gone.part,
+            })?;
+        }
+    }
+    Ok(())
 }
 
 /// Puts the parts of an inode among these to the end of a list.

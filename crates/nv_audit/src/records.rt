@@ -1,15 +1,16 @@
 //! The records of what snapshots hold.
 
-ghost use Rattle.std.specs.Prelude.{◌≡◌, ◌↔◌, ◌<◌, ◌++◌, IfOk, IsTrue, OnOk};
+ghost use Rattle.std.specs.Prelude.{◌≡◌, ◌↔◌, ◌<◌, ◌++◌, All, IfOk, IsTrue, OnOk};
 ghost use Rattle.nv_base.specs.Refusals.{FailsOnly};
 ghost use Rattle.nv_base.specs.declared.fault.Fault.TheVariants.{OutOfMemory};
-ghost use Rattle.nv_audit.specs.Records.{AreRecorded, is_owed, owed_by, owed_from, owed_of, recorded_as, recorded_in, states_of};
+ghost use Rattle.nv_audit.specs.Records.{AreRecorded, IsRecorded, is_owed, owed_by, owed_from, owed_of, owed_pair, recorded_as, recorded_in, states_of};
 
 use crate::part_list::have_same_parts;
-use crate::pending::push_of_inode;
+use crate::parts::pair_at;
+use crate::pending::{listed, push_of_inode};
 use crate::{InHands, InodePart};
 use nv_base::{Epoch, Fault, Ino};
-use nv_book::{Book, Records};
+use nv_book::{Book, Record};
 use nv_cell::InodeCell;
 use nv_entry::{Entry, Pair, PartId};
 use std::alloc::{AllocError, Global};
@@ -28,14 +29,42 @@ pub fn are_recorded(
     ensures err { FailsOnly OutOfMemory result }
 {
     let snapshots: Vec<Epoch> = book.snaps().ids().collect(alloc)?;
-    for snapshot in &snapshots {
-        let recorded = recorded_as(alloc, book, *snapshot)?;
-        let owed = owed_to(alloc, cells, hands.parts, *snapshot)?;
-        if !have_same_parts(&recorded, &owed) {
+    Ok(are_recorded_for(alloc, cells, book, hands.parts, &snapshots)?)
+}
+
+/// Whether it is so for these snapshots.
+fn are_recorded_for(
+    alloc: Global,
+    cells: &[InodeCell],
+    book: &Book,
+    in_hands: &[InodePart],
+    snapshots: &[Epoch],
+) -> Result<bool, AllocError>
+    ensures { IfOk result (λ are. IsTrue are ↔ All (IsRecorded (states_of cells.now)
+        book.now.state in_hands.now) snapshots.now) }
+{
+    for snapshot in snapshots {
+        if !is_recorded(alloc, cells, book, in_hands, *snapshot)? {
             return Ok(false);
         }
     }
     Ok(true)
+}
+
+/// Whether it is so for one snapshot.
+fn is_recorded(
+    alloc: Global,
+    cells: &[InodeCell],
+    book: &Book,
+    in_hands: &[InodePart],
+    snapshot: Epoch,
+) -> Result<bool, AllocError>
+    ensures { IfOk result (λ is. IsTrue is
+        ↔ IsRecorded (states_of cells.now) book.now.state in_hands.now snapshot) }
+{
+    let recorded = recorded_as(alloc, book, snapshot)?;
+    let owed = owed_to(alloc, cells, in_hands, snapshot)?;
+    Ok(have_same_parts(&recorded, &owed))
 }
 
 /// The recorded parts that a snapshot holds, by the records.
@@ -44,31 +73,32 @@ fn recorded_as(alloc: Global, book: &Book, snapshot: Epoch) -> Result<Vec<InodeP
 {
     let mut parts = Vec::new(alloc);
     for manifest in book.manifests() {
-        parts.extend_from_slice(&recorded_in(alloc, &manifest.records, snapshot)?)?;
+        push_recorded(&mut parts, &listed(alloc, &manifest.records)?, snapshot)?;
     }
-    parts.extend_from_slice(&recorded_in(alloc, book.deferred(), snapshot)?)?;
+    push_recorded(&mut parts, &listed(alloc, book.deferred())?, snapshot)?;
     Ok(parts)
 }
 
-/// The parts of those of the records that a snapshot holds.
-fn recorded_in(
-    alloc: Global,
-    records: &Records,
+/// Puts the parts of those of the records that a snapshot holds to the end of a list.
+fn push_recorded(
+    parts: &mut Vec<InodePart>,
+    records: &[Record],
     snapshot: Epoch,
-) -> Result<Vec<InodePart>, AllocError>
-    ensures { IfOk result (λ parts. parts.items ≡ recorded_in snapshot records.now) }
+) -> Result<(), AllocError>
+    ensures { OnOk result (parts.new.items ≡ parts.old.items ++ recorded_in snapshot records.now) }
 {
-    records
-        .iter()
-        .filter(|recorded| recorded.is_held_by(snapshot))
-        .map(|recorded| InodePart {
-            ino: recorded.ino,
-            part: PartId {
-                entry: recorded.entry,
-                part: recorded.part,
-            },
-        })
-        .collect(alloc)
+    for recorded in records {
+        if recorded.is_held_by(snapshot) {
+            parts.push(InodePart {
+                ino: recorded.ino,
+                part: PartId {
+                    entry: recorded.entry,
+                    part: recorded.part,
+                },
+            })?;
+        }
+    }
+    Ok(())
 }
 
 /// The parts that a snapshot holds and that are neither current nor in hands, by the logs.
@@ -125,17 +155,31 @@ fn push_owed_of(
         ≡ parts.old.items ++ owed_of snapshot named.now ino block entry.now later.now) }
 {
     for place in 0..entry.item.part_count() {
-        if let Some(pair) = Pair::at(block, entry, later, place)
-            && is_owed(&pair, named, snapshot)
-        {
-            parts.push(InodePart {
-                ino,
-                part: PartId {
-                    entry: pair.entry,
-                    part: pair.part,
-                },
-            })?;
-        }
+        let pair = pair_at(block, entry, later, place);
+        push_if_owed(parts, ino, &pair, named, snapshot)?;
+    }
+    Ok(())
+}
+
+/// Puts the part of a pair to the end of a list, if it is one.
+fn push_if_owed(
+    parts: &mut Vec<InodePart>,
+    ino: Ino,
+    pair: &Pair,
+    named: &[PartId],
+    snapshot: Epoch,
+) -> Result<(), AllocError>
+    ensures { OnOk result (parts.new.items
+        ≡ parts.old.items ++ owed_pair snapshot named.now ino pair.now) }
+{
+    if is_owed(pair, named, snapshot) {
+        parts.push(InodePart {
+            ino,
+            part: PartId {
+                entry: pair.entry,
+                part: pair.part,
+            },
+        })?;
     }
     Ok(())
 }

@@ -1,6 +1,6 @@
 //! The whole audit.
 
-ghost use Rattle.std.specs.Prelude.{◌≡◌, ◌⊎◌, ¬◌, IfErr, IfOk, IsTrue, MatchOption, OnOk};
+ghost use Rattle.std.specs.Prelude.{◌≡◌, ◌⊎◌, IfErr, IfOk, IsTrue, MatchOption, OnOk};
 ghost use Rattle.nv_base.specs.Refusals.{FailsOnly};
 ghost use Rattle.nv_base.specs.declared.fault.Fault.TheVariants.{OutOfMemory};
 ghost use Rattle.nv_base.specs.declared.fault.MismatchPart.TheVariants.{Counts};
@@ -10,6 +10,7 @@ ghost use Rattle.nv_audit.specs.Records.{states_of};
 ghost use Rattle.nv_audit.specs.Whole.{Agrees, CountsAgree, IsMismatch};
 
 use crate::{InHands, are_counted, are_free, are_names_of, are_pages_of, are_recorded};
+use crate::pending::listed;
 use crate::{is_part_of, pending_of};
 use nv_alloc::FreeList;
 use nv_base::{Epoch, Fault, Geometry, Ino, MismatchPart};
@@ -67,10 +68,11 @@ fn cells_differ(
     ensures err { FailsOnly OutOfMemory result }
 {
     let snapshots: Vec<Epoch> = book.snaps().ids().collect(alloc)?;
+    let deferred = listed(alloc, book.deferred())?;
     for place in 0..cells.len() {
         let cell = &cells[place];
         let ino = Ino::new(place as u64);
-        let pending = pending_of(alloc, ino, book.deferred(), hands.parts)?;
+        let pending = pending_of(alloc, ino, &deferred, hands.parts)?;
         let retention = Retention {
             block: cell.block_bytes(),
             snapshots: &snapshots,
