@@ -119,7 +119,7 @@ over_framed l s t (Refuses fault) h r f = rest_framed l s t _ h.ino h r f
 over_framed l s t Overtaken h r f = again_framed l s t r.rounds h r f
 over_framed l s t (Drains draining) h r f = rest_framed l s t _ h.ino h r f
 
-end_framed : (l : Lent) (s t : Shared) (slots : List ℕ) (e : Ending) (h : HandState) (r : Running) → Frame l s t
+pub end_framed : (l : Lent) (s t : Shared) (slots : List ℕ) (e : Ending) (h : HandState) (r : Running) → Frame l s t
     → IsFramed l s (end_turn slots e t h r)
 end_framed l s t [] e h r f = over_framed l s t e h (record r { ending = e }) f
 end_framed l s t (slot ∷ slots) e h r f = f
