@@ -47,6 +47,7 @@ pub mod SettledLogs
 pub mod SettledPages
 pub mod ShownCalls
 pub mod SlotLists
+pub mod SnapTests
 pub mod SpaceLaw
 pub mod Stages
 pub mod StartShown

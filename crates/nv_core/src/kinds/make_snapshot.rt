@@ -18,6 +18,8 @@ pub(crate) fn make_snapshot(shared: &mut Shared) -> Turn
     ensures ends { (result ≢ Turn.Moves) × (result ≢ Turn.Waits) }
     ensures rest { shared.new ≡ record shared.old { book = shared.new.book } }
 {
+    // Neither the epoch nor the number of snapshots is over its limit.
+    let _living = shared.book.snaps().snapshots();
     match shared.book.make_snapshot() {
         Ok(snapshot) => Turn::Ends(Ok(Answer::Snapshot(snapshot))),
         Err(fault) => Turn::Ends(Err(fault)),
