@@ -125,3 +125,8 @@ pub mod Generations
 pub mod VersionSteps
 pub mod Versions
 pub mod Moves
+pub mod FiledLists
+pub mod FiledDrops
+pub mod FiledBooks
+pub mod FiledTurns
+pub mod FiledRuns
