@@ -12,22 +12,27 @@ use Rattle.nv_book.specs.declared.record.Record.{Record}
 use Rattle.nv_epoch.specs.Holders.{IsRising, holds}
 use Rattle.nv_epoch.proofs.Last.{last_passes}
 
--- ---- how many records pass a test
+-- ---- how many of a list pass a test
 
-abbrev pub count : (Record → Bool) → List Record → ℕ
+abbrev pub count : {X : Type 0} → (X → Bool) → List X → ℕ
 count p rs = length (filter p rs)
 
 abbrev pub one : Bool → ℕ
 one b = cond b 1 0
 
-pub count_append : (p : Record → Bool) (xs ys : List Record) → count p (xs ++ ys) ≡ count p xs + count p ys
-count_append p xs ys = ap (λ (l : List Record). length l) (filter-append p xs ys) ∙ length-append (filter p xs) (filter p ys)
+pub count_append : {X : Type 0} (p : X → Bool) (xs ys : List X) → count p (xs ++ ys) ≡ count p xs + count p ys
+count_append {X} p xs ys = ap (λ (l : List X). length l) (filter-append p xs ys) ∙ length-append (filter p xs) (filter p ys)
 
-pub count_cons : (p : Record → Bool) (r : Record) (rs : List Record) → count p (r ∷ rs) ≡ one (p r) + count p rs
+pub count_cons : {X : Type 0} (p : X → Bool) (r : X) (rs : List X) → count p (r ∷ rs) ≡ one (p r) + count p rs
 count_cons p r rs = go (p r) where
   go : (b : Bool) → length (cond b (r ∷ filter p rs) (filter p rs)) ≡ one b + count p rs
   go true = omega arith
   go false = omega arith
+
+-- two tests that say the same of each
+pub count_same : {X : Type 0} (p q : X → Bool) (xs : List X) → AllByRecursion (λ x. p x ≡ q x) xs → count p xs ≡ count q xs
+count_same p q [] h = refl
+count_same p q (x ∷ xs) h = omega (arith, count_cons p x xs, count_cons q x xs, ap one h.0, count_same p q xs h.1)
 
 -- of records that pass another test and those that do not
 pub count_parted : (p q : Record → Bool) (rs : List Record)

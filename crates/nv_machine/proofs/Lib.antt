@@ -130,3 +130,4 @@ pub mod FiledDrops
 pub mod FiledBooks
 pub mod FiledTurns
 pub mod FiledRuns
+pub mod Pairs
