@@ -236,3 +236,4 @@ no_node_tells nodes other made (call.Read file offset count) h = absurd (h refl)
 no_node_tells nodes other made (call.Stat handle) h = absurd (h refl)
 no_node_tells nodes other made (call.List dir) h = absurd (h refl)
 no_node_tells nodes other made (call.Lookup dir name) h = absurd (h refl)
+no_node_tells nodes other made (call.Snapshots what) h = refl

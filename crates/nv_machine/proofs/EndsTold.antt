@@ -73,6 +73,7 @@ no_visit (call.Read file offset count) some e = cc
 no_visit (call.Stat handle) some e = cc
 no_visit (call.List dir) some e = cc
 no_visit (call.Lookup dir name) some e = cc
+no_visit (call.Snapshots what) some e = cc
 
 -- ---- last steps
 

@@ -76,6 +76,7 @@ any_made nodes made other (call.Mode handle mode) = refl
 any_made nodes made other (call.Stat handle) = refl
 any_made nodes made other (call.List dir) = refl
 any_made nodes made other (call.Lookup dir name) = refl
+any_made nodes made other (call.Snapshots what) = refl
 any_made nodes made other (call.Unlink dir name) = refl
 any_made nodes made other (call.Rmdir dir name) = refl
 any_made nodes made other (call.Rename from old to new) = refl
@@ -95,6 +96,7 @@ same_told nodes made other (call.Read file offset count) changes none e = absurd
 same_told nodes made other (call.Stat handle) changes none e = absurd (none refl)
 same_told nodes made other (call.List dir) changes none e = absurd (none refl)
 same_told nodes made other (call.Lookup dir name) changes none e = absurd (none refl)
+same_told nodes made other (call.Snapshots what) changes none e = refl
 
 nothing_is : (changes : List Change) → is_no_change changes ≡ true → changes ≡ []
 nothing_is [] e = refl

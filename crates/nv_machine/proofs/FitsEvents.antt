@@ -33,6 +33,7 @@ use Rattle.nv_machine.specs.Settled.{node_by, settled, settled_nodes, settled_ta
 use Rattle.nv_machine.specs.Step.{after, go_step, start_step, step, turn, turned}
 use Rattle.nv_machine.specs.World.{Actor, Append, Back, Check, Close, Ends, Enter, Event, Give, Go, HandState, Leave, Lock, Look, Moves, Next, Number, Open, Publish, Ready, Retire, Running, Shared, Start, TakeBlocks, TakePages, Turn, Unlock, Visit, Waits, World, actor_at, cell_at, empty_hand, idle, no_cell, owner_at, with_cell}
 use Rattle.nv_machine.proofs.Answered.{deed_is}
+use Rattle.nv_machine.proofs.Lists.{written_inside}
 use Rattle.nv_machine.proofs.Effects.{new_sound, point_is_sound, take_none}
 use Rattle.nv_machine.proofs.FitsBytes.{all_read, plan_now, point_fits}
 use Rattle.nv_machine.proofs.FitsCells.{append_wider, erased_block, retired_block}
@@ -50,7 +51,6 @@ use Rattle.nv_machine.proofs.Locked.{Before, owner_is}
 use Rattle.nv_machine.proofs.Locks.{all_same, before}
 use Rattle.nv_machine.proofs.LogsKept.{cell_set}
 use Rattle.nv_machine.proofs.Reached.{reached}
-use Rattle.nv_machine.proofs.Written.{written_inside}
 
 -- ---- blocks have one size
 

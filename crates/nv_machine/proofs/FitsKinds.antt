@@ -28,10 +28,10 @@ use Rattle.nv_machine.proofs.FitsTurns.{OnFits, appending_fits, back_fits, check
 use Rattle.nv_machine.proofs.Grown.{is_settled}
 use Rattle.nv_machine.proofs.Journals.{closed_tail, open_same}
 use Rattle.nv_machine.proofs.KeptTurns.{Standing, kept_turn}
-use Rattle.nv_machine.proofs.Lists.{has_filter}
+use Rattle.nv_machine.proofs.Lists.{has_filter, written_inside}
 use Rattle.nv_machine.proofs.Locked.{owner_is}
 use Rattle.nv_machine.proofs.LogsKept.{same_nodes}
-use Rattle.nv_machine.proofs.Written.{written_inside, written_there}
+use Rattle.nv_machine.proofs.Written.{written_there}
 
 -- ---- a step of its own
 

@@ -120,6 +120,7 @@ module _ (block : ℕ) (v w : View) (c : Call) (seen : Looked) (new : Handle) (l
     go (call.Stat handle) all = refl
     go (call.List dir) all = refl
     go (call.Lookup dir name) all = refl
+    go (call.Snapshots what) all = refl
     go (call.Unlink dir name) all = refl
     go (call.Rmdir dir name) all = refl
     go (call.Rename from old to name) all = refl

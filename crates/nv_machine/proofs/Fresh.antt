@@ -144,6 +144,7 @@ is_made made (call.Mode other mode) handle e = cc
 is_made made (call.Stat other) handle e = cc
 is_made made (call.List dir) handle e = cc
 is_made made (call.Lookup dir name) handle e = cc
+is_made made (call.Snapshots what) handle e = cc
 is_made made (call.Unlink dir name) handle e = cc
 is_made made (call.Rmdir dir name) handle e = cc
 is_made made (call.Rename from old to new) handle e = cc

@@ -26,7 +26,7 @@ use Rattle.nv_machine.specs.Step.{after, go_step, start_step, step, turn, turned
 use Rattle.nv_machine.specs.World.{Append, Back, Check, Close, Ends, Enter, Event, Give, Go, HandState, Leave, Lock, Look, Moves, Next, Number, Open, Publish, Ready, Retire, Running, Shared, Start, TakeBlocks, TakePages, Turn, Unlock, Visit, Waits, World, actor_at, cell_at, no_cell, with_book}
 use Rattle.nv_machine.proofs.FromScratch.{all_numbers, counted}
 use Rattle.nv_machine.proofs.Kept.{AfterTurn, back_deed, deed, number_deed, turn_keeps}
-use Rattle.nv_machine.proofs.Lists.{has_filter, self}
+use Rattle.nv_machine.proofs.Lists.{has_filter, self, written_inside}
 use Rattle.nv_machine.proofs.LogsKept.{cell_set}
 use Rattle.nv_machine.proofs.PoolCells.{IsLike, appended_like, no_inode, retired_like}
 use Rattle.nv_machine.proofs.PoolCommits.{append_inside, begun_inode, retire_inside}
@@ -36,7 +36,7 @@ use Rattle.nv_machine.proofs.PoolRuns.{ArePooled, standing}
 use Rattle.nv_machine.proofs.PoolTally.{is_begun, loose, loose_by, tally}
 use Rattle.nv_machine.proofs.PoolTurns.{Standing}
 use Rattle.nv_machine.proofs.Reached.{reached}
-use Rattle.nv_machine.proofs.Written.{written_inside, written_there}
+use Rattle.nv_machine.proofs.Written.{written_there}
 
 -- a cell that has an inode is not of the last generation
 abbrev pub IsEarly : CellState → Type 0

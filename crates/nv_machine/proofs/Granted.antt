@@ -124,6 +124,7 @@ module _ (block : ℕ) (nodes : Handle → Option NodeCopy) where
   late_else found (call.Stat handle) = node_else (kind_of (nodes handle)) passes tt
   late_else found (call.List dir) = directory_else (kind_of (nodes dir)) passes tt
   late_else found (call.Lookup dir name) = lookup_else dir name
+  late_else found (call.Snapshots what) = tt
   late_else found (call.Unlink dir name) = bound_else found.first _ (λ to. file_else (kind_of (nodes to)) passes tt)
   late_else found (call.Rmdir dir name) =
       bound_else found.first _ (λ to. directory_else (kind_of (nodes to)) _

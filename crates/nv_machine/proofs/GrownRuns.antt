@@ -21,7 +21,6 @@ use Rattle.nv_machine.specs.Settled.{settled}
 use Rattle.nv_machine.specs.Step.{Step, after, go_step, kind_turn, start_step, step, turn, turned}
 use Rattle.nv_machine.specs.World.{Actor, Append, Back, Check, Close, Ends, Enter, Event, Give, Go, HandState, Leave, Lock, Look, Moves, Next, Number, Open, Publish, Ready, Retire, Running, Shared, Start, TakeBlocks, TakePages, Turn, Unlock, Visit, Waits, World, actor_at, cell_at, idle, no_cell, owner_at}
 use Rattle.nv_machine.proofs.Answered.{deed_is, entered_none, is_single, no_commit}
-use Rattle.nv_machine.proofs.Written.{written_inside}
 use Rattle.nv_machine.proofs.Events.{go_is_turn}
 use Rattle.nv_machine.proofs.Framed.{framed}
 use Rattle.nv_machine.proofs.Grown.{AllStill, CellsLeft, OnGrown, all_settled, is_settled, not_appended, not_behind, quiet_grown}
@@ -29,7 +28,7 @@ use Rattle.nv_machine.proofs.InOrder.{begun_commits, event_order}
 use Rattle.nv_machine.proofs.Journals.{closed_tail}
 use Rattle.nv_machine.proofs.KeptTurns.{none_some, same_still, some_lent}
 use Rattle.nv_machine.proofs.KeptRuns.{event_kept, none_closed}
-use Rattle.nv_machine.proofs.Lists.{has_filter}
+use Rattle.nv_machine.proofs.Lists.{has_filter, written_inside}
 use Rattle.nv_machine.proofs.Holding.{LocksLeft, OnLocks, same_locks}
 use Rattle.nv_machine.proofs.Locked.{Before, locks_kept, owner_is}
 use Rattle.nv_machine.proofs.Locks.{all_same, before, event_locks}

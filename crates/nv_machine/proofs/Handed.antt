@@ -192,6 +192,7 @@ same_nothing nodes (call.Mode handle mode) before makes is = cc
 same_nothing nodes (call.Stat handle) before makes is = cc
 same_nothing nodes (call.List dir) before makes is = cc
 same_nothing nodes (call.Lookup dir name) before makes is = cc
+same_nothing nodes (call.Snapshots what) before makes is = cc
 same_nothing nodes (call.Unlink dir name) before makes is = cc
 same_nothing nodes (call.Rmdir dir name) before makes is = cc
 same_nothing nodes (call.Rename from old to new) before makes is = cc

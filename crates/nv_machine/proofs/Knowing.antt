@@ -213,6 +213,7 @@ wanted_in_file block nodes present (call.Mode handle mode) some h = tt
 wanted_in_file block nodes present (call.Stat handle) some h = tt
 wanted_in_file block nodes present (call.List dir) some h = tt
 wanted_in_file block nodes present (call.Lookup dir name) some h = tt
+wanted_in_file block nodes present (call.Snapshots what) some h = tt
 wanted_in_file block nodes present (call.Unlink dir name) some h = tt
 wanted_in_file block nodes present (call.Rmdir dir name) some h = tt
 wanted_in_file block nodes present (call.Rename from old to new) some h = tt

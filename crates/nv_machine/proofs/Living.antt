@@ -22,6 +22,7 @@ use Rattle.nv_machine.specs.Settled.{settled, settled_tail}
 use Rattle.nv_machine.specs.Step.{after, go_step, kind_turn, start_step, step, turn, turned}
 use Rattle.nv_machine.specs.World.{Append, Back, Check, Close, Ends, Enter, Event, Give, Go, HandState, Leave, Lock, Look, Moves, Next, Number, Open, Publish, Ready, Retire, Running, Shared, Start, TakeBlocks, TakePages, Turn, Unlock, Visit, Waits, World, actor_at, cell_at}
 use Rattle.nv_machine.proofs.FitsCells.{append_logs, append_wider, publish_logs, wider_cells}
+use Rattle.nv_machine.proofs.Lists.{written_inside}
 use Rattle.nv_machine.proofs.FitsEvents.{commits_if}
 use Rattle.nv_machine.proofs.GrownRuns.{point_shared}
 use Rattle.nv_machine.proofs.Journals.{closed_tail, open_same}
@@ -29,7 +30,7 @@ use Rattle.nv_machine.proofs.Kept.{AfterTurn, back_deed, deed, number_deed, turn
 use Rattle.nv_machine.proofs.KeptRuns.{standing}
 use Rattle.nv_machine.proofs.KeptTurns.{Standing}
 use Rattle.nv_machine.proofs.LogsKept.{cell_set}
-use Rattle.nv_machine.proofs.Written.{written_inside, written_there}
+use Rattle.nv_machine.proofs.Written.{written_there}
 
 -- ---- used handles
 

@@ -177,6 +177,7 @@ alike nodes (call.Mode handle mode) before none e = absurd (not_alike before (no
 alike nodes (call.Stat handle) before none e = absurd (not_alike before (none refl) e)
 alike nodes (call.List dir) before none e = absurd (not_alike before (none refl) e)
 alike nodes (call.Lookup dir name) before none e = absurd (not_alike before (none refl) e)
+alike nodes (call.Snapshots what) before none e = absurd (not_alike before (none refl) e)
 
 overtaken_names : (block : ℕ) (s : Shared) (h : HandState) (r : Running) → HasLooks Check r → ending_at block s h r ≡ Some Overtaken
     → 0 < length (directories r.call)
@@ -293,6 +294,7 @@ looks_have (call.Mode handle mode) e = cc
 looks_have (call.Stat handle) e = cc
 looks_have (call.List dir) e = cc
 looks_have (call.Lookup dir name) e = cc
+looks_have (call.Snapshots what) e = cc
 
 begun_looks : (b : Beginning) (s : Shared) (c : Call) → beginning c ≡ b → HasLooksOf (Some (begun b s c))
 begun_looks Numbers s c is = record { place = λ p e. cc; nothing = λ none. refl; names = λ e. cc }

@@ -34,12 +34,11 @@ use Rattle.nv_machine.proofs.FitsOwn.{last_page, now, same_then}
 use Rattle.nv_machine.proofs.FitsRuns.{present_in, taken_of}
 use Rattle.nv_machine.proofs.FitsStages.{FitsAt, IsLocked, IsPassed, Passed, SameFor, passed_still, plan_still, view}
 use Rattle.nv_machine.proofs.Kept.{deed, number_deed, back_deed}
-use Rattle.nv_machine.proofs.Lists.{drop_apart, has_filter, has_later, or_left, rising_filter, self}
+use Rattle.nv_machine.proofs.Lists.{drop_apart, has_filter, has_later, or_left, rising_filter, self, written_inside}
 use Rattle.nv_machine.proofs.Locked.{Before}
 use Rattle.nv_machine.proofs.LogsKept.{cell_set}
 use Rattle.nv_machine.proofs.PageCells.{append_on, publish_on, retire_on}
 use Rattle.nv_machine.proofs.PageTurns.{OnPages, appending_pages, blocks_pages, check_pages, end_pages, enter_pages, erased_pages, from_plain, next_want, publishing_pages, retiring_pages, same_want, taken_pages}
-use Rattle.nv_machine.proofs.Written.{written_inside}
 
 -- ---- an append
 

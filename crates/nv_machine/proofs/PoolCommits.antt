@@ -20,7 +20,7 @@ use Rattle.nv_machine.specs.Reads.{is_written, pages_needed, slot_at, written_sl
 use Rattle.nv_machine.specs.Settled.{settled}
 use Rattle.nv_machine.specs.World.{Append, Back, Check, Close, Enter, Give, HandState, Leave, Lock, Look, Next, Number, Open, Publish, Ready, Retire, Running, Shared, TakeBlocks, TakePages, Unlock, Visit, cell_at, owner_at, with_book, with_cell}
 use Rattle.nv_machine.proofs.Kept.{deed}
-use Rattle.nv_machine.proofs.Lists.{drop_apart, has_drop, has_filter, has_later, or_right, rising_filter, self}
+use Rattle.nv_machine.proofs.Lists.{drop_apart, has_drop, has_filter, has_later, or_right, rising_filter, self, written_inside}
 use Rattle.nv_machine.proofs.Locked.{Before, owner_is}
 use Rattle.nv_machine.proofs.LogsKept.{cell_set}
 use Rattle.nv_machine.proofs.PoolCells.{EndsWith, IsLike, appended_like, ends_gone, ends_some, erased_gone, like_inode, published_log, retired_like, written_some}
@@ -29,7 +29,7 @@ use Rattle.nv_machine.proofs.PoolSlots.{filtered, two_of}
 use Rattle.nv_machine.proofs.PoolTally.{is_begun}
 use Rattle.nv_machine.proofs.PoolTurns.{Standing, set_inodes}
 use Rattle.nv_machine.proofs.Tails.{has_front}
-use Rattle.nv_machine.proofs.Written.{written_inside, written_there}
+use Rattle.nv_machine.proofs.Written.{written_there}
 
 -- a number in a list of one is its first
 only_one : (xs : List ℕ) (n m : ℕ) → length xs ≤ 1 → has xs n ≡ true → has xs m ≡ true → n ≡ m

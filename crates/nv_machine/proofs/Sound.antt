@@ -128,6 +128,7 @@ fresh_sized block nodes (call.Mode handle mode) = tt
 fresh_sized block nodes (call.Stat handle) = tt
 fresh_sized block nodes (call.List dir) = tt
 fresh_sized block nodes (call.Lookup dir name) = tt
+fresh_sized block nodes (call.Snapshots what) = tt
 fresh_sized block nodes (call.Unlink dir name) = tt
 fresh_sized block nodes (call.Rmdir dir name) = tt
 fresh_sized block nodes (call.Rename from old to new) = tt

@@ -24,10 +24,10 @@ use Rattle.nv_machine.proofs.Entered.{OnShared, end_shared}
 use Rattle.nv_machine.proofs.Framed.{framed}
 use Rattle.nv_machine.proofs.Holding.{OnLocks}
 use Rattle.nv_machine.proofs.Kept.{AfterTurn, back_deed, deed, end_keeps, number_deed, turn_keeps}
-use Rattle.nv_machine.proofs.Lists.{drop_apart, has_drop, has_filter, has_later, or_right, rising_filter, self}
+use Rattle.nv_machine.proofs.Lists.{drop_apart, has_drop, has_filter, has_later, or_right, rising_filter, self, written_inside}
 use Rattle.nv_machine.proofs.Locked.{Before, locks_kept}
 use Rattle.nv_machine.proofs.LogsKept.{cell_set}
-use Rattle.nv_machine.proofs.Written.{written_inside, written_there}
+use Rattle.nv_machine.proofs.Written.{written_there}
 
 -- ---- cells
 

@@ -14,14 +14,14 @@ round cpus = 44 + 3 * cpus
 
 -- the steps left of a call on snapshots, of a drain with the records that it may still release
 abbrev pub rank_on : ℕ → ℕ → SnapshotStep → ℕ
-rank_on cpus slots Make = 1
-rank_on cpus slots (Drop snapshot) = 1
-rank_on cpus slots (Pin snapshot) = 3 + INODES
+rank_on cpus slots Make = 4 + cpus + slots
+rank_on cpus slots (Drop snapshot) = 4 + cpus + slots
+rank_on cpus slots (Pin snapshot) = INODES + (4 + cpus + slots)
 rank_on cpus slots (Show snapshot showing) = 2 + showing.left
 rank_on cpus slots (Unpin snapshot seen) = 1
 rank_on cpus slots (Release draining picked) = draining.left * round cpus + (4 + cpus + slots)
 rank_on cpus slots (LockPicked draining picked) = draining.left * round cpus + (5 + cpus + slots)
-rank_on cpus slots (Pick draining) = draining.left * round cpus + (7 + cpus)
+rank_on cpus slots (Pick draining) = draining.left * round cpus + (7 + cpus + slots)
 
 -- the steps left in one round, by the step that comes next, with so many CPUs and slots to lock
 abbrev pub rank : ℕ → ℕ → Next → ℕ

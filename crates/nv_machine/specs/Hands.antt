@@ -76,7 +76,7 @@ makes_inode Numbers = true
 makes_inode Looks = false
 makes_inode Locks = false
 makes_inode Visits = false
-makes_inode (OnSnapshots first) = false
+makes_inode (OnSnapshots what) = false
 
 -- before a check has passed a hand has a new inode's number at most, and no name was looked up for one
 pub record HasTakenNone (h : HandState) (r : Running) : Type 0 where

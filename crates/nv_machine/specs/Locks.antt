@@ -2,6 +2,9 @@
 use Rattle.std.specs.Prelude.{◌≡◌, ◌≢◌, ℕ, ◌<◌, ◌==◌, Bool, true, false, List, [], ◌∷◌, drop, length, take, Option, Some, None}
 use Rattle.std.specs.List.{AllByRecursion}
 use Rattle.nv_alloc.specs.Numbers.{IsRising, has}
+use Rattle.nv_book.specs.Book.{BookState}
+use Rattle.nv_book.specs.declared.manifest.Manifest.{Manifest}
+use Rattle.nv_book.specs.declared.record.Record.{Record}
 use Rattle.nv_machine.specs.Frame.{lent}
 use Rattle.nv_machine.specs.Reads.{slot_at, written_slots}
 use Rattle.nv_machine.specs.Sequence.{directories, nothing_looked}
@@ -83,10 +86,20 @@ pub record HoldsIts (s : Shared) (actor : ℕ) (running : Option Running) : Type
   pub holder : is_owner actor s.holder ≡ commits_by running
   pub slots : HasSlots (length s.owners) running
 
--- what holds of the locks of each world
+-- each record of a book, in a manifest or deferred
+pub record AllRecords (P : Record → Type 0) (b : BookState) : Type 0 where
+  pub filed : AllByRecursion (λ (m : Manifest). AllByRecursion P m.records) b.manifests
+  pub deferred : AllByRecursion P b.deferred
+
+-- a record is of a slot of the world
+abbrev pub IsOfSlot : ℕ → Record → Type 0
+IsOfSlot slots d = d.ino < slots
+
+-- what holds of the locks of each world; and a drain locks slots of records
 pub record AreLocks (w : World) : Type 0 where
   pub each : (actor : ℕ) → HoldsIts w.shared actor (actor_at w actor).running
   pub wide : length w.shared.owners ≡ length w.shared.cells
+  pub records : AllRecords (IsOfSlot (length w.shared.owners)) w.shared.book
 
 -- ---- what a step waits for
 

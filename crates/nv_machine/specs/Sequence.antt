@@ -14,24 +14,14 @@ use Rattle.nv_machine.specs.World.{Answers, Append, Check, Close, Draining, Drop
 
 -- ---- how calls begin
 
--- a new inode takes its number first; names are looked up; slots that are told are locked; a visit is its call's only step; and
--- a call on snapshots begins with this step
+-- a new inode takes its number first; names are looked up; slots that are told are locked; a visit is its call's only step; a
+-- call on snapshots has steps of its own
 pub data Beginning : Type 0 where
   Numbers : Beginning
   Looks : Beginning
   Locks : Beginning
   Visits : Beginning
-  OnSnapshots : (first : SnapshotStep) → Beginning
-
--- a drain may release as many records as its number says, where a number outside 1 to 1,048,576 counts as the nearest of these
-abbrev pub new_draining : ℕ → Draining
-new_draining count = record { released = 0; left = max 1 (min count DRAIN) - 1 }
-
-abbrev pub first_step : SnapshotCall → SnapshotStep
-first_step on.Snap = Make
-first_step (on.Drop snapshot) = Drop snapshot
-first_step (on.Show snapshot) = Pin snapshot
-first_step (on.Drain count) = Pick (new_draining count)
+  OnSnapshots : (what : SnapshotCall) → Beginning
 
 abbrev pub beginning : Call → Beginning
 beginning (call.Create dir name mode) = Numbers
@@ -46,7 +36,7 @@ beginning (call.Lookup dir name) = Visits
 beginning (call.Unlink dir name) = Looks
 beginning (call.Rmdir dir name) = Looks
 beginning (call.Rename from old to new) = Looks
-beginning (call.Snapshots c) = OnSnapshots (first_step c)
+beginning (call.Snapshots what) = OnSnapshots what
 
 -- the directories in which a call looks its names up, one look for each
 abbrev pub directories : Call → List Handle
@@ -114,9 +104,19 @@ started c next slots = record {
   epoch = 0;
 }
 
+-- a drain may release as many records as its number says, where a number outside 1 to 1,048,576 counts as the nearest of these
+abbrev pub new_draining : ℕ → Draining
+new_draining count = record { released = 0; left = max 1 (min count DRAIN) - 1 }
+
+abbrev pub first_step : SnapshotCall → SnapshotStep
+first_step on.Snap = Make
+first_step (on.Drop snapshot) = Drop snapshot
+first_step (on.Show snapshot) = Pin snapshot
+first_step (on.Drain count) = Pick (new_draining count)
+
 abbrev pub begun : Beginning → Shared → Call → Running
 begun Numbers s c = started c Number []
 begun Looks s c = started c (Look 0) []
 begun Locks s c = started c (locking 0 (slots_of s None nothing_looked c)) (slots_of s None nothing_looked c)
 begun Visits s c = started c Visit []
-begun (OnSnapshots first) s c = started c (Snapshots first) []
+begun (OnSnapshots what) s c = started c (Snapshots (first_step what)) []

@@ -30,7 +30,7 @@ is_numbered Numbers number = is_some number
 is_numbered Looks number = true
 is_numbered Locks number = true
 is_numbered Visits number = true
-is_numbered (OnSnapshots first) number = true
+is_numbered (OnSnapshots what) number = true
 
 abbrev pub same_found : Option Handle → Option Handle → Bool
 same_found None None = true
