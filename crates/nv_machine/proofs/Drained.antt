@@ -57,10 +57,14 @@ OnDrain before n (Ends result s h) = IsCounted n result
 
 -- ---- its steps
 
+abbrev count_told : ℕ → Result Answer Fault
+count_told n = Ok (answers.Count n)
+
+same_count : (n m : ℕ) → count_told n ≡ count_told m → m ≡ n
+same_count n m e = cc
+
 counted : (n told : ℕ) → told ≡ n → IsCounted n (Ok (answers.Count told))
-counted n told e other same = number same ∙ e where
-  number : Ok {E = Fault} (answers.Count told) ≡ Ok (answers.Count other) → other ≡ told
-  number same = cc
+counted n told e other same = same_count told other same ∙ e
 
 refused : (n : ℕ) (fault : Fault) → IsCounted n (Err fault)
 refused n fault told e = cc
@@ -249,8 +253,9 @@ module _ (actor : ℕ) where
       ≡ Done (answers.Count told)
       → told ≡ releases actor (step w (Start actor (call.Snapshots (on.Drain count)))).world (events ++ Go actor granted ∷ [])
   drain_told events w count told granted started apart reply =
-      events_told events (step w (Start actor (call.Snapshots (on.Drain count)))).world 0 told granted apart
-      (begun_drains (nat_lt actor (length w.actors)) (actor_at w actor).running w count refl started) reply
+      let told_is = events_told events (step w (Start actor (call.Snapshots (on.Drain count)))).world 0 told granted apart
+      (begun_drains (nat_lt actor (length w.actors)) (actor_at w actor).running w count refl started) reply in
+      omega (arith, told_is)
 
 -- ---- a pick that finds nothing
 

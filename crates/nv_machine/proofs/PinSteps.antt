@@ -4,21 +4,22 @@ use Rattle.std.proofs.lemmas.Bool.{eqb-true, eqb-false}
 use Rattle.std.specs.Option.{option_map, option_or}
 use Rattle.std.specs.Prelude.{Ok, Err}
 use Rattle.nv_base.specs.declared.fault.Fault.{Fault}
+use Rattle.nv_calls.specs.AllCalls.{blocks_wanted}
 use Rattle.nv_calls.specs.Refusals.{Check as Tests}
 use Rattle.nv_calls.specs.declared.answer.Answer.{Answer}
 use Rattle.nv_calls.specs.declared.looked.Looked.{Looked}
 use Rattle.nv_entry.specs.declared.node.NodeCopy.{NodeCopy}
 use Rattle.nv_entry.specs.declared.tree.TreeNode.{TreeNode}
 use Rattle.nv_epoch.specs.SnapList.{Snapshots as Living, after_making, after_pin, after_removal, after_unpin, pins_of}
-use Rattle.nv_epoch.proofs.Pins.{pins_at-changed, pins_at-kept, pins_at-push, pins_at-removed, pins_at-unchanged}
+use Rattle.nv_machine.proofs.LivingPins.{pins_at-changed, pins_at-kept, pins_at-push, pins_at-removed, pins_at-unchanged}
 use Rattle.nv_reader.specs.Walk as walk
 use Rattle.nv_book.specs.declared.record.Record.{Record}
 use Rattle.nv_machine.specs.Kinds.{again_turn, append_turn, blocks_turn, check_turn, drained_turn, end_turn, enter_turn, grown, last_turn, lock_turn, look_turn, number_turn, over_turn, pages_turn, refuse, rest_turn, unlocked_turn, back_turn, visit_turn, wants_blocks, wants_pages}
 use Rattle.nv_machine.specs.Reading.{ArePins, pins_at, pins_on}
-use Rattle.nv_machine.specs.Reads.{written_slots}
+use Rattle.nv_machine.specs.Reads.{copies, has_last_page, slots_of, written_slots}
 use Rattle.nv_machine.specs.Sequence.{appending, closing, directories, locking, looking, opening, publishing, retiring}
 use Rattle.nv_machine.specs.Snapshots.{drop_turn, drop_tests, if_free, lock_picked_turn, first_showing, make_tests, make_turn, picked_turn, pin_turn, seen_on, show_or_unpin, show_turn, snapshot_turn}
-use Rattle.nv_machine.specs.Step.{kind_turn}
+use Rattle.nv_machine.specs.Step.{ending_at, kind_turn, with_made}
 use Rattle.nv_machine.specs.World.{Append, Back, Check, Close, Draining, Drains, Drop, Ending, Ends, Enter, Give, HandState, Leave, Lock, LockPicked, Look, Make, Moves, Next, Number, Open, Overtaken, Pick, Pin, Publish, Ready, Refuses, Release, Retire, Running, Shared, Show, Showing, SnapshotStep, Snapshots, TakeBlocks, TakePages, Turn, Unlock, Unpin, Visit, Waits, Answers}
 
 -- ---- pins and shows
@@ -131,8 +132,10 @@ module _ (snapshot : ℕ) where
   look_pins : (owner : Option ℕ) (tests : Tests) (found : Looked) (place : ℕ) (s : Shared) (h : HandState) (r : Running)
       → OnPins snapshot false s.book.snaps (look_turn owner tests found place s h r)
   look_pins (Some other) tests found place s h r = tt
-  look_pins None (Err fault) found place s h r = end_pins [] _ s h r
-  look_pins None (Ok passed) found place s h r = plain_fits snapshot _ s.book.snaps (looking_none snapshot (place + 1) _)
+  look_pins None (Err fault) found place s h r = end_pins [] (Refuses fault) s h r
+  look_pins None (Ok passed) found place s h r =
+      plain_fits snapshot _ s.book.snaps
+      (looking_none snapshot (place + 1) (record r { looked = found; slots = slots_of s None found r.call }))
 
   lock_pins : (owner : Option ℕ) (actor place : ℕ) (s : Shared) (h : HandState) (r : Running)
       → OnPins snapshot false s.book.snaps (lock_turn owner actor place s h r)
@@ -169,7 +172,9 @@ module _ (snapshot : ℕ) where
   enter_pins (Some other) last granted actor s h r = tt
   enter_pins None true granted actor s h r = end_pins r.slots _ s h r
   enter_pins None false false actor s h r = end_pins r.slots _ s h r
-  enter_pins None false true actor s h r = plain_fits snapshot _ s.book.snaps (appending_none snapshot 0 _)
+  enter_pins None false true actor s h r =
+      plain_fits snapshot _ s.book.snaps
+      (appending_none snapshot 0 (written_slots (record r { commit = s.book.commit + 1; epoch = s.book.snaps.epoch })))
 
   unlock_pins : (more : Bool) (place : ℕ) (s : Shared) (h : HandState) (r : Running)
       → OnPins snapshot false s.book.snaps (unlocked_turn more place s h r)
@@ -328,7 +333,9 @@ module _ (snapshot : ℕ) where
   kind_pins Number block actor granted s h r = number_pins snapshot s.pool.numbers s h r
   kind_pins (Look place) block actor granted s h r = look_pins snapshot _ _ _ place s h r
   kind_pins (Lock place) block actor granted s h r = lock_pins snapshot _ actor place s h r
-  kind_pins Check block actor granted s h r = check_pins snapshot _ granted _ block s h _
+  kind_pins Check block actor granted s h r =
+      check_pins snapshot (ending_at block s h r) granted (blocks_wanted block (copies s) (has_last_page block s r.call) r.call) block s h
+      (with_made s h r)
   kind_pins (TakeBlocks asked) block actor granted s h r = blocks_pins snapshot _ _ asked block _ _ r
   kind_pins (TakePages asked) block actor granted s h r = taken_pins snapshot _ _ asked _ _ r
   kind_pins Ready block actor granted s h r = grown_pins snapshot granted _ s h r (same_fits snapshot false s.book.snaps)

@@ -2,7 +2,7 @@
 use Rattle.std.proofs.Common.{◌≡◌, ℕ, zero, suc, ◌+◌, ◌<◌, ◌∙◌, Bool, true, false, cond, List, [], ◌∷◌, length, nat_lt, Option, Some, None, ap, arith, get_or, refl, set, subst, sym}
 use Rattle.std.proofs.lemmas.Bool.{ltb-true}
 use Rattle.std.proofs.lemmas.List.Sums.{sum_by-cons, sum_by-set}
-use Rattle.std.specs.Prelude.{replicate}
+use Rattle.std.specs.Prelude.{count_by, replicate}
 use Rattle.nv_base.specs.declared.geometry.GeometryNumbers.{GeometryNumbers}
 use Rattle.nv_calls.specs.declared.call.Call.{Call}
 use Rattle.nv_calls.specs.declared.snapshot_call.SnapshotCall.{SnapshotCall}
@@ -38,14 +38,16 @@ module _ (snapshot : ℕ) where
   turned_pinned : (t : Turn) (actor : ℕ) (w : World) (r : Running) → actor < length w.actors → (actor_at w actor).running ≡ Some r
       → OnPins snapshot (pins_at snapshot r.next) w.shared.book.snaps t → Pinned w → Pinned (turned t actor w).world
   turned_pinned (Moves s h q) actor w r there is on are =
-      on (shows_of snapshot w) _
-      (ap (λ (o : Option Running). _ + one_if (pins_by_call snapshot o)) (sym is) ∙ shows_change w actor (record { hand = h; running = Some q }) s there)
-      are
+      let x : Actor = record { hand = h; running = Some q } in
+      let shows : ℕ = shows_of snapshot (record w { shared = s; actors = set w.actors actor x }) in
+      on (shows_of snapshot w) shows
+      (ap (λ (o : Option Running). shows + one_if (pins_by_call snapshot o)) (sym is) ∙ shows_change w actor x s there) are
   turned_pinned Waits actor w r there is on are = are
   turned_pinned (Ends result s h) actor w r there is on are =
-      on (shows_of snapshot w) _
-      (ap (λ (o : Option Running). _ + one_if (pins_by_call snapshot o)) (sym is) ∙ shows_change w actor (record { hand = h; running = None }) s there)
-      are
+      let x : Actor = record { hand = h; running = None } in
+      let shows : ℕ = shows_of snapshot (record w { shared = s; actors = set w.actors actor x }) in
+      on (shows_of snapshot w) shows
+      (ap (λ (o : Option Running). shows + one_if (pins_by_call snapshot o)) (sym is) ∙ shows_change w actor x s there) are
 
   go_pinned : (b : Bool) (running : Option Running) (w : World) (actor : ℕ) (granted : Bool) → nat_lt actor (length w.actors) ≡ b
       → (actor_at w actor).running ≡ running → Pinned w → Pinned (go_step b running actor granted w).world
@@ -85,8 +87,9 @@ module _ (snapshot : ℕ) where
   start_pinned true None w actor c there is are =
       let r = begun (beginning c) w.shared c in
       let x : Actor = record { hand = (actor_at w actor).hand; running = Some r } in
-      same_fits snapshot false w.shared.book.snaps (shows_of snapshot w) _
-      (ap (λ (o : Option Running). _ + one_if (pins_by_call snapshot o)) (sym is)
+      let shows : ℕ = shows_of snapshot (record w { actors = set w.actors actor x }) in
+      same_fits snapshot false w.shared.book.snaps (shows_of snapshot w) shows
+      (ap (λ (o : Option Running). shows + one_if (pins_by_call snapshot o)) (sym is)
       ∙ shows_change w actor x w.shared (ltb-true actor (length w.actors) there)
       ∙ ap (λ (b : Bool). shows_of snapshot w + one_if b) (begun_none c w.shared))
       are
@@ -99,7 +102,7 @@ module _ (snapshot : ℕ) where
   events_pinned [] w are = are
   events_pinned (e ∷ events) w are = events_pinned events (step w e).world (event_pinned w e are)
 
-  idle_none : (n : ℕ) → shows_of snapshot (record { numbers = _; shared = _; actors = replicate n idle }) ≡ 0
+  idle_none : (n : ℕ) → count_by (λ (actor : Actor). pins_by_call snapshot actor.running) (replicate n idle) ≡ 0
   idle_none zero = refl
   idle_none (suc n) = omega (arith, sum_by-cons counted idle (replicate n idle), idle_none n)
 
