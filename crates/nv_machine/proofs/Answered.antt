@@ -24,17 +24,26 @@ OnEnd e r (Moves t h q) = IsToEnd e q × (answer_of q ≡ answer_of r)
 OnEnd e r Waits = ⊥
 OnEnd e r (Ends result t h) = result ≡ result_by e r
 
-rest_end : (e : Ending) (home number : Option ℕ) (s : Shared) (h : HandState) (r : Running) → r.ending ≡ e
+last_end : (e : Ending) (s : Shared) (h : HandState) (r : Running) → IsFinal e → r.ending ≡ e → OnEnd e r (last_turn r.ending s h r)
+last_end e s h r final is = subst (λ x. OnEnd e r (last_turn x s h r)) (sym is) (go e final) where
+  go : (x : Ending) → IsFinal x → OnEnd x r (last_turn x s h r)
+  go Answers final = refl
+  go (Refuses fault) final = refl
+  go Overtaken final = absurd final
+  go (Drains draining) final = absurd final
+
+rest_end : (e : Ending) (home number : Option ℕ) (s : Shared) (h : HandState) (r : Running) → IsFinal e → r.ending ≡ e
     → OnEnd e r (rest_turn home number s h r)
-rest_end e (Some cpu) number s h r is = (record { ends = is; last = tt }, refl)
-rest_end e None (Some ino) s h r is = (record { ends = is; last = tt }, refl)
-rest_end e None None s h r is = rw is refl
+rest_end e (Some cpu) number s h r final is = (record { ends = is; last = tt }, refl)
+rest_end e None (Some ino) s h r final is = (record { ends = is; last = tt }, refl)
+rest_end e None None s h r final is = last_end e s h r final is
 
 over_end : (e : Ending) (s : Shared) (h : HandState) (r : Running) → IsFinal e → r.ending ≡ e
     → OnEnd e r (over_turn e s h r)
-over_end Answers s h r final is = rest_end Answers _ h.ino s h r is
-over_end (Refuses fault) s h r final is = rest_end (Refuses fault) _ h.ino s h r is
+over_end Answers s h r final is = rest_end Answers _ h.ino s h r final is
+over_end (Refuses fault) s h r final is = rest_end (Refuses fault) _ h.ino s h r final is
 over_end Overtaken s h r final is = absurd final
+over_end (Drains draining) s h r final is = absurd final
 
 unlocked_end : (e : Ending) (s : Shared) (h : HandState) (r : Running) → IsFinal e → r.ending ≡ e
     → OnEnd e r (over_turn r.ending s h r)
@@ -81,10 +90,10 @@ unlock_end : (e : Ending) (more : Bool) (place : ℕ) (s : Shared) (h : HandStat
 unlock_end e true place s h r final is = (record { ends = is; last = tt }, refl)
 unlock_end e false place s h r final is = unlocked_end e s h r final is
 
-back_end : (e : Ending) (number : Option ℕ) (s : Shared) (h : HandState) (r : Running) → r.ending ≡ e
+back_end : (e : Ending) (number : Option ℕ) (s : Shared) (h : HandState) (r : Running) → IsFinal e → r.ending ≡ e
     → OnEnd e r (back_turn number s h r)
-back_end e None s h r is = rw is refl
-back_end e (Some ino) s h r is = rw is refl
+back_end e None s h r final is = last_end e s h r final is
+back_end e (Some ino) s h r final is = last_end e _ _ r final is
 
 kind_end : (e : Ending) (k : Next) (block a : ℕ) (granted : Bool) (s : Shared) (h : HandState) (r : Running) → IsFinal e
     → r.ending ≡ e → IsLast k → OnEnd e r (kind_turn k block a granted s h r)
@@ -92,8 +101,8 @@ kind_end e (Retire place) block a granted s h r final is last =
     (record { ends = is; last = retiring_last (place + 1) (written_slots r) }, refl)
 kind_end e Leave block a granted s h r final is last = end_end e r.slots _ h r final is
 kind_end e (Unlock place) block a granted s h r final is last = unlock_end e _ place _ h r final is
-kind_end e (Give cpu) block a granted s h r final is last = rest_end e _ h.ino _ _ r is
-kind_end e Back block a granted s h r final is last = back_end e h.ino s h r is
+kind_end e (Give cpu) block a granted s h r final is last = rest_end e _ h.ino _ _ r final is
+kind_end e Back block a granted s h r final is last = back_end e h.ino s h r final is
 kind_end e Number block a granted s h r final is last = absurd last
 kind_end e (Look place) block a granted s h r final is last = absurd last
 kind_end e (Lock place) block a granted s h r final is last = absurd last
