@@ -128,4 +128,6 @@ pub mod Moves
 pub mod LivingPins
 pub mod PinSteps
 pub mod Pins
+pub mod SnapSteps
+pub mod SnapsAlike
 pub mod Drained
