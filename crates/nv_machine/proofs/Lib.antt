@@ -131,3 +131,5 @@ pub mod FiledBooks
 pub mod FiledTurns
 pub mod FiledRuns
 pub mod Pairs
+pub mod FiledMarks
+pub mod FiledPublish

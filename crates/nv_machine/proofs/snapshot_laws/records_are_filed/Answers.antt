@@ -1,4 +1,4 @@
-use Rattle.nv_machine.proofs.Pairs.{has_more}
+use Rattle.nv_machine.proofs.FiledPublish.{published_marks}
 use Rattle.nv_machine.proofs.FiledRuns.{are_deferred, are_listed}
 use Rattle.nv_machine.proofs.snapshot_laws.records_are_filed.Goals as goal
 
