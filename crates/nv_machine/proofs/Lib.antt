@@ -130,4 +130,5 @@ pub mod PinSteps
 pub mod Pins
 pub mod SnapSteps
 pub mod SnapsAlike
+pub mod SnapRuns
 pub mod Drained
