@@ -4,6 +4,7 @@ use Rattle.std.specs.Prelude.{◌≡◌, ℕ, ◌+◌, ◌<◌, ◌≤◌, ◌%�
 use Rattle.std.specs.List.{AllByRecursion}
 use Rattle.nv_alloc.specs.declared.hand.Hand.{Hand}
 use Rattle.nv_base.specs.declared.geometry.GeometryNumbers.{GeometryNumbers}
+use Rattle.nv_base.specs.declared.limits.TheConstants.{DRAIN}
 use Rattle.nv_base.specs.declared.numbers.Handle.{Handle}
 use Rattle.nv_calls.specs.AllCalls.{is_nothing, refusal}
 use Rattle.nv_calls.specs.AllCalls.{looked as found_in}
@@ -200,12 +201,13 @@ WantsBlocks wanted shared hand running =
 abbrev pub HoldsOne : Hand → Type 0
 HoldsOne hand = 0 < hand.«data».room + length hand.«data».blocks
 
--- a show has another visit to make; behind its first pick a drain has room for the block of a record
+-- a show has another visit to make; a drain releases no more than it may, and behind its first pick it has room for the block of
+-- a record
 abbrev pub HasStepRoom : SnapshotStep → Hand → Type 0
 HasStepRoom (on.Show snapshot showing) hand = is_over (showing_of showing) ≡ false
-HasStepRoom (on.Pick draining) hand = 0 < draining.released → HoldsOne hand
-HasStepRoom (on.LockPicked draining picked) hand = HoldsOne hand
-HasStepRoom (on.Release draining picked) hand = HoldsOne hand
+HasStepRoom (on.Pick draining) hand = (draining.released + draining.left < DRAIN) × (0 < draining.released → HoldsOne hand)
+HasStepRoom (on.LockPicked draining picked) hand = (draining.released + draining.left < DRAIN) × HoldsOne hand
+HasStepRoom (on.Release draining picked) hand = (draining.released + draining.left < DRAIN) × HoldsOne hand
 HasStepRoom other hand = Unit {0}
 
 abbrev pub HasNextRoom : Next → Hand → Type 0
@@ -214,7 +216,7 @@ HasNextRoom other hand = Unit {0}
 
 -- so has one that goes on to its next record, and it is a call on snapshots
 abbrev pub CanDrain : Ending → Job → Hand → Type 0
-CanDrain (ending.Drains draining) j hand = IsOnSnapshots j × HoldsOne hand
+CanDrain (ending.Drains draining) j hand = IsOnSnapshots j × (draining.released + draining.left ≤ DRAIN) × HoldsOne hand
 CanDrain other j hand = Unit {0}
 
 -- what ends so is no drain that goes on

@@ -18,6 +18,7 @@ use Rattle.nv_core.specs.declared.hold.Hold.TheVariants as hold
 use Rattle.nv_core.specs.declared.job.Owed.{Owed}
 use Rattle.nv_core.specs.declared.job.Owed.TheVariants as owed
 use Rattle.nv_entry.specs.Tree.{root}
+use Rattle.nv_entry.specs.declared.tree.TreeNode.{TreeNode}
 use Rattle.nv_reader.specs.Walk.{Visit, next_handle, root_visit}
 use Rattle.nv_core.specs.declared.next.Draining.{Draining}
 use Rattle.nv_core.specs.declared.next.Ending.{Ending}
@@ -114,6 +115,20 @@ next_of (next.Give cpu) = machine.Give cpu
 next_of next.Back = machine.Back
 next_of next.Visit = machine.Visit
 next_of (next.Snapshots step) = machine.Snapshots (step_on step)
+
+-- the snapshot of a show that visits or ends, its state before a visit, and what it has seen at its end
+abbrev pub snapshot_in : Next → ℕ
+snapshot_in (next.Snapshots (on.Show snapshot showing)) = snapshot
+snapshot_in (next.Snapshots (on.Unpin snapshot seen)) = snapshot
+snapshot_in other = 0
+
+abbrev pub showing_in : Next → machine.Showing
+showing_in (next.Snapshots (on.Show snapshot showing)) = showing_of showing
+showing_in other = record { left = 0; visits = []; seen = [] }
+
+abbrev pub seen_in : Next → List TreeNode
+seen_in (next.Snapshots (on.Unpin snapshot seen)) = seen.items
+seen_in other = []
 
 abbrev pub ending_of : Ending → machine.Ending
 ending_of ending.Answers = machine.Answers

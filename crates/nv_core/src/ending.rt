@@ -5,9 +5,9 @@ ghost use Rattle.nv_machine.specs.Kinds.{again_turn, blocks_in, drained_turn, en
 ghost use Rattle.nv_machine.specs.Reads.{home_from};
 ghost use Rattle.nv_machine.specs.World as machine;
 ghost use Rattle.nv_core.specs.Parts.{AreHome, IsOfDevice};
-ghost use Rattle.nv_core.specs.Rooms.{CanDrain, CanEnd, HasRoomsAfter, HoldsOne, IsHandOf, IsNoDrain};
+ghost use Rattle.nv_core.specs.Rooms.{CanDrain, CanEnd, HasRoomsAfter, IsHandOf, IsNoDrain};
 ghost use Rattle.nv_core.specs.Shown.{Told, ending_of, hand_of, shared_of, shown, slots_in, turn_of};
-ghost use Rattle.nv_core.specs.Told.{IsOnSnapshots, KeepsJob, OwesAt};
+ghost use Rattle.nv_core.specs.Told.{KeepsJob, OwesAt};
 
 use crate::hold::Hold;
 use crate::next::{Draining, Ending, Next, SnapshotStep};
@@ -94,7 +94,7 @@ pub(crate) fn last(running: &mut Running) -> Turn
 {
     match running.ending {
         Ending::Drains(draining) => drained(draining, running),
-        _ => Turn::Ends(result_of(running)),
+        Ending::Answers | Ending::Refuses(_) | Ending::Overtaken => Turn::Ends(result_of(running)),
     }
 }
 
@@ -106,7 +106,7 @@ fn drained(draining: Draining, running: &mut Running) -> Turn
     ensures job { KeepsJob running.old running.new }
     ensures goes { result ≢ Turn.Waits }
     ensures rooms { (s : Shared) (hand : Hand) → IsHandOf s.geometry.numbers hand
-        → IsOnSnapshots running.old.job → HoldsOne hand
+        → CanDrain (Ending.Drains draining) running.old.job hand
         → HasRoomsAfter result s (Hold.Hand hand) running.new }
 {
     if draining.left == 0 {

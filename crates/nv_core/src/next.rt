@@ -1,7 +1,7 @@
 //! The steps of a call that stand before it is ready and after its commit, and how it is to end.
 
 use crate::showing::Showing;
-use nv_base::{Epoch, Fault};
+use nv_base::Fault;
 use nv_book::Record;
 use nv_entry::TreeNode;
 
@@ -33,14 +33,15 @@ pub(crate) struct Draining {
 }
 
 /// The step of a call on snapshots. It makes one, or drops one; it pins one, shows its nodes inode by inode, and unpins
-/// it, with what it has seen; or it picks a deferred record, locks its inode and releases it.
+/// it, with what it has seen; or it picks a deferred record, locks its inode and releases it. A snapshot is given by its
+/// number.
 #[derive(Drop)]
 pub(crate) enum SnapshotStep {
     Make,
-    Drop(Epoch),
-    Pin(Epoch),
-    Show(Epoch, Showing),
-    Unpin(Epoch, Vec<TreeNode>),
+    Drop(u64),
+    Pin(u64),
+    Show(u64, Showing),
+    Unpin(u64, Vec<TreeNode>),
     Pick(Draining),
     LockPicked(Draining, Record),
     Release(Draining, Record),

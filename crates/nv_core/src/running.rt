@@ -4,6 +4,7 @@ ghost use Rattle.std.specs.Prelude.{◌≡◌, ◌<◌, ◌+◌, ℕ, List, None
 ghost use Rattle.nv_calls.specs.Prepared.{makes};
 ghost use Rattle.nv_machine.specs.Reads.{slots_of};
 ghost use Rattle.nv_machine.specs.Sequence.{begun, beginning, first_step, locking, looking, new_draining, nothing_looked};
+ghost use Rattle.nv_base.specs.declared.limits.TheConstants.{DRAIN};
 ghost use Rattle.nv_machine.specs.World as machine;
 ghost use Rattle.nv_core.specs.Rooms.{FitsCall, FitsNext, HasNextRoom, HasRooms, HasStepRoom, IsHandOf, takes};
 ghost use Rattle.nv_core.specs.Shown.{Told, draining_of, next_of, shared_of, shown, slots_in, step_on};
@@ -111,8 +112,8 @@ fn first_on_snapshots(call: &SnapshotCall) -> SnapshotStep
 {
     match call {
         SnapshotCall::Snap => SnapshotStep::Make,
-        SnapshotCall::Drop(snapshot) => SnapshotStep::Drop(*snapshot),
-        SnapshotCall::Show(snapshot) => SnapshotStep::Pin(*snapshot),
+        SnapshotCall::Drop(snapshot) => SnapshotStep::Drop(snapshot.number()),
+        SnapshotCall::Show(snapshot) => SnapshotStep::Pin(snapshot.number()),
         SnapshotCall::Drain(number) => SnapshotStep::Pick(new_draining(*number)),
     }
 }
@@ -120,6 +121,7 @@ fn first_on_snapshots(call: &SnapshotCall) -> SnapshotStep
 /// A drain that may release so many records. A number outside 1 to [`limits::DRAIN`] counts as the nearest of these.
 fn new_draining(number: u64) -> Draining
     ensures value { draining_of result ≡ new_draining number }
+    ensures few { result.released + result.left < DRAIN }
     ensures none { result.released ≡ 0 }
 {
     Draining {

@@ -1,6 +1,6 @@
 //! A snapshot is pinned, shown inode by inode, and unpinned.
 
-ghost use Rattle.std.specs.Prelude.{◌≡◌, ◌≢◌, ◌<◌, ℕ, [], IfOk, None, false};
+ghost use Rattle.std.specs.Prelude.{◌≡◌, ◌≢◌, ◌<◌, [], IfOk, false};
 ghost use Rattle.std.specs.Option.{ForSome, IsSomeAnd};
 ghost use Rattle.nv_base.specs.Refusals.{FailsOnly};
 ghost use Rattle.nv_base.specs.declared.fault.Fault.TheVariants.{OutOfMemory};
@@ -10,7 +10,7 @@ ghost use Rattle.nv_machine.specs.Snapshots.{copies_at, pin_turn, seen_on, show_
 ghost use Rattle.nv_machine.specs.World as machine;
 ghost use Rattle.nv_machine.specs.World.{HandState, empty_hand, owner_at};
 ghost use Rattle.nv_core.specs.Rooms.{HasRooms, HasRoomsAfter, HasStepRoom, IsShow, IsUnpin};
-ghost use Rattle.nv_core.specs.Shown.{Told, is_over, shared_of, showing_of, shown, slots_in, step_on, turn_of};
+ghost use Rattle.nv_core.specs.Shown.{Told, is_over, seen_in, shared_of, showing_in, showing_of, shown, slots_in, snapshot_in, step_on, turn_of};
 ghost use Rattle.nv_core.specs.Steps.{CanShow};
 ghost use Rattle.nv_core.specs.Told.{IsEither, KeepsJob};
 
@@ -32,7 +32,7 @@ pub(crate) fn pin(
     alloc: Global,
     shared: &mut Shared,
     running: &mut Running,
-    snapshot: Epoch,
+    snapshot: u64,
 ) -> Turn
     requires next { running.old.next ≡ Next.Snapshots (SnapshotStep.Pin snapshot) }
     requires slots { slots_in running.old.slots ≡ [] }
@@ -46,7 +46,7 @@ pub(crate) fn pin(
         → HasRoomsAfter result shared.new (Hold.Hand hand) running.new }
     ensures rest { shared.new ≡ record shared.old { book = shared.new.book } }
 {
-    if let Err(fault) = shared.book.pin(snapshot) {
+    if let Err(fault) = shared.book.pin(Epoch::new(snapshot)) {
         return Turn::Ends(Err(fault));
     }
     let showing = Showing::first(alloc, shared.cells.len());
@@ -55,7 +55,7 @@ pub(crate) fn pin(
 }
 
 /// The next visit, or the end where there is none.
-fn showing_on(snapshot: Epoch, showing: Showing) -> SnapshotStep
+fn showing_on(snapshot: u64, showing: Showing) -> SnapshotStep
     ensures step { step_on result ≡ showing_on snapshot (showing_of showing) }
     ensures room { (hand : Hand) → HasStepRoom result hand }
 {
@@ -69,12 +69,10 @@ fn showing_on(snapshot: Epoch, showing: Showing) -> SnapshotStep
 /// Visits one inode at the epoch of a snapshot, or waits for its lock. Where memory is refused, the pin is to go.
 pub(crate) fn show(alloc: Global, shared: &Shared, running: &mut Running) -> Turn
     requires next { IsShow running.old.next }
-    requires can { (snapshot : ℕ) (showing : Showing)
-        → running.old.next ≡ Next.Snapshots (SnapshotStep.Show snapshot showing)
-        → CanShow shared.now snapshot × (is_over (showing_of showing) ≡ false) }
-    ensures turn { (told : Told) (h : HandState) (snapshot : ℕ) (showing : Showing)
-        → running.old.next ≡ Next.Snapshots (SnapshotStep.Show snapshot showing)
-        → let s = shared_of shared.now in let to = showing_of showing in
+    requires can { CanShow shared.now (snapshot_in running.old.next) }
+    requires more { is_over (showing_in running.old.next) ≡ false }
+    ensures turn { (told : Told) (h : HandState) → let s = shared_of shared.now in
+        let snapshot = snapshot_in running.old.next in let to = showing_in running.old.next in
         IsEither (λ granted. show_turn (owner_at s (visited to.visits).ino) granted
         (copies_at s snapshot (visited to.visits)) snapshot to s h (shown told running.old))
         (turn_of result s h (shown told running.new)) }
@@ -108,7 +106,7 @@ pub(crate) fn show(alloc: Global, shared: &Shared, running: &mut Running) -> Tur
 fn see(
     alloc: Global,
     shared: &Shared,
-    snapshot: Epoch,
+    snapshot: u64,
     showing: Showing,
 ) -> Result<Showing, Fault>
     requires can { CanShow shared.now snapshot }
@@ -119,19 +117,17 @@ fn see(
     ensures err { FailsOnly OutOfMemory result }
 {
     let handle = showing.visited();
-    let node = shared.node_at(alloc, &handle, snapshot)?;
+    let node = shared.node_at(alloc, &handle, Epoch::new(snapshot))?;
     showing.see(alloc, node)
 }
 
 /// Takes the pin off, and answers the nodes that were seen. This is the call's last step.
 pub(crate) fn unpin(shared: &mut Shared, running: &mut Running) -> Turn
     requires next { IsUnpin running.old.next }
-    requires pins { (snapshot : ℕ) (seen : Vec TreeNode)
-        → running.old.next ≡ Next.Snapshots (SnapshotStep.Unpin snapshot seen)
-        → IsSomeAnd (pins_of shared.old.book.state.snaps snapshot) (λ pins. 0 < pins) }
-    ensures turn { (told : Told) (h : HandState) (snapshot : ℕ) (seen : Vec TreeNode)
-        → running.old.next ≡ Next.Snapshots (SnapshotStep.Unpin snapshot seen)
-        → unpin_turn snapshot seen.items (shared_of shared.old) h (shown told running.old)
+    requires pins { IsSomeAnd (pins_of shared.old.book.state.snaps (snapshot_in running.old.next))
+        (λ pins. 0 < pins) }
+    ensures turn { (told : Told) (h : HandState) → unpin_turn (snapshot_in running.old.next)
+        (seen_in running.old.next) (shared_of shared.old) h (shown told running.old)
         ≡ turn_of result (shared_of shared.new) h (shown told running.new) }
     ensures ends { (result ≢ Turn.Moves) × (result ≢ Turn.Waits) }
     ensures job { KeepsJob running.old running.new }
@@ -142,7 +138,7 @@ pub(crate) fn unpin(shared: &mut Shared, running: &mut Running) -> Turn
     else {
         unreachable!()
     };
-    shared.book.unpin(snapshot);
+    shared.book.unpin(Epoch::new(snapshot));
     match running.ending {
         Ending::Refuses(fault) => Turn::Ends(Err(fault)),
         _ => Turn::Ends(Ok(Answer::Tree(Tree::from_vec(seen)))),
