@@ -23,6 +23,7 @@ pub mod GivenReady
 pub mod Gives
 pub mod Homes
 pub mod Kept
+pub mod LastTurns
 pub mod LawsHold
 pub mod Locked
 pub mod Looks

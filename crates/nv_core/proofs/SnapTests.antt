@@ -1,5 +1,5 @@
 -- What the tests of calls on snapshots come to, where the book refuses or does as it is asked.
-use Rattle.std.proofs.Common.{◌≡◌, ◌∙◌, ℕ, zero, suc, ◌<◌, ◌≤◌, ◌⊎◌, inl, inr, [], Option, Some, None, arith, length, refl, subst, sym, true≢false}
+use Rattle.std.proofs.Common.{◌≡◌, ◌∙◌, ℕ, zero, suc, ◌<◌, ◌≤◌, ◌⊎◌, inl, inr, [], Option, Some, None, arith, length, refl, subst, sym, false, true≢false}
 use Rattle.nv_core.proofs.VisitTurns.{refuses}
 use Rattle.std.specs.Prelude.{◌↔◌, IsOk, IsSome, Result, Ok, Err}
 use Rattle.std.specs.Option.{IsSomeAnd}
