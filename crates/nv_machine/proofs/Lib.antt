@@ -131,4 +131,6 @@ pub mod Pins
 pub mod SnapSteps
 pub mod SnapsAlike
 pub mod SnapRuns
+pub mod EpochLogs
+pub mod EpochSteps
 pub mod Drained
