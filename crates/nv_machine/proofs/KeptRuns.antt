@@ -21,10 +21,10 @@ use Rattle.nv_machine.specs.Locks.{AreLocks, HoldsIts, commits_at}
 use Rattle.nv_machine.specs.Order.{IsInOrder}
 use Rattle.nv_machine.specs.PlainRun.{Nothing, deed_by, deed_of, keeps_nodes}
 use Rattle.nv_machine.specs.Reads.{slots_of, written_slots}
-use Rattle.nv_machine.specs.Sequence.{Beginning, Looks, Locks, Numbers, Visits, beginning, begun, nothing_looked}
+use Rattle.nv_machine.specs.Sequence.{Beginning, Looks, Locks, Numbers, Visits, beginning, begun, nothing_looked, OnSnapshots}
 use Rattle.nv_machine.specs.Settled.{settled, settled_nodes}
 use Rattle.nv_machine.specs.Step.{after, go_step, start_step, step, turn, turned}
-use Rattle.nv_machine.specs.World.{Actor, Append, Back, Check, Close, Ends, Enter, Event, Give, Go, HandState, Leave, Lock, Look, Moves, Next, Number, Open, Publish, Ready, Retire, Running, Shared, Start, TakeBlocks, TakePages, Turn, Unlock, Visit, Waits, World, actor_at, cell_at, empty_hand, idle, no_cell}
+use Rattle.nv_machine.specs.World.{Actor, Append, Back, Check, Close, Ends, Enter, Event, Give, Go, HandState, Leave, Lock, Look, Moves, Next, Number, Open, Publish, Ready, Retire, Running, Shared, Start, TakeBlocks, TakePages, Turn, Unlock, Visit, Waits, World, actor_at, cell_at, empty_hand, idle, no_cell, Snapshots}
 use Rattle.nv_machine.proofs.CellSteps.{empty_pages}
 use Rattle.nv_machine.proofs.CommitKept.{OnKept, same_killed}
 use Rattle.nv_machine.proofs.InOrder.{event_order}
@@ -80,6 +80,7 @@ module _ (block : ℕ) (s t : Shared) (cpu : ℕ) (h : HandState) (r : Running) 
   their_knows (Give home) same k = k
   their_knows Back same k = k
   their_knows Visit same k = k
+  their_knows (Snapshots step) same k = k
 
 their_own : (a b block : ℕ) (s t : Shared) (h : HandState) (running : Option Running) → b ≢ a → KeptLeft a s t → HoldsIts s b running
     → KnowsOf running block s (b % length s.lists) h → KnowsOf running block t (b % length t.lists) h
@@ -179,6 +180,7 @@ begun_knows Looks block cpu s c h none = (none, refl)
 begun_knows Locks block cpu s c h none =
     locking_knows block cpu 0 (slots_of s None nothing_looked c) s h (begun Locks s c) none refl
 begun_knows Visits block cpu s c h none = tt
+begun_knows (OnSnapshots what) block cpu s c h none = tt
 
 empty_nothing : (h : HandState) → h ≡ empty_hand → HasNothing h
 empty_nothing h e = record { blocks = ap (λ (x : HandState). x.blocks) e; killed = ap (λ (x : HandState). x.killed) e }

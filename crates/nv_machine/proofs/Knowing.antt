@@ -16,12 +16,12 @@ use Rattle.nv_calls.specs.declared.looked.Looked.{Looked}
 use Rattle.nv_base.specs.declared.numbers.Handle.{Handle}
 use Rattle.nv_entry.specs.declared.node.NodeCopy.{NodeCopy}
 use Rattle.nv_machine.specs.Kept.{AreClosed, HasNothing, IsInFile, IsPlanFor, Knows}
-use Rattle.nv_machine.specs.Kinds.{again_turn, back_turn, blocks_turn, check_ending, check_turn, end_turn, enter_turn, give_turn, grown, lock_turn, look_turn, number_turn, over_turn, pages_turn, ready_turn, rest_turn, take_blocks_turn, unlocked_turn, visit_turn, wants_blocks, wants_pages}
+use Rattle.nv_machine.specs.Kinds.{again_turn, back_turn, blocks_turn, check_ending, check_turn, end_turn, enter_turn, give_turn, grown, lock_turn, look_turn, number_turn, over_turn, pages_turn, ready_turn, rest_turn, take_blocks_turn, unlocked_turn, visit_turn, wants_blocks, wants_pages, drained_turn, last_turn}
 use Rattle.nv_calls.proofs.FillPages.{filled_numbers}
 use Rattle.nv_calls.specs.FillPages.{fresh_pages}
 use Rattle.nv_machine.specs.Reads.{copies, plan_by, slots_of, taken_by}
 use Rattle.nv_machine.specs.Sequence.{directories, locking}
-use Rattle.nv_machine.specs.World.{Answers, Ending, Ends, HandState, Lock, Look, Check, Moves, Overtaken, Refuses, Running, Shared, Turn, Waits, go_to, list_at}
+use Rattle.nv_machine.specs.World.{Answers, Ending, Ends, HandState, Lock, Look, Check, Moves, Overtaken, Refuses, Running, Shared, Turn, Waits, go_to, list_at, Drains}
 use Rattle.nv_machine.proofs.CommitKept.{knows_appending}
 use Rattle.nv_machine.proofs.Planned.{length_numbers, plan_fits, runs_are, small_numbers}
 
@@ -34,6 +34,7 @@ abbrev is_overtaken : Ending → Bool
 is_overtaken Answers = false
 is_overtaken (Refuses fault) = false
 is_overtaken Overtaken = true
+is_overtaken (Drains draining) = false
 
 pub not_overtaken : (e : Ending) → e ≡ Answers → e ≡ Overtaken → ⊥
 not_overtaken e a o = false≢true (ap is_overtaken (sym a ∙ o))
@@ -44,10 +45,19 @@ refused fault e = false≢true (ap is_overtaken e)
 module _ (block cpu : ℕ) where
   -- ---- the last steps
 
+  last_knows : (e : Ending) (s : Shared) (h : HandState) (r : Running) → OnKnows block cpu (last_turn e s h r)
+  last_knows Answers s h r = tt
+  last_knows (Refuses fault) s h r = tt
+  last_knows Overtaken s h r = tt
+  last_knows (Drains draining) s h r = go draining.left where
+    go : (left : ℕ) → OnKnows block cpu (drained_turn left draining.released s h r)
+    go zero = tt
+    go (suc left) = tt
+
   rest_knows : (home number : Option ℕ) (s : Shared) (h : HandState) (r : Running) → OnKnows block cpu (rest_turn home number s h r)
   rest_knows (Some home) number s h r = tt
   rest_knows None (Some ino) s h r = tt
-  rest_knows None None s h r = tt
+  rest_knows None None s h r = last_knows r.ending s h r
 
   again_knows : (rounds : ℕ) (s : Shared) (h : HandState) (r : Running) → HasNothing h → OnKnows block cpu (again_turn rounds s h r)
   again_knows zero s h r none = tt
@@ -58,6 +68,7 @@ module _ (block cpu : ℕ) where
   over_knows Answers s h r none = rest_knows _ h.ino s h r
   over_knows (Refuses fault) s h r none = rest_knows _ h.ino s h r
   over_knows Overtaken s h r none = again_knows r.rounds s h r (none refl)
+  over_knows (Drains draining) s h r none = rest_knows _ h.ino s h r
 
   pub end_knows : (slots : List ℕ) (e : Ending) (s : Shared) (h : HandState) (r : Running) → (e ≡ Overtaken → HasNothing h)
       → OnKnows block cpu (end_turn slots e s h r)
@@ -183,8 +194,8 @@ module _ (block cpu : ℕ) where
   give_knows home s h r = rest_knows _ h.ino _ _ r
 
   pub back_knows : (number : Option ℕ) (s : Shared) (h : HandState) (r : Running) → OnKnows block cpu (back_turn number s h r)
-  back_knows None s h r = tt
-  back_knows (Some ino) s h r = tt
+  back_knows None s h r = last_knows r.ending s h r
+  back_knows (Some ino) s h r = last_knows r.ending _ _ r
 
   pub visit_knows : (owner : Option ℕ) (tests : Tests) (granted : Bool) (found : Answer) (s : Shared) (h : HandState) (r : Running)
       → OnKnows block cpu (visit_turn owner tests granted found s h r)

@@ -4,6 +4,7 @@ pub mod Lists
 pub mod Holding
 pub mod Locked
 pub mod Framed
+pub mod SnapshotTurns
 pub mod BookRecords
 pub mod Bounded
 pub mod Events
