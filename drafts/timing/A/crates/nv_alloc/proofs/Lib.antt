@@ -1,0 +1,9 @@
+pub mod Lists
+pub mod Slots
+pub mod Shelves
+pub mod GivingLemmas
+pub mod Trees
+pub mod RunLemmas
+pub mod FromScratch
+pub mod Lowest
+pub mod Written

@@ -1,0 +1,11 @@
+pub mod Numbers
+pub mod Places
+pub mod Runs
+pub mod Block
+pub mod Lends
+pub mod FreeList
+pub mod Giving
+pub mod Queue
+pub mod QueueLends
+pub mod Hand
+pub mod InodePool

@@ -1,0 +1,30 @@
+-- Runs of consecutive numbers.
+use Rattle.std.specs.Prelude.{◌≡◌, ℕ, ◌+◌, ◌-◌, ◌<◌, ◌≤◌, ◌==◌, ◌++◌, List, [], ◌∷◌, if◌then◌else◌}
+use Rattle.std.specs.List.{range_with_len}
+use Rattle.nv_alloc.specs.declared.runs.FreeRun.{FreeRun}
+
+-- the runs with a number before them: it joins a first run that begins right after it
+abbrev pub join : ℕ → List FreeRun → List FreeRun
+join n [] = record { first = n; last = n } ∷ []
+join n (run ∷ runs) = if run.first == n + 1 then record { first = n; last = run.last } ∷ runs else record { first = n; last = n } ∷ run ∷ runs
+
+-- the maximal runs of a rising list, in rising order
+abbrev pub runs_of : List ℕ → List FreeRun
+runs_of [] = []
+runs_of (n ∷ numbers) = join n (runs_of numbers)
+
+-- all numbers of the runs, in order
+abbrev pub numbers_in : List FreeRun → List ℕ
+numbers_in [] = []
+numbers_in (run ∷ runs) = range_with_len run.first (run.last + 1 - run.first) ++ numbers_in runs
+
+-- each run has a number, and at least one number is missing before the next run
+abbrev pub HaveGaps : List FreeRun → Type 0
+HaveGaps [] = Unit {0}
+HaveGaps (run ∷ []) = run.first ≤ run.last
+HaveGaps (run ∷ next ∷ runs) = (run.first ≤ run.last) × (run.last + 1 < next.first) × HaveGaps (next ∷ runs)
+
+-- the runs have exactly these numbers, and none could be longer
+pub record IsCutInto (numbers : List ℕ) (runs : List FreeRun) : Type 0 where
+  pub all : numbers_in runs ≡ numbers
+  pub maximal : HaveGaps runs

@@ -1,0 +1,34 @@
+//! Blocks that go home, or are taken apart.
+
+ghost use Rattle.std.specs.Prelude.{◌≡◌, ◌≤◌, [], MatchOption, All, Any};
+ghost use Rattle.std.specs.VecDeque.{deque_capacity};
+ghost use Rattle.nv_alloc.specs.Giving.{after_giving, kept_of};
+
+use crate::{Block, FreeList};
+use std::collections::VecDeque;
+
+/// Gives the list the blocks that it takes, one after another, and keeps the others in their order.
+pub(crate) fn give_home(blocks: &mut VecDeque<Block>, list: &mut FreeList)
+    ensures kept { blocks.new.items ≡ kept_of list.old blocks.old.items }
+    ensures given { list.new ≡ after_giving list.old blocks.old.items }
+    ensures capacity { deque_capacity blocks.new ≡ deque_capacity blocks.old }
+{
+    for _ in 0..blocks.len() {
+        let Some(block) = blocks.pop_front() else {
+            unreachable!()
+        };
+        if list.takes(&block) {
+            list.give(block);
+        } else {
+            blocks.push_back_reserved(block);
+        }
+    }
+}
+
+/// Takes blocks apart.
+pub(crate) fn dismantle(mut blocks: VecDeque<Block>) {
+    while let Some(block) = blocks.pop_front() {
+        let _ = block.into_bytes();
+    }
+    blocks.destroy_empty();
+}

@@ -1,0 +1,99 @@
+//! The free inode numbers.
+
+ghost use Rattle.std.specs.Prelude.{◌≡◌, ℕ, ◌<◌, ◌==◌, IfOk, length, false, nat_lt, drop, slice_get};
+ghost use Rattle.std.specs.List.{range_with_len};
+ghost use Rattle.nv_base.specs.Refusals.{FailsOnly};
+ghost use Rattle.nv_alloc.specs.InodePool.{IsPool};
+ghost use Rattle.nv_alloc.specs.Numbers.{has, put_by};
+
+use crate::places::PlaceSet;
+use nv_base::{Fault, Geometry, Ino};
+use std::alloc::Global;
+use std::marker::Model;
+
+/// The free inode numbers. Contracts see how many inodes there are, and the free numbers in rising order.
+/// Its memory is all taken when it is made.
+#[derive(Drop)]
+pub struct InodePool {
+    free: PlaceSet,
+    count: u64,
+    inodes: u64,
+}
+
+impl Model for InodePool {
+    ghost use Rattle.nv_alloc.specs.InodePool.{FreeInodes, IsCounted};
+    ghost use Rattle.nv_alloc.specs.Places.{places};
+
+    ghost Value = { FreeInodes };
+
+    ghost view = { λ p. record { inodes = p.inodes; numbers = places 0 p.free } };
+
+    ghost invariant = { λ p. IsCounted p.inodes p.count p.free };
+}
+
+impl InodePool {
+    /// The pool with all numbers of a geometry's inodes: `OutOfMemory` where there is no room for them.
+    pub fn new(alloc: Global, geometry: &Geometry) -> Result<InodePool, Fault>
+        ensures inodes { IfOk result (λ pool. pool.inodes ≡ geometry.now.numbers.inodes) }
+        ensures numbers { IfOk result (λ pool. pool.numbers ≡ range_with_len 0 geometry.now.numbers.inodes) }
+        ensures err { FailsOnly Fault.OutOfMemory result }
+    {
+        let inodes = geometry.numbers.inodes;
+        let free = PlaceSet::full(alloc, inodes as usize)?;
+        Ok(InodePool {
+            free,
+            count: inodes,
+            inodes,
+        })
+    }
+
+    /// How many numbers are free.
+    pub fn len(&self) -> u64
+        ensures count { result ≡ length self.now.numbers }
+        ensures lawful { IsPool self.now }
+    {
+        self.count
+    }
+
+    pub fn is_empty(&self) -> bool
+        ensures { result ≡ (length self.now.numbers == 0) }
+    {
+        self.count == 0
+    }
+
+    /// Whether the number is one of the pool's inodes, free or not.
+    pub fn is_inode(&self, ino: Ino) -> bool
+        ensures { result ≡ nat_lt ino self.now.inodes }
+    {
+        ino.number() < self.inodes
+    }
+
+    /// Whether the number is free.
+    pub fn has(&self, ino: Ino) -> bool
+        ensures { result ≡ has self.now.numbers ino }
+    {
+        let free = &self.free;
+        self.is_inode(ino) && free.has(ino.number() as usize)
+    }
+
+    /// Takes the lowest free number out, where there is one.
+    pub fn take(&mut self) -> Option<Ino>
+        ensures lowest { result ≡ slice_get self.old.numbers 0 }
+        ensures rest { self.new ≡ record self.old { numbers = drop 1 self.old.numbers } }
+    {
+        let place = self.free.lowest()?;
+        self.free.remove(place);
+        self.count -= 1;
+        Some(Ino::new(place as u64))
+    }
+
+    /// Takes a number back.
+    pub fn give(&mut self, ino: Ino)
+        requires inode { ino < self.old.inodes }
+        requires absent { has self.old.numbers ino ≡ false }
+        ensures { self.new ≡ record self.old { numbers = put_by (λ n. n) ino self.old.numbers } }
+    {
+        self.free.insert(ino.number() as usize);
+        self.count += 1;
+    }
+}

@@ -1,0 +1,48 @@
+//! Laws of free lists and runs, each the contract of an empty function.
+
+ghost use Rattle.std.specs.Prelude.{◌≡◌, ℕ, ◌+◌, ◌≤◌, ◌&&◌, ◌++◌, ◌∷◌, Bool, List, drop, filter, nat_le, nat_lt, not, take};
+ghost use Rattle.nv_alloc.specs.Block.{AreSized, BlockValue, numbers_of, put_block, put_blocks};
+ghost use Rattle.nv_alloc.specs.FreeList.{FreeBlocks, is_home};
+ghost use Rattle.nv_alloc.specs.Giving.{after_giving, kept_of};
+ghost use Rattle.nv_alloc.specs.Numbers.{has, times, IsRising, unused};
+ghost use Rattle.nv_alloc.specs.Runs.{IsCutInto, runs_of};
+
+/// A law: a rising list that has exactly the unused numbers of a range is the free list from scratch.
+pub fn rising_list_of_unused_is_from_scratch()
+    ensures { (is_used : ℕ → Bool) (low len : ℕ) (numbers : List ℕ) → IsRising numbers
+        → ((n : ℕ) → has numbers n ≡ (nat_le low n && nat_lt n (low + len) && not (is_used n)))
+        → numbers ≡ unused is_used low len }
+{}
+
+/// A law: when blocks move between a list and a queue, as [`crate::FreeList::take`], [`crate::FreeList::give`]
+/// and the calls `give_home` move them, each number stands as often in both together as before.
+pub fn no_move_loses_a_number()
+    ensures taken { (n k : ℕ) (queue list : List BlockValue) →
+        times n (numbers_of (queue ++ take k list)) + times n (numbers_of (drop k list))
+        ≡ times n (numbers_of queue) + times n (numbers_of list) }
+    ensures given { (n : ℕ) (block : BlockValue) (list : List BlockValue) →
+        times n (numbers_of (put_block block list)) ≡ times n (block.number ∷ numbers_of list) }
+    ensures home { (n : ℕ) (list : FreeBlocks) (queue : List BlockValue) →
+        times n (numbers_of (kept_of list queue))
+        + times n (numbers_of (after_giving list queue).blocks)
+        ≡ times n (numbers_of queue) + times n (numbers_of list.blocks) }
+{}
+
+/// A law: where each number stands once in blocks and list together and the blocks have the list's size, all
+/// that are at home go there, and the others are kept.
+pub fn each_number_once_goes_home()
+    ensures kept { (list : FreeBlocks) (queue : List BlockValue) → AreSized list.size queue
+        → ((n : ℕ) → times n (numbers_of queue) + times n (numbers_of list.blocks) ≤ 1)
+        → kept_of list queue ≡ filter (λ block. not (is_home list block.number)) queue }
+    ensures given { (list : FreeBlocks) (queue : List BlockValue) → AreSized list.size queue
+        → ((n : ℕ) → times n (numbers_of queue) + times n (numbers_of list.blocks) ≤ 1)
+        → after_giving list queue
+        ≡ record list {
+          blocks = put_blocks (filter (λ block. is_home list block.number) queue) list.blocks;
+        } }
+{}
+
+/// A law: the runs of a rising list have its numbers, in order, and none of them could be longer.
+pub fn runs_cut_a_rising_list()
+    ensures { (numbers : List ℕ) → IsRising numbers → IsCutInto numbers (runs_of numbers) }
+{}

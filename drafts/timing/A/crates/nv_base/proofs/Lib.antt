@@ -1,0 +1,2 @@
+pub mod HomeRanges
+pub mod Ids

@@ -1,0 +1,6 @@
+pub mod Homes
+pub mod Ids
+pub mod Limits
+pub mod Names
+pub mod Refusals
+pub mod Texts

@@ -1,0 +1,71 @@
+//! The limits that hold for every geometry, call and name.
+
+ghost use Rattle.std.specs.Prelude.{◌≡◌, ◌≤◌, ◌↔◌, IsTrue, max, min};
+ghost use Rattle.nv_base.specs.declared.limits.TheConstants.{DRAIN, LOCK_ROUNDS};
+
+/// The most bytes of a block.
+pub const BLOCK_BYTES: u64 = 4_096;
+
+/// The fewest entries that a log page may hold.
+pub const LEAST_PAGE_ENTRIES: u64 = 2;
+
+/// The most entries that a log page may hold.
+pub const PAGE_ENTRIES: u64 = 63;
+
+/// The fewest blocks of a device.
+pub const LEAST_BLOCKS: u64 = 2;
+
+/// The most blocks of a device.
+pub const BLOCKS: u64 = 1_048_576;
+
+/// The most CPUs, each of which has a free list.
+pub const CPUS: u64 = 64;
+
+/// The most inodes.
+pub const INODES: u64 = 65_536;
+
+/// The most living snapshots.
+pub const SNAPS: u64 = 1_024;
+
+/// The most actors, and the most seats of a service.
+pub const ACTORS: u64 = 64;
+
+/// The most pages of a file. A page is one block.
+pub const FILE_PAGES: u32 = 65_536;
+
+/// The most pages that one write touches.
+pub const WRITE_PAGES: u64 = 1_024;
+
+/// The most bytes of a name.
+pub const NAME_BYTES: usize = 255;
+
+/// The greatest mode.
+pub const MODE: u16 = 4_095;
+
+/// The most readers that pin one snapshot at a time.
+pub const PINS: u32 = 64;
+
+/// How many rounds of looking names up and locking a call makes: once so many have failed, since another call
+/// bound one of its names anew in each, the call is contended.
+pub const LOCK_ROUNDS: u64 = 8;
+
+/// The most records that one drain releases.
+pub const DRAIN: u64 = 1_048_576;
+
+/// The greatest epoch, commit number, generation and version: 2 to the power of 62.
+pub const NUMBER: u64 = 4_611_686_018_427_387_904;
+
+/// Whether a call with so many failed rounds is contended.
+pub fn is_contended(failed_rounds: u64) -> bool
+    ensures { IsTrue result ↔ (LOCK_ROUNDS ≤ failed_rounds) }
+{
+    failed_rounds >= LOCK_ROUNDS
+}
+
+/// How many records a drain of this number releases at most: a number outside 1 to [`DRAIN`] counts as the
+/// nearest of these.
+pub fn most_drained(number: u64) -> u64
+    ensures { result ≡ max 1 (min number DRAIN) }
+{
+    number.clamp(1, DRAIN)
+}

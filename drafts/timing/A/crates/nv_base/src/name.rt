@@ -1,0 +1,81 @@
+//! Lawful names.
+
+ghost use Rattle.std.specs.Prelude.{◌≡◌, ◌↔◌, false, IsTrue, IsOk, IfOk};
+ghost use Rattle.std.specs.List.{list_all};
+ghost use Rattle.nv_base.specs.Names.{is_dots, is_lawful_name, is_name_byte};
+ghost use Rattle.nv_base.specs.Refusals.{FailsEither, FailsOnly, IsRefusedBy};
+
+use crate::{Fault, limits};
+use std::alloc::{AllocError, Global};
+use std::marker::Model;
+
+/// A lawful name: 1 to 255 bytes without `/` and NUL, and neither `.` nor `..`. Contracts see its bytes.
+#[derive(Debug, Drop)]
+pub struct Name {
+    bytes: Vec<u8>,
+}
+
+impl Model for Name {
+    ghost use Rattle.std.specs.Prelude.{List, ℕ, IsTrue};
+    ghost use Rattle.nv_base.specs.Names.{is_lawful_name};
+
+    ghost Value = { List ℕ };
+
+    ghost view = { λ n. n.bytes.items };
+
+    ghost invariant = { λ n. IsTrue (is_lawful_name n.bytes.items) };
+}
+
+impl Name {
+    /// Whether these bytes are a lawful name: `BadName` where they are not.
+    pub fn check(bytes: &[u8]) -> Result<(), Fault>
+        ensures ok { IsOk result ↔ IsTrue (is_lawful_name bytes.now) }
+        ensures err { FailsOnly Fault.BadName result }
+    {
+        let fits = !bytes.is_empty() && bytes.len() <= limits::NAME_BYTES;
+        if fits && has_name_bytes(bytes) && !is_dots(bytes) {
+            return Ok(());
+        }
+        Err(Fault::BadName)
+    }
+
+    /// The name with these bytes: `BadName` exactly where they are no lawful name, and else at worst
+    /// `OutOfMemory`.
+    pub fn read(alloc: Global, bytes: &[u8]) -> Result<Name, Fault>
+        ensures ok { IfOk result (λ name. name ≡ bytes.now) }
+        ensures err { FailsEither Fault.BadName Fault.OutOfMemory result }
+        ensures unlawful { IsRefusedBy result Fault.BadName ↔ (is_lawful_name bytes.now ≡ false) }
+    {
+        Name::check(bytes)?;
+        let bytes = Vec::from_slice(alloc, bytes)?;
+        Ok(Name { bytes })
+    }
+
+    /// The same name once more.
+    pub fn copied(&self, alloc: Global) -> Result<Name, AllocError>
+        ensures { IfOk result (λ name. name ≡ self.now) }
+    {
+        let bytes = Vec::from_slice(alloc, &self.bytes)?;
+        Ok(Name { bytes })
+    }
+
+    /// The bytes of the name.
+    pub fn bytes(&self) -> &[u8]
+        ensures value { result.now ≡ self.now }
+        ensures lawful { IsTrue (is_lawful_name self.now) }
+    {
+        &self.bytes
+    }
+}
+
+fn has_name_bytes(bytes: &[u8]) -> bool
+    ensures { result ≡ list_all is_name_byte bytes.now }
+{
+    bytes.iter().all(|byte| *byte != b'/' && *byte != 0)
+}
+
+fn is_dots(bytes: &[u8]) -> bool
+    ensures { result ≡ is_dots bytes.now }
+{
+    bytes == b".".as_slice() || bytes == b"..".as_slice()
+}

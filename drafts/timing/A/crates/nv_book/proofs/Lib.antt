@@ -1,0 +1,10 @@
+pub mod Books
+pub mod Counts
+pub mod Ends
+pub mod Filing
+pub mod Listing
+pub mod Places
+pub mod RecordLists
+pub mod Series
+pub mod Split
+pub mod Undoing

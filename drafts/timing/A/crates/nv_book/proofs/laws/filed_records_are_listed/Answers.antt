@@ -1,0 +1,5 @@
+use Rattle.nv_book.proofs.Listing.{listed}
+use Rattle.nv_book.proofs.laws.filed_records_are_listed.Goals as goal
+
+pub returns : goal.returns
+returns c = listed

@@ -1,0 +1,22 @@
+use Rattle.std.proofs.Common.{◌≡◌, ◌+◌, length, arith, ap, ◌∙◌}
+use Rattle.nv_book.specs.Manifests.{record_count, runs_of}
+use Rattle.nv_book.specs.Records.{run_count_of}
+use Rattle.nv_book.proofs.Counts.{total-made}
+use Rattle.nv_book.proofs.record_store.RecordStore.make.Goals as goal
+
+pub invariant_of-self : goal.invariant_of-self
+invariant_of-self c =
+    let held = c.self.invariant in
+    let n : record_count c.push_reserved.new.self.items ≡ record_count c.self.inside.manifests.items + length c.new.result =
+    ap record_count c.push_reserved.ensures.items ∙ total-made length c.self.inside.manifests.items _ in
+    let r : runs_of c.push_reserved.new.self.items ≡ runs_of c.self.inside.manifests.items + run_count_of c.new.result =
+    ap runs_of c.push_reserved.ensures.items ∙ total-made run_count_of c.self.inside.manifests.items _ in
+    let n0 : length c.new.result ≡ 0 = ap length c.new.ensures in
+    let r0 : run_count_of c.new.result ≡ 0 = ap run_count_of c.new.ensures in
+    record {
+      counted = omega (arith, held.counted, n, n0);
+      fits = held.fits;
+      has_nodes = held.has_nodes;
+      nodes_fit = omega (arith, held.nodes_fit, r, r0);
+      has_places = rw c.push_reserved.ensures.capacity held.has_places;
+    }

@@ -1,0 +1,52 @@
+use Rattle.std.proofs.Common.{◌<◌, List, Some, slice_get, drop, ◌≡◌, [], ◌∷◌, true, false, length, arith, refl, sym, ap, ◌∙◌}
+use Rattle.nv_book.specs.declared.record.Record.{Record}
+use Rattle.nv_book.specs.declared.run.Run.{Run}
+use Rattle.nv_book.specs.Runs.{records_of}
+use Rattle.nv_book.proofs.Ends.{first-run}
+use Rattle.nv_book.proofs.Series.{cut-list, drop-list}
+use Rattle.nv_book.proofs.runs.pick.Goals as goal
+
+pub cut-requires-clause-run : goal.cut-requires-clause-run
+cut-requires-clause-run c = (first-run _ _ (c.in_ok-first.ensures.variant.0 refl) c.in_ok-first.ensures.value c.requires).2
+
+picked : (xs ys : List Record) (r : Record) → xs ≡ r ∷ ys → (Some r ≡ slice_get xs 0) × (ys ≡ drop 1 xs)
+picked xs ys r e = (rw e refl, rw e refl)
+
+pub returns-then-first-gt0-clause-first : goal.returns-then-first-gt0-clause-first
+returns-then-first-gt0-clause-first c =
+    (picked _ _ _ (cut-list _ _ (c.in_ok-first.ensures.variant.0 refl) c.in_ok-first.ensures.value c.requires c.if-first-gt0.true).0).0
+
+pub returns-then-first-gt0-clause-rest : goal.returns-then-first-gt0-clause-rest
+returns-then-first-gt0-clause-rest c =
+    rw c.cut.ensures (picked _ _ _
+    (cut-list _ _ (c.in_ok-first.ensures.variant.0 refl) c.in_ok-first.ensures.value c.requires c.if-first-gt0.true).0).1
+
+pub returns-then-first-gt0-clause-runs : goal.returns-then-first-gt0-clause-runs
+returns-then-first-gt0-clause-runs c =
+    rw c.cut.ensures (cut-list _ _ (c.in_ok-first.ensures.variant.0 refl) c.in_ok-first.ensures.value c.requires c.if-first-gt0.true).1
+
+pub returns-clause-first : goal.returns-clause-first
+returns-clause-first c =
+    (picked _ _ _ (drop-list _ _ (c.in_ok-first.ensures.variant.0 refl) c.in_ok-first.ensures.value c.requires c.if-first-gt0.false).0).0
+
+pub returns-clause-rest : goal.returns-clause-rest
+returns-clause-rest c =
+    rw c.pop_front-node.ensures.rest
+    (picked _ _ _ (drop-list _ _ (c.in_ok-first.ensures.variant.0 refl) c.in_ok-first.ensures.value c.requires c.if-first-gt0.false).0).1
+
+pub returns-clause-runs : goal.returns-clause-runs
+returns-clause-runs c =
+    rw c.pop_front-node.ensures.rest
+    (drop-list _ _ (c.in_ok-first.ensures.variant.0 refl) c.in_ok-first.ensures.value c.requires c.if-first-gt0.false).1
+
+none-of : (rs : List Run) → (0 < length rs → false ≡ true) → records_of rs ≡ []
+unfolding records_of
+none-of [] h = refl
+none-of (r ∷ rs) h = let no : false ≡ true = h (omega arith) in cc
+
+pub returns-in_err-first-clause-first : goal.returns-in_err-first-clause-first
+returns-in_err-first-clause-first c = c.from_residual.ensures
+    ∙ ap (λ rs. slice_get rs 0) (sym (none-of c.args.list.now c.in_err-first.ensures.variant.1))
+
+pub returns-in_err-first-clause-rest : goal.returns-in_err-first-clause-rest
+returns-in_err-first-clause-rest c = rw (none-of c.args.list.now c.in_err-first.ensures.variant.1) refl

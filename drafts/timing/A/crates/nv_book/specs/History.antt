@@ -1,0 +1,93 @@
+-- What happened: commits, makings and drops of snapshots, after a base.
+use Rattle.std.specs.Prelude.{◌≡◌, ℕ, ◌+◌, ◌-◌, ◌<◌, nat_lt, if◌then◌else◌, List, [], ◌∷◌, ◌++◌, length, All, Contains}
+use Rattle.nv_base.specs.declared.limits.TheConstants.{NUMBER}
+use Rattle.nv_book.specs.declared.event.Event.{Event}
+use Rattle.nv_book.specs.declared.event.Event.TheVariants.{Committed, Made, Dropped}
+use Rattle.nv_epoch.specs.Holders.{IsRising, without}
+use Rattle.nv_epoch.specs.SnapList.{Snapshots, ids}
+
+-- the epoch, the number of the last commit, and the living snapshots
+pub record State : Type 0 where
+  pub epoch : ℕ
+  pub commit : ℕ
+  pub living : List ℕ
+
+-- the event may come next: a commit has the next number and this epoch; a making closes this epoch, within the limit of
+-- epochs and of living snapshots; a drop is of a living snapshot
+abbrev pub IsNext : ℕ → State → Event → Type 0
+IsNext most now (Committed seat number epoch) = (number ≡ now.commit + 1) × (epoch ≡ now.epoch)
+IsNext most now (Made s) = (s ≡ now.epoch) × (s < NUMBER) × (length now.living < most)
+IsNext most now (Dropped s) = Contains now.living s
+
+abbrev pub after : State → Event → State
+after now (Committed seat number epoch) = record now { commit = number }
+after now (Made s) = record now { epoch = s + 1; living = now.living ++ s ∷ [] }
+after now (Dropped s) = record now { living = without s now.living }
+
+-- the numbers of the living snapshots rise, and lie below the epoch
+pub record IsOrdered (now : State) : Type 0 where
+  pub rising : IsRising now.living
+  pub below_epoch : All (λ s. s < now.epoch) now.living
+
+-- the number before the first that is not below it
+abbrev pub put_back : ℕ → List ℕ → List ℕ
+put_back s [] = s ∷ []
+put_back s (t ∷ ts) = if nat_lt t s then t ∷ put_back s ts else s ∷ t ∷ ts
+
+-- the state before an event that led to this one
+abbrev pub before : State → Event → State
+before now (Committed seat number epoch) = record now { commit = number - 1 }
+before now (Made s) = record now { epoch = s; living = without s now.living }
+before now (Dropped s) = record now { living = put_back s now.living }
+
+-- the state before some events that led to this one
+unfoldable pub undone : State → List Event → State
+undone now [] = now
+undone now (e ∷ es) = before (undone now es) e
+
+-- a legal history: each event may come after those before it
+unfoldable pub IsLegal : ℕ → State → List Event → Type 0
+IsLegal most base [] = Unit {0}
+IsLegal most base (e ∷ es) = IsNext most base e × IsLegal most (after base e) es
+
+-- what the events lead to
+unfoldable pub replay : State → List Event → State
+replay base [] = base
+replay base (e ∷ es) = replay (after base e) es
+
+-- the base, and the latest events after it
+pub record Account : Type 0 where
+  pub base : State
+  pub latest : List Event
+
+abbrev pub now_of : Account → State
+now_of a = replay a.base a.latest
+
+abbrev pub fold_first : Account → List Event → Account
+fold_first a [] = a
+fold_first a (e ∷ es) = record a { base = after a.base e; latest = es }
+
+-- the first of the events goes into the base
+abbrev pub folded : Account → Account
+folded a = fold_first a a.latest
+
+abbrev pub longer : Account → Event → Account
+longer a e = record a { latest = a.latest ++ e ∷ [] }
+
+-- one event more, with at most n after the base
+abbrev pub noted : ℕ → Account → Event → Account
+noted n a e = if nat_lt (length a.latest) n then longer a e else folded (longer a e)
+
+-- the latest events, after a base that is the present state with them undone
+abbrev pub told : State → List Event → Account
+told now latest = record { base = undone now latest; latest = latest }
+
+-- the latest events are legal after that base, and lead to the present state
+pub record IsHistory (most : ℕ) (now : State) (latest : List Event) : Type 0 where
+  pub legal : IsLegal most (undone now latest) latest
+  pub ordered : IsOrdered (undone now latest)
+  pub leads : now_of (told now latest) ≡ now
+
+-- the state of a book
+abbrev pub state_now : Snapshots → ℕ → State
+state_now snaps commit = record { epoch = snaps.epoch; commit = commit; living = ids snaps }

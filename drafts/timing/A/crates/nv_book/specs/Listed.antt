@@ -1,0 +1,50 @@
+-- The record list: one list of all recorded parts, in the order in which they came to their present holders. It tells the
+-- manifests and the deferred list.
+use Rattle.std.specs.Prelude.{◌≡◌, ℕ, ◌==◌, Bool, false, not, if◌then◌else◌, is_none, List, [], ◌∷◌, ◌++◌, map, filter, Option, Some, None}
+use Rattle.nv_book.specs.declared.manifest.Manifest.{Manifest}
+use Rattle.nv_book.specs.declared.record.Record.{Record}
+use Rattle.nv_book.specs.Records.{holder_of}
+
+abbrev pub is_snapshot : ℕ → Option ℕ → Bool
+is_snapshot s None = false
+is_snapshot s (Some t) = s == t
+
+-- the records whose youngest living holder is s, all others, and those without a living holder
+abbrev pub kept_by : ℕ → List ℕ → List Record → List Record
+kept_by s living rs = filter (λ r. is_snapshot s (holder_of living r)) rs
+
+abbrev pub not_kept_by : ℕ → List ℕ → List Record → List Record
+not_kept_by s living rs = filter (λ r. not (is_snapshot s (holder_of living r))) rs
+
+abbrev pub unheld : List ℕ → List Record → List Record
+unheld living rs = filter (λ r. is_none (holder_of living r)) rs
+
+abbrev pub manifest_of : ℕ → List Record → Manifest
+manifest_of s rs = record { snapshot = s; records = rs }
+
+abbrev pub manifest_told : List ℕ → List Record → ℕ → Manifest
+manifest_told living rs s = manifest_of s (kept_by s living rs)
+
+-- each manifest has the records of the list that its snapshot is the youngest to hold, and the deferred list those that no
+-- living one holds, all in the order of the list
+pub record IsRecordList (living : List ℕ) (manifests : List Manifest) (deferred rs : List Record) : Type 0 where
+  pub manifests_are : manifests ≡ map (manifest_told living rs) living
+  pub deferred_is : deferred ≡ unheld living rs
+
+-- the manifests' records, oldest snapshot first
+abbrev pub all_records : List Manifest → List Record
+all_records [] = []
+all_records (m ∷ ms) = m.records ++ all_records ms
+
+-- a retired record stands at the end, if it has a living holder
+abbrev pub with_retired : List ℕ → Record → List Record → List Record
+with_retired living r rs = if is_none (holder_of living r) then rs else rs ++ r ∷ []
+
+-- where s is dropped, its records move in order to the end
+abbrev pub with_moved : ℕ → List ℕ → List Record → List Record
+with_moved s living rs = not_kept_by s living rs ++ kept_by s living rs
+
+-- the list without its first record that has no living holder
+abbrev pub without_first : List ℕ → List Record → List Record
+without_first living [] = []
+without_first living (r ∷ rs) = if is_none (holder_of living r) then rs else r ∷ without_first living rs

@@ -1,0 +1,64 @@
+-- The manifests of the living snapshots, and the deferred list.
+use Rattle.std.specs.Prelude.{◌≡◌, ℕ, ◌≤◌, ◌==◌, not, if◌then◌else◌, List, [], ◌∷◌, ◌++◌, map, filter, length, sum_by, Option, Some, None}
+use Rattle.std.specs.List.{AllByRecursion}
+use Rattle.nv_book.specs.declared.record.Record.{Record}
+use Rattle.nv_book.specs.Records.{is_held_by, holder_of, moved_down, let_go, block_count, run_count_of}
+use Rattle.nv_book.specs.declared.manifest.Manifest.{Manifest}
+
+abbrev pub snapshots : List Manifest → List ℕ
+snapshots manifests = map (λ (m : Manifest). m.snapshot) manifests
+
+abbrev pub IsFiled : List ℕ → Manifest → Type 0
+IsFiled living m = AllByRecursion (λ r. holder_of living r ≡ Some m.snapshot) m.records
+
+-- a manifest for each living snapshot; each record in that of its youngest living holder, or deferred if it has none
+pub record AreFiled (living : List ℕ) (manifests : List Manifest) (deferred : List Record) : Type 0 where
+  pub all : snapshots manifests ≡ living
+  pub filed : AllByRecursion (IsFiled living) manifests
+  pub unheld : AllByRecursion (λ r. holder_of living r ≡ None) deferred
+
+-- every record died by that epoch
+pub record AreDead (epoch : ℕ) (manifests : List Manifest) (deferred : List Record) : Type 0 where
+  pub filed : AllByRecursion (λ (m : Manifest). AllByRecursion (λ r. r.death ≤ epoch) m.records) manifests
+  pub others : AllByRecursion (λ r. r.death ≤ epoch) deferred
+
+-- the manifest of the snapshot s
+abbrev pub records_at : ℕ → List Manifest → List Record
+records_at s [] = []
+records_at s (m ∷ ms) = if m.snapshot == s then m.records else records_at s ms
+
+-- a manifest with more records at its end, if it is that snapshot's
+abbrev pub with_records : Option ℕ → List Record → Manifest → Manifest
+with_records None rs m = m
+with_records (Some s) rs m = if m.snapshot == s then record m { records = m.records ++ rs } else m
+
+abbrev pub put_to : Option ℕ → List Record → List Manifest → List Manifest
+put_to s rs manifests = map (with_records s rs) manifests
+
+abbrev pub manifests_without : ℕ → List Manifest → List Manifest
+manifests_without s manifests = filter (λ (m : Manifest). not (m.snapshot == s)) manifests
+
+abbrev pub after_drop : ℕ → Option ℕ → List Manifest → List Manifest
+after_drop s older manifests = put_to older (moved_down older (records_at s manifests)) (manifests_without s manifests)
+
+abbrev pub after_make : ℕ → List Manifest → List Manifest
+after_make s manifests = manifests ++ (record { snapshot = s; records = [] }) ∷ []
+
+-- how many blocks a drop of s puts on the deferred list
+abbrev pub gain_of : ℕ → Option ℕ → List Manifest → ℕ
+gain_of s older manifests = block_count (let_go older (records_at s manifests))
+
+-- the sum of what f says of each manifest's records
+abbrev pub total : (List Record → ℕ) → List Manifest → ℕ
+total f manifests = sum_by (λ (m : Manifest). f m.records) manifests
+
+-- how many runs the manifests are stored as
+abbrev pub runs_of : List Manifest → ℕ
+runs_of manifests = total run_count_of manifests
+
+abbrev pub record_count : List Manifest → ℕ
+record_count manifests = total length manifests
+
+-- how many blocks of recorded parts the snapshot s holds
+abbrev pub held_of : ℕ → List Manifest → ℕ
+held_of s manifests = total (λ rs. block_count (filter (is_held_by s) rs)) manifests

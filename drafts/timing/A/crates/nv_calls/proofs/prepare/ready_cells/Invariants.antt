@@ -1,0 +1,16 @@
+use Rattle.std.proofs.Common.{◌≡◌, ℕ, ◌<◌}
+use Rattle.nv_cell.specs.Room.{IsReadyFor}
+use Rattle.nv_calls.specs.Cells.{value_at}
+use Rattle.nv_calls.specs.Prepared.{HaveNoLessRoom}
+use Rattle.nv_calls.specs.Ready.{plan_at}
+use Rattle.nv_calls.proofs.prepare.ready_cells.Given as goal
+
+abbrev pub invariant-loop-plan : goal.invariant-loop-plan
+invariant-loop-plan g l =
+    let now = g.C.Cells.cells l.cells in
+    record {
+      more : HaveNoLessRoom (g.C.Cells.cells l.fn.cells) now;
+      ready : (j : ℕ) → j < l.plan-index → IsReadyFor (plan_at l.plans j).items (value_at now (plan_at l.plans j).at);
+      places : g.C.Cells.places l.cells ≡ g.C.Cells.places l.fn.cells;
+      beside : g.C.Cells.beside l.cells ≡ g.C.Cells.beside l.fn.cells;
+    }

@@ -1,0 +1,166 @@
+-- The file calls of the plain world, by the step that decides: what its looks find, refusal at the check, effect at the
+-- commit, and answer; and the plan of each. No changes: no commit.
+use Rattle.std.specs.Prelude.{◌≡◌, ℕ, ◌/◌, ◌<◌, ◌&&◌, nat_lt, Bool, true, false, List, [], ◌∷◌, length, Option, None, is_some}
+use Rattle.nv_base.specs.declared.limits.TheConstants.{FILE_PAGES}
+use Rattle.nv_base.specs.declared.numbers.Handle.{Handle}
+use Rattle.nv_entry.specs.declared.node.NodeCopy.{NodeCopy}
+use Rattle.nv_entry.specs.Node.{block_now}
+use Rattle.nv_entry.specs.Sound.{HaveText, blocks_of}
+use Rattle.nv_calls.specs.declared.answer.Answer.{Answer}
+use Rattle.nv_calls.specs.declared.answer.Answer.TheVariants as answers
+use Rattle.nv_calls.specs.declared.call.Call.{Call}
+use Rattle.nv_calls.specs.declared.call.Call.TheVariants as call
+use Rattle.nv_calls.specs.declared.looked.Looked.{Looked}
+use Rattle.nv_calls.specs.declared.plan.Planned.{Planned}
+use Rattle.nv_calls.specs.declared.taken.Taken.{Taken}
+use Rattle.nv_calls.specs.Plain.{Change, PlainNode, node_in}
+use Rattle.nv_calls.specs.Plan.{AreMaximal}
+use Rattle.nv_calls.specs.Refusals.{Check, and_then, bytes_of, found, lookup, passes}
+use Rattle.nv_calls.specs.Slots.{IsFree, Slot}
+use Rattle.nv_calls.specs.calls.Create.{create_effect, create_plan, create_refusal}
+use Rattle.nv_calls.specs.calls.List.{list_answer, list_refusal}
+use Rattle.nv_calls.specs.calls.Lookup.{lookup_answer, lookup_refusal}
+use Rattle.nv_calls.specs.calls.Mkdir.{mkdir_effect, mkdir_plan, mkdir_refusal}
+use Rattle.nv_calls.specs.calls.Mode.{mode_effect, mode_plan, mode_refusal}
+use Rattle.nv_calls.specs.calls.Read.{read_answer, read_refusal}
+use Rattle.nv_calls.specs.calls.Rename.{own_place, rename_early, rename_effect, rename_late, rename_plan}
+use Rattle.nv_calls.specs.calls.Rmdir.{rmdir_late}
+use Rattle.nv_calls.specs.calls.Size.{HaveCut, size_blocks, size_effect, size_plan, size_refusal}
+use Rattle.nv_calls.specs.calls.Stat.{stat_answer, stat_refusal}
+use Rattle.nv_calls.specs.calls.Unlink.{leave_effect, leave_plan, unlink_late}
+use Rattle.nv_calls.specs.calls.Write.{write_blocks, write_effect, write_plan, write_refusal}
+
+-- ---- looks
+
+-- what the names of a call lead to, where it looks them up before it locks
+abbrev pub looked : (Handle → Option NodeCopy) → Call → Looked
+looked nodes (call.Unlink dir name) = record { first = found nodes dir name; second = None }
+looked nodes (call.Rmdir dir name) = record { first = found nodes dir name; second = None }
+looked nodes (call.Rename from old to new) = record { first = found nodes from old; second = found nodes to new }
+looked nodes other = record { first = None; second = None }
+
+-- why a call is refused at a look: the tests of its first name
+abbrev pub look_refusal : (Handle → Option NodeCopy) → Call → Check
+look_refusal nodes (call.Unlink dir name) = lookup_refusal nodes dir name
+look_refusal nodes (call.Rmdir dir name) = lookup_refusal nodes dir name
+look_refusal nodes (call.Rename from old to new) = lookup_refusal nodes from old
+look_refusal nodes other = passes
+
+-- ---- the check
+
+-- the tests that stand before names are compared with what the looks found
+abbrev pub early : (Handle → Option NodeCopy) → Call → Check
+early nodes (call.Unlink dir name) = lookup_refusal nodes dir name
+early nodes (call.Rmdir dir name) = lookup_refusal nodes dir name
+early nodes (call.Rename from old to new) = rename_early nodes from old to new
+early nodes other = passes
+
+-- and those behind it, by what the names lead to
+abbrev pub late : ℕ → (Handle → Option NodeCopy) → Looked → Call → Check
+late block nodes looked (call.Create dir name mode) = create_refusal nodes dir name
+late block nodes looked (call.Mkdir dir name mode) = mkdir_refusal nodes dir name
+late block nodes looked (call.Write file offset text) = write_refusal block nodes file offset text
+late block nodes looked (call.Read file offset count) = read_refusal nodes file
+late block nodes looked (call.Size file size) = size_refusal block nodes file size
+late block nodes looked (call.Mode handle mode) = mode_refusal nodes handle
+late block nodes looked (call.Stat handle) = stat_refusal nodes handle
+late block nodes looked (call.List dir) = list_refusal nodes dir
+late block nodes looked (call.Lookup dir name) = lookup_refusal nodes dir name
+late block nodes looked (call.Unlink dir name) = unlink_late nodes looked.first
+late block nodes looked (call.Rmdir dir name) = rmdir_late nodes looked.first
+late block nodes looked (call.Rename from old to new) = rename_late nodes from old to new looked
+
+-- why a call is refused
+abbrev pub refusal : ℕ → (Handle → Option NodeCopy) → Call → Check
+refusal block nodes c = and_then (early nodes c) (late block nodes (looked nodes c) c)
+
+-- ---- effect and answer
+
+-- what a commit changes, where a new inode has the handle `made`
+abbrev pub effect : (Handle → Option NodeCopy) → Handle → Call → List Change
+effect nodes made (call.Create dir name mode) = create_effect dir name mode made
+effect nodes made (call.Mkdir dir name mode) = mkdir_effect dir name mode made
+effect nodes made (call.Write file offset text) = write_effect file offset text
+effect nodes made (call.Size file size) = size_effect file size
+effect nodes made (call.Mode handle mode) = mode_effect handle mode
+effect nodes made (call.Unlink dir name) = leave_effect dir name (found nodes dir name)
+effect nodes made (call.Rmdir dir name) = leave_effect dir name (found nodes dir name)
+effect nodes made (call.Rename from old to new) = rename_effect from old to new (looked nodes (call.Rename from old to new))
+effect nodes made other = []
+
+abbrev pub answer : (Handle → Option PlainNode) → Handle → Call → Answer
+answer nodes made (call.Create dir name mode) = answers.Made made
+answer nodes made (call.Mkdir dir name mode) = answers.Made made
+answer nodes made (call.Write file offset text) = answers.Count (length text)
+answer nodes made (call.Read file offset count) = read_answer offset count (node_in nodes file)
+answer nodes made (call.Stat handle) = stat_answer (nodes handle)
+answer nodes made (call.List dir) = list_answer (node_in nodes dir)
+answer nodes made (call.Lookup dir name) = lookup_answer (lookup (node_in nodes) dir name)
+answer nodes made other = answers.Nothing
+
+-- ---- plan
+
+abbrev pub is_empty : List ℕ → Bool
+is_empty [] = true
+is_empty (byte ∷ rest) = false
+
+-- a call that commits nothing, where it is not refused
+abbrev pub is_nothing : Call → Bool
+is_nothing (call.Create dir name mode) = false
+is_nothing (call.Mkdir dir name mode) = false
+is_nothing (call.Write file offset text) = is_empty text
+is_nothing (call.Size file size) = false
+is_nothing (call.Mode handle mode) = false
+is_nothing (call.Unlink dir name) = false
+is_nothing (call.Rmdir dir name) = false
+is_nothing (call.Rename from old to new) = own_place from old to new
+is_nothing other = true
+
+-- for a size whether the page that it ends in is present
+abbrev pub ends_in_page : (Handle → ℕ → Bool) → ℕ → Call → Bool
+ends_in_page has_page block (call.Size file size) = nat_lt (size / block) FILE_PAGES && has_page file (size / block)
+ends_in_page has_page block other = false
+
+-- how many data blocks a call takes
+abbrev pub blocks_wanted : ℕ → (Handle → Option NodeCopy) → Bool → Call → ℕ
+blocks_wanted block nodes present (call.Write file offset text) = write_blocks block offset text
+blocks_wanted block nodes present (call.Size file size) = size_blocks block nodes file size present
+blocks_wanted block nodes present other = 0
+
+-- the items that a call appends, inode by inode
+abbrev pub plan : ℕ → (Handle → Option NodeCopy) → Taken → Call → List Planned
+plan block nodes taken (call.Create dir name mode) = create_plan dir name mode taken.made
+plan block nodes taken (call.Mkdir dir name mode) = mkdir_plan dir name mode taken.made
+plan block nodes taken (call.Write file offset text) = write_plan block nodes file offset text taken.runs
+plan block nodes taken (call.Size file size) = size_plan block file size taken.runs
+plan block nodes taken (call.Mode handle mode) = mode_plan handle mode
+plan block nodes taken (call.Unlink dir name) = leave_plan dir name (found nodes dir name)
+plan block nodes taken (call.Rmdir dir name) = leave_plan dir name (found nodes dir name)
+plan block nodes taken (call.Rename from old to new) = rename_plan from old to new (looked nodes (call.Rename from old to new))
+plan block nodes taken other = []
+
+-- a call that commits nothing has no effect and no plan, and any other has both
+pub record IsToldNothing (block : ℕ) (nodes : Handle → Option NodeCopy) (taken : Taken) (c : Call) : Type 0 where
+  pub no_effect : is_nothing c ≡ true → effect nodes taken.made c ≡ []
+  pub no_plan : is_nothing c ≡ true → plan block nodes taken c ≡ []
+  pub some_effect : is_nothing c ≡ false → 0 < length (effect nodes taken.made c)
+  pub some_plan : is_nothing c ≡ false → 0 < length (plan block nodes taken c)
+
+-- maximal runs of blocks, which have the pages that a text touches after the write
+pub record HasPages (bytes : ℕ → List ℕ) (block : ℕ) (taken : Taken) (offset : ℕ) (text before : List ℕ) : Type 0 where
+  pub maximal : AreMaximal taken.runs
+  pub filled : 0 < length text → HaveText bytes block offset text before (blocks_of taken.runs)
+
+-- it is told whether the page that a size ends in is present, and where that page is cut, there is a block with it
+pub record HasCutPage (bytes : ℕ → List ℕ) (block : ℕ) (slots : ℕ → Slot) (taken : Taken) (file : Handle) (size : ℕ)
+    (before : List ℕ) : Type 0 where
+  pub present : taken.present ≡ is_some (block_now block (slots file.ino).log (size / block))
+  pub cut : HaveCut bytes block size taken.present before taken.runs
+
+-- what was taken is what the call needs, and the fresh blocks are filled
+abbrev pub IsReady : (ℕ → List ℕ) → ℕ → (ℕ → Slot) → (Handle → Option NodeCopy) → Taken → Call → Type 0
+IsReady bytes block slots nodes taken (call.Create dir name mode) = IsFree slots taken.made
+IsReady bytes block slots nodes taken (call.Mkdir dir name mode) = IsFree slots taken.made
+IsReady bytes block slots nodes taken (call.Write file offset text) = HasPages bytes block taken offset text (bytes_of (nodes file))
+IsReady bytes block slots nodes taken (call.Size file size) = HasCutPage bytes block slots taken file size (bytes_of (nodes file))
+IsReady bytes block slots nodes taken other = Unit {0}

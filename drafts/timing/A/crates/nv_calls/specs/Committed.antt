@@ -1,0 +1,137 @@
+-- What a whole commit makes of its cells, of the manifests and of the hand, by what stood when it began.
+use Rattle.std.specs.Prelude.{◌≡◌, ℕ, zero, suc, ◌<◌, if◌then◌else◌, nat_lt, List, [], length, None, take}
+use Rattle.std.specs.List.{sum_by}
+use Rattle.nv_alloc.specs.declared.hand.Hand.{Hand}
+use Rattle.nv_book.specs.declared.manifest.Manifest.{Manifest}
+use Rattle.nv_cell.specs.Cell.{CellRoom, CellState, CellValue, KeepsAppendRoom, published}
+use Rattle.nv_cell.specs.declared.killed.KilledPart.{KilledPart}
+use Rattle.nv_journal.specs.declared.old_tail.OldTail.{OldTail}
+use Rattle.nv_log.specs.Chain.{pages_for}
+use Rattle.nv_calls.specs.Cells.{ino_at, state_at, value_at}
+use Rattle.nv_calls.specs.Commit.{CommitValue, ReceiptValue, receipt_of}
+use Rattle.nv_calls.specs.Ready.{CellPlanValue, old_tails, plan_at}
+use Rattle.nv_calls.specs.Retiring.{erased, hand_retired, killed_by, retired, room_erased, with_records}
+use Rattle.nv_calls.specs.Steps.{numbers_in, with_plan, without_front}
+
+-- the place of the j-th plan's cell; and a place that no plan is for
+abbrev pub place_of : List CellPlanValue → ℕ → ℕ
+place_of plans j = (plan_at plans j).at
+
+abbrev pub IsUnplanned : List CellPlanValue → ℕ → Type 0
+IsUnplanned plans k = (j : ℕ) → j < length plans → place_of plans j ≡ k → ⊥
+
+-- the planned cells have new states, and nothing else of the cells changes
+pub record ChangesPlanned (plans : List CellPlanValue) (becomes : ℕ → CellState) (old new : List (ℕ × CellValue)) : Type 0 where
+  pub count : length new ≡ length old
+  pub numbers : (k : ℕ) → ino_at new k ≡ ino_at old k
+  pub planned : (j : ℕ) → j < length plans → state_at new (place_of plans j) ≡ becomes j
+  pub others : (k : ℕ) → IsUnplanned plans k → value_at new k ≡ value_at old k
+
+-- plans of the same cells
+pub record HaveSamePlaces (old new : List CellPlanValue) : Type 0 where
+  pub count : length new ≡ length old
+  pub places : (j : ℕ) → place_of new j ≡ place_of old j
+
+-- ---- appending
+
+-- how many entries a plan has, how many blocks for the pages of its items, and how many pages its log needs
+abbrev pub entry_count : CellPlanValue → ℕ
+entry_count plan = length plan.items
+
+abbrev pub block_count : CellPlanValue → ℕ
+block_count plan = length (numbers_in plan.items)
+
+abbrev pub page_count : List (ℕ × CellValue) → CellPlanValue → ℕ
+page_count cells plan = pages_for (state_at cells plan.at).chain (length plan.items)
+
+-- where the entries of the j-th plan begin among those of the commit, and what the plans before it leave in the hand
+abbrev pub place_before : List CellPlanValue → ℕ → ℕ
+place_before plans j = sum_by entry_count (take j plans)
+
+abbrev pub hand_before : List (ℕ × CellValue) → CommitValue → ℕ → Hand
+hand_before cells commit j = record commit.hand {
+  «data» = without_front (sum_by block_count (take j commit.plans)) commit.hand.data;
+  pages = without_front (sum_by (page_count cells) (take j commit.plans)) commit.hand.pages;
+}
+
+-- the cell of the j-th plan with its entries appended
+abbrev pub grown : List (ℕ × CellValue) → CommitValue → ℕ → CellValue
+grown cells commit j =
+    with_plan commit.stamp (place_before commit.plans j) (plan_at commit.plans j).items (hand_before cells commit j)
+    (value_at cells (place_of commit.plans j))
+
+-- ---- publishing
+
+-- what the journal notes: the old tails of all planned cells, where they are two or more
+abbrev pub journaled : List (ℕ × CellValue) → List CellPlanValue → List OldTail
+journaled cells plans = if nat_lt 1 (length plans) then old_tails cells plans else []
+
+-- the planned cells have so much room to append
+abbrev pub HaveAppendRoom : List CellPlanValue → (ℕ → CellRoom) → List (ℕ × CellValue) → Type 0
+HaveAppendRoom plans room cells = (j : ℕ) → j < length plans → KeepsAppendRoom (room j) (value_at cells (place_of plans j)).room
+
+-- ---- retiring
+
+-- the number of an inode, parts of it that were killed, and its cell
+pub record Killing : Type 0 where
+  pub ino : ℕ
+  pub parts : List KilledPart
+  pub cell : CellState
+
+-- how many parts a plan notes as killed, and what it notes
+abbrev pub killed_count : CellPlanValue → ℕ
+killed_count plan = length plan.killed
+
+abbrev pub noted_killing : List (ℕ × CellValue) → CommitValue → ℕ → Killing
+noted_killing cells commit j = record {
+  ino = ino_at cells (place_of commit.plans j);
+  parts = (plan_at commit.plans j).killed;
+  cell = state_at cells (place_of commit.plans j);
+}
+
+-- what is killed once the entries of the j-th plan are published
+abbrev pub killing : List (ℕ × CellValue) → CommitValue → ℕ → Killing
+killing cells commit j = record {
+  ino = ino_at cells (place_of commit.plans j);
+  parts = killed_by (grown cells commit j).state;
+  cell = published (grown cells commit j).state;
+}
+
+-- the cell once it is retired, erased where the inode is gone and nothing is kept
+abbrev pub settled_cell : List ℕ → ℕ → Killing → CellState
+settled_cell living epoch k = erased (retired living k.ino epoch k.parts k.cell)
+
+-- and its room, of what it had
+abbrev pub settled_room : List ℕ → ℕ → Killing → CellRoom → CellRoom
+settled_room living epoch k room = room_erased (retired living k.ino epoch k.parts k.cell) room
+
+-- the manifests, and a hand, once the first of several killings are retired
+abbrev pub manifests_after : List ℕ → ℕ → (ℕ → Killing) → ℕ → List Manifest → List Manifest
+manifests_after living epoch killings zero manifests = manifests
+manifests_after living epoch killings (suc j) manifests =
+    with_records living (killings j).ino epoch (killings j).parts (manifests_after living epoch killings j manifests)
+
+abbrev pub hand_after_killings : List ℕ → ℕ → (ℕ → Killing) → ℕ → Hand → Hand
+hand_after_killings living epoch killings zero hand = hand
+hand_after_killings living epoch killings (suc j) hand =
+    hand_retired living (killings j).ino epoch (killings j).parts (killings j).cell (hand_after_killings living epoch killings j hand)
+
+-- ---- a whole commit
+
+-- the cell of the j-th plan after the commit
+abbrev pub committed : List ℕ → List (ℕ × CellValue) → CommitValue → ℕ → CellState
+committed living cells commit j = settled_cell living commit.stamp.epoch (killing cells commit j)
+
+-- its room to append: what its appends left, and none where it was erased
+abbrev pub room_left : List ℕ → List (ℕ × CellValue) → CommitValue → ℕ → CellRoom
+room_left living cells commit j = settled_room living commit.stamp.epoch (killing cells commit j) (grown cells commit j).room
+
+-- what the commit tells of itself
+abbrev pub receipt_by : List (ℕ × CellValue) → CommitValue → ReceiptValue
+receipt_by cells commit = record (receipt_of commit) { noted = journaled cells commit.plans }
+
+-- what the hand then holds: what appending left of it, without the number of a new inode, and what is free
+abbrev pub hand_left : List ℕ → List (ℕ × CellValue) → CommitValue → Hand
+hand_left living cells commit =
+    hand_after_killings living commit.stamp.epoch (killing cells commit) (length commit.plans)
+    (record (hand_before cells commit (length commit.plans)) { ino = None })

@@ -1,0 +1,71 @@
+-- The handles that a call locks, and that it reads no others.
+use Rattle.std.specs.Prelude.{◌≡◌, ℕ, ◌<◌, ◌⊎◌, List, [], ◌∷◌, ◌++◌, length, Option, Some, None, Contains}
+use Rattle.std.specs.List.{AllByRecursion}
+use Rattle.nv_base.specs.declared.numbers.Handle.{Handle}
+use Rattle.nv_entry.specs.declared.node.NodeCopy.{NodeCopy}
+use Rattle.nv_entry.specs.Sound.{blocks_of}
+use Rattle.nv_calls.specs.declared.call.Call.{Call}
+use Rattle.nv_calls.specs.declared.call.Call.TheVariants as call
+use Rattle.nv_calls.specs.declared.looked.Looked.{Looked}
+use Rattle.nv_calls.specs.declared.plan.Planned.{Planned}
+use Rattle.nv_calls.specs.declared.taken.Taken.{Taken}
+use Rattle.nv_calls.specs.AllCalls.{answer, blocks_wanted, early, effect, looked, plan, refusal}
+use Rattle.nv_calls.specs.Plain.{PlainNode, node_in}
+use Rattle.nv_calls.specs.Plan.{plan_blocks}
+
+abbrev pub if_any : Option Handle → List Handle
+if_any None = []
+if_any (Some handle) = handle ∷ []
+
+-- the handle of a new inode, where a call makes one: its number is taken before the call locks
+abbrev pub made_by : Handle → Call → List Handle
+made_by made (call.Create dir name mode) = made ∷ []
+made_by made (call.Mkdir dir name mode) = made ∷ []
+made_by made other = []
+
+-- the handles that a call reads: those that it names, and what its looks found
+abbrev pub handles : Looked → Call → List Handle
+handles looked (call.Create dir name mode) = dir ∷ []
+handles looked (call.Mkdir dir name mode) = dir ∷ []
+handles looked (call.Write file offset text) = file ∷ []
+handles looked (call.Read file offset count) = file ∷ []
+handles looked (call.Size file size) = file ∷ []
+handles looked (call.Mode handle mode) = handle ∷ []
+handles looked (call.Stat handle) = handle ∷ []
+handles looked (call.List dir) = dir ∷ []
+handles looked (call.Lookup dir name) = dir ∷ []
+handles looked (call.Unlink dir name) = dir ∷ if_any looked.first
+handles looked (call.Rmdir dir name) = dir ∷ if_any looked.first
+handles looked (call.Rename from old to new) = from ∷ to ∷ if_any looked.first ++ if_any looked.second
+
+-- the handles that a call locks
+abbrev pub locks : Looked → Handle → Call → List Handle
+locks looked made c = made_by made c ++ handles looked c
+
+-- the handle in which a call looks its first name up
+abbrev pub first_look : Call → List Handle
+first_look (call.Unlink dir name) = dir ∷ []
+first_look (call.Rmdir dir name) = dir ∷ []
+first_look (call.Rename from old to new) = from ∷ []
+first_look other = []
+
+-- two worlds have the same under some handles
+abbrev pub Agree : {A : Type 0} → (Handle → A) → (Handle → A) → List Handle → Type 0
+Agree nodes other list = AllByRecursion (λ (handle : Handle). other handle ≡ nodes handle) list
+
+-- a call is the same in both
+pub record SameCall (block : ℕ) (nodes other : Handle → Option PlainNode) (taken : Taken) (c : Call) : Type 0 where
+  pub found : looked (node_in other) c ≡ looked (node_in nodes) c
+  pub early : early (node_in other) c ≡ early (node_in nodes) c
+  pub refusal : refusal block (node_in other) c ≡ refusal block (node_in nodes) c
+  pub effect : effect (node_in other) taken.made c ≡ effect (node_in nodes) taken.made c
+  pub plan : plan block (node_in other) taken c ≡ plan block (node_in nodes) taken c
+  pub answer : answer other taken.made c ≡ answer nodes taken.made c
+  pub handles : handles (looked (node_in other) c) c ≡ handles (looked (node_in nodes) c) c
+  pub wanted : blocks_wanted block (node_in other) taken.present c ≡ blocks_wanted block (node_in nodes) taken.present c
+
+-- a plan is of handles that the call locks, and uses the blocks taken alone; none where it is of several inodes
+pub record KeepsToIts (nodes : Handle → Option NodeCopy) (c : Call) (taken : Taken) (plan : List Planned) : Type 0 where
+  pub handles : AllByRecursion (λ (p : Planned). Contains (locks (looked nodes c) taken.made c) p.handle) plan
+  pub blocks : (plan_blocks plan ≡ blocks_of taken.runs) ⊎ (plan_blocks plan ≡ [])
+  pub several : 1 < length plan → plan_blocks plan ≡ []

@@ -1,0 +1,21 @@
+-- How many log pages a plan needs.
+use Rattle.std.specs.Prelude.{ℕ, ◌==◌, Bool, false, List, length, Option, Some, None}
+use Rattle.std.specs.List.{sum_by}
+use Rattle.nv_log.specs.Chain.{pages_for}
+use Rattle.nv_cell.specs.Cell.{CellValue}
+use Rattle.nv_calls.specs.Slots.{items_for}
+use Rattle.nv_calls.specs.declared.plan.Planned.{Planned}
+
+-- how many pages the items that a plan has for a cell need, beyond those that its log has
+abbrev pub pages_needed : List Planned → ℕ × CellValue → ℕ
+pages_needed plan c = pages_for c.1.state.chain (length (items_for plan c.0))
+
+abbrev pub pages_wanted : List (ℕ × CellValue) → List Planned → ℕ
+pages_wanted cells plan = sum_by (pages_needed plan) cells
+
+-- ---- runs
+
+-- whether a number goes on with a run that would go on with another
+abbrev pub goes_on : Option ℕ → ℕ → Bool
+goes_on None n = false
+goes_on (Some next) n = next == n

@@ -1,0 +1,60 @@
+-- The slots of the cells of a commit, before and after it.
+use Rattle.std.specs.Prelude.{◌≡◌, ℕ, ◌<◌, false, List, length, map}
+use Rattle.nv_base.specs.declared.numbers.Handle.{Handle}
+use Rattle.nv_cell.specs.Cell.{CellValue, published}
+use Rattle.nv_book.specs.Book.{BookValue}
+use Rattle.nv_calls.specs.declared.plan.Planned.{Planned}
+use Rattle.nv_calls.specs.CanCommit.{CanCommit}
+use Rattle.nv_calls.specs.Cells.{ino_at, state_at}
+use Rattle.nv_calls.specs.Commit.{CommitValue, begun, stamp_of}
+use Rattle.nv_calls.specs.Committed.{ChangesPlanned, IsUnplanned, committed, grown, killing, place_of}
+use Rattle.nv_calls.specs.Plan.{planned}
+use Rattle.nv_calls.specs.Ready.{CellPlanValue, ReadyValue}
+use Rattle.nv_calls.specs.Retiring.{is_erased, retired}
+use Rattle.nv_calls.specs.Slots.{Slot, items_for, place_in, published as published_slots}
+use Rattle.nv_calls.specs.Views.{slot_of}
+
+-- the cells are those of these slots
+abbrev pub AreOfSlots : List (ℕ × CellValue) → (ℕ → Slot) → Type 0
+AreOfSlots cells slots = (k : ℕ) → k < length cells → slots (ino_at cells k) ≡ slot_of (state_at cells k)
+
+-- no cell has that number
+abbrev pub IsOfNone : List (ℕ × CellValue) → ℕ → Type 0
+IsOfNone cells ino = (k : ℕ) → k < length cells → ino_at cells k ≡ ino → ⊥
+
+-- what a call appends, inode by inode
+abbrev pub handle_at : List (ℕ × CellValue) → ℕ → Handle
+handle_at cells k = record { ino = ino_at cells k; generation = (state_at cells k).generation }
+
+abbrev pub planned_in : List (ℕ × CellValue) → List CellPlanValue → List Planned
+planned_in cells plans = map (λ (p : CellPlanValue). planned (handle_at cells p.at) p.items) plans
+
+-- two plans that publish alike: the same items for each inode, at the same place of the commit
+pub record PublishAlike (one other : List Planned) : Type 0 where
+  pub items : (ino : ℕ) → items_for one ino ≡ items_for other ino
+  pub places : (ino : ℕ) → place_in one ino ≡ place_in other ino
+
+-- the slots once the commit is published
+abbrev pub slots_after : List (ℕ × CellValue) → CommitValue → (ℕ → Slot) → ℕ → Slot
+slots_after cells commit slots = published_slots commit.stamp.commit commit.stamp.epoch (planned_in cells commit.plans) slots
+
+-- a commit publishes the items of its plans: the cells are then those of the slots that the commit makes, up to the
+-- erasing of an inode of which nothing is kept
+pub record PublishesPlans (cells : List (ℕ × CellValue)) (commit : CommitValue) (slots : ℕ → Slot) : Type 0 where
+  pub planned : (j : ℕ) → j < length commit.plans
+      → slot_of (published (grown cells commit j).state) ≡ slots_after cells commit slots (ino_at cells (place_of commit.plans j))
+  pub others : (k : ℕ) → k < length cells → IsUnplanned commit.plans k
+      → slot_of (state_at cells k) ≡ slots_after cells commit slots (ino_at cells k)
+  pub beyond : (ino : ℕ) → IsOfNone cells ino → slots_after cells commit slots ino ≡ slots ino
+  pub kept : (living : List ℕ) (j : ℕ) → j < length commit.plans
+      → (let k = killing cells commit j in is_erased (retired living k.ino commit.stamp.epoch k.parts k.cell)) ≡ false
+      → slot_of (committed living cells commit j) ≡ slots_after cells commit slots (ino_at cells (place_of commit.plans j))
+
+-- a commit of what was ready took the cells of some slots to those of others, and touched no other slot
+pub record IsCommitted (living : List ℕ) (cells : List (ℕ × CellValue)) (book : BookValue) (cpu : ℕ) (ready : ReadyValue)
+    (slots : ℕ → Slot) (now : List (ℕ × CellValue)) (later : ℕ → Slot) : Type 0 where
+  pub can : CanCommit cells book cpu ready
+  pub before : AreOfSlots cells slots
+  pub changes : ChangesPlanned ready.plans (committed living cells (begun (stamp_of book.state) ready)) cells now
+  pub after : AreOfSlots now later
+  pub others : (ino : ℕ) → IsOfNone cells ino → later ino ≡ slots ino

@@ -1,0 +1,95 @@
+-- What becomes of the parts that a commit killed: a snapshot keeps a part, or its block is free.
+use Rattle.std.specs.Prelude.{ℕ, ◌+◌, ◌-◌, ◌&&◌, Bool, if◌then◌else◌, nat_le, List, [], ◌∷◌, ◌++◌, Option, Some, None, length, option_to_list, slice_index_or}
+use Rattle.std.specs.List.{flat_map}
+use Rattle.nv_alloc.specs.Block.{BlockValue}
+use Rattle.nv_alloc.specs.Queue.{QueueValue}
+use Rattle.nv_alloc.specs.declared.hand.Hand.{Hand}
+use Rattle.nv_base.specs.declared.limits.TheConstants.{NUMBER}
+use Rattle.nv_book.specs.Manifests.{put_to}
+use Rattle.nv_book.specs.Records.{holder_of}
+use Rattle.nv_book.specs.declared.manifest.Manifest.{Manifest}
+use Rattle.nv_book.specs.declared.record.Record.{Record}
+use Rattle.nv_entry.specs.declared.part.PartId.{PartId}
+use Rattle.nv_cell.specs.Cell.{CellRoom, CellState, empty_cell, killed_of, log_of, no_room, number_in, with_mark, without_part}
+use Rattle.nv_cell.specs.Numbers.{killed_part}
+use Rattle.nv_cell.specs.Readers.{is_gone, keeps_nothing}
+use Rattle.nv_cell.specs.declared.killed.KilledPart.{KilledPart}
+use Rattle.nv_cell.specs.declared.mark.Mark.TheVariants.{Kept}
+
+-- the parts that a publish of all entries of a cell kills
+abbrev pub killed_by : CellState → List KilledPart
+killed_by cell = flat_map (λ n. option_to_list (killed_part cell.chain.entries n)) (killed_of cell)
+
+abbrev pub part_in : KilledPart → PartId
+part_in killed = killed.part
+
+-- the record of a part of an inode that was killed in an epoch
+abbrev pub record_of : ℕ → ℕ → KilledPart → Record
+record_of ino epoch killed =
+    record { ino = ino; entry = killed.part.entry; part = killed.part.part; birth = killed.birth; death = epoch }
+
+-- the youngest living snapshot that holds the part
+abbrev pub keeper_of : List ℕ → ℕ → ℕ → KilledPart → Option ℕ
+keeper_of living ino epoch killed = holder_of living (record_of ino epoch killed)
+
+-- the cell where a part is kept, or goes out
+abbrev pub settled : Option ℕ → ℕ → CellState → CellState
+settled (Some s) n cell = with_mark cell n Kept
+settled None n cell = without_part cell n
+
+-- the block that this sets free
+abbrev pub freed : Option ℕ → ℕ → CellState → List BlockValue
+freed (Some s) n cell = []
+freed None n cell = option_to_list (slice_index_or cell.blocks n None)
+
+abbrev pub retired_one : List ℕ → ℕ → ℕ → KilledPart → CellState → CellState
+retired_one living ino epoch killed cell = settled (keeper_of living ino epoch killed) (number_in cell killed.part) cell
+
+abbrev pub freed_one : List ℕ → ℕ → ℕ → KilledPart → CellState → List BlockValue
+freed_one living ino epoch killed cell = freed (keeper_of living ino epoch killed) (number_in cell killed.part) cell
+
+-- the cell, the freed blocks and the manifests after several parts, one behind the other
+abbrev pub retired : List ℕ → ℕ → ℕ → List KilledPart → CellState → CellState
+retired living ino epoch [] cell = cell
+retired living ino epoch (killed ∷ later) cell = retired living ino epoch later (retired_one living ino epoch killed cell)
+
+abbrev pub freed_by : List ℕ → ℕ → ℕ → List KilledPart → CellState → List BlockValue
+freed_by living ino epoch [] cell = []
+freed_by living ino epoch (killed ∷ later) cell =
+    freed_one living ino epoch killed cell ++ freed_by living ino epoch later (retired_one living ino epoch killed cell)
+
+abbrev pub with_records : List ℕ → ℕ → ℕ → List KilledPart → List Manifest → List Manifest
+with_records living ino epoch [] manifests = manifests
+with_records living ino epoch (killed ∷ later) manifests =
+    with_records living ino epoch later (put_to (keeper_of living ino epoch killed) (record_of ino epoch killed ∷ []) manifests)
+
+-- ---- erasing
+
+-- an inode is erased once it is gone and nothing is kept of it
+abbrev pub is_erased : CellState → Bool
+is_erased cell = is_gone (log_of cell) && keeps_nothing cell
+
+abbrev pub erased : CellState → CellState
+erased cell = if is_erased cell then empty_cell cell.block cell.chain.page (cell.generation + 1) cell.version else cell
+
+-- the room that this leaves: what is erased keeps none but that for killed parts
+abbrev pub room_erased : CellState → CellRoom → CellRoom
+room_erased cell room = if is_erased cell then record no_room { killed = room.killed } else room
+
+-- the number of an erased inode goes to the hand, unless its slot has had the last generation
+abbrev pub number_back : ℕ → CellState → Option ℕ → Option ℕ
+number_back ino cell number = if nat_le NUMBER (cell.generation + 1) then number else Some ino
+
+abbrev pub hand_with : ℕ → CellState → Hand → Hand
+hand_with ino cell hand =
+    if is_erased cell then record hand { chain = cell.chain.blocks; ino = number_back ino cell hand.ino } else hand
+
+-- a queue with more blocks behind the others
+abbrev pub with_back : List BlockValue → QueueValue → QueueValue
+with_back blocks queue = record queue { blocks = queue.blocks ++ blocks; room = queue.room - length blocks }
+
+-- a hand, once killed parts are retired and the inode is erased where it is gone and nothing is kept
+abbrev pub hand_retired : List ℕ → ℕ → ℕ → List KilledPart → CellState → Hand → Hand
+hand_retired living ino epoch killed cell hand =
+    hand_with ino (retired living ino epoch killed cell)
+    (record hand { «data» = with_back (freed_by living ino epoch killed cell) hand.data })

@@ -1,0 +1,87 @@
+-- Slots of inodes, the plain nodes that they give, and what a commit publishes in them.
+use Rattle.std.specs.Prelude.{◌≡◌, ℕ, ◌+◌, ◌<◌, ◌≤◌, ◌==◌, if◌then◌else◌, nat_lt, List, [], ◌∷◌, ◌++◌, length, Option, None}
+use Rattle.std.specs.List.{AllByRecursion, sum_by}
+use Rattle.nv_base.specs.declared.numbers.Handle.{Handle}
+use Rattle.nv_entry.specs.declared.item.Entry.{Entry}
+use Rattle.nv_entry.specs.declared.item.Item.{Item}
+use Rattle.nv_entry.specs.Log.{IsLog, up_to}
+use Rattle.nv_entry.specs.Node.{node_now}
+use Rattle.nv_entry.specs.Sound.{IsSound}
+use Rattle.nv_calls.specs.Plain.{Change, PlainNode, node_in, nodes_after, stamped}
+use Rattle.nv_calls.specs.declared.plan.Planned.{Planned}
+use Rattle.nv_calls.specs.Plan.{AllFit}
+
+-- a slot: its generation, and the log of its inode, empty where it has none
+pub record Slot : Type 0 where
+  pub generation : ℕ
+  pub log : List Entry
+
+-- the commit of a log's last entry
+abbrev pub last_commit : List Entry → ℕ
+last_commit [] = 0
+last_commit (e ∷ []) = e.id.commit
+last_commit (e ∷ f ∷ later) = last_commit (f ∷ later)
+
+-- the plain node under a handle: that of its slot, where the generation is the slot's
+abbrev pub node_under : (ℕ → List ℕ) → ℕ → (ℕ → Slot) → Handle → Option PlainNode
+node_under bytes block slots handle =
+    if handle.generation == (slots handle.ino).generation
+    then stamped (last_commit (slots handle.ino).log) (node_now bytes block (slots handle.ino).log)
+    else None
+
+-- a slot without an inode, and the handle that its next one has
+pub record IsFree (slots : ℕ → Slot) (made : Handle) : Type 0 where
+  pub empty : (slots made.ino).log ≡ []
+  pub own : made.generation ≡ (slots made.ino).generation
+
+-- ---- commits
+
+-- the entries of items in one log, whose places in the commit go on from one
+abbrev pub entries_of : ℕ → ℕ → ℕ → List Item → List Entry
+entries_of commit epoch place [] = []
+entries_of commit epoch place (item ∷ items) =
+    record { id = record { commit = commit; place = place }; epoch = epoch; item = item } ∷ entries_of commit epoch (place + 1) items
+
+-- the items that a plan has for a slot
+abbrev pub items_for : List Planned → ℕ → List Item
+items_for [] ino = []
+items_for (p ∷ plan) ino = if p.handle.ino == ino then p.items else items_for plan ino
+
+-- where the entries of a slot begin in a commit, whose entries go by rising inode number: behind those of lower numbers
+abbrev pub place_in : List Planned → ℕ → ℕ
+place_in plan ino = sum_by (λ (p : Planned). if nat_lt p.handle.ino ino then length p.items else 0) plan
+
+-- the places of a plan's entries, slot by slot, are the numbers from 0 on
+pub record ArePlaced (plan : List Planned) : Type 0 where
+  pub first : place_in plan 0 ≡ 0
+  pub next : (ino : ℕ) → place_in plan (ino + 1) ≡ place_in plan ino + length (items_for plan ino)
+
+-- the slots after a commit
+abbrev pub published : ℕ → ℕ → List Planned → (ℕ → Slot) → ℕ → Slot
+published commit epoch plan slots ino = record {
+  generation = (slots ino).generation;
+  log = (slots ino).log ++ entries_of commit epoch (place_in plan ino) (items_for plan ino);
+}
+
+-- there are items, and the handle is that of its slot
+pub record IsPlanned (slots : ℕ → Slot) (p : Planned) : Type 0 where
+  pub some : 0 < length p.items
+  pub own : p.handle.generation ≡ (slots p.handle.ino).generation
+
+-- what a commit needs of a plan that is to have an effect
+pub record IsPlan (bytes : ℕ → List ℕ) (block : ℕ) (slots : ℕ → Slot) (plan : List Planned) (effect : List Change) : Type 0 where
+  pub all : AllByRecursion (IsPlanned slots) plan
+  pub fit : AllFit bytes block (node_in (node_under bytes block slots)) plan effect
+
+-- a log of entries of earlier commits, in which ids rise and epochs never fall, none of them above an epoch
+pub record IsBefore (commit epoch : ℕ) (log : List Entry) : Type 0 where
+  pub ordered : IsLog log
+  pub earlier : AllByRecursion (λ (e : Entry). (e.id.commit < commit) × (e.epoch ≤ epoch)) log
+
+-- a commit does to the nodes what its effect says, leaves each log sound, and changes none at an earlier epoch
+pub record Commits (bytes : ℕ → List ℕ) (block commit epoch : ℕ) (slots : ℕ → Slot) (plan : List Planned) (effect : List Change)
+    : Type 0 where
+  pub nodes : (handle : Handle) → node_under bytes block (published commit epoch plan slots) handle
+      ≡ nodes_after commit effect (node_under bytes block slots) handle
+  pub sound : (ino : ℕ) → IsSound bytes block (published commit epoch plan slots ino).log
+  pub earlier : (at ino : ℕ) → at < epoch → up_to at (published commit epoch plan slots ino).log ≡ up_to at (slots ino).log

@@ -1,0 +1,51 @@
+-- Calls that change nodes, with the text of a write apart from the call.
+use Rattle.std.specs.Prelude.{◌≡◌, ℕ, List, replicate, Option, Bool}
+use Rattle.nv_base.specs.declared.numbers.Handle.{Handle}
+use Rattle.nv_entry.specs.declared.node.NodeCopy.{NodeCopy}
+use Rattle.nv_calls.specs.declared.call.Call.{Call}
+use Rattle.nv_calls.specs.declared.call.Call.TheVariants as call
+use Rattle.nv_calls.specs.declared.plan.Plan.{Plan}
+use Rattle.nv_calls.specs.declared.taken.Taken.{Taken}
+use Rattle.nv_calls.specs.declared.update.Update.{Update}
+use Rattle.nv_calls.specs.declared.update.Update.TheVariants as update
+use Rattle.nv_calls.specs.AllCalls.{blocks_wanted, ends_in_page, is_nothing, look_refusal, looked, plan, refusal}
+use Rattle.nv_calls.specs.Locked.{handles}
+use Rattle.nv_calls.specs.Refusals.{passes}
+
+-- the call, where a write has that text
+abbrev pub call_of : Update → List ℕ → Call
+call_of (update.Create dir name mode) text = call.Create dir name mode
+call_of (update.Mkdir dir name mode) text = call.Mkdir dir name mode
+call_of (update.Write file offset count) text = call.Write file offset text
+call_of (update.Size file size) text = call.Size file size
+call_of (update.Mode handle mode) text = call.Mode handle mode
+call_of (update.Unlink dir name) text = call.Unlink dir name
+call_of (update.Rmdir dir name) text = call.Rmdir dir name
+call_of (update.Rename from old to new) text = call.Rename from old to new
+
+-- how many bytes the text of a write has
+abbrev pub text_len : Update → ℕ
+text_len (update.Write file offset count) = count
+text_len other = 0
+
+-- the call with a text of zeros: its check and its plan are those with any text of as many bytes
+abbrev pub blank_call : Update → Call
+blank_call u = call_of u (replicate (text_len u) 0)
+
+-- a call that passes its check, with the blocks that it takes
+pub record IsPlanOf (block : ℕ) (nodes : Handle → Option NodeCopy) (has_page : Handle → ℕ → Bool) (u : Update) (p : Plan) : Type 0 where
+  pub passed : refusal block nodes (blank_call u) ≡ passes
+  pub update : p.update ≡ u
+  pub blocks : p.blocks ≡ blocks_wanted block nodes (ends_in_page has_page block (blank_call u)) (blank_call u)
+
+-- two calls that look up the same, are refused alike, and plan alike
+pub record SamePlan (block : ℕ) (nodes : Handle → Option NodeCopy) (has_page : Handle → ℕ → Bool) (taken : Taken) (one other : Call)
+    : Type 0 where
+  pub found : looked nodes other ≡ looked nodes one
+  pub look_refusal : look_refusal nodes other ≡ look_refusal nodes one
+  pub refusal : refusal block nodes other ≡ refusal block nodes one
+  pub handles : handles (looked nodes other) other ≡ handles (looked nodes one) one
+  pub nothing : is_nothing other ≡ is_nothing one
+  pub ends : ends_in_page has_page block other ≡ ends_in_page has_page block one
+  pub wanted : blocks_wanted block nodes taken.present other ≡ blocks_wanted block nodes taken.present one
+  pub plan : plan block nodes taken other ≡ plan block nodes taken one

@@ -1,0 +1,51 @@
+-- The node that a cell holds, and which calls only read.
+use Rattle.std.specs.Prelude.{ℕ, Bool, true, false, List, Option, Result, Ok, Err}
+use Rattle.nv_base.specs.declared.fault.Fault.{Fault}
+use Rattle.nv_base.specs.declared.numbers.Handle.{Handle}
+use Rattle.nv_entry.specs.declared.node.NodeCopy.{NodeCopy}
+use Rattle.nv_cell.specs.Cell.{CellState, log_of}
+use Rattle.nv_cell.specs.declared.stat.Stat.{Stat}
+use Rattle.nv_calls.specs.declared.call.Call.{Call}
+use Rattle.nv_calls.specs.declared.call.Call.TheVariants as call
+use Rattle.nv_calls.specs.Plain.{PlainNode, node_in}
+use Rattle.nv_calls.specs.Refusals.{Check, passes}
+use Rattle.nv_calls.specs.Slots.{Slot, node_under}
+
+abbrev pub slot_of : CellState → Slot
+slot_of cell = record { generation = cell.generation; log = log_of cell }
+
+-- the plain node under a handle of the cell's slot, where `bytes` gives those of a block
+abbrev pub node_of : (ℕ → List ℕ) → CellState → Handle → Option PlainNode
+node_of bytes cell = node_under bytes cell.block (λ ino. slot_of cell)
+
+abbrev pub copy_of : (ℕ → List ℕ) → CellState → Handle → Option NodeCopy
+copy_of bytes cell = node_in (node_of bytes cell)
+
+-- what a node tells of itself
+abbrev pub stat_of : PlainNode → Stat
+stat_of p = record { kind = p.node.kind; mode = p.node.mode; size = p.node.size; commit = p.changed }
+
+-- ---- looks
+
+-- what a check says that looks for something
+abbrev pub check_of : {T : Type 0} → Result T Fault → Check
+check_of (Ok found) = passes
+check_of (Err fault) = Err fault
+
+-- ---- calls that only read
+
+abbrev pub is_stat : Call → Bool
+is_stat (call.Stat handle) = true
+is_stat other = false
+
+abbrev pub is_lookup : Call → Bool
+is_lookup (call.Lookup dir name) = true
+is_lookup other = false
+
+abbrev pub is_list : Call → Bool
+is_list (call.List dir) = true
+is_list other = false
+
+abbrev pub is_read : Call → Bool
+is_read (call.Read file offset count) = true
+is_read other = false

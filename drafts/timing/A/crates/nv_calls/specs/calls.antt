@@ -1,0 +1,12 @@
+pub mod Create
+pub mod List
+pub mod Lookup
+pub mod Mkdir
+pub mod Mode
+pub mod Read
+pub mod Rename
+pub mod Rmdir
+pub mod Size
+pub mod Stat
+pub mod Unlink
+pub mod Write

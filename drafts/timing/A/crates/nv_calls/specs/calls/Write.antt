@@ -1,0 +1,41 @@
+-- write: the old bytes, zeros up to the offset, the text from there on, the rest kept; a text of no bytes does nothing.
+use Rattle.std.specs.Prelude.{ℕ, ◌+◌, ◌*◌, ◌/◌, nat_lt, List, [], ◌∷◌, length, Option, option_map}
+use Rattle.nv_base.specs.declared.fault.Fault.TheVariants as fault
+use Rattle.nv_base.specs.declared.limits.TheConstants.{FILE_PAGES, WRITE_PAGES}
+use Rattle.nv_base.specs.declared.numbers.Handle.{Handle}
+use Rattle.nv_entry.specs.declared.item.Run.{Run}
+use Rattle.nv_entry.specs.declared.node.NodeCopy.{NodeCopy}
+use Rattle.nv_entry.specs.Bytes.{pages_touched, written}
+use Rattle.nv_entry.specs.Sound.{rewritten, write_items}
+use Rattle.nv_calls.specs.Plain.{Change, change}
+use Rattle.nv_calls.specs.declared.plan.Planned.{Planned}
+use Rattle.nv_calls.specs.Plan.{planned}
+use Rattle.nv_calls.specs.Refusals.{Check, bytes_of, kind_of, passes, refuse_if, want_file}
+
+-- so many bytes, at least one
+abbrev pub count_refusal : ℕ → ℕ → ℕ → Check
+count_refusal block offset count =
+    refuse_if (nat_lt WRITE_PAGES (pages_touched block offset count)) fault.WriteTooBig
+    (refuse_if (nat_lt (FILE_PAGES * block) (offset + count)) fault.FileTooBig passes)
+
+abbrev pub text_refusal : ℕ → ℕ → List ℕ → Check
+text_refusal block offset [] = passes
+text_refusal block offset (byte ∷ rest) = count_refusal block offset (length (byte ∷ rest))
+
+abbrev pub write_refusal : ℕ → (Handle → Option NodeCopy) → Handle → ℕ → List ℕ → Check
+write_refusal block nodes file offset text = want_file (kind_of (nodes file)) (text_refusal block offset text)
+
+abbrev pub write_effect : Handle → ℕ → List ℕ → List Change
+write_effect file offset [] = []
+write_effect file offset (byte ∷ rest) = change file (option_map (rewritten offset (byte ∷ rest))) ∷ []
+
+-- one block for each page that the text touches
+abbrev pub write_blocks : ℕ → ℕ → List ℕ → ℕ
+write_blocks block offset [] = 0
+write_blocks block offset (byte ∷ rest) = pages_touched block offset (length (byte ∷ rest))
+
+-- one item for each run of them, with the size of the file after the whole call
+abbrev pub write_plan : ℕ → (Handle → Option NodeCopy) → Handle → ℕ → List ℕ → List Run → List Planned
+write_plan block nodes file offset [] runs = []
+write_plan block nodes file offset (byte ∷ rest) runs =
+    planned file (write_items (offset / block) runs (length (written offset (byte ∷ rest) (bytes_of (nodes file))))) ∷ []

@@ -1,0 +1,23 @@
+//! What calls are answered.
+
+use nv_base::{Bytes, CommitNo, Handle, Kind, Mode};
+use nv_entry::NameList;
+
+/// What a call is answered.
+#[derive(Debug, Drop)]
+pub enum Answer {
+    /// The new inode, or the one that a name is bound to.
+    Made(Handle),
+    /// How many bytes were written.
+    Count(u64),
+    Nothing,
+    Bytes(Bytes),
+    /// A node's kind, mode, size in bytes (0 for a directory), and the commit that changed it last.
+    Stat {
+        kind: Kind,
+        mode: Mode,
+        size: u64,
+        commit: CommitNo,
+    },
+    Names(NameList),
+}

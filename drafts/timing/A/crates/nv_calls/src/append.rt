@@ -1,0 +1,120 @@
+//! The entries of a commit, appended past the tails.
+
+ghost use Rattle.std.specs.Prelude.{◌≡◌, ℕ, List, ◌+◌, ◌-◌, ◌<◌, ◌≤◌, ◌^◌, drop, length, take, []};
+ghost use Rattle.nv_entry.specs.declared.item.Item.{Item as ItemValue};
+ghost use Rattle.nv_log.specs.Chain.{pages_for, room_of};
+ghost use Rattle.nv_cell.specs.Room.{IsReadyFor};
+ghost use Rattle.nv_calls.specs.Cells.{state_at, value_at, with_value};
+ghost use Rattle.nv_calls.specs.Steps.{CanAppendPlan, HaveBlocks, MayFollow, hand_after, numbers_in, stamped_entries, stamped_entry, with_entries, with_pages, with_plan, without_front};
+
+use crate::{Cells, Stamp};
+use nv_alloc::{BlockQueue, Hand};
+use nv_base::EntryId;
+use nv_entry::{Entry, Item};
+use std::collections::VecDeque;
+
+/// Moves pages from the front of a queue to the log of a cell. What the cell is ready for, it stays ready for.
+fn add_pages<C: Cells>(cells: &mut C, k: usize, count: usize, pages: &mut BlockQueue)
+    requires within { k < length (C.cells cells.old) }
+    requires reserved { count ≤ (value_at (C.cells cells.old) k).room.pages }
+    requires there { count ≤ length pages.old.blocks }
+    requires size { pages.old.size ≡ (state_at (C.cells cells.old) k).block }
+    ensures cells { C.cells cells.new ≡ with_value (C.cells cells.old) k
+        (with_pages (take count pages.old.blocks) (value_at (C.cells cells.old) k)) }
+    ensures ready { (items : List ItemValue) → IsReadyFor items (value_at (C.cells cells.old) k)
+        → IsReadyFor items (value_at (C.cells cells.new) k) }
+    ensures fewer { (entries : ℕ) → pages_for (state_at (C.cells cells.new) k).chain entries
+        ≡ pages_for (state_at (C.cells cells.old) k).chain entries - count }
+    ensures pages { pages.new ≡ without_front count pages.old }
+    ensures places { C.places cells.new ≡ C.places cells.old }
+    ensures beside { C.beside cells.new ≡ C.beside cells.old }
+{
+    for _added in 0..count {
+        // Each block of the queue has its size.
+        let _size = pages.block_bytes();
+        let Some(block) = pages.take_next() else {
+            unreachable!()
+        };
+        // The log is one, so that a page gives as much room as it holds.
+        cells.cell(k).known();
+        cells.add_page(k, block);
+    }
+}
+
+/// Appends entries with these items to the log of a cell, from a place in their commit on, with the blocks of their
+/// pages from the front of a queue. The pages that are there take them.
+fn append_items<C: Cells>(
+    cells: &mut C,
+    k: usize,
+    stamp: &Stamp,
+    place: u32,
+    left: &mut VecDeque<Item>,
+    blocks: &mut BlockQueue,
+)
+    requires within { k < length (C.cells cells.old) }
+    requires room { length left.old.items ≤ room_of (state_at (C.cells cells.old) k).chain }
+    requires ready { IsReadyFor left.old.items (value_at (C.cells cells.old) k) }
+    requires follow { MayFollow stamp.now place (value_at (C.cells cells.old) k) }
+    requires blocks { HaveBlocks left.old.items (state_at (C.cells cells.old) k).block blocks.old }
+    requires few { place + length left.old.items < 2 ^ 32 }
+    ensures cells { C.cells cells.new ≡ with_value (C.cells cells.old) k
+        (with_entries (stamped_entries stamp.now place left.old.items) blocks.old.blocks
+        (value_at (C.cells cells.old) k)) }
+    ensures ready { IsReadyFor [] (value_at (C.cells cells.new) k) }
+    ensures follow { MayFollow stamp.now (place + length left.old.items)
+        (value_at (C.cells cells.new) k) }
+    ensures queue { blocks.new ≡ without_front (length (numbers_in left.old.items)) blocks.old }
+    ensures left { left.new.items ≡ [] }
+    ensures places { C.places cells.new ≡ C.places cells.old }
+    ensures beside { C.beside cells.new ≡ C.beside cells.old }
+{
+    let mut next = place;
+    for _done in 0..left.len() {
+        let Some(item) = left.pop_front() else {
+            unreachable!()
+        };
+        // The log is one, so that the entry comes next in it.
+        cells.cell(k).known();
+        cells.append(k, entry_of(stamp, next, item), blocks);
+        next += 1;
+    }
+}
+
+/// The entry that an item becomes at a place in a commit.
+fn entry_of(stamp: &Stamp, place: u32, item: Item) -> Entry
+    ensures { result ≡ stamped_entry stamp.now place item }
+{
+    let commit = stamp.commit;
+    let id = EntryId { commit, place };
+    let epoch = stamp.epoch;
+    Entry { id, epoch, item }
+}
+
+/// Appends entries with these items to the log of a cell, from a place in their commit on, with pages of the log and
+/// the blocks of their pages from a hand.
+pub(crate) fn append_plan<C: Cells>(
+    cells: &mut C,
+    k: usize,
+    stamp: &Stamp,
+    place: u32,
+    items: Vec<Item>,
+    hand: &mut Hand,
+)
+    requires within { k < length (C.cells cells.old) }
+    requires can { CanAppendPlan stamp.now place items.items hand.old
+        (value_at (C.cells cells.old) k) }
+    ensures cells { C.cells cells.new ≡ with_value (C.cells cells.old) k
+        (with_plan stamp.now place items.items hand.old (value_at (C.cells cells.old) k)) }
+    ensures ready { IsReadyFor [] (value_at (C.cells cells.new) k) }
+    ensures hand { hand.new
+        ≡ hand_after items.items (state_at (C.cells cells.old) k).chain hand.old }
+    ensures places { C.places cells.new ≡ C.places cells.old }
+    ensures beside { C.beside cells.new ≡ C.beside cells.old }
+{
+    let count = cells.cell(k).pages_for(items.len());
+    add_pages(cells, k, count, &mut hand.pages);
+    // The log is one, so that its pages take the entries.
+    cells.cell(k).known();
+    let mut left = VecDeque::from_vec(items);
+    append_items(cells, k, stamp, place, &mut left, &mut hand.data);
+}

@@ -1,0 +1,26 @@
+//! Setting the mode of a node.
+
+ghost use Rattle.std.specs.Prelude.{◌≡◌, IfOk};
+ghost use Rattle.nv_calls.specs.calls.Mode.{mode_plan, mode_refusal};
+
+use crate::plan::list_of_one;
+use crate::wants::want_node;
+use crate::{Nodes, Planned, PlannedItems};
+use nv_base::{Fault, Handle, Mode};
+use nv_entry::Item;
+use std::alloc::{AllocError, Global};
+
+/// Why a mode is refused.
+pub fn check<N: Nodes>(nodes: &N, handle: &Handle) -> Result<(), Fault>
+    ensures { result ≡ mode_refusal (N.nodes_of nodes.now) handle.now }
+{
+    want_node(nodes.kind(handle))
+}
+
+/// The node gets the mode.
+pub fn plan(alloc: Global, handle: Handle, mode: Mode) -> Result<PlannedItems, AllocError>
+    ensures { IfOk result (λ plan. plan ≡ mode_plan handle mode) }
+{
+    let planned = Planned::one(alloc, handle, Item::SetMode { mode })?;
+    list_of_one(alloc, planned)
+}

@@ -1,0 +1,173 @@
+//! Giving a node another name.
+
+ghost use Rattle.std.specs.Prelude.{◌≡◌, [], IfOk, IsTrue};
+ghost use Rattle.nv_base.specs.Names.{is_lawful_name, same_name};
+ghost use Rattle.nv_base.specs.Refusals.{FailsOnly};
+ghost use Rattle.nv_base.specs.declared.fault.Fault.TheVariants.{OutOfMemory};
+ghost use Rattle.nv_calls.specs.Plain.{same_handle};
+ghost use Rattle.nv_calls.specs.Refusals.{is_directory};
+ghost use Rattle.nv_calls.specs.calls.Rename.{move_plan, moved_refusal, own_place, rename_early, rename_late, rename_plan, replaced_refusal};
+
+use crate::calls::lookup;
+use crate::names::name_of;
+use crate::wants::{refuse_if, want_bound, want_directory, want_lawful, want_node};
+use crate::{Looked, Nodes, Planned, PlannedItems};
+use nv_base::{Fault, Handle, Items, Kind, Name};
+use nv_entry::Item;
+use std::alloc::{AllocError, Global};
+
+/// Why a rename is refused before its names are compared with what the looks found.
+pub fn check_early<N: Nodes>(
+    nodes: &N,
+    from: &Handle,
+    old: &[u8],
+    to: &Handle,
+    new: &[u8],
+) -> Result<(), Fault>
+    ensures { result ≡ rename_early (N.nodes_of nodes.now) from.now old.now to.now new.now }
+{
+    lookup::check(nodes, from, old)?;
+    want_directory(nodes.kind(to))?;
+    want_lawful(new)
+}
+
+/// Why a rename is refused, by what its names lead to.
+pub fn check_late<N: Nodes>(
+    nodes: &N,
+    from: &Handle,
+    old: &[u8],
+    to: &Handle,
+    new: &[u8],
+    looked: &Looked,
+) -> Result<(), Fault>
+    ensures { result
+        ≡ rename_late (N.nodes_of nodes.now) from.now old.now to.now new.now looked.now }
+{
+    let moved = want_bound(looked.first)?;
+    if is_own_place(from, old, to, new) {
+        return Ok(());
+    }
+    check_moved(nodes, from, to, looked.second, &moved)
+}
+
+/// Why a node may not move from one directory to another.
+fn check_moved<N: Nodes>(
+    nodes: &N,
+    from: &Handle,
+    to: &Handle,
+    other: Option<Handle>,
+    moved: &Handle,
+) -> Result<(), Fault>
+    ensures { result ≡ moved_refusal (N.nodes_of nodes.now) from.now to.now other moved.now }
+{
+    let kind = nodes.kind(moved);
+    want_node(kind)?;
+    refuse_if(
+        is_directory(&kind) && !is_same(from, to),
+        Fault::MoveDirectory,
+    )?;
+    check_replaced(nodes, &kind, other)
+}
+
+/// Why a node of a kind may not replace what a name leads to.
+fn check_replaced<N: Nodes>(
+    nodes: &N,
+    moved: &Option<Kind>,
+    other: Option<Handle>,
+) -> Result<(), Fault>
+    ensures { result ≡ replaced_refusal (N.nodes_of nodes.now) moved.now other }
+{
+    let Some(other) = other else {
+        return Ok(());
+    };
+    let kind = nodes.kind(&other);
+    let is_dir = is_directory(moved) || is_directory(&kind);
+    want_node(kind)?;
+    refuse_if(is_dir, Fault::Exists)
+}
+
+/// The first name leaves, the second goes last with what the first led to, and a file at the second goes; nothing
+/// where both names are one.
+pub fn plan(
+    alloc: Global,
+    from: Handle,
+    old: &[u8],
+    to: Handle,
+    new: &[u8],
+    looked: &Looked,
+) -> Result<PlannedItems, Fault>
+    requires old_lawful { IsTrue (is_lawful_name old.now) }
+    requires new_lawful { IsTrue (is_lawful_name new.now) }
+    ensures ok { IfOk result (λ plan. plan ≡ rename_plan from old.now to new.now looked.now) }
+    ensures err { FailsOnly OutOfMemory result }
+{
+    if is_own_place(&from, old, &to, new) {
+        return Ok(Items::empty(alloc));
+    }
+    let Some(moved) = looked.first else {
+        return Ok(Items::empty(alloc));
+    };
+    let old = name_of(alloc, old)?;
+    let new = name_of(alloc, new)?;
+    let mut plan = plan_of_names(alloc, from, old, to, new, moved)?;
+    if let Some(other) = looked.second {
+        plan.push(Planned::one(alloc, other, Item::Gone)?)?;
+    }
+    Ok(Items::from_vec(plan))
+}
+
+/// What the two directories append; within one, both items in one log.
+fn plan_of_names(
+    alloc: Global,
+    from: Handle,
+    old: Name,
+    to: Handle,
+    new: Name,
+    moved: Handle,
+) -> Result<Vec<Planned>, AllocError>
+    ensures { IfOk result (λ plan. plan.items
+        ≡ move_plan (same_handle from to) from old to new moved []) }
+{
+    let same = is_same(&from, &to);
+    let unbind = Item::Unbind { name: old };
+    let bind = Item::Bind {
+        name: new,
+        to: moved,
+    };
+    let mut plan = Vec::new(alloc);
+    if same {
+        plan.push(Planned::two(alloc, from, unbind, bind)?)?;
+        return Ok(plan);
+    }
+    plan.push(Planned::one(alloc, from, unbind)?)?;
+    plan.push(Planned::one(alloc, to, bind)?)?;
+    Ok(plan)
+}
+
+/// Whether both names are one, in one directory.
+pub fn is_own_place(from: &Handle, old: &[u8], to: &Handle, new: &[u8]) -> bool
+    ensures { result ≡ own_place from.now old.now to.now new.now }
+{
+    is_same(from, to) && is_same_name(old, new)
+}
+
+pub(crate) fn is_same(a: &Handle, b: &Handle) -> bool
+    ensures { result ≡ same_handle a.now b.now }
+{
+    a.ino == b.ino && a.generation == b.generation
+}
+
+fn is_same_name(a: &[u8], b: &[u8]) -> bool
+    ensures { result ≡ same_name a.now b.now }
+{
+    a == b
+}
+
+fn is_directory(kind: &Option<Kind>) -> bool
+    ensures { result ≡ is_directory kind.now }
+{
+    match kind {
+        Some(Kind::Dir) => true,
+        Some(Kind::File) | None => false,
+    }
+}

@@ -1,0 +1,59 @@
+//! Cutting a file, or adding zeros to it.
+
+ghost use Rattle.std.specs.Prelude.{◌≡◌, ◌+◌, ◌/◌, ◌<◌, ◌≤◌, IfOk, length};
+ghost use Rattle.nv_base.specs.declared.limits.TheConstants.{BLOCK_BYTES, FILE_PAGES};
+ghost use Rattle.nv_entry.specs.Sound.{blocks_of};
+ghost use Rattle.nv_calls.specs.calls.Size.{size_blocks, size_plan, size_refusal};
+
+use crate::plan::list_of_one;
+use crate::runs::write_items;
+use crate::wants::{refuse_if, want_file};
+use crate::{Nodes, Planned, PlannedItems};
+use nv_base::{Fault, Handle, Items, limits};
+use nv_entry::{Item, Run};
+use std::alloc::{AllocError, Global};
+
+/// Why a size is refused.
+pub fn check<N: Nodes>(block: u64, nodes: &N, file: &Handle, size: u64) -> Result<(), Fault>
+    requires { block ≤ BLOCK_BYTES }
+    ensures { result ≡ size_refusal block (N.nodes_of nodes.now) file.now size }
+{
+    want_file(nodes.kind(file))?;
+    let most = u64::from(limits::FILE_PAGES) * block;
+    refuse_if(size > most, Fault::FileTooBig)
+}
+
+/// How many blocks a size takes: one for a page that is cut.
+pub fn blocks_wanted<N: Nodes>(
+    block: u64,
+    nodes: &N,
+    file: &Handle,
+    size: u64,
+    present: bool,
+) -> u64
+    requires { 0 < block }
+    ensures { result ≡ size_blocks block (N.nodes_of nodes.now) file.now size present }
+{
+    let cut = size < nodes.size(file) && !(size % block == 0) && present;
+    if cut { 1 } else { 0 }
+}
+
+/// The page that is cut, where one is, and then the size.
+pub fn plan(
+    alloc: Global,
+    block: u64,
+    file: Handle,
+    size: u64,
+    runs: &[Run],
+) -> Result<PlannedItems, AllocError>
+    requires some_bytes { 0 < block }
+    requires fits { size / block + length (blocks_of runs.now) ≤ FILE_PAGES }
+    ensures { IfOk result (λ plan. plan ≡ size_plan block file size runs.now) }
+{
+    let first = (size / block) as u32;
+    let mut items = write_items(alloc, first, runs, size)?;
+    items.push(Item::SetSize { size })?;
+    let items = Items::from_vec(items);
+    let handle = file;
+    list_of_one(alloc, Planned { handle, items })
+}

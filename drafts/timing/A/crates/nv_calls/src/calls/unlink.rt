@@ -1,0 +1,43 @@
+//! Taking a file out of a directory.
+
+ghost use Rattle.std.specs.Prelude.{◌≡◌, IfOk, IsTrue};
+ghost use Rattle.nv_base.specs.Names.{is_lawful_name};
+ghost use Rattle.nv_base.specs.Refusals.{FailsOnly};
+ghost use Rattle.nv_base.specs.declared.fault.Fault.TheVariants.{OutOfMemory};
+ghost use Rattle.nv_calls.specs.calls.Unlink.{leave_plan, unlink_late};
+
+use crate::names::name_of;
+use crate::plan::list_of_two;
+use crate::wants::{want_bound, want_file};
+use crate::{Nodes, Planned, PlannedItems};
+use nv_base::{Fault, Handle, Items};
+use nv_entry::Item;
+use std::alloc::Global;
+
+/// Why an unlink is refused, by what the name leads to.
+pub fn check_late<N: Nodes>(nodes: &N, bound: Option<Handle>) -> Result<(), Fault>
+    ensures { result ≡ unlink_late (N.nodes_of nodes.now) bound }
+{
+    let to = want_bound(bound)?;
+    want_file(nodes.kind(&to))
+}
+
+/// The name leaves the directory, and what it leads to goes: of an unlink and of an rmdir.
+pub fn plan(
+    alloc: Global,
+    dir: Handle,
+    name: &[u8],
+    bound: Option<Handle>,
+) -> Result<PlannedItems, Fault>
+    requires { IsTrue (is_lawful_name name.now) }
+    ensures ok { IfOk result (λ plan. plan ≡ leave_plan dir name.now bound) }
+    ensures err { FailsOnly OutOfMemory result }
+{
+    let Some(to) = bound else {
+        return Ok(Items::empty(alloc));
+    };
+    let name = name_of(alloc, name)?;
+    let unbind = Planned::one(alloc, dir, Item::Unbind { name })?;
+    let gone = Planned::one(alloc, to, Item::Gone)?;
+    Ok(list_of_two(alloc, unbind, gone)?)
+}

@@ -1,0 +1,71 @@
+//! The file calls, each as what it is: when it is refused, what it appends and changes, what it is answered.
+//!
+//! Contracts speak of a plain world: nodes by handle, with their bytes or names. A call is cut by the step
+//! that decides: its refusal is a function of the nodes at the check, its effect a list of changes at the
+//! commit. Its plan is the items that it appends, inode by inode; a law says that a commit of any plan that
+//! fits an effect has that effect, and another that each call's plan fits its own.
+#![tactic(auto)]
+
+mod answer;
+mod append;
+mod call;
+pub mod calls;
+mod cells;
+mod checked;
+mod commit;
+mod fill_pages;
+mod filling;
+mod held_nodes;
+pub mod laws;
+mod lent;
+mod log_pages;
+mod looked;
+mod names;
+mod nodes;
+mod plan;
+mod planning;
+mod prepare;
+mod progress;
+mod publish;
+mod ready;
+mod receipt;
+mod refusal;
+mod retire;
+mod runs;
+mod slot_cells;
+mod source;
+mod stamp;
+mod steps;
+mod taken;
+mod update;
+mod view;
+mod wants;
+mod whole;
+
+pub use answer::Answer;
+pub use call::Call;
+pub use cells::Cells;
+pub use checked::check_on;
+pub use commit::Commit;
+pub use fill_pages::fill;
+pub use held_nodes::HeldNodes;
+pub use lent::{LastCell, LentCell};
+pub use log_pages::pages_wanted;
+pub use looked::{Looked, found, is_as_looked, look, look_all};
+pub use nodes::Nodes;
+pub use plan::{Plan, Planned, PlannedItems, place_in};
+pub use planning::{blocks_wanted, ends_in_page, is_nothing, plan_items, plan_of};
+pub use prepare::ready_on;
+pub use progress::CommitStep;
+pub use ready::{CellPlan, Ready};
+pub use receipt::Receipt;
+pub use refusal::{check, check_early, check_late, check_look};
+pub use runs::runs_of;
+pub use slot_cells::SlotCells;
+pub use source::{Source, SourceFault};
+pub use stamp::Stamp;
+pub use steps::{append_on, close_on, open_on, publish_on, retire_on};
+pub use taken::Taken;
+pub use update::Update;
+pub use view::{View, list_on, look_on, lookup_on, read_on, stat_on};
+pub use whole::commit_on;

@@ -1,0 +1,76 @@
+//! What calls look up before they lock.
+
+ghost use Rattle.std.specs.Prelude.{◌≡◌, ◌↔◌, IsTrue};
+ghost use Rattle.nv_calls.specs.AllCalls.{looked};
+ghost use Rattle.nv_calls.specs.Refusals.{found, look};
+ghost use Rattle.nv_calls.specs.Updates.{blank_call};
+
+use crate::wants::{want_directory, want_lawful};
+use crate::{Nodes, Update};
+use nv_base::{Fault, Handle};
+
+/// What the names of a call lead to, the first and the second, as its looks found it: none where a name is
+/// not bound or the look was refused.
+#[derive(Clone, Copy, Debug, PartialEq, Eq)]
+pub struct Looked {
+    pub first: Option<Handle>,
+    pub second: Option<Handle>,
+}
+
+/// A look at a name: what it leads to, if anything. `Stale` or `NotDirectory` where there is no directory,
+/// and `BadName`.
+pub fn look<N: Nodes>(nodes: &N, dir: &Handle, name: &[u8]) -> Result<Option<Handle>, Fault>
+    ensures { result ≡ look (N.nodes_of nodes.now) dir.now name.now }
+{
+    want_directory(nodes.kind(dir))?;
+    want_lawful(name)?;
+    Ok(nodes.lookup(dir, name))
+}
+
+/// What a look finds, nothing where it is refused.
+pub fn found<N: Nodes>(nodes: &N, dir: &Handle, name: &[u8]) -> Option<Handle>
+    ensures { result ≡ found (N.nodes_of nodes.now) dir.now name.now }
+{
+    match look(nodes, dir, name) {
+        Ok(to) => to,
+        Err(_) => None,
+    }
+}
+
+/// What the names of a call lead to now.
+pub fn look_all<N: Nodes>(nodes: &N, call: &Update) -> Looked
+    ensures { result ≡ looked (N.nodes_of nodes.now) (blank_call call.now) }
+{
+    match call {
+        Update::Unlink { dir, name } | Update::Rmdir { dir, name } => Looked {
+            first: found(nodes, dir, name.as_slice()),
+            second: None,
+        },
+        Update::Rename { from, old, to, new } => Looked {
+            first: found(nodes, from, old.as_slice()),
+            second: found(nodes, to, new.as_slice()),
+        },
+        _ => Looked {
+            first: None,
+            second: None,
+        },
+    }
+}
+
+/// Whether the names of a call still lead to what its looks found.
+pub fn is_as_looked<N: Nodes>(nodes: &N, before: &Looked, call: &Update) -> bool
+    ensures { IsTrue result ↔ (looked (N.nodes_of nodes.now) (blank_call call.now) ≡ before.now) }
+{
+    let now = look_all(nodes, call);
+    is_same(now.first, before.first) && is_same(now.second, before.second)
+}
+
+fn is_same(one: Option<Handle>, other: Option<Handle>) -> bool
+    ensures { IsTrue result ↔ (one ≡ other) }
+{
+    match (one, other) {
+        (None, None) => true,
+        (Some(one), Some(other)) => one.ino == other.ino && one.generation == other.generation,
+        _ => false,
+    }
+}

@@ -1,0 +1,99 @@
+//! Plans: what a call that passed its check needs, and the items that it appends to the logs of its inodes.
+
+ghost use Rattle.std.specs.Prelude.{◌≡◌, ◌<◌, ◌^◌, ◌∷◌, [], IfOk};
+ghost use Rattle.nv_calls.specs.AllCalls.{is_nothing};
+ghost use Rattle.nv_calls.specs.Plan.{planned};
+ghost use Rattle.nv_calls.specs.Slots.{place_in};
+ghost use Rattle.nv_calls.specs.Updates.{blank_call};
+
+use crate::Update;
+use crate::planning::is_nothing;
+use nv_base::{Handle, Ino, Items};
+use nv_entry::Item;
+use std::alloc::{AllocError, Global};
+
+/// A call that passed its check, and how many blocks it needs for its pages.
+#[derive(Debug, Drop)]
+pub struct Plan {
+    pub update: Update,
+    pub blocks: u64,
+}
+
+impl Plan {
+    /// Whether the call appends nothing, so that it is answered at its check.
+    pub fn nothing(&self) -> bool
+        ensures { result ≡ is_nothing (blank_call self.now.update) }
+    {
+        is_nothing(&self.update)
+    }
+}
+
+/// What a call appends to the log of one inode.
+#[derive(Debug, Drop)]
+pub struct Planned {
+    pub handle: Handle,
+    pub items: Items<Item>,
+}
+
+/// Where the entries of an inode begin among those of a commit, which go by rising inode number.
+pub fn place_in(plan: &[Planned], ino: Ino) -> u32
+    requires { place_in plan.now ino < 2 ^ 32 }
+    ensures { result ≡ place_in plan.now ino }
+{
+    let mut place = 0;
+    for planned in plan {
+        if planned.handle.ino < ino {
+            place += planned.items.len() as u32;
+        }
+    }
+    place
+}
+
+/// What a call appends, inode by inode.
+pub type PlannedItems = Items<Planned>;
+
+impl Planned {
+    /// One item for the log of an inode.
+    pub fn one(alloc: Global, handle: Handle, item: Item) -> Result<Planned, AllocError>
+        ensures { IfOk result (λ p. p ≡ planned handle (item ∷ [])) }
+    {
+        let items = list_of_one(alloc, item)?;
+        Ok(Planned { handle, items })
+    }
+
+    /// Two items for the log of an inode.
+    pub fn two(
+        alloc: Global,
+        handle: Handle,
+        first: Item,
+        second: Item,
+    ) -> Result<Planned, AllocError>
+        ensures { IfOk result (λ p. p ≡ planned handle (first ∷ second ∷ [])) }
+    {
+        let items = list_of_two(alloc, first, second)?;
+        Ok(Planned { handle, items })
+    }
+}
+
+/// A list of one.
+pub(crate) fn list_of_one<T: Drop>(alloc: Global, item: T) -> Result<Items<T>, AllocError>
+    ensures { IfOk result (λ items. items ≡ item ∷ []) }
+{
+    let mut items = Vec::new(alloc);
+    items.push(item)?;
+    Ok(Items::from_vec(items))
+}
+
+/// A list of two.
+pub(crate) fn list_of_two<T: Drop>(
+    alloc: Global,
+    first: T,
+    second: T,
+) -> Result<Items<T>, AllocError>
+    ensures { IfOk result (λ items. items ≡ first ∷ second ∷ []) }
+{
+    let mut items = Vec::new(alloc);
+    items.push(first)?;
+    items.push(second)?;
+    Ok(Items::from_vec(items))
+}

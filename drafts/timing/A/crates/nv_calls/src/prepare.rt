@@ -1,0 +1,235 @@
+//! What makes a call ready to be committed: its items, cell by cell, and all room that they need.
+
+ghost use Rattle.std.specs.Prelude.{◌≡◌, ℕ, ◌<◌, ◌≤◌, ◌^◌, IfErr, IfOk, OnOk, length, unwrap_or};
+ghost use Rattle.std.specs.List.{AllByRecursion, sum_by};
+ghost use Rattle.nv_alloc.specs.Block.{numbers_of};
+ghost use Rattle.nv_base.specs.Refusals.{FailsOnly};
+ghost use Rattle.nv_base.specs.declared.fault.Fault.TheVariants.{OutOfMemory};
+ghost use Rattle.nv_cell.specs.Effects.{BindOne};
+ghost use Rattle.nv_entry.specs.Sound.{blocks_of};
+ghost use Rattle.nv_calls.specs.Cells.{AreCells, state_at};
+ghost use Rattle.nv_calls.specs.Prepared.{AreReady, CanReady, HasLogPages, HasNoLessRoom, HaveNoLessRoom, IsReadyBy, cell_plans, made_by, no_handle, planned_by, plans_by, taken_by};
+ghost use Rattle.nv_calls.specs.Nodes.{block_in};
+ghost use Rattle.nv_calls.specs.Plan.{AreMaximal, runs_of};
+ghost use Rattle.nv_calls.specs.Ready.{ArePlaced, need_of};
+ghost use Rattle.nv_calls.specs.Slots.{items_for};
+ghost use Rattle.nv_calls.specs.Steps.{HaveBlocks};
+
+use crate::checked::block_in;
+use crate::planning::{ends_in_page, plan_items};
+use crate::runs::runs_of;
+use crate::{CellPlan, Cells, HeldNodes, Plan, Planned, Ready, Taken, Update};
+use nv_alloc::{BlockQueue, Hand};
+use nv_base::{BlockNo, Fault, Gen, Handle, Ino, Items};
+use nv_entry::Item;
+use std::alloc::{AllocError, Global};
+
+/// The handle of a new inode, where the call makes one: its number, with the generation of its slot.
+fn made_by<C: Cells>(cells: &C, number: Option<Ino>, update: &Update) -> Option<Handle>
+    requires { length (C.cells cells.now) ≤ 4 }
+    ensures { result ≡ made_by (C.cells cells.now) number update.now }
+{
+    match update {
+        Update::Create { .. } | Update::Mkdir { .. } => {
+            Some(HeldNodes::new(cells).handle_in(number?))
+        }
+        _ => None,
+    }
+}
+
+/// The numbers of blocks in the order taken.
+fn numbers_of(alloc: Global, queue: &BlockQueue) -> Result<Vec<BlockNo>, AllocError>
+    ensures { IfOk result (λ numbers. numbers.items ≡ numbers_of queue.now.blocks) }
+{
+    let mut numbers = Vec::new(alloc);
+    for block in queue.iter() {
+        numbers.push(block.number())?;
+    }
+    Ok(numbers)
+}
+
+/// The items of a call, inode by inode, with the blocks of its hand.
+fn planned_by<C: Cells>(
+    alloc: Global,
+    cells: &C,
+    update: &Update,
+    made: &Option<Handle>,
+    hand: &Hand,
+) -> Result<Vec<Planned>, Fault>
+    requires can { CanReady (C.cells cells.now) hand.now update.now }
+    requires made { made.now ≡ made_by (C.cells cells.now) hand.now.ino update.now }
+    ensures ok { IfOk result (λ planned. planned.items
+        ≡ planned_by (C.cells cells.now) hand.now update.now) }
+    ensures runs { IfOk result (λ planned. let numbers = numbers_of hand.now.data.blocks in
+        AreMaximal (runs_of numbers) × (blocks_of (runs_of numbers) ≡ numbers)) }
+    ensures err { FailsOnly OutOfMemory result }
+{
+    let block = block_in(cells);
+    let nodes = HeldNodes::new(cells);
+    let numbers = numbers_of(alloc, &hand.data)?;
+    let runs = Items::from_vec(runs_of(alloc, &numbers)?);
+    let present = ends_in_page(block, &nodes, update);
+    let taken = Taken {
+        made: or_none(made),
+        runs,
+        present,
+    };
+    let planned = plan_items(alloc, block, &nodes, &taken, update)?;
+    Ok(planned.into_vec())
+}
+
+/// A handle that leads nowhere where there is none.
+fn or_none(made: &Option<Handle>) -> Handle
+    ensures { result ≡ unwrap_or made.now no_handle }
+{
+    match made {
+        Some(made) => *made,
+        None => Handle {
+            ino: Ino::new(0),
+            generation: Gen::new(0),
+        },
+    }
+}
+
+/// Takes out what is planned for an inode.
+fn take_items(alloc: Global, planned: &mut Vec<Planned>, ino: Ino) -> Vec<Item>
+    ensures items { result.items ≡ items_for planned.old.items ino }
+    ensures others { (other : ℕ) → (other ≡ ino → ⊥)
+        → items_for planned.new.items other ≡ items_for planned.old.items other }
+{
+    for i in 0..planned.len() {
+        if planned[i].handle.ino == ino {
+            let Planned { handle: _, items } = planned.remove(i);
+            return items.into_vec();
+        }
+    }
+    Vec::new(alloc)
+}
+
+/// What is planned, cell by cell.
+fn cell_plans<C: Cells>(
+    alloc: Global,
+    cells: &C,
+    planned: Vec<Planned>,
+) -> Result<Vec<CellPlan>, AllocError>
+    requires { AreCells (C.cells cells.now) }
+    ensures { IfOk result (λ plans. plans.items
+        ≡ cell_plans planned.items 0 (C.cells cells.now)) }
+{
+    let mut left = planned;
+    let mut plans = Vec::new(alloc);
+    for at in 0..cells.count() {
+        let items = take_items(alloc, &mut left, cells.ino(at));
+        if !items.is_empty() {
+            plans.push(CellPlan::new(alloc, at, items))?;
+        }
+    }
+    Ok(plans)
+}
+
+/// Makes the growths of the planned cells.
+fn ready_cells<C: Cells>(cells: &mut C, plans: &[CellPlan]) -> Result<(), Fault>
+    requires placed { ArePlaced (C.cells cells.old) plans.now }
+    requires settled { AllByRecursion (λ p. let chain = (state_at (C.cells cells.old) p.at).chain in
+        chain.tail ≡ length chain.entries) plans.now }
+    requires one { AllByRecursion (λ p. BindOne p.items) plans.now }
+    ensures cells { HaveNoLessRoom (C.cells cells.old) (C.cells cells.new) }
+    ensures ready { OnOk result (AreReady (C.cells cells.new) plans.now) }
+    ensures err { FailsOnly OutOfMemory result }
+    ensures places { C.places cells.new ≡ C.places cells.old }
+    ensures beside { C.beside cells.new ≡ C.beside cells.old }
+{
+    for plan in plans {
+        cells.ready(plan.at, &plan.items)?;
+    }
+    Ok(())
+}
+
+/// How many parts the publishes of the plans kill at most. `OutOfMemory` where no number is as large: there is no room
+/// for as many blocks.
+fn need_of<C: Cells>(cells: &C, plans: &[CellPlan]) -> Result<u64, Fault>
+    requires { AllByRecursion (λ p. p.at < length (C.cells cells.now)) plans.now }
+    ensures ok { IfOk result (λ need. need ≡ need_of (C.cells cells.now) plans.now) }
+    ensures err { FailsOnly OutOfMemory result }
+{
+    let mut need = 0u64;
+    for plan in plans {
+        let most = cells.cell(plan.at).most_killed(&plan.items);
+        need = need.saturating_add(most as u64);
+    }
+    // The greatest number stands for all that are no less.
+    if need == u64::MAX {
+        return Err(Fault::OutOfMemory);
+    }
+    Ok(need)
+}
+
+/// Makes all growths of a call, and gives what it appends, cell by cell, and how many parts that kills at most.
+fn prepare<C: Cells>(
+    alloc: Global,
+    cells: &mut C,
+    update: &Update,
+    made: &Option<Handle>,
+    hand: &mut Hand,
+) -> Result<(Vec<CellPlan>, u64), Fault>
+    requires can { CanReady (C.cells cells.old) hand.old update.now }
+    requires made { made.now ≡ made_by (C.cells cells.old) hand.old.ino update.now }
+    ensures some_bytes { 0 < block_in (C.cells cells.old) }
+    ensures runs { let runs = (taken_by (C.cells cells.old) hand.old update.now).runs in
+        IfOk result (λ done. AreMaximal runs × (blocks_of runs ≡ numbers_of hand.old.data.blocks)) }
+    ensures plans { IfOk result (λ done. done.0.items
+        ≡ plans_by (C.cells cells.old) hand.old update.now) }
+    ensures ready { IfOk result (λ done. AreReady (C.cells cells.new) done.0.items) }
+    ensures need { IfOk result (λ done. done.1 ≡ need_of (C.cells cells.new) done.0.items) }
+    ensures room { IfOk result (λ done. done.1 ≤ hand.new.data.room) }
+    ensures blocks { IfOk result (λ done. AllByRecursion (λ p. HaveBlocks p.items
+        (block_in (C.cells cells.old)) hand.new.data) done.0.items) }
+    ensures few { IfOk result (λ done. sum_by (λ p. length p.items) done.0.items < 2 ^ 32) }
+    ensures hand { HasNoLessRoom hand.old hand.new }
+    ensures cells { HaveNoLessRoom (C.cells cells.old) (C.cells cells.new) }
+    ensures err { FailsOnly OutOfMemory result }
+    ensures places { C.places cells.new ≡ C.places cells.old }
+    ensures beside { C.beside cells.new ≡ C.beside cells.old }
+{
+    // A block has a byte.
+    let _block = block_in(cells);
+    let planned = planned_by(alloc, cells, update, made, hand)?;
+    let plans = cell_plans(alloc, cells, planned)?;
+    ready_cells(cells, &plans)?;
+    let need = need_of(cells, &plans)?;
+    hand.data.reserve(need)?;
+    Ok((plans, need))
+}
+
+/// Makes a call ready that passed its check and holds the blocks and the log pages that it takes: makes every growth of
+/// what follows, of the cells, and of the hand for the blocks that the call may set free, and settles its items.
+///
+/// `OutOfMemory`, with the hand, where a growth was refused: then nothing has changed but room. The time is that of the
+/// items, of the blocks that were taken, and for each cut that of the runs of pages that it takes out, where no growth
+/// moves anything.
+pub fn ready_on<C: Cells>(
+    alloc: Global,
+    cells: &mut C,
+    plan: Plan,
+    hand: Hand,
+) -> Result<Ready, (Fault, Hand)>
+    requires can { CanReady (C.cells cells.old) hand plan.update }
+    requires pages { HasLogPages (C.cells cells.old) hand plan.update }
+    ensures ok { IfOk result (λ ready. IsReadyBy (C.cells cells.old) hand plan.update
+        (C.cells cells.new) ready) }
+    ensures hand { IfOk result (λ ready. HasNoLessRoom hand ready.hand) }
+    ensures err { IfErr result
+        (λ refused. (refused.0 ≡ OutOfMemory) × HasNoLessRoom hand refused.1) }
+    ensures cells { HaveNoLessRoom (C.cells cells.old) (C.cells cells.new) }
+    ensures places { C.places cells.new ≡ C.places cells.old }
+    ensures beside { C.beside cells.new ≡ C.beside cells.old }
+{
+    let Plan { update, blocks: _ } = plan;
+    let made = made_by(cells, hand.ino(), &update);
+    let mut hand = hand;
+    let prepared = prepare(alloc, cells, &update, &made, &mut hand);
+    match prepared {
+        Ok((plans, need)) => Ok(Ready::new(alloc, update, made, plans, hand, need)),
+        Err(fault) => Err((fault, hand)),
+    }
+}

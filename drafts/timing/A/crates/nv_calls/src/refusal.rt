@@ -1,0 +1,79 @@
+//! The check of a call that changes nodes.
+
+ghost use Rattle.std.specs.Prelude.{◌≡◌, ◌<◌, ◌≤◌};
+ghost use Rattle.nv_base.specs.declared.limits.TheConstants.{BLOCK_BYTES};
+ghost use Rattle.nv_calls.specs.AllCalls.{early, late, look_refusal, refusal};
+ghost use Rattle.nv_calls.specs.Updates.{blank_call};
+
+use crate::calls::{create, lookup, mkdir, mode, rename, rmdir, size, unlink, write};
+use crate::looked::look_all;
+use crate::{Looked, Nodes, Update};
+use nv_base::Fault;
+
+/// Why a call is refused at a look, before it locks: the tests of its first name.
+pub fn check_look<N: Nodes>(nodes: &N, call: &Update) -> Result<(), Fault>
+    ensures { result ≡ look_refusal (N.nodes_of nodes.now) (blank_call call.now) }
+{
+    match call {
+        Update::Unlink { dir, name } | Update::Rmdir { dir, name } => {
+            lookup::check(nodes, dir, name.as_slice())
+        }
+        Update::Rename { from, old, .. } => lookup::check(nodes, from, old.as_slice()),
+        _ => Ok(()),
+    }
+}
+
+/// Why a call is refused at its check before its names are compared with what the looks found.
+pub fn check_early<N: Nodes>(nodes: &N, call: &Update) -> Result<(), Fault>
+    ensures { result ≡ early (N.nodes_of nodes.now) (blank_call call.now) }
+{
+    match call {
+        Update::Unlink { dir, name } | Update::Rmdir { dir, name } => {
+            lookup::check(nodes, dir, name.as_slice())
+        }
+        Update::Rename { from, old, to, new } => {
+            rename::check_early(nodes, from, old.as_slice(), to, new.as_slice())
+        }
+        _ => Ok(()),
+    }
+}
+
+/// Why a call is refused at its check behind that, by what its names lead to.
+pub fn check_late<N: Nodes>(
+    block: u64,
+    nodes: &N,
+    looked: &Looked,
+    call: &Update,
+) -> Result<(), Fault>
+    requires some_bytes { 0 < block }
+    requires few_bytes { block ≤ BLOCK_BYTES }
+    ensures { result ≡ late block (N.nodes_of nodes.now) looked.now (blank_call call.now) }
+{
+    match call {
+        Update::Create { dir, name, .. } => create::check(nodes, dir, name.as_slice()),
+        Update::Mkdir { dir, name, .. } => mkdir::check(nodes, dir, name.as_slice()),
+        Update::Write {
+            file,
+            offset,
+            count,
+        } => write::check(block, nodes, file, *offset, *count),
+        Update::Size { file, size } => size::check(block, nodes, file, *size),
+        Update::Mode { handle, .. } => mode::check(nodes, handle),
+        Update::Unlink { .. } => unlink::check_late(nodes, looked.first),
+        Update::Rmdir { .. } => rmdir::check_late(nodes, looked.first),
+        Update::Rename { from, old, to, new } => {
+            rename::check_late(nodes, from, old.as_slice(), to, new.as_slice(), looked)
+        }
+    }
+}
+
+/// Why a call is refused at its check, if it is, by the nodes that it names.
+pub fn check<N: Nodes>(block: u64, nodes: &N, call: &Update) -> Result<(), Fault>
+    requires some_bytes { 0 < block }
+    requires few_bytes { block ≤ BLOCK_BYTES }
+    ensures { result ≡ refusal block (N.nodes_of nodes.now) (blank_call call.now) }
+{
+    check_early(nodes, call)?;
+    let looked = look_all(nodes, call);
+    check_late(block, nodes, &looked, call)
+}

@@ -1,0 +1,83 @@
+//! Runs of blocks, and the items that put pages in them.
+
+ghost use Rattle.std.specs.Prelude.{◌≡◌, ◌+◌, ◌<◌, ◌≤◌, ◌^◌, ℕ, ◌∷◌, ◌++◌, [], IfOk, OnOk, length, slice_index_or};
+ghost use Rattle.nv_base.specs.declared.limits.TheConstants.{BLOCKS, FILE_PAGES};
+ghost use Rattle.nv_entry.specs.Sound.{blocks_of, write_items};
+ghost use Rattle.nv_calls.specs.Plan.{AreMaximal, runs_of};
+
+use nv_base::BlockNo;
+use nv_entry::{Item, Run};
+use std::alloc::{AllocError, Global};
+
+/// Blocks in the order in which they were taken, as maximal runs of consecutive numbers.
+pub fn runs_of(alloc: Global, blocks: &[BlockNo]) -> Result<Vec<Run>, AllocError>
+    requires few { length blocks.now ≤ BLOCKS }
+    requires small { (k : ℕ) → k < length blocks.now → slice_index_or blocks.now k 0 < 2 ^ 32 }
+    ensures runs { IfOk result (λ runs. runs.items ≡ runs_of blocks.now) }
+    ensures blocks { IfOk result (λ runs. blocks_of runs.items ≡ blocks.now) }
+    ensures maximal { IfOk result (λ runs. AreMaximal runs.items) }
+{
+    let mut runs = Vec::new(alloc);
+    for block in blocks {
+        add_block(&mut runs, *block)?;
+    }
+    Ok(runs)
+}
+
+/// One more block goes to the last run where it comes next, and else begins a run.
+fn add_block(runs: &mut Vec<Run>, block: BlockNo) -> Result<(), AllocError>
+    requires small { block < 2 ^ 32 }
+    requires few { length (blocks_of runs.old.items) < BLOCKS }
+    requires maximal { AreMaximal runs.old.items }
+    ensures blocks { OnOk result (blocks_of runs.new.items
+        ≡ blocks_of runs.old.items ++ block ∷ []) }
+    ensures maximal { OnOk result (AreMaximal runs.new.items) }
+{
+    let Some(last) = runs.pop() else {
+        runs.push(run_of_one(block))?;
+        return Ok(());
+    };
+    if last.start.number() + u64::from(last.len) == block.number() {
+        let start = last.start;
+        let len = last.len + 1;
+        runs.push(Run { start, len })?;
+        return Ok(());
+    }
+    runs.push(last)?;
+    runs.push(run_of_one(block))?;
+    Ok(())
+}
+
+fn run_of_one(block: BlockNo) -> Run
+    requires { block < 2 ^ 32 }
+    ensures start { result.start ≡ block }
+    ensures len { result.len ≡ 1 }
+{
+    Run {
+        start: block,
+        len: 1,
+    }
+}
+
+/// The items that put the pages from `first` on in the blocks of runs, one page a block.
+pub(crate) fn write_items(
+    alloc: Global,
+    first: u32,
+    runs: &[Run],
+    size: u64,
+) -> Result<Vec<Item>, AllocError>
+    requires { first + length (blocks_of runs.now) ≤ FILE_PAGES }
+    ensures { IfOk result (λ items. items.items ≡ write_items first runs.now size) }
+{
+    let mut items = Vec::new(alloc);
+    let mut page = first;
+    for run in runs {
+        items.push(Item::Write {
+            first: page,
+            run: *run,
+            size,
+        })?;
+        page += run.len;
+    }
+    Ok(items)
+}

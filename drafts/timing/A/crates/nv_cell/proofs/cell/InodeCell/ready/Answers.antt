@@ -1,0 +1,185 @@
+use Rattle.std.proofs.Common.{◌≡◌, ℕ, ◌+◌, ◌-◌, ◌<◌, ◌≤◌, arith, refl, ap, sym, ◌∙◌, subst, length, max, take, true, false}
+use Rattle.std.specs.Prelude.{vec_capacity, vec_len}
+use Rattle.nv_entry.specs.Covered.{part_total}
+use Rattle.nv_cell.specs.Cell.{CellValue, log_of}
+use Rattle.nv_cell.specs.Fields.{state_in, value_in}
+use Rattle.nv_cell.specs.Room.{IsReadyFor}
+use Rattle.nv_cell.specs.Index.{bindings_of}
+use Rattle.nv_cell.specs.Weights.{parts_in, weights_by, weights_in}
+use Rattle.nv_log.specs.Chain.{ChainState}
+use Rattle.nv_nindex.specs.NameIndex.{binding_of}
+use Rattle.nv_cell.proofs.Published.{names_ready}
+use Rattle.nv_cell.proofs.Weighing.{weights_are, weights_were}
+use Rattle.nv_cell.proofs.Growing.{fields_grown, same_parts, spare_grown}
+use Rattle.nv_cell.proofs.Publishing.{take_whole}
+use Rattle.nv_cell.proofs.ReadySteps.{settled_publish, settled_ready}
+use Rattle.nv_cell.proofs.cell.InodeCell.ready.Goals as goal
+
+pub invariant_of-self-in_err-grow_log : goal.invariant_of-self-in_err-grow_log
+invariant_of-self-in_err-grow_log c =
+    let i = c.self.inside in
+    let inv = c.self.invariant in
+    fields_grown i _ inv (record {
+      block = refl;
+      generation = refl;
+      version = refl;
+      chain = c.grow_log.ensures.chain;
+      marks = c.grow_log.ensures.marks;
+      blocks = c.grow_log.ensures.blocks;
+      index = same_parts i.index;
+      numbers = c.grow_lists.ensures.numbers;
+      killed = c.grow_lists.ensures.killed;
+      spare =
+          spare_grown i.marks c.grow_log.new.marks (part_total i.chain.state.entries - length i.marks.marks.items + i.parts)
+          (length i.chain.state.entries - i.chain.state.tail + i.entries) c.grow_log.ensures.marks inv.spare;
+      places = omega (arith, inv.blocks_room, c.grow_log.ensures.blocks.capacity);
+      pages = c.grow_log.ensures.pages;
+    })
+
+pub invariant_of-self-in_err-reserve : goal.invariant_of-self-in_err-reserve
+invariant_of-self-in_err-reserve c =
+    let i = c.self.inside in
+    let inv = c.self.invariant in
+    fields_grown i _ inv (record {
+      block = refl;
+      generation = refl;
+      version = refl;
+      chain = c.grow_log.ensures.chain;
+      marks = c.grow_log.ensures.marks;
+      blocks = c.grow_log.ensures.blocks;
+      index = c.reserve.ensures.same;
+      numbers = c.grow_lists.ensures.numbers;
+      killed = c.grow_lists.ensures.killed;
+      spare =
+          spare_grown i.marks c.grow_log.new.marks (part_total i.chain.state.entries - length i.marks.marks.items + i.parts)
+          (length i.chain.state.entries - i.chain.state.tail + i.entries) c.grow_log.ensures.marks inv.spare;
+      places = omega (arith, inv.blocks_room, c.grow_log.ensures.blocks.capacity);
+      pages = c.grow_log.ensures.pages;
+    })
+
+pub invariant_of-self-2 : goal.invariant_of-self-2
+invariant_of-self-2 c =
+    let i = c.self.inside in
+    let inv = c.self.invariant in
+    let es = i.chain.state.entries in
+    let settled : i.chain.state.tail ≡ length es =
+    subst (λ (v : CellValue). v.state.chain.tail ≡ length v.state.chain.entries) (sym c.self.view_is) c.requires.settled in
+    let whole : part_total (take i.chain.state.tail es) ≡ part_total es =
+    ap (λ (t : ℕ). part_total (take t es)) settled ∙ ap part_total (take_whole es) in
+    let g = c.grow_log.ensures.marks in
+    let old =
+    spare_grown i.marks c.grow_log.new.marks (part_total es - length i.marks.marks.items + i.parts)
+    (length es - i.chain.state.tail + i.entries) g inv.spare in
+    let room = c.in_ok-grow_log.ensures.room in
+    let entries : c.max-self-inside.result ≡ max i.entries (length c.args.items.now) = c.max-self-inside.ensures in
+    let parts : c.max-self-inside-2.result ≡ max i.parts c.part_total-parts.result = c.max-self-inside-2.ensures in
+    fields_grown i _ inv (record {
+      block = refl;
+      generation = refl;
+      version = refl;
+      chain = c.grow_log.ensures.chain;
+      marks = g;
+      blocks = c.grow_log.ensures.blocks;
+      index = c.reserve.ensures.same;
+      numbers = c.grow_lists.ensures.numbers;
+      killed = c.grow_lists.ensures.killed;
+      spare = record {
+        marks = omega (arith, old.marks, room.marks, whole, inv.marks.len, parts);
+        ends = omega (arith, old.ends, room.ends, settled, entries);
+        tallies = omega (arith, old.tallies, room.tallies, settled, entries);
+      };
+      places =
+          omega (
+            arith,
+            inv.blocks_room,
+            c.grow_log.ensures.blocks.capacity,
+            c.in_ok-grow_log.ensures.places,
+            ap length c.grow_log.ensures.blocks.items,
+            inv.blocks.len,
+            parts,
+          );
+      pages = c.grow_log.ensures.pages;
+    })
+
+pub returns-clause-ok : goal.returns-clause-ok
+returns-clause-ok c =
+    let i = c.self.inside in
+    let inv = c.self.invariant in
+    let items = c.args.items.now in
+    let entries : c.max-self-inside.result ≡ max i.entries (length items) = c.max-self-inside.ensures in
+    let parts : c.max-self-inside-2.result ≡ max i.parts c.part_total-parts.result = c.max-self-inside-2.ensures in
+    let real : c.part_total-parts.result < 9223372036854775808 = c.in_ok-grow_log.ensures.counted in
+    let few : c.most_killed-killed.result < 9223372036854775808 = c.in_ok-grow_lists.ensures.counted in
+    let all : c.part_total-parts.result ≡ parts_in items = omega (arith, c.part_total-parts.ensures, real) in
+    let kills : c.most_killed-killed.result ≡ weights_by i.block i.index items = omega (arith, c.most_killed-killed.ensures.value, few) in
+    let room : (vec_len c.grow_lists.new.numbers + c.most_killed-killed.result ≤ vec_capacity c.grow_lists.new.numbers)
+    × (vec_len c.grow_lists.new.killed + c.most_killed-killed.result ≤ vec_capacity c.grow_lists.new.killed) =
+    c.in_ok-grow_lists.ensures.ok in
+    let bound = weights_are i.block (log_of (state_in i)) i.index items inv.refs inv.names c.most_killed-killed.ensures.distinct in
+    let same : weights_in i.block (take c.grow_log.new.chain.state.tail c.grow_log.new.chain.state.entries) items
+    ≡ weights_in i.block (log_of (state_in i)) items =
+    ap (λ (s : ChainState). weights_in i.block (take s.tail s.entries) items) c.grow_log.ensures.chain in
+    let settled : i.chain.state.tail ≡ length i.chain.state.entries =
+    subst (λ (v : CellValue). v.state.chain.tail ≡ length v.state.chain.entries) (sym c.self.view_is) c.requires.settled in
+    settled_ready items _ (subst (λ (s : ChainState). s.tail ≡ length s.entries) (sym c.grow_log.ensures.chain) settled)
+    (record {
+      pages = c.in_ok-grow_log.ensures.reserved;
+      entries = omega (arith, entries);
+      parts = omega (arith, parts, all);
+    })
+    (record {
+      runs = c.in_ok-reserve.ensures.runs;
+      names =
+          names_ready items c.reserve.new.self.names
+          (record {
+            names = bindings_of (take c.grow_log.new.chain.state.tail c.grow_log.new.chain.state.entries);
+            reserved = c.reserve.new.self.names.reserved;
+          })
+          (λ name.
+          ap (λ (s : ChainState). binding_of name (bindings_of (take s.tail s.entries))) c.grow_log.ensures.chain
+          ∙ sym (inv.names name) ∙ ap (binding_of name) (sym c.reserve.ensures.same.names))
+          refl c.in_ok-reserve.ensures.names;
+      killed = omega (arith, same, bound, kills, room.0, room.1);
+    })
+
+pub returns-in_err-grow_lists-clause-enough : goal.returns-in_err-grow_lists-clause-enough
+returns-in_err-grow_lists-clause-enough c ready =
+    let i = c.self.inside in
+    let inv = c.self.invariant in
+    let items = c.args.items.now in
+    let r : IsReadyFor items (value_in i) = subst (λ (v : CellValue). IsReadyFor items v) (sym c.self.view_is) ready in
+    let p = settled_publish items (value_in i)
+    (subst (λ (v : CellValue). v.state.chain.tail ≡ length v.state.chain.entries) (sym c.self.view_is) c.requires.settled) r in
+    let less = weights_were i.block (log_of (state_in i)) i.index items inv.refs inv.names c.most_killed-killed.ensures.distinct in
+    let no : false ≡ true =
+    c.in_err-grow_lists.ensures.enough (omega (arith, p.killed, less, c.most_killed-killed.ensures.value, ap length inv.no_numbers))
+    (omega (arith, p.killed, less, c.most_killed-killed.ensures.value, ap length inv.no_killed)) in
+    cc
+
+pub returns-in_err-grow_log-clause-enough : goal.returns-in_err-grow_log-clause-enough
+returns-in_err-grow_log-clause-enough c ready =
+    let i = c.self.inside in
+    let inv = c.self.invariant in
+    let items = c.args.items.now in
+    let r : IsReadyFor items (value_in i) = subst (λ (v : CellValue). IsReadyFor items v) (sym c.self.view_is) ready in
+    let no : false ≡ true = c.in_err-grow_log.ensures.enough
+    (record {
+      marks = omega (arith, inv.spare.marks, r.append.parts, c.part_total-parts.ensures);
+      ends = omega (arith, inv.spare.ends, r.append.entries);
+      tallies = omega (arith, inv.spare.tallies, r.append.entries);
+    })
+    (omega (arith, inv.blocks_room, inv.blocks.len, r.append.parts, c.part_total-parts.ensures)) r.append.pages in
+    cc
+
+pub returns-in_err-reserve-clause-enough : goal.returns-in_err-reserve-clause-enough
+returns-in_err-reserve-clause-enough c ready =
+    let i = c.self.inside in
+    let inv = c.self.invariant in
+    let items = c.args.items.now in
+    let r : IsReadyFor items (value_in i) = subst (λ (v : CellValue). IsReadyFor items v) (sym c.self.view_is) ready in
+    let p = settled_publish items (value_in i)
+    (subst (λ (v : CellValue). v.state.chain.tail ≡ length v.state.chain.entries) (sym c.self.view_is) c.requires.settled) r in
+    let no : false ≡ true = c.in_err-reserve.ensures.enough p.runs
+    (names_ready items (record { names = bindings_of (log_of (state_in i)); reserved = i.index.names.reserved }) i.index.names inv.names
+    refl p.names) in
+    cc

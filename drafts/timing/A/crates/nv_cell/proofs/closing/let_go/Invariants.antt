@@ -1,0 +1,11 @@
+use Rattle.std.proofs.Common.{◌≡◌, drop}
+use Rattle.std.specs.VecDeque.{deque_capacity}
+use Rattle.nv_cell.proofs.closing.let_go.Given as goal
+
+abbrev pub invariant-loop-gone : goal.invariant-loop-gone
+invariant-loop-gone l = record {
+  marks : l.marks.items ≡ drop l._gone l.fn.marks.items;
+  blocks : l.blocks.items ≡ drop l._gone l.fn.blocks.items;
+  marks_room : deque_capacity l.marks ≡ deque_capacity l.fn.marks;
+  blocks_room : deque_capacity l.blocks ≡ deque_capacity l.fn.blocks;
+}

@@ -1,0 +1,56 @@
+-- What appending an entry makes of a cell.
+use Rattle.std.specs.Prelude.{ℕ, ◌+◌, ◌-◌, ◌<◌, ◌≤◌, List, [], ◌∷◌, ◌++◌, length, map, replicate, take, Option, Some, None}
+use Rattle.std.specs.Option.{ForSome}
+use Rattle.nv_alloc.specs.Block.{BlockValue}
+use Rattle.nv_base.specs.Ids.{IsIdBefore}
+use Rattle.nv_base.specs.declared.limits.TheConstants.{FILE_PAGES}
+use Rattle.nv_entry.specs.declared.item.Entry.{Entry}
+use Rattle.nv_entry.specs.declared.item.Item.{Item}
+use Rattle.nv_base.specs.declared.node.Kind.{Kind}
+use Rattle.nv_entry.specs.declared.item.Item.TheVariants.{Init, Write}
+use Rattle.nv_entry.specs.Blocks.{item_blocks}
+use Rattle.nv_entry.specs.Covered.{part_count}
+use Rattle.nv_entry.specs.Keys.{parts_of}
+use Rattle.nv_log.specs.Chain.{appended as appended_chain, last_epoch, last_id, room_of, with_page}
+use Rattle.nv_cell.specs.Cell.{CellRoom, CellState, CellValue, published}
+
+-- the pages of an item are pages that a file can have
+abbrev pub IsWithinFile : Item → Type 0
+IsWithinFile (Write first run size) = first + run.len ≤ FILE_PAGES
+IsWithinFile item = Unit {0}
+
+-- the front blocks of a list that has them for an item's pages
+abbrev pub blocks_for : Item → List BlockValue → List BlockValue
+blocks_for item blocks = take (length (item_blocks item)) blocks
+
+-- the block of each part of an item, by place: a page has one, and no other part
+abbrev pub slots_of : Item → List BlockValue → List (Option BlockValue)
+slots_of (Write first run size) blocks = None ∷ map Some blocks
+slots_of item blocks = replicate (length (parts_of item)) None
+
+-- there is room for an entry, and it may stand behind the last one
+pub record MayAppend (e : Entry) (cell : CellValue) : Type 0 where
+  pub page : 0 < room_of cell.state.chain
+  pub entries : 0 < cell.room.entries
+  pub parts : part_count e ≤ cell.room.parts
+  pub id : ForSome (last_id cell.state.chain) (λ last. IsIdBefore last e.id)
+  pub epoch : ForSome (last_epoch cell.state.chain) (λ last. last ≤ e.epoch)
+  pub within : IsWithinFile e.item
+
+-- the cell with one more entry, past the tail, with the blocks of its pages
+abbrev pub appended : Entry → List BlockValue → CellState → CellState
+appended e blocks cell = record cell { chain = appended_chain e cell.chain; blocks = cell.blocks ++ slots_of e.item blocks }
+
+-- the room that is left once an entry with so many parts was appended
+abbrev pub after_append : ℕ → CellRoom → CellRoom
+after_append parts room = record room { entries = room.entries - 1; parts = room.parts - parts }
+
+-- ---- the inode that a device begins with
+
+-- the first entry of its log
+abbrev pub first_entry : Kind → ℕ → ℕ → Entry
+first_entry kind mode epoch = record { id = record { commit = 0; place = 0 }; epoch = epoch; item = Init kind mode }
+
+-- an empty slot once it has that page for its log, and one published entry, at the version that it had
+abbrev pub founded : Entry → BlockValue → CellState → CellState
+founded e page cell = record (published (appended e [] (record cell { chain = with_page page cell.chain }))) { version = cell.version }

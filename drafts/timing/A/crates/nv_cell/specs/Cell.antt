@@ -1,0 +1,149 @@
+-- What contracts see of a cell, and what holds of each.
+use Rattle.std.specs.Prelude.{◌≡◌, ℕ, ◌+◌, ◌-◌, ◌<◌, ◌≤◌, drop, not, if◌then◌else◌, nat_lt, List, [], ◌∷◌, length, map, Option, Some, None, slice_get, slice_index_or, option_and_then, slice_set, unwrap_or}
+use Rattle.std.specs.List.{range_with_len, sum_by}
+use Rattle.std.specs.Option.{option_map}
+use Rattle.nv_alloc.specs.Block.{AreSized, BlockValue, number_of}
+use Rattle.nv_entry.specs.declared.item.Entry.{Entry}
+use Rattle.nv_entry.specs.declared.item.Item.{Item}
+use Rattle.nv_entry.specs.declared.part.PartId.{PartId}
+use Rattle.nv_entry.specs.Covered.{is_covered, key_at, part_count, part_total}
+use Rattle.nv_entry.specs.Data.{block_in}
+use Rattle.nv_entry.specs.Keys.{sets}
+use Rattle.nv_entry.specs.Log.{value_of}
+use Rattle.nv_log.specs.Chain.{ChainState, IsChain, empty_chain, log}
+use Rattle.nv_cell.specs.declared.mark.Mark.{Mark}
+use Rattle.nv_cell.specs.declared.mark.Mark.TheVariants.{Current, Out}
+use Rattle.nv_cell.specs.Marks.{is_current, is_there, mark_at}
+use Rattle.nv_cell.specs.Effects.{NamesReady, items_of}
+use Rattle.nv_cell.specs.Index.{bindings_of}
+use Rattle.nv_cell.specs.Named.{number_named}
+use Rattle.nv_cell.specs.Numbers.{killed_numbers, published_mark}
+use Rattle.nv_cell.specs.Weights.{runs_of, weights_in}
+
+-- the size of blocks in bytes; how often the slot was emptied, and how many commits the cell has seen; the chain of the
+-- log; by part number the mark of each published part, and the block of each part that has one
+pub record CellState : Type 0 where
+  pub block : ℕ
+  pub generation : ℕ
+  pub version : ℕ
+  pub chain : ChainState
+  pub marks : List Mark
+  pub blocks : List (Option BlockValue)
+
+-- for how much more there is room: pages of the chain, entries and parts to append; and, for what is to be published,
+-- runs of pages, a name that is not bound, and killed parts
+pub record CellRoom : Type 0 where
+  pub pages : ℕ
+  pub entries : ℕ
+  pub parts : ℕ
+  pub runs : ℕ
+  pub name : Option (List ℕ)
+  pub killed : ℕ
+
+pub record CellValue : Type 0 where
+  pub state : CellState
+  pub room : CellRoom
+
+-- room for nothing
+abbrev pub no_room : CellRoom
+no_room = record { pages = 0; entries = 0; parts = 0; runs = 0; name = None; killed = 0 }
+
+-- an empty slot
+abbrev pub empty_cell : ℕ → ℕ → ℕ → ℕ → CellState
+empty_cell block page generation version =
+    record { block = block; generation = generation; version = version; chain = empty_chain page; marks = []; blocks = [] }
+
+-- the log of a cell
+abbrev pub log_of : CellState → List Entry
+log_of cell = log cell.chain
+
+-- the block number that the part n of a log says, if it is a page
+abbrev pub page_block : ℕ → List Entry → ℕ → Option ℕ
+page_block block [] n = None
+page_block block (e ∷ later) n =
+    if nat_lt n (part_count e)
+    then option_and_then block_in (value_of (sets block e.item (key_at (e ∷ []) n)))
+    else page_block block later (n - part_count e)
+
+-- the mark of a part; one that is not yet published is current
+abbrev pub mark_or_fresh : List Mark → ℕ → Mark
+mark_or_fresh marks n = slice_index_or marks n Current
+
+-- each block has so many bytes
+abbrev pub AreSlotsSized : ℕ → List (Option BlockValue) → Type 0
+AreSlotsSized block slots = (n : ℕ) (b : BlockValue) → slice_index_or slots n None ≡ Some b → length b.bytes ≡ block
+
+-- each page part that is not out has its block, of the right size, and no other part has one
+pub record HasBlocks (cell : CellState) : Type 0 where
+  pub len : length cell.blocks ≡ part_total cell.chain.entries
+  pub numbers : (n : ℕ)
+      → option_map number_of (slice_index_or cell.blocks n None) ≡ (if is_there (mark_or_fresh cell.marks n)
+      then page_block cell.block cell.chain.entries n
+      else None)
+  pub sized : AreSlotsSized cell.block cell.blocks
+
+-- each published part has a mark, and is marked current exactly where no later entry covers its key
+pub record HasMarks (cell : CellState) : Type 0 where
+  pub len : length cell.marks ≡ part_total (log_of cell)
+  pub current : (n : ℕ) → n < part_total (log_of cell) → is_current (mark_at cell.marks n) ≡ not (is_covered cell.block (log_of cell) n)
+
+-- what holds of each cell
+pub record IsCell (cell : CellState) : Type 0 where
+  pub some : 0 < cell.block
+  pub chain : IsChain cell.chain
+  pub pages : AreSized cell.block cell.chain.blocks
+  pub marks : HasMarks cell
+  pub blocks : HasBlocks cell
+
+-- the entries that are appended and not yet published
+abbrev pub fresh_of : CellState → List Entry
+fresh_of cell = drop cell.chain.tail cell.chain.entries
+
+-- the numbers of the parts that these kill
+abbrev pub killed_of : CellState → List ℕ
+killed_of cell = killed_numbers cell.block cell.chain.entries cell.chain.tail
+
+-- all entries published: a part that dies is killed, one of a fresh entry is current, and each other one has its mark
+abbrev pub published : CellState → CellState
+published cell = record cell {
+  version = cell.version + 1;
+  chain = record cell.chain { tail = length cell.chain.entries };
+  marks = map (published_mark cell.block cell.chain.entries cell.chain.tail cell.marks) (range_with_len 0 (part_total cell.chain.entries));
+}
+
+-- there is room for what these items need when they are published behind the log
+pub record CanPublish (items : List Item) (cell : CellValue) : Type 0 where
+  pub runs : sum_by runs_of items ≤ cell.room.runs
+  pub names : NamesReady items (record { names = bindings_of (log_of cell.state); reserved = cell.room.name })
+  pub killed : weights_in cell.state.block (log_of cell.state) items ≤ cell.room.killed
+
+-- the same for the entries past the tail
+abbrev pub IsReady : CellValue → Type 0
+IsReady cell = CanPublish (items_of (fresh_of cell.state)) cell
+
+-- there is room to append as much as before, and for no killed part
+pub record KeepsAppendRoom (old new : CellRoom) : Type 0 where
+  pub pages : new.pages ≡ old.pages
+  pub entries : new.entries ≡ old.entries
+  pub parts : new.parts ≡ old.parts
+  pub killed : new.killed ≡ 0
+
+-- the mark of a part of the log, by its name
+abbrev pub mark_named : CellState → PartId → Option Mark
+mark_named cell id = option_and_then (λ n. slice_get cell.marks n) (number_named (log_of cell) id)
+
+-- the block of a part of the log, by its name
+abbrev pub block_named : CellState → PartId → Option BlockValue
+block_named cell id = option_and_then (λ n. slice_index_or cell.blocks n None) (number_named (log_of cell) id)
+
+-- the number of a part of the log; 0 where it has none of that name
+abbrev pub number_in : CellState → PartId → ℕ
+number_in cell id = unwrap_or (number_named (log_of cell) id) 0
+
+-- the cell with another mark of a part
+abbrev pub with_mark : CellState → ℕ → Mark → CellState
+with_mark cell n mark = record cell { marks = slice_set cell.marks n mark }
+
+-- the cell with a part out, and without its block
+abbrev pub without_part : CellState → ℕ → CellState
+without_part cell n = record cell { marks = slice_set cell.marks n Out; blocks = slice_set cell.blocks n None }

@@ -1,0 +1,64 @@
+-- The index of an inode: which part of which entry holds each key's value.
+use Rattle.std.specs.Prelude.{◌≡◌, ℕ, ◌+◌, ◌<◌, ◌≤◌, ◌⊎◌, List, [], ◌∷◌, Option, Some, None, IsSome}
+use Rattle.std.specs.Option.{option_map}
+use Rattle.nv_base.specs.declared.numbers.EntryId.{EntryId}
+use Rattle.nv_entry.specs.declared.item.Entry.{Entry}
+use Rattle.nv_entry.specs.declared.item.Item.{Item}
+use Rattle.nv_entry.specs.declared.item.Item.TheVariants.{Bind, Unbind, Gone}
+use Rattle.nv_entry.specs.declared.part_ref.PartRef.{PartRef}
+use Rattle.nv_entry.specs.Keys.{Key, KindKey, ModeKey, SizeKey, NameKey, PageKey}
+use Rattle.std.specs.List.{flat_map}
+use Rattle.nv_entry.specs.Refs.{binders_of, part_ref}
+use Rattle.nv_findex.specs.declared.page_ref.PageRef.{PageRef}
+use Rattle.nv_findex.specs.Pages.{PageMap, ref_at}
+use Rattle.nv_nindex.specs.declared.binding.Binding.{Binding}
+use Rattle.nv_nindex.specs.NameIndex.{Names, Rebinds, binding_of}
+
+-- what contracts see of an index
+pub record IndexValue : Type 0 where
+  pub kind : Option PartRef
+  pub mode : Option PartRef
+  pub size : Option PartRef
+  pub pages : PageMap
+  pub names : Names
+
+-- the pages of a Write stand behind its size among its parts; a name is the only part of a Bind
+abbrev pub page_part : PageRef → PartRef
+page_part at = part_ref at.entry (at.place + 1)
+
+abbrev pub name_part : Binding → PartRef
+name_part to = part_ref to.entry 0
+
+-- the part that the index names at a key
+abbrev pub ref_of : IndexValue → Key → Option PartRef
+ref_of index KindKey = index.kind
+ref_of index ModeKey = index.mode
+ref_of index SizeKey = index.size
+ref_of index (NameKey name) = option_map name_part (binding_of name index.names.names)
+ref_of index (PageKey page) = option_map page_part (ref_at index.pages.pages page)
+
+-- the names that are bound now, each with its binding, in the order of the entries that bound them
+abbrev pub bound_by : EntryId → Item → List (List ℕ × Binding)
+bound_by id (Bind name to) = (name, record { to = to; entry = id }) ∷ []
+bound_by id item = []
+
+abbrev pub bindings_of : List Entry → List (List ℕ × Binding)
+bindings_of log = flat_map (λ e. bound_by e.id e.item) (binders_of log)
+
+-- the name that an item binds is bound or reserved
+abbrev pub NameReady : Item → Names → Type 0
+NameReady (Bind name to) names = IsSome (binding_of name names.names) ⊎ (names.reserved ≡ Some name)
+NameReady item names = Unit {0}
+
+-- the names after an entry with that id and item
+abbrev pub NamesAfter : EntryId → Item → Names → Names → Type 0
+NamesAfter id (Bind name to) old new = Rebinds old.names new.names name (Some (record { to = to; entry = id }))
+NamesAfter id (Unbind name) old new = Rebinds old.names new.names name None × (new.reserved ≡ old.reserved)
+NamesAfter id Gone old new = (new.names ≡ []) × (new.reserved ≡ old.reserved)
+NamesAfter id item old new = new ≡ old
+
+-- the least page from `from` on that is named, with its part
+abbrev pub IsNextPart : ℕ → (ℕ → Option PartRef) → Option (ℕ × PartRef) → Type 0
+IsNextPart from parts None = (page : ℕ) → from ≤ page → parts page ≡ None
+IsNextPart from parts (Some found) =
+    (from ≤ found.0) × (parts found.0 ≡ Some found.1) × ((page : ℕ) → from ≤ page → page < found.0 → parts page ≡ None)

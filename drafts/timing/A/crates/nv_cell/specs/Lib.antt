@@ -1,0 +1,17 @@
+pub mod Append
+pub mod Cell
+pub mod Effects
+pub mod Fields
+pub mod Index
+pub mod Killed
+pub mod Named
+pub mod Numbers
+pub mod Marks
+pub mod Tallies
+pub mod Pages
+pub mod Readers
+pub mod Reading
+pub mod Weights
+pub mod Removal
+pub mod Retained
+pub mod Room

@@ -1,0 +1,45 @@
+-- What callers ask of a cell.
+use Rattle.std.specs.Prelude.{ℕ, Bool, true, false, not, List, [], ◌∷◌, take, drop, count_by, slice_index_or, unwrap_or}
+use Rattle.std.specs.List.{list_any}
+use Rattle.std.specs.Option.{option_map}
+use Rattle.nv_entry.specs.declared.item.Entry.{Entry}
+use Rattle.nv_entry.specs.declared.item.Item.{Item}
+use Rattle.nv_entry.specs.declared.item.Item.TheVariants.{Gone}
+use Rattle.nv_entry.specs.Covered.{part_count}
+use Rattle.nv_log.specs.Chain.{last_of, parts_from}
+use Rattle.nv_cell.specs.declared.mark.Mark.{Mark}
+use Rattle.nv_cell.specs.declared.tally.PageCounts.{PageCounts}
+use Rattle.nv_cell.specs.Cell.{CellState, log_of}
+use Rattle.nv_cell.specs.Marks.{is_current, is_killed, is_there}
+
+-- the marks of a log, entry by entry
+abbrev pub marks_by_entry : List Entry → List Mark → List (List Mark)
+marks_by_entry [] marks = []
+marks_by_entry (e ∷ later) marks = take (part_count e) marks ∷ marks_by_entry later (drop (part_count e) marks)
+
+-- the marks of the published entries of a page, entry by entry
+abbrev pub marks_of_page : CellState → ℕ → List (List Mark)
+marks_of_page cell page = slice_index_or (parts_from 0 cell.chain.ends (marks_by_entry (log_of cell) cell.marks)) page []
+
+-- how many published entries of a page have a current part, and how many one that is not out
+abbrev pub counts_of : CellState → ℕ → PageCounts
+counts_of cell page = record {
+  live = count_by (list_any is_current) (marks_of_page cell page);
+  valid = count_by (list_any is_there) (marks_of_page cell page);
+}
+
+abbrev pub is_last_word : Item → Bool
+is_last_word Gone = true
+is_last_word item = false
+
+-- the inode of a log is gone: the last entry says so
+abbrev pub is_gone : List Entry → Bool
+is_gone log = unwrap_or (option_map (λ e. is_last_word e.item) (last_of log)) false
+
+-- every part of the log is out
+abbrev pub keeps_nothing : CellState → Bool
+keeps_nothing cell = not (list_any is_there cell.marks)
+
+-- a part is killed
+abbrev pub has_killed : CellState → Bool
+has_killed cell = list_any is_killed cell.marks

@@ -1,0 +1,71 @@
+-- What is left of a cell once entries are taken out of its log.
+use Rattle.std.specs.Prelude.{◌≡◌, ℕ, ◌-◌, ◌≤◌, Bool, true, false, List, [], ◌∷◌, ◌++◌, length, replicate, slice_index_or, take}
+use Rattle.std.specs.List.{AllByRecursion}
+use Rattle.nv_entry.specs.declared.item.Entry.{Entry}
+use Rattle.nv_entry.specs.Covered.{part_count}
+use Rattle.nv_entry.specs.Leaving.{HidesNone}
+use Rattle.nv_log.specs.Chain.{ChainState, end_of, gone_of, last_entry, left_of}
+use Rattle.nv_cell.specs.declared.mark.Mark.TheVariants.{Out}
+use Rattle.nv_cell.specs.declared.stays.Stays.{Stays}
+use Rattle.nv_cell.specs.declared.stays.Stays.TheVariants.{Entries, Pages}
+use Rattle.nv_cell.specs.Cell.{CellState, log_of}
+use Rattle.nv_cell.specs.Readers.{is_gone}
+use Rattle.nv_cell.specs.Reading.{stat_now}
+
+-- a flag for each item of a list, by those of the runs that end at these places
+abbrev pub run_flags : ℕ → List Bool → List ℕ → List Bool
+run_flags start [] ends = []
+run_flags start (stays ∷ flags) [] = []
+run_flags start (stays ∷ flags) (end ∷ ends) = replicate (end - start) stays ++ run_flags end flags ends
+
+-- a flag for each part of a log, by those of its entries
+abbrev pub part_flags : List Bool → List Entry → List Bool
+part_flags [] log = []
+part_flags (stays ∷ flags) [] = []
+part_flags (stays ∷ flags) (e ∷ log) = replicate (part_count e) stays ++ part_flags flags log
+
+-- a flag for each entry of the log, by those of the pages
+abbrev pub log_flags : List Bool → ChainState → List Bool
+log_flags stays chain = take chain.tail (run_flags 0 stays chain.ends)
+
+-- what the code flags: each entry of the log, or each page with entries
+abbrev pub AreFlags : Stays → ChainState → Type 0
+AreFlags (Entries stays) chain = length stays.now ≡ chain.tail
+AreFlags (Pages stays) chain = length stays.now ≡ length chain.ends
+
+abbrev pub flags_of : Stays → ChainState → List Bool
+flags_of (Entries stays) chain = stays.now
+flags_of (Pages stays) chain = log_flags stays.now chain
+
+-- no entry that goes hides an earlier one that stays; `before` are those that stay before these
+abbrev pub HideNoneLeft : ℕ → List Entry → List Entry → List Bool → Type 0
+HideNoneLeft block before [] flags = Unit {0}
+HideNoneLeft block before (e ∷ later) [] = Unit {0}
+HideNoneLeft block before (e ∷ later) (true ∷ flags) = HideNoneLeft block (before ++ e ∷ []) later flags
+HideNoneLeft block before (e ∷ later) (false ∷ flags) = HidesNone block before e × HideNoneLeft block before later flags
+
+-- the entries that flags mark as going may do so: none is the last one, their parts are all out, and none hides an
+-- earlier one that stays
+pub record MayGo (stays : List Bool) (cell : CellState) : Type 0 where
+  pub last : slice_index_or stays (length (log_of cell) - 1) true ≡ true
+  pub out : AllByRecursion (λ mark. mark ≡ Out) (gone_of (part_flags stays (log_of cell)) cell.marks)
+  pub hidden : HideNoneLeft cell.block [] (log_of cell) stays
+
+-- each page that goes ends at the tail or before it
+abbrev pub ArePublished : List Bool → ChainState → Type 0
+ArePublished stays chain = (k : ℕ) → slice_index_or stays k true ≡ false → end_of chain k ≤ chain.tail
+
+-- what flags of the log's entries leave of a cell, with this chain
+abbrev pub left_in : List Bool → ChainState → CellState → CellState
+left_in stays chain cell = record cell {
+  chain = chain;
+  marks = left_of (part_flags stays (log_of cell)) cell.marks;
+  blocks = left_of (part_flags stays (log_of cell)) cell.blocks;
+}
+
+-- the last entry stays, and with it the id and the epoch that the next one has to follow; what the inode tells of itself
+-- stays, and so does whether it is gone
+pub record KeepsTheLast (old new : CellState) : Type 0 where
+  pub entry : last_entry new.chain ≡ last_entry old.chain
+  pub stat : stat_now new.block (log_of new) ≡ stat_now old.block (log_of old)
+  pub gone : is_gone (log_of new) ≡ is_gone (log_of old)

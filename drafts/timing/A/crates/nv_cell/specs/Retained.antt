@@ -1,0 +1,30 @@
+-- Marks that are what keeps the parts of a log.
+use Rattle.std.specs.Prelude.{◌≡◌, ℕ, ◌<◌, [], Some, drop, length, slice_get, slice_index_or}
+use Rattle.nv_entry.specs.declared.held.Pair.{Pair}
+use Rattle.nv_entry.specs.Counts.{live_of, valid_of}
+use Rattle.nv_entry.specs.Held.{Retention, keeps}
+use Rattle.nv_entry.specs.Log.{pairs}
+use Rattle.nv_log.specs.Chain.{log_pages, start_of}
+use Rattle.nv_cell.specs.Cell.{CellState, log_of}
+use Rattle.nv_cell.specs.Marks.{is_there, mark_at}
+use Rattle.nv_cell.specs.Readers.{counts_of}
+
+-- a part is current, killed or kept exactly where its pair is needed or pending
+pub record AreMarksOf (r : Retention) (cell : CellState) : Type 0 where
+  pub block : r.block ≡ cell.block
+  pub there : (n : ℕ) (pair : Pair) → slice_get (pairs r.block (log_of cell)) n ≡ Some pair → is_there (mark_at cell.marks n) ≡ keeps r pair
+
+-- how many published entries a page has
+abbrev pub published_on : CellState → ℕ → ℕ
+published_on cell page = length (slice_index_or (log_pages cell.chain) page [])
+
+-- the counts of a page are those that the log gives from scratch
+abbrev pub LiveIsScanned : CellState → Type 0
+LiveIsScanned cell =
+    (page : ℕ) → page < length cell.chain.ends
+    → (counts_of cell page).live ≡ live_of cell.block (published_on cell page) (drop (start_of cell.chain page) (log_of cell))
+
+abbrev pub ValidIsScanned : Retention → CellState → Type 0
+ValidIsScanned r cell =
+    (page : ℕ) → page < length cell.chain.ends
+    → (counts_of cell page).valid ≡ valid_of r (published_on cell page) (drop (start_of cell.chain page) (log_of cell))

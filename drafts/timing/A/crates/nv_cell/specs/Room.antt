@@ -1,0 +1,54 @@
+-- Room for what is to follow.
+use Rattle.std.specs.Prelude.{◌≡◌, ℕ, ◌+◌, ◌-◌, ◌≤◌, List, ◌++◌, length, vec_capacity}
+use Rattle.std.specs.Global.{Vec}
+use Rattle.nv_entry.specs.declared.item.Item.{Item}
+use Rattle.nv_entry.specs.Keys.{Key}
+use Rattle.nv_log.specs.Chain.{ChainState, pages_for, room_of}
+use Rattle.nv_cell.specs.declared.marks.Marks.{Marks}
+use Rattle.nv_cell.specs.Cell.{CanPublish, CellRoom, CellValue, fresh_of}
+use Rattle.nv_cell.specs.Effects.{items_of}
+use Rattle.nv_cell.specs.Index.{IndexValue, ref_of}
+use Rattle.nv_cell.specs.Weights.{parts_in}
+
+-- there is room to append entries with these items
+pub record CanAppend (items : List Item) (cell : CellValue) : Type 0 where
+  pub pages : pages_for cell.state.chain (length items) ≤ cell.room.pages
+  pub entries : length items ≤ cell.room.entries
+  pub parts : parts_in items ≤ cell.room.parts
+
+-- and to publish them then, with those that stand past the tail already
+pub record IsReadyFor (items : List Item) (cell : CellValue) : Type 0 where
+  pub append : CanAppend items cell
+  pub publish : CanPublish (items_of (fresh_of cell.state) ++ items) cell
+
+-- a page more: each number of entries needs one page less
+pub record AddsPage (old new : ChainState) : Type 0 where
+  pub room_rises : room_of new ≡ room_of old + old.page
+  pub pages_fall : (entries : ℕ) → pages_for new entries ≡ pages_for old entries - 1
+
+-- no room is less; of the name that is reserved this says nothing
+pub record HasNoLess (old new : CellRoom) : Type 0 where
+  pub pages : old.pages ≤ new.pages
+  pub entries : old.entries ≤ new.entries
+  pub parts : old.parts ≤ new.parts
+  pub runs : old.runs ≤ new.runs
+  pub killed : old.killed ≤ new.killed
+
+-- a vector that has grown at most in its room
+pub record HasGrown {X : Type 0} (old new : Vec X) : Type 0 where
+  pub items : new.items ≡ old.items
+  pub capacity : vec_capacity old ≤ vec_capacity new
+
+-- the same of marks, and of an index
+pub record HaveGrown (old new : Marks) : Type 0 where
+  pub marks : HasGrown old.marks new.marks
+  pub ends : HasGrown old.ends new.ends
+  pub tallies : HasGrown old.tallies new.tallies
+  pub pages : HasGrown old.pages new.pages
+  pub there : new.there ≡ old.there
+
+pub record HasSameParts (old new : IndexValue) : Type 0 where
+  pub refs : (key : Key) → ref_of new key ≡ ref_of old key
+  pub pages : new.pages.pages ≡ old.pages.pages
+  pub names : new.names.names ≡ old.names.names
+  pub room : old.pages.room ≤ new.pages.room

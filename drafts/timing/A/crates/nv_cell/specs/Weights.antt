@@ -1,0 +1,66 @@
+-- How much room items need to be published: for the parts that they kill, and for runs of pages.
+use Rattle.std.specs.Prelude.{ℕ, ◌+◌, ◌-◌, List, [], ◌∷◌, length, is_some}
+use Rattle.std.specs.List.{sum_by}
+use Rattle.nv_base.specs.declared.limits.TheConstants.{FILE_PAGES}
+use Rattle.nv_entry.specs.declared.item.Entry.{Entry}
+use Rattle.nv_entry.specs.declared.item.Item.{Item}
+use Rattle.nv_entry.specs.declared.item.Item.TheVariants.{Init, Write, SetSize, SetMode, Bind, Unbind, Gone}
+use Rattle.nv_entry.specs.Index.{names_of}
+use Rattle.nv_entry.specs.Keys.{PageKey, pages_for, parts_of}
+use Rattle.nv_entry.specs.Refs.{scan_ref}
+use Rattle.nv_findex.specs.Pages.{how_many, present_from, ref_at}
+use Rattle.nv_cell.specs.Index.{IndexValue}
+
+-- how many pages an item adds at most, and how many names
+abbrev pub pages_added : Item → ℕ
+pages_added (Write first run size) = run.len
+pages_added item = 0
+
+abbrev pub names_added : Item → ℕ
+names_added (Bind name to) = 1
+names_added item = 0
+
+-- how many runs of pages an item adds at most
+abbrev pub runs_of : Item → ℕ
+runs_of (Write first run size) = 2
+runs_of item = 0
+
+-- how many parts entries with these items have
+abbrev pub parts_in : List Item → ℕ
+parts_in items = sum_by (λ item. length (parts_of item)) items
+
+-- how many parts an item kills at most, where so many pages are present from each one on, and so many names bound
+abbrev pub weight : ℕ → (ℕ → ℕ) → ℕ → Item → ℕ
+weight block pages names (Init kind mode) = 3
+weight block pages names (Write first run size) = 1 + run.len
+weight block pages names (SetSize size) = 1 + pages (pages_for block size)
+weight block pages names (SetMode mode) = 1
+weight block pages names (Bind name to) = 1
+weight block pages names (Unbind name) = 1
+weight block pages names Gone = 3 + pages 0 + names
+
+-- the same for items one after the other, each behind what those before it add
+abbrev pub weights : ℕ → (ℕ → ℕ) → ℕ → List Item → ℕ
+weights block pages names [] = 0
+weights block pages names (item ∷ later) =
+    weight block pages names item + weights block (λ from. pages from + pages_added item) (names + names_added item) later
+
+-- how many pages are present in a log from one on
+abbrev pub present_in : ℕ → List Entry → ℕ → ℕ
+present_in block log from = how_many (λ page. is_some (scan_ref block log (PageKey page))) from (FILE_PAGES - from)
+
+-- how many parts these items kill at most behind a log
+abbrev pub weights_in : ℕ → List Entry → List Item → ℕ
+weights_in block log items = weights block (present_in block log) (length (names_of log)) items
+
+-- the same by an index
+abbrev pub weights_by : ℕ → IndexValue → List Item → ℕ
+weights_by block index items = weights block (λ from. present_from from index.pages.pages) (length index.names.names) items
+
+-- how many pages of a range are present in an index
+abbrev pub present_between : IndexValue → ℕ → ℕ → ℕ
+present_between index from to = how_many (λ page. is_some (ref_at index.pages.pages page)) from (to - from)
+
+-- how many parts an item kills at most, by an index
+abbrev pub weight_by : ℕ → IndexValue → Item → ℕ
+weight_by block index item = weight block (λ from. present_from from index.pages.pages) (length index.names.names) item

@@ -1,0 +1,180 @@
+//! The inode cell.
+
+ghost use Rattle.std.specs.Prelude.{◌≡◌, ◌+◌, ◌<◌, ◌≤◌, ◌^◌, ◌⊎◌, [], None, Some, slice_index_or, length, map, vec_len};
+ghost use Rattle.std.specs.List.{sum_by};
+ghost use Rattle.nv_base.specs.declared.limits.TheConstants.{LEAST_PAGE_ENTRIES, PAGE_ENTRIES};
+ghost use Rattle.nv_cell.specs.Cell.{IsCell, IsReady, KeepsAppendRoom, empty_cell, fresh_of, killed_of, log_of, mark_named, no_room, number_in, published, with_mark, without_part};
+ghost use Rattle.nv_cell.specs.Effects.{BindNone, items_of};
+ghost use Rattle.nv_cell.specs.Killed.{AreKilled};
+ghost use Rattle.nv_cell.specs.Numbers.{killed_part};
+ghost use Rattle.nv_cell.specs.Weights.{runs_of, weights_in};
+
+use crate::number::find_part;
+use crate::publish::{name_all, take_effect};
+use crate::{CellIndex, KilledPart, Mark, Marks, NumberedPart};
+use nv_alloc::Block;
+use nv_base::Gen;
+use nv_entry::PartId;
+use nv_log::Chain;
+use std::alloc::Global;
+use std::marker::Model;
+use std::mem;
+
+/// An inode with its log, or an empty slot. Its index, the marks of its parts and the counts of its pages are at all
+/// times those of one scan of its log.
+///
+/// A cell owns the blocks of its log pages and of its data, so it is no `Drop`.
+pub struct InodeCell {
+    pub(crate) alloc: Global,
+    // Bytes of a block.
+    pub(crate) block: u64,
+    pub(crate) generation: Gen,
+    pub(crate) version: u64,
+    pub(crate) chain: Chain,
+    pub(crate) index: CellIndex,
+    pub(crate) marks: Marks,
+    // The block of each page part that is not out, by part number; also of parts that are not yet published.
+    pub(crate) blocks: Vec<Option<Block>>,
+    // For how many more entries, and parts of entries, there is room.
+    pub(crate) entries: usize,
+    pub(crate) parts: usize,
+    // Room for the parts that a publish kills; empty between calls.
+    pub(crate) numbers: Vec<NumberedPart>,
+    pub(crate) killed: Vec<KilledPart>,
+}
+
+impl Model for InodeCell {
+    ghost use Rattle.nv_cell.specs.Cell.{CellValue};
+
+    ghost Value = { CellValue };
+
+    ghost use Rattle.nv_cell.specs.Fields.{AreFields, value_in};
+
+    ghost view = { value_in };
+
+    ghost invariant = { AreFields };
+}
+
+impl InodeCell {
+    /// An empty slot, for an inode with blocks of `block` bytes and `page` entries a log page.
+    pub fn new(alloc: Global, block: u64, page: usize, generation: Gen, version: u64) -> InodeCell
+        requires block { 0 < block }
+        requires least { LEAST_PAGE_ENTRIES ≤ page }
+        requires most { page ≤ PAGE_ENTRIES }
+        ensures state { result.state ≡ empty_cell block page generation version }
+        ensures room { result.room ≡ no_room }
+    {
+        InodeCell {
+            alloc,
+            block,
+            generation,
+            version,
+            chain: Chain::new(alloc, page),
+            index: CellIndex::new(alloc),
+            marks: Marks::new(alloc),
+            blocks: Vec::new(alloc),
+            entries: 0,
+            parts: 0,
+            numbers: Vec::new(alloc),
+            killed: Vec::new(alloc),
+        }
+    }
+
+    /// How many commits were published. It outlasts the inode.
+    pub fn version(&self) -> u64
+        ensures { result ≡ self.now.state.version }
+    {
+        self.version
+    }
+
+    /// What holds of each cell: its log is one, and its marks and blocks are those of its parts. Costs nothing.
+    pub fn known(&self)
+        ensures { IsCell self.now.state }
+    {
+        let _ends = self.chain.ends();
+    }
+
+    /// The generation of the inode, or in an empty slot that of the next one.
+    pub fn generation(&self) -> Gen
+        ensures { result ≡ self.now.state.generation }
+    {
+        self.generation
+    }
+
+    /// Publishes all entries past the tail, and gives the parts that were current, or are newly published, and are not
+    /// current after it, by entry in log order and then by part. They are marked killed. The entries use up at most the
+    /// room for runs of pages that they ask for, and the reserved name only where they bind one. Takes no memory; the time is
+    /// that of the entries and parts that change, times a logarithm at most, and for each Write after which the file
+    /// has more or fewer runs of pages one move of the runs behind.
+    pub fn publish(&mut self) -> Vec<KilledPart>
+        requires some { self.old.state.chain.tail < length self.old.state.chain.entries }
+        requires version { self.old.state.version < 2 ^ 62 }
+        requires ready { IsReady self.old }
+        ensures state { self.new.state ≡ published self.old.state }
+        ensures killed { map Some result.items
+            ≡ map (killed_part self.old.state.chain.entries) (killed_of self.old.state) }
+        ensures few { vec_len result ≤ weights_in self.old.state.block (log_of self.old.state)
+            (items_of (fresh_of self.old.state)) }
+        ensures marked { AreKilled (map (λ k. k.part) result.items) self.new.state }
+        ensures room { KeepsAppendRoom self.old.room self.new.room }
+        ensures runs { self.old.room.runs ≤ self.new.room.runs
+            + sum_by runs_of (items_of (fresh_of self.old.state)) }
+        ensures name { BindNone (items_of (fresh_of self.old.state))
+            → self.new.room.name ≡ self.old.room.name }
+    {
+        // Ids rise along all entries, so that each part has a name of its own.
+        let _ends = self.chain.ends();
+        let tail = self.chain.tail();
+        take_effect(
+            &mut self.index,
+            &mut self.numbers,
+            &mut self.marks,
+            &self.chain,
+            self.block,
+            tail,
+        );
+        let mut killed = mem::replace(&mut self.killed, Vec::new(self.alloc));
+        name_all(&mut killed, &self.numbers, &self.chain, &self.marks);
+        self.numbers.clear();
+        self.chain.publish_to(self.chain.len());
+        self.version += 1;
+        killed
+    }
+
+    /// The mark of a part of a published entry; none where the log has no such part. The time grows with the logarithm
+    /// of the entries.
+    pub fn mark(&self, part: PartId) -> Option<Mark>
+        ensures { result ≡ mark_named self.now.state part }
+    {
+        let found = find_part(&self.chain, &self.marks, part)?;
+        self.marks.get(found.number)
+    }
+
+    /// Marks a killed part kept. Takes no memory; the time grows with the logarithm of the entries and pages.
+    pub fn retire(&mut self, part: PartId)
+        requires { mark_named self.old.state part ≡ Some Mark.Killed }
+        ensures state { self.new.state
+            ≡ with_mark self.old.state (number_in self.old.state part) Mark.Kept }
+        ensures room { self.new.room ≡ self.old.room }
+    {
+        let found = find_part(&self.chain, &self.marks, part).unwrap();
+        self.marks.set(self.chain.ends(), found, Mark::Kept);
+    }
+
+    /// Puts a killed or kept part out, and hands out its block, which a page has and no other part. Takes no memory; the
+    /// time grows with the logarithm of the entries and pages.
+    pub fn release(&mut self, part: PartId) -> Option<Block>
+        requires { (mark_named self.old.state part ≡ Some Mark.Killed)
+            ⊎ (mark_named self.old.state part ≡ Some Mark.Kept) }
+        ensures block { result
+            ≡ slice_index_or self.old.state.blocks (number_in self.old.state part) None }
+        ensures state { self.new.state
+            ≡ without_part self.old.state (number_in self.old.state part) }
+        ensures room { self.new.room ≡ self.old.room }
+    {
+        let found = find_part(&self.chain, &self.marks, part).unwrap();
+        self.marks.set(self.chain.ends(), found, Mark::Out);
+        let slot = &mut self.blocks[found.number];
+        slot.take()
+    }
+}

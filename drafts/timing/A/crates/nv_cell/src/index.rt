@@ -1,0 +1,283 @@
+//! The index of an inode.
+
+ghost use Rattle.std.specs.Prelude.{◌≡◌, ℕ, ◌+◌, ◌-◌, ◌<◌, ◌≤◌, ◌⊎◌, ◌&&◌, [], if◌then◌else◌, nat_le, nat_lt, IsSome, IfErr, IfSome, IsOk, OnOk, OnErr, Some, None, length, slice_get};
+ghost use Rattle.std.specs.Option.{option_map};
+ghost use Rattle.nv_base.specs.declared.fault.Fault.TheVariants.{OutOfMemory};
+ghost use Rattle.nv_base.specs.declared.limits.TheConstants.{FILE_PAGES};
+ghost use Rattle.nv_findex.specs.Pages.{AreWithin, present_from, ref_at};
+ghost use Rattle.nv_entry.specs.Keys.{Key as KeyValue, is_page, key_named, NameKey, PageKey, KindKey, ModeKey, SizeKey};
+ghost use Rattle.nv_entry.specs.Refs.{ref_after};
+ghost use Rattle.nv_nindex.specs.NameIndex.{AreDistinct, binding_of};
+ghost use Rattle.nv_cell.specs.Index.{IsNextPart, NameReady, NamesAfter, name_part, ref_of};
+ghost use Rattle.nv_cell.specs.Effects.{BindOne, NamesReady};
+ghost use Rattle.nv_cell.specs.Room.{HasSameParts};
+ghost use Rattle.nv_cell.specs.Weights.{runs_of};
+ghost use Rattle.nv_base.specs.Refusals.{FailsOnly};
+ghost use Rattle.std.specs.List.{sum_by};
+
+use crate::needs::write_count;
+use nv_base::limits::FILE_PAGES;
+use nv_base::{EntryId, Fault};
+use nv_entry::{Entry, Item, Key, PartRef};
+use nv_findex::FileIndex;
+use nv_nindex::{Binding, NameIndex};
+use std::alloc::Global;
+use std::marker::Model;
+
+/// Which part of a log holds each key's value, for files and directories alike: an empty index of pages or names
+/// takes no memory. Parts are named by the ids of their entries, so that the removal of other entries leaves the
+/// index as it is.
+#[derive(Debug, Drop)]
+pub struct CellIndex {
+    kind: Option<PartRef>,
+    mode: Option<PartRef>,
+    size: Option<PartRef>,
+    pub(crate) pages: FileIndex,
+    pub(crate) names: NameIndex,
+}
+
+impl Model for CellIndex {
+    ghost use Rattle.nv_findex.specs.Pages.{AreWithin, ref_at};
+    ghost use Rattle.nv_cell.specs.Index.{IndexValue};
+
+    ghost Value = { IndexValue };
+
+    ghost view = { λ c. record {
+      kind = c.kind;
+      mode = c.mode;
+      size = c.size;
+      pages = c.pages;
+      names = c.names;
+    } };
+
+    ghost invariant = { λ c. AreWithin (ref_at c.pages.pages) };
+}
+
+impl CellIndex {
+    /// An index without keys.
+    pub fn new(alloc: Global) -> CellIndex
+        ensures refs { (key : KeyValue) → ref_of result key ≡ None }
+        ensures names { result.names ≡ record { names = []; reserved = None } }
+        ensures room { result.pages.room ≡ 0 }
+    {
+        CellIndex {
+            kind: None,
+            mode: None,
+            size: None,
+            pages: FileIndex::new(alloc),
+            names: NameIndex::new(alloc),
+        }
+    }
+
+    pub fn kind(&self) -> Option<PartRef>
+        ensures { result ≡ ref_of self.now KindKey }
+    {
+        self.kind
+    }
+
+    pub fn mode(&self) -> Option<PartRef>
+        ensures { result ≡ ref_of self.now ModeKey }
+    {
+        self.mode
+    }
+
+    pub fn size(&self) -> Option<PartRef>
+        ensures { result ≡ ref_of self.now SizeKey }
+    {
+        self.size
+    }
+
+    /// The part of a name.
+    pub fn name(&self, name: &[u8]) -> Option<PartRef>
+        ensures { result ≡ ref_of self.now (NameKey name.now) }
+    {
+        let binding = self.names.get(name)?;
+        Some(PartRef {
+            entry: binding.entry,
+            place: 0,
+        })
+    }
+
+    /// The part of a page.
+    pub fn page(&self, page: u32) -> Option<PartRef>
+        ensures { result ≡ ref_of self.now (PageKey page) }
+    {
+        let at = self.pages.at(page)?;
+        Some(PartRef {
+            entry: at.entry,
+            place: at.place + 1,
+        })
+    }
+
+    /// The part that holds a key.
+    pub fn part(&self, key: Key<'_>) -> Option<PartRef>
+        ensures { result ≡ ref_of self.now (key_named key.entry) }
+    {
+        match key {
+            Key::Kind => self.kind,
+            Key::Mode => self.mode,
+            Key::Size => self.size,
+            Key::Name(name) => self.name(name),
+            Key::Page(page) => self.page(page),
+        }
+    }
+
+    /// How many names are bound.
+    pub fn name_count(&self) -> usize
+        ensures value { result ≡ length self.now.names.names }
+        ensures distinct { AreDistinct self.now.names.names }
+    {
+        self.names.len()
+    }
+
+    /// The part of the name at a place, in the order that names have in the index.
+    pub fn name_part_at(&self, place: usize) -> Option<PartRef>
+        ensures { result ≡ option_map (λ b. name_part b.1) (slice_get self.now.names.names place) }
+    {
+        match self.names.at(place) {
+            None => None,
+            Some((_, binding)) => Some(PartRef {
+                entry: binding.entry,
+                place: 0,
+            }),
+        }
+    }
+
+    /// The least present page that isn't below `page`, with its part.
+    pub fn page_from(&self, page: u32) -> Option<(u32, PartRef)>
+        ensures next { IsNextPart page (λ at. ref_of self.now (PageKey at)) result }
+        ensures within { IfSome result (λ found. found.0 < FILE_PAGES) }
+    {
+        let (page, at) = self.pages.next_from(page)?;
+        let part = PartRef {
+            entry: at.entry,
+            place: at.place + 1,
+        };
+        Some((page, part))
+    }
+
+    /// How many pages are present from one on. Costs a look-up and a step for each run from there on.
+    pub fn present_from(&self, page: u32) -> u32
+        ensures { result ≡ present_from page self.now.pages.pages }
+    {
+        self.pages.present_from(page)
+    }
+
+    /// Makes room for what the items need when they take effect: runs of pages, and the name that one binds.
+    ///
+    /// `OutOfMemory` where a growth was refused: then nothing has changed but the room for runs.
+    pub fn reserve(&mut self, items: &[Item]) -> Result<(), Fault>
+        requires one { BindOne items.now }
+        ensures same { HasSameParts self.old self.new }
+        ensures runs { OnOk result (sum_by runs_of items.now ≤ self.new.pages.room) }
+        ensures names { OnOk result (NamesReady items.now self.new.names) }
+        ensures reserved { OnErr result (self.new.names.reserved ≡ self.old.names.reserved) }
+        ensures enough { sum_by runs_of items.now ≤ self.old.pages.room
+            → NamesReady items.now self.old.names → IsOk result }
+        ensures err { FailsOnly OutOfMemory result }
+    {
+        self.pages.reserve_for(write_count(items))?;
+        reserve_name(&mut self.names, items)
+    }
+
+    /// The parts of an entry hold their keys now.
+    pub fn put(&mut self, block: u64, entry: &Entry)
+        requires block { 0 < block }
+        requires room { runs_of entry.now.item ≤ self.old.pages.room }
+        requires names { NameReady entry.now.item self.old.names }
+        ensures names { NamesAfter entry.now.id entry.now.item self.old.names self.new.names }
+        ensures room { self.old.pages.room ≤ self.new.pages.room + runs_of entry.now.item }
+        ensures refs { (key : KeyValue) → ref_of self.new key
+            ≡ ref_after block entry.now key (ref_of self.old key) }
+    {
+        match &entry.item {
+            Item::Init { .. } => {
+                self.kind = part_of(entry, 0);
+                self.mode = part_of(entry, 1);
+                self.size = part_of(entry, 2);
+            }
+            Item::Write { first, run, .. } => {
+                self.size = part_of(entry, 0);
+                set_pages(&mut self.pages, *first, run.len, entry.id);
+            }
+            Item::SetSize { size } => {
+                self.size = part_of(entry, 0);
+                cut_pages(&mut self.pages, size.div_ceil(block));
+            }
+            Item::SetMode { .. } => self.mode = part_of(entry, 0),
+            Item::Bind { name, to } => self.names.bind(
+                name.bytes(),
+                Binding {
+                    to: *to,
+                    entry: entry.id,
+                },
+            ),
+            Item::Unbind { name } => self.names.unbind(name.bytes()),
+            Item::Gone => {
+                self.kind = None;
+                self.mode = None;
+                self.size = None;
+                self.pages.cut_from(0);
+                self.names.clear();
+            }
+        }
+    }
+}
+
+/// The name that one of the items binds is bound or reserved.
+fn reserve_name(names: &mut NameIndex, items: &[Item]) -> Result<(), Fault>
+    requires one { BindOne items.now }
+    ensures names { names.new.names ≡ names.old.names }
+    ensures ready { OnOk result (NamesReady items.now names.new) }
+    ensures reserved { OnErr result (names.new.reserved ≡ names.old.reserved) }
+    ensures enough { NamesReady items.now names.old → IsOk result }
+    ensures err { FailsOnly OutOfMemory result }
+{
+    for item in items {
+        if let Item::Bind { name, .. } = item {
+            if names.is_reserved(name.bytes()) {
+                return Ok(());
+            }
+            return names.reserve_one(name);
+        }
+    }
+    Ok(())
+}
+
+fn part_of(entry: &Entry, place: u32) -> Option<PartRef>
+    ensures { result ≡ Some (record { entry = entry.now.id; place = place }) }
+{
+    Some(PartRef {
+        entry: entry.id,
+        place,
+    })
+}
+
+/// The pages of a run that a file can have lie in the entry.
+fn set_pages(pages: &mut FileIndex, first: u32, len: u32, entry: EntryId)
+    requires room { 2 ≤ pages.old.room }
+    requires within { AreWithin (ref_at pages.old.pages) }
+    ensures pages { (page : ℕ) → ref_at pages.new.pages page
+        ≡ (if nat_le first page && nat_lt page (first + len) && is_page page
+        then Some (record { entry = entry; place = page - first }) else ref_at pages.old.pages page) }
+    ensures room { pages.old.room ≤ pages.new.room + 2 }
+    ensures within { AreWithin (ref_at pages.new.pages) }
+{
+    let len = len.min(FILE_PAGES.saturating_sub(first));
+    if len > 0 {
+        pages.set_run(first, len, entry);
+    }
+}
+
+/// No page that a file can have is present from `end` on.
+fn cut_pages(pages: &mut FileIndex, end: u64)
+    requires { AreWithin (ref_at pages.old.pages) }
+    ensures pages { (page : ℕ) → ref_at pages.new.pages page
+        ≡ (if nat_le end page && is_page page then None else ref_at pages.old.pages page) }
+    ensures room { pages.old.room ≤ pages.new.room }
+    ensures within { AreWithin (ref_at pages.new.pages) }
+{
+    if end < u64::from(FILE_PAGES) {
+        pages.cut_from(end as u32);
+    }
+}

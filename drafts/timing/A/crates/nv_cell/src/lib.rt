@@ -1,0 +1,40 @@
+//! An inode with its log: the value under each inode lock.
+#![tactic(auto)]
+
+mod append;
+mod cell;
+mod closing;
+mod effects;
+mod erase;
+mod found;
+mod index;
+mod killed;
+mod kills;
+pub mod laws;
+mod mark;
+mod marks;
+mod may_go;
+mod needs;
+mod number;
+mod parts;
+mod publish;
+mod read;
+mod readers;
+mod reading;
+mod ready;
+mod recount;
+mod removal;
+mod stat;
+mod stays;
+mod tally;
+
+pub use cell::InodeCell;
+pub(crate) use index::CellIndex;
+pub use killed::KilledPart;
+pub use mark::Mark;
+pub(crate) use marks::Marks;
+pub(crate) use number::NumberedPart;
+pub use stat::Stat;
+pub(crate) use stays::Stays;
+pub use tally::PageCounts;
+pub(crate) use tally::Tally;

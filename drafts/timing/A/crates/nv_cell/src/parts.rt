@@ -1,0 +1,46 @@
+//! The parts of a cell's log: what keeps each, and the block of each page.
+
+ghost use Rattle.std.specs.Prelude.{◌≡◌, ◌<◌, [], slice_index_or};
+ghost use Rattle.std.specs.Option.{option_copied};
+ghost use Rattle.nv_cell.specs.Cell.{block_named, log_of};
+ghost use Rattle.nv_cell.specs.Readers.{has_killed, marks_by_entry};
+
+use crate::number::find_part;
+use crate::{InodeCell, Mark};
+use nv_alloc::Block;
+use nv_entry::PartId;
+
+impl InodeCell {
+    /// The marks of the parts of a published entry, by the entry's place in the log.
+    pub fn marks_of(&self, entry: usize) -> &[Mark]
+        requires { entry < self.now.state.chain.tail }
+        ensures { result.now
+            ≡ slice_index_or (marks_by_entry (log_of self.now.state) self.now.state.marks) entry [] }
+    {
+        // The chain is one, so that its tail is no further than its entries.
+        let _ends = self.chain.ends();
+        let first = self.marks.first(entry);
+        let end = self.marks.ends[entry];
+        &self.marks.marks[first..end]
+    }
+
+    /// The block of a part of a published entry; none where the log has no such part, where it is no page, and where
+    /// it is out. The time grows with the logarithm of the entries.
+    pub fn block_of(&self, part: PartId) -> Option<&Block>
+        ensures { option_copied result ≡ block_named self.now.state part }
+    {
+        let found = find_part(&self.chain, &self.marks, part)?;
+        self.blocks.get(found.number)?.as_ref()
+    }
+
+    /// Whether a part is killed: neither retired nor released since the publish that killed it. The time is linear in
+    /// the parts.
+    pub fn has_killed(&self) -> bool
+        ensures { result ≡ has_killed self.now.state }
+    {
+        self.marks
+            .marks
+            .iter()
+            .any(|mark| matches!(mark, Mark::Killed))
+    }
+}

@@ -1,0 +1,216 @@
+//! The bytes of a file, read by its index.
+
+ghost use Rattle.std.specs.Prelude.{◌≡◌, ℕ, ◌+◌, ◌-◌, ◌*◌, ◌<◌, ◌≤◌, ◌^◌, ◌++◌, IfErr, IfOk, IfSome, IsSome, List, OnOk, [], None, Option, drop, length, option_and_then, replicate, slice_index_or, take, unwrap_or};
+ghost use Rattle.std.specs.Option.{option_copied, option_map};
+ghost use Rattle.nv_alloc.specs.Block.{number_of};
+ghost use Rattle.nv_base.specs.declared.fault.Fault.TheVariants.{OutOfMemory};
+ghost use Rattle.nv_entry.specs.Bytes.{read_at};
+ghost use Rattle.nv_entry.specs.Covered.{part_total};
+ghost use Rattle.nv_entry.specs.Node.{block_now, file_bytes};
+ghost use Rattle.nv_log.specs.Chain.{log, place_of};
+ghost use Rattle.nv_cell.specs.Cell.{AreSlotsSized, log_of};
+ghost use Rattle.nv_cell.specs.Numbers.{part_base};
+ghost use Rattle.nv_cell.specs.Pages.{AreBytesOf, IsStretch, block_at_page, own_bytes, page_number, pages_now, slot_bytes};
+ghost use Rattle.nv_cell.specs.Reading.{IsIndexOf};
+ghost use Rattle.nv_cell.specs.Tallies.{start_at};
+
+use crate::reading::size_of;
+use crate::{CellIndex, InodeCell, Marks};
+use nv_alloc::Block;
+use nv_base::limits::FILE_PAGES;
+use nv_base::{Bytes, Fault};
+use nv_findex::PageRun;
+use nv_log::Chain;
+use std::alloc::AllocError;
+use std::ops::Range;
+
+/// Pages that follow one another and lie so in one entry, with the number of the first one's part. No page from one
+/// that was asked for up to the first of these is present.
+#[derive(Clone, Copy, Debug, PartialEq, Eq)]
+pub struct Stretch {
+    pub first: u64,
+    pub end: u64,
+    pub number: usize,
+}
+
+impl InodeCell {
+    /// At most `len` bytes of a file from a place on, none past its end: zeros where it has no page. `OutOfMemory` where
+    /// room for them was refused. Costs the pages that it reads, and one look-up for each run of them.
+    pub fn read(&self, at: u64, len: u64) -> Result<Bytes, Fault>
+        ensures own { IfOk result (λ read. read ≡ read_at at len (own_bytes self.now.state)) }
+        ensures bytes { (bytes : ℕ → List ℕ) → AreBytesOf self.now.state bytes
+            → IfOk result (λ read. read ≡ read_at at len
+            (file_bytes bytes self.now.state.block (log_of self.now.state))) }
+        ensures err { IfErr result (λ fault. fault ≡ OutOfMemory) }
+    {
+        // Ids rise along all entries, so that the one of an id stands in the log.
+        let _ends = self.chain.ends();
+        let size = size_of(self.block, &self.chain, &self.index);
+        let end = size.min(at.saturating_add(len));
+        let start = at.min(end);
+        let mut bytes = Vec::with_capacity(self.alloc, (end - start) as usize)?;
+        read_pages(
+            &mut bytes,
+            self.block,
+            &self.index,
+            &self.chain,
+            &self.marks,
+            &self.blocks,
+            start..end,
+        )?;
+        Ok(Bytes::from_vec(bytes))
+    }
+
+    /// The block of a page of a file now; none where the page is absent. Takes no memory, and costs one look-up.
+    pub fn page_now(&self, page: u32) -> Option<&Block>
+        ensures block { option_copied result ≡ block_at_page self.now.state page }
+        ensures number { option_map number_of (option_copied result)
+            ≡ block_now self.now.state.block (log_of self.now.state) page }
+        ensures sized { IfSome (option_copied result)
+            (λ b. length b.bytes ≡ self.now.state.block) }
+    {
+        // Ids rise along all entries, so that the one of an id stands in the log.
+        let _ends = self.chain.ends();
+        let page = u64::from(page);
+        let stretch = stretch_from(self.block, &self.index, &self.chain, &self.marks, page);
+        block_in(&self.blocks, stretch, page)
+    }
+}
+
+/// Puts the bytes of a file's pages on an empty list, those from the first of the places up to the last.
+fn read_pages(
+    bytes: &mut Vec<u8>,
+    block: u64,
+    index: &CellIndex,
+    chain: &Chain,
+    marks: &Marks,
+    slots: &[Option<Block>],
+    places: Range<u64>,
+) -> Result<(), AllocError>
+    requires empty { bytes.old.items ≡ [] }
+    requires block { 0 < block }
+    requires index { IsIndexOf block (log chain.now.state) index.now }
+    requires ends { (i : ℕ) → i < chain.now.state.tail
+        → start_at marks.now.ends.items i ≡ part_base chain.now.state.entries i }
+    requires small { part_total (log chain.now.state) < 2 ^ 64 }
+    requires sized { AreSlotsSized block slots.now }
+    requires order { places.start ≤ places.end }
+    ensures { (count : ℕ) → places.end ≤ count * block → OnOk result (bytes.new.items
+        ≡ read_at places.start (places.end - places.start)
+        (pages_now block slots.now (page_number chain.now.state.entries index.now) count)) }
+{
+    let Range { start, end } = places;
+    let mut stretch = Stretch {
+        first: 0,
+        end: 0,
+        number: 0,
+    };
+    for page in start / block..end.div_ceil(block) {
+        if stretch.end <= page {
+            stretch = stretch_from(block, index, chain, marks, page);
+        }
+        let base = page * block;
+        push_part(
+            bytes,
+            block_in(slots, stretch, page),
+            start.saturating_sub(base) as usize,
+            block.min(end - base) as usize,
+        )?;
+    }
+    Ok(())
+}
+
+/// The stretch that has a page, or the first one behind it.
+fn stretch_from(block: u64, index: &CellIndex, chain: &Chain, marks: &Marks, page: u64) -> Stretch
+    requires block { 0 < block }
+    requires page { page + 1 < 2 ^ 64 }
+    requires index { IsIndexOf block (log chain.now.state) index.now }
+    requires ends { (i : ℕ) → i < chain.now.state.tail
+        → start_at marks.now.ends.items i ≡ part_base chain.now.state.entries i }
+    requires small { part_total (log chain.now.state) < 2 ^ 64 }
+    ensures { IsStretch (page_number chain.now.state.entries index.now) page result }
+{
+    // Ids rise along all entries, so that the one of an id stands in the log.
+    let _ends = chain.ends();
+    // No page of a file is present from the greatest file's end on.
+    let from = page.min(u64::from(FILE_PAGES)) as u32;
+    match index.pages.run_from(from) {
+        None => no_stretch(),
+        Some(run) => stretch_of(chain, marks, &run),
+    }
+}
+
+/// No stretch is left.
+fn no_stretch() -> Stretch
+    ensures { result ≡ record { first = 2 ^ 64 - 1; end = 2 ^ 64 - 1; number = 0 } }
+{
+    Stretch {
+        first: u64::MAX,
+        end: u64::MAX,
+        number: 0,
+    }
+}
+
+/// A run of pages, with the number of the part of its first one.
+fn stretch_of(chain: &Chain, marks: &Marks, run: &PageRun) -> Stretch
+    requires known { IsSome (place_of chain.now.state.entries run.now.start.entry) }
+    requires small { start_at marks.now.ends.items
+        (unwrap_or (place_of chain.now.state.entries run.now.start.entry) 0)
+        + run.now.start.place + 1 < 2 ^ 64 }
+    ensures { result ≡ record {
+      first = run.now.first;
+      end = run.now.end;
+      number = start_at marks.now.ends.items
+          (unwrap_or (place_of chain.now.state.entries run.now.start.entry) 0)
+          + 1 + run.now.start.place;
+    } }
+{
+    let place = chain.place_of(run.start.entry).unwrap();
+    Stretch {
+        first: u64::from(run.first),
+        end: u64::from(run.end),
+        number: marks.first(place) + 1 + run.start.place as usize,
+    }
+}
+
+/// The block of a page that a stretch tells of.
+fn block_in(slots: &[Option<Block>], stretch: Stretch, page: u64) -> Option<&Block>
+    requires small { stretch.number + (stretch.end - stretch.first) < 2 ^ 64 }
+    requires ahead { page < stretch.end }
+    ensures { (numbers : ℕ → Option ℕ) → IsStretch numbers page stretch → option_copied result
+        ≡ option_and_then (λ n. slice_index_or slots.now n None) (numbers page) }
+{
+    if page < stretch.first {
+        return None;
+    }
+    slots
+        .get(stretch.number + (page - stretch.first) as usize)?
+        .as_ref()
+}
+
+/// Puts some of the bytes of a block on a list; zeros where there is no block.
+fn push_part(
+    bytes: &mut Vec<u8>,
+    block: Option<&Block>,
+    from: usize,
+    to: usize,
+) -> Result<(), AllocError>
+    requires order { from ≤ to }
+    requires within { IfSome (option_copied block) (λ b. to ≤ length b.bytes) }
+    ensures { (size : ℕ) → to ≤ size → OnOk result (bytes.new.items ≡ bytes.old.items
+        ++ take (to - from) (drop from (slot_bytes size (option_copied block.entry)))) }
+{
+    match block {
+        Some(block) => bytes.extend_from_slice(&block.bytes()[from..to]),
+        None => push_zeros(bytes, to - from),
+    }
+}
+
+fn push_zeros(bytes: &mut Vec<u8>, count: usize) -> Result<(), AllocError>
+    ensures { OnOk result (bytes.new.items ≡ bytes.old.items ++ replicate count 0) }
+{
+    for _done in 0..count {
+        bytes.push(0)?;
+    }
+    Ok(())
+}

@@ -1,0 +1,149 @@
+//! What callers ask of a cell before they change it. None of these takes memory, and each costs the same at any size
+//! of the log.
+
+ghost use Rattle.std.specs.Prelude.{◌≡◌, ◌+◌, ◌*◌, ◌<◌, ◌≤◌, nat_le, length};
+ghost use Rattle.nv_base.specs.declared.limits.TheConstants.{LEAST_PAGE_ENTRIES, NUMBER, PAGE_ENTRIES};
+ghost use Rattle.nv_entry.specs.Index.{names_of};
+ghost use Rattle.nv_log.specs.Chain.{last_id, pages_for, room_of};
+ghost use Rattle.nv_cell.specs.Cell.{log_of};
+ghost use Rattle.nv_cell.specs.Readers.{counts_of, is_gone, keeps_nothing};
+
+use crate::{InodeCell, PageCounts};
+use nv_base::EntryId;
+use nv_base::limits::NUMBER;
+use nv_entry::Item;
+use nv_log::Chain;
+
+impl InodeCell {
+    /// The log as a chain of pages, with the entries past the tail.
+    pub fn log(&self) -> &Chain
+        ensures state { result.now.state ≡ self.now.state.chain }
+        ensures spare { result.now.spare ≡ self.now.room.pages }
+    {
+        &self.chain
+    }
+
+    /// How many bytes a block has.
+    pub fn block_bytes(&self) -> u64
+        ensures value { result ≡ self.now.state.block }
+        ensures some { 0 < result }
+    {
+        self.block
+    }
+
+    /// How many entries a page of the log holds.
+    pub fn entries_per_page(&self) -> usize
+        ensures value { result ≡ self.now.state.chain.page }
+        ensures least { LEAST_PAGE_ENTRIES ≤ result }
+        ensures most { result ≤ PAGE_ENTRIES }
+    {
+        // A chain has pages of a lawful size.
+        let _ends = self.chain.ends();
+        self.chain.entries_per_page()
+    }
+
+    /// How many names are bound.
+    pub fn name_count(&self) -> usize
+        ensures { result ≡ length (names_of (log_of self.now.state)) }
+    {
+        self.index.name_count()
+    }
+
+    /// How many entries were handed out to be read so far, as [`Chain::reads`] counts them.
+    pub fn reads(&self) -> u64 {
+        self.chain.reads()
+    }
+
+    /// How many more entries the pages that are there take.
+    pub fn room(&self) -> usize
+        ensures { result ≡ room_of self.now.state.chain }
+    {
+        self.chain.room()
+    }
+
+    /// How many more pages it takes to append so many entries.
+    pub fn pages_for(&self, entries: usize) -> usize
+        ensures value { result ≡ pages_for self.now.state.chain entries }
+        ensures enough { entries
+            ≤ result * self.now.state.chain.page + room_of self.now.state.chain }
+    {
+        self.chain.pages_for(entries)
+    }
+
+    /// The id of the last entry, also past the tail. Ids rise: the next entry's is above it.
+    pub fn last_id(&self) -> Option<EntryId>
+        ensures { result ≡ last_id self.now.state.chain }
+    {
+        self.chain.last_id()
+    }
+
+    /// How many entries are published.
+    pub fn tail(&self) -> usize
+        ensures { result ≡ self.now.state.chain.tail }
+    {
+        self.chain.tail()
+    }
+
+    /// How many entries there are, those past the tail too.
+    pub fn len(&self) -> usize
+        ensures { result ≡ length self.now.state.chain.entries }
+    {
+        self.chain.len()
+    }
+
+    /// For how many more entries there is room without memory, on pages that are there or to be added.
+    pub fn entries_room(&self) -> usize
+        ensures { result ≡ self.now.room.entries }
+    {
+        self.entries
+    }
+
+    /// For how many more parts of entries there is room without memory.
+    pub fn parts_room(&self) -> usize
+        ensures { result ≡ self.now.room.parts }
+    {
+        self.parts
+    }
+
+    /// How many more pages may be added without memory.
+    pub fn pages_room(&self) -> usize
+        ensures { result ≡ self.now.room.pages }
+    {
+        self.chain.spare()
+    }
+
+    /// How many of a page's published entries have a current part, and how many one that is not out.
+    /// No entry is one of a page that is not there.
+    pub fn counts(&self, page: usize) -> PageCounts
+        ensures { result ≡ counts_of self.now.state page }
+    {
+        if page >= self.chain.ends().len() {
+            return PageCounts { live: 0, valid: 0 };
+        }
+        self.marks.pages[page]
+    }
+
+    /// Whether the inode is gone, as the last published entry says.
+    pub fn is_gone(&self) -> bool
+        ensures { result ≡ is_gone (log_of self.now.state) }
+    {
+        match self.chain.last_published() {
+            Some(last) => matches!(last.item, Item::Gone),
+            None => false,
+        }
+    }
+
+    /// Whether nothing keeps any part: all of them are out.
+    pub fn keeps_nothing(&self) -> bool
+        ensures { result ≡ keeps_nothing self.now.state }
+    {
+        self.marks.there == 0
+    }
+
+    /// Whether the slot isn't handed out again, since its generation is the last one.
+    pub fn is_withheld(&self) -> bool
+        ensures { result ≡ nat_le NUMBER self.now.state.generation }
+    {
+        self.generation.number() >= NUMBER
+    }
+}

@@ -1,0 +1,140 @@
+//! What a cleaner does to a cell: entries leave that nothing keeps.
+
+ghost use Rattle.std.specs.Prelude.{◌≡◌, ℕ, ◌+◌, ◌-◌, ◌≤◌, ◌++◌, [], None, length, not, vec_capacity, vec_len};
+ghost use Rattle.std.specs.Int.{div_ceil};
+ghost use Rattle.std.specs.List.{AllByRecursion, count_by};
+ghost use Rattle.std.specs.VecDeque.{deque_capacity};
+ghost use Rattle.nv_alloc.specs.Block.{AreSized};
+ghost use Rattle.nv_entry.specs.Clean.{select};
+ghost use Rattle.nv_entry.specs.Covered.{part_total};
+ghost use Rattle.nv_entry.specs.Leaving.{KeepsTheRest};
+ghost use Rattle.nv_log.specs.Chain.{compacted, gone_of, left_of, log, with_pages_left};
+ghost use Rattle.nv_cell.specs.Cell.{log_of};
+ghost use Rattle.nv_cell.specs.Removal.{AreFlags, ArePublished, KeepsTheLast, MayGo, flags_of, left_in, log_flags, part_flags};
+
+use crate::closing::pass_parts;
+use crate::{InodeCell, Mark, Stays};
+use nv_alloc::{Block, BlockQueue};
+use nv_log::Chain;
+use std::collections::VecDeque;
+use std::mem;
+
+/// Takes the items of a list as a queue.
+fn queue_of<T>(items: &mut Vec<T>) -> VecDeque<T>
+    ensures items { result.items ≡ items.old.items }
+    ensures room { deque_capacity result ≡ vec_capacity items.old }
+    ensures none { items.new.items ≡ [] }
+{
+    let alloc = *items.allocator();
+    VecDeque::from_vec(mem::replace(items, Vec::new(alloc)))
+}
+
+/// Puts a queue's items into a list that has none.
+fn put_back<T>(items: &mut Vec<T>, queue: VecDeque<T>)
+    requires { items.old.items ≡ [] }
+    ensures items { items.new.items ≡ queue.items }
+    ensures room { vec_capacity items.new ≡ deque_capacity queue }
+{
+    mem::replace(items, queue.into_vec()).destroy_empty();
+}
+
+/// Leaves the marks and blocks of the entries that stay.
+fn close_parts(
+    marks: &mut Vec<Mark>,
+    blocks: &mut Vec<Option<Block>>,
+    chain: &Chain,
+    stays: Stays<'_>,
+)
+    requires flags { AreFlags stays chain.now.state }
+    requires marks_there { length marks.old.items ≡ part_total (log chain.now.state) }
+    requires blocks_there { length marks.old.items ≤ length blocks.old.items }
+    requires none { AllByRecursion (λ block. block ≡ None)
+        (gone_of (part_flags (flags_of stays chain.now.state) (log chain.now.state))
+        blocks.old.items) }
+    ensures marks { marks.new.items
+        ≡ left_of (part_flags (flags_of stays.entry chain.now.state) (log chain.now.state))
+        marks.old.items }
+    ensures blocks { blocks.new.items
+        ≡ left_of (part_flags (flags_of stays.entry chain.now.state) (log chain.now.state))
+        blocks.old.items }
+    ensures marks_room { vec_capacity marks.new ≡ vec_capacity marks.old }
+    ensures blocks_room { vec_capacity blocks.new ≡ vec_capacity blocks.old }
+{
+    let mut mark_queue = queue_of(marks);
+    let mut block_queue = queue_of(blocks);
+    pass_parts(&mut mark_queue, &mut block_queue, chain, stays);
+    put_back(marks, mark_queue);
+    put_back(blocks, block_queue);
+}
+
+impl InodeCell {
+    /// Leaves the entries of the log that are flagged as staying, a flag for each, and those past the tail, and moves
+    /// them to fresh pages, which take the place of the old ones: the blocks of these are handed out. The last published
+    /// entry stays; each part of an entry that goes is out, and it hides no earlier one that stays ([`InodeCell::may_go`]
+    /// tells). The index stays as it is. The time is linear in the log's entries and parts, and no memory is taken.
+    pub fn compact(&mut self, stays: &[bool], pages: Vec<Block>) -> Vec<Block>
+        requires flags { length stays.now ≡ self.old.state.chain.tail }
+        requires pages { vec_len pages ≡ div_ceil
+            (length (left_of stays.now self.old.state.chain.entries)) self.old.state.chain.page }
+        requires may { MayGo stays.now self.old.state }
+        requires sized { AreSized self.old.state.block pages.items }
+        ensures blocks { result.items ≡ self.old.state.chain.blocks }
+        ensures state { self.new.state ≡ left_in stays.now
+            (compacted stays.now pages.items self.old.state.chain) self.old.state }
+        ensures log { log_of self.new.state ≡ select stays.now (log_of self.old.state) }
+        ensures rest { KeepsTheRest self.old.state.block (log_of self.old.state) stays.now }
+        ensures last { KeepsTheLast self.old.state self.new.state }
+        ensures room { self.new.room ≡ record self.old.room { pages = 0 } }
+    {
+        // The chain is one, so that fresh pages are no more than the old ones.
+        let _ends = self.chain.ends();
+        close_parts(
+            &mut self.marks.marks,
+            &mut self.blocks,
+            &self.chain,
+            Stays::Entries(stays),
+        );
+        let old = self.chain.compact(stays, pages);
+        self.marks.recount(&self.chain);
+        old
+    }
+
+    /// Leaves the pages with entries that are flagged as staying, a flag for each, and those without an entry. The
+    /// blocks of the others are put into the queue, in order: each of these ends at the tail or before it, none has the
+    /// last published entry, each part of their entries is out, and none hides an earlier entry that stays
+    /// ([`InodeCell::pages_may_go`] tells). The index stays as it is. The time is linear in the log's entries and parts
+    /// where all pages before the last one with entries are full, and no memory is taken.
+    pub fn remove_pages(&mut self, stays: &[bool], queue: &mut BlockQueue)
+        requires flags { length stays.now ≡ length self.old.state.chain.ends }
+        requires published { ArePublished stays.now self.old.state.chain }
+        requires may { MayGo (log_flags stays.now self.old.state.chain) self.old.state }
+        requires room { count_by not stays.now ≤ queue.old.room }
+        requires size { queue.old.size ≡ self.old.state.block }
+        ensures state { self.new.state ≡ left_in (log_flags stays.now self.old.state.chain)
+            (with_pages_left stays.now self.old.state.chain) self.old.state }
+        ensures log { log_of self.new.state
+            ≡ select (log_flags stays.now self.old.state.chain) (log_of self.old.state) }
+        ensures rest { KeepsTheRest self.old.state.block (log_of self.old.state)
+            (log_flags stays.now self.old.state.chain) }
+        ensures last { KeepsTheLast self.old.state self.new.state }
+        ensures room { self.new.room ≡ record self.old.room {
+          pages = self.old.room.pages
+              + length (gone_of stays.now self.old.state.chain.blocks);
+        } }
+        ensures queue { queue.new ≡ record queue.old {
+          blocks = queue.old.blocks ++ gone_of stays.now self.old.state.chain.blocks;
+          room = queue.old.room - length (gone_of stays.now self.old.state.chain.blocks);
+        } }
+    {
+        // The chain is one, so that each page has an end.
+        let _ends = self.chain.ends();
+        close_parts(
+            &mut self.marks.marks,
+            &mut self.blocks,
+            &self.chain,
+            Stays::Pages(stays),
+        );
+        self.chain.unlink_pages(stays, queue);
+        self.marks.recount(&self.chain);
+    }
+}

@@ -1,0 +1,15 @@
+-- The blocks of every world add up, since each stands once in the machine's.
+use Rattle.std.proofs.Common.{subst, sym}
+use Rattle.nv_machine.proofs.FromScratch.{each_once}
+use Rattle.nv_machine.specs.Numbers.{IsEachOnce, all_blocks}
+use Rattle.nv_machine.specs.World as machine
+use Rattle.nv_core.proofs.SpaceLaw.{adds_up}
+use Rattle.nv_core.specs.Reports.{AddsUp}
+use Rattle.nv_core.specs.Shown.{shared_of}
+use Rattle.nv_core.specs.Worlds.{IsWorld, WorldState}
+
+pub world_adds_up : (w : WorldState) → IsWorld w → AddsUp w.shared.geometry.numbers.blocks (shared_of w.shared)
+world_adds_up w is =
+    let g = w.shared.geometry.numbers in
+    let once = subst (λ (m : machine.World). IsEachOnce g.blocks (all_blocks m)) (sym is.2.reached) (each_once g is.1 is.2.limits) in
+    subst (λ (s : machine.Shared). AddsUp g.blocks s) (sym is.2.shows.shared) (adds_up g.blocks is.0 once)

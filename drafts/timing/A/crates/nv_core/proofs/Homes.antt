@@ -1,0 +1,154 @@
+-- The first CPU that is home of some blocks, by the lists and by the lowest number.
+use Rattle.std.proofs.Common.{rules, ◌≡◌, ℕ, zero, suc, ◌+◌, ◌-◌, ◌<◌, ◌≤◌, ◌∙◌, Bool, true, false, List, [], ◌∷◌, Some, None, ap, arith, if◌then◌else◌, length, nat_lt, refl, subst, sym}
+use Rattle.std.specs.Prelude.{◌||◌, ◌&&◌, ◌==◌, nat_le, slice_index_or}
+use Rattle.std.specs.List.{AllByRecursion, list_any}
+use Rattle.std.proofs.lemmas.Bool.{le-leb, ltb-false, ltb-true, lt-ltb, false≢true}
+use Rattle.nv_alloc.specs.Block.{BlockValue, numbers_of}
+use Rattle.nv_alloc.specs.FreeList.{FreeBlocks, is_home}
+use Rattle.nv_alloc.specs.Numbers.{has}
+use Rattle.nv_base.specs.Homes.{IsHome, home_start}
+use Rattle.nv_base.specs.declared.geometry.GeometryNumbers.{GeometryNumbers}
+use Rattle.nv_base.proofs.HomeRanges.{cuts}
+use Rattle.nv_machine.specs.Reads.{home_from}
+use Rattle.nv_machine.specs.World.{no_list}
+use Rattle.nv_core.specs.Parts.{AreListsOf}
+
+-- lists from a CPU on have their home ranges
+abbrev pub AreHomes : GeometryNumbers → ℕ → List FreeBlocks → Type 0
+AreHomes g cpu [] = Unit {0}
+AreHomes g cpu (list ∷ lists) =
+    ((list.start ≡ home_start g.blocks g.cpus cpu) × (list.end ≡ home_start g.blocks g.cpus (cpu + 1))) × AreHomes g (cpu + 1) lists
+
+homes_from : (g : GeometryNumbers) (cpu : ℕ) (lists : List FreeBlocks)
+    → ((k : ℕ) → k < length lists → ((slice_index_or lists k no_list).start ≡ home_start g.blocks g.cpus (cpu + k))
+    × ((slice_index_or lists k no_list).end ≡ home_start g.blocks g.cpus (cpu + k + 1))) → AreHomes g cpu lists
+homes_from g cpu [] each = tt
+homes_from g cpu (list ∷ lists) each =
+    let here = each 0 (omega arith) in
+    let same : cpu + 0 ≡ cpu = omega arith in (
+      (
+        here.0 ∙ ap (home_start g.blocks g.cpus) same,
+        here.1 ∙ ap (λ (n : ℕ). home_start g.blocks g.cpus (n + 1)) same,
+      ),
+      homes_from g (cpu + 1) lists (λ k lt.
+          let there = each (suc k) (omega (arith, lt)) in
+          let more : cpu + suc k ≡ cpu + 1 + k = omega arith in (
+            there.0 ∙ ap (home_start g.blocks g.cpus) more,
+            there.1 ∙ ap (λ (n : ℕ). home_start g.blocks g.cpus (n + 1)) more,
+          )),
+    )
+
+pub are_homes : (g : GeometryNumbers) (lists : List FreeBlocks) → AreListsOf g lists → AreHomes g 0 lists
+are_homes g lists are =
+    homes_from g 0 lists (λ k lt.
+    let home = are.each k (omega (arith, lt, are.count)) in
+    let same : k ≡ 0 + k = omega arith in (
+      home.start ∙ ap (home_start g.blocks g.cpus) same,
+      home.end ∙ ap (λ (n : ℕ). home_start g.blocks g.cpus (n + 1)) same,
+    ))
+
+-- a list below all blocks is home of none
+pub none_home : (list : FreeBlocks) (bs : List BlockValue) (low : ℕ) → list.end ≤ low → AllByRecursion (λ m. low ≤ m) (numbers_of bs)
+    → list_any (λ (b : BlockValue). is_home list b.number) bs ≡ false
+none_home list [] low end all = refl
+none_home list (b ∷ bs) low end all =
+    let off : nat_lt b.number list.end ≡ false = off_end (nat_lt b.number list.end) refl in
+    let front : is_home list b.number ≡ false = and_false (nat_le list.start b.number) (nat_lt b.number list.end) off in
+    rw front (none_home list bs low end all.1) where
+      off_end : (x : Bool) → nat_lt b.number list.end ≡ x → x ≡ false
+      off_end true q = let below = ltb-true b.number list.end q in absurd (omega (arith, below, end, all.0))
+      off_end false q = refl
+
+      and_false : (x y : Bool) → y ≡ false → (x && y) ≡ false
+      and_false true y q = q
+      and_false false y q = refl
+
+-- the list of a block's home is home of one
+some_home : (list : FreeBlocks) (bs : List BlockValue) (n : ℕ) → list.start ≤ n → n < list.end → has (numbers_of bs) n ≡ true
+    → list_any (λ (b : BlockValue). is_home list b.number) bs ≡ true
+some_home list [] n start end there = absurd (false≢true there)
+some_home list (b ∷ bs) n start end there = go (b.number == n) refl there (some_home list bs n start end) where
+  or_true : (x : Bool) {y : Bool} → y ≡ true → (x || y) ≡ true
+  or_true true e = refl
+  or_true false e = e
+
+  go : (x : Bool) → (b.number == n) ≡ x → (x || has (numbers_of bs) n) ≡ true
+      → (has (numbers_of bs) n ≡ true → list_any (λ (c : BlockValue). is_home list c.number) bs ≡ true)
+      → (is_home list b.number || list_any (λ (c : BlockValue). is_home list c.number) bs) ≡ true
+  go true q t more =
+      let same : b.number ≡ n = search rules in
+      let first : nat_le list.start b.number ≡ true = le-leb list.start b.number (omega (arith, start, same)) in
+      let last : nat_lt b.number list.end ≡ true = lt-ltb b.number list.end (omega (arith, end, same)) in
+      rw (first, last) refl
+  go false q t more = or_true (is_home list b.number) (more t)
+
+-- ranges begin in the order of their CPUs
+pub starts_rise : (blocks cpus c more : ℕ) → 0 < cpus → home_start blocks cpus c ≤ home_start blocks cpus (c + more)
+starts_rise blocks cpus c zero some =
+    let same : c + 0 ≡ c = omega arith in subst (λ (n : ℕ). home_start blocks cpus c ≤ home_start blocks cpus n) (sym same) (omega arith)
+starts_rise blocks cpus c (suc more) some =
+    let before = starts_rise blocks cpus c more some in
+    let next = (cuts blocks cpus some).in_order (c + more) in
+    let same : c + more + 1 ≡ c + suc more = omega arith in
+    subst (λ (n : ℕ). home_start blocks cpus c ≤ home_start blocks cpus n) same (omega (arith, before, next))
+
+-- the first list that is home of a block is that of the lowest, from its CPU or a lower one on
+from_home : (g : GeometryNumbers) (from c cpu : ℕ) (lists : List FreeBlocks) (bs : List BlockValue) (n : ℕ) → 0 < g.cpus
+    → AreHomes g cpu lists → from ≤ c → cpu ≤ c → c < cpu + length lists → has (numbers_of bs) n ≡ true
+    → IsHome g.blocks g.cpus c n → AllByRecursion (λ m. home_start g.blocks g.cpus c ≤ m) (numbers_of bs)
+    → home_from from cpu lists bs ≡ Some c
+from_home g from c cpu [] bs n some homes first low below there home all = absurd (omega (arith, low, below))
+from_home g from c cpu (list ∷ lists) bs n some homes first low below there home all =
+    go (λ lt. from_home g from c (cpu + 1) lists bs n some homes.1 first lt (omega (arith, below)) there home all) (nat_lt cpu c) refl where
+      skip : (cpu + 1 ≤ c → home_from from (cpu + 1) lists bs ≡ Some c) → (x y : Bool) → cpu + 1 ≤ c → y ≡ false
+          → (if x then home_from from (cpu + 1) lists bs else if y then Some cpu else home_from from (cpu + 1) lists bs) ≡ Some c
+      skip more true y lt q = more lt
+      skip more false y lt q = rw q (more lt)
+
+      here : (x y : Bool) → x ≡ false → y ≡ true → cpu ≡ c
+          → (if x then home_from from (cpu + 1) lists bs else if y then Some cpu else home_from from (cpu + 1) lists bs) ≡ Some c
+      here x y q r same = rw (q, r) (ap Some same)
+
+      go : (cpu + 1 ≤ c → home_from from (cpu + 1) lists bs ≡ Some c) → (x : Bool) → nat_lt cpu c ≡ x
+          → (if nat_lt cpu from then home_from from (cpu + 1) lists bs
+          else if list_any (λ (b : BlockValue). is_home list b.number) bs then Some cpu else home_from from (cpu + 1) lists bs) ≡ Some c
+      go more true q =
+          let lt = ltb-true cpu c q in
+          let same : cpu + 1 + (c - (cpu + 1)) ≡ c = omega (arith, lt) in
+          let mono = subst (λ (m : ℕ). home_start g.blocks g.cpus (cpu + 1) ≤ home_start g.blocks g.cpus m) same
+          (starts_rise g.blocks g.cpus (cpu + 1) (c - (cpu + 1)) some) in
+          skip more (nat_lt cpu from) (list_any (λ (b : BlockValue). is_home list b.number) bs) (omega (arith, lt))
+          (none_home list bs (home_start g.blocks g.cpus c) (omega (arith, mono, homes.0.1)) all)
+      go more false q =
+          let ge = ltb-false cpu c q in
+          let same : cpu ≡ c = omega (arith, ge, low) in
+          let start : list.start ≤ n = subst (λ (m : ℕ). list.start ≤ n) same
+          (omega (arith, homes.0.0, ap (home_start g.blocks g.cpus) same, home.from)) in
+          let end : n < list.end = omega (arith, homes.0.1, ap (λ (m : ℕ). home_start g.blocks g.cpus (m + 1)) same, home.below) in
+          here (nat_lt cpu from) (list_any (λ (b : BlockValue). is_home list b.number) bs) (not_below (nat_lt cpu from) refl ge)
+          (some_home list bs n start end there) same where
+            not_below : (x : Bool) → nat_lt cpu from ≡ x → c ≤ cpu → x ≡ false
+            not_below true r ge = let lt = ltb-true cpu from r in absurd (omega (arith, lt, ge, first))
+            not_below false r ge = refl
+
+pub home_some : (g : GeometryNumbers) (from c : ℕ) (lists : List FreeBlocks) (bs : List BlockValue) (n : ℕ) → AreListsOf g lists → from ≤ c
+    → c < g.cpus → has (numbers_of bs) n ≡ true → IsHome g.blocks g.cpus c n
+    → AllByRecursion (λ m. home_start g.blocks g.cpus c ≤ m) (numbers_of bs) → home_from from 0 lists bs ≡ Some c
+home_some g from c lists bs n are first below there home all =
+    from_home g from c 0 lists bs n (omega (arith, below)) (are_homes g lists are) first (omega arith)
+    (omega (arith, below, are.count)) there home all
+
+-- where there is no block there is no home
+pub no_home : (from cpu : ℕ) (lists : List FreeBlocks) → home_from from cpu lists [] ≡ None
+no_home from cpu [] = refl
+no_home from cpu (list ∷ lists) = go (nat_lt cpu from) (no_home from (cpu + 1) lists) where
+  go : (x : Bool) → home_from from (cpu + 1) lists [] ≡ None
+      → (if x then home_from from (cpu + 1) lists [] else home_from from (cpu + 1) lists []) ≡ None
+  go true e = e
+  go false e = e
+
+-- nor where no block is of the device, and all are
+pub home_none : (many from : ℕ) (lists : List FreeBlocks) (bs : List BlockValue) → AllByRecursion (λ (b : BlockValue). b.number < many) bs
+    → AllByRecursion (λ m. many ≤ m) (numbers_of bs) → home_from from 0 lists bs ≡ None
+home_none many from lists [] below above = no_home from 0 lists
+home_none many from lists (b ∷ bs) below above = absurd (omega (arith, below.0, above.0))

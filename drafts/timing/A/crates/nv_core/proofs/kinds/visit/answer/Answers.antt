@@ -1,0 +1,7 @@
+use Rattle.std.proofs.Common.{◌∙◌}
+use Rattle.nv_core.proofs.kinds.visit.answer.Goals as goal
+
+pub returns-in-Ok : goal.returns-in-Ok
+returns-in-Ok c bytes are =
+    let view = rw c.in-Ok.is at (c.view_of.ensures bytes are) in
+    (view.passes, λ made. c.into_found.ensures ∙ view.found made)

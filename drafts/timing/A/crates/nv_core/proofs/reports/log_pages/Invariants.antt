@@ -1,0 +1,8 @@
+use Rattle.std.proofs.Common.{◌≡◌, take}
+use Rattle.std.specs.List.{sum_by}
+use Rattle.nv_cell.specs.Cell.{CellValue}
+use Rattle.nv_core.specs.Reports.{chain_in}
+use Rattle.nv_core.proofs.reports.log_pages.Given as goal
+
+abbrev pub invariant-loop-cell : goal.invariant-loop-cell
+invariant-loop-cell l = l.count ≡ sum_by (λ (c : CellValue). chain_in c.state) (take l.cell-index l.cells)

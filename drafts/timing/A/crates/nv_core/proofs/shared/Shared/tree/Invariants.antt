@@ -1,0 +1,13 @@
+use Rattle.std.proofs.Common.{◌≡◌, ◌++◌}
+use Rattle.nv_calls.specs.Plain.{node_in}
+use Rattle.nv_reader.specs.Walk.{to_come, visits_to_come}
+use Rattle.nv_core.specs.Settled.{settled_nodes, tree_in}
+use Rattle.nv_core.specs.Shown.{shared_of}
+use Rattle.nv_core.proofs.shared.Shared.tree.Given as goal
+
+abbrev pub invariant-loop-handle : goal.invariant-loop-handle
+invariant-loop-handle l =
+    l.nodes.items ++ to_come (node_in (settled_nodes (shared_of l.self))) l.walk ≡ tree_in (shared_of l.self)
+
+abbrev pub decreases-loop-handle : goal.decreases-loop-handle
+decreases-loop-handle l = visits_to_come (node_in (settled_nodes (shared_of l.self))) l.walk

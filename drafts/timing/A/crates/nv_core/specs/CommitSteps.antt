@@ -1,0 +1,28 @@
+-- What each step of a commit is lent, and what it leaves.
+use Rattle.std.specs.Prelude.{◌≡◌}
+use Rattle.nv_calls.specs.Commit.{CommitValue}
+use Rattle.nv_calls.specs.Progress.{step_of}
+use Rattle.nv_calls.specs.SlotCells.{lent_cells}
+use Rattle.nv_calls.specs.declared.progress.CommitStep.{CommitStep}
+use Rattle.nv_core.specs.Committing.{IsCommitting}
+use Rattle.nv_core.specs.Frames.{LeavesCells}
+use Rattle.nv_core.specs.Parts.{AreSlots}
+use Rattle.nv_core.specs.Rooms.{IsHandOf, committing_cpu}
+use Rattle.nv_core.specs.Shown.{Told, slots_in}
+use Rattle.nv_core.specs.Told.{IsCommitOf}
+use Rattle.nv_core.specs.declared.running.Running.{Running}
+use Rattle.nv_core.specs.declared.shared.Shared.{Shared}
+
+-- the commit of a call is on its way, and comes to that step
+pub record IsAtStep (next : CommitStep) (shared : Shared) (running : Running) (commit : CommitValue) : Type 0 where
+  pub slots : AreSlots shared (slots_in running.slots)
+  pub committing : IsCommitting (committing_cpu shared) (lent_cells (slots_in running.slots) shared.cells.items) shared.book commit
+  pub step : step_of commit ≡ next
+  pub sized : IsHandOf shared.geometry.numbers commit.hand
+
+-- after its step it is still on its way, what is told of it still holds, and the cells of other slots are as they were
+pub record HasStepped (running : Running) (old new : Shared) (before after : CommitValue) : Type 0 where
+  pub told : (told : Told) → IsCommitOf (slots_in running.slots) before told → IsCommitOf (slots_in running.slots) after told
+  pub committing : IsCommitting (committing_cpu new) (lent_cells (slots_in running.slots) new.cells.items) new.book after
+  pub sized : IsHandOf new.geometry.numbers after.hand
+  pub rest : LeavesCells (slots_in running.slots) old new

@@ -1,0 +1,60 @@
+-- What a call reads over the cells of its slots.
+use Rattle.std.specs.Prelude.{◌≡◌, ℕ, ◌<◌, ◌||◌, Bool, true, false, not, List, length, Option, Some, None, Ok, Err}
+use Rattle.std.specs.List.{AllByRecursion}
+use Rattle.nv_alloc.specs.Numbers.{has}
+use Rattle.nv_base.specs.declared.numbers.Handle.{Handle}
+use Rattle.nv_base.specs.declared.fault.Fault.TheVariants.{NoInode}
+use Rattle.nv_entry.specs.declared.node.NodeCopy.{NodeCopy}
+use Rattle.nv_calls.specs.AllCalls.{blocks_wanted, early, ends_in_page, is_nothing, late, looked}
+use Rattle.nv_calls.specs.Nodes.{HasBytes, has_page_in, nodes_in}
+use Rattle.nv_calls.specs.Prepared.{makes}
+use Rattle.nv_calls.specs.Refusals.{Check}
+use Rattle.nv_calls.specs.Updates.{blank_call}
+use Rattle.nv_calls.specs.declared.looked.Looked.{Looked}
+use Rattle.nv_calls.specs.declared.update.Update.{Update}
+use Rattle.nv_calls.specs.SlotCells.{lent_cells}
+use Rattle.nv_cell.specs.Cell.{CellState, CellValue}
+use Rattle.nv_machine.specs.Reads.{bytes_among}
+use Rattle.nv_machine.specs.Step.{same_looked}
+use Rattle.nv_machine.specs.World.{Answers, Ending, Overtaken, Refuses}
+use Rattle.nv_core.specs.declared.shared.Shared.{Shared}
+use Rattle.nv_core.specs.Parts.{AreSlots}
+
+-- a cell is one, with blocks of that size, each number once
+abbrev pub HasOwn : ℕ → CellState → Type 0
+HasOwn block cell = HasBytes (bytes_among cell.blocks) block cell
+
+-- the slot of a number is one of these, if it is one of all
+abbrev pub HoldsSlot : List ℕ → ℕ → ℕ → Type 0
+HoldsSlot slots inodes ino = ino < inodes → has slots ino ≡ true
+
+-- those of some handles are
+abbrev pub HoldHandles : List ℕ → ℕ → List Handle → Type 0
+HoldHandles slots inodes list = AllByRecursion (λ (h : Handle). HoldsSlot slots inodes h.ino) list
+
+-- the nodes under some handles are read in the cells of these slots
+pub record CanRead (shared : Shared) (slots : List ℕ) (list : List Handle) : Type 0 where
+  pub there : AreSlots shared slots
+  pub own : AllByRecursion (λ (c : ℕ × CellValue). HasOwn shared.geometry.numbers.block c.1.state) (lent_cells slots shared.cells.items)
+  pub held : HoldHandles slots (length shared.cells.items) list
+
+-- ---- the check
+
+-- how a check ends a call, by whether it commits nothing
+abbrev pub check_ends : Check → Bool → Check → Bool → Bool → Option Ending
+check_ends (Err fault) same tests numbered nothing = Some (Refuses fault)
+check_ends (Ok passed) false tests numbered nothing = Some Overtaken
+check_ends (Ok passed) true (Err fault) numbered nothing = Some (Refuses fault)
+check_ends (Ok passed) true (Ok all) false nothing = Some (Refuses NoInode)
+check_ends (Ok passed) true (Ok all) true true = Some Answers
+check_ends (Ok passed) true (Ok all) true false = None
+
+-- how the check over these nodes ends a call
+abbrev pub ends_over : ℕ → (Handle → Option NodeCopy) → Looked → Bool → Update → Option Ending
+ends_over block n before numbered u =
+    check_ends (early n (blank_call u)) (same_looked (looked n (blank_call u)) before) (late block n before (blank_call u))
+    (numbered || not (makes u)) (is_nothing (blank_call u))
+
+-- how many data blocks a call takes over these cells
+abbrev pub wanted_over : ℕ → List (ℕ × CellValue) → Update → ℕ
+wanted_over block cells u = blocks_wanted block (nodes_in cells) (ends_in_page (has_page_in cells) block (blank_call u)) (blank_call u)

@@ -1,0 +1,102 @@
+-- What a world reports of its blocks and logs.
+use Rattle.std.specs.Prelude.{ℕ, ◌+◌, ◌-◌, ◌≤◌, drop, None, slice_index_or, ◌&&◌, if◌then◌else◌, Bool, true, false, is_some, List, [], ◌∷◌, ◌++◌, length, map, replicate, Option}
+use Rattle.std.specs.List.{range_with_len, sum_by}
+use Rattle.nv_alloc.specs.Block.{BlockValue, numbers_of}
+use Rattle.nv_alloc.specs.FreeList.{FreeBlocks}
+use Rattle.nv_alloc.specs.Runs.{runs_of}
+use Rattle.nv_alloc.specs.declared.runs.FreeRun.{FreeRun}
+use Rattle.nv_cell.specs.Cell.{CellState, log_of}
+use Rattle.nv_cell.specs.Numbers.{part_base}
+use Rattle.nv_cell.specs.Readers.{counts_of}
+use Rattle.nv_book.specs.Book.{BookState}
+use Rattle.nv_book.specs.Records.{block_count}
+use Rattle.nv_cell.specs.declared.mark.Mark.{Mark}
+use Rattle.nv_cell.specs.declared.mark.Mark.TheVariants.{Current, Killed, Kept, Out}
+use Rattle.nv_epoch.specs.Holders.{youngest_holder}
+use Rattle.nv_epoch.specs.SnapList.{ids}
+use Rattle.nv_entry.specs.Covered.{part_count}
+use Rattle.nv_entry.specs.declared.item.Entry.{Entry}
+use Rattle.nv_core.specs.declared.reports.LogCounts.{LogCounts}
+use Rattle.nv_core.specs.declared.reports.Space.{Space}
+use Rattle.nv_machine.specs.World.{Shared, World, cell_at}
+
+-- the free lists, CPU by CPU, as maximal runs
+abbrev pub lists_of : Shared → List (List FreeRun)
+lists_of s = map (λ (list : FreeBlocks). runs_of (numbers_of list.blocks)) s.lists
+
+-- a log in numbers
+abbrev pub counts_in : CellState → LogCounts
+counts_in cell = record { entries = cell.chain.tail; pages = map (counts_of cell) (range_with_len 0 (length cell.chain.blocks)) }
+
+abbrev pub log_at : Shared → ℕ → LogCounts
+log_at s ino = counts_in (cell_at s ino)
+
+-- ---- space
+
+-- the epoch of each part's entry
+abbrev pub births : List Entry → List ℕ
+births [] = []
+births (e ∷ log) = replicate (part_count e) e.epoch ++ births log
+
+-- a part counts as kept that is current or recorded, or that was killed just now and is held by a living snapshot
+abbrev pub is_kept : BookState → ℕ → Mark → Bool
+is_kept book birth Current = true
+is_kept book birth Kept = true
+is_kept book birth Killed = is_some (youngest_holder (ids book.snaps) birth book.snaps.epoch)
+is_kept book birth Out = false
+
+-- whether a part has a block and is kept, as a number
+abbrev pub one_of : BookState → ℕ → Mark → Option BlockValue → ℕ
+one_of book birth mark block = if is_kept book birth mark && is_some block then 1 else 0
+
+-- how many of the parts have a block and are kept
+abbrev pub kept_among : BookState → List ℕ → List Mark → List (Option BlockValue) → ℕ
+kept_among book [] marks blocks = 0
+kept_among book (birth ∷ births) [] blocks = 0
+kept_among book (birth ∷ births) (mark ∷ marks) [] = 0
+kept_among book (birth ∷ births) (mark ∷ marks) (block ∷ blocks) =
+    one_of book birth mark block + kept_among book births marks blocks
+
+abbrev pub kept_in : BookState → CellState → ℕ
+kept_in book cell = kept_among book (births (log_of cell)) cell.marks cell.blocks
+
+-- the same of the parts of one entry, and the block of one of them
+abbrev pub kept_at : BookState → CellState → ℕ → Entry → ℕ
+kept_at book cell place e =
+    kept_among book (replicate (part_count e) e.epoch) (drop (part_base (log_of cell) place) cell.marks)
+    (drop (part_base (log_of cell) place) cell.blocks)
+
+abbrev pub block_at : CellState → ℕ → ℕ → Option BlockValue
+block_at cell place k = slice_index_or cell.blocks (part_base (log_of cell) place + k) None
+
+abbrev pub kept_of : Shared → ℕ
+kept_of s = sum_by (kept_in s.book) s.cells
+
+abbrev pub free_in : FreeBlocks → ℕ
+free_in list = length list.blocks
+
+abbrev pub free_of : Shared → ℕ
+free_of s = sum_by free_in s.lists
+
+abbrev pub chain_in : CellState → ℕ
+chain_in cell = length cell.chain.blocks
+
+abbrev pub chain_of : Shared → ℕ
+chain_of s = sum_by chain_in s.cells
+
+-- where the blocks are: in free lists, pages of logs, current or held by a living snapshot, deferred, and all others
+abbrev pub space_in : ℕ → Shared → Space
+space_in blocks s = record {
+  free = free_of s;
+  chain = chain_of s;
+  «data» = kept_of s - block_count s.book.deferred;
+  pending = block_count s.book.deferred;
+  hand = blocks - free_of s - chain_of s - kept_of s;
+}
+
+abbrev pub space_of : World → Space
+space_of w = space_in w.numbers.blocks w.shared
+
+-- no block is at two of these places
+abbrev pub AddsUp : ℕ → Shared → Type 0
+AddsUp blocks s = free_of s + chain_of s + kept_of s ≤ blocks

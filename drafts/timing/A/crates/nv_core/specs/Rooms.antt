@@ -1,0 +1,212 @@
+-- What of a running call the machine does not tell: whether it is of the kind that its next step wants, the room in its hand, and
+-- what its check found and its growths made.
+use Rattle.std.specs.Prelude.{◌≡◌, ℕ, ◌+◌, ◌<◌, ◌≤◌, ◌%◌, Bool, true, false, List, [], length, Option, Some, None, unwrap_or}
+use Rattle.std.specs.List.{AllByRecursion}
+use Rattle.nv_alloc.specs.declared.hand.Hand.{Hand}
+use Rattle.nv_base.specs.declared.geometry.GeometryNumbers.{GeometryNumbers}
+use Rattle.nv_base.specs.declared.numbers.Handle.{Handle}
+use Rattle.nv_calls.specs.AllCalls.{is_nothing, refusal}
+use Rattle.nv_calls.specs.AllCalls.{looked as found_in}
+use Rattle.nv_calls.specs.Cells.{AreCells}
+use Rattle.nv_calls.specs.Locked.{handles}
+use Rattle.nv_calls.specs.Nodes.{nodes_in}
+use Rattle.nv_calls.specs.PagesWanted.{pages_wanted}
+use Rattle.nv_calls.specs.Prepared.{CanReady, HasNumberFor, IsReadyBy, IsStill, HaveNoLessRoom, made_by, makes, no_handle, planned_by}
+use Rattle.nv_calls.specs.Ready.{ReadyValue}
+use Rattle.nv_calls.specs.Refusals.{passes}
+use Rattle.nv_calls.specs.SlotCells.{lent_cells}
+use Rattle.nv_calls.specs.Updates.{blank_call}
+use Rattle.nv_calls.specs.declared.looked.Looked.{Looked}
+use Rattle.nv_calls.specs.declared.update.Update.{Update}
+use Rattle.nv_cell.specs.Cell.{CellValue}
+use Rattle.nv_machine.specs.Sequence.{directories, nothing_looked}
+use Rattle.nv_core.specs.Committing.{IsCommitting}
+use Rattle.nv_core.specs.Nodes.{CanRead, wanted_over}
+use Rattle.nv_core.specs.Shown.{slots_in}
+use Rattle.nv_core.specs.Told.{IsChangeWith, IsLookAt, IsVisitOf, is_change, makes_inode}
+use Rattle.nv_core.specs.declared.hold.Hold.{Hold}
+use Rattle.nv_core.specs.declared.hold.Hold.TheVariants as hold
+use Rattle.nv_core.specs.declared.job.Job.{Job}
+use Rattle.nv_core.specs.declared.job.Job.TheVariants as job
+use Rattle.nv_core.specs.declared.next.Ending.{Ending}
+use Rattle.nv_core.specs.declared.next.Ending.TheVariants as ending
+use Rattle.nv_core.specs.declared.next.Next.{Next}
+use Rattle.nv_core.specs.declared.next.Next.TheVariants as next
+use Rattle.nv_core.specs.declared.running.Running.{Running}
+use Rattle.nv_core.specs.declared.shared.Shared.{Shared}
+use Rattle.nv_core.specs.declared.turn.Turn.{Turn}
+use Rattle.nv_core.specs.declared.turn.Turn.TheVariants as turn
+
+-- ---- the call
+
+-- a job that changes nodes, or that its commit has
+abbrev pub IsNoVisit : Job → Type 0
+IsNoVisit (job.Visit c) = ⊥
+IsNoVisit other = Unit {0}
+
+-- the job that a call has before that step
+abbrev pub FitsNext : Next → Job → Type 0
+FitsNext next.Number j = makes_inode j ≡ true
+FitsNext (next.Look place) j = IsLookAt place j
+FitsNext next.Visit j = IsVisitOf j
+FitsNext (next.Unlock place) j = IsNoVisit j
+FitsNext (next.Give cpu) j = IsNoVisit j
+FitsNext next.Back j = IsNoVisit j
+FitsNext before j = is_change j ≡ true
+
+-- a call that looks nothing up has found nothing
+abbrev pub LooksAsTold : Job → Looked → Type 0
+LooksAsTold (job.Change plan text) looked = directories (blank_call plan.update) ≡ [] → looked ≡ nothing_looked
+LooksAsTold other looked = Unit {0}
+
+-- a call whose names were bound anew looks them up
+pub record FitsCall (running : Running) : Type 0 where
+  pub before : FitsNext running.next running.job
+  pub looks : LooksAsTold running.job running.looked
+  pub overtaken : running.ending ≡ ending.Overtaken → IsLookAt 0 running.job
+
+-- a call can turn to its last steps, to end so
+pub record CanEnd (running : Running) (how : Ending) : Type 0 where
+  pub job : IsNoVisit running.job
+  pub looks : LooksAsTold running.job running.looked
+  pub overtaken : how ≡ ending.Overtaken → IsLookAt 0 running.job
+
+-- ---- hands
+
+-- a hand is of blocks of the device's size
+pub record IsHandOf (g : GeometryNumbers) (hand : Hand) : Type 0 where
+  pub blocks : hand.«data».size ≡ g.block
+  pub pages : hand.pages.size ≡ g.block
+
+abbrev pub hand_held : Hold → Hand
+hand_held (hold.Hand hand) = hand
+hand_held (hold.Ready ready) = ready.hand
+hand_held (hold.Commit commit) = commit.hand
+
+-- ---- from the check to the growths
+
+-- a call has passed its check over the cells of its slots, has something to commit, and the number of a new inode in its hand
+pub record IsChecked (shared : Shared) (slots : List ℕ) (hand : Hand) (looked : Looked) (u : Update) : Type 0 where
+  pub read : CanRead shared slots (handles looked (blank_call u))
+  pub lent : AreCells (lent_cells slots shared.cells.items)
+  pub some : 0 < length slots
+  pub still : AllByRecursion (λ (c : ℕ × CellValue). IsStill shared.geometry.numbers.block c.1.state) (lent_cells slots shared.cells.items)
+  pub passed : refusal shared.geometry.numbers.block (nodes_in (lent_cells slots shared.cells.items)) (blank_call u) ≡ passes
+  pub something : is_nothing (blank_call u) ≡ false
+  pub same : found_in (nodes_in (lent_cells slots shared.cells.items)) (blank_call u) ≡ looked
+  pub number : HasNumberFor (lent_cells slots shared.cells.items) (makes u) hand.ino
+  pub chain : hand.chain ≡ []
+
+-- the handle of the inode that it makes is that of the number in its hand
+abbrev pub HasMade : Shared → List ℕ → Hand → Handle → Update → Type 0
+HasMade shared slots hand made u =
+    makes u ≡ true → made ≡ unwrap_or (made_by (lent_cells slots shared.cells.items) hand.ino u) no_handle
+
+-- how many blocks the call takes, and how many log pages with the blocks in its hand
+abbrev pub blocks_to_take : Shared → List ℕ → Update → ℕ
+blocks_to_take shared slots u = wanted_over shared.geometry.numbers.block (lent_cells slots shared.cells.items) u
+
+abbrev pub pages_to_take : Shared → List ℕ → Hand → Update → ℕ
+pages_to_take shared slots hand u =
+    pages_wanted (lent_cells slots shared.cells.items) (planned_by (lent_cells slots shared.cells.items) hand u)
+
+-- it has its data blocks and no log page, and room for as many of these as it can need
+pub record HasItsBlocks (shared : Shared) (slots : List ℕ) (hand : Hand) (u : Update) : Type 0 where
+  pub blocks : length hand.«data».blocks ≡ blocks_to_take shared slots u
+  pub none : hand.pages.blocks ≡ []
+  pub room : length hand.«data».blocks + 4 ≤ hand.pages.room
+
+-- it takes data blocks: so many are wanted yet, there is room for them, and for the log pages that they can need
+pub record TakesBlocks (shared : Shared) (slots : List ℕ) (hand : Hand) (asked wanted : ℕ) (u : Update) : Type 0 where
+  pub count : length hand.«data».blocks + wanted ≡ blocks_to_take shared slots u
+  pub none : hand.pages.blocks ≡ []
+  pub room : wanted ≤ hand.«data».room
+  pub pages : length hand.«data».blocks + wanted + 4 ≤ hand.pages.room
+  pub list : asked < length shared.lists.items
+
+-- it has all of them, and takes log pages
+pub record TakesPages (shared : Shared) (slots : List ℕ) (hand : Hand) (asked wanted : ℕ) (u : Update) : Type 0 where
+  pub blocks : length hand.«data».blocks ≡ blocks_to_take shared slots u
+  pub count : length hand.pages.blocks + wanted ≡ pages_to_take shared slots hand u
+  pub room : wanted ≤ hand.pages.room
+  pub list : asked < length shared.lists.items
+
+-- it has all that it takes
+pub record HasTaken (shared : Shared) (slots : List ℕ) (hand : Hand) (u : Update) : Type 0 where
+  pub blocks : length hand.«data».blocks ≡ blocks_to_take shared slots u
+  pub pages : length hand.pages.blocks ≡ pages_to_take shared slots hand u
+
+abbrev pub Takes : Next → Shared → List ℕ → Hand → ℕ → Looked → Update → Type 0
+Takes (next.TakeBlocks asked) shared slots hand wanted looked u =
+    IsChecked shared slots hand looked u × TakesBlocks shared slots hand asked wanted u
+Takes (next.TakePages asked) shared slots hand wanted looked u =
+    IsChecked shared slots hand looked u × TakesPages shared slots hand asked wanted u
+Takes next.Ready shared slots hand wanted looked u = IsChecked shared slots hand looked u × HasTaken shared slots hand u
+Takes other shared slots hand wanted looked u = Unit {0}
+
+-- the same of a job: one that takes changes nodes
+abbrev pub takes : Next → Bool
+takes (next.TakeBlocks asked) = true
+takes (next.TakePages asked) = true
+takes next.Ready = true
+takes other = false
+
+abbrev pub TakesIf : Bool → Shared → Hand → Running → Type 0
+TakesIf false shared hand running = Unit {0}
+TakesIf true shared hand running =
+    IsChangeWith (λ u. HasMade shared (slots_in running.slots) hand running.made u
+    × Takes running.next shared (slots_in running.slots) hand running.wanted running.looked u) running.job
+
+-- the call of a job is checked, and has its data blocks
+abbrev pub CanWantPages : Shared → Hand → Running → Type 0
+CanWantPages shared hand running =
+    IsChangeWith (λ u. HasMade shared (slots_in running.slots) hand running.made u
+    × IsChecked shared (slots_in running.slots) hand running.looked u × HasItsBlocks shared (slots_in running.slots) hand u) running.job
+
+-- the call of a job is checked, and takes so many data blocks
+abbrev pub WantsBlocks : ℕ → Shared → Hand → Running → Type 0
+WantsBlocks wanted shared hand running =
+    IsChangeWith (λ u. HasMade shared (slots_in running.slots) hand running.made u
+    × IsChecked shared (slots_in running.slots) hand running.looked u ×
+    (wanted ≡ blocks_to_take shared (slots_in running.slots) u)) running.job
+
+-- ---- ready
+
+-- these cells and this call were made ready with that hand: since then the cells have changed in their room alone
+pub record IsReadyOver (now : List (ℕ × CellValue)) (ready : ReadyValue) : Type 0 where
+  pub cells : List (ℕ × CellValue)
+  pub hand : Hand
+  pub update : Update
+  pub can : CanReady cells hand update
+  pub more : HaveNoLessRoom cells now
+  pub is : IsReadyBy cells hand update now ready
+
+-- ---- what holds of a running call beside what is shown of it
+
+-- the CPU of the actor that has the commit lock
+abbrev pub committing_cpu : Shared → ℕ
+committing_cpu shared = unwrap_or shared.holder 0 % length shared.lists.items
+
+abbrev pub HasRooms : Shared → Hold → Running → Type 0
+HasRooms shared (hold.Hand hand) running =
+    FitsCall running × IsHandOf shared.geometry.numbers hand × TakesIf (takes running.next) shared hand running
+HasRooms shared (hold.Ready ready) running =
+    (running.job ≡ job.Given) × (running.ending ≡ ending.Answers) × IsHandOf shared.geometry.numbers ready.hand
+    × IsReadyOver (lent_cells (slots_in running.slots) shared.cells.items) ready
+HasRooms shared (hold.Commit commit) running =
+    (running.job ≡ job.Given) × (running.ending ≡ ending.Answers) × IsHandOf shared.geometry.numbers commit.hand
+    × IsCommitting (committing_cpu shared) (lent_cells (slots_in running.slots) shared.cells.items) shared.book commit
+
+-- an actor without a call has its hand alone
+abbrev pub IsIdle : Shared → Hold → Type 0
+IsIdle shared (hold.Hand hand) = IsHandOf shared.geometry.numbers hand
+IsIdle shared other = ⊥
+
+abbrev pub HasActorRooms : Shared → Hold → Option Running → Type 0
+HasActorRooms shared hold None = IsIdle shared hold
+HasActorRooms shared hold (Some running) = HasRooms shared hold running
+
+-- after a turn: the same of the call that goes on, and an actor whose call has ended has its hand alone
+abbrev pub HasRoomsAfter : Turn → Shared → Hold → Running → Type 0
+HasRoomsAfter (turn.Ends result) shared hold running = IsIdle shared hold
+HasRoomsAfter other shared hold running = HasRooms shared hold running

@@ -1,0 +1,21 @@
+-- Settled logs, the tree that they give, and what of a cell shows its node.
+pub use Rattle.nv_machine.specs.Settled.{noted_or, settled_tail, settled, node_by, settled_nodes, tree_of}
+use Rattle.std.specs.Prelude.{ℕ, ◌<◌, ◌≤◌, List, [], length}
+use Rattle.nv_calls.specs.Plain.{node_in}
+use Rattle.nv_entry.specs.Tree.{root, tree_from}
+use Rattle.nv_entry.specs.declared.tree.TreeNode.{TreeNode}
+use Rattle.nv_machine.specs.World.{Shared, cell_at}
+use Rattle.nv_reader.specs.Cells.{NoneOut}
+use Rattle.nv_core.specs.Visits.{HasOwnBytes}
+
+-- a noted tail is one of the log's, and each page of the settled log has its block, the only one of its number in the cell
+pub record CanSettle (s : Shared) (ino : ℕ) : Type 0 where
+  pub tail : settled_tail s.book.journals ino (cell_at s ino).chain.tail ≤ (cell_at s ino).chain.tail
+  pub own : HasOwnBytes s ino
+  pub pages : NoneOut (cell_at s ino) (settled s ino)
+
+abbrev pub AreSettled : Shared → Type 0
+AreSettled s = (ino : ℕ) → ino < length s.cells → CanSettle s ino
+
+abbrev pub tree_in : Shared → List TreeNode
+tree_in s = tree_from (node_in (settled_nodes s)) (length s.cells) [] root

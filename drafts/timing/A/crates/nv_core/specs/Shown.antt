@@ -1,0 +1,164 @@
+-- What the parts of a world are in the machine of steps, whatever room they have.
+use Rattle.std.specs.Prelude.{ℕ, List, [], drop, map, take}
+use Rattle.nv_alloc.specs.declared.hand.Hand.{Hand}
+use Rattle.nv_base.specs.declared.numbers.Handle.{Handle}
+use Rattle.nv_calls.specs.declared.answer.Answer.{Answer}
+use Rattle.nv_calls.specs.declared.answer.Answer.TheVariants as answers
+use Rattle.nv_calls.specs.declared.call.Call.{Call}
+use Rattle.nv_calls.specs.declared.plan.Planned.{Planned}
+use Rattle.nv_calls.specs.declared.progress.CommitStep.{CommitStep}
+use Rattle.nv_calls.specs.declared.progress.CommitStep.TheVariants as step
+use Rattle.nv_calls.specs.Commit.{CommitValue}
+use Rattle.nv_calls.specs.Progress.{step_of}
+use Rattle.nv_cell.specs.Cell.{CellValue}
+use Rattle.nv_cell.specs.declared.killed.KilledPart.{KilledPart}
+use Rattle.nv_machine.specs.World as machine
+use Rattle.nv_core.specs.declared.hold.Hold.{Hold}
+use Rattle.nv_core.specs.declared.hold.Hold.TheVariants as hold
+use Rattle.nv_core.specs.declared.job.Owed.{Owed}
+use Rattle.nv_core.specs.declared.job.Owed.TheVariants as owed
+use Rattle.nv_core.specs.declared.next.Ending.{Ending}
+use Rattle.nv_core.specs.declared.next.Ending.TheVariants as ending
+use Rattle.nv_core.specs.declared.next.Next.{Next}
+use Rattle.nv_core.specs.declared.next.Next.TheVariants as next
+use Rattle.nv_core.specs.declared.running.Running.{Running}
+use Rattle.nv_core.specs.declared.shared.Shared.{Shared}
+use Rattle.nv_core.specs.declared.slots.Slots.{Slots}
+use Rattle.nv_core.specs.declared.turn.Turn.{Turn}
+use Rattle.nv_core.specs.declared.turn.Turn.TheVariants as turn
+
+-- ---- what is shared
+
+abbrev pub shared_of : Shared → machine.Shared
+shared_of shared = record {
+  lists = shared.lists.items;
+  pool = shared.pool;
+  cells = map (λ (c : CellValue). c.state) shared.cells.items;
+  owners = shared.owners.items;
+  book = shared.book.state;
+  holder = shared.holder;
+}
+
+-- ---- hands
+
+-- a hand, and the parts that its commit killed and has not retired
+abbrev pub hand_with : List (List KilledPart) → Hand → machine.HandState
+hand_with killed hand = record {
+  blocks = hand.data.blocks;
+  pages = hand.pages.blocks;
+  chain = hand.chain;
+  ino = hand.ino;
+  killed = killed;
+}
+
+abbrev pub hand_of : Hand → machine.HandState
+hand_of hand = hand_with [] hand
+
+-- what the publishes of a commit killed, of those inodes whose turn to be retired is still to come
+abbrev pub killed_in : CommitValue → List (List KilledPart)
+killed_in commit = map (λ p. p.killed) (drop commit.retired (take commit.published commit.plans))
+
+abbrev pub hand_in : CommitValue → machine.HandState
+hand_in commit = hand_with (killed_in commit) commit.hand
+
+-- ---- calls
+
+-- what a running call of the machine has that the code has used up, or keeps in its commit
+pub record Told : Type 0 where
+  pub call : Call
+  pub plan : List Planned
+  pub commit : ℕ
+  pub epoch : ℕ
+
+abbrev pub next_of : Next → machine.Next
+next_of next.Number = machine.Number
+next_of (next.Look place) = machine.Look place
+next_of (next.Lock place) = machine.Lock place
+next_of next.Check = machine.Check
+next_of (next.TakeBlocks asked) = machine.TakeBlocks asked
+next_of (next.TakePages asked) = machine.TakePages asked
+next_of next.Ready = machine.Ready
+next_of (next.Unlock place) = machine.Unlock place
+next_of (next.Give cpu) = machine.Give cpu
+next_of next.Back = machine.Back
+next_of next.Visit = machine.Visit
+
+abbrev pub ending_of : Ending → machine.Ending
+ending_of ending.Answers = machine.Answers
+ending_of (ending.Refuses fault) = machine.Refuses fault
+ending_of ending.Overtaken = machine.Overtaken
+
+-- the numbers of the slots, by rising number
+abbrev pub slots_in : Slots → List ℕ
+slots_in slots = take slots.count slots.inos
+
+-- a running call before that step
+abbrev pub shown_at : machine.Next → Told → Running → machine.Running
+shown_at next told running = record {
+  call = told.call;
+  next = next;
+  ending = ending_of running.ending;
+  looked = running.looked;
+  rounds = running.rounds;
+  slots = slots_in running.slots;
+  made = running.made;
+  wanted = running.wanted;
+  plan = told.plan;
+  commit = told.commit;
+  epoch = told.epoch;
+}
+
+-- one that is not made ready, or whose commit is over
+abbrev pub shown : Told → Running → machine.Running
+shown told running = shown_at (next_of running.next) told running
+
+-- one that is ready
+abbrev pub shown_ready : Told → Running → machine.Running
+shown_ready told running = shown_at machine.Enter told running
+
+-- ---- commits
+
+abbrev pub machine_step : CommitStep → CommitValue → machine.Next
+machine_step step.Append commit = machine.Append commit.appended
+machine_step step.Open commit = machine.Open
+machine_step step.Publish commit = machine.Publish commit.published
+machine_step step.Close commit = machine.Close
+machine_step step.Retire commit = machine.Retire commit.retired
+machine_step step.Leave commit = machine.Leave
+
+-- the step of a commit that comes next
+abbrev pub commit_next : CommitValue → machine.Next
+commit_next commit = machine_step (step_of commit) commit
+
+abbrev pub shown_commit : CommitValue → Told → Running → machine.Running
+shown_commit commit told running = shown_at (commit_next commit) told running
+
+-- ---- what an actor holds
+
+-- what is in the hand, whoever has it
+abbrev pub held_by : Hold → machine.HandState
+held_by (hold.Hand hand) = hand_of hand
+held_by (hold.Ready ready) = hand_of ready.hand
+held_by (hold.Commit commit) = hand_in commit
+
+-- the running call before its next step
+abbrev pub shown_by : Hold → Told → Running → machine.Running
+shown_by (hold.Hand hand) told running = shown told running
+shown_by (hold.Ready ready) told running = shown_ready told running
+shown_by (hold.Commit commit) told running = shown_commit commit told running
+
+-- ---- what is answered
+
+-- the answer that is owed, where a new inode has this handle
+abbrev pub answered : Owed → Handle → Answer
+answered owed.Made made = answers.Made made
+answered (owed.Count count) made = answers.Count count
+answered owed.Nothing made = answers.Nothing
+
+-- ---- turns
+
+-- a turn, with what is shared, the hand and the call after it
+abbrev pub turn_of : Turn → machine.Shared → machine.HandState → machine.Running → machine.Turn
+turn_of turn.Moves s h r = machine.Moves s h r
+turn_of turn.Waits s h r = machine.Waits
+turn_of (turn.Ends result) s h r = machine.Ends result s h

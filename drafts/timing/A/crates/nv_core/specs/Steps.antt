@@ -1,0 +1,107 @@
+-- What a step is given by the laws of the machine, beside what is told of its call.
+use Rattle.std.specs.Prelude.{Some, ◌≡◌, ℕ, ◌+◌, ◌<◌, ◌≤◌, ◌%◌, ◌⊎◌, false, true, [], length, None, slice_index_or}
+use Rattle.std.specs.List.{AllByRecursion}
+use Rattle.std.specs.Option.{ForSome}
+use Rattle.nv_alloc.specs.Block.{AreSized, numbers_of}
+use Rattle.nv_alloc.specs.Hand.{blocks_of}
+use Rattle.nv_alloc.specs.Numbers.{has, times}
+use Rattle.nv_alloc.specs.declared.hand.Hand.{Hand}
+use Rattle.nv_base.specs.Limits.{IsWithinLimits}
+use Rattle.nv_book.specs.Book.{after_enter}
+use Rattle.nv_base.specs.declared.limits.TheConstants.{NUMBER}
+use Rattle.nv_calls.specs.CanCommit.{TakesCommit}
+use Rattle.nv_calls.specs.Cells.{value_at}
+use Rattle.nv_calls.specs.Commit.{stamp_of}
+use Rattle.nv_calls.specs.Locked.{handles}
+use Rattle.nv_calls.specs.Prepared.{HasNumberFor, makes}
+use Rattle.nv_calls.specs.Progress.{step_of}
+use Rattle.nv_calls.specs.Ready.{ReadyValue}
+use Rattle.nv_calls.specs.declared.progress.CommitStep.TheVariants.{Leave}
+use Rattle.nv_calls.specs.SlotCells.{lent_cells}
+use Rattle.nv_calls.specs.Updates.{blank_call}
+use Rattle.nv_cell.specs.Cell.{CellValue, log_of}
+use Rattle.nv_machine.specs.Effects.{IsSoundIn}
+use Rattle.nv_machine.specs.World.{empty_hand, list_at}
+use Rattle.nv_core.specs.Nodes.{CanRead}
+use Rattle.nv_core.specs.Parts.{AreGiven, AreHome, AreSlots, AreStill, IsOfDevice}
+use Rattle.nv_core.specs.Rooms.{hand_held}
+use Rattle.nv_core.specs.Shown.{hand_of, shared_of, slots_in}
+use Rattle.nv_core.specs.Told.{IsChangeWith}
+use Rattle.nv_core.specs.Visits.{HasOwnBytes}
+use Rattle.nv_core.specs.declared.hold.Hold.{Hold}
+use Rattle.nv_core.specs.declared.hold.Hold.TheVariants as hold
+use Rattle.nv_core.specs.declared.next.Ending.TheVariants as ending
+use Rattle.nv_core.specs.declared.next.Next.{Next}
+use Rattle.nv_core.specs.declared.next.Next.TheVariants as next
+use Rattle.nv_core.specs.declared.running.Running.{Running}
+use Rattle.nv_core.specs.declared.shared.Shared.{Shared}
+
+-- before its check a call holds all cells that it reads, none of which has entries past its tail, and has nothing in its hand but
+-- the number of a new inode, whose slot is empty
+pub record CanBeChecked (shared : Shared) (hand : Hand) (running : Running) : Type 0 where
+  pub still : AreStill shared (slots_in running.slots)
+  pub empty : blocks_of hand ≡ []
+  pub inside : ForSome hand.ino (λ ino. ino < length shared.cells.items)
+  pub read : IsChangeWith (λ u. CanRead shared (slots_in running.slots) (handles running.looked (blank_call u))) running.job
+  pub number : IsChangeWith (λ u. (hand.ino ≡ None) × (makes u ≡ true)
+      ⊎ HasNumberFor (lent_cells (slots_in running.slots) shared.cells.items) (makes u) hand.ino) running.job
+
+-- the hand has no block that was at home on a lower CPU, and none that is free
+pub record CanGive (shared : Shared) (hand : Hand) (home : ℕ) : Type 0 where
+  pub cpu : home < shared.geometry.numbers.cpus
+  pub given : AreGiven shared.geometry.numbers home (blocks_of hand)
+  pub sized : AreSized shared.geometry.numbers.block (blocks_of hand)
+  pub once : (n : ℕ) → times n (numbers_of (blocks_of hand)) + times n (numbers_of (list_at (shared_of shared) home).blocks) ≤ 1
+
+-- the number in the hand is that of a slot, and not in the pool
+pub record CanPutBack (shared : Shared) (hand : Hand) : Type 0 where
+  pub inode : ForSome hand.ino (λ ino. ino < shared.pool.inodes)
+  pub absent : ForSome hand.ino (λ ino. has shared.pool.numbers ino ≡ false)
+
+-- where nobody commits, the cells take a commit of the next number, and no journal is open
+pub record CanEnter (shared : Shared) (running : Running) (ready : ReadyValue) (actor : ℕ) : Type 0 where
+  pub take : AllByRecursion (λ p. TakesCommit (stamp_of (after_enter actor shared.book.state))
+      (value_at (lent_cells (slots_in running.slots) shared.cells.items) p.at)) ready.plans
+  pub cpu : actor % length shared.lists.items < length shared.book.state.journals
+  pub closed : slice_index_or shared.book.state.journals (actor % length shared.lists.items) [] ≡ []
+
+-- before it is made ready a call is to be answered, and the logs of the cells that it holds are sound
+pub record CanGetReady (shared : Shared) (running : Running) : Type 0 where
+  pub answers : running.ending ≡ ending.Answers
+  pub sound : AllByRecursion (λ (c : ℕ × CellValue). IsSoundIn c.1.state (log_of c.1.state))
+      (lent_cells (slots_in running.slots) shared.cells.items)
+
+-- what the next step of a call is given that has its hand alone
+abbrev pub Given : Next → Shared → Hand → Running → Type 0
+Given next.Number shared hand running = hand.ino ≡ None
+Given (next.Lock place) shared hand running = place < length (slots_in running.slots)
+Given next.Check shared hand running = CanBeChecked shared hand running
+Given next.Ready shared hand running = CanGetReady shared running
+Given (next.Unlock place) shared hand running = place < length (slots_in running.slots)
+Given (next.Give cpu) shared hand running = CanGive shared hand cpu
+Given next.Back shared hand running = CanPutBack shared hand
+Given next.Visit shared hand running =
+    (slots_in running.slots ≡ []) × ((ino : ℕ) → HasOwnBytes (shared_of shared) ino) × (hand_of hand ≡ empty_hand)
+Given other shared hand running = Unit {0}
+
+abbrev pub GivenBy : Shared → Hold → Running → ℕ → Type 0
+GivenBy shared (hold.Hand hand) running actor = Given running.next shared hand running
+GivenBy shared (hold.Ready ready) running actor = shared.holder ≡ None → shared.book.state.commit < NUMBER
+    → CanEnter shared running ready actor
+GivenBy shared (hold.Commit commit) running actor = shared.holder ≡ Some actor
+
+-- WHAT EVERY STEP OF AN ACTOR'S CALL IS GIVEN
+pub record CanStep (shared : Shared) (hold : Hold) (running : Running) (actor : ℕ) : Type 0 where
+  pub limits : IsWithinLimits shared.geometry.numbers
+  pub actors : actor < shared.geometry.numbers.actors
+  pub home : AreHome shared
+  pub device : IsOfDevice shared.geometry.numbers (hand_held hold)
+  pub slots : AreSlots shared (slots_in running.slots)
+  pub wide : length shared.owners.items ≡ length shared.cells.items
+  pub own : GivenBy shared hold running actor
+
+-- the next step passes the hand on: the call is made ready, it enters, or its commit leaves
+abbrev pub PassesOn : Hold → Running → Type 0
+PassesOn (hold.Hand hand) running = running.next ≡ next.Ready
+PassesOn (hold.Ready ready) running = Unit {0}
+PassesOn (hold.Commit commit) running = step_of commit ≡ Leave

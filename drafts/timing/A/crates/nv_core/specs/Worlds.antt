@@ -1,0 +1,125 @@
+-- When a world shows one of the machine.
+use Rattle.std.specs.Prelude.{◌≡◌, ◌≢◌, replicate, ℕ, ◌<◌, Bool, List, [], ◌∷◌, length, map, Option, Some, None, slice_index_or}
+use Rattle.nv_base.specs.Limits.{IsWithinLimits}
+use Rattle.nv_machine.specs.Format.{formatted}
+use Rattle.nv_machine.specs.Step as machine_step
+use Rattle.nv_machine.specs.World as machine
+use Rattle.nv_core.specs.declared.event.Event.{Event}
+use Rattle.nv_core.specs.declared.event.Event.TheVariants as event
+use Rattle.nv_core.specs.declared.event.Reply.{Reply}
+use Rattle.nv_core.specs.declared.event.Reply.TheVariants as reply
+use Rattle.nv_core.specs.declared.hold.Hold.{Hold}
+use Rattle.nv_core.specs.declared.running.Running.{Running}
+use Rattle.nv_core.specs.declared.shared.Shared.{Shared}
+use Rattle.nv_core.specs.declared.world.Actor.{Actor}
+use Rattle.nv_core.specs.Rooms.{HasActorRooms}
+use Rattle.nv_core.specs.Shown.{Told, held_by, shared_of, shown_by, slots_in}
+use Rattle.nv_core.specs.Appends.{IsPlacedBy}
+use Rattle.nv_core.specs.Told.{IsHoldOf, IsToldOf}
+
+-- ---- actors
+
+-- what a running call of the machine has that the code has used up, or keeps in its commit
+abbrev pub told_of : machine.Running → Told
+told_of r = record { call = r.call; plan = r.plan; commit = r.commit; epoch = r.epoch }
+
+-- a running call: but for these, it is what is shown of the code's
+pub record ShowsCall (hold : Hold) (running : Running) (r : machine.Running) : Type 0 where
+  pub shown : shown_by hold (told_of r) running ≡ r
+  pub job : IsToldOf running (told_of r)
+  pub plan : IsHoldOf (slots_in running.slots) hold (told_of r)
+  pub place : IsPlacedBy (slots_in running.slots) hold (told_of r)
+
+abbrev pub ShowsRunning : Hold → Option Running → Option machine.Running → Type 0
+ShowsRunning hold None None = Unit {0}
+ShowsRunning hold (Some running) (Some r) = ShowsCall hold running r
+ShowsRunning hold other shown = ⊥
+
+pub record ShowsActor (actor : Actor) (shown : machine.Actor) : Type 0 where
+  pub hand : held_by actor.hold ≡ shown.hand
+  pub running : ShowsRunning actor.hold actor.running shown.running
+
+-- ---- the world
+
+-- what actors share, and the actors
+pub record WorldState : Type 0 where
+  pub shared : Shared
+  pub actors : List Actor
+
+-- A WORLD SHOWS ONE OF THE MACHINE: what is shared, and each actor
+pub record Shows (w : WorldState) (m : machine.World) : Type 0 where
+  pub numbers : w.shared.geometry.numbers ≡ m.numbers
+  pub shared : shared_of w.shared ≡ m.shared
+  pub count : length w.actors ≡ length m.actors
+  pub each : (k : ℕ) (d : Actor) → k < length w.actors → ShowsActor (slice_index_or w.actors k d) (machine.actor_at m k)
+
+-- ---- events and replies
+
+-- a Go, where the memory that it asks for is granted or not
+abbrev pub event_of : Event → Bool → machine.Event
+event_of (event.Start actor c) granted = machine.Start actor c
+event_of (event.Go actor) granted = machine.Go actor granted
+
+abbrev pub reply_of : Reply → machine.Reply
+reply_of reply.Started = machine.Started
+reply_of reply.Moved = machine.Moved
+reply_of reply.Waits = machine.Waiting
+reply_of (reply.Done answer) = machine.Done answer
+reply_of (reply.Refused fault) = machine.Refused fault
+
+-- an event is replied to as the machine replies, where its memory was granted or refused, and leads to what shows its world
+pub record IsStep (m : machine.World) (e : Event) (reply : Reply) (after : WorldState) : Type 0 where
+  pub granted : Bool
+  pub reply_is : reply_of reply ≡ (machine_step.step m (event_of e granted)).reply
+  pub shows : Shows after (machine_step.step m (event_of e granted)).world
+
+-- the same of several events
+abbrev pub events_of : List Event → List Bool → List machine.Event
+events_of [] grants = []
+events_of (e ∷ events) [] = []
+events_of (e ∷ events) (granted ∷ grants) = event_of e granted ∷ events_of events grants
+
+pub record IsRun (m : machine.World) (events : List Event) (replies : List Reply) (after : WorldState) : Type 0 where
+  pub grants : List Bool
+  pub count : length grants ≡ length events
+  pub replies_are : map reply_of replies ≡ machine_step.replies m (events_of events grants)
+  pub shows : Shows after (machine_step.after m (events_of events grants))
+
+-- ---- the invariant
+
+-- a world shows the machine's after these events from a new one, so that the machine's laws hold of it; and there is room
+-- for what its calls are about to do
+pub record IsWorldAfter (w : WorldState) (m : machine.World) (events : List machine.Event) : Type 0 where
+  pub limits : IsWithinLimits w.shared.geometry.numbers
+  pub reached : m ≡ machine_step.after (formatted w.shared.geometry.numbers) events
+  pub shows : Shows w m
+  pub rooms : (k : ℕ) (d : Actor) → k < length w.actors
+      → HasActorRooms w.shared (slice_index_or w.actors k d).hold (slice_index_or w.actors k d).running
+
+-- WHAT HOLDS OF EVERY WORLD: there is one of the machine that it shows
+abbrev pub IsWorld : WorldState → Type 0
+IsWorld w = (m : machine.World) × (events : List machine.Event) × IsWorldAfter w m events
+
+-- ---- for those who hold a world
+
+-- a world, where there is one, shows one of the machine
+abbrev pub ShowsAny : Option WorldState → Option machine.World → Type 0
+ShowsAny None None = Unit {0}
+ShowsAny (Some w) (Some m) = Shows w m
+ShowsAny other shown = ⊥
+
+-- whatever world of the machine is shown at first, it leads to one that is shown after
+abbrev pub Leads : (machine.World → machine.World → Type 0) → WorldState → WorldState → Type 0
+Leads To old new = (m : machine.World) → Shows old m → (n : machine.World) × To m n × Shows new n
+
+-- the events by which an actor's call goes on, each with the memory that it asks for granted or refused
+abbrev pub gos : ℕ → List Bool → List machine.Event
+gos actor grants = map (machine.Go actor) grants
+
+-- more steps than any call has
+abbrev pub most_goes : ℕ
+most_goes = 1048576
+
+-- no call is moved so often
+abbrev pub IsBounded : machine.World → Type 0
+IsBounded m = (actor : ℕ) (grants : List Bool) → machine_step.replies m (gos actor grants) ≢ replicate most_goes machine.Moved

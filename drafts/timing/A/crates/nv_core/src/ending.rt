@@ -1,0 +1,156 @@
+//! How a call goes on, and how it ends.
+
+ghost use Rattle.std.specs.Prelude.{◌≡◌, ◌≢◌, None};
+ghost use Rattle.nv_machine.specs.Kinds.{again_turn, blocks_in, end_turn, over_turn, refuse, rest_turn, result_by};
+ghost use Rattle.nv_machine.specs.Reads.{home_from};
+ghost use Rattle.nv_machine.specs.World as machine;
+ghost use Rattle.nv_core.specs.Parts.{AreHome, IsOfDevice};
+ghost use Rattle.nv_core.specs.Rooms.{CanEnd, HasRoomsAfter, IsHandOf};
+ghost use Rattle.nv_core.specs.Shown.{Told, ending_of, hand_of, shared_of, shown, slots_in, turn_of};
+ghost use Rattle.nv_core.specs.Told.{IsOwed, KeepsJob, OwesAt};
+
+use crate::hold::Hold;
+use crate::next::{Ending, Next};
+use crate::running::Running;
+use crate::shared::Shared;
+use crate::turn::Turn;
+use nv_alloc::Hand;
+use nv_base::Fault;
+use nv_calls::Answer;
+
+/// What the call is answered at its last step.
+pub(crate) fn result_of(running: &Running) -> Result<Answer, Fault>
+    ensures { (told : Told) → OwesAt running.now.ending running.now told
+        → result ≡ result_by (ending_of running.now.ending) (shown told running.now) }
+{
+    match running.ending {
+        Ending::Answers => Ok(running.owed.answer(running.made)),
+        Ending::Refuses(fault) => Err(fault),
+        Ending::Overtaken => Err(Fault::Contended),
+    }
+}
+
+/// Blocks go home, CPU by CPU, and then a number goes back. Where nothing is left, the step replies.
+pub(crate) fn give_back(shared: &Shared, hand: &Hand, running: &mut Running) -> Turn
+    requires home { AreHome shared.now }
+    requires device { IsOfDevice shared.now.geometry.numbers hand.now }
+    requires call { CanEnd running.old running.old.ending }
+    requires sized { IsHandOf shared.now.geometry.numbers hand.now }
+    ensures turn { (told : Told) → OwesAt running.old.ending running.old told
+        → let s = shared_of shared.now in let h = hand_of hand.now in
+        rest_turn (home_from 0 0 s.lists (blocks_in h)) h.ino s h (shown told running.old)
+        ≡ turn_of result s h (shown told running.new) }
+    ensures job { KeepsJob running.old running.new }
+    ensures slots { running.new.slots ≡ running.old.slots }
+    ensures goes { result ≢ Turn.Waits }
+    ensures rooms { HasRoomsAfter result shared.now (Hold.Hand hand.now) running.new }
+{
+    match hand.lowest_home(&shared.geometry) {
+        Some(cpu) => {
+            running.next = Next::Give(cpu);
+            Turn::Moves
+        }
+        None => give_number(hand, running),
+    }
+}
+
+/// All blocks are at home: a number goes back. Where there is none, the step replies.
+fn give_number(hand: &Hand, running: &mut Running) -> Turn
+    ensures turn { (told : Told) (s : machine.Shared) → OwesAt running.old.ending running.old told
+        → let h = hand_of hand.now in rest_turn None h.ino s h (shown told running.old)
+        ≡ turn_of result s h (shown told running.new) }
+    ensures job { KeepsJob running.old running.new }
+    ensures slots { running.new.slots ≡ running.old.slots }
+    ensures goes { result ≢ Turn.Waits }
+    ensures rooms { (s : Shared) → CanEnd running.old running.old.ending
+        → IsHandOf s.geometry.numbers hand.now
+        → HasRoomsAfter result s (Hold.Hand hand.now) running.new }
+{
+    match hand.ino() {
+        Some(_) => {
+            running.next = Next::Back;
+            Turn::Moves
+        }
+        None => Turn::Ends(result_of(running)),
+    }
+}
+
+/// Nothing is locked: the next round of looks comes, if there is one, or what is in the hand goes back.
+pub(crate) fn end_unlocked(shared: &Shared, hand: &Hand, running: &mut Running) -> Turn
+    requires home { AreHome shared.now }
+    requires device { IsOfDevice shared.now.geometry.numbers hand.now }
+    requires call { CanEnd running.old running.old.ending }
+    requires sized { IsHandOf shared.now.geometry.numbers hand.now }
+    ensures turn { (told : Told) → OwesAt running.old.ending running.old told
+        → let s = shared_of shared.now in let h = hand_of hand.now in
+        over_turn (ending_of running.old.ending) s h (shown told running.old)
+        ≡ turn_of result s h (shown told running.new) }
+    ensures job { KeepsJob running.old running.new }
+    ensures slots { running.new.slots ≡ running.old.slots }
+    ensures goes { result ≢ Turn.Waits }
+    ensures rooms { HasRoomsAfter result shared.now (Hold.Hand hand.now) running.new }
+{
+    match running.ending {
+        Ending::Answers | Ending::Refuses(_) => give_back(shared, hand, running),
+        Ending::Overtaken => again(running),
+    }
+}
+
+/// The next round of looks, if there is one.
+fn again(running: &mut Running) -> Turn
+    ensures turn { (told : Told) (s : machine.Shared) (h : machine.HandState)
+        → again_turn running.old.rounds s h (shown told running.old)
+        ≡ turn_of result s h (shown told running.new) }
+    ensures job { KeepsJob running.old running.new }
+    ensures slots { running.new.slots ≡ running.old.slots }
+    ensures goes { result ≢ Turn.Waits }
+    ensures rooms { (s : Shared) (h : Hand) → CanEnd running.old Ending.Overtaken
+        → IsHandOf s.geometry.numbers h → HasRoomsAfter result s (Hold.Hand h) running.new }
+{
+    if running.rounds == 0 {
+        return Turn::Ends(Err(Fault::Contended));
+    }
+    running.rounds -= 1;
+    running.ending = Ending::Answers;
+    running.next = Next::Look(0);
+    Turn::Moves
+}
+
+/// The call turns to its last steps, of which the first is to unlock what it has locked.
+pub(crate) fn end(shared: &Shared, hand: &Hand, running: &mut Running, ending: Ending) -> Turn
+    requires home { AreHome shared.now }
+    requires device { IsOfDevice shared.now.geometry.numbers hand.now }
+    requires call { CanEnd running.old ending }
+    requires sized { IsHandOf shared.now.geometry.numbers hand.now }
+    ensures turn { (told : Told) → OwesAt ending running.old told
+        → let s = shared_of shared.now in let h = hand_of hand.now in
+        end_turn (slots_in running.old.slots) (ending_of ending) s h (shown told running.old)
+        ≡ turn_of result s h (shown told running.new) }
+    ensures job { KeepsJob running.old running.new }
+    ensures slots { running.new.slots ≡ running.old.slots }
+    ensures goes { result ≢ Turn.Waits }
+    ensures rooms { HasRoomsAfter result shared.now (Hold.Hand hand.now) running.new }
+{
+    running.ending = ending;
+    if running.slots.len() > 0 {
+        running.next = Next::Unlock(0);
+        return Turn::Moves;
+    }
+    end_unlocked(shared, hand, running)
+}
+
+/// The call is refused, and turns to its last steps.
+pub(crate) fn refuse(shared: &Shared, hand: &Hand, running: &mut Running, fault: Fault) -> Turn
+    requires home { AreHome shared.now }
+    requires device { IsOfDevice shared.now.geometry.numbers hand.now }
+    requires call { CanEnd running.old (Ending.Refuses fault) }
+    requires sized { IsHandOf shared.now.geometry.numbers hand.now }
+    ensures turn { (told : Told) → let s = shared_of shared.now in let h = hand_of hand.now in
+        refuse fault s h (shown told running.old) ≡ turn_of result s h (shown told running.new) }
+    ensures job { KeepsJob running.old running.new }
+    ensures slots { running.new.slots ≡ running.old.slots }
+    ensures goes { result ≢ Turn.Waits }
+    ensures rooms { HasRoomsAfter result shared.now (Hold.Hand hand.now) running.new }
+{
+    end(shared, hand, running, Ending::Refuses(fault))
+}

@@ -1,0 +1,258 @@
+//! The check of a call over the cells that it holds.
+
+ghost use Rattle.std.specs.Prelude.{◌≢◌, ◌≡◌, ◌+◌, ◌<◌, ◌≤◌, ◌^◌, IfOk, [], length, option_map, true};
+ghost use Rattle.std.specs.Option.{ForSome};
+ghost use Rattle.nv_alloc.specs.Hand.{blocks_of};
+ghost use Rattle.nv_base.specs.Limits.{IsWithinLimits};
+ghost use Rattle.nv_base.specs.Refusals.{FailsOnly};
+ghost use Rattle.nv_base.specs.declared.fault.Fault.TheVariants.{OutOfMemory};
+ghost use Rattle.nv_base.specs.declared.limits.TheConstants.{BLOCK_BYTES};
+ghost use Rattle.nv_calls.specs.AllCalls.{blocks_wanted, looked};
+ghost use Rattle.nv_calls.specs.Nodes.{nodes_in};
+ghost use Rattle.nv_calls.specs.Prepared.{makes};
+ghost use Rattle.nv_calls.specs.SlotCells.{lent_cells};
+ghost use Rattle.nv_calls.specs.Updates.{blank_call};
+ghost use Rattle.nv_machine.specs.Kinds.{check_turn, wants_blocks};
+ghost use Rattle.nv_machine.specs.Reads.{copies, has_last_page};
+ghost use Rattle.nv_machine.specs.Step.{ending_at, made_in, same_looked, with_made};
+ghost use Rattle.nv_core.specs.Nodes.{ends_over, wanted_over};
+ghost use Rattle.nv_core.specs.Parts.{AreHome, AreSlots, HaveSlots, IsOfDevice};
+ghost use Rattle.nv_core.specs.Rooms.{FitsCall, HasRoomsAfter, IsHandOf, WantsBlocks};
+ghost use Rattle.nv_core.specs.Shown.{Told, ending_of, hand_of, shared_of, shown, slots_in, turn_of};
+ghost use Rattle.nv_core.specs.Steps.{CanBeChecked};
+ghost use Rattle.nv_core.specs.Told.{IsChangeWith, IsEither, IsToldOf, KeepsJob, is_change};
+
+use crate::ending::{end, refuse};
+use crate::hold::Hold;
+use crate::kinds::take::want_pages;
+use crate::next::{Ending, Next};
+use crate::running::Running;
+use crate::shared::Shared;
+use crate::slots::Slots;
+use crate::turn::Turn;
+use nv_alloc::Hand;
+use nv_base::Fault;
+use nv_calls::{
+    HeldNodes, Looked, Nodes, SlotCells, Update, blocks_wanted, check_early, check_late,
+    ends_in_page, is_as_looked, is_nothing,
+};
+use nv_cell::InodeCell;
+
+/// How many more log pages a call can need than data blocks: each of these in a run of its own has an entry, and
+/// there are at most four more entries.
+const MORE_PAGES: u64 = 4;
+
+/// Tests the call, and settles how many blocks it takes. The hand gets room for them.
+pub(crate) fn check(shared: &mut Shared, hand: &mut Hand, running: &mut Running) -> Turn
+    requires change { is_change running.old.job ≡ true }
+    requires limits { IsWithinLimits shared.old.geometry.numbers }
+    requires home { AreHome shared.old }
+    requires device { IsOfDevice shared.old.geometry.numbers hand.old }
+    requires sized { IsHandOf shared.old.geometry.numbers hand.old }
+    requires call { FitsCall running.old }
+    requires can { CanBeChecked shared.old hand.old running.old }
+    ensures turn { (told : Told) → IsToldOf running.old told
+        → let block = shared.old.geometry.numbers.block in let s = shared_of shared.old in
+        let h = hand_of hand.old in let r = shown told running.old in
+        IsEither (λ granted. check_turn (ending_at block s h r) granted
+        (blocks_wanted block (copies s) (has_last_page block s r.call) r.call) block s h
+        (with_made s h r))
+        (turn_of result (shared_of shared.new) (hand_of hand.new) (shown told running.new)) }
+    ensures job { KeepsJob running.old running.new }
+    ensures goes { result ≢ Turn.Waits }
+    ensures rest { shared.new ≡ shared.old }
+    ensures rooms { HasRoomsAfter result shared.new (Hold.Hand hand.new) running.new }
+{
+    note_made(shared, hand, running);
+    if let Some(ending) = ending_of(shared, running, hand.ino().is_some()) {
+        return end(shared, hand, running, ending);
+    }
+    let wanted = wanted_by(shared, running);
+    if let Err(fault) = make_room(hand, wanted) {
+        return refuse(shared, hand, running, fault);
+    }
+    want_blocks(shared, hand, running, wanted)
+}
+
+/// A new inode is to have the handle of the number in the hand.
+fn note_made(shared: &Shared, hand: &Hand, running: &mut Running)
+    requires { ForSome hand.now.ino (λ ino. ino < length shared.now.cells.items) }
+    ensures { running.new ≡ record running.old {
+      made = made_in (shared_of shared.now) hand.now.ino running.old.made;
+    } }
+{
+    if let Some(ino) = hand.ino() {
+        running.made = shared.handle_of(ino);
+    }
+}
+
+/// Whether the check ends the call, and how.
+fn ending_of(shared: &mut Shared, running: &Running, has_number: bool) -> Option<Ending>
+    requires slots { AreSlots shared.old (slots_in running.now.slots) }
+    requires some_bytes { 0 < shared.old.geometry.numbers.block }
+    requires few_bytes { shared.old.geometry.numbers.block ≤ BLOCK_BYTES }
+    requires change { is_change running.now.job ≡ true }
+    ensures same { shared.new ≡ shared.old }
+    ensures ends { let lent = lent_cells (slots_in running.now.slots) shared.old.cells.items in
+        let block = shared.old.geometry.numbers.block in
+        IsChangeWith (λ u. option_map ending_of result
+        ≡ ends_over block (nodes_in lent) running.now.looked has_number u) running.now.job }
+{
+    let block = shared.block();
+    let update = &running.plan().update;
+    ending_in(
+        block,
+        &mut shared.cells,
+        &running.slots,
+        &running.looked,
+        update,
+        has_number,
+    )
+}
+
+/// The same over the cells of the call's slots.
+fn ending_in(
+    block: u64,
+    cells: &mut [InodeCell],
+    slots: &Slots,
+    before: &Looked,
+    update: &Update,
+    has_number: bool,
+) -> Option<Ending>
+    requires slots { HaveSlots cells.old (slots_in slots.now) }
+    requires some_bytes { 0 < block }
+    requires few_bytes { block ≤ BLOCK_BYTES }
+    ensures same { cells.new ≡ cells.old }
+    ensures ends { let lent = lent_cells (slots_in slots.now) cells.old in
+        option_map ending_of result
+        ≡ ends_over block (nodes_in lent) before.now has_number update.now }
+{
+    let slots = slots.as_slice();
+    let lent = SlotCells { cells, slots };
+    ending_over(block, &HeldNodes::new(&lent), before, update, has_number)
+}
+
+/// The same over nodes.
+fn ending_over<N: Nodes>(
+    block: u64,
+    nodes: &N,
+    before: &Looked,
+    update: &Update,
+    has_number: bool,
+) -> Option<Ending>
+    requires some_bytes { 0 < block }
+    requires few_bytes { block ≤ BLOCK_BYTES }
+    ensures { option_map ending_of result
+        ≡ ends_over block (N.nodes_of nodes.now) before.now has_number update.now }
+{
+    if let Err(fault) = check_early(nodes, update) {
+        return Some(Ending::Refuses(fault));
+    }
+    if !is_same(nodes, before, update) {
+        return Some(Ending::Overtaken);
+    }
+    if let Err(fault) = check_late(block, nodes, before, update) {
+        return Some(Ending::Refuses(fault));
+    }
+    if !has_number && makes_inode(update) {
+        return Some(Ending::Refuses(Fault::NoInode));
+    }
+    if is_nothing(update) {
+        Some(Ending::Answers)
+    } else {
+        None
+    }
+}
+
+/// Whether the names of a call still lead to what its looks found.
+fn is_same<N: Nodes>(nodes: &N, before: &Looked, update: &Update) -> bool
+    ensures { result
+        ≡ same_looked (looked (N.nodes_of nodes.now) (blank_call update.now)) before.now }
+{
+    is_as_looked(nodes, before, update)
+}
+
+fn makes_inode(update: &Update) -> bool
+    ensures { result ≡ makes update.now }
+{
+    matches!(update, Update::Create { .. } | Update::Mkdir { .. })
+}
+
+/// How many data blocks the call takes.
+fn wanted_by(shared: &mut Shared, running: &Running) -> u64
+    requires slots { AreSlots shared.old (slots_in running.now.slots) }
+    requires some_bytes { 0 < shared.old.geometry.numbers.block }
+    requires few_bytes { shared.old.geometry.numbers.block ≤ BLOCK_BYTES }
+    requires change { is_change running.now.job ≡ true }
+    ensures same { shared.new ≡ shared.old }
+    ensures wanted { let lent = lent_cells (slots_in running.now.slots) shared.old.cells.items in
+        let block = shared.old.geometry.numbers.block in
+        IsChangeWith (λ u. result ≡ wanted_over block lent u) running.now.job }
+{
+    let block = shared.block();
+    wanted_in(
+        block,
+        &mut shared.cells,
+        &running.slots,
+        &running.plan().update,
+    )
+}
+
+/// The same over the cells of the call's slots.
+fn wanted_in(block: u64, cells: &mut [InodeCell], slots: &Slots, update: &Update) -> u64
+    requires slots { HaveSlots cells.old (slots_in slots.now) }
+    requires some_bytes { 0 < block }
+    requires few_bytes { block ≤ BLOCK_BYTES }
+    ensures same { cells.new ≡ cells.old }
+    ensures wanted { result
+        ≡ wanted_over block (lent_cells (slots_in slots.now) cells.old) update.now }
+{
+    let slots = slots.as_slice();
+    let lent = SlotCells { cells, slots };
+    let nodes = HeldNodes::new(&lent);
+    let present = ends_in_page(block, &nodes, update);
+    blocks_wanted(block, &nodes, present, update)
+}
+
+/// Makes room in the hand for what is to be taken: for data blocks, and for the log pages that these may need.
+fn make_room(hand: &mut Hand, blocks: u64) -> Result<(), Fault>
+    requires { blocks < 2 ^ 32 }
+    ensures hand { hand.new ≡ record hand.old {
+      «data» = record hand.old.data { room = hand.new.data.room };
+      pages = record hand.old.pages { room = hand.new.pages.room };
+    } }
+    ensures ok { IfOk result
+        (λ _. (blocks ≤ hand.new.data.room) × (blocks + 4 ≤ hand.new.pages.room)) }
+    ensures err { FailsOnly OutOfMemory result }
+{
+    hand.data.reserve(blocks)?;
+    hand.pages.reserve(blocks + MORE_PAGES)
+}
+
+/// The call wants data blocks, and log pages after them. A taking of nothing has no step.
+fn want_blocks(shared: &mut Shared, hand: &Hand, running: &mut Running, wanted: u64) -> Turn
+    requires limits { IsWithinLimits shared.old.geometry.numbers }
+    requires home { AreHome shared.old }
+    requires device { IsOfDevice shared.old.geometry.numbers hand.now }
+    requires sized { IsHandOf shared.old.geometry.numbers hand.now }
+    requires call { FitsCall running.old }
+    requires empty { blocks_of hand.now ≡ [] }
+    requires room { wanted ≤ hand.now.data.room }
+    requires pages { wanted + 4 ≤ hand.now.pages.room }
+    requires can { WantsBlocks wanted shared.old hand.now running.old }
+    ensures turn { (told : Told) → IsToldOf running.old told
+        → let s = shared_of shared.old in let h = hand_of hand.now in
+        wants_blocks wanted shared.old.geometry.numbers.block s h (shown told running.old)
+        ≡ turn_of result s h (shown told running.new) }
+    ensures job { KeepsJob running.old running.new }
+    ensures goes { result ≢ Turn.Waits }
+    ensures same { shared.new ≡ shared.old }
+    ensures rooms { HasRoomsAfter result shared.new (Hold.Hand hand.now) running.new }
+{
+    running.wanted = wanted;
+    if wanted == 0 {
+        return want_pages(shared, hand, running);
+    }
+    running.next = Next::TakeBlocks(0);
+    Turn::Moves
+}

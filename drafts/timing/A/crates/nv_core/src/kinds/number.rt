@@ -1,0 +1,59 @@
+//! The number of a new inode is taken.
+
+ghost use Rattle.std.specs.Prelude.{◌≡◌, ◌≢◌, None, false, length, true};
+ghost use Rattle.nv_machine.specs.Kinds.{go_on, number_turn};
+ghost use Rattle.nv_machine.specs.Reads.{slots_of};
+ghost use Rattle.nv_machine.specs.World as machine;
+ghost use Rattle.nv_core.specs.Rooms.{FitsCall, HasRooms, HasRoomsAfter, takes};
+ghost use Rattle.nv_core.specs.Shown.{Told, hand_of, shared_of, shown, turn_of};
+ghost use Rattle.nv_core.specs.Told.{IsToldOf, KeepsJob, makes_inode};
+
+use crate::hold::Hold;
+use crate::running::{Running, locking, slots_of};
+use crate::shared::Shared;
+use crate::turn::Turn;
+use nv_alloc::Hand;
+use nv_base::Ino;
+
+/// Takes the lowest free number into the hand. That there is none is told at the check.
+pub(crate) fn number(shared: &mut Shared, hand: &mut Hand, running: &mut Running) -> Turn
+    requires rooms { HasRooms shared.old (Hold.Hand hand.old) running.old }
+    requires makes { makes_inode running.old.job ≡ true }
+    requires none { hand.old.ino ≡ None }
+    ensures turn { (told : Told) → IsToldOf running.old told → let s = shared_of shared.old in
+        number_turn s.pool.numbers s (hand_of hand.old) (shown told running.old)
+        ≡ turn_of result (shared_of shared.new) (hand_of hand.new) (shown told running.new) }
+    ensures job { KeepsJob running.old running.new }
+    ensures goes { result ≢ Turn.Waits }
+    ensures rooms { HasRoomsAfter result shared.new (Hold.Hand hand.new) running.new }
+    ensures rest { shared.new ≡ record shared.old { pool = shared.new.pool } }
+{
+    match shared.pool.take() {
+        Some(ino) => {
+            hand.put_ino(ino);
+            go_on(shared.inodes(), running, Some(ino))
+        }
+        None => go_on(shared.inodes(), running, None),
+    }
+}
+
+/// It is known which slots the call locks, with this number among them.
+fn go_on(inodes: u64, running: &mut Running, number: Option<Ino>) -> Turn
+    requires call { FitsCall running.old }
+    requires makes { makes_inode running.old.job ≡ true }
+    ensures turn { (told : Told) (s : machine.Shared) (h : machine.HandState)
+        → IsToldOf running.old told → length s.cells ≡ inodes → let r = shown told running.old in
+        go_on machine.Number s h (record r { slots = slots_of s number r.looked r.call })
+        ≡ turn_of result s h (shown told running.new) }
+    ensures job { KeepsJob running.old running.new }
+    ensures fits { FitsCall running.new }
+    ensures none { takes running.new.next ≡ false }
+    ensures moves { result ≡ Turn.Moves }
+{
+    let update = &running.plan().update;
+    let slots = slots_of(inodes, number, update, &running.looked);
+    let next = locking(0, &slots);
+    running.slots = slots;
+    running.next = next;
+    Turn::Moves
+}

@@ -1,0 +1,193 @@
+//! Blocks are taken from a list.
+
+ghost use Rattle.std.specs.Prelude.{◌≡◌, ◌≢◌, ◌+◌, ◌-◌, ◌%◌, ◌<◌, ◌≤◌, ◌^◌, length, min};
+ghost use Rattle.nv_machine.specs.Kinds.{asked_list, refuse, take_blocks_turn, take_pages_turn, wants_pages};
+ghost use Rattle.nv_machine.specs.Reads.{pages_wanted, plan_by};
+ghost use Rattle.nv_base.specs.declared.fault.Fault.TheVariants.{NoSpace};
+ghost use Rattle.nv_base.specs.Limits.{IsWithinLimits};
+ghost use Rattle.nv_core.specs.Parts.{AreHome, IsOfDevice};
+ghost use Rattle.nv_core.specs.Rooms.{CanEnd, CanWantPages, FitsCall, HasRooms, HasRoomsAfter, IsHandOf, pages_to_take};
+ghost use Rattle.nv_core.specs.Shown.{Told, hand_of, shared_of, shown, slots_in, turn_of};
+ghost use Rattle.nv_machine.specs.World.{list_at};
+ghost use Rattle.nv_core.specs.Takings.{IsTaken};
+ghost use Rattle.nv_core.specs.Told.{IsChangeWith, IsToldOf, KeepsJob};
+
+use crate::ending::refuse;
+use crate::hold::Hold;
+use crate::lent_take::pages_in;
+use crate::next::{Ending, Next};
+use crate::running::Running;
+use crate::shared::Shared;
+use crate::turn::Turn;
+use nv_alloc::{BlockQueue, Hand};
+use nv_base::Fault;
+
+/// The call wants log pages. A taking of nothing has no step.
+pub(crate) fn want_pages(shared: &mut Shared, hand: &Hand, running: &mut Running) -> Turn
+    requires limits { IsWithinLimits shared.old.geometry.numbers }
+    requires home { AreHome shared.old }
+    requires device { IsOfDevice shared.old.geometry.numbers hand.now }
+    requires sizes { IsHandOf shared.old.geometry.numbers hand.now }
+    requires call { FitsCall running.old }
+    requires can { CanWantPages shared.old hand.now running.old }
+    ensures shared { shared.new ≡ shared.old }
+    ensures turn { (told : Told) → IsToldOf running.old told → let s = shared_of shared.old in
+        let h = hand_of hand.now in let r = shown told running.old in
+        wants_pages (pages_wanted s r.slots (plan_by shared.old.geometry.numbers.block s h r)) s h r
+        ≡ turn_of result s h (shown told running.new) }
+    ensures job { KeepsJob running.old running.new }
+    ensures goes { result ≡ Turn.Moves }
+    ensures rooms { HasRoomsAfter result shared.new (Hold.Hand hand.now) running.new }
+{
+    running.wanted = pages_by(shared, hand, running);
+    if running.wanted == 0 {
+        running.next = Next::Ready;
+        return Turn::Moves;
+    }
+    running.next = Next::TakePages(0);
+    Turn::Moves
+}
+
+/// How many log pages the call wants.
+fn pages_by(shared: &mut Shared, hand: &Hand, running: &Running) -> u64
+    requires limits { IsWithinLimits shared.old.geometry.numbers }
+    requires device { IsOfDevice shared.old.geometry.numbers hand.now }
+    requires sizes { IsHandOf shared.old.geometry.numbers hand.now }
+    requires can { CanWantPages shared.old hand.now running.now }
+    ensures same { shared.new ≡ shared.old }
+    ensures wanted { let slots = slots_in running.now.slots in IsChangeWith
+        (λ u. result ≡ pages_to_take shared.old slots hand.now u) running.now.job }
+{
+    pages_in(&mut shared.cells, &running.slots, running.plan(), hand)
+}
+
+/// Takes data blocks from one list, its lowest.
+pub(crate) fn take_blocks(
+    shared: &mut Shared,
+    hand: &mut Hand,
+    running: &mut Running,
+    actor: u64,
+    asked: u64,
+) -> Turn
+    requires limits { IsWithinLimits shared.old.geometry.numbers }
+    requires home { AreHome shared.old }
+    requires device { IsOfDevice shared.old.geometry.numbers hand.old }
+    requires rooms { HasRooms shared.old (Hold.Hand hand.old) running.old }
+    requires next { running.old.next ≡ Next.TakeBlocks asked }
+    requires small { actor + asked < 2 ^ 64 - 1 }
+    ensures turn { (told : Told) → IsToldOf running.old told → let s = shared_of shared.old in
+        take_blocks_turn (asked_list (length s.lists) actor asked) asked
+        shared.old.geometry.numbers.block s (hand_of hand.old) (shown told running.old)
+        ≡ turn_of result (shared_of shared.new) (hand_of hand.new) (shown told running.new) }
+    ensures job { KeepsJob running.old running.new }
+    ensures goes { result ≢ Turn.Waits }
+    ensures rooms { HasRoomsAfter result shared.new (Hold.Hand hand.new) running.new }
+    ensures rest { shared.new ≡ record shared.old { lists = shared.new.lists } }
+    ensures count { length shared.new.lists.items ≡ length shared.old.lists.items }
+{
+    let left = running.wanted - take_from(shared, &mut hand.data, running.wanted, actor + asked);
+    if left == 0 {
+        return want_pages(shared, hand, running);
+    }
+    ask_on(
+        shared,
+        hand,
+        running,
+        asked,
+        left,
+        Next::TakeBlocks(asked + 1),
+    )
+}
+
+/// Takes log pages from one list, its lowest blocks.
+pub(crate) fn take_pages(
+    shared: &mut Shared,
+    hand: &mut Hand,
+    running: &mut Running,
+    actor: u64,
+    asked: u64,
+) -> Turn
+    requires limits { IsWithinLimits shared.old.geometry.numbers }
+    requires home { AreHome shared.old }
+    requires device { IsOfDevice shared.old.geometry.numbers hand.old }
+    requires rooms { HasRooms shared.old (Hold.Hand hand.old) running.old }
+    requires next { running.old.next ≡ Next.TakePages asked }
+    requires small { actor + asked < 2 ^ 64 - 1 }
+    ensures turn { (told : Told) → let s = shared_of shared.old in
+        take_pages_turn (asked_list (length s.lists) actor asked) asked s (hand_of hand.old)
+        (shown told running.old)
+        ≡ turn_of result (shared_of shared.new) (hand_of hand.new) (shown told running.new) }
+    ensures job { KeepsJob running.old running.new }
+    ensures goes { result ≢ Turn.Waits }
+    ensures rooms { HasRoomsAfter result shared.new (Hold.Hand hand.new) running.new }
+    ensures rest { shared.new ≡ record shared.old { lists = shared.new.lists } }
+    ensures count { length shared.new.lists.items ≡ length shared.old.lists.items }
+{
+    let left = running.wanted - take_from(shared, &mut hand.pages, running.wanted, actor + asked);
+    if left == 0 {
+        running.wanted = 0;
+        running.next = Next::Ready;
+        return Turn::Moves;
+    }
+    ask_on(
+        shared,
+        hand,
+        running,
+        asked,
+        left,
+        Next::TakePages(asked + 1),
+    )
+}
+
+/// Takes the lowest blocks of the list at a place, counted from the first one round and round, and
+/// says how many.
+fn take_from(shared: &mut Shared, queue: &mut BlockQueue, wanted: u64, place: u64) -> u64
+    requires limits { IsWithinLimits shared.old.geometry.numbers }
+    requires home { AreHome shared.old }
+    requires room { wanted ≤ queue.old.room }
+    requires size { queue.old.size ≡ shared.old.geometry.numbers.block }
+    ensures taken { let cpu = place % length shared.old.lists.items in
+        IsTaken shared.old.geometry.numbers.blocks wanted cpu (list_at (shared_of shared.old) cpu)
+        shared.old.lists.items shared.new.lists.items queue.old queue.new }
+    ensures many { result ≡ min wanted
+        (length (list_at (shared_of shared.old) (place % length shared.old.lists.items)).blocks) }
+    ensures rest { shared.new ≡ record shared.old { lists = shared.new.lists } }
+{
+    let cpu = shared.cpu_of(place) as usize;
+    let list = &mut shared.lists[cpu];
+    // What a list has free is at home there.
+    let _free = list.len();
+    list.take(wanted, queue)
+}
+
+/// Some blocks are still wanted: the next list is asked, if there is one.
+fn ask_on(
+    shared: &Shared,
+    hand: &Hand,
+    running: &mut Running,
+    asked: u64,
+    left: u64,
+    next: Next,
+) -> Turn
+    requires small { asked < 2 ^ 64 - 1 }
+    requires home { AreHome shared.now }
+    requires device { IsOfDevice shared.now.geometry.numbers hand.now }
+    requires call { CanEnd running.old (Ending.Refuses NoSpace) }
+    requires sized { IsHandOf shared.now.geometry.numbers hand.now }
+    ensures more { asked + 1 < length shared.now.lists.items → (result ≡ Turn.Moves)
+        × (running.new ≡ record running.old { wanted = left; next = next }) }
+    ensures none { (told : Told) → length shared.now.lists.items ≤ asked + 1
+        → let s = shared_of shared.now in let h = hand_of hand.now in
+        refuse NoSpace s h (shown told running.old) ≡ turn_of result s h (shown told running.new) }
+    ensures job { KeepsJob running.old running.new }
+    ensures goes { result ≢ Turn.Waits }
+    ensures rooms { length shared.now.lists.items ≤ asked + 1
+        → HasRoomsAfter result shared.now (Hold.Hand hand.now) running.new }
+{
+    if asked + 1 < shared.lists.len() as u64 {
+        running.wanted = left;
+        running.next = next;
+        return Turn::Moves;
+    }
+    refuse(shared, hand, running, Fault::NoSpace)
+}

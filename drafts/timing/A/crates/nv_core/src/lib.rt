@@ -1,0 +1,35 @@
+//! The world of atomic steps: files and directories, which any number of actors change at once.
+//!
+//! An actor starts a call, and each `Go` of that actor makes one step of it. Between two steps of a call any other
+//! actor may make steps. What is shared lies behind locks: a cell for each inode slot, and the book. A free list or
+//! the pool of inode numbers is held for one step alone.
+#![tactic(auto)]
+
+mod bounded;
+mod ending;
+mod event;
+mod fill;
+mod format;
+mod hold;
+mod job;
+mod kinds;
+mod lent;
+mod lent_open;
+mod lent_ready;
+mod lent_retire;
+mod lent_take;
+mod next;
+mod reports;
+mod running;
+mod shared;
+mod slots;
+mod step;
+mod tree;
+mod turn;
+mod world;
+
+pub use event::{Event, Reply};
+pub use nv_calls::{Answer, Call};
+pub use nv_entry::{Path, Tree, TreeNode};
+pub use reports::{Lists, LogCounts, Space};
+pub use world::World;

@@ -1,0 +1,254 @@
+//! What a world reports of its blocks and logs.
+
+ghost use Rattle.std.specs.Prelude.{◌≡◌, ◌⊎◌, ◌<◌, ◌≤◌, ◌^◌, ℕ, IfErr, IfOk, Some, is_some, length, slice_get, slice_index_or};
+ghost use Rattle.std.specs.List.{sum_by};
+ghost use Rattle.nv_alloc.specs.Block.{numbers_of};
+ghost use Rattle.nv_alloc.specs.Runs.{runs_of};
+ghost use Rattle.nv_base.specs.Refusals.{FailsOnly};
+ghost use Rattle.nv_base.specs.declared.fault.Fault.TheVariants.{OutOfMemory, Stale};
+ghost use Rattle.nv_machine.specs.Numbers.{IsEachOnce, all_blocks};
+ghost use Rattle.nv_machine.specs.World as machine;
+ghost use Rattle.nv_cell.specs.Cell.{log_of};
+ghost use Rattle.nv_entry.specs.Covered.{part_count};
+ghost use Rattle.nv_core.specs.Reports.{AddsUp, block_at, chain_in, counts_in, free_in, is_kept, kept_at, kept_in, lists_of, log_at, one_of, space_in, space_of};
+ghost use Rattle.nv_core.specs.Shown.{shared_of};
+ghost use Rattle.nv_core.specs.Worlds.{Shows};
+
+use crate::World;
+use crate::shared::Shared;
+use nv_alloc::{FreeList, FreeRun};
+use nv_base::{Epoch, Fault, Ino, Items};
+use nv_book::Book;
+use nv_cell::{InodeCell, Mark, PageCounts};
+use nv_entry::{Entry, PartId};
+use std::alloc::Global;
+
+/// Where the blocks of the device are; all together they are its blocks.
+#[derive(Clone, Copy, Debug, PartialEq, Eq)]
+pub struct Space {
+    /// Blocks in free lists.
+    pub free: u64,
+    /// Pages of logs.
+    pub chain: u64,
+    /// Data blocks that are current or held by a living snapshot.
+    pub data: u64,
+    /// Data blocks whose record is deferred.
+    pub pending: u64,
+    /// All others.
+    pub hand: u64,
+}
+
+/// The free blocks of each CPU, as maximal runs.
+pub type Lists = Items<Items<FreeRun>>;
+
+/// A log in numbers: its entries up to the tail, and the counts of each of its pages.
+#[derive(Debug, Drop)]
+pub struct LogCounts {
+    pub entries: usize,
+    pub pages: Items<PageCounts>,
+}
+
+impl World {
+    /// Where the blocks are. Takes no memory, and time by all blocks.
+    pub fn space(&self) -> Space
+        ensures { (m : machine.World) → Shows self.now m → result ≡ space_of m }
+    {
+        self.shared.space()
+    }
+
+    /// The free lists, CPU by CPU. `OutOfMemory` where room for them was refused.
+    pub fn lists(&self) -> Result<Lists, Fault>
+        ensures ok { (m : machine.World) → Shows self.now m
+            → IfOk result (λ lists. lists ≡ lists_of m.shared) }
+        ensures err { FailsOnly OutOfMemory result }
+    {
+        let mut lists = Vec::with_capacity(self.alloc, self.shared.lists.len())?;
+        for list in &self.shared.lists {
+            lists.push(Items::from_vec(runs_in(self.alloc, list)?))?;
+        }
+        Ok(Items::from_vec(lists))
+    }
+
+    /// The log of a slot in numbers. `Stale` where there is no such slot, before `OutOfMemory`.
+    pub fn log(&self, ino: Ino) -> Result<LogCounts, Fault>
+        ensures ok { (m : machine.World) → Shows self.now m
+            → IfOk result (λ log. (ino < length m.shared.cells) × (log ≡ log_at m.shared ino)) }
+        ensures err { (m : machine.World) → Shows self.now m → IfErr result (λ fault.
+            ((fault ≡ Stale) × (length m.shared.cells ≤ ino))
+            ⊎ ((fault ≡ OutOfMemory) × (ino < length m.shared.cells))) }
+    {
+        let place = ino.number() as usize;
+        if place >= self.shared.cells.len() {
+            return Err(Fault::Stale);
+        }
+        log_counts(self.alloc, &self.shared.cells[place])
+    }
+}
+
+impl Shared {
+    /// Where the blocks are.
+    fn space(&self) -> Space
+        requires { AddsUp self.now.geometry.numbers.blocks (shared_of self.now) }
+        ensures { result ≡ space_in self.now.geometry.numbers.blocks (shared_of self.now) }
+    {
+        let free = free_blocks(&self.lists);
+        let chain = log_pages(&self.cells);
+        let kept = data_blocks(&self.cells, &self.book);
+        let pending = self.book.deferred_blocks();
+        let data = kept.saturating_sub(pending);
+        let hand = self.geometry.numbers.blocks - free - chain - kept;
+        Space {
+            free,
+            chain,
+            data,
+            pending,
+            hand,
+        }
+    }
+}
+
+/// Where each block stands once, it is at one of these places at most.
+fn blocks_add_up()
+    ensures { (blocks : ℕ) (w : machine.World) → IsEachOnce blocks (all_blocks w)
+        → AddsUp blocks w.shared }
+{}
+
+/// A free list as maximal runs.
+fn runs_in(alloc: Global, list: &FreeList) -> Result<Vec<FreeRun>, Fault>
+    ensures ok { IfOk result (λ runs. runs.items ≡ runs_of (numbers_of list.now.blocks)) }
+    ensures err { FailsOnly OutOfMemory result }
+{
+    let runs: Vec<FreeRun> = list.runs().collect(alloc)?;
+    Ok(runs)
+}
+
+/// The log of a cell in numbers.
+fn log_counts(alloc: Global, cell: &InodeCell) -> Result<LogCounts, Fault>
+    ensures ok { IfOk result (λ log. log ≡ counts_in cell.now.state) }
+    ensures err { FailsOnly OutOfMemory result }
+{
+    let count = cell.log().blocks().len();
+    let mut pages = Vec::with_capacity(alloc, count)?;
+    for page in 0..count {
+        pages.push(cell.counts(page))?;
+    }
+    Ok(LogCounts {
+        entries: cell.tail(),
+        pages: Items::from_vec(pages),
+    })
+}
+
+/// How many blocks the lists have.
+fn free_blocks(lists: &[FreeList]) -> u64
+    requires { sum_by free_in lists.now < 2 ^ 64 }
+    ensures { result ≡ sum_by free_in lists.now }
+{
+    let mut count = 0;
+    for list in lists {
+        count += list.len();
+    }
+    count
+}
+
+/// How many pages the logs of these cells have.
+fn log_pages(cells: &[InodeCell]) -> u64
+    requires { sum_by (λ c. chain_in c.state) cells.now < 2 ^ 64 }
+    ensures { result ≡ sum_by (λ c. chain_in c.state) cells.now }
+{
+    let mut count = 0;
+    for cell in cells {
+        count += cell.log().blocks().len() as u64;
+    }
+    count
+}
+
+/// How many blocks these cells keep.
+fn data_blocks(cells: &[InodeCell], book: &Book) -> u64
+    requires { sum_by (λ c. kept_in book.now.state c.state) cells.now < 2 ^ 64 }
+    ensures { result ≡ sum_by (λ c. kept_in book.now.state c.state) cells.now }
+{
+    let mut count = 0;
+    for cell in cells {
+        count += kept_blocks(cell, book);
+    }
+    count
+}
+
+/// How many blocks a cell has for published parts that are current, recorded, or held by a living snapshot.
+fn kept_blocks(cell: &InodeCell, book: &Book) -> u64
+    requires { kept_in book.now.state cell.now.state < 2 ^ 64 }
+    ensures { result ≡ kept_in book.now.state cell.now.state }
+{
+    let log = cell.log().log();
+    let mut count = 0;
+    for place in 0..log.len() {
+        count += kept_of(cell, book, place, &log[place]);
+    }
+    count
+}
+
+/// How many of them are those of one entry.
+fn kept_of(cell: &InodeCell, book: &Book, place: usize, entry: &Entry) -> u64
+    requires { slice_get (log_of cell.now.state) place ≡ Some entry.now }
+    ensures { result ≡ kept_at book.now.state cell.now.state place entry.now }
+{
+    cell.known();
+    let marks = cell.marks_of(place);
+    let mut count = 0;
+    for k in 0..entry.item.part_count() {
+        count += kept_part(cell, book, entry, k, mark_at(marks, k));
+    }
+    count
+}
+
+/// One of some marks.
+fn mark_at(marks: &[Mark], k: u32) -> Mark
+    requires { k < length marks.now }
+    ensures { result ≡ slice_index_or marks.now k Mark.Current }
+{
+    marks[k as usize]
+}
+
+/// How many are that of one part: one or none.
+fn kept_part(cell: &InodeCell, book: &Book, entry: &Entry, k: u32, mark: Mark) -> u64
+    requires { k < part_count entry.now }
+    ensures value { (place : ℕ) → slice_get (log_of cell.now.state) place ≡ Some entry.now
+        → result ≡ one_of book.now.state entry.now.epoch mark (block_at cell.now.state place k) }
+    ensures few { result ≤ 1 }
+{
+    if is_kept(mark, book, entry.epoch) && has_block(cell, entry, k) {
+        1
+    } else {
+        0
+    }
+}
+
+/// Whether a part of an entry has a block.
+fn has_block(cell: &InodeCell, entry: &Entry, k: u32) -> bool
+    requires { k < part_count entry.now }
+    ensures { (place : ℕ) → slice_get (log_of cell.now.state) place ≡ Some entry.now
+        → result ≡ is_some (block_at cell.now.state place k) }
+{
+    cell.known();
+    match entry.item.part_at(k) {
+        Some(part) => {
+            let id = PartId {
+                entry: entry.id,
+                part,
+            };
+            cell.block_of(id).is_some()
+        }
+        None => false,
+    }
+}
+
+/// Whether a part counts as data or as pending. What was killed and not yet retired dies in the present epoch.
+fn is_kept(mark: Mark, book: &Book, birth: Epoch) -> bool
+    ensures { result ≡ is_kept book.now.state birth mark }
+{
+    match mark {
+        Mark::Current | Mark::Kept => true,
+        Mark::Killed => book.snaps().youngest_in(birth, book.epoch()).is_some(),
+        Mark::Out => false,
+    }
+}

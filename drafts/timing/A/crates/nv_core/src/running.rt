@@ -1,0 +1,155 @@
+//! A call that runs.
+
+ghost use Rattle.std.specs.Prelude.{◌≡◌, ◌⊎◌, ◌<◌, ◌+◌, ℕ, List, None, false, length, true};
+ghost use Rattle.nv_calls.specs.Prepared.{makes};
+ghost use Rattle.nv_machine.specs.Reads.{slots_of};
+ghost use Rattle.nv_machine.specs.Sequence.{begun, beginning, locking, looking, nothing_looked};
+ghost use Rattle.nv_machine.specs.World as machine;
+ghost use Rattle.nv_core.specs.Rooms.{FitsCall, FitsNext, HasRooms, IsHandOf, takes};
+ghost use Rattle.nv_core.specs.Shown.{Told, next_of, shared_of, shown, slots_in};
+ghost use Rattle.nv_calls.specs.Updates.{call_of};
+ghost use Rattle.nv_core.specs.Told.{IsChangeBy, IsJobOf, IsToldOf, IsVisitOf, KeepsJob, is_change, looking_at, starting};
+
+use crate::hold::Hold;
+use crate::job::{Job, Owed, job_of, locked, look_count};
+use crate::next::{Ending, Next};
+use crate::shared::Shared;
+use crate::slots::Slots;
+use crate::turn::Turn;
+use nv_alloc::Hand;
+use nv_base::{Gen, Handle, Ino};
+use nv_calls::{Call, Looked, Plan, Update};
+use std::alloc::Global;
+
+/// How many more rounds of looks a call may make after its first.
+const ROUNDS: u64 = 7;
+
+/// A call that runs.
+#[derive(Debug, Drop)]
+pub(crate) struct Running {
+    pub(crate) job: Job,
+    pub(crate) owed: Owed,
+    pub(crate) next: Next,
+    pub(crate) ending: Ending,
+    /// What its looks found.
+    pub(crate) looked: Looked,
+    /// How many more rounds of looks it may make.
+    pub(crate) rounds: u64,
+    /// The slots that it locks.
+    pub(crate) slots: Slots,
+    /// The handle of its new inode, where it makes one.
+    pub(crate) made: Handle,
+    /// How many blocks of a taking it still wants.
+    pub(crate) wanted: u64,
+}
+
+/// The step for a place in the loop of locks, or what comes behind the last.
+pub(crate) fn locking(place: usize, slots: &Slots) -> Next
+    ensures next { next_of result ≡ locking place (slots_in slots.now) }
+    ensures before { (job : Job) → is_change job ≡ true → FitsNext result job }
+    ensures none { takes result ≡ false }
+{
+    if place < slots.len() {
+        return Next::Lock(place);
+    }
+    Next::Check
+}
+
+/// The same in the loop of looks, behind which comes the loop of locks.
+pub(crate) fn looking(place: usize, update: &Update, slots: &Slots) -> Next
+    ensures next { (text : List ℕ) → next_of result
+        ≡ looking_at place (slots_in slots.now) (call_of update.now text) }
+    ensures before { (job : Job) (plan : Plan) → IsChangeBy job plan → plan.update ≡ update.now
+        → FitsNext result job }
+    ensures none { takes result ≡ false }
+{
+    if place < look_count(update) {
+        return Next::Look(place);
+    }
+    locking(0, slots)
+}
+
+/// The slots that a call locks, of so many.
+pub(crate) fn slots_of(inodes: u64, number: Option<Ino>, update: &Update, looked: &Looked) -> Slots
+    requires { makes update.now ≡ false → number ≡ None }
+    ensures { (s : machine.Shared) (text : List ℕ) → length s.cells ≡ inodes
+        → slots_in result ≡ slots_of s number looked.now (call_of update.now text) }
+{
+    let (first, second, third, fourth) = locked(number, update, looked);
+    Slots::none()
+        .with(inodes, fourth)
+        .with(inodes, third)
+        .with(inodes, second)
+        .with(inodes, first)
+}
+
+/// The first step of a call, and the slots that it locks as far as they are known.
+fn first_step(inodes: u64, job: &Job, looked: &Looked) -> (Next, Slots)
+    requires job { (is_change job.now ≡ true) ⊎ IsVisitOf job.now }
+    requires looked { looked.now ≡ nothing_looked }
+    ensures first { (s : machine.Shared) (owed : Owed) (c : Call) → length s.cells ≡ inodes
+        → IsJobOf job.now owed c → let first = begun (beginning c) s c in
+        (next_of result.0 ≡ first.next) × (slots_in result.1 ≡ first.slots) }
+    ensures before { FitsNext result.0 job.now }
+    ensures none { takes result.0 ≡ false }
+{
+    let none = Slots::none();
+    let Job::Change(Plan { update, .. }, _) = job else {
+        return (Next::Visit, none);
+    };
+    match update {
+        Update::Create { .. } | Update::Mkdir { .. } => (Next::Number, none),
+        Update::Unlink { .. } | Update::Rmdir { .. } | Update::Rename { .. } => {
+            (Next::Look(0), none)
+        }
+        Update::Write { .. } | Update::Size { .. } | Update::Mode { .. } => {
+            let slots = slots_of(inodes, None, update, looked);
+            (locking(0, &slots), slots)
+        }
+    }
+}
+
+impl Running {
+    /// A call that starts. Takes no memory.
+    pub(crate) fn started(alloc: Global, shared: &Shared, call: Call) -> Running
+        ensures shown { shown (starting call) result
+            ≡ begun (beginning call) (shared_of shared.now) call }
+        ensures told { IsToldOf result (starting call) }
+        ensures fits { FitsCall result }
+        ensures rooms { (s : Shared) (hand : Hand) → IsHandOf s.geometry.numbers hand
+            → HasRooms s (Hold.Hand hand) result }
+    {
+        let (job, owed) = job_of(alloc, call);
+        let looked = Looked {
+            first: None,
+            second: None,
+        };
+        let (next, slots) = first_step(shared.inodes(), &job, &looked);
+        let made = Handle {
+            ino: Ino::new(0),
+            generation: Gen::new(1),
+        };
+        Running {
+            job,
+            owed,
+            next,
+            ending: Ending::Answers,
+            looked,
+            rounds: ROUNDS,
+            slots,
+            made,
+            wanted: 0,
+        }
+    }
+
+    /// The call that changes nodes, with how many blocks it takes.
+    pub(crate) fn plan(&self) -> &Plan
+        requires { is_change self.now.job ≡ true }
+        ensures { IsChangeBy self.now.job result.now }
+    {
+        match &self.job {
+            Job::Change(plan, _) => plan,
+            Job::Visit(_) | Job::Given => unreachable!(),
+        }
+    }
+}

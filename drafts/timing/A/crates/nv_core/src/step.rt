@@ -1,0 +1,277 @@
+//! The steps of a world.
+
+ghost use Rattle.std.specs.Prelude.{None, Some, ◌≡◌, ◌≢◌, IfErr, IfOk, OnErr, [], vec_capacity};
+ghost use Rattle.nv_base.specs.declared.fault.Fault.TheVariants.{ActorBusy, ActorIdle, NoActor, OutOfMemory};
+ghost use Rattle.nv_machine.specs.World as machine;
+ghost use Rattle.nv_machine.specs.Step as machine_step;
+ghost use Rattle.nv_calls.specs.Progress.{step_of};
+ghost use Rattle.nv_core.specs.Rooms.{HasActorRooms, HasRooms, HasRoomsAfter};
+ghost use Rattle.nv_machine.specs.Sequence.{beginning, begun};
+ghost use Rattle.nv_core.specs.Shown.{shared_of};
+ghost use Rattle.nv_core.specs.Steps.{CanStep, PassesOn};
+ghost use Rattle.nv_core.specs.Turns.{CanGo, HasTurned, IsTurn, LeavesOthers};
+ghost use Rattle.nv_core.specs.Worlds.{IsRun, IsStep, Shows, ShowsCall, ShowsRunning};
+
+use crate::hold::Hold;
+use crate::kinds::append::append;
+use crate::kinds::back::back;
+use crate::kinds::check::check;
+use crate::kinds::close::close;
+use crate::kinds::enter::enter;
+use crate::kinds::give::give;
+use crate::kinds::leave::leave;
+use crate::kinds::lock::lock;
+use crate::kinds::look::look;
+use crate::kinds::number::number;
+use crate::kinds::open::open;
+use crate::kinds::publish::publish;
+use crate::kinds::ready::ready;
+use crate::kinds::retire::retire;
+use crate::kinds::take::{take_blocks, take_pages};
+use crate::kinds::unlock::unlock;
+use crate::kinds::visit::visit;
+use crate::next::Next;
+use crate::running::Running;
+use crate::shared::Shared;
+use crate::turn::Turn;
+use crate::world::{Actor, World};
+use crate::{Event, Reply};
+use nv_alloc::Hand;
+use nv_base::Fault;
+use nv_calls::{Call, Commit, CommitStep};
+use std::alloc::{AllocError, Global};
+use std::mem;
+
+impl World {
+    /// One event. A `Go` makes one step of the actor's call.
+    pub fn step(&mut self, event: Event) -> Reply
+        ensures { (m : machine.World) → Shows self.old m → IsStep m event result self.new }
+    {
+        match event {
+            Event::Start(actor, call) => self.start(actor, call),
+            Event::Go(actor) => self.go(actor),
+        }
+    }
+
+    /// Several events, one after another, each as `step` makes it. The replies stand in the order of the events.
+    ///
+    /// Room for the replies is made before the first event. Want of it hands the events back, and nothing has changed.
+    pub fn run(&mut self, events: Vec<Event>) -> Result<Vec<Reply>, (Fault, Vec<Event>)>
+        ensures ok { (m : machine.World) → Shows self.old m
+            → IfOk result (λ replies. IsRun m events.items replies.items self.new) }
+        ensures err { IfErr result (λ refused. (refused.0 ≡ OutOfMemory)
+            × (refused.1.items ≡ events.items)) }
+        ensures same { OnErr result (self.new ≡ self.old) }
+    {
+        let Ok(mut replies) = self.no_replies(events.len()) else {
+            return Err((Fault::OutOfMemory, events));
+        };
+        for event in events {
+            replies.push_reserved(self.step(event));
+        }
+        Ok(replies)
+    }
+
+    /// No replies, with room for so many.
+    fn no_replies(&self, room: usize) -> Result<Vec<Reply>, AllocError>
+        ensures empty { IfOk result (λ replies. replies.items ≡ []) }
+        ensures room { IfOk result (λ replies. vec_capacity replies ≡ room) }
+    {
+        Vec::with_capacity(self.alloc, room)
+    }
+
+    fn start(&mut self, actor: u64, call: Call) -> Reply
+        ensures { (m : machine.World) → Shows self.old m
+            → IsStep m (Event.Start actor call) result self.new }
+    {
+        let Some(state) = self.actors.get_mut(actor as usize) else {
+            return nobody(call);
+        };
+        begin(self.alloc, &self.shared, state, call)
+    }
+
+    fn go(&mut self, actor: u64) -> Reply
+        ensures { (m : machine.World) → Shows self.old m
+            → IsStep m (Event.Go actor) result self.new }
+    {
+        match self.actors.get_mut(actor as usize) {
+            Some(state) => go_on(self.alloc, &mut self.shared, state, actor),
+            None => Reply::Refused(Fault::NoActor),
+        }
+    }
+}
+
+/// There is no actor for the call.
+fn nobody(_call: Call) -> Reply
+    ensures { result ≡ Reply.Refused NoActor }
+{
+    Reply::Refused(Fault::NoActor)
+}
+
+/// An actor without a call starts one.
+fn begin(alloc: Global, shared: &Shared, state: &mut Actor, call: Call) -> Reply
+    requires rooms { HasActorRooms shared.now state.old.hold state.old.running }
+    ensures busy { (running : Running) → state.old.running ≡ Some running
+        → (result ≡ Reply.Refused ActorBusy) × (state.new ≡ state.old) }
+    ensures starts { state.old.running ≡ None → (result ≡ Reply.Started)
+        × (state.new.hold ≡ state.old.hold)
+        × ShowsRunning state.new.hold state.new.running
+        (Some (begun (beginning call) (shared_of shared.now) call)) }
+    ensures rooms { HasActorRooms shared.now state.new.hold state.new.running }
+{
+    if state.running.is_some() {
+        return Reply::Refused(Fault::ActorBusy);
+    }
+    state.running = Some(Running::started(alloc, shared, call));
+    Reply::Started
+}
+
+/// The call of an actor goes on by one step.
+fn go_on(alloc: Global, shared: &mut Shared, state: &mut Actor, actor: u64) -> Reply
+    requires can { CanGo shared.old state.old.hold state.old.running actor }
+    requires rooms { HasActorRooms shared.old state.old.hold state.old.running }
+    ensures idle { state.old.running ≡ None → (result ≡ Reply.Refused ActorIdle)
+        × (shared.new ≡ shared.old) × (state.new ≡ state.old) }
+    ensures turns { (running : Running) (r : machine.Running) → state.old.running ≡ Some running
+        → ShowsCall state.old.hold running r
+        → HasTurned actor shared.old state.old.hold running r result shared.new state.new }
+    ensures rooms { HasActorRooms shared.new state.new.hold state.new.running }
+    ensures rest { (running : Running) (r : machine.Running) → state.old.running ≡ Some running
+        → ShowsCall state.old.hold running r → LeavesOthers actor r shared.old shared.new }
+{
+    let Actor { hold, running } = state;
+    let Some(call) = running else {
+        return Reply::Refused(Fault::ActorIdle);
+    };
+    let done = turn(alloc, shared, hold, call, actor);
+    if done.ends() {
+        forget(running);
+    }
+    done.reply()
+}
+
+/// No call runs any more.
+fn forget(running: &mut Option<Running>)
+    ensures { running.new ≡ None }
+{
+    *running = None;
+}
+
+/// The step of a call that comes next.
+fn turn(
+    alloc: Global,
+    shared: &mut Shared,
+    hold: &mut Hold,
+    running: &mut Running,
+    actor: u64,
+) -> Turn
+    requires can { CanStep shared.old hold.old running.old actor }
+    requires rooms { HasRooms shared.old hold.old running.old }
+    ensures turn { (r : machine.Running) → ShowsCall hold.old running.old r
+        → IsTurn actor shared.old hold.old r result shared.new hold.new running.new }
+    ensures waits { result ≡ Turn.Waits
+        → (shared.new ≡ shared.old) × (hold.new ≡ hold.old) × (running.new ≡ running.old) }
+    ensures rooms { HasRoomsAfter result shared.new hold.new running.new }
+    ensures rest { (r : machine.Running) → ShowsCall hold.old running.old r
+        → LeavesOthers actor r shared.old shared.new }
+{
+    match hold {
+        Hold::Hand(hand) => match running.next {
+            Next::Ready => pass_on(alloc, shared, hold, running, actor),
+            _ => alone(shared, hand, running, actor),
+        },
+        Hold::Ready(_) => pass_on(alloc, shared, hold, running, actor),
+        Hold::Commit(commit) => {
+            if commit.step() == CommitStep::Leave {
+                return pass_on(alloc, shared, hold, running, actor);
+            }
+            commit_step(shared, running, commit, actor);
+            Turn::Moves
+        }
+    }
+}
+
+/// A step of a call whose hand is with the actor alone.
+fn alone(shared: &mut Shared, hand: &mut Hand, running: &mut Running, actor: u64) -> Turn
+    requires apart { running.old.next ≢ Next.Ready }
+    requires can { CanStep shared.old (Hold.Hand hand.old) running.old actor }
+    requires rooms { HasRooms shared.old (Hold.Hand hand.old) running.old }
+    ensures turn { (r : machine.Running) → ShowsCall (Hold.Hand hand.old) running.old r
+        → IsTurn actor shared.old (Hold.Hand hand.old) r result shared.new (Hold.Hand hand.new)
+        running.new }
+    ensures waits { result ≡ Turn.Waits
+        → (shared.new ≡ shared.old) × ((Hold.Hand hand.new) ≡ (Hold.Hand hand.old))
+        × (running.new ≡ running.old) }
+    ensures rooms { HasRoomsAfter result shared.new (Hold.Hand hand.new) running.new }
+    ensures rest { (r : machine.Running) → ShowsCall (Hold.Hand hand.old) running.old r
+        → LeavesOthers actor r shared.old shared.new }
+{
+    match running.next {
+        Next::Number => number(shared, hand, running),
+        Next::Look(place) => look(shared, hand, running, place),
+        Next::Lock(place) => lock(shared, running, actor, place),
+        Next::Check => check(shared, hand, running),
+        Next::TakeBlocks(asked) => take_blocks(shared, hand, running, actor, asked),
+        Next::TakePages(asked) => take_pages(shared, hand, running, actor, asked),
+        Next::Ready => unreachable!(),
+        Next::Unlock(place) => unlock(shared, hand, running, place),
+        Next::Give(cpu) => give(shared, hand, running, cpu),
+        Next::Back => back(shared, hand, running),
+        Next::Visit => visit(shared, running),
+    }
+}
+
+/// A step that passes the hand on: it is made ready, it enters, or it leaves.
+fn pass_on(
+    alloc: Global,
+    shared: &mut Shared,
+    hold: &mut Hold,
+    running: &mut Running,
+    actor: u64,
+) -> Turn
+    requires passes { PassesOn hold.old running.old }
+    requires can { CanStep shared.old hold.old running.old actor }
+    requires rooms { HasRooms shared.old hold.old running.old }
+    ensures turn { (r : machine.Running) → ShowsCall hold.old running.old r
+        → IsTurn actor shared.old hold.old r result shared.new hold.new running.new }
+    ensures waits { result ≡ Turn.Waits
+        → (shared.new ≡ shared.old) × (hold.new ≡ hold.old) × (running.new ≡ running.old) }
+    ensures rooms { HasRoomsAfter result shared.new hold.new running.new }
+    ensures rest { (r : machine.Running) → ShowsCall hold.old running.old r
+        → LeavesOthers actor r shared.old shared.new }
+{
+    let empty = Hold::Hand(Hand::new(alloc, &shared.geometry));
+    let (after, turn) = match mem::replace(hold, empty) {
+        Hold::Hand(hand) => ready(alloc, shared, hand, running),
+        Hold::Ready(held) => enter(shared, held, running, actor),
+        Hold::Commit(commit) => {
+            let (hand, turn) = leave(shared, commit, running);
+            (Hold::Hand(hand), turn)
+        }
+    };
+    mem::replace(hold, after).dismantle();
+    turn
+}
+
+/// A step of a commit that is not over.
+fn commit_step(shared: &mut Shared, running: &Running, commit: &mut Commit, actor: u64)
+    requires going { step_of commit.old ≢ CommitStep.Leave }
+    requires can { CanStep shared.old (Hold.Commit commit.old) running.now actor }
+    requires rooms { HasRooms shared.old (Hold.Commit commit.old) running.now }
+    ensures turn { (r : machine.Running) → ShowsCall (Hold.Commit commit.old) running.now r
+        → IsTurn actor shared.old (Hold.Commit commit.old) r Turn.Moves shared.new
+        (Hold.Commit commit.new) running.now }
+    ensures rooms { HasRoomsAfter Turn.Moves shared.new (Hold.Commit commit.new) running.now }
+    ensures rest { (r : machine.Running) → ShowsCall (Hold.Commit commit.old) running.now r
+        → LeavesOthers actor r shared.old shared.new }
+{
+    let cpu = shared.cpu_of(actor);
+    match commit.step() {
+        CommitStep::Append => append(shared, running, commit),
+        CommitStep::Open => open(shared, running, commit, cpu),
+        CommitStep::Publish => publish(shared, running, commit),
+        CommitStep::Close => close(shared, running, commit, cpu),
+        CommitStep::Retire => retire(shared, running, commit),
+        CommitStep::Leave => unreachable!(),
+    }
+}

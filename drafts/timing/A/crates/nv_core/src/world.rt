@@ -1,0 +1,52 @@
+//! A world, and how it is let go.
+
+ghost use Rattle.nv_core.specs.Worlds.{IsWorld, WorldState};
+
+use crate::hold::Hold;
+use crate::running::Running;
+use crate::shared::Shared;
+use std::alloc::Global;
+use std::marker::Model;
+
+/// What is an actor's own: what it holds, and the call that it runs.
+pub(crate) struct Actor {
+    pub(crate) hold: Hold,
+    pub(crate) running: Option<Running>,
+}
+
+/// A world: what actors share, and the actors.
+pub struct World {
+    pub(crate) alloc: Global,
+    pub(crate) shared: Shared,
+    pub(crate) actors: Vec<Actor>,
+}
+
+impl Model for World {
+    ghost Value = { WorldState };
+
+    ghost view = { λ w. record { shared = w.shared; actors = w.actors.items } };
+
+    ghost invariant = { λ w. IsWorld (record { shared = w.shared; actors = w.actors.items }) };
+}
+
+impl Drop for World {
+    /// Each block that the world owns ends here.
+    fn drop(self) {
+        let World {
+            alloc: _,
+            shared,
+            actors,
+        } = self;
+        shared.dismantle();
+        dismantle(actors);
+    }
+}
+
+/// Takes all actors apart with what they hold.
+pub(crate) fn dismantle(mut actors: Vec<Actor>) {
+    while let Some(actor) = actors.pop() {
+        let Actor { hold, running: _ } = actor;
+        hold.dismantle();
+    }
+    actors.destroy_empty();
+}

@@ -1,0 +1,58 @@
+-- What one more entry does to the pairs of a log and to its counts.
+use Rattle.std.specs.Prelude.{◌≡◌, ℕ, zero, suc, ◌+◌, ◌≤◌, ◌&&◌, ◌||◌, Bool, true, not, if◌then◌else◌, List, [], ◌∷◌, ◌++◌, length, map, Some}
+use Rattle.std.specs.List.{AllByRecursion, list_any}
+use Rattle.nv_entry.specs.declared.held.Pair.{Pair}
+use Rattle.nv_entry.specs.declared.item.Entry.{Entry}
+use Rattle.nv_entry.specs.declared.part.Part.{Part}
+use Rattle.nv_entry.specs.declared.part.PartId.{PartId}
+use Rattle.nv_entry.specs.Counts.{is_live, live_of}
+use Rattle.nv_entry.specs.Held.{Retention, is_current, is_named}
+use Rattle.nv_entry.specs.Keys.{covers, key_of, parts_of}
+use Rattle.nv_entry.specs.Log.{pair_of, pairs, pairs_of}
+
+-- the entry kills the pair of another one's part: it is current, and the entry covers its key
+abbrev pub kills : ℕ → Entry → Entry → List Entry → Part → Bool
+kills block e x later part = is_current (pair_of block x later part) && covers block e.item (key_of x.item part)
+
+abbrev pub dead_at : ℕ → Pair → Pair
+dead_at epoch pair = record pair { death = Some epoch }
+
+-- the pair of an entry's part after one more entry
+abbrev pub pair_after : ℕ → Entry → Entry → List Entry → Part → Pair
+pair_after block e x later part =
+    if kills block e x later part then dead_at e.epoch (pair_of block x later part) else pair_of block x later part
+
+-- the pairs of a log after one more entry, without that entry's own
+abbrev pub pairs_after : ℕ → Entry → List Entry → List Pair
+pairs_after block e [] = []
+pairs_after block e (x ∷ later) = map (pair_after block e x later) (parts_of x.item) ++ pairs_after block e later
+
+-- an entry has a current pair that one more entry does not kill
+abbrev pub stays_live : ℕ → Entry → Entry → List Entry → Bool
+stays_live block e x later =
+    list_any (λ part. is_current (pair_of block x later part) && not (kills block e x later part)) (parts_of x.item)
+
+-- how many of the first `count` entries lose their last current pair by one more entry
+abbrev pub died_of : ℕ → Entry → ℕ → List Entry → ℕ
+died_of block e zero log = 0
+died_of block e (suc count) [] = 0
+died_of block e (suc count) (x ∷ later) =
+    (if is_live block x later && not (stays_live block e x later) then 1 else 0) + died_of block e count later
+
+-- one more entry kills the current pairs whose keys it covers and no others, and its own parts are born
+pub record OneMorePairs (block : ℕ) (log : List Entry) (e : Entry) : Type 0 where
+  pub all : pairs block (log ++ e ∷ []) ≡ pairs_after block e log ++ pairs_of block e []
+  pub born : AllByRecursion (λ pair. is_current pair ≡ true) (pairs_of block e [])
+  pub live : (count : ℕ) → count ≤ length log → live_of block count (log ++ e ∷ []) + died_of block e count log ≡ live_of block count log
+
+-- the names of those that are pending and of the pairs that one more entry kills
+abbrev pub NamesKilled : Retention → List PartId → Entry → List Entry → Type 0
+NamesKilled r names e [] = Unit {0}
+NamesKilled r names e (x ∷ later) =
+    AllByRecursion (λ part. is_named names (pair_of r.block x later part)
+    ≡ (is_named r.pending (pair_of r.block x later part) || kills r.block e x later part)) (parts_of x.item)
+    × NamesKilled r names e later
+
+-- the same with other pairs pending
+abbrev pub with_pending : Retention → List PartId → Retention
+with_pending r names = record r { pending = names }

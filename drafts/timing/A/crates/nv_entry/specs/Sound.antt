@@ -1,0 +1,111 @@
+-- Logs that store a node: its bytes stand page by page, with zeros where nothing is.
+use Rattle.std.specs.Prelude.{◌≡◌, ℕ, ◌+◌, ◌-◌, ◌*◌, ◌/◌, ◌<◌, ◌≤◌, if◌then◌else◌, List, [], ◌∷◌, length, replicate, Option, Some, None, slice_index_or}
+use Rattle.std.specs.List.{flat_map, range_with_len}
+use Rattle.nv_base.specs.declared.limits.TheConstants.{FILE_PAGES}
+use Rattle.nv_base.specs.declared.node.Kind.{Kind}
+use Rattle.nv_base.specs.declared.node.Kind.TheVariants.{File, Dir}
+use Rattle.nv_entry.specs.declared.item.Entry.{Entry}
+use Rattle.nv_entry.specs.declared.item.Item.{Item}
+use Rattle.nv_entry.specs.declared.item.Item.TheVariants.{Init, Write, SetSize, SetMode, Bind, Unbind, Gone}
+use Rattle.nv_entry.specs.declared.item.Run.{Run}
+use Rattle.nv_entry.specs.declared.names.BoundName.{BoundName}
+use Rattle.nv_entry.specs.declared.node.NodeCopy.{NodeCopy}
+use Rattle.nv_entry.specs.Bytes.{page_of, pages_touched, written}
+use Rattle.nv_entry.specs.Index.{with_last, without}
+use Rattle.nv_entry.specs.Keys.{in_run, is_page, is_past, pages_for}
+use Rattle.nv_entry.specs.Node.{node_now, page_bytes}
+use Rattle.nv_entry.specs.Stored.{Stored, nothing, stored, stored_after_all}
+
+-- a file has no names, and a directory the size 0
+abbrev pub SuitsKind : Kind → ℕ → List BoundName → Type 0
+SuitsKind File size names = names ≡ []
+SuitsKind Dir size names = size ≡ 0
+
+-- a node is stored, where `bytes` gives those of a block: its bytes are as many as its size says, page p of what is
+-- stored is the p-th page of them, padded with zeros, and the rest is as it is; no page past the size is present,
+-- so that a directory has none
+pub record Stands (bytes : ℕ → List ℕ) (block : ℕ) (s : Stored) (node : NodeCopy) : Type 0 where
+  pub kind : s.kind ≡ Some node.kind
+  pub mode : s.mode ≡ node.mode
+  pub size : s.size ≡ node.size
+  pub length : length node.bytes ≡ node.size
+  pub fits : node.size ≤ FILE_PAGES * block
+  pub pages : (page : ℕ) → page_bytes bytes block (s.blocks page) ≡ page_of block page node.bytes
+  pub within : (page number : ℕ) → s.blocks page ≡ Some number → page < pages_for block node.size
+  pub names : s.names ≡ node.names
+  pub suits : SuitsKind node.kind node.size node.names
+
+-- a node is stored, or nothing is
+abbrev pub Tied : (ℕ → List ℕ) → ℕ → Stored → Option NodeCopy → Type 0
+Tied bytes block s None = s ≡ nothing
+Tied bytes block s (Some node) = Stands bytes block s node
+
+-- what a log has stored is the node that it gives
+abbrev pub IsSound : (ℕ → List ℕ) → ℕ → List Entry → Type 0
+IsSound bytes block log = Tied bytes block (stored block log) (node_now bytes block log)
+
+-- a sound log, and the node that it gives
+pub record Gives (bytes : ℕ → List ℕ) (block : ℕ) (log : List Entry) (node : Option NodeCopy) : Type 0 where
+  pub is : node_now bytes block log ≡ node
+  pub sound : IsSound bytes block log
+
+abbrev pub empty_node : Kind → ℕ → NodeCopy
+empty_node kind mode = record { kind = kind; mode = mode; size = 0; bytes = []; names = [] }
+
+-- the bytes of a page after one more item
+abbrev pub page_after : (ℕ → List ℕ) → ℕ → Item → ℕ → List ℕ → List ℕ
+page_after bytes block (Write first run size) page before = if in_run first run page then bytes (run.start + (page - first)) else before
+page_after bytes block (SetSize size) page before = if is_past block size page then replicate block 0 else before
+page_after bytes block Gone page before = if is_page page then replicate block 0 else before
+page_after bytes block item page before = before
+
+-- an item sets a file's size and some of its pages, the bytes after which are the file's
+pub record Rewrites (bytes : ℕ → List ℕ) (block : ℕ) (item : Item) (size : ℕ) (before after : NodeCopy) : Type 0 where
+  pub file : before.kind ≡ File
+  pub same : after ≡ record before { size = size; bytes = after.bytes }
+  pub length : length after.bytes ≡ size
+  pub fits : size ≤ FILE_PAGES * block
+  pub pages : (page : ℕ) → page_of block page after.bytes ≡ page_after bytes block item page (page_of block page before.bytes)
+
+-- one more item that is lawful, and what it makes of a node: bytes are a file's and names a directory's, and after
+-- a write both its pages and those before it lie below the size
+abbrev pub Makes : (ℕ → List ℕ) → ℕ → Item → Option NodeCopy → Option NodeCopy → Type 0
+Makes bytes block (Init kind mode) None (Some after) = after ≡ empty_node kind mode
+Makes bytes block (Write first run size) (Some node) (Some after) =
+    (first + run.len ≤ pages_for block size) × (pages_for block node.size ≤ pages_for block size)
+    × Rewrites bytes block (Write first run size) size node after
+Makes bytes block (SetSize size) (Some node) (Some after) = Rewrites bytes block (SetSize size) size node after
+Makes bytes block (SetMode mode) (Some node) (Some after) = after ≡ record node { mode = mode }
+Makes bytes block (Bind name to) (Some node) (Some after) = (node.kind ≡ Dir) × (after ≡ record node { names = with_last name to node.names })
+Makes bytes block (Unbind name) (Some node) (Some after) = (node.kind ≡ Dir) × (after ≡ record node { names = without name node.names })
+Makes bytes block Gone (Some node) None = Unit {0}
+Makes bytes block item before after = ⊥
+
+-- several items that are lawful together, and what they make of a node: wherever the one is stored, the other is
+-- after them
+abbrev pub MakesAll : (ℕ → List ℕ) → ℕ → List Item → Option NodeCopy → Option NodeCopy → Type 0
+MakesAll bytes block items before after = (s : Stored) → Tied bytes block s before → Tied bytes block (stored_after_all block items s) after
+
+-- the blocks of runs, in order
+abbrev pub blocks_of : List Run → List ℕ
+blocks_of runs = flat_map (λ run. range_with_len run.start run.len) runs
+
+-- the items of a write from a page on: one for each run, with the size of the file after them all
+abbrev pub write_items : ℕ → List Run → ℕ → List Item
+write_items first [] size = []
+write_items first (run ∷ runs) size = Write first run size ∷ write_items (first + run.len) runs size
+
+-- blocks, one for each page that a text touches, filled with the page's bytes after the write
+pub record HaveText (bytes : ℕ → List ℕ) (block offset : ℕ) (text before blocks : List ℕ) : Type 0 where
+  pub count : length blocks ≡ pages_touched block offset (length text)
+  pub filled : (place : ℕ) → place < length blocks
+      → bytes (slice_index_or blocks place 0) ≡ page_of block (offset / block + place) (written offset text before)
+
+-- a run of such blocks
+pub record HasText (bytes : ℕ → List ℕ) (block offset : ℕ) (text before : List ℕ) (run : Run) : Type 0 where
+  pub count : run.len ≡ pages_touched block offset (length text)
+  pub filled : (place : ℕ) → place < run.len → bytes (run.start + place) ≡ page_of block (offset / block + place) (written offset text before)
+
+-- a node after a write
+abbrev pub rewritten : ℕ → List ℕ → NodeCopy → NodeCopy
+rewritten offset text node = record node { size = length (written offset text node.bytes); bytes = written offset text node.bytes }

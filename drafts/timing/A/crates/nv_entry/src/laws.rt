@@ -1,0 +1,64 @@
+//! Laws of logs, each the contract of a function that does nothing.
+
+ghost use Rattle.std.specs.Prelude.{◌≡◌, ◌↔◌, ℕ, List, [], ◌∷◌, ◌++◌, false, true};
+ghost use Rattle.nv_entry.specs.Clean.{IsDroppable, entries_of, is_droppable};
+ghost use Rattle.nv_entry.specs.Held.{Retention};
+ghost use Rattle.nv_entry.specs.Keys.{Key, is_page_key, parts_of};
+ghost use Rattle.nv_entry.specs.Laws.{IsFast, IsThorough, KeepsReads, OneMore, PartsAreSet, PartsRise, SetsAreParts};
+ghost use Rattle.nv_entry.specs.Log.{IsLog, value_now};
+ghost use Rattle.nv_entry.specs.declared.item.Entry.{Entry};
+ghost use Rattle.nv_entry.specs.declared.item.Item.{Item};
+
+/// Each part of an item is a key that it sets to a value.
+pub fn parts_are_set()
+    ensures { (block : ℕ) (item : Item) → PartsAreSet block item }
+{}
+
+/// Each key that an item sets to a value is that of one of its parts.
+pub fn sets_are_parts()
+    ensures { (block : ℕ) (item : Item) → SetsAreParts block item }
+{}
+
+/// The parts of an item go by kind, mode, size, bound name, and then pages rising.
+pub fn parts_are_in_order()
+    ensures { (item : Item) → PartsRise (parts_of item) }
+{}
+
+/// The size of blocks matters to pages alone: every other key has the same value with any.
+pub fn block_size_matters_to_pages_alone()
+    ensures { (a b : ℕ) (log : List Entry) (key : Key) → is_page_key key ≡ false
+        → value_now a log key ≡ value_now b log key }
+{}
+
+/// One more entry changes each value, the deaths of pairs, the index and the names exactly as that entry
+/// says. The values at earlier epochs stay.
+pub fn one_more_entry()
+    ensures { (block : ℕ) (log : List Entry) (e : Entry) → OneMore block log e }
+{}
+
+/// The test of a droppable entry says that it is one.
+pub fn droppable_is_tested()
+    ensures { (r : Retention) (before : List Entry) (e : Entry) (later : List Entry)
+        → (is_droppable r before e later ≡ true) ↔ IsDroppable r before e later }
+{}
+
+/// The removal of a droppable entry keeps what is read, now and at every epoch whose pairs are all needed or
+/// pending, and the pairs that are current, pending, or held by a living snapshot.
+pub fn removal_keeps_reads()
+    ensures { (r : Retention) (before : List Entry) (e : Entry) (later : List Entry)
+        → IsLog (before ++ e ∷ later) → IsDroppable r before e later
+        → KeepsReads r (before ++ e ∷ later) (before ++ later) }
+{}
+
+/// Thorough cleaning takes out of a log the entries that are droppable, with the earlier removals made, and
+/// no others. It leaves none that is droppable, and keeps what is read.
+pub fn thorough_takes_what_is_droppable()
+    ensures { (r : Retention) (log : List Entry) → IsLog log → IsThorough r log }
+{}
+
+/// Fast cleaning takes out of a log the pages that are droppable throughout, with the earlier pages gone, and
+/// no others, and keeps what is read.
+pub fn fast_takes_what_is_droppable()
+    ensures { (r : Retention) (pages : List (List Entry)) → IsLog (entries_of pages)
+        → IsFast r pages }
+{}

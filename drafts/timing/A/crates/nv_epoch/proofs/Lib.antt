@@ -1,0 +1,5 @@
+pub mod Last
+mod HolderLaws
+mod Places
+mod Sound
+mod Pins

@@ -1,0 +1,53 @@
+-- Which living snapshots hold what was born and died, by the snapshots' numbers alone.
+use Rattle.std.specs.Prelude.{ℕ, ◌<◌, ◌≤◌, ◌==◌, ◌&&◌, Bool, not, nat_le, nat_lt, List, [], ◌∷◌, All, Contains, filter, Option, Some, None, if◌then◌else◌}
+use Rattle.std.specs.List.{last_or}
+
+-- each number is above those before it
+abbrev pub IsRising : List ℕ → Type 0
+IsRising [] = Unit {0}
+IsRising (s ∷ ss) = All (λ t. s < t) ss × IsRising ss
+
+-- the last number of a list that passes the test
+abbrev pub last_that : (ℕ → Bool) → List ℕ → Option ℕ
+last_that passes numbers = last_or None (filter passes numbers)
+
+-- the snapshot s holds what lived from birth to death
+pub record IsHeld (birth death s : ℕ) : Type 0 where
+  pub born : birth ≤ s
+  pub not_dead : s < death
+
+abbrev pub holds : ℕ → ℕ → ℕ → Bool
+holds birth death s = nat_le birth s && nat_lt s death
+
+-- the living snapshots that hold it, oldest first
+abbrev pub holders : List ℕ → ℕ → ℕ → List ℕ
+holders living birth death = filter (holds birth death) living
+
+-- the youngest living snapshot that holds it
+abbrev pub youngest_holder : List ℕ → ℕ → ℕ → Option ℕ
+youngest_holder living birth death = last_that (holds birth death) living
+
+-- s is a holder, and every holder is at most s
+pub record IsYoungestHolder (living : List ℕ) (birth death s : ℕ) : Type 0 where
+  pub lives : Contains living s
+  pub holds_it : IsHeld birth death s
+  pub youngest : (t : ℕ) → Contains living t → IsHeld birth death t → t ≤ s
+
+-- the youngest living snapshot below s
+abbrev pub next_older : List ℕ → ℕ → Option ℕ
+next_older living s = last_that (λ t. nat_lt t s) living
+
+-- t is below s, and every living snapshot below s is at most t
+pub record IsNextOlder (living : List ℕ) (s t : ℕ) : Type 0 where
+  pub lives : Contains living t
+  pub older : t < s
+  pub next : (u : ℕ) → Contains living u → u < s → u ≤ t
+
+-- that snapshot, if it was made no earlier than the birth
+abbrev pub if_born_by : ℕ → Option ℕ → Option ℕ
+if_born_by birth None = None
+if_born_by birth (Some s) = if nat_le birth s then Some s else None
+
+-- the living snapshots once s is removed
+abbrev pub without : ℕ → List ℕ → List ℕ
+without s living = filter (λ t. not (t == s)) living

@@ -1,0 +1,60 @@
+-- What a snapshot list is: the living snapshots with their pins, the epoch, and how many may live.
+use Rattle.std.specs.Prelude.{ℕ, ◌+◌, ◌-◌, ◌<◌, ◌≤◌, ◌==◌, not, List, [], ◌∷◌, ◌++◌, All, length, map, filter, Option, Some, None, if◌then◌else◌}
+use Rattle.nv_base.specs.declared.limits.TheConstants.{NUMBER, PINS}
+use Rattle.nv_epoch.specs.declared.snapshot.Snapshot.{Snapshot}
+use Rattle.nv_epoch.specs.Holders.{IsRising}
+
+-- the living snapshots, oldest first, the current epoch, and the most snapshots that may live
+pub record Snapshots : Type 0 where
+  pub living : List Snapshot
+  pub epoch : ℕ
+  pub most : ℕ
+
+abbrev pub numbers : List Snapshot → List ℕ
+numbers living = map (λ s. s.number) living
+
+abbrev pub ids : Snapshots → List ℕ
+ids list = numbers list.living
+
+-- the pins of the living snapshot s, if it lives
+abbrev pub pins_at : List Snapshot → ℕ → Option ℕ
+pins_at [] s = None
+pins_at (t ∷ ts) s = if t.number == s then Some t.pins else pins_at ts s
+
+abbrev pub pins_of : Snapshots → ℕ → Option ℕ
+pins_of list s = pins_at list.living s
+
+-- numbers rise and lie below the epoch, pins and snapshots are no more than allowed, epochs are 1 to the greatest number
+pub record IsSound (list : Snapshots) : Type 0 where
+  pub rising : IsRising (ids list)
+  pub below_epoch : All (λ s. s < list.epoch) (ids list)
+  pub pins_fit : All (λ (s : Snapshot). s.pins ≤ PINS) list.living
+  pub fits : length list.living ≤ list.most
+  pub some_epoch : 1 ≤ list.epoch
+  pub epoch_fits : list.epoch ≤ NUMBER
+
+-- the current epoch becomes a snapshot without pins, and the next one begins
+abbrev pub after_making : Snapshots → Snapshots
+after_making list = record list {
+  living = list.living ++ (record { number = list.epoch; pins = 0 }) ∷ [];
+  epoch = list.epoch + 1;
+}
+
+abbrev pub living_without : List Snapshot → ℕ → List Snapshot
+living_without living s = filter (λ t. not (t.number == s)) living
+
+abbrev pub after_removal : Snapshots → ℕ → Snapshots
+after_removal list s = record list { living = living_without list.living s }
+
+-- the snapshot s with other pins, and any other snapshot as it is
+abbrev pub repinned : ℕ → (ℕ → ℕ) → Snapshot → Snapshot
+repinned s change t = if t.number == s then record t { pins = change t.pins } else t
+
+abbrev pub with_pins : List Snapshot → ℕ → (ℕ → ℕ) → List Snapshot
+with_pins living s change = map (repinned s change) living
+
+abbrev pub after_pin : Snapshots → ℕ → Snapshots
+after_pin list s = record list { living = with_pins list.living s (λ pins. pins + 1) }
+
+abbrev pub after_unpin : Snapshots → ℕ → Snapshots
+after_unpin list s = record list { living = with_pins list.living s (λ pins. pins - 1) }

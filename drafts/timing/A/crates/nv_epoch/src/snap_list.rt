@@ -1,0 +1,235 @@
+//! The list of the living snapshots.
+
+ghost use Rattle.std.specs.Prelude.{◌≡◌, ◌≢◌, ℕ, ◌+◌, ◌-◌, ◌<◌, ◌≤◌, ◌==◌, ◌↔◌, [], length, slice_index, IsTrue, IsOk, IsSome, IfOk, IfErr, OnOk, OnErr, IfSome, IfNone, Some, None, Contains};
+ghost use Rattle.std.specs.Option.{ForSome, IsSomeAnd};
+ghost use Rattle.nv_base.specs.declared.limits.TheConstants.{NUMBER, PINS};
+ghost use Rattle.nv_epoch.specs.Holders.{youngest_holder, next_older, without};
+ghost use Rattle.nv_epoch.specs.SnapList.{Snapshots, ids, pins_of, IsSound, after_making, after_removal, after_pin, after_unpin};
+
+use crate::search::{place_of, youngest_below};
+use crate::{Ids, Snapshot};
+use nv_base::{Epoch, Fault, limits};
+use std::alloc::Global;
+use std::marker::Model;
+
+/// The living snapshots with their pins, and the current epoch.
+///
+/// Room for all snapshots is made by `new`; nothing after it takes memory. A snapshot is found by halving: where a
+/// call costs one look-up, that is the logarithm of the number of snapshots.
+#[derive(Debug, Drop)]
+pub struct SnapList {
+    living: Vec<Snapshot>,
+    epoch: Epoch,
+    most: u64,
+}
+
+impl Model for SnapList {
+    ghost use Rattle.std.specs.Prelude.{◌≤◌, vec_capacity};
+    ghost use Rattle.nv_epoch.specs.SnapList.{Snapshots, IsSound};
+
+    ghost Value = { Snapshots };
+
+    ghost view = { λ list. record { living = list.living.items; epoch = list.epoch; most = list.most } };
+
+    ghost invariant = { λ list. IsSound (record { living = list.living.items; epoch = list.epoch; most = list.most })
+        × (list.most ≤ vec_capacity list.living) };
+}
+
+impl SnapList {
+    /// A list without snapshots, with room for `snaps`. The epoch is `first_epoch`: 1 in a new world.
+    ///
+    /// Costs the memory of `snaps` snapshots. The only error is `OutOfMemory`.
+    pub fn new(alloc: Global, snaps: u64, first_epoch: Epoch) -> Result<SnapList, Fault>
+        requires some_epoch { 1 ≤ first_epoch }
+        requires epoch_fits { first_epoch ≤ NUMBER }
+        ensures ok { IfOk result (λ list. list ≡ record { living = []; epoch = first_epoch; most = snaps }) }
+        ensures err { IfErr result (λ fault. fault ≡ Fault.OutOfMemory) }
+    {
+        Ok(SnapList {
+            living: Vec::with_capacity(alloc, snaps as usize)?,
+            epoch: first_epoch,
+            most: snaps,
+        })
+    }
+
+    /// Makes a snapshot of the current epoch, which is its number, and begins the next epoch.
+    ///
+    /// Costs one write. `EpochLimit` where the epoch is 2^62, before `TooManySnapshots` where there is no room.
+    pub fn make(&mut self) -> Result<Epoch, Fault>
+        ensures made { IsOk result ↔ ((self.old.epoch < NUMBER) × (length self.old.living < self.old.most)) }
+        ensures epoch_limit { (result ≡ Err Fault.EpochLimit) ↔ (self.old.epoch ≡ NUMBER) }
+        ensures too_many { (result ≡ Err Fault.TooManySnapshots) ↔
+            ((self.old.epoch < NUMBER) × (length self.old.living ≡ self.old.most)) }
+
+        ensures number { IfOk result (λ s. s ≡ self.old.epoch) }
+        ensures ok { OnOk result (self.new ≡ after_making self.old) }
+        ensures err { OnErr result (self.new ≡ self.old) }
+    {
+        if self.epoch.number() == limits::NUMBER {
+            return Err(Fault::EpochLimit);
+        }
+        if self.room() == 0 {
+            return Err(Fault::TooManySnapshots);
+        }
+        let number = self.epoch;
+        self.living.push_reserved(Snapshot { number, pins: 0 });
+        self.epoch = number.next();
+        Ok(number)
+    }
+
+    /// Removes the snapshot `s`.
+    ///
+    /// Costs one look-up and a move of the younger snapshots. `NoSnapshot` where it doesn't live, before `Pinned`
+    /// where it has pins.
+    pub fn remove(&mut self, s: Epoch) -> Result<(), Fault>
+        ensures removed { IsOk result ↔ (pins_of self.old s ≡ Some 0) }
+        ensures no_snapshot { (result ≡ Err Fault.NoSnapshot) ↔ (pins_of self.old s ≡ None) }
+        ensures pinned { (result ≡ Err Fault.Pinned) ↔ IsSomeAnd (pins_of self.old s) (λ pins. 0 < pins) }
+
+        ensures ok { OnOk result (self.new ≡ after_removal self.old s) }
+        ensures numbers { OnOk result (ids self.new ≡ without s (ids self.old)) }
+        ensures err { OnErr result (self.new ≡ self.old) }
+    {
+        let Some(place) = place_of(&self.living, s) else {
+            return Err(Fault::NoSnapshot);
+        };
+        if self.living[place].pins > 0 {
+            return Err(Fault::Pinned);
+        }
+        let _removed = self.living.remove(place);
+        Ok(())
+    }
+
+    /// Adds a pin to the snapshot `s`, or answers `NoSnapshot` where it doesn't live. [`SnapList::can_pin`]
+    /// tests whether one more is allowed. Costs one look-up.
+    pub fn pin(&mut self, s: Epoch) -> Result<(), Fault>
+        requires { ForSome (pins_of self.old s) (λ pins. pins < PINS) }
+        ensures pinned { IsOk result ↔ IsSome (pins_of self.old s) }
+        ensures no_snapshot { IfErr result (λ fault. fault ≡ Fault.NoSnapshot) }
+
+        ensures ok { OnOk result (self.new ≡ after_pin self.old s) }
+        ensures numbers { ids self.new ≡ ids self.old }
+        ensures err { OnErr result (self.new ≡ self.old) }
+    {
+        match place_of(&self.living, s) {
+            Some(place) => {
+                self.living[place].pins += 1;
+                Ok(())
+            }
+            None => Err(Fault::NoSnapshot),
+        }
+    }
+
+    /// Takes a pin from the snapshot `s`. Costs one look-up.
+    pub fn unpin(&mut self, s: Epoch)
+        requires { IsSomeAnd (pins_of self.old s) (λ pins. 0 < pins) }
+        ensures unpinned { self.new ≡ after_unpin self.old s }
+        ensures numbers { ids self.new ≡ ids self.old }
+    {
+        let Some(place) = place_of(&self.living, s) else {
+            unreachable!();
+        };
+        self.living[place].pins -= 1;
+    }
+
+    /// The youngest living snapshot that holds what lived from `birth` to `death`: the greatest `s` with
+    /// `birth <= s < death`. Costs one look-up.
+    pub fn youngest_in(&self, birth: Epoch, death: Epoch) -> Option<Epoch>
+        ensures { result ≡ youngest_holder (ids self.now) birth death }
+    {
+        let youngest = youngest_below(&self.living, death)?;
+        if youngest < birth {
+            return None;
+        }
+        Some(youngest)
+    }
+
+    /// The youngest living snapshot below `s`. Costs one look-up.
+    pub fn older(&self, s: Epoch) -> Option<Epoch>
+        ensures { result ≡ next_older (ids self.now) s }
+    {
+        youngest_below(&self.living, s)
+    }
+
+    /// The place of the snapshot `s` among the living ones, oldest first and counted from 0, if it lives. The
+    /// snapshot at the place before it is the next older one. Costs one look-up.
+    pub fn place(&self, s: Epoch) -> Option<usize>
+        ensures in_range { IfSome result (λ place. place < length (ids self.now)) }
+        ensures found { IfSome result (λ place. slice_index (ids self.now) place ≡ s) }
+        ensures oldest { IfSome result (λ place. place ≡ 0 → next_older (ids self.now) s ≡ None) }
+        ensures older { IfSome result (λ place. 0 < place →
+            next_older (ids self.now) s ≡ Some (slice_index (ids self.now) (place - 1))) }
+        ensures absent { IfNone result (pins_of self.now s ≡ None) }
+    {
+        place_of(&self.living, s)
+    }
+
+    /// Whether the snapshot `s` lives. Costs one look-up.
+    pub fn has(&self, s: Epoch) -> bool
+        ensures lives { IsTrue result ↔ Contains (ids self.now) s }
+        ensures pins { IsTrue result ↔ IsSome (pins_of self.now s) }
+    {
+        self.pins(s).is_some()
+    }
+
+    /// The pins of the snapshot `s`, if it lives. Costs one look-up.
+    pub fn pins(&self, s: Epoch) -> Option<u32>
+        ensures value { result ≡ pins_of self.now s }
+        ensures most { IfSome result (λ pins. pins ≤ PINS) }
+    {
+        let place = place_of(&self.living, s)?;
+        Some(self.living[place].pins)
+    }
+
+    /// Whether the snapshot `s` lives and has fewer than [`limits::PINS`] pins. Costs one look-up.
+    pub fn can_pin(&self, s: Epoch) -> bool
+        ensures { IsTrue result ↔ IsSomeAnd (pins_of self.now s) (λ pins. pins < PINS) }
+    {
+        self.pins(s).is_some_and(|pins| pins < limits::PINS)
+    }
+
+    /// The numbers of the living snapshots, oldest first. Costs one read each.
+    pub fn ids(&self) -> Ids<'_>
+        ensures { result ≡ ids self.now }
+    {
+        Ids::new(&self.living)
+    }
+
+    /// The living snapshots, oldest first. Costs one read.
+    pub fn snapshots(&self) -> &[Snapshot]
+        ensures all { result.now ≡ self.now.living }
+        ensures sound { IsSound self.now }
+    {
+        self.living.as_slice()
+    }
+
+    /// The current epoch, which the next snapshot will close. Costs one read.
+    pub fn epoch(&self) -> Epoch
+        ensures value { result ≡ self.now.epoch }
+        ensures sound { IsSound self.now }
+    {
+        self.epoch
+    }
+
+    /// How many snapshots live. Costs one read.
+    pub fn len(&self) -> u64
+        ensures value { result ≡ length self.now.living }
+        ensures fits { result ≤ self.now.most }
+    {
+        self.living.len() as u64
+    }
+
+    /// Whether no snapshot lives. Costs one read.
+    pub fn is_empty(&self) -> bool
+        ensures { IsTrue result ↔ (self.now.living ≡ []) }
+    {
+        self.living.is_empty()
+    }
+
+    /// How many more snapshots may live. Costs one read.
+    pub fn room(&self) -> u64
+        ensures { result + length self.now.living ≡ self.now.most }
+    {
+        self.most - self.len()
+    }
+}

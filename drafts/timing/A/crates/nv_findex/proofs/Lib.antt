@@ -1,0 +1,6 @@
+pub mod Refs
+pub mod Search
+pub mod Whole
+pub mod Counts
+pub mod Parts
+pub mod Put

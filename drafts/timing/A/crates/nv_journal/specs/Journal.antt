@@ -1,0 +1,23 @@
+-- What a journal has noted: inodes, each with the tail that its log had before.
+use Rattle.std.specs.Prelude.{◌≢◌, ℕ, ◌<◌, ◌≤◌, ◌==◌, List, length, Option, AllPairs}
+use Rattle.std.specs.List.{find}
+use Rattle.std.specs.Option.{option_map}
+use Rattle.nv_journal.specs.declared.old_tail.OldTail.{OldTail}
+
+-- no two of them are of one inode
+abbrev pub AreDistinct : List OldTail → Type 0
+AreDistinct tails = AllPairs (λ a b. a.ino ≢ b.ino) tails
+
+-- what one commit may note: two to four inodes
+pub record IsNotable (tails : List OldTail) : Type 0 where
+  pub two : 2 ≤ length tails
+  pub four : length tails ≤ 4
+  pub distinct : AreDistinct tails
+
+-- nothing while the journal is closed, and what one commit noted while it is open
+pub record IsJournal (tails : List OldTail) : Type 0 where
+  pub notable : 0 < length tails → IsNotable tails
+
+-- the tail that is noted for the inode
+abbrev pub tail_noted : List OldTail → ℕ → Option ℕ
+tail_noted tails ino = option_map (λ t. t.tail) (find (λ t. t.ino == ino) tails)

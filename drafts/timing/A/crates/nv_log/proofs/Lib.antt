@@ -1,0 +1,6 @@
+pub mod Finding
+pub mod Parts
+pub mod Flags
+pub mod Logs
+pub mod Removals
+pub mod Chains

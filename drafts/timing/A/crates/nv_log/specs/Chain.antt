@@ -1,0 +1,182 @@
+-- Chains: the pages of a log, its entries in append order, and how many of them count.
+use Rattle.std.specs.Prelude.{◌≡◌, ℕ, ◌+◌, ◌-◌, ◌*◌, ◌<◌, ◌≤◌, Bool, true, false, not, if◌then◌else◌, nat_lt, min, List, [], ◌∷◌, ◌++◌, length, take, drop, map, replicate, find, position, Option, Some, slice_get, slice_index_or}
+use Rattle.std.specs.Int.{div_ceil}
+use Rattle.std.specs.List.{flat_map, range_with_len}
+use Rattle.std.specs.Option.{option_map}
+use Rattle.nv_base.specs.Ids.{is_same_id}
+use Rattle.nv_base.specs.declared.limits.TheConstants.{LEAST_PAGE_ENTRIES, PAGE_ENTRIES}
+use Rattle.nv_base.specs.declared.numbers.EntryId.{EntryId}
+use Rattle.nv_alloc.specs.Block.{BlockValue}
+use Rattle.nv_entry.specs.Clean.{select}
+use Rattle.nv_entry.specs.declared.item.Entry.{Entry}
+use Rattle.nv_entry.specs.Log.{IsLog}
+
+-- how many entries a page holds, the block of each page, where each page with entries ends (they stand first), all
+-- entries in append order, and how many of them count
+pub record ChainState : Type 0 where
+  pub page : ℕ
+  pub blocks : List BlockValue
+  pub ends : List ℕ
+  pub entries : List Entry
+  pub tail : ℕ
+
+-- a chain, and how many more pages may be added without memory
+pub record ChainValue : Type 0 where
+  pub state : ChainState
+  pub spare : ℕ
+
+-- a chain without a page, of pages that hold so many entries
+abbrev pub empty_chain : ℕ → ChainState
+empty_chain page = record { page = page; blocks = []; ends = []; entries = []; tail = 0 }
+
+-- the entries that count
+abbrev pub log : ChainState → List Entry
+log chain = take chain.tail chain.entries
+
+abbrev pub last_of : {X : Type 0} → List X → Option X
+last_of xs = slice_get xs (length xs - 1)
+
+abbrev pub last_entry : ChainState → Option Entry
+last_entry chain = last_of chain.entries
+
+abbrev pub last_id : ChainState → Option EntryId
+last_id chain = option_map (λ e. e.id) (last_entry chain)
+
+abbrev pub last_epoch : ChainState → Option ℕ
+last_epoch chain = option_map (λ e. e.epoch) (last_entry chain)
+
+-- the entry of that id
+abbrev pub entry_of : ChainState → EntryId → Option Entry
+entry_of chain id = find (λ e. is_same_id e.id id) chain.entries
+
+-- the place of the entry of that id, in append order
+abbrev pub place_of : List Entry → EntryId → Option ℕ
+place_of entries id = position (λ e. is_same_id e.id id) entries
+
+-- where page `k` begins and ends among `len` items; one past those that have items, where all items end
+abbrev pub start_in : List ℕ → ℕ → ℕ → ℕ
+start_in ends len k = slice_index_or (0 ∷ ends) k len
+
+abbrev pub end_in : List ℕ → ℕ → ℕ → ℕ
+end_in ends len k = slice_index_or ends k len
+
+abbrev pub start_of : ChainState → ℕ → ℕ
+start_of chain k = start_in chain.ends (length chain.entries) k
+
+abbrev pub end_of : ChainState → ℕ → ℕ
+end_of chain k = end_in chain.ends (length chain.entries) k
+
+-- a list that begins at place `start`, cut at each of the ends
+abbrev pub parts_from : {X : Type 0} → ℕ → List ℕ → List X → List (List X)
+parts_from start [] xs = []
+parts_from start (end ∷ ends) xs = take (end - start) xs ∷ parts_from end ends (drop (end - start) xs)
+
+-- the entries of each page that has any, and those of them that count
+abbrev pub pages_of : ChainState → List (List Entry)
+pages_of chain = parts_from 0 chain.ends chain.entries
+
+abbrev pub log_pages : ChainState → List (List Entry)
+log_pages chain = parts_from 0 chain.ends (log chain)
+
+-- the entries of page `k`
+abbrev pub page_entries : ChainState → ℕ → List Entry
+page_entries chain k = slice_index_or (pages_of chain) k []
+
+-- the page that gets the next entry: that of the last entry while it has a free place, and then the one after it
+abbrev pub open_page : ℕ → List ℕ → ℕ → ℕ
+open_page page ends len = if nat_lt (len - start_in ends len (length ends - 1)) page then length ends - 1 else length ends
+
+abbrev pub open_of : ChainState → ℕ
+open_of chain = open_page chain.page chain.ends (length chain.entries)
+
+-- how many more entries the pages that are there take
+abbrev pub room_of : ChainState → ℕ
+room_of chain = chain.page * (length chain.blocks - open_of chain) - (length chain.entries - start_of chain (open_of chain))
+
+-- how many more pages it takes to append so many entries
+abbrev pub pages_for : ChainState → ℕ → ℕ
+pages_for chain n = div_ceil (n - room_of chain) chain.page
+
+-- the chain with one more page, which has no entry
+abbrev pub with_page : BlockValue → ChainState → ChainState
+with_page block chain = record chain { blocks = chain.blocks ++ block ∷ [] }
+
+-- the chain with one more entry: the page that gets it is the last with entries, and ends behind it
+abbrev pub appended : Entry → ChainState → ChainState
+appended e chain = record chain {
+  ends = take (open_of chain) chain.ends ++ (length chain.entries + 1) ∷ [];
+  entries = chain.entries ++ e ∷ [];
+}
+
+-- what flags leave of a list: the items that they mark as staying, and those past the flags
+abbrev pub left_of : {X : Type 0} → List Bool → List X → List X
+left_of stays xs = select stays xs ++ drop (length stays) xs
+
+-- the items that flags mark as going
+abbrev pub gone_of : {X : Type 0} → List Bool → List X → List X
+gone_of stays xs = select (map not stays) xs
+
+-- flags from place `first` on, before which all stay; and those by which one place alone goes
+abbrev pub flags_from : ℕ → List Bool → List Bool
+flags_from first stays = replicate first true ++ stays
+
+abbrev pub all_but : ℕ → List Bool
+all_but k = flags_from k (false ∷ [])
+
+-- lists one behind the other, and where each of them ends, from place `start` on
+abbrev pub joined : {X : Type 0} → List (List X) → List X
+joined parts = flat_map (λ part. part) parts
+
+abbrev pub ends_from : {X : Type 0} → ℕ → List (List X) → List ℕ
+ends_from start [] = []
+ends_from start (part ∷ parts) = (start + length part) ∷ ends_from (start + length part) parts
+
+-- the chain without the entries of the pages that go, and without these pages
+abbrev pub with_entries_left : List Bool → ChainState → ChainState
+with_entries_left stays chain = record chain {
+  ends = ends_from 0 (left_of stays (pages_of chain));
+  entries = joined (left_of stays (pages_of chain));
+  tail = length (joined (left_of stays (log_pages chain)));
+}
+
+abbrev pub with_pages_left : List Bool → ChainState → ChainState
+with_pages_left stays chain = record (with_entries_left stays chain) { blocks = left_of stays chain.blocks }
+
+-- where the pages end that `n` entries fill one after the other
+abbrev pub packed : ℕ → ℕ → List ℕ
+packed page n = map (λ k. min ((k + 1) * page) n) (range_with_len 0 (div_ceil n page))
+
+-- the chain with what is left of its entries on fresh pages
+abbrev pub compacted : List Bool → List BlockValue → ChainState → ChainState
+compacted stays pages chain = record chain {
+  blocks = pages;
+  ends = packed chain.page (length (left_of stays chain.entries));
+  entries = left_of stays chain.entries;
+  tail = length (left_of stays (log chain));
+}
+
+-- the entry is the last, behind the others of its page, all else stays where it was, and the log stays
+pub record AppendsEntry (e : Entry) (old new : ChainState) : Type 0 where
+  pub room_falls : room_of new + 1 ≡ room_of old
+  pub last_is : last_entry new ≡ Some e
+  pub pages_are : pages_of new ≡ take (open_of old) (pages_of old) ++ (page_entries old (open_of old) ++ e ∷ []) ∷ []
+  pub log_stays : log new ≡ log old
+
+-- each page that stays keeps its entries, and the log keeps what such a page had of it
+pub record KeepsPages (stays : List Bool) (old new : ChainState) : Type 0 where
+  pub pages_are : pages_of new ≡ left_of stays (pages_of old)
+  pub log_is : log new ≡ joined (left_of stays (log_pages old))
+
+-- parts of one to `most` items, of which the first begins at `start` and the last ends at `len`
+abbrev pub AreEnds : ℕ → ℕ → List ℕ → ℕ → Type 0
+AreEnds most start [] len = start ≡ len
+AreEnds most start (end ∷ ends) len = (start < end) × (end ≤ start + most) × AreEnds most end ends len
+
+-- what holds of each chain
+pub record IsChain (chain : ChainState) : Type 0 where
+  pub least : LEAST_PAGE_ENTRIES ≤ chain.page
+  pub most : chain.page ≤ PAGE_ENTRIES
+  pub paged : length chain.ends ≤ length chain.blocks
+  pub parted : AreEnds chain.page 0 chain.ends (length chain.entries)
+  pub rising : IsLog chain.entries
+  pub within : chain.tail ≤ length chain.entries

@@ -1,0 +1,372 @@
+//! A chain of log pages.
+
+ghost use Rattle.std.specs.Prelude.{◌≡◌, ◌+◌, ◌-◌, ◌*◌, ◌<◌, ◌≤◌, ◌↔◌, ◌++◌, ◌==◌, IsTrue, IfSome, OnOk, Some, length, max, slice_get, slice_index};
+ghost use Rattle.std.specs.List.Sorted.{IsStrictlyIncreasing};
+ghost use Rattle.std.specs.Option.{ForSome, option_copied};
+ghost use Rattle.nv_base.specs.Ids.{IsIdBefore};
+ghost use Rattle.nv_base.specs.Refusals.{FailsOnlyWhere, KeepsOnErr};
+ghost use Rattle.nv_log.specs.Chain.{AppendsEntry, IsChain, appended, empty_chain, end_of, entry_of, joined, last_epoch, last_id, last_of, log, log_pages, page_entries, pages_for, place_of, room_of, start_of, with_page};
+
+mod clean;
+
+use crate::reads::ReadCount;
+use crate::{pages, search};
+use nv_alloc::Block;
+use nv_base::limits::{LEAST_PAGE_ENTRIES, PAGE_ENTRIES};
+use nv_base::{EntryId, Epoch, Fault};
+use nv_entry::Entry;
+use std::alloc::Global;
+use std::marker::Model;
+use std::mem;
+
+/// The log of an inode: its pages, each one block with at most so many entries, and the entries in append
+/// order. The pages with entries stand first. Entries up to the tail count; those past it were appended and
+/// not yet published.
+///
+/// A call takes constant time where its doc comment says no more: one that shows entries hands out a slice.
+///
+/// A chain owns its blocks, so it is no `Drop`: [`Chain::into_blocks`] takes it apart.
+pub struct Chain {
+    // How many entries a page holds.
+    page: usize,
+    blocks: Vec<Block>,
+    // Where each page with entries ends.
+    ends: Vec<usize>,
+    entries: Vec<Entry>,
+    tail: usize,
+    // How many pages there is room for, those that are there included.
+    reserved: usize,
+    reads: ReadCount,
+}
+
+impl Model for Chain {
+    ghost use Rattle.nv_log.specs.Chain.{ChainValue};
+
+    ghost Value = { ChainValue };
+
+    ghost use Rattle.nv_log.specs.Fields.{AreFields, value_in};
+
+    ghost view = { value_in };
+
+    ghost invariant = { AreFields };
+}
+
+impl Chain {
+    /// A chain without a page, of pages that hold `page` entries.
+    pub fn new(alloc: Global, page: usize) -> Chain
+        requires least { LEAST_PAGE_ENTRIES ≤ page }
+        requires most { page ≤ PAGE_ENTRIES }
+        ensures state { result.state ≡ empty_chain page }
+        ensures spare { result.spare ≡ 0 }
+    {
+        Chain {
+            page,
+            blocks: Vec::new(alloc),
+            ends: Vec::new(alloc),
+            entries: Vec::new(alloc),
+            tail: 0,
+            reserved: 0,
+            reads: ReadCount::new(),
+        }
+    }
+
+    /// How many entries a page holds.
+    pub fn entries_per_page(&self) -> usize
+        ensures value { result ≡ self.now.state.page }
+        ensures least { LEAST_PAGE_ENTRIES ≤ result }
+    {
+        self.page
+    }
+
+    /// The blocks of the pages.
+    pub fn blocks(&self) -> &[Block]
+        ensures { result.now ≡ self.now.state.blocks }
+    {
+        self.blocks.as_slice()
+    }
+
+    /// Where each page with entries ends, as a number of entries. These pages stand first, each has an entry,
+    /// and the last ends where all entries end.
+    pub fn ends(&self) -> &[usize]
+        ensures value { result.now ≡ self.now.state.ends }
+        ensures rising { IsStrictlyIncreasing result.now }
+        ensures last { 0 < length result.now
+            → slice_index result.now (length result.now - 1) ≡ length self.now.state.entries }
+        ensures chain { IsChain self.now.state }
+    {
+        self.ends.as_slice()
+    }
+
+    /// How many entries there are, those past the tail too.
+    pub fn len(&self) -> usize
+        ensures { result ≡ length self.now.state.entries }
+    {
+        self.entries.len()
+    }
+
+    /// Whether there is no entry.
+    pub fn is_empty(&self) -> bool
+        ensures { result ≡ (length self.now.state.entries == 0) }
+    {
+        self.entries.is_empty()
+    }
+
+    /// How many entries count.
+    pub fn tail(&self) -> usize
+        ensures value { result ≡ self.now.state.tail }
+        ensures within { result ≤ length self.now.state.entries }
+    {
+        self.tail
+    }
+
+    /// All entries, those past the tail too.
+    pub fn entries(&self) -> &[Entry]
+        ensures value { result.now ≡ self.now.state.entries }
+        ensures chain { IsChain self.now.state }
+    {
+        self.read(&self.entries)
+    }
+
+    /// The entries that count.
+    pub fn log(&self) -> &[Entry]
+        ensures value { result.now ≡ log self.now.state }
+        ensures pages { result.now ≡ joined (log_pages self.now.state) }
+    {
+        self.read(&self.entries[..self.tail])
+    }
+
+    /// The entries of page `k`.
+    pub fn page_entries(&self, k: usize) -> &[Entry]
+        ensures { result.now ≡ page_entries self.now.state k }
+    {
+        self.read(&self.entries[self.page_start(k)..self.page_end(k)])
+    }
+
+    /// The place of the first entry of page `k`: of one that has none, where all entries end.
+    pub fn page_start(&self, k: usize) -> usize
+        ensures value { result ≡ start_of self.now.state k }
+        ensures within { result ≤ end_of self.now.state k }
+    {
+        pages::start_of(&self.ends, self.entries.len(), k)
+    }
+
+    /// The place behind the last entry of page `k`.
+    pub fn page_end(&self, k: usize) -> usize
+        ensures value { result ≡ end_of self.now.state k }
+        ensures within { result ≤ length self.now.state.entries }
+    {
+        pages::end_of(&self.ends, self.entries.len(), k)
+    }
+
+    /// How many entries page `k` has.
+    pub fn page_len(&self, k: usize) -> usize
+        ensures { result ≡ end_of self.now.state k - start_of self.now.state k }
+    {
+        self.page_end(k) - self.page_start(k)
+    }
+
+    /// The page in which the entry at a place stands. The time grows with the logarithm of the pages.
+    pub fn page_of(&self, place: usize) -> usize
+        requires { place < length self.now.state.entries }
+        ensures within { result < length self.now.state.ends }
+        ensures start { start_of self.now.state result ≤ place }
+        ensures end { place < end_of self.now.state result }
+    {
+        pages::page_of(&self.ends, self.entries.len(), place)
+    }
+
+    /// The place of the entry of that id, in append order. The time grows with the logarithm of the entries.
+    pub fn place_of(&self, id: EntryId) -> Option<usize>
+        ensures value { result ≡ place_of self.now.state.entries id }
+        ensures within { IfSome result (λ place. place < length self.now.state.entries) }
+    {
+        search::place_of(&self.entries, id)
+    }
+
+    /// The entry of that id. The time grows with the logarithm of the entries.
+    pub fn entry(&self, id: EntryId) -> Option<&Entry>
+        ensures { option_copied result ≡ entry_of self.now.state id }
+    {
+        let place = self.place_of(id)?;
+        Some(self.entry_at(place))
+    }
+
+    /// The entry at a place, also past the tail.
+    pub fn entry_at(&self, place: usize) -> &Entry
+        requires { place < length self.now.state.entries }
+        ensures { slice_get self.now.state.entries place ≡ Some result.now }
+    {
+        &self.entries[place]
+    }
+
+    /// The last of the entries that count.
+    pub fn last_published(&self) -> Option<&Entry>
+        ensures { option_copied result ≡ last_of (log self.now.state) }
+    {
+        let last = self.entries[..self.tail].last();
+        self.reads.raise(usize::from(last.is_some()));
+        last
+    }
+
+    /// The id of the last entry, also past the tail. Ids rise: the next entry's is above it.
+    pub fn last_id(&self) -> Option<EntryId>
+        ensures { result ≡ last_id self.now.state }
+    {
+        self.entries.last().map(|entry| entry.id)
+    }
+
+    /// The epoch of the last entry, also past the tail. Epochs never fall: the next entry's is no lower.
+    pub fn last_epoch(&self) -> Option<Epoch>
+        ensures { result ≡ last_epoch self.now.state }
+    {
+        self.entries.last().map(|entry| entry.epoch)
+    }
+
+    /// Whether an entry of that id and epoch may stand next.
+    pub fn may_append(&self, id: EntryId, epoch: Epoch) -> bool
+        ensures { IsTrue result ↔ (ForSome (last_id self.now.state) (λ last. IsIdBefore last id)
+            × ForSome (last_epoch self.now.state) (λ last. last ≤ epoch)) }
+    {
+        match self.entries.last() {
+            Some(last) => search::may_follow(last, id, epoch),
+            None => true,
+        }
+    }
+
+    /// How many more entries the pages that are there take.
+    pub fn room(&self) -> usize
+        ensures { result ≡ room_of self.now.state }
+    {
+        let open = pages::open_page(self.page, &self.ends, self.entries.len());
+        let held = self.entries.len() - self.page_start(open);
+        self.page * (self.blocks.len() - open) - held
+    }
+
+    /// How many more pages it takes to append so many entries.
+    pub fn pages_for(&self, entries: usize) -> usize
+        ensures value { result ≡ pages_for self.now.state entries }
+        ensures enough { entries ≤ result * self.now.state.page + room_of self.now.state }
+    {
+        entries.saturating_sub(self.room()).div_ceil(self.page)
+    }
+
+    /// How many more pages may be added without memory.
+    pub fn spare(&self) -> usize
+        ensures { result ≡ self.now.spare }
+    {
+        self.reserved - self.blocks.len()
+    }
+
+    /// Makes room for so many more pages, and for all entries that they and the pages that are there hold:
+    /// `OutOfMemory` where there is none. It may take room for more than that, so that the time of many calls
+    /// is linear in the pages that they make room for. What it changes is room alone.
+    pub fn reserve(&mut self, pages: usize) -> Result<(), Fault>
+        ensures state { self.new.state ≡ self.old.state }
+        ensures ok { OnOk result (self.new.spare ≡ max self.old.spare pages) }
+        ensures err { FailsOnlyWhere Fault.OutOfMemory (self.old.spare < pages) result }
+        ensures same { KeepsOnErr result self.old self.new }
+    {
+        if pages <= self.reserved - self.blocks.len() {
+            return Ok(());
+        }
+        let all = self.blocks.len().saturating_add(pages);
+        let places = all.saturating_mul(self.page);
+        self.entries
+            .reserve(places.saturating_sub(self.entries.len()))?;
+        self.ends.reserve(all.saturating_sub(self.ends.len()))?;
+        self.blocks.reserve(pages)?;
+        self.reserved = all;
+        Ok(())
+    }
+
+    /// Adds a page behind the others.
+    pub fn add_page(&mut self, block: Block)
+        requires reserved { 0 < self.old.spare }
+        ensures state { self.new.state ≡ with_page block self.old.state }
+        ensures room { room_of self.new.state ≡ room_of self.old.state + self.old.state.page }
+        ensures spare { self.new.spare + 1 ≡ self.old.spare }
+    {
+        self.blocks.push_reserved(block);
+    }
+
+    /// Appends an entry, past the tail. It goes to the page of the last entry, and where that is full to the
+    /// page after it.
+    pub fn append(&mut self, entry: Entry)
+        requires room { 0 < room_of self.old.state }
+        requires id { ForSome (last_id self.old.state) (λ last. IsIdBefore last entry.id) }
+        requires epoch { ForSome (last_epoch self.old.state) (λ last. last ≤ entry.epoch) }
+        ensures state { self.new.state ≡ appended entry self.old.state }
+        ensures pages { AppendsEntry entry self.old.state self.new.state }
+        ensures spare { self.new.spare ≡ self.old.spare }
+    {
+        let open = pages::open_page(self.page, &self.ends, self.entries.len());
+        self.entries.push_reserved(entry);
+        self.ends.truncate(open);
+        self.ends.push_reserved(self.entries.len());
+    }
+
+    /// Moves the tail: the entries before it count.
+    pub fn publish_to(&mut self, tail: usize)
+        requires onward { self.old.state.tail ≤ tail }
+        requires within { tail ≤ length self.old.state.entries }
+        ensures state { self.new.state ≡ record self.old.state { tail = tail } }
+        ensures spare { self.new.spare ≡ self.old.spare }
+    {
+        self.tail = tail;
+    }
+
+    /// Puts another chain in the place of this one, and hands out the blocks of all old pages. The time is
+    /// linear in the old entries, which are let go.
+    pub fn replace(&mut self, chain: Chain) -> Vec<Block>
+        ensures chain { self.new ≡ chain }
+        ensures blocks { result.items ≡ self.old.state.blocks }
+    {
+        let Chain {
+            page,
+            blocks,
+            ends,
+            entries,
+            tail: published,
+            reserved,
+            reads: _,
+        } = chain;
+        self.page = page;
+        self.ends = ends;
+        self.entries = entries;
+        self.tail = published;
+        self.reserved = reserved;
+        mem::replace(&mut self.blocks, blocks)
+    }
+
+    /// Takes the chain apart, and hands out the blocks of all pages. The time is linear in the entries, which
+    /// are let go.
+    pub fn into_blocks(self) -> Vec<Block>
+        ensures { result.items ≡ self.state.blocks }
+    {
+        let Chain {
+            page: _,
+            blocks,
+            ends: _,
+            entries: _,
+            tail: _,
+            reserved: _,
+            reads: _,
+        } = self;
+        blocks
+    }
+
+    /// How many entries were handed out to be read so far, up to the greatest number: each one of
+    /// [`Chain::entry`], [`Chain::entry_at`] and [`Chain::last_published`], and those of [`Chain::entries`],
+    /// [`Chain::log`] and [`Chain::page_entries`].
+    pub fn reads(&self) -> u64 {
+        self.reads.get()
+    }
+
+    /// Counts the entries of a slice as read.
+    fn read<'a>(&'a self, entries: &'a [Entry]) -> &'a [Entry]
+        ensures { result.now ≡ entries.now }
+    {
+        self.reads.raise(entries.len());
+        entries
+    }
+}

@@ -1,0 +1,137 @@
+-- Memory that is refused makes the same turn of every step that grows anything, and want of it is answered only there.
+use Rattle.std.proofs.Common.{◌≡◌, ℕ, zero, suc, ◌||◌, not, Bool, true, false, List, [], ◌∷◌, Option, Some, None, if◌then◌else◌, length, nat_le, nat_lt, refl}
+use Rattle.std.specs.Prelude.{Ok, Err}
+use Rattle.nv_base.specs.declared.fault.Fault.{Fault}
+use Rattle.nv_base.specs.declared.fault.Fault.TheVariants.{CommitLimit, OutOfMemory}
+use Rattle.nv_base.specs.declared.limits.TheConstants.{NUMBER}
+use Rattle.nv_calls.specs.AllCalls.{answer, refusal}
+use Rattle.nv_calls.specs.Refusals.{Check as Tests}
+use Rattle.nv_calls.specs.declared.answer.Answer.{Answer}
+use Rattle.nv_calls.specs.Locked.{handles}
+use Rattle.nv_machine.specs.Kinds.{again_turn, check_turn, end_turn, enter_turn, over_turn, refuse, rest_turn, visit_turn, wants_blocks, wants_pages}
+use Rattle.nv_machine.specs.Memory.{denied_turn, does_its_work, grows, is_answered, is_onward, moves_onward, noted}
+use Rattle.nv_machine.specs.Reads.{copies, nodes, written_slots}
+use Rattle.nv_machine.specs.Sequence.{appending, closing, nothing_looked, opening, publishing, retiring}
+use Rattle.nv_machine.specs.Step.{ending_at, handle_at, kind_turn, visit_grows, with_made}
+use Rattle.nv_machine.specs.World.{Answers, Append, Check, Close, Ending, Enter, HandState, Leave, Next, Open, Overtaken, Publish, Ready, Refuses, Retire, Running, Shared, Turn, Visit, owner_at}
+
+-- ---- the last steps
+
+rest_stops : (home number : Option ℕ) (s : Shared) (h : HandState) (r : Running) → moves_onward (rest_turn home number s h r) ≡ false
+rest_stops (Some cpu) number s h r = refl
+rest_stops None (Some ino) s h r = refl
+rest_stops None None s h r = refl
+
+again_stops : (rounds : ℕ) (s : Shared) (h : HandState) (r : Running) → moves_onward (again_turn rounds s h r) ≡ false
+again_stops zero s h r = refl
+again_stops (suc rounds) s h r = refl
+
+over_stops : (e : Ending) (s : Shared) (h : HandState) (r : Running) → moves_onward (over_turn e s h r) ≡ false
+over_stops Answers s h r = rest_stops _ h.ino s h r
+over_stops (Refuses fault) s h r = rest_stops _ h.ino s h r
+over_stops Overtaken s h r = again_stops r.rounds s h r
+
+end_stops : (slots : List ℕ) (e : Ending) (s : Shared) (h : HandState) (r : Running) → moves_onward (end_turn slots e s h r) ≡ false
+end_stops [] e s h r = over_stops e s h (record r { ending = e })
+end_stops (slot ∷ slots) e s h r = refl
+
+rest_unanswered : (fault : Fault) (home number : Option ℕ) (s : Shared) (h : HandState) (r : Running)
+    → is_answered (rest_turn home number s h (record r { ending = Refuses fault })) ≡ false
+rest_unanswered fault (Some cpu) number s h r = refl
+rest_unanswered fault None (Some ino) s h r = refl
+rest_unanswered fault None None s h r = refl
+
+refused_unanswered : (fault : Fault) (slots : List ℕ) (s : Shared) (h : HandState) (r : Running)
+    → is_answered (end_turn slots (Refuses fault) s h r) ≡ false
+refused_unanswered fault [] s h r = rest_unanswered fault _ h.ino s h r
+refused_unanswered fault (slot ∷ slots) s h r = refl
+
+-- ---- a turn that does its work, and one that does not
+
+stays_so : (k : Next) (s : Shared) (h : HandState) (r : Running) (t : Turn) → does_its_work k t ≡ false → t ≡ denied_turn k s h r t
+stays_so k s h r t e = go (does_its_work k t) e where
+  go : (b : Bool) → b ≡ false → t ≡ (if b then refuse OutOfMemory s h (noted k s h r) else t)
+  go true e = cc
+  go false e = refl
+
+refuses_so : (k : Next) (s : Shared) (h : HandState) (r : Running) (t : Turn) → does_its_work k t ≡ true
+    → refuse OutOfMemory s h (noted k s h r) ≡ denied_turn k s h r t
+refuses_so k s h r t e = go (does_its_work k t) e where
+  go : (b : Bool) → b ≡ true → refuse OutOfMemory s h (noted k s h r) ≡ (if b then refuse OutOfMemory s h (noted k s h r) else t)
+  go true e = refl
+  go false e = cc
+
+-- ---- kind by kind
+
+wants_pages_on : (n : ℕ) (s : Shared) (h : HandState) (r : Running) → moves_onward (wants_pages n s h r) ≡ true
+wants_pages_on zero s h r = refl
+wants_pages_on (suc n) s h r = refl
+
+wants_on : (n block : ℕ) (s : Shared) (h : HandState) (r : Running) → moves_onward (wants_blocks n block s h r) ≡ true
+wants_on zero block s h r = wants_pages_on _ s h r
+wants_on (suc n) block s h r = refl
+
+check_denied : (ending : Option Ending) (wanted block : ℕ) (s : Shared) (h : HandState) (r : Running)
+    → check_turn ending false wanted block s h (with_made s h r)
+    ≡ denied_turn Check s h r (check_turn ending true wanted block s h (with_made s h r))
+check_denied (Some ending) wanted block s h r =
+    stays_so Check s h r (end_turn r.slots ending s h (with_made s h r)) (end_stops r.slots ending s h (with_made s h r))
+check_denied None wanted block s h r =
+    refuses_so Check s h r (wants_blocks wanted block s h (with_made s h r)) (wants_on wanted block s h (with_made s h r))
+
+either_on : (b : Bool) (next other : Next) → is_onward next ≡ true → is_onward other ≡ true → is_onward (if b then next else other) ≡ true
+either_on true next other is also = is
+either_on false next other is also = also
+
+retiring_on : (written : List ℕ) → is_onward (retiring 0 written) ≡ true
+retiring_on written = either_on (nat_lt 0 (length written)) (Retire 0) Leave refl refl
+
+publishing_on : (written : List ℕ) → is_onward (publishing 0 written) ≡ true
+publishing_on written =
+    either_on (nat_lt 0 (length written)) (Publish 0) (closing written) refl
+    (either_on (nat_lt 1 (length written)) Close (retiring 0 written) refl (retiring_on written))
+
+appending_on : (written : List ℕ) → is_onward (appending 0 written) ≡ true
+appending_on written =
+    either_on (nat_lt 0 (length written)) (Append 0) (opening written) refl
+    (either_on (nat_lt 1 (length written)) Open (publishing 0 written) refl (publishing_on written))
+
+enter_denied : (holder : Option ℕ) (last : Bool) (actor : ℕ) (s : Shared) (h : HandState) (r : Running)
+    → enter_turn holder last false actor s h r ≡ denied_turn Enter s h r (enter_turn holder last true actor s h r)
+enter_denied (Some other) last actor s h r = refl
+enter_denied None true actor s h r =
+    stays_so Enter s h r (refuse CommitLimit s h r) (end_stops r.slots (Refuses CommitLimit) s h r)
+enter_denied None false actor s h r =
+    refuses_so Enter s h r (enter_turn None false true actor s h r) (appending_on (written_slots r))
+
+visit_denied : (owner : Option ℕ) (tests : Tests) (found : Answer) (s : Shared) (h : HandState) (r : Running)
+    → visit_turn owner tests false found s h r ≡ denied_turn Visit s h r (visit_turn owner tests true found s h r)
+visit_denied (Some other) tests found s h r = refl
+visit_denied None (Err fault) found s h r = stays_so Visit s h r (refuse fault s h r) (refused_unanswered fault r.slots s h r)
+visit_denied None (Ok passed) found s h r = refl
+
+-- ---- all kinds
+
+pub denied_alike : (k : Next) (block actor : ℕ) (s : Shared) (h : HandState) (r : Running) → grows k r.call ≡ true
+    → kind_turn k block actor false s h r ≡ denied_turn k s h r (kind_turn k block actor true s h r)
+denied_alike Check block actor s h r e = check_denied (ending_at block s h r) _ block s h r
+denied_alike Ready block actor s h r e = refl
+denied_alike Enter block actor s h r e = enter_denied s.holder (nat_le NUMBER s.book.commit) actor s h r
+denied_alike Visit block actor s h r e = go (visit_grows r.call) e where
+  visit : Bool → Turn
+  visit granted = visit_turn (owner_at s (handle_at (handles nothing_looked r.call) 0).ino) (refusal block (copies s) r.call) granted
+      (answer (nodes s) r.made r.call) s h r
+
+  go : (grow : Bool) → grow ≡ true → visit (false || not grow) ≡ denied_turn Visit s h r (visit (true || not grow))
+  go true e = visit_denied (owner_at s (handle_at (handles nothing_looked r.call) 0).ino) (refusal block (copies s) r.call)
+      (answer (nodes s) r.made r.call) s h r
+  go false e = cc
+denied_alike other block actor s h r e = cc
+
+pub ungrown : (k : Next) (block actor : ℕ) (s : Shared) (h : HandState) (r : Running) → grows k r.call ≡ false
+    → kind_turn k block actor false s h r ≡ kind_turn k block actor true s h r
+ungrown Check block actor s h r e = cc
+ungrown Ready block actor s h r e = cc
+ungrown Enter block actor s h r e = cc
+ungrown Visit block actor s h r e = rw e refl
+ungrown other block actor s h r e = refl

@@ -1,0 +1,220 @@
+-- A new inode's handle is new: it leads to no node before its commit point, and no commit point has made it before.
+use Rattle.std.proofs.Common.{◌≡◌, ◌⊎◌, inl, inr, ℕ, ◌<◌, ◌==◌, ◌++◌, ◌∙◌, Bool, true, false, List, [], ◌∷◌, Option, Some, None, ap, arith, if◌then◌else◌, length, length-append, nat_lt, refl, subst, sym}
+use Rattle.std.specs.Prelude.{◌||◌}
+use Rattle.std.proofs.lemmas.Bool.{and_parts, eq-eqb, eqb-true, lt-ltb, ltb-true, or_cases, true≢false}
+use Rattle.nv_alloc.specs.Numbers.{has}
+use Rattle.nv_base.specs.Limits.{IsWithinLimits}
+use Rattle.nv_base.specs.declared.geometry.GeometryNumbers.{GeometryNumbers}
+use Rattle.nv_base.specs.declared.numbers.Handle.{Handle}
+use Rattle.nv_calls.specs.AllCalls.{plan}
+use Rattle.nv_calls.specs.Locked.{made_by}
+use Rattle.nv_calls.specs.Plain.{node_in, same_handle}
+use Rattle.nv_calls.specs.Slots.{IsFree, entries_of, items_for, place_in}
+use Rattle.nv_calls.specs.declared.call.Call.{Call}
+use Rattle.nv_calls.specs.declared.call.Call.TheVariants as call
+use Rattle.nv_calls.specs.declared.plan.Planned.{Planned}
+use Rattle.nv_calls.specs.declared.taken.Taken.{Taken}
+use Rattle.nv_entry.specs.Tree.{root}
+use Rattle.nv_entry.specs.declared.item.Entry.{Entry}
+use Rattle.nv_entry.specs.declared.item.Item.{Item}
+use Rattle.nv_entry.specs.declared.node.NodeCopy.{NodeCopy}
+use Rattle.nv_machine.specs.Effects.{settled_slots}
+use Rattle.nv_machine.specs.Format.{formatted}
+use Rattle.nv_machine.specs.Grown.{fresh_entries}
+use Rattle.nv_machine.specs.Hands.{makes_inode}
+use Rattle.nv_machine.specs.Kinds.{entries_for}
+use Rattle.nv_machine.specs.Made.{handles_made, has_handle, made_at}
+use Rattle.nv_machine.specs.PlainRun.{Commits, Deed, Nothing, Numbers as FixesNumber, actor_of, deed_of, keeps_nodes}
+use Rattle.nv_machine.specs.Reads.{is_written, written_slots}
+use Rattle.nv_machine.specs.Sequence.{beginning}
+use Rattle.nv_machine.specs.Settled.{node_by, settled, settled_nodes}
+use Rattle.nv_machine.specs.Step.{after, step}
+use Rattle.nv_machine.specs.World.{Event, Go, Running, Shared, Start, World, actor_at, cell_at}
+use Rattle.nv_machine.proofs.FitsEvents.{AreFit, IsKnown, all_fit, all_known, drawn_now, passed_now}
+use Rattle.nv_machine.proofs.FitsStages.{Passed, made_locked}
+use Rattle.nv_machine.proofs.GrownRuns.{new_grown, point_shared}
+use Rattle.nv_machine.proofs.FitsRuns.{present_in, taken_of}
+use Rattle.nv_machine.proofs.Lists.{or_left, or_right}
+use Rattle.nv_machine.proofs.Locks.{all_same}
+use Rattle.nv_machine.proofs.PoolSlots.{filter_has}
+use Rattle.nv_machine.proofs.Living.{IsUsed, IsUsedAt, events_used}
+
+-- ---- at its commit point a new handle becomes used
+
+-- whatever its directory, the plan has an item for it
+begin_items : (b : Bool) (items more : List Item) → 0 < length items → 0 < length more → 0 < length (if b then items else more)
+begin_items true items more some rest = some
+begin_items false items more some rest = rest
+
+own_items : (b : Bool) (items : List Item) → b ≡ true → 0 < length items → 0 < length (if b then items else [])
+own_items true items e some = some
+own_items false items e some = cc
+
+made_items : (block : ℕ) (nodes : Handle → Option NodeCopy) (taken : Taken) (c : Call) → makes_inode (beginning c) ≡ true
+    → 0 < length (items_for (plan block nodes taken c) taken.made.ino)
+made_items block nodes taken (call.Create dir name mode) e =
+    begin_items (dir.ino == taken.made.ino) _ _ (omega arith)
+    (own_items (taken.made.ino == taken.made.ino) _ (eq-eqb taken.made.ino taken.made.ino refl) (omega arith))
+made_items block nodes taken (call.Mkdir dir name mode) e =
+    begin_items (dir.ino == taken.made.ino) _ _ (omega arith)
+    (own_items (taken.made.ino == taken.made.ino) _ (eq-eqb taken.made.ino taken.made.ino refl) (omega arith))
+made_items block nodes taken other e = cc
+
+entries_count : (commit epoch place : ℕ) (items : List Item) → 0 < length items → 0 < length (entries_of commit epoch place items)
+entries_count commit epoch place [] some = absurd (omega (arith, some))
+entries_count commit epoch place (item ∷ items) some = omega arith
+
+module _ (g : GeometryNumbers) (w : World) (known : IsKnown g w) (fit : AreFit w) (actor : ℕ) (granted : Bool) (r : Running)
+    (there : actor < length w.actors) (is : (actor_at w actor).running ≡ Some r) (e : deed_of w (Go actor granted) ≡ Commits)
+    (makes : makes_inode (beginning r.call) ≡ true) where
+  passed : Passed w.numbers.block w.shared r
+  passed = passed_now g w known fit actor granted r is there e
+
+  -- before it the slot has no settled entry
+  free : IsFree (settled_slots w.shared) r.made
+  free = passed.free makes
+
+  not_used : IsUsed w.shared r.made → ⊥
+  not_used (inl past) = let own = free.own in omega (arith, own, past)
+  not_used (inr own) =
+      let none = ap (λ (l : List Entry). length l) free.empty in
+      let some = own.1 in
+      omega (arith, none, some)
+
+  items : 0 < length (items_for r.plan r.made.ino)
+  items =
+      let now = drawn_now g w known fit actor granted r is there e in
+      subst (λ (p : List Planned). 0 < length (items_for p r.made.ino)) (sym now.drawn.plan)
+      (made_items w.numbers.block (node_in (settled_nodes w.shared))
+      (taken_of r.made (present_in w.numbers.block (settled_slots w.shared) r.call) now.fresh) r.call makes)
+
+  written_now : has (written_slots r) r.made.ino ≡ true
+  written_now = filter_has (is_written r.plan) r.slots r.made.ino
+      (made_locked (length w.shared.cells) r.slots r.looked r.made r.call makes passed.covers (passed.inside makes))
+      (lt-ltb 0 (length (items_for r.plan r.made.ino)) items)
+
+  now_used : IsUsed (step w (Go actor granted)).world.shared r.made
+  now_used =
+      let k = known.reached in
+      let t = (step w (Go actor granted)).world.shared in
+      let both = point_shared w actor granted r k.locks k.kept k.grown there is e in
+      let log : settled t r.made.ino ≡ settled w.shared r.made.ino ++ entries_for r r.made.ino =
+      both.0 r.made.ino
+      ∙ ap (λ (b : Bool). settled w.shared r.made.ino ++ fresh_entries b r r.made.ino) written_now in
+      let count = ap (λ (l : List Entry). length l) log ∙ length-append (settled w.shared r.made.ino) (entries_for r r.made.ino) in
+      let some = entries_count r.commit r.epoch (place_in r.plan r.made.ino) (items_for r.plan r.made.ino) items in
+      inr (free.own ∙ sym (both.1 r.made.ino).generation, omega (arith, count, some))
+
+  -- and its handle leads to no node
+  pub no_node : settled_nodes w.shared r.made ≡ None
+  no_node = go (r.made.generation == (cell_at w.shared r.made.ino).generation) where
+    none : node_by (cell_at w.shared r.made.ino) (settled w.shared r.made.ino) ≡ None
+    none = ap (node_by (cell_at w.shared r.made.ino)) free.empty
+
+    go : (b : Bool) → (if b then node_by (cell_at w.shared r.made.ino) (settled w.shared r.made.ino) else None) ≡ None
+    go true = none
+    go false = refl
+
+-- ---- all that were made are used
+
+used_as : (s : Shared) (a b : Handle) → same_handle a b ≡ true → IsUsed s a → IsUsed s b
+used_as s a b same used =
+    let parts = and_parts (a.ino == b.ino) (a.generation == b.generation) same in
+    subst (λ (n : ℕ). IsUsedAt s n b.generation) (eqb-true a.ino b.ino parts.0)
+    (subst (λ (n : ℕ). IsUsedAt s a.ino n) (eqb-true a.generation b.generation parts.1) used)
+
+-- a call whose new handle this is
+record IsMade (made : Handle) (c : Call) (handle : Handle) : Type 0 where
+  same : same_handle made handle ≡ true
+  makes : makes_inode (beginning c) ≡ true
+
+one_handle : (made handle : Handle) → (same_handle made handle || false) ≡ true → same_handle made handle ≡ true
+one_handle made handle e = go (same_handle made handle) e where
+  go : (b : Bool) → (b || false) ≡ true → b ≡ true
+  go true e = refl
+  go false e = cc
+
+is_made : (made : Handle) (c : Call) (handle : Handle) → has_handle (made_by made c) handle ≡ true → IsMade made c handle
+is_made made (call.Create dir name mode) handle e = record { same = one_handle made handle e; makes = refl }
+is_made made (call.Mkdir dir name mode) handle e = record { same = one_handle made handle e; makes = refl }
+is_made made (call.Write file offset text) handle e = cc
+is_made made (call.Read file offset count) handle e = cc
+is_made made (call.Size file size) handle e = cc
+is_made made (call.Mode other mode) handle e = cc
+is_made made (call.Stat other) handle e = cc
+is_made made (call.List dir) handle e = cc
+is_made made (call.Lookup dir name) handle e = cc
+is_made made (call.Unlink dir name) handle e = cc
+is_made made (call.Rmdir dir name) handle e = cc
+is_made made (call.Rename from old to new) handle e = cc
+
+module _ (g : GeometryNumbers) (w : World) (known : IsKnown g w) (fit : AreFit w) (handle : Handle) where
+  go_made : (b : Bool) (running : Option Running) (actor : ℕ) (granted : Bool) → nat_lt actor (length w.actors) ≡ b
+      → (actor_at w actor).running ≡ running → (d : Deed) → deed_of w (Go actor granted) ≡ d
+      → has_handle (made_at d running) handle ≡ true → IsUsed (step w (Go actor granted)).world.shared handle
+  go_made b running actor granted there is Nothing e made = cc
+  go_made b running actor granted there is FixesNumber e made = cc
+  go_made b None actor granted there is Commits e made = cc
+  go_made false (Some r) actor granted there is Commits e made = absurd (no_deed (sym (rw there refl) ∙ e)) where
+    no_deed : Nothing ≡ Commits → ⊥
+    no_deed f = true≢false (ap keeps_nodes f)
+  go_made true (Some r) actor granted there is Commits e made =
+      let one = is_made r.made r.call handle made in
+      used_as (step w (Go actor granted)).world.shared r.made handle one.same
+      (now_used g w known fit actor granted r (ltb-true actor (length w.actors) there) is e one.makes)
+
+  event_made : (e : Event) → has_handle (made_at (deed_of w e) (actor_at w (actor_of e)).running) handle ≡ true
+      → IsUsed (step w e).world.shared handle
+  event_made (Start actor c) made = cc
+  event_made (Go actor granted) made =
+      go_made (nat_lt actor (length w.actors)) (actor_at w actor).running actor granted refl refl (deed_of w (Go actor granted)) refl made
+
+has_either : (xs ys : List Handle) (handle : Handle) → has_handle (xs ++ ys) handle ≡ true
+    → (has_handle xs handle ≡ true) ⊎ (has_handle ys handle ≡ true)
+has_either [] ys handle e = inr e
+has_either (x ∷ xs) ys handle e = elim (or_cases (same_handle x handle) (has_handle (xs ++ ys) handle) e) [
+  | inl same ↦ inl (or_left (same_handle x handle) (has_handle xs handle) same)
+  | inr rest ↦ elim (has_either xs ys handle rest) [
+    | inl there ↦ inl (or_right (same_handle x handle) (has_handle xs handle) there)
+    | inr there ↦ inr there
+  ]
+]
+
+events_made : (g : GeometryNumbers) (events : List Event) (w : World) (handle : Handle)
+    → ((before : List Event) → IsKnown g (after w before)) → ((before : List Event) → AreFit (after w before))
+    → has_handle (handles_made w events) handle ≡ true
+    → IsUsed (after w events).shared handle
+events_made g [] w handle known fit made = cc
+events_made g (e ∷ events) w handle known fit made =
+    elim (has_either (made_at (deed_of w e) (actor_at w (actor_of e)).running) (handles_made (step w e).world events) handle made) [
+      | inl now ↦ events_used events (step w e).world handle (λ before. (known (e ∷ before)).reached)
+          (event_made g w (known []) (fit []) handle e now)
+      | inr later ↦ events_made g events (step w e).world handle (λ before. known (e ∷ before)) (λ before. fit (e ∷ before)) later
+    ]
+
+-- ---- the laws
+
+root_used : (g : GeometryNumbers) → IsUsed (formatted g).shared root
+root_used g =
+    let log = ap (λ (l : List Entry). length l) ((new_grown g).free 0 (all_same g.inodes 0 None)).entries in
+    inr (refl, omega (arith, log))
+
+module _ (g : GeometryNumbers) (events : List Event) (actor : ℕ) (granted : Bool) (r : Running) (within : IsWithinLimits g)
+    (there : actor < length (after (formatted g) events).actors) (is : (actor_at (after (formatted g) events) actor).running ≡ Some r)
+    (e : deed_of (after (formatted g) events) (Go actor granted) ≡ Commits) (makes : makes_inode (beginning r.call) ≡ true) where
+  pub made_node : settled_nodes (after (formatted g) events).shared r.made ≡ None
+  made_node = no_node g (after (formatted g) events) (all_known g within events) (all_fit g within events) actor granted r there is e makes
+
+  pub made_once : has_handle (root ∷ handles_made (formatted g) events) r.made ≡ false
+  made_once = go (has_handle (root ∷ handles_made (formatted g) events) r.made) refl where
+    out : IsUsed (after (formatted g) events).shared r.made → ⊥
+    out = not_used g (after (formatted g) events) (all_known g within events) (all_fit g within events) actor granted r there is e makes
+
+    go : (b : Bool) → has_handle (root ∷ handles_made (formatted g) events) r.made ≡ b
+        → has_handle (root ∷ handles_made (formatted g) events) r.made ≡ false
+    go false q = q
+    go true q = elim (or_cases (same_handle root r.made) (has_handle (handles_made (formatted g) events) r.made) q) [
+      | inl same ↦ absurd (out (used_as (after (formatted g) events).shared root r.made same
+          (events_used events (formatted g) root (λ before. (all_known g within before).reached) (root_used g))))
+      | inr made ↦ absurd (out (events_made g events (formatted g) r.made (all_known g within) (all_fit g within) made))
+    ]

@@ -1,0 +1,378 @@
+-- What the hand of an actor has along a commit, and after every kind of step.
+use Rattle.std.proofs.Common.{◌≡◌, ℕ, zero, suc, ◌+◌, ◌-◌, ◌^◌, ◌<◌, ◌≤◌, ◌++◌, ◌∙◌, Bool, true, false, List, [], ◌∷◌, Option, Some, None, add-one, ap, arith, drop, drop-cons, if◌then◌else◌, length, length-append, nat_lt, refl, subst, sym, take}
+use Rattle.std.specs.Prelude.{Ok, Err, is_none}
+use Rattle.std.specs.List.{AllByRecursion, flat_map}
+use Rattle.std.proofs.lemmas.Bool.{false≢true, ltb-false, true≢false}
+use Rattle.std.proofs.lemmas.List.{drop-drop, length-map}
+use Rattle.nv_alloc.specs.Block.{AreSized, BlockValue, number_of, numbers_of}
+use Rattle.nv_alloc.specs.Numbers.{times}
+use Rattle.nv_base.specs.declared.geometry.GeometryNumbers.{GeometryNumbers}
+use Rattle.nv_calls.specs.AllCalls.{blocks_wanted, early, effect, looked, refusal}
+use Rattle.nv_calls.specs.Refusals.{Check as Tests}
+use Rattle.nv_calls.specs.Retiring.{is_erased, number_back}
+use Rattle.nv_calls.specs.Slots.{entries_of, items_for, place_in}
+use Rattle.nv_calls.specs.declared.answer.Answer.{Answer}
+use Rattle.nv_calls.proofs.Appends.{front, map-drop}
+use Rattle.nv_cell.specs.Cell.{CellState}
+use Rattle.nv_entry.specs.Blocks.{item_blocks}
+use Rattle.nv_entry.specs.declared.item.Entry.{Entry}
+use Rattle.nv_entry.specs.declared.item.Item.{Item}
+use Rattle.nv_machine.specs.Hands.{AreGiven, FitsFile, HandAt, HandOf, HasFitting, HasPlanned, HasTakenNone, BeginsAnew, is_going, makes_inode, planned_blocks}
+use Rattle.nv_machine.specs.Kinds.{asked_list, back_turn, blocks_in, blocks_left, blocks_turn, check_ending, enter_turn, entries_for, first_killed, given, pages_turn, retired_cell, unlocked_turn, visit_turn, with_bytes, with_erased, with_freed}
+use Rattle.nv_calls.proofs.FillPages.{filled_numbers}
+use Rattle.nv_calls.specs.FillPages.{filled, fresh_pages}
+use Rattle.nv_machine.specs.Reads.{copies, has_last_page, is_written, plan_by, slot_at, taken_by, written_slots}
+use Rattle.nv_machine.specs.Sequence.{appending, beginning, closing, opening, publishing, retiring}
+use Rattle.nv_machine.specs.Step.{ending_at, is_numbered, kind_turn, made_in, same_looked, with_made}
+use Rattle.nv_machine.specs.World.{Answers, Append, Back, Check, Close, Enter, Give, HandState, Leave, Lock, Look, Next, Number, Open, Overtaken, Publish, Ready, Retire, Running, Shared, TakeBlocks, TakePages, Unlock, Visit, empty_hand, go_to, list_at}
+use Rattle.nv_machine.proofs.Counted.{given_all}
+use Rattle.nv_machine.proofs.Fitting.{checked, plan_few, plan_first, plan_within, planned_few, wants_fitting}
+use Rattle.nv_machine.proofs.Handed.{GoesHome, OnHand, check_hand, end_hand, grown_hand, is_empty, lock_hand, look_hand, not_overtaken, number_hand, over_hand, rest_hand, same_nothing, wants_pages_hand}
+use Rattle.nv_machine.proofs.Homes.{AreBelow, all_given}
+use Rattle.nv_machine.proofs.Kept.{deed}
+use Rattle.nv_machine.proofs.Lists.{rising_filter}
+use Rattle.nv_machine.proofs.Locked.{Before}
+use Rattle.nv_machine.proofs.Parted.{entry_blocks}
+
+-- ---- the check's own
+
+over_some : {X : Type 0} (x : X) → None ≡ Some x → ⊥
+over_some x e = true≢false (ap (λ (o : Option _). is_none o) e)
+
+-- a call that is overtaken has looked names up
+overtaken_looked : (early : Tests) (same : Bool) (tests : Tests) (numbered : Bool) (changes : List _)
+    → check_ending early same tests numbered changes ≡ Some Overtaken → same ≡ false
+overtaken_looked (Err fault) same tests numbered changes h = cc
+overtaken_looked (Ok passed) false tests numbered changes h = refl
+overtaken_looked (Ok passed) true (Err fault) numbered changes h = cc
+overtaken_looked (Ok passed) true (Ok all) false changes h = cc
+overtaken_looked (Ok passed) true (Ok all) true [] h = cc
+overtaken_looked (Ok passed) true (Ok all) true (change ∷ changes) h = cc
+
+or_true : (b : Bool) → (b ≡ true → ⊥) → b ≡ false
+or_true true h = absurd (h refl)
+or_true false h = refl
+
+check_overtaken : (block : ℕ) (s : Shared) (h : HandState) (r : Running) → HasTakenNone h r
+    → ending_at block s h r ≡ Some Overtaken → BeginsAnew h r
+check_overtaken block s h r none is =
+    let bound_anew = overtaken_looked (early (copies s) r.call) (same_looked (looked (copies s) r.call) r.looked)
+    (refusal block (copies s) r.call) (is_numbered (beginning r.call) h.ino)
+    (effect (copies s) (made_in s h.ino r.made) r.call) is in
+    let looks = or_true (makes_inode (beginning r.call))
+    (λ makes. false≢true (sym bound_anew ∙ same_nothing (copies s) r.call r.looked makes (none.looked makes))) in
+    record { empty = is_empty h none.blocks (none.number looks) none.killed; looks = looks }
+
+check_fits : (g : GeometryNumbers) (s : Shared) (h : HandState) (r : Running) → 0 < g.block → HasTakenNone h r
+    → ending_at g.block s h r ≡ None
+    → HasFitting g.block h r (length h.blocks + blocks_wanted g.block (copies s) (has_last_page g.block s r.call) r.call)
+check_fits g s h r some none is =
+    let is_checked = checked (early (copies s) r.call) (same_looked (looked (copies s) r.call) r.looked)
+    (refusal g.block (copies s) r.call) (is_numbered (beginning r.call) h.ino)
+    (effect (copies s) (made_in s h.ino r.made) r.call) is in
+    let wanted = blocks_wanted g.block (copies s) (has_last_page g.block s r.call) r.call in
+    let fits = wants_fitting g.block (copies s) (made_in s h.ino r.made) (has_last_page g.block s r.call) r.call some
+    is_checked.passed is_checked.some in
+    let empty = ap length none.blocks in
+    let same : wanted ≡ length h.blocks + wanted =
+    omega (arith, empty, length-append (h.blocks ++ h.pages) h.chain, length-append h.blocks h.pages) in
+    record { killed = none.killed; fits = subst (λ (n : ℕ). FitsFile g.block r.call n) same fits }
+
+-- ---- taking
+
+taken_count : (wanted : ℕ) (bs taken : List BlockValue) → length (bs ++ take wanted taken) + (wanted - length taken) ≡ length bs + wanted
+taken_count wanted bs taken = omega (arith, length-append bs (take wanted taken), first wanted taken) where
+  first : (n : ℕ) (xs : List BlockValue) → length (take n xs) + (n - length xs) ≡ n
+  first zero xs = omega arith
+  first (suc n) [] = omega arith
+  first (suc n) (x ∷ xs) = omega (arith, first n xs)
+
+blocks_hand : (g : GeometryNumbers) (n : ℕ) (more : Bool) (asked block : ℕ) (s : Shared) (h : HandState) (r : Running)
+    → GoesHome g s h → HasFitting g.block h r (length h.blocks + n) → r.ending ≡ Answers
+    → OnHand g (blocks_turn n more asked block s h r)
+blocks_hand g zero more asked block s h r goes fits going =
+    wants_pages_hand g _ s h r (record {
+      killed = fits.killed;
+      fits = let same : length h.blocks + 0 ≡ length h.blocks = omega arith in subst (λ (n : ℕ). FitsFile g.block r.call n) same fits.fits;
+    }) going
+blocks_hand g (suc n) true asked block s h r goes fits going = (record { killed = fits.killed; fits = fits.fits }, λ e. going)
+blocks_hand g (suc n) false asked block s h r goes fits going =
+    end_hand g r.slots _ s h r goes fits.killed (λ is. not_overtaken _ refl is)
+
+pages_hand : (g : GeometryNumbers) (n : ℕ) (more : Bool) (asked : ℕ) (s : Shared) (h : HandState) (r : Running)
+    → GoesHome g s h → HasFitting g.block h r (length h.blocks) → r.ending ≡ Answers → OnHand g (pages_turn n more asked s h r)
+pages_hand g zero more asked s h r goes fits going = (record { killed = fits.killed; fits = fits.fits }, λ e. going)
+pages_hand g (suc n) true asked s h r goes fits going = (record { killed = fits.killed; fits = fits.fits }, λ e. going)
+pages_hand g (suc n) false asked s h r goes fits going =
+    end_hand g r.slots _ s h r goes fits.killed (λ is. not_overtaken _ refl is)
+
+-- ---- ready
+
+numbers_below : (many : ℕ) (bs : List BlockValue) → AreBelow many bs → AllByRecursion (λ n. n < many) (numbers_of bs)
+numbers_below many [] h = tt
+numbers_below many (b ∷ bs) h = (h.0, numbers_below many bs h.1)
+
+below_front : (many : ℕ) (xs ys : List BlockValue) → AreBelow many (xs ++ ys) → AreBelow many xs
+below_front many [] ys h = tt
+below_front many (x ∷ xs) ys h = (h.0, below_front many xs ys h.1)
+
+first_below : (many : ℕ) (h : HandState) → AreBelow many (blocks_in h) → AreBelow many h.blocks
+first_below many h below = below_front many h.blocks h.pages (below_front many (h.blocks ++ h.pages) h.chain below)
+
+ready_planned : (g : GeometryNumbers) (a : ℕ) (s : Shared) (h : HandState) (r : Running) → HasFitting g.block h r (length h.blocks)
+    → g.blocks < 2 ^ 64 → AreBelow g.blocks h.blocks → Before a s Ready r
+    → HasPlanned (with_bytes g.block s r h) (record r { plan = plan_by g.block s h r; next = Enter })
+    (written_slots (record r { plan = plan_by g.block s h r }))
+ready_planned g a s h r fits small below b =
+    let plan = plan_by g.block s h r in
+    let few = plan_few g.block (copies s) (taken_by g.block s h r) r.call (numbers_of h.blocks) refl in
+    let rising = planned_few plan (written_slots (record r { plan = plan })) (rising_filter (is_written plan) r.slots b.are.rising) in
+    let same = ap length (filled_numbers (fresh_pages g.block (copies s) r.call) h.blocks) in
+    record {
+      killed = fits.killed;
+      enough = omega (
+        arith,
+        few,
+        rising,
+        same,
+        length-map h.blocks number_of,
+        length-map (filled (fresh_pages g.block (copies s) r.call) h.blocks) number_of,
+      );
+      first = subst (λ (l : List ℕ). take (length (planned_blocks plan (written_slots (record r { plan = plan })))) l
+          ≡ planned_blocks plan (written_slots (record r { plan = plan })))
+          (sym (filled_numbers (fresh_pages g.block (copies s) r.call) h.blocks))
+          (plan_first g.block g.blocks (copies s) (taken_by g.block s h r) r.call (numbers_of h.blocks)
+          (written_slots (record r { plan = plan })) refl small (numbers_below g.blocks h.blocks below)
+          (rising_filter (is_written plan) r.slots b.are.rising));
+      within = plan_within g.block (copies s) (taken_by g.block s h r) r.call (numbers_of h.blocks) refl
+          (subst (λ (n : ℕ). FitsFile g.block r.call n) (sym (length-map h.blocks number_of)) fits.fits);
+    }
+
+-- ---- along a commit
+
+no_length : {X : Type 0} (xs : List X) → length xs ≡ 0 → xs ≡ []
+no_length [] h = refl
+no_length (x ∷ xs) h = absurd (omega (arith, h))
+
+abbrev Goes : GeometryNumbers → HandState → Next → Running → Type 0
+Goes g h next r = HandOf g h (Some (go_to next r))
+
+retiring_hand : (g : GeometryNumbers) (place : ℕ) (h : HandState) (r : Running) → length h.killed + place ≡ length (written_slots r)
+    → r.ending ≡ Answers → Goes g h (retiring place (written_slots r)) r
+retiring_hand g place h r killed going = go (nat_lt place (length (written_slots r))) refl where
+  go : (b : Bool) → nat_lt place (length (written_slots r)) ≡ b → Goes g h (if b then Retire place else Leave) r
+  go true e = (killed, λ e. going)
+  go false e = (no_length h.killed (omega (arith, killed, ltb-false place (length (written_slots r)) e)), λ e. going)
+
+closing_hand : (g : GeometryNumbers) (h : HandState) (r : Running) → length h.killed ≡ length (written_slots r) → r.ending ≡ Answers
+    → Goes g h (closing (written_slots r)) r
+closing_hand g h r killed going = go (nat_lt 1 (length (written_slots r))) where
+  go : (b : Bool) → Goes g h (if b then Close else retiring 0 (written_slots r)) r
+  go true = (killed, λ e. going)
+  go false = retiring_hand g 0 h r (omega (arith, killed)) going
+
+publishing_hand : (g : GeometryNumbers) (place : ℕ) (h : HandState) (r : Running) → length h.killed ≡ place
+    → place ≤ length (written_slots r) → r.ending ≡ Answers → Goes g h (publishing place (written_slots r)) r
+publishing_hand g place h r killed few going = go (nat_lt place (length (written_slots r))) refl where
+  go : (b : Bool) → nat_lt place (length (written_slots r)) ≡ b → Goes g h (if b then Publish place else closing (written_slots r)) r
+  go true e = (killed, λ e. going)
+  go false e = closing_hand g h r (omega (arith, killed, few, ltb-false place (length (written_slots r)) e)) going
+
+opening_hand : (g : GeometryNumbers) (h : HandState) (r : Running) → h.killed ≡ [] → r.ending ≡ Answers
+    → Goes g h (opening (written_slots r)) r
+opening_hand g h r killed going = go (nat_lt 1 (length (written_slots r))) where
+  go : (b : Bool) → Goes g h (if b then Open else publishing 0 (written_slots r)) r
+  go true = (killed, λ e. going)
+  go false = publishing_hand g 0 h r (ap length killed) (omega arith) going
+
+appending_hand : (g : GeometryNumbers) (place : ℕ) (h : HandState) (r : Running) → HasPlanned h r (drop place (written_slots r))
+    → r.ending ≡ Answers → Goes g h (appending place (written_slots r)) r
+appending_hand g place h r planned going = go (nat_lt place (length (written_slots r))) where
+  go : (b : Bool) → Goes g h (if b then Append place else opening (written_slots r)) r
+  go true = (record { killed = planned.killed; enough = planned.enough; first = planned.first; within = planned.within }, λ e. going)
+  go false = opening_hand g h r planned.killed going
+
+enter_hand : (g : GeometryNumbers) (holder : Option ℕ) (last granted : Bool) (actor : ℕ) (s : Shared) (h : HandState) (r : Running)
+    → GoesHome g s h → HasPlanned h r (written_slots r) → r.ending ≡ Answers → OnHand g (enter_turn holder last granted actor s h r)
+enter_hand g (Some other) last granted actor s h r goes planned going = tt
+enter_hand g None true granted actor s h r goes planned going =
+    end_hand g r.slots _ s h r goes planned.killed (λ is. not_overtaken _ refl is)
+enter_hand g None false granted actor s h r goes planned going =
+    grown_hand g granted _ s h r goes planned.killed
+    (appending_hand g 0 h (record r { commit = s.book.commit + 1; epoch = s.book.snaps.epoch })
+    (record { killed = planned.killed; enough = planned.enough; first = planned.first; within = planned.within }) going)
+
+-- what an append leaves in the hand
+pub entry_blocks_are : (commit epoch place : ℕ) (items : List Item)
+    → entry_blocks (entries_of commit epoch place items) ≡ flat_map item_blocks items
+entry_blocks_are commit epoch place [] = refl
+entry_blocks_are commit epoch place (item ∷ items) =
+    ap (λ (l : List ℕ). item_blocks item ++ l) (entry_blocks_are commit epoch (place + 1) items)
+
+left_count : (entries : List _) (bs : List BlockValue) → length (blocks_left entries bs) ≡ length bs - length (entry_blocks entries)
+left_count [] bs = omega arith
+left_count (e ∷ entries) bs =
+    let k = length (item_blocks e.item) in
+    let more = left_count entries (drop k bs) in
+    omega (arith, more, later k bs, length-append (item_blocks e.item) (entry_blocks entries)) where
+      later : (n : ℕ) (xs : List BlockValue) → length (drop n xs) ≡ length xs - n
+      later zero xs = omega arith
+      later (suc n) [] = omega arith
+      later (suc n) (x ∷ xs) = later n xs ∙ (let e : length xs - n ≡ suc (length xs) - suc n = omega arith in e)
+
+-- what is left are the blocks behind those
+left_numbers : (entries : List Entry) (bs : List BlockValue)
+    → numbers_of (blocks_left entries bs) ≡ drop (length (entry_blocks entries)) (numbers_of bs)
+left_numbers [] bs = refl
+left_numbers (e ∷ entries) bs =
+    let k = length (item_blocks e.item) in
+    let total : length (item_blocks e.item ++ entry_blocks entries) ≡ k + length (entry_blocks entries) =
+    length-append (item_blocks e.item) (entry_blocks entries) in
+    left_numbers entries (drop k bs) ∙ ap (drop (length (entry_blocks entries))) (map-drop k bs)
+    ∙ drop-drop (length (entry_blocks entries)) k (numbers_of bs) ∙ ap (λ (n : ℕ). drop n (numbers_of bs)) (sym total)
+
+-- the blocks of the slot at a place, and of those behind it
+planned_next : (r : Running) (place : ℕ) → place < length (written_slots r)
+    → planned_blocks r.plan (drop place (written_slots r))
+    ≡ entry_blocks (entries_for r (slot_at (written_slots r) place)) ++ planned_blocks r.plan (drop (place + 1) (written_slots r))
+planned_next r place inside =
+    let slots = written_slots r in
+    let ino = slot_at slots place in
+    ap (planned_blocks r.plan) (drop-cons slots place 0 inside)
+    ∙ ap (λ (l : List ℕ). l ++ planned_blocks r.plan (drop (suc place) slots))
+    (sym (entry_blocks_are r.commit r.epoch (place_in r.plan ino) (items_for r.plan ino)))
+    ∙ ap (λ (n : ℕ). entry_blocks (entries_for r ino) ++ planned_blocks r.plan (drop n slots)) (sym (add-one place))
+
+abbrev Cut : ℕ → HandState → Running → Type 0
+Cut place h r =
+    (take (length (entry_blocks (entries_for r (slot_at (written_slots r) place)))) (numbers_of h.blocks)
+    ≡ entry_blocks (entries_for r (slot_at (written_slots r) place)))
+    × (take (length (planned_blocks r.plan (drop (place + 1) (written_slots r))))
+    (drop (length (entry_blocks (entries_for r (slot_at (written_slots r) place)))) (numbers_of h.blocks))
+    ≡ planned_blocks r.plan (drop (place + 1) (written_slots r)))
+
+cut_at : (place : ℕ) (h : HandState) (r : Running) → place < length (written_slots r) → HasPlanned h r (drop place (written_slots r))
+    → Cut place h r
+cut_at place h r inside planned =
+    let own = entry_blocks (entries_for r (slot_at (written_slots r) place)) in
+    let rest = planned_blocks r.plan (drop (place + 1) (written_slots r)) in
+    front own rest (numbers_of h.blocks)
+    (subst (λ (l : List ℕ). take (length l) (numbers_of h.blocks) ≡ l) (planned_next r place inside) planned.first)
+
+pub slot_first : (place : ℕ) (h : HandState) (r : Running) → place < length (written_slots r)
+    → HasPlanned h r (drop place (written_slots r))
+    → take (length (entry_blocks (entries_for r (slot_at (written_slots r) place)))) (numbers_of h.blocks)
+    ≡ entry_blocks (entries_for r (slot_at (written_slots r) place))
+slot_first place h r inside planned = (cut_at place h r inside planned).0
+
+append_planned : (place pages : ℕ) (h : HandState) (r : Running) → place < length (written_slots r)
+    → HasPlanned h r (drop place (written_slots r))
+    → HasPlanned
+    (record h { blocks = blocks_left (entries_for r (slot_at (written_slots r) place)) h.blocks; pages = drop pages h.pages }) r
+    (drop (place + 1) (written_slots r))
+append_planned place pages h r inside planned =
+    let ino = slot_at (written_slots r) place in
+    let rest = planned_blocks r.plan (drop (place + 1) (written_slots r)) in
+    let own = entry_blocks (entries_for r ino) in
+    let all = ap length (planned_next r place inside) in
+    record {
+      killed = planned.killed;
+      enough = omega (arith, planned.enough, all, length-append own rest, left_count (entries_for r ino) h.blocks);
+      first = ap (take (length rest)) (left_numbers (entries_for r ino) h.blocks) ∙ (cut_at place h r inside planned).1;
+      within = planned.within;
+    }
+
+erased_killed : (ino : ℕ) (cell : CellState) (h : HandState) → (with_erased ino cell h).killed ≡ h.killed
+erased_killed ino cell h = go (is_erased cell) where
+  go : (b : Bool) → (if b then record h { chain = h.chain ++ cell.chain.blocks; ino = number_back ino cell h.ino } else h).killed ≡ h.killed
+  go true = refl
+  go false = refl
+
+-- ---- every kind
+
+unlock_hand : (g : GeometryNumbers) (more : Bool) (place : ℕ) (s : Shared) (h : HandState) (r : Running) → GoesHome g s h
+    → h.killed ≡ [] → (r.ending ≡ Overtaken → BeginsAnew h r) → OnHand g (unlocked_turn more place s h r)
+unlock_hand g true place s h r goes killed o =
+    ((killed, λ is. let was = o is in record { empty = was.empty; looks = was.looks }), λ e. absurd (false≢true e))
+unlock_hand g false place s h r goes killed o = over_hand g r.ending s h r goes killed o
+
+back_hand : (g : GeometryNumbers) (number : Option ℕ) (s : Shared) (h : HandState) (r : Running) → h.ino ≡ number → h.killed ≡ []
+    → blocks_in h ≡ [] → OnHand g (back_turn number s h r)
+back_hand g None s h r is killed none = is_empty h none is killed
+back_hand g (Some ino) s h r is killed none = is_empty (record h { ino = None }) none refl killed
+
+visit_hand : (g : GeometryNumbers) (owner : Option ℕ) (tests : Tests) (granted : Bool) (found : Answer) (s : Shared) (h : HandState)
+    (r : Running) → GoesHome g s h → h ≡ empty_hand → OnHand g (visit_turn owner tests granted found s h r)
+visit_hand g (Some other) tests granted found s h r goes empty = tt
+visit_hand g None (Err fault) granted found s h r goes empty =
+    end_hand g r.slots _ s h r goes (ap (λ (x : HandState). x.killed) empty) (λ is. not_overtaken _ refl is)
+visit_hand g None (Ok passed) granted found s h r goes empty =
+    grown_hand g granted _ s h r goes (ap (λ (x : HandState). x.killed) empty) empty
+
+dropped : {X : Type 0} (xs : List X) (n m : ℕ) → length xs + n ≡ m → n < m → length (drop 1 xs) + (n + 1) ≡ m
+dropped [] n m e lt = absurd (omega (arith, e, lt))
+dropped (x ∷ xs) n m e lt = omega (arith, e)
+
+-- what is shared and the hand before the last steps, where a step makes them in its turn
+abbrev pub AllGoHome : GeometryNumbers → Next → Shared → HandState → Running → ℕ → ℕ → Type 0
+AllGoHome g k s h r block a =
+    GoesHome g s h × GoesHome g (deed k block a s h r).shared (deed k block a s h r).hand
+
+-- blocks at home on a CPU are taken there
+abbrev pub CanGive : GeometryNumbers → Next → Shared → HandState → Type 0
+CanGive g (Give cpu) s h = AreSized g.block (blocks_in h)
+    × ((n : ℕ) → times n (numbers_of (blocks_in h)) + times n (numbers_of (list_at s cpu).blocks) ≤ 1)
+CanGive g other s h = Unit {0}
+
+pub hand_kept : (g : GeometryNumbers) (k : Next) (a : ℕ) (granted : Bool) (s : Shared) (h : HandState) (r : Running) → 0 < g.block
+    → g.blocks < 2 ^ 64 → Before a s k r → AllGoHome g k s h r g.block a → CanGive g k s h → HandAt g k h r → (is_going k ≡ true
+    → r.ending ≡ Answers)
+    → OnHand g (kind_turn k g.block a granted s h r)
+hand_kept g Number a granted s h r some small b goes give at going = number_hand g s.pool.numbers s h r at.0 at.1 at.2 (going refl)
+hand_kept g (Look place) a granted s h r some small b goes give at going = look_hand g _ _ _ place s h r goes.0 at.0 at.1 (going refl)
+hand_kept g (Lock place) a granted s h r some small b goes give at going = lock_hand g _ a place s h r at (going refl)
+hand_kept g Check a granted s h r some small b goes give at going =
+    check_hand g (ending_at g.block s h r) granted _ g.block s h (with_made s h r) goes.0 at.killed
+    (λ is. let o = check_overtaken g.block s h r at is in record { empty = o.empty; looks = o.looks })
+    (λ is. let f = check_fits g s h r some at is in record { killed = f.killed; fits = f.fits }) (going refl)
+hand_kept g (TakeBlocks asked) a granted s h r some small b goes give at going =
+    let cpu = asked_list (length s.lists) a asked in
+    let taken = (list_at s cpu).blocks in
+    blocks_hand g _ _ asked g.block _ (record h { blocks = h.blocks ++ take r.wanted taken }) r goes.1 (record {
+      killed = at.killed;
+      fits = subst (λ (n : ℕ). FitsFile g.block r.call n) (sym (taken_count r.wanted h.blocks taken)) at.fits;
+    }) (going refl)
+hand_kept g (TakePages asked) a granted s h r some small b goes give at going =
+    pages_hand g _ _ asked _ _ r goes.1 (record { killed = at.killed; fits = at.fits }) (going refl)
+hand_kept g Ready a granted s h r some small b goes give at going =
+    grown_hand g granted _ s h r goes.0 at.killed (ready_planned g a s h r at small (first_below g.blocks h goes.0.below) b, going)
+hand_kept g Enter a granted s h r some small b goes give at going = enter_hand g s.holder _ granted a s h r goes.0 at (going refl)
+hand_kept g (Append place) a granted s h r some small b goes give at going =
+    appending_hand g (place + 1) (deed (Append place) g.block a s h r).hand r (append_planned place _ h r b.inside at) (going refl)
+hand_kept g Open a granted s h r some small b goes give at going =
+    publishing_hand g 0 h r (ap length at) (omega arith) (going refl)
+hand_kept g (Publish place) a granted s h r some small b goes give at going =
+    let hand = (deed (Publish place) g.block a s h r).hand in
+    publishing_hand g (place + 1) hand r (length-append h.killed _ ∙ ap (λ (n : ℕ). n + 1) at)
+    (let inside = b.inside in omega (arith, inside)) (going refl)
+hand_kept g Close a granted s h r some small b goes give at going =
+    retiring_hand g 0 (record h { ino = None }) r (omega (arith, at)) (going refl)
+hand_kept g (Retire place) a granted s h r some small b goes give at going =
+    let hand = (deed (Retire place) g.block a s h r).hand in
+    let cell = retired_cell (slot_at (written_slots r) place) (first_killed h.killed) s r in
+    let freed = with_freed (slot_at (written_slots r) place) (first_killed h.killed) s r h in
+    let same = ap length (erased_killed (slot_at (written_slots r) place) cell freed) in
+    retiring_hand g (place + 1) hand r (omega (arith, same, dropped h.killed place (length (written_slots r)) at b.inside)) (going refl)
+hand_kept g Leave a granted s h r some small b goes give at going =
+    end_hand g r.slots r.ending _ h r goes.1 at
+    (λ is. not_overtaken Answers refl (sym (going refl) ∙ is))
+hand_kept g (Unlock place) a granted s h r some small b goes give at going = unlock_hand g _ place _ h r goes.1 at.0 at.1
+hand_kept g (Give cpu) a granted s h r some small b goes give at going =
+    let list = list_at s cpu in
+    let kept = all_given g cpu list (blocks_in h) (goes.0.lists.each cpu at.1) give.0 give.1 at.2 in
+    let same = given_all cpu s h in
+    rest_hand g (cpu + 1) s _ _ h.ino (given cpu s h) r (record { some = goes.1.some; lists = goes.0.lists; below = goes.1.below })
+    refl refl (let inside = at.1 in omega (arith, inside))
+    (subst (λ (l : List BlockValue). AreGiven g (cpu + 1) l) (sym same) kept) at.0
+hand_kept g Back a granted s h r some small b goes give at going = back_hand g h.ino s h r refl at.0 at.1
+hand_kept g Visit a granted s h r some small b goes give at going = visit_hand g _ _ _ _ s h r goes.0 at

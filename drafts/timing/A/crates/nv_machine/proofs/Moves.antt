@@ -1,0 +1,102 @@
+-- No call has ever more than the most steps left, so none moves more often, one Go after another.
+use Rattle.std.proofs.Common.{◌≡◌, ◌≢◌, ℕ, zero, suc, ◌<◌, ◌≤◌, ◌==◌, Bool, true, false, List, [], ◌∷◌, Option, Some, None, ap, arith, if◌then◌else◌, length, map, nat_lt, refl, replicate, subst, sym}
+use Rattle.std.specs.List.{AllByRecursion}
+use Rattle.std.proofs.lemmas.Bool.{eqb-false, eqb-true}
+use Rattle.nv_base.specs.Limits.{IsWithinLimits}
+use Rattle.nv_base.specs.declared.geometry.GeometryNumbers.{GeometryNumbers}
+use Rattle.nv_calls.specs.declared.call.Call.{Call}
+use Rattle.nv_machine.specs.Bound.{IsNoStart, bound_at, bound_of, most_steps, moves, moves_by}
+use Rattle.nv_machine.specs.Format.{formatted}
+use Rattle.nv_machine.specs.Frame.{lent}
+use Rattle.nv_machine.specs.Step.{after, go_step, replies, step, turn}
+use Rattle.nv_machine.specs.World.{Actor, Event, Go, Moved, Running, Shared, Start, World, actor_at, idle}
+use Rattle.nv_machine.proofs.Events.{event_bound, events_bound, start_bound, starts, turned_frame}
+use Rattle.nv_machine.proofs.Framed.{framed}
+use Rattle.nv_machine.proofs.FromScratch.{all_numbers}
+use Rattle.nv_machine.proofs.Lists.{self}
+use Rattle.nv_machine.proofs.Locks.{all_same}
+
+-- ---- the bound of every call
+
+go_cpus : (b : Bool) (running : Option Running) (w : World) (actor : ℕ) (granted : Bool)
+    → length (go_step b running actor granted w).world.shared.lists ≡ length w.shared.lists
+go_cpus false running w actor granted = refl
+go_cpus true None w actor granted = refl
+go_cpus true (Some r) w actor granted =
+    let h = (actor_at w actor).hand in
+    (turned_frame (lent r.next (length w.shared.lists) actor r) (turn w.numbers.block actor granted w.shared h r) actor w
+    (framed r.next w.numbers.block actor granted w.shared h r)).cpus
+
+event_cpus : (w : World) (e : Event) → length (step w e).world.shared.lists ≡ length w.shared.lists
+event_cpus w (Start actor c) = ap (λ (s : Shared). length s.lists) (starts w actor c).shared
+event_cpus w (Go actor granted) = go_cpus (nat_lt actor (length w.actors)) (actor_at w actor).running w actor granted
+
+-- a start of one's own: the call has the bound of a started one, or it is as it was
+own_start : (b : Bool) (running : Option Running) (w : World) (actor : ℕ) (c : Call) → nat_lt actor (length w.actors) ≡ b
+    → (actor_at w actor).running ≡ running → bound_at w actor ≤ most_steps (length w.shared.lists)
+    → bound_at (step w (Start actor c)).world actor ≤ most_steps (length w.shared.lists)
+own_start false running w actor c there is few = rw there few
+own_start true (Some r) w actor c there is few = rw there (rw is few)
+own_start true None w actor c there is few = start_bound w actor c (rw there (rw is refl))
+
+event_few : (w : World) (actor : ℕ) (e : Event) → bound_at w actor ≤ most_steps (length w.shared.lists)
+    → bound_at (step w e).world actor ≤ most_steps (length w.shared.lists)
+event_few w actor (Go other granted) few = omega (arith, few, event_bound w actor (Go other granted) tt)
+event_few w actor (Start other c) few = go (other == actor) refl where
+  go : (b : Bool) → (other == actor) ≡ b → bound_at (step w (Start other c)).world actor ≤ most_steps (length w.shared.lists)
+  go true e = subst (λ (n : ℕ). bound_at (step w (Start n c)).world actor ≤ most_steps (length w.shared.lists))
+      (sym (eqb-true other actor e))
+      (own_start (nat_lt actor (length w.actors)) (actor_at w actor).running w actor c refl refl few)
+  go false e = omega (arith, few, event_bound w actor (Start other c) (eqb-false other actor e))
+
+events_few : (events : List Event) (w : World) (actor : ℕ) → bound_at w actor ≤ most_steps (length w.shared.lists)
+    → bound_at (after w events) actor ≤ most_steps (length w.shared.lists)
+events_few [] w actor few = few
+events_few (e ∷ events) w actor few =
+    let cpus = event_cpus w e in
+    subst (λ (n : ℕ). bound_at (after w (e ∷ events)) actor ≤ most_steps n) cpus
+    (events_few events (step w e).world actor
+    (subst (λ (n : ℕ). bound_at (step w e).world actor ≤ most_steps n) (sym cpus) (event_few w actor e few)))
+
+pub steps_few : (g : GeometryNumbers) (events : List Event) (actor : ℕ) → IsWithinLimits g
+    → bound_at (after (formatted g) events) actor ≤ most_steps g.cpus
+steps_few g events actor within =
+    let cpus = (all_numbers g [] within).lists.cpus in
+    subst (λ (n : ℕ). bound_at (after (formatted g) events) actor ≤ most_steps n) cpus (events_few events (formatted g) actor none) where
+      none : bound_at (formatted g) actor ≤ most_steps (length (formatted g).shared.lists)
+      none = subst (λ (x : Actor). bound_of (length (formatted g).shared.lists) x.running ≤ most_steps (length (formatted g).shared.lists))
+          (sym (all_same g.actors actor idle)) (omega arith)
+
+-- ---- one Go after another
+
+abbrev pub gos : ℕ → List Bool → List Event
+gos actor grants = map (Go actor) grants
+
+no_starts : (actor : ℕ) (grants : List Bool) → AllByRecursion (IsNoStart actor) (gos actor grants)
+no_starts actor [] = tt
+no_starts actor (granted ∷ grants) = (tt, no_starts actor grants)
+
+-- where each moves the call, it moves as often
+all_move : (n : ℕ) (w : World) (actor : ℕ) (grants : List Bool) → replies w (gos actor grants) ≡ replicate n Moved
+    → moves actor w (gos actor grants) ≡ n
+all_move zero w actor [] e = refl
+all_move zero w actor (granted ∷ grants) e = cc
+all_move (suc n) w actor [] e = cc
+all_move (suc n) w actor (granted ∷ grants) e =
+    let first : (step w (Go actor granted)).reply ≡ Moved = cc in
+    let rest : replies (step w (Go actor granted)).world (gos actor grants) ≡ replicate n Moved = cc in
+    let more = all_move n (step w (Go actor granted)).world actor grants rest in
+    let own = self actor in
+    let one : (if actor == actor then moves_by (step w (Go actor granted)).reply else 0) ≡ 1 = rw own (ap moves_by first) in
+    omega (arith, one, more)
+
+pub moves_end : (n : ℕ) (w : World) (actor : ℕ) (grants : List Bool) → bound_at w actor < n
+    → replies w (gos actor grants) ≢ replicate n Moved
+moves_end n w actor grants few e =
+    absurd (omega (arith, few, all_move n w actor grants e, events_bound (gos actor grants) w actor (no_starts actor grants)))
+
+pub calls_stop : (g : GeometryNumbers) (events : List Event) (actor n : ℕ) (grants : List Bool) → IsWithinLimits g
+    → most_steps g.cpus < n → replies (after (formatted g) events) (gos actor grants) ≢ replicate n Moved
+calls_stop g events actor n grants within many =
+    let few = steps_few g events actor within in
+    moves_end n (after (formatted g) events) actor grants (omega (arith, few, many))

@@ -1,0 +1,5 @@
+use Rattle.nv_machine.proofs.Looking.{look_inside}
+use Rattle.nv_machine.proofs.hand_laws.looks_are_in_directories.Goals as goal
+
+pub returns : goal.returns
+returns c = look_inside

@@ -1,0 +1,5 @@
+use Rattle.nv_machine.proofs.FromScratch.{told}
+use Rattle.nv_machine.proofs.laws.blocks_are_told.Goals as goal
+
+pub returns : goal.returns
+returns c = told

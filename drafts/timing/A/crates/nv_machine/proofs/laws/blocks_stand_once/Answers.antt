@@ -1,0 +1,5 @@
+use Rattle.nv_machine.proofs.FromScratch.{each_once}
+use Rattle.nv_machine.proofs.laws.blocks_stand_once.Goals as goal
+
+pub returns : goal.returns
+returns c = each_once

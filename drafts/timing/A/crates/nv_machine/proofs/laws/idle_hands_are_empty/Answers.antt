@@ -1,0 +1,5 @@
+use Rattle.nv_machine.proofs.FromScratch.{idle_nothing}
+use Rattle.nv_machine.proofs.laws.idle_hands_are_empty.Goals as goal
+
+pub returns : goal.returns
+returns c = idle_nothing

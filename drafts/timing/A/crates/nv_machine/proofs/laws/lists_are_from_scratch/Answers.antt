@@ -1,0 +1,5 @@
+use Rattle.nv_machine.proofs.FromScratch.{scanned}
+use Rattle.nv_machine.proofs.laws.lists_are_from_scratch.Goals as goal
+
+pub returns : goal.returns
+returns c = scanned

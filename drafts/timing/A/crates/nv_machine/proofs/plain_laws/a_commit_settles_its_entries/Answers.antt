@@ -1,0 +1,11 @@
+use Rattle.nv_machine.proofs.GrownRuns.{events_grown, new_grown, point_settles}
+use Rattle.nv_machine.proofs.plain_laws.a_commit_settles_its_entries.Goals as goal
+
+pub returns-clause-new : goal.returns-clause-new
+returns-clause-new c = new_grown
+
+pub returns-clause-stays : goal.returns-clause-stays
+returns-clause-stays c = events_grown
+
+pub returns-clause-settles : goal.returns-clause-settles
+returns-clause-settles c = point_settles

@@ -1,0 +1,49 @@
+-- A call that has only its last steps left, and how it ends.
+use Rattle.std.specs.Prelude.{◌≡◌, ◌⊎◌, ℕ, Option, Some, None}
+use Rattle.nv_calls.specs.AllCalls.{answer}
+use Rattle.nv_calls.specs.declared.answer.Answer.{Answer}
+use Rattle.nv_machine.specs.Kinds.{result_by}
+use Rattle.nv_machine.specs.Step.{Step, reply_of}
+use Rattle.nv_machine.specs.World.{Answers, Append, Back, Close, Ending, Give, Leave, Moved, Next, Open, Overtaken, Publish, Refuses, Retire, Running, Unlock, actor_at}
+
+-- no step is left that decides anything: a commit is under way, or what is locked or in the hand is given up
+abbrev pub IsLast : Next → Type 0
+IsLast (Append place) = Unit {0}
+IsLast Open = Unit {0}
+IsLast (Publish place) = Unit {0}
+IsLast Close = Unit {0}
+IsLast (Retire place) = Unit {0}
+IsLast Leave = Unit {0}
+IsLast (Unlock place) = Unit {0}
+IsLast (Give cpu) = Unit {0}
+IsLast Back = Unit {0}
+IsLast other = ⊥
+
+-- how a call may end that has only such steps left: there is no further round
+abbrev pub IsFinal : Ending → Type 0
+IsFinal Answers = Unit {0}
+IsFinal (Refuses fault) = Unit {0}
+IsFinal Overtaken = ⊥
+
+-- a call is to end so, and has only such steps left
+pub record IsToEnd (e : Ending) (r : Running) : Type 0 where
+  pub ends : r.ending ≡ e
+  pub last : IsLast r.next
+
+-- what a call is answered that makes a commit, which no node tells
+abbrev pub answer_of : Running → Answer
+answer_of r = answer (λ handle. None) r.made r.call
+
+-- the same call, with the same answer
+pub record IsMovedOn (e : Ending) (before after : Running) : Type 0 where
+  pub waits : IsToEnd e after
+  pub answer : answer_of after ≡ answer_of before
+
+abbrev pub IsMovedTo : Ending → Running → Option Running → Type 0
+IsMovedTo e before None = ⊥
+IsMovedTo e before (Some after) = IsMovedOn e before after
+
+-- a step moves the call on towards its end, or is its last and replies that
+abbrev pub GoesTo : Ending → ℕ → Running → Step → Type 0
+GoesTo e actor r made =
+    ((made.reply ≡ Moved) × IsMovedTo e r (actor_at made.world actor).running) ⊎ (made.reply ≡ reply_of (result_by e r))

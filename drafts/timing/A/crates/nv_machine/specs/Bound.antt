@@ -1,0 +1,77 @@
+-- How many steps a call has left at most.
+use Rattle.std.specs.Prelude.{ℕ, ◌+◌, ◌-◌, ◌*◌, ◌<◌, ◌≢◌, ◌==◌, if◌then◌else◌, List, [], ◌∷◌, length, Option, Some, None}
+use Rattle.std.specs.List.{AllByRecursion}
+use Rattle.nv_machine.specs.Step.{step}
+use Rattle.nv_machine.specs.World.{Append, Back, Check, Close, Ends, Enter, Event, Give, Go, Leave, Lock, Look, Moved, Moves, Next, Number, Open, Publish, Ready, Reply, Retire, Running, Start, TakeBlocks, TakePages, Turn, Unlock, Visit, Waits, World, actor_at}
+
+-- the steps left in one round, by the step that comes next, with so many CPUs and slots to lock
+abbrev pub rank : ℕ → ℕ → Next → ℕ
+rank cpus slots Back = 1
+rank cpus slots (Give cpu) = 2 + (cpus - cpu)
+rank cpus slots (Unlock place) = 3 + cpus + (slots - place)
+rank cpus slots Leave = 4 + cpus + slots
+rank cpus slots (Retire place) = 5 + cpus + slots + (slots - place)
+rank cpus slots Close = 6 + cpus + 2 * slots
+rank cpus slots (Publish place) = 7 + cpus + 2 * slots + (slots - place)
+rank cpus slots Open = 8 + cpus + 3 * slots
+rank cpus slots (Append place) = 9 + cpus + 3 * slots + (slots - place)
+rank cpus slots Enter = 10 + cpus + 4 * slots
+rank cpus slots Ready = 11 + cpus + 4 * slots
+rank cpus slots (TakePages asked) = 12 + cpus + 4 * slots + (cpus - asked)
+rank cpus slots (TakeBlocks asked) = 13 + 2 * cpus + 4 * slots + (cpus - asked)
+rank cpus slots Check = 14 + 3 * cpus + 4 * slots
+rank cpus slots Visit = 14 + 3 * cpus + 4 * slots
+rank cpus slots (Lock place) = 15 + 3 * cpus + 4 * slots + (slots - place)
+rank cpus slots Number = 41 + 3 * cpus
+rank cpus slots (Look place) = 41 + 3 * cpus + (2 - place)
+
+-- a whole round, whatever its looks find
+abbrev pub round : ℕ → ℕ
+round cpus = 44 + 3 * cpus
+
+-- the steps left of a call, with the rounds that it may still make
+abbrev pub bound : ℕ → Running → ℕ
+bound cpus r = r.rounds * round cpus + rank cpus (length r.slots) r.next
+
+-- eight rounds
+abbrev pub most_steps : ℕ → ℕ
+most_steps cpus = 8 * round cpus
+
+-- what is moved on to has fewer steps left than so many
+abbrev pub Falls : ℕ → ℕ → Turn → Type 0
+Falls cpus n (Moves s h r) = bound cpus r < n
+Falls cpus n Waits = Unit {0}
+Falls cpus n (Ends result s h) = Unit {0}
+
+-- ---- over events
+
+abbrev pub bound_of : ℕ → Option Running → ℕ
+bound_of cpus None = 0
+bound_of cpus (Some r) = bound cpus r
+
+-- the bound of an actor's call; 0 where it has none
+abbrev pub bound_at : World → ℕ → ℕ
+bound_at w actor = bound_of (length w.shared.lists) (actor_at w actor).running
+
+-- one where an event moves the actor's call
+abbrev pub moves_by : Reply → ℕ
+moves_by Moved = 1
+moves_by other = 0
+
+abbrev pub moves_in : ℕ → Event → Reply → ℕ
+moves_in actor (Start other c) reply = 0
+moves_in actor (Go other granted) reply = if other == actor then moves_by reply else 0
+
+-- how many of the events do so
+abbrev pub moves : ℕ → World → List Event → ℕ
+moves actor w [] = 0
+moves actor w (e ∷ events) = moves_in actor e (step w e).reply + moves actor (step w e).world events
+
+-- no call of the actor is started
+abbrev pub IsNoStart : ℕ → Event → Type 0
+IsNoStart actor (Start other c) = other ≢ actor
+IsNoStart actor (Go other granted) = Unit {0}
+
+-- so in all of them
+abbrev pub AreNoStarts : ℕ → List Event → Type 0
+AreNoStarts actor events = AllByRecursion (IsNoStart actor) events

@@ -1,0 +1,98 @@
+-- For what a step refuses its call.
+use Rattle.std.specs.Prelude.{◌≡◌, ℕ, ◌+◌, ◌<◌, ◌≤◌, ◌⊎◌, Bool, true, false, [], length, Option, None, Result, Ok, Err}
+use Rattle.nv_base.specs.declared.fault.Fault.{Fault}
+use Rattle.nv_base.specs.declared.fault.Fault.TheVariants.{CommitLimit, Contended, NoInode, NoSpace, OutOfMemory}
+use Rattle.nv_base.specs.declared.limits.TheConstants.{NUMBER}
+use Rattle.nv_base.specs.declared.numbers.Handle.{Handle}
+use Rattle.nv_entry.specs.declared.node.NodeCopy.{NodeCopy}
+use Rattle.nv_calls.specs.AllCalls.{early, look_refusal, looked, refusal}
+use Rattle.nv_calls.specs.Refusals.{passes}
+use Rattle.nv_calls.specs.declared.answer.Answer.{Answer}
+use Rattle.nv_machine.specs.Answered.{IsLast}
+use Rattle.nv_machine.specs.Kinds.{asked_list}
+use Rattle.nv_machine.specs.Sequence.{beginning}
+use Rattle.nv_machine.specs.Step.{is_numbered, same_looked, visit_grows}
+use Rattle.nv_machine.specs.World.{Answers, Check, Ending, Ends, Enter, HandState, Look, Moves, Next, Overtaken, Ready, Refuses, Running, Shared, TakeBlocks, TakePages, Turn, Visit, Waits, list_at}
+
+-- ---- causes
+
+-- the call is one that the plain world refuses, over these nodes
+abbrev pub IsRefusal : ℕ → (Handle → Option NodeCopy) → Running → Fault → Type 0
+IsRefusal block nodes r fault = refusal block nodes r.call ≡ Err fault
+
+-- memory that the step asks for is not granted
+abbrev pub IsDenied : Bool → Fault → Type 0
+IsDenied granted fault = (fault ≡ OutOfMemory) × (granted ≡ false)
+
+-- the plain world does not refuse it
+abbrev pub Passes : ℕ → (Handle → Option NodeCopy) → Running → Type 0
+Passes block nodes r = refusal block nodes r.call ≡ passes
+
+-- the call makes an inode, and has no number: its number step found none free
+abbrev pub IsWithoutNumber : HandState → Running → Fault → Type 0
+IsWithoutNumber h r fault = (fault ≡ NoInode) × (is_numbered (beginning r.call) h.ino ≡ false)
+
+-- the last list is asked, and has fewer blocks than are wanted yet
+pub record IsShort (s : Shared) (cpu asked : ℕ) (r : Running) (fault : Fault) : Type 0 where
+  pub is : fault ≡ NoSpace
+  pub last : length s.lists ≤ asked + 1
+  pub short : length (list_at s cpu).blocks < r.wanted
+
+-- no further commit number is there
+abbrev pub IsAtLimit : Shared → Fault → Type 0
+IsAtLimit s fault = (fault ≡ CommitLimit) × (NUMBER ≤ s.book.commit)
+
+-- the tests before the names pass, and a name is bound anew since the looks
+abbrev pub IsOvertaken : (Handle → Option NodeCopy) → Running → Type 0
+IsOvertaken nodes r = (early nodes r.call ≡ passes) × (same_looked (looked nodes r.call) r.looked ≡ false)
+
+-- that is so, nothing is locked, and no round of looks is left
+abbrev pub IsLastRound : (Handle → Option NodeCopy) → Running → Fault → Type 0
+IsLastRound nodes r fault = (fault ≡ Contended) × IsOvertaken nodes r × (r.slots ≡ []) × (r.rounds ≡ 0)
+
+-- no round of looks is left
+abbrev pub IsRoundless : Running → Fault → Type 0
+IsRoundless r fault = (fault ≡ Contended) × (r.rounds ≡ 0)
+
+-- for what each step refuses its call, where it reads these nodes; the others refuse nothing
+abbrev pub IsCause : Next → ℕ → ℕ → Bool → (Handle → Option NodeCopy) → Shared → HandState → Running → Fault → Type 0
+IsCause (Look place) block actor granted nodes s h r fault = look_refusal nodes r.call ≡ Err fault
+IsCause Check block actor granted nodes s h r fault =
+    IsRefusal block nodes r fault ⊎ (IsWithoutNumber h r fault × Passes block nodes r) ⊎ (IsDenied granted fault × Passes block nodes r)
+    ⊎ IsLastRound nodes r fault
+IsCause (TakeBlocks asked) block actor granted nodes s h r fault = IsShort s (asked_list (length s.lists) actor asked) asked r fault
+IsCause (TakePages asked) block actor granted nodes s h r fault = IsShort s (asked_list (length s.lists) actor asked) asked r fault
+IsCause Ready block actor granted nodes s h r fault = IsDenied granted fault
+IsCause Enter block actor granted nodes s h r fault = IsAtLimit s fault ⊎ IsDenied granted fault
+IsCause Visit block actor granted nodes s h r fault =
+    IsRefusal block nodes r fault ⊎ (IsDenied granted fault × (visit_grows r.call ≡ true) × Passes block nodes r)
+IsCause other block actor granted nodes s h r fault = ⊥
+
+-- a call may be overtaken at its check alone
+abbrev pub MayBeOvertaken : Next → (Handle → Option NodeCopy) → Running → Type 0
+MayBeOvertaken Check nodes r = IsOvertaken nodes r
+MayBeOvertaken other nodes r = ⊥
+
+-- ---- a step that refuses its call
+
+-- whatever fault a call is to end with meets this, and the call has only its last steps left; and this holds where it is overtaken
+abbrev pub EndsFor : (Fault → Type 0) → Type 0 → Next → Ending → Type 0
+EndsFor P Q next (Refuses fault) = P fault × IsLast next
+EndsFor P Q next Answers = Unit {0}
+EndsFor P Q next Overtaken = Q
+
+abbrev pub ResultFor : (Fault → Type 0) → Result Answer Fault → Type 0
+ResultFor P (Ok found) = Unit {0}
+ResultFor P (Err fault) = P fault
+
+-- whatever fault a turn refuses its call for meets this: the call is to end with it, or ends with it now
+abbrev pub RefusesFor : (Fault → Type 0) → Type 0 → Turn → Type 0
+RefusesFor P Q (Moves s h r) = EndsFor P Q r.next r.ending
+RefusesFor P Q Waits = Unit {0}
+RefusesFor P Q (Ends result s h) = ResultFor P result
+
+-- a step leaves its call without a number only where no number is free
+abbrev pub FindsNone : Shared → Turn → Type 0
+FindsNone s (Moves t h r) = h.ino ≡ None → s.pool.numbers ≡ []
+FindsNone s Waits = Unit {0}
+FindsNone s (Ends result t h) = Unit {0}

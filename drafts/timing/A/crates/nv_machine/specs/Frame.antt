@@ -1,0 +1,87 @@
+-- What a step is lent of all that is shared, and that it leaves the rest as it is.
+use Rattle.std.specs.Prelude.{◌≡◌, ◌≢◌, ℕ, ◌<◌, Bool, true, false, length, Option, Some, None}
+use Rattle.nv_calls.specs.declared.call.Call.{Call}
+use Rattle.nv_machine.specs.Kinds.{asked_list}
+use Rattle.nv_machine.specs.Reads.{slot_at, written_slots}
+use Rattle.nv_machine.specs.Sequence.{beginning, begun}
+use Rattle.nv_machine.specs.Step.{Step, turn, turned}
+use Rattle.nv_machine.specs.World.{Append, Back, Check, Close, Ends, Enter, Give, Leave, Lock, Look, Moves, Next, Number, Open, Publish, Ready, Retire, Running, Shared, Started, TakeBlocks, TakePages, Turn, Unlock, Visit, Waits, World, actor_at, cell_at, list_at, owner_at}
+
+-- the parts that a step may change: the free list of a CPU, the pool, the cell of a slot, the lock of a slot, the book, and
+-- the commit lock
+pub record Lent : Type 0 where
+  pub list : Option ℕ
+  pub pool : Bool
+  pub cell : Option ℕ
+  pub lock : Option ℕ
+  pub book : Bool
+  pub commit_lock : Bool
+
+abbrev pub nothing_lent : Lent
+nothing_lent = record { list = None; pool = false; cell = None; lock = None; book = false; commit_lock = false }
+
+-- what an actor's step is lent, with so many CPUs
+abbrev pub lent : Next → ℕ → ℕ → Running → Lent
+lent Number cpus actor r = record nothing_lent { pool = true }
+lent (Look place) cpus actor r = nothing_lent
+lent (Lock place) cpus actor r = record nothing_lent { lock = Some (slot_at r.slots place) }
+lent Check cpus actor r = nothing_lent
+lent (TakeBlocks asked) cpus actor r = record nothing_lent { list = Some (asked_list cpus actor asked) }
+lent (TakePages asked) cpus actor r = record nothing_lent { list = Some (asked_list cpus actor asked) }
+lent Ready cpus actor r = nothing_lent
+lent Enter cpus actor r = record nothing_lent { book = true; commit_lock = true }
+lent (Append place) cpus actor r = record nothing_lent { cell = Some (slot_at (written_slots r) place) }
+lent Open cpus actor r = record nothing_lent { book = true }
+lent (Publish place) cpus actor r = record nothing_lent { cell = Some (slot_at (written_slots r) place) }
+lent Close cpus actor r = record nothing_lent { book = true }
+lent (Retire place) cpus actor r = record nothing_lent { book = true; cell = Some (slot_at (written_slots r) place) }
+lent Leave cpus actor r = record nothing_lent { commit_lock = true }
+lent (Unlock place) cpus actor r = record nothing_lent { lock = Some (slot_at r.slots place) }
+lent (Give cpu) cpus actor r = record nothing_lent { list = Some cpu }
+lent Back cpus actor r = record nothing_lent { pool = true }
+lent Visit cpus actor r = nothing_lent
+
+-- what is not lent stays
+abbrev pub Stays : Bool → Type 0 → Type 0
+Stays true claim = Unit {0}
+Stays false claim = claim
+
+-- THE FRAME: all that is not lent is as before, and no part comes or goes
+pub record Frame (l : Lent) (s t : Shared) : Type 0 where
+  pub lists : (cpu : ℕ) → l.list ≢ Some cpu → list_at t cpu ≡ list_at s cpu
+  pub pool : Stays l.pool (t.pool ≡ s.pool)
+  pub cells : (ino : ℕ) → l.cell ≢ Some ino → cell_at t ino ≡ cell_at s ino
+  pub owners : (ino : ℕ) → l.lock ≢ Some ino → owner_at t ino ≡ owner_at s ino
+  pub book : Stays l.book (t.book ≡ s.book)
+  pub holder : Stays l.commit_lock (t.holder ≡ s.holder)
+  pub cpus : length t.lists ≡ length s.lists
+  pub slots : length t.cells ≡ length s.cells
+  pub locks : length t.owners ≡ length s.owners
+
+-- a turn leaves what is not lent
+abbrev pub IsFramed : Lent → Shared → Turn → Type 0
+IsFramed l s (Moves t h r) = Frame l s t
+IsFramed l s Waits = Unit {0}
+IsFramed l s (Ends result t h) = Frame l s t
+
+-- ---- events
+
+-- of an actor's event: each other actor is as before, and so are the numbers that the world was made with
+pub record LeavesOthers (actor : ℕ) (w v : World) : Type 0 where
+  pub others : (b : ℕ) → b ≢ actor → actor_at v b ≡ actor_at w b
+  pub count : length v.actors ≡ length w.actors
+  pub numbers : v.numbers ≡ w.numbers
+
+-- ONE STEP: what an actor's Go comes to is the turn of the step that comes next in its call, which changes its actor and the
+-- parts that it is lent, and nothing else
+pub record IsOneStep (w : World) (actor : ℕ) (granted : Bool) (r : Running) (made : Step) : Type 0 where
+  pub is_turn : made ≡ turned (turn w.numbers.block actor granted w.shared (actor_at w actor).hand r) actor w
+  pub frame : Frame (lent r.next (length w.shared.lists) actor r) w.shared made.world.shared
+  pub others : LeavesOthers actor w made.world
+
+-- a start changes its actor alone; one without a call has this call now, and its hand as it was
+pub record IsStart (w : World) (actor : ℕ) (c : Call) (made : Step) : Type 0 where
+  pub shared : made.world.shared ≡ w.shared
+  pub others : LeavesOthers actor w made.world
+  pub own : actor < length w.actors → (actor_at w actor).running ≡ None → (made.reply ≡ Started)
+      × (actor_at made.world actor ≡ record { hand = (actor_at w actor).hand; running = Some (begun (beginning c) w.shared c) })

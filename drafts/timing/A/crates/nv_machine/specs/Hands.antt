@@ -1,0 +1,158 @@
+-- What holds of every cell and list, and what an actor's hand has before each step of its call.
+use Rattle.std.specs.Prelude.{◌≡◌, ℕ, ◌+◌, ◌/◌, ◌<◌, ◌≤◌, Bool, true, false, List, [], drop, length, slice_index_or, take, Option, Some, None}
+use Rattle.std.specs.List.{AllByRecursion, flat_map}
+use Rattle.nv_alloc.specs.Block.{AreSized, BlockValue, numbers_of}
+use Rattle.nv_alloc.specs.FreeList.{FreeBlocks, IsFreeList}
+use Rattle.nv_alloc.specs.Numbers.{has}
+use Rattle.nv_base.specs.Homes.{home_start}
+use Rattle.nv_base.specs.declared.geometry.GeometryNumbers.{GeometryNumbers}
+use Rattle.nv_base.specs.declared.limits.TheConstants.{FILE_PAGES}
+use Rattle.nv_calls.specs.Slots.{items_for}
+use Rattle.nv_calls.specs.declared.call.Call.{Call}
+use Rattle.nv_calls.specs.declared.call.Call.TheVariants as call
+use Rattle.nv_calls.specs.declared.plan.Planned.{Planned}
+use Rattle.nv_cell.specs.Append.{IsWithinFile}
+use Rattle.nv_cell.specs.Cell.{AreSlotsSized, CellState, log_of, mark_or_fresh, page_block}
+use Rattle.nv_cell.specs.Marks.{is_there}
+use Rattle.nv_entry.specs.Blocks.{item_blocks}
+use Rattle.nv_entry.specs.Covered.{part_total}
+use Rattle.nv_machine.specs.Kinds.{blocks_in}
+use Rattle.nv_machine.specs.Numbers.{IsEachOnce, all_blocks}
+use Rattle.nv_machine.specs.Reads.{written_slots}
+use Rattle.nv_machine.specs.Sequence.{Beginning, Looks, Locks, Numbers, Visits, beginning, nothing_looked}
+use Rattle.nv_machine.specs.World.{Answers, Append, Back, Check, Close, Enter, Give, HandState, Leave, Lock, Look, Next, Number, Open, Overtaken, Publish, Ready, Retire, Running, Shared, TakeBlocks, TakePages, Unlock, Visit, World, actor_at, cell_at, empty_hand, list_at}
+
+-- ---- lists and cells
+
+-- the free list of a CPU: in rising order, of blocks at home there
+pub record IsHomeList (g : GeometryNumbers) (cpu : ℕ) (list : FreeBlocks) : Type 0 where
+  pub start : list.start ≡ home_start g.blocks g.cpus cpu
+  pub end : list.end ≡ home_start g.blocks g.cpus (cpu + 1)
+  pub size : list.size ≡ g.block
+  pub free : IsFreeList list
+
+pub record AreLists (g : GeometryNumbers) (s : Shared) : Type 0 where
+  pub cpus : length s.lists ≡ g.cpus
+  pub each : (cpu : ℕ) → cpu < g.cpus → IsHomeList g cpu (list_at s cpu)
+
+-- a part that has a block is a page of the log, and the block is the one that its entry says
+abbrev pub ArePagesTold : ℕ → CellState → Type 0
+ArePagesTold block cell = (n : ℕ) (b : BlockValue) → slice_index_or cell.blocks n None ≡ Some b
+    → page_block block cell.chain.entries n ≡ Some b.number
+
+-- each published part of a cell has a mark, each part a place for its block, and one that is out has none there
+pub record IsParted (block : ℕ) (cell : CellState) : Type 0 where
+  pub within : cell.chain.tail ≤ length cell.chain.entries
+  pub marks : length cell.marks ≡ part_total (log_of cell)
+  pub places : length cell.blocks ≡ part_total cell.chain.entries
+  pub out : (n : ℕ) → is_there (mark_or_fresh cell.marks n) ≡ false → slice_index_or cell.blocks n None ≡ None
+  pub told : ArePagesTold block cell
+  pub sized : AreSlotsSized block cell.blocks
+  pub pages : AreSized block cell.chain.blocks
+
+-- ---- what is published
+
+-- the slots that a commit has appended to and not yet published
+abbrev pub unpublished_at : Next → List ℕ → List ℕ
+unpublished_at (Append place) written = take place written
+unpublished_at Open written = written
+unpublished_at (Publish place) written = drop place written
+unpublished_at other written = []
+
+abbrev pub unpublished_by : Option Running → List ℕ
+unpublished_by None = []
+unpublished_by (Some r) = unpublished_at r.next (written_slots r)
+
+-- every other cell's log ends at its tail
+abbrev pub AreTailsLast : World → Type 0
+AreTailsLast w = (ino : ℕ) → ((actor : ℕ) → has (unpublished_by (actor_at w actor).running) ino ≡ false)
+    → (cell_at w.shared ino).chain.tail ≡ length (cell_at w.shared ino).chain.entries
+
+-- ---- hands
+
+-- a call whose new inode takes its number first
+abbrev pub makes_inode : Beginning → Bool
+makes_inode Numbers = true
+makes_inode Looks = false
+makes_inode Locks = false
+makes_inode Visits = false
+
+-- before a check has passed a hand has a new inode's number at most, and no name was looked up for one
+pub record HasTakenNone (h : HandState) (r : Running) : Type 0 where
+  pub blocks : blocks_in h ≡ []
+  pub killed : h.killed ≡ []
+  pub number : makes_inode (beginning r.call) ≡ false → h.ino ≡ None
+  pub looked : makes_inode (beginning r.call) ≡ true → r.looked ≡ nothing_looked
+
+-- so many blocks from the call's first page on are pages of a file; a call that fills no pages takes none
+abbrev pub FitsFile : ℕ → Call → ℕ → Type 0
+FitsFile block (call.Write file offset text) count = offset / block + count ≤ FILE_PAGES
+FitsFile block (call.Size file size) count = size / block + count ≤ FILE_PAGES
+FitsFile block other count = count ≡ 0
+
+pub record HasFitting (block : ℕ) (h : HandState) (r : Running) (count : ℕ) : Type 0 where
+  pub killed : h.killed ≡ []
+  pub fits : FitsFile block r.call count
+
+-- the blocks of the pages that a plan has for these slots
+abbrev pub planned_blocks : List Planned → List ℕ → List ℕ
+planned_blocks plan slots = flat_map (λ ino. flat_map item_blocks (items_for plan ino)) slots
+
+-- the blocks of a plan's pages for these slots stand first in the hand, in order
+pub record HasPlanned (h : HandState) (r : Running) (slots : List ℕ) : Type 0 where
+  pub killed : h.killed ≡ []
+  pub enough : length (planned_blocks r.plan slots) ≤ length h.blocks
+  pub first : take (length (planned_blocks r.plan slots)) (numbers_of h.blocks) ≡ planned_blocks r.plan slots
+  pub within : (ino : ℕ) → AllByRecursion IsWithinFile (items_for r.plan ino)
+
+-- all blocks of the hand that were at home on a lower CPU are given
+abbrev pub AreGiven : GeometryNumbers → ℕ → List BlockValue → Type 0
+AreGiven g cpu blocks = AllByRecursion (λ (b : BlockValue). home_start g.blocks g.cpus cpu ≤ b.number) blocks
+
+-- a call that begins anew has an empty hand
+pub record BeginsAnew (h : HandState) (r : Running) : Type 0 where
+  pub empty : h ≡ empty_hand
+  pub looks : makes_inode (beginning r.call) ≡ false
+
+abbrev pub HandAt : GeometryNumbers → Next → HandState → Running → Type 0
+HandAt g Number h r = (h ≡ empty_hand) × (makes_inode (beginning r.call) ≡ true) × (r.looked ≡ nothing_looked)
+HandAt g (Look place) h r = (h ≡ empty_hand) × (makes_inode (beginning r.call) ≡ false)
+HandAt g (Lock place) h r = HasTakenNone h r
+HandAt g Check h r = HasTakenNone h r
+HandAt g (TakeBlocks asked) h r = HasFitting g.block h r (length h.blocks + r.wanted)
+HandAt g (TakePages asked) h r = HasFitting g.block h r (length h.blocks)
+HandAt g Ready h r = HasFitting g.block h r (length h.blocks)
+HandAt g Enter h r = HasPlanned h r (written_slots r)
+HandAt g (Append place) h r = HasPlanned h r (drop place (written_slots r))
+HandAt g Open h r = h.killed ≡ []
+HandAt g (Publish place) h r = length h.killed ≡ place
+HandAt g Close h r = length h.killed ≡ length (written_slots r)
+HandAt g (Retire place) h r = length h.killed + place ≡ length (written_slots r)
+HandAt g Leave h r = h.killed ≡ []
+HandAt g (Unlock place) h r = (h.killed ≡ []) × (r.ending ≡ Overtaken → BeginsAnew h r)
+HandAt g (Give cpu) h r = (h.killed ≡ []) × (cpu < g.cpus) × AreGiven g cpu (blocks_in h)
+HandAt g Back h r = (h.killed ≡ []) × (blocks_in h ≡ [])
+HandAt g Visit h r = h ≡ empty_hand
+
+-- until its last steps a call is to be answered
+abbrev pub is_going : Next → Bool
+is_going (Unlock place) = false
+is_going (Give cpu) = false
+is_going Back = false
+is_going other = true
+
+abbrev pub HandOf : GeometryNumbers → HandState → Option Running → Type 0
+HandOf g h None = h ≡ empty_hand
+HandOf g h (Some r) = HandAt g r.next h r × (is_going r.next ≡ true → r.ending ≡ Answers)
+
+-- ---- the whole
+
+-- WHAT HOLDS OF THE NUMBERS of each world
+pub record AreNumbers (g : GeometryNumbers) (w : World) : Type 0 where
+  pub numbers : w.numbers ≡ g
+  pub once : IsEachOnce g.blocks (all_blocks w)
+  pub lists : AreLists g w.shared
+  pub cells : (ino : ℕ) → IsParted g.block (cell_at w.shared ino)
+  pub tails : AreTailsLast w
+  pub sized : (actor : ℕ) → AreSized g.block (blocks_in (actor_at w actor).hand)
+  pub hands : (actor : ℕ) → HandOf g (actor_at w actor).hand (actor_at w actor).running

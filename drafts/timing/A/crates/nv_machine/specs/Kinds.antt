@@ -1,0 +1,298 @@
+-- The steps, one function a kind. What decides a step is an argument.
+use Rattle.std.specs.Prelude.{ℕ, zero, suc, ◌+◌, ◌-◌, ◌%◌, Bool, true, false, if◌then◌else◌, nat_lt, List, [], ◌∷◌, ◌++◌, drop, length, map, take, Option, Some, None, Result, Ok, Err}
+use Rattle.nv_calls.specs.declared.looked.Looked.{Looked}
+use Rattle.nv_alloc.specs.Block.{BlockValue}
+use Rattle.nv_alloc.specs.Giving.{after_giving, kept_of}
+use Rattle.nv_alloc.specs.Numbers.{put_by}
+use Rattle.nv_base.specs.declared.fault.Fault.{Fault}
+use Rattle.nv_base.specs.declared.fault.Fault.TheVariants.{CommitLimit, Contended, NoInode, NoSpace, OutOfMemory}
+use Rattle.nv_base.specs.declared.numbers.Handle.{Handle}
+use Rattle.nv_book.specs.Book.{BookState, after_enter, with_journal}
+use Rattle.nv_calls.specs.AllCalls.{answer}
+use Rattle.nv_calls.specs.Plain.{Change}
+use Rattle.nv_calls.specs.Refusals.{Check as Tests}
+use Rattle.nv_calls.specs.Retiring.{erased, freed_by, is_erased, killed_by, number_back, retired, with_records}
+use Rattle.nv_calls.specs.Slots.{entries_of, items_for, place_in}
+use Rattle.nv_calls.specs.declared.answer.Answer.{Answer}
+use Rattle.nv_entry.specs.Blocks.{item_blocks}
+use Rattle.nv_cell.specs.Append.{appended, blocks_for}
+use Rattle.nv_cell.specs.Cell.{CellState, published}
+use Rattle.nv_cell.specs.declared.killed.KilledPart.{KilledPart}
+use Rattle.nv_entry.specs.declared.item.Entry.{Entry}
+use Rattle.nv_epoch.specs.SnapList.{ids}
+use Rattle.nv_journal.specs.declared.old_tail.OldTail.{OldTail}
+use Rattle.nv_log.specs.Chain.{with_page}
+use Rattle.nv_calls.specs.FillPages.{filled, fresh_pages}
+use Rattle.nv_machine.specs.Reads.{copies, home_from, pages_wanted, plan_by, slot_at, slots_of, written_slots}
+use Rattle.nv_machine.specs.Sequence.{sequel}
+use Rattle.nv_machine.specs.World.{Answers, Append, Back, Close, Ending, Ends, Enter, Give, HandState, Lock, Look, Moves, Next, Number, Open, Overtaken, Publish, Ready, Refuses, Retire, Running, Shared, TakeBlocks, TakePages, Turn, Unlock, Waits, cell_at, go_to, list_at, with_book, with_cell, with_list, with_numbers, with_owner}
+
+-- ---- how a call ends
+
+abbrev pub blocks_in : HandState → List BlockValue
+blocks_in h = h.blocks ++ h.pages ++ h.chain
+
+-- what a call is answered at its last step; what a call that commits is answered, no node tells
+abbrev pub result_by : Ending → Running → Result Answer Fault
+result_by Answers r = Ok (answer (λ handle. None) r.made r.call)
+result_by (Refuses fault) r = Err fault
+result_by Overtaken r = Err Contended
+
+-- nothing is locked: blocks go home, CPU by CPU, and then a number goes back; where nothing is left, the step replies
+abbrev pub rest_turn : Option ℕ → Option ℕ → Shared → HandState → Running → Turn
+rest_turn (Some cpu) number s h r = Moves s h (go_to (Give cpu) r)
+rest_turn None (Some ino) s h r = Moves s h (go_to Back r)
+rest_turn None None s h r = Ends (result_by r.ending r) s h
+
+-- the next round of looks, if there is one
+abbrev pub again_turn : ℕ → Shared → HandState → Running → Turn
+again_turn zero s h r = Ends (Err Contended) s h
+again_turn (suc rounds) s h r = Moves s h (record r { ending = Answers; rounds = rounds; next = Look 0 })
+
+abbrev pub over_turn : Ending → Shared → HandState → Running → Turn
+over_turn Answers s h r = rest_turn (home_from 0 0 s.lists (blocks_in h)) h.ino s h r
+over_turn (Refuses fault) s h r = rest_turn (home_from 0 0 s.lists (blocks_in h)) h.ino s h r
+over_turn Overtaken s h r = again_turn r.rounds s h r
+
+-- the call turns to its last steps, of which the first is to unlock what is locked
+abbrev pub end_turn : List ℕ → Ending → Shared → HandState → Running → Turn
+end_turn [] ending s h r = over_turn ending s h (record r { ending = ending })
+end_turn (slot ∷ slots) ending s h r = Moves s h (record r { ending = ending; next = Unlock 0 })
+
+abbrev pub refuse : Fault → Shared → HandState → Running → Turn
+refuse fault s h r = end_turn r.slots (Refuses fault) s h r
+
+-- a step that grows anything goes on where the memory is granted
+abbrev pub grown : Bool → Turn → Shared → HandState → Running → Turn
+grown true turn s h r = turn
+grown false turn s h r = refuse OutOfMemory s h r
+
+-- the step has done its work
+abbrev pub go_on : Next → Shared → HandState → Running → Turn
+go_on done s h r = Moves s h (go_to (sequel r done) r)
+
+-- ---- number: the lowest free number, if there is one
+
+abbrev pub number_turn : List ℕ → Shared → HandState → Running → Turn
+number_turn [] s h r = go_on Number s h (record r { slots = slots_of s None r.looked r.call })
+number_turn (ino ∷ numbers) s h r =
+    go_on Number (with_numbers numbers s) (record h { ino = Some ino }) (record r { slots = slots_of s (Some ino) r.looked r.call })
+
+-- ---- look: what the names of one directory are bound to
+
+-- one directory's look finds both names; of two, each its own
+abbrev pub seen_at : List Handle → ℕ → Looked → Looked → Looked
+seen_at (dir ∷ other ∷ rest) zero now before = record { first = now.first; second = None }
+seen_at (dir ∷ other ∷ rest) (suc place) now before = record { first = before.first; second = now.second }
+seen_at directories place now before = now
+
+-- the first name may be refused at its look; what is wrong with the second is told at the check
+abbrev pub look_tests : ℕ → Tests → Tests
+look_tests zero tests = tests
+look_tests (suc place) tests = Ok tt
+
+abbrev pub look_turn : Option ℕ → Tests → Looked → ℕ → Shared → HandState → Running → Turn
+look_turn (Some other) tests found place s h r = Waits
+look_turn None (Err fault) found place s h r = end_turn [] (Refuses fault) s h r
+look_turn None (Ok passed) found place s h r = go_on (Look place) s h (record r { looked = found; slots = slots_of s None found r.call })
+
+-- ---- lock
+
+abbrev pub lock_turn : Option ℕ → ℕ → ℕ → Shared → HandState → Running → Turn
+lock_turn (Some other) actor place s h r = Waits
+lock_turn None actor place s h r = go_on (Lock place) (with_owner (slot_at r.slots place) (Some actor) s) h r
+
+-- ---- check
+
+-- whether a check ends the call, and how: by the tests before the names are compared with what the looks found; by a name
+-- that was bound anew; by the other tests; for want of a number; or since there is nothing to commit
+abbrev pub check_ending : Tests → Bool → Tests → Bool → List Change → Option Ending
+check_ending (Err fault) same tests numbered effect = Some (Refuses fault)
+check_ending (Ok passed) false tests numbered effect = Some Overtaken
+check_ending (Ok passed) true (Err fault) numbered effect = Some (Refuses fault)
+check_ending (Ok passed) true (Ok all) false effect = Some (Refuses NoInode)
+check_ending (Ok passed) true (Ok all) true [] = Some Answers
+check_ending (Ok passed) true (Ok all) true (change ∷ effect) = None
+
+-- what is wanted is taken, data blocks first and then log pages; a taking of nothing has no step
+abbrev pub wants_pages : ℕ → Shared → HandState → Running → Turn
+wants_pages zero s h r = Moves s h (record r { wanted = 0; next = Ready })
+wants_pages (suc n) s h r = Moves s h (record r { wanted = suc n; next = TakePages 0 })
+
+abbrev pub wants_blocks : ℕ → ℕ → Shared → HandState → Running → Turn
+wants_blocks zero block s h r = wants_pages (pages_wanted s r.slots (plan_by block s h r)) s h r
+wants_blocks (suc n) block s h r = Moves s h (record r { wanted = suc n; next = TakeBlocks 0 })
+
+abbrev pub check_turn : Option Ending → Bool → ℕ → ℕ → Shared → HandState → Running → Turn
+check_turn (Some ending) granted wanted block s h r = end_turn r.slots ending s h r
+check_turn None granted wanted block s h r = grown granted (wants_blocks wanted block s h r) s h r
+
+-- ---- take: from one list, its lowest blocks
+
+-- the list that is asked so many lists behind the actor's own
+abbrev pub asked_list : ℕ → ℕ → ℕ → ℕ
+asked_list cpus actor asked = (actor + asked) % cpus
+
+abbrev pub less_list : ℕ → ℕ → Shared → Shared
+less_list cpu n s = with_list cpu (record (list_at s cpu) { blocks = drop n (list_at s cpu).blocks }) s
+
+-- so many blocks are wanted yet, and there is another list to ask or not
+abbrev pub blocks_turn : ℕ → Bool → ℕ → ℕ → Shared → HandState → Running → Turn
+blocks_turn zero more asked block s h r = wants_pages (pages_wanted s r.slots (plan_by block s h r)) s h r
+blocks_turn (suc n) true asked block s h r = Moves s h (record r { wanted = suc n; next = TakeBlocks (asked + 1) })
+blocks_turn (suc n) false asked block s h r = refuse NoSpace s h r
+
+abbrev pub pages_turn : ℕ → Bool → ℕ → Shared → HandState → Running → Turn
+pages_turn zero more asked s h r = Moves s h (record r { wanted = 0; next = Ready })
+pages_turn (suc n) true asked s h r = Moves s h (record r { wanted = suc n; next = TakePages (asked + 1) })
+pages_turn (suc n) false asked s h r = refuse NoSpace s h r
+
+abbrev pub take_blocks_turn : ℕ → ℕ → ℕ → Shared → HandState → Running → Turn
+take_blocks_turn cpu asked block s h r =
+    blocks_turn (r.wanted - length (list_at s cpu).blocks) (nat_lt (asked + 1) (length s.lists)) asked block (less_list cpu r.wanted s)
+    (record h { blocks = h.blocks ++ take r.wanted (list_at s cpu).blocks }) r
+
+abbrev pub take_pages_turn : ℕ → ℕ → Shared → HandState → Running → Turn
+take_pages_turn cpu asked s h r =
+    pages_turn (r.wanted - length (list_at s cpu).blocks) (nat_lt (asked + 1) (length s.lists)) asked (less_list cpu r.wanted s)
+    (record h { pages = h.pages ++ take r.wanted (list_at s cpu).blocks }) r
+
+-- ---- ready: all growths; then the fresh blocks have their bytes
+
+abbrev pub with_bytes : ℕ → Shared → Running → HandState → HandState
+with_bytes block s r h = record h { blocks = filled (fresh_pages block (copies s) r.call) h.blocks }
+
+abbrev pub ready_turn : Bool → ℕ → Shared → HandState → Running → Turn
+ready_turn granted block s h r =
+    grown granted (go_on Ready s (with_bytes block s r h) (record r { plan = plan_by block s h r })) s h r
+
+-- ---- enter: the commit lock, and the commit's number and epoch
+
+abbrev pub enter_turn : Option ℕ → Bool → Bool → ℕ → Shared → HandState → Running → Turn
+enter_turn (Some other) last granted actor s h r = Waits
+enter_turn None true granted actor s h r = refuse CommitLimit s h r
+enter_turn None false granted actor s h r =
+    grown granted (go_on Enter (record s { book = after_enter actor s.book; holder = Some actor }) h
+    (record r { commit = s.book.commit + 1; epoch = s.book.snaps.epoch })) s h r
+
+-- ---- append: one inode's entries, past its tail
+
+-- a cell with more log pages
+abbrev pub with_pages : List BlockValue → CellState → CellState
+with_pages [] cell = cell
+with_pages (b ∷ blocks) cell = with_pages blocks (record cell { chain = with_page b cell.chain })
+
+-- a cell with more entries, each with the blocks of its pages from the front of these
+abbrev pub with_entries : List Entry → List BlockValue → CellState → CellState
+with_entries [] blocks cell = cell
+with_entries (e ∷ entries) blocks cell =
+    with_entries entries (drop (length (item_blocks e.item)) blocks) (appended e (blocks_for e.item blocks) cell)
+
+-- what these leave of the blocks
+abbrev pub blocks_left : List Entry → List BlockValue → List BlockValue
+blocks_left [] blocks = blocks
+blocks_left (e ∷ entries) blocks = blocks_left entries (drop (length (item_blocks e.item)) blocks)
+
+-- the entries that a call has for a slot
+abbrev pub entries_for : Running → ℕ → List Entry
+entries_for r ino = entries_of r.commit r.epoch (place_in r.plan ino) (items_for r.plan ino)
+
+abbrev pub append_turn : ℕ → ℕ → ℕ → Shared → HandState → Running → Turn
+append_turn ino pages place s h r =
+    go_on (Append place) (with_cell ino (with_entries (entries_for r ino) h.blocks (with_pages (take pages h.pages) (cell_at s ino))) s)
+    (record h { blocks = blocks_left (entries_for r ino) h.blocks; pages = drop pages h.pages }) r
+
+-- ---- open and close the journal of the actor's CPU
+
+abbrev pub old_tails : Shared → List ℕ → List OldTail
+old_tails s slots = map (λ ino. record { ino = ino; tail = (cell_at s ino).chain.tail }) slots
+
+abbrev pub open_turn : ℕ → Shared → HandState → Running → Turn
+open_turn cpu s h r = go_on Open (with_book (with_journal cpu (old_tails s (written_slots r)) s.book) s) h r
+
+-- a new inode has its number from here on
+abbrev pub close_turn : ℕ → Shared → HandState → Running → Turn
+close_turn cpu s h r = go_on Close (with_book (with_journal cpu [] s.book) s) (record h { ino = None }) r
+
+-- ---- publish: one inode
+
+abbrev pub with_killed : List KilledPart → HandState → HandState
+with_killed parts h = record h { killed = h.killed ++ parts ∷ [] }
+
+abbrev pub publish_turn : ℕ → ℕ → Shared → HandState → Running → Turn
+publish_turn ino place s h r =
+    go_on (Publish place) (with_cell ino (published (cell_at s ino)) s) (with_killed (killed_by (cell_at s ino)) h) r
+
+-- ---- retire: the killed parts of one inode, in order
+
+-- what was killed first
+abbrev pub first_killed : List (List KilledPart) → List KilledPart
+first_killed [] = []
+first_killed (parts ∷ rest) = parts
+
+-- what a living snapshot holds is kept and recorded, and the rest goes out
+abbrev pub retired_cell : ℕ → List KilledPart → Shared → Running → CellState
+retired_cell ino killed s r = retired (ids s.book.snaps) ino r.epoch killed (cell_at s ino)
+
+abbrev pub retired_book : ℕ → List KilledPart → Shared → Running → BookState
+retired_book ino killed s r = record s.book { manifests = with_records (ids s.book.snaps) ino r.epoch killed s.book.manifests }
+
+-- the blocks that this sets free go to the hand; a gone inode that keeps nothing is erased, and its chain goes there too, with
+-- its number, unless its slot's next generation is the last
+abbrev pub with_freed : ℕ → List KilledPart → Shared → Running → HandState → HandState
+with_freed ino killed s r h = record h {
+  blocks = h.blocks ++ freed_by (ids s.book.snaps) ino r.epoch killed (cell_at s ino);
+  killed = drop 1 h.killed;
+}
+
+abbrev pub with_erased : ℕ → CellState → HandState → HandState
+with_erased ino cell h =
+    if is_erased cell then record h { chain = h.chain ++ cell.chain.blocks; ino = number_back ino cell h.ino } else h
+
+abbrev pub retire_turn : ℕ → List KilledPart → ℕ → Shared → HandState → Running → Turn
+retire_turn ino killed place s h r =
+    go_on (Retire place) (with_cell ino (erased (retired_cell ino killed s r)) (with_book (retired_book ino killed s r) s))
+    (with_erased ino (retired_cell ino killed s r) (with_freed ino killed s r h)) r
+
+-- ---- leave
+
+abbrev pub leave_turn : Shared → HandState → Running → Turn
+leave_turn s h r = end_turn r.slots r.ending (record s { holder = None }) h r
+
+-- ---- unlock
+
+abbrev pub unlocked_turn : Bool → ℕ → Shared → HandState → Running → Turn
+unlocked_turn true place s h r = Moves s h (go_to (Unlock (place + 1)) r)
+unlocked_turn false place s h r = over_turn r.ending s h r
+
+abbrev pub unlock_turn : ℕ → Shared → HandState → Running → Turn
+unlock_turn place s h r = unlocked_turn (nat_lt (place + 1) (length r.slots)) place (with_owner (slot_at r.slots place) None s) h r
+
+-- ---- give: all that is at home on one CPU
+
+abbrev pub given : ℕ → Shared → HandState → HandState
+given cpu s h = record h {
+  blocks = kept_of (list_at s cpu) h.blocks;
+  pages = kept_of (after_giving (list_at s cpu) h.blocks) h.pages;
+  chain = kept_of (after_giving (list_at s cpu) (h.blocks ++ h.pages)) h.chain;
+}
+
+abbrev pub with_given : ℕ → HandState → Shared → Shared
+with_given cpu h s = with_list cpu (after_giving (list_at s cpu) (blocks_in h)) s
+
+abbrev pub give_turn : ℕ → Shared → HandState → Running → Turn
+give_turn cpu s h r =
+    rest_turn (home_from (cpu + 1) 0 s.lists (blocks_in (given cpu s h))) h.ino (with_given cpu h s) (given cpu s h) r
+
+-- ---- back: the number in the hand goes to the pool
+
+abbrev pub back_turn : Option ℕ → Shared → HandState → Running → Turn
+back_turn None s h r = Ends (result_by r.ending r) s h
+back_turn (Some ino) s h r = Ends (result_by r.ending r) (with_numbers (put_by (λ n. n) ino s.pool.numbers) s) (record h { ino = None })
+
+-- ---- visit
+
+abbrev pub visit_turn : Option ℕ → Tests → Bool → Answer → Shared → HandState → Running → Turn
+visit_turn (Some other) tests granted found s h r = Waits
+visit_turn None (Err fault) granted found s h r = refuse fault s h r
+visit_turn None (Ok passed) granted found s h r = grown granted (Ends (Ok found) s h) s h r

@@ -1,0 +1,96 @@
+-- Which locks a call holds, and what a step may wait for.
+use Rattle.std.specs.Prelude.{◌≡◌, ◌≢◌, ℕ, ◌<◌, ◌==◌, Bool, true, false, List, [], drop, length, take, Option, Some, None}
+use Rattle.std.specs.List.{AllByRecursion}
+use Rattle.nv_alloc.specs.Numbers.{IsRising, has}
+use Rattle.nv_machine.specs.Frame.{lent}
+use Rattle.nv_machine.specs.Reads.{slot_at, written_slots}
+use Rattle.nv_machine.specs.Sequence.{directories, nothing_looked}
+use Rattle.nv_machine.specs.Step.{handle_at}
+use Rattle.nv_calls.specs.Locked.{handles}
+use Rattle.nv_machine.specs.World.{Append, Back, Close, Enter, Give, Leave, Lock, Look, Next, Number, Open, Publish, Retire, Running, Shared, Unlock, Visit, World, actor_at, owner_at}
+
+-- ---- what a call holds
+
+-- the slots that a call holds before a step: those that it has locked and not yet unlocked
+abbrev pub held_at : Next → List ℕ → List ℕ
+held_at Number slots = []
+held_at (Look place) slots = []
+held_at (Lock place) slots = take place slots
+held_at (Unlock place) slots = drop place slots
+held_at (Give cpu) slots = []
+held_at Back slots = []
+held_at Visit slots = []
+held_at other slots = slots
+
+-- whether it holds the commit lock: from its enter to its leave
+abbrev pub commits_at : Next → Bool
+commits_at (Append place) = true
+commits_at Open = true
+commits_at (Publish place) = true
+commits_at Close = true
+commits_at (Retire place) = true
+commits_at Leave = true
+commits_at other = false
+
+abbrev pub held_by : Option Running → List ℕ
+held_by None = []
+held_by (Some r) = held_at r.next r.slots
+
+abbrev pub commits_by : Option Running → Bool
+commits_by None = false
+commits_by (Some r) = commits_at r.next
+
+abbrev pub is_owner : ℕ → Option ℕ → Bool
+is_owner actor None = false
+is_owner actor (Some other) = other == actor
+
+-- the slots of a call rise, so that each is locked once, and are slots of the world
+pub record AreSlots (slots : ℕ) (list : List ℕ) : Type 0 where
+  pub rising : IsRising list
+  pub inside : AllByRecursion (λ ino. ino < slots) list
+
+-- a loop stands at one of those that it goes over; a visit has no slots
+abbrev pub IsInside : Next → Running → Type 0
+IsInside (Lock place) r = place < length r.slots
+IsInside (Unlock place) r = place < length r.slots
+IsInside (Append place) r = place < length (written_slots r)
+IsInside (Publish place) r = place < length (written_slots r)
+IsInside (Retire place) r = place < length (written_slots r)
+IsInside Visit r = r.slots ≡ []
+IsInside other r = Unit {0}
+
+abbrev pub HasSlots : ℕ → Option Running → Type 0
+HasSlots slots None = Unit {0}
+HasSlots slots (Some r) = AreSlots slots r.slots × IsInside r.next r
+
+-- an actor holds exactly the locks of its call
+pub record HoldsIts (s : Shared) (actor : ℕ) (running : Option Running) : Type 0 where
+  pub owners : (ino : ℕ) → is_owner actor (owner_at s ino) ≡ has (held_by running) ino
+  pub holder : is_owner actor s.holder ≡ commits_by running
+  pub slots : HasSlots (length s.owners) running
+
+-- what holds of the locks of each world
+pub record AreLocks (w : World) : Type 0 where
+  pub each : (actor : ℕ) → HoldsIts w.shared actor (actor_at w actor).running
+  pub wide : length w.shared.owners ≡ length w.shared.cells
+
+-- ---- what a step waits for
+
+-- another actor has the lock
+abbrev pub IsHeldByOther : ℕ → Option ℕ → Type 0
+IsHeldByOther actor owner = (other : ℕ) × (owner ≡ Some other) × (other ≢ actor)
+
+-- the lock that a step needs; most need none that is not held already
+abbrev pub WaitsFor : Shared → ℕ → Running → Next → Type 0
+WaitsFor s actor r (Look place) = IsHeldByOther actor (owner_at s (handle_at (directories r.call) place).ino)
+WaitsFor s actor r (Lock place) = IsHeldByOther actor (owner_at s (slot_at r.slots place))
+WaitsFor s actor r Enter = IsHeldByOther actor s.holder
+WaitsFor s actor r Visit = IsHeldByOther actor (owner_at s (handle_at (handles nothing_looked r.call) 0).ino)
+WaitsFor s actor r other = ⊥
+
+-- ---- what is lent
+
+-- the cell that a step is lent is locked by its actor, and in a commit the commit lock is the actor's
+pub record HasLent (s : Shared) (actor : ℕ) (r : Running) : Type 0 where
+  pub cell : (ino : ℕ) → (lent r.next (length s.lists) actor r).cell ≡ Some ino → owner_at s ino ≡ Some actor
+  pub holder : commits_at r.next ≡ true → s.holder ≡ Some actor

@@ -1,0 +1,61 @@
+-- Where each block number stands, and that each stands once.
+use Rattle.std.specs.Prelude.{◌≡◌, ℕ, ◌+◌, ◌-◌, false, if◌then◌else◌, nat_lt, List, ◌++◌, Option, None, option_to_list}
+use Rattle.std.specs.List.{flat_map}
+use Rattle.nv_alloc.specs.Block.{BlockValue, numbers_of}
+use Rattle.nv_alloc.specs.FreeList.{FreeBlocks}
+use Rattle.nv_alloc.specs.Numbers.{has, times, unused}
+use Rattle.nv_base.specs.Homes.{home_start}
+use Rattle.nv_base.specs.declared.geometry.GeometryNumbers.{GeometryNumbers}
+use Rattle.nv_cell.specs.Cell.{CellState}
+use Rattle.nv_machine.specs.Kinds.{blocks_in}
+use Rattle.nv_machine.specs.Locks.{is_owner}
+use Rattle.nv_machine.specs.World.{Actor, HandState, World, actor_at, empty_hand, owner_at}
+
+-- ---- where blocks are
+
+-- the blocks of a free list, by number
+abbrev pub free_of : FreeBlocks → List ℕ
+free_of list = numbers_of list.blocks
+
+-- those of a cell: the pages of its chain, and the blocks of its parts
+abbrev pub of_part : Option BlockValue → List ℕ
+of_part block = numbers_of (option_to_list block)
+
+abbrev pub stored_in : CellState → List ℕ
+stored_in cell = numbers_of cell.chain.blocks ++ flat_map of_part cell.blocks
+
+-- those of a hand: data blocks, log pages, and the pages of an erased chain
+abbrev pub held_in : HandState → List ℕ
+held_in hand = numbers_of (blocks_in hand)
+
+abbrev pub held_by_actor : Actor → List ℕ
+held_by_actor actor = held_in actor.hand
+
+-- those that cells and hands have
+abbrev pub used_blocks : World → List ℕ
+used_blocks w = flat_map stored_in w.shared.cells ++ flat_map held_by_actor w.actors
+
+-- EVERY BLOCK, as often as it stands in a free list, in a cell or in a hand
+abbrev pub all_blocks : World → List ℕ
+all_blocks w = flat_map free_of w.shared.lists ++ used_blocks w
+
+-- each number below so many stands in the list once, and no other number does
+abbrev pub IsEachOnce : ℕ → List ℕ → Type 0
+IsEachOnce many numbers = (n : ℕ) → times n numbers ≡ (if nat_lt n many then 1 else 0)
+
+-- AN IDLE ACTOR has an empty hand and no lock
+pub record HoldsNothing (w : World) (actor : ℕ) : Type 0 where
+  pub hand : (actor_at w actor).hand ≡ empty_hand
+  pub locks : (ino : ℕ) → is_owner actor (owner_at w.shared ino) ≡ false
+  pub commit_lock : is_owner actor w.shared.holder ≡ false
+
+abbrev pub IdleHaveNothing : World → Type 0
+IdleHaveNothing w = (actor : ℕ) → (actor_at w actor).running ≡ None → HoldsNothing w actor
+
+-- ---- from scratch
+
+-- the numbers of the home range of a CPU that no cell and no hand has
+abbrev pub free_from_scratch : GeometryNumbers → World → ℕ → List ℕ
+free_from_scratch g w cpu =
+    unused (has (used_blocks w)) (home_start g.blocks g.cpus cpu)
+    (home_start g.blocks g.cpus (cpu + 1) - home_start g.blocks g.cpus cpu)

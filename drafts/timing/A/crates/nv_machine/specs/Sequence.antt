@@ -1,0 +1,105 @@
+-- The order of a call's steps.
+use Rattle.std.specs.Prelude.{ℕ, ◌+◌, if◌then◌else◌, nat_lt, List, [], ◌∷◌, length, None}
+use Rattle.nv_calls.specs.declared.looked.Looked.{Looked}
+use Rattle.nv_base.specs.declared.numbers.Handle.{Handle}
+use Rattle.nv_calls.specs.Plain.{same_handle}
+use Rattle.nv_calls.specs.declared.call.Call.{Call}
+use Rattle.nv_calls.specs.declared.call.Call.TheVariants as call
+use Rattle.nv_entry.specs.Tree.{root}
+use Rattle.nv_machine.specs.Reads.{slots_of, written_slots}
+use Rattle.nv_machine.specs.World.{Answers, Append, Check, Close, Enter, Leave, Lock, Look, Next, Number, Open, Publish, Ready, Retire, Running, Shared, Visit}
+
+-- ---- how calls begin
+
+-- a new inode takes its number first; names are looked up; slots that are told are locked; a visit is its call's only step
+pub data Beginning : Type 0 where
+  Numbers : Beginning
+  Looks : Beginning
+  Locks : Beginning
+  Visits : Beginning
+
+abbrev pub beginning : Call → Beginning
+beginning (call.Create dir name mode) = Numbers
+beginning (call.Mkdir dir name mode) = Numbers
+beginning (call.Write file offset text) = Locks
+beginning (call.Read file offset count) = Visits
+beginning (call.Size file size) = Locks
+beginning (call.Mode handle mode) = Locks
+beginning (call.Stat handle) = Visits
+beginning (call.List dir) = Visits
+beginning (call.Lookup dir name) = Visits
+beginning (call.Unlink dir name) = Looks
+beginning (call.Rmdir dir name) = Looks
+beginning (call.Rename from old to new) = Looks
+
+-- the directories in which a call looks its names up, one look for each
+abbrev pub directories : Call → List Handle
+directories (call.Unlink dir name) = dir ∷ []
+directories (call.Rmdir dir name) = dir ∷ []
+directories (call.Rename from old to new) = if same_handle from to then from ∷ [] else from ∷ to ∷ []
+directories other = []
+
+abbrev pub nothing_looked : Looked
+nothing_looked = record { first = None; second = None }
+
+-- ---- loops: the step for a place, or what comes behind the last one
+
+abbrev pub locking : ℕ → List ℕ → Next
+locking place slots = if nat_lt place (length slots) then Lock place else Check
+
+abbrev pub looking : ℕ → Running → Next
+looking place r = if nat_lt place (length (directories r.call)) then Look place else locking 0 r.slots
+
+abbrev pub retiring : ℕ → List ℕ → Next
+retiring place written = if nat_lt place (length written) then Retire place else Leave
+
+-- a commit of two or more inodes has a journal
+abbrev pub closing : List ℕ → Next
+closing written = if nat_lt 1 (length written) then Close else retiring 0 written
+
+abbrev pub publishing : ℕ → List ℕ → Next
+publishing place written = if nat_lt place (length written) then Publish place else closing written
+
+abbrev pub opening : List ℕ → Next
+opening written = if nat_lt 1 (length written) then Open else publishing 0 written
+
+abbrev pub appending : ℕ → List ℕ → Next
+appending place written = if nat_lt place (length written) then Append place else opening written
+
+-- THE SEQUENCE: what comes behind a step that has done its work. A check and a taking go on by what is still wanted, and a
+-- leave and the last steps by what is locked or in the hand.
+abbrev pub sequel : Running → Next → Next
+sequel r Number = locking 0 r.slots
+sequel r (Look place) = looking (place + 1) r
+sequel r (Lock place) = locking (place + 1) r.slots
+sequel r Ready = Enter
+sequel r Enter = appending 0 (written_slots r)
+sequel r (Append place) = appending (place + 1) (written_slots r)
+sequel r Open = publishing 0 (written_slots r)
+sequel r (Publish place) = publishing (place + 1) (written_slots r)
+sequel r Close = retiring 0 (written_slots r)
+sequel r (Retire place) = retiring (place + 1) (written_slots r)
+sequel r other = other
+
+-- ---- a call that starts
+
+abbrev pub started : Call → Next → List ℕ → Running
+started c next slots = record {
+  call = c;
+  next = next;
+  ending = Answers;
+  looked = nothing_looked;
+  rounds = 7;
+  slots = slots;
+  made = root;
+  wanted = 0;
+  plan = [];
+  commit = 0;
+  epoch = 0;
+}
+
+abbrev pub begun : Beginning → Shared → Call → Running
+begun Numbers s c = started c Number []
+begun Looks s c = started c (Look 0) []
+begun Locks s c = started c (locking 0 (slots_of s None nothing_looked c)) (slots_of s None nothing_looked c)
+begun Visits s c = started c Visit []

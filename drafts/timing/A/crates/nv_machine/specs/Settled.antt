@@ -1,0 +1,38 @@
+-- Settled logs, and the tree that they give.
+use Rattle.std.specs.Prelude.{ℕ, ◌==◌, if◌then◌else◌, List, [], ◌∷◌, length, take, Option, Some, None}
+use Rattle.nv_base.specs.declared.numbers.Handle.{Handle}
+use Rattle.nv_calls.specs.Plain.{PlainNode, node_in, stamped}
+use Rattle.nv_calls.specs.Slots.{last_commit}
+use Rattle.nv_cell.specs.Cell.{CellState}
+use Rattle.nv_entry.specs.Node.{node_now}
+use Rattle.nv_entry.specs.Tree.{root, tree_from}
+use Rattle.nv_entry.specs.declared.item.Entry.{Entry}
+use Rattle.nv_entry.specs.declared.tree.TreeNode.{TreeNode}
+use Rattle.nv_journal.specs.Journal.{tail_noted}
+use Rattle.nv_journal.specs.declared.old_tail.OldTail.{OldTail}
+use Rattle.nv_machine.specs.Reads.{bytes_among}
+use Rattle.nv_machine.specs.World.{Shared, World, cell_at}
+
+abbrev pub noted_or : Option ℕ → ℕ → ℕ
+noted_or (Some tail) other = tail
+noted_or None other = other
+
+-- the tail that an open journal notes for an inode, else its own
+abbrev pub settled_tail : List (List OldTail) → ℕ → ℕ → ℕ
+settled_tail [] ino tail = tail
+settled_tail (tails ∷ journals) ino tail = noted_or (tail_noted tails ino) (settled_tail journals ino tail)
+
+-- the entries up to it
+abbrev pub settled : Shared → ℕ → List Entry
+settled s ino = take (settled_tail s.book.journals ino (cell_at s ino).chain.tail) (cell_at s ino).chain.entries
+
+-- the node of a cell by such a log, and the node under a handle
+abbrev pub node_by : CellState → List Entry → Option PlainNode
+node_by cell log = stamped (last_commit log) (node_now (bytes_among cell.blocks) cell.block log)
+
+abbrev pub settled_nodes : Shared → Handle → Option PlainNode
+settled_nodes s handle =
+    if handle.generation == (cell_at s handle.ino).generation then node_by (cell_at s handle.ino) (settled s handle.ino) else None
+
+abbrev pub tree_of : World → List TreeNode
+tree_of w = tree_from (node_in (settled_nodes w.shared)) (length w.shared.cells) [] root

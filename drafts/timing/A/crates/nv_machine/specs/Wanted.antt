@@ -1,0 +1,59 @@
+-- How much a call's takings want, and from which step a call goes on to each: data blocks first, and then log pages.
+use Rattle.std.specs.Prelude.{◌≡◌, ℕ, ◌+◌, ◌-◌, ◌<◌, ◌⊎◌, length}
+use Rattle.nv_calls.specs.AllCalls.{blocks_wanted}
+use Rattle.nv_machine.specs.Kinds.{asked_list}
+use Rattle.nv_machine.specs.Reads.{copies, has_last_page, pages_wanted, plan_by}
+use Rattle.nv_machine.specs.World.{Check, Ends, HandState, Moves, Next, Ready, Running, Shared, TakeBlocks, TakePages, Turn, Waits, list_at}
+
+-- ---- how much is wanted
+
+-- of data, by what the check reads
+abbrev pub data_wanted : ℕ → Shared → Running → ℕ
+data_wanted block s r = blocks_wanted block (copies s) (has_last_page block s r.call) r.call
+
+-- of log pages, by the plan that the data in the hand makes
+abbrev pub log_pages_wanted : ℕ → Shared → HandState → Running → ℕ
+log_pages_wanted block s h r = pages_wanted s r.slots (plan_by block s h r)
+
+-- yet, after a step that asks its list
+abbrev pub lacking : ℕ → ℕ → Shared → Running → ℕ
+lacking asked actor s r = r.wanted - length (list_at s (asked_list (length s.lists) actor asked)).blocks
+
+-- ---- from step to step
+
+-- a taking begins with the actor's own list, and wants all of this
+pub record Begins (asked wanted all : ℕ) : Type 0 where
+  pub own_list : asked ≡ 0
+  pub is : wanted ≡ all
+  pub some : 0 < wanted
+
+-- it goes on from one list to the next, and wants what is left
+pub record GoesOn (before asked wanted left : ℕ) : Type 0 where
+  pub next : asked ≡ before + 1
+  pub is : wanted ≡ left
+  pub some : 0 < wanted
+
+-- behind this step the hand has all the data of the call: the check wants none, or the list has what is wanted yet
+abbrev pub HasAllData : Next → ℕ → ℕ → Shared → Running → Type 0
+HasAllData Check block actor s r = data_wanted block s r ≡ 0
+HasAllData (TakeBlocks asked) block actor s r = lacking asked actor s r ≡ 0
+HasAllData other block actor s r = ⊥
+
+-- a step `k` that goes on to a taking, or past both, and leaves this behind it
+abbrev pub LeadsTo : Next → Next → ℕ → ℕ → Shared → Running → Shared → HandState → Running → Type 0
+LeadsTo (TakeBlocks asked) k block actor s r t after q =
+    ((k ≡ Check) × Begins asked q.wanted (data_wanted block s r))
+    ⊎ ((before : ℕ) × (k ≡ TakeBlocks before) × GoesOn before asked q.wanted (lacking before actor s r))
+LeadsTo (TakePages asked) k block actor s r t after q =
+    (HasAllData k block actor s r × Begins asked q.wanted (log_pages_wanted block t after q))
+    ⊎ ((before : ℕ) × (k ≡ TakePages before) × GoesOn before asked q.wanted (lacking before actor s r))
+LeadsTo Ready k block actor s r t after q =
+    (HasAllData k block actor s r × (log_pages_wanted block t after q ≡ 0))
+    ⊎ ((before : ℕ) × (k ≡ TakePages before) × (lacking before actor s r ≡ 0))
+LeadsTo other k block actor s r t after q = Unit {0}
+
+-- TWO TAKINGS: so is each step that goes on
+abbrev pub TakesInTurn : Next → ℕ → ℕ → Shared → Running → Turn → Type 0
+TakesInTurn k block actor s r (Moves t after q) = LeadsTo q.next k block actor s r t after q
+TakesInTurn k block actor s r Waits = Unit {0}
+TakesInTurn k block actor s r (Ends result t after) = Unit {0}

@@ -1,0 +1,154 @@
+-- The world of atomic steps: what is shared, and what is each actor's own.
+use Rattle.std.specs.Prelude.{ℕ, Bool, List, [], Option, None, Result, slice_index_or, slice_set}
+use Rattle.nv_calls.specs.declared.looked.Looked.{Looked}
+use Rattle.nv_alloc.specs.Block.{BlockValue}
+use Rattle.nv_alloc.specs.FreeList.{FreeBlocks}
+use Rattle.nv_alloc.specs.InodePool.{FreeInodes}
+use Rattle.nv_base.specs.declared.fault.Fault.{Fault}
+use Rattle.nv_base.specs.declared.geometry.GeometryNumbers.{GeometryNumbers}
+use Rattle.nv_base.specs.declared.numbers.Handle.{Handle}
+use Rattle.nv_book.specs.Book.{BookState}
+use Rattle.nv_calls.specs.declared.answer.Answer.{Answer}
+use Rattle.nv_calls.specs.declared.call.Call.{Call}
+use Rattle.nv_calls.specs.declared.plan.Planned.{Planned}
+use Rattle.nv_cell.specs.Cell.{CellState, empty_cell}
+use Rattle.nv_cell.specs.declared.killed.KilledPart.{KilledPart}
+
+-- ---- what is shared
+
+-- the free list of each CPU, the pool of inode numbers, the cell of each slot and the actor that holds its lock, the book,
+-- and the actor that holds the commit lock
+pub record Shared : Type 0 where
+  pub lists : List FreeBlocks
+  pub pool : FreeInodes
+  pub cells : List CellState
+  pub owners : List (Option ℕ)
+  pub book : BookState
+  pub holder : Option ℕ
+
+-- ---- what is an actor's own
+
+-- what a call has taken and not yet placed: data blocks, log pages, the pages of an erased chain, an inode number, and the
+-- parts that it killed, publish by publish
+pub record HandState : Type 0 where
+  pub blocks : List BlockValue
+  pub pages : List BlockValue
+  pub chain : List BlockValue
+  pub ino : Option ℕ
+  pub killed : List (List KilledPart)
+
+-- the step of a call that comes next; in a loop with its place: of a directory, a slot, a list asked, an inode written
+pub data Next : Type 0 where
+  Number : Next
+  Look : (place : ℕ) → Next
+  Lock : (place : ℕ) → Next
+  Check : Next
+  TakeBlocks : (asked : ℕ) → Next
+  TakePages : (asked : ℕ) → Next
+  Ready : Next
+  Enter : Next
+  Append : (place : ℕ) → Next
+  Open : Next
+  Publish : (place : ℕ) → Next
+  Close : Next
+  Retire : (place : ℕ) → Next
+  Leave : Next
+  Unlock : (place : ℕ) → Next
+  Give : (cpu : ℕ) → Next
+  Back : Next
+  Visit : Next
+
+-- how a call is to end: with its answer, refused, or not yet, since a name was bound anew after the looks
+pub data Ending : Type 0 where
+  Answers : Ending
+  Refuses : (fault : Fault) → Ending
+  Overtaken : Ending
+
+-- a call that runs: what its looks found, and how many more rounds of them it may make; the slots that it locks, in rising
+-- number; the handle of a new inode; how many blocks of a taking it still wants; its plan; its commit's number and epoch
+pub record Running : Type 0 where
+  pub call : Call
+  pub next : Next
+  pub ending : Ending
+  pub looked : Looked
+  pub rounds : ℕ
+  pub slots : List ℕ
+  pub made : Handle
+  pub wanted : ℕ
+  pub plan : List Planned
+  pub commit : ℕ
+  pub epoch : ℕ
+
+pub record Actor : Type 0 where
+  pub hand : HandState
+  pub running : Option Running
+
+-- ---- the world
+
+pub record World : Type 0 where
+  pub numbers : GeometryNumbers
+  pub shared : Shared
+  pub actors : List Actor
+
+-- an actor starts a call, or its call goes on; `granted` says whether the memory is there that the step asks for, if any
+pub data Event : Type 0 where
+  Start : (actor : ℕ) (call : Call) → Event
+  Go : (actor : ℕ) (granted : Bool) → Event
+
+pub data Reply : Type 0 where
+  Started : Reply
+  Moved : Reply
+  Waiting : Reply
+  Done : (answer : Answer) → Reply
+  Refused : (fault : Fault) → Reply
+
+-- what a step comes to: it moves on with what is shared, the hand and the call; it waits and nothing changes; or it is
+-- the call's last, with what the call is answered, what is shared and the hand
+pub data Turn : Type 0 where
+  Moves : Shared → HandState → Running → Turn
+  Waits : Turn
+  Ends : Result Answer Fault → Shared → HandState → Turn
+
+-- ---- parts by their places
+
+abbrev pub no_list : FreeBlocks
+no_list = record { start = 0; end = 0; size = 0; blocks = [] }
+
+abbrev pub no_cell : CellState
+no_cell = empty_cell 0 0 0 0
+
+abbrev pub empty_hand : HandState
+empty_hand = record { blocks = []; pages = []; chain = []; ino = None; killed = [] }
+
+abbrev pub idle : Actor
+idle = record { hand = empty_hand; running = None }
+
+abbrev pub list_at : Shared → ℕ → FreeBlocks
+list_at s cpu = slice_index_or s.lists cpu no_list
+
+abbrev pub cell_at : Shared → ℕ → CellState
+cell_at s ino = slice_index_or s.cells ino no_cell
+
+abbrev pub owner_at : Shared → ℕ → Option ℕ
+owner_at s ino = slice_index_or s.owners ino None
+
+abbrev pub actor_at : World → ℕ → Actor
+actor_at w actor = slice_index_or w.actors actor idle
+
+abbrev pub with_list : ℕ → FreeBlocks → Shared → Shared
+with_list cpu list s = record s { lists = slice_set s.lists cpu list }
+
+abbrev pub with_cell : ℕ → CellState → Shared → Shared
+with_cell ino cell s = record s { cells = slice_set s.cells ino cell }
+
+abbrev pub with_owner : ℕ → Option ℕ → Shared → Shared
+with_owner ino owner s = record s { owners = slice_set s.owners ino owner }
+
+abbrev pub with_numbers : List ℕ → Shared → Shared
+with_numbers numbers s = record s { pool = record s.pool { numbers = numbers } }
+
+abbrev pub with_book : BookState → Shared → Shared
+with_book book s = record s { book = book }
+
+abbrev pub go_to : Next → Running → Running
+go_to next r = record r { next = next }

@@ -1,0 +1,234 @@
+//! Laws of the machine of steps: what a step changes and waits for, that calls end, and where each block and each number
+//! stands. Each is the contract of a function that does nothing; [`crate::plain_laws`] has those of nodes and answers.
+
+ghost use Rattle.std.specs.Prelude.{◌≡◌, ◌+◌, ◌<◌, ◌≤◌, ℕ, Bool, List, Some, None, length, true, slice_get, slice_index_or, false};
+ghost use Rattle.std.specs.Option.{option_map};
+ghost use Rattle.nv_alloc.specs.Block.{number_of};
+ghost use Rattle.nv_alloc.specs.Numbers.{IsRising};
+ghost use Rattle.nv_base.specs.Limits.{IsWithinLimits};
+ghost use Rattle.nv_base.specs.declared.fault.Fault.TheVariants.{ActorBusy, ActorIdle, NoActor};
+ghost use Rattle.nv_base.specs.declared.geometry.GeometryNumbers.{GeometryNumbers};
+ghost use Rattle.nv_calls.specs.declared.call.Call.{Call};
+ghost use Rattle.nv_machine.specs.Bound.{AreNoStarts, bound_at, most_steps, moves};
+ghost use Rattle.nv_cell.specs.Cell.{log_of};
+ghost use Rattle.nv_entry.specs.Held.{keeps};
+ghost use Rattle.nv_entry.specs.Log.{pairs};
+ghost use Rattle.nv_entry.specs.declared.held.Pair.{Pair};
+ghost use Rattle.nv_machine.specs.Causes.{RefusesFor};
+ghost use Rattle.nv_machine.specs.Exact.{HasFirst, Leaves, TakesData, TakesLogPages};
+ghost use Rattle.nv_machine.specs.Format.{formatted};
+ghost use Rattle.nv_machine.specs.Frame.{IsOneStep, IsStart, lent};
+ghost use Rattle.nv_machine.specs.Kinds.{asked_list};
+ghost use Rattle.nv_machine.specs.Locks.{AreLocks, HasLent, WaitsFor};
+ghost use Rattle.nv_machine.specs.Held.{block_in_use, free_by_logs, is_in_use, killed_in, retention_at};
+ghost use Rattle.nv_machine.specs.Hands.{AreLists, ArePagesTold};
+ghost use Rattle.nv_machine.specs.Numbers.{IdleHaveNothing, IsEachOnce, all_blocks, free_from_scratch, free_of};
+ghost use Rattle.nv_machine.specs.Order.{IsInOrder};
+ghost use Rattle.nv_machine.specs.PoolScan.{pool_from_scratch};
+ghost use Rattle.nv_machine.specs.Reads.{pages_needed, slot_at, written_slots};
+ghost use Rattle.nv_machine.specs.Step.{after, kind_turn, stays, step, turn};
+ghost use Rattle.nv_machine.specs.Pages.{AreOnPages, HasLogPages, TakesPages};
+ghost use Rattle.nv_machine.specs.Memory.{IsOther, denied_turn, grows};
+ghost use Rattle.nv_machine.specs.Wanted.{TakesInTurn};
+ghost use Rattle.nv_machine.specs.World.{Answers, Append, Event, Go, HandState, Number, Refused, Running, Shared, Start, Started, TakeBlocks, TakePages, Waiting, World, actor_at, cell_at, list_at};
+
+/// A `Go` of an actor whose call runs makes the one step that comes next, and changes only its actor and the
+/// parts that the step is lent. A start changes its actor alone: one without a call has the call now, before its
+/// first step, and its hand as it was. What is refused for its actor changes nothing.
+pub fn one_step()
+    ensures goes { (w : World) (actor : ℕ) (granted : Bool) (r : Running) → actor < length w.actors
+        → (actor_at w actor).running ≡ Some r
+        → IsOneStep w actor granted r (step w (Go actor granted)) }
+    ensures starts { (w : World) (actor : ℕ) (c : Call)
+        → IsStart w actor c (step w (Start actor c)) }
+    ensures nobody { (w : World) (actor : ℕ) (c : Call) (granted : Bool) → length w.actors ≤ actor
+        → (step w (Start actor c) ≡ stays (Refused NoActor) w)
+        × (step w (Go actor granted) ≡ stays (Refused NoActor) w) }
+    ensures busy { (w : World) (actor : ℕ) (c : Call) (r : Running) → actor < length w.actors
+        → (actor_at w actor).running ≡ Some r
+        → step w (Start actor c) ≡ stays (Refused ActorBusy) w }
+    ensures idle { (w : World) (actor : ℕ) (granted : Bool) → actor < length w.actors
+        → (actor_at w actor).running ≡ None
+        → step w (Go actor granted) ≡ stays (Refused ActorIdle) w }
+{}
+
+/// A number step takes the first number of the pool, if it has one, and a taking from a list its first blocks, as many
+/// as are still wanted or all that it has, behind those of their kind in the hand; nothing else in the hand changes. Pool and
+/// lists are in rising order ([`pool_is_from_scratch`], [`lists_are_sorted`]), so these are the lowest.
+pub fn the_lowest_are_taken()
+    ensures number { (block actor : ℕ) (granted : Bool) (s : Shared) (h : HandState) (r : Running)
+        → h.ino ≡ None → Leaves (HasFirst s) (kind_turn Number block actor granted s h r) }
+    ensures blocks { (asked block actor : ℕ) (granted : Bool) (s : Shared) (h : HandState)
+        (r : Running) → 0 < length s.lists
+        → Leaves (TakesData s (asked_list (length s.lists) actor asked) h r)
+        (kind_turn (TakeBlocks asked) block actor granted s h r) }
+    ensures pages { (asked block actor : ℕ) (granted : Bool) (s : Shared) (h : HandState)
+        (r : Running) → 0 < length s.lists
+        → Leaves (TakesLogPages s (asked_list (length s.lists) actor asked) h r)
+        (kind_turn (TakePages asked) block actor granted s h r) }
+{}
+
+/// A call takes its data first and then its log pages, in two takings, neither of which wants any of the other's. The first
+/// begins at the check, and wants exactly the blocks of the call; the second begins once all of these are in the hand, and
+/// wants exactly the pages of the plan that they make. A taking of nothing has no step. Each goes on from list to list as
+/// long as anything is left of what it wants, and the call is ready only once both have all.
+pub fn data_is_taken_before_log_pages()
+    ensures { (block actor : ℕ) (granted : Bool) (s : Shared) (h : HandState) (r : Running)
+        → TakesInTurn r.next block actor s r (turn block actor granted s h r) }
+{}
+
+/// Memory that is refused makes one and the same turn of every step that grows anything (a check, a ready, an enter, a visit
+/// but a stat), also where that step of that call would have asked for none: where the step would have done its work, it
+/// refuses the call instead, and leaves all that is shared and the hand as they were. Where it would not, it waits or ends the
+/// call as it would have: so a refusal of the plain world, want of a number and the last commit number come first. All
+/// other steps go on as ever. And where memory is granted, no step refuses a call for want of it.
+pub fn refused_memory_makes_one_turn()
+    ensures refused { (block actor : ℕ) (s : Shared) (h : HandState) (r : Running)
+        → grows r.next r.call ≡ true → turn block actor false s h r
+        ≡ denied_turn r.next s h r (turn block actor true s h r) }
+    ensures others { (block actor : ℕ) (s : Shared) (h : HandState) (r : Running)
+        → grows r.next r.call ≡ false → turn block actor false s h r ≡ turn block actor true s h r }
+    ensures granted { (block actor : ℕ) (s : Shared) (h : HandState) (r : Running)
+        → r.ending ≡ Answers
+        → RefusesFor IsOther (Unit {0}) (turn block actor true s h r) }
+{}
+
+/// From a new world on, whatever events come, each actor holds exactly the locks that its call has taken and not
+/// yet given up, and one without a call holds none. So a cell that a step is lent is locked by its actor, and
+/// in a commit the commit lock is the actor's.
+pub fn who_holds_what()
+    ensures new { (g : GeometryNumbers) → IsWithinLimits g → AreLocks (formatted g) }
+    ensures stays { (events : List Event) (w : World) → AreLocks w → AreLocks (after w events) }
+    ensures lent { (w : World) (actor : ℕ) (r : Running) → AreLocks w
+        → (actor_at w actor).running ≡ Some r → HasLent w.shared actor r }
+{}
+
+/// A `Go` that waits changes nothing, and comes only where another actor holds the lock that the step needs.
+pub fn who_waits()
+    ensures { (w : World) (actor : ℕ) (granted : Bool) (r : Running) → AreLocks w
+        → actor < length w.actors → (actor_at w actor).running ≡ Some r
+        → (step w (Go actor granted)).reply ≡ Waiting
+        → ((step w (Go actor granted)).world ≡ w) × WaitsFor w.shared actor r r.next }
+{}
+
+/// Calls end: a call is started with a bound on its steps that depends on the number of CPUs alone, each `Go`
+/// that moves it lowers the bound, and no event of another actor raises it. So however the events of all
+/// actors go, a call moves at most as often as its bound says, up to the next start of its actor.
+pub fn calls_end()
+    ensures starts { (w : World) (actor : ℕ) (c : Call) → (step w (Start actor c)).reply ≡ Started
+        → bound_at (step w (Start actor c)).world actor ≤ most_steps (length w.shared.lists) }
+    ensures falls { (events : List Event) (w : World) (actor : ℕ)
+        → AreNoStarts actor events
+        → moves actor w events + bound_at (after w events) actor ≤ bound_at w actor }
+{}
+
+/// Along every log ids rise and epochs never fall, from a new world on, whatever events come: no commit but the
+/// one that has entered last is under way, and it has the book's number and epoch.
+pub fn ids_rise()
+    ensures new { (g : GeometryNumbers) → IsInOrder (formatted g) }
+    ensures stays { (events : List Event) (w : World) → AreLocks w → IsInOrder w
+        → IsInOrder (after w events) }
+{}
+
+/// From a new world on, whatever events come, each block number stands exactly once among the free lists, the
+/// cells (pages of chains and blocks of parts) and the hands of actors, and no other number stands there.
+pub fn blocks_stand_once()
+    ensures { (g : GeometryNumbers) (events : List Event) → IsWithinLimits g
+        → IsEachOnce g.blocks (all_blocks (after (formatted g) events)) }
+{}
+
+/// Each CPU's free list has its blocks in rising order, all of them at home there and of one size, so that the
+/// first is the lowest.
+pub fn lists_are_sorted()
+    ensures { (g : GeometryNumbers) (events : List Event) → IsWithinLimits g
+        → AreLists g (after (formatted g) events).shared }
+{}
+
+/// Each CPU's free list is what one scan leaves: the numbers of its home range that no page of a chain, no part
+/// and no hand has.
+pub fn lists_are_from_scratch()
+    ensures { (g : GeometryNumbers) (events : List Event) (cpu : ℕ) → IsWithinLimits g
+        → cpu < g.cpus
+        → free_of (list_at (after (formatted g) events).shared cpu)
+        ≡ free_from_scratch g (after (formatted g) events) cpu }
+{}
+
+/// Each free list is what the logs leave: the numbers of the CPU's home range that no page of a chain has, no page of
+/// a log in use and no hand. In use is a part that no later entry of its log covers, up to the tail (so each of the entries
+/// that a commit has appended and not yet published), and one that is killed: published over, and not yet
+/// retired by the call in whose hand it stands. A cell has the block of each page in use, of the number that its
+/// entry says, and no other. Of the pairs of a log, in order, those are in use that are needed, deferred or killed.
+pub fn lists_are_told_by_logs()
+    ensures lists { (g : GeometryNumbers) (events : List Event) (cpu : ℕ)
+        → IsWithinLimits g → cpu < g.cpus
+        → free_of (list_at (after (formatted g) events).shared cpu)
+        ≡ free_by_logs g (after (formatted g) events) cpu }
+    ensures blocks { (g : GeometryNumbers) (events : List Event) (ino n : ℕ) → IsWithinLimits g
+        → option_map number_of
+        (slice_index_or (cell_at (after (formatted g) events).shared ino).blocks n None)
+        ≡ block_in_use (killed_in (after (formatted g) events) ino)
+        (cell_at (after (formatted g) events).shared ino) n }
+    ensures pairs { (g : GeometryNumbers) (events : List Event) (ino n : ℕ) (pair : Pair)
+        → IsWithinLimits g
+        → slice_get (pairs (cell_at (after (formatted g) events).shared ino).block
+        (log_of (cell_at (after (formatted g) events).shared ino))) n ≡ Some pair
+        → is_in_use (killed_in (after (formatted g) events) ino)
+        (cell_at (after (formatted g) events).shared ino) n
+        ≡ keeps (retention_at (after (formatted g) events) ino) pair }
+{}
+
+/// The pool of inode numbers is what one scan leaves, in rising order: the numbers whose slots have no entry in
+/// their logs and are not of the last generation, and that no hand has.
+pub fn pool_is_from_scratch()
+    ensures { (g : GeometryNumbers) (events : List Event) → IsWithinLimits g
+        → (after (formatted g) events).shared.pool.numbers
+        ≡ pool_from_scratch g (after (formatted g) events) }
+{}
+
+/// No two hands have one inode number; with [`pool_is_from_scratch`], none that a hand has is in the pool.
+pub fn hands_have_own_numbers()
+    ensures { (g : GeometryNumbers) (events : List Event) (actor other ino : ℕ) → IsWithinLimits g
+        → (actor_at (after (formatted g) events) actor).hand.ino ≡ Some ino
+        → (actor_at (after (formatted g) events) other).hand.ino ≡ Some ino → actor ≡ other }
+{}
+
+/// An actor without a call has an empty hand and no lock, also where its last call was refused: with
+/// [`blocks_stand_once`], the blocks that it took and did not place are in the free lists again.
+pub fn idle_hands_are_empty()
+    ensures { (g : GeometryNumbers) (events : List Event) → IsWithinLimits g
+        → IdleHaveNothing (after (formatted g) events) }
+{}
+
+/// A block that a cell has for a part is that of a page of the log, and of the number that the page's entry says.
+/// So no two pages of any logs that still have their blocks stand in one block.
+pub fn blocks_are_told()
+    ensures { (g : GeometryNumbers) (events : List Event) (ino : ℕ) → IsWithinLimits g
+        → ArePagesTold g.block (cell_at (after (formatted g) events).shared ino) }
+{}
+
+/// Each entry of a log stands on a page of its chain, and no page has more entries than the geometry says, or none. So that
+/// this stays, a hand has exactly the log pages that its call's plan needs, from the last taking on: with those that a taking
+/// still wants at first, then those of the entries that are yet to be appended, and none once all are.
+pub fn logs_have_their_pages()
+    ensures pages { (g : GeometryNumbers) (events : List Event) (ino : ℕ) → IsWithinLimits g
+        → ino < length (after (formatted g) events).shared.cells
+        → AreOnPages g.page (cell_at (after (formatted g) events).shared ino).chain }
+    ensures hands { (g : GeometryNumbers) (events : List Event) (actor : ℕ) (r : Running)
+        → IsWithinLimits g → (actor_at (after (formatted g) events) actor).running ≡ Some r
+        → HasLogPages r.next g.block (after (formatted g) events).shared
+        (actor_at (after (formatted g) events) actor).hand r }
+{}
+
+/// Log pages are given out by rising inode: an append puts the first of the hand's pages, as many as its inode needs, at
+/// the end of that inode's chain in their order, and the inodes of a commit rise. As the list of a taking rises
+/// ([`lists_are_sorted`]) and its blocks stand in the hand in their order ([`the_lowest_are_taken`]), the lower inode has the
+/// lower pages of each list.
+pub fn log_pages_go_by_rising_inode()
+    ensures appends { (place block actor : ℕ) (granted : Bool) (s : Shared) (h : HandState)
+        (r : Running) → slot_at (written_slots r) place < length s.cells
+        → Leaves (TakesPages s (slot_at (written_slots r) place)
+        (pages_needed s r.plan (slot_at (written_slots r) place)) h)
+        (kind_turn (Append place) block actor granted s h r) }
+    ensures rising { (w : World) (actor : ℕ) (r : Running) → AreLocks w
+        → (actor_at w actor).running ≡ Some r → IsRising (written_slots r) }
+{}

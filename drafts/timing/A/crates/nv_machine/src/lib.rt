@@ -1,0 +1,10 @@
+//! The machine of atomic steps, told by definitions and laws alone.
+#![tactic(auto)]
+
+pub mod call_laws;
+pub mod cell_laws;
+pub mod erasing_laws;
+pub mod hand_laws;
+pub mod laws;
+pub mod plain_laws;
+pub mod tree_laws;

@@ -1,0 +1,330 @@
+//! Laws of the machine of steps beside the plain world: its nodes, what commits change, and what calls are answered and
+//! refused. Each is the contract of a function that does nothing.
+
+ghost use Rattle.std.specs.Prelude.{◌≡◌, ◌+◌, ◌<◌, ◌≤◌, ℕ, Bool, List, [], ◌∷◌, Some, None, length, ◌++◌, true, Option, false};
+ghost use Rattle.nv_alloc.specs.Numbers.{has};
+ghost use Rattle.nv_base.specs.Limits.{IsWithinLimits};
+ghost use Rattle.nv_base.specs.declared.fault.Fault.{Fault};
+ghost use Rattle.nv_base.specs.declared.fault.Fault.TheVariants.{CommitLimit};
+ghost use Rattle.nv_base.specs.declared.geometry.GeometryNumbers.{GeometryNumbers};
+ghost use Rattle.nv_base.specs.declared.limits.TheConstants.{NUMBER};
+ghost use Rattle.nv_base.specs.declared.numbers.Handle.{Handle};
+ghost use Rattle.nv_calls.specs.AllCalls.{answer, effect, looked, refusal};
+ghost use Rattle.nv_calls.specs.Refusals.{passes};
+ghost use Rattle.nv_calls.specs.Plain.{PlainNode, node_in, nodes_after};
+ghost use Rattle.nv_calls.specs.Locked.{SameCall, handles};
+ghost use Rattle.nv_calls.specs.declared.answer.Answer.{Answer};
+ghost use Rattle.nv_calls.specs.declared.call.Call.{Call};
+ghost use Rattle.nv_calls.specs.declared.taken.Taken.{Taken};
+ghost use Rattle.nv_machine.specs.Bound.{AreNoStarts};
+ghost use Rattle.nv_entry.specs.Sound.{IsSound};
+ghost use Rattle.nv_entry.specs.Tree.{root};
+ghost use Rattle.nv_machine.specs.Answered.{GoesTo, IsFinal, IsToEnd};
+ghost use Rattle.nv_machine.specs.Causes.{FindsNone, IsCause, IsRoundless, MayBeOvertaken, RefusesFor};
+ghost use Rattle.nv_machine.specs.Effects.{AreSound, HasPlanNow};
+ghost use Rattle.nv_machine.specs.EndsDecided.{decided};
+ghost use Rattle.nv_machine.specs.FitsNow.{bytes_in, is_checked};
+ghost use Rattle.nv_machine.specs.Format.{formatted};
+ghost use Rattle.nv_machine.specs.Frame.{lent};
+ghost use Rattle.nv_machine.specs.Grown.{AreGrown, fresh_entries};
+ghost use Rattle.nv_machine.specs.Kept.{AreBlocksApart, IsKept};
+ghost use Rattle.nv_machine.specs.Kinds.{refuse};
+ghost use Rattle.nv_machine.specs.Locks.{AreLocks};
+ghost use Rattle.nv_machine.specs.Hands.{makes_inode};
+ghost use Rattle.nv_machine.specs.Made.{handles_made, has_handle};
+ghost use Rattle.nv_machine.specs.Order.{IsInOrder};
+ghost use Rattle.nv_machine.specs.Reached.{IsReached};
+ghost use Rattle.nv_machine.specs.PlainRun.{Commits, Plain, deed_of, keeps_nodes, new_plain, plain_after, plain_of};
+ghost use Rattle.nv_machine.specs.Reads.{copies, nodes, written_slots};
+ghost use Rattle.nv_machine.specs.Refusing.{LeavesBooks};
+ghost use Rattle.nv_machine.specs.Rounds.{HasRounds, failed_checks};
+ghost use Rattle.nv_machine.specs.Sequence.{Visits, beginning, nothing_looked};
+ghost use Rattle.nv_machine.specs.Settled.{settled, settled_nodes};
+ghost use Rattle.nv_machine.specs.Step.{after, handle_at, kind_turn, stays, step, turn};
+ghost use Rattle.nv_machine.specs.Takings.{IsShortInAll, asks_list, no_taking, taking_after, taking_of};
+ghost use Rattle.nv_machine.specs.World.{Answers, Done, Ending, Enter, Event, Go, HandState, Number, Overtaken, Refused, Running, Shared, Start, Started, Unlock, Visit, World, actor_at, owner_at};
+
+/// Only commit points change nodes. Each settled log has the blocks of its pages, but of those that a later
+/// entry covers, and a journal is open only within a commit of several inodes, from a new world on and whatever
+/// events come, where no block has the number of another and a call begins with an empty hand. So every event
+/// but a commit point leaves every settled node as it is: a refused call has changed none, and of several
+/// inodes that are published one after another none is seen before the close.
+pub fn only_commits_change_nodes()
+    ensures new { (g : GeometryNumbers) → IsWithinLimits g → IsKept (formatted g) }
+    ensures stays { (events : List Event) (w : World) → AreLocks w → IsInOrder w → IsKept w
+        → ((before : List Event) → AreBlocksApart (after w before)) → IsKept (after w events) }
+    ensures nodes { (w : World) (e : Event) → AreLocks w → IsInOrder w → IsKept w
+        → AreBlocksApart w → keeps_nodes (deed_of w e) ≡ true → (handle : Handle)
+        → settled_nodes (step w e).world.shared handle ≡ settled_nodes w.shared handle }
+{}
+
+/// The number of the last commit is the plain world's after whatever events: it rises by one where an enter
+/// goes on into its commit, and nowhere else.
+pub fn the_plain_world_counts_commits()
+    ensures { (events : List Event) (w : World) (p : Plain) → w.shared.book.commit ≡ p.commit
+        → (after w events).shared.book.commit ≡ (plain_after w events p).commit }
+{}
+
+/// A call that has begun to append is answered, whatever follows, and one that was refused is answered that
+/// refusal: from there on each of its steps moves it on towards that end, or is its last and replies it. A call whose
+/// step is lent a cell to change is such a call, so that one which ends refused has changed no log
+/// ([`crate::laws::one_step`]) and made no commit. Of calls that commit no node tells the answer, so that it is the one of the
+/// commit point.
+pub fn what_commits_is_answered()
+    ensures commits { (w : World) (actor : ℕ) (granted : Bool) (r : Running) → IsKept w
+        → actor < length w.actors → (actor_at w actor).running ≡ Some r
+        → deed_of w (Go actor granted) ≡ Commits
+        → GoesTo Answers actor r (step w (Go actor granted)) }
+    ensures goes { (e : Ending) (w : World) (actor : ℕ) (granted : Bool) (r : Running) → IsFinal e
+        → actor < length w.actors → (actor_at w actor).running ≡ Some r → IsToEnd e r
+        → GoesTo e actor r (step w (Go actor granted)) }
+    ensures writes { (w : World) (actor ino : ℕ) (r : Running) → IsKept w
+        → (actor_at w actor).running ≡ Some r
+        → (lent r.next (length w.shared.lists) actor r).cell ≡ Some ino → IsToEnd Answers r }
+    ensures same { (nodes other : Handle → Option PlainNode) (made : Handle) (c : Call)
+        → (beginning c ≡ Visits → ⊥) → answer nodes made c ≡ answer other made c }
+{}
+
+/// A commit point settles the entries of all inodes that its call writes, at one stroke, and no other entry.
+/// From a new world on and whatever events come, the log of a slot that nobody holds is settled as a whole,
+/// and past the settled logs of the slots that a call holds stand the entries that its commit has appended.
+/// At the commit point each settled log becomes what it was, followed by the commit's entries for its slot.
+pub fn a_commit_settles_its_entries()
+    ensures new { (g : GeometryNumbers) → AreGrown (formatted g) }
+    ensures stays { (events : List Event) (w : World) → AreLocks w → IsInOrder w → IsKept w
+        → AreGrown w → ((before : List Event) → AreBlocksApart (after w before))
+        → AreGrown (after w events) }
+    ensures settles { (w : World) (actor : ℕ) (granted : Bool) (r : Running) → AreLocks w
+        → IsKept w → AreGrown w → actor < length w.actors → (actor_at w actor).running ≡ Some r
+        → deed_of w (Go actor granted) ≡ Commits
+        → (ino : ℕ) → settled (step w (Go actor granted)).world.shared ino
+        ≡ settled w.shared ino ++ fresh_entries (has (written_slots r) ino) r ino }
+{}
+
+/// A commit point has the effect of its call on the settled nodes, where its plan fits that effect now and
+/// settled logs are sound; and it leaves them sound.
+pub fn a_commit_point_has_its_effect()
+    ensures nodes { (bytes : ℕ → List ℕ) (w : World) (actor : ℕ) (granted : Bool) (r : Running)
+        → AreLocks w → IsInOrder w → IsKept w → AreGrown w → AreBlocksApart w
+        → actor < length w.actors → (actor_at w actor).running ≡ Some r
+        → deed_of w (Go actor granted) ≡ Commits → HasPlanNow bytes w.numbers.block w.shared r
+        → (handle : Handle) → settled_nodes (step w (Go actor granted)).world.shared handle
+        ≡ nodes_after r.commit (effect (node_in (settled_nodes w.shared)) r.made r.call)
+        (settled_nodes w.shared) handle }
+    ensures sound { (bytes : ℕ → List ℕ) (w : World) (actor : ℕ) (granted : Bool) (r : Running)
+        → AreLocks w → IsInOrder w → IsKept w → AreGrown w → AreBlocksApart w
+        → actor < length w.actors → (actor_at w actor).running ≡ Some r
+        → deed_of w (Go actor granted) ≡ Commits → HasPlanNow bytes w.numbers.block w.shared r
+        → (ino : ℕ)
+        → IsSound bytes w.numbers.block (settled (step w (Go actor granted)).world.shared ino) }
+{}
+
+/// Settled logs are sound in a new world, and stay sound at every event but a commit point, and at each commit
+/// point where the plan of its call fits the effect that the call has then: each log's pages store the bytes
+/// of its node.
+pub fn settled_logs_stay_sound()
+    ensures new { (g : GeometryNumbers) → IsWithinLimits g → AreSound (formatted g).shared }
+    ensures stays { (w : World) (e : Event) → AreLocks w → IsInOrder w → IsKept w
+        → AreBlocksApart w → keeps_nodes (deed_of w e) ≡ true
+        → AreSound w.shared → AreSound (step w e).world.shared }
+    ensures commits { (bytes : ℕ → List ℕ) (w : World) (actor : ℕ) (granted : Bool) (r : Running)
+        → AreLocks w → IsInOrder w → IsKept w → AreGrown w → AreBlocksApart w
+        → actor < length w.actors → (actor_at w actor).running ≡ Some r
+        → deed_of w (Go actor granted) ≡ Commits → HasPlanNow bytes w.numbers.block w.shared r
+        → AreSound (step w (Go actor granted)).world.shared }
+{}
+
+/// What the laws of nodes and commits ask of a world holds of every world that events lead to from a new one. So
+/// of those each event but a commit point leaves every settled node as it is, with no premise.
+pub fn new_worlds_lead_where_laws_hold()
+    ensures reached { (g : GeometryNumbers) (events : List Event) → IsWithinLimits g
+        → IsReached (after (formatted g) events) }
+    ensures nodes { (w : World) (e : Event) → IsReached w → keeps_nodes (deed_of w e) ≡ true
+        → (handle : Handle)
+        → settled_nodes (step w e).world.shared handle ≡ settled_nodes w.shared handle }
+{}
+
+/// At each commit point, whatever events come from a new world on, the plain world does not refuse the call, the plan
+/// that stands fits the effect that its call has on the nodes of now, and so the commit point has that effect. `bytes_in`
+/// gives the bytes of all blocks of all cells.
+pub fn plans_fit_at_commit_points()
+    ensures fits { (g : GeometryNumbers) (events : List Event) (actor : ℕ) (granted : Bool)
+        (r : Running) → IsWithinLimits g → actor < length (after (formatted g) events).actors
+        → (actor_at (after (formatted g) events) actor).running ≡ Some r
+        → deed_of (after (formatted g) events) (Go actor granted) ≡ Commits
+        → HasPlanNow (bytes_in (after (formatted g) events).shared)
+        (after (formatted g) events).numbers.block (after (formatted g) events).shared r }
+    ensures passes { (g : GeometryNumbers) (events : List Event) (actor : ℕ) (granted : Bool)
+        (r : Running) → IsWithinLimits g → actor < length (after (formatted g) events).actors
+        → (actor_at (after (formatted g) events) actor).running ≡ Some r
+        → deed_of (after (formatted g) events) (Go actor granted) ≡ Commits
+        → refusal (after (formatted g) events).numbers.block
+        (node_in (settled_nodes (after (formatted g) events).shared)) r.call ≡ passes }
+    ensures nodes { (g : GeometryNumbers) (events : List Event) (actor : ℕ) (granted : Bool)
+        (r : Running) → IsWithinLimits g → actor < length (after (formatted g) events).actors
+        → (actor_at (after (formatted g) events) actor).running ≡ Some r
+        → deed_of (after (formatted g) events) (Go actor granted) ≡ Commits → (handle : Handle)
+        → settled_nodes (step (after (formatted g) events) (Go actor granted)).world.shared handle
+        ≡ nodes_after r.commit
+        (effect (node_in (settled_nodes (after (formatted g) events).shared)) r.made r.call)
+        (settled_nodes (after (formatted g) events).shared) handle }
+{}
+
+/// From its check to its commit point a call passes: whatever events come from a new world on, the plain world does
+/// not refuse it on the nodes of now, and its names are bound as its looks found them.
+pub fn checked_calls_still_pass()
+    ensures passes { (g : GeometryNumbers) (events : List Event) (actor : ℕ) (r : Running)
+        → IsWithinLimits g → (actor_at (after (formatted g) events) actor).running ≡ Some r
+        → is_checked r.next ≡ true
+        → refusal (after (formatted g) events).numbers.block
+        (node_in (settled_nodes (after (formatted g) events).shared)) r.call ≡ passes }
+    ensures found { (g : GeometryNumbers) (events : List Event) (actor : ℕ) (r : Running)
+        → IsWithinLimits g → (actor_at (after (formatted g) events) actor).running ≡ Some r
+        → is_checked r.next ≡ true
+        → looked (node_in (settled_nodes (after (formatted g) events).shared)) r.call ≡ r.looked }
+{}
+
+/// The plain world of a new world has the root, an empty directory of mode 493 that no commit has changed, and nothing else;
+/// and it has no commit.
+pub fn the_plain_world_begins_with_the_root()
+    ensures nodes { (g : GeometryNumbers) → IsWithinLimits g → (handle : Handle)
+        → (plain_of (formatted g)).nodes handle ≡ new_plain.nodes handle }
+    ensures commit { (g : GeometryNumbers) → (plain_of (formatted g)).commit ≡ new_plain.commit }
+{}
+
+/// The plain world's nodes are those of the settled logs after every list of events, and these logs are sound.
+pub fn the_plain_world_is_that_of_settled_logs()
+    ensures nodes { (g : GeometryNumbers) (events : List Event) → IsWithinLimits g
+        → (handle : Handle) → settled_nodes (after (formatted g) events).shared handle
+        ≡ (plain_after (formatted g) events (plain_of (formatted g))).nodes handle }
+    ensures sound { (g : GeometryNumbers) (events : List Event) → IsWithinLimits g
+        → AreSound (after (formatted g) events).shared }
+{}
+
+/// A step that refuses a call does so for a fault whose cause is there at that step: the plain world refuses the call at
+/// the look, the check or the visit; it does not, and no number was free; the last list was asked and is short; no
+/// further commit number is there, and then it always refuses; no round of looks is left; or memory that the step asks
+/// for was not granted. A call is overtaken at its check alone, where a name is bound anew. A refused call has only its
+/// last steps left, which lead to that refusal ([`what_commits_is_answered`]). The tests are those over the nodes of the
+/// cells, whatever the state; from a new world on and whatever events come, they are those over the settled nodes, which
+/// the plain world has.
+pub fn refusals_have_causes()
+    ensures causes { (block actor : ℕ) (granted : Bool) (s : Shared) (h : HandState) (r : Running)
+        → r.ending ≡ Answers
+        → RefusesFor (IsCause r.next block actor granted (copies s) s h r)
+        (MayBeOvertaken r.next (copies s) r)
+        (turn block actor granted s h r) }
+    ensures settled { (g : GeometryNumbers) (events : List Event) (actor : ℕ) (granted : Bool)
+        (r : Running) → IsWithinLimits g
+        → (actor_at (after (formatted g) events) actor).running ≡ Some r → r.ending ≡ Answers
+        → RefusesFor
+        (IsCause r.next (after (formatted g) events).numbers.block actor granted
+        (node_in (settled_nodes (after (formatted g) events).shared))
+        (after (formatted g) events).shared (actor_at (after (formatted g) events) actor).hand r)
+        (MayBeOvertaken r.next (node_in (settled_nodes (after (formatted g) events).shared)) r)
+        (turn (after (formatted g) events).numbers.block actor granted
+        (after (formatted g) events).shared (actor_at (after (formatted g) events) actor).hand r) }
+    ensures number { (block actor : ℕ) (granted : Bool) (s : Shared) (h : HandState) (r : Running)
+        → FindsNone s (kind_turn Number block actor granted s h r) }
+    ensures contended { (place block actor : ℕ) (granted : Bool) (s : Shared) (h : HandState)
+        (r : Running) → r.ending ≡ Overtaken
+        → RefusesFor (IsRoundless r) (Unit {0})
+        (kind_turn (Unlock place) block actor granted s h r) }
+    ensures limit { (block actor : ℕ) (granted : Bool) (s : Shared) (h : HandState) (r : Running)
+        → s.holder ≡ None → NUMBER ≤ s.book.commit
+        → kind_turn Enter block actor granted s h r ≡ refuse CommitLimit s h r }
+{}
+
+/// A taking that falls short has asked every list: where a step that asks a list refuses its call, whatever events came from
+/// a new world on, its taking has asked each CPU's free list once, from the actor's own on; each gave all that it had
+/// to the hand, and the sum is short of what the taking wants.
+pub fn short_takings_have_asked_every_list()
+    ensures { (g : GeometryNumbers) (events : List Event) (actor : ℕ) (granted : Bool) (r : Running)
+        → IsWithinLimits g → (actor_at (after (formatted g) events) actor).running ≡ Some r
+        → asks_list r.next ≡ true
+        → RefusesFor (IsShortInAll g.cpus actor
+        (taking_of (Some r) (after (formatted g) events) actor granted
+        (taking_after actor (formatted g) events no_taking))) ⊥
+        (turn (after (formatted g) events).numbers.block actor granted
+        (after (formatted g) events).shared (actor_at (after (formatted g) events) actor).hand r) }
+{}
+
+/// A step that refuses its call leaves the book (the number of the last commit, the epoch, journals and records) and all
+/// cells as they were, also an enter, which is lent the book; and so does each further step of a call that is
+/// not to be answered.
+pub fn refused_calls_leave_books_and_cells()
+    ensures { (w : World) (actor : ℕ) (granted : Bool) (r : Running) → IsKept w
+        → (actor_at w actor).running ≡ Some r
+        → LeavesBooks w.shared
+        (turn w.numbers.block actor granted w.shared (actor_at w actor).hand r) }
+{}
+
+/// A call is contended only after eight checks that each found a name bound anew: a started call has eight such checks
+/// to fail, each of them takes one, and no other event does. Where a call was overtaken and no round is left,
+/// eight have failed.
+pub fn contended_calls_have_failed_eight_checks()
+    ensures starts { (w : World) (actor : ℕ) (c : Call) → (step w (Start actor c)).reply ≡ Started
+        → HasRounds 8 0 (actor_at (step w (Start actor c)).world actor).running }
+    ensures fails { (events : List Event) (w : World) (actor all failed : ℕ)
+        → AreNoStarts actor events → HasRounds all failed (actor_at w actor).running
+        → HasRounds all (failed + failed_checks actor w events)
+        (actor_at (after w events) actor).running }
+    ensures eight { (w : World) (actor : ℕ) (c : Call) (events : List Event) (r : Running)
+        → (step w (Start actor c)).reply ≡ Started → AreNoStarts actor events
+        → (actor_at (after (step w (Start actor c)).world events) actor).running ≡ Some r
+        → r.ending ≡ Overtaken → r.rounds ≡ 0
+        → 8 ≤ failed_checks actor (step w (Start actor c)).world events }
+{}
+
+/// A new inode's handle is new, whatever events came from a new world on: at the commit point of a call that makes an inode
+/// no node is under its handle, which is not the root's, nor that of a commit point before. Generations rise
+/// whenever a number comes back.
+pub fn made_handles_are_new()
+    ensures no_node { (g : GeometryNumbers) (events : List Event) (actor : ℕ) (granted : Bool)
+        (r : Running) → IsWithinLimits g → actor < length (after (formatted g) events).actors
+        → (actor_at (after (formatted g) events) actor).running ≡ Some r
+        → deed_of (after (formatted g) events) (Go actor granted) ≡ Commits
+        → makes_inode (beginning r.call) ≡ true
+        → settled_nodes (after (formatted g) events).shared r.made ≡ None }
+    ensures never { (g : GeometryNumbers) (events : List Event) (actor : ℕ) (granted : Bool)
+        (r : Running) → IsWithinLimits g → actor < length (after (formatted g) events).actors
+        → (actor_at (after (formatted g) events) actor).running ≡ Some r
+        → deed_of (after (formatted g) events) (Go actor granted) ≡ Commits
+        → makes_inode (beginning r.call) ≡ true
+        → has_handle (root ∷ handles_made (formatted g) events) r.made ≡ false }
+{}
+
+/// A visit reads settled nodes, since it waits while its slot is held: what it tests and answers is the same there, so
+/// that its answer is the plain world's.
+pub fn visits_read_settled_nodes()
+    ensures reads { (w : World) (taken : Taken) (c : Call) → AreGrown w → beginning c ≡ Visits
+        → owner_at w.shared (handle_at (handles nothing_looked c) 0).ino ≡ None
+        → SameCall w.numbers.block (settled_nodes w.shared) (nodes w.shared) taken c }
+    ensures answers { (w : World) (actor : ℕ) (granted : Bool) (r : Running) (told : Answer)
+        → AreGrown w → actor < length w.actors → (actor_at w actor).running ≡ Some r
+        → r.next ≡ Visit → beginning r.call ≡ Visits → (step w (Go actor granted)).reply ≡ Done told
+        → told ≡ answer (settled_nodes w.shared) r.made r.call }
+{}
+
+/// A call is answered only where that was decided, and once: whatever events come from a new world on, a call that
+/// is Done has made its commit since it was started, or is a visit, or had nothing to change at its check, and at that
+/// event the plain world does not refuse it (at a commit point by [`plans_fit_at_commit_points`]); it is told what the
+/// plain world answers there, on the settled nodes. Of a call that is refused nothing was decided. And what commits has
+/// something to change.
+pub fn calls_are_decided_once()
+    ensures done { (g : GeometryNumbers) (events : List Event) (actor : ℕ) (granted : Bool)
+        (told : Answer) → IsWithinLimits g
+        → (step (after (formatted g) events) (Go actor granted)).reply ≡ Done told
+        → decided actor (formatted g) (events ++ Go actor granted ∷ []) [] ≡ told ∷ [] }
+    ensures refused { (g : GeometryNumbers) (events : List Event) (actor : ℕ) (granted : Bool)
+        (r : Running) (fault : Fault) → IsWithinLimits g
+        → (actor_at (after (formatted g) events) actor).running ≡ Some r
+        → (step (after (formatted g) events) (Go actor granted)).reply ≡ Refused fault
+        → decided actor (formatted g) (events ++ Go actor granted ∷ []) [] ≡ [] }
+    ensures something { (g : GeometryNumbers) (events : List Event) (actor : ℕ) (granted : Bool)
+        (r : Running) → IsWithinLimits g → actor < length (after (formatted g) events).actors
+        → (actor_at (after (formatted g) events) actor).running ≡ Some r
+        → deed_of (after (formatted g) events) (Go actor granted) ≡ Commits
+        → 0 < length
+        (effect (node_in (settled_nodes (after (formatted g) events).shared)) r.made r.call) }
+{}

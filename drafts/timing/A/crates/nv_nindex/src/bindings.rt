@@ -1,0 +1,50 @@
+//! A walk over the names of a directory, in no order that is told.
+
+ghost use Rattle.std.specs.Prelude.{◌≡◌, length, map};
+ghost use Rattle.std.specs.Iterator.{at_most};
+ghost use Rattle.std.specs.Map.Iter.{TakesFirst};
+ghost use Rattle.nv_nindex.specs.NameIndex.{lent, shown};
+
+use crate::Binding;
+use indexmap::map::Iter;
+use std::iter::FusedIterator;
+use std::marker::Model;
+
+/// The names that a walk has not given yet, each as its bytes and what it is bound to.
+#[derive(Drop)]
+pub struct Bindings<'a> {
+    rest: Iter<'a, Vec<u8>, Binding>,
+}
+
+impl<'a> Model for Bindings<'a> {
+    ghost use Rattle.std.specs.Prelude.{ℕ, List, map};
+    ghost use Rattle.nv_nindex.specs.declared.binding.Binding.{Binding};
+    ghost use Rattle.nv_nindex.specs.NameIndex.{shown};
+
+    ghost Value = { List (List ℕ × Binding) };
+
+    ghost view = { λ b. map shown b.rest };
+}
+
+impl<'a> Bindings<'a> {
+    pub(crate) fn new(rest: Iter<'a, Vec<u8>, Binding>) -> Bindings<'a>
+        ensures { result ≡ map shown rest.entry }
+    {
+        Bindings { rest }
+    }
+}
+
+impl<'a> Iterator for Bindings<'a> {
+    type Item = (&'a [u8], Binding);
+
+    ghost next_gives = { TakesFirst lent };
+
+    ghost remaining = { λ left. at_most (length left) };
+
+    fn next(&mut self) -> Option<(&'a [u8], Binding)> {
+        let (name, binding) = self.rest.next()?;
+        Some((name.as_slice(), *binding))
+    }
+}
+
+impl<'a> FusedIterator for Bindings<'a> {}

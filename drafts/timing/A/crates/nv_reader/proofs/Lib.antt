@@ -1,0 +1,16 @@
+pub mod Counted
+pub mod NodesNow
+pub mod Entered
+pub mod CellBytes
+pub mod PageBytes
+pub mod PageParts
+pub mod Logs
+pub mod Coming
+pub mod Depths
+pub mod Ways
+pub mod Skips
+pub mod Elements
+pub mod Reached
+pub mod Worlds
+pub mod Settled
+pub mod Handles

@@ -1,0 +1,24 @@
+-- The nodes under handles: what the cells of their slots show, in the handle's generation only.
+use Rattle.std.specs.Prelude.{ℕ, ◌==◌, if◌then◌else◌, List, Option, None, drop, unwrap_or}
+use Rattle.nv_base.specs.declared.numbers.Handle.{Handle}
+use Rattle.nv_entry.specs.Log.{up_to}
+use Rattle.nv_entry.specs.declared.item.Entry.{Entry}
+use Rattle.nv_cell.specs.Cell.{CellState, log_of}
+use Rattle.nv_reader.specs.Cells.{settled}
+
+-- the node under a handle, where `node` is what a cell shows of some entries, and `logs` has the entries of each inode
+abbrev pub node_under : {Node : Type 0} → (CellState → List Entry → Option Node) → (ℕ → CellState) → (ℕ → List Entry) → Handle → Option Node
+node_under node cells logs handle =
+    if handle.generation == (cells handle.ino).generation then node (cells handle.ino) (logs handle.ino) else None
+
+-- now, by the settled logs, where `noted` has the tails that open journals have noted
+abbrev pub settled_nodes : {Node : Type 0} → (CellState → List Entry → Option Node) → (ℕ → CellState) → (ℕ → Option ℕ) → Handle → Option Node
+settled_nodes node cells noted = node_under node cells (λ ino. settled (noted ino) (cells ino))
+
+-- at the end of an epoch
+abbrev pub nodes_at : {Node : Type 0} → (CellState → List Entry → Option Node) → (ℕ → CellState) → ℕ → Handle → Option Node
+nodes_at node cells epoch = node_under node cells (λ ino. up_to epoch (log_of (cells ino)))
+
+-- the entries that count and are not settled
+abbrev pub unsettled : Option ℕ → CellState → List Entry
+unsettled noted cell = drop (unwrap_or noted cell.chain.tail) (log_of cell)

@@ -1,0 +1,98 @@
+//! The node that an inode is or was, by its cell.
+
+ghost use Rattle.std.specs.Prelude.{◌≡◌, ◌≤◌, ℕ, IfOk, List, Option};
+ghost use Rattle.std.specs.Option.{ForSome};
+ghost use Rattle.nv_base.specs.Refusals.{FailsOnly};
+ghost use Rattle.nv_cell.specs.Cell.{log_of};
+ghost use Rattle.nv_cell.specs.Pages.{AreBytesOf};
+ghost use Rattle.nv_entry.specs.Log.{up_to};
+ghost use Rattle.nv_entry.specs.Node.{node_at, node_now};
+ghost use Rattle.nv_reader.specs.Cells.{NoneOut, own_node, part_bytes, settled};
+
+use crate::bytes::PartBlocks;
+use crate::epochs::entries_to;
+use crate::node::node_by;
+use nv_base::{Epoch, Fault};
+use nv_cell::InodeCell;
+use nv_entry::{NodeCopy, PartId};
+use std::alloc::Global;
+
+impl PartBlocks for InodeCell {
+    ghost bytes_of = { λ cell id. part_bytes cell.state id };
+
+    fn bytes(&self, part: PartId) -> Option<&[u8]> {
+        Some(self.block_of(part)?.bytes())
+    }
+}
+
+/// The node at the end of an epoch; a page whose part is out shows zeros. None where the inode has no kind there.
+/// `OutOfMemory` where room for it was refused.
+///
+/// Costs what it hands out, and three passes over the log's entries up to the epoch, however many pages they write: in all
+/// in the order of these entries and the file's pages together, times the logarithm of the pages. The block of each page is
+/// looked up, which grows with the logarithm of the log.
+pub fn show_on(alloc: Global, cell: &InodeCell, epoch: Epoch) -> Result<Option<NodeCopy>, Fault>
+    ensures own { IfOk result (λ node. node
+        ≡ own_node cell.now.state (up_to epoch (log_of cell.now.state))) }
+    ensures node { (bytes : ℕ → List ℕ) → AreBytesOf cell.now.state bytes
+        → NoneOut cell.now.state (up_to epoch (log_of cell.now.state))
+        → IfOk result (λ node. node
+        ≡ node_at bytes cell.now.state.block epoch (log_of cell.now.state)) }
+    ensures err { FailsOnly Fault.OutOfMemory result }
+{
+    // What a cell keeps of its log and its blocks.
+    cell.known();
+    let log = entries_to(cell.log().log(), epoch);
+    Ok(node_by(alloc, cell.block_bytes(), log, cell)?)
+}
+
+/// The node now by the settled log: up to the tail that an open journal has noted, in entries, and else up to the log's own,
+/// where the cell's index gives it. A page of the noted log whose part is out shows zeros; without a noted tail no page's
+/// part is out. None where the inode has no kind there. `OutOfMemory` where room for it was refused.
+///
+/// Without a noted tail it costs what it hands out, with a look-up for each run of pages, and no pass over the log; with
+/// one, as much as [`show_on`].
+pub fn settled_on(
+    alloc: Global,
+    cell: &InodeCell,
+    noted: Option<usize>,
+) -> Result<Option<NodeCopy>, Fault>
+    requires { ForSome noted (λ tail. tail ≤ cell.now.state.chain.tail) }
+    ensures own { IfOk result (λ node. node
+        ≡ own_node cell.now.state (settled noted cell.now.state)) }
+    ensures node { (bytes : ℕ → List ℕ) → AreBytesOf cell.now.state bytes
+        → ForSome noted (λ tail. NoneOut cell.now.state (settled noted cell.now.state))
+        → IfOk result (λ node. node
+        ≡ node_now bytes cell.now.state.block (settled noted cell.now.state)) }
+    ensures err { FailsOnly Fault.OutOfMemory result }
+{
+    let Some(tail) = noted else {
+        return node_by_index(cell);
+    };
+    // What a cell keeps of its log and its blocks.
+    cell.known();
+    let log = &cell.log().entries()[..tail];
+    Ok(node_by(alloc, cell.block_bytes(), log, cell)?)
+}
+
+/// The node now by the cell's index.
+fn node_by_index(cell: &InodeCell) -> Result<Option<NodeCopy>, Fault>
+    ensures own { IfOk result (λ node. node
+        ≡ own_node cell.now.state (log_of cell.now.state)) }
+    ensures node { (bytes : ℕ → List ℕ) → AreBytesOf cell.now.state bytes
+        → IfOk result (λ node. node ≡ node_now bytes cell.now.state.block (log_of cell.now.state)) }
+    ensures err { FailsOnly Fault.OutOfMemory result }
+{
+    // What a cell keeps of its log.
+    cell.known();
+    let Some(stat) = cell.stat() else {
+        return Ok(None);
+    };
+    Ok(Some(NodeCopy {
+        kind: stat.kind,
+        mode: stat.mode,
+        size: stat.size,
+        bytes: cell.read(0, stat.size)?,
+        names: cell.list()?,
+    }))
+}

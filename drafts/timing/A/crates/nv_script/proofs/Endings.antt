@@ -1,0 +1,419 @@
+-- How a script ends, from what holds before each of its lines.
+use Rattle.std.proofs.Common.{◌≡◌, ◌≢◌, ℕ, ◌+◌, ◌<◌, ◌≤◌, ◌⊎◌, inl, inr, Bool, true, false, List, [], ◌∷◌, ◌++◌, length, length-append, Option, Some, None, IfSome, is_some, Result, Ok, Err, refl, sym, ap, subst, ◌∙◌, append_assoc, append-nil, arith}
+use Rattle.std.proofs.KnownBytes.{Appends-nil, Consumes-nil, Consumes-trans}
+use Rattle.std.proofs.lemmas.Bool.{cases_lt, le-ltb, lt-ltb}
+use Rattle.std.specs.Io.KnownBytes.{Appends, Consumes, IsAtEnd, prepend_known}
+use Rattle.nv_base.specs.declared.fault.Fault.{Fault}
+use Rattle.nv_base.specs.declared.fault.Fault.TheVariants as fault
+use Rattle.nv_base.specs.declared.fault.ScriptFaultKind.{ScriptFaultKind}
+use Rattle.nv_base.specs.declared.fault.ScriptFaultKind.TheVariants as kind
+use Rattle.nv_machine.specs.World.{World}
+use Rattle.nv_script.specs.declared.fault.LineFault.{LineFault}
+use Rattle.nv_script.specs.declared.fault.LineFault.TheVariants as line_fault
+use Rattle.nv_script.specs.declared.feed.Taken.{Taken}
+use Rattle.nv_script.specs.declared.feed.Taken.TheVariants as taken
+use Rattle.nv_script.specs.Lines.{IsLine, TakenIs, WritesFront, WritesSome, ended}
+use Rattle.nv_script.specs.Play.{LineFails, Ends, EndsBy, EndsWell, IsFault, Played, Plays, PlaysAll, most_lines}
+use Rattle.nv_core.specs.Worlds.{WorldState}
+use Rattle.nv_core.specs.Worlds.{ShowsAny}
+use Rattle.nv_script.specs.Grammar.{is_skipped}
+use Rattle.nv_script.specs.Results.{AtLine, LineFaultIs, ending_of, is_line, within_lines}
+use Rattle.nv_script.proofs.Breaks.{breaks_at}
+use Rattle.nv_script.proofs.Known.{writes_all, writes_grown, writes_none, writes_rest, writes_some, writes_some_of}
+use Rattle.nv_script.proofs.Lines.{ended-append, ended-push}
+
+-- before the first line
+pub at_first : (input ahead old : Option (List ℕ)) (gathered : List ℕ) (world : Option World) → Consumes input ahead []
+    → gathered ≡ [] → world ≡ None
+    → AtLine input ahead old old gathered 1 world
+at_first input ahead old gathered world none empty first = record {
+  lines = [];
+  text = [];
+  count = refl;
+  taken = none;
+  plays = (refl, first);
+  written = subst (λ (left : List ℕ). WritesFront old old [] left) (sym empty) (writes_none old []);
+}
+
+-- no byte is read ahead at first
+pub none_ahead : (known : Option (List ℕ)) (ahead : List ℕ) → ahead ≡ [] → Consumes known (prepend_known ahead known) []
+none_ahead None ahead is = tt
+none_ahead (Some bytes) ahead is = sym (ap (λ front. front ++ bytes) is)
+
+-- where no byte is read ahead, what is left is with the reader
+all_left : (input left : Option (List ℕ)) (ahead bytes : List ℕ) → ahead ≡ [] → Consumes input (prepend_known ahead left) bytes
+    → Consumes input left bytes
+all_left input None ahead bytes none is = is
+all_left input (Some rest) ahead bytes none is = subst (λ (front : List ℕ). Consumes input (Some (front ++ rest)) bytes) none is
+
+none_left : (left : Option (List ℕ)) (ahead : List ℕ) → IsAtEnd (prepend_known ahead left) → IsAtEnd left
+none_left None ahead end = tt
+none_left (Some rest) [] end = end
+none_left (Some rest) (first ∷ ahead) end = cc
+
+-- no room for lines
+pub no_room : (input left old : Option (List ℕ)) → EndsBy fault.OutOfMemory input left (λ text. Appends old old text)
+no_room input left old =
+    let all = whole input in
+    ([], all.0, [], None, record { split = all.1; few = omega arith; plays = (refl, refl) }, inl refl, Appends-nil old)
+  where
+    whole : (input : Option (List ℕ)) → (rest : List ℕ) × IfSome input (λ bytes. bytes ≡ ended [] ++ rest)
+    whole None = ([], tt)
+    whole (Some bytes) = (bytes, refl)
+
+plays-push : (old : Option World) (lines : List (List ℕ)) (text : List ℕ) (mid : Option World) (line more : List ℕ)
+    (new : Option World)
+    → PlaysAll old lines text mid → IsLine line → Plays mid line more new → PlaysAll old (lines ++ line ∷ []) (text ++ more) new
+plays-push old [] text mid line more new all lawful one = (
+  more,
+  [],
+  new,
+  lawful,
+  subst (λ (world : Option World). Plays world line more new) all.1 one,
+  (refl, refl),
+  ap (λ front. front ++ more) all.0 ∙ sym (append-nil more),
+)
+plays-push old (first ∷ lines) text mid line more new all lawful one = (
+  all.0,
+  all.1 ++ more,
+  all.2,
+  all.3,
+  all.4,
+  plays-push all.2 lines all.1 mid line more new all.5 lawful one,
+  ap (λ front. front ++ more) all.6 ∙ append_assoc all.0 all.1 more,
+)
+
+if_same : (input : Option (List ℕ)) (u v : List ℕ) → u ≡ v → IfSome input (λ bytes. bytes ≡ u) → IfSome input (λ bytes. bytes ≡ v)
+if_same None u v same is = tt
+if_same (Some bytes) u v same is = is ∙ same
+
+-- the input begins with the lines and goes on with a piece
+cut : (input known after : Option (List ℕ)) (lines : List (List ℕ)) (piece : List ℕ) → Consumes input known (ended lines)
+    → Consumes known after piece
+    → (rest : List ℕ) × IfSome input (λ bytes. bytes ≡ ended lines ++ (piece ++ rest))
+cut None known after lines piece first then_ = ([], tt)
+cut (Some u) None after lines piece first then_ = absurd first
+cut (Some u) (Some v) None lines piece first then_ = absurd then_
+cut (Some u) (Some v) (Some w) lines piece first then_ = (w, first ∙ ap (λ bytes. ended lines ++ bytes) then_)
+
+-- the input is the lines and a last piece
+cut_end : (input known after : Option (List ℕ)) (lines : List (List ℕ)) (piece : List ℕ) → Consumes input known (ended lines)
+    → Consumes known after piece → IsAtEnd after
+    → IfSome input (λ bytes. bytes ≡ ended lines ++ piece)
+cut_end None known after lines piece first then_ end = tt
+cut_end (Some u) None after lines piece first then_ end = absurd first
+cut_end (Some u) (Some v) None lines piece first then_ end = absurd then_
+cut_end (Some u) (Some v) (Some w) lines piece first then_ end =
+    first ∙ ap (λ bytes. ended lines ++ bytes) (then_ ∙ ap (λ bytes. piece ++ bytes) end ∙ append-nil piece)
+
+-- a line behind the first lines is one of them
+split-push : (input : Option (List ℕ)) (lines : List (List ℕ)) (line rest : List ℕ)
+    → IfSome input (λ bytes. bytes ≡ ended lines ++ ((line ++ 10 ∷ []) ++ rest))
+    → IfSome input (λ bytes. bytes ≡ ended (lines ++ line ∷ []) ++ rest)
+split-push input lines line rest is =
+    let same = sym (append_assoc (ended lines) (line ++ 10 ∷ []) rest) ∙ ap (λ front. front ++ rest) (sym (ended-push lines line)) in
+    if_same input _ _ same is
+
+-- the fault of the next line where not all of the text of some lines was written
+broken : (input left old new : Option (List ℕ)) (lines : List (List ℕ)) (rest text : List ℕ) (world : Option World)
+    → IfSome input (λ bytes. bytes ≡ ended lines ++ rest) → length lines ≤ most_lines + 1
+    → PlaysAll None lines text world → WritesSome old new text → EndsBy fault.Write input left (λ text. Appends old new text)
+broken input left old new lines rest text world split few all some =
+    let at = breaks_at None lines text some.0 world all some.1 in
+    let ending : ended lines ≡ ended at.before ++ ((at.line ++ 10 ∷ []) ++ ended at.after) = ap ended at.split
+    ∙ ended-append at.before (at.line ∷ at.after) in
+    let whole : ended lines ++ rest ≡ ended at.before ++ ((at.line ++ 10 ∷ []) ++ (ended at.after ++ rest)) =
+    ap (λ front. front ++ rest) ending ∙ append_assoc (ended at.before) ((at.line ++ 10 ∷ []) ++ ended at.after) rest
+    ∙ ap (λ bytes. ended at.before ++ bytes) (append_assoc (at.line ++ 10 ∷ []) (ended at.after) rest) in
+    let count : length lines ≡ length (at.before ++ at.line ∷ at.after) = ap length at.split in
+    let fewer : length at.before ≤ most_lines = omega (arith, count, few, length-append at.before (at.line ∷ at.after)) in (
+      at.before,
+      (at.line ++ 10 ∷ []) ++ (ended at.after ++ rest),
+      at.text,
+      at.sent,
+      at.world,
+      record { split = if_same input _ _ whole split; few = fewer; plays = at.played },
+      (at.line, ended at.after ++ rest, at.own, at.new, at.lawful, refl, at.plays, at.cut_off),
+      subst (λ (front : List ℕ). Appends old new front) at.front_is some.2,
+    )
+
+-- the same end, where what is said of the text was turned into something else
+pub ends_on : (result : Result (Unit {0}) Fault) (input left : Option (List ℕ)) (Old New : List ℕ → Type 0)
+    → ((text : List ℕ) → Old text → New text) → Ends result input left Old → Ends result input left New
+ends_on (Ok done) input left Old New turn e = (e.0, e.1, e.2, e.3, e.4, turn e.1 e.5)
+ends_on (Err (fault.ScriptFault number why)) input left Old New turn e = (e.0, e.1, e.2, e.3, e.4, e.5, turn e.2 e.6)
+ends_on (Err fault.Read) input left Old New turn e = (e.0, e.1, e.2, e.3, e.4, e.5, turn e.2 e.6)
+ends_on (Err fault.OutOfMemory) input left Old New turn e = (e.0, e.1, e.2, e.3, e.4, e.5, turn e.2 e.6)
+ends_on (Err fault.Write) input left Old New turn e = (e.0, e.1, e.2, e.3, e.4, e.5, e.6, turn (e.2 ++ e.3) e.7)
+ends_on (Err _) input left Old New turn e = absurd e
+
+-- the same where some of what was gathered was written
+broken_played : (input left old mid new : Option (List ℕ)) (gathered : List ℕ) (lines : List (List ℕ)) (rest text : List ℕ)
+    (world : Option World) → Played input lines rest text world
+    → WritesFront old mid text gathered → WritesSome mid new gathered → EndsBy fault.Write input left (λ text. Appends old new text)
+broken_played input left old mid new gathered lines rest text world played front some =
+    let few = played.few in
+    broken input left old new lines rest text world played.split (omega (arith, few)) played.plays
+    (writes_some old mid new text gathered front some)
+
+-- not all of what was gathered at the end was written
+pub broken_off : (result : Result (Unit {0}) Fault) (input left old mid new : Option (List ℕ)) (gathered : List ℕ)
+    → Ends result input left (λ text. WritesFront old mid text gathered) → WritesSome mid new gathered
+    → EndsBy fault.Write input left (λ text. Appends old new text)
+broken_off (Ok done) input left old mid new gathered e some = broken_played input left old mid new gathered e.0 [] e.1 e.2 e.3 e.5 some
+broken_off (Err (fault.ScriptFault number why)) input left old mid new gathered e some = broken_played input left old mid new gathered e.0
+    e.1 e.2 e.3 e.4 e.6 some
+broken_off (Err fault.Read) input left old mid new gathered e some = broken_played input left old mid new gathered e.0 e.1 e.2 e.3 e.4 e.6
+    some
+broken_off (Err fault.OutOfMemory) input left old mid new gathered e some = broken_played input left old mid new gathered e.0 e.1 e.2 e.3
+    e.4 e.6 some
+broken_off (Err fault.Write) input left old mid new gathered e some =
+    let next = e.6 in
+    let own = next.7 in
+    let part = writes_some_of old new (e.2 ++ e.3) own.0 (writes_some old mid new (e.2 ++ e.3) gathered e.7 some) in
+    let whole : (e.2 ++ e.3) ++ own.0 ≡ e.2 ++ next.2 = append_assoc e.2 e.3 own.0 ∙ ap (λ t. e.2 ++ t) (sym own.1) in
+    let rest_is = next.5 in
+    let split = split-push input e.0 next.0 next.1 (if_same input _ _ (ap (λ bytes. ended e.0 ++ bytes) rest_is) e.5.split) in
+    let few = e.5.few in
+    broken input left old new (e.0 ++ next.0 ∷ []) next.1 (e.2 ++ next.2) next.3 split (omega (arith, few, length-append e.0 (next.0 ∷ [])))
+    (plays-push None e.0 e.2 e.4 next.0 next.2 next.3 e.5.plays next.4 next.6)
+    (subst (λ (t : List ℕ). WritesSome old new t) whole part)
+broken_off (Err _) input left old mid new gathered e some = absurd e
+
+-- a fault of a line that is past the last, and of one that is not
+past : (number : ℕ) (made : Bool) (bytes : List ℕ) → most_lines < number → bytes ≢ [] → IsFault number made bytes kind.Lines
+past number made bytes many some = rw (lt-ltb most_lines number many) (refl, some)
+
+within : (number : ℕ) (made : Bool) (bytes : List ℕ) (why : ScriptFaultKind) → number ≤ most_lines → IsFault 0 made bytes why
+    → IsFault number made bytes why
+within number made bytes why few is = rw (le-ltb most_lines number few) is
+
+-- what past the last line is answered, and what before it
+answered : (number : ℕ) (answer told : Result Bool Fault) → within_lines number answer ≡ told
+    → ((most_lines < number) × (told ≡ Err (fault.ScriptFault number kind.Lines))) ⊎ ((number ≤ most_lines) × (told ≡ answer))
+answered number answer told is =
+    elim (cases_lt most_lines number) [
+      | inl many ↦ inl (many, sym (rw (lt-ltb most_lines number many) at is))
+      | inr few ↦ inr (few, sym (rw (le-ltb most_lines number few) at is))
+    ]
+
+-- a line to play was taken, within the last
+pub line_taken : (number : ℕ) (t : Taken) (known after : Option (List ℕ)) (line : List ℕ) → is_line number t ≡ Ok true
+    → TakenIs t known after line → TakenIs taken.Line known after line × (number ≤ most_lines)
+line_taken number taken.End known after line is took = cc
+line_taken number taken.Line known after line is took =
+    elim (answered number _ _ is) [ inl many ↦ (let e = many.1 in cc) | inr few ↦ (took, few.0) ]
+line_taken number taken.Long known after line is took =
+    elim (answered number _ _ is) [ inl many ↦ (let e = many.1 in cc) | inr few ↦ (let e = few.1 in cc) ]
+line_taken number taken.Unended known after line is took =
+    elim (answered number _ _ is) [ inl many ↦ (let e = many.1 in cc) | inr few ↦ (let e = few.1 in cc) ]
+
+-- nothing was taken at the end
+end_taken : (number : ℕ) (t : Taken) (known after : Option (List ℕ)) (line : List ℕ) → is_line number t ≡ Ok false
+    → TakenIs t known after line → TakenIs taken.End known after line
+end_taken number taken.End known after line is took = took
+end_taken number taken.Line known after line is took =
+    elim (answered number _ _ is) [ inl many ↦ (let e = many.1 in cc) | inr few ↦ (let e = few.1 in cc) ]
+end_taken number taken.Long known after line is took =
+    elim (answered number _ _ is) [ inl many ↦ (let e = many.1 in cc) | inr few ↦ (let e = few.1 in cc) ]
+end_taken number taken.Unended known after line is took =
+    elim (answered number _ _ is) [ inl many ↦ (let e = many.1 in cc) | inr few ↦ (let e = few.1 in cc) ]
+
+some_after : (bytes rest : List ℕ) → bytes ≢ [] → bytes ++ rest ≢ []
+some_after [] rest some is = some refl
+some_after (first ∷ bytes) rest some is = cc
+
+some_with : (bytes : List ℕ) (byte : ℕ) → bytes ++ byte ∷ [] ≢ []
+some_with [] byte is = cc
+some_with (first ∷ bytes) byte is = cc
+
+module _ (input known old new : Option (List ℕ)) (gathered : List ℕ) (number : ℕ) (world : Option World) (few : number ≤ 1048577)
+    (at : AtLine input known old new gathered number world) where
+  abbrev Written : List ℕ → Type 0
+  Written text = WritesFront old new text gathered
+
+  lines_fit : length at.lines ≤ most_lines
+  lines_fit = let count = at.count in omega (arith, few, count)
+
+  played : (after : Option (List ℕ)) (piece : List ℕ) → Consumes known after piece
+      → (rest : List ℕ) × Played input at.lines (piece ++ rest) at.text world
+  played after piece more = let c = cut input known after at.lines piece at.taken more in
+      (c.0, record { split = c.1; few = lines_fit; plays = at.plays })
+
+  -- what was gathered was written, or some of it
+  pub written_on : (new' : Option (List ℕ)) (gathered' : List ℕ) → WritesFront new new' gathered gathered'
+      → AtLine input known old new' gathered' number world
+  written_on new' gathered' more =
+      record {
+        lines = at.lines;
+        text = at.text;
+        count = at.count;
+        taken = at.taken;
+        plays = at.plays;
+        written = writes_rest old new new' at.text gathered gathered' at.written more;
+      }
+
+  pub written_some : (left new' : Option (List ℕ)) → WritesSome new new' gathered
+      → EndsBy fault.Write input left (λ text. Appends old new' text)
+  written_some left new' some =
+      let p = played known [] (Consumes-nil known) in
+      broken_played input left old new new' gathered at.lines p.0 at.text world p.1 at.written some
+
+  -- a failed read
+  pub reads_fail : (left : Option (List ℕ)) (ahead piece : List ℕ) → Consumes known (prepend_known ahead left) piece → IsLine piece
+      → ahead ≡ [] → EndsBy fault.Read input left Written
+  reads_fail left ahead piece more lawful none =
+      let p = played (prepend_known ahead left) piece more in
+      let gone = Consumes-trans input known (prepend_known ahead left) (ended at.lines) piece at.taken more in (
+        at.lines,
+        piece ++ p.0,
+        at.text,
+        world,
+        p.1,
+        (piece, lawful, all_left input left ahead (ended at.lines ++ piece) none gone),
+        at.written,
+      )
+
+  -- the end of the input
+  pub ends : (t : Taken) (left : Option (List ℕ)) (ahead line : List ℕ) → is_line number t ≡ Ok false
+      → TakenIs t known (prepend_known ahead left) line → EndsWell input left Written
+  ends t left ahead line is took =
+      let end = end_taken number t known (prepend_known ahead left) line is took in (
+        at.lines,
+        at.text,
+        world,
+        record {
+          split = cut_end input known (prepend_known ahead left) at.lines [] at.taken end.0 end.1;
+          few = lines_fit;
+          plays = at.plays;
+        },
+        none_left left ahead end.1,
+        at.written,
+      )
+
+  faulty : (after left : Option (List ℕ)) (piece : List ℕ) (why : ScriptFaultKind) → Consumes known after piece
+      → ((rest : List ℕ) → IsFault number (is_some world) (piece ++ rest) why)
+      → EndsBy (fault.ScriptFault number why) input left Written
+  faulty after left piece why more is = let p = played after piece more in
+      (at.lines, piece ++ p.0, at.text, world, p.1, (sym at.count, is p.0), at.written)
+
+  too_many : (after left : Option (List ℕ)) (piece : List ℕ) → most_lines < number → piece ≢ [] → Consumes known after piece
+      → EndsBy (fault.ScriptFault number kind.Lines) input left Written
+  too_many after left piece many some more = faulty after left piece kind.Lines more
+      (λ rest. past number (is_some world) (piece ++ rest) many (some_after piece rest some))
+
+  too_long : (after left : Option (List ℕ)) (line : List ℕ) → number ≤ most_lines → IsLine line → TakenIs taken.Long known after line
+      → EndsBy (fault.ScriptFault number kind.Long) input left Written
+  too_long after left line inside lawful is = faulty after left (line ++ is.0 ∷ []) kind.Long is.1
+      (λ rest. within number (is_some world) _ kind.Long inside (inl (refl, (line, rest, is.0, lawful, is.3, is.2, refl))))
+
+  unended : (after left : Option (List ℕ)) (line : List ℕ) → number ≤ most_lines → IsLine line → TakenIs taken.Unended known after line
+      → EndsBy (fault.ScriptFault number kind.Unended) input left Written
+  unended after left line inside lawful is = (
+    at.lines,
+    line,
+    at.text,
+    world,
+    record { split = cut_end input known after at.lines line at.taken is.0 is.1; few = lines_fit; plays = at.plays },
+    (sym at.count, within number (is_some world) line kind.Unended inside (inr (inl (refl, (lawful, is.2))))),
+    at.written,
+  )
+
+  ends_as : (told why : Fault) (left : Option (List ℕ)) → ◌≡◌ {A = Result Bool Fault} (Err told) (Err why) → EndsBy why input left Written
+      → EndsBy told input left Written
+  ends_as told why left same is = let e : told ≡ why = cc in subst (λ (f : Fault). EndsBy f input left Written) (sym e) is
+
+  -- no line to play was taken
+  pub not_line : (t : Taken) (why : Fault) (after left : Option (List ℕ)) (line : List ℕ) → is_line number t ≡ Err why → IsLine line
+      → TakenIs t known after line → EndsBy why input left Written
+  not_line taken.End why after left line is lawful took = cc
+  not_line taken.Line why after left line is lawful took =
+      elim (answered number _ _ is) [
+        | inl many ↦ ends_as why _ left many.1 (too_many after left (line ++ 10 ∷ []) many.0 (some_with line 10) took)
+        | inr inside ↦ (let e = inside.1 in cc)
+      ]
+  not_line taken.Long why after left line is lawful took =
+      elim (answered number _ _ is) [
+        | inl many ↦ ends_as why _ left many.1 (too_many after left (line ++ took.0 ∷ []) many.0 (some_with line took.0) took.1)
+        | inr inside ↦ ends_as why _ left inside.1 (too_long after left line inside.0 lawful took)
+      ]
+  not_line taken.Unended why after left line is lawful took =
+      elim (answered number _ _ is) [
+        | inl many ↦ ends_as why _ left many.1 (too_many after left line many.0 took.2 took.0)
+        | inr inside ↦ ends_as why _ left inside.1 (unended after left line inside.0 lawful took)
+      ]
+
+  module _ (t : Taken) (after : Option (List ℕ)) (line : List ℕ) (is : is_line number t ≡ Ok true) (lawful : IsLine line)
+      (took : TakenIs t known after line) where
+    here : TakenIs taken.Line known after line
+    here = (line_taken number t known after line is took).0
+
+    pub within_last : number ≤ most_lines
+    within_last = (line_taken number t known after line is took).1
+
+    -- a line that is not played
+    pub not_played : (left : Option (List ℕ)) (why : LineFault) (world' : Option World) → LineFaultIs why world line world'
+        → EndsBy (ending_of number why) input left Written
+    not_played left line_fault.OutOfMemory world' why =
+        let p = played after (line ++ 10 ∷ []) here in
+        (at.lines, (line ++ 10 ∷ []) ++ p.0, at.text, world, p.1, inr (line, p.0, lawful, refl, why), at.written)
+    not_played left (line_fault.Faulty fault) world' why =
+        faulty after left (line ++ 10 ∷ []) fault here
+        (λ rest. within number (is_some world) _ fault within_last (inr (inr (line, rest, lawful, refl, why.0))))
+
+    -- a line that was played, and its text gathered, or written in part
+    pub next : (new' : Option (List ℕ)) (more gathered' : List ℕ) (world' : Option World) → Plays world line more world'
+        → WritesFront new new' (gathered ++ more) gathered' → AtLine input after old new' gathered' (number + 1) world'
+    next new' more gathered' world' plays wrote = record {
+      lines = at.lines ++ line ∷ [];
+      text = at.text ++ more;
+      count = (let count = at.count in omega (arith, count, length-append at.lines (line ∷ [])));
+      taken = subst (λ (bytes : List ℕ). Consumes input after bytes) (sym (ended-push at.lines line))
+          (Consumes-trans input known after (ended at.lines) (line ++ 10 ∷ []) at.taken here);
+      plays = plays-push None at.lines at.text world line more world' at.plays lawful plays;
+      written = writes_rest old new new' (at.text ++ more) (gathered ++ more) gathered'
+          (writes_grown old new at.text gathered more at.written) wrote;
+    }
+
+    pub breaks_off : (left new' : Option (List ℕ)) (more : List ℕ) (world' : Option World) → Plays world line more world'
+        → WritesSome new new' (gathered ++ more) → EndsBy fault.Write input left (λ text. Appends old new' text)
+    breaks_off left new' more world' plays wrote =
+        let p = played after (line ++ 10 ∷ []) here in
+        let part = writes_some old new new' (at.text ++ more) (gathered ++ more)
+        (writes_grown old new at.text gathered more at.written) wrote in
+        broken input left old new' (at.lines ++ line ∷ []) p.0 (at.text ++ more) world' (split-push input at.lines line p.0 p.1.split)
+        (let count = at.count in omega (arith, few, count, length-append at.lines (line ∷ [])))
+        (plays-push None at.lines at.text world line more world' at.plays lawful plays) part
+
+-- after a failed write nothing is gathered
+pub none_gathered : (input left old new : Option (List ℕ)) (gathered : List ℕ) → gathered ≡ []
+    → EndsBy fault.Write input left (λ text. Appends old new text)
+    → EndsBy fault.Write input left (λ text. WritesFront old new text gathered)
+none_gathered input left old new gathered none e =
+    ends_on (Err fault.Write) input left (λ text. Appends old new text) (λ text. WritesFront old new text gathered)
+    (λ text all. subst (λ (rest : List ℕ). WritesFront old new text rest) (sym none) (writes_all old new text all)) e
+
+-- the same end, told by an equation
+pub ends_told : (told why : Fault) (input left : Option (List ℕ)) (Writes : List ℕ → Type 0) → told ≡ why → EndsBy why input left Writes
+    → EndsBy told input left Writes
+ends_told told why input left Writes same e = subst (λ (f : Fault). EndsBy f input left Writes) (sym same) e
+
+-- a fault of a line on a world is one on what the world shows
+pub why_at : (why : LineFault) (old new : Option WorldState) (m : Option World) (slice line : List ℕ) → slice ≡ line → ShowsAny old m
+    → LineFaultIs why old slice new → LineFaultIs why m line m
+why_at line_fault.OutOfMemory old new m slice line same shown is = subst (λ (bytes : List ℕ). is_skipped bytes ≡ false) same is
+why_at (line_fault.Faulty fault) old new m slice line same shown is = (
+  subst (λ (made : Bool). LineFails made line fault) (as_many old m shown)
+      (subst (λ (bytes : List ℕ). LineFails (is_some old) bytes fault) same is.0),
+  refl,
+)
+  where
+    as_many : (old : Option WorldState) (m : Option World) → ShowsAny old m → is_some old ≡ is_some m
+    as_many None None shown = refl
+    as_many None (Some m) shown = absurd shown
+    as_many (Some w) None shown = absurd shown
+    as_many (Some w) (Some m) shown = refl
+
+pub plays_at : (world : Option World) (slice line text : List ℕ) (world' : Option World) → slice ≡ line
+    → Plays world slice text world' → Plays world line text world'
+plays_at world slice line text world' same is = subst (λ (bytes : List ℕ). Plays world bytes text world') same is

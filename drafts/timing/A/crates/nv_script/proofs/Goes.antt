@@ -1,0 +1,157 @@
+-- One step more of an actor's call, at the end of some.
+use Rattle.std.proofs.Common.{◌≡◌, ◌≢◌, ℕ, zero, suc, ◌+◌, ◌≤◌, ◌∙◌, arith, Bool, List, [], ◌∷◌, ◌++◌, ap, replicate, refl, subst, sym}
+use Rattle.nv_calls.specs.declared.call.Call.{Call}
+use Rattle.nv_machine.specs.Step.{after, replies, step}
+use Rattle.nv_machine.specs.World as machine
+use Rattle.nv_script.specs.Play.{GoesOn, Runs, RunsFrom}
+use Rattle.nv_script.specs.Results.{HasGone}
+use Rattle.nv_core.specs.declared.event.Event.TheVariants.{Go, Start}
+use Rattle.nv_core.specs.declared.event.Reply.{Reply}
+use Rattle.nv_core.specs.declared.event.Reply.TheVariants.{Done, Moved, Refused, Started, Waits}
+use Rattle.nv_core.specs.Worlds.{WorldState}
+use Rattle.nv_core.specs.Worlds.{IsBounded, IsStep, Leads, Shows, gos, most_goes, reply_of}
+
+-- the world after events and one more
+pub after-more : (w : machine.World) (events : List machine.Event) (e : machine.Event) → after w (events ++ e ∷ []) ≡ (step (after w events) e).world
+after-more w [] e = refl
+after-more w (first ∷ events) e = after-more (step w first).world events e
+
+-- the replies to them
+pub replies-more : (w : machine.World) (events : List machine.Event) (e : machine.Event)
+    → replies w (events ++ e ∷ []) ≡ replies w events ++ (step (after w events) e).reply ∷ []
+replies-more w [] e = refl
+replies-more w (first ∷ events) e = ap (λ (rest : List machine.Reply). (step w first).reply ∷ rest) (replies-more (step w first).world events e)
+
+pub gos-more : (actor : ℕ) (grants : List Bool) (granted : Bool) → gos actor (grants ++ granted ∷ []) ≡ gos actor grants ++ machine.Go actor granted ∷ []
+gos-more actor [] granted = refl
+gos-more actor (first ∷ grants) granted = ap (λ (rest : List machine.Event). machine.Go actor first ∷ rest) (gos-more actor grants granted)
+
+-- one more in front is one more behind
+pub replicate-more : (n : ℕ) (reply : machine.Reply) → replicate n reply ++ reply ∷ [] ≡ replicate (suc n) reply
+replicate-more zero reply = refl
+replicate-more (suc n) reply = ap (λ (rest : List machine.Reply). reply ∷ rest) (replicate-more n reply)
+
+one_more : (n : ℕ) → suc n ≡ n + 1
+one_more n = omega arith
+
+-- ---- the worlds that are shown
+
+pub gone_once : (old new : WorldState) (actor : ℕ) (reply : Reply) → ((m : machine.World) → Shows old m → IsStep m (Go actor) reply new)
+    → Leads (HasGone 0 actor reply) old new
+gone_once old new actor reply makes m shows =
+    let made = makes m shows in (
+      (step m (machine.Go actor made.granted)).world,
+      record {
+        grants = made.granted ∷ [];
+        replies = ap (λ (r : machine.Reply). r ∷ []) (sym made.reply_is);
+        world = refl;
+      },
+      made.shows,
+    )
+
+-- a step more, where the last one moved the call
+pub gone_more : (old mid new : WorldState) (again actor : ℕ) (last reply : Reply) → last ≡ Moved → Leads (HasGone again actor last) old mid
+    → ((m : machine.World) → Shows mid m → IsStep m (Go actor) reply new) → Leads (HasGone (again + 1) actor reply) old new
+gone_more old mid new again actor last reply moved gone makes m shows =
+    let by = gone m shows in
+    let had = by.1 in
+    let made = makes by.0 by.2 in
+    let events = gos actor had.grants in
+    let more : gos actor (had.grants ++ made.granted ∷ []) ≡ events ++ machine.Go actor made.granted ∷ [] = gos-more actor had.grants made.granted in (
+      (step by.0 (machine.Go actor made.granted)).world,
+      record {
+        grants = had.grants ++ made.granted ∷ [];
+        replies =
+            ap (replies m) more ∙ replies-more m events (machine.Go actor made.granted)
+            ∙ ap (λ (w : machine.World). replies m events ++ (step w (machine.Go actor made.granted)).reply ∷ []) (sym had.world)
+            ∙ ap (λ (r : machine.Reply). replies m events ++ r ∷ []) (sym made.reply_is)
+            ∙ ap (λ (all : List machine.Reply). all ++ reply_of reply ∷ [])
+            (had.replies ∙ ap (λ (r : Reply). replicate again machine.Moved ++ reply_of r ∷ []) moved ∙ replicate-more again machine.Moved ∙ ap (λ (k : ℕ). replicate k machine.Moved) (one_more again));
+        world =
+            ap (λ (w : machine.World). (step w (machine.Go actor made.granted)).world) had.world
+            ∙ sym (ap (after m) more ∙ after-more m events (machine.Go actor made.granted));
+      },
+      made.shows,
+    )
+
+-- so an actor's call goes on so often at most
+pub goes : (old new : WorldState) (again more actor : ℕ) (reply : Reply) → again ≤ more → (reply_of reply ≡ machine.Moved → again ≡ more)
+    → Leads (HasGone again actor reply) old new → Leads (λ m n. GoesOn (more + 1) m actor (reply_of reply) n) old new
+goes old new again more actor reply few all gone m shows =
+    let by = gone m shows in
+    let had = by.1 in (
+      by.0,
+      record {
+        grants = had.grants;
+        replies = record {
+          before = again;
+          all_are = had.replies;
+          few = omega (arith, few);
+          ends = λ moved. ap (λ (n : ℕ). n + 1) (all moved);
+        };
+        world = had.world;
+      },
+      by.2,
+    )
+
+-- it is the machine's reply alone that says so
+pub moved_only : (reply : Reply) → reply_of reply ≡ machine.Moved → reply ≡ Moved
+moved_only Started is = absurd (cc)
+moved_only Moved is = refl
+moved_only Waits is = absurd (cc)
+moved_only (Done answer) is = absurd (cc)
+moved_only (Refused fault) is = absurd (cc)
+
+-- ---- runs
+
+-- a call whose steps are bounded has come to where it did not move
+pub ran : (old new : WorldState) (actor : ℕ) (reply : Reply) → ((m : machine.World) → Shows old m → IsBounded m)
+    → Leads (λ m n. GoesOn most_goes m actor (reply_of reply) n) old new → Leads (λ m n. Runs m actor (reply_of reply) n) old new
+ran old new actor reply bounded gone m shows =
+    let by = gone m shows in
+    let had = by.1 in
+    let all = had.replies in (
+      by.0,
+      record {
+        most = most_goes;
+        goes = had;
+        ended = λ moved. bounded m shows actor had.grants
+            (all.all_are ∙ ap (λ (r : machine.Reply). replicate all.before machine.Moved ++ r ∷ []) moved ∙ replicate-more all.before machine.Moved
+            ∙ ap (λ (k : ℕ). replicate k machine.Moved) (one_more all.before ∙ all.ends moved));
+      },
+      by.2,
+    )
+
+-- a call that was started runs
+pub started_runs : (old mid new : WorldState) (actor : ℕ) (call : Call) (reply last : Reply) → reply ≡ Started
+    → ((m : machine.World) → Shows old m → IsStep m (Start actor call) reply mid)
+    → Leads (λ m n. Runs m actor (reply_of last) n) mid new
+    → Leads (λ m n. RunsFrom (step m (machine.Start actor call)).reply (step m (machine.Start actor call)).world actor (reply_of last) n) old new
+started_runs old mid new actor call reply last started makes runs m shows =
+    let made = makes m shows in
+    let by = runs (step m (machine.Start actor call)).world made.shows in (
+      by.0,
+      subst (λ (r : machine.Reply). RunsFrom r (step m (machine.Start actor call)).world actor (reply_of last) by.0)
+          (sym (ap reply_of started) ∙ made.reply_is) by.1,
+      by.2,
+    )
+
+stays_by : (reply : Reply) (w : machine.World) (actor : ℕ) → reply ≢ Started → RunsFrom (reply_of reply) w actor (reply_of reply) w
+stays_by Started w actor ne = absurd (ne refl)
+stays_by Moved w actor ne = (refl, refl)
+stays_by Waits w actor ne = (refl, refl)
+stays_by (Done answer) w actor ne = (refl, refl)
+stays_by (Refused fault) w actor ne = (refl, refl)
+
+-- one that was not does not
+pub refused_stays : (old new : WorldState) (actor : ℕ) (call : Call) (reply : Reply) → reply ≢ Started
+    → ((m : machine.World) → Shows old m → IsStep m (Start actor call) reply new)
+    → Leads (λ m n. RunsFrom (step m (machine.Start actor call)).reply (step m (machine.Start actor call)).world actor (reply_of reply) n) old new
+refused_stays old new actor call reply ne makes m shows =
+    let made = makes m shows in
+    let after = step m (machine.Start actor call) in (
+      after.world,
+      subst (λ (r : machine.Reply). RunsFrom r after.world actor (reply_of reply) after.world) made.reply_is
+          (stays_by reply after.world actor ne),
+      made.shows,
+    )

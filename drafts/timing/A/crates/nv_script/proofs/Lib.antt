@@ -1,0 +1,13 @@
+pub mod Ahead
+pub mod Breaks
+pub mod Commands
+pub mod Endings
+pub mod Escapes
+pub mod Firsts
+pub mod Goes
+pub mod Handles
+pub mod Known
+pub mod Lines
+pub mod Numbers
+pub mod Plain
+pub mod Played

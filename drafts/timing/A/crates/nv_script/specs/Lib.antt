@@ -1,0 +1,7 @@
+pub mod Grammar
+pub mod Lines
+pub mod Play
+pub mod Results
+pub mod Texts
+pub mod Words
+pub mod Outcomes

@@ -1,0 +1,167 @@
+-- What a whole script writes.
+use Rattle.std.specs.Prelude.{◌≡◌, ◌≢◌, ◌⊎◌, ◌≤◌, ◌<◌, ℕ, replicate, ◌+◌, Bool, true, false, nat_lt, List, [], ◌∷◌, ◌++◌, length, codes, Option, Some, None, IfSome, is_some, Result, Ok, Err, MatchBool}
+use Rattle.std.specs.Io.KnownBytes.{Appends, Consumes, IsAtEnd}
+use Rattle.nv_base.specs.Limits.{first_bad_field}
+use Rattle.nv_base.specs.declared.fault.Fault.{Fault}
+use Rattle.nv_base.specs.declared.fault.Fault.TheVariants as fault
+use Rattle.nv_base.specs.declared.fault.GeometryField.{GeometryField}
+use Rattle.nv_base.specs.declared.fault.ScriptFaultKind.{ScriptFaultKind}
+use Rattle.nv_base.specs.declared.fault.ScriptFaultKind.TheVariants as kind
+use Rattle.nv_base.specs.declared.geometry.GeometryNumbers.{GeometryNumbers}
+use Rattle.nv_machine.specs.Format.{formatted}
+use Rattle.nv_machine.specs.Step.{after, replies, step}
+use Rattle.nv_machine.specs.World.{Moved, Reply, Start, Started, World}
+use Rattle.nv_core.specs.Reports.{lists_of, log_at, space_of}
+use Rattle.nv_core.specs.Settled.{tree_of}
+use Rattle.nv_core.specs.Worlds.{gos}
+use Rattle.nv_script.specs.declared.command.Command.{Command}
+use Rattle.nv_script.specs.declared.command.Command.TheVariants as command
+use Rattle.nv_script.specs.Grammar.{command_of, format_of, is_skipped}
+use Rattle.nv_script.specs.Lines.{IsCutOff, IsLine, ended}
+use Rattle.nv_script.specs.Texts.{line_of, lists_lines, log_line, refused_line, reply_line, space_line, tree_lines}
+use Rattle.nv_script.specs.Words.{words_of}
+
+-- a `format` makes an empty world; or it is refused, for a number or for want of memory, and there is still none
+abbrev pub Formats : Option GeometryField → GeometryNumbers → List ℕ → Option World → Type 0
+Formats (Some field) numbers text new = (text ≡ refused_line (fault.BadGeometry field)) × (new ≡ None)
+Formats None numbers text new =
+    ((text ≡ line_of (codes "formatted")) × (new ≡ Some (formatted numbers)))
+    ⊎ ((text ≡ refused_line fault.OutOfMemory) × (new ≡ None))
+
+-- a reply to each of at least one event and of `most` at most: each but the last says that the call moved on, and the last
+-- says so only where there are so many
+pub record AreReplies (most : ℕ) (all : List Reply) (last : Reply) : Type 0 where
+  pub before : ℕ
+  pub all_are : all ≡ replicate before Moved ++ last ∷ []
+  pub few : before < most
+  pub ends : last ≡ Moved → before + 1 ≡ most
+
+-- an actor's call goes on so often at most, up to the first reply that it did not move
+pub record GoesOn (most : ℕ) (old : World) (actor : ℕ) (last : Reply) (new : World) : Type 0 where
+  pub grants : List Bool
+  pub replies : AreReplies most (replies old (gos actor grants)) last
+  pub world : new ≡ after old (gos actor grants)
+
+-- it goes on until it did not move
+pub record Runs (old : World) (actor : ℕ) (last : Reply) (new : World) : Type 0 where
+  pub most : ℕ
+  pub goes : GoesOn most old actor last new
+  pub ended : last ≢ Moved
+
+-- one that was started runs, and one that was refused does not
+abbrev pub RunsFrom : Reply → World → ℕ → Reply → World → Type 0
+RunsFrom Started old actor last new = Runs old actor last new
+RunsFrom first old actor last new = (last ≡ first) × (new ≡ old)
+
+-- the last reply is written
+abbrev pub Answers : (Reply → World → Type 0) → List ℕ → World → Type 0
+Answers Replies text new = (last : Reply) × Replies last new × (text ≡ reply_line last)
+
+-- a report of the world now, or a refusal for want of memory; nothing changes
+abbrev pub Reports : List ℕ → World → List ℕ → World → Type 0
+Reports lines old text new = ((text ≡ lines) ⊎ (text ≡ refused_line fault.OutOfMemory)) × (new ≡ old)
+
+-- the log of a slot, or a refusal where there is none
+abbrev pub ShowsLog : Bool → ℕ → World → List ℕ → World → Type 0
+ShowsLog true ino old text new = Reports (log_line ino (log_at old.shared ino)) old text new
+ShowsLog false ino old text new = (text ≡ refused_line fault.Stale) × (new ≡ old)
+
+-- what a command writes and leaves
+abbrev pub Acts : World → Command → List ℕ → World → Type 0
+Acts old (command.Start actor call) text new =
+    (text ≡ reply_line ((step old (Start actor call)).reply)) × (new ≡ (step old (Start actor call)).world)
+Acts old (command.Go actor more) text new = Answers (GoesOn (more + 1) old actor) text new
+Acts old (command.Run actor) text new = Answers (Runs old actor) text new
+Acts old (command.Do actor call) text new =
+    Answers (RunsFrom (step old (Start actor call)).reply (step old (Start actor call)).world actor) text new
+Acts old command.Tree text new = Reports (tree_lines (tree_of old)) old text new
+Acts old command.Space text new = (text ≡ space_line (space_of old)) × (new ≡ old)
+Acts old command.Lists text new = Reports (lists_lines (lists_of old.shared)) old text new
+Acts old (command.Log ino) text new = ShowsLog (nat_lt ino (length old.shared.cells)) ino old text new
+
+-- the words of a line without a fault: a `format` where no world is made, and else a command on the world
+abbrev pub PlaysWords : Option World → List (List ℕ) → List ℕ → Option World → Type 0
+PlaysWords None words text new = (numbers : GeometryNumbers) × (format_of words ≡ Ok numbers) × Formats (first_bad_field numbers) numbers text new
+PlaysWords (Some old) words text new =
+    (command : Command) × (world : World) × (command_of words ≡ Ok command) × Acts old command text world × (new ≡ Some world)
+
+-- one line without a fault; one that is skipped writes and changes nothing
+abbrev pub Plays : Option World → List ℕ → List ℕ → Option World → Type 0
+Plays old line text new = MatchBool (is_skipped line) ((text ≡ []) × (new ≡ old)) (PlaysWords old (words_of line) text new)
+
+-- some lines, one after another
+abbrev pub PlaysAll : Option World → List (List ℕ) → List ℕ → Option World → Type 0
+PlaysAll old [] text new = (text ≡ []) × (new ≡ old)
+PlaysAll old (line ∷ lines) text new =
+    (first rest : List ℕ) × (mid : Option World) × IsLine line × Plays old line first mid × PlaysAll mid lines rest new × (text ≡ first ++ rest)
+
+-- the most lines of a script
+abbrev pub most_lines : ℕ
+most_lines = 1048576
+
+-- the first lines of what the reader had, what they wrote, the world after them, and the bytes past them
+pub record Played (input : Option (List ℕ)) (lines : List (List ℕ)) (rest : List ℕ) (text : List ℕ) (world : Option World) : Type 0 where
+  pub split : IfSome input (λ bytes. bytes ≡ ended lines ++ rest)
+  pub few : length lines ≤ most_lines
+  pub plays : PlaysAll None lines text world
+
+-- more than 4,096 bytes come before the next line end, or before the end of the bytes
+abbrev pub IsLong : List ℕ → Type 0
+IsLong bytes = (line rest : List ℕ) × (byte : ℕ) × IsLine line × (length line ≡ 4096) × (byte ≢ 10) × (bytes ≡ (line ++ byte ∷ []) ++ rest)
+
+-- some bytes, at most 4,096, and no line end
+abbrev pub IsUnended : List ℕ → Type 0
+IsUnended bytes = IsLine bytes × (bytes ≢ [])
+
+-- words have this fault: where no world is made as a `format`, and else as a command
+abbrev pub WordsFail : Bool → List (List ℕ) → ScriptFaultKind → Type 0
+WordsFail false words fault = format_of words ≡ Err fault
+WordsFail true words fault = command_of words ≡ Err fault
+
+abbrev pub LineFails : Bool → List ℕ → ScriptFaultKind → Type 0
+LineFails made line fault = (is_skipped line ≡ false) × WordsFail made (words_of line) fault
+
+-- the next line has a fault of its words
+abbrev pub IsFaulty : Bool → List ℕ → ScriptFaultKind → Type 0
+IsFaulty made bytes fault = (line rest : List ℕ) × IsLine line × (bytes ≡ (line ++ 10 ∷ []) ++ rest) × LineFails made line fault
+
+-- the fault of the line with this number, which the bytes begin: past the last allowed line any byte is a fault
+abbrev pub IsFault : ℕ → Bool → List ℕ → ScriptFaultKind → Type 0
+IsFault number made bytes fault = MatchBool (nat_lt most_lines number)
+    ((fault ≡ kind.Lines) × (bytes ≢ []))
+    (((fault ≡ kind.Long) × IsLong bytes) ⊎ (((fault ≡ kind.Unended) × IsUnended bytes) ⊎ IsFaulty made bytes fault))
+
+-- the next line is a command and not skipped
+abbrev pub HasCommand : List ℕ → Type 0
+HasCommand bytes = (line rest : List ℕ) × IsLine line × (bytes ≡ (line ++ 10 ∷ []) ++ rest) × (is_skipped line ≡ false)
+
+-- the next line was played, and of its text these bytes alone were written
+abbrev pub BreaksOff : List ℕ → Option World → List ℕ → Type 0
+BreaksOff bytes world sent = (line rest text : List ℕ) × (new : Option World) × IsLine line × (bytes ≡ (line ++ 10 ∷ []) ++ rest) × Plays world line text new × IsCutOff sent text
+
+-- all lines were played and their text was written, and nothing is left
+abbrev pub EndsWell : (input left : Option (List ℕ)) → (List ℕ → Type 0) → Type 0
+EndsWell input left Writes = (lines : List (List ℕ)) × (text : List ℕ) × (world : Option World) × Played input lines [] text world × IsAtEnd left × Writes text
+
+-- the first lines were played and their text was written
+abbrev pub EndsAfter : (input : Option (List ℕ)) → (List ℕ → Type 0) → (List (List ℕ) → List ℕ → Option World → Type 0) → Type 0
+EndsAfter input Writes Also = (lines : List (List ℕ)) × (rest text : List ℕ) × (world : Option World) × Played input lines rest text world × Also lines rest world × Writes text
+
+-- how a script ends early: by a fault of the next line, with the number of that line; by a failed read, of whose
+-- reader no more than a piece of the next line is gone; for want of memory, before the first line or at a command;
+-- by a failed write, which leaves a front of the text of the line after them
+abbrev pub EndsBy : Fault → (input left : Option (List ℕ)) → (List ℕ → Type 0) → Type 0
+EndsBy (fault.ScriptFault number why) input left Writes = EndsAfter input Writes (λ lines rest world. (number ≡ length lines + 1) × IsFault number (is_some world) rest why)
+EndsBy fault.Read input left Writes = EndsAfter input Writes (λ lines rest world. (piece : List ℕ) × IsLine piece × Consumes input left (ended lines ++ piece))
+EndsBy fault.OutOfMemory input left Writes = EndsAfter input Writes (λ lines rest world. (lines ≡ []) ⊎ HasCommand rest)
+EndsBy fault.Write input left Writes = (lines : List (List ℕ)) × (rest text sent : List ℕ) × (world : Option World) × Played input lines rest text world × BreaksOff rest world sent × Writes (text ++ sent)
+EndsBy _ input left Writes = ⊥
+
+-- how a script ends: what the reader has at first and is left with, and what is written
+abbrev pub Ends : Result (Unit {0}) Fault → (input left : Option (List ℕ)) → (List ℕ → Type 0) → Type 0
+Ends (Ok done) input left Writes = EndsWell input left Writes
+Ends (Err why) input left Writes = EndsBy why input left Writes
+
+-- the same, where the writer has this at first and is left with that
+abbrev pub PlaysScript : Result (Unit {0}) Fault → (input left old new : Option (List ℕ)) → Type 0
+PlaysScript result input left old new = Ends result input left (λ text. Appends old new text)

@@ -1,0 +1,108 @@
+-- The texts of replies and reports.
+use Rattle.std.specs.Prelude.{ℕ, ◌+◌, ◌==◌, if◌then◌else◌, List, [], ◌∷◌, ◌++◌, length, codes, decimal}
+use Rattle.std.specs.List.{flat_map}
+use Rattle.nv_base.specs.Texts.{fault_text}
+use Rattle.nv_base.specs.declared.fault.Fault.{Fault}
+use Rattle.nv_base.specs.declared.node.Kind.{Kind}
+use Rattle.nv_base.specs.declared.node.Kind.TheVariants.{File, Dir}
+use Rattle.nv_base.specs.declared.numbers.Handle.{Handle}
+use Rattle.nv_alloc.specs.declared.runs.FreeRun.{FreeRun}
+use Rattle.nv_calls.specs.declared.answer.Answer.{Answer}
+use Rattle.nv_calls.specs.declared.answer.Answer.TheVariants as answer
+use Rattle.nv_cell.specs.declared.tally.PageCounts.{PageCounts}
+use Rattle.nv_entry.specs.declared.names.BoundName.{BoundName}
+use Rattle.nv_machine.specs.World.{Done, Moved, Refused, Reply, Started, Waiting}
+use Rattle.nv_core.specs.declared.reports.LogCounts.{LogCounts}
+use Rattle.nv_core.specs.declared.reports.Space.{Space}
+use Rattle.nv_entry.specs.declared.tree.TreeNode.{TreeNode}
+use Rattle.nv_script.specs.Words.{escaped}
+
+-- a text and its line end
+abbrev pub line_of : List ℕ → List ℕ
+line_of text = text ++ codes "\n"
+
+abbrev pub refused_line : Fault → List ℕ
+refused_line fault = line_of (codes "refused " ++ fault_text fault)
+
+-- how many bytes there are, and the bytes, if there are any
+abbrev pub counted_bytes : List ℕ → List ℕ
+counted_bytes [] = codes "0"
+counted_bytes (byte ∷ bytes) = decimal (length (byte ∷ bytes)) ++ codes " " ++ escaped (byte ∷ bytes)
+
+abbrev pub handle_text : Handle → List ℕ
+handle_text handle = decimal handle.ino ++ codes "." ++ decimal handle.generation
+
+-- a file's letter, or a directory's
+abbrev pub letter : Kind → List ℕ
+letter File = codes "f"
+letter Dir = codes "d"
+
+-- a bound name, on a line of its own behind what stands before
+abbrev pub bound_text : BoundName → List ℕ
+bound_text bound = codes "\n" ++ escaped bound.name ++ codes " " ++ handle_text bound.to
+
+-- what an answer shows behind the word `done`
+abbrev pub answer_text : Answer → List ℕ
+answer_text (answer.Made handle) = codes " " ++ handle_text handle
+answer_text (answer.Count count) = codes " " ++ decimal count
+answer_text answer.Nothing = []
+answer_text (answer.Bytes bytes) = codes " " ++ counted_bytes bytes
+answer_text (answer.Stat kind mode size commit) =
+    codes " " ++ letter kind ++ codes " " ++ decimal mode ++ codes " " ++ decimal size ++ codes " " ++ decimal commit
+answer_text (answer.Names names) = codes " " ++ decimal (length names) ++ flat_map bound_text names
+
+abbrev pub reply_line : Reply → List ℕ
+reply_line Started = line_of (codes "started")
+reply_line Moved = line_of (codes "moved")
+reply_line Waiting = line_of (codes "waits")
+reply_line (Done answer) = line_of (codes "done" ++ answer_text answer)
+reply_line (Refused fault) = refused_line fault
+
+-- each name behind a `/`
+abbrev pub names_text : List (List ℕ) → List ℕ
+names_text names = flat_map (λ name. codes "/" ++ escaped name) names
+
+-- the root is `/`
+abbrev pub path_text : List (List ℕ) → List ℕ
+path_text [] = codes "/"
+path_text (name ∷ names) = names_text (name ∷ names)
+
+-- a file's letter, mode and bytes, or a directory's letter and mode
+abbrev pub kind_text : Kind → ℕ → List ℕ → List ℕ
+kind_text File mode bytes = codes "f " ++ decimal mode ++ codes " " ++ counted_bytes bytes
+kind_text Dir mode bytes = codes "d " ++ decimal mode
+
+abbrev pub node_line : TreeNode → List ℕ
+node_line node = line_of (path_text node.path ++ codes " " ++ kind_text node.node.kind node.node.mode node.node.bytes)
+
+abbrev pub tree_lines : List TreeNode → List ℕ
+tree_lines nodes = flat_map node_line nodes ++ line_of (codes "end")
+
+-- where the blocks are
+abbrev pub space_line : Space → List ℕ
+space_line space = line_of (codes "free " ++ decimal space.free ++ codes " chain " ++ decimal space.chain ++ codes " data " ++ decimal space.«data»
+    ++ codes " pending " ++ decimal space.pending ++ codes " hand " ++ decimal space.hand)
+
+-- a run of free blocks by its ends, or one block by its number
+abbrev pub run_text : FreeRun → List ℕ
+run_text run = codes " " ++ (if run.first == run.last then decimal run.first else decimal run.first ++ codes "-" ++ decimal run.last)
+
+abbrev pub runs_text : List FreeRun → List ℕ
+runs_text [] = codes " -"
+runs_text (run ∷ runs) = flat_map run_text (run ∷ runs)
+
+-- the free lists of the CPUs from one on
+abbrev pub lists_from : ℕ → List (List FreeRun) → List ℕ
+lists_from cpu [] = []
+lists_from cpu (runs ∷ lists) = line_of (codes "cpu " ++ decimal cpu ++ runs_text runs) ++ lists_from (cpu + 1) lists
+
+abbrev pub lists_lines : List (List FreeRun) → List ℕ
+lists_lines lists = lists_from 0 lists
+
+abbrev pub counts_text : PageCounts → List ℕ
+counts_text counts = codes " " ++ decimal counts.live ++ codes ":" ++ decimal counts.valid
+
+-- the log of a slot: entries and pages, and the counts of each page
+abbrev pub log_line : ℕ → LogCounts → List ℕ
+log_line ino log = line_of (codes "log " ++ decimal ino ++ codes " " ++ decimal log.entries ++ codes " " ++ decimal (length log.pages)
+    ++ flat_map counts_text log.pages)

@@ -1,0 +1,24 @@
+//! Scripts of calls: bytes in, texts out.
+//!
+//! A script is lines of words. Each line is one command: `format` makes a world, and the others make calls of
+//! its actors or report on it. `play` writes the text of what each line is answered.
+#![tactic(auto)]
+
+mod act;
+mod call;
+mod command;
+mod fault;
+pub mod feed;
+mod field;
+mod format;
+mod outbox;
+mod outcome;
+mod scan;
+mod script;
+mod send;
+mod text;
+pub mod word;
+
+pub use outcome::{Outcome, exit_code, fault_line};
+pub use script::play;
+pub use text::fault_text;

@@ -1,0 +1,82 @@
+//! Answers that are gathered until the reader is asked for more bytes.
+
+ghost use Rattle.std.specs.Prelude.{◌≡◌, [], ◌++◌, IfOk, MatchResult};
+ghost use Rattle.std.specs.Io.KnownBytes.{Appends};
+
+use crate::send::{WriteFailed, send};
+use std::alloc::{AllocError, Global};
+use std::io::Write;
+use std::marker::Model;
+
+/// The most bytes that are gathered.
+const OUTBOX_BYTES: usize = 65_536;
+
+/// Bytes that are to be written, and their room.
+#[derive(Drop)]
+pub(crate) struct Outbox {
+    gathered: Vec<u8>,
+}
+
+impl Model for Outbox {
+    ghost use Rattle.std.specs.Prelude.{ℕ, List};
+
+    ghost Value = { List ℕ };
+
+    ghost view = { λ outbox. outbox.gathered.items };
+}
+
+impl Outbox {
+    ghost use Rattle.nv_script.specs.Lines.{WritesFront, WritesSome};
+    ghost use Rattle.nv_script.specs.Results.{Gathers};
+
+    /// An outbox with nothing gathered.
+    pub(crate) fn new(alloc: Global) -> Result<Outbox, AllocError>
+        ensures { IfOk result (λ outbox. outbox ≡ []) }
+    {
+        Ok(Outbox {
+            gathered: Vec::with_capacity(alloc, OUTBOX_BYTES)?,
+        })
+    }
+
+    /// Writes what is gathered. After a failed write the rest of it is given up.
+    pub(crate) fn flush<W: Write>(&mut self, writer: &mut W) -> Result<(), WriteFailed>
+        ensures empty { self.new ≡ [] }
+        ensures sent { MatchResult result
+            (λ _. Appends (W.contents writer.old) (W.contents writer.new) self.old)
+            (λ _. WritesSome (W.contents writer.old) (W.contents writer.new) self.old) }
+    {
+        let sent = send(writer, self.gathered.as_slice());
+        self.gathered.clear();
+        sent
+    }
+
+    /// Gathers a text. Where there is no room for it what was gathered is written first, and a text
+    /// that is longer than all room is written at once. After a failed write nothing is gathered.
+    pub(crate) fn add<W: Write>(&mut self, writer: &mut W, text: &[u8]) -> Result<(), WriteFailed>
+        ensures { MatchResult result
+            (λ _. WritesFront (W.contents writer.old) (W.contents writer.new)
+            (self.old ++ text.now) self.new)
+            (λ _. WritesSome (W.contents writer.old) (W.contents writer.new)
+            (self.old ++ text.now) × (self.new ≡ [])) }
+    {
+        if self.gather(text) {
+            return Ok(());
+        }
+        self.flush(writer)?;
+        if self.gather(text) {
+            return Ok(());
+        }
+        send(writer, text)?;
+        Ok(())
+    }
+
+    /// Gathers a text if there is room for it.
+    fn gather(&mut self, text: &[u8]) -> bool
+        ensures { Gathers result self.old text.now self.new }
+    {
+        if text.len() > self.gathered.capacity() - self.gathered.len() {
+            return false;
+        }
+        self.gathered.extend_from_slice(text).is_ok()
+    }
+}

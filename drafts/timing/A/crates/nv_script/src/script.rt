@@ -1,0 +1,181 @@
+//! A whole script: bytes in, bytes out.
+
+ghost use Rattle.std.specs.Prelude.{◌≡◌, ℕ, ◌+◌, ◌≤◌, ◌⊎◌, List, [], Option, IfOk, OnOk, MatchResult, None};
+ghost use Rattle.std.specs.List.{Contains};
+ghost use Rattle.std.specs.Io.KnownBytes.{prepend_known};
+ghost use Rattle.std.specs.Vec.{vec_capacity};
+ghost use Rattle.nv_machine.specs.World as machine;
+ghost use Rattle.nv_core.specs.Worlds.{ShowsAny};
+ghost use Rattle.nv_script.specs.Lines.{WritesFront, WritesSome};
+ghost use Rattle.nv_script.specs.Play.{Ends, PlaysScript};
+ghost use Rattle.nv_script.specs.Results.{AtLine, TurnIs, ending_of, is_line};
+
+use crate::act::play_line;
+use crate::fault::LineFault;
+use crate::feed::{Feed, MAX_LINE_BYTES, Taken};
+use crate::outbox::Outbox;
+use crate::send::WriteFailed;
+use nv_base::{Fault, ScriptFaultKind};
+use nv_core::World;
+use std::alloc::{AllocError, Global};
+use std::io::{Read, Write};
+
+/// The most lines of a script.
+const MAX_LINES: u64 = 1_048_576;
+
+/// The room for a line's text that is made at first. A longer text makes more.
+const TEXT_BYTES: usize = 4096;
+
+/// Plays a script: its lines are read, acted on and answered one after another, in bounded memory.
+///
+/// What is written is the text of the lines before the first fault, and after a failed write a front of the text
+/// of the next line too. Faults are `ScriptFault` with the line, counted from 1, and its kind; `Read` for any failed
+/// read; `Write` for any failed write and one that takes no byte; `OutOfMemory` where room for the lines, their
+/// words or their texts is refused. A format, call or tree whose own growth is refused is printed as refused and
+/// changes nothing, and the script goes on.
+///
+/// Answers are gathered, and written before the reader is asked for more bytes, at the end, and where there is no
+/// room for more: so each answer is written before the next line is waited for, and a chunk of 64 KiB that is
+/// read takes one write. Bytes are read ahead, so some of those past a fault may be gone from the reader. The
+/// writer is not flushed.
+pub fn play<R: Read, W: Write>(alloc: Global, reader: &mut R, writer: &mut W) -> Result<(), Fault>
+    ensures { PlaysScript result (R.remaining reader.old) (R.remaining reader.new)
+        (W.contents writer.old) (W.contents writer.new) }
+{
+    let Ok(mut player) = Player::new(alloc) else {
+        return Err(Fault::OutOfMemory);
+    };
+    let outcome = player.play_lines(alloc, reader, writer);
+    let Ok(()) = player.outbox.flush(writer) else {
+        return Err(Fault::Write);
+    };
+    outcome
+}
+
+/// A script while it is played: what is read ahead, the line that was taken last and its text, what is to be
+/// written, and the world.
+#[derive(Drop)]
+struct Player {
+    feed: Feed,
+    line: Vec<u8>,
+    text: Vec<u8>,
+    outbox: Outbox,
+    world: Option<World>,
+    ghost room: { 4096 ≤ vec_capacity line },
+}
+
+impl Player {
+    /// Nothing is read ahead, and no world is made.
+    fn new(alloc: Global) -> Result<Player, AllocError>
+        ensures ahead { IfOk result (λ player. player.feed ≡ []) }
+        ensures gathered { IfOk result (λ player. player.outbox ≡ []) }
+        ensures world { IfOk result (λ player. player.world ≡ None) }
+    {
+        Ok(Player {
+            feed: Feed::new(alloc)?,
+            line: Vec::with_capacity(alloc, MAX_LINE_BYTES)?,
+            text: Vec::with_capacity(alloc, TEXT_BYTES)?,
+            outbox: Outbox::new(alloc)?,
+            world: None,
+        })
+    }
+
+    /// Plays all lines. Of their text, the last may still be gathered.
+    fn play_lines<R: Read, W: Write>(
+        &mut self,
+        alloc: Global,
+        reader: &mut R,
+        writer: &mut W,
+    ) -> Result<(), Fault>
+        requires ahead { self.old.feed ≡ [] }
+        requires gathered { self.old.outbox ≡ [] }
+        requires world { self.old.world ≡ None }
+        ensures { Ends result (R.remaining reader.old) (R.remaining reader.new)
+            (λ text. WritesFront (W.contents writer.old) (W.contents writer.new)
+            text self.new.outbox) }
+    {
+        for number in 1..=MAX_LINES + 1 {
+            if !self.turn(alloc, number, reader, writer)? {
+                return Ok(());
+            }
+        }
+        // The turn past the last line always returns.
+        unreachable!()
+    }
+
+    /// Plays the line of this number, and says whether there is one.
+    fn turn<R: Read, W: Write>(
+        &mut self,
+        alloc: Global,
+        number: u64,
+        reader: &mut R,
+        writer: &mut W,
+    ) -> Result<bool, Fault>
+        requires { number ≤ MAX_LINES + 1 }
+        ensures { (input old : Option (List ℕ)) (m : Option machine.World)
+            → ShowsAny self.old.world m → AtLine input (prepend_known self.old.feed (R.remaining reader.old))
+            old (W.contents writer.old) self.old.outbox number m
+            → TurnIs result input (R.remaining reader.new)
+            (prepend_known self.new.feed (R.remaining reader.new))
+            old (W.contents writer.new) self.new.outbox number self.new.world }
+    {
+        let Ok(()) = write_before_read(&self.feed, &mut self.outbox, writer) else {
+            return Err(Fault::Write);
+        };
+        let Ok(taken) = self.feed.next_line(reader, &mut self.line) else {
+            return Err(Fault::Read);
+        };
+        if !is_line(number, taken)? {
+            return Ok(false);
+        }
+        let played = play_line(alloc, &mut self.world, self.line.as_slice(), &mut self.text);
+        if let Err(fault) = played {
+            return Err(ending_of(number, fault));
+        }
+        let Ok(()) = self.outbox.add(writer, self.text.as_slice()) else {
+            return Err(Fault::Write);
+        };
+        Ok(true)
+    }
+}
+
+/// Writes what is gathered, where the reader is to be asked for the next line: nothing is held back then.
+fn write_before_read<W: Write>(
+    feed: &Feed,
+    outbox: &mut Outbox,
+    writer: &mut W,
+) -> Result<(), WriteFailed>
+    ensures unheld { OnOk result (Contains feed.now 10 ⊎ (outbox.new ≡ [])) }
+    ensures sent { MatchResult result
+        (λ _. WritesFront (W.contents writer.old) (W.contents writer.new) outbox.old outbox.new)
+        (λ _. WritesSome (W.contents writer.old) (W.contents writer.new) outbox.old
+        × (outbox.new ≡ [])) }
+{
+    if feed.has_line() {
+        return Ok(());
+    }
+    outbox.flush(writer)
+}
+
+/// Whether what was taken is a line to play. It is none at the end of the bytes; else it ends the script by a fault.
+fn is_line(number: u64, taken: Taken) -> Result<bool, Fault>
+    ensures { result ≡ is_line number taken }
+{
+    match taken {
+        Taken::End => Ok(false),
+        _ if number > MAX_LINES => Err(Fault::ScriptFault(number, ScriptFaultKind::Lines)),
+        Taken::Line => Ok(true),
+        Taken::Long => Err(Fault::ScriptFault(number, ScriptFaultKind::Long)),
+        Taken::Unended => Err(Fault::ScriptFault(number, ScriptFaultKind::Unended)),
+    }
+}
+
+/// How a line's fault ends the script.
+fn ending_of(number: u64, fault: LineFault) -> Fault
+    ensures { result ≡ ending_of number fault }
+{
+    match fault {
+        LineFault::OutOfMemory => Fault::OutOfMemory,
+        LineFault::Faulty(kind) => Fault::ScriptFault(number, kind),
+    }
+}

@@ -1,0 +1,326 @@
+//! The texts of replies and reports. Each line ends with LF; numbers are plain decimal.
+
+ghost use Rattle.std.specs.Prelude.{◌≡◌, ◌++◌, IfOk, OnOk, codes, decimal, string_bytes};
+ghost use Rattle.nv_base.specs.Texts.{bracketed, fault_text, script_fault_name};
+ghost use Rattle.nv_script.specs.Texts.{answer_text, bound_text, counted_bytes, counts_text, handle_text, kind_text, letter, lists_lines, log_line, names_text, node_line, path_text, refused_line, reply_line, run_text, runs_text, space_line, tree_lines};
+ghost use Rattle.std.specs.List.{flat_map};
+ghost use Rattle.nv_machine.specs.World.{Done};
+ghost use Rattle.nv_core.specs.Worlds.{reply_of};
+
+use crate::word::{push_escaped, push_number};
+use nv_alloc::FreeRun;
+use nv_base::{Fault, Handle, Items, Kind, Mode, Name, ScriptFaultKind};
+use nv_cell::PageCounts;
+use nv_core::{Answer, LogCounts, Path, Reply, Space, TreeNode};
+use nv_entry::{BoundName, NodeCopy};
+use std::alloc::{AllocError, Global};
+
+/// The text of a fault: its number, its name and, in brackets, its fields.
+pub fn fault_text(alloc: Global, fault: &Fault) -> Result<String, AllocError>
+    ensures { IfOk result (λ text. string_bytes text ≡ fault_text fault.now) }
+{
+    format!(in alloc; "{fault}")
+}
+
+/// Adds the text of a fault. Each piece is pushed as it is, since a script may be refused line after line.
+fn push_fault(out: &mut Vec<u8>, fault: &Fault) -> Result<(), AllocError>
+    ensures { OnOk result (out.new.items ≡ out.old.items ++ fault_text fault.now) }
+{
+    out.extend_from_slice(fault.name().as_bytes())?;
+    match fault {
+        Fault::BadGeometry(field) => push_bracketed(out, field.name().as_bytes()),
+        Fault::Mismatch(part) => push_bracketed(out, part.name().as_bytes()),
+        Fault::BadImage(fault) => push_bracketed(out, fault.name().as_bytes()),
+        Fault::ScriptFault(line, kind) => push_place(out, *line, *kind),
+        _ => Ok(()),
+    }
+}
+
+/// Adds the line and the kind of a fault in a script.
+fn push_place(out: &mut Vec<u8>, line: u64, kind: ScriptFaultKind) -> Result<(), AllocError>
+    ensures { OnOk result (out.new.items
+        ≡ out.old.items ++ bracketed (decimal line ++ codes ", " ++ script_fault_name kind)) }
+{
+    push_labelled(out, b"(", line)?;
+    out.extend_from_slice(b", ")?;
+    out.extend_from_slice(kind.name().as_bytes())?;
+    out.extend_from_slice(b")")
+}
+
+/// Adds a text in brackets.
+fn push_bracketed(out: &mut Vec<u8>, text: &[u8]) -> Result<(), AllocError>
+    ensures { OnOk result (out.new.items ≡ out.old.items ++ bracketed text.now) }
+{
+    out.extend_from_slice(b"(")?;
+    out.extend_from_slice(text)?;
+    out.extend_from_slice(b")")
+}
+
+/// Adds the line of a refusal.
+pub(crate) fn push_refused(out: &mut Vec<u8>, fault: &Fault) -> Result<(), AllocError>
+    ensures { OnOk result (out.new.items ≡ out.old.items ++ refused_line fault.now) }
+{
+    out.extend_from_slice(b"refused ")?;
+    push_fault(out, fault)?;
+    out.extend_from_slice(b"\n")
+}
+
+/// Adds a number behind a label.
+fn push_labelled(out: &mut Vec<u8>, label: &[u8], number: u64) -> Result<(), AllocError>
+    ensures { OnOk result (out.new.items ≡ out.old.items ++ (label.now ++ decimal number)) }
+{
+    out.extend_from_slice(label)?;
+    push_number(out, number)
+}
+
+/// Adds how many bytes there are, and the bytes, if there are any.
+fn push_counted_bytes(out: &mut Vec<u8>, bytes: &[u8]) -> Result<(), AllocError>
+    ensures { OnOk result (out.new.items ≡ out.old.items ++ counted_bytes bytes.now) }
+{
+    let count = bytes.len();
+    if count == 0 {
+        return out.extend_from_slice(b"0");
+    }
+    push_number(out, count as u64)?;
+    out.extend_from_slice(b" ")?;
+    push_escaped(out, bytes)
+}
+
+/// Adds a handle.
+fn push_handle(out: &mut Vec<u8>, handle: &Handle) -> Result<(), AllocError>
+    ensures { OnOk result (out.new.items ≡ out.old.items ++ handle_text handle.now) }
+{
+    push_number(out, handle.ino.number())?;
+    push_labelled(out, b".", handle.generation.number())
+}
+
+/// Adds the names of a directory, each on a line of its own behind what stands before.
+fn push_bound(out: &mut Vec<u8>, names: &[BoundName]) -> Result<(), AllocError>
+    ensures { OnOk result (out.new.items ≡ out.old.items ++ flat_map bound_text names.now) }
+{
+    for bound in names {
+        out.extend_from_slice(b"\n")?;
+        push_escaped(out, bound.name.bytes())?;
+        out.extend_from_slice(b" ")?;
+        push_handle(out, &bound.to)?;
+    }
+    Ok(())
+}
+
+/// The letter of a file, or of a directory.
+fn letter(kind: Kind) -> &'static [u8]
+    ensures { result.now ≡ letter kind }
+{
+    match kind {
+        Kind::File => b"f",
+        Kind::Dir => b"d",
+    }
+}
+
+/// Adds the letter of a kind, and a mode.
+fn push_mode(out: &mut Vec<u8>, kind: Kind, mode: Mode) -> Result<(), AllocError>
+    ensures { OnOk result
+        (out.new.items ≡ out.old.items ++ (letter kind ++ codes " " ++ decimal mode)) }
+{
+    out.extend_from_slice(letter(kind))?;
+    push_labelled(out, b" ", u64::from(mode.bits()))
+}
+
+/// Adds what an answer shows behind the word `done`.
+fn push_answer(out: &mut Vec<u8>, answer: &Answer) -> Result<(), AllocError>
+    ensures { OnOk result (out.new.items ≡ out.old.items ++ answer_text answer.now) }
+{
+    match answer {
+        Answer::Made(handle) => {
+            out.extend_from_slice(b" ")?;
+            push_handle(out, handle)
+        }
+        Answer::Count(count) => push_labelled(out, b" ", *count),
+        Answer::Nothing => Ok(()),
+        Answer::Bytes(bytes) => {
+            out.extend_from_slice(b" ")?;
+            push_counted_bytes(out, bytes.as_slice())
+        }
+        Answer::Stat {
+            kind,
+            mode,
+            size,
+            commit,
+        } => {
+            out.extend_from_slice(b" ")?;
+            push_mode(out, *kind, *mode)?;
+            push_labelled(out, b" ", *size)?;
+            push_labelled(out, b" ", commit.number())
+        }
+        Answer::Names(names) => {
+            let names = names.as_slice();
+            push_labelled(out, b" ", names.len() as u64)?;
+            push_bound(out, names)
+        }
+    }
+}
+
+/// Adds the line of an answer.
+fn push_done(out: &mut Vec<u8>, answer: &Answer) -> Result<(), AllocError>
+    ensures { OnOk result (out.new.items ≡ out.old.items ++ reply_line (Done answer.now)) }
+{
+    out.extend_from_slice(b"done")?;
+    push_answer(out, answer)?;
+    out.extend_from_slice(b"\n")
+}
+
+/// Adds the line of a reply.
+pub(crate) fn push_reply(out: &mut Vec<u8>, reply: &Reply) -> Result<(), AllocError>
+    ensures { OnOk result
+        (out.new.items ≡ out.old.items ++ reply_line (reply_of reply.now)) }
+{
+    match reply {
+        Reply::Started => out.extend_from_slice(b"started\n"),
+        Reply::Moved => out.extend_from_slice(b"moved\n"),
+        Reply::Waits => out.extend_from_slice(b"waits\n"),
+        Reply::Done(answer) => push_done(out, answer),
+        Reply::Refused(fault) => push_refused(out, fault),
+    }
+}
+
+/// Adds each name behind a `/`.
+fn push_names(out: &mut Vec<u8>, names: &[Name]) -> Result<(), AllocError>
+    ensures { OnOk result (out.new.items ≡ out.old.items ++ names_text names.now) }
+{
+    for name in names {
+        out.extend_from_slice(b"/")?;
+        push_escaped(out, name.bytes())?;
+    }
+    Ok(())
+}
+
+/// Adds a path: `/` for the root.
+fn push_path(out: &mut Vec<u8>, path: &Path) -> Result<(), AllocError>
+    ensures { OnOk result (out.new.items ≡ out.old.items ++ path_text path.now) }
+{
+    let names = path.as_slice();
+    if names.is_empty() {
+        return out.extend_from_slice(b"/");
+    }
+    push_names(out, names)
+}
+
+/// Adds a file's letter, mode and bytes, or a directory's letter and mode.
+fn push_kind(out: &mut Vec<u8>, node: &NodeCopy) -> Result<(), AllocError>
+    ensures { OnOk result (out.new.items
+        ≡ out.old.items ++ kind_text node.now.kind node.now.mode node.now.bytes) }
+{
+    push_mode(out, node.kind, node.mode)?;
+    match node.kind {
+        Kind::File => {
+            out.extend_from_slice(b" ")?;
+            push_counted_bytes(out, node.bytes.as_slice())
+        }
+        Kind::Dir => Ok(()),
+    }
+}
+
+/// Adds the line of a node.
+fn push_node(out: &mut Vec<u8>, node: &TreeNode) -> Result<(), AllocError>
+    ensures { OnOk result (out.new.items ≡ out.old.items ++ node_line node.now) }
+{
+    push_path(out, &node.path)?;
+    out.extend_from_slice(b" ")?;
+    push_kind(out, &node.node)?;
+    out.extend_from_slice(b"\n")
+}
+
+/// Adds the lines of nodes.
+fn push_nodes(out: &mut Vec<u8>, nodes: &[TreeNode]) -> Result<(), AllocError>
+    ensures { OnOk result (out.new.items ≡ out.old.items ++ flat_map node_line nodes.now) }
+{
+    for node in nodes {
+        push_node(out, node)?;
+    }
+    Ok(())
+}
+
+/// Adds the lines of a tree.
+pub(crate) fn push_tree(out: &mut Vec<u8>, nodes: &[TreeNode]) -> Result<(), AllocError>
+    ensures { OnOk result (out.new.items ≡ out.old.items ++ tree_lines nodes.now) }
+{
+    push_nodes(out, nodes)?;
+    out.extend_from_slice(b"end\n")
+}
+
+/// Adds where the blocks are.
+pub(crate) fn push_space(out: &mut Vec<u8>, space: &Space) -> Result<(), AllocError>
+    ensures { OnOk result (out.new.items ≡ out.old.items ++ space_line space.now) }
+{
+    push_labelled(out, b"free ", space.free)?;
+    push_labelled(out, b" chain ", space.chain)?;
+    push_labelled(out, b" data ", space.data)?;
+    push_labelled(out, b" pending ", space.pending)?;
+    push_labelled(out, b" hand ", space.hand)?;
+    out.extend_from_slice(b"\n")
+}
+
+/// Adds a run of free blocks by its ends, or one block by its number.
+fn push_run(out: &mut Vec<u8>, run: &FreeRun) -> Result<(), AllocError>
+    ensures { OnOk result (out.new.items ≡ out.old.items ++ run_text run.now) }
+{
+    push_labelled(out, b" ", run.first.number())?;
+    if run.first == run.last {
+        return Ok(());
+    }
+    push_labelled(out, b"-", run.last.number())
+}
+
+/// Adds the runs of one list.
+fn push_runs(out: &mut Vec<u8>, runs: &[FreeRun]) -> Result<(), AllocError>
+    ensures { OnOk result (out.new.items ≡ out.old.items ++ runs_text runs.now) }
+{
+    if runs.is_empty() {
+        return out.extend_from_slice(b" -");
+    }
+    push_some(out, runs)
+}
+
+fn push_some(out: &mut Vec<u8>, runs: &[FreeRun]) -> Result<(), AllocError>
+    ensures { OnOk result (out.new.items ≡ out.old.items ++ flat_map run_text runs.now) }
+{
+    for run in runs {
+        push_run(out, run)?;
+    }
+    Ok(())
+}
+
+/// Adds the lines of the free lists.
+pub(crate) fn push_lists(out: &mut Vec<u8>, lists: &[Items<FreeRun>]) -> Result<(), AllocError>
+    ensures { OnOk result (out.new.items ≡ out.old.items ++ lists_lines lists.now) }
+{
+    for (cpu, runs) in lists.iter().enumerate() {
+        push_labelled(out, b"cpu ", cpu as u64)?;
+        push_runs(out, runs.as_slice())?;
+        out.extend_from_slice(b"\n")?;
+    }
+    Ok(())
+}
+
+/// Adds the counts of the pages of a log.
+fn push_counts(out: &mut Vec<u8>, pages: &[PageCounts]) -> Result<(), AllocError>
+    ensures { OnOk result (out.new.items ≡ out.old.items ++ flat_map counts_text pages.now) }
+{
+    for page in pages {
+        push_labelled(out, b" ", page.live as u64)?;
+        push_labelled(out, b":", page.valid as u64)?;
+    }
+    Ok(())
+}
+
+/// Adds the line of a log.
+pub(crate) fn push_log(out: &mut Vec<u8>, ino: u64, log: &LogCounts) -> Result<(), AllocError>
+    ensures { OnOk result (out.new.items ≡ out.old.items ++ log_line ino log.now) }
+{
+    let pages = log.pages.as_slice();
+    push_labelled(out, b"log ", ino)?;
+    push_labelled(out, b" ", log.entries as u64)?;
+    push_labelled(out, b" ", pages.len() as u64)?;
+    push_counts(out, pages)?;
+    out.extend_from_slice(b"\n")
+}

@@ -1,0 +1,63 @@
+//! A world with a few files, and the calls of its actors.
+
+use super::says::{PREPARED, Says, call};
+use nv_core::{Event, Reply, World};
+use nv_scenes::{Row, geometry};
+use std::alloc::Global;
+use std::process::Abort;
+use std::test::Fail;
+
+/// A world of a geometry.
+#[derive(Drop)]
+pub(super) struct Scene {
+    pub alloc: Global,
+    pub row: Row,
+    pub world: World,
+}
+
+/// The bytes of a block.
+pub(super) const BLOCK: u64 = 4;
+
+/// No call alone has so many steps.
+const STEPS: u64 = 200;
+
+impl Scene {
+    /// A world with what is prepared.
+    pub fn prepared(rt: &impl Abort, alloc: Global, row: Row) -> Result<Scene, Fail> {
+        let world = World::format(alloc, geometry(row)?)?;
+        let mut scene = Scene { alloc, row, world };
+        for says in PREPARED {
+            let reply = scene.alone(rt, says)?;
+            assert!(rt; matches!(reply, Reply::Done(_)));
+        }
+        Ok(scene)
+    }
+
+    /// An actor starts a call.
+    pub fn start(&mut self, rt: &impl Abort, actor: u64, says: &Says) -> Result<(), Fail> {
+        let call = call(self.alloc, says)?;
+        let reply = self.world.step(Event::Start(actor, call));
+        assert!(rt; matches!(reply, Reply::Started));
+        Ok(())
+    }
+
+    /// Makes a call while no other is made.
+    pub fn alone(&mut self, rt: &impl Abort, says: &Says) -> Result<Reply, Fail> {
+        self.start(rt, 0, says)?;
+        for _step in 0..STEPS {
+            let reply = self.world.step(Event::Go(0));
+            if !matches!(reply, Reply::Moved) {
+                return Ok(reply);
+            }
+        }
+        panic!(rt; "a call that does not end");
+    }
+
+    /// One step of an actor, and its reply where that ends the call.
+    pub fn go(&mut self, actor: u64) -> Option<Reply> {
+        match self.world.step(Event::Go(actor)) {
+            Reply::Moved | Reply::Waits => None,
+            reply => Some(reply),
+        }
+    }
+}

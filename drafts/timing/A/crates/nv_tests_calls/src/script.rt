@@ -1,0 +1,11 @@
+//! Lines, words and whole scripts with their ends. What scripts write comes from worked examples.
+
+mod ends;
+mod faults;
+mod growths;
+mod lines;
+mod pieces;
+mod rows;
+mod scripts;
+mod words;
+mod worked;

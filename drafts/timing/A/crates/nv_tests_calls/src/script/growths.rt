@@ -1,0 +1,100 @@
+//! Worked rows while the runner refuses memory once: a line that is refused is given again.
+
+use super::worked::{CUT_THEN_GROWN, NAMES, PARTIAL_AT_BOTH_ENDS, Row};
+use crate::compare::same_for;
+use nv_base::Fault;
+use nv_script::play;
+use std::cell::Cell;
+use std::io;
+use std::io::{Read, Write};
+use std::process::Abort;
+
+const REFUSED: &[u8] = b"refused E1 OutOfMemory\n";
+
+/// The next line of a script with its line end, and what stands behind it.
+fn next_line(script: &[u8]) -> (&[u8], &[u8]) {
+    let end = script.iter().position(|byte| *byte == b'\n');
+    script.split_at(end.map_or(script.len(), |place| place + 1))
+}
+
+/// Gives one line at a time, and a line again that was refused memory.
+#[derive(Drop)]
+struct Patient<'a> {
+    line: &'a [u8],
+    rest: &'a [u8],
+    is_refused: &'a Cell<bool>,
+}
+
+impl<'a> Read for Patient<'a> {
+    fn read(&mut self, buf: &mut [u8]) -> io::Result<usize> {
+        if !self.is_refused.replace(false) {
+            (self.line, self.rest) = next_line(self.rest);
+        }
+        let count = self.line.len().min(buf.len());
+        buf[..count].copy_from_slice(&self.line[..count]);
+        Ok(count)
+    }
+}
+
+/// Takes one line's text at a time, and wants it to be the next whole lines of all text, or a refusal for want of memory.
+#[derive(Drop)]
+struct Expecting<'a> {
+    text: &'a [u8],
+    is_refused: &'a Cell<bool>,
+    is_expected: bool,
+}
+
+impl<'a> Write for Expecting<'a> {
+    fn write(&mut self, buf: &[u8]) -> io::Result<usize> {
+        if buf == REFUSED {
+            self.is_refused.set(true);
+            return Ok(buf.len());
+        }
+        match self.text.strip_prefix(buf) {
+            Some(rest) if buf.ends_with(b"\n") => self.text = rest,
+            _ => self.is_expected = false,
+        }
+        Ok(buf.len())
+    }
+
+    fn flush(&mut self) -> io::Result<()> {
+        Ok(())
+    }
+}
+
+/// Plays a row whose calls are all made at once. Each line has its answer, where it was refused at the next try; or want
+/// of memory for a line or its text ends the script behind the answers of the lines before.
+fn answers_in_the_end<R: AllocGlobal + Abort>(rt: &R, row: Row) {
+    let is_refused = Cell::new(false);
+    let mut reader = Patient {
+        line: b"",
+        rest: row.0.as_bytes(),
+        is_refused: &is_refused,
+    };
+    let mut writer = Expecting {
+        text: row.1.as_bytes(),
+        is_refused: &is_refused,
+        is_expected: true,
+    };
+    let outcome = play(rt.alloc(), &mut reader, &mut writer);
+    same_for(rt, &row.0, writer.is_expected, true);
+    if outcome != Err(Fault::OutOfMemory) {
+        same_for(rt, &row.0, outcome, Ok(()));
+        same_for(rt, &row.0, writer.text, b"".as_slice());
+    }
+}
+
+#[test]
+fn partial_at_both_ends_with_one_refused_growth(rt: HostRuntime) {
+    answers_in_the_end(&rt, PARTIAL_AT_BOTH_ENDS);
+}
+
+#[test]
+fn cut_then_grown_with_one_refused_growth(rt: HostRuntime) {
+    answers_in_the_end(&rt, CUT_THEN_GROWN);
+}
+
+#[test]
+fn names_with_one_refused_growth(rt: HostRuntime) {
+    answers_in_the_end(&rt, NAMES);
+}

@@ -1,0 +1,273 @@
+//! Each call made in a new world by an actor that has made none, while the runner may refuse memory once. Where that is a
+//! growth of the call's own, it is refused at a step that grows something, nothing has changed, and the same call made
+//! again has its answer. `tools/refused-growths` refuses each growth of each row in turn.
+
+use super::playing::{alone, new_world};
+use super::reports::Reports;
+use super::words::{Want, Words, is_wanted};
+use crate::compare::same_for;
+use Words::{Create, List, Lookup, Mkdir, Mode, Read, Rename, Rmdir, Size, Stat, Unlink, Write};
+use nv_base::{Fault, Kind};
+use nv_core::World;
+use nv_scenes as scenes;
+use std::alloc::Global;
+use std::process::Abort;
+
+/// A step that grows something, and how many steps the call makes where it is refused memory there: the steps up to that
+/// one, and then those that give back what the call has.
+type Growth = (&'static str, u64);
+
+/// What it shows; the calls before it, which another actor makes; a call, its answer, and which of its steps grow.
+type Row = (
+    &'static str,
+    &'static [Words],
+    Words,
+    Want,
+    &'static [Growth],
+);
+
+/// The root, and nodes of generation 1.
+const ROOT: (u64, u64) = (0, 1);
+
+const ONE: (u64, u64) = (1, 1);
+
+const TWO: (u64, u64) = (2, 1);
+
+/// Four slots. A page of a log has four entries.
+const ROOMY: scenes::Row = [24, 2, 4, 4, 4, 1, 2];
+
+/// The actor that makes the calls before, and the one whose call may be refused: its blocks are the upper half.
+const EARLIER: u64 = 0;
+
+const ACTOR: u64 = 1;
+
+/// Of a new node: number, two locks, check, pages, ready, enter. Back go two unlocks and the number, and after the pages
+/// those too.
+const NEW_NODE: &[Growth] = &[("check", 7), ("ready", 10), ("enter", 11)];
+
+/// Of a change of one node: a lock, check, one taking, ready, enter. Back go the unlock, and then the blocks.
+const ONE_TAKING: &[Growth] = &[("check", 3), ("ready", 6), ("enter", 7)];
+
+const TWO_TAKINGS: &[Growth] = &[("check", 3), ("ready", 7), ("enter", 8)];
+
+const NO_TAKING: &[Growth] = &[("check", 3), ("ready", 4), ("enter", 5)];
+
+/// Of a visit.
+const VISIT: &[Growth] = &[("visit", 1)];
+
+/// An enter grows where the call may kill more parts than each call before it: four in a create or a mkdir, one more than
+/// its pages in a write.
+const FOUR_PAGES: &[u8] = b"abcdefghijklmnop";
+
+/// Files and directories that are made, and bytes.
+const NODES: &[Row] = &[
+    ("create", &[], Create(ROOT, b"a"), Want::Made(ONE), NEW_NODE),
+    ("mkdir", &[], Mkdir(ROOT, b"d"), Want::Made(ONE), NEW_NODE),
+    (
+        "write",
+        &[Create(ROOT, b"a")],
+        Write(ONE, 2, FOUR_PAGES),
+        Want::Count(16),
+        ONE_TAKING,
+    ),
+    // the file's log is full
+    (
+        "write with a log page",
+        &[
+            Create(ROOT, b"a"),
+            Write(ONE, 0, b"a"),
+            Write(ONE, 9, b"b"),
+            Write(ONE, 0, b"c"),
+        ],
+        Write(ONE, 6, FOUR_PAGES),
+        Want::Count(16),
+        TWO_TAKINGS,
+    ),
+    // inside a page, past which there are others
+    (
+        "size",
+        &[Create(ROOT, b"a"), Write(ONE, 0, FOUR_PAGES)],
+        Size(ONE, 2),
+        Want::Nothing,
+        ONE_TAKING,
+    ),
+    // a log page alone
+    (
+        "size with a log page",
+        &[
+            Create(ROOT, b"a"),
+            Write(ONE, 0, FOUR_PAGES),
+            Write(ONE, 0, b"a"),
+            Write(ONE, 0, b"b"),
+        ],
+        Size(ONE, 0),
+        Want::Nothing,
+        &[("check", 3), ("ready", 6)],
+    ),
+    ("mode", &[], Mode(ROOT, 7), Want::Nothing, NO_TAKING),
+];
+
+/// Names that go and move, where the file has pages.
+const NAMES: &[Row] = &[
+    // one look, two locks, check, ready, enter
+    (
+        "unlink",
+        &[Create(ROOT, b"a"), Write(ONE, 0, FOUR_PAGES)],
+        Unlink(ROOT, b"a"),
+        Want::Nothing,
+        &[("check", 6), ("ready", 7), ("enter", 8)],
+    ),
+    // the same; it kills four parts at most, and the mkdir made room for as many
+    (
+        "rmdir",
+        &[Mkdir(ROOT, b"d")],
+        Rmdir(ROOT, b"d"),
+        Want::Nothing,
+        &[("check", 6), ("ready", 7)],
+    ),
+    // one look, three locks, check, pages, ready, enter
+    (
+        "rename in one directory",
+        &[
+            Create(ROOT, b"a"),
+            Create(ROOT, b"b"),
+            Write(TWO, 0, FOUR_PAGES),
+        ],
+        Rename(ROOT, b"a", ROOT, b"b"),
+        Want::Nothing,
+        &[("check", 8), ("ready", 11), ("enter", 12)],
+    ),
+    // two looks, three locks, check, ready, and an enter that kills two parts at most
+    (
+        "rename",
+        &[Create(ROOT, b"a"), Mkdir(ROOT, b"d")],
+        Rename(ROOT, b"a", TWO, b"b"),
+        Want::Nothing,
+        &[("check", 9), ("ready", 10)],
+    ),
+    // two looks, four locks, check, ready, enter
+    (
+        "rename over a file",
+        &[
+            Create(ROOT, b"a"),
+            Mkdir(ROOT, b"d"),
+            Create(TWO, b"b"),
+            Write((3, 1), 0, FOUR_PAGES),
+        ],
+        Rename(ROOT, b"a", TWO, b"b"),
+        Want::Nothing,
+        &[("check", 11), ("ready", 12), ("enter", 13)],
+    ),
+];
+
+/// Calls that change nothing. Those that show no list take no memory.
+const VISITS: &[Row] = &[
+    (
+        "read",
+        &[Create(ROOT, b"a"), Write(ONE, 2, FOUR_PAGES)],
+        Read(ONE, 1, 30),
+        Want::Bytes(b"\0abcdefghijklmnop"),
+        VISIT,
+    ),
+    (
+        "list",
+        &[Create(ROOT, b"a"), Mkdir(ROOT, b"d")],
+        List(ROOT),
+        Want::Names(&[(b"a", 1), (b"d", 2)]),
+        VISIT,
+    ),
+    (
+        "stat",
+        &[Create(ROOT, b"a")],
+        Stat(ROOT),
+        Want::Stat(Kind::Dir, 493, 0, 1),
+        &[],
+    ),
+    (
+        "lookup",
+        &[Create(ROOT, b"a")],
+        Lookup(ROOT, b"a"),
+        Want::Made(ONE),
+        &[],
+    ),
+    (
+        "write of no bytes",
+        &[Create(ROOT, b"a")],
+        Write(ONE, 3, b""),
+        Want::Count(0),
+        &[],
+    ),
+    (
+        "rename onto its own place",
+        &[Create(ROOT, b"a")],
+        Rename(ROOT, b"a", ROOT, b"a"),
+        Want::Nothing,
+        &[],
+    ),
+];
+
+const REFUSED: Want = Want::Refused(Fault::OutOfMemory);
+
+/// A new world in which these calls were made, once more where they were refused memory.
+fn prepared(rt: &impl Abort, alloc: Global, before: &[Words]) -> World {
+    let mut world = new_world(rt, alloc, ROOMY);
+    for words in before {
+        let (_, reply) = alone(rt, alloc, &mut world, EARLIER, words);
+        if is_wanted(&reply, &REFUSED) {
+            let (_, reply) = alone(rt, alloc, &mut world, EARLIER, words);
+            assert!(rt; !is_wanted(&reply, &REFUSED), "memory for a call");
+        }
+    }
+    world
+}
+
+/// The step of a call that was refused memory, by how many steps it has made.
+fn step_of(growths: &'static [Growth], steps: u64) -> Option<&'static str> {
+    let (step, _) = growths.iter().find(|(_, count)| *count == steps)?;
+    Some(*step)
+}
+
+/// Wants a world to report what one reports that never began the call.
+fn is_untouched(rt: &impl Abort, alloc: Global, world: &World, before: &[Words]) {
+    let untouched = prepared(rt, alloc, before);
+    let reports = Reports::of(rt, alloc, world, ROOMY[4]);
+    reports.are_those(rt, &Reports::of(rt, alloc, &untouched, ROOMY[4]));
+}
+
+/// Makes the call of a row. Where it is refused memory, tells at which step.
+fn makes(rt: &impl Abort, alloc: Global, row: &Row) -> Option<&'static str> {
+    let (name, before, words, want, growths) = row;
+    let mut world = prepared(rt, alloc, before);
+    let (steps, reply) = alone(rt, alloc, &mut world, ACTOR, words);
+    if is_wanted(&reply, want) {
+        return None;
+    }
+    same_for(rt, name, is_wanted(&reply, &REFUSED), true);
+    is_untouched(rt, alloc, &world, before);
+    let (_, again) = alone(rt, alloc, &mut world, ACTOR, words);
+    same_for(rt, name, is_wanted(&again, want), true);
+    let step = step_of(growths, steps);
+    same_for(rt, &(*name, steps), step.is_some(), true);
+    step
+}
+
+fn make_all(rt: &impl Abort, alloc: Global, rows: &[Row]) {
+    for row in rows {
+        let _refused = makes(rt, alloc, row);
+    }
+}
+
+#[test]
+fn nodes_with_one_refused_growth(rt: HostRuntime) {
+    make_all(&rt, rt.alloc(), NODES);
+}
+
+#[test]
+fn names_with_one_refused_growth(rt: HostRuntime) {
+    make_all(&rt, rt.alloc(), NAMES);
+}
+
+#[test]
+fn visits_with_one_refused_growth(rt: HostRuntime) {
+    make_all(&rt, rt.alloc(), VISITS);
+}

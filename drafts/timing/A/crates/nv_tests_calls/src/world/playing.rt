@@ -1,0 +1,49 @@
+//! Worlds that are new, and calls that are made to their end.
+
+use super::words::{Words, call};
+use crate::compare::same;
+use nv_base::Fault;
+use nv_core::{Event, Reply, World};
+use nv_scenes::{Row, geometry};
+use std::alloc::Global;
+use std::process::Abort;
+
+/// No call of one actor alone has so many steps.
+const STEPS: u64 = 200;
+
+/// A new world. It is asked for once more where a growth is refused.
+pub(super) fn new_world(rt: &impl Abort, alloc: Global, row: Row) -> World {
+    let device = geometry(row).expect(rt, "a geometry");
+    match World::format(alloc, device) {
+        Ok(world) => return world,
+        Err(fault) => same(rt, fault, Fault::OutOfMemory),
+    }
+    match World::format(alloc, device) {
+        Ok(world) => world,
+        Err(_) => panic!(rt; "memory for a world"),
+    }
+}
+
+/// A call of an actor goes on to its end: how many steps it makes, and the last reply.
+pub(super) fn finish(rt: &impl Abort, world: &mut World, actor: u64) -> (u64, Reply) {
+    for step in 1..STEPS {
+        let reply = world.step(Event::Go(actor));
+        if !matches!(reply, Reply::Moved) {
+            return (step, reply);
+        }
+    }
+    panic!(rt; "a call that does not end");
+}
+
+/// An actor makes a call while no other does: how many steps it makes, and the last reply.
+pub(super) fn alone(
+    rt: &impl Abort,
+    alloc: Global,
+    world: &mut World,
+    actor: u64,
+    words: &Words,
+) -> (u64, Reply) {
+    let started = world.step(Event::Start(actor, call(rt, alloc, words)));
+    assert!(rt; matches!(started, Reply::Started));
+    finish(rt, world, actor)
+}

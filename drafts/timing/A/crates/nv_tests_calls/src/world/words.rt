@@ -1,0 +1,175 @@
+//! Calls by their words, and replies that are wanted.
+
+use nv_base::{Bytes, Fault, Handle, Kind, Mode};
+use nv_core::{Answer, Call, Reply};
+use nv_entry::BoundName;
+use nv_scenes::handle_of;
+use std::alloc::Global;
+use std::process::Abort;
+
+/// The inode and the generation of a handle.
+pub(super) type At = (u64, u64);
+
+/// A call: its handle, and then its name, or its numbers and text.
+#[derive(Clone, Copy)]
+pub(super) enum Words {
+    Create(At, &'static [u8]),
+    Mkdir(At, &'static [u8]),
+    Write(At, u64, &'static [u8]),
+    Read(At, u64, u64),
+    Size(At, u64),
+    Mode(At, u16),
+    Stat(At),
+    List(At),
+    Lookup(At, &'static [u8]),
+    Unlink(At, &'static [u8]),
+    Rmdir(At, &'static [u8]),
+    Rename(At, &'static [u8], At, &'static [u8]),
+}
+
+/// A reply. A node has its kind, mode, size and last commit, and a name the inode that it leads to, of generation 1.
+#[derive(Clone, Copy)]
+pub(super) enum Want {
+    Started,
+    Moved,
+    Waits,
+    Made(At),
+    Count(u64),
+    Nothing,
+    Bytes(&'static [u8]),
+    Stat(Kind, u16, u64, u64),
+    Names(&'static [(&'static [u8], u64)]),
+    Refused(Fault),
+}
+
+/// Asks for memory once more where it is refused.
+fn bytes(rt: &impl Abort, alloc: Global, text: &[u8]) -> Bytes {
+    match Vec::from_slice(alloc, text) {
+        Ok(items) => Bytes::from_vec(items),
+        Err(_) => Bytes::from_vec(Vec::from_slice(alloc, text).expect(rt, "memory for a text")),
+    }
+}
+
+fn mode(rt: &impl Abort, bits: u16) -> Mode {
+    Mode::checked(bits).expect(rt, "a mode")
+}
+
+fn at_handle((ino, generation): At) -> Handle {
+    handle_of(ino, generation)
+}
+
+/// The call of some words. New files have mode 420, and new directories mode 493.
+pub(super) fn call(rt: &impl Abort, alloc: Global, words: &Words) -> Call {
+    match *words {
+        Words::Create(at, name) => Call::Create {
+            dir: at_handle(at),
+            name: bytes(rt, alloc, name),
+            mode: mode(rt, 420),
+        },
+        Words::Mkdir(at, name) => Call::Mkdir {
+            dir: at_handle(at),
+            name: bytes(rt, alloc, name),
+            mode: mode(rt, 493),
+        },
+        Words::Unlink(at, name) => Call::Unlink {
+            dir: at_handle(at),
+            name: bytes(rt, alloc, name),
+        },
+        Words::Rmdir(at, name) => Call::Rmdir {
+            dir: at_handle(at),
+            name: bytes(rt, alloc, name),
+        },
+        Words::Rename(from, old, to, new) => Call::Rename {
+            from: at_handle(from),
+            old: bytes(rt, alloc, old),
+            to: at_handle(to),
+            new: bytes(rt, alloc, new),
+        },
+        _ => call_on_a_node(rt, alloc, words),
+    }
+}
+
+/// The same for calls that change or show one node.
+fn call_on_a_node(rt: &impl Abort, alloc: Global, words: &Words) -> Call {
+    match *words {
+        Words::Write(at, offset, text) => Call::Write {
+            file: at_handle(at),
+            offset,
+            text: bytes(rt, alloc, text),
+        },
+        Words::Read(at, offset, count) => Call::Read {
+            file: at_handle(at),
+            offset,
+            count,
+        },
+        Words::Size(at, size) => Call::Size {
+            file: at_handle(at),
+            size,
+        },
+        Words::Mode(at, bits) => Call::Mode {
+            handle: at_handle(at),
+            mode: mode(rt, bits),
+        },
+        Words::Stat(at) => Call::Stat {
+            handle: at_handle(at),
+        },
+        Words::List(at) => Call::List { dir: at_handle(at) },
+        Words::Lookup(at, name) => Call::Lookup {
+            dir: at_handle(at),
+            name: bytes(rt, alloc, name),
+        },
+        _ => panic!(rt; "a call on names"),
+    }
+}
+
+fn is_named(name: &BoundName, bytes: &[u8], ino: u64) -> bool {
+    name.name.bytes() == bytes && name.to == handle_of(ino, 1)
+}
+
+fn are_named(names: &[BoundName], wanted: &[(&[u8], u64)]) -> bool {
+    for (name, (bytes, ino)) in names.iter().zip(wanted) {
+        if !is_named(name, bytes, *ino) {
+            return false;
+        }
+    }
+    names.len() == wanted.len()
+}
+
+fn is_answer(answer: &Answer, want: &Want) -> bool {
+    match (answer, *want) {
+        (Answer::Made(made), Want::Made(at)) => *made == at_handle(at),
+        (Answer::Count(count), Want::Count(want)) => *count == want,
+        (Answer::Nothing, Want::Nothing) => true,
+        (Answer::Bytes(bytes), Want::Bytes(want)) => bytes.as_slice() == want,
+        (Answer::Names(names), Want::Names(want)) => are_named(names.as_slice(), want),
+        (
+            Answer::Stat {
+                kind,
+                mode,
+                size,
+                commit,
+            },
+            Want::Stat(wanted, bits, bytes, number),
+        ) => {
+            *kind == wanted && mode.bits() == bits && *size == bytes && commit.number() == number
+        }
+        _ => false,
+    }
+}
+
+fn is_fault(fault: Fault, want: &Want) -> bool {
+    match *want {
+        Want::Refused(wanted) => fault == wanted,
+        _ => false,
+    }
+}
+
+pub(super) fn is_wanted(reply: &Reply, want: &Want) -> bool {
+    match reply {
+        Reply::Started => matches!(want, Want::Started),
+        Reply::Moved => matches!(want, Want::Moved),
+        Reply::Waits => matches!(want, Want::Waits),
+        Reply::Refused(fault) => is_fault(*fault, want),
+        Reply::Done(answer) => is_answer(answer, want),
+    }
+}

@@ -1,0 +1,162 @@
+//! A call over its cells, from its check to its commit.
+
+ghost use Rattle.std.specs.Prelude.{◌<◌, ◌≡◌, ◌≤◌, [], IfErr, IfOk, IsTrue, false, length, slice_index_or};
+ghost use Rattle.nv_base.specs.declared.limits.TheConstants.{BLOCK_BYTES};
+ghost use Rattle.nv_book.specs.Book.{after_enter};
+ghost use Rattle.nv_calls.specs.AllCalls.{is_nothing};
+ghost use Rattle.nv_calls.specs.Cells.{AreCells};
+ghost use Rattle.nv_calls.specs.Nodes.{block_in, has_page_in, nodes_in};
+ghost use Rattle.nv_calls.specs.Updates.{IsPlanOf, blank_call};
+
+use crate::compare::same;
+use crate::conditions::{all_take_commit, can_ready, has_log_pages};
+use nv_alloc::Hand;
+use nv_base::limits::BLOCK_BYTES;
+use nv_base::{EntryId, Fault, Ino};
+use nv_book::Book;
+use nv_calls::{
+    Cells, HeldNodes, Plan, Receipt, Source, Update, check_on, commit_on, fill, laws, look_all,
+    pages_wanted, ready_on,
+};
+use nv_cell::Stat;
+use std::alloc::Global;
+use std::process::Abort;
+
+/// The check of a call right behind its looks, with that number for a new inode.
+pub fn checked<C: Cells>(
+    rt: &impl Abort,
+    cells: &C,
+    number: Option<Ino>,
+    update: Update,
+) -> Result<Plan, Fault>
+    requires cells { AreCells (C.cells cells.now) }
+    requires some { 0 < length (C.cells cells.now) }
+    ensures few_bytes { block_in (C.cells cells.now) ≤ BLOCK_BYTES }
+    ensures plan { let lent = C.cells cells.now in IfOk result (λ plan.
+        IsPlanOf (block_in lent) (nodes_in lent) (has_page_in lent) plan.update plan) }
+{
+    assert!(rt; cells.cell(0).block_bytes() <= BLOCK_BYTES);
+    let before = look_all(&HeldNodes::new(cells), &update);
+    check_on(cells, &before, number, update)
+}
+
+/// What a call that is given up leaves of a cell as it was.
+type State = (u64, [usize; 2], Option<EntryId>, Option<Stat>);
+
+fn state<C: Cells>(cells: &C, k: usize) -> State
+    requires { k < length (C.cells cells.now) }
+{
+    let cell = cells.cell(k);
+    (
+        cell.version(),
+        [cell.tail(), cell.len()],
+        cell.last_id(),
+        cell.stat(),
+    )
+}
+
+pub fn states<C: Cells>(rt: &impl Abort, cells: &C) -> [State; 4]
+    requires { length (C.cells cells.now) ≤ 4 }
+{
+    assert!(rt; cells.count() == 4);
+    [
+        state(cells, 0),
+        state(cells, 1),
+        state(cells, 2),
+        state(cells, 3),
+    ]
+}
+
+/// Makes a call that passed its check ready, fills its blocks, and commits it with number and epoch of the book's next
+/// commit. Where a growth is refused, or the source fails, it is given up.
+pub fn committed<C: Cells, S: Source>(
+    rt: &impl Abort,
+    alloc: Global,
+    book: &mut Book,
+    cells: &mut C,
+    plan: Plan,
+    hand: Hand,
+    source: &mut S,
+) -> Result<(Receipt, Hand), (Fault, Hand)>
+    requires cells { AreCells (C.cells cells.old) }
+    requires some { 0 < length (C.cells cells.old) }
+    requires few_bytes { block_in (C.cells cells.old) ≤ BLOCK_BYTES }
+    requires plan { let lent = C.cells cells.old in
+        IsPlanOf (block_in lent) (nodes_in lent) (has_page_in lent) plan.update plan }
+    requires something { is_nothing (blank_call plan.update) ≡ false }
+    ensures given_up { IfErr result (λ _. length (C.cells cells.new) ≡ length (C.cells cells.old)) }
+{
+    let pages = hand.pages.len();
+    assert!(rt; can_ready(cells, &plan, &hand) && source.failures() < u64::MAX);
+    assert!(rt; has_log_pages(cells, &plan, &hand));
+    same(rt, pages_wanted(cells, &plan, &hand), pages);
+    laws::what_is_ready_can_be_filled();
+    laws::what_is_filled_stays_ready();
+    laws::what_is_ready_can_be_committed();
+    let mut ready = ready_on(alloc, cells, plan, hand)?;
+    if let Err(fault) = fill(&mut ready, cells, source) {
+        return Err((fault, ready.into_hand()));
+    }
+    enter(rt, book, ready.need());
+    assert!(rt; all_take_commit(book, cells, &ready));
+    assert!(rt; is_closed(book));
+    Ok(commit_on(book, cells, ready, 0))
+}
+
+/// A call that was tried, with what its hand holds then.
+pub enum Tried {
+    Committed(Receipt, Hand),
+    Nothing(Hand),
+    Refused(Fault, Hand),
+}
+
+/// Makes a call with a hand, from its check to its commit. Where it is refused its cells are as they were.
+pub fn make_call<C: Cells, S: Source>(
+    rt: &impl Abort,
+    alloc: Global,
+    book: &mut Book,
+    cells: &mut C,
+    update: Update,
+    hand: Hand,
+    source: &mut S,
+) -> Tried
+    requires cells { AreCells (C.cells cells.old) }
+    requires some { 0 < length (C.cells cells.old) }
+{
+    let before = states(rt, cells);
+    let plan = match checked(rt, cells, hand.ino(), update) {
+        Ok(plan) => plan,
+        Err(fault) => return Tried::Refused(fault, hand),
+    };
+    if plan.nothing() {
+        return Tried::Nothing(hand);
+    }
+    match committed(rt, alloc, book, cells, plan, hand, source) {
+        Ok((receipt, hand)) => {
+            assert!(rt; is_closed(book));
+            Tried::Committed(receipt, hand)
+        }
+        Err((fault, hand)) => {
+            same(rt, states(rt, cells), before);
+            Tried::Refused(fault, hand)
+        }
+    }
+}
+
+/// Fixes the book's next commit, with room for so many records.
+fn enter(rt: &impl Abort, book: &mut Book, need: u64)
+    ensures { book.new ≡ record { state = after_enter 0 book.old.state; room = need } }
+{
+    if let Err(fault) = book.enter(0, need) {
+        same(rt, fault, Fault::OutOfMemory);
+        book.enter(0, need).expect(rt, "memory for records");
+    }
+}
+
+/// Whether there is a first CPU, whose journal is closed.
+fn is_closed(book: &Book) -> bool
+    ensures cpu { IsTrue result → 0 < length book.now.state.journals }
+    ensures closed { IsTrue result → slice_index_or book.now.state.journals 0 [] ≡ [] }
+{
+    0 < book.cpus() && !book.journal(0).is_open()
+}

@@ -1,0 +1,119 @@
+//! The exact texts of faults and of the words in them.
+
+use crate::compare::same;
+use nv_base::{
+    Fault, GeometryField as Field, ImageFault as Image, MismatchPart as Part,
+    ScriptFaultKind as Kind,
+};
+use std::alloc::Global;
+use std::process::Abort;
+
+/// Each fault with its text, those with fields once for each word.
+const TEXTS: [(Fault, &str); 54] = [
+    (Fault::OutOfMemory, "E1 OutOfMemory"),
+    (Fault::BadGeometry(Field::Blocks), "E2 BadGeometry(blocks)"),
+    (Fault::BadGeometry(Field::Cpus), "E2 BadGeometry(cpus)"),
+    (Fault::BadGeometry(Field::Block), "E2 BadGeometry(block)"),
+    (Fault::BadGeometry(Field::Page), "E2 BadGeometry(page)"),
+    (Fault::BadGeometry(Field::Inodes), "E2 BadGeometry(inodes)"),
+    (Fault::BadGeometry(Field::Snaps), "E2 BadGeometry(snaps)"),
+    (Fault::BadGeometry(Field::Actors), "E2 BadGeometry(actors)"),
+    (Fault::BadGeometry(Field::Seats), "E2 BadGeometry(seats)"),
+    (Fault::Stale, "E3 Stale"),
+    (Fault::NotFile, "E4 NotFile"),
+    (Fault::NotDirectory, "E5 NotDirectory"),
+    (Fault::BadName, "E6 BadName"),
+    (Fault::Missing, "E7 Missing"),
+    (Fault::Exists, "E8 Exists"),
+    (Fault::NotEmpty, "E9 NotEmpty"),
+    (Fault::FileTooBig, "E10 FileTooBig"),
+    (Fault::WriteTooBig, "E11 WriteTooBig"),
+    (Fault::NoInode, "E12 NoInode"),
+    (Fault::NoSpace, "E13 NoSpace"),
+    (Fault::CommitLimit, "E14 CommitLimit"),
+    (Fault::EpochLimit, "E15 EpochLimit"),
+    (Fault::TooManySnapshots, "E16 TooManySnapshots"),
+    (Fault::NoSnapshot, "E17 NoSnapshot"),
+    (Fault::Pinned, "E18 Pinned"),
+    (Fault::MoveDirectory, "E19 MoveDirectory"),
+    (Fault::Contended, "E20 Contended"),
+    (Fault::ActorBusy, "E21 ActorBusy"),
+    (Fault::ActorIdle, "E22 ActorIdle"),
+    (Fault::NoActor, "E23 NoActor"),
+    (Fault::Mismatch(Part::Index), "E24 Mismatch(index)"),
+    (Fault::Mismatch(Part::Names), "E24 Mismatch(names)"),
+    (Fault::Mismatch(Part::Counts), "E24 Mismatch(counts)"),
+    (Fault::Mismatch(Part::Records), "E24 Mismatch(records)"),
+    (Fault::Mismatch(Part::Lists), "E24 Mismatch(lists)"),
+    (Fault::SeatsOut, "E25 SeatsOut"),
+    (Fault::BadImage(Image::Geometry), "E26 BadImage(geometry)"),
+    (Fault::BadImage(Image::Block), "E26 BadImage(block)"),
+    (Fault::BadImage(Image::Chain), "E26 BadImage(chain)"),
+    (Fault::BadImage(Image::Entry), "E26 BadImage(entry)"),
+    (Fault::BadImage(Image::Item), "E26 BadImage(item)"),
+    (Fault::BadImage(Image::Run), "E26 BadImage(run)"),
+    (Fault::BadImage(Image::Journal), "E26 BadImage(journal)"),
+    (Fault::BadImage(Image::Snaps), "E26 BadImage(snaps)"),
+    (
+        Fault::ScriptFault(1, Kind::Lines),
+        "E27 ScriptFault(1, lines)",
+    ),
+    (
+        Fault::ScriptFault(2, Kind::Long),
+        "E27 ScriptFault(2, long)",
+    ),
+    (
+        Fault::ScriptFault(3, Kind::Unended),
+        "E27 ScriptFault(3, unended)",
+    ),
+    (
+        Fault::ScriptFault(12, Kind::Word),
+        "E27 ScriptFault(12, word)",
+    ),
+    (
+        Fault::ScriptFault(20, Kind::Order),
+        "E27 ScriptFault(20, order)",
+    ),
+    (
+        Fault::ScriptFault(99, Kind::Count),
+        "E27 ScriptFault(99, count)",
+    ),
+    (
+        Fault::ScriptFault(100, Kind::Number),
+        "E27 ScriptFault(100, number)",
+    ),
+    (
+        Fault::ScriptFault(101, Kind::Text),
+        "E27 ScriptFault(101, text)",
+    ),
+    (Fault::Read, "E28 Read"),
+    (Fault::Write, "E29 Write"),
+];
+
+/// The word in a fault's brackets; none where it has no brackets.
+fn word_in(fault: Fault) -> &'static str {
+    match fault {
+        Fault::BadGeometry(field) => field.name(),
+        Fault::Mismatch(part) => part.name(),
+        Fault::BadImage(fault) => fault.name(),
+        Fault::ScriptFault(_, kind) => kind.name(),
+        _ => "",
+    }
+}
+
+/// The text of a fault. Where its memory is refused it is asked for again.
+fn shown(rt: &impl Abort, alloc: Global, fault: Fault) -> String {
+    match format!(in alloc; "{fault}") {
+        Ok(text) => text,
+        Err(_) => format!(in alloc; "{fault}").expect(rt, "memory for a text"),
+    }
+}
+
+#[test]
+fn faults_are_shown_by_number_name_and_fields(rt: HostRuntime) {
+    for (fault, text) in TEXTS {
+        same(&rt, shown(&rt, rt.alloc(), fault).as_str(), text);
+        assert!(rt; text.starts_with(fault.name()), "{fault:?}");
+        assert!(rt; text.contains(word_in(fault)), "{fault:?}");
+    }
+}

@@ -1,0 +1,79 @@
+//! Names, free lists and queues of blocks that several modules start from. Where a growth is refused nothing has changed, and
+//! the call is made once more.
+
+use crate::compare::same;
+use nv_alloc::{Block, BlockQueue, FreeList};
+use nv_base::{BlockNo, Fault, Name};
+use nv_scenes::{Row, geometry};
+use std::alloc::Global;
+use std::process::Abort;
+
+pub fn name(rt: &impl Abort, alloc: Global, bytes: &[u8]) -> Name {
+    match Name::read(alloc, bytes) {
+        Ok(name) => name,
+        Err(fault) => {
+            same(rt, fault, Fault::OutOfMemory);
+            Name::read(alloc, bytes).expect(rt, "memory for a name")
+        }
+    }
+}
+
+/// The free list of a CPU of a device.
+pub fn free_list(rt: &impl Abort, alloc: Global, device: Row, cpu: u64) -> FreeList {
+    let device = geometry(device).expect(rt, "a geometry");
+    assert!(rt; cpu < device.numbers.cpus);
+    match FreeList::new(alloc, &device, cpu) {
+        Ok(list) => list,
+        Err(fault) => {
+            same(rt, fault, Fault::OutOfMemory);
+            FreeList::new(alloc, &device, cpu).expect(rt, "memory for a list")
+        }
+    }
+}
+
+/// An empty queue with room for `n` blocks of four bytes.
+pub fn queue_for(rt: &impl Abort, alloc: Global, n: u64) -> BlockQueue {
+    let mut queue = BlockQueue::new(alloc, 4);
+    reserve(rt, &mut queue, n);
+    queue
+}
+
+/// Makes room for `n` blocks in an empty queue without room.
+pub fn reserve(rt: &impl Abort, queue: &mut BlockQueue, n: u64) {
+    if let Err(fault) = queue.reserve(n) {
+        same(rt, fault, Fault::OutOfMemory);
+        same(rt, (queue.len(), queue.room()), (0, 0));
+        queue.reserve(n).expect(rt, "memory for a queue");
+    }
+    same(rt, queue.room(), n);
+}
+
+/// Takes the `n` lowest free blocks to a queue, or all of them, and says how many.
+pub fn take(rt: &impl Abort, list: &mut FreeList, queue: &mut BlockQueue, n: u64) -> u64 {
+    assert!(rt; n <= queue.room());
+    assert!(rt; queue.block_bytes() == list.block_bytes());
+    list.take(n, queue)
+}
+
+/// The next block of a queue that has one.
+pub fn next(rt: &impl Abort, queue: &mut BlockQueue) -> Block {
+    match queue.take_next() {
+        Some(block) => block,
+        None => panic!(rt; "the queue has a block"),
+    }
+}
+
+pub fn put(rt: &impl Abort, queue: &mut BlockQueue, block: Block) {
+    if queue.room() == 0 || block.bytes().len() != queue.block_bytes() {
+        panic!(rt; "the queue takes the block")
+    }
+    queue.put(block);
+}
+
+/// Asserts the numbers of the blocks in a queue.
+pub fn has_numbers(rt: &impl Abort, queue: &BlockQueue, want: &[u64]) {
+    same(rt, queue.len(), want.len() as u64);
+    for (block, number) in queue.iter().zip(want) {
+        same(rt, block.number(), BlockNo::new(*number));
+    }
+}

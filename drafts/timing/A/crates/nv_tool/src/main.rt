@@ -1,0 +1,107 @@
+//! The program `novacore`: plays scripts on a file system that is kept in memory.
+#![tactic(auto)]
+
+ghost use Rattle.std.specs.Prelude.{◌≡◌, ◌≢◌, ◌⊎◌};
+ghost use Rattle.clap.specs.Words.{kind_of};
+
+mod command_line;
+#[cfg(test)]
+mod tests;
+
+use clap::error::ErrorKind;
+use command_line::Task;
+use nv_base::Fault;
+use nv_script::{Outcome, exit_code, fault_line, play};
+use std::env::Env;
+use std::process::ExitCode;
+use std::rt::Files;
+use std::{env, fs, io};
+
+/// Tells of a fault on standard error. If no text can be written, the exit status alone tells of it.
+fn tell<R: AllocGlobal + Eprint>(rt: &R, fault: &Fault) {
+    let _told = match fault_line(rt.alloc(), fault) {
+        Ok(line) => rt.eprint(line),
+        Err(_) => rt.eprint("novacore: E1 OutOfMemory\n"),
+    };
+}
+
+/// Prints what a command line without a task is answered.
+///
+/// Help and the version go to standard output, and why a command line is refused to standard error.
+fn answered<R: Print + Eprint>(rt: &R, error: &clap::Error) -> Outcome
+    ensures memory { kind_of error.now ≡ ErrorKind.OutOfMemory
+        → result ≡ Outcome.Failed Fault.OutOfMemory }
+    ensures shown { (kind_of error.now ≡ ErrorKind.DisplayHelp)
+        ⊎ (kind_of error.now ≡ ErrorKind.DisplayVersion)
+        → (result ≡ Outcome.Shown) ⊎ (result ≡ Outcome.Failed Fault.Write) }
+    ensures refused { kind_of error.now ≢ ErrorKind.OutOfMemory
+        → kind_of error.now ≢ ErrorKind.DisplayHelp → kind_of error.now ≢ ErrorKind.DisplayVersion → result ≡ Outcome.Refused }
+{
+    if error.kind() == ErrorKind::OutOfMemory {
+        return Outcome::Failed(Fault::OutOfMemory);
+    }
+    let printed = error.print(rt);
+    if error.use_stderr() {
+        return Outcome::Refused;
+    }
+    match printed {
+        Ok(()) => Outcome::Shown,
+        Err(_) => Outcome::Failed(Fault::Write),
+    }
+}
+
+/// Plays a script from a file, or from standard input where none is named.
+///
+/// An answer is held back only while the script's next line is there already.
+fn play_script<R: AllocGlobal + Files + Input + Print>(
+    rt: &R,
+    file: Option<&str>,
+) -> Result<(), Fault> {
+    let mut writer = io::writer(rt);
+    match file {
+        None => play(rt.alloc(), &mut rt.reader(), &mut writer),
+        Some(path) => {
+            let Ok(mut file) = fs::open(rt, path) else {
+                return Err(Fault::Read);
+            };
+            play(rt.alloc(), &mut file, &mut writer)
+        }
+    }
+}
+
+/// Does what the command line asks for.
+fn perform<R: AllocGlobal + Env + Files + Input + Print + Eprint>(
+    rt: &R,
+) -> Result<Outcome, Fault> {
+    let alloc = rt.alloc();
+    let words: Vec<String> = match env::args(rt) {
+        Ok(words) => words.collect(alloc)?,
+        Err(error) if error.kind() == io::ErrorKind::InvalidData => {
+            return Ok(answered(rt, &command_line::not_text(alloc)?));
+        }
+        Err(_) => return Err(Fault::OutOfMemory),
+    };
+    match Task::read(alloc, words.as_slice()) {
+        Ok(Task::Play { file }) => {
+            play_script(rt, file)?;
+            Ok(Outcome::Played)
+        }
+        Err(error) => Ok(answered(rt, &error)),
+    }
+}
+
+/// Does what the command line asks for, and tells of a fault.
+fn run<R: AllocGlobal + Env + Files + Input + Print + Eprint>(rt: &R) -> Outcome {
+    let outcome = match perform(rt) {
+        Ok(outcome) => outcome,
+        Err(fault) => Outcome::Failed(fault),
+    };
+    if let Outcome::Failed(fault) = outcome {
+        tell(rt, &fault);
+    }
+    outcome
+}
+
+fn main(rt: HostRuntime) -> ExitCode {
+    exit_code(run(&rt))
+}

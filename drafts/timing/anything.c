@@ -1,0 +1,1 @@
+void anything(void){}
