@@ -6,3 +6,5 @@ pub mod PageEntries
 pub mod Pushing
 pub mod Loops
 pub mod States
+pub mod Differs
+pub mod Marks

@@ -13,7 +13,7 @@ there P part [] h = inl refl
 there P part (x ∷ xs) h = go (is_same part x) refl (there P part xs h.1) where
   go : (b : Bool) → is_same part x ≡ b → (times part xs ≡ 0) ⊎ P part → (times part (x ∷ xs) ≡ 0) ⊎ P part
   go true e rest = inr (subst P (same_is part x e) h.0)
-  go false e (inl none) = inl (omega (arith, count_cons (is_same part) x xs, ap (λ (b : Bool). cond b 1 0) e, none))
+  go false e (inl none) = inl (omega (arith, count_cons (is_same part) x xs, ap {B = ℕ} (λ (b : Bool). cond b 1 0) e, none))
   go false e (inr p) = inr p
 
 -- lists that have the parts of both as often have all so

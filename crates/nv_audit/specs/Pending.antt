@@ -2,8 +2,6 @@
 use Rattle.std.specs.Prelude.{ℕ, ◌==◌, List, ◌++◌, filter, map}
 use Rattle.nv_entry.specs.declared.part.PartId.{PartId}
 use Rattle.nv_entry.specs.Held.{Retention}
-use Rattle.nv_epoch.specs.SnapList.{ids}
-use Rattle.nv_book.specs.Book.{BookState}
 use Rattle.nv_book.specs.declared.record.Record.{Record}
 use Rattle.nv_audit.specs.declared.part_list.InodePart.{InodePart}
 use Rattle.nv_cell.specs.Cell.{CellState}
@@ -27,6 +25,3 @@ pending_of ino deferred parts = deferred_of ino deferred ++ of_inode ino parts
 -- parts in their hands
 abbrev pub retention_by : List ℕ → List Record → List InodePart → ℕ → CellState → Retention
 retention_by snapshots deferred in_hands ino cell = record { block = cell.block; snapshots = snapshots; pending = pending_of ino deferred in_hands }
-
-abbrev pub retention_for : BookState → List InodePart → ℕ → CellState → Retention
-retention_for book in_hands ino cell = retention_by (ids book.snaps) book.deferred in_hands ino cell

@@ -7,10 +7,12 @@ use Rattle.nv_base.specs.declared.fault.MismatchPart.TheVariants.{Index, Names, 
 use Rattle.nv_base.specs.declared.geometry.GeometryNumbers.{GeometryNumbers}
 use Rattle.nv_alloc.specs.FreeList.{FreeBlocks}
 use Rattle.nv_book.specs.Book.{BookState}
+use Rattle.nv_book.specs.declared.record.Record.{Record}
 use Rattle.nv_cell.specs.Cell.{CellState}
+use Rattle.nv_epoch.specs.SnapList.{ids}
 use Rattle.nv_audit.specs.Counts.{AreCounted}
 use Rattle.nv_audit.specs.Lists.{AreFree, used_of}
-use Rattle.nv_audit.specs.Pending.{retention_for}
+use Rattle.nv_audit.specs.Pending.{retention_by}
 use Rattle.nv_audit.specs.Records.{AreRecorded}
 use Rattle.nv_audit.specs.declared.part_list.InodePart.{InodePart}
 
@@ -24,13 +26,18 @@ pub record Device : Type 0 where
   pub in_hands : List InodePart
   pub blocks : List ℕ
 
--- the counts of an inode are those of its log, and so are those of each inode
-abbrev pub IsCounted : BookState → List InodePart → ℕ → CellState → Type 0
-IsCounted book in_hands ino cell = AreCounted (retention_for book in_hands ino cell) cell
+-- the counts of an inode are those of its log, where these snapshots live, these records are deferred, and calls have these parts in
+-- their hands
+abbrev pub IsCountedBy : List ℕ → List Record → List InodePart → ℕ → CellState → Type 0
+IsCountedBy snapshots deferred in_hands ino cell = AreCounted (retention_by snapshots deferred in_hands ino cell) cell
+
+-- so are those of each inode
+abbrev pub CountsAgreeBy : List ℕ → List Record → List InodePart → List CellState → Type 0
+CountsAgreeBy snapshots deferred in_hands cells =
+    (ino : ℕ) (default : CellState) → ino < length cells → IsCountedBy snapshots deferred in_hands ino (slice_index_or cells ino default)
 
 abbrev pub CountsAgree : BookState → List InodePart → List CellState → Type 0
-CountsAgree book in_hands cells =
-    (ino : ℕ) (default : CellState) → ino < length cells → IsCounted book in_hands ino (slice_index_or cells ino default)
+CountsAgree book in_hands cells = CountsAgreeBy (ids book.snaps) book.deferred in_hands cells
 
 abbrev pub HasCounts : Device → Type 0
 HasCounts d = CountsAgree d.book d.in_hands d.cells

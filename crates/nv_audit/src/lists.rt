@@ -11,7 +11,7 @@ ghost use Rattle.nv_audit.specs.Records.{states_of};
 ghost use Rattle.std.specs.Option.{option_copied};
 
 use crate::parts::{pair_at, part_at};
-use crate::pending::{listed, pending_of};
+use crate::pending::{listed, living, pending_of};
 use crate::{InHands, InodePart};
 use nv_alloc::{Block, FreeList};
 use nv_base::{BlockNo, Epoch, Fault, Geometry, Ino};
@@ -35,12 +35,27 @@ pub fn are_free(
         (used_of (states_of cells.now) book.now.state hands.now.parts.now hands.now.blocks.now)) }
     ensures err { FailsOnly OutOfMemory result }
 {
-    let snapshots: Vec<Epoch> = book.snaps().ids().collect(alloc)?;
+    let used = used_of(alloc, cells, book, hands)?;
+    let marks = marked(alloc, geometry.numbers.blocks, &used)?;
+    Ok(are_all_free(geometry, lists, &marks))
+}
+
+/// The blocks that inodes and hands use.
+fn used_of(
+    alloc: Global,
+    cells: &[InodeCell],
+    book: &Book,
+    hands: &InHands<'_>,
+) -> Result<Vec<BlockNo>, Fault>
+    ensures ok { IfOk result (λ used. used.items ≡ used_of (states_of cells.now)
+        book.now.state hands.now.parts.now hands.now.blocks.now) }
+    ensures err { FailsOnly OutOfMemory result }
+{
+    let snapshots = living(alloc, book)?;
     let deferred = listed(alloc, book.deferred())?;
     let mut used = used_from(alloc, cells, &snapshots, &deferred, hands.parts)?;
     used.extend_from_slice(hands.blocks)?;
-    let marked = marked(alloc, geometry.numbers.blocks, &used)?;
-    Ok(are_all_free(geometry, lists, &marked))
+    Ok(used)
 }
 
 /// The blocks that all inodes use.

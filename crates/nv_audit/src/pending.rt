@@ -3,11 +3,12 @@
 ghost use Rattle.std.specs.Prelude.{◌≡◌, ◌++◌, IfOk, OnOk};
 ghost use Rattle.nv_base.specs.Refusals.{FailsOnly};
 ghost use Rattle.nv_base.specs.declared.fault.Fault.TheVariants.{OutOfMemory};
+ghost use Rattle.nv_epoch.specs.SnapList.{ids};
 ghost use Rattle.nv_audit.specs.Pending.{deferred_of, of_inode, pending_of};
 
 use crate::InodePart;
-use nv_base::{BlockNo, Fault, Ino};
-use nv_book::{Record, Records};
+use nv_base::{BlockNo, Epoch, Fault, Ino};
+use nv_book::{Book, Record, Records};
 use nv_entry::PartId;
 use std::alloc::{AllocError, Global};
 
@@ -33,6 +34,13 @@ pub fn pending_of(
     push_deferred(&mut pending, ino, deferred)?;
     push_of_inode(&mut pending, ino, parts)?;
     Ok(pending)
+}
+
+/// The living snapshots.
+pub(crate) fn living(alloc: Global, book: &Book) -> Result<Vec<Epoch>, AllocError>
+    ensures { IfOk result (λ living. living.items ≡ ids book.now.state.snaps) }
+{
+    book.snaps().ids().collect(alloc)
 }
 
 /// Records one by one.

@@ -7,7 +7,7 @@ ghost use Rattle.nv_audit.specs.Records.{AreRecorded, IsRecorded, is_owed, owed_
 
 use crate::part_list::have_same_parts;
 use crate::parts::pair_at;
-use crate::pending::{listed, push_of_inode};
+use crate::pending::{listed, living, push_of_inode};
 use crate::{InHands, InodePart};
 use nv_base::{Epoch, Fault, Ino};
 use nv_book::{Book, Record};
@@ -28,8 +28,9 @@ pub fn are_recorded(
         ↔ AreRecorded (states_of cells.now) book.now.state hands.now.parts.now) }
     ensures err { FailsOnly OutOfMemory result }
 {
-    let snapshots: Vec<Epoch> = book.snaps().ids().collect(alloc)?;
-    Ok(are_recorded_for(alloc, cells, book, hands.parts, &snapshots)?)
+    let snapshots = living(alloc, book)?;
+    let agree = are_recorded_for(alloc, cells, book, hands.parts, &snapshots)?;
+    Ok(agree)
 }
 
 /// Whether it is so for these snapshots.
@@ -44,7 +45,8 @@ fn are_recorded_for(
         book.now.state in_hands.now) snapshots.now) }
 {
     for snapshot in snapshots {
-        if !is_recorded(alloc, cells, book, in_hands, *snapshot)? {
+        let agrees = is_recorded(alloc, cells, book, in_hands, *snapshot)?;
+        if !agrees {
             return Ok(false);
         }
     }

@@ -7,14 +7,14 @@ ghost use Rattle.nv_base.specs.declared.fault.MismatchPart.TheVariants.{Counts};
 ghost use Rattle.nv_entry.specs.Held.{retention_of};
 ghost use Rattle.nv_audit.specs.Counts.{AreCounted};
 ghost use Rattle.nv_audit.specs.Records.{states_of};
-ghost use Rattle.nv_audit.specs.Whole.{Agrees, CountsAgree, IsMismatch};
+ghost use Rattle.nv_audit.specs.Whole.{Agrees, CountsAgree, CountsAgreeBy, IsCountedBy, IsMismatch};
 
-use crate::{InHands, are_counted, are_free, are_names_of, are_pages_of, are_recorded};
-use crate::pending::listed;
+use crate::{InHands, InodePart, are_counted, are_free, are_names_of, are_pages_of, are_recorded};
+use crate::pending::{listed, living};
 use crate::{is_part_of, pending_of};
 use nv_alloc::FreeList;
 use nv_base::{Epoch, Fault, Geometry, Ino, MismatchPart};
-use nv_book::Book;
+use nv_book::{Book, Record};
 use nv_cell::InodeCell;
 use nv_entry::{Key, Retention};
 use std::alloc::Global;
@@ -42,13 +42,16 @@ pub fn audit(
       book = book.now.state; in_hands = hands.now.parts.now; blocks = hands.now.blocks.now;
     }) fault) }
 {
-    if let Some(part) = cells_differ(alloc, cells, book, hands)? {
+    let differs = cells_differ(alloc, cells, book, hands)?;
+    if let Some(part) = differs {
         return Err(Fault::Mismatch(part));
     }
-    if !are_recorded(alloc, cells, book, hands)? {
+    let recorded = are_recorded(alloc, cells, book, hands)?;
+    if !recorded {
         return Err(Fault::Mismatch(MismatchPart::Records));
     }
-    if !are_free(alloc, geometry, cells, lists, book, hands)? {
+    let free = are_free(alloc, geometry, cells, lists, book, hands)?;
+    if !free {
         return Err(Fault::Mismatch(MismatchPart::Lists));
     }
     Ok(())
@@ -67,25 +70,60 @@ fn cells_differ(
         × (¬ CountsAgree book.now.state hands.now.parts.now (states_of cells.now)))) }
     ensures err { FailsOnly OutOfMemory result }
 {
-    let snapshots: Vec<Epoch> = book.snaps().ids().collect(alloc)?;
+    let snapshots = living(alloc, book)?;
     let deferred = listed(alloc, book.deferred())?;
+    first_different(alloc, cells, &snapshots, &deferred, hands.parts)
+}
+
+/// The same, where these snapshots live and these records are deferred.
+fn first_different(
+    alloc: Global,
+    cells: &[InodeCell],
+    snapshots: &[Epoch],
+    deferred: &[Record],
+    in_hands: &[InodePart],
+) -> Result<Option<MismatchPart>, Fault>
+    ensures ok { IfOk result (λ part. MatchOption part
+        (CountsAgreeBy snapshots.now deferred.now in_hands.now (states_of cells.now))
+        (λ part. (part ≡ Counts)
+        × (¬ CountsAgreeBy snapshots.now deferred.now in_hands.now (states_of cells.now)))) }
+    ensures err { FailsOnly OutOfMemory result }
+{
     for place in 0..cells.len() {
-        let cell = &cells[place];
         let ino = Ino::new(place as u64);
-        let pending = pending_of(alloc, ino, &deferred, hands.parts)?;
-        let retention = Retention {
-            block: cell.block_bytes(),
-            snapshots: &snapshots,
-            pending: &pending,
-        };
-        if let Some(part) = cell_differs(cell, &retention) {
-            return Ok(Some(part));
+        let differs = inode_differs(alloc, ino, &cells[place], snapshots, deferred, in_hands)?;
+        if differs.is_some() {
+            return Ok(differs);
         }
     }
     Ok(None)
 }
 
-/// The first part of a cell that differs.
+/// The first part of an inode that differs.
+fn inode_differs(
+    alloc: Global,
+    ino: Ino,
+    cell: &InodeCell,
+    snapshots: &[Epoch],
+    deferred: &[Record],
+    in_hands: &[InodePart],
+) -> Result<Option<MismatchPart>, Fault>
+    ensures ok { IfOk result (λ part. MatchOption part
+        (IsCountedBy snapshots.now deferred.now in_hands.now ino cell.now.state)
+        (λ part. (part ≡ Counts)
+        × (¬ IsCountedBy snapshots.now deferred.now in_hands.now ino cell.now.state))) }
+    ensures err { FailsOnly OutOfMemory result }
+{
+    let pending = pending_of(alloc, ino, deferred, in_hands)?;
+    let retention = Retention {
+        block: cell.block_bytes(),
+        snapshots,
+        pending: &pending,
+    };
+    Ok(cell_differs(cell, &retention))
+}
+
+/// The same for a cell whose pairs are kept so.
 fn cell_differs(cell: &InodeCell, retention: &Retention<'_>) -> Option<MismatchPart>
     ensures { MatchOption result (AreCounted (retention_of retention.now) cell.now.state)
         (λ part. (part ≡ Counts) × (¬ AreCounted (retention_of retention.now) cell.now.state)) }
