@@ -1,17 +1,15 @@
 use Rattle.std.proofs.Common.{◌≡◌, ℕ, ◌<◌, ◌≤◌, arith, ap, sym, ◌∙◌}
 use Rattle.std.proofs.lemmas.Bool.{false≢true}
-use Rattle.std.proofs.lemmas.Option.{unwrap_or-slice_get}
-use Rattle.std.specs.Option.{option_copied}
 use Rattle.nv_alloc.specs.Block.{numbers_of}
 use Rattle.nv_alloc.specs.FreeList.{FreeBlocks}
 use Rattle.nv_alloc.specs.Numbers.{has}
-use Rattle.nv_audit.specs.Lists.{list_or_none, no_list}
+use Rattle.nv_audit.specs.Lists.{no_list}
 use Rattle.nv_audit.proofs.lists.are_all_free.Goals as goal
 
 pub returns-then-not-is_range_free : goal.returns-then-not-is_range_free
 returns-then-not-is_range_free c =
     let cpu = c.loop-cpu.cpu in
-    let list = ap list_or_none c.get.ensures.lookup ∙ unwrap_or-slice_get c.args.lists.now cpu no_list in
+    let list = c.get.ensures.lookup.4 (omega arith) no_list in
     (λ fails. absurd (false≢true fails),
     λ all. absurd (false≢true (sym c.if-not-is_range_free.true ∙ c.is_range_free.ensures.1 (λ n from below.
     ap (λ (l : FreeBlocks). has (numbers_of l.blocks) n) list
