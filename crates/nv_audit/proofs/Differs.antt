@@ -1,5 +1,5 @@
 -- What the first difference tells, if there is one.
-use Rattle.std.proofs.Common.{◌≡◌, Bool, true, false, Option, Some, None}
+use Rattle.std.proofs.Common.{◌≡◌, true, false, Option, Some, None}
 use Rattle.std.specs.Prelude.{MatchOption, is_some}
 use Rattle.std.proofs.lemmas.Bool.{false≢true, true≢false}
 

@@ -1,6 +1,6 @@
 -- The published entries of a page.
-use Rattle.std.proofs.Common.{◌≡◌, ℕ, ◌+◌, ◌-◌, ◌<◌, ◌≤◌, length, take, drop, min, arith, refl, ap, sym, ◌∙◌}
-use Rattle.std.proofs.lemmas.List.{drop_min, length-drop, length-take}
+use Rattle.std.proofs.Common.{◌≡◌, ℕ, ◌-◌, ◌<◌, length, take, drop, min, arith, ap, ◌∙◌}
+use Rattle.std.proofs.lemmas.List.{length-drop, length-take}
 use Rattle.nv_log.specs.Chain.{IsChain, end_of, start_of}
 use Rattle.nv_log.proofs.Parts.{part_is}
 use Rattle.nv_cell.specs.Cell.{CellState, log_of}

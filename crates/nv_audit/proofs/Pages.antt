@@ -1,10 +1,10 @@
 -- The pages that a log has no part of.
-use Rattle.std.proofs.Common.{◌≡◌, ℕ, ◌+◌, ◌<◌, ◌≤◌, false, List, get_or, length, take, Option, None, refl, ap, sym, ◌∙◌}
+use Rattle.std.proofs.Common.{◌≡◌, ℕ, ◌+◌, ◌<◌, false, List, get_or, length, take, None, refl, ap, ◌∙◌}
 use Rattle.nv_entry.specs.declared.item.Entry.{Entry}
 use Rattle.nv_entry.specs.declared.key.Setting.{Setting}
 use Rattle.nv_entry.specs.declared.key.Setting.TheVariants.{Untouched, Absent, Present}
 use Rattle.nv_entry.specs.declared.part_ref.PartRef.{PartRef}
-use Rattle.nv_entry.specs.Keys.{Key, PageKey, sets}
+use Rattle.nv_entry.specs.Keys.{Key, sets}
 use Rattle.nv_entry.specs.Laws.{is_present}
 use Rattle.nv_entry.specs.Refs.{left_by, part_ref, place_in, ref_after, scan_ref}
 use Rattle.nv_entry.proofs.Refs.{scan_ref-more}

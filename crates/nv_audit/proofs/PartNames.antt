@@ -1,5 +1,5 @@
 -- When two names of parts are one.
-use Rattle.std.proofs.Common.{◌≡◌, ℕ, ◌&&◌, Bool, true, false, ap, ap₂, nat_eq, refl}
+use Rattle.std.proofs.Common.{◌≡◌, ℕ, ◌&&◌, true, ap, ap₂, nat_eq, refl}
 use Rattle.std.proofs.lemmas.Bool.{and_parts, eqb-true, false≢true}
 use Rattle.nv_base.specs.Ids.{is_same_id}
 use Rattle.nv_base.specs.declared.numbers.EntryId.{EntryId}

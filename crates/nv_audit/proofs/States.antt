@@ -1,7 +1,7 @@
 -- The states of cells, one by one.
 use Rattle.std.proofs.Common.{◌≡◌, ℕ, ◌<◌, List, length, get_or, ap, sym, ◌∙◌, subst}
 use Rattle.std.proofs.lemmas.List.{get_or-map, length-map}
-use Rattle.nv_cell.specs.Cell.{CellState, CellValue}
+use Rattle.nv_cell.specs.Cell.{CellValue}
 use Rattle.nv_audit.specs.Records.{states_of}
 
 pub state_at : (cells : List CellValue) (i : ℕ) (c : CellValue) → i < length cells → c ≡ get_or cells i c

@@ -1,7 +1,6 @@
 -- Lists of parts of all inodes.
 use Rattle.std.specs.Prelude.{◌≡◌, ℕ, ◌==◌, ◌&&◌, Bool, List, All, count_by}
 use Rattle.nv_base.specs.Ids.{is_same_id}
-use Rattle.nv_entry.specs.declared.part.PartId.{PartId}
 use Rattle.nv_entry.specs.Held.{same_part}
 use Rattle.nv_audit.specs.declared.part_list.InodePart.{InodePart}
 

@@ -51,11 +51,7 @@ pub(crate) fn listed(alloc: Global, records: &Records) -> Result<Vec<Record>, Al
 }
 
 /// Puts the parts of an inode among these records to the end of a list.
-fn push_deferred(
-    named: &mut Vec<PartId>,
-    ino: Ino,
-    deferred: &[Record],
-) -> Result<(), AllocError>
+fn push_deferred(named: &mut Vec<PartId>, ino: Ino, deferred: &[Record]) -> Result<(), AllocError>
     ensures { OnOk result (named.new.items ≡ named.old.items ++ deferred_of ino deferred.now) }
 {
     for gone in deferred {

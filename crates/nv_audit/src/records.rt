@@ -137,7 +137,15 @@ fn push_owed(
     let block = cell.block_bytes();
     let log = cell.log().log();
     for place in 0..log.len() {
-        push_owed_of(parts, ino, block, &log[place], &log[place + 1..], named, snapshot)?;
+        push_owed_of(
+            parts,
+            ino,
+            block,
+            &log[place],
+            &log[place + 1..],
+            named,
+            snapshot,
+        )?;
     }
     Ok(())
 }
@@ -192,8 +200,6 @@ fn is_owed(pair: &Pair, named: &[PartId], snapshot: Epoch) -> bool
 {
     match pair.death {
         None => false,
-        Some(death) => {
-            pair.birth <= snapshot && snapshot < death && !pair.is_named(named)
-        }
+        Some(death) => { pair.birth <= snapshot && snapshot < death && !pair.is_named(named) }
     }
 }

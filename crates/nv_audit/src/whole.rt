@@ -9,9 +9,11 @@ ghost use Rattle.nv_audit.specs.Counts.{AreCounted};
 ghost use Rattle.nv_audit.specs.Records.{states_of};
 ghost use Rattle.nv_audit.specs.Whole.{Agrees, CountsAgree, CountsAgreeBy, IsCountedBy, IsMismatch};
 
-use crate::{InHands, InodePart, are_counted, are_free, are_names_of, are_pages_of, are_recorded};
 use crate::pending::{listed, living};
-use crate::{is_part_of, pending_of};
+use crate::{
+    InHands, InodePart, are_counted, are_free, are_names_of, are_pages_of, are_recorded,
+    is_part_of, pending_of,
+};
 use nv_alloc::FreeList;
 use nv_base::{Epoch, Fault, Geometry, Ino, MismatchPart};
 use nv_book::{Book, Record};
@@ -34,12 +36,20 @@ pub fn audit(
     hands: &InHands<'_>,
 ) -> Result<(), Fault>
     ensures ok { OnOk result (Agrees (record {
-      numbers = geometry.now.numbers; cells = states_of cells.now; lists = lists.now;
-      book = book.now.state; in_hands = hands.now.parts.now; blocks = hands.now.blocks.now;
+      numbers = geometry.now.numbers;
+      cells = states_of cells.now;
+      lists = lists.now;
+      book = book.now.state;
+      in_hands = hands.now.parts.now;
+      blocks = hands.now.blocks.now;
     })) }
     ensures err { IfErr result (λ fault. (fault ≡ OutOfMemory) ⊎ IsMismatch (record {
-      numbers = geometry.now.numbers; cells = states_of cells.now; lists = lists.now;
-      book = book.now.state; in_hands = hands.now.parts.now; blocks = hands.now.blocks.now;
+      numbers = geometry.now.numbers;
+      cells = states_of cells.now;
+      lists = lists.now;
+      book = book.now.state;
+      in_hands = hands.now.parts.now;
+      blocks = hands.now.blocks.now;
     }) fault) }
 {
     let differs = cells_differ(alloc, cells, book, hands)?;

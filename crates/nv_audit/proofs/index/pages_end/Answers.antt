@@ -1,4 +1,4 @@
-use Rattle.std.proofs.Common.{◌≤◌, arith}
+use Rattle.std.proofs.Common.{arith}
 use Rattle.nv_entry.specs.Keys.{PageKey}
 use Rattle.nv_audit.proofs.Pages.{still_none}
 use Rattle.nv_audit.proofs.index.pages_end.Goals as goal

@@ -7,4 +7,4 @@ abbrev pub invariant-loop-cpu : goal.invariant-loop-cpu
 invariant-loop-cpu l =
     (cpu : ℕ) → cpu < l.cpu
     → IsRangeFree (slice_index_or l.lists cpu no_list) (mark_at l.marks) (home_start l.geometry.numbers.blocks l.geometry.numbers.cpus cpu)
-        (home_start l.geometry.numbers.blocks l.geometry.numbers.cpus (cpu + 1))
+    (home_start l.geometry.numbers.blocks l.geometry.numbers.cpus (cpu + 1))

@@ -1,4 +1,4 @@
-use Rattle.std.proofs.Common.{◌≡◌, ◌++◌, ℕ, List, ap, ap₂, refl, ◌∙◌}
+use Rattle.std.proofs.Common.{◌++◌, ℕ, List, ap, ap₂, refl, ◌∙◌}
 use Rattle.nv_cell.specs.Cell.{CellState}
 use Rattle.nv_entry.specs.Held.{Retention}
 use Rattle.nv_entry.specs.declared.part.PartId.{PartId}

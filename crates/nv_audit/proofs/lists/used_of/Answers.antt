@@ -1,4 +1,4 @@
-use Rattle.std.proofs.Common.{◌≡◌, ◌++◌, ℕ, List, ap, ap₂, ◌∙◌}
+use Rattle.std.proofs.Common.{◌++◌, ℕ, List, ap, ap₂, ◌∙◌}
 use Rattle.nv_book.specs.declared.record.Record.{Record}
 use Rattle.nv_audit.specs.Lists.{used_from}
 use Rattle.nv_audit.specs.Records.{states_of}

@@ -1,6 +1,5 @@
 use Rattle.std.proofs.Common.{◌≡◌, ℕ, subst, sym, ◌∙◌}
 use Rattle.nv_base.specs.declared.fault.MismatchPart.TheVariants.{Counts}
-use Rattle.nv_cell.specs.Cell.{CellState}
 use Rattle.nv_audit.specs.Records.{states_of}
 use Rattle.nv_audit.specs.Whole.{CountsAgreeBy, IsCountedBy}
 use Rattle.nv_audit.proofs.Differs.{agrees_if_none, differs_if_some}
@@ -18,8 +17,11 @@ returns-then-is_some-clause-ok c =
     let is = state_at c.args.cells.now i cell c.loop-place-test.true c.index-cells-place.is in
     differs_if_some (counted c.new-ino.result cell.state) agree (λ p. (p ≡ Counts) × (¬ counted c.new-ino.result cell.state)) (λ p. (p ≡ Counts) × (¬ agree))
     c.in_ok-differs.differs (sym c.is_some.ensures ∙ c.if-is_some.true)
-    (λ p told. (told.0, λ all. told.1 (subst (λ (n : ℕ). counted n cell.state) (sym c.new-ino.ensures)
-    (subst (counted i) (sym is) (all i cell.state (as_many c.args.cells.now i c.loop-place-test.true))))))
+    (λ p told. (
+      told.0,
+      λ all. told.1 (subst (λ (n : ℕ). counted n cell.state) (sym c.new-ino.ensures)
+          (subst (counted i) (sym is) (all i cell.state (as_many c.args.cells.now i c.loop-place-test.true)))),
+    ))
     c.in_ok-differs.ensures.ok
 
 pub loop-place-preserved : goal.loop-place-preserved
