@@ -20,7 +20,6 @@ use nv_entry::{Part, PartId};
 use nv_scenes::{Row, id};
 use std::alloc::Global;
 use std::process::Abort;
-use std::test::HostRuntime;
 
 /// Eight blocks of four bytes on one CPU, four entries a page.
 const DEVICE: Row = [8, 1, 4, 4, 4, 4, 1];
@@ -89,10 +88,13 @@ impl Judged {
     }
 }
 
-const NOTHING: InHands<'static> = InHands {
-    blocks: &[],
-    parts: &[],
-};
+/// Hands that have nothing.
+fn nothing<'a>() -> InHands<'a> {
+    InHands {
+        blocks: &[],
+        parts: &[],
+    }
+}
 
 /// The page that the snapshot holds.
 fn held_page() -> InodePart {
@@ -112,7 +114,7 @@ fn mismatch(part: MismatchPart) -> Result<(), Fault> {
 #[test]
 fn parts_agree_after_calls(rt: HostRuntime) {
     let judged = after(&rt, rt.alloc(), HELD);
-    judged.comes_to(&rt, rt.alloc(), &judged.book, &NOTHING, Ok(()));
+    judged.comes_to(&rt, rt.alloc(), &judged.book, &nothing(), Ok(()));
     judged.dismantle();
 }
 
@@ -136,7 +138,7 @@ fn counts_differ(rt: HostRuntime) {
     let judged = after(&rt, rt.alloc(), HELD);
     let book = new_book(&rt, rt.alloc(), &judged.device);
     let want = mismatch(MismatchPart::Counts);
-    judged.comes_to(&rt, rt.alloc(), &book, &NOTHING, want);
+    judged.comes_to(&rt, rt.alloc(), &book, &nothing(), want);
     judged.dismantle();
 }
 
@@ -149,7 +151,7 @@ fn lists_differ(rt: HostRuntime) {
     assert!(rt; judged.lists.len() > 0 && judged.lists[0].block_bytes() == queue.block_bytes());
     same(&rt, judged.lists[0].take(1, &mut queue), 1);
     let want = mismatch(MismatchPart::Lists);
-    judged.comes_to(&rt, rt.alloc(), &judged.book, &NOTHING, want);
+    judged.comes_to(&rt, rt.alloc(), &judged.book, &nothing(), want);
     let taken = [BlockNo::new(4)];
     let hands = InHands {
         blocks: &taken,

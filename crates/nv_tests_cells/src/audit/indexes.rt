@@ -6,7 +6,6 @@ use crate::compare::{same, same_for};
 use nv_audit::{are_names_of, are_pages_of};
 use nv_base::limits::FILE_PAGES;
 use nv_base::{Fault, Name};
-use nv_entry::Entry;
 use nv_findex::FileIndex;
 use nv_nindex::{Binding, NameIndex};
 use nv_scenes::logs::Says::{Bind, Directory, File, Size, Unbind, Write};
@@ -14,7 +13,7 @@ use nv_scenes::logs::{BLOCK, Line, log_of};
 use nv_scenes::{handle, id};
 use std::alloc::Global;
 use std::process::Abort;
-use std::test::HostRuntime;
+use std::test::Fail;
 
 /// Pages 0 to 2 are written, page 1 anew, and then page 2 is cut off.
 const PAGES: &[Line] = &[
@@ -108,28 +107,22 @@ fn bind(rt: &impl Abort, alloc: Global, index: &mut NameIndex, bytes: &[u8], to:
     index.bind(bytes, to);
 }
 
-/// The entries of these lines.
-fn entries(rt: &impl Abort, alloc: Global, lines: &[Line]) -> Vec<Entry> {
-    match log_of(alloc, lines) {
-        Ok(log) => log,
-        Err(_) => log_of(alloc, lines).expect(rt, "memory for a log"),
-    }
-}
-
 #[test]
-fn indexes_are_judged(rt: HostRuntime) {
-    let log = entries(&rt, rt.alloc(), PAGES);
+fn indexes_are_judged(rt: HostRuntime) -> Result<(), Fail> {
+    let log = log_of(rt.alloc(), PAGES)?;
     for (runs, want) in RUNS {
         let index = pages(&rt, rt.alloc(), runs);
         same_for(&rt, runs, are_pages_of(BLOCK, &log, &index), *want);
     }
+    Ok(())
 }
 
 #[test]
-fn names_are_judged(rt: HostRuntime) {
-    let log = entries(&rt, rt.alloc(), NAMES);
+fn names_are_judged(rt: HostRuntime) -> Result<(), Fail> {
+    let log = log_of(rt.alloc(), NAMES)?;
     for (bindings, want) in BINDINGS {
         let index = names(&rt, rt.alloc(), bindings);
         same_for(&rt, bindings, are_names_of(&log, &index), *want);
     }
+    Ok(())
 }
