@@ -24,7 +24,8 @@ abbrev binding_list : List Entry → List Bound
 binding_list es = flat_map (λ (e : Entry). bound_by e.id e.item) es
 
 -- what holds of each name of a list holds of a name that is bound in it
-bound_there : (P : List ℕ → Type 0) (name : List ℕ) (bs : List Bound) → AllByRecursion (λ (b : Bound). P b.0) bs → (binding_of name bs ≡ None) ⊎ P name
+bound_there : (P : List ℕ → Type 0) (name : List ℕ) (bs : List Bound) → AllByRecursion (λ (b : Bound). P b.0) bs
+    → (binding_of name bs ≡ None) ⊎ P name
 bound_there P name [] h = inl refl
 bound_there P name (b ∷ bs) h = go (same_name name b.0) refl (bound_there P name bs h.1) where
   go : (t : Bool) → same_name name b.0 ≡ t → (binding_of name bs ≡ None) ⊎ P name → (binding_of name (b ∷ bs) ≡ None) ⊎ P name
@@ -87,7 +88,8 @@ same_of_both log names first second name =
     ]
 
 -- names that are told alike are so for each item
-pub same_item : (log : List Entry) (names : List Bound) → HaveSameBindings (bindings_of log) names → (item : Item) → IsItemName log names item
+pub same_item : (log : List Entry) (names : List Bound) → HaveSameBindings (bindings_of log) names → (item : Item)
+    → IsItemName log names item
 same_item log names same (Bind name to) = same name
 same_item log names same (Init kind mode) = tt
 same_item log names same (Write first run size) = tt

@@ -29,5 +29,6 @@ pub free_by_marks : (g : GeometryNumbers) (lists : List FreeBlocks) (used : List
     → (AreAllFree g lists (mark_at marks) → AreFree g lists used) × (AreFree g lists used → AreAllFree g lists (mark_at marks))
 free_by_marks g lists used marks are = (
   λ free cpu lt n from below. free cpu lt n from below ∙ ap not (are.marked n (omega (arith, below, ends_within g.blocks g.cpus cpu lt))),
-  λ free cpu lt n from below. free cpu lt n from below ∙ ap not (sym (are.marked n (omega (arith, below, ends_within g.blocks g.cpus cpu lt)))),
+  λ free cpu lt n from below. free cpu lt n from below ∙ ap not
+      (sym (are.marked n (omega (arith, below, ends_within g.blocks g.cpus cpu lt)))),
 )

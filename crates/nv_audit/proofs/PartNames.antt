@@ -28,6 +28,7 @@ same_name_is a b e =
 -- a part that is told the same is the same
 pub same_is : (one other : InodePart) → is_same one other ≡ true → other ≡ one
 same_is one other e =
-    let both = and_parts (nat_eq other.ino one.ino) (is_same_id other.part.entry one.part.entry && same_part other.part.part one.part.part) e in
+    let both = and_parts (nat_eq other.ino one.ino) (is_same_id other.part.entry one.part.entry && same_part other.part.part
+    one.part.part) e in
     ap₂ (λ (ino : ℕ) (p : PartId). let x : InodePart = record { ino = ino; part = p } in x)
     (eqb-true other.ino one.ino both.0) (same_name_is other.part one.part both.1)

@@ -15,7 +15,8 @@ step F f cons xs i x lt is old new whole h inv =
     ∙ ap (λ zs. old ++ F zs) (sym (more xs i x lt is)) ∙ inv
 
 -- the same where what F gives depends on the place too
-pub step_at : {X Y : Type 0} (F : ℕ → List X → List Y) (f : ℕ → X → List Y) → ((n : ℕ) (x : X) (xs : List X) → F n (x ∷ xs) ≡ f n x ++ F (n + 1) xs)
+pub step_at : {X Y : Type 0} (F : ℕ → List X → List Y) (f : ℕ → X → List Y)
+    → ((n : ℕ) (x : X) (xs : List X) → F n (x ∷ xs) ≡ f n x ++ F (n + 1) xs)
     → (xs : List X) (i : ℕ) (x : X) → i < length xs → x ≡ get_or xs i x
     → (old new whole : List Y) → new ≡ old ++ f i x → old ++ F i (drop i xs) ≡ whole → new ++ F (i + 1) (drop (i + 1) xs) ≡ whole
 step_at F f cons xs i x lt is old new whole h inv =

@@ -12,7 +12,8 @@ use nv_entry::{Entry, Item, Pair, Part};
 pub(crate) fn pair_at(block: u64, entry: &Entry, later: &[Entry], place: u32) -> Pair
     requires block { 0 < block }
     requires within { place < length (parts_of entry.now.item) }
-    ensures { (other : PairValue) → result ≡ slice_index_or (pairs_of block entry.now later.now) place other }
+    ensures { (other : PairValue) → result
+        ≡ slice_index_or (pairs_of block entry.now later.now) place other }
 {
     Pair::at(block, entry, later, place).unwrap()
 }

@@ -7,7 +7,8 @@ pub loop-entry-preserved : goal.loop-entry-preserved
 loop-entry-preserved c = record {
   within = c.later_of-end.ensures.within;
   past = λ page from.
-      still_none c.args.block c.args.log.now c.loop-entry.entry-index c.entry-item.result (PageKey page) c.loop-entry-test.true c.entry-item.is
+      still_none c.args.block c.args.log.now c.loop-entry.entry-index c.entry-item.result
+      (PageKey page) c.loop-entry-test.true c.entry-item.is
       (c.item_end.ensures.past c.args.block page (omega (arith, from, c.later_of-end.ensures.second)))
       (c.loop-entry.invariant.past page (omega (arith, from, c.later_of-end.ensures.first)));
 }

@@ -13,5 +13,6 @@ returns-then-not-is_range_free c =
       λ fails. absurd (false≢true fails),
       λ all. absurd (false≢true (sym c.if-not-is_range_free.true ∙ c.is_range_free.ensures.1 (λ n from below.
           ap (λ (l : FreeBlocks). has (numbers_of l.blocks) n) list
-          ∙ all cpu c.loop-cpu-test.true n (omega (arith, from, c.home_start-start.ensures.value)) (omega (arith, below, c.home_start-end.ensures.value))))),
+          ∙ all cpu c.loop-cpu-test.true n (omega (arith, from, c.home_start-start.ensures.value))
+          (omega (arith, below, c.home_start-end.ensures.value))))),
     )

@@ -19,5 +19,6 @@ loop-place-preserved c =
     let pair = c.pair_at-pair.result in
     let lt : i < length (pairs_of block e later) =
     omega (arith, c.loop-place-test.true, c.part_count-place-end.ensures, length-map (parts_of e.item) (pair_of block e later)) in
-    step (flat_map f) (λ x xs. f x) (λ x xs. flat_map-cons f x xs) (pairs_of block e later) i pair lt (c.pair_at-pair.ensures pair) c.loop-place.used.items
+    step (flat_map f) (λ x xs. f x) (λ x xs. flat_map-cons f x xs) (pairs_of block e later) i pair lt
+    (c.pair_at-pair.ensures pair) c.loop-place.used.items
     c.push_kept_pair.new.used.items _ c.in_ok-push_kept_pair.ensures c.loop-place.invariant

@@ -17,9 +17,11 @@ loop-place-preserved c =
     let deferred = c.args.deferred.now in
     let hands = c.args.in_hands.now in
     let pending = c.deref.ensures.value ∙ c.in_ok-pending.ensures.ok ∙ ap (λ (n : ℕ). pending_of n deferred hands) c.new.ensures in
-    let same = ap₂ (λ (b : ℕ) (p : List PartId). let r : Retention = record { block = b; snapshots = snapshots; pending = p } in used_by r cell.state)
+    let same = ap₂ (λ (b : ℕ) (p : List PartId). let r : Retention = record { block = b; snapshots = snapshots; pending = p } in used_by r
+    cell.state)
     c.block_bytes.ensures.value pending in
-    step_at (used_from snapshots deferred hands) (λ (n : ℕ) (x : CellState). used_by (retention_by snapshots deferred hands n x) x) (λ n x xs. refl)
+    step_at (used_from snapshots deferred hands) (λ (n : ℕ) (x : CellState). used_by (retention_by snapshots deferred hands n x) x)
+    (λ n x xs. refl)
     (states_of c.args.cells.now) i cell.state (as_many c.args.cells.now i c.loop-place-test.true)
     (state_at c.args.cells.now i cell c.loop-place-test.true c.index-cells-place.is) c.loop-place.used.items c.push_used.new.used.items _
     (c.in_ok-push_used.ensures ∙ ap (λ ys. c.loop-place.used.items ++ ys) same) c.loop-place.invariant

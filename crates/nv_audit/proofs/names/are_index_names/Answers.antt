@@ -10,5 +10,6 @@ pub returns-then-not-is_name_at : goal.returns-then-not-is_name_at
 returns-then-not-is_name_at c = (
   λ no. absurd (false≢true no),
   λ all. absurd (false≢true (sym c.if-not-is_name_at.true
-      ∙ (c.is_name_at.ensures none).1 (all c.loop-place.place none (omega (arith, c.loop-place-test.true, c.len-place-end.ensures.value))))),
+      ∙ (c.is_name_at.ensures none).1 (all c.loop-place.place none
+      (omega (arith, c.loop-place-test.true, c.len-place-end.ensures.value))))),
 )

@@ -12,5 +12,6 @@ loop-entry-preserved c =
     let e = c.entry-item.result in
     c.binding_after-binding.ensures ∙ ap (bound_after e.id e.item c.args.name.now) c.loop-entry.invariant
     ∙ sym (ap (λ (es : List Entry). binding_of c.args.name.now (bindings_of es))
-    (take_more c.args.log.now c.loop-entry.entry-index e c.loop-entry-test.true ∙ ap (λ (x : Entry). take c.loop-entry.entry-index c.args.log.now ++ x ∷ []) (sym c.entry-item.is))
+    (take_more c.args.log.now c.loop-entry.entry-index e c.loop-entry-test.true
+    ∙ ap (λ (x : Entry). take c.loop-entry.entry-index c.args.log.now ++ x ∷ []) (sym c.entry-item.is))
     ∙ after_push (take c.loop-entry.entry-index c.args.log.now) e c.args.name.now)

@@ -14,9 +14,11 @@ loop-place-preserved c =
     let hands = c.args.in_hands.now in
     let s = c.args.snapshot in
     let named = c.deref.ensures.value ∙ c.in_ok-push_of_inode.ensures
-    ∙ ap (λ (xs : List PartId). xs ++ of_inode c.new-ino.result hands) c.new-named.ensures.items ∙ ap (λ (n : ℕ). of_inode n hands) c.new-ino.ensures in
+    ∙ ap (λ (xs : List PartId). xs ++ of_inode c.new-ino.result hands) c.new-named.ensures.items
+    ∙ ap (λ (n : ℕ). of_inode n hands) c.new-ino.ensures in
     step_at (owed_from s hands) (λ (n : ℕ) (x : CellState). owed_by s (of_inode n hands) n x) (λ n x xs. refl)
     (states_of c.args.cells.now) i cell.state (as_many c.args.cells.now i c.loop-place-test.true)
     (state_at c.args.cells.now i cell c.loop-place-test.true c.index-cells-place.is) c.loop-place.parts.items c.push_owed.new.parts.items _
-    (c.in_ok-push_owed.ensures ∙ ap₂ (λ (xs : List PartId) (n : ℕ). c.loop-place.parts.items ++ owed_by s xs n cell.state) named c.new-ino.ensures)
+    (c.in_ok-push_owed.ensures ∙ ap₂ (λ (xs : List PartId) (n : ℕ). c.loop-place.parts.items ++ owed_by s xs n cell.state) named
+    c.new-ino.ensures)
     c.loop-place.invariant

@@ -20,7 +20,8 @@ pub returns-clause-ok : goal.returns-clause-ok
 returns-clause-ok c =
     let agree = CountsAgree c.args.book.now.state c.args.hands.now.parts.now (states_of c.args.cells.now) in
     record {
-      counts = agrees_if_none agree (λ p. (p ≡ Counts) × (¬ agree)) c.in_ok-differs.differs (ap is_some c.in_default.is) c.in_ok-differs.ensures.ok;
+      counts = agrees_if_none agree (λ p. (p ≡ Counts) × (¬ agree)) c.in_ok-differs.differs
+          (ap is_some c.in_default.is) c.in_ok-differs.ensures.ok;
       records = c.in_ok-recorded.ensures.ok.0 c.if-not-recorded.false;
       lists = c.in_ok-free.ensures.ok.0 c.if-not-free.false;
     }

@@ -12,7 +12,8 @@ returns-clause-ok c =
     let states = states_of c.args.cells.now in
     let living = c.deref.ensures.value ∙ c.in_ok-snapshots.ensures in
     let deferred = c.deref-2.ensures.value ∙ c.in_ok-deferred.ensures ∙ c.deferred.ensures.deferred in
-    subst (λ (ss : List ℕ). IfOk c.first_different.result (λ part. MatchOption part (CountsAgreeBy ss c.args.book.now.state.deferred hands states)
+    subst (λ (ss : List ℕ). IfOk c.first_different.result (λ part. MatchOption part
+    (CountsAgreeBy ss c.args.book.now.state.deferred hands states)
     (λ p. (p ≡ Counts) × (¬ CountsAgreeBy ss c.args.book.now.state.deferred hands states)))) living
     (subst (λ (rs : List Record). IfOk c.first_different.result (λ part. MatchOption part (CountsAgreeBy c.deref.result.now rs hands states)
     (λ p. (p ≡ Counts) × (¬ CountsAgreeBy c.deref.result.now rs hands states)))) deferred

@@ -15,7 +15,8 @@ returns-then-is_some-clause-ok c =
     let i = c.loop-place.place in
     let cell = c.index-cells-place.result in
     let is = state_at c.args.cells.now i cell c.loop-place-test.true c.index-cells-place.is in
-    differs_if_some (counted c.new-ino.result cell.state) agree (λ p. (p ≡ Counts) × (¬ counted c.new-ino.result cell.state)) (λ p. (p ≡ Counts) × (¬ agree))
+    differs_if_some (counted c.new-ino.result cell.state) agree (λ p. (p ≡ Counts) × (¬ counted c.new-ino.result cell.state))
+    (λ p. (p ≡ Counts) × (¬ agree))
     c.in_ok-differs.differs (sym c.is_some.ensures ∙ c.if-is_some.true)
     (λ p told. (
       told.0,
@@ -33,6 +34,7 @@ loop-place-preserved c =
     let is = state_at c.args.cells.now i cell c.loop-place-test.true c.index-cells-place.is in
     one_more_at counted states i cell.state (as_many c.args.cells.now i c.loop-place-test.true) is
     (subst (λ (n : ℕ). counted n cell.state) c.new-ino.ensures
-    (agrees_if_none (counted c.new-ino.result cell.state) (λ p. (p ≡ Counts) × (¬ counted c.new-ino.result cell.state)) c.in_ok-differs.differs
+    (agrees_if_none (counted c.new-ino.result cell.state) (λ p. (p ≡ Counts) ×
+    (¬ counted c.new-ino.result cell.state)) c.in_ok-differs.differs
     (sym c.is_some.ensures ∙ c.if-is_some.false) c.in_ok-differs.ensures.ok))
     c.loop-place.invariant

@@ -9,7 +9,9 @@ use Rattle.nv_audit.proofs.whole.inode_differs.Goals as goal
 pub returns-clause-ok : goal.returns-clause-ok
 returns-clause-ok c =
     let state = c.args.cell.now.state in
-    let same = ap₂ (λ (b : ℕ) (p : List PartId). let r : Retention = record { block = b; snapshots = c.args.snapshots.now; pending = p } in r)
+    let same = ap₂ (λ (b : ℕ) (p : List PartId). let r : Retention = record { block = b; snapshots = c.args.snapshots.now; pending = p }
+    in r)
     c.block_bytes.ensures.value (c.deref.ensures.value ∙ c.in_ok-pending.ensures.ok) in
-    subst (λ (r : Retention). MatchOption c.cell_differs.result (AreCounted r state) (λ part. (part ≡ Counts) × (¬ AreCounted r state))) same
+    subst (λ (r : Retention). MatchOption c.cell_differs.result (AreCounted r state)
+    (λ part. (part ≡ Counts) × (¬ AreCounted r state))) same
     c.cell_differs.ensures
