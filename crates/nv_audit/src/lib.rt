@@ -7,6 +7,7 @@
 
 mod counts;
 mod index;
+pub mod laws;
 mod lists;
 mod names;
 mod part_list;
