@@ -90,7 +90,7 @@ fn push_recorded(
     ensures { OnOk result (parts.new.items ≡ parts.old.items ++ recorded_in snapshot records.now) }
 {
     for recorded in records {
-        if recorded.is_held_by(snapshot) {
+        if recorded.birth <= snapshot && snapshot < recorded.death {
             parts.push(InodePart {
                 ino: recorded.ino,
                 part: PartId {
