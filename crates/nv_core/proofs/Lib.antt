@@ -38,6 +38,7 @@ pub mod PublishPhase
 pub mod Publishes
 pub mod Readies
 pub mod RetirePhase
+pub mod Releases
 pub mod Retires
 pub mod RoomsAfter
 pub mod Runs
@@ -48,6 +49,7 @@ pub mod SettledLogs
 pub mod SettledPages
 pub mod ShownCalls
 pub mod SlotLists
+pub mod SnapRest
 pub mod SnapTests
 pub mod SpaceLaw
 pub mod Stages

@@ -2,7 +2,7 @@
 use Rattle.std.specs.Prelude.{Some, ◌≡◌, ℕ, ◌+◌, ◌<◌, ◌≤◌, ◌%◌, ◌⊎◌, false, true, [], length, None, slice_index_or}
 use Rattle.std.specs.List.{AllByRecursion}
 use Rattle.std.specs.Option.{ForSome, IsSomeAnd}
-use Rattle.nv_alloc.specs.Block.{AreSized, numbers_of}
+use Rattle.nv_alloc.specs.Block.{AreSized, BlockValue, numbers_of}
 use Rattle.nv_alloc.specs.Hand.{blocks_of}
 use Rattle.nv_alloc.specs.Numbers.{has, times}
 use Rattle.nv_alloc.specs.declared.hand.Hand.{Hand}
@@ -16,7 +16,6 @@ use Rattle.nv_cell.specs.Readers.{is_gone}
 use Rattle.nv_entry.specs.Log.{up_to}
 use Rattle.nv_epoch.specs.SnapList.{pins_of}
 use Rattle.nv_machine.specs.Locks.{slots_on}
-use Rattle.nv_machine.specs.Numbers.{stored_in}
 use Rattle.nv_reader.specs.Cells.{NoneOut}
 use Rattle.nv_calls.specs.CanCommit.{TakesCommit}
 use Rattle.nv_calls.specs.Cells.{value_at}
@@ -92,7 +91,10 @@ pub record CanRelease (shared : Shared) (picked : Record) : Type 0 where
   pub slot : picked.ino < length shared.cells.items
   pub kept : mark_named (cell_at (shared_of shared) picked.ino) (name_of picked) ≡ Some Kept
   pub still : IsStill shared.geometry.numbers.block (cell_at (shared_of shared) picked.ino)
-  pub device : (n : ℕ) → has (stored_in (cell_at (shared_of shared) picked.ino)) n ≡ true → n < shared.geometry.numbers.blocks
+  pub chain : AllByRecursion (λ (b : BlockValue). b.number < shared.geometry.numbers.blocks)
+      (cell_at (shared_of shared) picked.ino).chain.blocks
+  pub parts : (n : ℕ) (b : BlockValue) → slice_index_or (cell_at (shared_of shared) picked.ino).blocks n None ≡ Some b
+      → b.number < shared.geometry.numbers.blocks
   pub generation : is_gone (log_of (cell_at (shared_of shared) picked.ino)) ≡ true
       → (cell_at (shared_of shared) picked.ino).generation < NUMBER
 

@@ -1,6 +1,6 @@
 //! A deferred record is released.
 
-ghost use Rattle.std.specs.Prelude.{◌≡◌, ◌≢◌, ◌<◌, ◌∷◌, Some, [], length, true};
+ghost use Rattle.std.specs.Prelude.{◌≡◌, ◌≢◌, ◌<◌, ◌∷◌, ℕ, Some, [], length, true};
 ghost use Rattle.nv_calls.specs.Retired.{CanTakeGone};
 ghost use Rattle.nv_calls.specs.Retiring.{erased, hand_with, name_of, released, released_blocks, with_back};
 ghost use Rattle.nv_cell.specs.Cell.{log_of, mark_named};
@@ -8,10 +8,11 @@ ghost use Rattle.nv_cell.specs.Readers.{is_gone};
 ghost use Rattle.nv_cell.specs.declared.mark.Mark.TheVariants.{Kept};
 ghost use Rattle.nv_machine.specs.Snapshots.{release_turn};
 ghost use Rattle.nv_machine.specs.World.{empty_hand};
-ghost use Rattle.nv_core.specs.Frames.{LeavesCells};
+ghost use Rattle.nv_machine.specs.Locks.{held_at};
+ghost use Rattle.nv_core.specs.Frames.{LeavesRest};
 ghost use Rattle.nv_core.specs.Parts.{AreHome};
 ghost use Rattle.nv_core.specs.Rooms.{HasRooms, HasRoomsAfter};
-ghost use Rattle.nv_core.specs.Shown.{Told, draining_of, hand_of, shared_of, shown, slots_in, turn_of};
+ghost use Rattle.nv_core.specs.Shown.{Told, draining_of, hand_of, next_of, shared_of, shown, slots_in, turn_of};
 ghost use Rattle.nv_core.specs.Steps.{CanRelease};
 ghost use Rattle.nv_core.specs.Told.{KeepsJob};
 
@@ -47,7 +48,8 @@ pub(crate) fn release(
     ensures job { KeepsJob running.old running.new }
     ensures goes { result ≢ Turn.Waits }
     ensures rooms { HasRoomsAfter result shared.new (Hold.Hand hand.new) running.new }
-    ensures rest { LeavesCells (picked.ino ∷ []) shared.old shared.new × (shared.new.book ≡ shared.old.book) }
+    ensures rest { (actor : ℕ) → LeavesRest actor (held_at (next_of running.old.next)
+        (slots_in running.old.slots)) shared.old shared.new }
 {
     release_on(
         &mut shared.cells[picked.ino.number() as usize],

@@ -1,6 +1,6 @@
 //! The steps of calls on snapshots.
 
-ghost use Rattle.std.specs.Prelude.{◌≡◌, None};
+ghost use Rattle.std.specs.Prelude.{◌≡◌, []};
 ghost use Rattle.nv_machine.specs.Step.{kind_turn};
 ghost use Rattle.nv_core.specs.Frames.{LeavesRest};
 ghost use Rattle.nv_core.specs.Rooms.{HasRooms, HasRoomsAfter, IsOnBook, IsSnapshotStep};
@@ -57,6 +57,7 @@ pub(crate) fn on_snapshots(
 }
 
 /// A step that is lent the book: it waits while a commit is under way.
+#[tactic(auto, using(crate::proofs::SnapRest::none_held))]
 fn on_book(
     alloc: Global,
     shared: &mut Shared,
@@ -75,7 +76,8 @@ fn on_book(
         → (shared.new ≡ shared.old) × (hand.new ≡ hand.old) × (running.new ≡ running.old) }
     ensures job { KeepsJob running.old running.new }
     ensures rooms { HasRoomsAfter result shared.new (Hold.Hand hand.new) running.new }
-    ensures free { shared.old.holder ≡ None → shared.new ≡ record shared.old { book = shared.new.book } }
+    ensures held { held_at (next_of running.old.next) (slots_in running.old.slots) ≡ [] }
+    ensures rest { LeavesRest actor [] shared.old shared.new }
 {
     if shared.holder.is_some() {
         return Turn::Waits;
