@@ -1,5 +1,5 @@
 -- A record is released: what is shared and the hand, and which blocks it gives out.
-use Rattle.std.proofs.Common.{◌≡◌, ◌∙◌, ℕ, ◌<◌, ◌++◌, Bool, true, false, List, [], ◌∷◌, Option, Some, None, ap, ap₂, length, map, refl, slice_set, subst, sym}
+use Rattle.std.proofs.Common.{append_assoc, ◌≡◌, ◌∙◌, ℕ, ◌<◌, ◌++◌, Bool, true, false, List, [], ◌∷◌, Option, Some, None, ap, ap₂, length, map, refl, slice_set, subst, sym}
 use Rattle.std.specs.Prelude.{slice_index_or, if◌then◌else◌, option_to_list}
 use Rattle.std.specs.List.{AllByRecursion}
 use Rattle.nv_alloc.specs.Block.{BlockValue}
@@ -62,7 +62,8 @@ module _ (blocks : ℕ) where
   if_there (Some b) each = (each b refl, tt)
 
   split : (h : HandState) → AllBelow h.blocks → AllBelow h.pages → AllBelow h.chain → AllBelow (blocks_in h)
-  split h blocks pages chain = all_more h.blocks (h.pages ++ h.chain) blocks (all_more h.pages h.chain pages chain)
+  split h one two three =
+      subst AllBelow (append_assoc h.blocks h.pages h.chain) (all_more (h.blocks ++ h.pages) h.chain (all_more h.blocks h.pages one two) three)
 
   in_hand : (ino : ℕ) (mid : CellState) (free : List BlockValue) → AllBelow free → AllBelow mid.chain.blocks
       → AllBelow (blocks_in (with_erased ino mid (record empty_hand { blocks = free })))
@@ -72,8 +73,8 @@ module _ (blocks : ℕ) where
           chain = mid.chain.blocks;
           ino = calls.number_back ino mid None;
         } else record empty_hand { blocks = free }))
-    go true = split _ one tt chain
-    go false = split _ one tt tt
+    go true = split (record empty_hand { blocks = free; chain = mid.chain.blocks; ino = calls.number_back ino mid None }) one tt chain
+    go false = split (record empty_hand { blocks = free }) one tt tt
 
   pub released_below : (picked : Record) (hand after : Hand) (cell : CellState)
       → after ≡ hand_released picked.ino (calls.released picked cell) (calls.released_blocks picked cell) hand → hand_of hand ≡ empty_hand

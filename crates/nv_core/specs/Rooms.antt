@@ -210,14 +210,17 @@ HasStepRoom (on.LockPicked draining picked) hand = (draining.released + draining
 HasStepRoom (on.Release draining picked) hand = (draining.released + draining.left < DRAIN) × HoldsOne hand
 HasStepRoom other hand = Unit {0}
 
-abbrev pub HasNextRoom : Next → Hand → Type 0
-HasNextRoom (next.Snapshots step) hand = HasStepRoom step hand
-HasNextRoom other hand = Unit {0}
-
 -- so has one that goes on to its next record, and it is a call on snapshots
 abbrev pub CanDrain : Ending → Job → Hand → Type 0
 CanDrain (ending.Drains draining) j hand = IsOnSnapshots j × (draining.released + draining.left ≤ DRAIN) × HoldsOne hand
 CanDrain other j hand = Unit {0}
+
+abbrev pub HasNextRoom : Next → Ending → Job → Hand → Type 0
+HasNextRoom (next.Snapshots step) how j hand = HasStepRoom step hand
+HasNextRoom (next.Unlock place) how j hand = CanDrain how j hand
+HasNextRoom (next.Give cpu) how j hand = CanDrain how j hand
+HasNextRoom next.Back how j hand = CanDrain how j hand
+HasNextRoom other how j hand = Unit {0}
 
 -- what ends so is no drain that goes on
 abbrev pub IsNoDrain : Ending → Type 0
@@ -244,7 +247,7 @@ committing_cpu shared = unwrap_or shared.holder 0 % length shared.lists.items
 abbrev pub HasRooms : Shared → Hold → Running → Type 0
 HasRooms shared (hold.Hand hand) running =
     FitsCall running × IsHandOf shared.geometry.numbers hand × TakesIf (takes running.next) shared hand running
-    × HasNextRoom running.next hand × CanDrain running.ending running.job hand
+    × HasNextRoom running.next running.ending running.job hand
 HasRooms shared (hold.Ready ready) running =
     (running.job ≡ job.Given) × (running.ending ≡ ending.Answers) × IsHandOf shared.geometry.numbers ready.hand
     × IsReadyOver (lent_cells (slots_in running.slots) shared.cells.items) ready

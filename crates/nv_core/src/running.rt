@@ -49,7 +49,8 @@ pub(crate) fn locking(place: usize, slots: &Slots) -> Next
     ensures next { next_of result ≡ locking place (slots_in slots.now) }
     ensures before { (job : Job) → is_change job ≡ true → FitsNext result job }
     ensures none { takes result ≡ false }
-    ensures room { (hand : Hand) → HasNextRoom result hand }
+    ensures room { (how : Ending) (job : Job) (hand : Hand)
+        → HasNextRoom result how job hand }
 {
     if place < slots.len() {
         return Next::Lock(place);
@@ -64,7 +65,8 @@ pub(crate) fn looking(place: usize, update: &Update, slots: &Slots) -> Next
     ensures before { (job : Job) (plan : Plan) → IsChangeBy job plan → plan.update ≡ update.now
         → FitsNext result job }
     ensures none { takes result ≡ false }
-    ensures room { (hand : Hand) → HasNextRoom result hand }
+    ensures room { (how : Ending) (job : Job) (hand : Hand)
+        → HasNextRoom result how job hand }
 {
     if place < look_count(update) {
         return Next::Look(place);
@@ -95,7 +97,8 @@ fn first_step(inodes: u64, job: &Job, looked: &Looked) -> (Next, Slots)
         (next_of result.0 ≡ first.next) × (slots_in result.1 ≡ first.slots) }
     ensures before { FitsNext result.0 job.now }
     ensures none { takes result.0 ≡ false }
-    ensures room { (hand : Hand) → HasNextRoom result.0 hand }
+    ensures room { (how : Ending) (job : Job) (hand : Hand)
+        → HasNextRoom result.0 how job hand }
 {
     let none = Slots::none();
     match job {
@@ -139,7 +142,8 @@ fn first_of_change(inodes: u64, update: &Update, looked: &Looked) -> (Next, Slot
     ensures before { (job : Job) (plan : Plan) → IsChangeBy job plan → plan.update ≡ update.now
         → FitsNext result.0 job }
     ensures none { takes result.0 ≡ false }
-    ensures room { (hand : Hand) → HasNextRoom result.0 hand }
+    ensures room { (how : Ending) (job : Job) (hand : Hand)
+        → HasNextRoom result.0 how job hand }
 {
     let none = Slots::none();
     match update {

@@ -4,7 +4,7 @@ ghost use Rattle.std.specs.Prelude.{◌≡◌, ◌≢◌, ◌<◌, false};
 ghost use Rattle.std.specs.Option.{ForSome};
 ghost use Rattle.nv_alloc.specs.Numbers.{has};
 ghost use Rattle.nv_machine.specs.Kinds.{back_turn};
-ghost use Rattle.nv_core.specs.Rooms.{CanEnd, HasRooms, HasRoomsAfter};
+ghost use Rattle.nv_core.specs.Rooms.{CanDrain, CanEnd, HasRooms, HasRoomsAfter};
 ghost use Rattle.nv_core.specs.Shown.{Told, hand_of, shared_of, shown, turn_of};
 ghost use Rattle.nv_core.specs.Told.{KeepsJob, OwesAt};
 
@@ -19,6 +19,7 @@ use nv_alloc::Hand;
 pub(crate) fn back(shared: &mut Shared, hand: &mut Hand, running: &mut Running) -> Turn
     requires rooms { HasRooms shared.old (Hold.Hand hand.old) running.old }
     requires call { CanEnd running.old running.old.ending }
+    requires drains { CanDrain running.old.ending running.old.job hand.old }
     requires inode { ForSome hand.old.ino (λ ino. ino < shared.old.pool.inodes) }
     requires absent { ForSome hand.old.ino (λ ino. has shared.old.pool.numbers ino ≡ false) }
     ensures turn { (told : Told) → OwesAt running.old.ending running.old told
