@@ -1,5 +1,5 @@
 -- A record is released: what is shared and the hand, and which blocks it gives out.
-use Rattle.std.proofs.Common.{append_assoc, ◌≡◌, ◌∙◌, ℕ, ◌<◌, ◌++◌, Bool, true, false, List, [], ◌∷◌, Option, Some, None, ap, ap₂, length, map, refl, slice_set, subst, sym}
+use Rattle.std.proofs.Common.{◌≡◌, ◌∙◌, ℕ, ◌<◌, ◌++◌, Bool, true, false, List, [], ◌∷◌, Option, Some, None, ap, ap₂, length, map, refl, slice_set, subst, sym}
 use Rattle.std.specs.Prelude.{slice_index_or, if◌then◌else◌, option_to_list}
 use Rattle.std.specs.List.{AllByRecursion}
 use Rattle.nv_alloc.specs.Block.{BlockValue}
@@ -63,7 +63,7 @@ module _ (blocks : ℕ) where
 
   split : (h : HandState) → AllBelow h.blocks → AllBelow h.pages → AllBelow h.chain → AllBelow (blocks_in h)
   split h one two three =
-      subst AllBelow (append_assoc h.blocks h.pages h.chain) (all_more (h.blocks ++ h.pages) h.chain (all_more h.blocks h.pages one two) three)
+      all_more (h.blocks ++ h.pages) h.chain (all_more h.blocks h.pages one two) three
 
   in_hand : (ino : ℕ) (mid : CellState) (free : List BlockValue) → AllBelow free → AllBelow mid.chain.blocks
       → AllBelow (blocks_in (with_erased ino mid (record empty_hand { blocks = free })))
