@@ -46,17 +46,18 @@ none_below low (suc len) n lt =
 
 once_in : (low len n : ℕ) → low ≤ n → n < low + len → count (λ m. m == n) (range_with_len low len) ≡ 1
 once_in low zero n le lt = absurd (omega (arith, le, lt))
-once_in low (suc len) n le lt = go (low == n) refl where
+once_in low (suc len) n le lt = go (low == n) refl (λ below. once_in (low + 1) len n below (omega (arith, lt))) where
   all : count (λ m. m == n) (range_with_len low (suc len)) ≡ one (low == n) + count (λ m. m == n) (range_with_len (low + 1) len)
   all = count_cons (λ m. m == n) low (range_with_len (low + 1) len)
 
-  go : (b : Bool) → (low == n) ≡ b → count (λ m. m == n) (range_with_len low (suc len)) ≡ 1
-  go true e =
+  go : (b : Bool) → (low == n) ≡ b → (low + 1 ≤ n → count (λ m. m == n) (range_with_len (low + 1) len) ≡ 1)
+      → count (λ m. m == n) (range_with_len low (suc len)) ≡ 1
+  go true e more =
       omega (arith, all, ap one e, none_below (low + 1) len n (let same = eqb-true low n e in omega (arith, same)))
-  go false e =
+  go false e more =
       let ne = eqb-false low n e in
-      let more = once_in (low + 1) len n (omega (arith, le, ne)) (omega (arith, lt)) in
-      omega (arith, all, ap one e, more)
+      let there = more (omega (arith, le, ne)) in
+      omega (arith, all, ap one e, there)
 
 -- ---- published
 
@@ -78,7 +79,7 @@ module _ (block : ℕ) (es : List Entry) (tail : ℕ) (is : IsLog es) where
 
   dead_count : (ns : List ℕ) (n : ℕ) → count (is_killed_on es n) (dead ns) ≡ cond (dies_now n) (count (λ m. m == n) ns) 0
   dead_count [] n = go (dies_now n) where
-    go : (b : Bool) → 0 ≡ cond b 0 0
+    go : (b : Bool) → count (is_killed_on es n) (dead []) ≡ cond b (count (λ (m : ℕ). m == n) []) 0
     go true = refl
     go false = refl
   dead_count (m ∷ ns) n = go (dies_now m) refl (dead_count ns n) where
