@@ -24,7 +24,7 @@ use Rattle.nv_calls.specs.FillPages.{filled, fresh_pages}
 use Rattle.nv_machine.specs.Reads.{copies, has_last_page, is_written, plan_by, slot_at, taken_by, written_slots}
 use Rattle.nv_machine.specs.Sequence.{appending, beginning, closing, opening, publishing, retiring}
 use Rattle.nv_machine.specs.Step.{ending_at, is_numbered, kind_turn, made_in, same_looked, with_made}
-use Rattle.nv_machine.specs.World.{Answers, Append, Back, Check, Close, Enter, Give, HandState, Leave, Lock, Look, Next, Number, Open, Overtaken, Publish, Ready, Retire, Running, Shared, TakeBlocks, TakePages, Unlock, Visit, empty_hand, go_to, list_at, Drop, LockPicked, Make, Pick, Pin, Release, Show, SnapshotStep, Snapshots, Unpin, Drains, Draining, Showing, Turn, cell_at}
+use Rattle.nv_machine.specs.World.{Answers, Append, Back, Check, Close, Enter, Give, HandState, Leave, Lock, Look, Next, Number, Open, Overtaken, Publish, Ready, Retire, Running, Shared, TakeBlocks, TakePages, Unlock, Visit, empty_hand, go_to, list_at, Drop, LockPicked, Make, Pick, Pin, Release, Show, SnapshotStep, Snapshots, Unpin, Drains, Draining, Showing, Turn, cell_at, Refuses}
 use Rattle.nv_machine.proofs.Counted.{given_all}
 use Rattle.nv_machine.proofs.Fitting.{checked, plan_few, plan_first, plan_within, planned_few, wants_fitting}
 use Rattle.nv_machine.proofs.Handed.{GoesHome, OnHand, check_hand, end_hand, grown_hand, is_empty, lock_hand, look_hand, not_overtaken, number_hand, over_hand, rest_hand, same_nothing, wants_pages_hand, last_hand}

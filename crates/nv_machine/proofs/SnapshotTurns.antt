@@ -16,11 +16,16 @@ is_quiet (Give cpu) = true
 is_quiet Back = true
 is_quiet other = false
 
+-- the unlock is that of a call whose names were not bound anew
+abbrev pub is_fair : Next → Ending → Bool
+is_fair (Unlock place) Overtaken = false
+is_fair other ending = true
+
 module _ (P : Turn → Type 0) (waits : P Waits) (ends : (result : Result Answer Fault) (s : Shared) (h : HandState) → P (Ends result s h))
-    (moves : (s : Shared) (h : HandState) (q : Running) → is_quiet q.next ≡ true → P (Moves s h q)) where
+    (moves : (s : Shared) (h : HandState) (q : Running) → is_quiet q.next ≡ true → is_fair q.next q.ending ≡ true → P (Moves s h q)) where
   drained_any : (left released : ℕ) (s : Shared) (h : HandState) (r : Running) → P (drained_turn left released s h r)
   drained_any zero released s h r = ends _ s h
-  drained_any (suc left) released s h r = moves s h _ refl
+  drained_any (suc left) released s h r = moves s h _ refl refl
 
   pub last_any : (e : Ending) (s : Shared) (h : HandState) (r : Running) → P (last_turn e s h r)
   last_any Answers s h r = ends _ s h
@@ -29,19 +34,19 @@ module _ (P : Turn → Type 0) (waits : P Waits) (ends : (result : Result Answer
   last_any (Drains draining) s h r = drained_any draining.left draining.released s h r
 
   pub rest_any : (home number : Option ℕ) (s : Shared) (h : HandState) (r : Running) → P (rest_turn home number s h r)
-  rest_any (Some cpu) number s h r = moves s h _ refl
-  rest_any None (Some ino) s h r = moves s h _ refl
+  rest_any (Some cpu) number s h r = moves s h _ refl refl
+  rest_any None (Some ino) s h r = moves s h _ refl refl
   rest_any None None s h r = last_any r.ending s h r
 
   pub refused_any : (slots : List ℕ) (fault : Fault) (s : Shared) (h : HandState) (r : Running)
       → P (end_turn slots (Refuses fault) s h r)
   refused_any [] fault s h r = rest_any _ h.ino s h (record r { ending = Refuses fault })
-  refused_any (slot ∷ slots) fault s h r = moves s h _ refl
+  refused_any (slot ∷ slots) fault s h r = moves s h _ refl refl
 
   pub released_any : (slots : List ℕ) (draining : Draining) (s : Shared) (h : HandState) (r : Running)
       → P (end_turn slots (Drains draining) s h r)
   released_any [] draining s h r = rest_any _ h.ino s h (record r { ending = Drains draining })
-  released_any (slot ∷ slots) draining s h r = moves s h _ refl
+  released_any (slot ∷ slots) draining s h r = moves s h _ refl refl
 
   free_any : (holder : Option ℕ) (turn : Turn) → P turn → P (if_free holder turn)
   free_any (Some other) turn p = waits
@@ -57,18 +62,18 @@ module _ (P : Turn → Type 0) (waits : P Waits) (ends : (result : Result Answer
 
   pin_any : (snapshot : ℕ) (pins : Option ℕ) (s : Shared) (h : HandState) (r : Running) → P (pin_turn snapshot pins s h r)
   pin_any snapshot None s h r = refused_any r.slots _ s h r
-  pin_any snapshot (Some pins) s h r = moves _ h _ refl
+  pin_any snapshot (Some pins) s h r = moves _ h _ refl refl
 
   show_any : (owner : Option ℕ) (granted : Bool) (found : Option NodeCopy) (snapshot : ℕ) (showing : Showing) (s : Shared) (h : HandState)
       (r : Running) → P (show_turn owner granted found snapshot showing s h r)
   show_any (Some other) granted found snapshot showing s h r = waits
-  show_any None true found snapshot showing s h r = moves s h _ refl
-  show_any None false found snapshot showing s h r = moves s h _ refl
+  show_any None true found snapshot showing s h r = moves s h _ refl refl
+  show_any None false found snapshot showing s h r = moves s h _ refl refl
 
   picked_any : (deferred : List Record) (draining : Draining) (s : Shared) (h : HandState) (r : Running)
       → P (picked_turn deferred draining s h r)
   picked_any [] draining s h r = ends _ s h
-  picked_any (picked ∷ deferred) draining s h r = moves _ h _ refl
+  picked_any (picked ∷ deferred) draining s h r = moves _ h _ refl refl
 
   grown_any : (granted : Bool) (turn : Turn) (s : Shared) (h : HandState) (r : Running) → P turn → P (grown granted turn s h r)
   grown_any true turn s h r p = p
@@ -77,7 +82,7 @@ module _ (P : Turn → Type 0) (waits : P Waits) (ends : (result : Result Answer
   lock_picked_any : (owner : Option ℕ) (actor : ℕ) (draining : Draining) (picked : Record) (s : Shared) (h : HandState) (r : Running)
       → P (lock_picked_turn owner actor draining picked s h r)
   lock_picked_any (Some other) actor draining picked s h r = waits
-  lock_picked_any None actor draining picked s h r = moves _ h _ refl
+  lock_picked_any None actor draining picked s h r = moves _ h _ refl refl
 
   pub snapshot_any : (step : SnapshotStep) (actor : ℕ) (granted : Bool) (s : Shared) (h : HandState) (r : Running)
       → P (snapshot_turn step actor granted s h r)
