@@ -135,3 +135,5 @@ pub mod FiledRuns
 pub mod Pairs
 pub mod FiledMarks
 pub mod FiledPublish
+pub mod PartsFor
+pub mod FiledPicks

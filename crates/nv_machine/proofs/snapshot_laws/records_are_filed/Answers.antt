@@ -1,3 +1,5 @@
+use Rattle.nv_machine.proofs.PartsFor.{own_all}
+use Rattle.nv_machine.proofs.FiledPicks.{none_picked}
 use Rattle.nv_machine.proofs.FiledPublish.{published_marks}
 use Rattle.nv_machine.proofs.FiledRuns.{are_deferred, are_listed}
 use Rattle.nv_machine.proofs.snapshot_laws.records_are_filed.Goals as goal
