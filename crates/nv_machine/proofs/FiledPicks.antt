@@ -16,7 +16,7 @@ use Rattle.nv_machine.specs.Kinds.{again_turn, back_turn, blocks_turn, check_tur
 use Rattle.nv_machine.specs.Locks.{commits_at}
 use Rattle.nv_machine.specs.Reads.{slots_of, written_slots}
 use Rattle.nv_machine.specs.Sequence.{Beginning, Looks, Locks, Numbers, OnSnapshots, Visits, appending, beginning, begun, closing, directories, first_step, locking, looking, nothing_looked, opening, publishing, retiring}
-use Rattle.nv_machine.specs.Snapshots.{drop_turn, if_free, is_first, lock_picked_turn, make_tests, make_turn, pin_turn, show_or_unpin, show_turn, snapshot_turn}
+use Rattle.nv_machine.specs.Snapshots.{drop_turn, first_showing, if_free, is_first, lock_picked_turn, make_tests, make_turn, pin_turn, show_or_unpin, show_turn, snapshot_turn}
 use Rattle.nv_machine.specs.Step.{ending_at, kind_turn, with_made}
 use Rattle.nv_machine.specs.World.{Answers, Append, Back, Check, Close, Draining, Drains, Drop, Ending, Ends, Enter, Give, HandState, Leave, Lock, LockPicked, Look, Make, Moves, Next, Number, Open, Overtaken, Pick, Pin, Publish, Ready, Refuses, Release, Retire, Running, Shared, Show, Showing, SnapshotStep, Snapshots, TakeBlocks, TakePages, Turn, Unlock, Unpin, Visit, Waits}
 use Rattle.nv_machine.proofs.Kept.{AfterTurn, back_deed, deed, number_deed, turn_keeps}
@@ -120,8 +120,9 @@ none_number (ino ∷ numbers) s h r = locking_none 0 _
 none_look : (owner : Option ℕ) (tests : Tests) (found : Looked) (place : ℕ) (s : Shared) (h : HandState) (r : Running)
     → picked_after (look_turn owner tests found place s h r) ≡ []
 none_look (Some other) tests found place s h r = refl
-none_look None (Err fault) found place s h r = none_end [] _ s h r
-none_look None (Ok passed) found place s h r = looking_none (place + 1) _
+none_look None (Err fault) found place s h r = none_end [] (Refuses fault) s h r
+none_look None (Ok passed) found place s h r =
+    looking_none (place + 1) (record r { looked = found; slots = slots_of s None found r.call })
 
 none_lock : (owner : Option ℕ) (actor place : ℕ) (s : Shared) (h : HandState) (r : Running)
     → picked_after (lock_turn owner actor place s h r) ≡ []
@@ -196,7 +197,8 @@ none_showing (suc left) (visit ∷ visits) snapshot showing = refl
 
 none_pin : (snapshot : ℕ) (pins : Option ℕ) (s : Shared) (h : HandState) (r : Running) → picked_after (pin_turn snapshot pins s h r) ≡ []
 none_pin snapshot None s h r = none_end r.slots _ s h r
-none_pin snapshot (Some pins) s h r = none_showing _ _ snapshot _
+none_pin snapshot (Some pins) s h r =
+    none_showing (first_showing s).left (first_showing s).visits snapshot (first_showing s)
 
 none_show : (owner : Option ℕ) (granted : Bool) (found : Option NodeCopy) (snapshot : ℕ) (showing : Showing) (s : Shared) (h : HandState)
     (r : Running) → picked_after (show_turn owner granted found snapshot showing s h r) ≡ []

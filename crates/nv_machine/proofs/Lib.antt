@@ -137,3 +137,4 @@ pub mod FiledMarks
 pub mod FiledPublish
 pub mod PartsFor
 pub mod FiledPicks
+pub mod FiledSteps
