@@ -63,7 +63,7 @@ entries_append (e ∷ entries) bs cell =
       block = more.block;
     }
 
-pub appends : (entries : List Entry) (bs pages : List BlockValue) (cell : CellState)
+appends : (entries : List Entry) (bs pages : List BlockValue) (cell : CellState)
     → Appends entries cell (with_entries entries bs (with_pages pages cell))
 appends entries bs pages cell =
     let first = pages_append pages cell in

@@ -138,3 +138,4 @@ pub mod FiledPublish
 pub mod PartsFor
 pub mod FiledPicks
 pub mod FiledSteps
+pub mod FiledWorlds
