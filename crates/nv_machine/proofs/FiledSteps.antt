@@ -113,6 +113,13 @@ published_cell living ino epoch rs cell is within fresh h =
     (sym (take_whole cell.chain.entries))
     (published_marks cell.block cell.chain.entries cell.chain.tail is living ino epoch rs cell.marks within fresh h)
 
+published_none : (epoch : ℕ) (es : List Entry) → AllByRecursion (λ (e : Entry). e.epoch ≡ epoch) (drop (length es) es)
+published_none epoch [] = tt
+published_none epoch (e ∷ es) = published_none epoch es
+
+pub published_fresh : (epoch : ℕ) (cell : CellState) → AreFresh epoch (published cell)
+published_fresh epoch cell = published_none epoch cell.chain.entries
+
 -- ---- retired
 
 -- the records that a retire adds stand at the end
@@ -168,6 +175,17 @@ retired_marks living ino epoch (k ∷ ks) rs cell is h =
           subst (λ (n : ℕ). AreMarks living ino epoch ks rs cell.block (log_of cell) (set cell.marks n Out)) (sym number)
           (freed_marks living ino epoch k ks rs cell.block (log_of cell) cell.marks is h e)
 
+settled_chain : (o : Option ℕ) (n : ℕ) (cell : CellState) → (settled o n cell).chain ≡ cell.chain
+settled_chain (Some s) n cell = refl
+settled_chain None n cell = refl
+
+pub retired_chain : (living : List ℕ) (ino epoch : ℕ) (ks : List KilledPart) (cell : CellState)
+    → (retired living ino epoch ks cell).chain ≡ cell.chain
+retired_chain living ino epoch [] cell = refl
+retired_chain living ino epoch (k ∷ ks) cell =
+    retired_chain living ino epoch ks (settled (keeper_of living ino epoch k) (number_in cell k.part) cell)
+    ∙ settled_chain (keeper_of living ino epoch k) (number_in cell k.part) cell
+
 pub retired_log : (living : List ℕ) (ino epoch : ℕ) (ks : List KilledPart) (cell : CellState)
     → log_of (retired living ino epoch ks cell) ≡ log_of cell
 retired_log living ino epoch [] cell = refl
@@ -196,6 +214,12 @@ erased_cell living ino epoch killed rs cell is h = go (is_erased cell) refl wher
       erased_marks living ino epoch killed rs cell.block (log_of cell) cell.marks is h
       (λ n. outs_at cell.marks n (all_out cell.marks (none (list_any is_there cell.marks) nothing)))
   go false e = h
+
+pub erased_fresh : (epoch : ℕ) (cell : CellState) → AreFresh epoch cell → AreFresh epoch (erased cell)
+erased_fresh epoch cell h = go (is_erased cell) where
+  go : (b : Bool) → AreFresh epoch (if b then empty_cell cell.block cell.chain.page (cell.generation + 1) cell.version else cell)
+  go true = tt
+  go false = h
 
 -- ---- released
 

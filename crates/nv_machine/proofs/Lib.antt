@@ -139,3 +139,4 @@ pub mod PartsFor
 pub mod FiledPicks
 pub mod FiledSteps
 pub mod FiledWorlds
+pub mod FiledCommits
