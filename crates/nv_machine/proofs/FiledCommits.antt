@@ -131,10 +131,10 @@ module _ (w : World) (a : ℕ) (rs : List Record) (r : Running) (there : a < len
   append_marked slot pages place next low within none picks =
       let new = with_entries (entries_for r slot) h.blocks (with_pages (take pages h.pages) (cell_at s slot)) in
       let v : World = (turned (append_turn slot pages place s h r) a w).world in
-      let same : (ino : ℕ) → killed_in v ino ≡ killed_in w ino = λ ino. same_killed w a ino _ _ _
+      let same : (ino : ℕ) → killed_in v ino ≡ killed_in w ino = λ ino. same_killed w a ino v.shared _ _
       (none_for (killed_slots (sequel r (Append place)) written) h.killed ino none
       ∙ sym (own_share ino ∙ none_for (killed_slots r.next written) h.killed ino none)) in
-      let picked : picked_in v ≡ picked_in w = same_picked w a _ _ _
+      let picked : picked_in v ≡ picked_in w = same_picked w a v.shared _ _
       (picks ∙ sym (own_picks ∙ ap picked_at next)) in
       let all : (ino : ℕ) → MarksOf living ino epoch (killed_in v ino) (rs ++ picked_in v) (cell_at s ino) =
       λ ino. marks_as living ino epoch (killed_in w ino) (killed_in v ino) (rs ++ picked_in w) (rs ++ picked_in v) (cell_at s ino) (same ino)
@@ -161,12 +161,12 @@ module _ (w : World) (a : ℕ) (rs : List Record) (r : Running) (there : a < len
       let v : World = (turned (publish_turn slot place s h r) a w).world in
       let len : length (take place written) ≡ length h.killed = omega (arith, length-take place written, inside, many) in
       let now : (ino : ℕ) → killed_in v ino ≡ parts_for (take place written ++ slot ∷ []) (h.killed ++ killed_by cell ∷ []) ino =
-      λ ino. new_killed w a ino _ _ _ there locks held
+      λ ino. new_killed w a ino v.shared _ _ there locks held
       ∙ ap (λ (l : List ℕ). parts_for l (h.killed ++ killed_by cell ∷ []) ino)
       (publishing_slots (place + 1) written ∙ slots_to place written inside) in
       let before : (ino : ℕ) → killed_in w ino ≡ parts_for (take place written) h.killed ino =
       λ ino. was ino ∙ ap (λ (k : Next). parts_for (killed_slots k written) h.killed ino) next in
-      let picked : picked_in v ≡ picked_in w = same_picked w a _ _ _ (picks ∙ sym (own_picks ∙ ap picked_at next)) in
+      let picked : picked_in v ≡ picked_in w = same_picked w a v.shared _ _ (picks ∙ sym (own_picks ∙ ap picked_at next)) in
       let records : rs ++ picked_in v ≡ rs ++ picked_in w = ap (λ (l : List Record). rs ++ l) picked in
       let none : killed_in w slot ≡ [] = before slot ∙ none_there (take place written) h.killed slot (take_apart place written rising inside) in
       one_cell w a slot rs rs _ _ _ (published cell) (λ ino. refl) refl low
@@ -197,13 +197,13 @@ module _ (w : World) (a : ℕ) (rs : List Record) (r : Running) (there : a < len
       let hand : (with_erased slot left (with_freed slot parts s r h)).killed ≡ drop 1 h.killed =
       erased_killed slot left (with_freed slot parts s r h) in
       let now : (ino : ℕ) → killed_in v ino ≡ parts_for (drop (place + 1) written) (drop 1 h.killed) ino =
-      λ ino. new_killed w a ino _ _ _ there locks held
+      λ ino. new_killed w a ino v.shared _ _ there locks held
       ∙ ap (λ (l : List ℕ). parts_for l (with_erased slot left (with_freed slot parts s r h)).killed ino) (retiring_slots (place + 1) written)
       ∙ ap (λ (l : List (List KilledPart)). parts_for (drop (place + 1) written) l ino) hand in
       let before : (ino : ℕ) → killed_in w ino ≡ parts_for (slot ∷ drop (place + 1) written) h.killed ino =
       λ ino. was ino ∙ ap (λ (k : Next). parts_for (killed_slots k written) h.killed ino) next
       ∙ ap (λ (l : List ℕ). parts_for l h.killed ino) (slots_from place written inside) in
-      let picked : picked_in v ≡ picked_in w = same_picked w a _ _ _ (picks ∙ sym (own_picks ∙ ap picked_at next)) in
+      let picked : picked_in v ≡ picked_in w = same_picked w a v.shared _ _ (picks ∙ sym (own_picks ∙ ap picked_at next)) in
       let records : now_rs ++ picked_in v ≡ (rs ++ more) ++ picked_in w =
       ap (λ (l : List Record). l ++ picked_in v) (parts_behind living slot r.epoch parts rs)
       ∙ ap (λ (l : List Record). (rs ++ more) ++ l) picked in

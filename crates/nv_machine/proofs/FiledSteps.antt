@@ -238,7 +238,7 @@ released_cell living epoch killed before after d cell is h pair counts told none
 -- ---- records of other slots
 
 -- one of another slot is of no part of this one
-other_slot : (ino : ℕ) (log : List Entry) (n : ℕ) (d : Record) → d.ino ≢ ino → is_filed_on ino log n d ≡ false
+pub other_slot : (ino : ℕ) (log : List Entry) (n : ℕ) (d : Record) → d.ino ≢ ino → is_filed_on ino log n d ≡ false
 other_slot ino log n d ne = rw (ne_eqb d.ino ino ne) refl
 
 pub none_other : (ino : ℕ) (log : List Entry) (n : ℕ) (rs : List Record) → AllByRecursion (λ (d : Record). d.ino ≢ ino) rs

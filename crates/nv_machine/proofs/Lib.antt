@@ -140,3 +140,4 @@ pub mod FiledPicks
 pub mod FiledSteps
 pub mod FiledWorlds
 pub mod FiledCommits
+pub mod FiledSnaps
