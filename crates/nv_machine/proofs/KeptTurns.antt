@@ -127,11 +127,8 @@ lent_inside_own k a s r b ino is =
       inside : owner_at s ino ≡ Some a → ino < length s.cells
       inside own = elim (cases_lt ino (length s.owners)) [
         | inl lt ↦ omega (arith, lt, b.wide)
-        | inr ge ↦ absurd (none_one (sym (get_or_past s.owners ino None ge) ∙ own))
+        | inr ge ↦ absurd (none_some a (sym (get_or_past s.owners ino None ge) ∙ own))
       ]
-
-      none_one : None ≡ Some a → ⊥
-      none_one e = true≢false (ap (λ (o : Option ℕ). is_none o) e)
 
 slots_of_cells : (k : Next) (block a : ℕ) (s : Shared) (h : HandState) (r : Running) → Standing k block a s h r
     → AreSlots (length s.cells) r.slots
