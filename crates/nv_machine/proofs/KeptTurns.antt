@@ -2,7 +2,7 @@
 use Rattle.std.proofs.Common.{◌≡◌, ◌%◌, ◌^◌, ◌<◌, ◌∙◌, ℕ, Bool, true, false, cond, Option, Some, None, ap, length, nat_lt, refl, subst, sym, inl, inr, arith}
 use Rattle.std.specs.List.{AllByRecursion}
 use Rattle.std.specs.Prelude.{is_none}
-use Rattle.std.proofs.lemmas.Bool.{true≢false}
+use Rattle.std.proofs.lemmas.Bool.{true≢false, cases_lt}
 use Rattle.nv_alloc.specs.Block.{BlockValue}
 use Rattle.nv_calls.specs.AllCalls.{blocks_wanted, early, effect, looked, refusal}
 use Rattle.nv_machine.specs.Frame.{IsFramed, Lent, lent}
@@ -27,6 +27,8 @@ use Rattle.nv_machine.proofs.Kept.{AfterTurn, snapshot_deed, snapshot_keeps}
 use Rattle.nv_machine.proofs.ReleaseKept.{release_retires, released_left, released_logs}
 use Rattle.nv_calls.specs.Retiring.{released}
 use Rattle.nv_book.specs.Book.{BookState}
+use Rattle.nv_machine.proofs.SnapshotTurns.{done_keeps}
+use Rattle.std.proofs.lemmas.List.{get_or_past}
 
 -- what is lent beside cells, the book and the commit lock
 abbrev pub some_lent : Option ℕ → Bool → Option ℕ → Lent
@@ -125,11 +127,8 @@ lent_inside_own k a s r b ino is =
       inside : owner_at s ino ≡ Some a → ino < length s.cells
       inside own = elim (cases_lt ino (length s.owners)) [
         | inl lt ↦ omega (arith, lt, b.wide)
-        | inr ge ↦ absurd (none_one (sym (get_or_past s.owners ino None ge) ∙ own))
+        | inr ge ↦ absurd (none_some a (sym (get_or_past s.owners ino None ge) ∙ own))
       ]
-
-      none_one : None ≡ Some a → ⊥
-      none_one e = true≢false (ap (λ (o : Option ℕ). is_none o) e)
 
 slots_of_cells : (k : Next) (block a : ℕ) (s : Shared) (h : HandState) (r : Running) → Standing k block a s h r
     → AreSlots (length s.cells) r.slots
@@ -225,4 +224,6 @@ kept_turn Back block a granted s h r st = quiet true block a s None true None _ 
 kept_turn Visit block a granted s h r st = quiet true block a s None false None _ st.kept (framed Visit block a granted s h r)
     (visit_knows block _ _ _ _ _ s h r)
 kept_turn (Snapshots step) block a granted s h r st =
-    snapshot_kept step block a granted s h r st (snapshot_knows block _ step a granted s h r)
+    subst (λ (same : Bool). OnKept same block a s (snapshot_turn step a granted s h r))
+    (sym (done_keeps step (snapshot_turn step a granted s h r)))
+    (snapshot_kept step block a granted s h r st (snapshot_knows block _ step a granted s h r))

@@ -1,5 +1,5 @@
 -- What a turn of a call on snapshots comes to: it waits, ends the call, or goes on to a step of such a call or to the last steps.
-use Rattle.std.proofs.Common.{◌≡◌, ℕ, zero, suc, ◌||◌, not, Bool, true, false, List, [], ◌∷◌, Option, Some, None, Result, Ok, Err, refl}
+use Rattle.std.proofs.Common.{◌≡◌, ◌||◌, ◌∷◌, ◌⊎◌, ℕ, zero, suc, not, Bool, true, false, List, [], Option, Some, None, Result, Ok, Err, refl, inl, inr, ap}
 use Rattle.nv_base.specs.declared.fault.Fault.{Fault}
 use Rattle.nv_book.specs.declared.record.Record.{Record}
 use Rattle.nv_calls.specs.Refusals.{Check as Tests}
@@ -8,6 +8,7 @@ use Rattle.nv_entry.specs.declared.node.NodeCopy.{NodeCopy}
 use Rattle.nv_machine.specs.Kinds.{drained_turn, end_turn, grown, last_turn, rest_turn}
 use Rattle.nv_machine.specs.Snapshots.{drop_turn, if_free, is_first, lock_picked_turn, make_tests, make_turn, one_more, picked_turn, pin_turn, show_turn, snapshot_turn}
 use Rattle.nv_machine.specs.World.{Answers, Back, Draining, Drains, Drop, Ending, Ends, Give, HandState, LockPicked, Make, Moves, Next, Overtaken, Pick, Pin, Refuses, Release, Running, Shared, Show, Showing, SnapshotStep, Snapshots, Turn, Unlock, Unpin, Waits}
+use Rattle.nv_machine.specs.PlainRun.{Nothing, OnSnapshots, done_on, keeps_nodes}
 
 abbrev pub is_quiet : Next → Bool
 is_quiet (Snapshots step) = true
@@ -95,3 +96,31 @@ module _ (P : Turn → Type 0) (waits : P Waits) (ends : (result : Result Answer
       free_any s.holder _ (grown_any _ _ s h r (picked_any s.book.deferred draining s h r))
   snapshot_any (LockPicked draining picked) actor granted s h r = lock_picked_any _ actor draining picked s h r
   snapshot_any (Release draining picked) actor granted s h r = released_any r.slots (one_more draining) _ _ r
+
+-- ---- what it does in the plain world
+
+pub done_is : (step : SnapshotStep) (t : Turn) → (done_on step t ≡ Nothing) ⊎ (done_on step t ≡ OnSnapshots step)
+done_is step (Moves s h r) = inr refl
+done_is step Waits = inl refl
+done_is (Unpin snapshot seen) (Ends result s h) = inr refl
+done_is Make (Ends (Ok found) s h) = inr refl
+done_is (Drop snapshot) (Ends (Ok found) s h) = inr refl
+done_is (Pin snapshot) (Ends (Ok found) s h) = inr refl
+done_is (Show snapshot showing) (Ends (Ok found) s h) = inr refl
+done_is (Pick draining) (Ends (Ok found) s h) = inr refl
+done_is (LockPicked draining picked) (Ends (Ok found) s h) = inr refl
+done_is (Release draining picked) (Ends (Ok found) s h) = inr refl
+done_is Make (Ends (Err fault) s h) = inl refl
+done_is (Drop snapshot) (Ends (Err fault) s h) = inl refl
+done_is (Pin snapshot) (Ends (Err fault) s h) = inl refl
+done_is (Show snapshot showing) (Ends (Err fault) s h) = inl refl
+done_is (Pick draining) (Ends (Err fault) s h) = inl refl
+done_is (LockPicked draining picked) (Ends (Err fault) s h) = inl refl
+done_is (Release draining picked) (Ends (Err fault) s h) = inl refl
+
+-- it keeps nodes
+pub done_keeps : (step : SnapshotStep) (t : Turn) → keeps_nodes (done_on step t) ≡ true
+done_keeps step t = elim (done_is step t) [
+  | inl none ↦ ap keeps_nodes none
+  | inr some ↦ ap keeps_nodes some
+]
