@@ -81,7 +81,7 @@ looking_none place r = go (nat_lt place (length (directories r.call))) where
   go true = refl
   go false = locking_none 0 r.slots
 
-retiring_none : (place : ℕ) (written : List ℕ) → picked_at (retiring place written) ≡ []
+pub retiring_none : (place : ℕ) (written : List ℕ) → picked_at (retiring place written) ≡ []
 retiring_none place written = go (nat_lt place (length written)) where
   go : (b : Bool) → picked_at (if b then Retire place else Leave) ≡ []
   go true = refl
@@ -93,7 +93,7 @@ closing_none written = go (nat_lt 1 (length written)) where
   go true = refl
   go false = retiring_none 0 written
 
-publishing_none : (place : ℕ) (written : List ℕ) → picked_at (publishing place written) ≡ []
+pub publishing_none : (place : ℕ) (written : List ℕ) → picked_at (publishing place written) ≡ []
 publishing_none place written = go (nat_lt place (length written)) where
   go : (b : Bool) → picked_at (if b then Publish place else closing written) ≡ []
   go true = refl
@@ -105,7 +105,7 @@ opening_none written = go (nat_lt 1 (length written)) where
   go true = refl
   go false = publishing_none 0 written
 
-appending_none : (place : ℕ) (written : List ℕ) → picked_at (appending place written) ≡ []
+pub appending_none : (place : ℕ) (written : List ℕ) → picked_at (appending place written) ≡ []
 appending_none place written = go (nat_lt place (length written)) where
   go : (b : Bool) → picked_at (if b then Append place else opening written) ≡ []
   go true = refl

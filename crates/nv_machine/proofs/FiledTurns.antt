@@ -52,7 +52,7 @@ refused_at_once fault s h r empty none = ends_at_once r.slots fault s h r empty 
 
 -- ---- what a step does to the list
 
-entered_same : (t : Turn) (living : List ℕ) (rs : List Record) → after_deed (plain.entered t) living rs ≡ rs
+pub entered_same : (t : Turn) (living : List ℕ) (rs : List Record) → after_deed (plain.entered t) living rs ≡ rs
 entered_same (Moves s h r) living rs = go (commits_at r.next) where
   go : (b : Bool) → after_deed (if b then plain.Numbers else plain.Nothing) living rs ≡ rs
   go true = refl
@@ -60,7 +60,7 @@ entered_same (Moves s h r) living rs = go (commits_at r.next) where
 entered_same Waits living rs = refl
 entered_same (Ends result s h) living rs = refl
 
-published_same : (b : Bool) (living : List ℕ) (rs : List Record) → after_deed (if b then plain.Nothing else plain.Commits) living rs ≡ rs
+pub published_same : (b : Bool) (living : List ℕ) (rs : List Record) → after_deed (if b then plain.Nothing else plain.Commits) living rs ≡ rs
 published_same true living rs = refl
 published_same false living rs = refl
 

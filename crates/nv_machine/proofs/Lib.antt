@@ -141,3 +141,4 @@ pub mod FiledSteps
 pub mod FiledWorlds
 pub mod FiledCommits
 pub mod FiledSnaps
+pub mod FiledKinds

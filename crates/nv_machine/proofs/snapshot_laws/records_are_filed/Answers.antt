@@ -1,3 +1,4 @@
+use Rattle.nv_machine.proofs.FiledKinds.{kind_marked}
 use Rattle.nv_machine.proofs.FiledSnaps.{release_marked}
 use Rattle.nv_machine.proofs.FiledCommits.{one_cell}
 use Rattle.nv_machine.proofs.FiledWorlds.{turned_quiet}
