@@ -69,7 +69,7 @@ turned_listed k rs Waits actor w h r is waits on = subst (λ (l : List Record). 
 turned_listed k rs (Ends result s g) actor w h r is waits on = on
 
 -- an actor that is not there has no call
-not_there : (w : World) (actor : ℕ) (r : Running) → nat_lt actor (length w.actors) ≡ false → (actor_at w actor).running ≡ Some r → ⊥
+pub not_there : (w : World) (actor : ℕ) (r : Running) → nat_lt actor (length w.actors) ≡ false → (actor_at w actor).running ≡ Some r → ⊥
 not_there w actor r e is =
     none-some r (sym (ap (λ (x : Actor). x.running) (get_or_past w.actors actor idle (ltb-false actor (length w.actors) e))) ∙ is)
 
@@ -106,15 +106,17 @@ events_listed g (e ∷ events) w rs each is =
 
 -- ---- every world
 
+pub new_listed : (g : GeometryNumbers) → Listed [] (formatted g).shared
+new_listed g = record {
+  rising = tt;
+  below = λ k d lt. absurd (omega (arith, lt));
+  list = record { manifests_are = refl; deferred_is = refl };
+  dead = tt;
+}
+
 pub all_listed : (g : GeometryNumbers) (events : List Event) → IsWithinLimits g
     → Listed (records_after (formatted g) events []) (after (formatted g) events).shared
-all_listed g events within =
-    events_listed g events (formatted g) [] (λ before. known g before within) (record {
-      rising = tt;
-      below = λ k d lt. absurd (omega (arith, lt));
-      list = record { manifests_are = refl; deferred_is = refl };
-      dead = tt;
-    })
+all_listed g events within = events_listed g events (formatted g) [] (λ before. known g before within) (new_listed g)
 
 pub are_listed : (g : GeometryNumbers) (events : List Event) → IsWithinLimits g
     → IsRecordList (ids (after (formatted g) events).shared.book.snaps) (after (formatted g) events).shared.book.manifests

@@ -142,3 +142,4 @@ pub mod FiledWorlds
 pub mod FiledCommits
 pub mod FiledSnaps
 pub mod FiledKinds
+pub mod FiledLaw
