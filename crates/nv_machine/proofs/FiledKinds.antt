@@ -10,6 +10,7 @@ use Rattle.nv_book.specs.declared.record.Record.{Record}
 use Rattle.nv_calls.specs.Refusals.{Check as Tests}
 use Rattle.nv_calls.specs.Retiring.{erased, released}
 use Rattle.nv_calls.specs.declared.answer.Answer.{Answer}
+use Rattle.nv_calls.specs.declared.answer.Answer.TheVariants as answers
 use Rattle.nv_epoch.specs.SnapList.{ids, pins_of}
 use Rattle.nv_machine.specs.Hands.{AreTailsLast, HandAt, HandOf, unpublished_at, unpublished_by}
 use Rattle.nv_machine.specs.Held.{killed_by_actor, killed_by_call, killed_slots, parts_for, picked_at, picked_by_actor, picked_by_call}
@@ -128,11 +129,11 @@ module _ (g : GeometryNumbers) (w : World) (known : IsKnown g w) (rs : List Reco
 
   quiet : (k : Next) → r.next ≡ k → picks k ≡ false → picked_at k ≡ [] → h.killed ≡ [] → (deed k block a s h r).hand.killed ≡ []
       → IsQuiet s (deed k block a s h r).shared → AreMarked (turned (KindTurn k) a w).world rs
-  quiet k e no none killed after left =
+  quiet k e other none killed after left =
       turned_quiet (KindTurn k) w a rs
       (turn_keeps (λ (u : Shared) (x : HandState). IsQuiet s u) k block a granted s h r (same_quiet s) left)
       (shares (KindTurn k) (turn_keeps (λ (u : Shared) (x : HandState). x.killed ≡ []) k block a granted s h r killed after)
-      (none_picked k block a granted s h r no) (own_killed killed) (own_picks k e ∙ none))
+      (none_picked k block a granted s h r other) (own_killed killed) (own_picks k e ∙ none))
       m
 
   none_now : (k : Next) → r.next ≡ k → commits_at k ≡ false → h.killed ≡ []
@@ -203,7 +204,7 @@ module _ (g : GeometryNumbers) (w : World) (known : IsKnown g w) (rs : List Reco
   picked_of draining next free [] e =
       let none : unheld living rs ≡ [] = sym l.list.deferred_is ∙ e in
       subst (AreMarked (turned (picked_turn [] draining s h r) a w).world) (sym (none_first living rs none))
-      (ended (Pick draining) next _ refl)
+      (ended (Pick draining) next (Ok (answers.Count draining.released)) refl)
   picked_of draining next free (d ∷ ds) e =
       pick_marked w a rs known.locks free known.order.logs l m h _ (λ ino. sym (own_killed (nothing (Pick draining) next) ino))
       d ds e there (own_picks (Snapshots (Pick draining)) next) refl

@@ -143,3 +143,4 @@ pub mod FiledCommits
 pub mod FiledSnaps
 pub mod FiledKinds
 pub mod FiledLaw
+pub mod ReleaseGrown
