@@ -144,3 +144,4 @@ pub mod FiledSnaps
 pub mod FiledKinds
 pub mod FiledLaw
 pub mod ReleaseGrown
+pub mod FiledHeld
