@@ -189,14 +189,17 @@ unset Untouched never = refl
 unset Absent never = refl
 unset (Present v) never = absurd (never refl)
 
+abbrev pub kind_at : ℕ → CellState → Option Datum
+kind_at epoch cell = value_now cell.block (log_at epoch cell) KindKey
+
+pub none_at : (epoch : ℕ) (cell : CellState) → kind_at epoch cell ≡ None → copy_at epoch cell ≡ None
+none_at epoch cell e = ap (λ (o : Option Datum). node_of_kind o (bytes_among cell.blocks) cell.block (log_at epoch cell)) e
+
 pub nothing_kept : (epoch : ℕ) (cell : CellState) → IsLog cell.chain.entries → length cell.marks ≡ part_total cell.chain.entries
-    → IsHeldAt epoch cell → keeps_nothing cell ≡ true → copy_at epoch cell ≡ None
+    → IsHeldAt epoch cell → keeps_nothing cell ≡ true → kind_at epoch cell ≡ None
 nothing_kept epoch cell is len held none = go (scan_n cell.block log KindKey) refl where
   log : List Entry
   log = log_at epoch cell
-
-  no_node : value_now cell.block log KindKey ≡ None → copy_at epoch cell ≡ None
-  no_node e = ap (λ (o : Option Datum). node_of_kind o (bytes_among cell.blocks) cell.block log) e
 
   long : part_total log ≤ length cell.marks
   long =
@@ -207,10 +210,10 @@ nothing_kept epoch cell is len held none = go (scan_n cell.block log KindKey) re
   out true e f = false≢true e
   out false e f = false≢true f
 
-  go : (o : Option ℕ) → scan_n cell.block log KindKey ≡ o → copy_at epoch cell ≡ None
+  go : (o : Option ℕ) → scan_n cell.block log KindKey ≡ o → kind_at epoch cell ≡ None
   go None q =
-      no_node (unset (last_setting cell.block log KindKey)
-      (λ some. false≢true (sym (ap (λ (o : Option ℕ). is_some o) q) ∙ some_scanned cell.block log KindKey some)))
+      unset (last_setting cell.block log KindKey)
+      (λ some. false≢true (sym (ap (λ (o : Option ℕ). is_some o) q) ∙ some_scanned cell.block log KindKey some))
   go (Some n) q =
       let low = (scan_key cell.block log KindKey n q).0 in
       let there = held n low (scanned_uncovered cell.block log KindKey n q) in

@@ -1,5 +1,5 @@
 -- What appending, publishing, retiring and releasing leave of a cell's parts at the end of an earlier epoch.
-use Rattle.std.proofs.Common.{◌≡◌, ◌≢◌, ℕ, zero, suc, ◌+◌, ◌<◌, ◌≤◌, ◌==◌, ◌&&◌, ◌++◌, ◌∙◌, Bool, true, false, cond, drop, List, [], ◌∷◌, length, nat_lt, Option, Some, None, ap, arith, refl, subst, sym, inl, inr}
+use Rattle.std.proofs.Common.{◌≡◌, ◌≢◌, ℕ, zero, suc, ◌+◌, ◌-◌, ◌<◌, ◌≤◌, ◌==◌, ◌||◌, ◌++◌, ◌∙◌, Bool, true, false, cond, if◌then◌else◌, List, [], ◌∷◌, length, nat_lt, Option, Some, None, ap, arith, refl, subst, sym, inl, inr}
 use Rattle.std.specs.List.{AllByRecursion, Contains}
 use Rattle.std.specs.Prelude.{nat_le, slice_get, slice_index_or, slice_set}
 use Rattle.std.specs.Option.{option_map}
@@ -11,19 +11,26 @@ use Rattle.nv_calls.specs.Retiring.{keeper_of, name_of, record_of, released, ret
 use Rattle.nv_cell.specs.Cell.{CellState, HasMarks, log_of, mark_or_fresh, number_in, published, with_mark, without_part}
 use Rattle.nv_cell.specs.Marks.{is_there, mark_at}
 use Rattle.nv_cell.specs.Numbers.{killed_part}
+use Rattle.nv_cell.proofs.NamedParts.{pair_first, pair_later}
 use Rattle.nv_cell.specs.declared.killed.KilledPart.{KilledPart}
 use Rattle.nv_cell.specs.declared.mark.Mark.{Mark}
 use Rattle.nv_cell.specs.declared.mark.Mark.TheVariants.{Current, Kept, Out}
 use Rattle.nv_entry.specs.Covered.{any_cover, is_covered, part_count, part_key, part_total}
-use Rattle.nv_entry.specs.Keys.{key_of, parts_of}
+use Rattle.nv_entry.specs.Keys.{Key, covers, key_of, parts_of}
 use Rattle.nv_entry.specs.Later.{AreAfter}
 use Rattle.nv_entry.specs.Log.{IsLog, first_cover, pair_of, pairs}
 use Rattle.nv_entry.specs.declared.held.Pair.{Pair}
 use Rattle.nv_entry.specs.declared.item.Entry.{Entry}
 use Rattle.nv_entry.specs.declared.part.Part.{Part}
+use Rattle.nv_entry.specs.declared.part.Part.TheVariants as part
 use Rattle.nv_epoch.specs.Holders.{holds}
 use Rattle.nv_epoch.proofs.Last.{none_passes}
 use Rattle.nv_machine.proofs.EpochLogs.{IsHeldAt, born_by, log_at, splits, up_to_within}
+
+slice_get_or : {X : Type 0} (xs : List X) (n : ℕ) (d x : X) → slice_get xs n ≡ Some x → slice_index_or xs n d ≡ x
+slice_get_or [] n d x is = cc
+slice_get_or (y ∷ xs) zero d x is = same_Some y x is
+slice_get_or (y ∷ xs) (suc n) d x is = slice_get_or xs n d x is
 
 -- ---- one mark is another
 
@@ -73,7 +80,7 @@ has_holder living epoch ino death k lives born dies none =
     true≢false (sym (and_from (nat_le k.birth epoch) (nat_lt epoch death) (le-leb k.birth epoch born) (lt-ltb epoch death dies))
     ∙ (none_passes (holds k.birth death) living none).fails epoch lives)
 
-one_held : (living : List ℕ) (epoch ino death : ℕ) (k : KilledPart) (cell : CellState) → Contains living epoch → epoch < death
+pub one_held : (living : List ℕ) (epoch ino death : ℕ) (k : KilledPart) (cell : CellState) → Contains living epoch → epoch < death
     → IsLog cell.chain.entries → killed_part cell.chain.entries (number_in cell k.part) ≡ Some k → IsHeldAt epoch cell
     → IsHeldAt epoch (retired_one living ino death k cell)
 one_held living epoch ino death k cell lives lt is part held = go (keeper_of living ino death k) refl where
@@ -103,12 +110,59 @@ retired_held living epoch ino death (k ∷ parts) cell lives lt is all held =
 -- ---- release
 
 -- a cover stands among later entries
-cover_later : (block epoch : ℕ) (log rest : List Entry) (key : _) (death : ℕ) → any_cover block log key ≡ false → AreAfter epoch rest
+any_later : (block epoch : ℕ) (rest : List Entry) (key : Key) (death : ℕ) → AreAfter epoch rest → first_cover block rest key ≡ Some death
+    → epoch < death
+any_later block epoch [] key death after is = cc
+any_later block epoch (e ∷ rest) key death after is =
+    go (covers block e.item key) is (λ q. any_later block epoch rest key death after.1 q)
+  where
+    go : (b : Bool) → (if b then Some e.epoch else first_cover block rest key) ≡ Some death
+        → (first_cover block rest key ≡ Some death → epoch < death) → epoch < death
+    go true q rec = let same = same_Some e.epoch death q in let lt = after.0 in omega (arith, lt, same)
+    go false q rec = rec q
+
+cover_later : (block epoch : ℕ) (log rest : List Entry) (key : Key) (death : ℕ) → any_cover block log key ≡ false → AreAfter epoch rest
     → first_cover block (log ++ rest) key ≡ Some death → epoch < death
-cover_later = ?
+cover_later block epoch [] rest key death none after is = any_later block epoch rest key death after is
+cover_later block epoch (e ∷ log) rest key death none after is =
+    go (covers block e.item key) none is (λ q u. cover_later block epoch log rest key death q after u)
+  where
+    go : (b : Bool) → (b || any_cover block log key) ≡ false
+        → (if b then Some e.epoch else first_cover block (log ++ rest) key) ≡ Some death
+        → (any_cover block log key ≡ false → first_cover block (log ++ rest) key ≡ Some death → epoch < death) → epoch < death
+    go true q u rec = cc
+    go false q u rec = rec q u
 
 -- a pair whose part the epoch's log has and has not covered was born by then and dies later
 pub spans : (block epoch : ℕ) (log rest : List Entry) (n death : ℕ) (pair : Pair) → AllByRecursion (λ (e : Entry). e.epoch ≤ epoch) log
     → AreAfter epoch rest → n < part_total log → is_covered block log n ≡ false → slice_get (pairs block (log ++ rest)) n ≡ Some pair
     → pair.death ≡ Some death → (pair.birth ≤ epoch) × (epoch < death)
-spans = ?
+spans block epoch [] rest n death pair all after lt unc is dies = absurd (omega (arith, lt))
+spans block epoch (e ∷ log) rest n death pair all after lt unc is dies =
+    go (nat_lt n (part_count e)) refl unc
+    (λ low q. spans block epoch log rest (n - part_count e) death pair all.1 after low q)
+  where
+    own : (p : Part) → slice_get (parts_of e.item) n ≡ Some p → slice_index_or (parts_of e.item) n part.Kind ≡ p
+        → any_cover block log (part_key e n) ≡ false → pair_of block e (log ++ rest) p ≡ pair → (pair.birth ≤ epoch) × (epoch < death)
+    own p got same none one = (
+      (let le = all.0 in let at = ap (λ (q : Pair). q.birth) one in omega (arith, le, at)),
+      cover_later block epoch log rest (key_of e.item p) death
+          (subst (λ (q : Part). any_cover block log (key_of e.item q) ≡ false) same none) after
+          (ap (λ (q : Pair). q.death) one ∙ dies),
+    )
+
+    at : (o : Option Part) → slice_get (parts_of e.item) n ≡ o → any_cover block log (part_key e n) ≡ false
+        → option_map (pair_of block e (log ++ rest)) o ≡ Some pair → (pair.birth ≤ epoch) × (epoch < death)
+    at None got none q = cc
+    at (Some p) got none q = own p got (slice_get_or (parts_of e.item) n part.Kind p got) none (same_Some _ pair q)
+
+    go : (b : Bool) → nat_lt n (part_count e) ≡ b
+        → (if b then any_cover block log (part_key e n) else is_covered block log (n - part_count e)) ≡ false
+        → (n - part_count e < part_total log → is_covered block log (n - part_count e) ≡ false
+        → slice_get (pairs block (log ++ rest)) (n - part_count e) ≡ Some pair → (pair.birth ≤ epoch) × (epoch < death))
+        → (pair.birth ≤ epoch) × (epoch < death)
+    go true q none rec =
+        at (slice_get (parts_of e.item) n) refl none (sym (pair_first block e (log ++ rest) n (ltb-true n (part_count e) q)) ∙ is)
+    go false q none rec =
+        let ge = ltb-false n (part_count e) q in
+        rec (omega (arith, lt, ge)) none (sym (pair_later block e (log ++ rest) n ge) ∙ is)

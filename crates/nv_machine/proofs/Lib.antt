@@ -134,4 +134,5 @@ pub mod SnapsAlike
 pub mod SnapRuns
 pub mod EpochLogs
 pub mod EpochSteps
+pub mod CopySteps
 pub mod Drained
