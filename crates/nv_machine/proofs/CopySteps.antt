@@ -8,7 +8,7 @@ use Rattle.std.proofs.lemmas.Option.{same_Some}
 use Rattle.nv_alloc.specs.Block.{BlockValue}
 use Rattle.nv_book.specs.declared.record.Record.{Record}
 use Rattle.nv_calls.specs.Retiring.{erased, is_erased, keeper_of, name_of, released, retired, retired_one, settled as settled_part}
-use Rattle.nv_calls.proofs.Commits.{entries_later}
+use Rattle.nv_calls.specs.Slots.{entries_of}
 use Rattle.nv_cell.specs.Cell.{CellState, empty_cell, log_of, number_in, published}
 use Rattle.nv_cell.specs.Readers.{is_gone, keeps_nothing}
 use Rattle.nv_cell.specs.declared.killed.KilledPart.{KilledPart}
@@ -18,6 +18,9 @@ use Rattle.nv_cell.proofs.Publishing.{take_whole}
 use Rattle.nv_cell.proofs.Remarking.{length_set}
 use Rattle.nv_entry.specs.Covered.{is_covered, part_total}
 use Rattle.nv_entry.specs.Keys.{KindKey}
+use Rattle.nv_entry.specs.Later.{AreAfter}
+use Rattle.nv_entry.proofs.Later.{up_to-append}
+use Rattle.nv_entry.specs.declared.item.Item.{Item}
 use Rattle.nv_entry.specs.Log.{IsLog, up_to, value_now}
 use Rattle.nv_entry.specs.declared.item.Entry.{Entry}
 use Rattle.nv_epoch.specs.SnapList.{ids}
@@ -121,10 +124,19 @@ erased_steps epoch a b f is len held = go (is_erased b) refl where
   go true e = inr (record { none = none e; empty = refl })
   go false e = inl (fewer_continues epoch a b f)
 
-append_continues : (epoch commit now place : ℕ) (entries : List Entry) (bs pages : List BlockValue) (cell : CellState)
+are_after : (epoch commit now place : ℕ) (items : List Item) → epoch < now → AreAfter epoch (entries_of commit now place items)
+are_after epoch commit now place [] lt = tt
+are_after epoch commit now place (item ∷ items) lt = (lt, are_after epoch commit now (place + 1) items lt)
+
+-- the entries of a commit of a later epoch
+pub entries_later : (epoch : ℕ) (r : Running) (ino : ℕ) (log : List Entry) → epoch < r.epoch
+    → up_to epoch (log ++ entries_for r ino) ≡ up_to epoch log
+entries_later epoch r ino log lt = up_to-append epoch log (entries_for r ino) (are_after epoch r.commit r.epoch _ _ lt)
+
+append_continues : (epoch : ℕ) (entries : List Entry) (bs pages : List BlockValue) (cell : CellState)
     → up_to epoch (cell.chain.entries ++ entries) ≡ up_to epoch cell.chain.entries
     → Continues epoch cell (with_entries entries bs (with_pages pages cell))
-append_continues epoch commit now place entries bs pages cell later =
+append_continues epoch entries bs pages cell later =
     let w = append_wider entries bs pages cell in
     record {
       block = w.block;
@@ -176,8 +188,8 @@ module _ (epoch block a : ℕ) (s : Shared) (h : HandState) (r : Running) where
   append_steps place st =
       let slot = slot_at (written_slots r) place in
       set_steps slot _ (lent_inside (Append place) a s r st.before slot refl)
-      (inl (append_continues epoch r.commit r.epoch place (entries_for r slot) h.blocks _ (cell_at s slot)
-      (entries_later epoch r.commit r.epoch _ _ (cell_at s slot).chain.entries (st.later refl))))
+      (inl (append_continues epoch (entries_for r slot) h.blocks _ (cell_at s slot)
+      (entries_later epoch r slot (cell_at s slot).chain.entries (st.later refl))))
 
   publish_steps : (place : ℕ) → Stands epoch (Publish place) a s h r → (ino : ℕ)
       → StepsTo epoch (cell_at s ino) (cell_at (deed (Publish place) block a s h r).shared ino)

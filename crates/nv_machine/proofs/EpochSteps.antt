@@ -140,7 +140,7 @@ pub spans : (block epoch : ℕ) (log rest : List Entry) (n death : ℕ) (pair : 
 spans block epoch [] rest n death pair all after lt unc is dies = absurd (omega (arith, lt))
 spans block epoch (e ∷ log) rest n death pair all after lt unc is dies =
     go (nat_lt n (part_count e)) refl unc
-    (λ low q. spans block epoch log rest (n - part_count e) death pair all.1 after low q)
+    (λ low q u. spans block epoch log rest (n - part_count e) death pair all.1 after low q u dies)
   where
     own : (p : Part) → slice_get (parts_of e.item) n ≡ Some p → slice_index_or (parts_of e.item) n part.Kind ≡ p
         → any_cover block log (part_key e n) ≡ false → pair_of block e (log ++ rest) p ≡ pair → (pair.birth ≤ epoch) × (epoch < death)

@@ -135,4 +135,5 @@ pub mod SnapRuns
 pub mod EpochLogs
 pub mod EpochSteps
 pub mod CopySteps
+pub mod CopyRuns
 pub mod Drained
