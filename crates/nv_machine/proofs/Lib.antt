@@ -136,4 +136,6 @@ pub mod EpochLogs
 pub mod EpochSteps
 pub mod CopySteps
 pub mod CopyRuns
+pub mod CopyMade
+pub mod CopiesKept
 pub mod Drained

@@ -146,7 +146,7 @@ Lives l n = IsSome (pins_of l n)
 abbrev pub AreBefore : Living → Type 0
 AreBefore l = (n : ℕ) → Lives l n → n < l.epoch
 
-lived : (l : Living) (n other : ℕ) (change : ℕ → ℕ) → IsSome (pins_at (with_pins l.living other change) n) → Lives l n
+pub lived : (l : Living) (n other : ℕ) (change : ℕ → ℕ) → IsSome (pins_at (with_pins l.living other change) n) → Lives l n
 lived l n other change is = go (other == n) refl where
   had : (pins : Option ℕ) → IsSome (option_map change pins) → IsSome pins
   had None some = cc
@@ -160,7 +160,7 @@ lived l n other change is = go (other == n) refl where
       (subst (λ (m : ℕ). IsSome (pins_at (with_pins l.living other change) m)) (sym same) is)))
   go false e = subst IsSome (pins_at-unchanged l.living other change n (λ same. eqb-false other n e (sym same))) is
 
-lived_then : (l : Living) (n other : ℕ) → IsSome (pins_at (living_without l.living other) n) → Lives l n
+pub lived_then : (l : Living) (n other : ℕ) → IsSome (pins_at (living_without l.living other) n) → Lives l n
 lived_then l n other is = go (other == n) refl where
   go : (b : Bool) → (other == n) ≡ b → Lives l n
   go true e =
