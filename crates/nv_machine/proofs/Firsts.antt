@@ -84,7 +84,7 @@ quiet_plain Back e = tt
 quiet_plain other e = cc
 
 last_plain : (e : Ending) (s : Shared) (h : HandState) (r : Running) → OnPlain (last_turn e s h r)
-last_plain e s h r = last_any OnPlain tt (λ result s h. tt) (λ s h q is. quiet_plain q.next is) e s h r
+last_plain e s h r = last_any OnPlain tt (λ result s h. tt) (λ s h q is fair. quiet_plain q.next is) e s h r
 
 rest_plain : (home number : Option ℕ) (s : Shared) (h : HandState) (r : Running) → OnPlain (rest_turn home number s h r)
 rest_plain (Some cpu) number s h r = tt
@@ -200,7 +200,7 @@ plain (Give cpu) block actor granted s h r e = rest_plain _ h.ino _ _ r
 plain Back block actor granted s h r e = back_plain h.ino s h r
 plain Visit block actor granted s h r e = visit_plain _ _ _ _ s h r
 plain (Snapshots step) block actor granted s h r e =
-    snapshot_any OnPlain tt (λ result s h. tt) (λ s h q is. quiet_plain q.next is) step actor granted s h r
+    snapshot_any OnPlain tt (λ result s h. tt) (λ s h q is fair. quiet_plain q.next is) step actor granted s h r
 plain other block actor granted s h r e = cc
 
 abbrev pub leads_to_takings : Next → Bool

@@ -31,12 +31,12 @@ module _ (block : ℕ) where
   quiet_fits other t h q e = cc
 
   last_fits : (e : Ending) (s : Shared) (h : HandState) (r : Running) → OnFits block (last_turn e s h r)
-  last_fits e s h r = last_any (OnFits block) tt (λ result s h. tt) (λ s h q is. quiet_fits q.next s h q is) e s h r
+  last_fits e s h r = last_any (OnFits block) tt (λ result s h. tt) (λ s h q is fair. quiet_fits q.next s h q is) e s h r
 
   pub snapshot_fits : (step : SnapshotStep) (actor : ℕ) (granted : Bool) (s : Shared) (h : HandState) (r : Running)
       → OnFits block (snapshot_turn step actor granted s h r)
   snapshot_fits step actor granted s h r =
-      snapshot_any (OnFits block) tt (λ result s h. tt) (λ s h q is. quiet_fits q.next s h q is) step actor granted s h r
+      snapshot_any (OnFits block) tt (λ result s h. tt) (λ s h q is fair. quiet_fits q.next s h q is) step actor granted s h r
 
   pub rest_fits : (home number : Option ℕ) (s : Shared) (h : HandState) (r : Running) → OnFits block (rest_turn home number s h r)
   rest_fits (Some home) number s h r = tt

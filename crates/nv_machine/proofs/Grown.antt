@@ -14,7 +14,7 @@ pub record CellsLeft (a : ℕ) (s t : Shared) : Type 0 where
   pub cells : (ino : ℕ) → owner_at s ino ≢ Some a → cell_at t ino ≡ cell_at s ino
   pub logs : (ino : ℕ) → owner_at s ino ≢ Some a → settled t ino ≡ settled s ino
 
-abbrev AllFree : Shared → Type 0
+abbrev pub AllFree : Shared → Type 0
 AllFree s = (ino : ℕ) → owner_at s ino ≡ None → IsAllSettled s ino
 
 abbrev pub OnGrown : ℕ → Shared → Turn → Type 0

@@ -21,9 +21,11 @@ use Rattle.nv_calls.proofs.FillPages.{filled_numbers}
 use Rattle.nv_calls.specs.FillPages.{fresh_pages}
 use Rattle.nv_machine.specs.Reads.{copies, plan_by, slots_of, taken_by}
 use Rattle.nv_machine.specs.Sequence.{directories, locking}
-use Rattle.nv_machine.specs.World.{Answers, Ending, Ends, HandState, Lock, Look, Check, Moves, Overtaken, Refuses, Running, Shared, Turn, Waits, go_to, list_at, Drains}
+use Rattle.nv_machine.specs.World.{Answers, Ending, Ends, HandState, Lock, Look, Check, Moves, Overtaken, Refuses, Running, Shared, Turn, Waits, go_to, list_at, Drains, Snapshots, SnapshotStep, Next, Unlock, Give, Back}
 use Rattle.nv_machine.proofs.CommitKept.{knows_appending}
 use Rattle.nv_machine.proofs.Planned.{length_numbers, plan_fits, runs_are, small_numbers}
+use Rattle.nv_machine.specs.Snapshots.{snapshot_turn}
+use Rattle.nv_machine.proofs.SnapshotTurns.{is_fair, is_quiet, snapshot_any}
 
 abbrev pub OnKnows : ℕ → ℕ → Turn → Type 0
 OnKnows block cpu (Moves t h q) = Knows q.next block t cpu h q
@@ -202,6 +204,23 @@ module _ (block cpu : ℕ) where
   visit_knows (Some other) tests granted found s h r = tt
   visit_knows None (Err fault) granted found s h r = refuse_knows fault s h r
   visit_knows None (Ok passed) granted found s h r = grown_knows granted _ s h r tt
+
+-- a call on snapshots knows nothing
+quiet_knows : (block cpu : ℕ) (next : Next) (t : Shared) (h : HandState) (q : Running) → is_quiet next ≡ true
+    → is_fair next q.ending ≡ true → Knows next block t cpu h q
+quiet_knows block cpu (Snapshots step) t h q e fair = tt
+quiet_knows block cpu (Unlock place) t h q e fair = λ is. absurd (unfair q.ending is fair) where
+  unfair : (ending : Ending) → ending ≡ Overtaken → is_fair (Unlock place) ending ≡ true → ⊥
+  unfair ending is e = false≢true (sym (ap (is_fair (Unlock place)) is) ∙ e)
+quiet_knows block cpu (Give home) t h q e fair = tt
+quiet_knows block cpu Back t h q e fair = tt
+quiet_knows block cpu other t h q e fair = cc
+
+pub snapshot_knows : (block cpu : ℕ) (step : SnapshotStep) (actor : ℕ) (granted : Bool) (s : Shared) (h : HandState) (r : Running)
+    → OnKnows block cpu (snapshot_turn step actor granted s h r)
+snapshot_knows block cpu step actor granted s h r =
+    snapshot_any (OnKnows block cpu) tt (λ result s h. tt) (λ s h q is fair. quiet_knows block cpu q.next s h q is fair)
+    step actor granted s h r
 
 -- ---- a call that passes its check
 

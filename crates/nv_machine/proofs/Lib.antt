@@ -33,6 +33,7 @@ pub mod CellPages
 pub mod CellSteps
 pub mod Journals
 pub mod LogsKept
+pub mod ReleaseKept
 pub mod Written
 pub mod CommitKept
 pub mod Planned
