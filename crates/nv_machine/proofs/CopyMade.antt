@@ -138,11 +138,12 @@ make_copies w e made epoch handle =
 
 -- ---- the nodes at the end of this epoch are those of now
 
-all_up : (epoch : ℕ) (log : List Entry) → AllByRecursion (λ (e : Entry). (e.id.commit < _) × (e.epoch ≤ epoch)) log → up_to epoch log ≡ log
-all_up epoch [] all = refl
-all_up epoch (e ∷ log) all =
+all_up : (commit epoch : ℕ) (log : List Entry) → AllByRecursion (λ (e : Entry). (e.id.commit < commit) × (e.epoch ≤ epoch)) log
+    → up_to epoch log ≡ log
+all_up commit epoch [] all = refl
+all_up commit epoch (e ∷ log) all =
     ap (λ (b : Bool). cond b (e ∷ up_to epoch log) (up_to epoch log)) (le-leb e.epoch epoch all.0.1)
-    ∙ ap (λ (l : List Entry). e ∷ l) (all_up epoch log all.1)
+    ∙ ap (λ (l : List Entry). e ∷ l) (all_up commit epoch log all.1)
 
 all_front : (P : Entry → Type 0) (n : ℕ) (log : List Entry) → AllByRecursion P log → AllByRecursion P (take n log)
 all_front P zero [] all = tt
@@ -164,7 +165,7 @@ copies_now s ordered handle = go (handle.generation == cell.generation) where
   log = settled s handle.ino
 
   all : up_to s.book.snaps.epoch log ≡ log
-  all = all_up s.book.snaps.epoch log
+  all = all_up (s.book.commit + 1) s.book.snaps.epoch log
       (all_front (λ (e : Entry). (e.id.commit < s.book.commit + 1) × (e.epoch ≤ s.book.snaps.epoch))
       (settled_tail s.book.journals handle.ino cell.chain.tail) cell.chain.entries (ordered handle.ino).earlier)
 

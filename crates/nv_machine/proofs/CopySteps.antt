@@ -187,8 +187,10 @@ module _ (epoch block a : ℕ) (s : Shared) (h : HandState) (r : Running) where
       → StepsTo epoch (cell_at s ino) (cell_at (deed (Append place) block a s h r).shared ino)
   append_steps place st =
       let slot = slot_at (written_slots r) place in
-      set_steps slot _ (lent_inside (Append place) a s r st.before slot refl)
-      (inl (append_continues epoch (entries_for r slot) h.blocks _ (cell_at s slot)
+      let pages = take (pages_needed s r.plan slot) h.pages in
+      set_steps slot (with_entries (entries_for r slot) h.blocks (with_pages pages (cell_at s slot)))
+      (lent_inside (Append place) a s r st.before slot refl)
+      (inl (append_continues epoch (entries_for r slot) h.blocks pages (cell_at s slot)
       (entries_later epoch r slot (cell_at s slot).chain.entries (st.later refl))))
 
   publish_steps : (place : ℕ) → Stands epoch (Publish place) a s h r → (ino : ℕ)

@@ -139,4 +139,6 @@ pub mod CopySteps
 pub mod CopyRuns
 pub mod CopyMade
 pub mod CopiesKept
+pub mod CopiesAll
+pub mod WalkBounds
 pub mod Drained
