@@ -5,7 +5,7 @@ use Rattle.nv_base.specs.Limits.{IsWithinLimits}
 use Rattle.nv_base.specs.declared.geometry.GeometryNumbers.{GeometryNumbers}
 use Rattle.nv_base.specs.declared.numbers.Handle.{Handle}
 use Rattle.nv_calls.specs.Plain.{node_in}
-use Rattle.nv_entry.specs.Tree.{FormTree}
+use Rattle.nv_entry.specs.Tree.{FormTree, root}
 use Rattle.nv_epoch.specs.SnapList.{ids}
 use Rattle.nv_machine.specs.Format.{formatted}
 use Rattle.nv_machine.specs.PlainRun.{Plain, plain_after, plain_of, plain_step}
@@ -15,6 +15,7 @@ use Rattle.nv_machine.specs.Step.{after, step}
 use Rattle.nv_machine.specs.World.{Event, World}
 use Rattle.nv_machine.proofs.CopiesKept.{IsWhole, ReadsAs, copied, event_alike, whole}
 use Rattle.nv_machine.proofs.CopyRuns.{HaveMarks, IsReadable, cells_stay}
+use Rattle.nv_machine.proofs.DirectoriesChanged.{some_directory}
 use Rattle.nv_machine.proofs.DirectoryLaws.{all_numbered, all_trees}
 use Rattle.nv_machine.proofs.FitsPlain.{plain_nodes}
 use Rattle.nv_machine.proofs.MarkedRuns.{all_parts}
@@ -73,6 +74,7 @@ module _ (g : GeometryNumbers) (within : IsWithinLimits g) (marks : (events : Li
     nodes = λ handle. plain_nodes g events within handle;
     now = record {
       tree = subst (FormTree (node_in (settled_nodes (at events).shared))) (events_cells events (formatted g)) (all_numbered g events within);
+      top = some_directory (node_in (settled_nodes (at events).shared) root) (all_trees g events within).one_name.top;
       leads = (all_trees g events within).one_name.leads;
     };
   }

@@ -6,7 +6,7 @@ use Rattle.nv_base.specs.Limits.{IsWithinLimits}
 use Rattle.nv_base.specs.declared.geometry.GeometryNumbers.{GeometryNumbers}
 use Rattle.nv_base.specs.declared.numbers.Handle.{Handle}
 use Rattle.nv_calls.specs.Plain.{PlainNode, node_in}
-use Rattle.nv_entry.specs.Tree.{FormTree}
+use Rattle.nv_entry.specs.Tree.{FormTree, root}
 use Rattle.nv_entry.specs.declared.names.BoundName.{BoundName}
 use Rattle.nv_entry.specs.declared.node.NodeCopy.{NodeCopy}
 use Rattle.nv_epoch.specs.SnapList.{Snapshots as Living, ids, numbers, pins_of}
@@ -41,9 +41,10 @@ deed_lives (OnSnapshots (Release draining picked)) l n e is = is
 
 -- ---- copies
 
--- the directories of a copy form a tree, and its names lead to nodes
+-- the directories of a copy form a tree, it has the root, and its names lead to nodes
 pub record IsWhole (inodes : ℕ) (nodes : Handle → Option NodeCopy) : Type 0 where
   pub tree : FormTree nodes inodes
+  pub top : IsSome (nodes root)
   pub leads : (dir : Handle) (bound : BoundName) → HasName nodes dir bound → IsSome (nodes bound.to)
 
 -- a snapshot reads as these nodes

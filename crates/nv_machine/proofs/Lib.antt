@@ -141,4 +141,5 @@ pub mod CopyMade
 pub mod CopiesKept
 pub mod CopiesAll
 pub mod WalkBounds
+pub mod Showing
 pub mod Drained

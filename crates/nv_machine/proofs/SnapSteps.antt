@@ -150,11 +150,11 @@ abbrev pub IsBare : Next → HandState → Running → Type 0
 IsBare (Snapshots step) h r = (h ≡ empty_hand) × (r.slots ≡ slots_on step)
 IsBare other h r = Unit {0}
 
-number_same : (numbers : List ℕ) (s : Shared) (h : HandState) → (number_deed numbers s h).shared.book.snaps ≡ s.book.snaps
+pub number_same : (numbers : List ℕ) (s : Shared) (h : HandState) → (number_deed numbers s h).shared.book.snaps ≡ s.book.snaps
 number_same [] s h = refl
 number_same (ino ∷ numbers) s h = refl
 
-back_same : (number : Option ℕ) (s : Shared) (h : HandState) → (back_deed number s h).shared.book.snaps ≡ s.book.snaps
+pub back_same : (number : Option ℕ) (s : Shared) (h : HandState) → (back_deed number s h).shared.book.snaps ≡ s.book.snaps
 back_same None s h = refl
 back_same (Some ino) s h = refl
 

@@ -1,16 +1,17 @@
 -- Where every name leads to a node, a walk makes as many visits as it gives out nodes; so a tree of so many inodes has no more.
 use Rattle.std.proofs.Common.{◌≡◌, ℕ, zero, suc, ◌+◌, ◌≤◌, ◌∙◌, List, [], ◌∷◌, length, Option, Some, None, IsSome, ap, arith, refl, subst, sym}
 use Rattle.std.specs.List.{Contains, flat_map, sum_by}
-use Rattle.std.proofs.lemmas.List.{append-nil, length-append}
+use Rattle.std.proofs.lemmas.List.{length-append}
 use Rattle.std.proofs.lemmas.List.Concat.{flat_map-cons}
 use Rattle.std.proofs.lemmas.List.Sums.{sum_by-cons}
 use Rattle.nv_base.specs.declared.numbers.Handle.{Handle}
-use Rattle.nv_entry.specs.Tree.{FormTree, names_of_node, names_under, path_below, root, tree_from}
+use Rattle.nv_entry.specs.Tree.{FormTree, names_of_node, node_and_below, names_under, path_below, root, tree_from}
 use Rattle.nv_entry.specs.declared.names.BoundName.{BoundName}
 use Rattle.nv_entry.specs.declared.node.NodeCopy.{NodeCopy}
 use Rattle.nv_entry.specs.declared.tree.TreeNode.{TreeNode}
 use Rattle.nv_machine.specs.Directories.{HasName}
-use Rattle.nv_reader.specs.Walk.{Visit, root_visit, visit_count, visits_to_come}
+use Rattle.nv_reader.specs.Walk.{root_visit, visit_count, visits_to_come}
+use Rattle.nv_reader.proofs.Counted.{visits_of_root}
 use Rattle.nv_reader.proofs.Elements.{contains_first, contains_later}
 use Rattle.nv_reader.proofs.Worlds.{nodes_within}
 
@@ -35,13 +36,21 @@ module _ (nodes : Handle → Option NodeCopy)
   visits_few : (depth : ℕ) (path : List (List ℕ)) (handle : Handle) → IsSome (nodes handle)
       → visit_count nodes depth handle ≤ length (tree_from nodes depth path handle)
   visits_few zero path handle some = omega arith
-  visits_few (suc depth) path handle some = go (nodes handle) refl where
-    go : (o : Option NodeCopy) → nodes handle ≡ o → visit_count nodes (suc depth) handle ≤ length (tree_from nodes (suc depth) path handle)
-    go None q = absurd (let none = subst IsSome q some in no none) where
-      no : IsSome {T = NodeCopy} None → ⊥
-      no none = cc
-    go (Some node) q = ?
+  visits_few (suc depth) path handle some =
+      go (nodes handle) refl some (λ bound at. visits_few depth (path_below path bound.name) bound.to (leads handle bound at))
+    where
+      go : (o : Option NodeCopy) → nodes handle ≡ o → IsSome o
+          → ((bound : BoundName) → Contains (names_under nodes handle) bound
+          → visit_count nodes depth bound.to ≤ length (tree_from nodes depth (path_below path bound.name) bound.to))
+          → sum_by (λ (bound : BoundName). visit_count nodes depth bound.to) (names_of_node o) + 1
+          ≤ length (node_and_below o path (λ bound. tree_from nodes depth (path_below path bound.name) bound.to))
+      go None q there each = cc
+      go (Some node) q there each =
+          let few = names_few depth path node.names
+          (λ bound at. each bound (subst (λ (o : Option NodeCopy). Contains (names_of_node o) bound) (sym q) at)) in
+          omega (arith, few)
 
   -- from the root on
   pub root_few : (inodes depth : ℕ) → FormTree nodes inodes → IsSome (nodes root) → visits_to_come nodes (root_visit depth root) ≤ inodes
-  root_few inodes depth tree some = ?
+  root_few inodes depth tree some =
+      omega (arith, visits_of_root nodes depth root, visits_few depth [] root some, nodes_within nodes inodes depth tree)
