@@ -1,5 +1,5 @@
 -- The copies of the living snapshots, in every world that events lead to.
-use Rattle.std.proofs.Common.{◌≡◌, ℕ, ◌∙◌, List, [], ◌∷◌, length, refl, subst, sym}
+use Rattle.std.proofs.Common.{◌≡◌, ℕ, ◌++◌, ◌∙◌, List, [], ◌∷◌, length, refl, subst, sym}
 use Rattle.std.specs.List.{Contains}
 use Rattle.nv_base.specs.Limits.{IsWithinLimits}
 use Rattle.nv_base.specs.declared.geometry.GeometryNumbers.{GeometryNumbers}
@@ -13,7 +13,7 @@ use Rattle.nv_machine.specs.Reading.{AreCopied}
 use Rattle.nv_machine.specs.Settled.{settled_copies, settled_nodes}
 use Rattle.nv_machine.specs.Step.{after, step}
 use Rattle.nv_machine.specs.World.{Event, World}
-use Rattle.nv_machine.proofs.CopiesKept.{IsWhole, ReadsAs, copied, event_alike, whole}
+use Rattle.nv_machine.proofs.CopiesKept.{IsWhole, ReadsAs, copied, event_alike, stays, whole}
 use Rattle.nv_machine.proofs.CopyRuns.{HaveMarks, IsReadable, cells_stay}
 use Rattle.nv_machine.proofs.DirectoriesChanged.{some_directory}
 use Rattle.nv_machine.proofs.DirectoryLaws.{all_numbered, all_trees}
@@ -27,6 +27,10 @@ use Rattle.nv_machine.proofs.SnapsAlike.{AreAlike}
 pub events_cells : (events : List Event) (w : World) → length (after w events).shared.cells ≡ length w.shared.cells
 events_cells [] w = refl
 events_cells (e ∷ events) w = events_cells events (step w e).world ∙ cells_stay w e
+
+pub after_one : (events : List Event) (w : World) (e : Event) → (step (after w events) e).world ≡ after w (events ++ e ∷ [])
+after_one [] w e = refl
+after_one (x ∷ events) w e = after_one events (step w x).world e
 
 -- what is known of a world beside the plain world
 pub record IsRead (g : GeometryNumbers) (inodes : ℕ) (w : World) (p : Plain) : Type 0 where
@@ -95,3 +99,10 @@ module _ (g : GeometryNumbers) (within : IsWithinLimits g) (marks : (events : Li
   pub all_form_trees : (events : List Event) (snapshot : ℕ) → Contains (ids (at events).shared.book.snaps) snapshot
       → FormTree (settled_copies (at events).shared snapshot) (length (at events).shared.cells)
   all_form_trees events snapshot lives = (all_whole events snapshot lives).tree
+
+  pub all_stay : (events : List Event) (e : Event) (n : ℕ) → Contains (ids (step (at events) e).world.shared.book.snaps) n
+      → (handle : Handle) → settled_copies (step (at events) e).world.shared n handle ≡ settled_copies (at events).shared n handle
+  all_stay events e =
+      stays g (at events) e (readable events)
+      (subst (IsReadable g) (sym (after_one events (formatted g) e)) (readable (events ++ e ∷ [])))
+      (all_bare g events within)

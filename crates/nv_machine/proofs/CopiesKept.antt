@@ -97,6 +97,21 @@ module _ (inodes : ℕ) (s : Shared) where
 
 -- ---- one event
 
+pub stays : (g : GeometryNumbers) (w : World) (e : Event) → IsReadable g w → IsReadable g (step w e).world → AreBare w → (n : ℕ)
+    → Contains (ids (step w e).world.shared.book.snaps) n → (handle : Handle)
+    → settled_copies (step w e).world.shared n handle ≡ settled_copies w.shared n handle
+stays g w e a b bare n lives handle = go (is_make (deed_of w e)) refl where
+  v : Shared
+  v = (step w e).world.shared
+
+  go : (c : Bool) → is_make (deed_of w e) ≡ c → settled_copies v n handle ≡ settled_copies w.shared n handle
+  go true make = make_copies w e make n handle
+  go false other =
+      event_copies g w e a b n
+      (lives-from_pins w.shared.book.snaps.living n
+      (deed_lives (deed_of w e) w.shared.book.snaps n other
+      (subst (λ (l : Living). Lives l n) (event_snaps w e bare) (pins_at-lives v.book.snaps.living n lives)))) lives handle
+
 module _ (g : GeometryNumbers) (inodes : ℕ) (w : World) (e : Event) (a : IsReadable g w) (b : IsReadable g (step w e).world)
     (bare : AreBare w) (p : Plain) (epoch : w.shared.book.snaps.epoch ≡ p.epoch)
     (nodes : (handle : Handle) → settled_nodes w.shared handle ≡ p.nodes handle) (now : IsWhole inodes (node_in (settled_nodes w.shared)))
@@ -115,18 +130,7 @@ module _ (g : GeometryNumbers) (inodes : ℕ) (w : World) (e : Event) (a : IsRea
   before = subst (λ (l : Living). AreAlike (ReadsAs inodes w.shared) l.living (plain_step w e p).copies) (sym (event_snaps w e bare))
       (deed_alike (ReadsAs inodes w.shared) (deed_of w e) _ w.shared.book.snaps p epoch (λ is. made) are)
 
-  stays : (n : ℕ) → Contains (numbers v.book.snaps.living) n → (handle : Handle)
-      → settled_copies v n handle ≡ settled_copies w.shared n handle
-  stays n lives handle = go (is_make (deed_of w e)) refl where
-    go : (c : Bool) → is_make (deed_of w e) ≡ c → settled_copies v n handle ≡ settled_copies w.shared n handle
-    go true make = make_copies w e make n handle
-    go false other =
-        event_copies g w e a b n
-        (lives-from_pins w.shared.book.snaps.living n
-        (deed_lives (deed_of w e) w.shared.book.snaps n other
-        (subst (λ (l : Living). Lives l n) (event_snaps w e bare) (pins_at-lives v.book.snaps.living n lives)))) lives handle
-
   pub event_alike : AreAlike (ReadsAs inodes v) v.book.snaps.living (plain_step w e p).copies
   event_alike =
       others (ReadsAs inodes w.shared) (ReadsAs inodes v) v.book.snaps.living (plain_step w e p).copies
-      (λ n lives f reads. ((λ handle. stays n lives handle ∙ reads.0 handle), reads.1)) before
+      (λ n lives f reads. ((λ handle. stays g w e a b bare n lives handle ∙ reads.0 handle), reads.1)) before

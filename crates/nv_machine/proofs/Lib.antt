@@ -135,6 +135,7 @@ pub mod SnapsAlike
 pub mod SnapRuns
 pub mod EpochLogs
 pub mod EpochSteps
+pub mod ReleaseGrown
 pub mod CopySteps
 pub mod CopyRuns
 pub mod CopyMade
@@ -142,4 +143,6 @@ pub mod CopiesKept
 pub mod CopiesAll
 pub mod WalkBounds
 pub mod Showing
+pub mod ShowRuns
+pub mod ShowAll
 pub mod Drained

@@ -65,7 +65,7 @@ module _ (snapshot : ℕ) where
   first_none (on.Show other) = refl
   first_none (on.Drain count) = refl
 
-  begun_none : (c : Call) (s : Shared) → pins_at snapshot (begun (beginning c) s c).next ≡ false
+  pub begun_none : (c : Call) (s : Shared) → pins_at snapshot (begun (beginning c) s c).next ≡ false
   begun_none (call.Create dir name mode) s = refl
   begun_none (call.Mkdir dir name mode) s = refl
   begun_none (call.Write file offset text) s = locking_none snapshot 0 _
