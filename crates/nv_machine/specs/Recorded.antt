@@ -1,5 +1,5 @@
 -- Records: which there are after a run, which parts they are of, and which pairs they tell a snapshot to hold.
-use Rattle.std.specs.Prelude.{◌≡◌, ℕ, ◌==◌, ◌&&◌, ◌++◌, Bool, true, false, List, [], ◌∷◌, filter, length, map, Option, Some, None, slice_get}
+use Rattle.std.specs.Prelude.{◌≡◌, ℕ, ◌&&◌, ◌++◌, Bool, true, false, List, [], ◌∷◌, filter, length, map, Option, Some, None, slice_get}
 use Rattle.std.specs.List.{flat_map, list_any}
 use Rattle.std.specs.Option.{option_map}
 use Rattle.nv_book.specs.Listed.{all_records, with_moved, with_retired, without_first}
@@ -9,6 +9,7 @@ use Rattle.nv_calls.specs.Retiring.{name_of, record_of}
 use Rattle.nv_cell.specs.Cell.{CellState, log_of}
 use Rattle.nv_cell.specs.Marks.{bit, mark_at}
 use Rattle.nv_cell.specs.Named.{number_named}
+use Rattle.nv_cell.specs.Numbers.{is_number}
 use Rattle.nv_cell.specs.declared.killed.KilledPart.{KilledPart}
 use Rattle.nv_cell.specs.declared.mark.Mark.{Mark}
 use Rattle.nv_cell.specs.declared.mark.Mark.TheVariants.{Current, Kept, Killed, Out}
@@ -65,10 +66,7 @@ recorded_in w = all_records w.shared.book.manifests ++ pending_in w
 
 -- how often the part n of a slot is recorded
 abbrev pub is_record_of : CellState → ℕ → ℕ → Record → Bool
-is_record_of cell ino n d = is_of_slot ino d && is_number n (number_named (log_of cell) (name_of d)) where
-  is_number : ℕ → Option ℕ → Bool
-  is_number n None = false
-  is_number n (Some m) = m == n
+is_record_of cell ino n d = is_of_slot ino d && is_number (number_named (log_of cell) (name_of d)) n
 
 abbrev pub times_recorded : World → ℕ → ℕ → ℕ
 times_recorded w ino n = length (filter (is_record_of (cell_at w.shared ino) ino n) (recorded_in w))
