@@ -1,5 +1,5 @@
 -- The first place of a byte among many.
-use Rattle.std.proofs.Common.{◌≡◌, ◌≢◌, ◌<◌, ◌+◌, ◌-◌, ◌==◌, ◌++◌, not, ℕ, Bool, Option, Some, None, unwrap_or, true, false, cond, List, [], ◌∷◌, length, take, drop, map, get_or, suc, refl, sym, subst, ap, append_assoc, ◌∙◌, arith}
+use Rattle.std.proofs.Common.{◌≡◌, ◌≢◌, ◌+◌, ◌-◌, ◌==◌, ◌++◌, not, ℕ, Bool, Option, Some, None, unwrap_or, true, false, cond, List, [], ◌∷◌, length, take, drop, map, get_or, suc, refl, sym, subst, ap, append_assoc, ◌∙◌, arith}
 use Rattle.std.specs.List.{position_or_len}
 use Rattle.std.proofs.lemmas.Bool.{false_from_ne_true}
 use Rattle.std.proofs.lemmas.Bool.Decides.{nat_tests}

@@ -1,5 +1,5 @@
 -- The bytes of one piece, of which none is odd: all are plain then.
-use Rattle.std.proofs.Common.{◌≡◌, ◌==◌, ◌||◌, ◌&&◌, ◌+◌, ◌*◌, ◌≤◌, ◌%◌, ◌^◌, ℕ, zero, suc, not, Bool, true, false, cond, nat_le, nat_lt, List, [], ◌∷◌, length, take, drop, map, replicate, bit_or, refl, sym, ap, ap₂, ◌∙◌, arith}
+use Rattle.std.proofs.Common.{◌≡◌, ◌==◌, ◌||◌, ◌&&◌, ◌+◌, ◌*◌, ◌≤◌, ◌%◌, ◌^◌, ℕ, zero, suc, Bool, true, false, cond, nat_lt, List, [], ◌∷◌, length, take, drop, map, replicate, bit_or, refl, sym, ap, ap₂, ◌∙◌, arith}
 use Rattle.std.specs.Bool.{OnTrue}
 use Rattle.std.specs.List.{list_all}
 use Rattle.std.proofs.lemmas.Bool.{eqb-true}

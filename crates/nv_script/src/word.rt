@@ -174,7 +174,11 @@ fn push_plain<'a>(out: &mut Vec<u8>, bytes: &'a [u8]) -> Result<&'a [u8], AllocE
         ≡ unescaped_behind out.old.items bytes.now) }
     ensures shorter { IfOk result (λ rest. length rest.now ≤ length bytes.now) }
 {
-    let (plain, rest) = bytes.split_at(plain_count(bytes));
+    let count = plain_count(bytes);
+    if count == 0 {
+        return Ok(bytes);
+    }
+    let (plain, rest) = bytes.split_at(count);
     out.extend_from_slice(plain)?;
     Ok(rest)
 }
@@ -215,10 +219,11 @@ fn push_byte(out: &mut Vec<u8>, byte: u8) -> Result<(), AllocError>
     ensures { OnOk result (out.new.items ≡ out.old.items ++ escaped_byte byte) }
 {
     if is_plain(byte) {
-        Ok(out.push(byte)?)
-    } else {
-        out.extend_from_slice(&[ESCAPE, hex_digit(byte / 16), hex_digit(byte % 16)])
+        return Ok(out.push(byte)?);
     }
+    out.push(ESCAPE)?;
+    out.push(hex_digit(byte / 16))?;
+    Ok(out.push(hex_digit(byte % 16))?)
 }
 
 /// Adds bytes as they are printed. Plain ones are copied together.
