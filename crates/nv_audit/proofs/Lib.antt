@@ -8,3 +8,4 @@ pub mod Loops
 pub mod States
 pub mod Differs
 pub mod Marks
+pub mod PartBlocks
