@@ -9,3 +9,4 @@ pub mod States
 pub mod Differs
 pub mod Marks
 pub mod PartBlocks
+pub mod Devices

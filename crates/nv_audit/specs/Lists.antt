@@ -61,6 +61,9 @@ had_of block = numbers_of (option_to_list block)
 abbrev pub blocks_had : CellState → List ℕ
 blocks_had cell = flat_map had_of cell.blocks
 
+abbrev pub blocks_of_cell : CellState → List ℕ
+blocks_of_cell cell = numbers_of cell.chain.blocks ++ blocks_had cell
+
 -- the same of all inodes from one on, where calls have some parts in their hands
 abbrev pub used_from : List ℕ → List Record → List InodePart → ℕ → List CellState → List ℕ
 used_from snapshots deferred in_hands ino [] = []

@@ -5,13 +5,17 @@ use Rattle.nv_base.specs.declared.fault.Fault.TheVariants.{Mismatch}
 use Rattle.nv_base.specs.declared.fault.MismatchPart.{MismatchPart}
 use Rattle.nv_base.specs.declared.fault.MismatchPart.TheVariants.{Index, Names, Counts, Records, Lists}
 use Rattle.nv_base.specs.declared.geometry.GeometryNumbers.{GeometryNumbers}
+use Rattle.nv_alloc.specs.Block.{numbers_of}
 use Rattle.nv_alloc.specs.FreeList.{FreeBlocks}
+use Rattle.nv_alloc.specs.Numbers.{has, unused}
+use Rattle.nv_base.specs.Homes.{home_start}
 use Rattle.nv_book.specs.Book.{BookState}
 use Rattle.nv_book.specs.declared.record.Record.{Record}
-use Rattle.nv_cell.specs.Cell.{CellState}
+use Rattle.nv_cell.specs.Cell.{CellState, IsCell}
+use Rattle.nv_cell.specs.Retained.{AreMarksOf}
 use Rattle.nv_epoch.specs.SnapList.{ids}
 use Rattle.nv_audit.specs.Counts.{AreCounted}
-use Rattle.nv_audit.specs.Lists.{AreFree, used_of}
+use Rattle.nv_audit.specs.Lists.{AreFree, no_list, used_of}
 use Rattle.nv_audit.specs.Pending.{retention_by}
 use Rattle.nv_audit.specs.Records.{AreRecorded}
 use Rattle.nv_audit.specs.declared.part_list.InodePart.{InodePart}
@@ -66,3 +70,21 @@ IsFirst Lists d = HasCounts d × HasRecords d × (¬ HasLists d)
 abbrev pub IsMismatch : Device → Fault → Type 0
 IsMismatch d (Mismatch part) = IsFirst part d
 IsMismatch d fault = ⊥
+
+-- ---- what a world keeps, from which counts and lists follow
+
+-- the marks of a cell are those of its log
+abbrev pub IsMarkedCell : List ℕ → List Record → List InodePart → ℕ → CellState → Type 0
+IsMarkedCell snapshots deferred in_hands ino cell = IsCell cell × AreMarksOf (retention_by snapshots deferred in_hands ino cell) cell
+
+abbrev pub HasMarkedCells : Device → Type 0
+HasMarkedCells d =
+    (ino : ℕ) (default : CellState) → ino < length d.cells
+    → IsMarkedCell (ids d.book.snaps) d.book.deferred d.in_hands ino (slice_index_or d.cells ino default)
+
+-- each CPU's list has the numbers of its home range that are not used
+abbrev pub AreFromScratch : GeometryNumbers → List FreeBlocks → List ℕ → Type 0
+AreFromScratch g lists used =
+    (cpu : ℕ) → cpu < g.cpus
+    → numbers_of (slice_index_or lists cpu no_list).blocks ≡ unused (has used) (home_start g.blocks g.cpus cpu)
+    (home_start g.blocks g.cpus (cpu + 1) - home_start g.blocks g.cpus cpu)

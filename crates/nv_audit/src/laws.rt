@@ -4,9 +4,13 @@ ghost use Rattle.nv_cell.specs.Cell.{CellState, IsCell};
 ghost use Rattle.nv_cell.specs.Retained.{AreMarksOf};
 ghost use Rattle.nv_entry.specs.Held.{Retention};
 ghost use Rattle.nv_audit.specs.Counts.{AreCounted};
-ghost use Rattle.nv_audit.specs.Lists.{blocks_had, used_by};
+ghost use Rattle.nv_audit.specs.Lists.{AreFree, blocks_had, blocks_of_cell, used_by, used_of};
+ghost use Rattle.nv_audit.specs.Whole.{AreFromScratch, Device, HasCounts, HasMarkedCells};
+ghost use Rattle.nv_alloc.specs.FreeList.{FreeBlocks};
+ghost use Rattle.nv_base.specs.declared.geometry.GeometryNumbers.{GeometryNumbers};
 ghost use Rattle.nv_alloc.specs.Block.{numbers_of};
-ghost use Rattle.std.specs.Prelude.{◌≡◌, ◌++◌};
+ghost use Rattle.std.specs.Prelude.{◌≡◌, ◌++◌, ℕ, List};
+ghost use Rattle.std.specs.List.{flat_map};
 
 /// Where the marks of a cell are what a retention says, its counts are those from scratch.
 pub fn marks_give_counts()
@@ -18,4 +22,21 @@ pub fn marks_give_counts()
 pub fn marks_give_used_blocks()
     ensures { (r : Retention) (cell : CellState) → IsCell cell → AreMarksOf r cell
         → used_by r cell ≡ numbers_of cell.chain.blocks ++ blocks_had cell }
+{}
+
+/// Where they are in all cells, the blocks in use are those that cells have, and those in hands.
+pub fn marks_give_all_used_blocks()
+    ensures { (d : Device) → HasMarkedCells d → used_of d.cells d.book d.in_hands d.blocks
+        ≡ flat_map blocks_of_cell d.cells ++ d.blocks }
+{}
+
+/// So are the counts of all inodes those from scratch.
+pub fn marks_give_all_counts()
+    ensures { (d : Device) → HasMarkedCells d → HasCounts d }
+{}
+
+/// Lists that are told from scratch are free lists.
+pub fn lists_from_scratch_are_free()
+    ensures { (g : GeometryNumbers) (lists : List FreeBlocks) (used : List ℕ)
+        → AreFromScratch g lists used → AreFree g lists used }
 {}
