@@ -1,6 +1,6 @@
 -- What marks that are those of the logs give of a whole device.
 use Rattle.std.proofs.Common.{◌≡◌, ℕ, zero, suc, ◌+◌, ◌-◌, ◌<◌, ◌≤◌, Bool, true, false, cond, List, [], ◌∷◌, ◌++◌, length, not, arith, refl, ap, ap₂, sym, subst, ◌∙◌, slice_index_or, flat_map, filter, nat_eq}
-use Rattle.std.specs.Prelude.{◌||◌}
+use Rattle.std.specs.Prelude.{All, ◌||◌}
 use Rattle.std.specs.List.{range_with_len}
 use Rattle.std.proofs.lemmas.Bool.Decides.{nat_tests}
 use Rattle.nv_base.specs.Homes.{home_start}
@@ -10,12 +10,15 @@ use Rattle.nv_alloc.specs.Block.{numbers_of}
 use Rattle.nv_alloc.specs.FreeList.{FreeBlocks}
 use Rattle.nv_alloc.specs.Numbers.{has, unused}
 use Rattle.nv_book.specs.declared.record.Record.{Record}
+use Rattle.nv_epoch.specs.SnapList.{ids}
 use Rattle.nv_cell.specs.Cell.{CellState, IsCell}
 use Rattle.nv_cell.specs.Retained.{AreMarksOf}
 use Rattle.nv_audit.specs.Lists.{AreFree, blocks_of_cell, no_list, used_by, used_from, used_of}
 use Rattle.nv_audit.specs.Pending.{retention_by}
-use Rattle.nv_audit.specs.Whole.{AreFromScratch, Device, HasMarkedCells, IsMarkedCell}
+use Rattle.nv_audit.specs.Records.{IsRecorded}
+use Rattle.nv_audit.specs.Whole.{Agrees, AreFromScratch, Device, HasMarkedCells, HasRecords, IsMarkedCell}
 use Rattle.nv_audit.specs.declared.part_list.InodePart.{InodePart}
+use Rattle.nv_audit.proofs.PageEntries.{counted}
 use Rattle.nv_audit.proofs.PartBlocks.{blocks_are_used}
 
 all_used : (snapshots : List ℕ) (deferred : List Record) (in_hands : List InodePart) (from : ℕ) (cells : List CellState)
@@ -33,9 +36,9 @@ all_used snapshots deferred in_hands from (cell ∷ cells) marked =
 -- the blocks in use are those that cells have, and those in hands
 pub used_are_had : (d : Device) → HasMarkedCells d → used_of d.cells d.book d.in_hands d.blocks ≡ flat_map blocks_of_cell d.cells ++ d.blocks
 used_are_had d marked =
-    ap (λ (xs : List ℕ). xs ++ d.blocks) (all_used _ d.book.deferred d.in_hands 0 d.cells (λ i default lt.
+    ap (λ (xs : List ℕ). xs ++ d.blocks) (all_used (ids d.book.snaps) d.book.deferred d.in_hands 0 d.cells (λ i default lt.
     let zeroth : i ≡ 0 + i = omega arith in
-    subst (λ (n : ℕ). IsMarkedCell _ d.book.deferred d.in_hands n (slice_index_or d.cells i default)) zeroth (marked i default lt)))
+    subst (λ (n : ℕ). IsMarkedCell (ids d.book.snaps) d.book.deferred d.in_hands n (slice_index_or d.cells i default)) zeroth (marked i default lt)))
 
 -- ---- lists from scratch
 
@@ -72,3 +75,17 @@ scratch_is_free g lists used are cpu lt n from under =
     let start = home_start g.blocks g.cpus cpu in
     let end = home_start g.blocks g.cpus (cpu + 1) in
     ap (λ (xs : List ℕ). has xs n) (are cpu lt) ∙ within (has used) start (end - start) n from (omega (arith, from, under))
+
+-- marks that are those of the logs, lists from scratch and records leave nothing that differs
+pub marked_agree : (d : Device) → HasMarkedCells d → AreFromScratch d.numbers d.lists (flat_map blocks_of_cell d.cells ++ d.blocks) → HasRecords d
+    → Agrees d
+marked_agree d marked lists records = record {
+  counts = λ ino default lt. let is = marked ino default lt in counted _ _ is.0 is.1;
+  records = records;
+  lists = scratch_is_free d.numbers d.lists (used_of d.cells d.book d.in_hands d.blocks)
+      (subst (AreFromScratch d.numbers d.lists) (sym (used_are_had d marked)) lists);
+}
+
+-- where no snapshot lives, nothing is to be recorded
+pub none_recorded : (d : Device) → ids d.book.snaps ≡ [] → HasRecords d
+none_recorded d none = subst (All (IsRecorded d.cells d.book d.in_hands)) (sym none) (λ k default lt. absurd (omega (arith, lt)))

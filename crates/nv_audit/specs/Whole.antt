@@ -1,5 +1,5 @@
 -- A device between two steps, and the first part of it that differs from one scan of all logs.
-use Rattle.std.specs.Prelude.{ℕ, ◌<◌, List, length, slice_index_or}
+use Rattle.std.specs.Prelude.{◌≡◌, ℕ, ◌+◌, ◌-◌, ◌<◌, List, length, slice_index_or}
 use Rattle.nv_base.specs.declared.fault.Fault.{Fault}
 use Rattle.nv_base.specs.declared.fault.Fault.TheVariants.{Mismatch}
 use Rattle.nv_base.specs.declared.fault.MismatchPart.{MismatchPart}

@@ -2,14 +2,15 @@
 
 ghost use Rattle.nv_cell.specs.Cell.{CellState, IsCell};
 ghost use Rattle.nv_cell.specs.Retained.{AreMarksOf};
+ghost use Rattle.nv_epoch.specs.SnapList.{ids};
 ghost use Rattle.nv_entry.specs.Held.{Retention};
 ghost use Rattle.nv_audit.specs.Counts.{AreCounted};
 ghost use Rattle.nv_audit.specs.Lists.{AreFree, blocks_had, blocks_of_cell, used_by, used_of};
-ghost use Rattle.nv_audit.specs.Whole.{AreFromScratch, Device, HasCounts, HasMarkedCells};
+ghost use Rattle.nv_audit.specs.Whole.{Agrees, AreFromScratch, Device, HasCounts, HasMarkedCells, HasRecords};
 ghost use Rattle.nv_alloc.specs.FreeList.{FreeBlocks};
 ghost use Rattle.nv_base.specs.declared.geometry.GeometryNumbers.{GeometryNumbers};
 ghost use Rattle.nv_alloc.specs.Block.{numbers_of};
-ghost use Rattle.std.specs.Prelude.{◌≡◌, ◌++◌, ℕ, List};
+ghost use Rattle.std.specs.Prelude.{◌≡◌, ◌++◌, [], ℕ, List};
 ghost use Rattle.std.specs.List.{flat_map};
 
 /// Where the marks of a cell are what a retention says, its counts are those from scratch.
@@ -39,4 +40,17 @@ pub fn marks_give_all_counts()
 pub fn lists_from_scratch_are_free()
     ensures { (g : GeometryNumbers) (lists : List FreeBlocks) (used : List ℕ)
         → AreFromScratch g lists used → AreFree g lists used }
+{}
+
+/// Where marks are those of the logs, lists are from scratch by what cells and hands have, and records are those of the
+/// logs, the whole device agrees: the audit finds nothing.
+pub fn marked_devices_agree()
+    ensures { (d : Device) → HasMarkedCells d
+        → AreFromScratch d.numbers d.lists (flat_map blocks_of_cell d.cells ++ d.blocks)
+        → HasRecords d → Agrees d }
+{}
+
+/// Where no snapshot lives, nothing is to be recorded.
+pub fn without_snapshots_nothing_is_recorded()
+    ensures { (d : Device) → ids d.book.snaps ≡ [] → HasRecords d }
 {}
