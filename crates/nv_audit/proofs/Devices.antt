@@ -1,19 +1,15 @@
 -- What marks that are those of the logs give of a whole device.
-use Rattle.std.proofs.Common.{◌≡◌, ℕ, zero, suc, ◌+◌, ◌-◌, ◌<◌, ◌≤◌, Bool, true, false, cond, List, [], ◌∷◌, ◌++◌, length, not, arith, refl, ap, ap₂, sym, subst, ◌∙◌, slice_index_or, flat_map, filter, nat_eq}
-use Rattle.std.specs.Prelude.{All, ◌||◌}
-use Rattle.std.specs.List.{range_with_len}
+use Rattle.std.proofs.Common.{◌≡◌, ℕ, zero, suc, ◌+◌, ◌-◌, ◌<◌, ◌≤◌, Bool, true, false, cond, List, [], ◌∷◌, ◌++◌, length, not, arith, refl, ap, ap₂, sym, subst, ◌∙◌, slice_index_or, flat_map, nat_eq}
+use Rattle.std.specs.Prelude.{All}
 use Rattle.std.proofs.lemmas.Bool.Decides.{nat_tests}
 use Rattle.nv_base.specs.Homes.{home_start}
 use Rattle.nv_base.specs.declared.geometry.GeometryNumbers.{GeometryNumbers}
-use Rattle.nv_base.proofs.HomeRanges.{cuts}
-use Rattle.nv_alloc.specs.Block.{numbers_of}
 use Rattle.nv_alloc.specs.FreeList.{FreeBlocks}
 use Rattle.nv_alloc.specs.Numbers.{has, unused}
 use Rattle.nv_book.specs.declared.record.Record.{Record}
 use Rattle.nv_epoch.specs.SnapList.{ids}
-use Rattle.nv_cell.specs.Cell.{CellState, IsCell}
-use Rattle.nv_cell.specs.Retained.{AreMarksOf}
-use Rattle.nv_audit.specs.Lists.{AreFree, blocks_of_cell, no_list, used_by, used_from, used_of}
+use Rattle.nv_cell.specs.Cell.{CellState}
+use Rattle.nv_audit.specs.Lists.{AreFree, blocks_of_cell, used_from, used_of}
 use Rattle.nv_audit.specs.Pending.{retention_by}
 use Rattle.nv_audit.specs.Records.{IsRecorded}
 use Rattle.nv_audit.specs.Whole.{Agrees, AreFromScratch, Device, HasMarkedCells, HasRecords, IsMarkedCell}
@@ -38,7 +34,8 @@ pub used_are_had : (d : Device) → HasMarkedCells d → used_of d.cells d.book 
 used_are_had d marked =
     ap (λ (xs : List ℕ). xs ++ d.blocks) (all_used (ids d.book.snaps) d.book.deferred d.in_hands 0 d.cells (λ i default lt.
     let zeroth : i ≡ 0 + i = omega arith in
-    subst (λ (n : ℕ). IsMarkedCell (ids d.book.snaps) d.book.deferred d.in_hands n (slice_index_or d.cells i default)) zeroth (marked i default lt)))
+    subst (λ (n : ℕ). IsMarkedCell (ids d.book.snaps) d.book.deferred d.in_hands n (slice_index_or d.cells i default)) zeroth
+    (marked i default lt)))
 
 -- ---- lists from scratch
 
@@ -77,7 +74,8 @@ scratch_is_free g lists used are cpu lt n from under =
     ap (λ (xs : List ℕ). has xs n) (are cpu lt) ∙ within (has used) start (end - start) n from (omega (arith, from, under))
 
 -- marks that are those of the logs, lists from scratch and records leave nothing that differs
-pub marked_agree : (d : Device) → HasMarkedCells d → AreFromScratch d.numbers d.lists (flat_map blocks_of_cell d.cells ++ d.blocks) → HasRecords d
+pub marked_agree : (d : Device) → HasMarkedCells d → AreFromScratch d.numbers d.lists (flat_map blocks_of_cell d.cells ++ d.blocks)
+    → HasRecords d
     → Agrees d
 marked_agree d marked lists records = record {
   counts = λ ino default lt. let is = marked ino default lt in counted _ _ is.0 is.1;

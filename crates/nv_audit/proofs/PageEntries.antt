@@ -1,5 +1,5 @@
 -- The published entries of a page.
-use Rattle.std.proofs.Common.{◌≡◌, ℕ, ◌+◌, ◌-◌, ◌<◌, ◌≤◌, length, take, drop, min, arith, refl, ap, ap₂, sym, ◌∙◌}
+use Rattle.std.proofs.Common.{◌≡◌, ℕ, ◌-◌, ◌<◌, length, take, drop, min, arith, ap, ap₂, sym, ◌∙◌}
 use Rattle.std.proofs.lemmas.List.{length-drop, length-take}
 use Rattle.nv_log.specs.Chain.{IsChain, end_of, start_of}
 use Rattle.nv_log.proofs.Parts.{part_is}

@@ -1,6 +1,6 @@
 -- The blocks that a cell has for its parts are those that its log says of the parts in use.
-use Rattle.std.proofs.Common.{◌≡◌, ℕ, zero, suc, ◌+◌, ◌-◌, ◌<◌, ◌≤◌, Bool, true, false, cond, List, [], ◌∷◌, ◌++◌, length, take, drop, map, Option, Some, None, arith, refl, ap, ap₂, sym, subst, ◌∙◌, slice_index_or, nat_lt, flat_map}
-use Rattle.std.specs.Prelude.{option_and_then, option_to_list, slice_get}
+use Rattle.std.proofs.Common.{◌≡◌, ℕ, zero, suc, ◌+◌, ◌-◌, ◌<◌, ◌≤◌, Bool, true, false, cond, List, [], ◌∷◌, ◌++◌, length, Option, Some, None, arith, refl, ap, ap₂, sym, ◌∙◌, slice_index_or, nat_lt, flat_map}
+use Rattle.std.specs.Prelude.{option_to_list, slice_get}
 use Rattle.std.specs.List.{range_with_len}
 use Rattle.std.specs.Option.{option_map}
 use Rattle.std.proofs.lemmas.Bool.Decides.{nat_tests}
@@ -8,11 +8,10 @@ use Rattle.std.proofs.lemmas.Grind.{flat_map-append}
 use Rattle.std.proofs.lemmas.List.{append_assoc, get_or-map, get_or_default, get_or_past, length-append, length-map, take-append-drop}
 use Rattle.std.proofs.lemmas.Option.{slice_get-get_or, slice_get_within}
 use Rattle.nv_alloc.specs.Block.{BlockValue, number_of, numbers_of}
-use Rattle.nv_entry.specs.Covered.{key_at, part_count, part_key, part_total}
-use Rattle.nv_entry.specs.Data.{block_in}
+use Rattle.nv_entry.specs.Covered.{part_count, part_total}
 use Rattle.nv_entry.specs.Held.{Retention, keeps}
-use Rattle.nv_entry.specs.Keys.{key_of, parts_of, sets}
-use Rattle.nv_entry.specs.Log.{pair_of, pairs, pairs_of, value_of}
+use Rattle.nv_entry.specs.Keys.{parts_of}
+use Rattle.nv_entry.specs.Log.{pair_of, pairs, pairs_of}
 use Rattle.nv_entry.specs.declared.held.Pair.{Pair}
 use Rattle.nv_entry.specs.declared.item.Entry.{Entry}
 use Rattle.nv_entry.specs.declared.part.Part.{Part}
@@ -60,7 +59,8 @@ first_says : (block : ℕ) (e : Entry) (later : List Entry) (n : ℕ) → n < pa
     → page_block block (e ∷ later) n ≡ block_said block e.item (part_at e n)
 first_says block e later n lt = let yes' : nat_lt n (part_count e) ≡ true = grind (arith, nat_tests) in rw yes' refl
 
-later_says : (block : ℕ) (e : Entry) (later : List Entry) (n : ℕ) → page_block block (e ∷ later) (part_count e + n) ≡ page_block block later n
+later_says : (block : ℕ) (e : Entry) (later : List Entry) (n : ℕ)
+    → page_block block (e ∷ later) (part_count e + n) ≡ page_block block later n
 later_says block e later n =
     let no' : nat_lt (part_count e + n) (part_count e) ≡ false = grind (arith, nat_tests) in
     let back : part_count e + n - part_count e ≡ n = omega arith in
@@ -92,7 +92,8 @@ kept_numbers r used says from (e ∷ later) same told =
     ap (λ (n : ℕ). flat_map G (range_with_len from n)) (sym many)
     ∙ sym (by_place (kept_pair r e.item) G none own from (λ i lt.
     let few : i < c = omega (arith, lt, many) in
-    let pair : slice_index_or own i none ≡ pair_of r.block e later (part_at e i) = get_or-map (pair_of r.block e later) (parts_of e.item) i part.Kind none few in
+    let pair : slice_index_or own i none ≡ pair_of r.block e later (part_at e i) = get_or-map (pair_of r.block e later)
+    (parts_of e.item) i part.Kind none few in
     let at : slice_get (pairs r.block (e ∷ later)) i ≡ Some (pair_of r.block e later (part_at e i)) =
     pair_first r.block e later i few ∙ ap (option_map (pair_of r.block e later)) (slice_get-get_or (parts_of e.item) i part.Kind few) in
     let total : i < part_total (e ∷ later) = omega (arith, few) in
@@ -108,7 +109,8 @@ kept_numbers r used says from (e ∷ later) same told =
     (λ n lt.
     let on : from + (c + n) ≡ from + c + n = omega arith in
     ap says (sym on) ∙ told (c + n) (omega (arith, lt)) ∙ later_says r.block e later n) in
-    ap (flat_map G) (range_split from c (part_total later)) ∙ flat_map-append G (range_with_len from c) (range_with_len (from + c) (part_total later))
+    ap (flat_map G) (range_split from c (part_total later)) ∙ flat_map-append G (range_with_len from c)
+    (range_with_len (from + c) (part_total later))
     ∙ ap₂ (λ (a b : List ℕ). a ++ b) first rest
 
 -- the same of entries all of whose parts are in use
@@ -128,7 +130,8 @@ said_numbers block used says from (e ∷ later) all told =
     (λ n lt.
     let on : from + (c + n) ≡ from + c + n = omega arith in
     ap says (sym on) ∙ told (c + n) (omega (arith, lt)) ∙ later_says block e later n) in
-    ap (flat_map G) (range_split from c (part_total later)) ∙ flat_map-append G (range_with_len from c) (range_with_len (from + c) (part_total later))
+    ap (flat_map G) (range_split from c (part_total later)) ∙ flat_map-append G (range_with_len from c)
+    (range_with_len (from + c) (part_total later))
     ∙ ap₂ (λ (a b : List ℕ). a ++ b) first rest
 
 -- ---- a cell
@@ -140,7 +143,8 @@ had_is (Some b) = refl
 as_many : (block : ℕ) (es : List Entry) → length (pairs block es) ≡ part_total es
 as_many block [] = refl
 as_many block (e ∷ es) =
-    length-append (pairs_of block e es) (pairs block es) ∙ omega (arith, length-map (parts_of e.item) (pair_of block e es), as_many block es)
+    length-append (pairs_of block e es) (pairs block es) ∙ omega
+    (arith, length-map (parts_of e.item) (pair_of block e es), as_many block es)
 
 -- where the marks of a cell are what a retention says, the blocks in use are the pages of its chain and the blocks that it has
 pub blocks_are_used : (r : Retention) (cell : CellState) → IsCell cell → AreMarksOf r cell
@@ -174,9 +178,11 @@ blocks_are_used r cell is are =
     (λ i lt.
     let zeroth : i ≡ 0 + i = omega arith in
     had_is (slice_index_or cell.blocks i None)
-    ∙ ap option_to_list (is.blocks.numbers i ∙ ap (λ (b : ℕ). cond (used i) (page_block b cell.chain.entries i) None) (sym are.block)) ∙ ap G zeroth)
+    ∙ ap option_to_list (is.blocks.numbers i ∙ ap (λ (b : ℕ). cond (used i) (page_block b cell.chain.entries i) None) (sym are.block))
+    ∙ ap G zeroth)
     ∙ ap (λ (k : ℕ). flat_map G (range_with_len 0 k)) is.blocks.len in
     let split = ap (λ (n : ℕ). flat_map G (range_with_len 0 n)) total ∙ ap (flat_map G) (range_split 0 (part_total log) (part_total fresh))
     ∙ flat_map-append G (range_with_len 0 (part_total log)) (range_with_len (0 + part_total log) (part_total fresh))
     ∙ ap₂ (λ (a b : List ℕ). a ++ b) kept said in
-    append_assoc (numbers_of cell.chain.blocks) (blocks_kept r log) (blocks_said r.block fresh) ∙ ap (λ (xs : List ℕ). numbers_of cell.chain.blocks ++ xs) (sym (had ∙ split))
+    append_assoc (numbers_of cell.chain.blocks) (blocks_kept r log) (blocks_said r.block fresh)
+    ∙ ap (λ (xs : List ℕ). numbers_of cell.chain.blocks ++ xs) (sym (had ∙ split))
