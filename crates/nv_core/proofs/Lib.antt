@@ -19,6 +19,7 @@ pub mod GivenCounts
 pub mod GivenEnter
 pub mod GivenKinds
 pub mod GivenLaws
+pub mod GivenOn
 pub mod GivenReady
 pub mod Gives
 pub mod Homes

@@ -50,7 +50,7 @@ fn snaps_in(alloc: Global, book: &Book) -> Result<Snaps, Fault>
     let snapshots = book.snaps().snapshots();
     let mut living = Vec::with_capacity(alloc, snapshots.len())?;
     for snapshot in snapshots {
-        living.push_reserved(counts_of(book, snapshot));
+        living.push(counts_of(book, snapshot))?;
     }
     Ok(Snaps {
         epoch: book.epoch(),

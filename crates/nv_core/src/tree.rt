@@ -7,7 +7,7 @@ ghost use Rattle.nv_calls.specs.Plain.{node_in};
 ghost use Rattle.nv_epoch.specs.SnapList.{pins_of};
 ghost use Rattle.nv_machine.specs.Snapshots.{copies_at};
 ghost use Rattle.nv_machine.specs.World as machine;
-ghost use Rattle.nv_core.specs.Settled.{AreSettled, AreSettledAt, IsNoTree, noted_or, settled_nodes, settled_tail, snapshot_tree, tree_at, tree_in, tree_of};
+ghost use Rattle.nv_core.specs.Settled.{AreSettled, AreSettledAt, IsNoTree, noted_or, settled_copies, settled_nodes, settled_tail, snapshot_tree, tree_at, tree_in, tree_of};
 ghost use Rattle.nv_core.specs.Shown.{shared_of};
 ghost use Rattle.nv_core.specs.Steps.{CanShow};
 ghost use Rattle.nv_core.specs.Worlds.{Shows};
@@ -72,12 +72,27 @@ impl Shared {
         let mut walk = Walk::new(alloc, root(), self.cells.len())?;
         let mut nodes = Vec::new(alloc);
         while let Some(handle) = walk.wanted() {
-            let node = self.node_at(alloc, &handle, epoch)?;
+            let node = self.snapshot_node(alloc, &handle, epoch)?;
             if let Some(given) = walk.hand_in(node)? {
                 nodes.push(given)?;
             }
         }
         Ok(Tree::from_vec(nodes))
+    }
+
+    /// The node under a handle in a living snapshot: at its epoch the settled logs have the nodes of the logs.
+    fn snapshot_node(
+        &self,
+        alloc: Global,
+        handle: &Handle,
+        epoch: Epoch,
+    ) -> Result<Option<NodeCopy>, Fault>
+        requires can { CanShow self.now epoch }
+        requires settled { AreSettledAt epoch (shared_of self.now) }
+        ensures ok { IfOk result (λ node. node ≡ settled_copies (shared_of self.now) epoch handle.now) }
+        ensures err { FailsOnly OutOfMemory result }
+    {
+        self.node_at(alloc, handle, epoch)
     }
 
     /// The node under a handle at the end of an epoch; none where the handle is stale.
