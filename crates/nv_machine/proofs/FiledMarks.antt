@@ -67,7 +67,7 @@ pub record AreMarks (living : List ℕ) (ino epoch : ℕ) (killed : List KilledP
 
 -- ---- small things
 
-bit_is : (b : Bool) → 1 ≤ bit b → b ≡ true
+pub bit_is : (b : Bool) → 1 ≤ bit b → b ≡ true
 bit_is true le = refl
 bit_is false le = absurd (omega (arith, le))
 
@@ -97,7 +97,7 @@ kept_not_killed Killed e = absurd (false≢true e)
 kept_not_killed Kept e = refl
 kept_not_killed Out e = refl
 
-kept_not_current : (m : Mark) → is_kept m ≡ true → is_current m ≡ false
+pub kept_not_current : (m : Mark) → is_kept m ≡ true → is_current m ≡ false
 kept_not_current Current e = absurd (false≢true e)
 kept_not_current Killed e = refl
 kept_not_current Kept e = refl

@@ -147,3 +147,4 @@ pub mod FiledKinds
 pub mod FiledLaw
 pub mod ReleaseGrown
 pub mod FiledHeld
+pub mod FiledParts
