@@ -34,7 +34,6 @@ pub mod CellPages
 pub mod CellSteps
 pub mod Journals
 pub mod LogsKept
-pub mod ReleaseGrown
 pub mod ReleaseKept
 pub mod Written
 pub mod CommitKept
@@ -145,6 +144,5 @@ pub mod FiledCommits
 pub mod FiledSnaps
 pub mod FiledKinds
 pub mod FiledLaw
-pub mod ReleaseGrown
 pub mod FiledHeld
 pub mod FiledParts
