@@ -146,3 +146,4 @@ pub mod FiledKinds
 pub mod FiledLaw
 pub mod FiledHeld
 pub mod FiledParts
+pub mod ReleaseGrown
