@@ -147,3 +147,4 @@ pub mod FiledLaw
 pub mod FiledHeld
 pub mod FiledParts
 pub mod ReleaseGrown
+pub mod HeldMarks
