@@ -145,6 +145,7 @@ pub mod WalkBounds
 pub mod Showing
 pub mod ShowRuns
 pub mod ShowAll
+pub mod CopyMarks
 pub mod Drained
 pub mod FiledLists
 pub mod FiledDrops

@@ -1,6 +1,3 @@
-use Rattle.nv_machine.proofs.CopiesAll as scratch
-use Rattle.nv_machine.proofs.WalkBounds as bounds
-use Rattle.nv_machine.proofs.Showing as shows
 use Rattle.nv_machine.proofs.SnapRuns.{refusals_told}
 use Rattle.nv_machine.proofs.snapshot_laws.snapshot_refusals_are_told.Goals as goal
 
