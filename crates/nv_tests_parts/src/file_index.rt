@@ -150,8 +150,8 @@ fn a_refused_growth_changes_nothing(rt: HostRuntime) {
     let mut index = FileIndex::new(rt.alloc());
     write_all(&rt, &mut index, &[(4, 2, 2, 0, 1)]);
     let before = sizes(&index);
-    for runs in [usize::MAX, usize::MAX / 2, 1 << 62] {
-        same(&rt, index.reserve_for(runs), Err(Fault::OutOfMemory));
+    for runs in &[usize::MAX, usize::MAX / 2, 1 << 62] {
+        same(&rt, index.reserve_for(*runs), Err(Fault::OutOfMemory));
         same(&rt, sizes(&index), before);
     }
     same(&rt, index.at(3), None);
@@ -248,7 +248,7 @@ fn assert_same_at(
     }
     let next = run.map(|run| run.first.max(page));
     same(rt, index.next_from(page).map(|found| found.0), next);
-    assert!(rt; index.run_from(page) == run, "page {page}");
+    same_for(rt, &page, index.run_from(page), run);
 }
 
 fn assert_same(rt: &impl Abort, alloc: Global, index: &FileIndex, slots: &[Option<PageRef>]) {
@@ -260,8 +260,8 @@ fn assert_same(rt: &impl Abort, alloc: Global, index: &FileIndex, slots: &[Optio
     for page in 65_530..65_540 {
         assert_same_at(rt, index, &runs, slots, page);
     }
-    for page in [0, 1, 20, 50, 90, 65_530, 65_536] {
-        same(rt, index.present_from(page), present_from(slots, page));
+    for page in &[0, 1, 20, 50, 90, 65_530, 65_536] {
+        same(rt, index.present_from(*page), present_from(slots, *page));
     }
 }
 

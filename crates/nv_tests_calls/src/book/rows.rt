@@ -24,9 +24,8 @@ fn overwritten(rt: &impl Abort, book: &mut Book, snaps: u32) {
         makes(rt, book, Ok(Epoch::new(s)));
     }
     enters(rt, book, 2, now, 3);
-    for part in [Part::Size, Part::Page(0)] {
-        retires(rt, book, record(2, part, 1, now), Retired::Kept);
-    }
+    retires(rt, book, record(2, Part::Size, 1, now), Retired::Kept);
+    retires(rt, book, record(2, Part::Page(0), 1, now), Retired::Kept);
 }
 
 #[test]
@@ -73,8 +72,8 @@ fn killed(place: usize) -> Record {
 }
 
 fn lists_killed(rt: &impl Abort, book: &Book) {
-    for (listed, (commit, page)) in book.deferred().iter().zip(KILLED) {
-        same_for(rt, &page, listed, record(commit, Part::Page(page), 1, 2));
+    for (listed, (commit, page)) in book.deferred().iter().zip(&KILLED) {
+        same_for(rt, page, listed, record(*commit, Part::Page(*page), 1, 2));
     }
 }
 
@@ -207,10 +206,10 @@ fn keeps(rt: &impl Abort, book: &Book, base: u64, kept: usize) {
 
 #[test]
 fn keeps_the_latest_events(rt: HostRuntime) {
-    for (commits, base, kept) in LATEST_EVENTS {
+    for (commits, base, kept) in &LATEST_EVENTS {
         let mut book = new_book(&rt, rt.alloc());
-        enter_all(&rt, &mut book, 5, commits);
-        keeps(&rt, &book, base, kept);
+        enter_all(&rt, &mut book, 5, *commits);
+        keeps(&rt, &book, *base, *kept);
     }
 }
 
@@ -249,9 +248,9 @@ fn folds_snapshots_into_the_base(rt: HostRuntime) {
     drops(&rt, &mut book, 2, Ok(()));
     let dropped = Event::Dropped(Epoch::new(2));
     same(&rt, book.history().event(3), Some(dropped));
-    for (commits, count, second) in FOLDED {
-        enter_all(&rt, &mut book, 0, commits);
-        has_lived(&rt, &book, count, second);
+    for (commits, count, second) in &FOLDED {
+        enter_all(&rt, &mut book, 0, *commits);
+        has_lived(&rt, &book, *count, *second);
     }
     let base = base_of(&rt, &book);
     same(&rt, base.epoch(), Epoch::new(4));

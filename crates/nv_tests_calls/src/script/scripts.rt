@@ -52,8 +52,8 @@ fn check_all<R: AllocGlobal + Abort>(rt: &R, rows: &[Row]) {
 fn scripts_write_their_texts(rt: HostRuntime) -> Result<(), Fail> {
     check_all(&rt, &WORKED);
     check_all(&rt, &SCRIPTS);
-    for (front, letters, end, text) in LONGEST {
-        let script = filled(rt.alloc(), front, b'a', letters, end.as_bytes())?;
+    for (front, letters, end, text) in &LONGEST {
+        let script = filled(rt.alloc(), front, b'a', *letters, end.as_bytes())?;
         check(&rt, &script, Ok(()), text.as_bytes());
     }
     Ok(())
@@ -274,22 +274,25 @@ fn scripts_come_and_go_byte_by_byte(rt: HostRuntime) {
 
 #[test]
 fn faults_have_their_texts(rt: HostRuntime) -> Result<(), Fail> {
-    for (fault, want) in FAULTS {
-        same(&rt, fault_text(rt.alloc(), &fault)?.as_str(), want);
+    for (fault, want) in &FAULTS {
+        same(&rt, fault_text(rt.alloc(), fault)?.as_str(), *want);
     }
     Ok(())
 }
 
+/// Faults, and the lines that tell them.
+const LINES: [(Fault, &str); 2] = [
+    (Fault::Read, "novacore: E28 Read\n"),
+    (
+        Fault::ScriptFault(2, ScriptFaultKind::Word),
+        "novacore: E27 ScriptFault(2, word)\n",
+    ),
+];
+
 #[test]
 fn a_fault_is_told_in_one_line(rt: HostRuntime) -> Result<(), Fail> {
-    for (fault, want) in [
-        (Fault::Read, "novacore: E28 Read\n"),
-        (
-            Fault::ScriptFault(2, ScriptFaultKind::Word),
-            "novacore: E27 ScriptFault(2, word)\n",
-        ),
-    ] {
-        same(&rt, fault_line(rt.alloc(), &fault)?.as_str(), want);
+    for (fault, want) in &LINES {
+        same(&rt, fault_line(rt.alloc(), fault)?.as_str(), *want);
     }
     Ok(())
 }
