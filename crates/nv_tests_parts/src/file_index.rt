@@ -243,11 +243,13 @@ fn assert_same_at(
 ) {
     let run = first_behind(runs, page);
     same(rt, index.at(page), slot(slots, page));
-    if let Some((next, at)) = index.next_from(page) {
-        same(rt, slot(slots, next), Some(at));
+    match (index.next_from(page), run) {
+        (Some((next, at)), Some(run)) => {
+            same(rt, slot(slots, next), Some(at));
+            same(rt, next, run.first.max(page));
+        }
+        (next, run) => same(rt, (next.is_none(), run.is_none()), (true, true)),
     }
-    let next = run.map(|run| run.first.max(page));
-    same(rt, index.next_from(page).map(|found| found.0), next);
     same_for(rt, &page, index.run_from(page), run);
 }
 

@@ -60,20 +60,24 @@ fn deferred_is_not_free(rt: HostRuntime) {
     same(&rt, book.stored(), 0);
 }
 
-// Four pages of one entry, a gap, and a page of another entry, each with its commit.
-const KILLED: [(u64, u32); 6] = [(1, 0), (1, 1), (1, 2), (1, 3), (1, 5), (2, 6)];
+// Four pages of one entry, a gap, and a page of another entry, each with its commit; and how many runs there are after each of
+// them is picked.
+const KILLED: [(u64, u32, u64); 6] = [
+    (1, 0, 3),
+    (1, 1, 3),
+    (1, 2, 3),
+    (1, 3, 2),
+    (1, 5, 1),
+    (2, 6, 0),
+];
 
-// How many runs there are after each of them is picked.
-const RUNS: [u64; 6] = [3, 3, 3, 2, 1, 0];
-
-fn killed(place: usize) -> Record {
-    let (commit, page) = KILLED[place % KILLED.len()];
+fn killed(commit: u64, page: u32) -> Record {
     record(commit, Part::Page(page), 1, 2)
 }
 
 fn lists_killed(rt: &impl Abort, book: &Book) {
-    for (listed, (commit, page)) in book.deferred().iter().zip(&KILLED) {
-        same_for(rt, page, listed, record(*commit, Part::Page(*page), 1, 2));
+    for (listed, (commit, page, _)) in book.deferred().iter().zip(&KILLED) {
+        same_for(rt, page, listed, killed(*commit, *page));
     }
 }
 
@@ -82,16 +86,16 @@ fn drain_within_a_run(rt: HostRuntime) {
     let mut book = new_book(&rt, rt.alloc());
     makes(&rt, &mut book, Ok(Epoch::new(1)));
     enters(&rt, &mut book, 6, 2, 1);
-    for place in 0..6 {
-        retires(&rt, &mut book, killed(place), Retired::Kept);
+    for (commit, page, _) in &KILLED {
+        retires(&rt, &mut book, killed(*commit, *page), Retired::Kept);
     }
     same(&rt, book.stored(), 3);
     drops(&rt, &mut book, 1, Ok(()));
     same(&rt, (book.stored(), book.deferred_blocks()), (3, 6));
     lists_killed(&rt, &book);
-    for place in 0..6 {
-        picks(&rt, &mut book, Some(killed(place)));
-        same_for(&rt, &place, book.stored(), RUNS[place]);
+    for (commit, page, runs) in &KILLED {
+        picks(&rt, &mut book, Some(killed(*commit, *page)));
+        same_for(&rt, page, book.stored(), *runs);
     }
 }
 
@@ -101,7 +105,7 @@ fn pins(rt: &impl Abort, book: &mut Book, s: Epoch) {
 }
 
 fn pins_nothing(rt: &impl Abort, book: &mut Book, s: Epoch) {
-    assert_eq!(rt; book.snaps().pins(s), None);
+    same(rt, book.snaps().pins(s), None);
     same(rt, book.pin(s), Err(Fault::NoSnapshot));
 }
 
