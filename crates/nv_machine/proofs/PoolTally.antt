@@ -6,7 +6,7 @@ use Rattle.std.proofs.lemmas.List.{map-id}
 use Rattle.nv_alloc.specs.Numbers.{has, put_by, times}
 use Rattle.nv_alloc.proofs.Lists.{times-cons, times-no, times-put_by, times-yes}
 use Rattle.nv_base.specs.declared.limits.TheConstants.{NUMBER}
-use Rattle.nv_calls.specs.Retiring.{is_erased, number_back, released}
+use Rattle.nv_calls.specs.Retiring.{erased, is_erased, number_back, released}
 use Rattle.nv_cell.specs.Cell.{CellState, empty_cell}
 use Rattle.nv_cell.specs.declared.killed.KilledPart.{KilledPart}
 use Rattle.nv_epoch.specs.SnapList.{ids}
