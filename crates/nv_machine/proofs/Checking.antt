@@ -13,6 +13,7 @@ use Rattle.nv_calls.specs.declared.call.Call.TheVariants as call
 use Rattle.nv_calls.specs.declared.looked.Looked.{Looked}
 use Rattle.nv_cell.specs.Cell.{log_of}
 use Rattle.nv_cell.specs.Pages.{AreBytesOf}
+use Rattle.nv_entry.specs.declared.node.NodeCopy.{NodeCopy}
 use Rattle.nv_machine.specs.Grown.{HasGrown, HasGrownBy}
 use Rattle.nv_machine.specs.Hands.{AreNumbers, HandAt, HandOf, HasTakenNone, makes_inode}
 use Rattle.nv_machine.specs.Locks.{HoldsIts, commits_at, held_at}

@@ -87,7 +87,7 @@ looking_in place r = go (nat_lt place (length (directories r.call))) refl where
 drained_looks : (k : Next) (left released : ℕ) (s : Shared) (h : HandState) (r : Running) → HasLooks k r
     → OnLooks (drained_turn left released s h r)
 drained_looks k zero released s h r has = tt
-drained_looks k (suc left) released s h r has = moved k r _ refl refl refl (λ p e. cc) has
+drained_looks k (suc left) released s h r has = record { place = λ p e. cc; nothing = has.nothing; names = λ e. cc }
 
 last_looks : (k : Next) (e : Ending) (s : Shared) (h : HandState) (r : Running) → HasLooks k r → OnLooks (last_turn e s h r)
 last_looks k Answers s h r has = tt

@@ -22,7 +22,7 @@ OnFrom b (Ends result s h) = Unit {0}
 module _ (b : Running) where
   drained_from : (left released : ℕ) (s : Shared) (h : HandState) (r : Running) → IsFrom b r → OnFrom b (drained_turn left released s h r)
   drained_from zero released s h r is = tt
-  drained_from (suc left) released s h r is = record { call = is.call; looked = is.looked; over = is.over }
+  drained_from (suc left) released s h r is = record { call = is.call; looked = is.looked; over = λ e. cc }
 
   pub last_from : (e : Ending) (s : Shared) (h : HandState) (r : Running) → IsFrom b r → OnFrom b (last_turn e s h r)
   last_from Answers s h r is = tt
@@ -74,7 +74,7 @@ module _ (b : Running) where
       (r : Running) → IsFrom b r → OnFrom b (show_turn owner granted found snapshot showing s h r)
   show_from (Some other) granted found snapshot showing s h r is = tt
   show_from None true found snapshot showing s h r is = record { call = is.call; looked = is.looked; over = is.over }
-  show_from None false found snapshot showing s h r is = record { call = is.call; looked = is.looked; over = is.over }
+  show_from None false found snapshot showing s h r is = record { call = is.call; looked = is.looked; over = λ e. cc }
 
   picked_from : (deferred : List Record) (draining : Draining) (s : Shared) (h : HandState) (r : Running) → IsFrom b r
       → OnFrom b (picked_turn deferred draining s h r)
