@@ -6,8 +6,8 @@ mod indexes;
 ghost use Rattle.std.specs.Prelude.{◌≤◌};
 
 use crate::compare::same;
-use crate::scene::Scene;
 use crate::says::Says::{Create, Write};
+use crate::scene::Scene;
 use crate::steps::Step::{Commits, Makes, Snapshot};
 use crate::steps::{Step, make};
 use crate::stock::new_book;
@@ -61,7 +61,14 @@ fn after(rt: &impl Abort, alloc: Global, steps: &[Step]) -> Judged {
 
 impl Judged {
     /// Judges it with a book and what hands have.
-    fn comes_to(&self, rt: &impl Abort, alloc: Global, book: &Book, hands: &InHands<'_>, want: Result<(), Fault>) {
+    fn comes_to(
+        &self,
+        rt: &impl Abort,
+        alloc: Global,
+        book: &Book,
+        hands: &InHands<'_>,
+        want: Result<(), Fault>,
+    ) {
         let found = audit(alloc, &self.device, &self.cells, &self.lists, book, hands);
         if found == Err(Fault::OutOfMemory) {
             let again = audit(alloc, &self.device, &self.cells, &self.lists, book, hands);
