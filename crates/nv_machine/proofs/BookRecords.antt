@@ -29,10 +29,10 @@ all_both P (x ∷ xs) ys h k = (h.0, all_both P xs ys h.1 k)
 
 all_filtered : {X : Type 0} (P : X → Type 0) (f : X → Bool) (xs : List X) → AllByRecursion P xs → AllByRecursion P (filter f xs)
 all_filtered P f [] h = tt
-all_filtered P f (x ∷ xs) h = go (f x) where
-  go : (b : Bool) → AllByRecursion P (cond b (x ∷ filter f xs) (filter f xs))
-  go true = (h.0, all_filtered P f xs h.1)
-  go false = all_filtered P f xs h.1
+all_filtered P f (x ∷ xs) h = go (f x) (all_filtered P f xs h.1) where
+  go : (b : Bool) → AllByRecursion P (filter f xs) → AllByRecursion P (cond b (x ∷ filter f xs) (filter f xs))
+  go true more = (h.0, more)
+  go false more = more
 
 -- ---- manifests
 
@@ -54,10 +54,10 @@ module _ (P : Record → Type 0) where
 
   at_each : (s : ℕ) (ms : List Manifest) → Each ms → All (records_at s ms)
   at_each s [] h = tt
-  at_each s (m ∷ ms) h = go (m.snapshot == s) where
-    go : (b : Bool) → All (cond b m.records (records_at s ms))
-    go true = h.0
-    go false = at_each s ms h.1
+  at_each s (m ∷ ms) h = go (m.snapshot == s) (at_each s ms h.1) where
+    go : (b : Bool) → All (records_at s ms) → All (cond b m.records (records_at s ms))
+    go true more = h.0
+    go false more = more
 
   pub retired_each : (living : List ℕ) (ino epoch : ℕ) (killed : List KilledPart) (ms : List Manifest)
       → ((k : KilledPart) → P (record_of ino epoch k)) → Each ms → Each (with_records living ino epoch killed ms)
@@ -155,41 +155,52 @@ module _ (P : Record → Type 0) where
   snapshot_all (Drop snapshot) actor granted s h r are = free_all s.holder _ (drop_all snapshot _ s h r are)
   snapshot_all (Pin snapshot) actor granted s h r are = free_all s.holder _ (pin_all snapshot _ s h r are)
   snapshot_all (Show snapshot showing) actor granted s h r are =
-      unlent nothing_lent s _ refl (framed (Snapshots (Show snapshot showing)) 0 actor granted s h r) are
+      unlent nothing_lent s (snapshot_turn (Show snapshot showing) actor granted s h r) refl
+      (framed (Snapshots (Show snapshot showing)) 0 actor granted s h r) are
   snapshot_all (Unpin snapshot seen) actor granted s h r are =
       free_all s.holder _ (record { filed = are.filed; deferred = are.deferred })
   snapshot_all (Pick draining) actor granted s h r are =
       free_all s.holder _ (grown_all _ _ s h r are (picked_all s.book.deferred draining s h r are))
   snapshot_all (LockPicked draining picked) actor granted s h r are =
-      unlent (lent_on (LockPicked draining picked)) s _ refl
+      unlent (lent_on (LockPicked draining picked)) s (snapshot_turn (LockPicked draining picked) actor granted s h r) refl
       (framed (Snapshots (LockPicked draining picked)) 0 actor granted s h r) are
   snapshot_all (Release draining picked) actor granted s h r are =
-      unlent (lent_on (Release draining picked)) s _ refl (framed (Snapshots (Release draining picked)) 0 actor granted s h r) are
+      unlent (lent_on (Release draining picked)) s (snapshot_turn (Release draining picked) actor granted s h r) refl
+      (framed (Snapshots (Release draining picked)) 0 actor granted s h r) are
 
   -- each record is as before a step, or one that a retire step makes
   pub records_all : (k : Next) (block actor : ℕ) (granted : Bool) (s : Shared) (h : HandState) (r : Running)
       → ((place : ℕ) → k ≡ Retire place → (killed : KilledPart) → P (record_of (slot_at (written_slots r) place) r.epoch killed))
       → AllRecords P s.book → OnRecords (kind_turn k block actor granted s h r)
   records_all Number block actor granted s h r new are =
-      unlent (lent Number (length s.lists) actor r) s _ refl (framed Number block actor granted s h r) are
+      unlent (lent Number (length s.lists) actor r) s (kind_turn Number block actor granted s h r) refl
+      (framed Number block actor granted s h r) are
   records_all (Look place) block actor granted s h r new are =
-      unlent (lent (Look place) (length s.lists) actor r) s _ refl (framed (Look place) block actor granted s h r) are
+      unlent (lent (Look place) (length s.lists) actor r) s (kind_turn (Look place) block actor granted s h r) refl
+      (framed (Look place) block actor granted s h r) are
   records_all (Lock place) block actor granted s h r new are =
-      unlent (lent (Lock place) (length s.lists) actor r) s _ refl (framed (Lock place) block actor granted s h r) are
+      unlent (lent (Lock place) (length s.lists) actor r) s (kind_turn (Lock place) block actor granted s h r) refl
+      (framed (Lock place) block actor granted s h r) are
   records_all Check block actor granted s h r new are =
-      unlent (lent Check (length s.lists) actor r) s _ refl (framed Check block actor granted s h r) are
+      unlent (lent Check (length s.lists) actor r) s (kind_turn Check block actor granted s h r) refl
+      (framed Check block actor granted s h r) are
   records_all (TakeBlocks asked) block actor granted s h r new are =
-      unlent (lent (TakeBlocks asked) (length s.lists) actor r) s _ refl (framed (TakeBlocks asked) block actor granted s h r) are
+      unlent (lent (TakeBlocks asked) (length s.lists) actor r) s (kind_turn (TakeBlocks asked) block actor granted s h r) refl
+      (framed (TakeBlocks asked) block actor granted s h r) are
   records_all (TakePages asked) block actor granted s h r new are =
-      unlent (lent (TakePages asked) (length s.lists) actor r) s _ refl (framed (TakePages asked) block actor granted s h r) are
+      unlent (lent (TakePages asked) (length s.lists) actor r) s (kind_turn (TakePages asked) block actor granted s h r) refl
+      (framed (TakePages asked) block actor granted s h r) are
   records_all Ready block actor granted s h r new are =
-      unlent (lent Ready (length s.lists) actor r) s _ refl (framed Ready block actor granted s h r) are
+      unlent (lent Ready (length s.lists) actor r) s (kind_turn Ready block actor granted s h r) refl
+      (framed Ready block actor granted s h r) are
   records_all Enter block actor granted s h r new are = enter_all s.holder _ granted actor s h r are
   records_all (Append place) block actor granted s h r new are =
-      unlent (lent (Append place) (length s.lists) actor r) s _ refl (framed (Append place) block actor granted s h r) are
+      unlent (lent (Append place) (length s.lists) actor r) s (kind_turn (Append place) block actor granted s h r) refl
+      (framed (Append place) block actor granted s h r) are
   records_all Open block actor granted s h r new are = record { filed = are.filed; deferred = are.deferred }
   records_all (Publish place) block actor granted s h r new are =
-      unlent (lent (Publish place) (length s.lists) actor r) s _ refl (framed (Publish place) block actor granted s h r) are
+      unlent (lent (Publish place) (length s.lists) actor r) s (kind_turn (Publish place) block actor granted s h r) refl
+      (framed (Publish place) block actor granted s h r) are
   records_all Close block actor granted s h r new are = record { filed = are.filed; deferred = are.deferred }
   records_all (Retire place) block actor granted s h r new are = record {
     filed = retired_each (ids s.book.snaps) (slot_at (written_slots r) place) r.epoch (first_killed h.killed) s.book.manifests
@@ -197,13 +208,18 @@ module _ (P : Record → Type 0) where
     deferred = are.deferred;
   }
   records_all Leave block actor granted s h r new are =
-      unlent (lent Leave (length s.lists) actor r) s _ refl (framed Leave block actor granted s h r) are
+      unlent (lent Leave (length s.lists) actor r) s (kind_turn Leave block actor granted s h r) refl
+      (framed Leave block actor granted s h r) are
   records_all (Unlock place) block actor granted s h r new are =
-      unlent (lent (Unlock place) (length s.lists) actor r) s _ refl (framed (Unlock place) block actor granted s h r) are
+      unlent (lent (Unlock place) (length s.lists) actor r) s (kind_turn (Unlock place) block actor granted s h r) refl
+      (framed (Unlock place) block actor granted s h r) are
   records_all (Give cpu) block actor granted s h r new are =
-      unlent (lent (Give cpu) (length s.lists) actor r) s _ refl (framed (Give cpu) block actor granted s h r) are
+      unlent (lent (Give cpu) (length s.lists) actor r) s (kind_turn (Give cpu) block actor granted s h r) refl
+      (framed (Give cpu) block actor granted s h r) are
   records_all Back block actor granted s h r new are =
-      unlent (lent Back (length s.lists) actor r) s _ refl (framed Back block actor granted s h r) are
+      unlent (lent Back (length s.lists) actor r) s (kind_turn Back block actor granted s h r) refl
+      (framed Back block actor granted s h r) are
   records_all Visit block actor granted s h r new are =
-      unlent (lent Visit (length s.lists) actor r) s _ refl (framed Visit block actor granted s h r) are
+      unlent (lent Visit (length s.lists) actor r) s (kind_turn Visit block actor granted s h r) refl
+      (framed Visit block actor granted s h r) are
   records_all (Snapshots step) block actor granted s h r new are = snapshot_all step actor granted s h r are

@@ -1,12 +1,12 @@
 -- A step that moves lowers the bound.
 use Rattle.std.proofs.Common.{◌≡◌, ℕ, zero, suc, ◌+◌, ◌-◌, ◌*◌, ◌<◌, ◌≤◌, ◌==◌, Bool, true, false, List, [], ◌∷◌, ◌++◌, length, map, Option, Some, None, ap, arith, if◌then◌else◌, length-append, nat_lt, refl}
 use Rattle.std.proofs.Math.Nat.{suc-mul}
-use Rattle.std.proofs.lemmas.Bool.{ltb-false, ltb-true}
+use Rattle.std.proofs.lemmas.Bool.{ltb-false, ltb-true, false≢true}
 use Rattle.std.proofs.lemmas.List.{length-map}
 use Rattle.std.proofs.lemmas.List.Sums.{count_by-le-length, length-filter}
 use Rattle.std.proofs.lemmas.Option.{none-some}
 use Rattle.std.specs.List.{list_any}
-use Rattle.std.specs.Prelude.{Ok, Err, unwrap_or}
+use Rattle.std.specs.Prelude.{Ok, Err, unwrap_or, max, min}
 use Rattle.nv_calls.specs.Locked.{handles, if_any}
 use Rattle.nv_calls.specs.declared.looked.Looked.{Looked}
 use Rattle.nv_alloc.specs.Block.{BlockValue}
@@ -31,6 +31,8 @@ use Rattle.nv_machine.specs.Sequence.{Beginning, Locks, Looks, Numbers, OnSnapsh
 use Rattle.nv_machine.specs.Snapshots.{drop_turn, first_showing, if_free, lock_picked_turn, make_tests, make_turn, one_more, picked_turn, pin_turn, seen_on, show_or_unpin, show_turn, snapshot_turn}
 use Rattle.nv_machine.specs.Step.{ending_at, is_numbered, kind_turn, made_in, same_looked, with_made}
 use Rattle.nv_machine.specs.World.{Answers, Append, Back, Check, Close, Draining, Drains, Drop, Ending, Enter, Give, HandState, Leave, Lock, LockPicked, Look, Make, Next, Number, Open, Overtaken, Pick, Pin, Publish, Ready, Refuses, Release, Retire, Running, Shared, Show, Showing, SnapshotStep, Snapshots, TakeBlocks, TakePages, Turn, Unlock, Unpin, Visit}
+use Rattle.nv_base.specs.declared.fault.Fault.TheVariants.{OutOfMemory}
+use Rattle.std.proofs.lemmas.Nat.{mul-le}
 
 -- ---- at most four handles, and a number
 
@@ -166,7 +168,7 @@ end_falls c m (slot ∷ slots) e s h r low = omega (arith, low)
 grown_falls : (c m : ℕ) (granted : Bool) (turn : Turn) (s : Shared) (h : HandState) (r : Running)
     → r.rounds * round c + (3 + c + length r.slots) < m → Falls c m turn → Falls c m (grown granted turn s h r)
 grown_falls c m true turn s h r low falls = falls
-grown_falls c m false turn s h r low falls = end_falls c m r.slots _ s h r low
+grown_falls c m false turn s h r low falls = end_falls c m r.slots (Refuses OutOfMemory) s h r (omega (arith, low))
 
 -- ---- loops
 
@@ -260,7 +262,7 @@ wants_fall c zero block s h r = pages_fall c _ _ s h r (omega arith)
 wants_fall c (suc n) block s h r = omega arith
 
 -- a check never ends a call to go on with a record
-behind_of : ℕ → Option Ending → ℕ
+abbrev behind_of : ℕ → Option Ending → ℕ
 behind_of c None = 0
 behind_of c (Some e) = rank_behind c e
 
@@ -341,20 +343,19 @@ drop_falls : (c snapshot : ℕ) (tests : Tests) (s : Shared) (h : HandState) (r 
 drop_falls c snapshot (Err fault) s h r = refused_falls c _ fault s h r (omega arith)
 drop_falls c snapshot (Ok passed) s h r = tt
 
--- a show has fewer visits left
+-- the next step of a show, with as many visits left as it may make
 show_rank : (c n snapshot left : ℕ) (visits : List walk.Visit) (showing : Showing) → showing.left ≡ left
     → rank c n (Snapshots (show_or_unpin left visits snapshot showing)) ≤ 2 + left
 show_rank c n snapshot zero visits showing e = omega arith
 show_rank c n snapshot (suc left) [] showing e = omega arith
 show_rank c n snapshot (suc left) (visit ∷ visits) showing e = omega (arith, e)
 
--- of those that it had, one is made
-show_next : (c n snapshot left : ℕ) (visits : List walk.Visit) (showing : Showing) → showing.left ≡ left - 1
-    → rank c n (Snapshots (show_or_unpin (left - 1) visits snapshot showing)) < 2 + left
-show_next c n snapshot zero visits showing e = omega arith
-show_next c n snapshot (suc left) visits showing e =
-    let is : suc left - 1 ≡ left = omega arith in
-    omega (arith, show_rank c n snapshot left visits showing (e ∙ is), ap (λ (k : ℕ). rank c n (Snapshots (show_or_unpin k visits snapshot showing))) is)
+-- or with one less than before
+show_next : (c n snapshot before left : ℕ) (visits : List walk.Visit) (showing : Showing) → showing.left ≡ left → left ≡ before - 1
+    → rank c n (Snapshots (show_or_unpin left visits snapshot showing)) < 2 + before
+show_next c n snapshot before zero visits showing e f = omega arith
+show_next c n snapshot before (suc left) [] showing e f = omega arith
+show_next c n snapshot before (suc left) (visit ∷ visits) showing e f = omega (arith, e, f)
 
 pin_falls : (c snapshot : ℕ) (pins : Option ℕ) (s : Shared) (h : HandState) (r : Running)
     → Falls c (rank_behind c r.ending + r.rounds * round c + (INODES + (4 + c + length r.slots))) (pin_turn snapshot pins s h r)
@@ -367,7 +368,8 @@ show_falls : (c : ℕ) (owner : Option ℕ) (granted : Bool) (found : Option Nod
     → Falls c (rank_behind c r.ending + r.rounds * round c + (2 + showing.left)) (show_turn owner granted found snapshot showing s h r)
 show_falls c (Some other) granted found snapshot showing s h r = tt
 show_falls c None true found snapshot showing s h r =
-    let next = show_next c (length r.slots) snapshot showing.left (seen_on found showing).visits (seen_on found showing) refl in
+    let next = show_next c (length r.slots) snapshot showing.left (showing.left - 1) (seen_on found showing).visits
+    (seen_on found showing) refl refl in
     omega (arith, next)
 show_falls c None false found snapshot showing s h r = omega arith
 
@@ -442,7 +444,7 @@ falls (Snapshots step) block actor granted s h r = snapshot_falls step (length s
 
 -- ---- at its start a call has at most eight rounds, a visit for each inode, or a round for each record
 
-is_of_files : Beginning → Bool
+abbrev is_of_files : Beginning → Bool
 is_of_files (OnSnapshots what) = false
 is_of_files other = true
 
@@ -455,13 +457,13 @@ file_bound Locks s c is = omega (
   first_lock (length s.lists) (slots_of s None nothing_looked c) (slots_of-length s None nothing_looked c),
 )
 file_bound Visits s c is = omega arith
-file_bound (OnSnapshots what) s c is = cc
+file_bound (OnSnapshots what) s c is = absurd (false≢true is)
 
 -- a drain's records
 most_left : (c count : ℕ) → (new_draining count).left * round c ≤ DRAIN * round c
-most_left c count = mul-le-left (new_draining count).left DRAIN (round c) (few count) where
-  few : (n : ℕ) → (new_draining n).left ≤ DRAIN
-  few n = ?
+most_left c count = mul-le (new_draining count).left (round c) DRAIN (round c) (few count) (omega arith) where
+  few : (n : ℕ) → max 1 (min n DRAIN) - 1 ≤ DRAIN
+  few n = omega arith
 
 pub begun_bound : (s : Shared) (c : Call) → bound (length s.lists) (begun (beginning c) s c) ≤ most_steps_of c (length s.lists)
 begun_bound s (call.Create dir name mode) = file_bound Numbers s (call.Create dir name mode) refl
@@ -483,7 +485,22 @@ begun_bound s (call.Snapshots (on.Drain count)) = omega (arith, most_left (lengt
 
 -- and so of any call
 pub steps_of_any : (c : Call) (cpus : ℕ) → most_steps_of c cpus ≤ most_steps cpus
-steps_of_any c cpus = ?
+steps_of_any (call.Create dir name mode) cpus = omega arith
+steps_of_any (call.Mkdir dir name mode) cpus = omega arith
+steps_of_any (call.Write file offset text) cpus = omega arith
+steps_of_any (call.Read file offset count) cpus = omega arith
+steps_of_any (call.Size file size) cpus = omega arith
+steps_of_any (call.Mode handle mode) cpus = omega arith
+steps_of_any (call.Stat handle) cpus = omega arith
+steps_of_any (call.List dir) cpus = omega arith
+steps_of_any (call.Lookup dir name) cpus = omega arith
+steps_of_any (call.Unlink dir name) cpus = omega arith
+steps_of_any (call.Rmdir dir name) cpus = omega arith
+steps_of_any (call.Rename from old to new) cpus = omega arith
+steps_of_any (call.Snapshots on.Snap) cpus = omega arith
+steps_of_any (call.Snapshots (on.Drop snapshot)) cpus = omega arith
+steps_of_any (call.Snapshots (on.Show snapshot)) cpus = omega arith
+steps_of_any (call.Snapshots (on.Drain count)) cpus = omega arith
 
 -- and some step is left as long as it runs
 pub some_left : (cpus slots : ℕ) (k : Next) → 0 < rank cpus slots k

@@ -223,7 +223,7 @@ length_set [] n = refl
 length_set (x ∷ xs) zero = refl
 length_set (x ∷ xs) (suc n) = ap suc (length_set xs n)
 
-one_retires : (keeper : Option ℕ) (n : ℕ) (cell : CellState) → is_covered cell.block (log_of cell) n ≡ true
+pub one_retires : (keeper : Option ℕ) (n : ℕ) (cell : CellState) → is_covered cell.block (log_of cell) n ≡ true
     → Retires cell (settled_part keeper n cell)
 one_retires (Some s) n cell h = record {
   block = refl;

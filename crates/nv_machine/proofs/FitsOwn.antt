@@ -28,7 +28,7 @@ use Rattle.nv_machine.specs.Kinds.{check_ending, entries_for, ready_turn, with_e
 use Rattle.nv_calls.proofs.FillPages.{filled_numbers, length_filled}
 use Rattle.nv_calls.specs.FillPages.{filled, fresh_pages}
 use Rattle.nv_machine.specs.Reads.{copies, has_last_page, if_number, is_written, nodes, plan_by, slots_of, written_slots}
-use Rattle.nv_machine.specs.Sequence.{Beginning, Looks, Locks, Numbers, Visits, beginning}
+use Rattle.nv_machine.specs.Sequence.{Beginning, Looks, Locks, Numbers, Visits, beginning, OnSnapshots}
 use Rattle.nv_machine.specs.Settled.{node_by, settled, settled_nodes, settled_tail}
 use Rattle.nv_machine.specs.Step.{ending_at, is_numbered, made_in, same_looked}
 use Rattle.nv_machine.specs.World.{HandState, Running, Shared, cell_at, no_cell, with_cell}
@@ -143,6 +143,7 @@ makes_number Numbers (Some ino) e f = (ino, refl)
 makes_number Looks number e f = cc
 makes_number Locks number e f = cc
 makes_number Visits number e f = cc
+makes_number (OnSnapshots what) number e f = cc
 
 -- ---- the check
 

@@ -4,6 +4,8 @@ pub mod Lists
 pub mod Holding
 pub mod Locked
 pub mod Framed
+pub mod SnapshotCalls
+pub mod SnapshotTurns
 pub mod BookRecords
 pub mod Bounded
 pub mod Events
@@ -32,6 +34,8 @@ pub mod CellPages
 pub mod CellSteps
 pub mod Journals
 pub mod LogsKept
+pub mod ReleaseGrown
+pub mod ReleaseKept
 pub mod Written
 pub mod CommitKept
 pub mod Planned

@@ -1,7 +1,7 @@
 -- Each actor holds exactly the locks of its call, and waits for another's alone.
 use Rattle.std.proofs.Common.{◌≡◌, ℕ, zero, suc, ◌+◌, ◌<◌, ◌==◌, ◌∙◌, Bool, true, false, List, [], ◌∷◌, Option, Some, None, ap, arith, drop, length, nat_lt, refl, subst, sym}
 use Rattle.std.proofs.lemmas.Option.{none-some}
-use Rattle.std.specs.Prelude.{unwrap_or, ◌||◌, Ok, Err, slice_index_or}
+use Rattle.std.specs.Prelude.{◌||◌, unwrap_or, Ok, Err, slice_index_or, not}
 use Rattle.std.proofs.lemmas.Bool.{eqb-false, eqb-true, false≢true, ltb-false, ltb-true}
 use Rattle.std.specs.List.{AllByRecursion}
 use Rattle.nv_alloc.specs.Numbers.{has}
@@ -11,16 +11,17 @@ use Rattle.nv_calls.specs.declared.answer.Answer.{Answer}
 use Rattle.nv_entry.specs.declared.node.NodeCopy.{NodeCopy}
 use Rattle.nv_reader.specs.Walk as walk
 use Rattle.nv_machine.specs.Frame.{lent, lent_on}
-use Rattle.nv_machine.specs.Kinds.{back_turn, blocks_turn, check_turn, enter_turn, lock_turn, look_turn, number_turn, pages_turn, unlocked_turn, visit_turn, wants_blocks, wants_pages}
+use Rattle.nv_machine.specs.Kinds.{back_turn, blocks_turn, check_turn, enter_turn, lock_turn, look_turn, number_turn, pages_turn, unlocked_turn, visit_turn, wants_blocks, wants_pages, with_erased}
 use Rattle.nv_machine.specs.Locks.{AreSlots, HoldsIts, IsHeldByOther, IsInside, IsOfSlot, WaitsFor, WaitsOn, commits_at, held_at, is_owner}
 use Rattle.nv_calls.specs.declared.looked.Looked.{Looked}
 use Rattle.nv_machine.specs.Reads.{is_written, slot_at, slots_of, written_slots}
 use Rattle.nv_machine.specs.Sequence.{directories}
-use Rattle.nv_machine.specs.Snapshots.{drop_turn, if_free, lock_picked_turn, make_tests, make_turn, picked_turn, pin_turn, show_or_unpin, show_turn, snapshot_turn, visited}
+use Rattle.nv_machine.specs.Snapshots.{drop_turn, if_free, lock_picked_turn, make_tests, make_turn, picked_turn, pin_turn, show_or_unpin, show_turn, snapshot_turn, visited, first_showing, seen_on, one_more, with_released, is_first}
 use Rattle.nv_machine.specs.Step.{ending_at, kind_turn, with_made}
-use Rattle.nv_machine.specs.World.{Append, Back, Check, Close, Draining, Drop, Ending, Ends, Enter, Give, HandState, Leave, Lock, LockPicked, Look, Make, Next, Number, Open, Pick, Pin, Publish, Ready, Refuses, Release, Retire, Running, Shared, Show, Showing, SnapshotStep, Snapshots, TakeBlocks, TakePages, Turn, Unlock, Unpin, Visit, go_to, owner_at, with_owner}
+use Rattle.nv_machine.specs.World.{Append, Back, Check, Close, Draining, Drop, Ending, Ends, Enter, Give, HandState, Leave, Lock, LockPicked, Look, Make, Next, Number, Open, Pick, Pin, Publish, Ready, Refuses, Release, Retire, Running, Shared, Show, Showing, SnapshotStep, Snapshots, TakeBlocks, TakePages, Turn, Unlock, Unpin, Visit, go_to, owner_at, with_owner, Drains, cell_at, with_cell}
 use Rattle.nv_machine.proofs.Lists.{drop_all, has_at, has_drop, has_filter, self, slot_inside, slots_are, take_apart}
 use Rattle.nv_machine.proofs.Holding.{Holds, LocksLeft, OnLocks, apart, appending_holds, end_locks, grown_locks, holds_as, idle_as, last_locks, locked_holds, locked_left, locking_holds, look_here, others_not, over_locks, publishing_holds, rest_locks, retiring_holds, same_locks, unlocked_holds, unlocked_left}
+use Rattle.nv_calls.specs.Retiring.{erased, released}
 
 -- ---- the kinds
 
@@ -221,7 +222,8 @@ pin_locks a w snapshot None s h r none mine are =
     end_locks a s s w r.slots _ h r refl (same_locks a s) (none_held s a r none mine) are
 pin_locks a w snapshot (Some pins) s h r none mine are = (
   as_before a s _ refl refl,
-  showing_locks a _ snapshot _ _ _ r none (record { owners = mine.owners; holder = mine.holder }) are,
+  showing_locks a _ snapshot (first_showing s).left (first_showing s).visits (first_showing s) r none
+      (record { owners = mine.owners; holder = mine.holder }) are,
 )
 
 show_locks : (a : ℕ) (owner : Option ℕ) (granted : Bool) (found : Option NodeCopy) (slot snapshot : ℕ) (showing : Showing) (s : Shared)
@@ -230,7 +232,10 @@ show_locks : (a : ℕ) (owner : Option ℕ) (granted : Bool) (found : Option Nod
 show_locks a (Some other) granted found slot snapshot showing s h r e none mine are =
     not_mine a (owner_at s slot) other e (mine.owners slot)
 show_locks a None true found slot snapshot showing s h r e none mine are =
-    (same_locks a s, showing_locks a s snapshot _ _ _ r none mine are)
+    (
+      same_locks a s,
+      showing_locks a s snapshot (seen_on found showing).left (seen_on found showing).visits (seen_on found showing) r none mine are,
+    )
 show_locks a None false found slot snapshot showing s h r e none mine are =
     (same_locks a s, holds_as s a _ [] false mine refl refl are none)
 
@@ -241,7 +246,7 @@ picked_locks a w [] draining s h r are mine = (same_locks a s, idle_as s a mine)
 picked_locks a w (picked ∷ deferred) draining s h r are mine = (
   as_before a s _ refl refl,
   holds_as _ a _ [] false (record { owners = mine.owners; holder = mine.holder }) refl refl
-      (record { rising = tt; inside = (are.0, tt) }) refl,
+      (record { rising = (tt, tt); inside = (are.0, tt) }) refl,
 )
 
 lock_picked_locks : (a : ℕ) (owner : Option ℕ) (draining : Draining) (picked : Record) (s : Shared) (h : HandState) (r : Running)
@@ -272,11 +277,13 @@ snapshot_locks (Unpin snapshot seen) a granted s h r b =
     (as_before a s _ refl refl, idle_as _ a (record { owners = b.mine.owners; holder = b.mine.holder }))
 snapshot_locks (Pick draining) a granted s h r b =
     free_locks a s.holder s _ refl b.mine.holder
-    (grown_locks a s s _ _ _ h r (same_locks a s) (none_held s a r b.inside b.mine) b.are
+    (grown_locks a s s (IsHeldByOther a s.holder) (granted || not (is_first draining)) (picked_turn s.book.deferred draining s h r) h r
+    (same_locks a s) (none_held s a r b.inside b.mine) b.are
     (picked_locks a _ s.book.deferred draining s h r b.deferred b.mine))
 snapshot_locks (LockPicked draining picked) a granted s h r b = lock_picked_locks a _ draining picked s h r refl b
 snapshot_locks (Release draining picked) a granted s h r b =
-    end_locks a s _ _ r.slots _ _ r refl (as_before a s _ refl refl)
+    end_locks a s (with_cell picked.ino (erased (released picked (cell_at s picked.ino))) s) ⊥ r.slots (Drains (one_more draining))
+    (with_erased picked.ino (released picked (cell_at s picked.ino)) (with_released picked s h)) r refl (as_before a s _ refl refl)
     (record { owners = b.mine.owners; holder = b.mine.holder }) b.are
 
 pub locks_kept : (k : Next) (block a : ℕ) (granted : Bool) (s : Shared) (h : HandState) (r : Running) → Before a s k r

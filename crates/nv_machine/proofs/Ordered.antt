@@ -220,7 +220,7 @@ release_order : (a : ℕ) (draining : Draining) (picked : Record) (s : Shared) (
     → Before a s (Snapshots (Release draining picked)) r → AreLogsOrdered s → OnOrder a s (release_turn draining picked s h r)
 release_order a draining picked s h r b logs =
     let cell = released picked (cell_at s picked.ino) in
-    left_order a s (with_cell picked.ino (erased cell) s) _ _
+    left_order a s (with_cell picked.ino (erased cell) s) ⊥ (release_turn draining picked s h r)
     (record {
       logs = changed_cell s picked.ino (erased cell) logs
           (erased_log (s.book.commit + 1) s.book.snaps.epoch cell (logs picked.ino));

@@ -18,7 +18,7 @@ use Rattle.nv_machine.specs.Locks.{AreSlots, held_at}
 use Rattle.nv_machine.specs.PoolScan.{has_entry, has_inode}
 use Rattle.nv_machine.specs.Reads.{is_written, pages_needed, slot_at, written_slots}
 use Rattle.nv_machine.specs.Settled.{settled}
-use Rattle.nv_machine.specs.World.{Append, Back, Check, Close, Enter, Give, HandState, Leave, Lock, Look, Next, Number, Open, Publish, Ready, Retire, Running, Shared, TakeBlocks, TakePages, Unlock, Visit, cell_at, owner_at, with_book, with_cell}
+use Rattle.nv_machine.specs.World.{Append, Back, Check, Close, Enter, Give, HandState, Leave, Lock, Look, Next, Number, Open, Publish, Ready, Retire, Running, Shared, TakeBlocks, TakePages, Unlock, Visit, cell_at, owner_at, with_book, with_cell, Snapshots}
 use Rattle.nv_machine.proofs.Kept.{deed}
 use Rattle.nv_machine.proofs.Lists.{drop_apart, has_drop, has_filter, has_later, or_right, rising_filter, self, written_inside}
 use Rattle.nv_machine.proofs.Locked.{Before, owner_is}
@@ -158,6 +158,7 @@ module _ (g : GeometryNumbers) (block a : ℕ) (s : Shared) (h : HandState) (r :
       ends_some (entries_for r n) _ (log_ends (Publish place) st refl (λ ino. refl) n there (first_alone place written n rising is))
       (some_for n there)
   begun_inode Close st n is = ends_some (entries_for r n) _ (log_ends Close st refl (λ ino. refl) n is refl) (some_for n is)
+  begun_inode (Snapshots step) st n is = absurd (false≢true is)
   begun_inode Number st n is = absurd (false≢true is)
   begun_inode (Look place) st n is = absurd (false≢true is)
   begun_inode (Lock place) st n is = absurd (false≢true is)

@@ -152,6 +152,7 @@ blocks_apart g events within =
       cells = cells_apart g.blocks w each;
       small = hands_small g.blocks w (omega (arith, within.blocks_fit)) each;
       idle = λ actor is. (idle_nothing g events within actor is).hand;
+      releases = ?;
     }
 
 pub reached : (g : GeometryNumbers) (events : List Event) → IsWithinLimits g → IsReached (after (formatted g) events)

@@ -1,10 +1,8 @@
 -- A call that has only its last steps left, and how it ends.
-use Rattle.std.specs.Prelude.{◌≡◌, ◌⊎◌, ℕ, Option, Some, None, Result}
-use Rattle.nv_base.specs.declared.fault.Fault.{Fault}
+use Rattle.std.specs.Prelude.{◌≡◌, ◌⊎◌, ℕ, Option, Some, None}
 use Rattle.nv_calls.specs.AllCalls.{answer}
 use Rattle.nv_calls.specs.declared.answer.Answer.{Answer}
 use Rattle.nv_machine.specs.Kinds.{result_by}
-use Rattle.nv_machine.specs.Snapshots.{shown_by}
 use Rattle.nv_machine.specs.Step.{Step, reply_of}
 use Rattle.nv_machine.specs.World.{Answers, Append, Back, Close, Drains, Ending, Give, Leave, Moved, Next, Open, Overtaken, Publish, Refuses, Retire, Running, Snapshots, Unlock, Unpin, actor_at}
 
@@ -19,8 +17,12 @@ IsLast Leave = Unit {0}
 IsLast (Unlock place) = Unit {0}
 IsLast (Give cpu) = Unit {0}
 IsLast Back = Unit {0}
-IsLast (Snapshots (Unpin snapshot seen)) = Unit {0}
 IsLast other = ⊥
+
+-- nor is one left that refuses anything: a show that is refused has to take its pin off
+abbrev pub IsEnding : Next → Type 0
+IsEnding (Snapshots (Unpin snapshot seen)) = Unit {0}
+IsEnding other = IsLast other
 
 -- how a call may end that has only such steps left: there is no further round, and no further record
 abbrev pub IsFinal : Ending → Type 0
@@ -43,11 +45,6 @@ pub record IsMovedOn (e : Ending) (before after : Running) : Type 0 where
   pub waits : IsToEnd e after
   pub answer : answer_of after ≡ answer_of before
 
--- what it is answered or refused at its last step: a show is answered what it has seen
-abbrev pub result_at : Next → Ending → Running → Result Answer Fault
-result_at (Snapshots (Unpin snapshot seen)) e r = shown_by e seen
-result_at other e r = result_by e r
-
 abbrev pub IsMovedTo : Ending → Running → Option Running → Type 0
 IsMovedTo e before None = ⊥
 IsMovedTo e before (Some after) = IsMovedOn e before after
@@ -55,4 +52,4 @@ IsMovedTo e before (Some after) = IsMovedOn e before after
 -- a step moves the call on towards its end, or is its last and replies that
 abbrev pub GoesTo : Ending → ℕ → Running → Step → Type 0
 GoesTo e actor r made =
-    ((made.reply ≡ Moved) × IsMovedTo e r (actor_at made.world actor).running) ⊎ (made.reply ≡ reply_of (result_at r.next e r))
+    ((made.reply ≡ Moved) × IsMovedTo e r (actor_at made.world actor).running) ⊎ (made.reply ≡ reply_of (result_by e r))

@@ -8,7 +8,7 @@ use Rattle.nv_entry.specs.declared.node.NodeCopy.{NodeCopy}
 use Rattle.nv_calls.specs.AllCalls.{early, look_refusal, looked, refusal}
 use Rattle.nv_calls.specs.Refusals.{passes}
 use Rattle.nv_calls.specs.declared.answer.Answer.{Answer}
-use Rattle.nv_machine.specs.Answered.{IsLast}
+use Rattle.nv_machine.specs.Answered.{IsEnding}
 use Rattle.nv_machine.specs.Kinds.{asked_list}
 use Rattle.nv_machine.specs.Sequence.{beginning}
 use Rattle.nv_epoch.specs.SnapList.{pins_of}
@@ -90,7 +90,7 @@ MayBeOvertaken other nodes r = ⊥
 
 -- whatever fault a call is to end with meets this, and the call has only its last steps left; and this holds where it is overtaken
 abbrev pub EndsFor : (Fault → Type 0) → Type 0 → Next → Ending → Type 0
-EndsFor P Q next (Refuses fault) = P fault × IsLast next
+EndsFor P Q next (Refuses fault) = P fault × IsEnding next
 EndsFor P Q next Answers = Unit {0}
 EndsFor P Q next Overtaken = Q
 EndsFor P Q next (Drains draining) = Unit {0}

@@ -24,9 +24,10 @@ grows Visit c = visit_grows c
 grows (Snapshots step) c = grows_on step
 grows other c = false
 
--- neither to the last steps nor to another round of looks
+-- neither to the last steps nor to another round of looks, nor to another record
 abbrev pub is_onward : Next → Bool
 is_onward (Look place) = false
+is_onward (Snapshots step) = false
 is_onward other = is_going other
 
 abbrev pub moves_onward : Turn → Bool

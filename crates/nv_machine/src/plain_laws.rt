@@ -29,7 +29,7 @@ ghost use Rattle.nv_machine.specs.Frame.{lent};
 ghost use Rattle.nv_machine.specs.Grown.{AreGrown, fresh_entries};
 ghost use Rattle.nv_machine.specs.Kept.{AreBlocksApart, IsKept};
 ghost use Rattle.nv_machine.specs.Kinds.{refuse};
-ghost use Rattle.nv_machine.specs.Locks.{AreLocks};
+ghost use Rattle.nv_machine.specs.Locks.{AreLocks, commits_at};
 ghost use Rattle.nv_machine.specs.Hands.{makes_inode};
 ghost use Rattle.nv_machine.specs.Made.{handles_made, has_handle};
 ghost use Rattle.nv_machine.specs.Order.{IsInOrder};
@@ -67,7 +67,7 @@ pub fn the_plain_world_counts_commits()
 
 /// A call that has begun to append is answered, whatever follows, and one that was refused is answered that
 /// refusal: from there on each of its steps moves it on towards that end, or is its last and replies it. A call whose
-/// step is lent a cell to change is such a call, so that one which ends refused has changed no log
+/// commit is lent a cell to change is such a call, so that one which ends refused has changed no log
 /// ([`crate::laws::one_step`]) and made no commit. Of calls that commit no node tells the answer, so that it is the one of the
 /// commit point.
 pub fn what_commits_is_answered()
@@ -80,6 +80,7 @@ pub fn what_commits_is_answered()
         → GoesTo e actor r (step w (Go actor granted)) }
     ensures writes { (w : World) (actor ino : ℕ) (r : Running) → IsKept w
         → (actor_at w actor).running ≡ Some r
+        → commits_at r.next ≡ true
         → (lent r.next (length w.shared.lists) actor r).cell ≡ Some ino → IsToEnd Answers r }
     ensures same { (nodes other : Handle → Option PlainNode) (made : Handle) (c : Call)
         → (beginning c ≡ Visits → ⊥) → answer nodes made c ≡ answer other made c }

@@ -5,6 +5,8 @@
 ghost use Rattle.std.specs.Prelude.{◌≡◌, ◌&&◌, ◌++◌, ◌+◌, ℕ, Bool, List, [], ◌∷◌, Contains, None, Ok, Some, length, not, slice_get};
 ghost use Rattle.std.specs.List.{AllByRecursion};
 ghost use Rattle.nv_base.specs.Limits.{IsWithinLimits};
+ghost use Rattle.nv_base.specs.declared.fault.Fault.{Fault};
+ghost use Rattle.nv_base.specs.declared.fault.Fault.TheVariants.{OutOfMemory};
 ghost use Rattle.nv_base.specs.declared.geometry.GeometryNumbers.{GeometryNumbers};
 ghost use Rattle.nv_book.specs.Listed.{IsRecordList, unheld};
 ghost use Rattle.nv_calls.specs.declared.answer.Answer.{Answer};
@@ -26,7 +28,7 @@ ghost use Rattle.nv_machine.specs.Recorded.{AreRecordedOnce, IsOfPair, is_killed
 ghost use Rattle.nv_machine.specs.Settled.{settled_copies, snapshot_tree};
 ghost use Rattle.nv_machine.specs.Snapshots.{snapshot_turn};
 ghost use Rattle.nv_machine.specs.Step.{after, step};
-ghost use Rattle.nv_machine.specs.World.{Done, Draining, Ends, Event, Go, HandState, Pick, Running, Shared, SnapshotStep, Snapshots, Start, Started, Unpin, actor_at, cell_at};
+ghost use Rattle.nv_machine.specs.World.{Done, Draining, Ends, Event, Go, HandState, Pick, Refused, Running, Shared, SnapshotStep, Snapshots, Start, Started, Unpin, actor_at, cell_at};
 
 /// The records are one list, whatever events came from a new world on: a retire step puts the killed parts of its inode to its
 /// end, in order, that a living snapshot holds; a drop moves there, in order, the records that its snapshot was the youngest to
@@ -104,7 +106,8 @@ pub fn snapshot_refusals_are_told()
         ≡ plain_tests g.snaps kind (plain_after (formatted g) events (plain_of (formatted g))) }
 {}
 
-/// A drain is answered how many records its steps have released; and a pick finds nothing only where nothing is deferred.
+/// A drain is answered how many records its steps have released, and refused only for want of memory before the first; and a pick
+/// finds nothing only where nothing is deferred.
 pub fn drains_count_their_releases()
     ensures answer { (g : GeometryNumbers) (before events : List Event) (actor count told : ℕ)
         (granted : Bool) → IsWithinLimits g
@@ -114,6 +117,15 @@ pub fn drains_count_their_releases()
         (Go actor granted)).reply ≡ Done (answers.Count told)
         → told ≡ releases actor (step (after (formatted g) before) (Start actor (call.Snapshots (on.Drain count)))).world
         (events ++ Go actor granted ∷ []) }
+    ensures refused { (g : GeometryNumbers) (before events : List Event) (actor count : ℕ)
+        (fault : Fault) (granted : Bool) → IsWithinLimits g
+        → (step (after (formatted g) before) (Start actor (call.Snapshots (on.Drain count)))).reply
+        ≡ Started → AreNoStarts actor events
+        → (step (after (step (after (formatted g) before)
+        (Start actor (call.Snapshots (on.Drain count)))).world events) (Go actor granted)).reply
+        ≡ Refused fault
+        → (fault ≡ OutOfMemory) × (releases actor (step (after (formatted g) before)
+        (Start actor (call.Snapshots (on.Drain count)))).world (events ++ Go actor granted ∷ []) ≡ 0) }
     ensures nothing { (draining : Draining) (actor told : ℕ) (granted : Bool) (s t : Shared)
         (h after : HandState) (r : Running)
         → snapshot_turn (Pick draining) actor granted s h r ≡ Ends (Ok (answers.Count told)) t after
