@@ -12,13 +12,13 @@ ghost use Rattle.nv_cell.specs.Cell.{log_of};
 ghost use Rattle.nv_entry.specs.Covered.{part_count};
 ghost use Rattle.nv_book.specs.Records.{block_count};
 ghost use Rattle.nv_core.specs.Reports.{AddsUp, block_at, chain_in, counts_in, free_in, is_kept, kept_at, kept_in, lists_of, log_at, one_of, space_in, space_of};
-ghost use Rattle.nv_core.specs.Picked.{picked_of};
+ghost use Rattle.nv_core.specs.Picked.{picked_at, picked_of};
 ghost use Rattle.nv_core.specs.Shown.{shared_of};
 ghost use Rattle.nv_core.specs.Worlds.{Shows};
 
 use crate::World;
+use crate::hold::Hold;
 use crate::next::{Next, SnapshotStep};
-use crate::running::Running;
 use crate::shared::Shared;
 use crate::world::Actor;
 use nv_alloc::{FreeList, FreeRun};
@@ -164,14 +164,21 @@ fn picked_by(actor: &Actor) -> u64
     ensures value { result ≡ picked_of actor.now }
     ensures few { result ≤ 1 }
 {
-    match &actor.running {
-        Some(Running {
-            next:
-                Next::Snapshots(
-                    SnapshotStep::LockPicked(_, picked) | SnapshotStep::Release(_, picked),
-                ),
-            ..
-        }) if picked.is_page() => 1,
+    match (&actor.hold, &actor.running) {
+        (Hold::Hand(_), Some(running)) => picked_at(&running.next),
+        _ => 0,
+    }
+}
+
+/// How many are that of a call before this step.
+fn picked_at(next: &Next) -> u64
+    ensures value { result ≡ picked_at next.now }
+    ensures few { result ≤ 1 }
+{
+    match next {
+        Next::Snapshots(
+            SnapshotStep::LockPicked(_, picked) | SnapshotStep::Release(_, picked),
+        ) if picked.is_page() => 1,
         _ => 0,
     }
 }
