@@ -70,14 +70,14 @@ impl Shared {
         ensures err { FailsOnly OutOfMemory result }
     {
         let mut walk = Walk::new(alloc, root(), self.cells.len())?;
-        let mut nodes = Vec::new(alloc);
+        let mut shown = Vec::new(alloc);
         while let Some(handle) = walk.wanted() {
             let node = self.snapshot_node(alloc, &handle, epoch)?;
             if let Some(given) = walk.hand_in(node)? {
-                nodes.push(given)?;
+                shown.push(given)?;
             }
         }
-        Ok(Tree::from_vec(nodes))
+        Ok(Tree::from_vec(shown))
     }
 
     /// The node under a handle in a living snapshot: at its epoch the settled logs have the nodes of the logs.
@@ -111,7 +111,7 @@ impl Shared {
             return Ok(None);
         }
         let cell = &self.cells[place];
-        if cell.generation() != handle.generation {
+        if handle.generation != cell.generation() {
             return Ok(None);
         }
         show_on(alloc, cell, epoch)

@@ -6,7 +6,7 @@ use Rattle.nv_core.proofs.shared.Shared.tree_at.Given as goal
 
 abbrev pub invariant-loop-handle : goal.invariant-loop-handle
 invariant-loop-handle l =
-    l.nodes.items ++ to_come (settled_copies (shared_of l.self) l.epoch) l.walk ≡ tree_at l.epoch (shared_of l.self)
+    l.shown.items ++ to_come (settled_copies (shared_of l.self) l.epoch) l.walk ≡ tree_at l.epoch (shared_of l.self)
 
 abbrev pub decreases-loop-handle : goal.decreases-loop-handle
 decreases-loop-handle l = visits_to_come (settled_copies (shared_of l.self) l.epoch) l.walk
