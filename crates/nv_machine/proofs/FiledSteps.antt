@@ -91,6 +91,15 @@ appended_marks living ino epoch killed rs entries bs pages cell within h =
     (sym (same_log entries cell new within is))
     (subst (λ (marks : List Mark). AreMarks living ino epoch killed rs cell.block (log_of cell) marks) (sym is.marks) h))
 
+-- so an inode is gone, and nothing is there of it, exactly where that was so
+pub appended_gone : (entries : List Entry) (bs pages : List BlockValue) (cell : CellState) → cell.chain.tail ≤ length cell.chain.entries
+    → is_erased (with_entries entries bs (with_pages pages cell)) ≡ is_erased cell
+appended_gone entries bs pages cell within =
+    let new = with_entries entries bs (with_pages pages cell) in
+    let is = appends entries bs pages cell in
+    ap (λ (log : List Entry). is_gone log && not (list_any is_there new.marks)) (same_log entries cell new within is)
+    ∙ ap (λ (marks : List Mark). is_gone (log_of cell) && not (list_any is_there marks)) is.marks
+
 -- what stands past the tail
 abbrev pub AreFresh : ℕ → CellState → Type 0
 AreFresh epoch cell = AllByRecursion (λ (e : Entry). e.epoch ≡ epoch) (drop cell.chain.tail cell.chain.entries)
