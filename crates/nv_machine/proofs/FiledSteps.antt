@@ -27,7 +27,7 @@ use Rattle.nv_entry.specs.declared.item.Entry.{Entry}
 use Rattle.nv_machine.specs.Held.{is_of_slot}
 use Rattle.nv_machine.specs.Kinds.{with_entries, with_pages}
 use Rattle.nv_machine.specs.Recorded.{with_parts}
-use Rattle.nv_machine.proofs.FiledLists.{all_append, all_weaker, count, count_append, count_cons, one}
+use Rattle.nv_machine.proofs.FiledLists.{HasHolder, all_append, all_weaker, count, count_append, count_cons, one}
 use Rattle.nv_machine.proofs.FiledMarks.{AreMarks, IsTold, freed_marks, is_filed_on, kept_marks, killed_number, released_marks, filed_number}
 use Rattle.nv_machine.proofs.FiledPublish.{erased_marks, filed_marks, published_marks}
 use Rattle.nv_machine.proofs.Pairs.{HasPair}
@@ -157,6 +157,17 @@ parts_are_of living ino epoch (k ∷ ks) rs h =
       go : (b : Bool) → AllByRecursion (λ (d : Record). d.ino ≡ ino) (cond b rs (rs ++ record_of ino epoch k ∷ []))
       go true = h
       go false = all_append (λ (d : Record). d.ino ≡ ino) rs (record_of ino epoch k ∷ []) h (refl, tt)
+
+-- and each has a living holder
+pub parts_held : (living : List ℕ) (ino epoch : ℕ) (ks : List KilledPart) (rs : List Record) → AllByRecursion (HasHolder living) rs
+    → AllByRecursion (HasHolder living) (with_parts living ino epoch ks rs)
+parts_held living ino epoch [] rs h = h
+parts_held living ino epoch (k ∷ ks) rs h =
+    parts_held living ino epoch ks (with_retired living (record_of ino epoch k) rs) (go (holder_of living (record_of ino epoch k)) refl) where
+      go : (o : Option ℕ) → holder_of living (record_of ino epoch k) ≡ o
+          → AllByRecursion (HasHolder living) (cond (is_none o) rs (rs ++ record_of ino epoch k ∷ []))
+      go None e = h
+      go (Some t) e = all_append (HasHolder living) rs (record_of ino epoch k ∷ []) h (record { snapshot = t; is = e }, tt)
 
 settled_log : (o : Option ℕ) (n : ℕ) (cell : CellState) → log_of (settled o n cell) ≡ log_of cell
 settled_log (Some s) n cell = refl
