@@ -215,6 +215,17 @@ retired_chain living ino epoch (k ∷ ks) cell =
     retired_chain living ino epoch ks (settled (keeper_of living ino epoch k) (number_in cell k.part) cell)
     ∙ settled_chain (keeper_of living ino epoch k) (number_in cell k.part) cell
 
+settled_block : (o : Option ℕ) (n : ℕ) (cell : CellState) → (settled o n cell).block ≡ cell.block
+settled_block (Some s) n cell = refl
+settled_block None n cell = refl
+
+pub retired_block : (living : List ℕ) (ino epoch : ℕ) (ks : List KilledPart) (cell : CellState)
+    → (retired living ino epoch ks cell).block ≡ cell.block
+retired_block living ino epoch [] cell = refl
+retired_block living ino epoch (k ∷ ks) cell =
+    retired_block living ino epoch ks (settled (keeper_of living ino epoch k) (number_in cell k.part) cell)
+    ∙ settled_block (keeper_of living ino epoch k) (number_in cell k.part) cell
+
 pub retired_log : (living : List ℕ) (ino epoch : ℕ) (ks : List KilledPart) (cell : CellState)
     → log_of (retired living ino epoch ks cell) ≡ log_of cell
 retired_log living ino epoch [] cell = refl

@@ -1,4 +1,4 @@
-use Rattle.nv_machine.proofs.Erasing.{gone_is_over, hand_has_it, none_stays, retire_erases}
+use Rattle.nv_machine.proofs.Erasing.{hand_has_it, none_stays, retire_erases}
 use Rattle.nv_machine.proofs.Returning.{number_returns}
 use Rattle.nv_machine.proofs.erasing_laws.gone_inodes_are_erased.Goals as goal
 
@@ -14,5 +14,3 @@ returns-clause-pool c = number_returns
 pub returns-clause-none : goal.returns-clause-none
 returns-clause-none c = none_stays
 
-pub returns-clause-over : goal.returns-clause-over
-returns-clause-over c = gone_is_over
