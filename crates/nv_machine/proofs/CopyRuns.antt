@@ -156,7 +156,7 @@ module _ (g : GeometryNumbers) (w : World) (known : IsReadable g w) (epoch : ℕ
   event_steps (Go actor granted) = go_steps (nat_lt actor (length w.actors)) (actor_at w actor).running actor granted refl
 
 -- no cell comes or goes
-cells_stay : (w : World) (e : Event) → length (step w e).world.shared.cells ≡ length w.shared.cells
+pub cells_stay : (w : World) (e : Event) → length (step w e).world.shared.cells ≡ length w.shared.cells
 cells_stay w (Start actor c) = ap (λ (s : Shared). length s.cells) (starts w actor c).shared
 cells_stay w (Go actor granted) = go (nat_lt actor (length w.actors)) refl (actor_at w actor).running refl where
   go : (b : Bool) → nat_lt actor (length w.actors) ≡ b → (running : Option Running) → (actor_at w actor).running ≡ running

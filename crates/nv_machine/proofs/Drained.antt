@@ -1,7 +1,8 @@
 -- A drain is answered how many records its steps have released.
-use Rattle.std.proofs.Common.{◌≡◌, ◌≢◌, ℕ, zero, suc, ◌+◌, ◌<◌, ◌==◌, ◌∙◌, ◌++◌, Bool, true, false, cond, if◌then◌else◌, List, [], ◌∷◌, length, nat_lt, Option, Some, None, ap, arith, refl, set, subst, sym}
+use Rattle.std.proofs.Common.{◌≡◌, ◌≢◌, ℕ, zero, suc, ◌+◌, ◌<◌, ◌==◌, ◌∙◌, ◌++◌, Bool, true, false, ◌||◌, not, if◌then◌else◌, List, [], ◌∷◌, length, nat_lt, Option, Some, None, IsSome, ap, arith, refl, set, subst, sym}
 use Rattle.std.proofs.lemmas.Bool.{eqb-false, eqb-true, ltb-false, ltb-true}
 use Rattle.std.proofs.lemmas.List.{get_or_past}
+use Rattle.std.proofs.lemmas.Option.{none-some}
 use Rattle.std.specs.Prelude.{Result, Ok, Err}
 use Rattle.nv_base.specs.declared.fault.Fault.{Fault}
 use Rattle.nv_base.specs.declared.fault.Fault.TheVariants.{OutOfMemory}
@@ -15,17 +16,17 @@ use Rattle.nv_machine.specs.Bound.{AreNoStarts, IsNoStart}
 use Rattle.nv_machine.specs.Kinds.{back_turn, drained_turn, end_turn, grown, last_turn, over_turn, refuse, rest_turn, unlocked_turn}
 use Rattle.nv_machine.specs.Reading.{releases, releases_at, releases_in, releases_of}
 use Rattle.nv_machine.specs.Sequence.{beginning, begun}
-use Rattle.nv_machine.specs.Snapshots.{if_free, lock_picked_turn, picked_turn, snapshot_turn}
+use Rattle.nv_machine.specs.Snapshots.{if_free, is_first, lock_picked_turn, picked_turn, snapshot_turn}
 use Rattle.nv_machine.specs.Step.{after, go_step, kind_turn, reply_of, start_step, step, turn, turned}
 use Rattle.nv_machine.specs.World.{Actor, Answers, Back, Done, Draining, Drains, Ending, Ends, Event, Give, Go, HandState, LockPicked, Moves, Next, Overtaken, Pick, Refused, Refuses, Release, Reply, Running, Shared, SnapshotStep, Snapshots, Start, Started, Turn, Unlock, Waits, World, actor_at, idle}
 use Rattle.nv_machine.proofs.Events.{refused_started, set_is, starts, turned_others}
 use Rattle.nv_machine.proofs.Lists.{self}
 
--- ---- a drain that has released so many records
+-- ---- a drain that has released so many records; it is refused for want of memory alone, before its first
 
 abbrev pub HasReleased : ℕ → Ending → Type 0
 HasReleased n (Drains draining) = draining.released ≡ n
-HasReleased n (Refuses fault) = Unit {0}
+HasReleased n (Refuses fault) = (fault ≡ OutOfMemory) × (n ≡ 0)
 HasReleased n Answers = ⊥
 HasReleased n Overtaken = ⊥
 
@@ -47,7 +48,8 @@ IsDrainOf n None = Unit {0}
 IsDrainOf n (Some r) = IsDrain n r.next r.ending
 
 abbrev pub IsCounted : ℕ → Result Answer Fault → Type 0
-IsCounted n result = (told : ℕ) → result ≡ Ok (answers.Count told) → told ≡ n
+IsCounted n result = ((told : ℕ) → result ≡ Ok (answers.Count told) → told ≡ n)
+    × ((fault : Fault) → result ≡ Err fault → (fault ≡ OutOfMemory) × (n ≡ 0))
 
 -- a turn after which so many are released, of a call that had released so many before it
 abbrev pub OnDrain : ℕ → ℕ → Turn → Type 0
@@ -64,10 +66,19 @@ same_count : (n m : ℕ) → count_told n ≡ count_told m → m ≡ n
 same_count n m e = cc
 
 counted : (n told : ℕ) → told ≡ n → IsCounted n (Ok (answers.Count told))
-counted n told e other same = same_count told other same ∙ e
+counted n told e = ((λ other same. same_count told other same ∙ e), (λ fault same. cc))
 
-refused : (n : ℕ) (fault : Fault) → IsCounted n (Err fault)
-refused n fault told e = cc
+abbrev fault_told : Fault → Result Answer Fault
+fault_told fault = Err fault
+
+same_fault : (fault other : Fault) → fault_told fault ≡ fault_told other → fault ≡ other
+same_fault fault other e = cc
+
+refused : (n : ℕ) (fault : Fault) → (fault ≡ OutOfMemory) × (n ≡ 0) → IsCounted n (Err fault)
+refused n fault is = (
+  (λ told e. cc),
+  (λ other e. subst (λ (f : Fault). (f ≡ OutOfMemory) × (n ≡ 0)) (same_fault fault other e) is),
+)
 
 module _ (before : ℕ) where
   drained_on : (n left released : ℕ) (s : Shared) (h : HandState) (r : Running) → released ≡ n → OnDrain before n (drained_turn left released s h r)
@@ -76,7 +87,7 @@ module _ (before : ℕ) where
 
   last_on : (n : ℕ) (e : Ending) (s : Shared) (h : HandState) (r : Running) → HasReleased n e → OnDrain before n (last_turn e s h r)
   last_on n (Drains draining) s h r is = drained_on n draining.left draining.released s h r is
-  last_on n (Refuses fault) s h r is = refused n fault
+  last_on n (Refuses fault) s h r is = refused n fault is
   last_on n Answers s h r is = absurd is
   last_on n Overtaken s h r is = absurd is
 
@@ -106,9 +117,10 @@ module _ (before : ℕ) where
   picked_on n [] draining s h r is = counted n draining.released is
   picked_on n (picked ∷ deferred) draining s h r is = is
 
-  grown_on : (n : ℕ) (granted : Bool) (t : Turn) (s : Shared) (h : HandState) (r : Running) → OnDrain before n t → OnDrain before n (grown granted t s h r)
-  grown_on n true t s h r is = is
-  grown_on n false t s h r is = end_on n r.slots _ s h r tt
+  grown_on : (n : ℕ) (granted : Bool) (t : Turn) (s : Shared) (h : HandState) (r : Running) → (granted ≡ false → n ≡ 0)
+      → OnDrain before n t → OnDrain before n (grown granted t s h r)
+  grown_on n true t s h r none is = is
+  grown_on n false t s h r none is = end_on n r.slots (Refuses OutOfMemory) s h r (refl, none refl)
 
   lock_on : (n : ℕ) (owner : Option ℕ) (actor : ℕ) (draining : Draining) (picked : Record) (s : Shared) (h : HandState) (r : Running)
       → before ≡ n → draining.released ≡ n → OnDrain before n (lock_picked_turn owner actor draining picked s h r)
@@ -131,11 +143,20 @@ same_none n = omega arith
 more_none : (n : ℕ) (e : Ending) → HasReleased n e → HasReleased (n + 0) e
 more_none n e is = subst (λ (m : ℕ). HasReleased m e) (same_none n) is
 
+-- memory is asked for before the first record alone
+asked_first : (granted : Bool) (draining : Draining) → (granted || not (is_first draining)) ≡ false → draining.released ≡ 0
+asked_first true draining e = cc
+asked_first false draining e = eqb-true draining.released 0 (not_false (is_first draining) e) where
+  not_false : (b : Bool) → not b ≡ false → b ≡ true
+  not_false true q = refl
+  not_false false q = cc
+
 snapshots_on : (n : ℕ) (step : SnapshotStep) (actor : ℕ) (granted : Bool) (s : Shared) (h : HandState) (r : Running) → HasReleasedOn n step
     → OnDrain n (n + releases_at (Snapshots step)) (snapshot_turn step actor granted s h r)
 snapshots_on n (Pick draining) actor granted s h r is =
     free_on n (n + 0) s.holder _ (same_none n)
-    (grown_on n (n + 0) _ _ s h r (picked_on n (n + 0) s.book.deferred draining s h r (omega (arith, is))))
+    (grown_on n (n + 0) _ _ s h r (λ e. let none = asked_first granted draining e in omega (arith, is, none))
+    (picked_on n (n + 0) s.book.deferred draining s h r (omega (arith, is))))
 snapshots_on n (LockPicked draining picked) actor granted s h r is =
     lock_on n (n + 0) _ actor draining picked s h r (same_none n) (omega (arith, is))
 snapshots_on n (Release draining picked) actor granted s h r is = end_on n (n + 1) r.slots _ _ _ r (omega (arith, is))
@@ -207,7 +228,7 @@ module _ (actor : ℕ) where
   -- ---- the answer
 
   reply_told : (n told : ℕ) (result : Result Answer Fault) → IsCounted n result → reply_of result ≡ Done (answers.Count told) → told ≡ n
-  reply_told n told (Ok found) counted is = counted told (ap Ok (found_is is)) where
+  reply_told n told (Ok found) counted is = counted.0 told (ap Ok (found_is is)) where
     found_is : Done found ≡ Done (answers.Count told) → found ≡ answers.Count told
     found_is e = cc
   reply_told n told (Err fault) counted is = cc
@@ -256,6 +277,58 @@ module _ (actor : ℕ) where
       let told_is = events_told events (step w (Start actor (call.Snapshots (on.Drain count)))).world 0 told granted apart
       (begun_drains (nat_lt actor (length w.actors)) (actor_at w actor).running w count refl started) reply in
       omega (arith, told_is)
+
+  -- ---- the refusal
+
+  reply_refused : (n : ℕ) (fault : Fault) (result : Result Answer Fault) → IsCounted n result → reply_of result ≡ Refused fault
+      → (fault ≡ OutOfMemory) × (n ≡ 0)
+  reply_refused n fault (Ok found) counted is = cc
+  reply_refused n fault (Err other) counted is = counted.1 fault (ap Err (other_is is)) where
+    other_is : Refused other ≡ Refused fault → other ≡ fault
+    other_is e = cc
+
+  turned_refused : (before n : ℕ) (fault : Fault) (t : Turn) (w : World) → OnDrain before n t
+      → (turned t actor w).reply ≡ Refused fault → (fault ≡ OutOfMemory) × (n ≡ 0)
+  turned_refused before n fault (Moves s h r) w on is = cc
+  turned_refused before n fault Waits w on is = cc
+  turned_refused before n fault (Ends result s h) w on is = reply_refused n fault result on is
+
+  go_refused : (b : Bool) (running : Option Running) (w : World) (n : ℕ) (fault : Fault) (granted : Bool) → nat_lt actor (length w.actors) ≡ b
+      → (actor_at w actor).running ≡ running → IsSome running → Drains_ n actor w
+      → (go_step b running actor granted w).reply ≡ Refused fault → (fault ≡ OutOfMemory) × (n + releases_of running ≡ 0)
+  go_refused b None w n fault granted there is some was reply = cc
+  go_refused false (Some r) w n fault granted there is some was reply =
+      absurd (none-some r (sym (ap (λ (x : Actor). x.running)
+      (get_or_past w.actors actor idle (ltb-false actor (length w.actors) there))) ∙ is))
+  go_refused true (Some r) w n fault granted there is some was reply =
+      turned_refused n (n + releases_at r.next) fault (turn w.numbers.block actor granted w.shared (actor_at w actor).hand r) w
+      (kind_on n r.next w.numbers.block actor granted w.shared (actor_at w actor).hand r (subst (IsDrainOf n) is was)) reply
+
+  events_refused : (events : List Event) (w : World) (n : ℕ) (fault : Fault) (granted : Bool) → AreNoStarts actor events → Drains_ n actor w
+      → IsSome (actor_at (after w events) actor).running → (step (after w events) (Go actor granted)).reply ≡ Refused fault
+      → (fault ≡ OutOfMemory) × (n + releases actor w (events ++ Go actor granted ∷ []) ≡ 0)
+  events_refused [] w n fault granted apart was some reply =
+      let one = go_refused (nat_lt actor (length w.actors)) (actor_at w actor).running w n fault granted refl refl some was reply in
+      let own = ap (λ (b : Bool). if b then releases_of (actor_at w actor).running else 0) (self actor) in
+      let none = one.1 in
+      (one.0, omega (arith, none, own))
+  events_refused (e ∷ events) w n fault granted apart was some reply =
+      let rest = events_refused events (step w e).world (n + releases_in actor w e) fault granted apart.1 (event_drains n w e apart.0 was)
+      some reply in
+      let none = rest.1 in
+      (rest.0, omega (arith, none))
+
+  pub drain_refused : (events : List Event) (w : World) (count : ℕ) (fault : Fault) (granted : Bool)
+      → (step w (Start actor (call.Snapshots (on.Drain count)))).reply ≡ Started → AreNoStarts actor events
+      → IsSome (actor_at (after (step w (Start actor (call.Snapshots (on.Drain count)))).world events) actor).running
+      → (step (after (step w (Start actor (call.Snapshots (on.Drain count)))).world events) (Go actor granted)).reply ≡ Refused fault
+      → (fault ≡ OutOfMemory)
+      × (releases actor (step w (Start actor (call.Snapshots (on.Drain count)))).world (events ++ Go actor granted ∷ []) ≡ 0)
+  drain_refused events w count fault granted started apart some reply =
+      let is = events_refused events (step w (Start actor (call.Snapshots (on.Drain count)))).world 0 fault granted apart
+      (begun_drains (nat_lt actor (length w.actors)) (actor_at w actor).running w count refl started) some reply in
+      let none = is.1 in
+      (is.0, omega (arith, none))
 
 -- ---- a pick that finds nothing
 

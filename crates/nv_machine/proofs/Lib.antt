@@ -133,6 +133,7 @@ pub mod Pins
 pub mod SnapSteps
 pub mod SnapsAlike
 pub mod SnapRuns
+pub mod SnapRefusals
 pub mod EpochLogs
 pub mod EpochSteps
 pub mod ReleaseGrown

@@ -19,7 +19,7 @@ use Rattle.nv_machine.specs.Sequence.{beginning, begun}
 use Rattle.nv_machine.specs.Settled.{settled_copies}
 use Rattle.nv_machine.specs.Snapshots.{copies_at, first_showing, if_free, shown_by, unpin_turn}
 use Rattle.nv_machine.specs.Step.{after, go_step, kind_turn, reply_of, start_step, step, turn, turned}
-use Rattle.nv_machine.specs.World.{Actor, Answers, Done, Drains, Ending, Ends, Event, Go, HandState, Moves, Next, Overtaken, Refuses, Running, Shared, Show, SnapshotStep, Snapshots, Start, Turn, Unpin, Waits, World, actor_at, idle, owner_at}
+use Rattle.nv_machine.specs.World.{Actor, Answers, Done, Drains, Drop, Ending, Ends, Event, Go, HandState, LockPicked, Make, Moves, Next, Overtaken, Pick, Pin, Refuses, Release, Running, Shared, Show, Snapshots, Start, Turn, Unpin, Waits, World, actor_at, idle, owner_at}
 use Rattle.nv_machine.proofs.CopyRuns.{cells_stay}
 use Rattle.nv_machine.proofs.Events.{set_is, starts, turned_others}
 use Rattle.nv_machine.proofs.LivingPins.{lives-from_pins}

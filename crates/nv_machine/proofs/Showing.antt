@@ -103,7 +103,7 @@ visit_seen nodes tree showing found is same =
 
 -- ---- a step that comes next and is of no show
 
-no_show : (copies : ℕ → Handle → Option NodeCopy) (inodes : ℕ) (k : Next) (e : Ending) → ((n : ℕ) → pins_at n k ≡ false)
+pub no_show : (copies : ℕ → Handle → Option NodeCopy) (inodes : ℕ) (k : Next) (e : Ending) → ((n : ℕ) → pins_at n k ≡ false)
     → ShowsAt copies inodes k e
 no_show copies inodes (Snapshots (Show snapshot showing)) e none = absurd (true≢false (sym (self snapshot) ∙ none snapshot))
 no_show copies inodes (Snapshots (Unpin snapshot seen)) e none = absurd (true≢false (sym (self snapshot) ∙ none snapshot))
