@@ -180,6 +180,17 @@ module _ (w : World) (a : ℕ) (rs : List Record) (r : Running) (there : a < len
       (subst (AllByRecursion (λ d. holder_of living d ≡ None)) (sym picked) m.unheld)
       (subst (AllByRecursion (λ (d : Record). d.death ≤ epoch)) (sym picked) m.dead) m
 
+  -- the killed parts of the inode whose turn it is
+  pub retire_mine : (place : ℕ) → r.next ≡ Retire place → place < length written → length h.killed + place ≡ length written
+      → MarksOf living (slot_at written place) r.epoch (first_killed h.killed) (rs ++ picked_in w) (cell_at s (slot_at written place))
+  retire_mine place next inside many =
+      let slot = slot_at written place in
+      subst (λ (e : ℕ). MarksOf living slot e (first_killed h.killed) (rs ++ picked_in w) (cell_at s slot)) (sym epoch_is)
+      (marks_as living slot epoch (killed_in w slot) (first_killed h.killed) (rs ++ picked_in w) (rs ++ picked_in w) (cell_at s slot)
+      (sym (was slot ∙ ap (λ (k : Next). parts_for (killed_slots k written) h.killed slot) next
+      ∙ ap (λ (l : List ℕ). parts_for l h.killed slot) (slots_from place written inside)
+      ∙ first_for slot (drop (place + 1) written) h.killed (omega (arith, many, inside)))) refl (m.cells slot))
+
   pub retire_marked : (place : ℕ) → r.next ≡ Retire place → place < length written → IsRising written
       → slot_at written place < length s.cells → IsLog (cell_at s (slot_at written place)).chain.entries
       → length h.killed + place ≡ length written → picked_at (sequel r (Retire place)) ≡ []
@@ -208,10 +219,7 @@ module _ (w : World) (a : ℕ) (rs : List Record) (r : Running) (there : a < len
       ap (λ (l : List Record). l ++ picked_in v) (parts_behind living slot r.epoch parts rs)
       ∙ ap (λ (l : List Record). (rs ++ more) ++ l) picked in
       let published_log : IsLog (log_of cell) = IsLog-take cell.chain.tail cell.chain.entries log in
-      let mine : MarksOf living slot r.epoch parts (rs ++ picked_in w) cell =
-      subst (λ (e : ℕ). MarksOf living slot e parts (rs ++ picked_in w) cell) (sym epoch_is)
-      (marks_as living slot epoch (killed_in w slot) parts (rs ++ picked_in w) (rs ++ picked_in w) cell
-      (sym (before slot ∙ first_for slot (drop (place + 1) written) h.killed some)) refl (m.cells slot)) in
+      let mine : MarksOf living slot r.epoch parts (rs ++ picked_in w) cell = retire_mine place next inside many in
       let gone : MarksOf living slot r.epoch [] ((rs ++ picked_in w) ++ with_parts living slot r.epoch parts []) left =
       subst (λ (l : List Record). MarksOf living slot r.epoch [] l left) (parts_behind living slot r.epoch parts (rs ++ picked_in w))
       (retired_marks living slot r.epoch parts (rs ++ picked_in w) cell published_log mine) in

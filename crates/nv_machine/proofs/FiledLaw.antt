@@ -172,6 +172,20 @@ recorded_once g events within ino n =
     let is = ((all_marked g events within).cells ino).kept_are n in
     omega (arith, all, rest, filed, both, is)
 
+-- what holds of all that is listed or picked holds of each record
+pub recorded_all : (g : GeometryNumbers) (events : List Event) (P : Record → Type 0) → IsWithinLimits g
+    → AllByRecursion P (records_after (formatted g) events [] ++ picked_in (after (formatted g) events))
+    → AllByRecursion P (recorded_in (after (formatted g) events))
+recorded_all g events P within all =
+    let w = after (formatted g) events in
+    let rs = records_after (formatted g) events [] in
+    let l = all_listed g events within in
+    let book = w.shared.book in
+    let filed = all_filed P (ids book.snaps) book.manifests book.deferred rs l.list (all_front P rs (picked_in w) all) in
+    all_append P (all_records book.manifests) (book.deferred ++ picked_in w) (all_front P (all_records book.manifests) book.deferred filed)
+    (all_append P book.deferred (picked_in w) (all_back P (all_records book.manifests) book.deferred filed)
+    (all_back P rs (picked_in w) all))
+
 -- what is told of each slot is told of each record
 each_of : (w : World) (rs : List Record)
     → ((ino : ℕ) → AllByRecursion (IsTold ino (cell_at w.shared ino).block (log_of (cell_at w.shared ino))) rs)
@@ -187,12 +201,5 @@ pub recorded_pairs : (g : GeometryNumbers) (events : List Event) → IsWithinLim
     → AllByRecursion (IsOfPair (after (formatted g) events)) (recorded_in (after (formatted g) events))
 recorded_pairs g events within =
     let w = after (formatted g) events in
-    let rs = records_after (formatted g) events [] in
-    let l = all_listed g events within in
-    let book = w.shared.book in
-    let P : Record → Type 0 = IsOfPair w in
-    let all : AllByRecursion P (rs ++ picked_in w) = each_of w (rs ++ picked_in w) (λ ino. ((all_marked g events within).cells ino).told) in
-    let filed = all_filed P (ids book.snaps) book.manifests book.deferred rs l.list (all_front P rs (picked_in w) all) in
-    all_append P (all_records book.manifests) (book.deferred ++ picked_in w) (all_front P (all_records book.manifests) book.deferred filed)
-    (all_append P book.deferred (picked_in w) (all_back P (all_records book.manifests) book.deferred filed)
-    (all_back P rs (picked_in w) all))
+    recorded_all g events (IsOfPair w) within
+    (each_of w (records_after (formatted g) events [] ++ picked_in w) (λ ino. ((all_marked g events within).cells ino).told))

@@ -235,3 +235,31 @@ pub all_filed : (P : Record → Type 0) (living : List ℕ) (ms : List Manifest)
 all_filed P living ms ds rs h all =
     all_append P (all_records ms) ds (rw h.manifests_are (all_told P living rs living all))
     (rw h.deferred_is (all_filter P (λ r. is_none (holder_of living r)) rs all))
+
+-- ---- what stands in a manifest has a living holder
+
+pub record HasHolder (living : List ℕ) (d : Record) : Type 0 where
+  pub snapshot : ℕ
+  pub is : holder_of living d ≡ Some snapshot
+
+held_kept : (s : ℕ) (living : List ℕ) (rs : List Record) → AllByRecursion (HasHolder living) (kept_by s living rs)
+held_kept s living [] = tt
+held_kept s living (r ∷ rs) = go (holder_of living r) refl (held_kept s living rs) where
+  both : (b : Bool) → HasHolder living r → AllByRecursion (HasHolder living) (kept_by s living rs)
+      → AllByRecursion (HasHolder living) (cond b (r ∷ kept_by s living rs) (kept_by s living rs))
+  both true own more = (own, more)
+  both false own more = more
+
+  go : (o : Option ℕ) → holder_of living r ≡ o → AllByRecursion (HasHolder living) (kept_by s living rs)
+      → AllByRecursion (HasHolder living) (cond (is_snapshot s o) (r ∷ kept_by s living rs) (kept_by s living rs))
+  go None e more = more
+  go (Some t) e more = both (s == t) (record { snapshot = t; is = e }) more
+
+held_told : (living : List ℕ) (rs : List Record) (ss : List ℕ) → AllByRecursion (HasHolder living) (told living rs ss)
+held_told living rs [] = tt
+held_told living rs (s ∷ ss) =
+    all_append (HasHolder living) (kept_by s living rs) (told living rs ss) (held_kept s living rs) (held_told living rs ss)
+
+pub held_filed : (living : List ℕ) (ms : List Manifest) (ds rs : List Record) → IsRecordList living ms ds rs
+    → AllByRecursion (HasHolder living) (all_records ms)
+held_filed living ms ds rs h = rw h.manifests_are (held_told living rs living)

@@ -67,7 +67,7 @@ pub record AreMarks (living : List ℕ) (ino epoch : ℕ) (killed : List KilledP
 
 -- ---- small things
 
-bit_is : (b : Bool) → 1 ≤ bit b → b ≡ true
+pub bit_is : (b : Bool) → 1 ≤ bit b → b ≡ true
 bit_is true le = refl
 bit_is false le = absurd (omega (arith, le))
 
@@ -85,7 +85,7 @@ killed_not_kept Killed e = refl
 killed_not_kept Kept e = absurd (false≢true e)
 killed_not_kept Out e = refl
 
-killed_not_current : (m : Mark) → is_killed m ≡ true → is_current m ≡ false
+pub killed_not_current : (m : Mark) → is_killed m ≡ true → is_current m ≡ false
 killed_not_current Current e = absurd (false≢true e)
 killed_not_current Killed e = refl
 killed_not_current Kept e = refl
@@ -97,7 +97,7 @@ kept_not_killed Killed e = absurd (false≢true e)
 kept_not_killed Kept e = refl
 kept_not_killed Out e = refl
 
-kept_not_current : (m : Mark) → is_kept m ≡ true → is_current m ≡ false
+pub kept_not_current : (m : Mark) → is_kept m ≡ true → is_current m ≡ false
 kept_not_current Current e = absurd (false≢true e)
 kept_not_current Killed e = refl
 kept_not_current Kept e = refl
@@ -191,13 +191,13 @@ module _ (living : List ℕ) (ino epoch : ℕ) (k : KilledPart) (parts : List Ki
   first : (n : ℕ) → one (m == n) + count (is_killed_on log n) parts ≡ bit (is_killed (mark_at marks n))
   first n = omega (arith, ap one (own n), count_cons (is_killed_on log n) k parts, h.killed_are n)
 
-  is_so : is_killed (mark_at marks m) ≡ true
+  pub is_so : is_killed (mark_at marks m) ≡ true
   is_so = bit_is (is_killed (mark_at marks m)) (omega (arith, first m, ap one (self m)))
 
   others_not : count (is_killed_on log m) parts ≡ 0
   others_not = omega (arith, first m, ap one (self m), ap bit is_so)
 
-  low : m < length marks
+  pub low : m < length marks
   low = elim (cases_lt m (length marks)) [
     | inl lt ↦ lt
     | inr ge ↦ absurd (false≢true (ap is_killed (sym (get_or_past marks m Out ge)) ∙ is_so))
@@ -272,10 +272,10 @@ module _ (living : List ℕ) (ino epoch : ℕ) (killed : List KilledPart) (befor
   once : (n : ℕ) → one (pair.n == n) + count (is_filed_on ino log n) after ≡ bit (is_kept (mark_at marks n))
   once n = omega (arith, ap one (its n), counts (is_filed_on ino log n), h.kept_are n)
 
-  kept_so : is_kept (mark_at marks pair.n) ≡ true
+  pub kept_so : is_kept (mark_at marks pair.n) ≡ true
   kept_so = bit_is (is_kept (mark_at marks pair.n)) (omega (arith, once pair.n, ap one (self pair.n)))
 
-  low_filed : pair.n < length marks
+  pub low_filed : pair.n < length marks
   low_filed = elim (cases_lt pair.n (length marks)) [
     | inl lt ↦ lt
     | inr ge ↦ absurd (false≢true (ap is_kept (sym (get_or_past marks pair.n Out ge)) ∙ kept_so))

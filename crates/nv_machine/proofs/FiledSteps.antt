@@ -91,6 +91,15 @@ appended_marks living ino epoch killed rs entries bs pages cell within h =
     (sym (same_log entries cell new within is))
     (subst (λ (marks : List Mark). AreMarks living ino epoch killed rs cell.block (log_of cell) marks) (sym is.marks) h))
 
+-- so an inode is gone, and nothing is there of it, exactly where that was so
+pub appended_gone : (entries : List Entry) (bs pages : List BlockValue) (cell : CellState) → cell.chain.tail ≤ length cell.chain.entries
+    → is_erased (with_entries entries bs (with_pages pages cell)) ≡ is_erased cell
+appended_gone entries bs pages cell within =
+    let new = with_entries entries bs (with_pages pages cell) in
+    let is = appends entries bs pages cell in
+    ap (λ (log : List Entry). is_gone log && not (list_any is_there new.marks)) (same_log entries cell new within is)
+    ∙ ap (λ (marks : List Mark). is_gone (log_of cell) && not (list_any is_there marks)) is.marks
+
 -- what stands past the tail
 abbrev pub AreFresh : ℕ → CellState → Type 0
 AreFresh epoch cell = AllByRecursion (λ (e : Entry). e.epoch ≡ epoch) (drop cell.chain.tail cell.chain.entries)
@@ -153,27 +162,36 @@ settled_log : (o : Option ℕ) (n : ℕ) (cell : CellState) → log_of (settled 
 settled_log (Some s) n cell = refl
 settled_log None n cell = refl
 
+-- the first killed part is kept, or goes out
+module _ (living : List ℕ) (ino epoch : ℕ) (k : KilledPart) (ks : List KilledPart) (rs : List Record) (cell : CellState)
+    (is : IsLog (log_of cell)) (h : MarksOf living ino epoch (k ∷ ks) rs cell) where
+  pub number_is_its : number_in cell k.part ≡ h.dying.0.n
+  number_is_its = ap (λ (o : Option ℕ). unwrap_or o 0)
+      (killed_number living ino epoch k ks rs cell.block (log_of cell) cell.marks is h)
+
+  pub settled_marks : MarksOf living ino epoch ks (with_retired living (record_of ino epoch k) rs)
+      (settled (keeper_of living ino epoch k) (number_in cell k.part) cell)
+  settled_marks = go (keeper_of living ino epoch k) refl where
+    go : (o : Option ℕ) → keeper_of living ino epoch k ≡ o
+        → MarksOf living ino epoch ks (cond (is_none o) rs (rs ++ record_of ino epoch k ∷ [])) (settled o (number_in cell k.part) cell)
+    go (Some s) e =
+        subst (λ (n : ℕ). AreMarks living ino epoch ks (rs ++ record_of ino epoch k ∷ []) cell.block (log_of cell) (set cell.marks n Kept))
+        (sym number_is_its) (kept_marks living ino epoch k ks rs cell.block (log_of cell) cell.marks is h)
+    go None e =
+        subst (λ (n : ℕ). AreMarks living ino epoch ks rs cell.block (log_of cell) (set cell.marks n Out)) (sym number_is_its)
+        (freed_marks living ino epoch k ks rs cell.block (log_of cell) cell.marks is h e)
+
+  pub settled_is_log : IsLog (log_of (settled (keeper_of living ino epoch k) (number_in cell k.part) cell))
+  settled_is_log = subst IsLog (sym (settled_log (keeper_of living ino epoch k) (number_in cell k.part) cell)) is
+
 pub retired_marks : (living : List ℕ) (ino epoch : ℕ) (ks : List KilledPart) (rs : List Record) (cell : CellState) → IsLog (log_of cell)
     → MarksOf living ino epoch ks rs cell
     → MarksOf living ino epoch [] (with_parts living ino epoch ks rs) (retired living ino epoch ks cell)
 retired_marks living ino epoch [] rs cell is h = h
 retired_marks living ino epoch (k ∷ ks) rs cell is h =
     retired_marks living ino epoch ks (with_retired living (record_of ino epoch k) rs)
-    (settled (keeper_of living ino epoch k) (number_in cell k.part) cell)
-    (subst IsLog (sym (settled_log (keeper_of living ino epoch k) (number_in cell k.part) cell)) is)
-    (go (keeper_of living ino epoch k) refl) where
-      number : number_in cell k.part ≡ h.dying.0.n
-      number = ap (λ (o : Option ℕ). unwrap_or o 0)
-          (killed_number living ino epoch k ks rs cell.block (log_of cell) cell.marks is h)
-
-      go : (o : Option ℕ) → keeper_of living ino epoch k ≡ o
-          → MarksOf living ino epoch ks (cond (is_none o) rs (rs ++ record_of ino epoch k ∷ [])) (settled o (number_in cell k.part) cell)
-      go (Some s) e =
-          subst (λ (n : ℕ). AreMarks living ino epoch ks (rs ++ record_of ino epoch k ∷ []) cell.block (log_of cell) (set cell.marks n Kept))
-          (sym number) (kept_marks living ino epoch k ks rs cell.block (log_of cell) cell.marks is h)
-      go None e =
-          subst (λ (n : ℕ). AreMarks living ino epoch ks rs cell.block (log_of cell) (set cell.marks n Out)) (sym number)
-          (freed_marks living ino epoch k ks rs cell.block (log_of cell) cell.marks is h e)
+    (settled (keeper_of living ino epoch k) (number_in cell k.part) cell) (settled_is_log living ino epoch k ks rs cell is h)
+    (settled_marks living ino epoch k ks rs cell is h)
 
 settled_chain : (o : Option ℕ) (n : ℕ) (cell : CellState) → (settled o n cell).chain ≡ cell.chain
 settled_chain (Some s) n cell = refl

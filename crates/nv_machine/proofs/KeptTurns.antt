@@ -120,7 +120,7 @@ Keeps k block a granted s h r =
     OnKept (keeps_nodes (deed k (written_slots r) (kind_turn k block a granted s h r))) block a s (kind_turn k block a granted s h r)
 
 -- the cell that a step is lent is its actor's, and one of the world
-lent_inside_own : (k : Next) (a : ℕ) (s : Shared) (r : Running) → Before a s k r → (ino : ℕ)
+pub lent_inside_own : (k : Next) (a : ℕ) (s : Shared) (r : Running) → Before a s k r → (ino : ℕ)
     → (lent k (length s.lists) a r).cell ≡ Some ino → (ino < length s.cells) × (owner_at s ino ≡ Some a)
 lent_inside_own k a s r b ino is =
     let own = lent_cell k (length s.lists) a s r b ino is in (inside own, own) where

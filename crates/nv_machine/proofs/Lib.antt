@@ -4,6 +4,7 @@ pub mod Lists
 pub mod Holding
 pub mod Locked
 pub mod Framed
+pub mod SnapshotCalls
 pub mod SnapshotTurns
 pub mod BookRecords
 pub mod Bounded
@@ -164,3 +165,6 @@ pub mod FiledCommits
 pub mod FiledSnaps
 pub mod FiledKinds
 pub mod FiledLaw
+pub mod FiledHeld
+pub mod FiledParts
+pub mod HeldMarks

@@ -1,5 +1,5 @@
 -- The killed parts of a slot, among lists that belong to slots one by one; and what all actors have, where one has something else.
-use Rattle.std.proofs.Common.{◌≡◌, ◌≢◌, ℕ, zero, suc, ◌+◌, ◌<◌, ◌==◌, ◌++◌, ◌∙◌, Bool, true, false, List, [], ◌∷◌, add-one, ap, append-nil, arith, drop, drop-cons, filter, flat_map, get_or-set_other, get_or-set_same, if◌then◌else◌, length, nat_lt, refl, set, sym, take}
+use Rattle.std.proofs.Common.{◌≡◌, ◌≢◌, ℕ, zero, suc, ◌+◌, ◌<◌, ◌≤◌, ◌==◌, ◌++◌, ◌∙◌, Bool, true, false, List, [], ◌∷◌, add-one, ap, append-nil, arith, drop, drop-cons, filter, flat_map, get_or-set_other, get_or-set_same, if◌then◌else◌, length, nat_lt, refl, set, sym, take}
 use Rattle.std.specs.Prelude.{◌||◌, slice_index_or}
 use Rattle.std.specs.List.{AllByRecursion}
 use Rattle.std.proofs.lemmas.Bool.{eqb-true, ltb-false, true≢false}
@@ -145,3 +145,9 @@ module _ {X : Type 0} (f : Actor → List X) where
   own_all P [] a lt all = absurd (omega (arith, lt))
   own_all P (y ∷ xs) zero lt all = all_front P (f y) (flat_map f xs) all
   own_all P (y ∷ xs) (suc a) lt all = own_all P xs a (omega (arith, lt)) (all_back P (f y) (flat_map f xs) all)
+
+  pub own_count : (p : X → Bool) (xs : List Actor) (a : ℕ) → a < length xs
+      → count p (f (slice_index_or xs a idle)) ≤ count p (flat_map f xs)
+  own_count p [] a lt = absurd (omega (arith, lt))
+  own_count p (y ∷ xs) zero lt = omega (arith, count_append p (f y) (flat_map f xs))
+  own_count p (y ∷ xs) (suc a) lt = omega (arith, own_count p xs a (omega (arith, lt)), count_append p (f y) (flat_map f xs))
