@@ -15,11 +15,11 @@ use Rattle.nv_script.specs.Words.{words_of}
 pub first-of : (test : ℕ → Bool) (bytes : List ℕ) (found : Option ℕ) → IsFirstByte test bytes found
     → position_or_len test bytes ≡ unwrap_or found (length bytes)
 first-of test bytes (Some at) first =
-    position_or_len_is test bytes at 0 (omega (arith, first.0.high)) (λ k before. false_from_ne_true (test (get_or bytes k 0)) (first.0.before k (omega arith) before))
-    (λ within. first.1)
+    position_or_len_is test bytes at 0 (omega (arith, first.0.high))
+    (λ k before. false_from_ne_true (test (get_or bytes k 0)) (first.0.before k (omega arith) before)) (λ within. first.1)
 first-of test bytes None none =
-    position_or_len_is test bytes (length bytes) 0 (omega arith) (λ k before. false_from_ne_true (test (get_or bytes k 0)) (none k (omega arith) before))
-    (λ within. absurd (omega arith))
+    position_or_len_is test bytes (length bytes) 0 (omega arith)
+    (λ k before. false_from_ne_true (test (get_or bytes k 0)) (none k (omega arith) before)) (λ within. absurd (omega arith))
 
 -- the words before and behind the first space
 pub words-at : (bytes : List ℕ) (at : ℕ) → IsFirstByte (is_byte 32) bytes (Some at)
@@ -33,7 +33,8 @@ words-at bytes at first =
 pub word-alone : (bytes : List ℕ) → IsFirstByte (is_byte 32) bytes None → words_of bytes ≡ bytes ∷ []
 word-alone bytes none =
     slice_split_none (is_byte 32) bytes
-    (All-from_get_or (λ x. is_byte 32 x ≡ false) bytes 0 (λ k within. false_from_ne_true (is_byte 32 (get_or bytes k 0)) (none k (omega arith) within)))
+    (All-from_get_or (λ x. is_byte 32 x ≡ false) bytes 0
+    (λ k within. false_from_ne_true (is_byte 32 (get_or bytes k 0)) (none k (omega arith) within)))
 
 -- the words found so far, and those of the rest: one more is found before a space
 pub words-more : {A : Type 0} (text : A → List ℕ) (line rest : List ℕ) (found more : List A) (word : A) (at : ℕ) (result : Option ℕ)
