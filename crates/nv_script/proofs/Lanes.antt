@@ -31,7 +31,8 @@ lane_set false false false = refl
 
 -- those of all lanes
 abbrev lanes_set : List ℕ → ℕ → List ℕ
-lanes_set v n = zip2 bit_or (zip2 bit_or (zip2 (λ a b. set (nat_lt a b)) v (replicate n 33)) (zip2 (λ a b. set (nat_lt a b)) (replicate n 126) v))
+lanes_set v n =
+    zip2 bit_or (zip2 bit_or (zip2 (λ a b. set (nat_lt a b)) v (replicate n 33)) (zip2 (λ a b. set (nat_lt a b)) (replicate n 126) v))
     (zip2 (λ a b. set (a == b)) v (replicate n 37))
 
 lanes_set-odd : (v : List ℕ) (n : ℕ) → length v ≡ n → map (top 7) (lanes_set v n) ≡ map odd v

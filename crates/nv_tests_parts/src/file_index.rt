@@ -251,7 +251,10 @@ fn assert_same_at(
     assert!(rt; index.run_from(page) == run, "page {page}");
     for guess in [0, 7, usize::MAX] {
         let mut place = guess;
-        assert!(rt; index.run_near(page, &mut place) == run, "page {page} from {guess}");
+        assert!(rt;
+            index.run_near(page, &mut place) == run,
+            "page {page} from {guess}"
+        );
     }
 }
 

@@ -4,8 +4,8 @@ use Rattle.nv_script.proofs.word.words.Goals as goal
 
 pub loop-space-preserved : goal.loop-space-preserved
 loop-space-preserved c =
-    let more = words-more (λ w. w.now) c.args.line.now c.loop-space.rest.now c.loop-space.found.items c.push.new.self.items _ c.in-Some.space
-    c.memchr.result c.loop-space.invariant.words c.memchr.ensures c.in-Some.is c.in_ok-push.ensures.items in
+    let more = words-more (λ w. w.now) c.args.line.now c.loop-space.rest.now c.loop-space.found.items c.push.new.self.items _
+    c.in-Some.space c.memchr.result c.loop-space.invariant.words c.memchr.ensures c.in-Some.is c.in_ok-push.ensures.items in
     search (rules, more)
 
 pub returns : goal.returns
