@@ -10,7 +10,7 @@ use Words::{Create, List, Lookup, Mkdir, Read, Rename, Size, Stat, Unlink, Write
 use nv_base::{Fault, Kind, Name};
 use nv_core::{Event, Reply, TreeNode, World};
 use nv_scenes::Row;
-use playing::{finish, new_world};
+use playing::{finish, new_world, reply_to};
 use std::alloc::Global;
 use std::process::Abort;
 use std::test::Fail;
@@ -30,11 +30,11 @@ type Played = (Step, Want);
 
 use Step::{Do, Go, Run, Start};
 
-/// The reply to an event, or the last one of several.
-fn reply_to(rt: &impl Abort, alloc: Global, world: &mut World, step: &Step) -> Reply {
+/// The reply to a step, or the last one of several.
+fn replied(rt: &impl Abort, alloc: Global, world: &mut World, step: &Step) -> Reply {
     match step {
-        Start(actor, words) => world.step(Event::Start(*actor, call(rt, alloc, words))),
-        Go(actor) => world.step(Event::Go(*actor)),
+        Start(actor, words) => reply_to(world, Event::Start(*actor, call(rt, alloc, words))),
+        Go(actor) => reply_to(world, Event::Go(*actor)),
         Run(actor) => finish(rt, world, *actor).1,
         Do(words) => playing::alone(rt, alloc, world, 0, words).1,
     }
@@ -45,7 +45,7 @@ fn plays_anew(rt: &impl Abort, alloc: Global, row: Row, rows: &[Played]) -> Worl
     let mut world = new_world(rt, alloc, row);
     for i in 0..rows.len() {
         let (step, want) = &rows[i];
-        let reply = reply_to(rt, alloc, &mut world, step);
+        let reply = replied(rt, alloc, &mut world, step);
         holds_for(rt, i, is_wanted(&reply, want));
     }
     world
@@ -243,11 +243,12 @@ const REPLIES: [(usize, Want); 3] = [
 
 fn are_wanted(rt: &impl Abort, replies: &[Reply]) {
     same(rt, replies.len(), 49);
-    for (place, want) in REPLIES {
-        let is_there = replies
-            .get(place)
-            .is_some_and(|reply| is_wanted(reply, &want));
-        holds_for(rt, place, is_there);
+    for (place, want) in &REPLIES {
+        let is_there = match replies.get(*place) {
+            Some(reply) => is_wanted(reply, want),
+            None => false,
+        };
+        holds_for(rt, *place, is_there);
     }
 }
 

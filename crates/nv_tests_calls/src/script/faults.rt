@@ -21,12 +21,12 @@ fn is_faulty<R: AllocGlobal + Abort>(
 
 #[test]
 fn lines_have_their_faults(rt: HostRuntime) -> Result<(), Fail> {
-    for (line, kind) in SECOND_LINES {
-        let fault = Fault::ScriptFault(2, kind);
+    for (line, kind) in &SECOND_LINES {
+        let fault = Fault::ScriptFault(2, *kind);
         is_faulty(&rt, FORMAT, line, fault, b"formatted\n")?;
     }
-    for (script, line, kind) in FIRST_LINES {
-        let fault = Fault::ScriptFault(line, kind);
+    for (script, line, kind) in &FIRST_LINES {
+        let fault = Fault::ScriptFault(*line, *kind);
         is_faulty(&rt, "", script, fault, b"")?;
     }
     Ok(())
@@ -53,9 +53,9 @@ const MANY: [Behind; 7] = [
 
 #[test]
 fn long_lines_and_many_lines(rt: HostRuntime) -> Result<(), Fail> {
-    for (byte, count, end, outcome) in MANY {
-        let script = filled(rt.alloc(), FORMAT, byte, count, end.as_bytes())?;
-        check(&rt, &script, outcome, b"formatted\n");
+    for (byte, count, end, outcome) in &MANY {
+        let script = filled(rt.alloc(), FORMAT, *byte, *count, end.as_bytes())?;
+        check(&rt, &script, *outcome, b"formatted\n");
     }
     Ok(())
 }

@@ -1,9 +1,9 @@
 //! Worked rows while the runner refuses memory once: a line that is refused is given again.
 
+use super::pieces::ending;
 use super::worked::{CUT_THEN_GROWN, NAMES, PARTIAL_AT_BOTH_ENDS, Row};
 use crate::compare::same_for;
 use nv_base::Fault;
-use nv_script::play;
 use std::cell::Cell;
 use std::io;
 use std::io::{Read, Write};
@@ -76,7 +76,7 @@ fn answers_in_the_end<R: AllocGlobal + Abort>(rt: &R, row: Row) {
         is_refused: &is_refused,
         is_expected: true,
     };
-    let outcome = play(rt.alloc(), &mut reader, &mut writer);
+    let outcome = ending(rt.alloc(), &mut reader, &mut writer);
     same_for(rt, &row.0, writer.is_expected, true);
     if outcome != Err(Fault::OutOfMemory) {
         same_for(rt, &row.0, outcome, Ok(()));

@@ -1,11 +1,11 @@
 //! Whole scripts, and what they write.
 
-use super::pieces::play_in_pieces;
+use super::pieces::{ending, play_in_pieces};
 use super::rows::{FAULTS, FORMAT, SCRIPTS};
 use super::worked::{Row, WORKED};
 use crate::compare::{same, same_for};
 use nv_base::{Fault, ScriptFaultKind};
-use nv_script::{fault_line, fault_text, play};
+use nv_script::{fault_line, fault_text};
 use std::alloc::{AllocError, Global};
 use std::cell::Cell;
 use std::io;
@@ -22,7 +22,7 @@ pub(super) fn check<R: AllocGlobal + Abort>(
 ) {
     let mut reader = script;
     let mut written = Vec::new(rt.alloc());
-    let ended = play(rt.alloc(), &mut reader, &mut written);
+    let ended = ending(rt.alloc(), &mut reader, &mut written);
     same_for(rt, &script, ended, outcome);
     same_for(rt, &script, written.as_slice(), text);
 }
@@ -52,8 +52,8 @@ fn check_all<R: AllocGlobal + Abort>(rt: &R, rows: &[Row]) {
 fn scripts_write_their_texts(rt: HostRuntime) -> Result<(), Fail> {
     check_all(&rt, &WORKED);
     check_all(&rt, &SCRIPTS);
-    for (front, letters, end, text) in LONGEST {
-        let script = filled(rt.alloc(), front, b'a', letters, end.as_bytes())?;
+    for (front, letters, end, text) in &LONGEST {
+        let script = filled(rt.alloc(), front, b'a', *letters, end.as_bytes())?;
         check(&rt, &script, Ok(()), text.as_bytes());
     }
     Ok(())
@@ -186,7 +186,7 @@ fn each_line_is_answered_before_the_next_is_asked_for(rt: HostRuntime) -> Result
         taken: &taken,
         calls: 0,
     };
-    let outcome = play(rt.alloc(), &mut reader, &mut writer);
+    let outcome = ending(rt.alloc(), &mut reader, &mut writer);
     assert!(rt; outcome.is_ok() && reader.is_answered && reader.given == 5);
     assert!(rt; writer.calls == 4);
     Ok(())
@@ -200,7 +200,7 @@ fn counts_of(alloc: Global, script: &str) -> (Result<(), Fault>, usize, usize) {
         taken: &taken,
         calls: 0,
     };
-    let outcome = play(alloc, &mut reader, &mut writer);
+    let outcome = ending(alloc, &mut reader, &mut writer);
     (outcome, taken.get(), writer.calls)
 }
 
@@ -274,22 +274,25 @@ fn scripts_come_and_go_byte_by_byte(rt: HostRuntime) {
 
 #[test]
 fn faults_have_their_texts(rt: HostRuntime) -> Result<(), Fail> {
-    for (fault, want) in FAULTS {
-        same(&rt, fault_text(rt.alloc(), &fault)?.as_str(), want);
+    for (fault, want) in &FAULTS {
+        same(&rt, fault_text(rt.alloc(), fault)?.as_str(), *want);
     }
     Ok(())
 }
 
+/// Faults, and the lines that tell them.
+const LINES: [(Fault, &str); 2] = [
+    (Fault::Read, "novacore: E28 Read\n"),
+    (
+        Fault::ScriptFault(2, ScriptFaultKind::Word),
+        "novacore: E27 ScriptFault(2, word)\n",
+    ),
+];
+
 #[test]
 fn a_fault_is_told_in_one_line(rt: HostRuntime) -> Result<(), Fail> {
-    for (fault, want) in [
-        (Fault::Read, "novacore: E28 Read\n"),
-        (
-            Fault::ScriptFault(2, ScriptFaultKind::Word),
-            "novacore: E27 ScriptFault(2, word)\n",
-        ),
-    ] {
-        same(&rt, fault_line(rt.alloc(), &fault)?.as_str(), want);
+    for (fault, want) in &LINES {
+        same(&rt, fault_line(rt.alloc(), fault)?.as_str(), *want);
     }
     Ok(())
 }
