@@ -223,8 +223,12 @@ fn prepared(rt: &impl Abort, alloc: Global, before: &[Words]) -> World {
 
 /// The step of a call that was refused memory, by how many steps it has made.
 fn step_of(growths: &'static [Growth], steps: u64) -> Option<&'static str> {
-    let (step, _) = growths.iter().find(|(_, count)| *count == steps)?;
-    Some(*step)
+    for (step, count) in growths {
+        if *count == steps {
+            return Some(*step);
+        }
+    }
+    None
 }
 
 /// Wants a world to report what one reports that never began the call.
