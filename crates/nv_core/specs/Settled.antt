@@ -1,8 +1,6 @@
 -- Settled logs, the tree that they give, and what of a cell shows its node.
 pub use Rattle.nv_machine.specs.Settled.{noted_or, settled_tail, settled, node_by, settled_copies, settled_nodes, snapshot_tree, tree_of}
-use Rattle.std.specs.Prelude.{◌≡◌, ℕ, ◌<◌, ◌≤◌, List, [], length, Option, Some, None}
-use Rattle.nv_base.specs.declared.fault.Fault.{Fault}
-use Rattle.nv_base.specs.declared.fault.Fault.TheVariants.{NoSnapshot, OutOfMemory}
+use Rattle.std.specs.Prelude.{◌≡◌, ℕ, ◌<◌, ◌≤◌, List, [], length}
 use Rattle.nv_base.specs.declared.numbers.Handle.{Handle}
 use Rattle.nv_calls.specs.Plain.{node_in}
 use Rattle.nv_entry.specs.Tree.{root, tree_from}
@@ -27,11 +25,6 @@ AreSettledAt epoch s = (handle : Handle) → copies_at s epoch handle ≡ settle
 
 abbrev pub tree_at : ℕ → Shared → List TreeNode
 tree_at epoch s = tree_from (settled_copies s epoch) (length s.cells) [] root
-
--- what a tree of a snapshot is refused for: no such snapshot; or where there is one, memory
-abbrev pub IsNoTree : Option ℕ → Fault → Type 0
-IsNoTree None fault = fault ≡ NoSnapshot
-IsNoTree (Some pins) fault = fault ≡ OutOfMemory
 
 abbrev pub tree_in : Shared → List TreeNode
 tree_in s = tree_from (node_in (settled_nodes s)) (length s.cells) [] root

@@ -1,13 +1,13 @@
 //! The tree of a world: its nodes with their paths.
 
-ghost use Rattle.std.specs.Prelude.{◌≡◌, ℕ, IfErr, IfOk, IsSome};
+ghost use Rattle.std.specs.Prelude.{◌≡◌, ◌⊎◌, ℕ, IfErr, IfOk, IsSome, None};
 ghost use Rattle.nv_base.specs.Refusals.{FailsOnly};
-ghost use Rattle.nv_base.specs.declared.fault.Fault.TheVariants.{OutOfMemory};
+ghost use Rattle.nv_base.specs.declared.fault.Fault.TheVariants.{NoSnapshot, OutOfMemory};
 ghost use Rattle.nv_calls.specs.Plain.{node_in};
 ghost use Rattle.nv_epoch.specs.SnapList.{pins_of};
 ghost use Rattle.nv_machine.specs.Snapshots.{copies_at};
 ghost use Rattle.nv_machine.specs.World as machine;
-ghost use Rattle.nv_core.specs.Settled.{AreSettled, AreSettledAt, IsNoTree, noted_or, settled_copies, settled_nodes, settled_tail, snapshot_tree, tree_at, tree_in, tree_of};
+ghost use Rattle.nv_core.specs.Settled.{AreSettled, AreSettledAt, noted_or, settled_copies, settled_nodes, settled_tail, snapshot_tree, tree_at, tree_in, tree_of};
 ghost use Rattle.nv_core.specs.Shown.{shared_of};
 ghost use Rattle.nv_core.specs.Steps.{CanShow};
 ghost use Rattle.nv_core.specs.Worlds.{Shows};
@@ -34,8 +34,9 @@ impl World {
     pub fn snap_tree(&self, snapshot: Epoch) -> Result<Tree, Fault>
         ensures ok { (m : machine.World) → Shows self.now m → IfOk result (λ tree.
             (tree ≡ snapshot_tree m snapshot) × IsSome (pins_of m.shared.book.snaps snapshot)) }
-        ensures err { (m : machine.World) → Shows self.now m
-            → IfErr result (IsNoTree (pins_of m.shared.book.snaps snapshot)) }
+        ensures err { (m : machine.World) → Shows self.now m → IfErr result (λ fault.
+            ((fault ≡ NoSnapshot) × (pins_of m.shared.book.snaps snapshot ≡ None))
+            ⊎ ((fault ≡ OutOfMemory) × IsSome (pins_of m.shared.book.snaps snapshot))) }
     {
         if !self.shared.book.snaps().has(snapshot) {
             return Err(Fault::NoSnapshot);

@@ -67,10 +67,10 @@ abbrev pub ShowsLog : Bool → ℕ → World → List ℕ → World → Type 0
 ShowsLog true ino old text new = Reports (log_line ino (log_at old.shared ino)) old text new
 ShowsLog false ino old text new = (text ≡ refused_line fault.Stale) × (new ≡ old)
 
--- the tree of a snapshot, by its pins: a refusal where there is no such snapshot
-abbrev pub ShowsTree : Option ℕ → ℕ → World → List ℕ → World → Type 0
-ShowsTree (Some pins) snapshot old text new = Reports (tree_lines (snapshot_tree old snapshot)) old text new
-ShowsTree None snapshot old text new = (text ≡ refused_line fault.NoSnapshot) × (new ≡ old)
+-- the tree of a snapshot, or a refusal where it does not live
+abbrev pub ShowsTree : Bool → ℕ → World → List ℕ → World → Type 0
+ShowsTree true snapshot old text new = Reports (tree_lines (snapshot_tree old snapshot)) old text new
+ShowsTree false snapshot old text new = (text ≡ refused_line fault.NoSnapshot) × (new ≡ old)
 
 -- what a command writes and leaves
 abbrev pub Acts : World → Command → List ℕ → World → Type 0
@@ -81,7 +81,7 @@ Acts old (command.Run actor) text new = Answers (Runs old actor) text new
 Acts old (command.Do actor call) text new =
     Answers (RunsFrom (step old (Start actor call)).reply (step old (Start actor call)).world actor) text new
 Acts old command.Tree text new = Reports (tree_lines (tree_of old)) old text new
-Acts old (command.SnapTree snapshot) text new = ShowsTree (pins_of old.shared.book.snaps snapshot) snapshot old text new
+Acts old (command.SnapTree snapshot) text new = ShowsTree (is_some (pins_of old.shared.book.snaps snapshot)) snapshot old text new
 Acts old command.Snaps text new = Reports (snaps_lines (snaps_of old.shared.book)) old text new
 Acts old command.Space text new = (text ≡ space_line (space_of old)) × (new ≡ old)
 Acts old command.Lists text new = Reports (lists_lines (lists_of old.shared)) old text new
