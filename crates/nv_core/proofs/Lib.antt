@@ -33,6 +33,7 @@ pub mod Opens
 pub mod Others
 pub mod PassTurns
 pub mod PassesSome
+pub mod Pending
 pub mod Phases
 pub mod Plans
 pub mod PublishPhase
