@@ -1,3 +1,4 @@
+use Rattle.nv_machine.proofs.Releasing.{killed_held}
 use Rattle.nv_machine.proofs.Erasing.{hand_has_it, none_stays, retire_erases}
 use Rattle.nv_machine.proofs.Returning.{number_returns}
 use Rattle.nv_machine.proofs.erasing_laws.gone_inodes_are_erased.Goals as goal
