@@ -17,7 +17,7 @@ use Rattle.nv_machine.specs.Reads.{copies, nodes}
 use Rattle.nv_machine.specs.Sequence.{beginning, directories}
 use Rattle.nv_machine.specs.Settled.{settled_nodes}
 use Rattle.nv_machine.specs.Step.{after, ending_at, handle_at, is_numbered, kind_turn, made_in, same_looked, turn, visit_grows, with_made}
-use Rattle.nv_machine.specs.World.{Answers, Append, Back, Check, Close, Enter, Event, Give, HandState, Leave, Lock, Look, Next, Number, Open, Publish, Ready, Retire, Running, Shared, TakeBlocks, TakePages, Unlock, Visit, World, actor_at, owner_at}
+use Rattle.nv_machine.specs.World.{Answers, Append, Back, Check, Close, Enter, Event, Give, HandState, Leave, Lock, Look, Next, Number, Open, Publish, Ready, Retire, Running, Shared, Snapshots, TakeBlocks, TakePages, Unlock, Visit, World, actor_at, owner_at}
 use Rattle.nv_machine.proofs.Caused.{CheckCause, caused, check_caused, check_told, look_caused, no_growth, visit_caused}
 use Rattle.nv_machine.proofs.EndsRead.{ending_settled, first_look}
 use Rattle.nv_machine.proofs.EndsRuns.{relied, told_of}
@@ -72,6 +72,7 @@ module _ (block a cpu : ℕ) (s : Shared) (h : HandState) (r : Running) (going :
   settled_caused (Unlock place) granted st stage = caused (Unlock place) block a granted s h r going
   settled_caused (Give home) granted st stage = caused (Give home) block a granted s h r going
   settled_caused Back granted st stage = caused Back block a granted s h r going
+  settled_caused (Snapshots step) granted st stage = caused (Snapshots step) block a granted s h r going
 
 pub plainly_caused : (g : GeometryNumbers) (events : List Event) (actor : ℕ) (granted : Bool) (r : Running) → IsWithinLimits g
     → (actor_at (after (formatted g) events) actor).running ≡ Some r → r.ending ≡ Answers

@@ -20,7 +20,7 @@ use Rattle.nv_machine.specs.Reads.{slots_of, written_slots}
 use Rattle.nv_machine.specs.Sequence.{Beginning, Looks, Locks, Numbers, Visits, beginning, begun, nothing_looked}
 use Rattle.nv_machine.specs.Settled.{settled_nodes}
 use Rattle.nv_machine.specs.Step.{Step, after, go_step, start_step, step, turn, turned}
-use Rattle.nv_machine.specs.World.{Actor, Append, Back, Check, Close, Done, Ending, Ends, Enter, Event, Give, Go, HandState, Leave, Lock, Look, Moves, Next, Number, Open, Publish, Ready, Refused, Retire, TakeBlocks, TakePages, Unlock, Visit, Reply, Running, Shared, Start, Turn, Waits, World, actor_at, idle}
+use Rattle.nv_machine.specs.World.{Actor, Append, Back, Check, Close, Done, Ending, Ends, Enter, Event, Give, Go, HandState, Leave, Lock, Look, Moves, Next, Number, Open, Publish, Ready, Refused, Reply, Retire, Running, Shared, Snapshots, Start, TakeBlocks, TakePages, Turn, Unlock, Visit, Waits, World, actor_at, idle}
 use Rattle.nv_calls.specs.declared.taken.Taken.{Taken}
 use Rattle.nv_calls.proofs.Nothing.{told_nothing}
 use Rattle.nv_machine.proofs.Answered.{deed_is}
@@ -92,6 +92,7 @@ committing (Unlock place) e c at stage = absurd (false≢true at)
 committing (Give cpu) e c at stage = absurd (false≢true at)
 committing Back e c at stage = absurd (false≢true at)
 committing Visit e c at stage = absurd (false≢true at)
+committing (Snapshots step) e c at stage = absurd (false≢true at)
 
 -- ---- one event
 

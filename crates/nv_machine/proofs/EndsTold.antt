@@ -13,7 +13,7 @@ use Rattle.nv_machine.specs.Answered.{answer_of}
 use Rattle.nv_machine.specs.Kinds.{again_turn, back_turn, blocks_turn, end_turn, grown, lock_turn, look_turn, number_turn, over_turn, pages_turn, rest_turn, result_by, unlocked_turn, wants_blocks, wants_pages}
 use Rattle.nv_machine.specs.Reads.{slots_of}
 use Rattle.nv_machine.specs.Sequence.{Visits, appending, beginning, closing, directories, locking, looking, opening, publishing, retiring}
-use Rattle.nv_machine.specs.World.{Answers, Append, Back, Check, Close, Ending, Ends, Enter, Give, HandState, Leave, Lock, Look, Moves, Next, Number, Open, Overtaken, Publish, Ready, Refuses, Retire, Running, Shared, TakeBlocks, TakePages, Turn, Unlock, Visit, Waits, go_to}
+use Rattle.nv_machine.specs.World.{Answers, Append, Back, Check, Close, Drains, Ending, Ends, Enter, Give, HandState, Leave, Lock, Look, Moves, Next, Number, Open, Overtaken, Publish, Ready, Refuses, Retire, Running, Shared, Snapshots, TakeBlocks, TakePages, Turn, Unlock, Visit, Waits, go_to}
 
 -- ---- by the next step
 
@@ -21,6 +21,7 @@ abbrev pub told_by : Ending → Answer → List Answer
 told_by Answers a = a ∷ []
 told_by (Refuses fault) a = []
 told_by Overtaken a = []
+told_by (Drains draining) a = []
 
 abbrev pub told_at : Next → Ending → Answer → List Answer
 told_at (Retire place) e a = a ∷ []
@@ -222,6 +223,7 @@ before_told (Unlock place) r d at is some = absurd at
 before_told (Give cpu) r d at is some = absurd at
 before_told Back r d at is some = absurd at
 before_told Visit r d at is some = absurd at
+before_told (Snapshots step) r d at is some = absurd at
 
 pub behind_told : (k : Next) (r : Running) (d : List Answer) → IsBehind k → d ≡ answer_of r ∷ [] → is_nothing r.call ≡ false → IsTold k r d
 behind_told (Retire place) r d at is some = record { told = is; stage = some }
@@ -242,6 +244,7 @@ behind_told (Unlock place) r d at is some = absurd at
 behind_told (Give cpu) r d at is some = absurd at
 behind_told Back r d at is some = absurd at
 behind_told Visit r d at is some = absurd at
+behind_told (Snapshots step) r d at is some = absurd at
 
 module _ (written : List ℕ) where
   pub retiring_behind : (place : ℕ) → IsBehind (retiring place written)

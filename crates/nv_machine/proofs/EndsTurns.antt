@@ -29,7 +29,7 @@ use Rattle.nv_machine.specs.Reads.{copies, nodes, written_slots}
 use Rattle.nv_machine.specs.Sequence.{Visits, appending, beginning, nothing_looked, publishing, retiring}
 use Rattle.nv_machine.specs.Settled.{settled, settled_nodes}
 use Rattle.nv_machine.specs.Step.{ending_at, handle_at, is_numbered, kind_turn, made_in, same_looked, visit_grows, with_made}
-use Rattle.nv_machine.specs.World.{Answers, Append, Back, Check, Close, Ending, Ends, Enter, Give, HandState, Leave, Lock, Look, Moves, Next, Number, Open, Overtaken, Publish, Ready, Refuses, Retire, Running, Shared, TakeBlocks, TakePages, Turn, Unlock, Visit, Waits, cell_at, go_to, owner_at}
+use Rattle.nv_machine.specs.World.{Answers, Append, Back, Check, Close, Drains, Ending, Ends, Enter, Give, HandState, Leave, Lock, Look, Moves, Next, Number, Open, Overtaken, Publish, Ready, Refuses, Retire, Running, Shared, Snapshots, TakeBlocks, TakePages, Turn, Unlock, Visit, Waits, cell_at, go_to, owner_at}
 use Rattle.nv_machine.proofs.Answered.{no_node_tells}
 use Rattle.nv_machine.proofs.EndsRead.{ending_settled, settled_ending}
 use Rattle.nv_machine.proofs.EndsTold.{IsNoVisit, IsTold, OnTold, appending_before, back_told, before_told, behind_told, blocks_told, end_told, granted_told, lock_told, look_told, no_visit, number_told, paging_told, refuse_told, rest_told, retiring_behind, several_before, single_behind, taking_told, told_by, unlocked_told}
@@ -42,6 +42,7 @@ is_answering None = false
 is_answering (Some Answers) = true
 is_answering (Some (Refuses fault)) = false
 is_answering (Some Overtaken) = false
+is_answering (Some (Drains draining)) = false
 
 -- by its tests, and by what it would change
 answers_where : (first : Tests) (same : Bool) (tests : Tests) (numbered : Bool) (changes : List Change)
