@@ -8,7 +8,7 @@ use Rattle.nv_base.specs.declared.limits.TheConstants.{INODES}
 use Rattle.nv_base.specs.declared.numbers.Handle.{Handle}
 use Rattle.nv_calls.specs.declared.answer.Answer.{Answer}
 use Rattle.nv_calls.specs.declared.answer.Answer.TheVariants as answers
-use Rattle.nv_cell.specs.Cell.{log_of}
+use Rattle.nv_cell.specs.Cell.{empty_cell, log_of}
 use Rattle.nv_cell.proofs.Publishing.{take_whole}
 use Rattle.nv_entry.specs.Node.{node_at}
 use Rattle.nv_entry.specs.Tree.{root}
@@ -51,7 +51,7 @@ free_copies w grown snapshot handle none =
 
 many_cells : (g : GeometryNumbers) (events : List Event) → IsWithinLimits g → length (after (formatted g) events).shared.cells ≤ INODES
 many_cells g events within =
-    omega (arith, events_cells events (formatted g), many_same (g.inodes - 1) _, within.inodes_fit, within.some_inodes)
+    omega (arith, events_cells events (formatted g), many_same (g.inodes - 1) (empty_cell g.block g.page 1 0), within.inodes_fit, within.some_inodes)
 
 module _ (g : GeometryNumbers) (within : IsWithinLimits g) (marks : (events : List Event) → HaveMarks (after (formatted g) events)) where
   abbrev at : List Event → World
