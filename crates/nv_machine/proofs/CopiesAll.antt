@@ -77,7 +77,8 @@ module _ (g : GeometryNumbers) (within : IsWithinLimits g) (marks : (events : Li
     epoch = (in_step g events within).epoch;
     nodes = λ handle. plain_nodes g events within handle;
     now = record {
-      tree = subst (FormTree (node_in (settled_nodes (at events).shared))) (events_cells events (formatted g)) (all_numbered g events within);
+      tree = subst (FormTree (node_in (settled_nodes (at events).shared))) (events_cells events (formatted g))
+          (all_numbered g events within);
       top = some_directory (node_in (settled_nodes (at events).shared) root) (all_trees g events within).one_name.top;
       leads = (all_trees g events within).one_name.leads;
     };

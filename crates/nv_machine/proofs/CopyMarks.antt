@@ -265,8 +265,8 @@ module _ (g : GeometryNumbers) (w : World) (known : IsReached w) (numbers : AreN
 
     held_at : (ino : ℕ) → IsHeldAt epoch (cell_at w.shared ino)
     held_at ino =
-        marks_hold (ids w.shared.book.snaps) ino now (killed_in w ino) (rs ++ picked_in w) (cell_at w.shared ino) (m.cells ino) (m.fresh ino)
-        (known.order.logs ino).ordered epoch lives lt
+        marks_hold (ids w.shared.book.snaps) ino now (killed_in w ino) (rs ++ picked_in w) (cell_at w.shared ino) (m.cells ino)
+        (m.fresh ino) (known.order.logs ino).ordered epoch lives lt
 
   pub have_marks : HaveMarks w
   have_marks = record {
@@ -276,5 +276,5 @@ module _ (g : GeometryNumbers) (w : World) (known : IsReached w) (numbers : AreN
 
 pub all_have_marks : (g : GeometryNumbers) → IsWithinLimits g → (events : List Event) → HaveMarks (after (formatted g) events)
 all_have_marks g within events =
-    have_marks g (after (formatted g) events) (reached g events within) (all_numbers g events within) (records_after (formatted g) events []) (all_marked g events within)
-    (in_step g events within).before
+    have_marks g (after (formatted g) events) (reached g events within) (all_numbers g events within)
+    (records_after (formatted g) events []) (all_marked g events within) (in_step g events within).before

@@ -81,7 +81,8 @@ refused n fault is = (
 )
 
 module _ (before : ℕ) where
-  drained_on : (n left released : ℕ) (s : Shared) (h : HandState) (r : Running) → released ≡ n → OnDrain before n (drained_turn left released s h r)
+  drained_on : (n left released : ℕ) (s : Shared) (h : HandState) (r : Running) → released ≡ n
+      → OnDrain before n (drained_turn left released s h r)
   drained_on n zero released s h r e = counted n released e
   drained_on n (suc left) released s h r e = e
 
@@ -97,7 +98,8 @@ module _ (before : ℕ) where
   rest_on n None (Some ino) s h r is = is
   rest_on n None None s h r is = last_on n r.ending s h r is
 
-  over_on : (n : ℕ) (e : Ending) (s : Shared) (h : HandState) (r : Running) → r.ending ≡ e → HasReleased n e → OnDrain before n (over_turn e s h r)
+  over_on : (n : ℕ) (e : Ending) (s : Shared) (h : HandState) (r : Running) → r.ending ≡ e → HasReleased n e
+      → OnDrain before n (over_turn e s h r)
   over_on n (Drains draining) s h r same is = rest_on n _ h.ino s h r (subst (HasReleased n) (sym same) is)
   over_on n (Refuses fault) s h r same is = rest_on n _ h.ino s h r (subst (HasReleased n) (sym same) is)
   over_on n Answers s h r same is = absurd is
@@ -213,7 +215,8 @@ module _ (actor : ℕ) where
   goes_on : (n : ℕ) (w : World) (other : ℕ) (granted : Bool) (b : Bool) → (other == actor) ≡ b → Drains_ n actor w
       → Drains_ (n + (if b then releases_of (actor_at w actor).running else 0)) actor (step w (Go other granted)).world
   goes_on n w other granted true e was =
-      subst (λ (m : ℕ). Drains_ (n + releases_of (actor_at w actor).running) actor (step w (Go m granted)).world) (sym (eqb-true other actor e))
+      subst (λ (m : ℕ). Drains_ (n + releases_of (actor_at w actor).running) actor (step w (Go m granted)).world)
+      (sym (eqb-true other actor e))
       (go_drains (nat_lt actor (length w.actors)) (actor_at w actor).running w n granted refl refl was)
   goes_on n w other granted false e was =
       other_drains n w (step w (Go other granted)).world
@@ -255,7 +258,8 @@ module _ (actor : ℕ) where
       let own = ap (λ (b : Bool). if b then releases_of (actor_at w actor).running else 0) (self actor) in
       omega (arith, one, own)
   events_told (e ∷ events) w n told granted apart was reply =
-      let rest = events_told events (step w e).world (n + releases_in actor w e) told granted apart.1 (event_drains n w e apart.0 was) reply in
+      let rest = events_told events (step w e).world (n + releases_in actor w e) told granted apart.1 (event_drains n w e apart.0 was)
+      reply in
       omega (arith, rest)
 
   begun_drains : (b : Bool) (running : Option Running) (w : World) (count : ℕ) → nat_lt actor (length w.actors) ≡ b
@@ -293,8 +297,8 @@ module _ (actor : ℕ) where
   turned_refused before n fault Waits w on is = cc
   turned_refused before n fault (Ends result s h) w on is = reply_refused n fault result on is
 
-  go_refused : (b : Bool) (running : Option Running) (w : World) (n : ℕ) (fault : Fault) (granted : Bool) → nat_lt actor (length w.actors) ≡ b
-      → (actor_at w actor).running ≡ running → IsSome running → Drains_ n actor w
+  go_refused : (b : Bool) (running : Option Running) (w : World) (n : ℕ) (fault : Fault) (granted : Bool)
+      → nat_lt actor (length w.actors) ≡ b → (actor_at w actor).running ≡ running → IsSome running → Drains_ n actor w
       → (go_step b running actor granted w).reply ≡ Refused fault → (fault ≡ OutOfMemory) × (n + releases_of running ≡ 0)
   go_refused b None w n fault granted there is some was reply = cc
   go_refused false (Some r) w n fault granted there is some was reply =

@@ -171,7 +171,8 @@ copies_same epoch a b isa isb hasa hasb aparta apartb size log same helda heldb 
 any_there : (marks : List Mark) (n : ℕ) → n < length marks → is_there (mark_or_fresh marks n) ≡ true → list_any is_there marks ≡ true
 any_there [] n lt there = absurd (omega (arith, lt))
 any_there (m ∷ marks) zero lt there = ap (λ (b : Bool). b || list_any is_there marks) there
-any_there (m ∷ marks) (suc n) lt there = ap (λ (b : Bool). is_there m || b) (any_there marks n (omega (arith, lt)) there) ∙ or_true (is_there m)
+any_there (m ∷ marks) (suc n) lt there =
+    ap (λ (b : Bool). is_there m || b) (any_there marks n (omega (arith, lt)) there) ∙ or_true (is_there m)
   where
     or_true : (b : Bool) → (b || true) ≡ true
     or_true true = refl
@@ -233,7 +234,8 @@ born_by epoch (e ∷ log) rest n k all lt is =
     own (Some p) q = let same = ap (λ (x : KilledPart). x.birth) (same_Some _ k q) in let le = all.0 in omega (arith, le, same)
 
     go : (b : Bool) → nat_lt n (part_count e) ≡ b
-        → (if b then option_map (λ part. record { part = record { entry = e.id; part = part }; birth = e.epoch }) (slice_get (parts_of e.item) n)
+        → (if b
+        then option_map (λ part. record { part = record { entry = e.id; part = part }; birth = e.epoch }) (slice_get (parts_of e.item) n)
         else killed_part (log ++ rest) (n - part_count e)) ≡ Some k
         → (n - part_count e < part_total log → killed_part (log ++ rest) (n - part_count e) ≡ Some k → k.birth ≤ epoch) → k.birth ≤ epoch
     go true q found rec = own (slice_get (parts_of e.item) n) found

@@ -30,7 +30,8 @@ one_if b = cond b 1 0
 -- so many shows there were and are, where an actor's call is one or not, before a step and after it: the pins are as many
 abbrev pub Fits : ℕ → Bool → Bool → Living → Living → Type 0
 Fits snapshot before now old new =
-    (shows after : ℕ) → after + one_if before ≡ shows + one_if now → ArePins shows (pins_of old snapshot) → ArePins after (pins_of new snapshot)
+    (shows after : ℕ) → after + one_if before ≡ shows + one_if now → ArePins shows (pins_of old snapshot)
+    → ArePins after (pins_of new snapshot)
 
 -- a step of a call that is a show of the snapshot before it, or is not
 abbrev pub OnPins : ℕ → Bool → Living → Turn → Type 0
@@ -239,7 +240,8 @@ module _ (snapshot : ℕ) where
         subst (λ (n : ℕ). ArePins after (pins_of (after_removal living other) n)) is
         (subst (ArePins after) (sym (pins_at-removed living.living other))
         (none (pins_of living other) passed (subst (λ (n : ℕ). ArePins shows (pins_of living n)) (sym is) are)))
-    go false differ = subst (ArePins after) (sym (pins_at-kept living.living other snapshot (λ is. eqb-false other snapshot differ (sym is))))
+    go false differ =
+        subst (ArePins after) (sym (pins_at-kept living.living other snapshot (λ is. eqb-false other snapshot differ (sym is))))
         (as_many shows after (pins_of living snapshot) (omega (arith, e)) are)
 
   drop_pins : (other : ℕ) (pins : Option ℕ) (s : Shared) (h : HandState) (r : Running) → pins_of s.book.snaps other ≡ pins

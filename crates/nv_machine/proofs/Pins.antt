@@ -27,7 +27,8 @@ module _ (snapshot : ℕ) where
   counted actor = one_if (pins_by_call snapshot actor.running)
 
   shows_change : (w : World) (actor : ℕ) (x : Actor) (t : Shared) → actor < length w.actors
-      → shows_of snapshot (record w { shared = t; actors = set w.actors actor x }) + one_if (pins_by_call snapshot (actor_at w actor).running)
+      → shows_of snapshot (record w { shared = t; actors = set w.actors actor x })
+      + one_if (pins_by_call snapshot (actor_at w actor).running)
       ≡ shows_of snapshot w + one_if (pins_by_call snapshot x.running)
   shows_change w actor x t there = sum_by-set counted w.actors actor x idle there
 
@@ -96,7 +97,8 @@ module _ (snapshot : ℕ) where
 
   event_pinned : (w : World) (e : Event) → Pinned w → Pinned (step w e).world
   event_pinned w (Start actor c) are = start_pinned (nat_lt actor (length w.actors)) (actor_at w actor).running w actor c refl refl are
-  event_pinned w (Go actor granted) are = go_pinned (nat_lt actor (length w.actors)) (actor_at w actor).running w actor granted refl refl are
+  event_pinned w (Go actor granted) are =
+      go_pinned (nat_lt actor (length w.actors)) (actor_at w actor).running w actor granted refl refl are
 
   events_pinned : (events : List Event) (w : World) → Pinned w → Pinned (after w events)
   events_pinned [] w are = are

@@ -46,12 +46,16 @@ free_copies w grown snapshot handle none =
     let free = grown.free handle.ino none in
     let same : log_of cell ≡ settled w.shared handle.ino =
     ap (λ (n : ℕ). take n es) free.tail ∙ take_whole es ∙ free.entries in
-    ap (λ (log : List Entry). if handle.generation == cell.generation then node_at (bytes_among cell.blocks) cell.block snapshot log else None)
-    same
+    ap (λ (log : List Entry). if handle.generation == cell.generation
+    then node_at (bytes_among cell.blocks) cell.block snapshot log
+    else None) same
 
 many_cells : (g : GeometryNumbers) (events : List Event) → IsWithinLimits g → length (after (formatted g) events).shared.cells ≤ INODES
 many_cells g events within =
-    omega (arith, events_cells events (formatted g), many_same (g.inodes - 1) (empty_cell g.block g.page 1 0), within.inodes_fit, within.some_inodes)
+    omega (
+      arith, events_cells events (formatted g), many_same (g.inodes - 1) (empty_cell g.block g.page 1 0), within.inodes_fit,
+      within.some_inodes,
+    )
 
 module _ (g : GeometryNumbers) (within : IsWithinLimits g) (marks : (events : List Event) → HaveMarks (after (formatted g) events)) where
   abbrev at : List Event → World

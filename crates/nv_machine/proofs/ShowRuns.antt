@@ -44,7 +44,8 @@ shown w actor snapshot r is shows = elim (cases_lt actor (length w.actors)) [
 
 pub shown_lives : (w : World) (actor snapshot : ℕ) (r : Running) → ArePins (shows_of snapshot w) (pins_of w.shared.book.snaps snapshot)
     → (actor_at w actor).running ≡ Some r → pins_at snapshot r.next ≡ true → Contains (ids w.shared.book.snaps) snapshot
-shown_lives w actor snapshot r are is shows = lives-from_pins w.shared.book.snaps.living snapshot (go (pins_of w.shared.book.snaps snapshot) are)
+shown_lives w actor snapshot r are is shows =
+    lives-from_pins w.shared.book.snaps.living snapshot (go (pins_of w.shared.book.snaps snapshot) are)
   where
     some : 1 ≤ shows_of snapshot w
     some = shown w actor snapshot r is shows
@@ -180,8 +181,8 @@ unpins_seen : (holder : Option ℕ) (snapshot actor : ℕ) (seen tree : List Tre
 unpins_seen (Some other) snapshot actor seen tree w s h r told is reply = cc
 unpins_seen None snapshot actor seen tree w s h r told is reply = ends_seen r.ending seen tree told is reply
 
-kind_seen : (k : Next) (snapshot actor : ℕ) (granted : Bool) (seen : List TreeNode) (w : World) (h : HandState) (r : Running) (told : Answer)
-    → k ≡ Snapshots (Unpin snapshot seen) → ShowsAt (settled_copies w.shared) (length w.shared.cells) k r.ending
+kind_seen : (k : Next) (snapshot actor : ℕ) (granted : Bool) (seen : List TreeNode) (w : World) (h : HandState) (r : Running)
+    (told : Answer) → k ≡ Snapshots (Unpin snapshot seen) → ShowsAt (settled_copies w.shared) (length w.shared.cells) k r.ending
     → (turned (kind_turn k w.numbers.block actor granted w.shared h r) actor w).reply ≡ Done told
     → told ≡ answers.Tree (tree_by (settled_copies w.shared) (length w.shared.cells) snapshot)
 kind_seen k snapshot actor granted seen w h r told next is reply =

@@ -232,5 +232,5 @@ bare_at g w k h r hand is slots = subst (λ (n : Next). IsBare n h r) is (go r.n
 
 pub are_bare : (g : GeometryNumbers) (w : World) → AreLocks w → AreNumbers g w → AreBare w
 are_bare g w locks numbers actor r is =
-    bare_at g w r.next (actor_at w actor).hand r (subst (λ (o : Option Running). HandOf g (actor_at w actor).hand o) is (numbers.hands actor))
-    refl (subst (HasSlots (length w.shared.owners)) is (locks.each actor).slots)
+    bare_at g w r.next (actor_at w actor).hand r
+    (subst (λ (o : Option Running). HandOf g (actor_at w actor).hand o) is (numbers.hands actor)) refl (subst (HasSlots (length w.shared.owners)) is (locks.each actor).slots)

@@ -101,15 +101,16 @@ pub fn pins_are_of_shows()
 /// What a making, a drop and a show are refused for is what the plain world refuses them for at that step, with its epoch and its
 /// copies: such a step waits, or it is refused for that fault, and for none where there is none.
 pub fn snapshot_refusals_are_told()
-    ensures tests { (g : GeometryNumbers) (events : List Event) (kind : SnapshotStep) → IsWithinLimits g
-        → tests_on kind (after (formatted g) events).shared.book.snaps
+    ensures tests { (g : GeometryNumbers) (events : List Event) (kind : SnapshotStep)
+        → IsWithinLimits g → tests_on kind (after (formatted g) events).shared.book.snaps
         ≡ plain_tests g.snaps kind (plain_after (formatted g) events (plain_of (formatted g))) }
     ensures replies { (g : GeometryNumbers) (events : List Event) (actor : ℕ) (granted : Bool)
         (r : Running) (kind : SnapshotStep) → IsWithinLimits g
         → (actor_at (after (formatted g) events) actor).running ≡ Some r
         → r.next ≡ Snapshots kind → is_tested kind ≡ true
         → ((step (after (formatted g) events) (Go actor granted)).reply ≡ Waiting)
-        ⊎ GoesBy (plain_tests g.snaps kind (plain_after (formatted g) events (plain_of (formatted g))))
+        ⊎ GoesBy
+        (plain_tests g.snaps kind (plain_after (formatted g) events (plain_of (formatted g))))
         (step (after (formatted g) events) (Go actor granted)).reply }
 {}
 
@@ -118,11 +119,13 @@ pub fn snapshot_refusals_are_told()
 pub fn drains_count_their_releases()
     ensures answer { (g : GeometryNumbers) (before events : List Event) (actor count told : ℕ)
         (granted : Bool) → IsWithinLimits g
-        → (step (after (formatted g) before) (Start actor (call.Snapshots (on.Drain count)))).reply ≡ Started
-        → AreNoStarts actor events
-        → (step (after (step (after (formatted g) before) (Start actor (call.Snapshots (on.Drain count)))).world events)
-        (Go actor granted)).reply ≡ Done (answers.Count told)
-        → told ≡ releases actor (step (after (formatted g) before) (Start actor (call.Snapshots (on.Drain count)))).world
+        → (step (after (formatted g) before) (Start actor (call.Snapshots (on.Drain count)))).reply
+        ≡ Started → AreNoStarts actor events
+        → (step (after (step (after (formatted g) before)
+        (Start actor (call.Snapshots (on.Drain count)))).world events) (Go actor granted)).reply
+        ≡ Done (answers.Count told)
+        → told ≡ releases actor (step (after (formatted g) before)
+        (Start actor (call.Snapshots (on.Drain count)))).world
         (events ++ Go actor granted ∷ []) }
     ensures refused { (g : GeometryNumbers) (before events : List Event) (actor count : ℕ)
         (fault : Fault) (granted : Bool) → IsWithinLimits g
@@ -134,7 +137,8 @@ pub fn drains_count_their_releases()
         (Start actor (call.Snapshots (on.Drain count)))).world events) (Go actor granted)).reply
         ≡ Refused fault
         → (fault ≡ OutOfMemory) × (releases actor (step (after (formatted g) before)
-        (Start actor (call.Snapshots (on.Drain count)))).world (events ++ Go actor granted ∷ []) ≡ 0) }
+        (Start actor (call.Snapshots (on.Drain count)))).world
+        (events ++ Go actor granted ∷ []) ≡ 0) }
     ensures nothing { (draining : Draining) (actor told : ℕ) (granted : Bool) (s t : Shared)
         (h after : HandState) (r : Running)
         → snapshot_turn (Pick draining) actor granted s h r ≡ Ends (Ok (answers.Count told)) t after
