@@ -1,28 +1,27 @@
 -- Whatever events come, the living snapshots read as the plain world's copies of them, whose directories form a tree.
-use Rattle.std.proofs.Common.{◌≡◌, ℕ, zero, suc, ◌+◌, ◌-◌, ◌==◌, ◌⊎◌, ◌∙◌, Bool, true, false, List, [], ◌∷◌, inl, inr, length, Option, Some, None, IsSome, ap, arith, refl, subst, sym}
+use Rattle.std.proofs.Common.{◌≡◌, ℕ, ◌+◌, ◌-◌, ◌⊎◌, ◌∙◌, Bool, true, false, List, [], ◌∷◌, inl, inr, Option, IsSome, arith, refl, subst, sym}
 use Rattle.std.proofs.Math.Path.{fun_ext}
 use Rattle.std.specs.List.{Contains}
-use Rattle.nv_base.specs.Limits.{IsWithinLimits}
 use Rattle.nv_base.specs.declared.geometry.GeometryNumbers.{GeometryNumbers}
 use Rattle.nv_base.specs.declared.numbers.Handle.{Handle}
 use Rattle.nv_calls.specs.Plain.{PlainNode, node_in}
 use Rattle.nv_entry.specs.Tree.{FormTree, root}
 use Rattle.nv_entry.specs.declared.names.BoundName.{BoundName}
 use Rattle.nv_entry.specs.declared.node.NodeCopy.{NodeCopy}
-use Rattle.nv_epoch.specs.SnapList.{Snapshots as Living, ids, numbers, pins_of}
+use Rattle.nv_epoch.specs.SnapList.{Snapshots as Living, ids, numbers}
 use Rattle.nv_epoch.specs.declared.snapshot.Snapshot.{Snapshot}
 use Rattle.nv_epoch.proofs.Last.{contains_cases, contains_first, contains_later}
 use Rattle.nv_machine.specs.Directories.{HasName}
-use Rattle.nv_machine.specs.PlainRun.{Commits, Copy, Deed, Nothing, Numbers, OnSnapshots, Plain, deed_of, plain_after, plain_step}
-use Rattle.nv_machine.specs.Reading.{AreCopied, IsCopied}
+use Rattle.nv_machine.specs.PlainRun.{Commits, Copy, Deed, Nothing, Numbers, OnSnapshots, Plain, deed_of, plain_step}
+use Rattle.nv_machine.specs.Reading.{AreCopied}
 use Rattle.nv_machine.specs.Settled.{settled_copies, settled_nodes}
-use Rattle.nv_machine.specs.Step.{after, step}
-use Rattle.nv_machine.specs.World.{Drop, Event, LockPicked, Make, Pick, Pin, Release, Running, Shared, Show, Unpin, World, actor_at}
+use Rattle.nv_machine.specs.Step.{step}
+use Rattle.nv_machine.specs.World.{Drop, Event, LockPicked, Make, Pick, Pin, Release, Shared, Show, Unpin, World}
 use Rattle.nv_machine.proofs.CopyMade.{copies_now, is_make, make_copies}
 use Rattle.nv_machine.proofs.CopyRuns.{IsReadable, event_copies}
 use Rattle.nv_machine.proofs.LivingPins.{lives-from_pins, pins_at-lives}
 use Rattle.nv_machine.proofs.SnapSteps.{AreBare, event_snaps, snaps_after}
-use Rattle.nv_machine.proofs.SnapsAlike.{AreAlike, IsAlike, Lives, deed_alike, lived, lived_then}
+use Rattle.nv_machine.proofs.SnapsAlike.{AreAlike, Lives, deed_alike, lived, lived_then}
 
 -- ---- who lives after a deed lived before it, but for a new snapshot
 

@@ -1,5 +1,5 @@
 -- What marks tell of an earlier epoch's log: the parts that it has and has not covered are there, and none of them goes out next.
-use Rattle.std.proofs.Common.{◌≡◌, ℕ, zero, suc, ◌+◌, ◌<◌, ◌≤◌, ◌++◌, ◌∙◌, ◌⊎◌, ap₂, Bool, true, false, List, [], ◌∷◌, drop, inl, inr, length, Option, Some, None, IsSome, ap, arith, refl, subst, sym, take}
+use Rattle.std.proofs.Common.{◌≡◌, ℕ, zero, suc, ◌+◌, ◌<◌, ◌≤◌, ◌++◌, ◌∙◌, ◌⊎◌, ap₂, true, false, List, [], ◌∷◌, drop, inl, inr, length, Option, Some, None, IsSome, ap, arith, refl, subst, sym, take}
 use Rattle.std.specs.List.{AllByRecursion, Contains, flat_map}
 use Rattle.std.specs.Option.{option_map}
 use Rattle.std.specs.Prelude.{slice_get, slice_index_or, unwrap_or}
@@ -42,7 +42,7 @@ use Rattle.nv_machine.specs.Reached.{IsReached}
 use Rattle.nv_machine.specs.Reads.{slot_at, written_slots}
 use Rattle.nv_machine.specs.Recorded.{records_after}
 use Rattle.nv_machine.specs.Step.{after}
-use Rattle.nv_machine.specs.World.{Actor, Draining, Drop, Event, HandState, LockPicked, Make, Next, Pick, Pin, Release, Retire, Running, Show, Snapshots, Unpin, World, actor_at, cell_at, idle}
+use Rattle.nv_machine.specs.World.{Actor, Draining, Drop, Event, LockPicked, Make, Next, Pick, Pin, Release, Retire, Running, Show, Snapshots, Unpin, World, actor_at, cell_at, idle}
 use Rattle.nv_machine.proofs.CopyRuns.{HaveMarks, earlier}
 use Rattle.nv_machine.proofs.CopySteps.{GoesOut}
 use Rattle.nv_machine.proofs.EpochLogs.{IsHeldAt, born_by, log_at, splits, up_to_within}

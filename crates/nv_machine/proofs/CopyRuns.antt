@@ -1,10 +1,8 @@
 -- The copies of the living snapshots stay, whatever event comes.
-use Rattle.std.proofs.Common.{◌≡◌, ◌≢◌, ℕ, zero, suc, ◌+◌, ◌<◌, ◌≤◌, ◌==◌, ◌++◌, ◌∙◌, Bool, true, false, List, [], ◌∷◌, if◌then◌else◌, inl, inr, length, nat_lt, Option, Some, None, ap, arith, refl, subst, sym}
-use Rattle.std.specs.List.{AllByRecursion, Contains}
-use Rattle.std.specs.Prelude.{Ok, Err}
+use Rattle.std.proofs.Common.{◌≡◌, ℕ, ◌<◌, ◌==◌, ◌++◌, ◌∙◌, Bool, true, false, List, if◌then◌else◌, inl, inr, length, nat_lt, Option, Some, None, ap, arith, refl, subst, sym}
+use Rattle.std.specs.List.{Contains}
 use Rattle.std.proofs.lemmas.Bool.{cases_lt, ltb-true, true≢false}
 use Rattle.std.proofs.lemmas.List.{append-nil, get_or_past}
-use Rattle.std.proofs.lemmas.Option.{none-some}
 use Rattle.nv_alloc.specs.Numbers.{has}
 use Rattle.nv_base.specs.declared.geometry.GeometryNumbers.{GeometryNumbers}
 use Rattle.nv_base.specs.declared.numbers.Handle.{Handle}
@@ -16,8 +14,7 @@ use Rattle.nv_entry.specs.declared.item.Entry.{Entry}
 use Rattle.nv_entry.specs.declared.node.NodeCopy.{NodeCopy}
 use Rattle.nv_epoch.specs.SnapList.{ids}
 use Rattle.nv_machine.specs.Grown.{HasGrown, HasGrownBy, fresh_entries, is_appended}
-use Rattle.nv_machine.specs.Kinds.{entries_for}
-use Rattle.nv_machine.specs.Locks.{HoldsIts, commits_at, held_by, is_owner}
+use Rattle.nv_machine.specs.Locks.{commits_at, held_by, is_owner}
 use Rattle.nv_machine.specs.Order.{CommitsIn}
 use Rattle.nv_machine.specs.Reached.{IsReached}
 use Rattle.nv_machine.specs.Reads.{bytes_among, written_slots}
@@ -25,7 +22,7 @@ use Rattle.nv_machine.specs.Settled.{settled, settled_copies}
 use Rattle.nv_machine.specs.Step.{go_step, start_step, step, turn, turned}
 use Rattle.nv_machine.specs.Whole.{HaveTheirParts}
 use Rattle.nv_machine.specs.World.{Append, Close, Ends, Event, Go, HandState, Moves, Next, Open, Publish, Running, Shared, Start, Turn, Waits, World, actor_at, cell_at, no_cell, owner_at}
-use Rattle.nv_machine.proofs.CopySteps.{Continues, GoesOut, IsEmptied, Stands, StepsTo, deed_steps, entries_later, same_cell}
+use Rattle.nv_machine.proofs.CopySteps.{GoesOut, Stands, StepsTo, deed_steps, entries_later, same_cell}
 use Rattle.nv_machine.proofs.EpochLogs.{IsHeldAt, copies_same, copy_at, log_at}
 use Rattle.nv_machine.proofs.Events.{goes, starts}
 use Rattle.nv_machine.proofs.Kept.{AfterTurn, turn_keeps}

@@ -1,6 +1,6 @@
 -- What becomes of the copies at the end of an earlier epoch at every kind of step: each cell keeps its own, or had none and is
 -- emptied.
-use Rattle.std.proofs.Common.{◌≡◌, ◌≢◌, ◌⊎◌, ℕ, zero, suc, ◌+◌, ◌<◌, ◌≤◌, ◌++◌, ◌∙◌, Bool, true, false, List, [], ◌∷◌, if◌then◌else◌, inl, inr, length, Option, Some, None, ap, arith, refl, set, subst, sym, take}
+use Rattle.std.proofs.Common.{◌≡◌, ◌⊎◌, ℕ, ◌+◌, ◌<◌, ◌++◌, ◌∙◌, Bool, true, false, List, [], ◌∷◌, if◌then◌else◌, inl, inr, length, Option, Some, None, ap, refl, set, subst, sym, take}
 use Rattle.std.specs.List.{Contains}
 use Rattle.std.specs.Prelude.{slice_index_or}
 use Rattle.std.proofs.lemmas.Bool.{and_parts}
@@ -12,7 +12,6 @@ use Rattle.nv_calls.specs.Slots.{entries_of}
 use Rattle.nv_cell.specs.Cell.{CellState, empty_cell, log_of, number_in, published}
 use Rattle.nv_cell.specs.Readers.{is_gone, keeps_nothing}
 use Rattle.nv_cell.specs.declared.killed.KilledPart.{KilledPart}
-use Rattle.nv_cell.specs.declared.mark.Mark.{Mark}
 use Rattle.nv_cell.specs.declared.mark.Mark.TheVariants.{Kept, Out}
 use Rattle.nv_cell.proofs.Publishing.{take_whole}
 use Rattle.nv_cell.proofs.Remarking.{length_set}
@@ -32,7 +31,7 @@ use Rattle.nv_machine.specs.Reads.{pages_needed, slot_at, written_slots}
 use Rattle.nv_machine.specs.World.{Append, Back, Check, Close, Draining, Drop, Enter, Give, HandState, Leave, Lock, LockPicked, Look, Make, Next, Number, Open, Pick, Pin, Publish, Ready, Release, Retire, Running, Shared, Show, SnapshotStep, Snapshots, TakeBlocks, TakePages, Unlock, Unpin, Visit, cell_at, no_cell}
 use Rattle.nv_machine.proofs.CellSteps.{slot_set}
 use Rattle.nv_machine.proofs.Entered.{entries_more, pages_keep}
-use Rattle.nv_machine.proofs.EpochLogs.{HaveSameBlocks, IsHeldAt, copy_at, kind_at, log_at, none_at, nothing_kept}
+use Rattle.nv_machine.proofs.EpochLogs.{HaveSameBlocks, IsHeldAt, copy_at, log_at, none_at, nothing_kept}
 use Rattle.nv_machine.proofs.EpochSteps.{AreParts, out_held, retired_held}
 use Rattle.nv_machine.proofs.FitsCells.{append_wider}
 use Rattle.nv_machine.proofs.Kept.{back_deed, deed, number_deed}

@@ -1,5 +1,5 @@
 -- A drain is answered how many records its steps have released.
-use Rattle.std.proofs.Common.{◌≡◌, ◌≢◌, ℕ, zero, suc, ◌+◌, ◌<◌, ◌==◌, ◌∙◌, ◌++◌, Bool, true, false, ◌||◌, not, if◌then◌else◌, List, [], ◌∷◌, length, nat_lt, Option, Some, None, IsSome, ap, arith, refl, set, subst, sym}
+use Rattle.std.proofs.Common.{◌≡◌, ◌≢◌, ℕ, zero, suc, ◌+◌, ◌<◌, ◌==◌, ◌∙◌, ◌++◌, Bool, true, false, ◌||◌, not, if◌then◌else◌, List, [], ◌∷◌, length, nat_lt, Option, Some, None, IsSome, ap, arith, refl, subst, sym}
 use Rattle.std.proofs.lemmas.Bool.{eqb-false, eqb-true, ltb-false, ltb-true}
 use Rattle.std.proofs.lemmas.List.{get_or_past}
 use Rattle.std.proofs.lemmas.Option.{none-some}
@@ -18,7 +18,7 @@ use Rattle.nv_machine.specs.Reading.{releases, releases_at, releases_in, release
 use Rattle.nv_machine.specs.Sequence.{beginning, begun}
 use Rattle.nv_machine.specs.Snapshots.{if_free, is_first, lock_picked_turn, picked_turn, snapshot_turn}
 use Rattle.nv_machine.specs.Step.{after, go_step, kind_turn, reply_of, start_step, step, turn, turned}
-use Rattle.nv_machine.specs.World.{Actor, Answers, Back, Done, Draining, Drains, Ending, Ends, Event, Give, Go, HandState, LockPicked, Moves, Next, Overtaken, Pick, Refused, Refuses, Release, Reply, Running, Shared, SnapshotStep, Snapshots, Start, Started, Turn, Unlock, Waits, World, actor_at, idle}
+use Rattle.nv_machine.specs.World.{Actor, Answers, Back, Done, Draining, Drains, Ending, Ends, Event, Give, Go, HandState, LockPicked, Moves, Next, Overtaken, Pick, Refused, Refuses, Release, Running, Shared, SnapshotStep, Snapshots, Start, Started, Turn, Unlock, Waits, World, actor_at, idle}
 use Rattle.nv_machine.proofs.Events.{refused_started, set_is, starts, turned_others}
 use Rattle.nv_machine.proofs.Lists.{self}
 

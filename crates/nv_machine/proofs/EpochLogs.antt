@@ -1,22 +1,21 @@
 -- A cell's log at the end of an epoch: the front of its entries, whose parts that it has not covered are there.
-use Rattle.std.proofs.Common.{◌≡◌, ◌≢◌, ℕ, zero, suc, ◌+◌, ◌-◌, ◌<◌, ◌≤◌, ◌==◌, ◌||◌, ◌++◌, ◌∙◌, Bool, true, false, cond, if◌then◌else◌, not, nat_lt, List, [], ◌∷◌, filter, length, Option, Some, None, ap, arith, refl, subst, sym}
+use Rattle.std.proofs.Common.{◌≡◌, ℕ, zero, suc, ◌+◌, ◌-◌, ◌<◌, ◌≤◌, ◌||◌, ◌++◌, ◌∙◌, Bool, true, false, cond, if◌then◌else◌, not, nat_lt, List, [], ◌∷◌, length, Option, Some, None, ap, arith, refl, sym}
 use Rattle.std.specs.List.{AllByRecursion, list_any}
 use Rattle.std.specs.Option.{is_some, option_map}
 use Rattle.std.specs.Prelude.{nat_le, slice_get, slice_index_or}
-use Rattle.std.proofs.lemmas.Bool.{eq-eqb, false≢true, leb-false, leb-true, ltb-false, ltb-true, true≢false}
+use Rattle.std.proofs.lemmas.Bool.{eq-eqb, false≢true, leb-false, leb-true, ltb-false, true≢false}
 use Rattle.std.proofs.lemmas.Option.{same_Some}
-use Rattle.nv_alloc.specs.Block.{BlockValue, number_of}
+use Rattle.nv_alloc.specs.Block.{BlockValue}
 use Rattle.nv_cell.specs.Cell.{CellState, HasBlocks, mark_or_fresh, page_block}
 use Rattle.nv_cell.specs.Marks.{is_there}
 use Rattle.nv_cell.specs.Numbers.{is_number, killed_part}
 use Rattle.nv_cell.specs.Readers.{keeps_nothing}
 use Rattle.nv_cell.specs.declared.killed.KilledPart.{KilledPart}
 use Rattle.nv_cell.specs.declared.mark.Mark.{Mark}
-use Rattle.nv_cell.specs.declared.mark.Mark.TheVariants.{Current}
 use Rattle.nv_cell.proofs.Numbers.{own_place, scan_key, scan_n, scan_names, total_append}
 use Rattle.nv_cell.proofs.PagesNow.{front_block}
 use Rattle.nv_entry.specs.Covered.{any_cover, is_covered, key_at, part_count, part_total}
-use Rattle.nv_entry.specs.Keys.{Key, KindKey, covers, parts_of, sets, touches}
+use Rattle.nv_entry.specs.Keys.{Key, KindKey, parts_of, sets, touches}
 use Rattle.nv_entry.specs.Later.{AreAfter}
 use Rattle.nv_entry.specs.Laws.{is_present}
 use Rattle.nv_entry.specs.Log.{IsLog, MayFollow, last_setting, later_of, up_to, value_now, value_of}

@@ -1,20 +1,18 @@
 -- What appending, publishing, retiring and releasing leave of a cell's parts at the end of an earlier epoch.
-use Rattle.std.proofs.Common.{◌≡◌, ◌≢◌, ℕ, zero, suc, ◌+◌, ◌-◌, ◌<◌, ◌≤◌, ◌==◌, ◌||◌, ◌++◌, ◌∙◌, Bool, true, false, cond, if◌then◌else◌, List, [], ◌∷◌, length, nat_lt, Option, Some, None, ap, arith, refl, subst, sym, inl, inr}
+use Rattle.std.proofs.Common.{◌≡◌, ℕ, zero, suc, ◌-◌, ◌<◌, ◌≤◌, ◌||◌, ◌++◌, ◌∙◌, Bool, true, false, if◌then◌else◌, List, [], ◌∷◌, nat_lt, Option, Some, None, ap, arith, refl, subst, sym}
 use Rattle.std.specs.List.{AllByRecursion, Contains}
 use Rattle.std.specs.Prelude.{nat_le, slice_get, slice_index_or, slice_set}
 use Rattle.std.specs.Option.{option_map}
-use Rattle.std.proofs.lemmas.Bool.{and_from, cases_lt, false≢true, le-leb, lt-ltb, ltb-false, ltb-true, true≢false}
+use Rattle.std.proofs.lemmas.Bool.{and_from, le-leb, lt-ltb, ltb-false, ltb-true, true≢false}
 use Rattle.std.proofs.lemmas.Option.{same_Some}
-use Rattle.nv_alloc.specs.Block.{BlockValue}
-use Rattle.nv_book.specs.declared.record.Record.{Record}
-use Rattle.nv_calls.specs.Retiring.{keeper_of, name_of, record_of, released, retired, retired_one, settled as settled_part}
-use Rattle.nv_cell.specs.Cell.{CellState, HasMarks, log_of, mark_or_fresh, number_in, published, with_mark, without_part}
-use Rattle.nv_cell.specs.Marks.{is_there, mark_at}
+use Rattle.nv_calls.specs.Retiring.{keeper_of, retired, retired_one, settled as settled_part}
+use Rattle.nv_cell.specs.Cell.{CellState, mark_or_fresh, number_in, with_mark, without_part}
+use Rattle.nv_cell.specs.Marks.{is_there}
 use Rattle.nv_cell.specs.Numbers.{killed_part}
 use Rattle.nv_cell.proofs.NamedParts.{pair_first, pair_later}
 use Rattle.nv_cell.specs.declared.killed.KilledPart.{KilledPart}
 use Rattle.nv_cell.specs.declared.mark.Mark.{Mark}
-use Rattle.nv_cell.specs.declared.mark.Mark.TheVariants.{Current, Kept, Out}
+use Rattle.nv_cell.specs.declared.mark.Mark.TheVariants.{Kept, Out}
 use Rattle.nv_entry.specs.Covered.{any_cover, is_covered, part_count, part_key, part_total}
 use Rattle.nv_entry.specs.Keys.{Key, covers, key_of, parts_of}
 use Rattle.nv_entry.specs.Later.{AreAfter}

@@ -1,20 +1,18 @@
 -- What a step leaves of the pins of a snapshot, beside what its call pins.
-use Rattle.std.proofs.Common.{◌≡◌, ℕ, zero, suc, ◌+◌, ◌-◌, ◌==◌, ◌∙◌, ◌++◌, Bool, true, false, cond, if◌then◌else◌, not, nat_lt, List, [], ◌∷◌, filter, map, length, Option, Some, None, ap, arith, refl, subst, sym}
+use Rattle.std.proofs.Common.{◌≡◌, ℕ, zero, suc, ◌+◌, ◌-◌, ◌==◌, ◌∙◌, Bool, true, false, cond, if◌then◌else◌, nat_lt, List, [], ◌∷◌, length, Option, Some, None, ap, arith, refl, subst, sym}
 use Rattle.std.proofs.lemmas.Bool.{eqb-true, eqb-false}
 use Rattle.std.specs.Option.{option_map, option_or}
 use Rattle.std.specs.Prelude.{Ok, Err}
-use Rattle.nv_base.specs.declared.fault.Fault.{Fault}
 use Rattle.nv_calls.specs.AllCalls.{blocks_wanted}
 use Rattle.nv_calls.specs.Refusals.{Check as Tests}
 use Rattle.nv_calls.specs.declared.answer.Answer.{Answer}
 use Rattle.nv_calls.specs.declared.looked.Looked.{Looked}
 use Rattle.nv_entry.specs.declared.node.NodeCopy.{NodeCopy}
-use Rattle.nv_entry.specs.declared.tree.TreeNode.{TreeNode}
 use Rattle.nv_epoch.specs.SnapList.{Snapshots as Living, after_making, after_pin, after_removal, after_unpin, pins_of}
 use Rattle.nv_machine.proofs.LivingPins.{pins_at-changed, pins_at-kept, pins_at-push, pins_at-removed, pins_at-unchanged}
 use Rattle.nv_reader.specs.Walk as walk
 use Rattle.nv_book.specs.declared.record.Record.{Record}
-use Rattle.nv_machine.specs.Kinds.{again_turn, append_turn, blocks_turn, check_turn, drained_turn, end_turn, enter_turn, grown, last_turn, lock_turn, look_turn, number_turn, over_turn, pages_turn, refuse, rest_turn, unlocked_turn, back_turn, visit_turn, wants_blocks, wants_pages}
+use Rattle.nv_machine.specs.Kinds.{again_turn, blocks_turn, check_turn, drained_turn, end_turn, enter_turn, grown, last_turn, lock_turn, look_turn, number_turn, over_turn, pages_turn, rest_turn, unlocked_turn, back_turn, visit_turn, wants_blocks, wants_pages}
 use Rattle.nv_machine.specs.Reading.{ArePins, pins_at, pins_on}
 use Rattle.nv_machine.specs.Reads.{copies, has_last_page, slots_of, written_slots}
 use Rattle.nv_machine.specs.Sequence.{appending, closing, directories, locking, looking, opening, publishing, retiring}

@@ -1,5 +1,5 @@
 -- A snapshot has a pin for each show of it that is under way.
-use Rattle.std.proofs.Common.{◌≡◌, ℕ, zero, suc, ◌+◌, ◌<◌, ◌∙◌, Bool, true, false, cond, List, [], ◌∷◌, length, nat_lt, Option, Some, None, ap, arith, get_or, refl, set, subst, sym}
+use Rattle.std.proofs.Common.{◌≡◌, ℕ, zero, suc, ◌+◌, ◌<◌, ◌∙◌, Bool, true, false, List, [], ◌∷◌, length, nat_lt, Option, Some, None, ap, arith, refl, set, sym}
 use Rattle.std.proofs.lemmas.Bool.{ltb-true}
 use Rattle.std.proofs.lemmas.List.Sums.{sum_by-cons, sum_by-set}
 use Rattle.std.specs.Prelude.{count_by, replicate}
@@ -8,14 +8,13 @@ use Rattle.nv_calls.specs.declared.call.Call.{Call}
 use Rattle.nv_calls.specs.declared.snapshot_call.SnapshotCall.{SnapshotCall}
 use Rattle.nv_calls.specs.declared.call.Call.TheVariants as call
 use Rattle.nv_calls.specs.declared.snapshot_call.SnapshotCall.TheVariants as on
-use Rattle.nv_epoch.specs.SnapList.{Snapshots as Living, pins_of}
+use Rattle.nv_epoch.specs.SnapList.{pins_of}
 use Rattle.nv_machine.specs.Format.{formatted}
 use Rattle.nv_machine.specs.Reading.{ArePins, pins_at, pins_by_call, pins_on, shows_of}
-use Rattle.nv_machine.specs.Reads.{slots_of}
-use Rattle.nv_machine.specs.Sequence.{Beginning, Locks, Looks, Numbers, OnSnapshots, Visits, beginning, begun, first_step, locking, nothing_looked}
+use Rattle.nv_machine.specs.Sequence.{beginning, begun, first_step}
 use Rattle.nv_machine.specs.Step.{after, go_step, start_step, step, turn, turned}
-use Rattle.nv_machine.specs.World.{Actor, Drop, Ends, Event, Go, HandState, Make, Moves, Pick, Pin, Running, Shared, SnapshotStep, Start, Turn, Waits, World, actor_at, idle}
-use Rattle.nv_machine.proofs.PinSteps.{Fits, OnPins, kind_pins, locking_none, one_if, same_fits}
+use Rattle.nv_machine.specs.World.{Actor, Ends, Event, Go, Moves, Running, Shared, Start, Turn, Waits, World, actor_at, idle}
+use Rattle.nv_machine.proofs.PinSteps.{OnPins, kind_pins, locking_none, one_if, same_fits}
 
 -- ---- an actor that changes its call
 

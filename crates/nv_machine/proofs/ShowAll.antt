@@ -1,5 +1,5 @@
 -- What shows are answered, in every world that events lead to.
-use Rattle.std.proofs.Common.{◌≡◌, ℕ, zero, suc, ◌+◌, ◌≤◌, ◌==◌, ◌-◌, ◌∙◌, Bool, true, if◌then◌else◌, List, [], length, Option, Some, None, IsSome, ap, arith, refl, replicate, subst, sym, take}
+use Rattle.std.proofs.Common.{◌≡◌, ℕ, ◌≤◌, ◌==◌, ◌-◌, ◌∙◌, Bool, true, if◌then◌else◌, List, length, Some, None, IsSome, ap, arith, refl, subst, sym, take}
 use Rattle.std.specs.List.{Contains}
 use Rattle.std.proofs.lemmas.Option.{none-some}
 use Rattle.nv_base.specs.Limits.{IsWithinLimits}
@@ -13,7 +13,6 @@ use Rattle.nv_cell.proofs.Publishing.{take_whole}
 use Rattle.nv_entry.specs.Node.{node_at}
 use Rattle.nv_entry.specs.Tree.{root}
 use Rattle.nv_entry.specs.declared.item.Entry.{Entry}
-use Rattle.nv_entry.specs.declared.node.NodeCopy.{NodeCopy}
 use Rattle.nv_entry.specs.declared.tree.TreeNode.{TreeNode}
 use Rattle.nv_epoch.specs.SnapList.{ids, pins_of}
 use Rattle.nv_machine.specs.Format.{formatted}
@@ -32,7 +31,7 @@ use Rattle.nv_machine.proofs.Locks.{all_same, many_same}
 use Rattle.nv_machine.proofs.Pins.{pins_of_shows}
 use Rattle.nv_machine.proofs.Reached.{reached}
 use Rattle.nv_machine.proofs.ShowRuns.{AllShow, IsShown, events_show, show_told, shown_lives}
-use Rattle.nv_machine.proofs.Showing.{IsSeen, ShowsAt, tree_by}
+use Rattle.nv_machine.proofs.Showing.{IsSeen, tree_by}
 use Rattle.nv_machine.proofs.SnapRuns.{all_bare}
 use Rattle.nv_machine.proofs.WalkBounds.{root_few}
 use Rattle.nv_reader.proofs.Coming.{whole as tree_to_come}

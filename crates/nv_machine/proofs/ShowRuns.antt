@@ -1,9 +1,8 @@
 -- What shows have seen, whatever events come; and so what they are answered.
-use Rattle.std.proofs.Common.{◌≡◌, ◌≢◌, ℕ, zero, suc, ◌+◌, ◌<◌, ◌≤◌, ◌==◌, ◌∙◌, Bool, true, false, cond, List, [], ◌∷◌, if◌then◌else◌, length, nat_lt, Option, Some, None, IsSome, ap, arith, get_or-set_other, refl, set, subst, sym, inl, inr, ◌⊎◌}
+use Rattle.std.proofs.Common.{◌≡◌, ℕ, ◌<◌, ◌≤◌, ◌==◌, ◌∙◌, Bool, true, false, List, [], ◌∷◌, length, nat_lt, Option, Some, None, IsSome, ap, arith, get_or-set_other, refl, set, subst, sym, inl, inr}
 use Rattle.std.proofs.Math.Path.{fun_ext}
 use Rattle.std.specs.List.{Contains}
-use Rattle.std.specs.Prelude.{Ok, Err}
-use Rattle.std.proofs.lemmas.Bool.{cases_lt, eqb-false, eqb-true, ltb-true, lt-ltb}
+use Rattle.std.proofs.lemmas.Bool.{cases_lt, eqb-false, eqb-true, ltb-true}
 use Rattle.std.proofs.lemmas.List.{get_or_past}
 use Rattle.std.proofs.lemmas.List.Sums.{get_or-le-sum_by}
 use Rattle.std.proofs.lemmas.Option.{none-some, same_Some}
@@ -14,19 +13,19 @@ use Rattle.nv_calls.specs.declared.call.Call.{Call}
 use Rattle.nv_entry.specs.declared.node.NodeCopy.{NodeCopy}
 use Rattle.nv_entry.specs.declared.tree.TreeNode.{TreeNode}
 use Rattle.nv_epoch.specs.SnapList.{ids, pins_of}
-use Rattle.nv_machine.specs.Reading.{ArePins, pins_at, pins_by_call, pins_on, shows_of}
+use Rattle.nv_machine.specs.Reading.{ArePins, pins_at, pins_by_call, shows_of}
 use Rattle.nv_machine.specs.Sequence.{beginning, begun}
 use Rattle.nv_machine.specs.Settled.{settled_copies}
 use Rattle.nv_machine.specs.Snapshots.{copies_at, first_showing, if_free, shown_by, unpin_turn}
 use Rattle.nv_machine.specs.Step.{after, go_step, kind_turn, reply_of, start_step, step, turn, turned}
 use Rattle.nv_machine.specs.World.{Actor, Answers, Done, Drains, Drop, Ending, Ends, Event, Go, HandState, LockPicked, Make, Moves, Next, Overtaken, Pick, Pin, Refuses, Release, Running, Shared, Show, Snapshots, Start, Turn, Unpin, Waits, World, actor_at, idle, owner_at}
 use Rattle.nv_machine.proofs.CopyRuns.{cells_stay}
-use Rattle.nv_machine.proofs.Events.{set_is, starts, turned_others}
+use Rattle.nv_machine.proofs.Events.{set_is}
 use Rattle.nv_machine.proofs.LivingPins.{lives-from_pins}
 use Rattle.nv_machine.proofs.Lists.{self}
 use Rattle.nv_machine.proofs.Pins.{begun_none}
 use Rattle.nv_machine.proofs.PinSteps.{one_if}
-use Rattle.nv_machine.proofs.Showing.{HasSeen, IsSeen, OnShows, ShowsAt, ShowsOn, kind_shows, no_show, tree_by}
+use Rattle.nv_machine.proofs.Showing.{HasSeen, IsSeen, OnShows, ShowsAt, kind_shows, no_show, tree_by}
 use Rattle.nv_machine.proofs.SnapSteps.{AreBare}
 
 -- ---- a snapshot that is shown lives

@@ -1,5 +1,5 @@
 -- A show has seen the front of its snapshot's tree, and what is to come of its walk is the rest: kind by kind.
-use Rattle.std.proofs.Common.{◌≡◌, ℕ, zero, suc, ◌+◌, ◌-◌, ◌≤◌, ◌==◌, ◌++◌, ◌∙◌, Bool, true, false, List, [], ◌∷◌, length, Option, Some, None, IsSome, ap, append_assoc, arith, refl, subst, sym}
+use Rattle.std.proofs.Common.{◌≡◌, ℕ, zero, suc, ◌-◌, ◌≤◌, ◌++◌, ◌∙◌, Bool, true, false, List, [], ◌∷◌, Option, Some, None, ap, append_assoc, arith, refl, subst, sym}
 use Rattle.std.specs.Option.{option_to_list}
 use Rattle.std.specs.Prelude.{Ok, Err}
 use Rattle.std.proofs.lemmas.Bool.{true≢false}
@@ -12,7 +12,7 @@ use Rattle.nv_entry.specs.Tree.{root, tree_from}
 use Rattle.nv_entry.specs.declared.node.NodeCopy.{NodeCopy}
 use Rattle.nv_entry.specs.declared.tree.TreeNode.{TreeNode}
 use Rattle.nv_epoch.specs.SnapList.{Snapshots as Living, pins_of}
-use Rattle.nv_machine.specs.Kinds.{grown, refuse}
+use Rattle.nv_machine.specs.Kinds.{grown}
 use Rattle.nv_machine.specs.Reading.{ArePins, pins_at}
 use Rattle.nv_machine.specs.Snapshots.{copies_at, drop_tests, drop_turn, first_showing, if_free, lock_picked_turn, make_tests, make_turn, picked_turn, pin_turn, seen_on, show_or_unpin, show_turn, showing_on, snapshot_turn, visited}
 use Rattle.nv_machine.specs.Step.{kind_turn}

@@ -1,5 +1,5 @@
 -- A step that the list of snapshots may refuse waits, or it goes by its tests.
-use Rattle.std.proofs.Common.{◌≡◌, ◌⊎◌, ℕ, zero, suc, ◌<◌, ◌∙◌, Bool, true, false, List, [], inl, inr, length, nat_lt, Option, Some, None, ap, refl, subst, sym}
+use Rattle.std.proofs.Common.{◌≡◌, ◌⊎◌, ℕ, ◌<◌, ◌∙◌, Bool, true, List, [], inl, inr, length, Option, Some, None, ap, refl, subst, sym}
 use Rattle.std.specs.Prelude.{Ok, Err}
 use Rattle.std.proofs.lemmas.Bool.{cases_lt}
 use Rattle.std.proofs.lemmas.List.{get_or_past}
@@ -12,8 +12,8 @@ use Rattle.nv_machine.specs.Format.{formatted}
 use Rattle.nv_machine.specs.PlainRun.{plain_after, plain_of}
 use Rattle.nv_machine.specs.Reading.{GoesBy, is_tested, plain_tests, test_there, tests_on}
 use Rattle.nv_machine.specs.Snapshots.{drop_turn, if_free, make_tests, make_turn, pin_turn, snapshot_turn}
-use Rattle.nv_machine.specs.Step.{Step, after, kind_turn, step, turn, turned}
-use Rattle.nv_machine.specs.World.{Actor, Drop, Ends, Event, Go, HandState, LockPicked, Make, Next, Pick, Pin, Release, Reply, Running, Shared, Show, SnapshotStep, Snapshots, Turn, Unpin, Waiting, World, actor_at, empty_hand, idle}
+use Rattle.nv_machine.specs.Step.{Step, after, kind_turn, step, turned}
+use Rattle.nv_machine.specs.World.{Actor, Drop, Event, Go, HandState, LockPicked, Make, Next, Pick, Pin, Release, Running, Show, SnapshotStep, Snapshots, Turn, Unpin, Waiting, World, actor_at, empty_hand, idle}
 use Rattle.nv_machine.proofs.Events.{goes}
 use Rattle.nv_machine.proofs.SnapRuns.{all_bare, refusals_told}
 use Rattle.nv_machine.proofs.SnapSteps.{IsBare, refuse_ends}

@@ -1,6 +1,6 @@
 -- Whatever events come, the plain world has the epoch and the snapshots of the book, and refuses what the machine refuses.
-use Rattle.std.proofs.Common.{◌≡◌, ℕ, zero, suc, ◌<◌, ◌∙◌, Bool, if◌then◌else◌, List, [], ◌∷◌, length, Option, Some, None, ap, refl, sym}
-use Rattle.std.specs.Prelude.{nat_le, Ok, Err}
+use Rattle.std.proofs.Common.{◌≡◌, ℕ, zero, suc, ◌∙◌, if◌then◌else◌, List, [], ◌∷◌, length, Option, Some, None, ap, refl}
+use Rattle.std.specs.Prelude.{nat_le, Err}
 use Rattle.nv_base.specs.Limits.{IsWithinLimits}
 use Rattle.nv_base.specs.declared.fault.Fault.TheVariants.{EpochLimit, TooManySnapshots}
 use Rattle.nv_base.specs.declared.geometry.GeometryNumbers.{GeometryNumbers}
@@ -10,11 +10,11 @@ use Rattle.nv_calls.specs.Refusals.{Check as Tests, passes}
 use Rattle.nv_entry.specs.declared.node.NodeCopy.{NodeCopy}
 use Rattle.nv_epoch.specs.SnapList.{Snapshots as Living, pins_of}
 use Rattle.nv_machine.specs.Format.{formatted}
-use Rattle.nv_machine.specs.PlainRun.{OnSnapshots, Plain, deed_of, plain_after, plain_of, plain_step}
-use Rattle.nv_machine.specs.Reading.{pins_in, plain_tests, test_pins, test_there, tests_on}
+use Rattle.nv_machine.specs.PlainRun.{Plain, deed_of, plain_after, plain_of, plain_step}
+use Rattle.nv_machine.specs.Reading.{plain_tests, test_pins, test_there, tests_on}
 use Rattle.nv_machine.specs.Snapshots.{drop_tests}
 use Rattle.nv_machine.specs.Step.{after, step}
-use Rattle.nv_machine.specs.World.{Drop, Event, LockPicked, Make, Pick, Pin, Release, Show, SnapshotStep, Unpin, World, actor_at}
+use Rattle.nv_machine.specs.World.{Drop, Event, LockPicked, Make, Pick, Pin, Release, Show, SnapshotStep, Unpin, World}
 use Rattle.nv_machine.proofs.FromScratch.{all_numbers}
 use Rattle.nv_machine.proofs.Reached.{reached}
 use Rattle.nv_machine.proofs.SnapSteps.{AreBare, are_bare, event_snaps}

@@ -1,5 +1,5 @@
 -- What each step makes of the list of snapshots is what its deed in the plain world says.
-use Rattle.std.proofs.Common.{◌≡◌, ℕ, zero, suc, ◌+◌, ◌∙◌, Bool, true, false, if◌then◌else◌, List, [], ◌∷◌, length, nat_lt, Option, Some, None, ap, refl, subst, sym}
+use Rattle.std.proofs.Common.{◌≡◌, ℕ, ◌+◌, ◌∙◌, Bool, true, false, if◌then◌else◌, List, [], ◌∷◌, length, nat_lt, Option, Some, None, ap, refl, subst, sym}
 use Rattle.std.specs.Prelude.{Ok, Err}
 use Rattle.nv_alloc.specs.FreeList.{FreeBlocks}
 use Rattle.nv_base.specs.declared.fault.Fault.{Fault}

@@ -1,15 +1,15 @@
 -- The plain world's copies go in step with the living snapshots: they have their numbers and their pins.
-use Rattle.std.proofs.Common.{◌≡◌, ◌≢◌, ℕ, zero, suc, ◌+◌, ◌-◌, ◌<◌, ◌==◌, ◌++◌, ◌∙◌, Bool, true, false, cond, if◌then◌else◌, not, List, [], ◌∷◌, filter, length, map, Option, Some, None, IsSome, ap, arith, refl, subst, sym}
+use Rattle.std.proofs.Common.{◌≡◌, ℕ, suc, ◌+◌, ◌-◌, ◌<◌, ◌==◌, ◌++◌, Bool, true, false, cond, if◌then◌else◌, not, List, [], ◌∷◌, filter, length, map, Option, Some, None, IsSome, ap, arith, refl, subst, sym}
 use Rattle.std.proofs.lemmas.Bool.{eqb-false, eqb-true}
 use Rattle.std.specs.Option.{option_map, option_or}
 use Rattle.nv_base.specs.declared.numbers.Handle.{Handle}
 use Rattle.nv_calls.specs.Plain.{node_in}
 use Rattle.nv_entry.specs.declared.node.NodeCopy.{NodeCopy}
-use Rattle.nv_epoch.specs.SnapList.{Snapshots as Living, ids, living_without, pins_at, pins_of, repinned, with_pins}
+use Rattle.nv_epoch.specs.SnapList.{Snapshots as Living, living_without, pins_at, pins_of, repinned, with_pins}
 use Rattle.nv_epoch.specs.declared.snapshot.Snapshot.{Snapshot}
 use Rattle.nv_machine.specs.PlainRun.{Commits, Copy, Deed, Nothing, Numbers, OnSnapshots, Plain, done, is_of, with_pins as copy_with_pins}
 use Rattle.nv_machine.specs.Reading.{pins_in}
-use Rattle.nv_machine.specs.World.{Drop, LockPicked, Make, Pick, Pin, Release, Running, Show, SnapshotStep, Unpin}
+use Rattle.nv_machine.specs.World.{Drop, LockPicked, Make, Pick, Pin, Release, Running, Show, Unpin}
 use Rattle.nv_machine.proofs.LivingPins.{pins_at-changed, pins_at-kept, pins_at-push, pins_at-removed, pins_at-unchanged}
 use Rattle.nv_machine.proofs.SnapSteps.{snaps_after}
 

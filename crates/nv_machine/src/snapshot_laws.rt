@@ -67,8 +67,8 @@ pub fn snapshots_hold_what_logs_tell()
 {}
 
 /// Each living snapshot reads as the nodes that stood when it was made, whatever events came since: at its epoch the settled
-/// logs give the plain world's copy, which no event changes. So they form a tree. A show that is answered is told that tree; it
-/// holds no lock from one step to the next, and its snapshot can't be dropped before its last step.
+/// logs give the plain world's copy, which no event changes. So they form a tree. A show that is answered is told that tree,
+/// and its snapshot lives up to its last step.
 pub fn snapshots_read_as_they_were()
     ensures copies { (g : GeometryNumbers) (events : List Event) → IsWithinLimits g
         → AreCopied (after (formatted g) events).shared
@@ -114,8 +114,8 @@ pub fn snapshot_refusals_are_told()
         (step (after (formatted g) events) (Go actor granted)).reply }
 {}
 
-/// A drain is answered how many records its steps have released, and refused only for want of memory before the first; and a pick
-/// finds nothing only where nothing is deferred.
+/// A drain is answered how many records its steps have released; as long as it runs it is refused only for want of memory before
+/// the first. And a pick finds nothing only where nothing is deferred.
 pub fn drains_count_their_releases()
     ensures answer { (g : GeometryNumbers) (before events : List Event) (actor count told : ℕ)
         (granted : Bool) → IsWithinLimits g
