@@ -176,14 +176,14 @@ append_times n ino pages s h r inside =
 
 -- ---- retire: what is set free goes to the hand
 
-settled_times : (n : ℕ) (keeper : Option ℕ) (k : ℕ) (cell : CellState)
+pub settled_times : (n : ℕ) (keeper : Option ℕ) (k : ℕ) (cell : CellState)
     → times n (stored_in (settled keeper k cell)) + times n (numbers_of (freed keeper k cell)) ≡ times n (stored_in cell)
 settled_times n (Some s) k cell = omega (arith, stored_times n cell, stored_times n (settled (Some s) k cell))
 settled_times n None k cell =
     let e = set_times of_part n cell.blocks k None None (λ past. refl) in
     omega (arith, e, stored_times n cell, stored_times n (settled None k cell))
 
-retired_times : (n : ℕ) (living : List ℕ) (ino epoch : ℕ) (parts : List KilledPart) (cell : CellState)
+pub retired_times : (n : ℕ) (living : List ℕ) (ino epoch : ℕ) (parts : List KilledPart) (cell : CellState)
     → times n (stored_in (retired living ino epoch parts cell)) + times n (numbers_of (freed_by living ino epoch parts cell))
     ≡ times n (stored_in cell)
 retired_times n living ino epoch [] cell = omega arith

@@ -191,6 +191,20 @@ module _ (w : World) (a : ℕ) (rs : List Record) (r : Running) (there : a < len
       ∙ ap (λ (l : List ℕ). parts_for l h.killed slot) (slots_from place written inside)
       ∙ first_for slot (drop (place + 1) written) h.killed (omega (arith, many, inside)))) refl (m.cells slot))
 
+  -- what is left of it, once they are retired: the records that this makes stand behind the others
+  pub retire_left : (place : ℕ) → r.next ≡ Retire place → place < length written → length h.killed + place ≡ length written
+      → IsLog (cell_at s (slot_at written place)).chain.entries
+      → MarksOf living (slot_at written place) r.epoch []
+      ((rs ++ picked_in w) ++ with_parts living (slot_at written place) r.epoch (first_killed h.killed) [])
+      (retired_cell (slot_at written place) (first_killed h.killed) s r)
+  retire_left place next inside many log =
+      let slot = slot_at written place in
+      let cell = cell_at s slot in
+      subst (λ (l : List Record). MarksOf living slot r.epoch [] l (retired_cell slot (first_killed h.killed) s r))
+      (parts_behind living slot r.epoch (first_killed h.killed) (rs ++ picked_in w))
+      (retired_marks living slot r.epoch (first_killed h.killed) (rs ++ picked_in w) cell
+      (IsLog-take cell.chain.tail cell.chain.entries log) (retire_mine place next inside many))
+
   pub retire_marked : (place : ℕ) → r.next ≡ Retire place → place < length written → IsRising written
       → slot_at written place < length s.cells → IsLog (cell_at s (slot_at written place)).chain.entries
       → length h.killed + place ≡ length written → picked_at (sequel r (Retire place)) ≡ []
@@ -219,10 +233,8 @@ module _ (w : World) (a : ℕ) (rs : List Record) (r : Running) (there : a < len
       ap (λ (l : List Record). l ++ picked_in v) (parts_behind living slot r.epoch parts rs)
       ∙ ap (λ (l : List Record). (rs ++ more) ++ l) picked in
       let published_log : IsLog (log_of cell) = IsLog-take cell.chain.tail cell.chain.entries log in
-      let mine : MarksOf living slot r.epoch parts (rs ++ picked_in w) cell = retire_mine place next inside many in
       let gone : MarksOf living slot r.epoch [] ((rs ++ picked_in w) ++ with_parts living slot r.epoch parts []) left =
-      subst (λ (l : List Record). MarksOf living slot r.epoch [] l left) (parts_behind living slot r.epoch parts (rs ++ picked_in w))
-      (retired_marks living slot r.epoch parts (rs ++ picked_in w) cell published_log mine) in
+      retire_left place next inside many log in
       let kept : MarksOf living slot epoch [] ((rs ++ more) ++ picked_in w) left =
       subst (λ (e : ℕ). MarksOf living slot e [] ((rs ++ more) ++ picked_in w) left) epoch_is
       (behind_first living slot r.epoch [] rs (picked_in w) more left gone) in

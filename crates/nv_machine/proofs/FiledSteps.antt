@@ -27,7 +27,7 @@ use Rattle.nv_entry.specs.declared.item.Entry.{Entry}
 use Rattle.nv_machine.specs.Held.{is_of_slot}
 use Rattle.nv_machine.specs.Kinds.{with_entries, with_pages}
 use Rattle.nv_machine.specs.Recorded.{with_parts}
-use Rattle.nv_machine.proofs.FiledLists.{all_append, all_weaker, count, count_append, count_cons, one}
+use Rattle.nv_machine.proofs.FiledLists.{HasHolder, all_append, all_weaker, count, count_append, count_cons, one}
 use Rattle.nv_machine.proofs.FiledMarks.{AreMarks, IsTold, freed_marks, is_filed_on, kept_marks, killed_number, released_marks, filed_number}
 use Rattle.nv_machine.proofs.FiledPublish.{erased_marks, filed_marks, published_marks}
 use Rattle.nv_machine.proofs.Pairs.{HasPair}
@@ -91,6 +91,15 @@ appended_marks living ino epoch killed rs entries bs pages cell within h =
     (sym (same_log entries cell new within is))
     (subst (λ (marks : List Mark). AreMarks living ino epoch killed rs cell.block (log_of cell) marks) (sym is.marks) h))
 
+-- so an inode is gone, and nothing is there of it, exactly where that was so
+pub appended_gone : (entries : List Entry) (bs pages : List BlockValue) (cell : CellState) → cell.chain.tail ≤ length cell.chain.entries
+    → is_erased (with_entries entries bs (with_pages pages cell)) ≡ is_erased cell
+appended_gone entries bs pages cell within =
+    let new = with_entries entries bs (with_pages pages cell) in
+    let is = appends entries bs pages cell in
+    ap (λ (log : List Entry). is_gone log && not (list_any is_there new.marks)) (same_log entries cell new within is)
+    ∙ ap (λ (marks : List Mark). is_gone (log_of cell) && not (list_any is_there marks)) is.marks
+
 -- what stands past the tail
 abbrev pub AreFresh : ℕ → CellState → Type 0
 AreFresh epoch cell = AllByRecursion (λ (e : Entry). e.epoch ≡ epoch) (drop cell.chain.tail cell.chain.entries)
@@ -149,6 +158,17 @@ parts_are_of living ino epoch (k ∷ ks) rs h =
       go true = h
       go false = all_append (λ (d : Record). d.ino ≡ ino) rs (record_of ino epoch k ∷ []) h (refl, tt)
 
+-- and each has a living holder
+pub parts_held : (living : List ℕ) (ino epoch : ℕ) (ks : List KilledPart) (rs : List Record) → AllByRecursion (HasHolder living) rs
+    → AllByRecursion (HasHolder living) (with_parts living ino epoch ks rs)
+parts_held living ino epoch [] rs h = h
+parts_held living ino epoch (k ∷ ks) rs h =
+    parts_held living ino epoch ks (with_retired living (record_of ino epoch k) rs) (go (holder_of living (record_of ino epoch k)) refl) where
+      go : (o : Option ℕ) → holder_of living (record_of ino epoch k) ≡ o
+          → AllByRecursion (HasHolder living) (cond (is_none o) rs (rs ++ record_of ino epoch k ∷ []))
+      go None e = h
+      go (Some t) e = all_append (HasHolder living) rs (record_of ino epoch k ∷ []) h (record { snapshot = t; is = e }, tt)
+
 settled_log : (o : Option ℕ) (n : ℕ) (cell : CellState) → log_of (settled o n cell) ≡ log_of cell
 settled_log (Some s) n cell = refl
 settled_log None n cell = refl
@@ -194,6 +214,17 @@ retired_chain living ino epoch [] cell = refl
 retired_chain living ino epoch (k ∷ ks) cell =
     retired_chain living ino epoch ks (settled (keeper_of living ino epoch k) (number_in cell k.part) cell)
     ∙ settled_chain (keeper_of living ino epoch k) (number_in cell k.part) cell
+
+settled_block : (o : Option ℕ) (n : ℕ) (cell : CellState) → (settled o n cell).block ≡ cell.block
+settled_block (Some s) n cell = refl
+settled_block None n cell = refl
+
+pub retired_block : (living : List ℕ) (ino epoch : ℕ) (ks : List KilledPart) (cell : CellState)
+    → (retired living ino epoch ks cell).block ≡ cell.block
+retired_block living ino epoch [] cell = refl
+retired_block living ino epoch (k ∷ ks) cell =
+    retired_block living ino epoch ks (settled (keeper_of living ino epoch k) (number_in cell k.part) cell)
+    ∙ settled_block (keeper_of living ino epoch k) (number_in cell k.part) cell
 
 pub retired_log : (living : List ℕ) (ino epoch : ℕ) (ks : List KilledPart) (cell : CellState)
     → log_of (retired living ino epoch ks cell) ≡ log_of cell

@@ -150,7 +150,7 @@ module _ (living : List ℕ) (ino epoch : ℕ) (killed : List KilledPart) (rs : 
 
 -- ---- every world
 
-same_default : (ms : List Mark) (n : ℕ) → n < length ms → slice_index_or ms n Current ≡ slice_index_or ms n Out
+pub same_default : (ms : List Mark) (n : ℕ) → n < length ms → slice_index_or ms n Current ≡ slice_index_or ms n Out
 same_default [] n lt = absurd (omega (arith, lt))
 same_default (m ∷ ms) zero lt = refl
 same_default (m ∷ ms) (suc n) lt = same_default ms n (omega (arith, lt))

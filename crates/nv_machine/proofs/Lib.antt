@@ -148,3 +148,4 @@ pub mod FiledHeld
 pub mod FiledParts
 pub mod ReleaseGrown
 pub mod HeldMarks
+pub mod Releasing

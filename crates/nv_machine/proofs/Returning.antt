@@ -1,5 +1,5 @@
 -- A number in the hand of a call that is late stays there, up to the step that ends the call and puts it into the pool.
-use Rattle.std.proofs.Common.{◌≡◌, ◌≢◌, ◌+◌, ◌<◌, ◌==◌, ◌++◌, ◌∙◌, ◌∷◌, ◌⊎◌, inl, inr, ℕ, Bool, true, false, List, [], Option, Some, None, ap, arith, get_or-set_other, get_or-set_same, if◌then◌else◌, length, map, nat_lt, refl, set, subst, sym, zero, suc}
+use Rattle.std.proofs.Common.{◌≡◌, ◌≢◌, ◌⊎◌, inl, inr, ℕ, zero, suc, ◌+◌, ◌<◌, ◌==◌, ◌++◌, ◌∙◌, Bool, true, false, List, [], ◌∷◌, Option, Some, None, ap, arith, get_or-set_other, get_or-set_same, if◌then◌else◌, length, map, nat_lt, refl, set, subst, sym}
 use Rattle.std.proofs.lemmas.Bool.{eqb-false, eqb-true, false≢true}
 use Rattle.std.proofs.lemmas.List.{map-id}
 use Rattle.std.proofs.lemmas.Option.{none-some}
@@ -10,13 +10,13 @@ use Rattle.nv_base.specs.declared.geometry.GeometryNumbers.{GeometryNumbers}
 use Rattle.nv_calls.specs.Retiring.{is_erased, number_back}
 use Rattle.nv_calls.specs.declared.call.Call.{Call}
 use Rattle.nv_cell.specs.Cell.{CellState}
-use Rattle.nv_machine.specs.Erasing.{IsOnItsWay, IsOnItsWayOrBack, is_late, is_done_with}
+use Rattle.nv_machine.specs.Erasing.{IsOnItsWay, IsOnItsWayOrBack, is_done_with, is_late}
 use Rattle.nv_machine.specs.Format.{formatted}
 use Rattle.nv_machine.specs.Hands.{HandOf, is_going}
-use Rattle.nv_machine.specs.Kinds.{back_turn, end_turn, first_killed, over_turn, rest_turn, retired_cell, unlocked_turn, with_freed, drained_turn, last_turn}
+use Rattle.nv_machine.specs.Kinds.{back_turn, drained_turn, end_turn, first_killed, last_turn, over_turn, rest_turn, retired_cell, unlocked_turn, with_freed}
 use Rattle.nv_machine.specs.Reads.{slot_at, written_slots}
 use Rattle.nv_machine.specs.Step.{Step, after, go_step, kind_turn, start_step, step, turned}
-use Rattle.nv_machine.specs.World.{Actor, Answers, Append, Back, Check, Close, Ending, Ends, Enter, Event, Give, Go, HandState, Leave, Lock, Look, Moves, Next, Number, Open, Overtaken, Publish, Ready, Refuses, Retire, Running, Shared, Start, TakeBlocks, TakePages, Turn, Unlock, Visit, Waits, World, actor_at, idle, Drains, Snapshots}
+use Rattle.nv_machine.specs.World.{Actor, Answers, Append, Back, Check, Close, Drains, Ending, Ends, Enter, Event, Give, Go, HandState, Leave, Lock, Look, Moves, Next, Number, Open, Overtaken, Publish, Ready, Refuses, Retire, Running, Shared, Snapshots, Start, TakeBlocks, TakePages, Turn, Unlock, Visit, Waits, World, actor_at, idle}
 use Rattle.nv_machine.proofs.Erasing.{IsKnown, known, runs_inside}
 use Rattle.nv_machine.proofs.Events.{goes}
 use Rattle.nv_machine.proofs.FromScratch.{not_counted}
@@ -27,7 +27,7 @@ use Rattle.nv_machine.proofs.PoolTurns.{Standing}
 
 -- ---- a turn
 
--- it leaves the number in the hand of a call that is late, or ends it or lets it pick anew, with the number in the pool
+-- it leaves the number in the hand of a call that is late, or ends, or goes on to the next pick, with the number in the pool
 abbrev OnWay : ℕ → Turn → Type 0
 OnWay ino (Moves t h q) =
     ((is_late q.next ≡ true) × (h.ino ≡ Some ino)) ⊎ ((is_done_with (Some q) ≡ true) × (has t.pool.numbers ino ≡ true))
@@ -120,7 +120,6 @@ module _ (g : GeometryNumbers) (block a ino : ℕ) (granted : Bool) (s : Shared)
       unlock_way ino _ place _ h r is (λ e. none-some ino (sym (ap (λ (x : HandState). x.ino) (st.hand.1 e).empty) ∙ is))
   late_way (Give cpu) late st going = rest_way ino _ h.ino _ _ r is is
   late_way Back late st going = back_way ino h.ino s h r is
-  late_way (Snapshots step) late st going = absurd (false≢true late)
   late_way Number late st going = absurd (false≢true late)
   late_way (Look place) late st going = absurd (false≢true late)
   late_way (Lock place) late st going = absurd (false≢true late)
@@ -134,6 +133,7 @@ module _ (g : GeometryNumbers) (block a ino : ℕ) (granted : Bool) (s : Shared)
   late_way (Publish place) late st going = absurd (false≢true late)
   late_way Close late st going = absurd (false≢true late)
   late_way Visit late st going = absurd (false≢true late)
+  late_way (Snapshots step) late st going = absurd (false≢true late)
 
 -- ---- an event
 
@@ -156,21 +156,23 @@ turned_other (Ends result s h) actor b ino w ne way = other_way actor b ino w (r
 
 turned_own : (t : Turn) (actor ino : ℕ) (w : World) → actor < length w.actors → IsOnItsWay actor ino w → OnWay ino t
     → IsOnItsWayOrBack actor ino (turned t actor w).world
-turned_own (Moves s h q) actor ino w there way on =
-    let own = get_or-set_same w.actors actor (record { hand = h; running = Some q }) idle there in
-    elim on [
-      | inl late ↦ inl (record {
-        running = q;
-        runs = ap (λ (x : Actor). x.running) own;
-        late = late.0;
-        number = ap (λ (x : Actor). x.hand.ino) own ∙ late.1;
-      })
-      | inr back ↦ inr (record { ended = ap (λ (x : Actor). is_done_with x.running) own ∙ back.0; pool = back.1 })
-    ]
+turned_own (Moves s h q) actor ino w there way on = go on where
+  own : actor_at (turned (Moves s h q) actor w).world actor ≡ record { hand = h; running = Some q }
+  own = get_or-set_same w.actors actor (record { hand = h; running = Some q }) idle there
+
+  go : OnWay ino (Moves s h q) → IsOnItsWayOrBack actor ino (turned (Moves s h q) actor w).world
+  go (inl late) = inl (record {
+    running = q;
+    runs = ap (λ (x : Actor). x.running) own;
+    late = late.0;
+    number = ap (λ (x : Actor). x.hand.ino) own ∙ late.1;
+  })
+  go (inr back) = inr (record { ended = ap (λ (x : Actor). is_done_with x.running) own ∙ back.0; pool = back.1 })
 turned_own Waits actor ino w there way on = inl way
 turned_own (Ends result s h) actor ino w there way on =
     inr (record {
-      ended = ap (λ (x : Actor). is_done_with x.running) (get_or-set_same w.actors actor (record { hand = h; running = None }) idle there);
+      ended = ap (λ (x : Actor). is_done_with x.running)
+          (get_or-set_same w.actors actor (record { hand = h; running = None }) idle there);
       pool = on;
     })
 
