@@ -1,5 +1,5 @@
 -- What each kind of step decides, and that what has been decided follows from the step that comes next.
-use Rattle.std.proofs.Common.{◌≡◌, ℕ, ◌+◌, ◌<◌, ◌++◌, ◌∙◌, ◌&&◌, ◌||◌, not, Bool, true, false, cond, List, [], ◌∷◌, Option, Some, None, ap, ap₂, arith, length, nat_le, nat_lt, refl, subst, sym}
+use Rattle.std.proofs.Common.{◌≡◌, ◌+◌, ◌<◌, ◌++◌, ◌∙◌, ◌&&◌, ◌||◌, ◌∷◌, ℕ, not, Bool, true, false, cond, List, [], Option, Some, None, ap, ap₂, arith, length, nat_le, nat_lt, refl, subst, sym, true≢false}
 use Rattle.std.specs.Prelude.{Ok, Err}
 use Rattle.std.proofs.lemmas.Bool.{and_parts, false≢true}
 use Rattle.nv_alloc.specs.Numbers.{has}
@@ -169,7 +169,7 @@ module _ (block a cpu : ℕ) (s : Shared) (h : HandState) (r : Running) where
 
   -- the plain world's answer at a commit point is the one that no node tells
   commit_answer : is_nothing r.call ≡ false → answer (settled_nodes s) r.made r.call ∷ [] ≡ answer_of r ∷ []
-  commit_answer some = ap (λ (x : Answer). x ∷ []) (no_node_tells (settled_nodes s) (λ handle. None) r.made r.call (no_visit r.call some))
+  commit_answer some = ap (λ (x : Answer). x ∷ []) (no_node_tells (settled_nodes s) (λ handle. None) r.made r.call (no_visit r.call some).0)
 
   -- ---- check
 
