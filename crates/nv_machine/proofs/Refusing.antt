@@ -17,6 +17,7 @@ use Rattle.nv_calls.specs.Refusals.{Check as Tests}
 use Rattle.nv_book.specs.declared.record.Record.{Record}
 use Rattle.nv_machine.proofs.FromScratch.{all_numbers}
 use Rattle.nv_machine.proofs.Reached.{reached}
+use Rattle.nv_entry.specs.declared.tree.TreeNode.{TreeNode}
 
 -- what leaves them whatever becomes of the call
 abbrev Left : Next → Shared → Shared → HandState → Type 0
