@@ -88,12 +88,6 @@ pub mod EndsWritten
 pub mod EndsTold
 pub mod EndsTurns
 pub mod EndsRuns
-pub mod MarksInUse
-pub mod GoneLogs
-pub mod HeldParts
-pub mod HeldTurns
-pub mod HeldRuns
-pub mod HeldPairs
 pub mod HeldLaw
 pub mod Erased
 pub mod GoneTurns

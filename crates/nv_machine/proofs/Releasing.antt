@@ -57,7 +57,7 @@ use Rattle.nv_machine.proofs.Lists.{has_filter, has_later, self}
 use Rattle.nv_machine.proofs.Locked.{Before, lent_cell, owner_is}
 use Rattle.nv_machine.proofs.Locks.{before}
 use Rattle.nv_machine.proofs.Pairs.{HasPair, pair_there}
-use Rattle.nv_machine.proofs.Parted.{released_parted}
+use Rattle.nv_machine.proofs.Parted.{settled_parted}
 use Rattle.nv_machine.proofs.PartsFor.{none_of, none_there, own_all, swap_all, swap_count}
 
 -- ---- of a slot that an actor has locked no other has killed parts
@@ -265,7 +265,7 @@ module _ (g : GeometryNumbers) (w : World) (all : IsKnown g w) (actor : ℕ) (dr
       | inr ge ↦ get_or_past left.blocks n None (omega (arith, ge, left_parted.marks, left_parted.places, ap part_total whole))
     ] where
       left_parted : IsParted g.block left
-      left_parted = released_parted g.block d cell (all.numbers.cells d.ino)
+      left_parted = settled_parted g.block None (number_in cell (name_of d)) cell (all.numbers.cells d.ino)
 
     freed : (n : ℕ) (b : BlockValue) → slice_index_or cell.blocks n None ≡ Some b → has (numbers_of full.blocks) b.number ≡ true
     freed n b is =
