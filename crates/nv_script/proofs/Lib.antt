@@ -7,7 +7,6 @@ pub mod Firsts
 pub mod Goes
 pub mod Handles
 pub mod Known
-pub mod Lanes
 pub mod Lines
 pub mod Numbers
 pub mod Plain

@@ -1,7 +1,6 @@
 //! The words of a line, and what a word spells: a number, a mode, a handle, escaped bytes.
 
-ghost use Rattle.std.specs.Prelude.{◌≡◌, ◌+◌, ◌<◌, ◌≤◌, ◌++◌, ◌∷◌, ℕ, List, false, length, map, IfOk, IfSome, OnOk, MatchOption, decimal, drop, take, true};
-ghost use Rattle.std.specs.Bool.{OnTrue};
+ghost use Rattle.std.specs.Prelude.{◌≡◌, ◌<◌, ◌≤◌, ◌++◌, ◌∷◌, ℕ, List, false, length, map, IfOk, IfSome, OnOk, MatchOption, decimal, take, true};
 ghost use Rattle.std.specs.List.{All, list_all};
 ghost use Rattle.std.specs.Fmt.{digit_glyph};
 ghost use Rattle.nv_base.specs.declared.limits.TheConstants.{MODE};
@@ -10,7 +9,6 @@ ghost use Rattle.nv_script.specs.Words.{number_of, number_up_to, positive_up_to,
 use memchr::memchr;
 use nv_base::{Bytes, Gen, Handle, Ino, Mode, limits};
 use std::alloc::{AllocError, Global};
-use std::simd::prelude::*;
 
 /// The most digits of a number. The greatest number has this many, and shorter ones may have zeros in front.
 const MAX_DIGITS: usize = 20;
@@ -139,16 +137,15 @@ fn taken(first: u8, after: &[u8]) -> Option<(u8, &[u8])>
     Some((16 * hex_value(*high)? + hex_value(*low)?, rest))
 }
 
-/// Whether the bytes of a piece are all plain: one comparison asks them together.
-fn is_plain_piece(bytes: &[u8], at: usize) -> bool
-    requires { at + PIECE ≤ length bytes.now }
-    ensures { OnTrue result (list_all is_plain (take PIECE (drop at bytes.now)) ≡ true) }
+/// Whether each byte is plain. All are asked whatever the first ones are, so that many are asked at once.
+fn all_plain(bytes: &[u8]) -> bool
+    ensures { result ≡ list_all is_plain bytes.now }
 {
-    let piece = u8x32::from_slice(&bytes[at..]);
-    let low = piece.simd_lt(u8x32::splat(b'!'));
-    let high = u8x32::splat(b'~').simd_lt(piece);
-    let escape = piece.simd_eq(u8x32::splat(ESCAPE));
-    (low | high | escape).to_bitmask() == 0
+    let mut plain = true;
+    for byte in bytes {
+        plain &= is_plain(*byte);
+    }
+    plain
 }
 
 /// How many bytes are plain in front.
@@ -157,7 +154,7 @@ fn plain_count(bytes: &[u8]) -> usize
     ensures plain { list_all is_plain (take result bytes.now) ≡ true }
 {
     let mut count = 0;
-    while PIECE <= bytes.len() - count && is_plain_piece(bytes, count) {
+    while PIECE <= bytes.len() - count && all_plain(&bytes[count..count + PIECE]) {
         count += PIECE;
     }
     while count < bytes.len() && is_plain(bytes[count]) {
