@@ -22,7 +22,7 @@ use Rattle.nv_calls.specs.FillPages.{filled}
 use Rattle.nv_machine.specs.Reads.{if_number, slots_in, slots_of}
 use Rattle.nv_machine.specs.Sequence.{beginning}
 use Rattle.nv_machine.specs.Settled.{settled_nodes}
-use Rattle.nv_machine.specs.World.{Append, Back, Check, Close, Enter, Give, HandState, Leave, Lock, Look, Next, Number, Open, Publish, Ready, Retire, Running, Shared, TakeBlocks, TakePages, Unlock, Visit, cell_at}
+use Rattle.nv_machine.specs.World.{Append, Back, Check, Close, Enter, Give, HandState, Leave, Lock, Look, Next, Number, Open, Publish, Ready, Retire, Running, Shared, TakeBlocks, TakePages, Unlock, Visit, cell_at, Snapshots}
 use Rattle.nv_calls.specs.Filled.{AreFilled}
 use Rattle.nv_machine.proofs.FitsRuns.{fresh_same, present_in, taken_of}
 
@@ -120,6 +120,7 @@ module _ (block : ℕ) (v w : View) (c : Call) (seen : Looked) (new : Handle) (l
     go (call.Stat handle) all = refl
     go (call.List dir) all = refl
     go (call.Lookup dir name) all = refl
+    go (call.Snapshots what) all = refl
     go (call.Unlink dir name) all = refl
     go (call.Rmdir dir name) all = refl
     go (call.Rename from old to name) all = refl
@@ -232,6 +233,7 @@ module _ (block : ℕ) (s t : Shared) (h : HandState) (r : Running) (same : Same
 
   -- a step of another actor
   pub fits_still : (k : Next) → FitsAt k block s h r → FitsAt k block t h r
+  fits_still (Snapshots step) f = tt
   fits_still (Lock place) f = f ∙ ap slots_among (sym same.same.many)
   fits_still Check f = f ∙ ap slots_among (sym same.same.many)
   fits_still (TakeBlocks asked) f = (passed_on f.0, wanted_on _ f.0 f.1)

@@ -19,17 +19,16 @@ use Rattle.nv_machine.specs.Reads.{is_written, slot_at, written_slots}
 use Rattle.nv_machine.specs.Sequence.{appending, beginning, begun}
 use Rattle.nv_machine.specs.Settled.{settled}
 use Rattle.nv_machine.specs.Step.{Step, after, go_step, kind_turn, start_step, step, turn, turned}
-use Rattle.nv_machine.specs.World.{Actor, Append, Back, Check, Close, Ends, Enter, Event, Give, Go, HandState, Leave, Lock, Look, Moves, Next, Number, Open, Publish, Ready, Retire, Running, Shared, Start, TakeBlocks, TakePages, Turn, Unlock, Visit, Waits, World, actor_at, cell_at, idle, no_cell, owner_at}
-use Rattle.nv_machine.proofs.Answered.{deed_is, entered_none, is_single, no_commit}
-use Rattle.nv_machine.proofs.Written.{written_inside}
+use Rattle.nv_machine.specs.World.{Actor, Append, Back, Check, Close, Ends, Enter, Event, Give, Go, HandState, Leave, Lock, Look, Moves, Next, Number, Open, Publish, Ready, Retire, Running, Shared, Start, TakeBlocks, TakePages, Turn, Unlock, Visit, Waits, World, actor_at, cell_at, idle, no_cell, owner_at, Drop, LockPicked, Make, Pick, Pin, Release, Show, SnapshotStep, Snapshots, Unpin, with_book}
+use Rattle.nv_machine.proofs.Answered.{deed_is, entered_none, is_single, no_commit, no_commit_on}
 use Rattle.nv_machine.proofs.Events.{go_is_turn}
 use Rattle.nv_machine.proofs.Framed.{framed}
 use Rattle.nv_machine.proofs.Grown.{AllStill, CellsLeft, OnGrown, all_settled, is_settled, not_appended, not_behind, quiet_grown}
 use Rattle.nv_machine.proofs.InOrder.{begun_commits, event_order}
 use Rattle.nv_machine.proofs.Journals.{closed_tail}
-use Rattle.nv_machine.proofs.KeptTurns.{none_some, same_still, some_lent}
+use Rattle.nv_machine.proofs.KeptTurns.{none_some, same_still, some_lent, lent_inside_own}
 use Rattle.nv_machine.proofs.KeptRuns.{event_kept, none_closed}
-use Rattle.nv_machine.proofs.Lists.{has_filter}
+use Rattle.nv_machine.proofs.Lists.{has_filter, written_inside}
 use Rattle.nv_machine.proofs.Holding.{LocksLeft, OnLocks, same_locks}
 use Rattle.nv_machine.proofs.Locked.{Before, locks_kept, owner_is}
 use Rattle.nv_machine.proofs.Locks.{all_same, before, event_locks}
@@ -37,6 +36,10 @@ use Rattle.nv_machine.proofs.LogsKept.{Still, cell_set}
 use Rattle.nv_machine.proofs.Entered.{OnShared, end_shared}
 use Rattle.nv_machine.proofs.Settling.{SettlesAll, append_grown, close_grown, close_settles, open_grown, publish_grown, retire_grown, single_grown, single_settles}
 use Rattle.nv_machine.proofs.Appended.{tests_appending}
+use Rattle.nv_machine.proofs.Kept.{AfterTurn, snapshot_deed, snapshot_keeps}
+use Rattle.nv_machine.specs.Snapshots.{snapshot_turn}
+use Rattle.nv_machine.proofs.ReleaseGrown.{AreLeft, left_released, left_same, release_grown}
+use Rattle.nv_calls.specs.Retiring.{released}
 
 -- ---- every kind
 
@@ -115,6 +118,57 @@ publish_either false place block a s h r st e =
     (own_slots (Publish place) block a s h r st (λ ino. sym (st.before.mine.owners ino))) st.free
     place st.before.inside (closed_if _ s _ _ st.knows.2 e) e st.grown
 
+-- ---- a call on snapshots
+
+abbrev IsStill : ℕ → Shared → Shared → HandState → Type 0
+IsStill a s t h = Still s t × (is_owner a t.holder ≡ false)
+
+all_still : (a : ℕ) (s : Shared) (t : Turn) → AfterTurn (IsStill a s) t → AllStill a s t
+all_still a s (Moves t h q) after = after
+all_still a s Waits after = tt
+all_still a s (Ends result t h) after = after
+
+-- a step that is lent the book alone leaves cells and journals
+booked_grown : (block a : ℕ) (granted : Bool) (step : SnapshotStep) (s : Shared) (h : HandState) (r : Running)
+    → Standing (Snapshots step) block a s h r
+    → ((snapshot_deed step a s h).shared ≡ with_book (snapshot_deed step a s h).shared.book s)
+    → (snapshot_deed step a s h).shared.book.journals ≡ s.book.journals
+    → OnGrown a s (snapshot_turn step a granted s h r)
+booked_grown block a granted step s h r st is same =
+    let t = with_book (snapshot_deed step a s h).shared.book s in
+    let still : Still s t = record { cells = λ ino. refl; journals = same; cpus = refl } in
+    quiet_grown a s _ _ st.free (mine (Snapshots step) block a s h r st refl)
+    (all_still a s (snapshot_turn step a granted s h r)
+    (snapshot_keeps (IsStill a s) step a granted s h r (same_still s, st.before.mine.holder)
+    (subst (λ (u : Shared). IsStill a s u (snapshot_deed step a s h).hand) (sym is) (still, st.before.mine.holder))))
+    (locks_kept (Snapshots step) block a granted s h r st.before)
+
+snapshot_grown : (step : SnapshotStep) (block a : ℕ) (granted : Bool) (s : Shared) (h : HandState) (r : Running)
+    → Standing (Snapshots step) block a s h r → OnGrown a s (snapshot_turn step a granted s h r)
+snapshot_grown Make block a granted s h r st = booked_grown block a granted Make s h r st refl refl
+snapshot_grown (Drop snapshot) block a granted s h r st = booked_grown block a granted (Drop snapshot) s h r st refl refl
+snapshot_grown (Pin snapshot) block a granted s h r st = booked_grown block a granted (Pin snapshot) s h r st refl refl
+snapshot_grown (Unpin snapshot seen) block a granted s h r st = booked_grown block a granted (Unpin snapshot seen) s h r st refl refl
+snapshot_grown (Pick draining) block a granted s h r st = booked_grown block a granted (Pick draining) s h r st refl refl
+snapshot_grown (Show snapshot showing) block a granted s h r st =
+    quiet_grown a s _ _ st.free (mine (Snapshots (Show snapshot showing)) block a s h r st refl)
+    (quiet_still a s None false None _ st.before.mine.holder (framed (Snapshots (Show snapshot showing)) block a granted s h r))
+    (locks_kept (Snapshots (Show snapshot showing)) block a granted s h r st.before)
+snapshot_grown (LockPicked draining picked) block a granted s h r st =
+    quiet_grown a s _ _ st.free (mine (Snapshots (LockPicked draining picked)) block a s h r st refl)
+    (quiet_still a s None false (Some picked.ino) _ st.before.mine.holder
+    (framed (Snapshots (LockPicked draining picked)) block a granted s h r))
+    (locks_kept (Snapshots (LockPicked draining picked)) block a granted s h r st.before)
+snapshot_grown (Release draining picked) block a granted s h r st =
+    let k = Snapshots (Release draining picked) in
+    let here = lent_inside_own k a s r st.before picked.ino refl in
+    let own = mine k block a s h r st refl in
+    release_grown a s picked.ino (released picked (cell_at s picked.ino)) here.0 here.1 refl st.free own
+    (snapshot_turn (Release draining picked) a granted s h r) _ (locks_kept k block a granted s h r st.before)
+    (snapshot_keeps (AreLeft a s) (Release draining picked) a granted s h r
+    (left_same a s st.free own st.before.mine.holder)
+    (left_released a s picked.ino (released picked (cell_at s picked.ino)) here.0 here.1 refl st.free own st.before.mine.holder))
+
 pub grown_turn : (k : Next) (block a : ℕ) (granted : Bool) (s : Shared) (h : HandState) (r : Running) → Standing k block a s h r
     → OnGrown a s (kind_turn k block a granted s h r)
 grown_turn Number block a granted s h r st = quiet_grown a s _ _ st.free (mine Number block a s h r st refl)
@@ -176,6 +230,7 @@ grown_turn Back block a granted s h r st = quiet_grown a s _ _ st.free (mine Bac
 grown_turn Visit block a granted s h r st = quiet_grown a s _ _ st.free (mine Visit block a s h r st refl)
     (quiet_still a s None false None _ st.before.mine.holder (framed Visit block a granted s h r))
     (locks_kept Visit block a granted s h r st.before)
+grown_turn (Snapshots step) block a granted s h r st = snapshot_grown step block a granted s h r st
 
 -- ---- a commit point
 
@@ -214,6 +269,7 @@ commit_settles (Publish place) block a granted s h r st e =
           (λ ne. record { generation = refl; block = refl; blocks = refl }),
     )
 commit_settles Enter block a granted s h r st e = absurd (entered_none _ e)
+commit_settles (Snapshots step) block a granted s h r st e = absurd (no_commit_on step _ e)
 commit_settles Number block a granted s h r st e = absurd (no_commit e)
 commit_settles (Look place) block a granted s h r st e = absurd (no_commit e)
 commit_settles (Lock place) block a granted s h r st e = absurd (no_commit e)

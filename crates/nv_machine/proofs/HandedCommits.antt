@@ -9,7 +9,7 @@ use Rattle.nv_alloc.specs.Numbers.{times}
 use Rattle.nv_base.specs.declared.geometry.GeometryNumbers.{GeometryNumbers}
 use Rattle.nv_calls.specs.AllCalls.{blocks_wanted, early, effect, looked, refusal}
 use Rattle.nv_calls.specs.Refusals.{Check as Tests}
-use Rattle.nv_calls.specs.Retiring.{is_erased, number_back}
+use Rattle.nv_calls.specs.Retiring.{is_erased, number_back, released}
 use Rattle.nv_calls.specs.Slots.{entries_of, items_for, place_in}
 use Rattle.nv_calls.specs.declared.answer.Answer.{Answer}
 use Rattle.nv_calls.proofs.Appends.{front, map-drop}
@@ -18,21 +18,25 @@ use Rattle.nv_entry.specs.Blocks.{item_blocks}
 use Rattle.nv_entry.specs.declared.item.Entry.{Entry}
 use Rattle.nv_entry.specs.declared.item.Item.{Item}
 use Rattle.nv_machine.specs.Hands.{AreGiven, FitsFile, HandAt, HandOf, HasFitting, HasPlanned, HasTakenNone, BeginsAnew, is_going, makes_inode, planned_blocks}
-use Rattle.nv_machine.specs.Kinds.{asked_list, back_turn, blocks_in, blocks_left, blocks_turn, check_ending, enter_turn, entries_for, first_killed, given, pages_turn, retired_cell, unlocked_turn, visit_turn, with_bytes, with_erased, with_freed}
+use Rattle.nv_machine.specs.Kinds.{asked_list, back_turn, blocks_in, blocks_left, blocks_turn, check_ending, enter_turn, entries_for, first_killed, given, pages_turn, retired_cell, unlocked_turn, visit_turn, with_bytes, with_erased, with_freed, end_turn}
 use Rattle.nv_calls.proofs.FillPages.{filled_numbers}
 use Rattle.nv_calls.specs.FillPages.{filled, fresh_pages}
 use Rattle.nv_machine.specs.Reads.{copies, has_last_page, is_written, plan_by, slot_at, taken_by, written_slots}
 use Rattle.nv_machine.specs.Sequence.{appending, beginning, closing, opening, publishing, retiring}
 use Rattle.nv_machine.specs.Step.{ending_at, is_numbered, kind_turn, made_in, same_looked, with_made}
-use Rattle.nv_machine.specs.World.{Answers, Append, Back, Check, Close, Enter, Give, HandState, Leave, Lock, Look, Next, Number, Open, Overtaken, Publish, Ready, Retire, Running, Shared, TakeBlocks, TakePages, Unlock, Visit, empty_hand, go_to, list_at}
+use Rattle.nv_machine.specs.World.{Answers, Append, Back, Check, Close, Enter, Give, HandState, Leave, Lock, Look, Next, Number, Open, Overtaken, Publish, Ready, Retire, Running, Shared, TakeBlocks, TakePages, Unlock, Visit, empty_hand, go_to, list_at, Drop, LockPicked, Make, Pick, Pin, Release, Show, SnapshotStep, Snapshots, Unpin, Drains, Draining, Showing, Turn, cell_at, Refuses}
 use Rattle.nv_machine.proofs.Counted.{given_all}
 use Rattle.nv_machine.proofs.Fitting.{checked, plan_few, plan_first, plan_within, planned_few, wants_fitting}
-use Rattle.nv_machine.proofs.Handed.{GoesHome, OnHand, check_hand, end_hand, grown_hand, is_empty, lock_hand, look_hand, not_overtaken, number_hand, over_hand, rest_hand, same_nothing, wants_pages_hand}
+use Rattle.nv_machine.proofs.Handed.{GoesHome, OnHand, check_hand, end_hand, grown_hand, is_empty, lock_hand, look_hand, not_overtaken, number_hand, over_hand, rest_hand, same_nothing, wants_pages_hand, last_hand}
 use Rattle.nv_machine.proofs.Homes.{AreBelow, all_given}
-use Rattle.nv_machine.proofs.Kept.{deed}
+use Rattle.nv_machine.proofs.Kept.{deed, release_deed}
 use Rattle.nv_machine.proofs.Lists.{rising_filter}
 use Rattle.nv_machine.proofs.Locked.{Before}
 use Rattle.nv_machine.proofs.Parted.{entry_blocks}
+use Rattle.nv_machine.specs.Snapshots.{drop_turn, if_free, lock_picked_turn, make_tests, make_turn, one_more, picked_turn, pin_turn, release_turn, show_turn, snapshot_turn, unpin_turn, with_released}
+use Rattle.nv_book.specs.declared.record.Record.{Record}
+use Rattle.nv_entry.specs.declared.node.NodeCopy.{NodeCopy}
+use Rattle.nv_base.specs.declared.fault.Fault.{Fault}
 
 -- ---- the check's own
 
@@ -298,8 +302,8 @@ unlock_hand g false place s h r goes killed o = over_hand g r.ending s h r goes 
 
 back_hand : (g : GeometryNumbers) (number : Option ℕ) (s : Shared) (h : HandState) (r : Running) → h.ino ≡ number → h.killed ≡ []
     → blocks_in h ≡ [] → OnHand g (back_turn number s h r)
-back_hand g None s h r is killed none = is_empty h none is killed
-back_hand g (Some ino) s h r is killed none = is_empty (record h { ino = None }) none refl killed
+back_hand g None s h r is killed none = last_hand g r.ending s h r (is_empty h none is killed)
+back_hand g (Some ino) s h r is killed none = last_hand g r.ending _ _ r (is_empty (record h { ino = None }) none refl killed)
 
 visit_hand : (g : GeometryNumbers) (owner : Option ℕ) (tests : Tests) (granted : Bool) (found : Answer) (s : Shared) (h : HandState)
     (r : Running) → GoesHome g s h → h ≡ empty_hand → OnHand g (visit_turn owner tests granted found s h r)
@@ -323,6 +327,73 @@ abbrev pub CanGive : GeometryNumbers → Next → Shared → HandState → Type 
 CanGive g (Give cpu) s h = AreSized g.block (blocks_in h)
     × ((n : ℕ) → times n (numbers_of (blocks_in h)) + times n (numbers_of (list_at s cpu).blocks) ≤ 1)
 CanGive g other s h = Unit {0}
+
+-- ---- calls on snapshots
+
+free_hand : (g : GeometryNumbers) (holder : Option ℕ) (turn : Turn) → OnHand g turn → OnHand g (if_free holder turn)
+free_hand g (Some other) turn on = tt
+free_hand g None turn on = on
+
+module _ (g : GeometryNumbers) (s : Shared) (h : HandState) (r : Running) (goes : GoesHome g s h) (empty : h ≡ empty_hand)
+    (going : r.ending ≡ Answers) where
+  refused_hand : (fault : Fault) → OnHand g (end_turn r.slots (Refuses fault) s h r)
+  refused_hand fault =
+      end_hand g r.slots (Refuses fault) s h r goes (ap (λ (x : HandState). x.killed) empty) (λ is. not_overtaken _ refl is)
+
+  make_hand : (tests : Tests) → OnHand g (make_turn tests s h r)
+  make_hand (Err fault) = refused_hand fault
+  make_hand (Ok passed) = empty
+
+  drop_hand : (snapshot : ℕ) (tests : Tests) → OnHand g (drop_turn snapshot tests s h r)
+  drop_hand snapshot (Err fault) = refused_hand fault
+  drop_hand snapshot (Ok passed) = empty
+
+  pin_hand : (snapshot : ℕ) (pins : Option ℕ) → OnHand g (pin_turn snapshot pins s h r)
+  pin_hand snapshot None = refused_hand _
+  pin_hand snapshot (Some pins) = (empty, λ e. going)
+
+  show_hand : (owner : Option ℕ) (granted : Bool) (found : Option NodeCopy) (snapshot : ℕ) (showing : Showing)
+      → OnHand g (show_turn owner granted found snapshot showing s h r)
+  show_hand (Some other) granted found snapshot showing = tt
+  show_hand None true found snapshot showing = (empty, λ e. going)
+  show_hand None false found snapshot showing = (empty, λ e. absurd (false≢true e))
+
+  picked_hand : (deferred : List Record) (draining : Draining) → OnHand g (picked_turn deferred draining s h r)
+  picked_hand [] draining = empty
+  picked_hand (picked ∷ deferred) draining = (empty, λ e. going)
+
+  lock_picked_hand : (owner : Option ℕ) (actor : ℕ) (draining : Draining) (picked : Record)
+      → OnHand g (lock_picked_turn owner actor draining picked s h r)
+  lock_picked_hand (Some other) actor draining picked = tt
+  lock_picked_hand None actor draining picked = (empty, λ e. going)
+
+  release_hand : (draining : Draining) (picked : Record)
+      → GoesHome g (release_deed picked s h).shared (release_deed picked s h).hand → OnHand g (release_turn draining picked s h r)
+  release_hand draining picked after =
+      end_hand g r.slots (Drains (one_more draining)) _ _ r after
+      (erased_killed picked.ino (released picked (cell_at s picked.ino)) (with_released picked s h) ∙ ap (λ (x : HandState). x.killed) empty)
+      (λ is. not_overtaken _ refl is)
+
+snapshot_hand : (g : GeometryNumbers) (step : SnapshotStep) (a : ℕ) (granted : Bool) (s : Shared) (h : HandState) (r : Running)
+    → AllGoHome g (Snapshots step) s h r g.block a → h ≡ empty_hand → (is_going (Snapshots step) ≡ true → r.ending ≡ Answers)
+    → OnHand g (snapshot_turn step a granted s h r)
+snapshot_hand g Make a granted s h r goes empty going =
+    free_hand g s.holder _ (make_hand g s h r goes.0 empty (going refl) (make_tests s.book.snaps))
+snapshot_hand g (Drop snapshot) a granted s h r goes empty going =
+    free_hand g s.holder _ (drop_hand g s h r goes.0 empty (going refl) snapshot _)
+snapshot_hand g (Pin snapshot) a granted s h r goes empty going =
+    free_hand g s.holder _ (pin_hand g s h r goes.0 empty (going refl) snapshot _)
+snapshot_hand g (Show snapshot showing) a granted s h r goes empty going =
+    show_hand g s h r goes.0 empty (going refl) _ granted _ snapshot showing
+snapshot_hand g (Unpin snapshot seen) a granted s h r goes empty going = free_hand g s.holder (unpin_turn snapshot seen s h r) empty
+snapshot_hand g (Pick draining) a granted s h r goes empty going =
+    free_hand g s.holder _
+    (grown_hand g _ _ s h r goes.0 (ap (λ (x : HandState). x.killed) empty)
+    (picked_hand g s h r goes.0 empty (going refl) s.book.deferred draining))
+snapshot_hand g (LockPicked draining picked) a granted s h r goes empty going =
+    lock_picked_hand g s h r goes.0 empty (going refl) _ a draining picked
+snapshot_hand g (Release draining picked) a granted s h r goes empty going =
+    release_hand g s h r goes.0 empty (going refl) draining picked goes.1
 
 pub hand_kept : (g : GeometryNumbers) (k : Next) (a : ℕ) (granted : Bool) (s : Shared) (h : HandState) (r : Running) → 0 < g.block
     → g.blocks < 2 ^ 64 → Before a s k r → AllGoHome g k s h r g.block a → CanGive g k s h → HandAt g k h r → (is_going k ≡ true
@@ -376,3 +447,4 @@ hand_kept g (Give cpu) a granted s h r some small b goes give at going =
     (subst (λ (l : List BlockValue). AreGiven g (cpu + 1) l) (sym same) kept) at.0
 hand_kept g Back a granted s h r some small b goes give at going = back_hand g h.ino s h r refl at.0 at.1
 hand_kept g Visit a granted s h r some small b goes give at going = visit_hand g _ _ _ _ s h r goes.0 at
+hand_kept g (Snapshots step) a granted s h r some small b goes give at going = snapshot_hand g step a granted s h r goes at going

@@ -14,25 +14,13 @@ use Rattle.nv_machine.specs.Locks.{AreSlots}
 use Rattle.nv_machine.specs.Reads.{is_written, slot_at, written_slots}
 use Rattle.nv_machine.specs.World.{Running}
 use Rattle.nv_machine.proofs.CellSteps.{HaveFront}
-use Rattle.nv_machine.proofs.Lists.{has_at, has_filter}
+use Rattle.nv_machine.proofs.Lists.{all_has, has_at, has_filter}
 
 -- ---- slots that are written
-
-all_has : (P : ℕ → Type 0) (xs : List ℕ) (n : ℕ) → AllByRecursion P xs → has xs n ≡ true → P n
-all_has P [] n all h = cc
-all_has P (x ∷ xs) n all h = go (x == n) refl (λ k. all_has P xs n all.1 k) h where
-  go : (b : Bool) → (x == n) ≡ b → (has xs n ≡ true → P n) → (b || has xs n) ≡ true → P n
-  go true e more k = subst P (eqb-true x n e) all.0
-  go false e more k = more k
 
 pub written_there : (r : Running) (place : ℕ) → place < length (written_slots r)
     → has (written_slots r) (slot_at (written_slots r) place) ≡ true
 written_there r place lt = has_at (written_slots r) place lt
-
-pub written_inside : (many : ℕ) (r : Running) (place : ℕ) → AreSlots many r.slots → place < length (written_slots r)
-    → slot_at (written_slots r) place < many
-written_inside many r place are lt = all_has (λ n. n < many) r.slots (slot_at (written_slots r) place) are.inside
-    (has_filter (is_written r.plan) r.slots (slot_at (written_slots r) place) (has_at (written_slots r) place lt))
 
 -- a plan of one inode is written in one slot
 none_above : (f : ℕ → Bool) (k : ℕ) → ((n : ℕ) → f n ≡ true → n ≡ k) → (xs : List ℕ) → AllByRecursion (λ n. k < n) xs → filter f xs ≡ []

@@ -23,11 +23,14 @@ pub mod Pages
 pub mod PlainRun
 pub mod PoolScan
 pub mod Reached
+pub mod Reading
 pub mod Reads
+pub mod Recorded
 pub mod Refusing
 pub mod Rounds
 pub mod Sequence
 pub mod Settled
+pub mod Snapshots
 pub mod Step
 pub mod Takings
 pub mod Versions
