@@ -175,12 +175,12 @@ kind_on n other block actor granted s h r is = absurd is
 -- ---- events
 
 -- what an actor's call has released, and the last step's answer
-abbrev Drains_ : ℕ → ℕ → World → Type 0
-Drains_ n actor w = IsDrainOf n (actor_at w actor).running
+abbrev IsDrainAt : ℕ → ℕ → World → Type 0
+IsDrainAt n actor w = IsDrainOf n (actor_at w actor).running
 
 module _ (actor : ℕ) where
   turned_drains : (before n : ℕ) (t : Turn) (w : World) (r : Running) → actor < length w.actors → (actor_at w actor).running ≡ Some r
-      → IsDrain before r.next r.ending → OnDrain before n t → Drains_ n actor (turned t actor w).world
+      → IsDrain before r.next r.ending → OnDrain before n t → IsDrainAt n actor (turned t actor w).world
   turned_drains before n (Moves s h q) w r there is was on =
       subst (λ (x : Actor). IsDrainOf n x.running) (sym (set_is actor (record { hand = h; running = Some q }) w s there)) on
   turned_drains before n Waits w r there is was on =
@@ -189,8 +189,8 @@ module _ (actor : ℕ) where
       subst (λ (x : Actor). IsDrainOf n x.running) (sym (set_is actor (record { hand = h; running = None }) w s there)) tt
 
   go_drains : (b : Bool) (running : Option Running) (w : World) (n : ℕ) (granted : Bool) → nat_lt actor (length w.actors) ≡ b
-      → (actor_at w actor).running ≡ running → Drains_ n actor w
-      → Drains_ (n + releases_of running) actor (go_step b running actor granted w).world
+      → (actor_at w actor).running ≡ running → IsDrainAt n actor w
+      → IsDrainAt (n + releases_of running) actor (go_step b running actor granted w).world
   go_drains false running w n granted there is was =
       subst (λ (x : Actor). IsDrainOf (n + releases_of running) x.running)
       (sym (get_or_past w.actors actor idle (ltb-false actor (length w.actors) there))) tt
@@ -208,22 +208,22 @@ module _ (actor : ℕ) where
   go_others true (Some r) w other granted ne =
       (turned_others (turn w.numbers.block other granted w.shared (actor_at w other).hand r) other w).others actor ne
 
-  other_drains : (n : ℕ) (w v : World) → actor_at v actor ≡ actor_at w actor → Drains_ n actor w → Drains_ (n + 0) actor v
+  other_drains : (n : ℕ) (w v : World) → actor_at v actor ≡ actor_at w actor → IsDrainAt n actor w → IsDrainAt (n + 0) actor v
   other_drains n w v same was =
-      subst (λ (m : ℕ). Drains_ m actor v) (same_none n) (subst (λ (x : Actor). IsDrainOf n x.running) (sym same) was)
+      subst (λ (m : ℕ). IsDrainAt m actor v) (same_none n) (subst (λ (x : Actor). IsDrainOf n x.running) (sym same) was)
 
-  goes_on : (n : ℕ) (w : World) (other : ℕ) (granted : Bool) (b : Bool) → (other == actor) ≡ b → Drains_ n actor w
-      → Drains_ (n + (if b then releases_of (actor_at w actor).running else 0)) actor (step w (Go other granted)).world
+  goes_on : (n : ℕ) (w : World) (other : ℕ) (granted : Bool) (b : Bool) → (other == actor) ≡ b → IsDrainAt n actor w
+      → IsDrainAt (n + (if b then releases_of (actor_at w actor).running else 0)) actor (step w (Go other granted)).world
   goes_on n w other granted true e was =
-      subst (λ (m : ℕ). Drains_ (n + releases_of (actor_at w actor).running) actor (step w (Go m granted)).world)
+      subst (λ (m : ℕ). IsDrainAt (n + releases_of (actor_at w actor).running) actor (step w (Go m granted)).world)
       (sym (eqb-true other actor e))
       (go_drains (nat_lt actor (length w.actors)) (actor_at w actor).running w n granted refl refl was)
   goes_on n w other granted false e was =
       other_drains n w (step w (Go other granted)).world
       (go_others (nat_lt other (length w.actors)) (actor_at w other).running w other granted (λ is. eqb-false other actor e (sym is))) was
 
-  event_drains : (n : ℕ) (w : World) (e : Event) → IsNoStart actor e → Drains_ n actor w
-      → Drains_ (n + releases_in actor w e) actor (step w e).world
+  event_drains : (n : ℕ) (w : World) (e : Event) → IsNoStart actor e → IsDrainAt n actor w
+      → IsDrainAt (n + releases_in actor w e) actor (step w e).world
   event_drains n w (Start other c) apart was =
       other_drains n w (step w (Start other c)).world ((starts w other c).others.others actor (λ is. apart (sym is))) was
   event_drains n w (Go other granted) apart was = goes_on n w other granted (other == actor) refl was
@@ -243,14 +243,14 @@ module _ (actor : ℕ) where
   turned_told before n told (Ends result s h) w on is = reply_told n told result on is
 
   go_told : (b : Bool) (running : Option Running) (w : World) (n told : ℕ) (granted : Bool) → (actor_at w actor).running ≡ running
-      → Drains_ n actor w → (go_step b running actor granted w).reply ≡ Done (answers.Count told) → told ≡ n + releases_of running
+      → IsDrainAt n actor w → (go_step b running actor granted w).reply ≡ Done (answers.Count told) → told ≡ n + releases_of running
   go_told false running w n told granted is was reply = cc
   go_told true None w n told granted is was reply = cc
   go_told true (Some r) w n told granted is was reply =
       turned_told n (n + releases_at r.next) told (turn w.numbers.block actor granted w.shared (actor_at w actor).hand r) w
       (kind_on n r.next w.numbers.block actor granted w.shared (actor_at w actor).hand r (subst (IsDrainOf n) is was)) reply
 
-  events_told : (events : List Event) (w : World) (n told : ℕ) (granted : Bool) → AreNoStarts actor events → Drains_ n actor w
+  events_told : (events : List Event) (w : World) (n told : ℕ) (granted : Bool) → AreNoStarts actor events → IsDrainAt n actor w
       → (step (after w events) (Go actor granted)).reply ≡ Done (answers.Count told)
       → told ≡ n + releases actor w (events ++ Go actor granted ∷ [])
   events_told [] w n told granted apart was reply =
@@ -264,7 +264,7 @@ module _ (actor : ℕ) where
 
   begun_drains : (b : Bool) (running : Option Running) (w : World) (count : ℕ) → nat_lt actor (length w.actors) ≡ b
       → (start_step b running actor (call.Snapshots (on.Drain count)) w).reply ≡ Started
-      → Drains_ 0 actor (start_step b running actor (call.Snapshots (on.Drain count)) w).world
+      → IsDrainAt 0 actor (start_step b running actor (call.Snapshots (on.Drain count)) w).world
   begun_drains false running w count there is = absurd (refused_started is)
   begun_drains true (Some r) w count there is = absurd (refused_started is)
   begun_drains true None w count there is =
@@ -298,7 +298,7 @@ module _ (actor : ℕ) where
   turned_refused before n fault (Ends result s h) w on is = reply_refused n fault result on is
 
   go_refused : (b : Bool) (running : Option Running) (w : World) (n : ℕ) (fault : Fault) (granted : Bool)
-      → nat_lt actor (length w.actors) ≡ b → (actor_at w actor).running ≡ running → IsSome running → Drains_ n actor w
+      → nat_lt actor (length w.actors) ≡ b → (actor_at w actor).running ≡ running → IsSome running → IsDrainAt n actor w
       → (go_step b running actor granted w).reply ≡ Refused fault → (fault ≡ OutOfMemory) × (n + releases_of running ≡ 0)
   go_refused b None w n fault granted there is some was reply = cc
   go_refused false (Some r) w n fault granted there is some was reply =
@@ -308,8 +308,8 @@ module _ (actor : ℕ) where
       turned_refused n (n + releases_at r.next) fault (turn w.numbers.block actor granted w.shared (actor_at w actor).hand r) w
       (kind_on n r.next w.numbers.block actor granted w.shared (actor_at w actor).hand r (subst (IsDrainOf n) is was)) reply
 
-  events_refused : (events : List Event) (w : World) (n : ℕ) (fault : Fault) (granted : Bool) → AreNoStarts actor events → Drains_ n actor w
-      → IsSome (actor_at (after w events) actor).running → (step (after w events) (Go actor granted)).reply ≡ Refused fault
+  events_refused : (events : List Event) (w : World) (n : ℕ) (fault : Fault) (granted : Bool) → AreNoStarts actor events
+      → IsDrainAt n actor w → IsSome (actor_at (after w events) actor).running → (step (after w events) (Go actor granted)).reply ≡ Refused fault
       → (fault ≡ OutOfMemory) × (n + releases actor w (events ++ Go actor granted ∷ []) ≡ 0)
   events_refused [] w n fault granted apart was some reply =
       let one = go_refused (nat_lt actor (length w.actors)) (actor_at w actor).running w n fault granted refl refl some was reply in

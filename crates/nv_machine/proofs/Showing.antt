@@ -17,10 +17,11 @@ use Rattle.nv_machine.specs.Reading.{ArePins, pins_at}
 use Rattle.nv_machine.specs.Snapshots.{copies_at, drop_tests, drop_turn, first_showing, if_free, lock_picked_turn, make_tests, make_turn, picked_turn, pin_turn, seen_on, show_or_unpin, show_turn, showing_on, snapshot_turn, visited}
 use Rattle.nv_machine.specs.Step.{kind_turn}
 use Rattle.nv_machine.specs.World.{Append, Back, Check, Close, Draining, Drop, Ending, Ends, Enter, Give, HandState, Leave, Lock, LockPicked, Look, Make, Moves, Next, Number, Open, Pick, Pin, Publish, Ready, Refuses, Release, Retire, Running, Shared, Show, Showing, SnapshotStep, Snapshots, TakeBlocks, TakePages, Turn, Unlock, Unpin, Visit, Waits, empty_hand, owner_at}
+use Rattle.nv_machine.proofs.FiledTurns.{refused_at_once}
 use Rattle.nv_machine.proofs.Kept.{AfterTurn, deed, turn_keeps}
 use Rattle.nv_machine.proofs.Lists.{self}
 use Rattle.nv_machine.proofs.PinSteps.{Fits, OnPins, kind_pins}
-use Rattle.nv_machine.proofs.SnapSteps.{IsBare, back_same, number_same, refuse_ends}
+use Rattle.nv_machine.proofs.SnapSteps.{IsBare, back_same, number_same}
 use Rattle.nv_reader.specs.Walk as walk
 use Rattle.nv_reader.proofs.Coming.{handed_next}
 
@@ -159,16 +160,16 @@ module _ (copies : ℕ → Handle → Option NodeCopy) (inodes : ℕ) where
         (first : (snapshot pins : ℕ) → pins_of s.book.snaps snapshot ≡ Some pins
         → IsSeen (copies snapshot) (tree_by copies inodes snapshot) (first_showing s)) where
       make_shows : (tests : Tests) → r.slots ≡ [] → OnShows (make_turn tests s h r)
-      make_shows (Err fault) none = subst OnShows (sym (refuse_ends fault s h r empty none)) tt
+      make_shows (Err fault) none = subst OnShows (sym (refused_at_once fault s h r empty none)) tt
       make_shows (Ok passed) none = tt
 
       drop_shows : (snapshot : ℕ) (tests : Tests) → r.slots ≡ [] → OnShows (drop_turn snapshot tests s h r)
-      drop_shows snapshot (Err fault) none = subst OnShows (sym (refuse_ends fault s h r empty none)) tt
+      drop_shows snapshot (Err fault) none = subst OnShows (sym (refused_at_once fault s h r empty none)) tt
       drop_shows snapshot (Ok passed) none = tt
 
       pin_shows : (snapshot : ℕ) (pins : Option ℕ) → pins_of s.book.snaps snapshot ≡ pins → r.slots ≡ []
           → OnShows (pin_turn snapshot pins s h r)
-      pin_shows snapshot None is none = subst OnShows (sym (refuse_ends _ s h r empty none)) tt
+      pin_shows snapshot None is none = subst OnShows (sym (refused_at_once _ s h r empty none)) tt
       pin_shows snapshot (Some pins) is none =
           next_shows copies inodes snapshot (first_showing s) r.ending (first snapshot pins is)
 
@@ -188,7 +189,7 @@ module _ (copies : ℕ → Handle → Option NodeCopy) (inodes : ℕ) where
 
       grown_shows : (given : Bool) (t : Turn) → r.slots ≡ [] → OnShows t → OnShows (grown given t s h r)
       grown_shows true t none on = on
-      grown_shows false t none on = subst OnShows (sym (refuse_ends _ s h r empty none)) tt
+      grown_shows false t none on = subst OnShows (sym (refused_at_once _ s h r empty none)) tt
 
       locked_shows : (owner : Option ℕ) (draining : Draining) (picked : Record) → OnShows (lock_picked_turn owner a draining picked s h r)
       locked_shows (Some other) draining picked = tt

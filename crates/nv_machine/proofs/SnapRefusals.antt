@@ -15,8 +15,9 @@ use Rattle.nv_machine.specs.Snapshots.{drop_turn, if_free, make_tests, make_turn
 use Rattle.nv_machine.specs.Step.{Step, after, kind_turn, step, turned}
 use Rattle.nv_machine.specs.World.{Actor, Drop, Event, Go, HandState, LockPicked, Make, Next, Pick, Pin, Release, Running, Show, SnapshotStep, Snapshots, Turn, Unpin, Waiting, World, actor_at, empty_hand, idle}
 use Rattle.nv_machine.proofs.Events.{goes}
+use Rattle.nv_machine.proofs.FiledTurns.{refused_at_once}
 use Rattle.nv_machine.proofs.SnapRuns.{all_bare, refusals_told}
-use Rattle.nv_machine.proofs.SnapSteps.{IsBare, refuse_ends}
+use Rattle.nv_machine.proofs.SnapSteps.{IsBare}
 
 module _ (a : ℕ) (granted : Bool) (w : World) (h : HandState) (r : Running) (empty : h ≡ empty_hand) where
   -- it waits, or goes by these tests
@@ -28,15 +29,15 @@ module _ (a : ℕ) (granted : Bool) (w : World) (h : HandState) (r : Running) (e
   free_tested tests None t is = is
 
   make_tested : (tests : Tests) → r.slots ≡ [] → Tested tests (make_turn tests w.shared h r)
-  make_tested (Err fault) none = subst (Tested (Err fault)) (sym (refuse_ends fault w.shared h r empty none)) (inr refl)
+  make_tested (Err fault) none = subst (Tested (Err fault)) (sym (refused_at_once fault w.shared h r empty none)) (inr refl)
   make_tested (Ok passed) none = inr (λ fault e. cc)
 
   drop_tested : (snapshot : ℕ) (tests : Tests) → r.slots ≡ [] → Tested tests (drop_turn snapshot tests w.shared h r)
-  drop_tested snapshot (Err fault) none = subst (Tested (Err fault)) (sym (refuse_ends fault w.shared h r empty none)) (inr refl)
+  drop_tested snapshot (Err fault) none = subst (Tested (Err fault)) (sym (refused_at_once fault w.shared h r empty none)) (inr refl)
   drop_tested snapshot (Ok passed) none = inr (λ fault e. cc)
 
   pin_tested : (snapshot : ℕ) (pins : Option ℕ) → r.slots ≡ [] → Tested (test_there pins) (pin_turn snapshot pins w.shared h r)
-  pin_tested snapshot None none = subst (Tested (test_there None)) (sym (refuse_ends _ w.shared h r empty none)) (inr refl)
+  pin_tested snapshot None none = subst (Tested (test_there None)) (sym (refused_at_once _ w.shared h r empty none)) (inr refl)
   pin_tested snapshot (Some pins) none = inr (λ fault e. cc)
 
   step_tested : (kind : SnapshotStep) → is_tested kind ≡ true → IsBare (Snapshots kind) h r

@@ -15,6 +15,7 @@ use Rattle.nv_machine.specs.Reads.{home_from, written_slots}
 use Rattle.nv_machine.specs.Snapshots.{drop_tests, drop_turn, if_free, make_tests, make_turn, pin_turn, snapshot_turn, unpin_turn}
 use Rattle.nv_machine.specs.Step.{go_step, kind_turn, start_step, step, turn, turned}
 use Rattle.nv_machine.specs.World.{Append, Back, Check, Close, Drop, Ends, Enter, Event, Give, Go, HandState, Leave, Lock, LockPicked, Look, Make, Moves, Next, Number, Open, Pick, Pin, Publish, Ready, Refuses, Release, Retire, Running, Shared, Show, SnapshotStep, Snapshots, Start, TakeBlocks, TakePages, Turn, Unlock, Unpin, Visit, Waits, World, actor_at, empty_hand}
+use Rattle.nv_machine.proofs.FiledTurns.{refused_at_once}
 use Rattle.nv_machine.proofs.Kept.{AfterTurn, back_deed, deed, number_deed, snapshot_deed, snapshot_keeps, turn_keeps}
 
 -- ---- the list after a deed
@@ -37,26 +38,6 @@ same_snaps : (d : Deed) (l : Living) (t : Turn) → snaps_after d l ≡ l → Af
 same_snaps d l (Moves s h r) e on = on ∙ sym e
 same_snaps d l Waits e on = sym e
 same_snaps d l (Ends result s h) e on = on ∙ sym e
-
--- ---- a call on snapshots that is refused has nothing to give back
-
-none_home : (from cpu : ℕ) (lists : List FreeBlocks) → home_from from cpu lists [] ≡ None
-none_home from cpu [] = refl
-none_home from cpu (list ∷ lists) = go (nat_lt cpu from) (none_home from (cpu + 1) lists) where
-  go : (b : Bool) → home_from from (cpu + 1) lists [] ≡ None
-      → (if b then home_from from (cpu + 1) lists [] else home_from from (cpu + 1) lists []) ≡ None
-  go true e = e
-  go false e = e
-
-pub refuse_ends : (fault : Fault) (s : Shared) (h : HandState) (r : Running) → h ≡ empty_hand → r.slots ≡ []
-    → refuse fault s h r ≡ Ends (Err fault) s h
-refuse_ends fault s h r empty none =
-    let q : Running = record r { ending = Refuses fault } in
-    let home : home_from 0 0 s.lists (blocks_in h) ≡ None =
-    ap (λ (x : HandState). home_from 0 0 s.lists (blocks_in x)) empty ∙ none_home 0 0 s.lists in
-    ap (λ (slots : List ℕ). end_turn slots (Refuses fault) s h r) none
-    ∙ ap (λ (cpu : Option ℕ). rest_turn cpu h.ino s h q) home
-    ∙ ap (λ (number : Option ℕ). rest_turn None number s h q) (ap (λ (x : HandState). x.ino) empty)
 
 -- ---- the steps of calls on snapshots
 
@@ -102,15 +83,15 @@ module _ (a : ℕ) (granted : Bool) (s : Shared) (h : HandState) (r : Running) (
   l = s.book.snaps
 
   make_snaps : (tests : Tests) → r.slots ≡ [] → OnStep Make l (make_turn tests s h r)
-  make_snaps (Err fault) none = subst (OnStep Make l) (sym (refuse_ends fault s h r empty none)) refl
+  make_snaps (Err fault) none = subst (OnStep Make l) (sym (refused_at_once fault s h r empty none)) refl
   make_snaps (Ok passed) none = refl
 
   drop_snaps : (snapshot : ℕ) (tests : Tests) → r.slots ≡ [] → OnStep (Drop snapshot) l (drop_turn snapshot tests s h r)
-  drop_snaps snapshot (Err fault) none = subst (OnStep (Drop snapshot) l) (sym (refuse_ends fault s h r empty none)) refl
+  drop_snaps snapshot (Err fault) none = subst (OnStep (Drop snapshot) l) (sym (refused_at_once fault s h r empty none)) refl
   drop_snaps snapshot (Ok passed) none = refl
 
   pin_snaps : (snapshot : ℕ) (pins : Option ℕ) → r.slots ≡ [] → OnStep (Pin snapshot) l (pin_turn snapshot pins s h r)
-  pin_snaps snapshot None none = subst (OnStep (Pin snapshot) l) (sym (refuse_ends _ s h r empty none)) refl
+  pin_snaps snapshot None none = subst (OnStep (Pin snapshot) l) (sym (refused_at_once _ s h r empty none)) refl
   pin_snaps snapshot (Some pins) none = refl
 
   quiet_snaps : (step : SnapshotStep) → is_quiet step ≡ true → (snapshot_deed step a s h).shared.book.snaps ≡ l
@@ -233,4 +214,5 @@ bare_at g w k h r hand is slots = subst (λ (n : Next). IsBare n h r) is (go r.n
 pub are_bare : (g : GeometryNumbers) (w : World) → AreLocks w → AreNumbers g w → AreBare w
 are_bare g w locks numbers actor r is =
     bare_at g w r.next (actor_at w actor).hand r
-    (subst (λ (o : Option Running). HandOf g (actor_at w actor).hand o) is (numbers.hands actor)) refl (subst (HasSlots (length w.shared.owners)) is (locks.each actor).slots)
+    (subst (λ (o : Option Running). HandOf g (actor_at w actor).hand o) is (numbers.hands actor)) refl
+    (subst (HasSlots (length w.shared.owners)) is (locks.each actor).slots)
