@@ -19,10 +19,12 @@ pub mod GivenCounts
 pub mod GivenEnter
 pub mod GivenKinds
 pub mod GivenLaws
+pub mod GivenOn
 pub mod GivenReady
 pub mod Gives
 pub mod Homes
 pub mod Kept
+pub mod LastTurns
 pub mod LawsHold
 pub mod Locked
 pub mod Looks
@@ -31,12 +33,14 @@ pub mod Opens
 pub mod Others
 pub mod PassTurns
 pub mod PassesSome
+pub mod Pending
 pub mod Phases
 pub mod Plans
 pub mod PublishPhase
 pub mod Publishes
 pub mod Readies
 pub mod RetirePhase
+pub mod Releases
 pub mod Retires
 pub mod RoomsAfter
 pub mod Runs
@@ -47,6 +51,8 @@ pub mod SettledLogs
 pub mod SettledPages
 pub mod ShownCalls
 pub mod SlotLists
+pub mod SnapRest
+pub mod SnapTests
 pub mod SpaceLaw
 pub mod Stages
 pub mod StartShown

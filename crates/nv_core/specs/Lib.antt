@@ -5,6 +5,7 @@ pub mod Formats
 pub mod Frames
 pub mod Nodes
 pub mod Parts
+pub mod Picked
 pub mod Readied
 pub mod Reports
 pub mod Rooms

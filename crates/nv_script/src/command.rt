@@ -31,6 +31,10 @@ pub(crate) enum Command {
     Do(u64, Call),
     /// The tree now.
     Tree,
+    /// The tree of a snapshot.
+    SnapTree(u64),
+    /// The living snapshots.
+    Snaps,
     /// Where the blocks are.
     Space,
     /// The free lists.
@@ -47,6 +51,8 @@ pub(crate) enum CommandWord {
     Run,
     Do(CallWord),
     Tree,
+    SnapTree,
+    Snaps,
     Space,
     Lists,
     Log,
@@ -150,6 +156,12 @@ impl CommandWord {
         if name == b"tree".as_slice() {
             return Some(CommandWord::Tree);
         }
+        if name == b"stree".as_slice() {
+            return Some(CommandWord::SnapTree);
+        }
+        if name == b"snaps".as_slice() {
+            return Some(CommandWord::Snaps);
+        }
         if name == b"space".as_slice() {
             return Some(CommandWord::Space);
         }
@@ -168,9 +180,12 @@ impl CommandWord {
     {
         match self {
             CommandWord::Start(_) | CommandWord::Do(_) => &[Field::Number],
-            CommandWord::Run | CommandWord::Log => &[Field::Number],
+            CommandWord::Run | CommandWord::SnapTree | CommandWord::Log => &[Field::Number],
             CommandWord::Go => &[Field::Number, Field::Number],
-            CommandWord::Tree | CommandWord::Space | CommandWord::Lists => &[],
+            CommandWord::Tree
+            | CommandWord::Snaps
+            | CommandWord::Space
+            | CommandWord::Lists => &[],
         }
     }
 
@@ -218,6 +233,8 @@ impl CommandWord {
             CommandWord::Go => Ok(Command::Go(number_at(words, 1)?, goes_in(words)? - 1)),
             CommandWord::Run => Ok(Command::Run(number_at(words, 1)?)),
             CommandWord::Tree => Ok(Command::Tree),
+            CommandWord::SnapTree => Ok(Command::SnapTree(number_at(words, 1)?)),
+            CommandWord::Snaps => Ok(Command::Snaps),
             CommandWord::Space => Ok(Command::Space),
             CommandWord::Lists => Ok(Command::Lists),
             CommandWord::Log => Ok(Command::Log(number_at(words, 1)?)),
