@@ -249,6 +249,13 @@ fn assert_same_at(
     let next = run.map(|run| run.first.max(page));
     same(rt, index.next_from(page).map(|found| found.0), next);
     assert!(rt; index.run_from(page) == run, "page {page}");
+    for guess in [0, 7, usize::MAX] {
+        let mut place = guess;
+        assert!(rt;
+            index.run_near(page, &mut place) == run,
+            "page {page} from {guess}"
+        );
+    }
 }
 
 fn assert_same(rt: &impl Abort, alloc: Global, index: &FileIndex, slots: &[Option<PageRef>]) {
