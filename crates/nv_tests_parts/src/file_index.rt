@@ -150,8 +150,8 @@ fn a_refused_growth_changes_nothing(rt: HostRuntime) {
     let mut index = FileIndex::new(rt.alloc());
     write_all(&rt, &mut index, &[(4, 2, 2, 0, 1)]);
     let before = sizes(&index);
-    for runs in [usize::MAX, usize::MAX / 2, 1 << 62] {
-        same(&rt, index.reserve_for(runs), Err(Fault::OutOfMemory));
+    for runs in &[usize::MAX, usize::MAX / 2, 1 << 62] {
+        same(&rt, index.reserve_for(*runs), Err(Fault::OutOfMemory));
         same(&rt, sizes(&index), before);
     }
     same(&rt, index.at(3), None);
