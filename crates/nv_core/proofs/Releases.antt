@@ -69,10 +69,10 @@ module _ (blocks : ℕ) where
       → AllBelow (blocks_in (with_erased ino mid (record empty_hand { blocks = free })))
   in_hand ino mid free one chain = go (calls.is_erased mid) where
     go : (b : Bool) → AllBelow (blocks_in (if b then record empty_hand {
-          blocks = free;
-          chain = mid.chain.blocks;
-          ino = calls.number_back ino mid None;
-        } else record empty_hand { blocks = free }))
+      blocks = free;
+      chain = mid.chain.blocks;
+      ino = calls.number_back ino mid None;
+    } else record empty_hand { blocks = free }))
     go true = split (record empty_hand { blocks = free; chain = mid.chain.blocks; ino = calls.number_back ino mid None }) one tt chain
     go false = split (record empty_hand { blocks = free }) one tt tt
 
