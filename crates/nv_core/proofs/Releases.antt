@@ -26,7 +26,8 @@ hand_after ino mid free hand empty =
     sym (ap (λ (h : HandState). with_erased ino mid (record h { blocks = h.blocks ++ free })) empty)
     ∙ hand_retires ino mid free [] hand (λ gone. ap (λ (h : HandState). h.chain) empty)
 
-pub release_turns : (shared : Shared) (picked : Record) (old : CellState) (hand after : Hand) (cells : List CellValue) (new : CellValue) (d : machine.Draining)
+pub release_turns : (shared : Shared) (picked : Record) (old : CellState) (hand after : Hand)
+    (cells : List CellValue) (new : CellValue) (d : machine.Draining)
     (r : machine.Running) (turn : machine.Turn) → cells ≡ slice_set shared.cells.items picked.ino new
     → cell_at (shared_of shared) picked.ino ≡ old → new.state ≡ calls.erased (calls.released picked old)
     → after ≡ hand_released picked.ino (calls.released picked old) (calls.released_blocks picked old) hand
