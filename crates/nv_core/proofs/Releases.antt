@@ -26,7 +26,8 @@ hand_after ino mid free hand empty =
     sym (ap (λ (h : HandState). with_erased ino mid (record h { blocks = h.blocks ++ free })) empty)
     ∙ hand_retires ino mid free [] hand (λ gone. ap (λ (h : HandState). h.chain) empty)
 
-pub release_turns : (shared : Shared) (picked : Record) (old : CellState) (hand after : Hand) (cells : List CellValue) (new : CellValue) (d : machine.Draining)
+pub release_turns : (shared : Shared) (picked : Record) (old : CellState) (hand after : Hand)
+    (cells : List CellValue) (new : CellValue) (d : machine.Draining)
     (r : machine.Running) (turn : machine.Turn) → cells ≡ slice_set shared.cells.items picked.ino new
     → cell_at (shared_of shared) picked.ino ≡ old → new.state ≡ calls.erased (calls.released picked old)
     → after ≡ hand_released picked.ino (calls.released picked old) (calls.released_blocks picked old) hand
@@ -69,10 +70,10 @@ module _ (blocks : ℕ) where
       → AllBelow (blocks_in (with_erased ino mid (record empty_hand { blocks = free })))
   in_hand ino mid free one chain = go (calls.is_erased mid) where
     go : (b : Bool) → AllBelow (blocks_in (if b then record empty_hand {
-          blocks = free;
-          chain = mid.chain.blocks;
-          ino = calls.number_back ino mid None;
-        } else record empty_hand { blocks = free }))
+      blocks = free;
+      chain = mid.chain.blocks;
+      ino = calls.number_back ino mid None;
+    } else record empty_hand { blocks = free }))
     go true = split (record empty_hand { blocks = free; chain = mid.chain.blocks; ino = calls.number_back ino mid None }) one tt chain
     go false = split (record empty_hand { blocks = free }) one tt tt
 

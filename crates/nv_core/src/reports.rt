@@ -176,9 +176,8 @@ fn picked_at(next: &Next) -> u64
     ensures few { result ≤ 1 }
 {
     match next {
-        Next::Snapshots(
-            SnapshotStep::LockPicked(_, picked) | SnapshotStep::Release(_, picked),
-        ) if picked.is_page() => 1,
+        Next::Snapshots(SnapshotStep::LockPicked(_, picked) | SnapshotStep::Release(_, picked))
+            if picked.is_page() => 1,
         _ => 0,
     }
 }

@@ -90,7 +90,8 @@ impl Shared {
     ) -> Result<Option<NodeCopy>, Fault>
         requires can { CanShow self.now epoch }
         requires settled { AreSettledAt epoch (shared_of self.now) }
-        ensures ok { IfOk result (λ node. node ≡ settled_copies (shared_of self.now) epoch handle.now) }
+        ensures ok { IfOk result (λ node.
+            node ≡ settled_copies (shared_of self.now) epoch handle.now) }
         ensures err { FailsOnly OutOfMemory result }
     {
         self.node_at(alloc, handle, epoch)

@@ -182,10 +182,7 @@ impl CommandWord {
             CommandWord::Start(_) | CommandWord::Do(_) => &[Field::Number],
             CommandWord::Run | CommandWord::SnapTree | CommandWord::Log => &[Field::Number],
             CommandWord::Go => &[Field::Number, Field::Number],
-            CommandWord::Tree
-            | CommandWord::Snaps
-            | CommandWord::Space
-            | CommandWord::Lists => &[],
+            CommandWord::Tree | CommandWord::Snaps | CommandWord::Space | CommandWord::Lists => &[],
         }
     }
 

@@ -73,7 +73,9 @@ fn release_on(cell: &mut InodeCell, picked: Record, hand: &mut Hand)
     requires gone { is_gone (log_of cell.old.state) ≡ true → CanTakeGone hand.old cell.old.state }
     ensures cell { cell.new.state ≡ erased (released picked cell.old.state) }
     ensures hand { hand.new ≡ hand_with picked.ino (released picked cell.old.state)
-        (record hand.old { «data» = with_back (released_blocks picked cell.old.state) hand.old.data }) }
+        (record hand.old {
+          «data» = with_back (released_blocks picked cell.old.state) hand.old.data;
+        }) }
 {
     let part = PartId {
         entry: picked.entry,

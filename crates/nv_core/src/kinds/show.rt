@@ -28,12 +28,7 @@ use std::alloc::Global;
 use std::mem;
 
 /// Pins a snapshot, if it lives. Takes no memory.
-pub(crate) fn pin(
-    alloc: Global,
-    shared: &mut Shared,
-    running: &mut Running,
-    snapshot: u64,
-) -> Turn
+pub(crate) fn pin(alloc: Global, shared: &mut Shared, running: &mut Running, snapshot: u64) -> Turn
     requires next { running.old.next ≡ Next.Snapshots (SnapshotStep.Pin snapshot) }
     requires slots { slots_in running.old.slots ≡ [] }
     requires pins { ForSome (pins_of shared.old.book.state.snaps snapshot) (λ pins. pins < PINS) }
@@ -87,9 +82,10 @@ pub(crate) fn show(alloc: Global, shared: &Shared, running: &mut Running) -> Tur
     if shared.is_locked(showing.visited().ino) {
         return Turn::Waits;
     }
-    let Next::Snapshots(SnapshotStep::Show(snapshot, showing)) =
-        mem::replace(&mut running.next, Next::Visit)
-    else {
+    let Next::Snapshots(SnapshotStep::Show(snapshot, showing)) = mem::replace(
+        &mut running.next,
+        Next::Visit,
+    ) else {
         unreachable!()
     };
     match see(alloc, shared, snapshot, showing) {
@@ -103,12 +99,7 @@ pub(crate) fn show(alloc: Global, shared: &Shared, running: &mut Running) -> Tur
 }
 
 /// Makes the next visit of a show.
-fn see(
-    alloc: Global,
-    shared: &Shared,
-    snapshot: u64,
-    showing: Showing,
-) -> Result<Showing, Fault>
+fn see(alloc: Global, shared: &Shared, snapshot: u64, showing: Showing) -> Result<Showing, Fault>
     requires can { CanShow shared.now snapshot }
     requires more { is_over (showing_of showing) ≡ false }
     ensures ok { IfOk result (λ after. let s = shared_of shared.now in
@@ -133,9 +124,10 @@ pub(crate) fn unpin(shared: &mut Shared, running: &mut Running) -> Turn
     ensures job { KeepsJob running.old running.new }
     ensures rest { shared.new ≡ record shared.old { book = shared.new.book } }
 {
-    let Next::Snapshots(SnapshotStep::Unpin(snapshot, seen)) =
-        mem::replace(&mut running.next, Next::Visit)
-    else {
+    let Next::Snapshots(SnapshotStep::Unpin(snapshot, seen)) = mem::replace(
+        &mut running.next,
+        Next::Visit,
+    ) else {
         unreachable!()
     };
     shared.book.unpin(Epoch::new(snapshot));
