@@ -10,17 +10,18 @@ use Rattle.nv_calls.specs.AllCalls.{effect, is_nothing}
 use Rattle.nv_calls.specs.Plain.{node_in}
 use Rattle.nv_calls.specs.declared.answer.Answer.{Answer}
 use Rattle.nv_calls.specs.declared.call.Call.{Call}
-use Rattle.nv_machine.specs.EndsDecided.{decided, decided_in, decision_of, unless_started}
+use Rattle.nv_calls.specs.declared.call.Call.TheVariants as call
+use Rattle.nv_machine.specs.EndsDecided.{decided, decided_in, decision_of, is_on_snapshots, unless_started}
 use Rattle.nv_machine.specs.Format.{formatted}
 use Rattle.nv_machine.specs.Hands.{HandOf}
 use Rattle.nv_machine.specs.Kept.{KnowsOf, Knows}
 use Rattle.nv_machine.specs.Locks.{commits_at}
 use Rattle.nv_machine.specs.PlainRun.{Commits, deed_of}
 use Rattle.nv_machine.specs.Reads.{slots_of, written_slots}
-use Rattle.nv_machine.specs.Sequence.{Beginning, Looks, Locks, Numbers, Visits, beginning, begun, nothing_looked}
+use Rattle.nv_machine.specs.Sequence.{Beginning, Locks, Looks, Numbers, OnSnapshots, Visits, beginning, begun, nothing_looked}
 use Rattle.nv_machine.specs.Settled.{settled_nodes}
 use Rattle.nv_machine.specs.Step.{Step, after, go_step, start_step, step, turn, turned}
-use Rattle.nv_machine.specs.World.{Actor, Append, Back, Check, Close, Done, Ending, Ends, Enter, Event, Give, Go, HandState, Leave, Lock, Look, Moves, Next, Number, Open, Publish, Ready, Refused, Reply, Retire, Running, Shared, Snapshots, Start, TakeBlocks, TakePages, Turn, Unlock, Visit, Waits, World, actor_at, idle}
+use Rattle.nv_machine.specs.World.{Actor, Append, Back, Check, Close, Done, Ending, Ends, Enter, Event, Give, Go, HandState, Leave, Lock, Look, Moves, Next, Number, Open, Publish, Ready, Refused, Reply, Retire, Running, Shared, SnapshotStep, Snapshots, Start, TakeBlocks, TakePages, Turn, Unlock, Visit, Waits, World, actor_at, idle}
 use Rattle.nv_calls.specs.declared.taken.Taken.{Taken}
 use Rattle.nv_calls.proofs.Nothing.{told_nothing}
 use Rattle.nv_machine.proofs.Answered.{deed_is}
@@ -96,20 +97,37 @@ committing (Snapshots step) e c at stage = absurd (false≢true at)
 
 -- ---- one event
 
+-- a call that begins with a step on snapshots is one of those
+on_them : (c : Call) (what : SnapshotStep) → beginning c ≡ OnSnapshots what → is_on_snapshots c ≡ true
+on_them (call.Create dir name mode) what e = cc
+on_them (call.Mkdir dir name mode) what e = cc
+on_them (call.Write file offset text) what e = cc
+on_them (call.Read file offset count) what e = cc
+on_them (call.Size file size) what e = cc
+on_them (call.Mode handle mode) what e = cc
+on_them (call.Stat handle) what e = cc
+on_them (call.List dir) what e = cc
+on_them (call.Lookup dir name) what e = cc
+on_them (call.Unlink dir name) what e = cc
+on_them (call.Rmdir dir name) what e = cc
+on_them (call.Rename from old to new) what e = cc
+on_them (call.Snapshots c) what e = refl
+
 begun_told : (b : Beginning) (s : Shared) (c : Call) → beginning c ≡ b → HasTold (Some (begun b s c)) []
 begun_told Numbers s c e = record { told = refl; stage = λ v. cc }
 begun_told Looks s c e = record { told = refl; stage = λ v. cc }
 begun_told Visits s c e = record { told = refl; stage = e }
+begun_told (OnSnapshots what) s c e = record { told = refl; stage = on_them c what e }
 begun_told Locks s c e = locking_told [] [] refl 0 (slots_of s None nothing_looked c) (begun Locks s c) (λ v. cc)
 
 module _ (g : GeometryNumbers) (w : World) (known : IsKnown g w) (fit : AreFit w) (actor : ℕ) where
-  turned_told : (t : Turn) (d before : List Answer) → actor < length w.actors → OnTold before d t
+  turned_told : (c : Call) (t : Turn) (d before : List Answer) → actor < length w.actors → OnTold c before d t
       → HasTold (actor_at w actor).running before → HasTold (actor_at (turned t actor w).world actor).running d
-  turned_told (Moves s h q) d before there on had =
+  turned_told c (Moves s h q) d before there on had =
       subst (λ (x : Actor). HasTold x.running d)
       (sym (get_or-set_same w.actors actor (record { hand = h; running = Some q }) idle there)) on
-  turned_told Waits d before there on had = subst (HasTold (actor_at w actor).running) (sym on) had
-  turned_told (Ends result s h) d before there on had =
+  turned_told c Waits d before there on had = subst (HasTold (actor_at w actor).running) (sym on) had
+  turned_told c (Ends result s h) d before there on had =
       subst (λ (x : Actor). HasTold x.running d) (sym (get_or-set_same w.actors actor (record { hand = h; running = None }) idle there)) tt
 
   -- an actor that is not there has no call
@@ -117,7 +135,7 @@ module _ (g : GeometryNumbers) (w : World) (known : IsKnown g w) (fit : AreFit w
   outside e = ap (λ (x : Actor). x.running) (get_or_past w.actors actor idle (ltb-false actor (length w.actors) e))
 
   own_turn_told : (granted : Bool) (r : Running) (before : List Answer) → (actor_at w actor).running ≡ Some r → IsTold r.next r before
-      → OnTold before (decision_of (Some r) w actor granted ++ before)
+      → OnTold r.call before (decision_of (Some r) w actor granted ++ before)
       (turn w.numbers.block actor granted w.shared (actor_at w actor).hand r)
   own_turn_told granted r before is had =
       kind_told w.numbers.block actor (actor % length w.shared.lists) w.shared (actor_at w actor).hand r r.next granted before
@@ -129,7 +147,7 @@ module _ (g : GeometryNumbers) (w : World) (known : IsKnown g w) (fit : AreFit w
   own_told false running granted before there is had = rw (outside there) tt
   own_told true None granted before there is had = rw is tt
   own_told true (Some r) granted before there is had =
-      turned_told (turn w.numbers.block actor granted w.shared (actor_at w actor).hand r) _ before (ltb-true actor (length w.actors) there)
+      turned_told r.call (turn w.numbers.block actor granted w.shared (actor_at w actor).hand r) _ before (ltb-true actor (length w.actors) there)
       (own_turn_told granted r before is had) (subst (λ (o : Option Running). HasTold o before) (sym is) had)
 
   go_told : (other : ℕ) (granted same : Bool) (before : List Answer) → (other == actor) ≡ same → HasTold (actor_at w actor).running before
@@ -206,37 +224,37 @@ module _ (g : GeometryNumbers) (events : List Event) (actor : ℕ) (within : IsW
       ∙ ap (λ (b : Bool). cond b (decision_of (actor_at w actor).running w actor granted ++ before_all) before_all) (self actor)
 
   -- what a turn replies was decided
-  abbrev ReplyTold : Reply → List Answer → Type 0
-  ReplyTold (Done told) d = d ≡ told ∷ []
-  ReplyTold (Refused fault) d = d ≡ []
-  ReplyTold other d = Unit {0}
+  abbrev ReplyTold : Call → Reply → List Answer → Type 0
+  ReplyTold c (Done told) d = is_on_snapshots c ≡ false → d ≡ told ∷ []
+  ReplyTold c (Refused fault) d = d ≡ []
+  ReplyTold c other d = Unit {0}
 
-  turn_replies : (t : Turn) (before d : List Answer) → OnTold before d t → ReplyTold (turned t actor w).reply d
-  turn_replies (Moves s h q) before d on = tt
-  turn_replies Waits before d on = tt
-  turn_replies (Ends (Ok found) s h) before d on = on
-  turn_replies (Ends (Err fault) s h) before d on = on
+  turn_replies : (c : Call) (t : Turn) (before d : List Answer) → OnTold c before d t → ReplyTold c (turned t actor w).reply d
+  turn_replies c (Moves s h q) before d on = tt
+  turn_replies c Waits before d on = tt
+  turn_replies c (Ends (Ok found) s h) before d on = on
+  turn_replies c (Ends (Err fault) s h) before d on = on
 
   replied : (b : Bool) (granted : Bool) (r : Running) → nat_lt actor (length w.actors) ≡ b → (actor_at w actor).running ≡ Some r
       → IsTold r.next r before_all
-      → ReplyTold (step w (Go actor granted)).reply (decision_of (Some r) w actor granted ++ before_all)
+      → ReplyTold r.call (step w (Go actor granted)).reply (decision_of (Some r) w actor granted ++ before_all)
   replied false granted r there is had = absurd (none_some
       (sym (outside g w (all_known g within events) (all_fit g within events) actor there) ∙ is)) where
         none_some : None ≡ Some r → ⊥
         none_some e = cc
   replied true granted r there is had =
-      subst (λ (x : Step). ReplyTold x.reply (decision_of (Some r) w actor granted ++ before_all))
+      subst (λ (x : Step). ReplyTold r.call x.reply (decision_of (Some r) w actor granted ++ before_all))
       (sym (go_is_turn (nat_lt actor (length w.actors)) (actor_at w actor).running w actor granted r there is))
-      (turn_replies (turn w.numbers.block actor granted w.shared (actor_at w actor).hand r) before_all _
+      (turn_replies r.call (turn w.numbers.block actor granted w.shared (actor_at w actor).hand r) before_all _
       (own_turn_told g w (all_known g within events) (all_fit g within events) actor granted r before_all is had))
 
   pub told_of : (r : Running) → (actor_at w actor).running ≡ Some r → IsTold r.next r before_all
   told_of r is = subst (λ (o : Option Running). HasTold o before_all) is all_told
 
   all_replied : (granted : Bool) (r : Running) → (actor_at w actor).running ≡ Some r
-      → ReplyTold (step w (Go actor granted)).reply (decided actor (formatted g) (events ++ Go actor granted ∷ []) [])
+      → ReplyTold r.call (step w (Go actor granted)).reply (decided actor (formatted g) (events ++ Go actor granted ∷ []) [])
   all_replied granted r is =
-      subst (ReplyTold (step w (Go actor granted)).reply)
+      subst (ReplyTold r.call (step w (Go actor granted)).reply)
       (sym (own_event granted ∙ ap (λ (o : Option Running). decision_of o w actor granted ++ before_all) is))
       (replied (nat_lt actor (length w.actors)) granted r refl is (told_of r is))
 
@@ -246,19 +264,12 @@ module _ (g : GeometryNumbers) (events : List Event) (actor : ℕ) (within : IsW
   -- a call that is refused was not decided
   pub is_undecided : (granted : Bool) (r : Running) (fault : Fault) → (actor_at w actor).running ≡ Some r
       → (step w (Go actor granted)).reply ≡ Refused fault → decided_then granted ≡ []
-  is_undecided granted r fault is e = subst (λ (x : Reply). ReplyTold x (decided_then granted)) e (all_replied granted r is)
-
-  no_call : (b granted : Bool) (told : Answer) → (go_step b None actor granted w).reply ≡ Done told → ⊥
-  no_call true granted told e = cc
-  no_call false granted told e = cc
+  is_undecided granted r fault is e = subst (λ (x : Reply). ReplyTold r.call x (decided_then granted)) e (all_replied granted r is)
 
   -- and one that is answered was, once
-  pub is_decided : (granted : Bool) (told : Answer) → (step w (Go actor granted)).reply ≡ Done told → decided_then granted ≡ told ∷ []
-  is_decided granted told e = go (actor_at w actor).running refl where
-    go : (running : Option Running) → (actor_at w actor).running ≡ running → decided_then granted ≡ told ∷ []
-    go None is = absurd (no_call (nat_lt actor (length w.actors)) granted told
-        (subst (λ (o : Option Running). (go_step (nat_lt actor (length w.actors)) o actor granted w).reply ≡ Done told) is e))
-    go (Some r) is = subst (λ (x : Reply). ReplyTold x (decided_then granted)) e (all_replied granted r is)
+  pub is_decided : (granted : Bool) (r : Running) (told : Answer) → (actor_at w actor).running ≡ Some r → is_on_snapshots r.call ≡ false
+      → (step w (Go actor granted)).reply ≡ Done told → decided_then granted ≡ told ∷ []
+  is_decided granted r told is off e = subst (λ (x : Reply). ReplyTold r.call x (decided_then granted)) e (all_replied granted r is) off
 
   -- what commits has something to change
   pub commits_something : (granted : Bool) (r : Running) → actor < length w.actors → (actor_at w actor).running ≡ Some r

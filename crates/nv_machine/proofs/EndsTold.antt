@@ -1,7 +1,7 @@
 -- What has been decided of a call follows from its next step: nothing before its commit point, and from there on its answer.
-use Rattle.std.proofs.Common.{◌≡◌, ℕ, zero, suc, ◌+◌, ◌<◌, ◌∙◌, Bool, true, false, List, [], ◌∷◌, Option, Some, None, ap, arith, if◌then◌else◌, length, nat_lt, refl, sym}
-use Rattle.std.specs.Prelude.{Result, Ok, Err}
-use Rattle.std.proofs.lemmas.Bool.{lt-ltb, ltb-false, ltb-true}
+use Rattle.std.proofs.Common.{◌≡◌, ℕ, zero, suc, ◌+◌, ◌<◌, ◌∙◌, Bool, true, false, List, [], ◌∷◌, Option, Some, None, ap, arith, if◌then◌else◌, length, nat_lt, refl, subst, sym}
+use Rattle.std.specs.Prelude.{◌||◌, not, Result, Ok, Err}
+use Rattle.std.proofs.lemmas.Bool.{false≢true, lt-ltb, ltb-false, ltb-true}
 use Rattle.nv_base.specs.declared.fault.Fault.{Fault}
 use Rattle.nv_calls.specs.AllCalls.{is_nothing}
 use Rattle.nv_calls.specs.Refusals.{Check as Tests}
@@ -10,10 +10,15 @@ use Rattle.nv_calls.specs.declared.call.Call.{Call}
 use Rattle.nv_calls.specs.declared.call.Call.TheVariants as call
 use Rattle.nv_calls.specs.declared.looked.Looked.{Looked}
 use Rattle.nv_machine.specs.Answered.{answer_of}
-use Rattle.nv_machine.specs.Kinds.{again_turn, back_turn, blocks_turn, end_turn, grown, lock_turn, look_turn, number_turn, over_turn, pages_turn, rest_turn, result_by, unlocked_turn, wants_blocks, wants_pages}
+use Rattle.nv_machine.specs.EndsDecided.{is_on_snapshots}
+use Rattle.nv_machine.specs.Kinds.{again_turn, back_turn, blocks_turn, drained_turn, end_turn, grown, last_turn, lock_turn, look_turn, number_turn, over_turn, pages_turn, rest_turn, result_by, unlocked_turn, wants_blocks, wants_pages}
 use Rattle.nv_machine.specs.Reads.{slots_of}
 use Rattle.nv_machine.specs.Sequence.{Visits, appending, beginning, closing, directories, locking, looking, opening, publishing, retiring}
-use Rattle.nv_machine.specs.World.{Answers, Append, Back, Check, Close, Drains, Ending, Ends, Enter, Give, HandState, Leave, Lock, Look, Moves, Next, Number, Open, Overtaken, Publish, Ready, Refuses, Retire, Running, Shared, Snapshots, TakeBlocks, TakePages, Turn, Unlock, Visit, Waits, go_to}
+use Rattle.nv_machine.specs.Snapshots.{drop_turn, if_free, is_first, lock_picked_turn, make_tests, make_turn, one_more, picked_turn, pin_turn, show_turn, shown_by, snapshot_turn}
+use Rattle.nv_entry.specs.declared.node.NodeCopy.{NodeCopy}
+use Rattle.nv_entry.specs.declared.tree.TreeNode.{TreeNode}
+use Rattle.nv_book.specs.declared.record.Record.{Record}
+use Rattle.nv_machine.specs.World.{Answers, Append, Back, Check, Close, Draining, Drains, Drop, Ending, Ends, Enter, Give, HandState, Leave, Lock, LockPicked, Look, Make, Moves, Next, Number, Open, Overtaken, Pick, Pin, Publish, Ready, Refuses, Release, Retire, Running, Shared, Show, Showing, SnapshotStep, Snapshots, TakeBlocks, TakePages, Turn, Unlock, Unpin, Visit, Waits, go_to}
 
 -- ---- by the next step
 
@@ -34,6 +39,11 @@ told_at other e a = []
 abbrev pub IsNoVisit : Call → Type 0
 IsNoVisit c = beginning c ≡ Visits → ⊥
 
+-- a drain is a call on snapshots
+abbrev pub DrainsOn : Ending → Call → Type 0
+DrainsOn (Drains draining) c = is_on_snapshots c ≡ true
+DrainsOn other c = Unit {0}
+
 -- from its check on a call has something to commit
 abbrev pub Stage : Next → Ending → Call → Type 0
 Stage Number e c = IsNoVisit c
@@ -41,24 +51,26 @@ Stage (Look place) e c = IsNoVisit c
 Stage (Lock place) e c = IsNoVisit c
 Stage Check e c = IsNoVisit c
 Stage Visit e c = beginning c ≡ Visits
-Stage (Unlock place) e c = e ≡ Overtaken → IsNoVisit c
-Stage (Give cpu) e c = Unit {0}
-Stage Back e c = Unit {0}
+Stage (Unlock place) e c = (e ≡ Overtaken → IsNoVisit c) × DrainsOn e c
+Stage (Give cpu) e c = DrainsOn e c
+Stage Back e c = DrainsOn e c
+Stage (Snapshots step) e c = is_on_snapshots c ≡ true
 Stage other e c = is_nothing c ≡ false
 
 pub record IsTold (k : Next) (r : Running) (d : List Answer) : Type 0 where
   pub told : d ≡ told_at k r.ending (answer_of r)
   pub stage : Stage k r.ending r.call
 
-abbrev pub ResultTold : Result Answer Fault → List Answer → Type 0
-ResultTold (Ok found) d = d ≡ found ∷ []
-ResultTold (Err fault) d = d ≡ []
+-- of a call on snapshots the answer is told elsewhere
+abbrev pub ResultTold : Call → Result Answer Fault → List Answer → Type 0
+ResultTold c (Ok found) d = is_on_snapshots c ≡ false → d ≡ found ∷ []
+ResultTold c (Err fault) d = d ≡ []
 
 -- and so after a turn, with what was decided before it and what is decided then
-abbrev pub OnTold : List Answer → List Answer → Turn → Type 0
-OnTold before d (Moves s h q) = IsTold q.next q d
-OnTold before d Waits = d ≡ before
-OnTold before d (Ends result s h) = ResultTold result d
+abbrev pub OnTold : Call → List Answer → List Answer → Turn → Type 0
+OnTold c before d (Moves s h q) = IsTold q.next q d
+OnTold c before d Waits = d ≡ before
+OnTold c before d (Ends result s h) = ResultTold c result d
 
 -- what has something to commit is no visit
 pub no_visit : (c : Call) → is_nothing c ≡ false → IsNoVisit c
@@ -78,50 +90,67 @@ no_visit (call.Snapshots what) some e = cc
 
 -- ---- last steps
 
-result_told : (e : Ending) (r : Running) (d : List Answer) → d ≡ told_by e (answer_of r) → ResultTold (result_by e r) d
-result_told Answers r d is = is
-result_told (Refuses fault) r d is = is
-result_told Overtaken r d is = is
+clash : {X : Type 0} (c : Call) → is_on_snapshots c ≡ true → is_on_snapshots c ≡ false → X
+clash c e f = absurd (false≢true (sym f ∙ e))
 
 module _ (before d : List Answer) where
+  drained_told : (left released : ℕ) (s : Shared) (h : HandState) (r : Running) → d ≡ [] → is_on_snapshots r.call ≡ true
+      → OnTold r.call before d (drained_turn left released s h r)
+  drained_told zero released s h r is drains = λ e. clash r.call drains e
+  drained_told (suc left) released s h r is drains = record { told = is; stage = drains }
+
+  last_told : (e : Ending) (s : Shared) (h : HandState) (r : Running) → d ≡ told_by e (answer_of r) → DrainsOn e r.call
+      → OnTold r.call before d (last_turn e s h r)
+  last_told Answers s h r is drains = λ e. is
+  last_told (Refuses fault) s h r is drains = is
+  last_told Overtaken s h r is drains = is
+  last_told (Drains draining) s h r is drains = drained_told draining.left draining.released s h r is drains
+
   pub rest_told : (home number : Option ℕ) (s : Shared) (h : HandState) (r : Running) → d ≡ told_by r.ending (answer_of r)
-      → OnTold before d (rest_turn home number s h r)
-  rest_told (Some cpu) number s h r is = record { told = is; stage = tt }
-  rest_told None (Some ino) s h r is = record { told = is; stage = tt }
-  rest_told None None s h r is = result_told r.ending r d is
+      → DrainsOn r.ending r.call → OnTold r.call before d (rest_turn home number s h r)
+  rest_told (Some cpu) number s h r is drains = record { told = is; stage = drains }
+  rest_told None (Some ino) s h r is drains = record { told = is; stage = drains }
+  rest_told None None s h r is drains = last_told r.ending s h r is drains
 
   again_told : (rounds : ℕ) (s : Shared) (h : HandState) (r : Running) → IsNoVisit r.call → d ≡ []
-      → OnTold before d (again_turn rounds s h r)
+      → OnTold r.call before d (again_turn rounds s h r)
   again_told zero s h r none is = is
   again_told (suc rounds) s h r none is = record { told = is; stage = none }
 
   over_told : (e : Ending) (s : Shared) (h : HandState) (r : Running) → r.ending ≡ e → (e ≡ Overtaken → IsNoVisit r.call)
-      → d ≡ told_by e (answer_of r) → OnTold before d (over_turn e s h r)
-  over_told Answers s h r ends none is = rest_told _ h.ino s h r (is ∙ ap (λ e. told_by e (answer_of r)) (sym ends))
-  over_told (Refuses fault) s h r ends none is = rest_told _ h.ino s h r (is ∙ ap (λ e. told_by e (answer_of r)) (sym ends))
-  over_told Overtaken s h r ends none is = again_told r.rounds s h r (none refl) is
+      → DrainsOn e r.call → d ≡ told_by e (answer_of r) → OnTold r.call before d (over_turn e s h r)
+  over_told Answers s h r ends none drains is =
+      rest_told _ h.ino s h r (is ∙ ap (λ e. told_by e (answer_of r)) (sym ends))
+      (subst (λ (e : Ending). DrainsOn e r.call) (sym ends) drains)
+  over_told (Refuses fault) s h r ends none drains is =
+      rest_told _ h.ino s h r (is ∙ ap (λ e. told_by e (answer_of r)) (sym ends))
+      (subst (λ (e : Ending). DrainsOn e r.call) (sym ends) drains)
+  over_told (Drains draining) s h r ends none drains is =
+      rest_told _ h.ino s h r (is ∙ ap (λ e. told_by e (answer_of r)) (sym ends))
+      (subst (λ (e : Ending). DrainsOn e r.call) (sym ends) drains)
+  over_told Overtaken s h r ends none drains is = again_told r.rounds s h r (none refl) is
 
   pub end_told : (slots : List ℕ) (e : Ending) (s : Shared) (h : HandState) (r : Running) → (e ≡ Overtaken → IsNoVisit r.call)
-      → d ≡ told_by e (answer_of r) → OnTold before d (end_turn slots e s h r)
-  end_told [] e s h r none is = over_told e s h (record r { ending = e }) refl none is
-  end_told (slot ∷ slots) e s h r none is = record { told = is; stage = none }
+      → DrainsOn e r.call → d ≡ told_by e (answer_of r) → OnTold r.call before d (end_turn slots e s h r)
+  end_told [] e s h r none drains is = over_told e s h (record r { ending = e }) refl none drains is
+  end_told (slot ∷ slots) e s h r none drains is = record { told = is; stage = (none, drains) }
 
   pub unlocked_told : (more : Bool) (place : ℕ) (s : Shared) (h : HandState) (r : Running) → (r.ending ≡ Overtaken → IsNoVisit r.call)
-      → d ≡ told_by r.ending (answer_of r) → OnTold before d (unlocked_turn more place s h r)
-  unlocked_told true place s h r none is = record { told = is; stage = none }
-  unlocked_told false place s h r none is = over_told r.ending s h r refl none is
+      → DrainsOn r.ending r.call → d ≡ told_by r.ending (answer_of r) → OnTold r.call before d (unlocked_turn more place s h r)
+  unlocked_told true place s h r none drains is = record { told = is; stage = (none, drains) }
+  unlocked_told false place s h r none drains is = over_told r.ending s h r refl none drains is
 
   pub back_told : (number : Option ℕ) (s : Shared) (h : HandState) (r : Running) → d ≡ told_by r.ending (answer_of r)
-      → OnTold before d (back_turn number s h r)
-  back_told None s h r is = result_told r.ending r d is
-  back_told (Some ino) s h r is = result_told r.ending r d is
+      → DrainsOn r.ending r.call → OnTold r.call before d (back_turn number s h r)
+  back_told None s h r is drains = last_told r.ending s h r is drains
+  back_told (Some ino) s h r is drains = last_told r.ending _ _ r is drains
 
   pub refuse_told : (slots : List ℕ) (fault : Fault) (s : Shared) (h : HandState) (r : Running) → d ≡ []
-      → OnTold before d (end_turn slots (Refuses fault) s h r)
-  refuse_told slots fault s h r is = end_told slots (Refuses fault) s h r (λ e v. cc) is
+      → OnTold r.call before d (end_turn slots (Refuses fault) s h r)
+  refuse_told slots fault s h r is = end_told slots (Refuses fault) s h r (λ e v. cc) tt is
 
-  grown_told : (granted : Bool) (t : Turn) (s : Shared) (h : HandState) (r : Running) → d ≡ [] → OnTold before d t
-      → OnTold before d (grown granted t s h r)
+  grown_told : (granted : Bool) (t : Turn) (s : Shared) (h : HandState) (r : Running) → d ≡ [] → OnTold r.call before d t
+      → OnTold r.call before d (grown granted t s h r)
   grown_told true t s h r is on = on
   grown_told false t s h r is on = refuse_told r.slots _ s h r is
 
@@ -135,7 +164,7 @@ module _ (before d : List Answer) where
       go false = record { told = is; stage = none }
 
     pub number_told : (numbers : List ℕ) (s : Shared) (h : HandState) (r : Running) → IsNoVisit r.call
-        → OnTold before d (number_turn numbers s h r)
+        → OnTold r.call before d (number_turn numbers s h r)
     number_told [] s h r none = moved (slots_of s None r.looked r.call) where
       moved : (slots : List ℕ) → IsTold (locking 0 slots) (record r { slots = slots; next = locking 0 slots }) d
       moved slots = locking_told 0 slots (record r { slots = slots; next = locking 0 slots }) none
@@ -150,41 +179,41 @@ module _ (before d : List Answer) where
       go false = locking_told 0 r.slots q none
 
   pub look_told : (owner : Option ℕ) (tests : Tests) (found : Looked) (place : ℕ) (s : Shared) (h : HandState) (r : Running) → before ≡ []
-      → d ≡ [] → IsNoVisit r.call → OnTold before d (look_turn owner tests found place s h r)
+      → d ≡ [] → IsNoVisit r.call → OnTold r.call before d (look_turn owner tests found place s h r)
   look_told (Some other) tests found place s h r none is acts = is ∙ sym none
   look_told None (Err fault) found place s h r none is acts = refuse_told [] fault s h r is
   look_told None (Ok passed) found place s h r none is acts =
       looking_told is (place + 1) (record r { looked = found; slots = slots_of s None found r.call }) _ acts
 
   pub lock_told : (owner : Option ℕ) (actor place : ℕ) (s : Shared) (h : HandState) (r : Running) → before ≡ [] → d ≡ []
-      → IsNoVisit r.call → OnTold before d (lock_turn owner actor place s h r)
+      → IsNoVisit r.call → OnTold r.call before d (lock_turn owner actor place s h r)
   lock_told (Some other) actor place s h r none is acts = is ∙ sym none
   lock_told None actor place s h r none is acts = locking_told is (place + 1) r.slots (go_to (locking (place + 1) r.slots) r) acts
 
   -- ---- takings
 
   module _ (is : d ≡ []) where
-    pages_told : (n : ℕ) (s : Shared) (h : HandState) (r : Running) → is_nothing r.call ≡ false → OnTold before d (wants_pages n s h r)
+    pages_told : (n : ℕ) (s : Shared) (h : HandState) (r : Running) → is_nothing r.call ≡ false → OnTold r.call before d (wants_pages n s h r)
     pages_told zero s h r some = record { told = is; stage = some }
     pages_told (suc n) s h r some = record { told = is; stage = some }
 
     pub blocks_told : (n block : ℕ) (s : Shared) (h : HandState) (r : Running) → is_nothing r.call ≡ false
-        → OnTold before d (wants_blocks n block s h r)
+        → OnTold r.call before d (wants_blocks n block s h r)
     blocks_told zero block s h r some = pages_told _ s h r some
     blocks_told (suc n) block s h r some = record { told = is; stage = some }
 
-    pub granted_told : (granted : Bool) (t : Turn) (s : Shared) (h : HandState) (r : Running) → OnTold before d t
-        → OnTold before d (grown granted t s h r)
+    pub granted_told : (granted : Bool) (t : Turn) (s : Shared) (h : HandState) (r : Running) → OnTold r.call before d t
+        → OnTold r.call before d (grown granted t s h r)
     granted_told granted t s h r on = grown_told granted t s h r is on
 
     pub taking_told : (left : ℕ) (more : Bool) (asked block : ℕ) (s : Shared) (h : HandState) (r : Running) → is_nothing r.call ≡ false
-        → OnTold before d (blocks_turn left more asked block s h r)
+        → OnTold r.call before d (blocks_turn left more asked block s h r)
     taking_told zero more asked block s h r some = pages_told _ s h r some
     taking_told (suc n) true asked block s h r some = record { told = is; stage = some }
     taking_told (suc n) false asked block s h r some = refuse_told r.slots _ s h r is
 
     pub paging_told : (left : ℕ) (more : Bool) (asked : ℕ) (s : Shared) (h : HandState) (r : Running) → is_nothing r.call ≡ false
-        → OnTold before d (pages_turn left more asked s h r)
+        → OnTold r.call before d (pages_turn left more asked s h r)
     paging_told zero more asked s h r some = record { told = is; stage = some }
     paging_told (suc n) true asked s h r some = record { told = is; stage = some }
     paging_told (suc n) false asked s h r some = refuse_told r.slots _ s h r is
@@ -292,3 +321,61 @@ module _ (written : List ℕ) where
     go : (b : Bool) → nat_lt (place + 1) (length written) ≡ b → IsBehind (if b then Publish (place + 1) else closing written)
     go true e = absurd (omega (arith, ltb-true (place + 1) (length written) e, ltb-false 1 (length written) one))
     go false e = close (nat_lt 1 (length written)) one
+
+-- ---- calls on snapshots
+
+module _ (before : List Answer) (none : before ≡ []) where
+  if_free_told : (c : Call) (holder : Option ℕ) (t : Turn) → OnTold c before before t → OnTold c before before (if_free holder t)
+  if_free_told c (Some other) t on = refl
+  if_free_told c None t on = on
+
+  make_told : (tests : Tests) (s : Shared) (h : HandState) (r : Running) → is_on_snapshots r.call ≡ true
+      → OnTold r.call before before (make_turn tests s h r)
+  make_told (Err fault) s h r on = refuse_told before before r.slots fault s h r none
+  make_told (Ok passed) s h r on = λ e. clash r.call on e
+
+  drop_told : (snapshot : ℕ) (tests : Tests) (s : Shared) (h : HandState) (r : Running) → is_on_snapshots r.call ≡ true
+      → OnTold r.call before before (drop_turn snapshot tests s h r)
+  drop_told snapshot (Err fault) s h r on = refuse_told before before r.slots fault s h r none
+  drop_told snapshot (Ok passed) s h r on = λ e. clash r.call on e
+
+  pin_told : (snapshot : ℕ) (pins : Option ℕ) (s : Shared) (h : HandState) (r : Running) → is_on_snapshots r.call ≡ true
+      → OnTold r.call before before (pin_turn snapshot pins s h r)
+  pin_told snapshot None s h r on = refuse_told before before r.slots _ s h r none
+  pin_told snapshot (Some pins) s h r on = record { told = none; stage = on }
+
+  show_told : (owner : Option ℕ) (granted : Bool) (found : Option NodeCopy) (snapshot : ℕ) (showing : Showing) (s : Shared)
+      (h : HandState) (r : Running) → is_on_snapshots r.call ≡ true
+      → OnTold r.call before before (show_turn owner granted found snapshot showing s h r)
+  show_told (Some other) granted found snapshot showing s h r on = refl
+  show_told None true found snapshot showing s h r on = record { told = none; stage = on }
+  show_told None false found snapshot showing s h r on = record { told = none; stage = on }
+
+  shown_told : (e : Ending) (seen : List TreeNode) (c : Call) → is_on_snapshots c ≡ true → ResultTold c (shown_by e seen) before
+  shown_told (Refuses fault) seen c on = none
+  shown_told Answers seen c on = λ e. clash c on e
+  shown_told Overtaken seen c on = λ e. clash c on e
+  shown_told (Drains draining) seen c on = λ e. clash c on e
+
+  picked_told : (deferred : List Record) (draining : Draining) (s : Shared) (h : HandState) (r : Running) → is_on_snapshots r.call ≡ true
+      → OnTold r.call before before (picked_turn deferred draining s h r)
+  picked_told [] draining s h r on = λ e. clash r.call on e
+  picked_told (picked ∷ deferred) draining s h r on = record { told = none; stage = on }
+
+  locked_told : (owner : Option ℕ) (actor : ℕ) (draining : Draining) (picked : Record) (s : Shared) (h : HandState) (r : Running)
+      → is_on_snapshots r.call ≡ true → OnTold r.call before before (lock_picked_turn owner actor draining picked s h r)
+  locked_told (Some other) actor draining picked s h r on = refl
+  locked_told None actor draining picked s h r on = record { told = none; stage = on }
+
+  pub snapshot_told : (step : SnapshotStep) (actor : ℕ) (granted : Bool) (s : Shared) (h : HandState) (r : Running)
+      → is_on_snapshots r.call ≡ true → OnTold r.call before before (snapshot_turn step actor granted s h r)
+  snapshot_told Make actor granted s h r on = if_free_told r.call s.holder _ (make_told (make_tests s.book.snaps) s h r on)
+  snapshot_told (Drop snapshot) actor granted s h r on = if_free_told r.call s.holder _ (drop_told snapshot _ s h r on)
+  snapshot_told (Pin snapshot) actor granted s h r on = if_free_told r.call s.holder _ (pin_told snapshot _ s h r on)
+  snapshot_told (Show snapshot showing) actor granted s h r on = show_told _ granted _ snapshot showing s h r on
+  snapshot_told (Unpin snapshot seen) actor granted s h r on = if_free_told r.call s.holder _ (shown_told r.ending seen r.call on)
+  snapshot_told (Pick draining) actor granted s h r on =
+      if_free_told r.call s.holder _
+      (grown_told before before (granted || not (is_first draining)) _ s h r none (picked_told s.book.deferred draining s h r on))
+  snapshot_told (LockPicked draining picked) actor granted s h r on = locked_told _ actor draining picked s h r on
+  snapshot_told (Release draining picked) actor granted s h r on = end_told before before r.slots (Drains (one_more draining)) _ _ r (λ e v. cc) on none

@@ -24,15 +24,15 @@ use Rattle.nv_machine.specs.EndsDecided.{decision, has_nothing_to_do, is_answere
 use Rattle.nv_machine.specs.Hands.{is_going}
 use Rattle.nv_machine.specs.Kinds.{check_ending, check_turn, end_turn, enter_turn, rest_turn, visit_turn, wants_blocks}
 use Rattle.nv_machine.specs.Locks.{IsInside, commits_at, held_at}
-use Rattle.nv_machine.specs.PlainRun.{Commits, Nothing, Numbers, entered, keeps_nodes}
+use Rattle.nv_machine.specs.PlainRun.{Commits, Nothing, Numbers, done_on, entered, keeps_nodes}
 use Rattle.nv_machine.specs.Reads.{copies, nodes, written_slots}
 use Rattle.nv_machine.specs.Sequence.{Visits, appending, beginning, nothing_looked, publishing, retiring}
 use Rattle.nv_machine.specs.Settled.{settled, settled_nodes}
 use Rattle.nv_machine.specs.Step.{ending_at, handle_at, is_numbered, kind_turn, made_in, same_looked, visit_grows, with_made}
-use Rattle.nv_machine.specs.World.{Answers, Append, Back, Check, Close, Drains, Ending, Ends, Enter, Give, HandState, Leave, Lock, Look, Moves, Next, Number, Open, Overtaken, Publish, Ready, Refuses, Retire, Running, Shared, Snapshots, TakeBlocks, TakePages, Turn, Unlock, Visit, Waits, cell_at, go_to, owner_at}
+use Rattle.nv_machine.specs.World.{Answers, Append, Back, Check, Close, Drains, Drop, Ending, Ends, Enter, Give, HandState, Leave, Lock, LockPicked, Look, Make, Moves, Next, Number, Open, Overtaken, Pick, Pin, Publish, Ready, Refuses, Release, Retire, Running, Shared, Show, SnapshotStep, Snapshots, TakeBlocks, TakePages, Turn, Unlock, Unpin, Visit, Waits, cell_at, go_to, owner_at}
 use Rattle.nv_machine.proofs.Answered.{no_node_tells}
 use Rattle.nv_machine.proofs.EndsRead.{ending_settled, settled_ending}
-use Rattle.nv_machine.proofs.EndsTold.{IsNoVisit, IsTold, OnTold, appending_before, back_told, before_told, behind_told, blocks_told, end_told, granted_told, lock_told, look_told, no_visit, number_told, paging_told, refuse_told, rest_told, retiring_behind, several_before, single_behind, taking_told, told_by, unlocked_told}
+use Rattle.nv_machine.proofs.EndsTold.{DrainsOn, IsNoVisit, IsTold, OnTold, appending_before, back_told, before_told, behind_told, blocks_told, end_told, granted_told, lock_told, look_told, no_visit, number_told, paging_told, refuse_told, rest_told, retiring_behind, several_before, single_behind, snapshot_told, taking_told, told_by, unlocked_told}
 use Rattle.nv_machine.proofs.FitsStages.{FitsAt}
 
 -- ---- what a check decides
@@ -185,13 +185,14 @@ module _ (block a cpu : ℕ) (s : Shared) (h : HandState) (r : Running) where
   check_told : (b : Bool) (e : Option Ending) (granted : Bool) (wanted : ℕ) (x : Answer) → b ≡ is_answering e
       → (e ≡ None → is_nothing r.call ≡ false) → (b ≡ true → x ≡ answer_of (with_made s h r)) → IsNoVisit r.call
       → (before : List Answer) → before ≡ []
-      → OnTold before (cond b (x ∷ []) [] ++ before) (check_turn e granted wanted block s h (with_made s h r))
+      → OnTold r.call before (cond b (x ∷ []) [] ++ before) (check_turn e granted wanted block s h (with_made s h r))
   check_told true None granted wanted x is some same none before e = cc
   check_told true (Some Answers) granted wanted x is some same none before e =
-      end_told before (x ∷ before) r.slots Answers s h (with_made s h r) (λ e v. cc)
+      end_told before (x ∷ before) r.slots Answers s h (with_made s h r) (λ e v. cc) tt
       (ap₂ (λ (a : Answer) (l : List Answer). a ∷ l) (same refl) e)
   check_told true (Some (Refuses fault)) granted wanted x is some same none before e = cc
   check_told true (Some Overtaken) granted wanted x is some same none before e = cc
+  check_told true (Some (Drains draining)) granted wanted x is some same none before e = cc
   check_told false None granted wanted x is some same none before e =
       granted_told before before e granted (wants_blocks wanted block s h (with_made s h r)) s h (with_made s h r)
       (blocks_told before before e wanted block s h (with_made s h r) (some refl))
@@ -199,12 +200,12 @@ module _ (block a cpu : ℕ) (s : Shared) (h : HandState) (r : Running) where
   check_told false (Some (Refuses fault)) granted wanted x is some same none before e =
       refuse_told before before r.slots fault s h (with_made s h r) e
   check_told false (Some Overtaken) granted wanted x is some same none before e =
-      end_told before before r.slots Overtaken s h (with_made s h r) (λ over. none) e
+      end_told before before r.slots Overtaken s h (with_made s h r) (λ over. none) tt e
 
   -- ---- enter and publish
 
   enter_told : (holder : Option ℕ) (last granted : Bool) (before d : List Answer) → before ≡ [] → d ≡ [] → is_nothing r.call ≡ false
-      → 0 < length (written_slots r) → OnTold before d (enter_turn holder last granted a s h r)
+      → 0 < length (written_slots r) → OnTold r.call before d (enter_turn holder last granted a s h r)
   enter_told (Some other) last granted before d none is some written = is ∙ sym none
   enter_told None true granted before d none is some written = refuse_told before d r.slots CommitLimit s h r is
   enter_told None false granted before d none is some written =
@@ -238,22 +239,57 @@ module _ (block a cpu : ℕ) (s : Shared) (h : HandState) (r : Running) where
 
   visit_told : (owner : Option ℕ) (all tests : Tests) (given : Bool) (x found : Answer) (before : List Answer) → before ≡ []
       → (owner ≡ None → (all ≡ tests) × (x ≡ found))
-      → OnTold before (cond (is_pass all && is_answered (visit_turn owner tests given found s h r)) (x ∷ []) [] ++ before)
+      → OnTold r.call before (cond (is_pass all && is_answered (visit_turn owner tests given found s h r)) (x ∷ []) [] ++ before)
       (visit_turn owner tests given found s h r)
   visit_told (Some other) all tests given x found before none same =
       none_then (is_pass all) false x before refl none ∙ sym none
   visit_told None all (Err fault) given x found before none same =
       refuse_told before _ r.slots fault s h r (none_then (is_pass all) _ x before (refuses fault r.slots s h r) none)
   visit_told None (Err fault) (Ok passed) given x found before none same = let e = (same refl).0 in cc
-  visit_told None (Ok all) (Ok passed) true x found before none same =
+  visit_told None (Ok all) (Ok passed) true x found before none same = λ off.
       ap₂ (λ (a : Answer) (l : List Answer). a ∷ l) (same refl).1 none
   visit_told None (Ok all) (Ok passed) false x found before none same =
       refuse_told before _ r.slots OutOfMemory s h r (none_then true _ x before (refuses OutOfMemory r.slots s h r) none)
 
+  -- no step of a call on snapshots changes the nodes
+  step_keeps : (step : SnapshotStep) (t : Turn) → keeps_nodes (done_on step t) ≡ true
+  step_keeps Make (Moves u g q) = refl
+  step_keeps Make Waits = refl
+  step_keeps Make (Ends (Ok found) u g) = refl
+  step_keeps Make (Ends (Err fault) u g) = refl
+  step_keeps (Drop snapshot) (Moves u g q) = refl
+  step_keeps (Drop snapshot) Waits = refl
+  step_keeps (Drop snapshot) (Ends (Ok found) u g) = refl
+  step_keeps (Drop snapshot) (Ends (Err fault) u g) = refl
+  step_keeps (Pin snapshot) (Moves u g q) = refl
+  step_keeps (Pin snapshot) Waits = refl
+  step_keeps (Pin snapshot) (Ends (Ok found) u g) = refl
+  step_keeps (Pin snapshot) (Ends (Err fault) u g) = refl
+  step_keeps (Show snapshot showing) (Moves u g q) = refl
+  step_keeps (Show snapshot showing) Waits = refl
+  step_keeps (Show snapshot showing) (Ends (Ok found) u g) = refl
+  step_keeps (Show snapshot showing) (Ends (Err fault) u g) = refl
+  step_keeps (Unpin snapshot seen) (Moves u g q) = refl
+  step_keeps (Unpin snapshot seen) Waits = refl
+  step_keeps (Unpin snapshot seen) (Ends (Ok found) u g) = refl
+  step_keeps (Unpin snapshot seen) (Ends (Err fault) u g) = refl
+  step_keeps (Pick draining) (Moves u g q) = refl
+  step_keeps (Pick draining) Waits = refl
+  step_keeps (Pick draining) (Ends (Ok found) u g) = refl
+  step_keeps (Pick draining) (Ends (Err fault) u g) = refl
+  step_keeps (LockPicked draining picked) (Moves u g q) = refl
+  step_keeps (LockPicked draining picked) Waits = refl
+  step_keeps (LockPicked draining picked) (Ends (Ok found) u g) = refl
+  step_keeps (LockPicked draining picked) (Ends (Err fault) u g) = refl
+  step_keeps (Release draining picked) (Moves u g q) = refl
+  step_keeps (Release draining picked) Waits = refl
+  step_keeps (Release draining picked) (Ends (Ok found) u g) = refl
+  step_keeps (Release draining picked) (Ends (Err fault) u g) = refl
+
   -- ---- all kinds
 
   pub kind_told : (k : Next) (granted : Bool) (before : List Answer) → Relied k block a cpu s h r → IsTold k r before
-      → OnTold before (decision k block s r (kind_turn k block a granted s h r) ++ before) (kind_turn k block a granted s h r)
+      → OnTold r.call before (decision k block s r (kind_turn k block a granted s h r) ++ before) (kind_turn k block a granted s h r)
   kind_told Number granted before st d = number_told before before d.told s.pool.numbers s h r d.stage
   kind_told (Look place) granted before st d = look_told before before _ _ _ place s h r d.told d.told d.stage
   kind_told (Lock place) granted before st d = lock_told before before _ a place s h r d.told d.told d.stage
@@ -284,12 +320,17 @@ module _ (block a cpu : ℕ) (s : Shared) (h : HandState) (r : Running) where
       behind_told (retiring (place + 1) (written_slots r)) _ before (retiring_behind (written_slots r) (place + 1)) d.told d.stage
   kind_told Leave granted before st d =
       end_told before before r.slots r.ending _ h r (λ e. no_visit r.call d.stage)
+      (subst (λ (e : Ending). DrainsOn e r.call) (sym (st.ending refl)) tt)
       (d.told ∙ ap (λ (e : Ending). told_by e (answer_of r)) (sym (st.ending refl)))
-  kind_told (Unlock place) granted before st d = unlocked_told before before _ place _ h r d.stage d.told
-  kind_told (Give home) granted before st d = rest_told before before _ h.ino _ _ r d.told
-  kind_told Back granted before st d = back_told before before h.ino s h r d.told
+  kind_told (Unlock place) granted before st d = unlocked_told before before _ place _ h r d.stage.0 d.stage.1 d.told
+  kind_told (Give home) granted before st d = rest_told before before _ h.ino _ _ r d.told d.stage
+  kind_told Back granted before st d = back_told before before h.ino s h r d.told d.stage
   kind_told Visit granted before st d =
       visit_told (owner_at s (handle_at (handles nothing_looked r.call) 0).ino) (refusal block plain r.call)
       (refusal block (copies s) r.call) (granted || not (visit_grows r.call)) (answer (settled_nodes s) r.made r.call)
       (answer (nodes s) r.made r.call) before d.told
       (λ free. let c = st.visit d.stage free (record { made = r.made; runs = []; present = false }) in (sym c.refusal, sym c.answer))
+  kind_told (Snapshots step) granted before st d =
+      subst (λ (b : Bool). OnTold r.call before (cond (not b) (answer (settled_nodes s) r.made r.call ∷ []) [] ++ before)
+      (kind_turn (Snapshots step) block a granted s h r)) (sym (step_keeps step (kind_turn (Snapshots step) block a granted s h r)))
+      (snapshot_told before d.told step a granted s h r d.stage)
