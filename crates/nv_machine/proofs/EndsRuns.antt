@@ -11,6 +11,7 @@ use Rattle.nv_calls.specs.Plain.{node_in}
 use Rattle.nv_calls.specs.declared.answer.Answer.{Answer}
 use Rattle.nv_calls.specs.declared.call.Call.{Call}
 use Rattle.nv_calls.specs.declared.call.Call.TheVariants as call
+use Rattle.nv_calls.specs.declared.snapshot_call.SnapshotCall.{SnapshotCall}
 use Rattle.nv_machine.specs.EndsDecided.{decided, decided_in, decision_of, is_on_snapshots, unless_started}
 use Rattle.nv_machine.specs.Format.{formatted}
 use Rattle.nv_machine.specs.Hands.{HandOf}
@@ -21,7 +22,7 @@ use Rattle.nv_machine.specs.Reads.{slots_of, written_slots}
 use Rattle.nv_machine.specs.Sequence.{Beginning, Locks, Looks, Numbers, OnSnapshots, Visits, beginning, begun, nothing_looked}
 use Rattle.nv_machine.specs.Settled.{settled_nodes}
 use Rattle.nv_machine.specs.Step.{Step, after, go_step, start_step, step, turn, turned}
-use Rattle.nv_machine.specs.World.{Actor, Append, Back, Check, Close, Done, Ending, Ends, Enter, Event, Give, Go, HandState, Leave, Lock, Look, Moves, Next, Number, Open, Publish, Ready, Refused, Reply, Retire, Running, Shared, SnapshotStep, Snapshots, Start, TakeBlocks, TakePages, Turn, Unlock, Visit, Waits, World, actor_at, idle}
+use Rattle.nv_machine.specs.World.{Actor, Append, Back, Check, Close, Done, Ending, Ends, Enter, Event, Give, Go, HandState, Leave, Lock, Look, Moves, Next, Number, Open, Publish, Ready, Refused, Reply, Retire, Running, Shared, Snapshots, Start, TakeBlocks, TakePages, Turn, Unlock, Visit, Waits, World, actor_at, idle}
 use Rattle.nv_calls.specs.declared.taken.Taken.{Taken}
 use Rattle.nv_calls.proofs.Nothing.{told_nothing}
 use Rattle.nv_machine.proofs.Answered.{deed_is}
@@ -98,7 +99,7 @@ committing (Snapshots step) e c at stage = absurd (false≢true at)
 -- ---- one event
 
 -- a call that begins with a step on snapshots is one of those
-on_them : (c : Call) (what : SnapshotStep) → beginning c ≡ OnSnapshots what → is_on_snapshots c ≡ true
+on_them : (c : Call) (what : SnapshotCall) → beginning c ≡ OnSnapshots what → is_on_snapshots c ≡ true
 on_them (call.Create dir name mode) what e = cc
 on_them (call.Mkdir dir name mode) what e = cc
 on_them (call.Write file offset text) what e = cc

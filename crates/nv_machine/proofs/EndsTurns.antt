@@ -29,7 +29,7 @@ use Rattle.nv_machine.specs.Reads.{copies, nodes, written_slots}
 use Rattle.nv_machine.specs.Sequence.{Visits, appending, beginning, nothing_looked, publishing, retiring}
 use Rattle.nv_machine.specs.Settled.{settled, settled_nodes}
 use Rattle.nv_machine.specs.Step.{ending_at, handle_at, is_numbered, kind_turn, made_in, same_looked, visit_grows, with_made}
-use Rattle.nv_machine.specs.World.{Answers, Append, Back, Check, Close, Drains, Drop, Ending, Ends, Enter, Give, HandState, Leave, Lock, LockPicked, Look, Make, Moves, Next, Number, Open, Overtaken, Pick, Pin, Publish, Ready, Refuses, Release, Retire, Running, Shared, Show, SnapshotStep, Snapshots, TakeBlocks, TakePages, Turn, Unlock, Unpin, Visit, Waits, cell_at, go_to, owner_at}
+use Rattle.nv_machine.specs.World.{Answers, Append, Back, Check, Close, Draining, Drains, Drop, Ending, Ends, Enter, Give, HandState, Leave, Lock, LockPicked, Look, Make, Moves, Next, Number, Open, Overtaken, Pick, Pin, Publish, Ready, Refuses, Release, Retire, Running, Shared, Show, SnapshotStep, Snapshots, TakeBlocks, TakePages, Turn, Unlock, Unpin, Visit, Waits, cell_at, go_to, owner_at}
 use Rattle.nv_machine.proofs.Answered.{no_node_tells}
 use Rattle.nv_machine.proofs.EndsRead.{ending_settled, settled_ending}
 use Rattle.nv_machine.proofs.EndsTold.{DrainsOn, IsNoVisit, IsTold, OnTold, appending_before, back_told, before_told, behind_told, blocks_told, end_told, granted_told, lock_told, look_told, no_visit, number_told, paging_told, refuse_told, rest_told, retiring_behind, several_before, single_behind, snapshot_told, taking_told, told_by, unlocked_told}
@@ -118,6 +118,16 @@ some_call block nodes made c pass some = go (is_nothing c) refl where
   go false e = refl
   go true e = let none = ap (λ (l : List Change). length l) (told.no_effect e) in absurd (omega (arith, some, none))
 
+-- no check drains
+no_drains : (first : Tests) (same : Bool) (tests : Tests) (numbered : Bool) (changes : List Change) (draining : Draining)
+    → check_ending first same tests numbered changes ≡ Some (Drains draining) → ⊥
+no_drains (Err fault) same tests numbered changes draining e = cc
+no_drains (Ok passed) false tests numbered changes draining e = cc
+no_drains (Ok passed) true (Err fault) numbered changes draining e = cc
+no_drains (Ok passed) true (Ok all) false changes draining e = cc
+no_drains (Ok passed) true (Ok all) true [] draining e = cc
+no_drains (Ok passed) true (Ok all) true (change ∷ changes) draining e = cc
+
 -- what a check goes on with
 goes_on : (first : Tests) (same : Bool) (tests : Tests) (numbered : Bool) (changes : List Change)
     → check_ending first same tests numbered changes ≡ None → (tests ≡ passes) × (0 < length changes)
@@ -167,6 +177,11 @@ module _ (block a cpu : ℕ) (s : Shared) (h : HandState) (r : Running) where
     ending_is : ending_at block s h r ≡ settled_ending block s h r
     ending_is = ending_settled block s h r (st.logs refl) st.fits
 
+    never_drains : (draining : Draining) → ending_at block s h r ≡ Some (Drains draining) → ⊥
+    never_drains draining e = no_drains (early (copies s) r.call) (same_looked (looked (copies s) r.call) r.looked)
+        (refusal block (copies s) r.call) (is_numbered (beginning r.call) h.ino) (effect (copies s) (made_in s h.ino r.made) r.call)
+        draining e
+
     decided_is : has_nothing_to_do block plain r ≡ is_answering (ending_at block s h r)
     decided_is =
         ap (λ (b : Bool). is_pass (refusal block plain r.call) && same_looked (looked plain r.call) r.looked && b)
@@ -183,24 +198,25 @@ module _ (block a cpu : ℕ) (s : Shared) (h : HandState) (r : Running) where
         some_call block plain (made_in s h.ino r.made) r.call both.0 both.1
 
   check_told : (b : Bool) (e : Option Ending) (granted : Bool) (wanted : ℕ) (x : Answer) → b ≡ is_answering e
-      → (e ≡ None → is_nothing r.call ≡ false) → (b ≡ true → x ≡ answer_of (with_made s h r)) → IsNoVisit r.call
-      → (before : List Answer) → before ≡ []
+      → (e ≡ None → is_nothing r.call ≡ false) → ((draining : Draining) → e ≡ Some (Drains draining) → ⊥)
+      → (b ≡ true → x ≡ answer_of (with_made s h r)) → IsNoVisit r.call → (before : List Answer) → before ≡ []
       → OnTold r.call before (cond b (x ∷ []) [] ++ before) (check_turn e granted wanted block s h (with_made s h r))
-  check_told true None granted wanted x is some same none before e = cc
-  check_told true (Some Answers) granted wanted x is some same none before e =
+  check_told true None granted wanted x is some drains same none before e = cc
+  check_told true (Some Answers) granted wanted x is some drains same none before e =
       end_told before (x ∷ before) r.slots Answers s h (with_made s h r) (λ e v. cc) tt
       (ap₂ (λ (a : Answer) (l : List Answer). a ∷ l) (same refl) e)
-  check_told true (Some (Refuses fault)) granted wanted x is some same none before e = cc
-  check_told true (Some Overtaken) granted wanted x is some same none before e = cc
-  check_told true (Some (Drains draining)) granted wanted x is some same none before e = cc
-  check_told false None granted wanted x is some same none before e =
+  check_told true (Some (Refuses fault)) granted wanted x is some drains same none before e = cc
+  check_told true (Some Overtaken) granted wanted x is some drains same none before e = cc
+  check_told true (Some (Drains draining)) granted wanted x is some drains same none before e = cc
+  check_told false None granted wanted x is some drains same none before e =
       granted_told before before e granted (wants_blocks wanted block s h (with_made s h r)) s h (with_made s h r)
       (blocks_told before before e wanted block s h (with_made s h r) (some refl))
-  check_told false (Some Answers) granted wanted x is some same none before e = cc
-  check_told false (Some (Refuses fault)) granted wanted x is some same none before e =
+  check_told false (Some Answers) granted wanted x is some drains same none before e = cc
+  check_told false (Some (Refuses fault)) granted wanted x is some drains same none before e =
       refuse_told before before r.slots fault s h (with_made s h r) e
-  check_told false (Some Overtaken) granted wanted x is some same none before e =
+  check_told false (Some Overtaken) granted wanted x is some drains same none before e =
       end_told before before r.slots Overtaken s h (with_made s h r) (λ over. none) tt e
+  check_told false (Some (Drains draining)) granted wanted x is some drains same none before e = absurd (drains draining refl)
 
   -- ---- enter and publish
 
@@ -295,7 +311,7 @@ module _ (block a cpu : ℕ) (s : Shared) (h : HandState) (r : Running) where
   kind_told (Lock place) granted before st d = lock_told before before _ a place s h r d.told d.told d.stage
   kind_told Check granted before st d =
       check_told (has_nothing_to_do block plain r) (ending_at block s h r) granted _ (answer (settled_nodes s) r.made r.call)
-      (decided_is st d.stage) (some_then st d.stage) (λ e. same_told (settled_nodes s) r.made (made_in s h.ino r.made) r.call plain d.stage
+      (decided_is st d.stage) (some_then st d.stage) (never_drains st d.stage) (λ e. same_told (settled_nodes s) r.made (made_in s h.ino r.made) r.call plain d.stage
       (and_parts (is_pass (refusal block plain r.call) && same_looked (looked plain r.call) r.looked)
       (is_no_change (effect plain r.made r.call)) e).1) d.stage before d.told
   kind_told (TakeBlocks asked) granted before st d = taking_told before before d.told _ _ asked block _ _ r d.stage

@@ -30,7 +30,7 @@ ghost use Rattle.nv_machine.specs.Grown.{AreGrown, fresh_entries};
 ghost use Rattle.nv_machine.specs.Kept.{AreBlocksApart, IsKept};
 ghost use Rattle.nv_machine.specs.Kinds.{refuse};
 ghost use Rattle.nv_machine.specs.Locks.{AreLocks, commits_at};
-ghost use Rattle.nv_machine.specs.Hands.{makes_inode};
+ghost use Rattle.nv_machine.specs.Hands.{AreNumbers, makes_inode};
 ghost use Rattle.nv_machine.specs.Made.{handles_made, has_handle};
 ghost use Rattle.nv_machine.specs.Order.{IsInOrder};
 ghost use Rattle.nv_machine.specs.Reached.{IsReached};
@@ -254,8 +254,8 @@ pub fn short_takings_have_asked_every_list()
 /// all cells as they were, also an enter, which is lent the book; and so does each further step of a call that is
 /// not to be answered, but that the last step of a show takes its pin off.
 pub fn refused_calls_leave_books_and_cells()
-    ensures { (w : World) (actor : ℕ) (granted : Bool) (r : Running) → IsKept w
-        → (actor_at w actor).running ≡ Some r
+    ensures { (g : GeometryNumbers) (w : World) (actor : ℕ) (granted : Bool) (r : Running) → IsKept w
+        → AreNumbers g w → (actor_at w actor).running ≡ Some r
         → LeavesBooks r.next w.shared
         (turn w.numbers.block actor granted w.shared (actor_at w actor).hand r) }
 {}
