@@ -1,16 +1,15 @@
 -- A step after which its call is not to be answered leaves the book and all cells.
 use Rattle.std.proofs.Common.{◌≡◌, ℕ, suc, zero, Bool, true, false, List, [], ◌∷◌, Option, Some, None, length, refl, subst}
-use Rattle.std.specs.Prelude.{◌||◌, ◌%◌, Ok, Err}
+use Rattle.std.specs.Prelude.{◌%◌, Ok, Err}
 use Rattle.nv_base.specs.declared.geometry.GeometryNumbers.{GeometryNumbers}
 use Rattle.nv_book.specs.declared.record.Record.{Record}
 use Rattle.nv_calls.specs.Refusals.{Check as Tests}
-use Rattle.nv_entry.specs.declared.node.NodeCopy.{NodeCopy}
 use Rattle.nv_entry.specs.declared.tree.TreeNode.{TreeNode}
 use Rattle.nv_machine.specs.Hands.{AreNumbers, HandOf, is_going, is_going_on}
 use Rattle.nv_machine.specs.Kept.{IsKept, Knows, KnowsOf}
-use Rattle.nv_machine.specs.Kinds.{blocks_in, drained_turn, end_turn, enter_turn, grown, home_from, rest_turn}
+use Rattle.nv_machine.specs.Kinds.{drained_turn, end_turn, enter_turn, grown, rest_turn}
 use Rattle.nv_machine.specs.Refusing.{IsUnanswered, LeavesBooks, SameBooks}
-use Rattle.nv_machine.specs.Snapshots.{drop_turn, if_free, is_first, make_tests, make_turn, pick_turn, picked_turn, pin_turn, shown_by, snapshot_turn, unpin_turn}
+use Rattle.nv_machine.specs.Snapshots.{drop_turn, if_free, make_tests, make_turn, picked_turn, pin_turn, snapshot_turn, unpin_turn}
 use Rattle.nv_machine.specs.Step.{kind_turn, turn}
 use Rattle.nv_machine.specs.World.{Answers, Append, Back, Check, Close, Draining, Drains, Drop, Ending, Ends, Enter, Give, HandState, Leave, Lock, LockPicked, Look, Make, Moves, Next, Number, Open, Overtaken, Pick, Pin, Publish, Ready, Refuses, Release, Retire, Running, Shared, Show, SnapshotStep, Snapshots, TakeBlocks, TakePages, Turn, Unlock, Unpin, Visit, Waits, World, actor_at}
 use Rattle.nv_machine.proofs.Kept.{AfterTurn, back_deed, deed, end_keeps, number_deed, snapshot_deed, snapshot_keeps, turn_keeps}
