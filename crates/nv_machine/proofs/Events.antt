@@ -22,7 +22,7 @@ abbrev is_started : Reply → Bool
 is_started Started = true
 is_started other = false
 
-refused_started : {fault : Fault} → Refused fault ≡ Started → ⊥
+pub refused_started : {fault : Fault} → Refused fault ≡ Started → ⊥
 refused_started e = false≢true (ap is_started e)
 
 -- ---- other actors
@@ -131,7 +131,7 @@ idles w actor granted there is = go_idle _ _ w actor granted (lt-ltb actor (leng
 -- ---- the bound
 
 -- an actor that is set is there
-set_is : (actor : ℕ) (x : Actor) (w : World) (s : Shared) → actor < length w.actors
+pub set_is : (actor : ℕ) (x : Actor) (w : World) (s : Shared) → actor < length w.actors
     → actor_at (record w { shared = s; actors = set w.actors actor x }) actor ≡ x
 set_is actor x w s there = get_or-set_same w.actors actor x idle there
 

@@ -1,5 +1,6 @@
 -- Snapshots beside the plain world's copies: what they read as, their pins, and for what their calls are refused.
-use Rattle.std.specs.Prelude.{◌≡◌, ℕ, zero, suc, ◌+◌, ◌==◌, Bool, false, if◌then◌else◌, nat_le, List, [], ◌∷◌, count_by, length, Option, Some, None, Ok, Err}
+use Rattle.std.specs.Prelude.{◌≡◌, ◌≢◌, ℕ, zero, suc, ◌+◌, ◌==◌, Bool, true, false, if◌then◌else◌, nat_le, List, [], ◌∷◌, count_by, length, Option, Some, None, Ok, Err}
+use Rattle.nv_base.specs.declared.fault.Fault.{Fault}
 use Rattle.nv_base.specs.declared.fault.Fault.TheVariants.{EpochLimit, NoSnapshot, Pinned, TooManySnapshots}
 use Rattle.nv_base.specs.declared.limits.TheConstants.{NUMBER}
 use Rattle.nv_base.specs.declared.numbers.Handle.{Handle}
@@ -10,7 +11,7 @@ use Rattle.nv_machine.specs.PlainRun.{Copy, Plain, is_of}
 use Rattle.nv_machine.specs.Settled.{settled_copies}
 use Rattle.nv_machine.specs.Snapshots.{drop_tests, make_tests}
 use Rattle.nv_machine.specs.Step.{step}
-use Rattle.nv_machine.specs.World.{Actor, Drop, Event, Go, Make, Next, Pin, Release, Running, Shared, Show, SnapshotStep, Snapshots, Start, Unpin, World, actor_at}
+use Rattle.nv_machine.specs.World.{Actor, Drop, Event, Go, Make, Next, Pin, Refused, Release, Reply, Running, Shared, Show, SnapshotStep, Snapshots, Start, Unpin, World, actor_at}
 
 -- ---- copies
 
@@ -81,6 +82,18 @@ tests_on Make snaps = make_tests snaps
 tests_on (Drop snapshot) snaps = drop_tests (pins_of snaps snapshot)
 tests_on (Pin snapshot) snaps = test_there (pins_of snaps snapshot)
 tests_on other snaps = passes
+
+-- the steps that the list of snapshots may refuse
+abbrev pub is_tested : SnapshotStep → Bool
+is_tested Make = true
+is_tested (Drop snapshot) = true
+is_tested (Pin snapshot) = true
+is_tested other = false
+
+-- a reply goes by tests: it tells their fault, and no fault where they pass
+abbrev pub GoesBy : Tests → Reply → Type 0
+GoesBy (Err fault) reply = reply ≡ Refused fault
+GoesBy (Ok passed) reply = (fault : Fault) → reply ≢ Refused fault
 
 -- ---- releases
 

@@ -1,6 +1,7 @@
 -- What a call that is not to be answered leaves as it is.
-use Rattle.std.specs.Prelude.{◌≡◌, Ok, Err}
+use Rattle.std.specs.Prelude.{◌≡◌, Bool, true, Ok, Err}
 use Rattle.nv_book.specs.Book.{BookState, after_unpin_snapshot}
+use Rattle.nv_machine.specs.Hands.{is_going_on}
 use Rattle.nv_machine.specs.World.{Answers, Drains, Ending, Ends, Moves, Next, Overtaken, Refuses, Shared, Snapshots, Turn, Unpin, Waits}
 
 -- the call is to be refused, or its names are looked up again
@@ -25,3 +26,8 @@ LeavesBooks next s (Moves t h r) = IsUnanswered r.ending → SameBooks next s t
 LeavesBooks next s Waits = Unit {0}
 LeavesBooks next s (Ends (Ok found) t h) = Unit {0}
 LeavesBooks next s (Ends (Err fault) t h) = SameBooks next s t
+
+-- a call on snapshots is to be answered up to its last steps, but for a show that is refused, which is left to take its pin off
+abbrev pub GoesOn : Next → Ending → Type 0
+GoesOn (Snapshots step) e = is_going_on step ≡ true → e ≡ Answers
+GoesOn other e = Unit {0}

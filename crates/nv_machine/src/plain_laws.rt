@@ -36,7 +36,7 @@ ghost use Rattle.nv_machine.specs.Order.{IsInOrder};
 ghost use Rattle.nv_machine.specs.Reached.{IsReached};
 ghost use Rattle.nv_machine.specs.PlainRun.{Commits, Plain, deed_of, keeps_nodes, new_plain, plain_after, plain_of};
 ghost use Rattle.nv_machine.specs.Reads.{copies, nodes, written_slots};
-ghost use Rattle.nv_machine.specs.Refusing.{LeavesBooks};
+ghost use Rattle.nv_machine.specs.Refusing.{GoesOn, LeavesBooks};
 ghost use Rattle.nv_machine.specs.Rounds.{HasRounds, failed_checks};
 ghost use Rattle.nv_machine.specs.Sequence.{Visits, beginning, nothing_looked};
 ghost use Rattle.nv_machine.specs.Settled.{settled, settled_nodes};
@@ -252,12 +252,18 @@ pub fn short_takings_have_asked_every_list()
 
 /// A step that refuses its call leaves the book (the number of the last commit, the epoch, journals, snapshots and records) and
 /// all cells as they were, also an enter, which is lent the book; and so does each further step of a call that is
-/// not to be answered, but that the last step of a show takes its pin off.
+/// not to be answered, but that the last step of a show takes its pin off. A call on snapshots that is refused has its
+/// last steps left alone; so it is in every world that events lead to.
 pub fn refused_calls_leave_books_and_cells()
-    ensures { (g : GeometryNumbers) (w : World) (actor : ℕ) (granted : Bool) (r : Running) → IsKept w
-        → AreNumbers g w → (actor_at w actor).running ≡ Some r
+    ensures kept { (w : World) (actor : ℕ) (granted : Bool) (r : Running) → IsKept w
+        → (actor_at w actor).running ≡ Some r → GoesOn r.next r.ending
         → LeavesBooks r.next w.shared
         (turn w.numbers.block actor granted w.shared (actor_at w actor).hand r) }
+    ensures reached { (g : GeometryNumbers) (events : List Event) (actor : ℕ) (granted : Bool)
+        (r : Running) → IsWithinLimits g → (actor_at (after (formatted g) events) actor).running ≡ Some r
+        → LeavesBooks r.next (after (formatted g) events).shared
+        (turn (after (formatted g) events).numbers.block actor granted (after (formatted g) events).shared
+        (actor_at (after (formatted g) events) actor).hand r) }
 {}
 
 /// A call is contended only after eight checks that each found a name bound anew: a started call has eight such checks

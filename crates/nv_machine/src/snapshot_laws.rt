@@ -2,7 +2,7 @@
 //! tree that stood when it was made, and what its calls are answered and refused. Each is the contract of a function that does
 //! nothing.
 
-ghost use Rattle.std.specs.Prelude.{◌≡◌, ◌&&◌, ◌++◌, ◌+◌, ℕ, Bool, List, [], ◌∷◌, Contains, None, Ok, Some, length, not, slice_get};
+ghost use Rattle.std.specs.Prelude.{◌≡◌, ◌⊎◌, ◌&&◌, ◌++◌, ◌+◌, ℕ, Bool, true, List, [], ◌∷◌, Contains, IsSome, None, Ok, Some, length, not, slice_get};
 ghost use Rattle.std.specs.List.{AllByRecursion};
 ghost use Rattle.nv_base.specs.Limits.{IsWithinLimits};
 ghost use Rattle.nv_base.specs.declared.fault.Fault.{Fault};
@@ -23,12 +23,12 @@ ghost use Rattle.nv_epoch.specs.SnapList.{ids, pins_of};
 ghost use Rattle.nv_machine.specs.Bound.{AreNoStarts};
 ghost use Rattle.nv_machine.specs.Format.{formatted};
 ghost use Rattle.nv_machine.specs.PlainRun.{plain_after, plain_of};
-ghost use Rattle.nv_machine.specs.Reading.{AreCopied, ArePins, plain_tests, releases, shows_of, tests_on};
+ghost use Rattle.nv_machine.specs.Reading.{AreCopied, ArePins, GoesBy, is_tested, plain_tests, releases, shows_of, tests_on};
 ghost use Rattle.nv_machine.specs.Recorded.{AreRecordedOnce, IsOfPair, is_killed_pair, is_recorded_for, recorded_in, records_after};
 ghost use Rattle.nv_machine.specs.Settled.{settled_copies, snapshot_tree};
 ghost use Rattle.nv_machine.specs.Snapshots.{snapshot_turn};
 ghost use Rattle.nv_machine.specs.Step.{after, step};
-ghost use Rattle.nv_machine.specs.World.{Done, Draining, Ends, Event, Go, HandState, Pick, Refused, Running, Shared, SnapshotStep, Snapshots, Start, Started, Unpin, actor_at, cell_at};
+ghost use Rattle.nv_machine.specs.World.{Done, Draining, Ends, Event, Go, HandState, Pick, Refused, Running, Shared, SnapshotStep, Snapshots, Start, Started, Unpin, Waiting, actor_at, cell_at};
 
 /// The records are one list, whatever events came from a new world on: a retire step puts the killed parts of its inode to its
 /// end, in order, that a living snapshot holds; a drop moves there, in order, the records that its snapshot was the youngest to
@@ -67,8 +67,8 @@ pub fn snapshots_hold_what_logs_tell()
 {}
 
 /// Each living snapshot reads as the nodes that stood when it was made, whatever events came since: at its epoch the settled
-/// logs give the plain world's copy, which no event changes. So they form a tree. A show that is answered is told that tree; it
-/// holds no lock from one step to the next, and its snapshot can't be dropped before its last step.
+/// logs give the plain world's copy, which no event changes. So they form a tree. A show that is answered is told that tree,
+/// and its snapshot lives up to its last step.
 pub fn snapshots_read_as_they_were()
     ensures copies { (g : GeometryNumbers) (events : List Event) → IsWithinLimits g
         → AreCopied (after (formatted g) events).shared
@@ -99,33 +99,46 @@ pub fn pins_are_of_shows()
 {}
 
 /// What a making, a drop and a show are refused for is what the plain world refuses them for at that step, with its epoch and its
-/// copies.
+/// copies: such a step waits, or it is refused for that fault, and for none where there is none.
 pub fn snapshot_refusals_are_told()
-    ensures { (g : GeometryNumbers) (events : List Event) (kind : SnapshotStep) → IsWithinLimits g
-        → tests_on kind (after (formatted g) events).shared.book.snaps
+    ensures tests { (g : GeometryNumbers) (events : List Event) (kind : SnapshotStep)
+        → IsWithinLimits g → tests_on kind (after (formatted g) events).shared.book.snaps
         ≡ plain_tests g.snaps kind (plain_after (formatted g) events (plain_of (formatted g))) }
+    ensures replies { (g : GeometryNumbers) (events : List Event) (actor : ℕ) (granted : Bool)
+        (r : Running) (kind : SnapshotStep) → IsWithinLimits g
+        → (actor_at (after (formatted g) events) actor).running ≡ Some r
+        → r.next ≡ Snapshots kind → is_tested kind ≡ true
+        → ((step (after (formatted g) events) (Go actor granted)).reply ≡ Waiting)
+        ⊎ GoesBy
+        (plain_tests g.snaps kind (plain_after (formatted g) events (plain_of (formatted g))))
+        (step (after (formatted g) events) (Go actor granted)).reply }
 {}
 
-/// A drain is answered how many records its steps have released, and refused only for want of memory before the first; and a pick
-/// finds nothing only where nothing is deferred.
+/// A drain is answered how many records its steps have released; as long as it runs it is refused only for want of memory before
+/// the first. And a pick finds nothing only where nothing is deferred.
 pub fn drains_count_their_releases()
     ensures answer { (g : GeometryNumbers) (before events : List Event) (actor count told : ℕ)
         (granted : Bool) → IsWithinLimits g
-        → (step (after (formatted g) before) (Start actor (call.Snapshots (on.Drain count)))).reply ≡ Started
-        → AreNoStarts actor events
-        → (step (after (step (after (formatted g) before) (Start actor (call.Snapshots (on.Drain count)))).world events)
-        (Go actor granted)).reply ≡ Done (answers.Count told)
-        → told ≡ releases actor (step (after (formatted g) before) (Start actor (call.Snapshots (on.Drain count)))).world
+        → (step (after (formatted g) before) (Start actor (call.Snapshots (on.Drain count)))).reply
+        ≡ Started → AreNoStarts actor events
+        → (step (after (step (after (formatted g) before)
+        (Start actor (call.Snapshots (on.Drain count)))).world events) (Go actor granted)).reply
+        ≡ Done (answers.Count told)
+        → told ≡ releases actor (step (after (formatted g) before)
+        (Start actor (call.Snapshots (on.Drain count)))).world
         (events ++ Go actor granted ∷ []) }
     ensures refused { (g : GeometryNumbers) (before events : List Event) (actor count : ℕ)
         (fault : Fault) (granted : Bool) → IsWithinLimits g
         → (step (after (formatted g) before) (Start actor (call.Snapshots (on.Drain count)))).reply
         ≡ Started → AreNoStarts actor events
+        → IsSome (actor_at (after (step (after (formatted g) before)
+        (Start actor (call.Snapshots (on.Drain count)))).world events) actor).running
         → (step (after (step (after (formatted g) before)
         (Start actor (call.Snapshots (on.Drain count)))).world events) (Go actor granted)).reply
         ≡ Refused fault
         → (fault ≡ OutOfMemory) × (releases actor (step (after (formatted g) before)
-        (Start actor (call.Snapshots (on.Drain count)))).world (events ++ Go actor granted ∷ []) ≡ 0) }
+        (Start actor (call.Snapshots (on.Drain count)))).world
+        (events ++ Go actor granted ∷ []) ≡ 0) }
     ensures nothing { (draining : Draining) (actor told : ℕ) (granted : Bool) (s t : Shared)
         (h after : HandState) (r : Running)
         → snapshot_turn (Pick draining) actor granted s h r ≡ Ends (Ok (answers.Count told)) t after
