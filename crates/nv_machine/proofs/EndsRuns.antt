@@ -108,7 +108,6 @@ committing (Unlock place) e c at stage = absurd (false≢true at)
 committing (Give cpu) e c at stage = absurd (false≢true at)
 committing Back e c at stage = absurd (false≢true at)
 committing Visit e c at stage = absurd (false≢true at)
-committing (Snapshots step) e c at stage = absurd (false≢true at)
 
 -- a stage is that of a call on files and directories
 staged : (k : Next) (e : Ending) (c : Call) → Stage k e c → is_on_snapshots c ≡ false
@@ -298,9 +297,9 @@ begun_told (OnSnapshots what) s c e =
     (record { none = refl; quiet = refl; fair = refl })
 
 module _ (g : GeometryNumbers) (w : World) (known : IsKnown g w) (fit : AreFit w) (actor : ℕ) where
-  turned_told : (c : Call) (t : Turn) (d before : List Answer) → actor < length w.actors → OnTold c before d t
+  turned_told : (t : Turn) (d before : List Answer) → actor < length w.actors → OnTold before d t
       → HasTold (actor_at w actor).running before → HasTold (actor_at (turned t actor w).world actor).running d
-  turned_told c (Moves s h q) d before there on had =
+  turned_told (Moves s h q) d before there on had =
       subst (λ (x : Actor). HasTold x.running d)
       (sym (get_or-set_same w.actors actor (record { hand = h; running = Some q }) idle there)) (told_running q d on)
   turned_told Waits d before there on had = subst (HasTold (actor_at w actor).running) (sym on) had
@@ -332,7 +331,7 @@ module _ (g : GeometryNumbers) (w : World) (known : IsKnown g w) (fit : AreFit w
   outside e = ap (λ (x : Actor). x.running) (get_or_past w.actors actor idle (ltb-false actor (length w.actors) e))
 
   own_turn_told : (granted : Bool) (r : Running) (before : List Answer) → (actor_at w actor).running ≡ Some r → IsTold r.next r before
-      → OnTold r.call before (decision_of (Some r) w actor granted ++ before)
+      → OnTold before (decision_of (Some r) w actor granted ++ before)
       (turn w.numbers.block actor granted w.shared (actor_at w actor).hand r)
   own_turn_told granted r before is had =
       kind_told w.numbers.block actor (actor % length w.shared.lists) w.shared (actor_at w actor).hand r r.next granted before
@@ -435,28 +434,28 @@ module _ (g : GeometryNumbers) (events : List Event) (actor : ℕ) (within : IsW
       ∙ ap (λ (b : Bool). cond b (decision_of (actor_at w actor).running w actor granted ++ before_all) before_all) (self actor)
 
   -- what a turn replies was decided
-  abbrev ReplyTold : Call → Reply → List Answer → Type 0
-  ReplyTold c (Done told) d = is_on_snapshots c ≡ false → d ≡ told ∷ []
-  ReplyTold c (Refused fault) d = d ≡ []
-  ReplyTold c other d = Unit {0}
+  abbrev ReplyTold : Reply → List Answer → Type 0
+  ReplyTold (Done told) d = d ≡ told ∷ []
+  ReplyTold (Refused fault) d = d ≡ []
+  ReplyTold other d = Unit {0}
 
-  turn_replies : (c : Call) (t : Turn) (before d : List Answer) → OnTold c before d t → ReplyTold c (turned t actor w).reply d
-  turn_replies c (Moves s h q) before d on = tt
-  turn_replies c Waits before d on = tt
-  turn_replies c (Ends (Ok found) s h) before d on = on
-  turn_replies c (Ends (Err fault) s h) before d on = on
+  turn_replies : (t : Turn) (before d : List Answer) → OnTold before d t → ReplyTold (turned t actor w).reply d
+  turn_replies (Moves s h q) before d on = tt
+  turn_replies Waits before d on = tt
+  turn_replies (Ends (Ok found) s h) before d on = on
+  turn_replies (Ends (Err fault) s h) before d on = on
 
   replied : (b : Bool) (granted : Bool) (r : Running) → nat_lt actor (length w.actors) ≡ b → (actor_at w actor).running ≡ Some r
       → IsTold r.next r before_all
-      → ReplyTold r.call (step w (Go actor granted)).reply (decision_of (Some r) w actor granted ++ before_all)
+      → ReplyTold (step w (Go actor granted)).reply (decision_of (Some r) w actor granted ++ before_all)
   replied false granted r there is had = absurd (none_some
       (sym (outside g w (all_known g within events) (all_fit g within events) actor there) ∙ is)) where
         none_some : None ≡ Some r → ⊥
         none_some e = cc
   replied true granted r there is had =
-      subst (λ (x : Step). ReplyTold r.call x.reply (decision_of (Some r) w actor granted ++ before_all))
+      subst (λ (x : Step). ReplyTold x.reply (decision_of (Some r) w actor granted ++ before_all))
       (sym (go_is_turn (nat_lt actor (length w.actors)) (actor_at w actor).running w actor granted r there is))
-      (turn_replies r.call (turn w.numbers.block actor granted w.shared (actor_at w actor).hand r) before_all _
+      (turn_replies (turn w.numbers.block actor granted w.shared (actor_at w actor).hand r) before_all _
       (own_turn_told g w (all_known g within events) (all_fit g within events) actor granted r before_all is had))
 
   told_of : (r : Running) → (actor_at w actor).running ≡ Some r → ToldBy (is_on_snapshots r.call) r before_all

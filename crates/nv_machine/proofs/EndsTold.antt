@@ -44,11 +44,6 @@ is_drain other = false
 abbrev pub IsLastOf : Ending → Call → Type 0
 IsLastOf e c = (is_drain e ≡ false) × (is_on_snapshots c ≡ false)
 
--- a drain is a call on snapshots
-abbrev pub DrainsOn : Ending → Call → Type 0
-DrainsOn (Drains draining) c = is_on_snapshots c ≡ true
-DrainsOn other c = Unit {0}
-
 -- from its check on a call has something to commit
 abbrev pub Stage : Next → Ending → Call → Type 0
 Stage Number e c = IsNoVisit c
@@ -66,16 +61,15 @@ pub record IsTold (k : Next) (r : Running) (d : List Answer) : Type 0 where
   pub told : d ≡ told_at k r.ending (answer_of r)
   pub stage : Stage k r.ending r.call
 
--- of a call on snapshots the answer is told elsewhere
-abbrev pub ResultTold : Call → Result Answer Fault → List Answer → Type 0
-ResultTold c (Ok found) d = is_on_snapshots c ≡ false → d ≡ found ∷ []
-ResultTold c (Err fault) d = d ≡ []
+abbrev pub ResultTold : Result Answer Fault → List Answer → Type 0
+ResultTold (Ok found) d = d ≡ found ∷ []
+ResultTold (Err fault) d = d ≡ []
 
 -- and so after a turn, with what was decided before it and what is decided then
-abbrev pub OnTold : Call → List Answer → List Answer → Turn → Type 0
-OnTold c before d (Moves s h q) = IsTold q.next q d
-OnTold c before d Waits = d ≡ before
-OnTold c before d (Ends result s h) = ResultTold c result d
+abbrev pub OnTold : List Answer → List Answer → Turn → Type 0
+OnTold before d (Moves s h q) = IsTold q.next q d
+OnTold before d Waits = d ≡ before
+OnTold before d (Ends result s h) = ResultTold result d
 
 -- what has something to commit is no visit
 pub no_visit : (c : Call) → is_nothing c ≡ false → IsNoVisit c
@@ -126,7 +120,7 @@ module _ (before d : List Answer) where
   rest_told None None s h r last is = last_told r.ending s h r last.0 refl is
 
   again_told : (rounds : ℕ) (s : Shared) (h : HandState) (r : Running) → IsNoVisit r.call → d ≡ []
-      → OnTold r.call before d (again_turn rounds s h r)
+      → OnTold before d (again_turn rounds s h r)
   again_told zero s h r none is = is
   again_told (suc rounds) s h r none is = record { told = is; stage = none }
 
@@ -175,7 +169,7 @@ module _ (before d : List Answer) where
       go false = record { told = is; stage = none }
 
     pub number_told : (numbers : List ℕ) (s : Shared) (h : HandState) (r : Running) → IsNoVisit r.call
-        → OnTold r.call before d (number_turn numbers s h r)
+        → OnTold before d (number_turn numbers s h r)
     number_told [] s h r none = moved (slots_of s None r.looked r.call) where
       moved : (slots : List ℕ) → IsTold (locking 0 slots) (record r { slots = slots; next = locking 0 slots }) d
       moved slots = locking_told 0 slots (record r { slots = slots; next = locking 0 slots }) none
@@ -190,26 +184,26 @@ module _ (before d : List Answer) where
       go false = locking_told 0 r.slots q none
 
   pub look_told : (owner : Option ℕ) (tests : Tests) (found : Looked) (place : ℕ) (s : Shared) (h : HandState) (r : Running) → before ≡ []
-      → d ≡ [] → IsNoVisit r.call → OnTold r.call before d (look_turn owner tests found place s h r)
+      → d ≡ [] → IsNoVisit r.call → OnTold before d (look_turn owner tests found place s h r)
   look_told (Some other) tests found place s h r none is acts = is ∙ sym none
   look_told None (Err fault) found place s h r none is acts = refuse_told [] fault s h r acts.1 is
   look_told None (Ok passed) found place s h r none is acts =
       looking_told is (place + 1) (record r { looked = found; slots = slots_of s None found r.call }) _ acts
 
   pub lock_told : (owner : Option ℕ) (actor place : ℕ) (s : Shared) (h : HandState) (r : Running) → before ≡ [] → d ≡ []
-      → IsNoVisit r.call → OnTold r.call before d (lock_turn owner actor place s h r)
+      → IsNoVisit r.call → OnTold before d (lock_turn owner actor place s h r)
   lock_told (Some other) actor place s h r none is acts = is ∙ sym none
   lock_told None actor place s h r none is acts = locking_told is (place + 1) r.slots (go_to (locking (place + 1) r.slots) r) acts
 
   -- ---- takings
 
   module _ (is : d ≡ []) where
-    pages_told : (n : ℕ) (s : Shared) (h : HandState) (r : Running) → is_nothing r.call ≡ false → OnTold r.call before d (wants_pages n s h r)
+    pages_told : (n : ℕ) (s : Shared) (h : HandState) (r : Running) → is_nothing r.call ≡ false → OnTold before d (wants_pages n s h r)
     pages_told zero s h r some = record { told = is; stage = some }
     pages_told (suc n) s h r some = record { told = is; stage = some }
 
     pub blocks_told : (n block : ℕ) (s : Shared) (h : HandState) (r : Running) → is_nothing r.call ≡ false
-        → OnTold r.call before d (wants_blocks n block s h r)
+        → OnTold before d (wants_blocks n block s h r)
     blocks_told zero block s h r some = pages_told _ s h r some
     blocks_told (suc n) block s h r some = record { told = is; stage = some }
 
@@ -218,13 +212,13 @@ module _ (before d : List Answer) where
     granted_told granted t s h r plain on = grown_told granted t s h r plain is on
 
     pub taking_told : (left : ℕ) (more : Bool) (asked block : ℕ) (s : Shared) (h : HandState) (r : Running) → is_nothing r.call ≡ false
-        → OnTold r.call before d (blocks_turn left more asked block s h r)
+        → OnTold before d (blocks_turn left more asked block s h r)
     taking_told zero more asked block s h r some = pages_told _ s h r some
     taking_told (suc n) true asked block s h r some = record { told = is; stage = some }
     taking_told (suc n) false asked block s h r some = refuse_told r.slots _ s h r (no_visit r.call some).1 is
 
     pub paging_told : (left : ℕ) (more : Bool) (asked : ℕ) (s : Shared) (h : HandState) (r : Running) → is_nothing r.call ≡ false
-        → OnTold r.call before d (pages_turn left more asked s h r)
+        → OnTold before d (pages_turn left more asked s h r)
     paging_told zero more asked s h r some = record { told = is; stage = some }
     paging_told (suc n) true asked s h r some = record { told = is; stage = some }
     paging_told (suc n) false asked s h r some = refuse_told r.slots _ s h r (no_visit r.call some).1 is
@@ -264,7 +258,6 @@ before_told (Unlock place) r d at is some = absurd at
 before_told (Give cpu) r d at is some = absurd at
 before_told Back r d at is some = absurd at
 before_told Visit r d at is some = absurd at
-before_told (Snapshots step) r d at is some = absurd at
 
 pub behind_told : (k : Next) (r : Running) (d : List Answer) → IsBehind k → d ≡ answer_of r ∷ [] → is_nothing r.call ≡ false → IsTold k r d
 behind_told (Retire place) r d at is some = record { told = is; stage = some }
@@ -286,7 +279,6 @@ behind_told (Unlock place) r d at is some = absurd at
 behind_told (Give cpu) r d at is some = absurd at
 behind_told Back r d at is some = absurd at
 behind_told Visit r d at is some = absurd at
-behind_told (Snapshots step) r d at is some = absurd at
 
 module _ (written : List ℕ) where
   pub retiring_behind : (place : ℕ) → IsBehind (retiring place written)
@@ -334,61 +326,3 @@ module _ (written : List ℕ) where
     go : (b : Bool) → nat_lt (place + 1) (length written) ≡ b → IsBehind (if b then Publish (place + 1) else closing written)
     go true e = absurd (omega (arith, ltb-true (place + 1) (length written) e, ltb-false 1 (length written) one))
     go false e = close (nat_lt 1 (length written)) one
-
--- ---- calls on snapshots
-
-module _ (before : List Answer) (none : before ≡ []) where
-  if_free_told : (c : Call) (holder : Option ℕ) (t : Turn) → OnTold c before before t → OnTold c before before (if_free holder t)
-  if_free_told c (Some other) t on = refl
-  if_free_told c None t on = on
-
-  make_told : (tests : Tests) (s : Shared) (h : HandState) (r : Running) → is_on_snapshots r.call ≡ true
-      → OnTold r.call before before (make_turn tests s h r)
-  make_told (Err fault) s h r on = refuse_told before before r.slots fault s h r none
-  make_told (Ok passed) s h r on = λ e. clash r.call on e
-
-  drop_told : (snapshot : ℕ) (tests : Tests) (s : Shared) (h : HandState) (r : Running) → is_on_snapshots r.call ≡ true
-      → OnTold r.call before before (drop_turn snapshot tests s h r)
-  drop_told snapshot (Err fault) s h r on = refuse_told before before r.slots fault s h r none
-  drop_told snapshot (Ok passed) s h r on = λ e. clash r.call on e
-
-  pin_told : (snapshot : ℕ) (pins : Option ℕ) (s : Shared) (h : HandState) (r : Running) → is_on_snapshots r.call ≡ true
-      → OnTold r.call before before (pin_turn snapshot pins s h r)
-  pin_told snapshot None s h r on = refuse_told before before r.slots _ s h r none
-  pin_told snapshot (Some pins) s h r on = record { told = none; stage = on }
-
-  show_told : (owner : Option ℕ) (granted : Bool) (found : Option NodeCopy) (snapshot : ℕ) (showing : Showing) (s : Shared)
-      (h : HandState) (r : Running) → is_on_snapshots r.call ≡ true
-      → OnTold r.call before before (show_turn owner granted found snapshot showing s h r)
-  show_told (Some other) granted found snapshot showing s h r on = refl
-  show_told None true found snapshot showing s h r on = record { told = none; stage = on }
-  show_told None false found snapshot showing s h r on = record { told = none; stage = on }
-
-  shown_told : (e : Ending) (seen : List TreeNode) (c : Call) → is_on_snapshots c ≡ true → ResultTold c (shown_by e seen) before
-  shown_told (Refuses fault) seen c on = none
-  shown_told Answers seen c on = λ e. clash c on e
-  shown_told Overtaken seen c on = λ e. clash c on e
-  shown_told (Drains draining) seen c on = λ e. clash c on e
-
-  picked_told : (deferred : List Record) (draining : Draining) (s : Shared) (h : HandState) (r : Running) → is_on_snapshots r.call ≡ true
-      → OnTold r.call before before (picked_turn deferred draining s h r)
-  picked_told [] draining s h r on = λ e. clash r.call on e
-  picked_told (picked ∷ deferred) draining s h r on = record { told = none; stage = on }
-
-  locked_told : (owner : Option ℕ) (actor : ℕ) (draining : Draining) (picked : Record) (s : Shared) (h : HandState) (r : Running)
-      → is_on_snapshots r.call ≡ true → OnTold r.call before before (lock_picked_turn owner actor draining picked s h r)
-  locked_told (Some other) actor draining picked s h r on = refl
-  locked_told None actor draining picked s h r on = record { told = none; stage = on }
-
-  pub snapshot_told : (step : SnapshotStep) (actor : ℕ) (granted : Bool) (s : Shared) (h : HandState) (r : Running)
-      → is_on_snapshots r.call ≡ true → OnTold r.call before before (snapshot_turn step actor granted s h r)
-  snapshot_told Make actor granted s h r on = if_free_told r.call s.holder _ (make_told (make_tests s.book.snaps) s h r on)
-  snapshot_told (Drop snapshot) actor granted s h r on = if_free_told r.call s.holder _ (drop_told snapshot _ s h r on)
-  snapshot_told (Pin snapshot) actor granted s h r on = if_free_told r.call s.holder _ (pin_told snapshot _ s h r on)
-  snapshot_told (Show snapshot showing) actor granted s h r on = show_told _ granted _ snapshot showing s h r on
-  snapshot_told (Unpin snapshot seen) actor granted s h r on = if_free_told r.call s.holder _ (shown_told r.ending seen r.call on)
-  snapshot_told (Pick draining) actor granted s h r on =
-      if_free_told r.call s.holder _
-      (grown_told before before (granted || not (is_first draining)) _ s h r none (picked_told s.book.deferred draining s h r on))
-  snapshot_told (LockPicked draining picked) actor granted s h r on = locked_told _ actor draining picked s h r on
-  snapshot_told (Release draining picked) actor granted s h r on = end_told before before r.slots (Drains (one_more draining)) _ _ r (λ e v. cc) on none

@@ -24,7 +24,7 @@ use Rattle.nv_machine.specs.EndsDecided.{decision, has_nothing_to_do, is_answere
 use Rattle.nv_machine.specs.Hands.{is_going}
 use Rattle.nv_machine.specs.Kinds.{check_ending, check_turn, end_turn, enter_turn, rest_turn, visit_turn, wants_blocks}
 use Rattle.nv_machine.specs.Locks.{IsInside, commits_at, held_at}
-use Rattle.nv_machine.specs.PlainRun.{Commits, Nothing, Numbers, done_on, entered, keeps_nodes}
+use Rattle.nv_machine.specs.PlainRun.{Commits, Nothing, Numbers, entered, keeps_nodes}
 use Rattle.nv_machine.specs.Reads.{copies, nodes, written_slots}
 use Rattle.nv_machine.specs.Sequence.{Visits, appending, beginning, nothing_looked, publishing, retiring}
 use Rattle.nv_machine.specs.Settled.{settled, settled_nodes}
@@ -118,16 +118,6 @@ some_call block nodes made c pass some = go (is_nothing c) refl where
   go false e = refl
   go true e = let none = ap (λ (l : List Change). length l) (told.no_effect e) in absurd (omega (arith, some, none))
 
--- no check drains
-no_drains : (first : Tests) (same : Bool) (tests : Tests) (numbered : Bool) (changes : List Change) (draining : Draining)
-    → check_ending first same tests numbered changes ≡ Some (Drains draining) → ⊥
-no_drains (Err fault) same tests numbered changes draining e = cc
-no_drains (Ok passed) false tests numbered changes draining e = cc
-no_drains (Ok passed) true (Err fault) numbered changes draining e = cc
-no_drains (Ok passed) true (Ok all) false changes draining e = cc
-no_drains (Ok passed) true (Ok all) true [] draining e = cc
-no_drains (Ok passed) true (Ok all) true (change ∷ changes) draining e = cc
-
 -- what a check goes on with
 goes_on : (first : Tests) (same : Bool) (tests : Tests) (numbered : Bool) (changes : List Change)
     → check_ending first same tests numbered changes ≡ None → (tests ≡ passes) × (0 < length changes)
@@ -187,11 +177,6 @@ module _ (block a cpu : ℕ) (s : Shared) (h : HandState) (r : Running) where
     ending_is : ending_at block s h r ≡ settled_ending block s h r
     ending_is = ending_settled block s h r (st.logs refl) st.fits
 
-    never_drains : (draining : Draining) → ending_at block s h r ≡ Some (Drains draining) → ⊥
-    never_drains draining e = no_drains (early (copies s) r.call) (same_looked (looked (copies s) r.call) r.looked)
-        (refusal block (copies s) r.call) (is_numbered (beginning r.call) h.ino) (effect (copies s) (made_in s h.ino r.made) r.call)
-        draining e
-
     decided_is : has_nothing_to_do block plain r ≡ is_answering (ending_at block s h r)
     decided_is =
         ap (λ (b : Bool). is_pass (refusal block plain r.call) && same_looked (looked plain r.call) r.looked && b)
@@ -232,7 +217,7 @@ module _ (block a cpu : ℕ) (s : Shared) (h : HandState) (r : Running) where
   -- ---- enter and publish
 
   enter_told : (holder : Option ℕ) (last granted : Bool) (before d : List Answer) → before ≡ [] → d ≡ [] → is_nothing r.call ≡ false
-      → 0 < length (written_slots r) → OnTold r.call before d (enter_turn holder last granted a s h r)
+      → 0 < length (written_slots r) → OnTold before d (enter_turn holder last granted a s h r)
   enter_told (Some other) last granted before d none is some written = is ∙ sym none
   enter_told None true granted before d none is some written =
       refuse_told before d r.slots CommitLimit s h r (no_visit r.call some).1 is
@@ -279,45 +264,10 @@ module _ (block a cpu : ℕ) (s : Shared) (h : HandState) (r : Running) where
   visit_told None (Ok all) (Ok passed) false x found before on_files none same =
       refuse_told before _ r.slots OutOfMemory s h r on_files (none_then true _ x before (refuses OutOfMemory r.slots s h r) none)
 
-  -- no step of a call on snapshots changes the nodes
-  step_keeps : (step : SnapshotStep) (t : Turn) → keeps_nodes (done_on step t) ≡ true
-  step_keeps Make (Moves u g q) = refl
-  step_keeps Make Waits = refl
-  step_keeps Make (Ends (Ok found) u g) = refl
-  step_keeps Make (Ends (Err fault) u g) = refl
-  step_keeps (Drop snapshot) (Moves u g q) = refl
-  step_keeps (Drop snapshot) Waits = refl
-  step_keeps (Drop snapshot) (Ends (Ok found) u g) = refl
-  step_keeps (Drop snapshot) (Ends (Err fault) u g) = refl
-  step_keeps (Pin snapshot) (Moves u g q) = refl
-  step_keeps (Pin snapshot) Waits = refl
-  step_keeps (Pin snapshot) (Ends (Ok found) u g) = refl
-  step_keeps (Pin snapshot) (Ends (Err fault) u g) = refl
-  step_keeps (Show snapshot showing) (Moves u g q) = refl
-  step_keeps (Show snapshot showing) Waits = refl
-  step_keeps (Show snapshot showing) (Ends (Ok found) u g) = refl
-  step_keeps (Show snapshot showing) (Ends (Err fault) u g) = refl
-  step_keeps (Unpin snapshot seen) (Moves u g q) = refl
-  step_keeps (Unpin snapshot seen) Waits = refl
-  step_keeps (Unpin snapshot seen) (Ends (Ok found) u g) = refl
-  step_keeps (Unpin snapshot seen) (Ends (Err fault) u g) = refl
-  step_keeps (Pick draining) (Moves u g q) = refl
-  step_keeps (Pick draining) Waits = refl
-  step_keeps (Pick draining) (Ends (Ok found) u g) = refl
-  step_keeps (Pick draining) (Ends (Err fault) u g) = refl
-  step_keeps (LockPicked draining picked) (Moves u g q) = refl
-  step_keeps (LockPicked draining picked) Waits = refl
-  step_keeps (LockPicked draining picked) (Ends (Ok found) u g) = refl
-  step_keeps (LockPicked draining picked) (Ends (Err fault) u g) = refl
-  step_keeps (Release draining picked) (Moves u g q) = refl
-  step_keeps (Release draining picked) Waits = refl
-  step_keeps (Release draining picked) (Ends (Ok found) u g) = refl
-  step_keeps (Release draining picked) (Ends (Err fault) u g) = refl
-
   -- ---- all kinds
 
   pub kind_told : (k : Next) (granted : Bool) (before : List Answer) → Relied k block a cpu s h r → IsTold k r before
-      → OnTold r.call before (decision k block s r (kind_turn k block a granted s h r) ++ before) (kind_turn k block a granted s h r)
+      → OnTold before (decision k block s r (kind_turn k block a granted s h r) ++ before) (kind_turn k block a granted s h r)
   kind_told Number granted before st d = number_told before before d.told s.pool.numbers s h r d.stage
   kind_told (Look place) granted before st d = look_told before before _ _ _ place s h r d.told d.told d.stage
   kind_told (Lock place) granted before st d = lock_told before before _ a place s h r d.told d.told d.stage

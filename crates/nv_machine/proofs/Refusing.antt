@@ -1,11 +1,6 @@
 -- A step after which its call is not to be answered leaves the book and all cells.
 use Rattle.std.proofs.Common.{◌≡◌, ◌∷◌, ℕ, Bool, true, false, List, [], Option, Some, None, length, refl, subst, sym, zero, suc}
 use Rattle.std.specs.Prelude.{◌%◌, Ok, Err}
-use Rattle.nv_base.specs.declared.geometry.GeometryNumbers.{GeometryNumbers}
-use Rattle.nv_book.specs.declared.record.Record.{Record}
-use Rattle.nv_calls.specs.Refusals.{Check as Tests}
-use Rattle.nv_entry.specs.declared.tree.TreeNode.{TreeNode}
-use Rattle.nv_machine.specs.Hands.{AreNumbers, HandOf, is_going, is_going_on}
 use Rattle.nv_machine.specs.Kept.{IsKept, Knows, KnowsOf}
 use Rattle.nv_machine.specs.Kinds.{enter_turn, drained_turn, end_turn, grown, last_turn, rest_turn}
 use Rattle.nv_machine.specs.Refusing.{GoesOn, IsUnanswered, LeavesBooks, SameBooks}

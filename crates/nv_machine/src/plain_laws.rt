@@ -30,7 +30,7 @@ ghost use Rattle.nv_machine.specs.Grown.{AreGrown, fresh_entries};
 ghost use Rattle.nv_machine.specs.Kept.{AreBlocksApart, IsKept};
 ghost use Rattle.nv_machine.specs.Kinds.{refuse};
 ghost use Rattle.nv_machine.specs.Locks.{AreLocks, commits_at};
-ghost use Rattle.nv_machine.specs.Hands.{AreNumbers, makes_inode};
+ghost use Rattle.nv_machine.specs.Hands.{makes_inode};
 ghost use Rattle.nv_machine.specs.Made.{handles_made, has_handle};
 ghost use Rattle.nv_machine.specs.Order.{IsInOrder};
 ghost use Rattle.nv_machine.specs.Reached.{IsReached};
