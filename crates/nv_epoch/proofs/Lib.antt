@@ -2,4 +2,4 @@ pub mod Last
 mod HolderLaws
 mod Places
 mod Sound
-mod Pins
+pub mod Pins
