@@ -1,5 +1,5 @@
 -- The law of erasing: in its retire step an inode that is gone is erased whole, and its number goes back to the pool.
-use Rattle.std.proofs.Common.{◌≡◌, inl, inr, ℕ, ◌+◌, ◌<◌, ◌==◌, ◌||◌, ◌++◌, ◌∙◌, Bool, true, false, List, [], ◌∷◌, Option, Some, None, ap, append-nil, arith, filter, get_or-set_same, if◌then◌else◌, length, map, nat_lt, refl, slice_get, slice_index_or, subst, sym, take}
+use Rattle.std.proofs.Common.{◌≡◌, inl, inr, ℕ, ◌+◌, ◌<◌, ◌||◌, ◌++◌, ◌∙◌, Bool, true, false, List, [], Option, Some, None, ap, append-nil, arith, filter, get_or-set_same, if◌then◌else◌, length, map, nat_lt, refl, slice_get, slice_index_or, subst, sym, take}
 use Rattle.std.specs.List.{list_any}
 use Rattle.std.specs.Prelude.{nat_le}
 use Rattle.std.specs.Option.{IsSome}

@@ -1,6 +1,6 @@
 -- What holds of the snapshots, the manifests and the deferred list beside the record list, and that what a retire, a making, a drop,
 -- a pin and a pick leave has it too.
-use Rattle.std.proofs.Common.{◌≡◌, ℕ, ◌+◌, ◌-◌, ◌<◌, ◌≤◌, ◌==◌, ◌++◌, Bool, true, false, cond, not, List, [], ◌∷◌, ap, arith, drop, filter, map, refl, subst, sym}
+use Rattle.std.proofs.Common.{◌≡◌, ℕ, ◌+◌, ◌-◌, ◌<◌, ◌≤◌, ◌==◌, ◌++◌, Bool, true, false, cond, not, List, [], ◌∷◌, ap, arith, drop, filter, refl, subst, sym}
 use Rattle.std.specs.Prelude.{is_none}
 use Rattle.std.specs.List.{All, AllByRecursion, Contains}
 use Rattle.std.proofs.lemmas.List.{map-append}

@@ -1,7 +1,7 @@
 -- Who holds what a dropped snapshot held, and what a new one would hold.
 use Rattle.std.proofs.Common.{◌≡◌, ◌≢◌, ℕ, ◌<◌, ◌≤◌, ◌==◌, ◌++◌, ◌∙◌, Bool, true, false, cond, not, nat_le, nat_lt, List, [], ◌∷◌, Option, Some, None, ap, arith, filter, refl}
 use Rattle.std.specs.List.{Contains, last_or}
-use Rattle.std.proofs.lemmas.Bool.{and_from, and_parts, eqb-false, le-leb, leb-false, leb-true, lt-ltb, ltb-false, ltb-true, ne_eqb, not-true, not_from_false}
+use Rattle.std.proofs.lemmas.Bool.{and_from, and_parts, eqb-false, leb-false, leb-true, lt-ltb, ltb-false, ltb-true, ne_eqb, not-true, not_from_false}
 use Rattle.std.proofs.lemmas.List.{append-nil}
 use Rattle.std.proofs.lemmas.List.Elements.{filter-append}
 use Rattle.nv_book.proofs.Filing.{Makes, Removes}

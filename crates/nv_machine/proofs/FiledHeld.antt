@@ -1,8 +1,8 @@
 -- What records tell a living snapshot to hold is what it holds by the logs, less what is current and what is killed.
-use Rattle.std.proofs.Common.{◌≡◌, ℕ, zero, suc, ◌+◌, ◌==◌, ◌&&◌, ◌++◌, ◌∙◌, Bool, true, false, not, List, [], ◌∷◌, Option, Some, ap, arith, map, refl, slice_get, sym}
+use Rattle.std.proofs.Common.{◌≡◌, ℕ, zero, suc, ◌+◌, ◌&&◌, ◌∙◌, Bool, true, false, not, List, [], ◌∷◌, Some, ap, arith, map, refl, slice_get, sym}
 use Rattle.std.specs.Prelude.{◌||◌}
 use Rattle.std.specs.List.{AllByRecursion, Contains, list_any}
-use Rattle.std.proofs.lemmas.Bool.{eqb-true, false≢true}
+use Rattle.std.proofs.lemmas.Bool.{eqb-true}
 use Rattle.std.proofs.lemmas.Option.{same_Some}
 use Rattle.nv_base.specs.Limits.{IsWithinLimits}
 use Rattle.nv_base.specs.declared.geometry.GeometryNumbers.{GeometryNumbers}
@@ -22,14 +22,13 @@ use Rattle.nv_entry.specs.Held.{has_name, holds, is_current}
 use Rattle.nv_entry.specs.Log.{IsLog, pairs}
 use Rattle.nv_entry.specs.declared.held.Pair.{Pair}
 use Rattle.nv_entry.specs.declared.item.Entry.{Entry}
-use Rattle.nv_entry.specs.declared.part.PartId.{PartId}
 use Rattle.nv_entry.proofs.Currents.{any_map, any_same}
 use Rattle.nv_epoch.specs.SnapList.{ids}
 use Rattle.nv_machine.specs.Format.{formatted}
 use Rattle.nv_machine.specs.Held.{is_of_slot, killed_in}
-use Rattle.nv_machine.specs.Recorded.{is_kept, is_killed_pair, is_recorded_for, recorded_in, records_after}
+use Rattle.nv_machine.specs.Recorded.{is_kept, is_killed_pair, is_recorded_for, recorded_in}
 use Rattle.nv_machine.specs.Step.{after}
-use Rattle.nv_machine.specs.World.{Event, World, cell_at}
+use Rattle.nv_machine.specs.World.{Event, cell_at}
 use Rattle.nv_machine.proofs.FiledLaw.{all_marked, recorded_all, recorded_once}
 use Rattle.nv_machine.proofs.FiledLists.{all_weaker, count, count_cons, one}
 use Rattle.nv_machine.proofs.FiledMarks.{AreMarks, IsTold, is_filed_on, is_killed_on, pair_low}

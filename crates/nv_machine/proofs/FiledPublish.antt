@@ -1,6 +1,6 @@
 -- What marks say after a publish, and of an inode that is erased; and where snapshots come and go.
 use Rattle.std.proofs.Common.{◌≡◌, ℕ, zero, suc, ◌+◌, ◌<◌, ◌≤◌, ◌==◌, ◌&&◌, ◌++◌, ◌∙◌, Bool, true, false, cond, not, List, [], ◌∷◌, Option, Some, None, ap, arith, drop, filter, flat_map, inl, inr, length, map, nat_lt, refl, slice_get, subst, sym, take}
-use Rattle.std.specs.Prelude.{is_some, option_to_list}
+use Rattle.std.specs.Prelude.{option_to_list}
 use Rattle.std.specs.List.{AllByRecursion, range_with_len}
 use Rattle.std.specs.Option.{IsSome, option_map}
 use Rattle.std.proofs.lemmas.Bool.{and_parts, cases_lt, eqb-false, eqb-true, false≢true, le-ltb, ltb-false, ltb-true, ne_eqb}
@@ -12,10 +12,10 @@ use Rattle.nv_calls.specs.Retiring.{name_of}
 use Rattle.nv_cell.specs.Killed.{part_of_pair}
 use Rattle.nv_cell.specs.Marks.{bit, is_current, is_killed, mark_at}
 use Rattle.nv_cell.specs.Named.{number_named}
-use Rattle.nv_cell.specs.Numbers.{dies, is_number, killed_numbers, killed_part, part_base, published_mark}
+use Rattle.nv_cell.specs.Numbers.{dies, is_number, killed_part, part_base, published_mark}
 use Rattle.nv_cell.specs.declared.killed.KilledPart.{KilledPart}
 use Rattle.nv_cell.specs.declared.mark.Mark.{Mark}
-use Rattle.nv_cell.specs.declared.mark.Mark.TheVariants.{Current, Kept, Killed, Out}
+use Rattle.nv_cell.specs.declared.mark.Mark.TheVariants.{Current, Killed, Out}
 use Rattle.nv_cell.proofs.Cells.{mark_now}
 use Rattle.nv_cell.proofs.NamedParts.{are_pairs, dies_at, names_of_parts}
 use Rattle.nv_cell.proofs.Publishing.{total_take}
@@ -26,7 +26,6 @@ use Rattle.nv_entry.specs.Held as held
 use Rattle.nv_entry.specs.Log.{IsLog, pairs}
 use Rattle.nv_entry.specs.declared.held.Pair.{Pair}
 use Rattle.nv_entry.specs.declared.item.Entry.{Entry}
-use Rattle.nv_entry.specs.declared.part.PartId.{PartId}
 use Rattle.nv_machine.specs.Held.{is_of_slot}
 use Rattle.nv_machine.specs.Recorded.{is_kept}
 use Rattle.nv_machine.proofs.FiledLists.{all_append, all_weaker, count, count_append, count_cons, count_same, one}
