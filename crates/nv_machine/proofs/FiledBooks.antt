@@ -82,7 +82,8 @@ made_listed snaps ms ds rs h =
 
 -- ---- dropped
 
-pub ids_removed : (living : List Snapshot) (s : ℕ) → numbers (filter (λ (t : Snapshot). not (t.number == s)) living) ≡ without s (numbers living)
+pub ids_removed : (living : List Snapshot) (s : ℕ)
+    → numbers (filter (λ (t : Snapshot). not (t.number == s)) living) ≡ without s (numbers living)
 ids_removed [] s = refl
 ids_removed (t ∷ ts) s = go (t.number == s) (ids_removed ts s) where
   go : (b : Bool) → numbers (filter (λ (u : Snapshot). not (u.number == s)) ts) ≡ without s (numbers ts)

@@ -137,7 +137,8 @@ module _ (w : World) (a : ℕ) (rs : List Record) (r : Running) (there : a < len
       let picked : picked_in v ≡ picked_in w = same_picked w a v.shared _ _
       (picks ∙ sym (own_picks ∙ ap picked_at next)) in
       let all : (ino : ℕ) → MarksOf living ino epoch (killed_in v ino) (rs ++ picked_in v) (cell_at s ino) =
-      λ ino. marks_as living ino epoch (killed_in w ino) (killed_in v ino) (rs ++ picked_in w) (rs ++ picked_in v) (cell_at s ino) (same ino)
+      λ ino. marks_as living ino epoch (killed_in w ino) (killed_in v ino) (rs ++ picked_in w) (rs ++ picked_in v) (cell_at s ino)
+          (same ino)
       (ap (λ (l : List Record). rs ++ l) picked) (m.cells ino) in
       one_cell w a slot rs rs _ _ _ new (λ ino. refl) refl low
       (appended_marks living slot epoch (killed_in v slot) (rs ++ picked_in v) (entries_for r slot) h.blocks (take pages h.pages)
@@ -168,7 +169,8 @@ module _ (w : World) (a : ℕ) (rs : List Record) (r : Running) (there : a < len
       λ ino. was ino ∙ ap (λ (k : Next). parts_for (killed_slots k written) h.killed ino) next in
       let picked : picked_in v ≡ picked_in w = same_picked w a v.shared _ _ (picks ∙ sym (own_picks ∙ ap picked_at next)) in
       let records : rs ++ picked_in v ≡ rs ++ picked_in w = ap (λ (l : List Record). rs ++ l) picked in
-      let none : killed_in w slot ≡ [] = before slot ∙ none_there (take place written) h.killed slot (take_apart place written rising inside) in
+      let none : killed_in w slot ≡ [] = before slot ∙ none_there (take place written) h.killed slot
+          (take_apart place written rising inside) in
       one_cell w a slot rs rs _ _ _ (published cell) (λ ino. refl) refl low
       (marks_as living slot epoch (killed_by cell) (killed_in v slot) (rs ++ picked_in w) (rs ++ picked_in v) (published cell)
       (now slot ∙ more_here (take place written) h.killed slot (killed_by cell) len (take_apart place written rising inside)) records
@@ -223,7 +225,8 @@ module _ (w : World) (a : ℕ) (rs : List Record) (r : Running) (there : a < len
       erased_killed slot left (with_freed slot parts s r h) in
       let now : (ino : ℕ) → killed_in v ino ≡ parts_for (drop (place + 1) written) (drop 1 h.killed) ino =
       λ ino. new_killed w a ino v.shared _ _ there locks held
-      ∙ ap (λ (l : List ℕ). parts_for l (with_erased slot left (with_freed slot parts s r h)).killed ino) (retiring_slots (place + 1) written)
+      ∙ ap (λ (l : List ℕ). parts_for l (with_erased slot left (with_freed slot parts s r h)).killed ino)
+          (retiring_slots (place + 1) written)
       ∙ ap (λ (l : List (List KilledPart)). parts_for (drop (place + 1) written) l ino) hand in
       let before : (ino : ℕ) → killed_in w ino ≡ parts_for (slot ∷ drop (place + 1) written) h.killed ino =
       λ ino. was ino ∙ ap (λ (k : Next). parts_for (killed_slots k written) h.killed ino) next

@@ -44,7 +44,8 @@ module _ (living : List ℕ) (s : ℕ) where
         (k.0, omega (arith, up, ne))
 
     none_left : ((t : ℕ) → Contains living t → t < s → nat_le birth t ≡ false) → youngest_holder (without s living) birth death ≡ None
-    none_left fails = last_that-none (holds birth death) (without s living) (record { fails = λ t there. go t there (holds birth death t) refl }) where
+    none_left fails = last_that-none (holds birth death) (without s living)
+        (record { fails = λ t there. go t there (holds birth death t) refl }) where
       go : (t : ℕ) → Contains (without s living) t → (b : Bool) → holds birth death t ≡ b → b ≡ false
       go t there false e = refl
       go t there true e =

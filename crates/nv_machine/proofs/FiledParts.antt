@@ -81,7 +81,8 @@ releases_covered g events actor within = go (actor_at w actor).running refl wher
       let had : picked_by_actor (actor_at w actor) ≡ d ∷ [] =
       ap (λ (o : Option Running). picked_by_call o) is ∙ ap (λ (k : Next). picked_by_call (Some (record r { next = k }))) e in
       let low : actor < length w.actors = there (nat_lt actor (length w.actors)) r refl is in
-      let told : AllByRecursion T (d ∷ []) = rw had at (own_all picked_by_actor T w.actors actor low (all_back T rs (picked_in w) m.told)) in
+      let told : AllByRecursion T (d ∷ []) = rw had at (own_all picked_by_actor T w.actors actor low
+          (all_back T rs (picked_in w) m.told)) in
       let pair = told.0 refl in
       let p : Record → Bool = is_filed_on d.ino (log_of cell) pair.n in
       let number : number_in cell (name_of d) ≡ pair.n = ap (λ (o : Option ℕ). unwrap_or o 0)

@@ -119,7 +119,8 @@ module _ (block : ℕ) (es : List Entry) (tail : ℕ) (is : IsLog es) where
     without_it false e d more = more
 
     go : (b : Bool) → dies_now m ≡ b → count (is_killed_on es n) (dead ns) ≡ cond (dies_now n) (count (λ m. m == n) ns) 0
-        → count (is_killed_on es n) (flat_map (λ n. option_to_list (killed_part es n)) (cond b (m ∷ filter dies_now ns) (filter dies_now ns)))
+        → count (is_killed_on es n) (flat_map (λ n. option_to_list (killed_part es n))
+            (cond b (m ∷ filter dies_now ns) (filter dies_now ns)))
         ≡ cond (dies_now n) (count (λ m. m == n) (m ∷ ns)) 0
     go true d more =
         count_append (is_killed_on es n) (option_to_list (killed_part es m)) (dead ns)
@@ -201,7 +202,8 @@ module _ (block : ℕ) (es : List Entry) (tail : ℕ) (is : IsLog es) where
       | inr ge ↦ ap is_kept (get_or_past marks n Out (omega (arith, ge, h.len)))
     ]
 
-    killed_now : (d a c : Bool) (old : Mark) → is_killed old ≡ false → one d ≡ bit (is_killed (cond d Killed (cond a old (cond c Current Out))))
+    killed_now : (d a c : Bool) (old : Mark) → is_killed old ≡ false
+        → one d ≡ bit (is_killed (cond d Killed (cond a old (cond c Current Out))))
     killed_now true a c old e = refl
     killed_now false true c old e = omega (arith, ap bit e)
     killed_now false false true old e = refl
@@ -258,7 +260,8 @@ module _ (block : ℕ) (es : List Entry) (tail : ℕ) (is : IsLog es) where
               let same : was ≡ pair = same_Some was pair (sym now ∙ got) in
               subst (λ (x : Pair). AllByRecursion (λ s. holds s x ≡ false) living) same (h.out n was at e)
 
-          old : (o : Option Pair) → slice_get (pairs block (take tail es)) n ≡ o → IsSome o → AllByRecursion (λ s. holds s pair ≡ false) living
+          old : (o : Option Pair) → slice_get (pairs block (take tail es)) n ≡ o → IsSome o
+              → AllByRecursion (λ s. holds s pair ≡ false) living
           old None at there = absurd (false≢true there)
           old (Some was) at there =
               let low : n < part_total (take tail es) = ltb-true n (part_base es tail) p in

@@ -135,7 +135,8 @@ module _ (w : World) (a : ℕ) (rs : List Record) (locks : AreLocks w) (free : w
       let v : World = changed t h running a w in
       let picked : picked_in v ≡ picked_in w = same_picked w a t h running picks in
       record {
-        cells = λ ino. marks_as (ids t.book.snaps) ino (epoch + 1) [] (killed_in v ino) (rs ++ picked_in w) (rs ++ picked_in v) (cell_at s ino)
+        cells = λ ino. marks_as (ids t.book.snaps) ino (epoch + 1) [] (killed_in v ino) (rs ++ picked_in w) (rs ++ picked_in v)
+            (cell_at s ino)
             (none_now t ino) (ap (λ (d : List Record). rs ++ d) picked)
             (subst (λ (ss : List ℕ). MarksOf ss ino (epoch + 1) [] (rs ++ picked_in w) (cell_at s ino)) (sym (ids_made s.book.snaps))
             (living_marks living (living ++ epoch ∷ []) ino epoch (epoch + 1) (rs ++ picked_in w) (cell_at s ino).block

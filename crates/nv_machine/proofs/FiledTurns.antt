@@ -59,7 +59,8 @@ entered_same (Moves s h r) living rs = go (commits_at r.next) where
 entered_same Waits living rs = refl
 entered_same (Ends result s h) living rs = refl
 
-pub published_same : (b : Bool) (living : List ℕ) (rs : List Record) → after_deed (if b then plain.Nothing else plain.Commits) living rs ≡ rs
+pub published_same : (b : Bool) (living : List ℕ) (rs : List Record)
+    → after_deed (if b then plain.Nothing else plain.Commits) living rs ≡ rs
 published_same true living rs = refl
 published_same false living rs = refl
 
@@ -99,7 +100,8 @@ module _ (rs : List Record) (s : Shared) (h : HandState) (r : Running) (is : Lis
   none_picked [] e draining =
       let left = picked_listed s.book.snaps s.book.manifests s.book.deferred rs is in
       let none : drop 1 s.book.deferred ≡ s.book.deferred = rw e refl in
-      subst (λ (ds : List Record). IsListed s.book.snaps s.book.manifests ds (after_deed (plain.OnSnapshots (Pick draining)) (ids s.book.snaps) rs))
+      subst (λ (ds : List Record). IsListed s.book.snaps s.book.manifests ds
+          (after_deed (plain.OnSnapshots (Pick draining)) (ids s.book.snaps) rs))
       none left
   none_picked (picked ∷ deferred) e draining = picked_listed s.book.snaps s.book.manifests s.book.deferred rs is
 

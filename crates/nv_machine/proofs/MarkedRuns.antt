@@ -130,7 +130,8 @@ module _ (g : GeometryNumbers) (w : World) (is_known : IsKnown g w) (rs : List R
       let T : Record → Type 0 = IsTold d.ino cell.block (log_of cell) in
       let had : picked_by_actor (actor_at w a) ≡ d ∷ [] =
       ap (λ (o : Option Running). picked_by_call o) is ∙ ap picked_at e in
-      let told : AllByRecursion T (d ∷ []) = rw had at (own_all picked_by_actor T w.actors a there (all_back T rs (picked_in w) mine.told)) in
+      let told : AllByRecursion T (d ∷ []) = rw had at (own_all picked_by_actor T w.actors a there
+          (all_back T rs (picked_in w) mine.told)) in
       let after : List Record = rs ++ flat_map picked_by_actor (set w.actors a idle) in
       let counts : (p : Record → Bool) → count p (rs ++ picked_in w) ≡ one (p d) + count p after =
       λ p. omega (

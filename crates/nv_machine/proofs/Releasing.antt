@@ -68,7 +68,8 @@ has_front (suc p) (x ∷ xs) n h = go (x == n) h (has_front p xs n) where
   go true e more = refl
   go false e more = more e
 
-pub killed_held : (k : Next) (r : Running) (ino : ℕ) → has (killed_slots k (written_slots r)) ino ≡ true → has (held_at k r.slots) ino ≡ true
+pub killed_held : (k : Next) (r : Running) (ino : ℕ) → has (killed_slots k (written_slots r)) ino ≡ true
+    → has (held_at k r.slots) ino ≡ true
 killed_held (Publish place) r ino h = has_filter (is_written r.plan) r.slots ino (has_front place (written_slots r) ino h)
 killed_held Close r ino h = has_filter (is_written r.plan) r.slots ino h
 killed_held (Retire place) r ino h = has_filter (is_written r.plan) r.slots ino (has_later place (written_slots r) ino h)
@@ -200,14 +201,16 @@ module _ (g : GeometryNumbers) (w : World) (all : IsKnown g w) (actor : ℕ) (dr
           go : (o : Option Pair) → slice_get (pairs cell.block (log_of cell)) n ≡ o → IsSome o → is_there (mark_at left.marks n) ≡ false
           go None e some = absurd (false≢true some)
           go (Some it) e some =
-              let filed_told = all_filed T living s.book.manifests s.book.deferred all.rs all.listed.list (all_front T all.rs (picked_in but) told) in
+              let filed_told = all_filed T living s.book.manifests s.book.deferred all.rs all.listed.list
+                  (all_front T all.rs (picked_in but) told) in
               let p : Record → Bool = λ x. is_filed_on d.ino (log_of cell) n x in
               let once : count p (all_records s.book.manifests ++ pending_in but) ≡ bit (is_kept (mark_at left.marks n)) = omega (
                 arith, left_marks.kept_are n, count_append p (all_records s.book.manifests) (pending_in but),
                 count_append p s.book.deferred (picked_in but), count_append p all.rs (picked_in but),
                 count_filed p living s.book.manifests s.book.deferred all.rs all.listed.rising all.listed.list,
               ) in
-              let in_use = in_use_there living d.ino epoch [] (all.rs ++ picked_in but) cell.block (log_of cell) left.marks log_is left_marks n
+              let in_use = in_use_there living d.ino epoch [] (all.rs ++ picked_in but) cell.block (log_of cell) left.marks log_is
+                  left_marks n
               it e (all_records s.book.manifests) (pending_in but) (all_front T (all_records s.book.manifests) s.book.deferred filed_told)
               (held_filed living s.book.manifests s.book.deferred all.rs all.listed.list) once in
               let at : slice_get (pairs cell.block (settled s d.ino)) n ≡ Some it =
@@ -215,7 +218,8 @@ module _ (g : GeometryNumbers) (w : World) (all : IsKnown g w) (actor : ℕ) (dr
               sym in_use
               ∙ ap (λ (names : List PartId). (is_current it || is_held living it) || list_any (has_name it) names)
               (append-nil (map name_of (filter (is_of_slot d.ino) (pending_in but))))
-              ∙ at_place_of (λ (x : Pair). keeps (keepers_of (pending_but actor w) s d.ino) x ≡ false) (pairs cell.block (settled s d.ino)) n it
+              ∙ at_place_of (λ (x : Pair). keeps (keepers_of (pending_but actor w) s d.ino) x ≡ false)
+                  (pairs cell.block (settled s d.ino)) n it
               over.kept at
 
     is_now : is_erased left ≡ true
