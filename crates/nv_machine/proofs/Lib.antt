@@ -96,6 +96,7 @@ pub mod Erasing
 pub mod Returning
 pub mod ErasedRows
 pub mod HeldRows
+pub mod SnapshotRows
 pub mod Firsts
 pub mod Asking
 pub mod Refusing
