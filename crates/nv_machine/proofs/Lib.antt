@@ -88,6 +88,7 @@ pub mod EndsWritten
 pub mod EndsTold
 pub mod EndsTurns
 pub mod EndsRuns
+pub mod EndsSilent
 pub mod HeldLaw
 pub mod Erased
 pub mod GoneTurns
