@@ -3,7 +3,7 @@ use Rattle.std.proofs.Common.{◌≡◌, ℕ, ◌==◌, Bool, true, false, not, 
 use Rattle.std.specs.Prelude.{Ok, Err}
 use Rattle.std.specs.List.{AllByRecursion}
 use Rattle.nv_book.specs.Book.{BookState, after_drop_snapshot, after_make_snapshot}
-use Rattle.nv_book.specs.Manifests.{after_drop, after_make, manifests_without, put_to, records_at}
+use Rattle.nv_book.specs.Manifests.{manifests_without, put_to, records_at}
 use Rattle.nv_book.specs.Records.{is_born_by, let_go, moved_down}
 use Rattle.nv_book.specs.declared.manifest.Manifest.{Manifest}
 use Rattle.nv_book.specs.declared.record.Record.{Record}
@@ -12,7 +12,7 @@ use Rattle.nv_calls.specs.Retiring.{keeper_of, record_of, with_records}
 use Rattle.nv_cell.specs.declared.killed.KilledPart.{KilledPart}
 use Rattle.nv_epoch.specs.Holders.{next_older}
 use Rattle.nv_epoch.specs.SnapList.{ids}
-use Rattle.nv_machine.specs.Frame.{Frame, IsFramed, Lent, Stays, lent, lent_on, nothing_lent}
+use Rattle.nv_machine.specs.Frame.{IsFramed, Lent, Stays, lent, lent_on, nothing_lent}
 use Rattle.nv_machine.specs.Kinds.{end_turn, enter_turn, first_killed, grown}
 use Rattle.nv_machine.specs.Locks.{AllRecords}
 use Rattle.nv_machine.specs.Reads.{slot_at, written_slots}

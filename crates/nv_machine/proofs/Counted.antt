@@ -23,7 +23,7 @@ use Rattle.nv_machine.specs.Numbers.{free_of, held_in, of_part, stored_in}
 use Rattle.nv_calls.proofs.FillPages.{filled_numbers}
 use Rattle.nv_calls.specs.FillPages.{fresh_pages}
 use Rattle.nv_machine.specs.Reads.{copies, pages_needed, slot_at, written_slots}
-use Rattle.nv_machine.specs.World.{Append, Back, Check, Close, Enter, Give, HandState, Leave, Lock, Look, Next, Number, Open, Publish, Ready, Retire, Running, Shared, TakeBlocks, TakePages, Unlock, Visit, cell_at, list_at, no_cell, no_list, Drop, LockPicked, Make, Pick, Pin, Release, Show, SnapshotStep, Snapshots, Unpin}
+use Rattle.nv_machine.specs.World.{Append, Back, Check, Close, Enter, Give, HandState, Leave, Lock, Look, Next, Number, Open, Publish, Ready, Retire, Running, Shared, TakeBlocks, TakePages, Unlock, Visit, cell_at, list_at, no_cell, no_list, Drop, LockPicked, Make, Pick, Pin, Release, Show, Snapshots, Unpin}
 use Rattle.nv_machine.proofs.Counting.{cut_times, set_times, three_times}
 use Rattle.nv_machine.proofs.Kept.{append_deed, back_deed, deed, number_deed, retire_deed, release_deed}
 use Rattle.nv_machine.specs.Snapshots.{with_released}

@@ -1,28 +1,21 @@
 -- A cell whose inode is gone, once its killed parts are retired: nothing is there of it, and all blocks are in the hand.
-use Rattle.std.proofs.Common.{◌≡◌, ℕ, zero, suc, ◌+◌, ◌<◌, ◌≤◌, ◌==◌, ◌&&◌, ◌||◌, ◌++◌, ◌∙◌, Bool, true, false, List, [], ◌∷◌, Option, Some, None, ap, arith, flat_map, if◌then◌else◌, inl, inr, length, not, refl, slice_index_or, sym}
-use Rattle.std.specs.Prelude.{option_to_list, unwrap_or}
-use Rattle.std.specs.List.{AllByRecursion, list_any}
-use Rattle.std.specs.Option.{option_map}
-use Rattle.std.proofs.lemmas.Bool.{cases_lt, eqb-false, eqb-true, false≢true, true≢false}
-use Rattle.std.proofs.lemmas.List.{get_or_past}
-use Rattle.std.proofs.lemmas.Option.{none-some}
-use Rattle.nv_alloc.specs.Block.{BlockValue, number_of, numbers_of}
+use Rattle.std.proofs.Common.{◌≡◌, ℕ, zero, suc, ◌+◌, ◌<◌, ◌≤◌, ◌==◌, ◌&&◌, ◌||◌, ◌++◌, ◌∙◌, Bool, true, false, List, [], ◌∷◌, Option, Some, None, ap, arith, flat_map, if◌then◌else◌, length, not, refl, slice_index_or}
+use Rattle.std.specs.List.{list_any}
+use Rattle.std.proofs.lemmas.Bool.{false≢true}
+use Rattle.nv_alloc.specs.Block.{BlockValue, numbers_of}
 use Rattle.nv_alloc.specs.Numbers.{has, times}
 use Rattle.nv_alloc.proofs.Lists.{times-append, times-yes}
-use Rattle.nv_calls.specs.Retiring.{erased, freed_by, is_erased, keeper_of, retired, retired_one, settled}
-use Rattle.nv_cell.specs.Cell.{CellState, log_of, number_in, page_block, without_part}
+use Rattle.nv_calls.specs.Retiring.{erased, is_erased, keeper_of, retired, retired_one, settled}
+use Rattle.nv_cell.specs.Cell.{CellState, log_of, number_in}
 use Rattle.nv_cell.specs.Marks.{is_there, mark_at}
-use Rattle.nv_cell.specs.Named.{number_named}
-use Rattle.nv_cell.specs.Numbers.{is_number}
 use Rattle.nv_cell.specs.Readers.{is_gone, keeps_nothing}
 use Rattle.nv_cell.specs.declared.killed.KilledPart.{KilledPart}
 use Rattle.nv_cell.specs.declared.mark.Mark.{Mark}
-use Rattle.nv_entry.specs.Covered.{is_covered, part_total}
 use Rattle.nv_log.specs.Chain.{ChainState}
 use Rattle.nv_machine.specs.Erasing.{emptied}
 use Rattle.nv_machine.specs.Numbers.{of_part, stored_in}
 use Rattle.nv_machine.proofs.FromScratch.{not_counted}
-use Rattle.nv_machine.proofs.Lists.{or_left, or_right, self}
+use Rattle.nv_machine.proofs.Lists.{or_right, self}
 
 -- ---- nothing is there
 
@@ -86,7 +79,8 @@ block_times : (slots : List (Option BlockValue)) (n : ℕ) (b : BlockValue) → 
     → 1 ≤ times b.number (flat_map of_part slots)
 block_times [] n b e = cc
 block_times (o ∷ slots) zero b e =
-    let one : times b.number (of_part o) ≡ 1 = ap (λ (x : Option BlockValue). times b.number (of_part x)) e ∙ times-yes b.number b.number [] (self b.number) in
+    let one : times b.number (of_part o) ≡ 1 = ap (λ (x : Option BlockValue). times b.number (of_part x)) e ∙ times-yes b.number
+        b.number [] (self b.number) in
     omega (arith, one, times-append b.number (of_part o) (flat_map of_part slots))
 block_times (o ∷ slots) (suc n) b e =
     omega (arith, block_times slots n b e, times-append b.number (of_part o) (flat_map of_part slots))

@@ -1,5 +1,5 @@
 -- The law of erasing: in its retire step an inode that is gone is erased whole, and its number goes back to the pool.
-use Rattle.std.proofs.Common.{◌≡◌, inl, inr, ℕ, ◌+◌, ◌<◌, ◌==◌, ◌||◌, ◌++◌, ◌∙◌, Bool, true, false, List, [], ◌∷◌, Option, Some, None, ap, append-nil, arith, filter, get_or-set_same, if◌then◌else◌, length, map, nat_lt, refl, slice_get, slice_index_or, subst, sym, take}
+use Rattle.std.proofs.Common.{◌≡◌, inl, inr, ℕ, ◌+◌, ◌<◌, ◌||◌, ◌++◌, ◌∙◌, Bool, true, false, List, [], Option, Some, None, ap, append-nil, arith, filter, get_or-set_same, if◌then◌else◌, length, map, nat_lt, refl, slice_get, slice_index_or, subst, sym, take}
 use Rattle.std.specs.List.{list_any}
 use Rattle.std.specs.Prelude.{nat_le}
 use Rattle.std.specs.Option.{IsSome}
@@ -206,14 +206,16 @@ module _ (g : GeometryNumbers) (w : World) (all : IsKnown g w) (actor place : �
               let at : slice_get (pairs cell.block (settled s slot)) n ≡ Some pair =
               ap (λ (l : List Entry). slice_get (pairs cell.block l) n) (settled_log ∙ sym left_log)
               ∙ ap (λ (b : ℕ). slice_get (pairs b (log_of left)) n) (sym left_block) ∙ e in
-              let kept = at_place_of (λ (p : Pair). keeps (keepers_of (pending_in w) s slot) p ≡ false) (pairs cell.block (settled s slot)) n pair
+              let kept = at_place_of (λ (p : Pair). keeps (keepers_of (pending_in w) s slot) p ≡ false)
+                  (pairs cell.block (settled s slot)) n pair
               over.kept at in
               sym in_use
               ∙ ap (λ (ids : List PartId). (is_current pair || is_held living pair) || list_any (has_name pair) ids)
               (append-nil (map name_of (filter (is_of_slot slot) (pending_in w))))
               ∙ kept
             where
-              once : (pair : Pair) → count (λ d. is_filed_on slot (log_of left) n d) ((all_records s.book.manifests ++ more) ++ pending_in w)
+              once : (pair : Pair) → count (λ d. is_filed_on slot (log_of left) n d)
+                  ((all_records s.book.manifests ++ more) ++ pending_in w)
                   ≡ bit (is_kept (mark_at left.marks n))
               once pair =
                   let p : Record → Bool = λ d. is_filed_on slot (log_of left) n d in
@@ -358,7 +360,8 @@ none_stays g events ino within free over =
       outs n lt =
           ap is_there (sym (same_default cell.marks n lt)) ∙ sym (used_there g events ino n within)
           ∙ go (slice_get (pairs cell.block (log_of cell)) n) refl
-          (pair_there cell.block (log_of cell) n (log_in g events ino within) (let len = (have_marks g events ino within).len in omega (arith, lt, len))) where
+          (pair_there cell.block (log_of cell) n (log_in g events ino within)
+              (let len = (have_marks g events ino within).len in omega (arith, lt, len))) where
             go : (o : Option Pair) → slice_get (pairs cell.block (log_of cell)) n ≡ o → IsSome o → in_use_by (retention_at w ino) o ≡ false
             go None e some = absurd (false≢true some)
             go (Some pair) e some =
@@ -366,6 +369,8 @@ none_stays g events ino within free over =
                 ap (λ (l : List Entry). slice_get (pairs cell.block l) n) same ∙ e in
                 ap (λ (parts : List KilledPart). is_needed (ids w.shared.book.snaps) pair
                 || is_named (pending_at w ino ++ map (λ (k : KilledPart). k.part) parts) pair) none
-                ∙ ap (λ (names : List PartId). is_needed (ids w.shared.book.snaps) pair || is_named names pair) (append-nil (pending_at w ino))
-                ∙ at_place_of (λ (p : Pair). keeps (keepers_of (pending_in w) w.shared ino) p ≡ false) (pairs cell.block (settled w.shared ino)) n
+                ∙ ap (λ (names : List PartId). is_needed (ids w.shared.book.snaps) pair || is_named names pair)
+                    (append-nil (pending_at w ino))
+                ∙ at_place_of (λ (p : Pair). keeps (keepers_of (pending_in w) w.shared ino) p ≡ false)
+                    (pairs cell.block (settled w.shared ino)) n
                 pair over.kept at

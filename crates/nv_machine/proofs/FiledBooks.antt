@@ -1,6 +1,6 @@
 -- What holds of the snapshots, the manifests and the deferred list beside the record list, and that what a retire, a making, a drop,
 -- a pin and a pick leave has it too.
-use Rattle.std.proofs.Common.{◌≡◌, ℕ, ◌+◌, ◌-◌, ◌<◌, ◌≤◌, ◌==◌, ◌++◌, Bool, true, false, cond, not, List, [], ◌∷◌, ap, arith, drop, filter, map, refl, subst, sym}
+use Rattle.std.proofs.Common.{◌≡◌, ℕ, ◌+◌, ◌-◌, ◌<◌, ◌≤◌, ◌==◌, ◌++◌, Bool, true, false, cond, not, List, [], ◌∷◌, ap, arith, drop, filter, refl, subst, sym}
 use Rattle.std.specs.Prelude.{is_none}
 use Rattle.std.specs.List.{All, AllByRecursion, Contains}
 use Rattle.std.proofs.lemmas.List.{map-append}
@@ -82,7 +82,8 @@ made_listed snaps ms ds rs h =
 
 -- ---- dropped
 
-pub ids_removed : (living : List Snapshot) (s : ℕ) → numbers (filter (λ (t : Snapshot). not (t.number == s)) living) ≡ without s (numbers living)
+pub ids_removed : (living : List Snapshot) (s : ℕ)
+    → numbers (filter (λ (t : Snapshot). not (t.number == s)) living) ≡ without s (numbers living)
 ids_removed [] s = refl
 ids_removed (t ∷ ts) s = go (t.number == s) (ids_removed ts s) where
   go : (b : Bool) → numbers (filter (λ (u : Snapshot). not (u.number == s)) ts) ≡ without s (numbers ts)

@@ -1,10 +1,10 @@
 -- Appends, publishes and retires keep what marks say of every slot.
-use Rattle.std.proofs.Common.{◌≡◌, ◌≢◌, ℕ, ◌+◌, ◌<◌, ◌≤◌, ◌==◌, ◌++◌, ◌∙◌, Bool, true, false, List, [], ◌∷◌, Option, Some, None, ap, arith, drop, length, length-take, refl, subst, sym, take}
+use Rattle.std.proofs.Common.{◌≡◌, ◌≢◌, ℕ, ◌+◌, ◌<◌, ◌≤◌, ◌++◌, ◌∙◌, List, [], ◌∷◌, Option, Some, None, ap, arith, drop, length, length-take, refl, subst, sym, take}
 use Rattle.std.specs.List.{AllByRecursion}
-use Rattle.nv_alloc.specs.Numbers.{IsRising, has}
+use Rattle.nv_alloc.specs.Numbers.{IsRising}
 use Rattle.nv_book.specs.Records.{holder_of}
 use Rattle.nv_book.specs.declared.record.Record.{Record}
-use Rattle.nv_calls.specs.Retiring.{erased, killed_by, retired}
+use Rattle.nv_calls.specs.Retiring.{erased, killed_by}
 use Rattle.nv_calls.specs.Slots.{entries_of, items_for, place_in}
 use Rattle.nv_cell.specs.Cell.{CellState, log_of, published}
 use Rattle.nv_cell.specs.declared.killed.KilledPart.{KilledPart}
@@ -15,14 +15,14 @@ use Rattle.nv_entry.specs.declared.item.Item.{Item}
 use Rattle.nv_epoch.specs.SnapList.{ids}
 use Rattle.nv_log.specs.Chain.{ChainState}
 use Rattle.nv_machine.specs.Held.{killed_by_actor, killed_by_call, killed_in, killed_slots, parts_for, picked_at, picked_by_actor, picked_by_call}
-use Rattle.nv_machine.specs.Kinds.{append_turn, entries_for, first_killed, publish_turn, retire_turn, retired_book, retired_cell, with_entries, with_erased, with_freed, with_killed, with_pages}
+use Rattle.nv_machine.specs.Kinds.{append_turn, entries_for, first_killed, publish_turn, retire_turn, retired_cell, with_entries, with_erased, with_freed, with_pages}
 use Rattle.nv_machine.specs.Locks.{AreLocks}
 use Rattle.nv_machine.specs.Reads.{slot_at, written_slots}
 use Rattle.nv_machine.specs.Recorded.{with_parts}
-use Rattle.nv_machine.specs.Sequence.{publishing, retiring, sequel}
+use Rattle.nv_machine.specs.Sequence.{sequel}
 use Rattle.nv_machine.specs.Step.{changed, turned}
-use Rattle.nv_machine.specs.World.{Append, HandState, Next, Publish, Retire, Running, Shared, World, actor_at, cell_at, go_to, with_book, with_cell}
-use Rattle.nv_machine.proofs.FiledLists.{all_append, all_back, all_front, all_weaker, count, count_append}
+use Rattle.nv_machine.specs.World.{Append, HandState, Next, Publish, Retire, Running, Shared, World, actor_at, cell_at, with_cell}
+use Rattle.nv_machine.proofs.FiledLists.{all_append, all_back, all_front, all_weaker, count_append}
 use Rattle.nv_machine.proofs.FiledMarks.{IsTold, is_filed_on}
 use Rattle.nv_machine.proofs.FiledPicks.{erased_killed}
 use Rattle.nv_machine.proofs.FiledSteps.{AreFresh, MarksOf, appended_fresh, appended_marks, erased_cell, erased_fresh, none_other, parts_are_of, parts_behind, published_cell, published_fresh, recounted, retired_chain, retired_log, retired_marks}
@@ -137,7 +137,8 @@ module _ (w : World) (a : ℕ) (rs : List Record) (r : Running) (there : a < len
       let picked : picked_in v ≡ picked_in w = same_picked w a v.shared _ _
       (picks ∙ sym (own_picks ∙ ap picked_at next)) in
       let all : (ino : ℕ) → MarksOf living ino epoch (killed_in v ino) (rs ++ picked_in v) (cell_at s ino) =
-      λ ino. marks_as living ino epoch (killed_in w ino) (killed_in v ino) (rs ++ picked_in w) (rs ++ picked_in v) (cell_at s ino) (same ino)
+      λ ino. marks_as living ino epoch (killed_in w ino) (killed_in v ino) (rs ++ picked_in w) (rs ++ picked_in v) (cell_at s ino)
+          (same ino)
       (ap (λ (l : List Record). rs ++ l) picked) (m.cells ino) in
       one_cell w a slot rs rs _ _ _ new (λ ino. refl) refl low
       (appended_marks living slot epoch (killed_in v slot) (rs ++ picked_in v) (entries_for r slot) h.blocks (take pages h.pages)
@@ -168,7 +169,8 @@ module _ (w : World) (a : ℕ) (rs : List Record) (r : Running) (there : a < len
       λ ino. was ino ∙ ap (λ (k : Next). parts_for (killed_slots k written) h.killed ino) next in
       let picked : picked_in v ≡ picked_in w = same_picked w a v.shared _ _ (picks ∙ sym (own_picks ∙ ap picked_at next)) in
       let records : rs ++ picked_in v ≡ rs ++ picked_in w = ap (λ (l : List Record). rs ++ l) picked in
-      let none : killed_in w slot ≡ [] = before slot ∙ none_there (take place written) h.killed slot (take_apart place written rising inside) in
+      let none : killed_in w slot ≡ [] = before slot ∙ none_there (take place written) h.killed slot
+          (take_apart place written rising inside) in
       one_cell w a slot rs rs _ _ _ (published cell) (λ ino. refl) refl low
       (marks_as living slot epoch (killed_by cell) (killed_in v slot) (rs ++ picked_in w) (rs ++ picked_in v) (published cell)
       (now slot ∙ more_here (take place written) h.killed slot (killed_by cell) len (take_apart place written rising inside)) records
@@ -223,7 +225,8 @@ module _ (w : World) (a : ℕ) (rs : List Record) (r : Running) (there : a < len
       erased_killed slot left (with_freed slot parts s r h) in
       let now : (ino : ℕ) → killed_in v ino ≡ parts_for (drop (place + 1) written) (drop 1 h.killed) ino =
       λ ino. new_killed w a ino v.shared _ _ there locks held
-      ∙ ap (λ (l : List ℕ). parts_for l (with_erased slot left (with_freed slot parts s r h)).killed ino) (retiring_slots (place + 1) written)
+      ∙ ap (λ (l : List ℕ). parts_for l (with_erased slot left (with_freed slot parts s r h)).killed ino)
+          (retiring_slots (place + 1) written)
       ∙ ap (λ (l : List (List KilledPart)). parts_for (drop (place + 1) written) l ino) hand in
       let before : (ino : ℕ) → killed_in w ino ≡ parts_for (slot ∷ drop (place + 1) written) h.killed ino =
       λ ino. was ino ∙ ap (λ (k : Next). parts_for (killed_slots k written) h.killed ino) next

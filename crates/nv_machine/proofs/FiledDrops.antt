@@ -1,7 +1,7 @@
 -- Who holds what a dropped snapshot held, and what a new one would hold.
 use Rattle.std.proofs.Common.{◌≡◌, ◌≢◌, ℕ, ◌<◌, ◌≤◌, ◌==◌, ◌++◌, ◌∙◌, Bool, true, false, cond, not, nat_le, nat_lt, List, [], ◌∷◌, Option, Some, None, ap, arith, filter, refl}
 use Rattle.std.specs.List.{Contains, last_or}
-use Rattle.std.proofs.lemmas.Bool.{and_from, and_parts, eqb-false, le-leb, leb-false, leb-true, lt-ltb, ltb-false, ltb-true, ne_eqb, not-true, not_from_false}
+use Rattle.std.proofs.lemmas.Bool.{and_from, and_parts, eqb-false, leb-false, leb-true, lt-ltb, ltb-false, ltb-true, ne_eqb, not-true, not_from_false}
 use Rattle.std.proofs.lemmas.List.{append-nil}
 use Rattle.std.proofs.lemmas.List.Elements.{filter-append}
 use Rattle.nv_book.proofs.Filing.{Makes, Removes}
@@ -44,7 +44,8 @@ module _ (living : List ℕ) (s : ℕ) where
         (k.0, omega (arith, up, ne))
 
     none_left : ((t : ℕ) → Contains living t → t < s → nat_le birth t ≡ false) → youngest_holder (without s living) birth death ≡ None
-    none_left fails = last_that-none (holds birth death) (without s living) (record { fails = λ t there. go t there (holds birth death t) refl }) where
+    none_left fails = last_that-none (holds birth death) (without s living)
+        (record { fails = λ t there. go t there (holds birth death t) refl }) where
       go : (t : ℕ) → Contains (without s living) t → (b : Bool) → holds birth death t ≡ b → b ≡ false
       go t there false e = refl
       go t there true e =

@@ -1,8 +1,8 @@
 -- What records tell a living snapshot to hold is what it holds by the logs, less what is current and what is killed.
-use Rattle.std.proofs.Common.{◌≡◌, ℕ, zero, suc, ◌+◌, ◌==◌, ◌&&◌, ◌++◌, ◌∙◌, Bool, true, false, not, List, [], ◌∷◌, Option, Some, ap, arith, map, refl, slice_get, sym}
+use Rattle.std.proofs.Common.{◌≡◌, ℕ, zero, suc, ◌+◌, ◌&&◌, ◌∙◌, Bool, true, false, not, List, [], ◌∷◌, Some, ap, arith, map, refl, slice_get, sym}
 use Rattle.std.specs.Prelude.{◌||◌}
 use Rattle.std.specs.List.{AllByRecursion, Contains, list_any}
-use Rattle.std.proofs.lemmas.Bool.{eqb-true, false≢true}
+use Rattle.std.proofs.lemmas.Bool.{eqb-true}
 use Rattle.std.proofs.lemmas.Option.{same_Some}
 use Rattle.nv_base.specs.Limits.{IsWithinLimits}
 use Rattle.nv_base.specs.declared.geometry.GeometryNumbers.{GeometryNumbers}
@@ -22,14 +22,13 @@ use Rattle.nv_entry.specs.Held.{has_name, holds, is_current}
 use Rattle.nv_entry.specs.Log.{IsLog, pairs}
 use Rattle.nv_entry.specs.declared.held.Pair.{Pair}
 use Rattle.nv_entry.specs.declared.item.Entry.{Entry}
-use Rattle.nv_entry.specs.declared.part.PartId.{PartId}
 use Rattle.nv_entry.proofs.Currents.{any_map, any_same}
 use Rattle.nv_epoch.specs.SnapList.{ids}
 use Rattle.nv_machine.specs.Format.{formatted}
 use Rattle.nv_machine.specs.Held.{is_of_slot, killed_in}
-use Rattle.nv_machine.specs.Recorded.{is_kept, is_killed_pair, is_recorded_for, recorded_in, records_after}
+use Rattle.nv_machine.specs.Recorded.{is_kept, is_killed_pair, is_recorded_for, recorded_in}
 use Rattle.nv_machine.specs.Step.{after}
-use Rattle.nv_machine.specs.World.{Event, World, cell_at}
+use Rattle.nv_machine.specs.World.{Event, cell_at}
 use Rattle.nv_machine.proofs.FiledLaw.{all_marked, recorded_all, recorded_once}
 use Rattle.nv_machine.proofs.FiledLists.{all_weaker, count, count_cons, one}
 use Rattle.nv_machine.proofs.FiledMarks.{AreMarks, IsTold, is_filed_on, is_killed_on, pair_low}
@@ -85,7 +84,8 @@ module _ (living : List ℕ) (ino epoch : ℕ) (killed : List KilledPart) (rs : 
   held_so : (snapshot : ℕ) (d : Record) → IsTold ino block log d
       → (is_of_slot ino d && (is_held_by snapshot d && has_name pair (name_of d))) ≡ (is_filed_on ino log n d && holds snapshot pair)
   held_so snapshot d told =
-      rw (named_same block log is n pair got (name_of d)) (go (is_of_slot ino d) refl (is_number (number_named log (name_of d)) n) refl) where
+      rw (named_same block log is n pair got (name_of d)) (go (is_of_slot ino d) refl (is_number (number_named log (name_of d)) n)
+          refl) where
         off : (c : Bool) → (c && false) ≡ false
         off true = refl
         off false = refl
@@ -101,7 +101,8 @@ module _ (living : List ℕ) (ino epoch : ℕ) (killed : List KilledPart) (rs : 
         go true e true f =
             let own = told (eqb-true d.ino ino e) in
             let number : own.n ≡ n =
-            same_Some own.n n (sym (has_number block log (name_of d) d.birth d.death is own) ∙ number_is (number_named log (name_of d)) n f) in
+            same_Some own.n n (sym (has_number block log (name_of d) d.birth d.death is own) ∙ number_is (number_named log (name_of d))
+                n f) in
             let same : own.pair ≡ pair = same_Some own.pair pair (sym own.is ∙ ap (slice_get (pairs block log)) number ∙ got) in
             let birth : pair.birth ≡ d.birth = ap (λ (p : Pair). p.birth) (sym same) ∙ own.birth_is in
             let death : pair.death ≡ Some d.death = ap (λ (p : Pair). p.death) (sym same) ∙ own.death_is in
@@ -146,6 +147,7 @@ recorded_for g events snapshot ino n pair within lives got =
     let cell : CellState = cell_at w.shared ino in
     let m = (all_marked g events within).cells ino in
     let log : IsLog (log_of cell) = IsLog-take cell.chain.tail cell.chain.entries ((known g events within).order.logs ino).ordered in
-    held_told (ids w.shared.book.snaps) ino w.shared.book.snaps.epoch (killed_in w ino) _ cell.block (log_of cell) cell.marks log m n pair got
+    held_told (ids w.shared.book.snaps) ino w.shared.book.snaps.epoch (killed_in w ino) _ cell.block (log_of cell) cell.marks log m n
+        pair got
     snapshot (recorded_in w) (recorded_all g events (IsTold ino cell.block (log_of cell)) within m.told)
     (recorded_once g events within ino n) lives

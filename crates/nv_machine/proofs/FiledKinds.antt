@@ -1,32 +1,31 @@
 -- Every step keeps what marks say of every slot.
-use Rattle.std.proofs.Common.{◌≡◌, ℕ, zero, suc, ◌+◌, ◌-◌, ◌<◌, ◌≤◌, ◌++◌, ◌∙◌, Bool, true, false, List, [], ◌∷◌, Option, Some, None, ap, arith, drop, if◌then◌else◌, length, nat_lt, refl, subst, sym}
+use Rattle.std.proofs.Common.{◌≡◌, ℕ, ◌+◌, ◌-◌, ◌<◌, ◌≤◌, ◌∙◌, Bool, true, false, List, [], ◌∷◌, Option, Some, None, ap, arith, length, nat_lt, refl, subst, sym}
 use Rattle.std.specs.Prelude.{◌||◌, not, Result, Ok, Err}
 use Rattle.nv_alloc.specs.Numbers.{IsRising, has}
 use Rattle.nv_base.specs.declared.fault.Fault.{Fault}
 use Rattle.nv_base.specs.declared.fault.Fault.TheVariants.{OutOfMemory}
 use Rattle.nv_base.specs.declared.geometry.GeometryNumbers.{GeometryNumbers}
-use Rattle.nv_book.specs.Listed.{unheld, without_first}
+use Rattle.nv_book.specs.Listed.{unheld}
 use Rattle.nv_book.specs.declared.record.Record.{Record}
 use Rattle.nv_calls.specs.Refusals.{Check as Tests}
 use Rattle.nv_calls.specs.Retiring.{erased, released}
 use Rattle.nv_calls.specs.declared.answer.Answer.{Answer}
 use Rattle.nv_calls.specs.declared.answer.Answer.TheVariants as answers
 use Rattle.nv_epoch.specs.SnapList.{ids, pins_of}
-use Rattle.nv_machine.specs.Hands.{AreTailsLast, HandAt, HandOf, unpublished_at, unpublished_by}
+use Rattle.nv_machine.specs.Hands.{HandAt, HandOf, unpublished_at, unpublished_by}
 use Rattle.nv_machine.specs.Held.{killed_by_actor, killed_by_call, killed_slots, parts_for, picked_at, picked_by_actor, picked_by_call}
 use Rattle.nv_machine.specs.Kinds.{end_turn, grown, with_erased}
 use Rattle.nv_machine.specs.Locks.{commits_at, commits_by, is_owner}
 use Rattle.nv_machine.specs.PlainRun as plain
 use Rattle.nv_machine.specs.Reads.{is_written, pages_needed, slot_at, written_slots}
 use Rattle.nv_machine.specs.Recorded.{after_deed}
-use Rattle.nv_machine.specs.Sequence.{retiring}
 use Rattle.nv_machine.specs.Snapshots.{drop_tests, drop_turn, if_free, is_first, lock_picked_turn, make_tests, make_turn, one_more, picked_turn, with_released}
 use Rattle.nv_machine.specs.Step.{kind_turn, turned}
 use Rattle.nv_machine.specs.World.{Append, Back, Check, Close, Draining, Drains, Drop, Ends, Enter, Give, HandState, Leave, Lock, LockPicked, Look, Make, Moves, Next, Number, Open, Pick, Pin, Publish, Ready, Release, Retire, Running, Shared, Show, SnapshotStep, Snapshots, TakeBlocks, TakePages, Turn, Unlock, Unpin, Visit, Waits, World, actor_at, cell_at, empty_hand, owner_at, with_cell}
 use Rattle.nv_machine.proofs.FiledBooks.{ids_pinned}
 use Rattle.nv_machine.proofs.FiledCommits.{append_marked, publish_marked, retire_marked}
 use Rattle.nv_machine.proofs.FiledLists.{none_first}
-use Rattle.nv_machine.proofs.FiledPicks.{appending_none, erased_killed, none_killed, none_picked, picked_after, picks, publishing_none, retiring_none}
+use Rattle.nv_machine.proofs.FiledPicks.{appending_none, none_killed, none_picked, picked_after, picks, publishing_none, retiring_none}
 use Rattle.nv_machine.proofs.FiledRuns.{IsKnown, can_list}
 use Rattle.nv_machine.proofs.FiledSnaps.{drop_marked, make_marked, pick_marked, release_marked}
 use Rattle.nv_machine.proofs.FiledTurns.{CanList, Listed, entered_same, list_after, published_same, refused_at_once}
@@ -253,7 +252,8 @@ module _ (g : GeometryNumbers) (w : World) (known : IsKnown g w) (rs : List Reco
   snapshot_marked (Show snapshot showing) next =
       subst (AreMarked (turned (KindTurn (Snapshots (Show snapshot showing))) a w).world)
       (sym (step_same (Show snapshot showing) (KindTurn (Snapshots (Show snapshot showing))) living rs refl))
-      (quiet (Snapshots (Show snapshot showing)) next refl refl (nothing (Show snapshot showing) next) (nothing (Show snapshot showing) next)
+      (quiet (Snapshots (Show snapshot showing)) next refl refl (nothing (Show snapshot showing) next)
+          (nothing (Show snapshot showing) next)
       (same_quiet s))
   snapshot_marked (Unpin snapshot seen) next =
       subst (AreMarked (turned (KindTurn (Snapshots (Unpin snapshot seen))) a w).world)

@@ -1,5 +1,5 @@
 -- Whatever events come, marks say of every slot what is killed, recorded and out; so each part that is kept has one record.
-use Rattle.std.proofs.Common.{◌≡◌, ℕ, zero, suc, ◌+◌, ◌-◌, ◌<◌, ◌≤◌, ◌++◌, ◌∙◌, Bool, true, false, List, [], ◌∷◌, Option, Some, None, ap, arith, filter, flat_map, if◌then◌else◌, length, nat_lt, refl, replicate, subst, sym}
+use Rattle.std.proofs.Common.{◌≡◌, ℕ, zero, suc, ◌-◌, ◌<◌, ◌≤◌, ◌++◌, ◌∙◌, Bool, true, false, List, [], ◌∷◌, Option, Some, None, ap, arith, flat_map, if◌then◌else◌, length, nat_lt, refl, replicate, subst, sym}
 use Rattle.std.specs.Prelude.{not, slice_index_or}
 use Rattle.std.specs.List.{AllByRecursion}
 use Rattle.std.proofs.lemmas.Bool.{ltb-true}
@@ -8,7 +8,6 @@ use Rattle.nv_base.specs.declared.geometry.GeometryNumbers.{GeometryNumbers}
 use Rattle.nv_book.specs.Listed.{all_records}
 use Rattle.nv_book.specs.Records.{holder_of}
 use Rattle.nv_book.specs.declared.record.Record.{Record}
-use Rattle.nv_calls.specs.Retiring.{name_of}
 use Rattle.nv_calls.specs.declared.call.Call.{Call}
 use Rattle.nv_cell.specs.Cell.{CellState, empty_cell, log_of}
 use Rattle.nv_cell.specs.Marks.{bit, is_current, is_killed, mark_at}
@@ -16,14 +15,14 @@ use Rattle.nv_cell.specs.declared.killed.KilledPart.{KilledPart}
 use Rattle.nv_entry.specs.Covered.{is_covered}
 use Rattle.nv_epoch.specs.SnapList.{ids}
 use Rattle.nv_machine.specs.Format.{formatted, root_cell}
-use Rattle.nv_machine.specs.Held.{killed_by_actor, killed_by_call, killed_in, picked_by_actor, picked_by_call}
+use Rattle.nv_machine.specs.Held.{killed_by_actor, killed_by_call, picked_by_actor, picked_by_call}
 use Rattle.nv_machine.specs.PlainRun as plain
 use Rattle.nv_machine.specs.Recorded.{AreRecordedOnce, IsOfPair, after_deed, is_kept, recorded_in, records_after, records_in, retired_in}
 use Rattle.nv_machine.specs.Sequence.{beginning, begun}
 use Rattle.nv_machine.specs.Step.{after, go_step, start_step, step}
-use Rattle.nv_machine.specs.World.{Actor, Event, Go, Running, Shared, Start, World, actor_at, cell_at, idle, no_cell}
+use Rattle.nv_machine.specs.World.{Actor, Event, Go, Running, Start, World, actor_at, cell_at, idle, no_cell}
 use Rattle.nv_machine.proofs.FiledKinds.{kind_marked}
-use Rattle.nv_machine.proofs.FiledLists.{all_append, all_back, all_filed, all_front, count, count_append, count_filed}
+use Rattle.nv_machine.proofs.FiledLists.{all_append, all_back, all_filed, all_front, count_append, count_filed}
 use Rattle.nv_machine.proofs.FiledMarks.{IsTold, is_filed_on}
 use Rattle.nv_machine.proofs.FiledPicks.{begun_none}
 use Rattle.nv_machine.proofs.FiledRuns.{IsKnown, all_listed, event_listed, known, new_listed, not_there}

@@ -207,7 +207,8 @@ count_told p living [] rising = none living where
   none : (ss : List ℕ) → count p (told living [] ss) + 0 ≡ 0
   none [] = omega arith
   none (s ∷ ss) = none ss
-count_told p living (r ∷ rs) rising = go (holder_of living r) refl (p r) refl (told_more p living r rs living) (count_told p living rs rising) where
+count_told p living (r ∷ rs) rising = go (holder_of living r) refl (p r) refl (told_more p living r rs living)
+    (count_told p living rs rising) where
   go : (o : Option ℕ) → holder_of living r ≡ o → (b : Bool) → p r ≡ b
       → count p (told living (r ∷ rs) living) ≡ cond b (matches o living) 0 + count p (told living rs living)
       → count p (told living rs living) + count p (unheld living rs) ≡ count p rs

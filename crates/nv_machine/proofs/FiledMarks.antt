@@ -1,40 +1,32 @@
 -- What marks say of the parts of a log: which are killed and not yet retired, which are recorded, and which are out; and that a
 -- publish, a retire, a release and an erasing leave it so.
-use Rattle.std.proofs.Common.{◌≡◌, ℕ, zero, suc, ◌+◌, ◌-◌, ◌<◌, ◌≤◌, ◌==◌, ◌&&◌, ◌++◌, ◌∙◌, Bool, true, false, cond, not, List, [], ◌∷◌, Option, Some, None, ap, arith, drop, filter, flat_map, get_or-set_other, get_or-set_same, inl, inr, length, length-set, map, nat_lt, refl, set, slice_get, subst, sym, take}
-use Rattle.std.specs.Prelude.{is_some, option_to_list}
-use Rattle.std.specs.List.{AllByRecursion, Contains, range_with_len}
-use Rattle.std.specs.Option.{option_map}
-use Rattle.std.proofs.lemmas.Bool.{and_parts, cases_lt, eqb-false, eqb-true, false≢true, le-ltb, ltb-true, ne_eqb}
-use Rattle.std.proofs.lemmas.List.{get_or_past, take-append-drop}
-use Rattle.std.proofs.lemmas.List.FromFn.{get_or-map-range_with_len, length-map-range_with_len}
+use Rattle.std.proofs.Common.{◌≡◌, ℕ, zero, suc, ◌+◌, ◌-◌, ◌<◌, ◌≤◌, ◌==◌, ◌&&◌, ◌++◌, ◌∙◌, Bool, true, false, cond, not, List, [], ◌∷◌, Option, Some, None, ap, arith, get_or-set_other, get_or-set_same, inl, inr, length, length-set, refl, set, slice_get, sym}
+use Rattle.std.specs.List.{AllByRecursion, Contains}
+use Rattle.std.proofs.lemmas.Bool.{cases_lt, eqb-false, eqb-true, false≢true}
+use Rattle.std.proofs.lemmas.List.{get_or_past}
 use Rattle.std.proofs.lemmas.Option.{same_Some}
 use Rattle.nv_book.specs.Records.{holder_of}
 use Rattle.nv_book.specs.declared.record.Record.{Record}
 use Rattle.nv_calls.specs.Retiring.{name_of, record_of}
-use Rattle.nv_cell.specs.Killed.{part_of_pair}
 use Rattle.nv_cell.specs.Marks.{bit, is_current, is_killed, mark_at}
 use Rattle.nv_cell.specs.Named.{number_named}
-use Rattle.nv_cell.specs.Numbers.{dies, is_number, killed_numbers, killed_part, part_base, published_mark}
+use Rattle.nv_cell.specs.Numbers.{is_number}
 use Rattle.nv_cell.specs.declared.killed.KilledPart.{KilledPart}
 use Rattle.nv_cell.specs.declared.mark.Mark.{Mark}
 use Rattle.nv_cell.specs.declared.mark.Mark.TheVariants.{Current, Kept, Killed, Out}
-use Rattle.nv_cell.proofs.Cells.{mark_now}
-use Rattle.nv_cell.proofs.NamedParts.{are_pairs, dies_at, names_of_parts, pair_later}
-use Rattle.nv_cell.proofs.Publishing.{total_take}
-use Rattle.nv_cell.proofs.ValuesNow.{IsLog-take}
+use Rattle.nv_cell.proofs.NamedParts.{pair_later}
 use Rattle.nv_entry.specs.Covered.{is_covered, part_count, part_total}
-use Rattle.nv_entry.specs.Held.{holds, pair_name}
+use Rattle.nv_entry.specs.Held.{holds}
 use Rattle.nv_entry.specs.Log.{IsLog, pairs}
 use Rattle.nv_entry.specs.declared.held.Pair.{Pair}
 use Rattle.nv_entry.specs.declared.item.Entry.{Entry}
-use Rattle.nv_entry.specs.declared.part.PartId.{PartId}
 use Rattle.nv_epoch.specs.Holders as holders
 use Rattle.nv_epoch.proofs.Last.{none_passes}
 use Rattle.nv_machine.specs.Held.{is_of_slot}
 use Rattle.nv_machine.specs.Recorded.{is_kept}
-use Rattle.nv_machine.proofs.FiledLists.{all_append, count, count_append, count_cons, count_same, one}
+use Rattle.nv_machine.proofs.FiledLists.{all_append, count, count_append, count_cons, one}
 use Rattle.nv_machine.proofs.Lists.{self}
-use Rattle.nv_machine.proofs.Pairs.{HasPair, current_is, has_more, has_number, number_front, pair_front, pair_there}
+use Rattle.nv_machine.proofs.Pairs.{HasPair, has_number}
 
 -- ---- what marks say
 

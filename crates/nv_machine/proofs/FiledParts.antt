@@ -1,5 +1,5 @@
 -- What the marks of every slot tell: which parts are current, and that a part is covered that a drain is to release.
-use Rattle.std.proofs.Common.{◌≡◌, ℕ, ◌+◌, ◌<◌, ◌≤◌, ◌++◌, ◌∙◌, Bool, true, false, not, List, [], ◌∷◌, Option, Some, None, ap, arith, length, nat_lt, refl, subst, sym}
+use Rattle.std.proofs.Common.{◌≡◌, ℕ, ◌<◌, ◌≤◌, ◌++◌, ◌∙◌, Bool, true, false, not, List, [], ◌∷◌, Option, Some, None, ap, arith, length, nat_lt, refl, sym}
 use Rattle.std.specs.Prelude.{unwrap_or}
 use Rattle.std.specs.List.{AllByRecursion}
 use Rattle.std.proofs.lemmas.Bool.{ltb-true}
@@ -8,7 +8,7 @@ use Rattle.nv_base.specs.declared.geometry.GeometryNumbers.{GeometryNumbers}
 use Rattle.nv_book.specs.declared.record.Record.{Record}
 use Rattle.nv_calls.specs.Retiring.{name_of}
 use Rattle.nv_cell.specs.Cell.{CellState, HasMarks, log_of, number_in}
-use Rattle.nv_cell.specs.Marks.{bit, is_current, mark_at}
+use Rattle.nv_cell.specs.Marks.{mark_at}
 use Rattle.nv_cell.specs.declared.killed.KilledPart.{KilledPart}
 use Rattle.nv_cell.specs.declared.mark.Mark.{Mark}
 use Rattle.nv_cell.proofs.ValuesNow.{IsLog-take}
@@ -20,7 +20,7 @@ use Rattle.nv_machine.specs.Held.{picked_by_actor, picked_by_call}
 use Rattle.nv_machine.specs.Kept.{IsReleaseCovered, IsReleaseCoveredBy}
 use Rattle.nv_machine.specs.Recorded.{is_kept, records_after}
 use Rattle.nv_machine.specs.Step.{after}
-use Rattle.nv_machine.specs.World.{Event, Next, Release, Running, Snapshots, World, actor_at, cell_at, idle}
+use Rattle.nv_machine.specs.World.{Event, Next, Release, Running, Snapshots, World, actor_at, cell_at}
 use Rattle.nv_machine.proofs.FiledLaw.{all_marked}
 use Rattle.nv_machine.proofs.FiledLists.{all_back, count, count_append, count_cons, one}
 use Rattle.nv_machine.proofs.FiledMarks.{AreMarks, IsTold, bit_is, is_filed_on, kept_not_current, pair_low}
@@ -81,7 +81,8 @@ releases_covered g events actor within = go (actor_at w actor).running refl wher
       let had : picked_by_actor (actor_at w actor) ≡ d ∷ [] =
       ap (λ (o : Option Running). picked_by_call o) is ∙ ap (λ (k : Next). picked_by_call (Some (record r { next = k }))) e in
       let low : actor < length w.actors = there (nat_lt actor (length w.actors)) r refl is in
-      let told : AllByRecursion T (d ∷ []) = rw had at (own_all picked_by_actor T w.actors actor low (all_back T rs (picked_in w) m.told)) in
+      let told : AllByRecursion T (d ∷ []) = rw had at (own_all picked_by_actor T w.actors actor low
+          (all_back T rs (picked_in w) m.told)) in
       let pair = told.0 refl in
       let p : Record → Bool = is_filed_on d.ino (log_of cell) pair.n in
       let number : number_in cell (name_of d) ≡ pair.n = ap (λ (o : Option ℕ). unwrap_or o 0)

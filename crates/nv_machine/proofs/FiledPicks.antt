@@ -1,11 +1,11 @@
 -- Which record a call has picked after a step, and that it has killed parts in its hand within its commit alone.
 use Rattle.std.proofs.Common.{◌≡◌, ℕ, zero, suc, ◌+◌, ◌++◌, Bool, true, false, List, [], ◌∷◌, Option, Some, None, if◌then◌else◌, length, nat_lt, refl}
-use Rattle.std.specs.Prelude.{◌||◌, not, Ok, Err}
+use Rattle.std.specs.Prelude.{Ok, Err}
 use Rattle.std.proofs.lemmas.Bool.{true≢false}
 use Rattle.nv_base.specs.declared.geometry.GeometryNumbers.{GeometryNumbers}
 use Rattle.nv_book.specs.declared.record.Record.{Record}
 use Rattle.nv_calls.specs.Refusals.{Check as Tests}
-use Rattle.nv_calls.specs.Retiring.{is_erased, number_back, released}
+use Rattle.nv_calls.specs.Retiring.{is_erased, number_back}
 use Rattle.nv_calls.specs.declared.answer.Answer.{Answer}
 use Rattle.nv_calls.specs.declared.looked.Looked.{Looked}
 use Rattle.nv_cell.specs.Cell.{CellState}
@@ -15,11 +15,10 @@ use Rattle.nv_machine.specs.Held.{picked_at, picked_on}
 use Rattle.nv_machine.specs.Kinds.{again_turn, back_turn, blocks_turn, check_turn, drained_turn, end_turn, enter_turn, grown, last_turn, lock_turn, look_turn, number_turn, over_turn, pages_turn, rest_turn, unlocked_turn, visit_turn, wants_blocks, wants_pages, with_erased}
 use Rattle.nv_machine.specs.Locks.{commits_at}
 use Rattle.nv_machine.specs.Reads.{slots_of, written_slots}
-use Rattle.nv_machine.specs.Sequence.{Beginning, Looks, Locks, Numbers, OnSnapshots, Visits, appending, beginning, begun, closing, directories, first_step, locking, looking, nothing_looked, opening, publishing, retiring}
-use Rattle.nv_machine.specs.Snapshots.{drop_turn, first_showing, if_free, is_first, lock_picked_turn, make_tests, make_turn, pin_turn, show_or_unpin, show_turn, snapshot_turn}
+use Rattle.nv_machine.specs.Sequence.{appending, beginning, begun, closing, directories, first_step, locking, looking, opening, publishing, retiring}
+use Rattle.nv_machine.specs.Snapshots.{drop_turn, first_showing, if_free, lock_picked_turn, make_tests, make_turn, pin_turn, show_or_unpin, show_turn}
 use Rattle.nv_machine.specs.Step.{ending_at, kind_turn, with_made}
-use Rattle.nv_machine.specs.World.{Answers, Append, Back, Check, Close, Draining, Drains, Drop, Ending, Ends, Enter, Give, HandState, Leave, Lock, LockPicked, Look, Make, Moves, Next, Number, Open, Overtaken, Pick, Pin, Publish, Ready, Refuses, Release, Retire, Running, Shared, Show, Showing, SnapshotStep, Snapshots, TakeBlocks, TakePages, Turn, Unlock, Unpin, Visit, Waits}
-use Rattle.nv_machine.proofs.Kept.{AfterTurn, back_deed, deed, number_deed, turn_keeps}
+use Rattle.nv_machine.specs.World.{Answers, Append, Back, Check, Close, Draining, Drains, Drop, Ending, Ends, Enter, Give, HandState, Leave, Lock, LockPicked, Look, Make, Moves, Next, Number, Open, Overtaken, Pick, Pin, Publish, Ready, Refuses, Release, Retire, Running, Shared, Show, Showing, Snapshots, TakeBlocks, TakePages, Turn, Unlock, Unpin, Visit, Waits}
 use Rattle.nv_calls.specs.declared.call.Call.{Call}
 use Rattle.nv_calls.specs.declared.call.Call.TheVariants as call
 use Rattle.nv_calls.specs.declared.snapshot_call.SnapshotCall.{SnapshotCall}

@@ -1,6 +1,6 @@
 -- What marks say after a publish, and of an inode that is erased; and where snapshots come and go.
 use Rattle.std.proofs.Common.{◌≡◌, ℕ, zero, suc, ◌+◌, ◌<◌, ◌≤◌, ◌==◌, ◌&&◌, ◌++◌, ◌∙◌, Bool, true, false, cond, not, List, [], ◌∷◌, Option, Some, None, ap, arith, drop, filter, flat_map, inl, inr, length, map, nat_lt, refl, slice_get, subst, sym, take}
-use Rattle.std.specs.Prelude.{is_some, option_to_list}
+use Rattle.std.specs.Prelude.{option_to_list}
 use Rattle.std.specs.List.{AllByRecursion, range_with_len}
 use Rattle.std.specs.Option.{IsSome, option_map}
 use Rattle.std.proofs.lemmas.Bool.{and_parts, cases_lt, eqb-false, eqb-true, false≢true, le-ltb, ltb-false, ltb-true, ne_eqb}
@@ -12,10 +12,10 @@ use Rattle.nv_calls.specs.Retiring.{name_of}
 use Rattle.nv_cell.specs.Killed.{part_of_pair}
 use Rattle.nv_cell.specs.Marks.{bit, is_current, is_killed, mark_at}
 use Rattle.nv_cell.specs.Named.{number_named}
-use Rattle.nv_cell.specs.Numbers.{dies, is_number, killed_numbers, killed_part, part_base, published_mark}
+use Rattle.nv_cell.specs.Numbers.{dies, is_number, killed_part, part_base, published_mark}
 use Rattle.nv_cell.specs.declared.killed.KilledPart.{KilledPart}
 use Rattle.nv_cell.specs.declared.mark.Mark.{Mark}
-use Rattle.nv_cell.specs.declared.mark.Mark.TheVariants.{Current, Kept, Killed, Out}
+use Rattle.nv_cell.specs.declared.mark.Mark.TheVariants.{Current, Killed, Out}
 use Rattle.nv_cell.proofs.Cells.{mark_now}
 use Rattle.nv_cell.proofs.NamedParts.{are_pairs, dies_at, names_of_parts}
 use Rattle.nv_cell.proofs.Publishing.{total_take}
@@ -26,7 +26,6 @@ use Rattle.nv_entry.specs.Held as held
 use Rattle.nv_entry.specs.Log.{IsLog, pairs}
 use Rattle.nv_entry.specs.declared.held.Pair.{Pair}
 use Rattle.nv_entry.specs.declared.item.Entry.{Entry}
-use Rattle.nv_entry.specs.declared.part.PartId.{PartId}
 use Rattle.nv_machine.specs.Held.{is_of_slot}
 use Rattle.nv_machine.specs.Recorded.{is_kept}
 use Rattle.nv_machine.proofs.FiledLists.{all_append, all_weaker, count, count_append, count_cons, count_same, one}
@@ -120,7 +119,8 @@ module _ (block : ℕ) (es : List Entry) (tail : ℕ) (is : IsLog es) where
     without_it false e d more = more
 
     go : (b : Bool) → dies_now m ≡ b → count (is_killed_on es n) (dead ns) ≡ cond (dies_now n) (count (λ m. m == n) ns) 0
-        → count (is_killed_on es n) (flat_map (λ n. option_to_list (killed_part es n)) (cond b (m ∷ filter dies_now ns) (filter dies_now ns)))
+        → count (is_killed_on es n) (flat_map (λ n. option_to_list (killed_part es n))
+            (cond b (m ∷ filter dies_now ns) (filter dies_now ns)))
         ≡ cond (dies_now n) (count (λ m. m == n) (m ∷ ns)) 0
     go true d more =
         count_append (is_killed_on es n) (option_to_list (killed_part es m)) (dead ns)
@@ -202,7 +202,8 @@ module _ (block : ℕ) (es : List Entry) (tail : ℕ) (is : IsLog es) where
       | inr ge ↦ ap is_kept (get_or_past marks n Out (omega (arith, ge, h.len)))
     ]
 
-    killed_now : (d a c : Bool) (old : Mark) → is_killed old ≡ false → one d ≡ bit (is_killed (cond d Killed (cond a old (cond c Current Out))))
+    killed_now : (d a c : Bool) (old : Mark) → is_killed old ≡ false
+        → one d ≡ bit (is_killed (cond d Killed (cond a old (cond c Current Out))))
     killed_now true a c old e = refl
     killed_now false true c old e = omega (arith, ap bit e)
     killed_now false false true old e = refl
@@ -259,7 +260,8 @@ module _ (block : ℕ) (es : List Entry) (tail : ℕ) (is : IsLog es) where
               let same : was ≡ pair = same_Some was pair (sym now ∙ got) in
               subst (λ (x : Pair). AllByRecursion (λ s. holds s x ≡ false) living) same (h.out n was at e)
 
-          old : (o : Option Pair) → slice_get (pairs block (take tail es)) n ≡ o → IsSome o → AllByRecursion (λ s. holds s pair ≡ false) living
+          old : (o : Option Pair) → slice_get (pairs block (take tail es)) n ≡ o → IsSome o
+              → AllByRecursion (λ s. holds s pair ≡ false) living
           old None at there = absurd (false≢true there)
           old (Some was) at there =
               let low : n < part_total (take tail es) = ltb-true n (part_base es tail) p in

@@ -1,6 +1,5 @@
 -- What is filed is told by the record list, whatever events come.
-use Rattle.std.proofs.Common.{◌≡◌, ℕ, ◌<◌, ◌≤◌, ◌∙◌, Bool, true, false, if◌then◌else◌, List, [], ◌∷◌, Option, Some, None, ap, arith, length, nat_lt, refl, subst, sym}
-use Rattle.std.specs.List.{All}
+use Rattle.std.proofs.Common.{◌≡◌, ℕ, ◌∙◌, Bool, true, false, if◌then◌else◌, List, [], ◌∷◌, Option, Some, None, ap, arith, length, nat_lt, refl, subst, sym}
 use Rattle.std.proofs.lemmas.Bool.{ltb-false}
 use Rattle.std.proofs.lemmas.List.{get_or_past}
 use Rattle.std.proofs.lemmas.Option.{none-some}
@@ -12,12 +11,12 @@ use Rattle.nv_calls.specs.declared.call.Call.{Call}
 use Rattle.nv_epoch.specs.SnapList.{ids}
 use Rattle.nv_machine.specs.Format.{formatted}
 use Rattle.nv_machine.specs.Hands.{AreNumbers, HandAt, HandOf}
-use Rattle.nv_machine.specs.Locks.{AreLocks, HasSlots, IsInside, commits_at, slots_on}
+use Rattle.nv_machine.specs.Locks.{AreLocks, HasSlots, IsInside, slots_on}
 use Rattle.nv_machine.specs.Order.{CommitsIn, IsInOrder}
 use Rattle.nv_machine.specs.PlainRun as plain
 use Rattle.nv_machine.specs.Recorded.{after_deed, records_after, records_in, retired_in}
 use Rattle.nv_machine.specs.Step.{after, go_step, start_step, step, turn, turned}
-use Rattle.nv_machine.specs.World.{Actor, Ends, Event, Go, HandState, Moves, Next, Running, Shared, SnapshotStep, Snapshots, Start, Turn, Waits, World, actor_at, empty_hand, idle}
+use Rattle.nv_machine.specs.World.{Actor, Ends, Event, Go, HandState, Moves, Next, Running, SnapshotStep, Snapshots, Start, Turn, Waits, World, actor_at, empty_hand, idle}
 use Rattle.nv_machine.proofs.FiledTurns.{CanList, Listed, OnListed, list_after, turn_listed, waits_listed}
 use Rattle.nv_machine.proofs.FromScratch.{all_numbers}
 use Rattle.nv_machine.proofs.InOrder.{events_order, new_order}

@@ -1,19 +1,15 @@
 -- Makings, drops, picks and releases keep what marks say of every slot.
-use Rattle.std.proofs.Common.{◌≡◌, ◌≢◌, ℕ, zero, suc, ◌+◌, ◌-◌, ◌<◌, ◌≤◌, ◌==◌, ◌&&◌, ◌++◌, ◌∙◌, Bool, true, false, cond, not, List, [], ◌∷◌, Option, Some, None, ap, arith, drop, filter, flat_map, inl, inr, length, nat_le, nat_lt, refl, slice_get, subst, sym, take}
-use Rattle.std.specs.Prelude.{Ok, Err}
+use Rattle.std.proofs.Common.{◌≡◌, ℕ, zero, suc, ◌+◌, ◌-◌, ◌<◌, ◌≤◌, ◌==◌, ◌&&◌, ◌++◌, ◌∙◌, Bool, true, false, cond, not, List, [], ◌∷◌, Option, Some, None, ap, arith, drop, inl, inr, length, nat_le, refl, slice_get, subst, sym, take}
 use Rattle.std.specs.List.{AllByRecursion}
 use Rattle.std.specs.Option.{option_map}
 use Rattle.std.proofs.lemmas.Bool.{cases_lt, false≢true, le-ltb}
 use Rattle.std.proofs.lemmas.Option.{same_Some}
-use Rattle.nv_alloc.specs.Numbers.{has}
-use Rattle.nv_base.specs.declared.fault.Fault.{Fault}
 use Rattle.nv_book.specs.Book.{after_drop_snapshot, after_make_snapshot, after_pick}
 use Rattle.nv_book.specs.Listed.{unheld, with_moved, without_first}
 use Rattle.nv_book.specs.Records.{holder_of}
 use Rattle.nv_book.specs.declared.record.Record.{Record}
-use Rattle.nv_calls.specs.Retiring.{erased, name_of, released}
+use Rattle.nv_calls.specs.Retiring.{erased, released}
 use Rattle.nv_calls.specs.Slots.{IsBefore}
-use Rattle.nv_calls.specs.declared.answer.Answer.{Answer}
 use Rattle.nv_cell.specs.Cell.{CellState, log_of}
 use Rattle.nv_cell.specs.Marks.{is_current, mark_at}
 use Rattle.nv_cell.specs.declared.killed.KilledPart.{KilledPart}
@@ -30,17 +26,17 @@ use Rattle.nv_entry.specs.declared.item.Entry.{Entry}
 use Rattle.nv_entry.specs.declared.part.Part.{Part}
 use Rattle.nv_epoch.specs.Holders.{without}
 use Rattle.nv_epoch.specs.SnapList.{ids}
-use Rattle.nv_machine.specs.Held.{killed_by_actor, killed_by_call, killed_in, picked_at, picked_by_actor, picked_by_call}
+use Rattle.nv_machine.specs.Held.{killed_by_actor, killed_by_call, killed_in, picked_by_actor, picked_by_call}
 use Rattle.nv_machine.specs.Locks.{AreLocks}
 use Rattle.nv_machine.specs.Step.{changed}
-use Rattle.nv_machine.specs.World.{Actor, HandState, LockPicked, Release, Running, Shared, World, actor_at, cell_at, with_book, with_cell}
+use Rattle.nv_machine.specs.World.{Actor, HandState, Running, Shared, World, actor_at, cell_at, with_book, with_cell}
 use Rattle.nv_machine.proofs.FiledBooks.{ids_made, ids_removed}
 use Rattle.nv_machine.proofs.FiledCommits.{one_cell}
 use Rattle.nv_machine.proofs.FiledDrops.{makes, removes}
 use Rattle.nv_machine.proofs.FiledLists.{all_append, all_back, all_filter, all_first, all_front, all_moved, all_weaker, count, count_append, count_cons, count_first, count_moved, first_among, first_unheld, one}
-use Rattle.nv_machine.proofs.FiledMarks.{AreMarks, IsTold, is_filed_on, pair_low}
+use Rattle.nv_machine.proofs.FiledMarks.{IsTold, is_filed_on, pair_low}
 use Rattle.nv_machine.proofs.FiledPublish.{filed_marks, living_marks}
-use Rattle.nv_machine.proofs.FiledSteps.{AreFresh, MarksOf, erased_cell, erased_fresh, other_slot, recounted, released_cell}
+use Rattle.nv_machine.proofs.FiledSteps.{MarksOf, erased_cell, erased_fresh, other_slot, recounted, released_cell}
 use Rattle.nv_machine.proofs.FiledTurns.{Listed}
 use Rattle.nv_machine.proofs.FiledWorlds.{AreMarked, marks_as, no_killed, picked_in, same_killed, same_picked}
 use Rattle.nv_machine.proofs.Pairs.{current_is}
@@ -139,7 +135,8 @@ module _ (w : World) (a : ℕ) (rs : List Record) (locks : AreLocks w) (free : w
       let v : World = changed t h running a w in
       let picked : picked_in v ≡ picked_in w = same_picked w a t h running picks in
       record {
-        cells = λ ino. marks_as (ids t.book.snaps) ino (epoch + 1) [] (killed_in v ino) (rs ++ picked_in w) (rs ++ picked_in v) (cell_at s ino)
+        cells = λ ino. marks_as (ids t.book.snaps) ino (epoch + 1) [] (killed_in v ino) (rs ++ picked_in w) (rs ++ picked_in v)
+            (cell_at s ino)
             (none_now t ino) (ap (λ (d : List Record). rs ++ d) picked)
             (subst (λ (ss : List ℕ). MarksOf ss ino (epoch + 1) [] (rs ++ picked_in w) (cell_at s ino)) (sym (ids_made s.book.snaps))
             (living_marks living (living ++ epoch ∷ []) ino epoch (epoch + 1) (rs ++ picked_in w) (cell_at s ino).block

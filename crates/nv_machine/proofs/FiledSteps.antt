@@ -1,8 +1,8 @@
 -- Marks of all slots, and what an append, a publish, a retire, an erasing and a release leave of them.
-use Rattle.std.proofs.Common.{◌≡◌, ◌≢◌, ℕ, zero, suc, ◌+◌, ◌<◌, ◌≤◌, ◌==◌, ◌&&◌, ◌++◌, ◌∙◌, Bool, true, false, cond, not, List, [], ◌∷◌, Option, Some, None, ap, append-nil, arith, drop, filter, if◌then◌else◌, length, length-append, refl, set, subst, sym, take}
-use Rattle.std.specs.Prelude.{is_none, slice_index_or, unwrap_or}
+use Rattle.std.proofs.Common.{◌≡◌, ◌≢◌, ℕ, zero, suc, ◌+◌, ◌≤◌, ◌&&◌, ◌++◌, ◌∙◌, Bool, true, false, cond, not, List, [], ◌∷◌, Option, Some, None, ap, append-nil, arith, drop, if◌then◌else◌, length, refl, set, subst, sym}
+use Rattle.std.specs.Prelude.{is_none, unwrap_or}
 use Rattle.std.specs.List.{AllByRecursion, list_any}
-use Rattle.std.proofs.lemmas.Bool.{and_parts, eqb-false, eqb-true, false≢true, ne_eqb}
+use Rattle.std.proofs.lemmas.Bool.{and_parts, false≢true, ne_eqb}
 use Rattle.std.proofs.lemmas.List.{append_assoc, drop-append-le, take-append-le}
 use Rattle.nv_alloc.specs.Block.{BlockValue}
 use Rattle.nv_book.specs.Listed.{with_retired}
@@ -12,24 +12,20 @@ use Rattle.nv_calls.specs.Retiring.{erased, is_erased, keeper_of, killed_by, nam
 use Rattle.nv_cell.specs.Append.{appended, blocks_for}
 use Rattle.nv_cell.specs.Cell.{CellState, empty_cell, log_of, number_in, published}
 use Rattle.nv_cell.specs.Marks.{is_there, mark_at}
-use Rattle.nv_cell.specs.Named.{number_named}
-use Rattle.nv_cell.specs.Numbers.{is_number}
 use Rattle.nv_cell.specs.Readers.{is_gone, keeps_nothing}
 use Rattle.nv_cell.specs.declared.killed.KilledPart.{KilledPart}
 use Rattle.nv_cell.specs.declared.mark.Mark.{Mark}
 use Rattle.nv_cell.specs.declared.mark.Mark.TheVariants.{Kept, Out}
 use Rattle.nv_cell.proofs.Droppable.{all_out}
 use Rattle.nv_cell.proofs.Publishing.{take_whole}
-use Rattle.nv_cell.proofs.ValuesNow.{IsLog-take}
 use Rattle.nv_entry.specs.Blocks.{item_blocks}
 use Rattle.nv_entry.specs.Log.{IsLog}
 use Rattle.nv_entry.specs.declared.item.Entry.{Entry}
-use Rattle.nv_machine.specs.Held.{is_of_slot}
 use Rattle.nv_machine.specs.Kinds.{with_entries, with_pages}
 use Rattle.nv_machine.specs.Recorded.{with_parts}
-use Rattle.nv_machine.proofs.FiledLists.{HasHolder, all_append, all_weaker, count, count_append, count_cons, one}
+use Rattle.nv_machine.proofs.FiledLists.{HasHolder, all_append, count, count_cons, one}
 use Rattle.nv_machine.proofs.FiledMarks.{AreMarks, IsTold, freed_marks, is_filed_on, kept_marks, killed_number, released_marks, filed_number}
-use Rattle.nv_machine.proofs.FiledPublish.{erased_marks, filed_marks, published_marks}
+use Rattle.nv_machine.proofs.FiledPublish.{erased_marks, published_marks}
 use Rattle.nv_machine.proofs.Pairs.{HasPair}
 
 -- ---- the marks of a cell
@@ -153,7 +149,8 @@ pub parts_are_of : (living : List ℕ) (ino epoch : ℕ) (ks : List KilledPart) 
     → AllByRecursion (λ (d : Record). d.ino ≡ ino) (with_parts living ino epoch ks rs)
 parts_are_of living ino epoch [] rs h = h
 parts_are_of living ino epoch (k ∷ ks) rs h =
-    parts_are_of living ino epoch ks (with_retired living (record_of ino epoch k) rs) (go (is_none (holder_of living (record_of ino epoch k)))) where
+    parts_are_of living ino epoch ks (with_retired living (record_of ino epoch k) rs)
+        (go (is_none (holder_of living (record_of ino epoch k)))) where
       go : (b : Bool) → AllByRecursion (λ (d : Record). d.ino ≡ ino) (cond b rs (rs ++ record_of ino epoch k ∷ []))
       go true = h
       go false = all_append (λ (d : Record). d.ino ≡ ino) rs (record_of ino epoch k ∷ []) h (refl, tt)
@@ -163,7 +160,8 @@ pub parts_held : (living : List ℕ) (ino epoch : ℕ) (ks : List KilledPart) (r
     → AllByRecursion (HasHolder living) (with_parts living ino epoch ks rs)
 parts_held living ino epoch [] rs h = h
 parts_held living ino epoch (k ∷ ks) rs h =
-    parts_held living ino epoch ks (with_retired living (record_of ino epoch k) rs) (go (holder_of living (record_of ino epoch k)) refl) where
+    parts_held living ino epoch ks (with_retired living (record_of ino epoch k) rs)
+        (go (holder_of living (record_of ino epoch k)) refl) where
       go : (o : Option ℕ) → holder_of living (record_of ino epoch k) ≡ o
           → AllByRecursion (HasHolder living) (cond (is_none o) rs (rs ++ record_of ino epoch k ∷ []))
       go None e = h

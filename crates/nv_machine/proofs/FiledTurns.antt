@@ -1,5 +1,5 @@
 -- What is filed is told by the record list after every step.
-use Rattle.std.proofs.Common.{◌≡◌, ℕ, zero, suc, ◌+◌, ◌≤◌, ◌<◌, ◌==◌, ◌∙◌, Bool, true, false, cond, not, List, [], ◌∷◌, Option, Some, None, ap, arith, drop, if◌then◌else◌, length, nat_lt, refl, subst, sym}
+use Rattle.std.proofs.Common.{◌≡◌, ℕ, zero, suc, ◌+◌, ◌==◌, Bool, true, false, cond, not, List, [], ◌∷◌, Option, Some, None, ap, arith, drop, if◌then◌else◌, length, nat_lt, refl, subst, sym}
 use Rattle.std.specs.Prelude.{◌||◌, Ok, Err}
 use Rattle.std.specs.List.{Contains}
 use Rattle.std.proofs.lemmas.Bool.{eqb-true}
@@ -8,7 +8,6 @@ use Rattle.nv_base.specs.declared.fault.Fault.{Fault}
 use Rattle.nv_base.specs.declared.fault.Fault.TheVariants.{OutOfMemory}
 use Rattle.nv_book.specs.declared.record.Record.{Record}
 use Rattle.nv_calls.specs.Refusals.{Check as Tests}
-use Rattle.nv_cell.specs.declared.killed.KilledPart.{KilledPart}
 use Rattle.nv_entry.specs.declared.node.NodeCopy.{NodeCopy}
 use Rattle.nv_epoch.specs.SnapList.{ids, numbers, pins_at, pins_of}
 use Rattle.nv_epoch.specs.declared.snapshot.Snapshot.{Snapshot}
@@ -60,7 +59,8 @@ entered_same (Moves s h r) living rs = go (commits_at r.next) where
 entered_same Waits living rs = refl
 entered_same (Ends result s h) living rs = refl
 
-pub published_same : (b : Bool) (living : List ℕ) (rs : List Record) → after_deed (if b then plain.Nothing else plain.Commits) living rs ≡ rs
+pub published_same : (b : Bool) (living : List ℕ) (rs : List Record)
+    → after_deed (if b then plain.Nothing else plain.Commits) living rs ≡ rs
 published_same true living rs = refl
 published_same false living rs = refl
 
@@ -100,7 +100,8 @@ module _ (rs : List Record) (s : Shared) (h : HandState) (r : Running) (is : Lis
   none_picked [] e draining =
       let left = picked_listed s.book.snaps s.book.manifests s.book.deferred rs is in
       let none : drop 1 s.book.deferred ≡ s.book.deferred = rw e refl in
-      subst (λ (ds : List Record). IsListed s.book.snaps s.book.manifests ds (after_deed (plain.OnSnapshots (Pick draining)) (ids s.book.snaps) rs))
+      subst (λ (ds : List Record). IsListed s.book.snaps s.book.manifests ds
+          (after_deed (plain.OnSnapshots (Pick draining)) (ids s.book.snaps) rs))
       none left
   none_picked (picked ∷ deferred) e draining = picked_listed s.book.snaps s.book.manifests s.book.deferred rs is
 

@@ -1,7 +1,6 @@
 -- The marks of every slot of a world, beside the killed parts in all hands, the record list and what drains have picked; and that
 -- steps which leave cells and snapshots keep them so.
-use Rattle.std.proofs.Common.{◌≡◌, ◌≢◌, ℕ, ◌<◌, ◌≤◌, ◌==◌, ◌++◌, ◌∙◌, Bool, true, false, List, [], ◌∷◌, Option, Some, None, ap, drop, flat_map, get_or-set_other, get_or-set_same, arith, length, length-set, refl, set, subst, sym, take}
-use Rattle.std.specs.Prelude.{slice_index_or}
+use Rattle.std.proofs.Common.{◌≡◌, ◌≢◌, ℕ, ◌<◌, ◌≤◌, ◌==◌, ◌++◌, ◌∙◌, Bool, true, false, List, [], Option, Some, None, ap, flat_map, get_or-set_other, get_or-set_same, arith, length, length-set, refl, set, subst, sym}
 use Rattle.std.specs.List.{AllByRecursion}
 use Rattle.std.proofs.lemmas.Bool.{eqb-true, true≢false}
 use Rattle.nv_book.specs.Records.{holder_of}

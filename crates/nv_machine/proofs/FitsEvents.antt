@@ -31,7 +31,7 @@ use Rattle.nv_machine.specs.Reads.{pages_needed, slot_at, slots_of, written_slot
 use Rattle.nv_machine.specs.Sequence.{Beginning, Looks, Locks, Numbers, Visits, beginning, begun, nothing_looked}
 use Rattle.nv_machine.specs.Settled.{node_by, settled, settled_nodes, settled_tail}
 use Rattle.nv_machine.specs.Step.{after, go_step, start_step, step, turn, turned}
-use Rattle.nv_machine.specs.World.{Actor, Append, Back, Check, Close, Ends, Enter, Event, Give, Go, HandState, Leave, Lock, Look, Moves, Next, Number, Open, Publish, Ready, Retire, Running, Shared, Start, TakeBlocks, TakePages, Turn, Unlock, Visit, Waits, World, actor_at, cell_at, empty_hand, idle, no_cell, owner_at, with_cell, Drop, LockPicked, Make, Pick, Pin, Release, Show, SnapshotStep, Snapshots, Unpin}
+use Rattle.nv_machine.specs.World.{Actor, Append, Back, Check, Close, Ends, Enter, Event, Give, Go, HandState, Leave, Lock, Look, Moves, Next, Number, Open, Publish, Ready, Retire, Running, Shared, Start, TakeBlocks, TakePages, Turn, Unlock, Visit, Waits, World, actor_at, cell_at, empty_hand, idle, no_cell, owner_at, with_cell, Drop, LockPicked, Make, Pick, Pin, Release, Show, Snapshots, Unpin}
 use Rattle.nv_machine.proofs.Answered.{deed_is}
 use Rattle.nv_machine.proofs.Lists.{written_inside}
 use Rattle.nv_machine.proofs.Effects.{new_sound, point_is_sound, take_none}

@@ -23,7 +23,7 @@ use Rattle.nv_machine.specs.Locks.{AreLocks, AreSlots}
 use Rattle.nv_machine.specs.PoolScan.{has_entry, has_inode}
 use Rattle.nv_machine.specs.Reads.{is_written, pages_needed, slot_at, written_slots}
 use Rattle.nv_machine.specs.Step.{after, go_step, start_step, step, turn, turned}
-use Rattle.nv_machine.specs.World.{Append, Back, Check, Close, Ends, Enter, Event, Give, Go, HandState, Leave, Lock, Look, Moves, Next, Number, Open, Publish, Ready, Retire, Running, Shared, Start, TakeBlocks, TakePages, Turn, Unlock, Visit, Waits, World, actor_at, cell_at, no_cell, with_book, Drop, LockPicked, Make, Pick, Pin, Release, Show, SnapshotStep, Snapshots, Unpin, Draining, with_cell}
+use Rattle.nv_machine.specs.World.{Append, Back, Check, Close, Ends, Enter, Event, Give, Go, HandState, Leave, Lock, Look, Moves, Next, Number, Open, Publish, Ready, Retire, Running, Shared, Start, TakeBlocks, TakePages, Turn, Unlock, Visit, Waits, World, actor_at, cell_at, no_cell, with_book, Drop, LockPicked, Make, Pick, Pin, Release, Show, Snapshots, Unpin, Draining, with_cell}
 use Rattle.nv_machine.proofs.FromScratch.{all_numbers, counted}
 use Rattle.nv_machine.proofs.Kept.{AfterTurn, back_deed, deed, number_deed, turn_keeps}
 use Rattle.nv_machine.proofs.Lists.{has_filter, self, written_inside}

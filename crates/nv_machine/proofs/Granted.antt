@@ -24,7 +24,7 @@ use Rattle.nv_machine.specs.Causes.{EndsFor, IsCause, IsDenied, IsShort, MayBeOv
 use Rattle.nv_machine.specs.Memory.{IsOther}
 use Rattle.nv_machine.specs.Reads.{copies}
 use Rattle.nv_machine.specs.Step.{kind_turn}
-use Rattle.nv_machine.specs.World.{Answers, Check, Ending, Ends, Enter, HandState, Look, Moves, Next, Overtaken, Ready, Refuses, Running, Shared, TakeBlocks, TakePages, Turn, Visit, Waits, Drop, LockPicked, Make, Pick, Pin, Release, Show, SnapshotStep, Snapshots, Unpin, Drains}
+use Rattle.nv_machine.specs.World.{Answers, Check, Ending, Ends, Enter, HandState, Look, Moves, Next, Overtaken, Ready, Refuses, Running, Shared, TakeBlocks, TakePages, Turn, Visit, Waits, Drop, LockPicked, Make, Pick, Pin, Release, Show, Snapshots, Unpin, Drains}
 use Rattle.nv_machine.proofs.Caused.{caused}
 use Rattle.nv_machine.specs.Snapshots.{drop_tests, make_tests}
 use Rattle.nv_epoch.specs.SnapList.{Snapshots as Living, pins_of}

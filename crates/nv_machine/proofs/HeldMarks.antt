@@ -1,5 +1,5 @@
 -- A part is in use exactly where its mark says that it is there.
-use Rattle.std.proofs.Common.{◌≡◌, ℕ, zero, suc, ◌<◌, ◌≤◌, ◌==◌, ◌&&◌, ◌||◌, ◌++◌, ◌∙◌, Bool, true, false, cond, not, List, [], ◌∷◌, Option, Some, None, ap, arith, filter, inl, inr, length, map, refl, slice_get, slice_index_or, sym}
+use Rattle.std.proofs.Common.{◌≡◌, ℕ, zero, suc, ◌<◌, ◌&&◌, ◌||◌, ◌++◌, ◌∙◌, Bool, true, false, cond, List, [], ◌∷◌, Option, Some, None, ap, arith, filter, inl, inr, length, map, refl, slice_get, slice_index_or, sym}
 use Rattle.std.specs.List.{AllByRecursion, Contains, list_any}
 use Rattle.std.specs.Option.{IsSome}
 use Rattle.std.proofs.lemmas.Bool.{and_parts, cases_lt, eqb-true, false≢true}
@@ -9,7 +9,6 @@ use Rattle.std.proofs.lemmas.Option.{same_Some}
 use Rattle.nv_base.specs.Limits.{IsWithinLimits}
 use Rattle.nv_base.specs.declared.geometry.GeometryNumbers.{GeometryNumbers}
 use Rattle.nv_book.specs.Listed.{all_records}
-use Rattle.nv_book.specs.Records.{holder_of, is_held_by}
 use Rattle.nv_book.specs.declared.record.Record.{Record}
 use Rattle.nv_calls.specs.Retiring.{name_of}
 use Rattle.nv_cell.specs.Cell.{CellState, log_of, mark_or_fresh}
@@ -25,19 +24,18 @@ use Rattle.nv_entry.specs.Held.{has_name, holds, is_current, is_held}
 use Rattle.nv_entry.specs.Log.{IsLog, pairs}
 use Rattle.nv_entry.specs.declared.held.Pair.{Pair}
 use Rattle.nv_entry.specs.declared.item.Entry.{Entry}
-use Rattle.nv_entry.specs.declared.part.PartId.{PartId}
 use Rattle.nv_entry.proofs.Currents.{any_map, any_same}
 use Rattle.nv_epoch.specs.Holders as holders
 use Rattle.nv_epoch.specs.SnapList.{ids}
 use Rattle.nv_epoch.proofs.Last.{last_passes}
 use Rattle.nv_machine.specs.Format.{formatted}
-use Rattle.nv_machine.specs.Held.{in_use_by, is_in_use, is_of_slot, killed_in, pending_at, pending_in, retention_at}
+use Rattle.nv_machine.specs.Held.{in_use_by, is_in_use, is_of_slot, killed_in, pending_in, retention_at}
 use Rattle.nv_machine.specs.Recorded.{is_kept, recorded_in, records_after}
 use Rattle.nv_machine.specs.Step.{after}
 use Rattle.nv_machine.specs.World.{Event, World, cell_at}
 use Rattle.nv_machine.proofs.FiledHeld.{any_of}
 use Rattle.nv_machine.proofs.FiledLaw.{all_marked, recorded_all, recorded_once}
-use Rattle.nv_machine.proofs.FiledLists.{HasHolder, all_back, all_front, count, held_filed}
+use Rattle.nv_machine.proofs.FiledLists.{HasHolder, all_front, count, held_filed}
 use Rattle.nv_machine.proofs.FiledMarks.{AreMarks, IsTold, is_filed_on, is_killed_on, pair_low}
 use Rattle.nv_machine.proofs.FiledParts.{log_in}
 use Rattle.nv_machine.proofs.FiledRuns.{all_listed}
@@ -183,7 +181,8 @@ used_there g events ino n within = go (slice_get (pairs cell.block (log_of cell)
       let l = all_listed g events within in
       let T : Record → Type 0 = IsTold ino cell.block (log_of cell) in
       let all : AllByRecursion T (recorded_in w) = recorded_all g events T within m.told in
-      in_use_there (ids w.shared.book.snaps) ino w.shared.book.snaps.epoch (killed_in w ino) _ cell.block (log_of cell) cell.marks log m n pair e
+      in_use_there (ids w.shared.book.snaps) ino w.shared.book.snaps.epoch (killed_in w ino) _ cell.block (log_of cell) cell.marks log
+          m n pair e
       (all_records w.shared.book.manifests) (pending_in w) (all_front T (all_records w.shared.book.manifests) (pending_in w) all)
       (held_filed (ids w.shared.book.snaps) w.shared.book.manifests w.shared.book.deferred (records_after (formatted g) events []) l.list)
       (recorded_once g events within ino n)

@@ -88,6 +88,7 @@ pub mod EndsWritten
 pub mod EndsTold
 pub mod EndsTurns
 pub mod EndsRuns
+pub mod EndsSilent
 pub mod HeldLaw
 pub mod Erased
 pub mod GoneTurns
@@ -96,6 +97,7 @@ pub mod Erasing
 pub mod Returning
 pub mod ErasedRows
 pub mod HeldRows
+pub mod SnapshotRows
 pub mod Firsts
 pub mod Asking
 pub mod Refusing

@@ -19,7 +19,7 @@ use Rattle.nv_machine.specs.Kinds.{again_turn, back_turn, blocks_turn, check_tur
 use Rattle.nv_machine.specs.Reads.{copies, slots_of, written_slots}
 use Rattle.nv_machine.specs.Sequence.{Beginning, Looks, Locks, Numbers, Visits, beginning, begun, directories, locking, looking, nothing_looked, sequel, OnSnapshots}
 use Rattle.nv_machine.specs.Step.{after, ending_at, go_step, is_numbered, kind_turn, made_in, same_looked, start_step, step, turn, turned, with_made}
-use Rattle.nv_machine.specs.World.{Actor, Answers, Append, Back, Check, Close, Ending, Ends, Enter, Event, Give, Go, HandState, Leave, Lock, Look, Moves, Next, Number, Open, Overtaken, Publish, Ready, Refuses, Retire, Running, Shared, Start, TakeBlocks, TakePages, Turn, Unlock, Visit, Waits, World, actor_at, go_to, idle, Draining, Drains, SnapshotStep, Snapshots}
+use Rattle.nv_machine.specs.World.{Actor, Answers, Append, Back, Check, Close, Ending, Ends, Enter, Event, Give, Go, HandState, Leave, Lock, Look, Moves, Next, Number, Open, Overtaken, Publish, Ready, Refuses, Retire, Running, Shared, Start, TakeBlocks, TakePages, Turn, Unlock, Visit, Waits, World, actor_at, go_to, idle, Drains, SnapshotStep, Snapshots}
 use Rattle.nv_machine.proofs.Answered.{appending_last, publishing_last, retiring_last}
 use Rattle.nv_machine.proofs.Caused.{CheckCause, check_told}
 use Rattle.nv_machine.proofs.Locks.{all_same}

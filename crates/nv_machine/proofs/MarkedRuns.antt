@@ -1,6 +1,6 @@
 -- Whatever events come, each cell has the marks and blocks of its parts; so that each is a cell.
 use Rattle.std.proofs.Common.{◌≡◌, ℕ, zero, suc, ◌<◌, Bool, true, false, ◌+◌, ◌++◌, ◌∙◌, List, [], ◌∷◌, Option, Some, None, ap, arith, flat_map, length, length-set, nat_lt, refl, replicate, set, subst, sym, take}
-use Rattle.std.specs.Prelude.{◌-◌, ◌%◌, if◌then◌else◌, not, slice_index_or}
+use Rattle.std.specs.Prelude.{◌-◌, if◌then◌else◌, not, slice_index_or}
 use Rattle.std.specs.Option.{option_map}
 use Rattle.std.proofs.lemmas.Bool.{le-ltb, ltb-true}
 use Rattle.nv_alloc.specs.Block.{AreSized, BlockValue, number_of}
@@ -13,7 +13,6 @@ use Rattle.nv_calls.specs.Slots.{items_for, place_in}
 use Rattle.nv_calls.specs.declared.call.Call.{Call}
 use Rattle.nv_cell.specs.Cell.{CellState, IsCell, empty_cell, log_of, mark_or_fresh, page_block, published}
 use Rattle.nv_cell.specs.Marks.{is_current, is_there, mark_at}
-use Rattle.nv_cell.specs.declared.killed.KilledPart.{KilledPart}
 use Rattle.nv_entry.specs.Covered.{is_covered}
 use Rattle.nv_cell.proofs.ValuesNow.{IsLog-take}
 use Rattle.nv_entry.specs.Log.{IsLog}
@@ -23,7 +22,7 @@ use Rattle.std.specs.List.{AllByRecursion}
 use Rattle.nv_machine.specs.Format.{formatted, root_cell}
 use Rattle.nv_machine.specs.Hands.{HandAt, HandOf}
 use Rattle.nv_machine.specs.Held.{killed_in, picked_at, picked_by_actor, picked_by_call}
-use Rattle.nv_machine.specs.Kinds.{blocks_in, entries_for, first_killed, retired_cell, with_entries, with_pages}
+use Rattle.nv_machine.specs.Kinds.{entries_for, first_killed, retired_cell, with_entries, with_pages}
 use Rattle.nv_machine.specs.Locks.{commits_at}
 use Rattle.nv_machine.specs.Reads.{bytes_among, pages_needed, slot_at, written_slots}
 use Rattle.nv_machine.specs.Recorded.{records_after}
@@ -131,7 +130,8 @@ module _ (g : GeometryNumbers) (w : World) (is_known : IsKnown g w) (rs : List R
       let T : Record → Type 0 = IsTold d.ino cell.block (log_of cell) in
       let had : picked_by_actor (actor_at w a) ≡ d ∷ [] =
       ap (λ (o : Option Running). picked_by_call o) is ∙ ap picked_at e in
-      let told : AllByRecursion T (d ∷ []) = rw had at (own_all picked_by_actor T w.actors a there (all_back T rs (picked_in w) mine.told)) in
+      let told : AllByRecursion T (d ∷ []) = rw had at (own_all picked_by_actor T w.actors a there
+          (all_back T rs (picked_in w) mine.told)) in
       let after : List Record = rs ++ flat_map picked_by_actor (set w.actors a idle) in
       let counts : (p : Record → Bool) → count p (rs ++ picked_in w) ≡ one (p d) + count p after =
       λ p. omega (

@@ -15,7 +15,7 @@ use Rattle.nv_machine.specs.Kinds.{blocks_in, first_killed, retired_cell}
 use Rattle.nv_machine.specs.Locks.{AreLocks}
 use Rattle.nv_machine.specs.Numbers.{IsEachOnce, all_blocks, free_of, held_by_actor, stored_in, used_blocks}
 use Rattle.nv_machine.specs.Reads.{slot_at, written_slots}
-use Rattle.nv_machine.specs.World.{Actor, Append, Back, Check, Close, Enter, Give, HandState, Leave, Lock, Look, Next, Number, Open, Publish, Ready, Retire, Running, Shared, TakeBlocks, TakePages, Unlock, Visit, World, actor_at, cell_at, idle, no_list, owner_at, Drop, LockPicked, Make, Pick, Pin, Release, Show, SnapshotStep, Snapshots, Unpin}
+use Rattle.nv_machine.specs.World.{Actor, Append, Back, Check, Close, Enter, Give, HandState, Leave, Lock, Look, Next, Number, Open, Publish, Ready, Retire, Running, Shared, TakeBlocks, TakePages, Unlock, Visit, World, actor_at, cell_at, idle, no_list, owner_at, Drop, LockPicked, Make, Pick, Pin, Release, Show, Snapshots, Unpin}
 use Rattle.nv_machine.proofs.Counted.{CanCount, count}
 use Rattle.nv_machine.proofs.Counting.{set_times}
 use Rattle.nv_machine.proofs.Handed.{GoesHome}

@@ -26,7 +26,7 @@ use Rattle.nv_machine.specs.Reads.{is_written, node_of, pages_needed, pages_want
 use Rattle.nv_machine.specs.Sequence.{appending}
 use Rattle.nv_machine.specs.Step.{ending_at, kind_turn, with_made}
 use Rattle.nv_machine.specs.Wanted.{log_pages_wanted}
-use Rattle.nv_machine.specs.World.{Append, Back, Check, Close, Enter, Give, HandState, Leave, Lock, Look, Next, Number, Open, Publish, Ready, Retire, Running, Shared, TakeBlocks, TakePages, Unlock, Visit, cell_at, go_to, list_at, no_cell, owner_at, with_cell, Drop, LockPicked, Make, Pick, Pin, Release, Show, SnapshotStep, Snapshots, Unpin}
+use Rattle.nv_machine.specs.World.{Append, Back, Check, Close, Enter, Give, HandState, Leave, Lock, Look, Next, Number, Open, Publish, Ready, Retire, Running, Shared, TakeBlocks, TakePages, Unlock, Visit, cell_at, go_to, list_at, no_cell, owner_at, with_cell, Drop, LockPicked, Make, Pick, Pin, Release, Show, Snapshots, Unpin}
 use Rattle.nv_machine.proofs.Firsts.{plain}
 use Rattle.nv_machine.proofs.FitsEvents.{slots_in_cells}
 use Rattle.nv_machine.proofs.FitsKinds.{logs_of}

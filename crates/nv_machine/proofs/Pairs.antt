@@ -1,9 +1,8 @@
 -- Pairs of a log by their numbers and names, and what more entries leave of them.
-use Rattle.std.proofs.Common.{◌≡◌, ℕ, zero, suc, ◌+◌, ◌-◌, ◌<◌, ◌≤◌, ◌&&◌, ◌++◌, ◌∙◌, Bool, true, false, cond, not, List, [], ◌∷◌, Option, Some, None, ap, ap₂, arith, drop, if◌then◌else◌, map, nat_lt, refl, slice_get, slice_index_or, sym, take}
-use Rattle.std.specs.List.{AllByRecursion, flat_map}
+use Rattle.std.proofs.Common.{◌≡◌, ℕ, zero, suc, ◌+◌, ◌-◌, ◌<◌, ◌&&◌, ◌++◌, ◌∙◌, Bool, true, false, not, List, [], ◌∷◌, Option, Some, None, ap, ap₂, if◌then◌else◌, nat_lt, refl, slice_get, slice_index_or, sym}
+use Rattle.std.specs.List.{flat_map}
 use Rattle.std.specs.Option.{IsSome, option_map, option_or}
 use Rattle.std.proofs.lemmas.Bool.{and_parts, eqb-true, false≢true, ltb-false, ltb-true}
-use Rattle.std.proofs.lemmas.List.{take-append-drop}
 use Rattle.std.proofs.lemmas.Option.{same_Some, slice_get-map}
 use Rattle.nv_base.specs.Ids.{is_same_id}
 use Rattle.nv_base.specs.declared.numbers.EntryId.{EntryId}

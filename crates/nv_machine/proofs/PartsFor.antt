@@ -1,5 +1,5 @@
 -- The killed parts of a slot, among lists that belong to slots one by one; and what all actors have, where one has something else.
-use Rattle.std.proofs.Common.{◌≡◌, ◌≢◌, ℕ, zero, suc, ◌+◌, ◌<◌, ◌≤◌, ◌==◌, ◌++◌, ◌∙◌, Bool, true, false, List, [], ◌∷◌, add-one, ap, append-nil, arith, drop, drop-cons, filter, flat_map, get_or-set_other, get_or-set_same, if◌then◌else◌, length, nat_lt, refl, set, sym, take}
+use Rattle.std.proofs.Common.{◌≡◌, ◌≢◌, ℕ, zero, suc, ◌+◌, ◌<◌, ◌≤◌, ◌==◌, ◌++◌, ◌∙◌, Bool, true, false, List, [], ◌∷◌, add-one, ap, append-nil, arith, drop, drop-cons, flat_map, if◌then◌else◌, length, nat_lt, refl, set, sym, take}
 use Rattle.std.specs.Prelude.{◌||◌, slice_index_or}
 use Rattle.std.specs.List.{AllByRecursion}
 use Rattle.std.proofs.lemmas.Bool.{eqb-true, ltb-false, true≢false}

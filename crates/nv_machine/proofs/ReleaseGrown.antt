@@ -1,18 +1,17 @@
 -- After a release all entries of the cell are settled, as before it.
-use Rattle.std.proofs.Common.{◌≡◌, ◌≢◌, ℕ, zero, suc, ◌+◌, ◌<◌, ◌∙◌, Bool, true, false, cond, if◌then◌else◌, List, [], Option, Some, None, ap, length, refl, subst, sym, take}
+use Rattle.std.proofs.Common.{◌≡◌, ◌≢◌, ℕ, zero, suc, ◌+◌, ◌<◌, ◌∙◌, Bool, true, false, if◌then◌else◌, [], Some, ap, length, refl, subst, sym, take}
 use Rattle.nv_calls.specs.Retiring.{erased, is_erased}
 use Rattle.nv_cell.specs.Cell.{CellState, empty_cell}
 use Rattle.nv_entry.specs.declared.item.Entry.{Entry}
 use Rattle.nv_log.specs.Chain.{ChainState}
-use Rattle.nv_machine.specs.Grown.{HasGrown, IsAllSettled}
+use Rattle.nv_machine.specs.Grown.{IsAllSettled}
 use Rattle.nv_machine.specs.Locks.{is_owner}
 use Rattle.nv_machine.specs.Reads.{written_slots}
-use Rattle.nv_machine.specs.Settled.{settled, settled_tail}
+use Rattle.nv_machine.specs.Settled.{settled_tail}
 use Rattle.nv_machine.specs.World.{Ends, HandState, Moves, Shared, Turn, Waits, cell_at, owner_at, with_cell}
 use Rattle.nv_machine.proofs.Grown.{AllFree, CellsLeft, OnGrown, all_settled, not_appended}
 use Rattle.nv_machine.proofs.Holding.{OnLocks}
 use Rattle.nv_machine.proofs.Kept.{AfterTurn}
-use Rattle.nv_machine.proofs.KeptTurns.{none_some}
 use Rattle.nv_machine.proofs.LogsKept.{cell_set}
 
 -- a cell without an entry that is not settled, by the journals

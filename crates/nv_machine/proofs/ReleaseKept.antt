@@ -1,6 +1,5 @@
 -- A release keeps settled logs, and every settled node.
-use Rattle.std.proofs.Common.{◌≡◌, ◌≢◌, ℕ, zero, suc, ◌+◌, ◌%◌, ◌<◌, ◌==◌, ◌∙◌, Bool, true, false, cond, if◌then◌else◌, List, [], Option, Some, None, ap, length, refl, subst, sym, take}
-use Rattle.std.proofs.lemmas.Option.{none-some}
+use Rattle.std.proofs.Common.{◌≡◌, ◌≢◌, ℕ, zero, suc, ◌+◌, ◌<◌, ◌==◌, ◌∙◌, Bool, true, false, cond, if◌then◌else◌, List, [], Option, Some, None, ap, length, refl, subst, sym, take}
 use Rattle.std.specs.Prelude.{unwrap_or}
 use Rattle.nv_book.specs.declared.record.Record.{Record}
 use Rattle.nv_calls.specs.Plain.{PlainNode}
@@ -10,8 +9,6 @@ use Rattle.nv_entry.specs.Covered.{is_covered}
 use Rattle.nv_entry.specs.declared.item.Entry.{Entry}
 use Rattle.nv_machine.specs.Effects.{IsSoundIn}
 use Rattle.nv_machine.specs.Kept.{AreApart, AreLogsKept, HasPages}
-use Rattle.nv_machine.specs.Kinds.{end_turn}
-use Rattle.nv_machine.specs.Locks.{is_owner}
 use Rattle.nv_machine.specs.Reads.{bytes_among}
 use Rattle.nv_machine.specs.Settled.{node_by, settled, settled_tail}
 use Rattle.nv_machine.specs.World.{Shared, cell_at, owner_at, with_cell}

@@ -1,6 +1,6 @@
 -- The law of erasing, of the release step: where the record that it releases was the last that kept a gone inode, this is erased whole.
-use Rattle.std.proofs.Common.{◌≡◌, ◌≢◌, ℕ, ◌+◌, ◌<◌, ◌==◌, ◌||◌, ◌++◌, ◌∙◌, Bool, true, false, List, [], ◌∷◌, Option, Some, None, ap, append-nil, arith, drop, filter, flat_map, get_or-set_same, if◌then◌else◌, inl, inr, length, map, refl, set, slice_get, slice_index_or, subst, sym, take}
-use Rattle.std.specs.Prelude.{nat_le, suc, unwrap_or, zero}
+use Rattle.std.proofs.Common.{◌≡◌, ◌≢◌, ℕ, ◌<◌, ◌==◌, ◌||◌, ◌++◌, ◌∙◌, Bool, true, false, List, [], ◌∷◌, Option, Some, None, ap, append-nil, arith, filter, get_or-set_same, if◌then◌else◌, inl, inr, length, map, refl, slice_get, slice_index_or, subst, sym, take}
+use Rattle.std.specs.Prelude.{suc, zero}
 use Rattle.std.specs.List.{AllByRecursion, list_any}
 use Rattle.std.specs.Option.{IsSome}
 use Rattle.std.proofs.lemmas.Bool.{cases_lt, eqb-false, eqb-true, false≢true}
@@ -10,7 +10,6 @@ use Rattle.nv_alloc.specs.Block.{BlockValue, numbers_of}
 use Rattle.nv_alloc.specs.Numbers.{has}
 use Rattle.nv_base.specs.Limits.{IsWithinLimits}
 use Rattle.nv_base.specs.declared.geometry.GeometryNumbers.{GeometryNumbers}
-use Rattle.nv_base.specs.declared.limits.TheConstants.{NUMBER}
 use Rattle.nv_book.specs.Listed.{all_records}
 use Rattle.nv_book.specs.Records.{holder_of}
 use Rattle.nv_book.specs.declared.record.Record.{Record}
@@ -18,7 +17,6 @@ use Rattle.nv_calls.specs.Retiring.{erased, is_erased, name_of, number_back, rel
 use Rattle.nv_cell.specs.Cell.{CellState, log_of, number_in}
 use Rattle.nv_cell.specs.Marks.{bit, is_there, mark_at}
 use Rattle.nv_cell.specs.Readers.{is_gone}
-use Rattle.nv_cell.specs.declared.killed.KilledPart.{KilledPart}
 use Rattle.nv_cell.proofs.Publishing.{take_whole}
 use Rattle.nv_cell.proofs.ValuesNow.{IsLog-take}
 use Rattle.nv_entry.specs.Covered.{part_total}
@@ -35,7 +33,7 @@ use Rattle.nv_machine.specs.Grown.{HasGrown, HasGrownBy}
 use Rattle.nv_machine.specs.Hands.{IsParted}
 use Rattle.nv_machine.specs.Held.{is_of_slot, killed_by_actor, killed_by_call, killed_in, killed_slots, parts_for, pending_in, picked_at, picked_by_actor, picked_by_call}
 use Rattle.nv_machine.specs.Kinds.{end_turn, with_erased}
-use Rattle.nv_machine.specs.Locks.{AreLocks, held_at, held_by, is_owner}
+use Rattle.nv_machine.specs.Locks.{AreLocks, held_at, held_by}
 use Rattle.nv_machine.specs.PoolScan.{is_withheld}
 use Rattle.nv_machine.specs.Reads.{is_written, written_slots}
 use Rattle.nv_machine.specs.Recorded.{is_kept}
@@ -53,7 +51,7 @@ use Rattle.nv_machine.proofs.FiledRuns as filed
 use Rattle.nv_machine.proofs.FiledSteps.{MarksOf, released_cell}
 use Rattle.nv_machine.proofs.FiledWorlds.{marks_as, picked_in}
 use Rattle.nv_machine.proofs.HeldMarks.{in_use_there, same_default}
-use Rattle.nv_machine.proofs.Lists.{has_filter, has_later, self}
+use Rattle.nv_machine.proofs.Lists.{has_filter, has_later}
 use Rattle.nv_machine.proofs.Locked.{Before, lent_cell, owner_is}
 use Rattle.nv_machine.proofs.Locks.{before}
 use Rattle.nv_machine.proofs.Pairs.{HasPair, pair_there}
@@ -70,7 +68,8 @@ has_front (suc p) (x ∷ xs) n h = go (x == n) h (has_front p xs n) where
   go true e more = refl
   go false e more = more e
 
-pub killed_held : (k : Next) (r : Running) (ino : ℕ) → has (killed_slots k (written_slots r)) ino ≡ true → has (held_at k r.slots) ino ≡ true
+pub killed_held : (k : Next) (r : Running) (ino : ℕ) → has (killed_slots k (written_slots r)) ino ≡ true
+    → has (held_at k r.slots) ino ≡ true
 killed_held (Publish place) r ino h = has_filter (is_written r.plan) r.slots ino (has_front place (written_slots r) ino h)
 killed_held Close r ino h = has_filter (is_written r.plan) r.slots ino h
 killed_held (Retire place) r ino h = has_filter (is_written r.plan) r.slots ino (has_later place (written_slots r) ino h)
@@ -202,14 +201,16 @@ module _ (g : GeometryNumbers) (w : World) (all : IsKnown g w) (actor : ℕ) (dr
           go : (o : Option Pair) → slice_get (pairs cell.block (log_of cell)) n ≡ o → IsSome o → is_there (mark_at left.marks n) ≡ false
           go None e some = absurd (false≢true some)
           go (Some it) e some =
-              let filed_told = all_filed T living s.book.manifests s.book.deferred all.rs all.listed.list (all_front T all.rs (picked_in but) told) in
+              let filed_told = all_filed T living s.book.manifests s.book.deferred all.rs all.listed.list
+                  (all_front T all.rs (picked_in but) told) in
               let p : Record → Bool = λ x. is_filed_on d.ino (log_of cell) n x in
               let once : count p (all_records s.book.manifests ++ pending_in but) ≡ bit (is_kept (mark_at left.marks n)) = omega (
                 arith, left_marks.kept_are n, count_append p (all_records s.book.manifests) (pending_in but),
                 count_append p s.book.deferred (picked_in but), count_append p all.rs (picked_in but),
                 count_filed p living s.book.manifests s.book.deferred all.rs all.listed.rising all.listed.list,
               ) in
-              let in_use = in_use_there living d.ino epoch [] (all.rs ++ picked_in but) cell.block (log_of cell) left.marks log_is left_marks n
+              let in_use = in_use_there living d.ino epoch [] (all.rs ++ picked_in but) cell.block (log_of cell) left.marks log_is
+                  left_marks n
               it e (all_records s.book.manifests) (pending_in but) (all_front T (all_records s.book.manifests) s.book.deferred filed_told)
               (held_filed living s.book.manifests s.book.deferred all.rs all.listed.list) once in
               let at : slice_get (pairs cell.block (settled s d.ino)) n ≡ Some it =
@@ -217,7 +218,8 @@ module _ (g : GeometryNumbers) (w : World) (all : IsKnown g w) (actor : ℕ) (dr
               sym in_use
               ∙ ap (λ (names : List PartId). (is_current it || is_held living it) || list_any (has_name it) names)
               (append-nil (map name_of (filter (is_of_slot d.ino) (pending_in but))))
-              ∙ at_place_of (λ (x : Pair). keeps (keepers_of (pending_but actor w) s d.ino) x ≡ false) (pairs cell.block (settled s d.ino)) n it
+              ∙ at_place_of (λ (x : Pair). keeps (keepers_of (pending_but actor w) s d.ino) x ≡ false)
+                  (pairs cell.block (settled s d.ino)) n it
               over.kept at
 
     is_now : is_erased left ≡ true

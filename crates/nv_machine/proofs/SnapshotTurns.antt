@@ -1,12 +1,12 @@
 -- What a turn of a call on snapshots comes to: it waits, ends the call, or goes on to a step of such a call or to the last steps.
-use Rattle.std.proofs.Common.{◌≡◌, ◌||◌, ◌∷◌, ◌⊎◌, ℕ, zero, suc, not, Bool, true, false, List, [], Option, Some, None, Result, Ok, Err, refl, inl, inr, ap}
+use Rattle.std.proofs.Common.{◌≡◌, ◌∷◌, ◌⊎◌, ℕ, zero, suc, Bool, true, false, List, [], Option, Some, None, Result, Ok, Err, refl, inl, inr, ap}
 use Rattle.nv_base.specs.declared.fault.Fault.{Fault}
 use Rattle.nv_book.specs.declared.record.Record.{Record}
 use Rattle.nv_calls.specs.Refusals.{Check as Tests}
 use Rattle.nv_calls.specs.declared.answer.Answer.{Answer}
 use Rattle.nv_entry.specs.declared.node.NodeCopy.{NodeCopy}
 use Rattle.nv_machine.specs.Kinds.{drained_turn, end_turn, grown, last_turn, rest_turn}
-use Rattle.nv_machine.specs.Snapshots.{drop_turn, if_free, is_first, lock_picked_turn, make_tests, make_turn, one_more, picked_turn, pin_turn, show_turn, snapshot_turn}
+use Rattle.nv_machine.specs.Snapshots.{drop_turn, if_free, lock_picked_turn, make_tests, make_turn, one_more, picked_turn, pin_turn, show_turn, snapshot_turn}
 use Rattle.nv_machine.specs.World.{Answers, Back, Draining, Drains, Drop, Ending, Ends, Give, HandState, LockPicked, Make, Moves, Next, Overtaken, Pick, Pin, Refuses, Release, Running, Shared, Show, Showing, SnapshotStep, Snapshots, Turn, Unlock, Unpin, Waits}
 use Rattle.nv_machine.specs.PlainRun.{Nothing, OnSnapshots, done_on, keeps_nodes}
 

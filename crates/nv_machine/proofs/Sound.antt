@@ -25,7 +25,7 @@ use Rattle.nv_machine.specs.Hands.{AreLists, HandAt, HasPlanned, IsParted}
 use Rattle.nv_machine.specs.Kinds.{asked_list, blocks_in, blocks_left, entries_for, first_killed, less_list, retired_cell, with_entries, with_freed, with_pages}
 use Rattle.nv_calls.specs.FillPages.{filled, fresh_pages}
 use Rattle.nv_machine.specs.Reads.{copies, pages_needed, slot_at, written_slots}
-use Rattle.nv_machine.specs.World.{Append, Back, Check, Close, Enter, Give, HandState, Leave, Lock, Look, Next, Number, Open, Publish, Ready, Retire, Running, Shared, TakeBlocks, TakePages, Unlock, Visit, cell_at, list_at, no_cell, no_list, with_cell, Drop, LockPicked, Make, Pick, Pin, Release, Show, SnapshotStep, Snapshots, Unpin}
+use Rattle.nv_machine.specs.World.{Append, Back, Check, Close, Enter, Give, HandState, Leave, Lock, Look, Next, Number, Open, Publish, Ready, Retire, Running, Shared, TakeBlocks, TakePages, Unlock, Visit, cell_at, list_at, no_cell, no_list, with_cell, Drop, LockPicked, Make, Pick, Pin, Release, Show, Snapshots, Unpin}
 use Rattle.nv_machine.proofs.Counted.{given_all}
 use Rattle.nv_machine.proofs.HandedCommits.{slot_first}
 use Rattle.nv_machine.proofs.Kept.{append_deed, back_deed, deed, number_deed, retire_deed, release_deed}

@@ -1,5 +1,5 @@
 -- The slots that a plan is written in, and what it has for each.
-use Rattle.std.proofs.Common.{◌≡◌, ℕ, ◌<◌, ◌≤◌, ◌==◌, ◌||◌, ◌++◌, ◌∙◌, ◌⊎◌, inl, inr, Bool, true, false, cond, List, [], ◌∷◌, ap, arith, filter, flat_map, length, nat_lt, refl, subst, sym}
+use Rattle.std.proofs.Common.{◌≡◌, ℕ, ◌<◌, ◌≤◌, ◌==◌, ◌++◌, ◌∙◌, ◌⊎◌, inl, inr, Bool, true, false, cond, List, [], ◌∷◌, ap, arith, filter, flat_map, length, nat_lt, refl, sym}
 use Rattle.std.specs.List.{AllByRecursion}
 use Rattle.std.proofs.lemmas.Bool.{eqb-true, false≢true}
 use Rattle.nv_alloc.specs.Numbers.{IsRising, has}
@@ -10,11 +10,10 @@ use Rattle.nv_cell.specs.Append.{IsWithinFile}
 use Rattle.nv_entry.specs.Blocks.{item_blocks}
 use Rattle.nv_entry.specs.declared.item.Item.{Item}
 use Rattle.nv_machine.specs.Kept.{IsPlanFor}
-use Rattle.nv_machine.specs.Locks.{AreSlots}
 use Rattle.nv_machine.specs.Reads.{is_written, slot_at, written_slots}
 use Rattle.nv_machine.specs.World.{Running}
 use Rattle.nv_machine.proofs.CellSteps.{HaveFront}
-use Rattle.nv_machine.proofs.Lists.{all_has, has_at, has_filter}
+use Rattle.nv_machine.proofs.Lists.{has_at}
 
 -- ---- slots that are written
 

@@ -1,7 +1,6 @@
 -- Records: which there are after a run, which parts they are of, and which pairs they tell a snapshot to hold.
 use Rattle.std.specs.Prelude.{◌≡◌, ℕ, ◌&&◌, ◌++◌, Bool, true, false, List, [], ◌∷◌, filter, length, map, Option, Some, None, slice_get}
-use Rattle.std.specs.List.{flat_map, list_any}
-use Rattle.std.specs.Option.{option_map}
+use Rattle.std.specs.List.{list_any}
 use Rattle.nv_book.specs.Listed.{all_records, with_moved, with_retired, without_first}
 use Rattle.nv_book.specs.Records.{is_held_by}
 use Rattle.nv_book.specs.declared.record.Record.{Record}
@@ -22,7 +21,7 @@ use Rattle.nv_machine.specs.Kinds.{first_killed}
 use Rattle.nv_machine.specs.PlainRun.{Deed, OnSnapshots, actor_of, deed_of}
 use Rattle.nv_machine.specs.Reads.{slot_at, written_slots}
 use Rattle.nv_machine.specs.Step.{step}
-use Rattle.nv_machine.specs.World.{Drop, Event, Go, HandState, Next, Pick, Retire, Running, Shared, SnapshotStep, Start, World, actor_at, cell_at}
+use Rattle.nv_machine.specs.World.{Drop, Event, Go, HandState, Next, Pick, Retire, Running, Shared, Start, World, actor_at, cell_at}
 
 -- ---- THE RECORD LIST after a run: one list, in the order in which the records came to their present holders
 

@@ -1,5 +1,5 @@
 -- What a call that is not to be answered leaves as it is.
-use Rattle.std.specs.Prelude.{◌≡◌, Bool, true, Ok, Err}
+use Rattle.std.specs.Prelude.{◌≡◌, true, Ok, Err}
 use Rattle.nv_book.specs.Book.{BookState, after_unpin_snapshot}
 use Rattle.nv_machine.specs.Hands.{is_going_on}
 use Rattle.nv_machine.specs.World.{Answers, Drains, Ending, Ends, Moves, Next, Overtaken, Refuses, Shared, Snapshots, Turn, Unpin, Waits}

@@ -1,5 +1,5 @@
 -- Worked rows of snapshots: born and dead in one epoch, deferred is not free, a record moves down, and refusals.
-use Rattle.std.proofs.Common.{◌≡◌, ◌++◌, ℕ, List, [], ◌∷◌, Option, Some, None, map, refl}
+use Rattle.std.proofs.Common.{◌≡◌, ◌++◌, ℕ, List, [], ◌∷◌, Some, None, map, refl}
 use Rattle.nv_base.specs.declared.fault.Fault.TheVariants as fault
 use Rattle.nv_base.specs.declared.node.Kind.{Kind}
 use Rattle.nv_base.specs.declared.node.Kind.TheVariants as kind
@@ -9,7 +9,6 @@ use Rattle.nv_calls.specs.declared.call.Call.TheVariants as call
 use Rattle.nv_calls.specs.declared.snapshot_call.SnapshotCall.TheVariants as on
 use Rattle.nv_epoch.specs.SnapList.{ids}
 use Rattle.nv_machine.specs.Format.{formatted}
-use Rattle.nv_machine.specs.Step.{Step}
 use Rattle.nv_machine.specs.World.{Done, Moved, Refused, Reply, Started, World}
 use Rattle.nv_machine.proofs.Scripts.{DoCall, Goes, Line, StartCall, device, handle, line, play, played, shown, space}
 
