@@ -19,7 +19,7 @@ use Rattle.nv_machine.specs.Step.{step}
 use Rattle.nv_machine.specs.World.{Drop, Event, LockPicked, Make, Pick, Pin, Release, Shared, Show, Unpin, World}
 use Rattle.nv_machine.proofs.CopyMade.{copies_now, is_make, make_copies}
 use Rattle.nv_machine.proofs.CopyRuns.{IsReadable, event_copies}
-use Rattle.nv_machine.proofs.LivingPins.{lives-from_pins, pins_at-lives}
+use Rattle.nv_epoch.proofs.Pins.{lives-from_pins, pins_at-lives}
 use Rattle.nv_machine.proofs.SnapSteps.{AreBare, event_snaps, snaps_after}
 use Rattle.nv_machine.proofs.SnapsAlike.{AreAlike, Lives, deed_alike, lived, lived_then}
 

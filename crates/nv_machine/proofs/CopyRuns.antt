@@ -26,7 +26,7 @@ use Rattle.nv_machine.proofs.CopySteps.{GoesOut, Stands, StepsTo, deed_steps, en
 use Rattle.nv_machine.proofs.EpochLogs.{IsHeldAt, copies_same, copy_at, log_at}
 use Rattle.nv_machine.proofs.Events.{goes, starts}
 use Rattle.nv_machine.proofs.Kept.{AfterTurn, turn_keeps}
-use Rattle.nv_machine.proofs.LivingPins.{pins_at-lives}
+use Rattle.nv_epoch.proofs.Pins.{pins_at-lives}
 use Rattle.nv_machine.proofs.Lists.{self}
 use Rattle.nv_machine.proofs.Locks.{before}
 use Rattle.nv_machine.proofs.SnapsAlike.{AreBefore}

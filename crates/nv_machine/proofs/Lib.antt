@@ -124,7 +124,6 @@ pub mod Generations
 pub mod VersionSteps
 pub mod Versions
 pub mod Moves
-pub mod LivingPins
 pub mod PinSteps
 pub mod Pins
 pub mod SnapSteps

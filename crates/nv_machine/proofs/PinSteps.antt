@@ -9,7 +9,7 @@ use Rattle.nv_calls.specs.declared.answer.Answer.{Answer}
 use Rattle.nv_calls.specs.declared.looked.Looked.{Looked}
 use Rattle.nv_entry.specs.declared.node.NodeCopy.{NodeCopy}
 use Rattle.nv_epoch.specs.SnapList.{Snapshots as Living, after_making, after_pin, after_removal, after_unpin, pins_of}
-use Rattle.nv_machine.proofs.LivingPins.{pins_at-changed, pins_at-kept, pins_at-push, pins_at-removed, pins_at-unchanged}
+use Rattle.nv_epoch.proofs.Pins.{pins_at-changed, pins_at-kept, pins_at-push, pins_at-removed, pins_at-unchanged}
 use Rattle.nv_reader.specs.Walk as walk
 use Rattle.nv_book.specs.declared.record.Record.{Record}
 use Rattle.nv_machine.specs.Kinds.{again_turn, blocks_turn, check_turn, drained_turn, end_turn, enter_turn, grown, last_turn, lock_turn, look_turn, number_turn, over_turn, pages_turn, rest_turn, unlocked_turn, back_turn, visit_turn, wants_blocks, wants_pages}

@@ -25,7 +25,7 @@ use Rattle.nv_machine.specs.Step.{after, step}
 use Rattle.nv_machine.specs.World.{Actor, Done, Event, Go, Running, Snapshots, Unpin, World, actor_at, cell_at, idle, owner_at}
 use Rattle.nv_machine.proofs.CopiesAll.{all_stay, all_whole, events_cells}
 use Rattle.nv_machine.proofs.CopyRuns.{HaveMarks}
-use Rattle.nv_machine.proofs.LivingPins.{lives-from_pins}
+use Rattle.nv_epoch.proofs.Pins.{lives-from_pins}
 use Rattle.nv_machine.proofs.Lists.{self}
 use Rattle.nv_machine.proofs.Locks.{all_same, many_same}
 use Rattle.nv_machine.proofs.Pins.{pins_of_shows}

@@ -21,7 +21,7 @@ use Rattle.nv_machine.specs.Step.{after, go_step, kind_turn, reply_of, start_ste
 use Rattle.nv_machine.specs.World.{Actor, Answers, Done, Drains, Drop, Ending, Ends, Event, Go, HandState, LockPicked, Make, Moves, Next, Overtaken, Pick, Pin, Refuses, Release, Running, Shared, Show, Snapshots, Start, Turn, Unpin, Waits, World, actor_at, idle, owner_at}
 use Rattle.nv_machine.proofs.CopyRuns.{cells_stay}
 use Rattle.nv_machine.proofs.Events.{set_is}
-use Rattle.nv_machine.proofs.LivingPins.{lives-from_pins}
+use Rattle.nv_epoch.proofs.Pins.{lives-from_pins}
 use Rattle.nv_machine.proofs.Lists.{self}
 use Rattle.nv_machine.proofs.Pins.{begun_none}
 use Rattle.nv_machine.proofs.PinSteps.{one_if}

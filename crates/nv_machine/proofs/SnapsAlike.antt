@@ -10,7 +10,7 @@ use Rattle.nv_epoch.specs.declared.snapshot.Snapshot.{Snapshot}
 use Rattle.nv_machine.specs.PlainRun.{Commits, Copy, Deed, Nothing, Numbers, OnSnapshots, Plain, done, is_of, with_pins as copy_with_pins}
 use Rattle.nv_machine.specs.Reading.{pins_in}
 use Rattle.nv_machine.specs.World.{Drop, LockPicked, Make, Pick, Pin, Release, Running, Show, Unpin}
-use Rattle.nv_machine.proofs.LivingPins.{pins_at-changed, pins_at-kept, pins_at-push, pins_at-removed, pins_at-unchanged}
+use Rattle.nv_epoch.proofs.Pins.{pins_at-changed, pins_at-kept, pins_at-push, pins_at-removed, pins_at-unchanged}
 use Rattle.nv_machine.proofs.SnapSteps.{snaps_after}
 
 -- ---- a living snapshot and a copy
