@@ -62,8 +62,8 @@ count_filter f h [] = refl
 count_filter f h (x ∷ xs) = go (h x) (count_filter f h xs) ∙ sym (count_cons (λ x. h x && f x) x xs) where
   go : (b : Bool) → count f (filter h xs) ≡ count (λ x. h x && f x) xs
       → count f (cond b (x ∷ filter h xs) (filter h xs)) ≡ one (b && f x) + count (λ x. h x && f x) xs
-  go true e = count_cons f x (filter h xs) ∙ ap (λ (n : ℕ). one (f x) + n) e
-  go false e = e
+  go true e = omega (arith, e, count_cons f x (filter h xs))
+  go false e = omega (arith, e)
 
 count_none : {X : Type 0} (f : X → Bool) (xs : List X) → AllByRecursion (λ x. f x ≡ false) xs → count f xs ≡ 0
 count_none f [] h = refl
@@ -89,22 +89,22 @@ count_any {X} f (x ∷ xs) few = go (f x) (count_cons f x xs) (count_any f xs) w
   go false e more = omega (arith, e, more (omega (arith, e, few)))
 
 and_no : (a b : Bool) → (b ≡ true → ⊥) → (a && b) ≡ false
-and_no true true no = absurd (no refl)
-and_no true false no = refl
-and_no false b no = refl
+and_no true true never = absurd (never refl)
+and_no true false never = refl
+and_no false b never = refl
 
 no_pass : (b : Bool) → (b ≡ true → ⊥) → b ≡ false
-no_pass true no = absurd (no refl)
-no_pass false no = refl
+no_pass true never = absurd (never refl)
+no_pass false never = refl
 
 -- of a list in which one item at most passes the second test
 none_numbered : {X : Type 0} (f h : X → Bool) (xs : List X) → ((n : ℕ) (x : X) → slice_get xs n ≡ Some x → h x ≡ true → ⊥)
     → count (λ x. f x && h x) xs ≡ 0
-none_numbered f h [] no = refl
-none_numbered f h (x ∷ xs) no =
+none_numbered f h [] never = refl
+none_numbered f h (x ∷ xs) never =
     omega (
-      arith, count_cons (λ x. f x && h x) x xs, ap one (and_no (f x) (h x) (no 0 x refl)),
-      none_numbered f h xs (λ n y. no (suc n) y),
+      arith, count_cons (λ x. f x && h x) x xs, ap one (and_no (f x) (h x) (never 0 x refl)),
+      none_numbered f h xs (λ n y. never (suc n) y),
     )
 
 and_yes : (a b : Bool) → b ≡ true → (a && b) ≡ a
@@ -273,16 +273,17 @@ module _ (g : GeometryNumbers) (events : List Event) (within : IsWithinLimits g)
 
     -- where no pair has the name, there is no record of it, and none is owed
     module _ (part : PartId)
-        (no : (n : ℕ) (pair : Pair) → slice_get (pairs cell.block log) n ≡ Some pair → pair_name pair ≡ part → ⊥) where
+        (never : (n : ℕ) (pair : Pair) → slice_get (pairs cell.block log) n ≡ Some pair → pair_name pair ≡ part → ⊥) where
       abbrev absent : InodePart
       absent = record { ino = ino; part = part }
 
       not_recorded : (d : Record) → IsTold ino cell.block log d → recorded s absent d ≡ false
-      not_recorded d told_d = no_pass (recorded s absent d) (λ t.
-      let two = and_parts (is_held_by s d) (is_same absent (inode_part d)) t in
-      let same : inode_part d ≡ absent = same_is absent (inode_part d) two.1 in
-      let own = told_d (ap (λ (x : InodePart). x.ino) same) in
-      no own.n own.pair own.is (own.name ∙ ap (λ (x : InodePart). x.part) same))
+      not_recorded d told_d =
+          no_pass (recorded s absent d) (λ t.
+          let two = and_parts (is_held_by s d) (is_same absent (inode_part d)) t in
+          let same : inode_part d ≡ absent = same_is absent (inode_part d) two.1 in
+          let own = told_d (ap (λ (x : InodePart). x.ino) same) in
+          never own.n own.pair own.is (own.name ∙ ap (λ (x : InodePart). x.part) same))
 
       none_at_all : times absent (recorded_as s w.shared.book) ≡ times absent (owed_from s hands 0 w.shared.cells)
       none_at_all =
@@ -290,7 +291,7 @@ module _ (g : GeometryNumbers) (events : List Event) (within : IsWithinLimits g)
           ∙ count_none (recorded s absent) (recorded_in w)
           (all_weaker (IsTold ino cell.block log) (λ d. recorded s absent d ≡ false) not_recorded (recorded_in w) told)
           ∙ sym (owed_counted part ∙ none_numbered (is_owed s named) (λ pair. is_same absent (part_in ino pair)) (pairs cell.block log)
-          (λ n pair got t. no n pair got (ap (λ (x : InodePart). x.part) (same_is absent (part_in ino pair) t))))
+          (λ n pair got t. never n pair got (ap (λ (x : InodePart). x.part) (same_is absent (part_in ino pair) t))))
 
     -- where one has it, there is a record of it where it is owed
     module _ (m : ℕ) (pair : Pair) (got : slice_get (pairs cell.block log) m ≡ Some pair) where

@@ -1,6 +1,6 @@
 -- What the code gathers of hands is what the machine's calls have in them, so that a world agrees and an audit tells no mismatch.
 use Rattle.std.proofs.Common.{◌≡◌, ℕ, zero, suc, ◌+◌, ◌<◌, ◌≤◌, ◌==◌, ◌&&◌, ◌⊎◌, inl, inr, ◌++◌, ◌∙◌, Bool, true, false, List, [], ◌∷◌, Option, Some, None, ap, ap₂, arith, drop, filter, flat_map, if◌then◌else◌, length, map, nat_lt, refl, slice_index_or, subst, sym, take}
-use Rattle.std.specs.Prelude.{IfErr, Result, Ok, Err, Unit, is_some, not}
+use Rattle.std.specs.Prelude.{IfErr, Result, Ok, Err, not}
 use Rattle.std.proofs.lemmas.Bool.{and_parts, eqb-true, ltb-false, ltb-true}
 use Rattle.std.proofs.lemmas.List.{take-map}
 use Rattle.nv_base.specs.Refusals.{FailsOnly}
@@ -11,11 +11,13 @@ use Rattle.nv_base.specs.declared.fault.MismatchPart.TheVariants.{Counts, Index,
 use Rattle.nv_audit.specs.Records.{inode_part, states_of}
 use Rattle.nv_audit.specs.Whole.{Agrees, Device, IsFirst, IsMismatch}
 use Rattle.nv_audit.specs.declared.part_list.InodePart.{InodePart}
+use Rattle.nv_alloc.specs.FreeList.{FreeBlocks}
 use Rattle.nv_calls.specs.Commit.{CommitValue}
 use Rattle.nv_calls.specs.Progress.{is_open, opens, step_of}
 use Rattle.nv_calls.specs.Ready.{CellPlanValue}
 use Rattle.nv_calls.specs.declared.progress.CommitStep.{CommitStep}
 use Rattle.nv_calls.specs.declared.progress.CommitStep.TheVariants as step
+use Rattle.nv_cell.specs.Cell.{CellValue}
 use Rattle.nv_cell.specs.declared.killed.KilledPart.{KilledPart}
 use Rattle.nv_machine.specs.Held.{killed_slots, picked_at}
 use Rattle.nv_machine.specs.Numbers.{held_by_actor, held_in}
@@ -95,7 +97,7 @@ module _ (slots : List ℕ) where
     abbrev left : List CellPlanValue
     left = drop c.retired (take c.published c.plans)
 
-    Parts : CommitStep → Type 0
+    abbrev Parts : CommitStep → Type 0
     Parts k =
         killed_by_plans slots c
         ≡ map inode_part (picked_at (machine_step k c)) ++ slot_parts (killed_slots (machine_step k c) (map slot_of c.plans)) (killed_in c)
@@ -145,8 +147,8 @@ module _ (slots : List ℕ) where
       go : (b : Bool) → opens c ≡ b → Parts (if b then step.Open else if nat_lt c.published many then step.Publish
           else if is_open c then step.Close else if nat_lt c.retired many then step.Retire else step.Leave)
       go true e =
-          let rest = and_parts (nat_lt 1 many) ((c.published == 0) && not (is_open c)) e in
-          let none = eqb-true c.published 0 (and_parts (c.published == 0) (not (is_open c)) rest.1).0 in
+          let first = and_parts (nat_lt 1 many && (c.published == 0)) (not (is_open c)) e in
+          let none = eqb-true c.published 0 (and_parts (nat_lt 1 many) (c.published == 0) first.0).1 in
           none_left (first_of_none c.retired c.published c.plans none)
       go false e = publishing
 
@@ -254,8 +256,38 @@ no_mismatch d agrees (Mismatch Records) bad = bad.1 agrees.records
 no_mismatch d agrees (Mismatch Lists) bad = bad.2 agrees.lists
 no_mismatch d agrees other bad = bad
 
-pub only_memory : {T : Type 0} (d : Device) (r : Result T Fault) → Agrees d
+only_memory : {T : Type 0} (d : Device) (r : Result T Fault) → Agrees d
     → IfErr r (λ fault. (fault ≡ OutOfMemory) ⊎ IsMismatch d fault) → FailsOnly OutOfMemory r
 only_memory d (Ok t) agrees bad = tt
 only_memory d (Err fault) agrees (inl memory) = memory
 only_memory d (Err fault) agrees (inr bad) = absurd (no_mismatch d agrees fault bad)
+
+-- with what is gathered of a world
+pub told : {T : Type 0} (v : WorldState) (is : IsWorld v) (cells : List CellValue) (lists : List FreeBlocks) (parts : List InodePart)
+    (blocks : List ℕ) (r : Result T Fault)
+    → cells ≡ v.shared.cells.items → lists ≡ v.shared.lists.items → parts ≡ flat_map parts_by v.actors
+    → blocks ≡ flat_map blocks_by v.actors
+    → IfErr r (λ fault. (fault ≡ OutOfMemory) ⊎ IsMismatch (record {
+      numbers = v.shared.geometry.numbers;
+      cells = states_of cells;
+      lists = lists;
+      book = v.shared.book.state;
+      in_hands = parts;
+      blocks = blocks;
+    }) fault) → FailsOnly OutOfMemory r
+told v is cells lists parts blocks r cells_are lists_are parts_are blocks_are =
+    let D : List CellValue → List FreeBlocks → List InodePart → List ℕ → Device =
+    λ cs ls ps bs. record {
+      numbers = v.shared.geometry.numbers;
+      cells = states_of cs;
+      lists = ls;
+      book = v.shared.book.state;
+      in_hands = ps;
+      blocks = bs;
+    } in
+    only_memory (D cells lists parts blocks) r
+    (subst (λ (cs : List CellValue). Agrees (D cs lists parts blocks)) (sym cells_are)
+    (subst (λ (ls : List FreeBlocks). Agrees (D v.shared.cells.items ls parts blocks)) (sym lists_are)
+    (subst (λ (ps : List InodePart). Agrees (D v.shared.cells.items v.shared.lists.items ps blocks)) (sym parts_are)
+    (subst (λ (bs : List ℕ). Agrees (D v.shared.cells.items v.shared.lists.items (flat_map parts_by v.actors) bs)) (sym blocks_are)
+    (world_agrees v is)))))

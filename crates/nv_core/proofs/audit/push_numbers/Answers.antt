@@ -10,5 +10,5 @@ returns c =
     let from : deque_iter_rest c.into_iter-block-iterator.result ≡ deque_iter_rest c.args.blocks = cc in
     let end = YieldsList-end (YieldsList-from_deque (deque_iter_rest c.args.blocks) from) c.loop-block.yielded _
     c.loop-block.yielded_by _ _ c.in-None.is c.next.ensures.steps in
-    c.loop-block.invariant ∙ ap (λ (ns : List ℕ). c.args.numbers.old.items ++ ns)
+    c.loop-block.invariant ∙ ap (λ (ns : List ℕ). c.args.numbers.now.items ++ ns)
     (sym (map_twice number_of (λ b. b.now) c.loop-block.yielded) ∙ ap (map number_of) end.0)
