@@ -1,5 +1,5 @@
 -- In every world each page of a settled log has its block in the cell.
-use Rattle.std.proofs.Common.{◌≡◌, ℕ, ◌+◌, ◌-◌, ◌≤◌, ◌∙◌, List, ◌++◌, Option, Some, None, ap, drop, refl, slice_index_or, subst, sym, take, take-take}
+use Rattle.std.proofs.Common.{◌≡◌, ℕ, ◌≤◌, ◌∙◌, List, ◌++◌, Option, Some, None, ap, drop, refl, slice_index_or, subst, sym, take, take-take}
 use Rattle.std.specs.Prelude.{IsSome}
 use Rattle.std.specs.Option.{option_map}
 use Rattle.std.proofs.lemmas.List.{take-append-drop}
@@ -9,7 +9,6 @@ use Rattle.nv_cell.proofs.ValuesNow.{IsLog-take}
 use Rattle.nv_cell.specs.Cell.{CellState, log_of, page_block}
 use Rattle.nv_entry.specs.Log.{IsLog}
 use Rattle.nv_entry.specs.declared.item.Entry.{Entry}
-use Rattle.nv_entry.specs.declared.part.Part.TheVariants as part
 use Rattle.nv_machine.proofs.Reached.{reached}
 use Rattle.nv_machine.specs.Kept.{HasPages}
 use Rattle.nv_machine.specs.Reached.{IsReached}

@@ -1,4 +1,4 @@
-use Rattle.std.proofs.Common.{◌≡◌, ◌∙◌, List, ap, arith, length, subst, sym}
+use Rattle.std.proofs.Common.{◌∙◌, List, ap, arith, length, subst, sym}
 use Rattle.std.specs.List.{sum_by}
 use Rattle.nv_core.proofs.AddedUp.{few_actors, space_shown, world_adds_up}
 use Rattle.nv_core.specs.Picked.{picked_of}
