@@ -20,7 +20,10 @@ pub space-requires-clause-few : goal.space-requires-clause-few
 space-requires-clause-few c =
     let w : WorldState = record { shared = c.self.inside.shared; actors = c.self.inside.actors.items } in
     omega (
-      arith, ap (λ (l : List Actor). length l) c.deref.ensures.value, few_actors w c.self.invariant, c.picked_blocks-picked.ensures.few,
+      arith,
+      ap (λ (l : List Actor). length l) c.deref.ensures.value,
+      few_actors w c.self.invariant,
+      c.picked_blocks-picked.ensures.few,
     )
 
 pub returns : goal.returns
