@@ -144,6 +144,10 @@ pub mod ShowRuns
 pub mod ShowAll
 pub mod CopyMarks
 pub mod Drained
+pub mod Sequels
+pub mod DrainSteps
+pub mod DrainRuns
+pub mod NeededBlocks
 pub mod FiledLists
 pub mod FiledDrops
 pub mod FiledBooks
