@@ -7,6 +7,8 @@ pub mod Framed
 pub mod SnapshotCalls
 pub mod SnapshotTurns
 pub mod BookRecords
+pub mod FewSlots
+pub mod FilesFall
 pub mod Bounded
 pub mod Events
 pub mod Locks
@@ -22,6 +24,7 @@ pub mod Parted
 pub mod Fitting
 pub mod Homes
 pub mod Handed
+pub mod HandedTakings
 pub mod HandedCommits
 pub mod Sorted
 pub mod Sound
@@ -46,6 +49,7 @@ pub mod Answered
 pub mod Grown
 pub mod Appended
 pub mod Settling
+pub mod GrownTurns
 pub mod GrownRuns
 pub mod DirectoriesBegun
 pub mod DirectoriesChanged
