@@ -253,7 +253,7 @@ module _ (g : GeometryNumbers) (w : World) (known : IsKnown g w) (rs : List Reco
       subst (AreMarked (turned (KindTurn (Snapshots (Show snapshot showing))) a w).world)
       (sym (step_same (Show snapshot showing) (KindTurn (Snapshots (Show snapshot showing))) living rs refl))
       (quiet (Snapshots (Show snapshot showing)) next refl refl (nothing (Show snapshot showing) next)
-          (nothing (Show snapshot showing) next)
+      (nothing (Show snapshot showing) next)
       (same_quiet s))
   snapshot_marked (Unpin snapshot seen) next =
       subst (AreMarked (turned (KindTurn (Snapshots (Unpin snapshot seen))) a w).world)

@@ -179,21 +179,31 @@ told_more p living r rs (s ∷ ss) =
           → count p (cond c (r ∷ kept_by s living rs) (kept_by s living rs) ++ told living (r ∷ rs) ss)
           ≡ cond b (one c + matches (holder_of living r) ss) 0 + count p (kept_by s living rs ++ told living rs ss)
       go true true e more = omega (
-        arith, more, ap one e, count_cons p r (kept_by s living rs),
+        arith,
+        more,
+        ap one e,
+        count_cons p r (kept_by s living rs),
         count_append p (r ∷ kept_by s living rs) (told living (r ∷ rs) ss),
         count_append p (kept_by s living rs) (told living rs ss),
       )
       go false true e more = omega (
-        arith, more, ap one e, count_cons p r (kept_by s living rs),
+        arith,
+        more,
+        ap one e,
+        count_cons p r (kept_by s living rs),
         count_append p (r ∷ kept_by s living rs) (told living (r ∷ rs) ss),
         count_append p (kept_by s living rs) (told living rs ss),
       )
       go true false e more = omega (
-        arith, more, count_append p (kept_by s living rs) (told living (r ∷ rs) ss),
+        arith,
+        more,
+        count_append p (kept_by s living rs) (told living (r ∷ rs) ss),
         count_append p (kept_by s living rs) (told living rs ss),
       )
       go false false e more = omega (
-        arith, more, count_append p (kept_by s living rs) (told living (r ∷ rs) ss),
+        arith,
+        more,
+        count_append p (kept_by s living rs) (told living (r ∷ rs) ss),
         count_append p (kept_by s living rs) (told living rs ss),
       )
 
@@ -209,15 +219,15 @@ count_told p living [] rising = none living where
   none (s ∷ ss) = none ss
 count_told p living (r ∷ rs) rising = go (holder_of living r) refl (p r) refl (told_more p living r rs living)
     (count_told p living rs rising) where
-  go : (o : Option ℕ) → holder_of living r ≡ o → (b : Bool) → p r ≡ b
-      → count p (told living (r ∷ rs) living) ≡ cond b (matches o living) 0 + count p (told living rs living)
-      → count p (told living rs living) + count p (unheld living rs) ≡ count p rs
-      → count p (told living (r ∷ rs) living) + count p (cond (is_none o) (r ∷ unheld living rs) (unheld living rs)) ≡ count p (r ∷ rs)
-  go None e true q here more = omega (arith, here, more, no_matches living, ap one q, count_cons p r rs, count_cons p r (unheld living rs))
-  go None e false q here more = omega (arith, here, more, ap one q, count_cons p r rs, count_cons p r (unheld living rs))
-  go (Some t) e true q here more =
-      omega (arith, here, more, one_match t living rising (lives living r t e), ap one q, count_cons p r rs)
-  go (Some t) e false q here more = omega (arith, here, more, ap one q, count_cons p r rs)
+      go : (o : Option ℕ) → holder_of living r ≡ o → (b : Bool) → p r ≡ b
+          → count p (told living (r ∷ rs) living) ≡ cond b (matches o living) 0 + count p (told living rs living)
+          → count p (told living rs living) + count p (unheld living rs) ≡ count p rs
+          → count p (told living (r ∷ rs) living) + count p (cond (is_none o) (r ∷ unheld living rs) (unheld living rs)) ≡ count p (r ∷ rs)
+      go None e true q here more = omega (arith, here, more, no_matches living, ap one q, count_cons p r rs, count_cons p r (unheld living rs))
+      go None e false q here more = omega (arith, here, more, ap one q, count_cons p r rs, count_cons p r (unheld living rs))
+      go (Some t) e true q here more =
+          omega (arith, here, more, one_match t living rising (lives living r t e), ap one q, count_cons p r rs)
+      go (Some t) e false q here more = omega (arith, here, more, ap one q, count_cons p r rs)
 
 -- so what is filed is counted as the list is, and what holds of each on the list holds of each that is filed
 pub count_filed : (p : Record → Bool) (living : List ℕ) (ms : List Manifest) (ds rs : List Record) → IsRising living

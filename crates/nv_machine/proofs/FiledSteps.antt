@@ -150,7 +150,7 @@ pub parts_are_of : (living : List ℕ) (ino epoch : ℕ) (ks : List KilledPart) 
 parts_are_of living ino epoch [] rs h = h
 parts_are_of living ino epoch (k ∷ ks) rs h =
     parts_are_of living ino epoch ks (with_retired living (record_of ino epoch k) rs)
-        (go (is_none (holder_of living (record_of ino epoch k)))) where
+    (go (is_none (holder_of living (record_of ino epoch k)))) where
       go : (b : Bool) → AllByRecursion (λ (d : Record). d.ino ≡ ino) (cond b rs (rs ++ record_of ino epoch k ∷ []))
       go true = h
       go false = all_append (λ (d : Record). d.ino ≡ ino) rs (record_of ino epoch k ∷ []) h (refl, tt)
@@ -161,7 +161,7 @@ pub parts_held : (living : List ℕ) (ino epoch : ℕ) (ks : List KilledPart) (r
 parts_held living ino epoch [] rs h = h
 parts_held living ino epoch (k ∷ ks) rs h =
     parts_held living ino epoch ks (with_retired living (record_of ino epoch k) rs)
-        (go (holder_of living (record_of ino epoch k)) refl) where
+    (go (holder_of living (record_of ino epoch k)) refl) where
       go : (o : Option ℕ) → holder_of living (record_of ino epoch k) ≡ o
           → AllByRecursion (HasHolder living) (cond (is_none o) rs (rs ++ record_of ino epoch k ∷ []))
       go None e = h

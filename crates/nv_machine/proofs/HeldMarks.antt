@@ -182,7 +182,7 @@ used_there g events ino n within = go (slice_get (pairs cell.block (log_of cell)
       let T : Record → Type 0 = IsTold ino cell.block (log_of cell) in
       let all : AllByRecursion T (recorded_in w) = recorded_all g events T within m.told in
       in_use_there (ids w.shared.book.snaps) ino w.shared.book.snaps.epoch (killed_in w ino) _ cell.block (log_of cell) cell.marks log
-          m n pair e
+      m n pair e
       (all_records w.shared.book.manifests) (pending_in w) (all_front T (all_records w.shared.book.manifests) (pending_in w) all)
       (held_filed (ids w.shared.book.snaps) w.shared.book.manifests w.shared.book.deferred (records_after (formatted g) events []) l.list)
       (recorded_once g events within ino n)

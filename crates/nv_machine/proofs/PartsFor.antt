@@ -128,7 +128,9 @@ module _ {X : Type 0} (f : Actor → List X) where
   swap_count p [] a x lt = absurd (omega (arith, lt))
   swap_count p (y ∷ xs) zero x lt = omega (arith, count_append p (f x) (flat_map f xs), count_append p (f y) (flat_map f xs))
   swap_count p (y ∷ xs) (suc a) x lt = omega (
-    arith, swap_count p xs a x (omega (arith, lt)), count_append p (f y) (flat_map f (set xs a x)),
+    arith,
+    swap_count p xs a x (omega (arith, lt)),
+    count_append p (f y) (flat_map f (set xs a x)),
     count_append p (f y) (flat_map f xs),
   )
 
