@@ -50,7 +50,8 @@ use Rattle.nv_machine.proofs.Erased.{all_freed, behind, erased_slot, gone_erased
 use Rattle.nv_machine.proofs.Events.{goes}
 use Rattle.nv_machine.proofs.FiledCommits.{retire_left}
 use Rattle.nv_machine.proofs.FiledLaw.{all_marked}
-use Rattle.nv_machine.proofs.FiledLists.{HasHolder, all_append, all_back, all_filed, all_front, count, count_append, count_filed, held_filed}
+use Rattle.nv_machine.proofs.EachOf.{all_append, all_back, all_front}
+use Rattle.nv_machine.proofs.FiledLists.{HasHolder, all_filed, count, count_append, count_filed, held_filed}
 use Rattle.nv_machine.proofs.FiledMarks.{IsTold, is_filed_on}
 use Rattle.nv_machine.proofs.FiledParts.{have_marks, log_in}
 use Rattle.nv_machine.proofs.FiledRuns as filed

@@ -30,7 +30,8 @@ use Rattle.nv_machine.specs.Recorded.{is_kept, is_killed_pair, is_recorded_for, 
 use Rattle.nv_machine.specs.Step.{after}
 use Rattle.nv_machine.specs.World.{Event, cell_at}
 use Rattle.nv_machine.proofs.FiledLaw.{all_marked, recorded_all, recorded_once}
-use Rattle.nv_machine.proofs.FiledLists.{all_weaker, count, count_cons, one}
+use Rattle.nv_machine.proofs.EachOf.{all_weaker}
+use Rattle.nv_machine.proofs.FiledLists.{count, count_cons, one}
 use Rattle.nv_machine.proofs.FiledMarks.{AreMarks, IsTold, is_filed_on, is_killed_on, pair_low}
 use Rattle.nv_machine.proofs.FiledRuns.{known}
 use Rattle.nv_machine.proofs.Pairs.{current_is, has_number, named_same, number_is}

@@ -22,7 +22,8 @@ use Rattle.nv_machine.specs.Recorded.{is_kept, records_after}
 use Rattle.nv_machine.specs.Step.{after}
 use Rattle.nv_machine.specs.World.{Event, Next, Release, Running, Snapshots, World, actor_at, cell_at}
 use Rattle.nv_machine.proofs.FiledLaw.{all_marked}
-use Rattle.nv_machine.proofs.FiledLists.{all_back, count, count_append, count_cons, one}
+use Rattle.nv_machine.proofs.EachOf.{all_back}
+use Rattle.nv_machine.proofs.FiledLists.{count, count_append, count_cons, one}
 use Rattle.nv_machine.proofs.FiledMarks.{AreMarks, IsTold, bit_is, is_filed_on, kept_not_current, pair_low}
 use Rattle.nv_machine.proofs.FiledRuns.{known, not_there}
 use Rattle.nv_machine.proofs.FiledWorlds.{picked_in}

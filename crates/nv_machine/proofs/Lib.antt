@@ -1,5 +1,6 @@
 pub mod Reached
 pub mod Rows
+pub mod EachOf
 pub mod Lists
 pub mod Holding
 pub mod Locked

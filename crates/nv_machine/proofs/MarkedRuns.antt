@@ -32,7 +32,8 @@ use Rattle.nv_machine.specs.World.{Append, Back, Check, Close, Draining, Drop, E
 use Rattle.nv_machine.proofs.Checking.{own_bytes}
 use Rattle.nv_machine.proofs.FiledCommits.{retire_mine}
 use Rattle.nv_machine.proofs.FiledLaw.{all_marked}
-use Rattle.nv_machine.proofs.FiledLists.{all_back, count, count_append, count_cons, one}
+use Rattle.nv_machine.proofs.EachOf.{all_back}
+use Rattle.nv_machine.proofs.FiledLists.{count, count_append, count_cons, one}
 use Rattle.nv_machine.proofs.FiledMarks.{IsTold}
 use Rattle.nv_machine.proofs.FiledRuns.{IsKnown, can_list, known}
 use Rattle.nv_machine.proofs.FiledWorlds.{AreMarked, picked_in}

@@ -10,7 +10,8 @@ use Rattle.nv_machine.specs.Kinds.{first_killed}
 use Rattle.nv_machine.specs.Reads.{slot_at}
 use Rattle.nv_machine.specs.Sequence.{closing, publishing, retiring}
 use Rattle.nv_machine.specs.World.{Actor, Close, Leave, Publish, Retire, idle}
-use Rattle.nv_machine.proofs.FiledLists.{all_append, all_back, all_front, count, count_append}
+use Rattle.nv_machine.proofs.EachOf.{all_append, all_back, all_front}
+use Rattle.nv_machine.proofs.FiledLists.{count, count_append}
 use Rattle.nv_machine.proofs.Lists.{drop_all, self, take_all, take_more}
 
 -- ---- the parts of a slot

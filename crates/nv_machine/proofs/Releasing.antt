@@ -45,7 +45,8 @@ use Rattle.nv_machine.proofs.Counted.{settled_times}
 use Rattle.nv_machine.proofs.Erased.{all_freed, behind, gone_erased}
 use Rattle.nv_machine.proofs.Erasing.{IsKnown, known, runs_inside}
 use Rattle.nv_machine.proofs.Events.{goes}
-use Rattle.nv_machine.proofs.FiledLists.{all_append, all_back, all_filed, all_front, count, count_append, count_cons, count_filed, held_filed}
+use Rattle.nv_machine.proofs.EachOf.{all_append, all_back, all_front}
+use Rattle.nv_machine.proofs.FiledLists.{all_filed, count, count_append, count_cons, count_filed, held_filed}
 use Rattle.nv_machine.proofs.FiledMarks.{IsTold, is_filed_on}
 use Rattle.nv_machine.proofs.FiledRuns as filed
 use Rattle.nv_machine.proofs.FiledSteps.{MarksOf, released_cell}
