@@ -48,7 +48,7 @@ use Rattle.nv_machine.proofs.CopySteps.{GoesOut}
 use Rattle.nv_machine.proofs.EpochLogs.{IsHeldAt, born_by, log_at, splits, up_to_within}
 use Rattle.nv_machine.proofs.EpochSteps.{AreParts, spans}
 use Rattle.nv_machine.proofs.FiledLaw.{all_marked}
-use Rattle.nv_machine.proofs.FiledLists.{all_back, all_front}
+use Rattle.nv_machine.proofs.EachOf.{all_back, all_front}
 use Rattle.nv_machine.proofs.FiledMarks.{IsDying, IsTold}
 use Rattle.nv_machine.proofs.FiledSteps.{AreFresh, MarksOf}
 use Rattle.nv_machine.proofs.FiledWorlds.{AreMarked, picked_in}

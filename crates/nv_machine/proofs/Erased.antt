@@ -80,7 +80,7 @@ block_times : (slots : List (Option BlockValue)) (n : ℕ) (b : BlockValue) → 
 block_times [] n b e = cc
 block_times (o ∷ slots) zero b e =
     let one : times b.number (of_part o) ≡ 1 = ap (λ (x : Option BlockValue). times b.number (of_part x)) e ∙ times-yes b.number
-        b.number [] (self b.number) in
+    b.number [] (self b.number) in
     omega (arith, one, times-append b.number (of_part o) (flat_map of_part slots))
 block_times (o ∷ slots) (suc n) b e =
     omega (arith, block_times slots n b e, times-append b.number (of_part o) (flat_map of_part slots))
