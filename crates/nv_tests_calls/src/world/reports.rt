@@ -1,9 +1,9 @@
 //! What a world reports, which a call without effect leaves as it was.
 
 use crate::compare::{push, same};
+use crate::trees::are_alike;
 use nv_base::{Fault, Ino};
-use nv_core::{Lists, LogCounts, Path, Space, Tree, TreeNode, World};
-use nv_entry::BoundName;
+use nv_core::{Lists, LogCounts, SnapCounts, Snaps, Space, Tree, World};
 use std::alloc::Global;
 use std::process::Abort;
 
@@ -46,42 +46,6 @@ impl Reports {
         let (tree, other) = (self.tree.as_slice(), before.tree.as_slice());
         assert!(rt; are_alike(tree, other), "trees");
     }
-}
-
-fn have_same_path(path: &Path, other: &Path) -> bool {
-    for (name, other) in path.as_slice().iter().zip(other.as_slice()) {
-        if name.bytes() != other.bytes() {
-            return false;
-        }
-    }
-    path.len() == other.len()
-}
-
-fn have_same_names(names: &[BoundName], others: &[BoundName]) -> bool {
-    for (name, other) in names.iter().zip(others) {
-        if name.name.bytes() != other.name.bytes() || name.to != other.to {
-            return false;
-        }
-    }
-    names.len() == others.len()
-}
-
-fn is_alike(node: &TreeNode, other: &TreeNode) -> bool {
-    have_same_path(&node.path, &other.path)
-        && node.node.kind == other.node.kind
-        && node.node.mode == other.node.mode
-        && node.node.size == other.node.size
-        && node.node.bytes.as_slice() == other.node.bytes.as_slice()
-        && have_same_names(node.node.names.as_slice(), other.node.names.as_slice())
-}
-
-fn are_alike(tree: &[TreeNode], others: &[TreeNode]) -> bool {
-    for (node, other) in tree.iter().zip(others) {
-        if !is_alike(node, other) {
-            return false;
-        }
-    }
-    tree.len() == others.len()
 }
 
 /// Each report that wants for memory is asked for once more.
