@@ -2,8 +2,8 @@
 
 use crate::compare::{push, same};
 use crate::trees::are_alike;
-use nv_base::{Fault, Ino};
-use nv_core::{Lists, LogCounts, SnapCounts, Snaps, Space, Tree, World};
+use nv_base::{Epoch, Fault, Ino};
+use nv_core::{Lists, LogCounts, Snaps, Space, Tree, World};
 use std::alloc::Global;
 use std::process::Abort;
 
@@ -14,6 +14,8 @@ pub(super) struct Reports {
     lists: Lists,
     tree: Tree,
     logs: Vec<LogCounts>,
+    snaps: Snaps,
+    snap_trees: Vec<Tree>,
 }
 
 impl Reports {
@@ -23,11 +25,18 @@ impl Reports {
         for ino in 0..slots {
             push(rt, &mut logs, log_of(rt, world, ino));
         }
+        let snaps = snaps_of(rt, world);
+        let mut snap_trees = Vec::new(alloc);
+        for counts in snaps.living.as_slice() {
+            push(rt, &mut snap_trees, snap_tree_of(rt, world, counts.snapshot));
+        }
         Reports {
             space: world.space(),
             lists: lists_of(rt, world),
             tree: tree_of(rt, world),
             logs,
+            snaps,
+            snap_trees,
         }
     }
 
@@ -43,8 +52,17 @@ impl Reports {
             same(rt, log.entries, other.entries);
             same(rt, log.pages.as_slice(), other.pages.as_slice());
         }
-        let (tree, other) = (self.tree.as_slice(), before.tree.as_slice());
-        assert!(rt; are_alike(tree, other), "trees");
+        same(rt, are_alike(self.tree.as_slice(), before.tree.as_slice()), true);
+        self.have_those_snapshots(rt, before);
+    }
+
+    fn have_those_snapshots(&self, rt: &impl Abort, before: &Reports) {
+        same(rt, self.snaps.epoch, before.snaps.epoch);
+        same(rt, self.snaps.commit, before.snaps.commit);
+        same(rt, self.snaps.living.as_slice(), before.snaps.living.as_slice());
+        for (tree, other) in self.snap_trees.iter().zip(&before.snap_trees) {
+            same(rt, are_alike(tree.as_slice(), other.as_slice()), true);
+        }
     }
 }
 
@@ -65,6 +83,27 @@ fn tree_of(rt: &impl Abort, world: &World) -> Tree {
         Err(fault) => {
             same(rt, fault, Fault::OutOfMemory);
             world.tree().expect(rt, "memory for a tree")
+        }
+    }
+}
+
+pub(super) fn snaps_of(rt: &impl Abort, world: &World) -> Snaps {
+    match world.snaps() {
+        Ok(snaps) => snaps,
+        Err(fault) => {
+            same(rt, fault, Fault::OutOfMemory);
+            world.snaps().expect(rt, "memory for snapshots")
+        }
+    }
+}
+
+pub(super) fn snap_tree_of(rt: &impl Abort, world: &World, snapshot: Epoch) -> Tree {
+    match world.snap_tree(snapshot) {
+        Ok(tree) => tree,
+        Err(fault) => {
+            same(rt, fault, Fault::OutOfMemory);
+            let again = world.snap_tree(snapshot);
+            again.expect(rt, "memory for a tree of a snapshot")
         }
     }
 }
