@@ -4,7 +4,7 @@ use Rattle.nv_base.specs.declared.geometry.GeometryNumbers.{GeometryNumbers}
 use Rattle.nv_calls.specs.declared.call.Call.{Call}
 use Rattle.nv_machine.specs.Format.{formatted}
 use Rattle.nv_machine.specs.Step.{after, go_step, start_step, step, turn, turned}
-use Rattle.nv_machine.specs.World.{Append, Back, Check, Close, Ends, Enter, Event, Give, Go, HandState, Leave, Lock, Look, Moves, Next, Number, Open, Publish, Ready, Retire, Running, Shared, Start, TakeBlocks, TakePages, Turn, Unlock, Visit, Waits, World, actor_at}
+use Rattle.nv_machine.specs.World.{Append, Back, Check, Close, Drop, Ends, Enter, Event, Give, Go, HandState, Leave, Lock, LockPicked, Look, Make, Moves, Next, Number, Open, Pick, Pin, Publish, Ready, Release, Retire, Running, Shared, Show, Snapshots, Start, TakeBlocks, TakePages, Turn, Unlock, Unpin, Visit, Waits, World, actor_at}
 use Rattle.nv_machine.proofs.Kept.{AfterTurn, back_deed, deed, number_deed, turn_keeps}
 use Rattle.std.proofs.lemmas.List.{length-replicate}
 
@@ -43,6 +43,14 @@ deed_pool (Unlock place) block actor s h r = refl
 deed_pool (Give cpu) block actor s h r = refl
 deed_pool Back block actor s h r = back_pool h.ino s h
 deed_pool Visit block actor s h r = refl
+deed_pool (Snapshots Make) block actor s h r = refl
+deed_pool (Snapshots (Drop snapshot)) block actor s h r = refl
+deed_pool (Snapshots (Pin snapshot)) block actor s h r = refl
+deed_pool (Snapshots (Show snapshot showing)) block actor s h r = refl
+deed_pool (Snapshots (Unpin snapshot seen)) block actor s h r = refl
+deed_pool (Snapshots (Pick draining)) block actor s h r = refl
+deed_pool (Snapshots (LockPicked draining picked)) block actor s h r = refl
+deed_pool (Snapshots (Release draining picked)) block actor s h r = refl
 
 -- ---- events
 
