@@ -1,15 +1,24 @@
--- The blocks of every world add up, since each stands once in the machine's.
-use Rattle.std.proofs.Common.{subst, sym}
+-- The blocks of every world add up, since each stands once in the machine's, and no more are picked than there are actors.
+use Rattle.std.proofs.Common.{◌≡◌, ◌≤◌, ◌∙◌, ap, arith, length, subst, sym}
 use Rattle.nv_machine.proofs.FromScratch.{each_once}
 use Rattle.nv_machine.specs.Numbers.{IsEachOnce, all_blocks}
 use Rattle.nv_machine.specs.World as machine
+use Rattle.nv_core.proofs.GivenCounts.{IsOfNumbers, of_numbers}
+use Rattle.nv_core.proofs.Pending.{pending_counts}
 use Rattle.nv_core.proofs.SpaceLaw.{adds_up}
-use Rattle.nv_core.specs.Reports.{AddsUp}
+use Rattle.nv_core.specs.Reports.{AddsUp, space_in, space_of}
+use Rattle.nv_core.specs.Picked.{picked_of}
 use Rattle.nv_core.specs.Shown.{shared_of}
-use Rattle.nv_core.specs.Worlds.{IsWorld, WorldState}
+use Rattle.nv_core.specs.Worlds.{IsWorld, Shows, WorldState}
 
 pub world_adds_up : (w : WorldState) → IsWorld w → AddsUp w.shared.geometry.numbers.blocks (shared_of w.shared)
 world_adds_up w is =
     let g = w.shared.geometry.numbers in
     let once = subst (λ (m : machine.World). IsEachOnce g.blocks (all_blocks m)) (sym is.2.reached) (each_once g is.1 is.2.limits) in
     subst (λ (s : machine.Shared). AddsUp g.blocks s) (sym is.2.shows.shared) (adds_up g.blocks is.0 once)
+
+pub few_actors : (w : WorldState) → IsWorld w → length w.actors ≤ 64
+few_actors w is =
+    let g = w.shared.geometry.numbers in
+    let numbers : IsOfNumbers g is.0 = subst (IsOfNumbers g) (sym is.2.reached) (of_numbers g is.1) in
+    omega (arith, is.2.shows.count, numbers.actors, is.2.limits.actors_fit)
