@@ -20,7 +20,6 @@ pub mod GivenEnter
 pub mod GivenKinds
 pub mod GivenLaws
 pub mod GivenOn
-pub mod NoneOut
 pub mod OnSnapshots
 pub mod GivenReady
 pub mod Gives

@@ -1,14 +1,13 @@
 -- What the laws of the machine say of the steps of calls on snapshots: pins are those of the shows under way, a living snapshot has all
 -- its pages, and a picked record's part is kept in a cell that stands still.
-use Rattle.std.proofs.Common.{◌≡◌, ℕ, zero, suc, ◌+◌, ◌<◌, ◌≤◌, ◌++◌, ◌∙◌, Bool, true, false, cond, List, [], ◌∷◌, Option, Some, None, IsSome, ap, arith, inl, inr, length, refl, slice_get, slice_index_or, subst, sym}
+use Rattle.std.proofs.Common.{◌≡◌, ℕ, zero, suc, ◌<◌, ◌≤◌, ◌++◌, ◌∙◌, Bool, true, false, cond, List, [], ◌∷◌, Option, Some, None, IsSome, ap, arith, inl, inr, length, refl, slice_get, slice_index_or, subst, sym}
 use Rattle.std.specs.Prelude.{count_by, option_and_then}
 use Rattle.std.specs.List.{AllByRecursion, Contains, flat_map}
-use Rattle.std.specs.Option.{ForSome, IsSomeAnd, option_map}
+use Rattle.std.specs.Option.{ForSome, IsSomeAnd}
 use Rattle.std.proofs.lemmas.Bool.{cases_lt}
 use Rattle.std.proofs.lemmas.List.{get_or_past}
 use Rattle.std.proofs.lemmas.List.Sums.{count_by-le-length}
 use Rattle.std.proofs.lemmas.Option.{slice_get-get_or}
-use Rattle.nv_alloc.specs.Block.{number_of}
 use Rattle.nv_base.specs.Limits.{IsWithinLimits}
 use Rattle.nv_base.specs.declared.geometry.GeometryNumbers.{GeometryNumbers}
 use Rattle.nv_base.specs.declared.limits.TheConstants.{PINS}
@@ -17,28 +16,22 @@ use Rattle.nv_book.specs.declared.record.Record.{Record}
 use Rattle.nv_calls.specs.Retiring.{name_of}
 use Rattle.nv_cell.proofs.Runs.{count_cons}
 use Rattle.nv_cell.proofs.ValuesNow.{IsLog-take}
-use Rattle.nv_cell.specs.Cell.{CellState, log_of, mark_named, mark_or_fresh, page_block}
-use Rattle.nv_cell.specs.Marks.{bit, is_there, mark_at}
+use Rattle.nv_cell.specs.Cell.{CellState, log_of}
+use Rattle.nv_cell.specs.Marks.{bit, mark_at}
 use Rattle.nv_cell.specs.Named.{number_named}
-use Rattle.nv_cell.specs.Numbers.{is_number}
 use Rattle.nv_cell.specs.declared.mark.Mark.{Mark}
 use Rattle.nv_cell.specs.declared.mark.Mark.TheVariants.{Current, Kept, Killed, Out}
-use Rattle.nv_entry.specs.Covered.{is_covered, part_total}
-use Rattle.nv_entry.specs.Log.{IsLog, up_to}
-use Rattle.nv_entry.specs.declared.item.Entry.{Entry}
+use Rattle.nv_entry.specs.Log.{IsLog}
 use Rattle.nv_epoch.proofs.Pins.{lives-from_pins}
 use Rattle.nv_epoch.specs.SnapList.{ids, pins_of}
 use Rattle.nv_machine.specs.Format.{formatted}
 use Rattle.nv_machine.specs.Held.{picked_at, picked_by_actor, picked_by_call}
 use Rattle.nv_machine.specs.Reading.{ArePins, pins_at, pins_by_call, shows_of}
-use Rattle.nv_machine.specs.Recorded.{IsOfPair, is_kept, is_record_of, recorded_in}
+use Rattle.nv_machine.specs.Recorded.{IsOfPair, is_kept, is_record_of}
 use Rattle.nv_machine.specs.Step.{after}
-use Rattle.nv_machine.specs.World.{Actor, Draining, Drop, Event, LockPicked, Make, Next, Pick, Pin, Release, Running, Shared, Show, SnapshotStep, Snapshots, Unpin, World, actor_at, cell_at, idle, no_cell, owner_at}
-use Rattle.nv_machine.proofs.CopyMarks.{all_have_marks, log_same}
-use Rattle.nv_machine.proofs.CopyRuns.{earlier}
-use Rattle.nv_machine.proofs.EpochLogs.{log_at, splits}
+use Rattle.nv_machine.specs.World.{Actor, Draining, Drop, Event, LockPicked, Make, Next, Pick, Pin, Release, Running, Show, SnapshotStep, Snapshots, Unpin, World, actor_at, cell_at, idle, owner_at}
 use Rattle.nv_machine.proofs.Erasing.{runs_inside}
-use Rattle.nv_machine.proofs.FiledLaw.{all_marked, recorded_once, recorded_pairs}
+use Rattle.nv_machine.proofs.FiledLaw.{recorded_once, recorded_pairs}
 use Rattle.nv_machine.proofs.FiledLists.{all_back, count, count_append}
 use Rattle.nv_machine.proofs.FromScratch.{all_numbers}
 use Rattle.nv_machine.proofs.Generations.{inodes_early}
@@ -55,11 +48,9 @@ use Rattle.nv_machine.proofs.PoolLaw.{all_pooled}
 use Rattle.nv_machine.proofs.PoolRuns.{standing}
 use Rattle.nv_machine.proofs.PoolTurns.{Standing}
 use Rattle.nv_machine.proofs.Reached.{reached}
-use Rattle.nv_machine.proofs.SnapRuns.{in_step}
-use Rattle.nv_reader.specs.Cells.{NoneOut}
 use Rattle.nv_core.proofs.GivenCounts.{of_numbers}
 use Rattle.nv_core.proofs.GivenOn.{HasOn, HasPicked}
-use Rattle.nv_core.proofs.NoneOut.{none_out_by}
+use Rattle.nv_core.proofs.HeldPages.{none_out_at}
 
 -- ---- one of some
 
@@ -144,37 +135,8 @@ module _ (g : GeometryNumbers) (events : List Event) (within : IsWithinLimits g)
       go None some = absurd some
       go (Some pins) some = refl
 
-  -- ---- the pages of a living snapshot
-
   log_is : (ino : ℕ) → IsLog (log_of (cell ino))
   log_is ino = IsLog-take (cell ino).chain.tail (cell ino).chain.entries ((reached g events within).order.logs ino).ordered
-
-  pub living_pages : (snapshot ino : ℕ) → Contains (ids w.shared.book.snaps) snapshot
-      → NoneOut (cell ino) (up_to snapshot (log_of (cell ino)))
-  living_pages snapshot ino living = elim (cases_lt ino (length w.shared.cells)) [
-    | inl lt ↦ within_slots lt
-    | inr ge ↦
-        subst (λ (c : CellState). NoneOut c (up_to snapshot (log_of c))) (sym (get_or_past w.shared.cells ino no_cell ge)) (λ page low. tt)
-  ] where
-    log : List Entry
-    log = up_to snapshot (log_of (cell ino))
-
-    same : log_at snapshot (cell ino) ≡ log
-    same =
-        log_same snapshot w.shared.book.snaps.epoch (cell ino) (earlier w snapshot (in_step g events within).before living)
-        ((all_marked g events within).fresh ino)
-
-    there : (n : ℕ) → n < part_total log → is_covered (cell ino).block log n ≡ false → is_there (mark_or_fresh (cell ino).marks n) ≡ true
-    there = subst (λ (l : List Entry). (n : ℕ) → n < part_total l → is_covered (cell ino).block l n ≡ false
-        → is_there (mark_or_fresh (cell ino).marks n) ≡ true) same ((all_have_marks g within events).held snapshot ino living)
-
-    within_slots : ino < length w.shared.cells → NoneOut (cell ino) log
-    within_slots lt =
-        let split = splits snapshot (log_of (cell ino)) (log_is ino) in
-        none_out_by (cell ino) log split.rest (log_is ino) split.is
-        (λ n number low unc says.
-            (all_parts g events within ino lt).blocks.numbers n
-            ∙ ap (λ (b : Bool). cond b (page_block (cell ino).block (cell ino).chain.entries n) None) (there n low unc) ∙ says)
 
   -- ---- a picked record
 
@@ -249,7 +211,7 @@ module _ (g : GeometryNumbers) (events : List Event) (within : IsWithinLimits g)
   on_snapshots actor q is (Drop snapshot) e = tt
   on_snapshots actor q is (Pin snapshot) e = pin_fewer actor q is snapshot (ap (pins_at snapshot) e)
   on_snapshots actor q is (Show snapshot showing) e =
-      λ ino. living_pages snapshot ino (lives actor q is snapshot (ap (pins_at snapshot) e ∙ self snapshot))
+      none_out_at g events within snapshot (lives actor q is snapshot (ap (pins_at snapshot) e ∙ self snapshot))
   on_snapshots actor q is (Unpin snapshot seen) e = has_pin actor q is snapshot (ap (pins_at snapshot) e ∙ self snapshot)
   on_snapshots actor q is (Pick draining) e = tt
   on_snapshots actor q is (LockPicked draining picked) e = tt

@@ -1,19 +1,15 @@
 -- The part that holds a page in a log, and its block in the cell whose log goes on from there.
-use Rattle.std.proofs.Common.{◌≡◌, ℕ, ◌+◌, ◌-◌, ◌<◌, ◌≤◌, ◌∙◌, Bool, true, false, cond, List, [], ◌∷◌, ◌++◌, Option, Some, None, ap, append_assoc, arith, drop, length, nat_lt, refl, slice_index_or, subst, sym, take, take-take}
+use Rattle.std.proofs.Common.{◌≡◌, ℕ, ◌+◌, ◌-◌, ◌<◌, ◌∙◌, Bool, true, false, cond, List, [], ◌∷◌, ◌++◌, Option, Some, None, ap, append_assoc, arith, nat_lt, refl, slice_index_or, subst, sym}
 use Rattle.std.specs.Prelude.{IsSome, option_and_then}
-use Rattle.std.specs.Option.{IfSome, option_map}
+use Rattle.std.specs.Option.{IfSome}
 use Rattle.std.proofs.lemmas.Bool.{eq-eqb, le-ltb, lt-ltb}
-use Rattle.std.proofs.lemmas.List.{take-append-drop}
 use Rattle.std.proofs.lemmas.Option.{get_or_from_slice_get, slice_get_within}
-use Rattle.nv_alloc.specs.Block.{BlockValue, number_of}
 use Rattle.nv_base.proofs.Ids.{before-same}
 use Rattle.nv_base.specs.Ids.{is_same_id}
 use Rattle.nv_base.specs.declared.numbers.EntryId.{EntryId}
 use Rattle.nv_cell.proofs.Appending.{back_block}
 use Rattle.nv_cell.proofs.Numbers.{total_append}
 use Rattle.nv_cell.proofs.NamedParts.{place_there}
-use Rattle.nv_cell.proofs.PagesNow.{front_block}
-use Rattle.nv_cell.proofs.ValuesNow.{IsLog-take}
 use Rattle.nv_cell.specs.Cell.{CellState, block_named, log_of, page_block}
 use Rattle.nv_cell.specs.Named.{number_named, place_of}
 use Rattle.nv_entry.proofs.Covering.{part_present}
@@ -33,17 +29,8 @@ use Rattle.nv_entry.specs.declared.part.Part.{Part}
 use Rattle.nv_entry.specs.declared.part.Part.TheVariants as part
 use Rattle.nv_entry.specs.declared.part.PartId.{PartId}
 use Rattle.nv_entry.specs.declared.part_ref.PartRef.{PartRef}
-use Rattle.nv_machine.proofs.Reached.{reached}
-use Rattle.nv_machine.specs.Kept.{HasPages}
-use Rattle.nv_machine.specs.Reached.{IsReached}
-use Rattle.nv_machine.specs.Settled.{settled, settled_tail}
-use Rattle.nv_machine.specs.World.{Shared, cell_at}
 use Rattle.nv_reader.specs.Blocks.{page_part, page_writer}
 use Rattle.nv_reader.specs.Cells.{NoneOut}
-use Rattle.nv_core.proofs.GivenLaws.{LawsOf}
-use Rattle.nv_core.proofs.LawsHold.{laws_of}
-use Rattle.nv_core.specs.Shown.{shared_of}
-use Rattle.nv_core.specs.Worlds.{IsWorld, WorldState}
 
 -- ---- a part behind some entries
 
