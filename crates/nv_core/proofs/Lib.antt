@@ -20,6 +20,7 @@ pub mod GivenEnter
 pub mod GivenKinds
 pub mod GivenLaws
 pub mod GivenOn
+pub mod OnSnapshots
 pub mod GivenReady
 pub mod Gives
 pub mod HeldPages
