@@ -103,6 +103,7 @@ pub mod Returning
 pub mod ErasedRows
 pub mod HeldRows
 pub mod SnapshotRows
+pub mod WrongSnapshots
 pub mod Firsts
 pub mod Asking
 pub mod Refusing

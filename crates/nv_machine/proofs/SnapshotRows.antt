@@ -12,24 +12,24 @@ use Rattle.nv_machine.specs.Format.{formatted}
 use Rattle.nv_machine.specs.World.{Done, Moved, Refused, Reply, Started, World}
 use Rattle.nv_machine.proofs.Scripts.{DoCall, Goes, Line, StartCall, device, handle, line, play, played, shown, space}
 
-abbrev snap : Line
+abbrev pub snap : Line
 snap = DoCall 0 (call.Snapshots on.Snap)
 
 abbrev dropping : ℕ → ℕ → Line
 dropping actor snapshot = DoCall actor (call.Snapshots (on.Drop snapshot))
 
 -- a page of four equal bytes
-abbrev page : ℕ → List ℕ
+abbrev pub page : ℕ → List ℕ
 page byte = byte ∷ byte ∷ byte ∷ byte ∷ []
 
-abbrev write : ℕ → Line
+abbrev pub write : ℕ → Line
 write byte = DoCall 0 (call.Write (handle 1 1) 0 (page byte))
 
 -- a file with a page
-abbrev made : List Line
+abbrev pub made : List Line
 made = DoCall 0 (call.Create (handle 0 1) (97 ∷ []) 420) ∷ write 97 ∷ []
 
-abbrev after_lines : List Line → World
+abbrev pub after_lines : List Line → World
 after_lines lines = played (formatted device) lines
 
 -- the nodes of a tree that is replied
@@ -39,7 +39,7 @@ told reply = []
 
 -- ---- born and dead in one epoch: the second page is free as soon as the third is written, and the first is held
 
-abbrev twice_written : List Line
+abbrev pub twice_written : List Line
 twice_written = made ++ snap ∷ write 98 ∷ write 99 ∷ []
 
 both_done : play (formatted device) twice_written
@@ -59,7 +59,7 @@ as_it_was = refl
 
 -- ---- deferred is not free, until it is drained: the page and its key
 
-abbrev deferring : List Line
+abbrev pub deferring : List Line
 deferring = made ++ snap ∷ write 98 ∷ dropping 0 1 ∷ []
 
 not_free : space (after_lines deferring) ≡ 12 ∷ 2 ∷ 1 ∷ 1 ∷ 0 ∷ []
@@ -73,7 +73,7 @@ free_then = refl
 
 -- ---- a record moves down
 
-abbrev twice_held : List Line
+abbrev pub twice_held : List Line
 twice_held = made ++ snap ∷ snap ∷ write 98 ∷ []
 
 held_by_both : held_of 1 (after_lines twice_held).shared.book.manifests ∷ held_of 2 (after_lines twice_held).shared.book.manifests ∷ []
