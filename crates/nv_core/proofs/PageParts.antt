@@ -165,7 +165,8 @@ front_in cell log rest front is has page low = go (scan_ref cell.block log (Page
   there : (r : PartRef) → HoldsPage cell.block log page r.entry → IsSome (block_named cell (page_part page r.entry))
   there r at =
       let named : number_named (log_of cell) (page_part page r.entry) ≡ Some at.n =
-      subst (λ (xs : List Entry). number_named xs (page_part page r.entry) ≡ Some at.n) front (at.named rest (subst IsLog (sym front) is)) in
+      subst (λ (xs : List Entry). number_named xs (page_part page r.entry) ≡ Some at.n) front
+      (at.named rest (subst IsLog (sym front) is)) in
       rw named (has at.n at.number at.low at.uncovered at.says)
 
   go : (o : Option PartRef) → scan_ref cell.block log (PageKey page) ≡ o

@@ -1,44 +1,19 @@
 -- In every world each page of a settled log has its block in the cell.
-use Rattle.std.proofs.Common.{◌≡◌, ℕ, ◌+◌, ◌-◌, ◌<◌, ◌≤◌, ◌∙◌, Bool, true, false, cond, List, [], ◌∷◌, ◌++◌, Option, Some, None, ap, append_assoc, arith, drop, length, nat_lt, refl, slice_index_or, subst, sym, take, take-take}
-use Rattle.std.specs.Prelude.{IsSome, option_and_then}
-use Rattle.std.specs.Option.{IfSome, option_map}
-use Rattle.std.proofs.lemmas.Bool.{eq-eqb, le-ltb, lt-ltb}
+use Rattle.std.proofs.Common.{◌≡◌, ℕ, ◌≤◌, ◌∙◌, List, ◌++◌, Option, Some, None, ap, drop, refl, slice_index_or, subst, sym, take, take-take}
+use Rattle.std.specs.Prelude.{IsSome}
+use Rattle.std.specs.Option.{option_map}
 use Rattle.std.proofs.lemmas.List.{take-append-drop}
-use Rattle.std.proofs.lemmas.Option.{get_or_from_slice_get, slice_get_within}
 use Rattle.nv_alloc.specs.Block.{BlockValue, number_of}
-use Rattle.nv_base.proofs.Ids.{before-same}
-use Rattle.nv_base.specs.Ids.{is_same_id}
-use Rattle.nv_base.specs.declared.numbers.EntryId.{EntryId}
-use Rattle.nv_cell.proofs.Appending.{back_block}
-use Rattle.nv_cell.proofs.Numbers.{total_append}
-use Rattle.nv_cell.proofs.NamedParts.{place_there}
 use Rattle.nv_cell.proofs.PagesNow.{front_block}
 use Rattle.nv_cell.proofs.ValuesNow.{IsLog-take}
-use Rattle.nv_cell.specs.Cell.{CellState, block_named, log_of, page_block}
-use Rattle.nv_cell.specs.Named.{number_named, place_of}
-use Rattle.nv_entry.proofs.Covering.{part_present}
-use Rattle.nv_entry.proofs.Refs.{follows, to_current}
-use Rattle.nv_entry.specs.Covered.{is_covered, part_count, part_key, part_total}
-use Rattle.nv_entry.specs.Data.{block_in}
-use Rattle.nv_entry.specs.Keys.{Key, PageKey, in_run, is_page, is_past, key_of, parts_of, sets}
-use Rattle.nv_entry.specs.Laws.{is_present}
-use Rattle.nv_entry.specs.Log.{IsLog, value_of}
-use Rattle.nv_entry.specs.Refs.{IsCurrentPart, scan_ref}
+use Rattle.nv_cell.specs.Cell.{CellState, log_of, page_block}
+use Rattle.nv_entry.specs.Log.{IsLog}
 use Rattle.nv_entry.specs.declared.item.Entry.{Entry}
-use Rattle.nv_entry.specs.declared.item.Item.{Item}
-use Rattle.nv_entry.specs.declared.item.Item.TheVariants.{Init, Write, SetSize, SetMode, Bind, Unbind, Gone}
-use Rattle.nv_entry.specs.declared.key.Datum.TheVariants.{Block}
-use Rattle.nv_entry.specs.declared.key.Setting.TheVariants.{Untouched, Absent, Present}
-use Rattle.nv_entry.specs.declared.part.Part.{Part}
-use Rattle.nv_entry.specs.declared.part.Part.TheVariants as part
-use Rattle.nv_entry.specs.declared.part.PartId.{PartId}
-use Rattle.nv_entry.specs.declared.part_ref.PartRef.{PartRef}
 use Rattle.nv_machine.proofs.Reached.{reached}
 use Rattle.nv_machine.specs.Kept.{HasPages}
 use Rattle.nv_machine.specs.Reached.{IsReached}
 use Rattle.nv_machine.specs.Settled.{settled, settled_tail}
 use Rattle.nv_machine.specs.World.{Shared, cell_at}
-use Rattle.nv_reader.specs.Blocks.{page_part, page_writer}
 use Rattle.nv_reader.specs.Cells.{NoneOut}
 use Rattle.nv_core.proofs.PageParts.{front_in}
 use Rattle.nv_core.specs.Shown.{shared_of}

@@ -1,5 +1,4 @@
-use Rattle.std.proofs.Common.{subst, sym}
-use Rattle.std.specs.Bool.{IsTrue}
+use Rattle.std.proofs.Common.{subst}
 use Rattle.std.specs.List.{Contains}
 use Rattle.nv_epoch.specs.SnapList.{Snapshots, ids}
 use Rattle.nv_core.proofs.LivingLogs.{can_show, settled_then}
@@ -11,11 +10,11 @@ tree_at-requires-clause-can c =
     let w : WorldState = record { shared = c.self.inside.shared; actors = c.self.inside.actors.items } in
     can_show w c.self.invariant c.args.snapshot
     (subst (λ (s : Snapshots). Contains (ids s) c.args.snapshot) c.snaps.ensures.snaps
-    (c.has.ensures.lives.0 (subst IsTrue (sym c.if-not-has.false) tt)))
+    (c.has.ensures.lives.0 c.if-not-has.false))
 
 pub tree_at-requires-clause-settled : goal.tree_at-requires-clause-settled
 tree_at-requires-clause-settled c =
     let w : WorldState = record { shared = c.self.inside.shared; actors = c.self.inside.actors.items } in
     settled_then w c.self.invariant c.args.snapshot
     (subst (λ (s : Snapshots). Contains (ids s) c.args.snapshot) c.snaps.ensures.snaps
-    (c.has.ensures.lives.0 (subst IsTrue (sym c.if-not-has.false) tt)))
+    (c.has.ensures.lives.0 c.if-not-has.false))
