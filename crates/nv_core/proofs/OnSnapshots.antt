@@ -17,7 +17,7 @@ use Rattle.nv_calls.specs.Retiring.{name_of}
 use Rattle.nv_cell.proofs.Runs.{count_cons}
 use Rattle.nv_cell.proofs.ValuesNow.{IsLog-take}
 use Rattle.nv_cell.specs.Cell.{CellState, log_of}
-use Rattle.nv_cell.specs.Marks.{bit, mark_at}
+use Rattle.nv_cell.specs.Marks.{mark_at}
 use Rattle.nv_cell.specs.Named.{number_named}
 use Rattle.nv_cell.specs.declared.mark.Mark.{Mark}
 use Rattle.nv_cell.specs.declared.mark.Mark.TheVariants.{Current, Kept, Killed, Out}
@@ -33,6 +33,7 @@ use Rattle.nv_machine.specs.World.{Actor, Draining, Drop, Event, LockPicked, Mak
 use Rattle.nv_machine.proofs.Erasing.{runs_inside}
 use Rattle.nv_machine.proofs.FiledLaw.{recorded_once, recorded_pairs}
 use Rattle.nv_machine.proofs.FiledLists.{all_back, count, count_append}
+use Rattle.nv_machine.proofs.FiledMarks.{bit_is}
 use Rattle.nv_machine.proofs.FromScratch.{all_numbers}
 use Rattle.nv_machine.proofs.Generations.{inodes_early}
 use Rattle.nv_machine.proofs.HandNumbers.{chains_below, parts_below}
@@ -90,10 +91,6 @@ kept_there marks n kept = elim (cases_lt n (length marks)) [
   go Current e = cc
   go Killed e = cc
   go Out e = cc
-
-one_bit : (b : Bool) → 0 < bit b → b ≡ true
-one_bit true lt = refl
-one_bit false lt = absurd (omega (arith, lt))
 
 -- ---- a world that events lead to
 
@@ -169,7 +166,7 @@ module _ (g : GeometryNumbers) (events : List Event) (within : IsWithinLimits g)
         let p : Record → Bool = is_record_of (cell picked.ino) picked.ino of_pair.n in
         let own : count p (picked_by_actor (actor_at w actor)) ≡ 1 =
         ap (λ (ds : List Record). count p ds) has_it ∙ ap (λ (b : Bool). length (cond b (picked ∷ []) [])) own_record in
-        one_bit (is_kept (mark_at (cell picked.ino).marks of_pair.n)) (omega (
+        bit_is (is_kept (mark_at (cell picked.ino).marks of_pair.n)) (omega (
           arith,
           own,
           own_count picked_by_actor p w.actors actor (runs_inside w actor q is),
