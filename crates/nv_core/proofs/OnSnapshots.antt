@@ -30,9 +30,10 @@ use Rattle.nv_machine.specs.Reading.{ArePins, pins_at, pins_by_call, shows_of}
 use Rattle.nv_machine.specs.Recorded.{IsOfPair, is_kept, is_record_of}
 use Rattle.nv_machine.specs.Step.{after}
 use Rattle.nv_machine.specs.World.{Actor, Draining, Drop, Event, LockPicked, Make, Next, Pick, Pin, Release, Running, Show, SnapshotStep, Snapshots, Unpin, World, actor_at, cell_at, idle, owner_at}
+use Rattle.nv_machine.proofs.EachOf.{all_back}
 use Rattle.nv_machine.proofs.Erasing.{runs_inside}
 use Rattle.nv_machine.proofs.FiledLaw.{recorded_once, recorded_pairs}
-use Rattle.nv_machine.proofs.FiledLists.{all_back, count, count_append}
+use Rattle.nv_machine.proofs.FiledLists.{count, count_append}
 use Rattle.nv_machine.proofs.FiledMarks.{bit_is}
 use Rattle.nv_machine.proofs.FromScratch.{all_numbers}
 use Rattle.nv_machine.proofs.Generations.{inodes_early}
