@@ -56,11 +56,11 @@ parts_below g w ino n b all is = elim (cases_lt b.number g.blocks) [
   | inl lt ↦ lt
   | inr ge ↦
       absurd (omega (
-          arith,
-          block_times (cell_at w.shared ino).blocks n b is,
-          cell_few g w ino b.number,
-          once_below g w b.number all.once ge,
-        ))
+        arith,
+        block_times (cell_at w.shared ino).blocks n b is,
+        cell_few g w ino b.number,
+        once_below g w b.number all.once ge,
+      ))
 ]
 
 -- ---- numbers of inodes
