@@ -38,14 +38,15 @@ use Rattle.nv_machine.specs.Held.{is_of_slot, killed_in}
 use Rattle.nv_machine.specs.Recorded.{is_kept, is_record_of, recorded_in}
 use Rattle.nv_machine.specs.Step.{after}
 use Rattle.nv_machine.specs.World.{Event, World, cell_at, no_cell}
+use Rattle.nv_machine.proofs.EachOf.{all_back, all_weaker, all_with}
 use Rattle.nv_machine.proofs.FiledHeld.{recorded_for}
 use Rattle.nv_machine.proofs.FiledLaw.{all_marked, recorded_all, recorded_once}
-use Rattle.nv_machine.proofs.FiledLists.{all_back, all_weaker, count, count_append, count_cons, one}
+use Rattle.nv_machine.proofs.FiledLists.{count, count_append, count_cons, one}
 use Rattle.nv_machine.proofs.FiledMarks.{IsTold}
 use Rattle.nv_machine.proofs.FiledParts.{log_in}
 use Rattle.nv_machine.proofs.FiledRuns.{known}
 use Rattle.nv_machine.proofs.FiledWorlds.{picked_in}
-use Rattle.nv_machine.proofs.HeldMarks.{all_with, any_gives}
+use Rattle.nv_machine.proofs.HeldMarks.{any_gives}
 use Rattle.nv_machine.proofs.Lists.{self}
 use Rattle.nv_machine.proofs.Pairs.{has_number, its_name, its_number, name_is, own_name}
 use Rattle.nv_core.specs.Audited.{parts_by_actor}

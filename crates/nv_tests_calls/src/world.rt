@@ -3,6 +3,7 @@
 mod growths;
 mod playing;
 mod reports;
+mod snapshots;
 mod words;
 
 use crate::compare::{holds_for, push, same};
