@@ -1,5 +1,6 @@
 //! Worlds: a first path by events and replies, and each call while the runner refuses memory once.
 
+mod audits;
 mod growths;
 mod playing;
 mod reports;
