@@ -221,11 +221,7 @@ fn mix_two(
     seed: &mut u64,
 ) -> Result<(), Fail> {
     let any = below(seed, ALL_KINDS);
-    let calls = [
-        chosen(one, seed)?,
-        chosen(other, seed)?,
-        chosen(any, seed)?,
-    ];
+    let calls = [chosen(one, seed)?, chosen(other, seed)?, chosen(any, seed)?];
     mix(rt, alloc, &calls, seed)
 }
 
