@@ -38,7 +38,7 @@ const SNAPPED: &[Says] = &[
 ];
 
 /// How often each two kinds are made at once.
-const ROUNDS: u64 = 1;
+const ROUNDS: u64 = 2;
 
 /// No calls of three actors have so many events.
 const EVENTS: u64 = 2_000;
