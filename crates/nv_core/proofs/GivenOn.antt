@@ -1,5 +1,5 @@
 -- What the laws of the machine have to say of the steps of calls on snapshots.
-use Rattle.std.proofs.Common.{◌≡◌, ◌<◌, ℕ, true, Some, None, length}
+use Rattle.std.proofs.Common.{◌≡◌, ◌<◌, ℕ, true, Some, None}
 use Rattle.std.specs.Prelude.{slice_index_or}
 use Rattle.std.specs.List.{AllByRecursion}
 use Rattle.std.specs.Option.{ForSome, IsSomeAnd}

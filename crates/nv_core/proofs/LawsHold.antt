@@ -1,11 +1,11 @@
 -- The laws of the machine that the steps are given hold of every world that events lead to.
-use Rattle.std.proofs.Common.{◌≡◌, ℕ, List, Some, ap, arith, subst, sym}
+use Rattle.std.proofs.Common.{◌≡◌, List, ap, arith, subst, sym}
 use Rattle.nv_base.specs.Limits.{IsWithinLimits}
 use Rattle.nv_base.specs.declared.geometry.GeometryNumbers.{GeometryNumbers}
 use Rattle.nv_machine.specs.FitsNow.{is_checked}
 use Rattle.nv_machine.specs.Format.{formatted}
 use Rattle.nv_machine.specs.Step.{after}
-use Rattle.nv_machine.specs.World.{Event, Running, SnapshotStep, Snapshots, World, actor_at}
+use Rattle.nv_machine.specs.World.{Event, World}
 use Rattle.nv_machine.proofs.Checking.{own_handles, own_number}
 use Rattle.nv_machine.proofs.FitsEvents.{all_known}
 use Rattle.nv_machine.proofs.FromScratch.{all_numbers}
@@ -15,14 +15,7 @@ use Rattle.nv_machine.proofs.MarkedRuns.{are_cells}
 use Rattle.nv_machine.proofs.PoolLaw.{all_pooled}
 use Rattle.nv_machine.proofs.Versions.{cells_counted}
 use Rattle.nv_core.proofs.GivenLaws.{LawsOf}
-use Rattle.nv_core.proofs.GivenOn.{HasOn}
-
--- what they say of the steps of calls on snapshots: pins are those of the shows under way, a living snapshot has all its pages, and
--- a picked record's part is kept
-on_snapshots : (g : GeometryNumbers) (events : List Event) (actor : ℕ) (q : Running) (step : SnapshotStep) → IsWithinLimits g
-    → (actor_at (after (formatted g) events) actor).running ≡ Some q → q.next ≡ Snapshots step
-    → HasOn g (after (formatted g) events).shared step
-on_snapshots g events actor q step within is e = ?
+use Rattle.nv_core.proofs.OnSnapshots.{on_snapshots}
 
 pub laws_after : (g : GeometryNumbers) (events : List Event) → IsWithinLimits g → LawsOf g (after (formatted g) events)
 laws_after g events within =
@@ -43,7 +36,7 @@ laws_after g events within =
         number = λ n has_it. (let own = own_number g w actor q is e known pooled n has_it in (own.2, own.1));
         held = own_handles g w actor q is e pooled;
       };
-      snapshots = λ actor q step is e. on_snapshots g events actor q step within is e;
+      snapshots = λ actor q step is e. on_snapshots g events within actor q is step e;
     }
 
 pub laws_of : (g : GeometryNumbers) (m : World) (events : List Event) → IsWithinLimits g → m ≡ after (formatted g) events → LawsOf g m

@@ -1,5 +1,5 @@
 -- A record is released: what is shared and the hand, and which blocks it gives out.
-use Rattle.std.proofs.Common.{◌≡◌, ◌∙◌, ℕ, ◌<◌, ◌++◌, Bool, true, false, List, [], ◌∷◌, Option, Some, None, ap, ap₂, length, map, refl, slice_set, subst, sym}
+use Rattle.std.proofs.Common.{◌≡◌, ◌∙◌, ℕ, ◌<◌, ◌++◌, Bool, true, false, List, [], ◌∷◌, Option, Some, None, ap, ap₂, map, refl, slice_set, subst, sym}
 use Rattle.std.specs.Prelude.{slice_index_or, if◌then◌else◌, option_to_list}
 use Rattle.std.specs.List.{AllByRecursion}
 use Rattle.nv_alloc.specs.Block.{BlockValue}
@@ -8,7 +8,7 @@ use Rattle.nv_book.specs.declared.record.Record.{Record}
 use Rattle.nv_calls.specs.Retiring as calls
 use Rattle.nv_cell.specs.Cell.{CellState, CellValue, number_in}
 use Rattle.nv_machine.specs.Kinds.{blocks_in, end_turn, with_erased}
-use Rattle.nv_machine.specs.Snapshots.{one_more, release_turn, with_released}
+use Rattle.nv_machine.specs.Snapshots.{one_more, release_turn}
 use Rattle.nv_machine.specs.World as machine
 use Rattle.nv_machine.specs.World.{HandState, cell_at, empty_hand, with_cell}
 use Rattle.nv_core.specs.Shown.{hand_of, shared_of}

@@ -87,4 +87,4 @@ has_own_bytes w is ino = shows_reached (λ s. HasOwnBytes s ino) (λ m r. own_by
 pub are_settled : (w : WorldState) → IsWorld w → AreSettled (shared_of w.shared)
 are_settled w is ino lt =
     let tail = noted_tail_within w is ino in
-    record { tail = tail; own = has_own_bytes w is ino; pages = none_out w is ino lt tail }
+    record { tail = tail; own = has_own_bytes w is ino; pages = none_out w is ino tail }

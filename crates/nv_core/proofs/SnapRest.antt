@@ -1,5 +1,5 @@
 -- What a step of a call on snapshots leaves to the other actors.
-use Rattle.std.proofs.Common.{◌≡◌, ◌≢◌, ◌==◌, ◌∙◌, ℕ, Bool, true, false, List, [], ◌∷◌, Option, Some, None, ap, length, refl, sym}
+use Rattle.std.proofs.Common.{◌≡◌, ◌≢◌, ◌==◌, ◌∙◌, ℕ, Bool, true, false, List, [], ◌∷◌, None, ap, length, refl, sym}
 use Rattle.std.proofs.lemmas.Bool.{eq-eqb}
 use Rattle.nv_alloc.specs.Numbers.{has}
 use Rattle.nv_calls.specs.SlotCells.{cell_in}
@@ -9,7 +9,6 @@ use Rattle.nv_core.specs.Rooms.{IsOnBook}
 use Rattle.nv_core.specs.Shown.{next_of}
 use Rattle.nv_core.specs.declared.next.Next.{Next}
 use Rattle.nv_core.specs.declared.next.Next.TheVariants as next
-use Rattle.nv_core.specs.declared.next.SnapshotStep.{SnapshotStep}
 use Rattle.nv_core.specs.declared.next.SnapshotStep.TheVariants as on
 use Rattle.nv_core.specs.declared.shared.Shared.{Shared}
 

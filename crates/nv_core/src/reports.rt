@@ -95,7 +95,7 @@ impl Shared {
     /// Where the blocks are, of which so many are those of picked records.
     fn space(&self, picked: u64) -> Space
         requires blocks { AddsUp self.now.geometry.numbers.blocks (shared_of self.now) }
-        requires few { block_count self.now.book.state.deferred + picked < 2 ^ 64 }
+        requires few { picked ≤ 64 }
         ensures { result ≡ space_in self.now.geometry.numbers.blocks
             (block_count self.now.book.state.deferred + picked) (shared_of self.now) }
     {

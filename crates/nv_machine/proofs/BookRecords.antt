@@ -1,5 +1,5 @@
 -- What holds of each record of a book, over the steps that change the book.
-use Rattle.std.proofs.Common.{◌≡◌, ℕ, ◌==◌, Bool, true, false, not, cond, drop, List, [], ◌∷◌, ◌++◌, filter, length, Option, Some, None, refl, subst, sym}
+use Rattle.std.proofs.Common.{◌≡◌, ℕ, ◌==◌, Bool, true, false, not, cond, drop, List, [], ◌∷◌, ◌++◌, length, Option, Some, None, refl, subst, sym}
 use Rattle.std.specs.Prelude.{Ok, Err}
 use Rattle.std.specs.List.{AllByRecursion}
 use Rattle.nv_book.specs.Book.{BookState, after_drop_snapshot, after_make_snapshot}
@@ -19,20 +19,8 @@ use Rattle.nv_machine.specs.Reads.{slot_at, written_slots}
 use Rattle.nv_machine.specs.Snapshots.{drop_turn, if_free, make_tests, make_turn, picked_turn, pin_turn, snapshot_turn}
 use Rattle.nv_machine.specs.Step.{kind_turn}
 use Rattle.nv_machine.specs.World.{Append, Back, Check, Close, Draining, Drop, Ending, Ends, Enter, Give, HandState, Leave, Lock, LockPicked, Look, Make, Moves, Next, Number, Open, Pick, Pin, Publish, Ready, Release, Retire, Running, Shared, Show, SnapshotStep, Snapshots, TakeBlocks, TakePages, Turn, Unlock, Unpin, Visit, Waits}
+use Rattle.nv_machine.proofs.EachOf.{all_append, all_filter}
 use Rattle.nv_machine.proofs.Framed.{end_framed, framed, same_frame}
-
--- ---- lists
-
-all_both : {X : Type 0} (P : X → Type 0) (xs ys : List X) → AllByRecursion P xs → AllByRecursion P ys → AllByRecursion P (xs ++ ys)
-all_both P [] ys h k = k
-all_both P (x ∷ xs) ys h k = (h.0, all_both P xs ys h.1 k)
-
-all_filtered : {X : Type 0} (P : X → Type 0) (f : X → Bool) (xs : List X) → AllByRecursion P xs → AllByRecursion P (filter f xs)
-all_filtered P f [] h = tt
-all_filtered P f (x ∷ xs) h = go (f x) (all_filtered P f xs h.1) where
-  go : (b : Bool) → AllByRecursion P (filter f xs) → AllByRecursion P (cond b (x ∷ filter f xs) (filter f xs))
-  go true more = (h.0, more)
-  go false more = more
 
 -- ---- manifests
 
@@ -49,7 +37,7 @@ module _ (P : Record → Type 0) where
   put_each (Some s) rs [] h k = tt
   put_each (Some s) rs (m ∷ ms) h k = (go (m.snapshot == s), put_each (Some s) rs ms h.1 k) where
     go : (b : Bool) → All (cond b (record m { records = m.records ++ rs }) m).records
-    go true = all_both P m.records rs h.0 k
+    go true = all_append P m.records rs h.0 k
     go false = h.0
 
   at_each : (s : ℕ) (ms : List Manifest) → Each ms → All (records_at s ms)
@@ -68,7 +56,7 @@ module _ (P : Record → Type 0) where
 
   pub made_all : (b : BookState) → AllRecords P b → AllRecords P (after_make_snapshot b)
   made_all b h = record {
-    filed = all_both (λ (m : Manifest). All m.records) b.manifests _ h.filed (tt, tt);
+    filed = all_append (λ (m : Manifest). All m.records) b.manifests _ h.filed (tt, tt);
     deferred = h.deferred;
   }
 
@@ -78,10 +66,10 @@ module _ (P : Record → Type 0) where
       let own = at_each s b.manifests h.filed in
       record {
         filed = put_each older (moved_down older (records_at s b.manifests)) (manifests_without s b.manifests)
-            (all_filtered (λ (m : Manifest). All m.records) (λ (m : Manifest). not (m.snapshot == s)) b.manifests h.filed)
-            (all_filtered P (λ r. is_born_by older r) (records_at s b.manifests) own);
-        deferred = all_both P b.deferred (let_go older (records_at s b.manifests)) h.deferred
-            (all_filtered P (λ r. not (is_born_by older r)) (records_at s b.manifests) own);
+            (all_filter (λ (m : Manifest). All m.records) (λ (m : Manifest). not (m.snapshot == s)) b.manifests h.filed)
+            (all_filter P (λ r. is_born_by older r) (records_at s b.manifests) own);
+        deferred = all_append P b.deferred (let_go older (records_at s b.manifests)) h.deferred
+            (all_filter P (λ r. not (is_born_by older r)) (records_at s b.manifests) own);
       }
 
   -- ---- turns

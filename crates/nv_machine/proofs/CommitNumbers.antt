@@ -158,15 +158,15 @@ snapshot_counted step a granted s h r =
     after_counted (done_on step (snapshot_turn step a granted s h r)) s (snapshot_turn step a granted s h r)
     (deed_counted step s.book.commit (snapshot_turn step a granted s h r))
     (snapshot_keeps (λ u h. u.book.commit ≡ s.book.commit) step a granted s h r refl (same step)) where
-  same : (step : SnapshotStep) → (snapshot_deed step a s h).shared.book.commit ≡ s.book.commit
-  same Make = refl
-  same (Drop snapshot) = refl
-  same (Pin snapshot) = refl
-  same (Show snapshot showing) = refl
-  same (Unpin snapshot seen) = refl
-  same (Pick draining) = refl
-  same (LockPicked draining picked) = refl
-  same (Release draining picked) = refl
+      same : (step : SnapshotStep) → (snapshot_deed step a s h).shared.book.commit ≡ s.book.commit
+      same Make = refl
+      same (Drop snapshot) = refl
+      same (Pin snapshot) = refl
+      same (Show snapshot showing) = refl
+      same (Unpin snapshot seen) = refl
+      same (Pick draining) = refl
+      same (LockPicked draining picked) = refl
+      same (Release draining picked) = refl
 
 kind_counted : (k : Next) (block a : ℕ) (granted : Bool) (s : Shared) (h : HandState) (r : Running)
     → OnNumber (deed k (written_slots r) (kind_turn k block a granted s h r)) s (kind_turn k block a granted s h r)

@@ -48,7 +48,7 @@ use Rattle.nv_machine.proofs.CopySteps.{GoesOut}
 use Rattle.nv_machine.proofs.EpochLogs.{IsHeldAt, born_by, log_at, splits, up_to_within}
 use Rattle.nv_machine.proofs.EpochSteps.{AreParts, spans}
 use Rattle.nv_machine.proofs.FiledLaw.{all_marked}
-use Rattle.nv_machine.proofs.FiledLists.{all_back, all_front}
+use Rattle.nv_machine.proofs.EachOf.{all_back, all_front}
 use Rattle.nv_machine.proofs.FiledMarks.{IsDying, IsTold}
 use Rattle.nv_machine.proofs.FiledSteps.{AreFresh, MarksOf}
 use Rattle.nv_machine.proofs.FiledWorlds.{AreMarked, picked_in}
@@ -82,7 +82,7 @@ after_fresh : (epoch now : ℕ) (es : List Entry) → epoch < now → AllByRecur
 after_fresh epoch now [] lt all = tt
 after_fresh epoch now (e ∷ es) lt all = (let same = all.0 in omega (arith, lt, same), after_fresh epoch now es lt all.1)
 
-log_same : (epoch now : ℕ) (cell : CellState) → epoch < now → AreFresh now cell → log_at epoch cell ≡ up_to epoch (log_of cell)
+pub log_same : (epoch now : ℕ) (cell : CellState) → epoch < now → AreFresh now cell → log_at epoch cell ≡ up_to epoch (log_of cell)
 log_same epoch now cell lt fresh =
     let es = cell.chain.entries in
     let tail = cell.chain.tail in

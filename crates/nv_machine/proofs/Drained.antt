@@ -309,7 +309,8 @@ module _ (actor : ℕ) where
       (kind_on n r.next w.numbers.block actor granted w.shared (actor_at w actor).hand r (subst (IsDrainOf n) is was)) reply
 
   events_refused : (events : List Event) (w : World) (n : ℕ) (fault : Fault) (granted : Bool) → AreNoStarts actor events
-      → IsDrainAt n actor w → IsSome (actor_at (after w events) actor).running → (step (after w events) (Go actor granted)).reply ≡ Refused fault
+      → IsDrainAt n actor w → IsSome (actor_at (after w events) actor).running
+      → (step (after w events) (Go actor granted)).reply ≡ Refused fault
       → (fault ≡ OutOfMemory) × (n + releases actor w (events ++ Go actor granted ∷ []) ≡ 0)
   events_refused [] w n fault granted apart was some reply =
       let one = go_refused (nat_lt actor (length w.actors)) (actor_at w actor).running w n fault granted refl refl some was reply in

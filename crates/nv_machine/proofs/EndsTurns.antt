@@ -250,8 +250,8 @@ module _ (block a cpu : ℕ) (s : Shared) (h : HandState) (r : Running) where
   none_then true false x before e none = none
   none_then false q x before e none = none
 
-  visit_told : (owner : Option ℕ) (all tests : Tests) (given : Bool) (x found : Answer) (before : List Answer) → is_on_snapshots r.call ≡ false
-      → before ≡ [] → (owner ≡ None → (all ≡ tests) × (x ≡ found))
+  visit_told : (owner : Option ℕ) (all tests : Tests) (given : Bool) (x found : Answer) (before : List Answer)
+      → is_on_snapshots r.call ≡ false → before ≡ [] → (owner ≡ None → (all ≡ tests) × (x ≡ found))
       → OnTold before (cond (is_pass all && is_answered (visit_turn owner tests given found s h r)) (x ∷ []) [] ++ before)
       (visit_turn owner tests given found s h r)
   visit_told (Some other) all tests given x found before on_files none same =
@@ -275,7 +275,9 @@ module _ (block a cpu : ℕ) (s : Shared) (h : HandState) (r : Running) where
       check_told (has_nothing_to_do block plain r) (ending_at block s h r) granted _ (answer (settled_nodes s) r.made r.call)
       (decided_is st d.stage)
       (no_drain (early (copies s) r.call) (same_looked (looked (copies s) r.call) r.looked) (refusal block (copies s) r.call)
-      (is_numbered (beginning r.call) h.ino) (effect (copies s) (made_in s h.ino r.made) r.call)) (some_then st d.stage) (λ e. same_told (settled_nodes s) r.made (made_in s h.ino r.made) r.call plain d.stage
+      (is_numbered (beginning r.call) h.ino) (effect (copies s) (made_in s h.ino r.made) r.call))
+      (some_then st d.stage)
+      (λ e. same_told (settled_nodes s) r.made (made_in s h.ino r.made) r.call plain d.stage
       (and_parts (is_pass (refusal block plain r.call) && same_looked (looked plain r.call) r.looked)
       (is_no_change (effect plain r.made r.call)) e).1) d.stage before d.told
   kind_told (TakeBlocks asked) granted before st d = taking_told before before d.told _ _ asked block _ _ r d.stage
@@ -300,7 +302,8 @@ module _ (block a cpu : ℕ) (s : Shared) (h : HandState) (r : Running) where
   kind_told (Retire place) granted before st d =
       behind_told (retiring (place + 1) (written_slots r)) _ before (retiring_behind (written_slots r) (place + 1)) d.told d.stage
   kind_told Leave granted before st d =
-      end_told before before r.slots r.ending _ h r (ap is_drain (st.ending refl), (no_visit r.call d.stage).1) (λ e. no_visit r.call d.stage)
+      end_told before before r.slots r.ending _ h r (ap is_drain (st.ending refl), (no_visit r.call d.stage).1)
+      (λ e. no_visit r.call d.stage)
       (d.told ∙ ap (λ (e : Ending). told_by e (answer_of r)) (sym (st.ending refl)))
   kind_told (Unlock place) granted before st d = unlocked_told before before _ place _ h r d.stage.0 d.stage.1 d.told
   kind_told (Give home) granted before st d = rest_told before before _ h.ino _ _ r d.stage d.told

@@ -21,16 +21,9 @@ use Rattle.nv_machine.specs.Order.{AreLogsOrdered, CommitsIn, entries_at, to_app
 use Rattle.nv_machine.specs.Sequence.{closing, opening, publishing, retiring}
 use Rattle.nv_machine.specs.World.{Answers, Append, Close, Drains, Ending, Ends, HandState, Leave, Moves, Next, Open, Overtaken, Publish, Refuses, Retire, Running, Shared, Turn, Waits, cell_at}
 use Rattle.nv_machine.proofs.Holding.{OnLocks}
+use Rattle.nv_machine.proofs.EachOf.{all_append, all_weaker}
 
 -- ---- entries of one commit
-
-all_more : (P : Entry → Type 0) (xs ys : List Entry) → AllByRecursion P xs → AllByRecursion P ys → AllByRecursion P (xs ++ ys)
-all_more P [] ys h more = more
-all_more P (x ∷ xs) ys h more = (h.0, all_more P xs ys h.1 more)
-
-all_weaker : (P Q : Entry → Type 0) → ((e : Entry) → P e → Q e) → (xs : List Entry) → AllByRecursion P xs → AllByRecursion Q xs
-all_weaker P Q f [] h = tt
-all_weaker P Q f (x ∷ xs) h = (f x h.0, all_weaker P Q f xs h.1)
 
 own_entries : (commit epoch place : ℕ) (items : List Item)
     → AllByRecursion (λ (e : Entry). (e.id.commit < commit + 1) × (e.epoch ≤ epoch)) (entries_of commit epoch place items)
@@ -50,7 +43,7 @@ pub appended_log : (commit epoch place : ℕ) (items : List Item) (log : List En
     → IsBefore (commit + 1) epoch (log ++ entries_of commit epoch place items)
 appended_log commit epoch place items log h = record {
   ordered = log_rises commit epoch place items log h.ordered h.earlier;
-  earlier = all_more (λ (e : Entry). (e.id.commit < commit + 1) × (e.epoch ≤ epoch)) log (entries_of commit epoch place items)
+  earlier = all_append (λ (e : Entry). (e.id.commit < commit + 1) × (e.epoch ≤ epoch)) log (entries_of commit epoch place items)
       (later_too commit epoch log h).earlier (own_entries commit epoch place items);
 }
 

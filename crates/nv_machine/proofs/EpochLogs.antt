@@ -130,10 +130,10 @@ abbrev pub HaveSameBlocks : CellState → CellState → Type 0
 HaveSameBlocks a b = (n : ℕ) (x y : BlockValue) → slice_index_or a.blocks n None ≡ Some x → slice_index_or b.blocks n None ≡ Some y → x ≡ y
 
 -- the block of a page of the epoch's log
-block_there : (epoch page number : ℕ) (cell : CellState) → IsLog cell.chain.entries → HasBlocks cell → (n : ℕ)
+pub block_there : (epoch number : ℕ) (cell : CellState) → IsLog cell.chain.entries → HasBlocks cell → (n : ℕ)
     → IsPart cell.block (log_at epoch cell) number n → is_there (mark_or_fresh cell.marks n) ≡ true
     → (b : BlockValue) × (slice_index_or cell.blocks n None ≡ Some b) × (b.number ≡ number)
-block_there epoch page number cell is has n p there =
+block_there epoch number cell is has n p there =
     let s = splits epoch cell.chain.entries is in
     let says : page_block cell.block cell.chain.entries n ≡ Some number =
     ap (λ (es : List Entry). page_block cell.block es n) (sym s.is) ∙ front_block cell.block (log_at epoch cell) s.rest n p.low ∙ p.says in
@@ -159,8 +159,8 @@ copies_same epoch a b isa isb hasa hasb aparta apartb size log same helda heldb 
         let n = f.0 in
         let p = f.1 in
         let q = other_part number n p in
-        let x = block_there epoch page number a isa hasa n p (helda n p.low p.uncovered) in
-        let y = block_there epoch page number b isb hasb n q (heldb n q.low q.uncovered) in
+        let x = block_there epoch number a isa hasa n p (helda n p.low p.uncovered) in
+        let y = block_there epoch number b isb hasb n q (heldb n q.low q.uncovered) in
         let one = same n x.0 y.0 x.1 y.1 in
         ap (bytes_among b.blocks) (sym y.2) ∙ among_at b.blocks apartb n y.0 y.1
         ∙ sym (ap (λ (v : BlockValue). v.bytes) one) ∙ sym (among_at a.blocks aparta n x.0 x.1) ∙ ap (bytes_among a.blocks) x.2

@@ -75,12 +75,12 @@ no_blocks [] none = refl
 no_blocks (o ∷ slots) none =
     ap (λ (l : List ℕ). l ++ flat_map of_part slots) (ap of_part (none 0)) ∙ no_blocks slots (λ n. none (suc n))
 
-block_times : (slots : List (Option BlockValue)) (n : ℕ) (b : BlockValue) → slice_index_or slots n None ≡ Some b
+pub block_times : (slots : List (Option BlockValue)) (n : ℕ) (b : BlockValue) → slice_index_or slots n None ≡ Some b
     → 1 ≤ times b.number (flat_map of_part slots)
 block_times [] n b e = cc
 block_times (o ∷ slots) zero b e =
     let one : times b.number (of_part o) ≡ 1 = ap (λ (x : Option BlockValue). times b.number (of_part x)) e ∙ times-yes b.number
-        b.number [] (self b.number) in
+    b.number [] (self b.number) in
     omega (arith, one, times-append b.number (of_part o) (flat_map of_part slots))
 block_times (o ∷ slots) (suc n) b e =
     omega (arith, block_times slots n b e, times-append b.number (of_part o) (flat_map of_part slots))

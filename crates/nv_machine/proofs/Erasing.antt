@@ -50,7 +50,8 @@ use Rattle.nv_machine.proofs.Erased.{all_freed, behind, erased_slot, gone_erased
 use Rattle.nv_machine.proofs.Events.{goes}
 use Rattle.nv_machine.proofs.FiledCommits.{retire_left}
 use Rattle.nv_machine.proofs.FiledLaw.{all_marked}
-use Rattle.nv_machine.proofs.FiledLists.{HasHolder, all_append, all_back, all_filed, all_front, count, count_append, count_filed, held_filed}
+use Rattle.nv_machine.proofs.EachOf.{all_append, all_back, all_front}
+use Rattle.nv_machine.proofs.FiledLists.{HasHolder, all_filed, count, count_append, count_filed, held_filed}
 use Rattle.nv_machine.proofs.FiledMarks.{IsTold, is_filed_on}
 use Rattle.nv_machine.proofs.FiledParts.{have_marks, log_in}
 use Rattle.nv_machine.proofs.FiledRuns as filed
@@ -207,7 +208,7 @@ module _ (g : GeometryNumbers) (w : World) (all : IsKnown g w) (actor place : �
               ap (λ (l : List Entry). slice_get (pairs cell.block l) n) (settled_log ∙ sym left_log)
               ∙ ap (λ (b : ℕ). slice_get (pairs b (log_of left)) n) (sym left_block) ∙ e in
               let kept = at_place_of (λ (p : Pair). keeps (keepers_of (pending_in w) s slot) p ≡ false)
-                  (pairs cell.block (settled s slot)) n pair
+              (pairs cell.block (settled s slot)) n pair
               over.kept at in
               sym in_use
               ∙ ap (λ (ids : List PartId). (is_current pair || is_held living pair) || list_any (has_name pair) ids)
@@ -220,9 +221,13 @@ module _ (g : GeometryNumbers) (w : World) (all : IsKnown g w) (actor place : �
               once pair =
                   let p : Record → Bool = λ d. is_filed_on slot (log_of left) n d in
                   omega (
-                    arith, left_marks.kept_are n, count_append p (all_records s.book.manifests ++ more) (pending_in w),
-                    count_append p (all_records s.book.manifests) more, count_append p s.book.deferred (picked_in w),
-                    count_append p (all.rs ++ picked_in w) more, count_append p all.rs (picked_in w),
+                    arith,
+                    left_marks.kept_are n,
+                    count_append p (all_records s.book.manifests ++ more) (pending_in w),
+                    count_append p (all_records s.book.manifests) more,
+                    count_append p s.book.deferred (picked_in w),
+                    count_append p (all.rs ++ picked_in w) more,
+                    count_append p all.rs (picked_in w),
                     count_filed p living s.book.manifests s.book.deferred all.rs all.listed.rising all.listed.list,
                   )
 
@@ -361,7 +366,7 @@ none_stays g events ino within free over =
           ap is_there (sym (same_default cell.marks n lt)) ∙ sym (used_there g events ino n within)
           ∙ go (slice_get (pairs cell.block (log_of cell)) n) refl
           (pair_there cell.block (log_of cell) n (log_in g events ino within)
-              (let len = (have_marks g events ino within).len in omega (arith, lt, len))) where
+          (let len = (have_marks g events ino within).len in omega (arith, lt, len))) where
             go : (o : Option Pair) → slice_get (pairs cell.block (log_of cell)) n ≡ o → IsSome o → in_use_by (retention_at w ino) o ≡ false
             go None e some = absurd (false≢true some)
             go (Some pair) e some =
@@ -370,7 +375,7 @@ none_stays g events ino within free over =
                 ap (λ (parts : List KilledPart). is_needed (ids w.shared.book.snaps) pair
                 || is_named (pending_at w ino ++ map (λ (k : KilledPart). k.part) parts) pair) none
                 ∙ ap (λ (names : List PartId). is_needed (ids w.shared.book.snaps) pair || is_named names pair)
-                    (append-nil (pending_at w ino))
+                (append-nil (pending_at w ino))
                 ∙ at_place_of (λ (p : Pair). keeps (keepers_of (pending_in w) w.shared ino) p ≡ false)
-                    (pairs cell.block (settled w.shared ino)) n
+                (pairs cell.block (settled w.shared ino)) n
                 pair over.kept at

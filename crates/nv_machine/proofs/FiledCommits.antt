@@ -22,7 +22,8 @@ use Rattle.nv_machine.specs.Recorded.{with_parts}
 use Rattle.nv_machine.specs.Sequence.{sequel}
 use Rattle.nv_machine.specs.Step.{changed, turned}
 use Rattle.nv_machine.specs.World.{Append, HandState, Next, Publish, Retire, Running, Shared, World, actor_at, cell_at, with_cell}
-use Rattle.nv_machine.proofs.FiledLists.{all_append, all_back, all_front, all_weaker, count_append}
+use Rattle.nv_machine.proofs.EachOf.{all_append, all_back, all_front, all_weaker}
+use Rattle.nv_machine.proofs.FiledLists.{count_append}
 use Rattle.nv_machine.proofs.FiledMarks.{IsTold, is_filed_on}
 use Rattle.nv_machine.proofs.FiledPicks.{erased_killed}
 use Rattle.nv_machine.proofs.FiledSteps.{AreFresh, MarksOf, appended_fresh, appended_marks, erased_cell, erased_fresh, none_other, parts_are_of, parts_behind, published_cell, published_fresh, recounted, retired_chain, retired_log, retired_marks}
@@ -39,8 +40,11 @@ behind_first living ino epoch killed rs picked more cell h =
     let T : Record → Type 0 = IsTold ino cell.block (log_of cell) in
     recounted living ino epoch killed ((rs ++ picked) ++ more) ((rs ++ more) ++ picked) cell
     (λ n. omega (
-      arith, count_append (is_filed_on ino (log_of cell) n) (rs ++ more) picked, count_append (is_filed_on ino (log_of cell) n) rs more,
-      count_append (is_filed_on ino (log_of cell) n) (rs ++ picked) more, count_append (is_filed_on ino (log_of cell) n) rs picked,
+      arith,
+      count_append (is_filed_on ino (log_of cell) n) (rs ++ more) picked,
+      count_append (is_filed_on ino (log_of cell) n) rs more,
+      count_append (is_filed_on ino (log_of cell) n) (rs ++ picked) more,
+      count_append (is_filed_on ino (log_of cell) n) rs picked,
     ))
     (let front = all_front T (rs ++ picked) more h.told in
     all_append T (rs ++ more) picked (all_append T rs more (all_front T rs picked front) (all_back T (rs ++ picked) more h.told))
@@ -56,8 +60,11 @@ more_elsewhere living slot ino epoch killed rs picked more cell ne of h =
     all_weaker (λ (d : Record). d.ino ≡ slot) (λ (d : Record). d.ino ≢ ino) (λ d e f. ne (sym e ∙ f)) more of in
     recounted living ino epoch killed (rs ++ picked) ((rs ++ more) ++ picked) cell
     (λ n. omega (
-      arith, count_append (is_filed_on ino (log_of cell) n) (rs ++ more) picked, count_append (is_filed_on ino (log_of cell) n) rs more,
-      count_append (is_filed_on ino (log_of cell) n) rs picked, none_other ino (log_of cell) n more apart,
+      arith,
+      count_append (is_filed_on ino (log_of cell) n) (rs ++ more) picked,
+      count_append (is_filed_on ino (log_of cell) n) rs more,
+      count_append (is_filed_on ino (log_of cell) n) rs picked,
+      none_other ino (log_of cell) n more apart,
     ))
     (all_append T (rs ++ more) picked
     (all_append T rs more (all_front T rs picked h.told) (all_weaker (λ (d : Record). d.ino ≢ ino) T (λ d no e. absurd (no e)) more apart))
@@ -138,7 +145,7 @@ module _ (w : World) (a : ℕ) (rs : List Record) (r : Running) (there : a < len
       (picks ∙ sym (own_picks ∙ ap picked_at next)) in
       let all : (ino : ℕ) → MarksOf living ino epoch (killed_in v ino) (rs ++ picked_in v) (cell_at s ino) =
       λ ino. marks_as living ino epoch (killed_in w ino) (killed_in v ino) (rs ++ picked_in w) (rs ++ picked_in v) (cell_at s ino)
-          (same ino)
+      (same ino)
       (ap (λ (l : List Record). rs ++ l) picked) (m.cells ino) in
       one_cell w a slot rs rs _ _ _ new (λ ino. refl) refl low
       (appended_marks living slot epoch (killed_in v slot) (rs ++ picked_in v) (entries_for r slot) h.blocks (take pages h.pages)
@@ -170,7 +177,7 @@ module _ (w : World) (a : ℕ) (rs : List Record) (r : Running) (there : a < len
       let picked : picked_in v ≡ picked_in w = same_picked w a v.shared _ _ (picks ∙ sym (own_picks ∙ ap picked_at next)) in
       let records : rs ++ picked_in v ≡ rs ++ picked_in w = ap (λ (l : List Record). rs ++ l) picked in
       let none : killed_in w slot ≡ [] = before slot ∙ none_there (take place written) h.killed slot
-          (take_apart place written rising inside) in
+      (take_apart place written rising inside) in
       one_cell w a slot rs rs _ _ _ (published cell) (λ ino. refl) refl low
       (marks_as living slot epoch (killed_by cell) (killed_in v slot) (rs ++ picked_in w) (rs ++ picked_in v) (published cell)
       (now slot ∙ more_here (take place written) h.killed slot (killed_by cell) len (take_apart place written rising inside)) records
@@ -226,7 +233,7 @@ module _ (w : World) (a : ℕ) (rs : List Record) (r : Running) (there : a < len
       let now : (ino : ℕ) → killed_in v ino ≡ parts_for (drop (place + 1) written) (drop 1 h.killed) ino =
       λ ino. new_killed w a ino v.shared _ _ there locks held
       ∙ ap (λ (l : List ℕ). parts_for l (with_erased slot left (with_freed slot parts s r h)).killed ino)
-          (retiring_slots (place + 1) written)
+      (retiring_slots (place + 1) written)
       ∙ ap (λ (l : List (List KilledPart)). parts_for (drop (place + 1) written) l ino) hand in
       let before : (ino : ℕ) → killed_in w ino ≡ parts_for (slot ∷ drop (place + 1) written) h.killed ino =
       λ ino. was ino ∙ ap (λ (k : Next). parts_for (killed_slots k written) h.killed ino) next

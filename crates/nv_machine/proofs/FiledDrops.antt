@@ -1,13 +1,13 @@
 -- Who holds what a dropped snapshot held, and what a new one would hold.
-use Rattle.std.proofs.Common.{◌≡◌, ◌≢◌, ℕ, ◌<◌, ◌≤◌, ◌==◌, ◌++◌, ◌∙◌, Bool, true, false, cond, not, nat_le, nat_lt, List, [], ◌∷◌, Option, Some, None, ap, arith, filter, refl}
-use Rattle.std.specs.List.{Contains, last_or}
-use Rattle.std.proofs.lemmas.Bool.{and_from, and_parts, eqb-false, leb-false, leb-true, lt-ltb, ltb-false, ltb-true, ne_eqb, not-true, not_from_false}
+use Rattle.std.proofs.Common.{◌≡◌, ◌≢◌, ℕ, ◌≤◌, ◌==◌, ◌++◌, ◌∙◌, Bool, true, false, not, nat_le, nat_lt, List, [], ◌∷◌, None, ap, arith, filter, refl}
+use Rattle.std.specs.List.{last_or}
+use Rattle.std.proofs.lemmas.Bool.{and_parts, ltb-true, ne_eqb, not_from_false}
 use Rattle.std.proofs.lemmas.List.{append-nil}
 use Rattle.std.proofs.lemmas.List.Elements.{filter-append}
 use Rattle.nv_book.proofs.Filing.{Makes, Removes}
-use Rattle.nv_epoch.specs.Holders.{IsRising, holds, if_born_by, next_older, without, youngest_holder}
+use Rattle.nv_epoch.specs.Holders.{IsRising, holds}
 use Rattle.nv_epoch.proofs.HolderLaws.{youngest-own}
-use Rattle.nv_epoch.proofs.Last.{IsRising-filter, contains_filter, filter_contains, is_last, last_that-filter_none, last_that-filter_some, last_that-none, last_that-some, none_passes}
+use Rattle.nv_epoch.proofs.Last.{last_that-filter_none, last_that-filter_some}
 
 -- ---- a new snapshot
 

@@ -30,7 +30,8 @@ use Rattle.nv_machine.specs.Recorded.{is_kept, is_killed_pair, is_recorded_for, 
 use Rattle.nv_machine.specs.Step.{after}
 use Rattle.nv_machine.specs.World.{Event, cell_at}
 use Rattle.nv_machine.proofs.FiledLaw.{all_marked, recorded_all, recorded_once}
-use Rattle.nv_machine.proofs.FiledLists.{all_weaker, count, count_cons, one}
+use Rattle.nv_machine.proofs.EachOf.{all_weaker}
+use Rattle.nv_machine.proofs.FiledLists.{count, count_cons, one}
 use Rattle.nv_machine.proofs.FiledMarks.{AreMarks, IsTold, is_filed_on, is_killed_on, pair_low}
 use Rattle.nv_machine.proofs.FiledRuns.{known}
 use Rattle.nv_machine.proofs.Pairs.{current_is, has_number, named_same, number_is}
@@ -85,7 +86,7 @@ module _ (living : List ℕ) (ino epoch : ℕ) (killed : List KilledPart) (rs : 
       → (is_of_slot ino d && (is_held_by snapshot d && has_name pair (name_of d))) ≡ (is_filed_on ino log n d && holds snapshot pair)
   held_so snapshot d told =
       rw (named_same block log is n pair got (name_of d)) (go (is_of_slot ino d) refl (is_number (number_named log (name_of d)) n)
-          refl) where
+      refl) where
         off : (c : Bool) → (c && false) ≡ false
         off true = refl
         off false = refl
@@ -102,7 +103,7 @@ module _ (living : List ℕ) (ino epoch : ℕ) (killed : List KilledPart) (rs : 
             let own = told (eqb-true d.ino ino e) in
             let number : own.n ≡ n =
             same_Some own.n n (sym (has_number block log (name_of d) d.birth d.death is own) ∙ number_is (number_named log (name_of d))
-                n f) in
+            n f) in
             let same : own.pair ≡ pair = same_Some own.pair pair (sym own.is ∙ ap (slice_get (pairs block log)) number ∙ got) in
             let birth : pair.birth ≡ d.birth = ap (λ (p : Pair). p.birth) (sym same) ∙ own.birth_is in
             let death : pair.death ≡ Some d.death = ap (λ (p : Pair). p.death) (sym same) ∙ own.death_is in
@@ -148,6 +149,6 @@ recorded_for g events snapshot ino n pair within lives got =
     let m = (all_marked g events within).cells ino in
     let log : IsLog (log_of cell) = IsLog-take cell.chain.tail cell.chain.entries ((known g events within).order.logs ino).ordered in
     held_told (ids w.shared.book.snaps) ino w.shared.book.snaps.epoch (killed_in w ino) _ cell.block (log_of cell) cell.marks log m n
-        pair got
+    pair got
     snapshot (recorded_in w) (recorded_all g events (IsTold ino cell.block (log_of cell)) within m.told)
     (recorded_once g events within ino n) lives

@@ -25,7 +25,7 @@ use Rattle.nv_machine.specs.World.{Append, Back, Check, Close, Draining, Drains,
 use Rattle.nv_machine.proofs.FiledBooks.{ids_pinned}
 use Rattle.nv_machine.proofs.FiledCommits.{append_marked, publish_marked, retire_marked}
 use Rattle.nv_machine.proofs.FiledLists.{none_first}
-use Rattle.nv_machine.proofs.FiledPicks.{appending_none, none_killed, none_picked, picked_after, picks, publishing_none, retiring_none}
+use Rattle.nv_machine.proofs.FiledPicks.{none_killed, none_on, none_picked, picked_after, picks}
 use Rattle.nv_machine.proofs.FiledRuns.{IsKnown, can_list}
 use Rattle.nv_machine.proofs.FiledSnaps.{drop_marked, make_marked, pick_marked, release_marked}
 use Rattle.nv_machine.proofs.FiledTurns.{CanList, Listed, entered_same, list_after, published_same, refused_at_once}
@@ -36,6 +36,7 @@ use Rattle.nv_machine.proofs.Locked.{Before, lent_holder}
 use Rattle.nv_machine.proofs.Locks.{before}
 use Rattle.nv_machine.proofs.Numbered.{lent_inside}
 use Rattle.nv_machine.proofs.PartsFor.{none_for, retiring_slots}
+use Rattle.nv_machine.proofs.Sequels.{appending_on, publishing_on, retiring_on}
 
 -- ---- small things
 
@@ -253,7 +254,7 @@ module _ (g : GeometryNumbers) (w : World) (known : IsKnown g w) (rs : List Reco
       subst (AreMarked (turned (KindTurn (Snapshots (Show snapshot showing))) a w).world)
       (sym (step_same (Show snapshot showing) (KindTurn (Snapshots (Show snapshot showing))) living rs refl))
       (quiet (Snapshots (Show snapshot showing)) next refl refl (nothing (Show snapshot showing) next)
-          (nothing (Show snapshot showing) next)
+      (nothing (Show snapshot showing) next)
       (same_quiet s))
   snapshot_marked (Unpin snapshot seen) next =
       subst (AreMarked (turned (KindTurn (Snapshots (Unpin snapshot seen))) a w).world)
@@ -301,7 +302,7 @@ module _ (g : GeometryNumbers) (w : World) (known : IsKnown g w) (rs : List Reco
       let b = before_it (Append place) e in
       append_marked w a rs r there known.locks (lent_holder (Append place) a s r b refl) is (epoch_of (Append place) e refl) m slot
       (pages_needed s r.plan slot) place e (lent_inside (Append place) a s r b slot refl) (within slot) (hand_at (Append place) e).killed
-      (appending_none (place + 1) (written_slots r))
+      (none_on _ (appending_on (place + 1) (written_slots r)))
   kind_marked Open e =
       let none : h.killed ≡ [] = hand_at Open e in
       quiet Open e refl refl none none (record { cells = λ i. refl; living = refl; epoch = refl })
@@ -312,19 +313,19 @@ module _ (g : GeometryNumbers) (w : World) (known : IsKnown g w) (rs : List Reco
       (sym (published_same (nat_lt 1 (length (written_slots r))) living rs))
       (publish_marked w a rs r there known.locks (lent_holder (Publish place) a s r b refl) is (epoch_of (Publish place) e refl) m place e
       b.inside (rising (Publish place) e) (lent_inside (Publish place) a s r b slot refl) (known.order.logs slot).ordered (within slot)
-      (hand_at (Publish place) e) (publishing_none (place + 1) (written_slots r)))
+      (hand_at (Publish place) e) (none_on _ (publishing_on (place + 1) (written_slots r))))
   kind_marked Close e =
       quiet_marked w a rs _ _ _ (record { cells = λ i. refl; living = refl; epoch = refl })
       (λ ino. ap (λ (slots : List ℕ). parts_for slots h.killed ino) (retiring_slots 0 (written_slots r))
       ∙ sym (ap (λ (o : Option Running). killed_by_call o h ino) is
       ∙ ap (λ (k : Next). parts_for (killed_slots k (written_slots r)) h.killed ino) e))
-      (retiring_none 0 (written_slots r) ∙ sym (own_picks Close e)) m
+      (none_on _ (retiring_on 0 (written_slots r)) ∙ sym (own_picks Close e)) m
   kind_marked (Retire place) e =
       let slot = slot_at (written_slots r) place in
       let b = before_it (Retire place) e in
       retire_marked w a rs r there known.locks (lent_holder (Retire place) a s r b refl) is (epoch_of (Retire place) e refl) m place e
       b.inside (rising (Retire place) e) (lent_inside (Retire place) a s r b slot refl) (known.order.logs slot).ordered
-      (hand_at (Retire place) e) (retiring_none (place + 1) (written_slots r))
+      (hand_at (Retire place) e) (none_on _ (retiring_on (place + 1) (written_slots r)))
   kind_marked Leave e =
       let none : h.killed ≡ [] = hand_at Leave e in
       quiet Leave e refl refl none none (record { cells = λ i. refl; living = refl; epoch = refl })

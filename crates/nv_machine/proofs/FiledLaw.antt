@@ -22,7 +22,8 @@ use Rattle.nv_machine.specs.Sequence.{beginning, begun}
 use Rattle.nv_machine.specs.Step.{after, go_step, start_step, step}
 use Rattle.nv_machine.specs.World.{Actor, Event, Go, Running, Start, World, actor_at, cell_at, idle, no_cell}
 use Rattle.nv_machine.proofs.FiledKinds.{kind_marked}
-use Rattle.nv_machine.proofs.FiledLists.{all_append, all_back, all_filed, all_front, count_append, count_filed}
+use Rattle.nv_machine.proofs.EachOf.{all_append, all_back, all_front}
+use Rattle.nv_machine.proofs.FiledLists.{all_filed, count_append, count_filed}
 use Rattle.nv_machine.proofs.FiledMarks.{IsTold, is_filed_on}
 use Rattle.nv_machine.proofs.FiledPicks.{begun_none}
 use Rattle.nv_machine.proofs.FiledRuns.{IsKnown, all_listed, event_listed, known, new_listed, not_there}

@@ -11,6 +11,7 @@ use Rattle.nv_book.specs.declared.manifest.Manifest.{Manifest}
 use Rattle.nv_book.specs.declared.record.Record.{Record}
 use Rattle.nv_epoch.specs.Holders.{IsRising, holds}
 use Rattle.nv_epoch.proofs.Last.{last_passes}
+use Rattle.nv_machine.proofs.EachOf.{all_append, all_filter}
 
 -- ---- how many of a list pass a test
 
@@ -44,31 +45,6 @@ count_parted p q (r ∷ rs) = go (q r) (count_parted p q rs) where
       + count p (cond b (r ∷ filter q rs) (filter q rs)) ≡ count p (r ∷ rs)
   go true more = omega (arith, more, count_cons p r (filter q rs), count_cons p r rs)
   go false more = omega (arith, more, count_cons p r (filter (λ r. not (q r)) rs), count_cons p r rs)
-
--- ---- what holds of each record
-
-pub all_append : {X : Type 0} (P : X → Type 0) (xs ys : List X) → AllByRecursion P xs → AllByRecursion P ys → AllByRecursion P (xs ++ ys)
-all_append P [] ys h k = k
-all_append P (x ∷ xs) ys h k = (h.0, all_append P xs ys h.1 k)
-
-pub all_front : {X : Type 0} (P : X → Type 0) (xs ys : List X) → AllByRecursion P (xs ++ ys) → AllByRecursion P xs
-all_front P [] ys h = tt
-all_front P (x ∷ xs) ys h = (h.0, all_front P xs ys h.1)
-
-pub all_back : {X : Type 0} (P : X → Type 0) (xs ys : List X) → AllByRecursion P (xs ++ ys) → AllByRecursion P ys
-all_back P [] ys h = h
-all_back P (x ∷ xs) ys h = all_back P xs ys h.1
-
-pub all_weaker : {X : Type 0} (P Q : X → Type 0) → ((x : X) → P x → Q x) → (xs : List X) → AllByRecursion P xs → AllByRecursion Q xs
-all_weaker P Q f [] h = tt
-all_weaker P Q f (x ∷ xs) h = (f x h.0, all_weaker P Q f xs h.1)
-
-pub all_filter : {X : Type 0} (P : X → Type 0) (p : X → Bool) (xs : List X) → AllByRecursion P xs → AllByRecursion P (filter p xs)
-all_filter P p [] h = tt
-all_filter P p (x ∷ xs) h = go (p x) (all_filter P p xs h.1) where
-  go : (b : Bool) → AllByRecursion P (filter p xs) → AllByRecursion P (cond b (x ∷ filter p xs) (filter p xs))
-  go true more = (h.0, more)
-  go false more = more
 
 -- ---- a drop moves records to the end
 
@@ -179,21 +155,31 @@ told_more p living r rs (s ∷ ss) =
           → count p (cond c (r ∷ kept_by s living rs) (kept_by s living rs) ++ told living (r ∷ rs) ss)
           ≡ cond b (one c + matches (holder_of living r) ss) 0 + count p (kept_by s living rs ++ told living rs ss)
       go true true e more = omega (
-        arith, more, ap one e, count_cons p r (kept_by s living rs),
+        arith,
+        more,
+        ap one e,
+        count_cons p r (kept_by s living rs),
         count_append p (r ∷ kept_by s living rs) (told living (r ∷ rs) ss),
         count_append p (kept_by s living rs) (told living rs ss),
       )
       go false true e more = omega (
-        arith, more, ap one e, count_cons p r (kept_by s living rs),
+        arith,
+        more,
+        ap one e,
+        count_cons p r (kept_by s living rs),
         count_append p (r ∷ kept_by s living rs) (told living (r ∷ rs) ss),
         count_append p (kept_by s living rs) (told living rs ss),
       )
       go true false e more = omega (
-        arith, more, count_append p (kept_by s living rs) (told living (r ∷ rs) ss),
+        arith,
+        more,
+        count_append p (kept_by s living rs) (told living (r ∷ rs) ss),
         count_append p (kept_by s living rs) (told living rs ss),
       )
       go false false e more = omega (
-        arith, more, count_append p (kept_by s living rs) (told living (r ∷ rs) ss),
+        arith,
+        more,
+        count_append p (kept_by s living rs) (told living (r ∷ rs) ss),
         count_append p (kept_by s living rs) (told living rs ss),
       )
 
@@ -209,15 +195,16 @@ count_told p living [] rising = none living where
   none (s ∷ ss) = none ss
 count_told p living (r ∷ rs) rising = go (holder_of living r) refl (p r) refl (told_more p living r rs living)
     (count_told p living rs rising) where
-  go : (o : Option ℕ) → holder_of living r ≡ o → (b : Bool) → p r ≡ b
-      → count p (told living (r ∷ rs) living) ≡ cond b (matches o living) 0 + count p (told living rs living)
-      → count p (told living rs living) + count p (unheld living rs) ≡ count p rs
-      → count p (told living (r ∷ rs) living) + count p (cond (is_none o) (r ∷ unheld living rs) (unheld living rs)) ≡ count p (r ∷ rs)
-  go None e true q here more = omega (arith, here, more, no_matches living, ap one q, count_cons p r rs, count_cons p r (unheld living rs))
-  go None e false q here more = omega (arith, here, more, ap one q, count_cons p r rs, count_cons p r (unheld living rs))
-  go (Some t) e true q here more =
-      omega (arith, here, more, one_match t living rising (lives living r t e), ap one q, count_cons p r rs)
-  go (Some t) e false q here more = omega (arith, here, more, ap one q, count_cons p r rs)
+      go : (o : Option ℕ) → holder_of living r ≡ o → (b : Bool) → p r ≡ b
+          → count p (told living (r ∷ rs) living) ≡ cond b (matches o living) 0 + count p (told living rs living)
+          → count p (told living rs living) + count p (unheld living rs) ≡ count p rs
+          → count p (told living (r ∷ rs) living) + count p (cond (is_none o) (r ∷ unheld living rs) (unheld living rs)) ≡ count p (r ∷ rs)
+      go None e true q here more =
+          omega (arith, here, more, no_matches living, ap one q, count_cons p r rs, count_cons p r (unheld living rs))
+      go None e false q here more = omega (arith, here, more, ap one q, count_cons p r rs, count_cons p r (unheld living rs))
+      go (Some t) e true q here more =
+          omega (arith, here, more, one_match t living rising (lives living r t e), ap one q, count_cons p r rs)
+      go (Some t) e false q here more = omega (arith, here, more, ap one q, count_cons p r rs)
 
 -- so what is filed is counted as the list is, and what holds of each on the list holds of each that is filed
 pub count_filed : (p : Record → Bool) (living : List ℕ) (ms : List Manifest) (ds rs : List Record) → IsRising living

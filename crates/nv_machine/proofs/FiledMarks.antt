@@ -24,7 +24,8 @@ use Rattle.nv_epoch.specs.Holders as holders
 use Rattle.nv_epoch.proofs.Last.{none_passes}
 use Rattle.nv_machine.specs.Held.{is_of_slot}
 use Rattle.nv_machine.specs.Recorded.{is_kept}
-use Rattle.nv_machine.proofs.FiledLists.{all_append, count, count_append, count_cons, one}
+use Rattle.nv_machine.proofs.EachOf.{all_append}
+use Rattle.nv_machine.proofs.FiledLists.{count, count_append, count_cons, one}
 use Rattle.nv_machine.proofs.Lists.{self}
 use Rattle.nv_machine.proofs.Pairs.{HasPair, has_number}
 

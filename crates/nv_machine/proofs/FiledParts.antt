@@ -22,7 +22,8 @@ use Rattle.nv_machine.specs.Recorded.{is_kept, records_after}
 use Rattle.nv_machine.specs.Step.{after}
 use Rattle.nv_machine.specs.World.{Event, Next, Release, Running, Snapshots, World, actor_at, cell_at}
 use Rattle.nv_machine.proofs.FiledLaw.{all_marked}
-use Rattle.nv_machine.proofs.FiledLists.{all_back, count, count_append, count_cons, one}
+use Rattle.nv_machine.proofs.EachOf.{all_back}
+use Rattle.nv_machine.proofs.FiledLists.{count, count_append, count_cons, one}
 use Rattle.nv_machine.proofs.FiledMarks.{AreMarks, IsTold, bit_is, is_filed_on, kept_not_current, pair_low}
 use Rattle.nv_machine.proofs.FiledRuns.{known, not_there}
 use Rattle.nv_machine.proofs.FiledWorlds.{picked_in}
@@ -82,7 +83,7 @@ releases_covered g events actor within = go (actor_at w actor).running refl wher
       ap (λ (o : Option Running). picked_by_call o) is ∙ ap (λ (k : Next). picked_by_call (Some (record r { next = k }))) e in
       let low : actor < length w.actors = there (nat_lt actor (length w.actors)) r refl is in
       let told : AllByRecursion T (d ∷ []) = rw had at (own_all picked_by_actor T w.actors actor low
-          (all_back T rs (picked_in w) m.told)) in
+      (all_back T rs (picked_in w) m.told)) in
       let pair = told.0 refl in
       let p : Record → Bool = is_filed_on d.ino (log_of cell) pair.n in
       let number : number_in cell (name_of d) ≡ pair.n = ap (λ (o : Option ℕ). unwrap_or o 0)
@@ -90,7 +91,10 @@ releases_covered g events actor within = go (actor_at w actor).running refl wher
       ap (is_covered cell.block (log_of cell)) number
       ∙ filed_covered _ d.ino _ _ (rs ++ picked_in w) cell.block (log_of cell) cell.marks d (log_in g events d.ino within) m refl pair
       (omega (
-        arith, own_count picked_by_actor p w.actors actor low, ap (λ (ds : List Record). count p ds) had, count_cons p d [],
+        arith,
+        own_count picked_by_actor p w.actors actor low,
+        ap (λ (ds : List Record). count p ds) had,
+        count_cons p d [],
         count_append p rs (picked_in w),
       ))
   at other r is e = tt

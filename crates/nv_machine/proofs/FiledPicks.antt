@@ -1,7 +1,7 @@
 -- Which record a call has picked after a step, and that it has killed parts in its hand within its commit alone.
-use Rattle.std.proofs.Common.{◌≡◌, ℕ, zero, suc, ◌+◌, ◌++◌, Bool, true, false, List, [], ◌∷◌, Option, Some, None, if◌then◌else◌, length, nat_lt, refl}
+use Rattle.std.proofs.Common.{◌≡◌, ℕ, zero, suc, ◌+◌, ◌++◌, Bool, true, false, List, [], ◌∷◌, Option, Some, None, if◌then◌else◌, refl}
 use Rattle.std.specs.Prelude.{Ok, Err}
-use Rattle.std.proofs.lemmas.Bool.{true≢false}
+use Rattle.std.proofs.lemmas.Bool.{false≢true, true≢false}
 use Rattle.nv_base.specs.declared.geometry.GeometryNumbers.{GeometryNumbers}
 use Rattle.nv_book.specs.declared.record.Record.{Record}
 use Rattle.nv_calls.specs.Refusals.{Check as Tests}
@@ -15,7 +15,7 @@ use Rattle.nv_machine.specs.Held.{picked_at, picked_on}
 use Rattle.nv_machine.specs.Kinds.{again_turn, back_turn, blocks_turn, check_turn, drained_turn, end_turn, enter_turn, grown, last_turn, lock_turn, look_turn, number_turn, over_turn, pages_turn, rest_turn, unlocked_turn, visit_turn, wants_blocks, wants_pages, with_erased}
 use Rattle.nv_machine.specs.Locks.{commits_at}
 use Rattle.nv_machine.specs.Reads.{slots_of, written_slots}
-use Rattle.nv_machine.specs.Sequence.{appending, beginning, begun, closing, directories, first_step, locking, looking, opening, publishing, retiring}
+use Rattle.nv_machine.specs.Sequence.{beginning, begun, first_step, locking}
 use Rattle.nv_machine.specs.Snapshots.{drop_turn, first_showing, if_free, lock_picked_turn, make_tests, make_turn, pin_turn, show_or_unpin, show_turn}
 use Rattle.nv_machine.specs.Step.{ending_at, kind_turn, with_made}
 use Rattle.nv_machine.specs.World.{Answers, Append, Back, Check, Close, Draining, Drains, Drop, Ending, Ends, Enter, Give, HandState, Leave, Lock, LockPicked, Look, Make, Moves, Next, Number, Open, Overtaken, Pick, Pin, Publish, Ready, Refuses, Release, Retire, Running, Shared, Show, Showing, Snapshots, TakeBlocks, TakePages, Turn, Unlock, Unpin, Visit, Waits}
@@ -24,6 +24,7 @@ use Rattle.nv_calls.specs.declared.call.Call.TheVariants as call
 use Rattle.nv_calls.specs.declared.snapshot_call.SnapshotCall.{SnapshotCall}
 use Rattle.nv_calls.specs.declared.snapshot_call.SnapshotCall.TheVariants as on
 use Rattle.nv_reader.specs.Walk as walk
+use Rattle.nv_machine.proofs.Sequels.{appending_on, is_on_files, locking_on, looking_on, publishing_on, retiring_on}
 
 -- the record that the call has picked after a turn
 abbrev pub picked_after : Turn → List Record
@@ -66,67 +67,27 @@ none_grown : (granted : Bool) (t : Turn) (s : Shared) (h : HandState) (r : Runni
 none_grown true t s h r e = e
 none_grown false t s h r e = none_end r.slots _ s h r
 
--- ---- loops
-
-locking_none : (place : ℕ) (slots : List ℕ) → picked_at (locking place slots) ≡ []
-locking_none place slots = go (nat_lt place (length slots)) where
-  go : (b : Bool) → picked_at (if b then Lock place else Check) ≡ []
-  go true = refl
-  go false = refl
-
-looking_none : (place : ℕ) (r : Running) → picked_at (looking place r) ≡ []
-looking_none place r = go (nat_lt place (length (directories r.call))) where
-  go : (b : Bool) → picked_at (if b then Look place else locking 0 r.slots) ≡ []
-  go true = refl
-  go false = locking_none 0 r.slots
-
-pub retiring_none : (place : ℕ) (written : List ℕ) → picked_at (retiring place written) ≡ []
-retiring_none place written = go (nat_lt place (length written)) where
-  go : (b : Bool) → picked_at (if b then Retire place else Leave) ≡ []
-  go true = refl
-  go false = refl
-
-closing_none : (written : List ℕ) → picked_at (closing written) ≡ []
-closing_none written = go (nat_lt 1 (length written)) where
-  go : (b : Bool) → picked_at (if b then Close else retiring 0 written) ≡ []
-  go true = refl
-  go false = retiring_none 0 written
-
-pub publishing_none : (place : ℕ) (written : List ℕ) → picked_at (publishing place written) ≡ []
-publishing_none place written = go (nat_lt place (length written)) where
-  go : (b : Bool) → picked_at (if b then Publish place else closing written) ≡ []
-  go true = refl
-  go false = closing_none written
-
-opening_none : (written : List ℕ) → picked_at (opening written) ≡ []
-opening_none written = go (nat_lt 1 (length written)) where
-  go : (b : Bool) → picked_at (if b then Open else publishing 0 written) ≡ []
-  go true = refl
-  go false = publishing_none 0 written
-
-pub appending_none : (place : ℕ) (written : List ℕ) → picked_at (appending place written) ≡ []
-appending_none place written = go (nat_lt place (length written)) where
-  go : (b : Bool) → picked_at (if b then Append place else opening written) ≡ []
-  go true = refl
-  go false = opening_none written
-
 -- ---- the other kinds
 
+pub none_on : (k : Next) → is_on_files k ≡ true → picked_at k ≡ []
+none_on (Snapshots step) is = absurd (false≢true is)
+none_on other is = refl
+
 none_number : (numbers : List ℕ) (s : Shared) (h : HandState) (r : Running) → picked_after (number_turn numbers s h r) ≡ []
-none_number [] s h r = locking_none 0 _
-none_number (ino ∷ numbers) s h r = locking_none 0 _
+none_number [] s h r = none_on _ (locking_on 0 _)
+none_number (ino ∷ numbers) s h r = none_on _ (locking_on 0 _)
 
 none_look : (owner : Option ℕ) (tests : Tests) (found : Looked) (place : ℕ) (s : Shared) (h : HandState) (r : Running)
     → picked_after (look_turn owner tests found place s h r) ≡ []
 none_look (Some other) tests found place s h r = refl
 none_look None (Err fault) found place s h r = none_end [] (Refuses fault) s h r
 none_look None (Ok passed) found place s h r =
-    looking_none (place + 1) (record r { looked = found; slots = slots_of s None found r.call })
+    none_on _ (looking_on (place + 1) (record r { looked = found; slots = slots_of s None found r.call }))
 
 none_lock : (owner : Option ℕ) (actor place : ℕ) (s : Shared) (h : HandState) (r : Running)
     → picked_after (lock_turn owner actor place s h r) ≡ []
 none_lock (Some other) actor place s h r = refl
-none_lock None actor place s h r = locking_none (place + 1) r.slots
+none_lock None actor place s h r = none_on _ (locking_on (place + 1) r.slots)
 
 none_wants_pages : (n : ℕ) (s : Shared) (h : HandState) (r : Running) → picked_after (wants_pages n s h r) ≡ []
 none_wants_pages zero s h r = refl
@@ -157,7 +118,7 @@ none_enter : (holder : Option ℕ) (last granted : Bool) (actor : ℕ) (s : Shar
     → picked_after (enter_turn holder last granted actor s h r) ≡ []
 none_enter (Some other) last granted actor s h r = refl
 none_enter None true granted actor s h r = none_end r.slots _ s h r
-none_enter None false granted actor s h r = none_grown granted _ s h r (appending_none 0 (written_slots r))
+none_enter None false granted actor s h r = none_grown granted _ s h r (none_on _ (appending_on 0 (written_slots r)))
 
 none_unlocked : (more : Bool) (place : ℕ) (s : Shared) (h : HandState) (r : Running)
     → picked_after (unlocked_turn more place s h r) ≡ []
@@ -222,11 +183,11 @@ none_picked (TakeBlocks asked) block actor granted s h r e = none_blocks _ _ ask
 none_picked (TakePages asked) block actor granted s h r e = none_pages _ _ asked _ _ r
 none_picked Ready block actor granted s h r e = none_grown granted _ s h r refl
 none_picked Enter block actor granted s h r e = none_enter s.holder _ granted actor s h r
-none_picked (Append place) block actor granted s h r e = appending_none (place + 1) (written_slots r)
-none_picked Open block actor granted s h r e = publishing_none 0 (written_slots r)
-none_picked (Publish place) block actor granted s h r e = publishing_none (place + 1) (written_slots r)
-none_picked Close block actor granted s h r e = retiring_none 0 (written_slots r)
-none_picked (Retire place) block actor granted s h r e = retiring_none (place + 1) (written_slots r)
+none_picked (Append place) block actor granted s h r e = none_on _ (appending_on (place + 1) (written_slots r))
+none_picked Open block actor granted s h r e = none_on _ (publishing_on 0 (written_slots r))
+none_picked (Publish place) block actor granted s h r e = none_on _ (publishing_on (place + 1) (written_slots r))
+none_picked Close block actor granted s h r e = none_on _ (retiring_on 0 (written_slots r))
+none_picked (Retire place) block actor granted s h r e = none_on _ (retiring_on (place + 1) (written_slots r))
 none_picked Leave block actor granted s h r e = none_end r.slots r.ending _ h r
 none_picked (Unlock place) block actor granted s h r e = none_unlocked _ place _ h r
 none_picked (Give cpu) block actor granted s h r e = none_rest _ h.ino _ _ r
@@ -251,7 +212,7 @@ still_picked None actor draining picked s h r on = refl
 -- ---- a call that starts has picked none
 
 begun_locks : (slots : List ℕ) → picked_at (locking 0 slots) ≡ []
-begun_locks slots = locking_none 0 slots
+begun_locks slots = none_on _ (locking_on 0 slots)
 
 begun_first : (what : SnapshotCall) → picked_on (first_step what) ≡ []
 begun_first on.Snap = refl

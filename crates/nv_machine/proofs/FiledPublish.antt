@@ -28,7 +28,8 @@ use Rattle.nv_entry.specs.declared.held.Pair.{Pair}
 use Rattle.nv_entry.specs.declared.item.Entry.{Entry}
 use Rattle.nv_machine.specs.Held.{is_of_slot}
 use Rattle.nv_machine.specs.Recorded.{is_kept}
-use Rattle.nv_machine.proofs.FiledLists.{all_append, all_weaker, count, count_append, count_cons, count_same, one}
+use Rattle.nv_machine.proofs.EachOf.{all_append, all_weaker}
+use Rattle.nv_machine.proofs.FiledLists.{count, count_append, count_cons, count_same, one}
 use Rattle.nv_machine.proofs.FiledMarks.{AreMarks, IsDying, IsTold, bit_none, current_not_kept, is_filed_on, is_killed_on, pair_low}
 use Rattle.nv_machine.proofs.Lists.{self}
 use Rattle.nv_machine.proofs.Pairs.{HasPair, current_is, has_more, has_number, number_front, pair_front, pair_there}
@@ -39,7 +40,9 @@ none_below : (low len n : ℕ) → n < low → count (λ m. m == n) (range_with_
 none_below low zero n lt = refl
 none_below low (suc len) n lt =
     omega (
-      arith, count_cons (λ m. m == n) low (range_with_len (low + 1) len), none_below (low + 1) len n (omega (arith, lt)),
+      arith,
+      count_cons (λ m. m == n) low (range_with_len (low + 1) len),
+      none_below (low + 1) len n (omega (arith, lt)),
       ap one (ne_eqb low n (λ e. absurd (omega (arith, e, lt)))),
     )
 
@@ -120,7 +123,7 @@ module _ (block : ℕ) (es : List Entry) (tail : ℕ) (is : IsLog es) where
 
     go : (b : Bool) → dies_now m ≡ b → count (is_killed_on es n) (dead ns) ≡ cond (dies_now n) (count (λ m. m == n) ns) 0
         → count (is_killed_on es n) (flat_map (λ n. option_to_list (killed_part es n))
-            (cond b (m ∷ filter dies_now ns) (filter dies_now ns)))
+        (cond b (m ∷ filter dies_now ns) (filter dies_now ns)))
         ≡ cond (dies_now n) (count (λ m. m == n) (m ∷ ns)) 0
     go true d more =
         count_append (is_killed_on es n) (option_to_list (killed_part es m)) (dead ns)

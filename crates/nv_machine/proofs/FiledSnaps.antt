@@ -33,7 +33,8 @@ use Rattle.nv_machine.specs.World.{Actor, HandState, Running, Shared, World, act
 use Rattle.nv_machine.proofs.FiledBooks.{ids_made, ids_removed}
 use Rattle.nv_machine.proofs.FiledCommits.{one_cell}
 use Rattle.nv_machine.proofs.FiledDrops.{makes, removes}
-use Rattle.nv_machine.proofs.FiledLists.{all_append, all_back, all_filter, all_first, all_front, all_moved, all_weaker, count, count_append, count_cons, count_first, count_moved, first_among, first_unheld, one}
+use Rattle.nv_machine.proofs.EachOf.{all_append, all_back, all_filter, all_front, all_weaker}
+use Rattle.nv_machine.proofs.FiledLists.{all_first, all_moved, count, count_append, count_cons, count_first, count_moved, first_among, first_unheld, one}
 use Rattle.nv_machine.proofs.FiledMarks.{IsTold, is_filed_on, pair_low}
 use Rattle.nv_machine.proofs.FiledPublish.{filed_marks, living_marks}
 use Rattle.nv_machine.proofs.FiledSteps.{MarksOf, erased_cell, erased_fresh, other_slot, recounted, released_cell}
@@ -141,9 +142,10 @@ module _ (w : World) (a : ℕ) (rs : List Record) (locks : AreLocks w) (free : w
             (subst (λ (ss : List ℕ). MarksOf ss ino (epoch + 1) [] (rs ++ picked_in w) (cell_at s ino)) (sym (ids_made s.book.snaps))
             (living_marks living (living ++ epoch ∷ []) ino epoch (epoch + 1) (rs ++ picked_in w) (cell_at s ino).block
             (log_of (cell_at s ino)) (cell_at s ino).marks (before ino)
-            (λ n pair got out all. all_append (λ x. holds x pair ≡ false) living (epoch ∷ []) all
-            (not_held_later living ino epoch [] (rs ++ picked_in w) (cell_at s ino) (log_is ino) (by_now ino) (before ino) n pair got out,
-            tt))));
+            (λ n pair got out all. all_append (λ x. holds x pair ≡ false) living (epoch ∷ []) all (
+              not_held_later living ino epoch [] (rs ++ picked_in w) (cell_at s ino) (log_is ino) (by_now ino) (before ino) n pair got out,
+              tt,
+            ))));
         fresh = λ ino. none_past (cell_at s ino).chain.tail (cell_at s ino).chain.entries (tails ino);
         unheld = subst (λ (ss : List ℕ). AllByRecursion (λ d. holder_of ss d ≡ None) (picked_in v)) (sym (ids_made s.book.snaps))
             (subst (AllByRecursion (λ d. holder_of (living ++ epoch ∷ []) d ≡ None)) (sym picked)
@@ -184,7 +186,10 @@ module _ (w : World) (a : ℕ) (rs : List Record) (locks : AreLocks w) (free : w
             (living_marks living left ino epoch epoch (moved ++ picked_in w) cell.block (log_of cell) cell.marks
             (filed_marks living ino epoch [] (rs ++ picked_in w) (moved ++ picked_in w) cell.block (log_of cell) cell.marks was
             (λ p. omega (
-              arith, count_append p moved (picked_in w), count_append p rs (picked_in w), count_moved p snapshot living rs,
+              arith,
+              count_append p moved (picked_in w),
+              count_append p rs (picked_in w),
+              count_moved p snapshot living rs,
             ))
             (all_append T moved (picked_in w) (all_moved T snapshot living rs (all_front T rs (picked_in w) was.told))
             (all_back T rs (picked_in w) was.told)))
@@ -213,8 +218,11 @@ module _ (w : World) (a : ℕ) (rs : List Record) (locks : AreLocks w) (free : w
       λ P all new. swap_all picked_by_actor P w.actors a x all (rw picks (new, tt)) in
       let counted : (p : Record → Bool) → count p (picked_in v) ≡ one (p d) + count p (picked_in w) =
       λ p. omega (
-        arith, swap_count picked_by_actor p w.actors a x there, ap (λ (ys : List Record). count p ys) none,
-        ap (λ (ys : List Record). count p ys) picks, count_cons p d [],
+        arith,
+        swap_count picked_by_actor p w.actors a x there,
+        ap (λ (ys : List Record). count p ys) none,
+        ap (λ (ys : List Record). count p ys) picks,
+        count_cons p d [],
       ) in
       record {
         cells = λ ino. let cell : CellState = cell_at s ino in
@@ -223,7 +231,10 @@ module _ (w : World) (a : ℕ) (rs : List Record) (locks : AreLocks w) (free : w
             marks_as living ino epoch [] (killed_in v ino) (left ++ picked_in v) (left ++ picked_in v) cell (none_now t ino) refl
             (filed_marks living ino epoch [] (rs ++ picked_in w) (left ++ picked_in v) cell.block (log_of cell) cell.marks was
             (λ p. omega (
-              arith, count_append p left (picked_in v), count_append p rs (picked_in w), counted p,
+              arith,
+              count_append p left (picked_in v),
+              count_append p rs (picked_in w),
+              counted p,
               count_first p living d ds rs first,
             ))
             (all_append T left (picked_in v) (all_first T living rs (all_front T rs (picked_in w) was.told))
@@ -257,8 +268,13 @@ release_marked w a rs d h running there killed had now low log m =
     λ P all. (rw had at (own_all picked_by_actor P w.actors a there all)).0 in
     let counts : (p : Record → Bool) → count p (rs ++ picked_in w) ≡ one (p d) + count p (rs ++ picked_in v) =
     λ p. omega (
-      arith, swap_count picked_by_actor p w.actors a x there, ap (λ (ys : List Record). count p ys) had,
-      ap (λ (ys : List Record). count p ys) now, count_cons p d [], count_append p rs (picked_in w), count_append p rs (picked_in v),
+      arith,
+      swap_count picked_by_actor p w.actors a x there,
+      ap (λ (ys : List Record). count p ys) had,
+      ap (λ (ys : List Record). count p ys) now,
+      count_cons p d [],
+      count_append p rs (picked_in w),
+      count_append p rs (picked_in v),
     ) in
     let same : (ino : ℕ) → killed_in v ino ≡ killed_in w ino = λ ino. same_killed w a ino t h running (killed ino) in
     let told : (ino : ℕ) → AllByRecursion (IsTold ino (cell_at s ino).block (log_of (cell_at s ino))) (rs ++ picked_in v) =

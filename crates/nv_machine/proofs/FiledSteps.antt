@@ -23,7 +23,8 @@ use Rattle.nv_entry.specs.Log.{IsLog}
 use Rattle.nv_entry.specs.declared.item.Entry.{Entry}
 use Rattle.nv_machine.specs.Kinds.{with_entries, with_pages}
 use Rattle.nv_machine.specs.Recorded.{with_parts}
-use Rattle.nv_machine.proofs.FiledLists.{HasHolder, all_append, count, count_cons, one}
+use Rattle.nv_machine.proofs.EachOf.{all_append}
+use Rattle.nv_machine.proofs.FiledLists.{HasHolder, count, count_cons, one}
 use Rattle.nv_machine.proofs.FiledMarks.{AreMarks, IsTold, freed_marks, is_filed_on, kept_marks, killed_number, released_marks, filed_number}
 use Rattle.nv_machine.proofs.FiledPublish.{erased_marks, published_marks}
 use Rattle.nv_machine.proofs.Pairs.{HasPair}
@@ -150,7 +151,7 @@ pub parts_are_of : (living : List ℕ) (ino epoch : ℕ) (ks : List KilledPart) 
 parts_are_of living ino epoch [] rs h = h
 parts_are_of living ino epoch (k ∷ ks) rs h =
     parts_are_of living ino epoch ks (with_retired living (record_of ino epoch k) rs)
-        (go (is_none (holder_of living (record_of ino epoch k)))) where
+    (go (is_none (holder_of living (record_of ino epoch k)))) where
       go : (b : Bool) → AllByRecursion (λ (d : Record). d.ino ≡ ino) (cond b rs (rs ++ record_of ino epoch k ∷ []))
       go true = h
       go false = all_append (λ (d : Record). d.ino ≡ ino) rs (record_of ino epoch k ∷ []) h (refl, tt)
@@ -161,7 +162,7 @@ pub parts_held : (living : List ℕ) (ino epoch : ℕ) (ks : List KilledPart) (r
 parts_held living ino epoch [] rs h = h
 parts_held living ino epoch (k ∷ ks) rs h =
     parts_held living ino epoch ks (with_retired living (record_of ino epoch k) rs)
-        (go (holder_of living (record_of ino epoch k)) refl) where
+    (go (holder_of living (record_of ino epoch k)) refl) where
       go : (o : Option ℕ) → holder_of living (record_of ino epoch k) ≡ o
           → AllByRecursion (HasHolder living) (cond (is_none o) rs (rs ++ record_of ino epoch k ∷ []))
       go None e = h

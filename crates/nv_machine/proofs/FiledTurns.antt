@@ -101,7 +101,7 @@ module _ (rs : List Record) (s : Shared) (h : HandState) (r : Running) (is : Lis
       let left = picked_listed s.book.snaps s.book.manifests s.book.deferred rs is in
       let none : drop 1 s.book.deferred ≡ s.book.deferred = rw e refl in
       subst (λ (ds : List Record). IsListed s.book.snaps s.book.manifests ds
-          (after_deed (plain.OnSnapshots (Pick draining)) (ids s.book.snaps) rs))
+      (after_deed (plain.OnSnapshots (Pick draining)) (ids s.book.snaps) rs))
       none left
   none_picked (picked ∷ deferred) e draining = picked_listed s.book.snaps s.book.manifests s.book.deferred rs is
 

@@ -44,7 +44,7 @@ use Rattle.nv_machine.proofs.FitsTurns.{OnFits, locking_fits}
 use Rattle.nv_machine.proofs.Framed.{framed}
 use Rattle.nv_machine.proofs.FromScratch.{all_numbers}
 use Rattle.nv_machine.proofs.Grown.{CellsLeft, OnGrown}
-use Rattle.nv_machine.proofs.GrownRuns.{grown_turn, standing as grown_standing}
+use Rattle.nv_machine.proofs.GrownTurns.{grown_turn, standing as grown_standing}
 use Rattle.nv_machine.proofs.Kept.{AfterTurn, deed, number_deed, back_deed, turn_keeps}
 use Rattle.nv_machine.proofs.KeptRuns.{sound_stays, standing as kept_standing}
 use Rattle.nv_machine.proofs.Locked.{Before, owner_is}

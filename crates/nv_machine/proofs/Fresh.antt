@@ -32,7 +32,8 @@ use Rattle.nv_machine.specs.Step.{after, step}
 use Rattle.nv_machine.specs.World.{Event, Go, Running, Shared, Start, World, actor_at, cell_at}
 use Rattle.nv_machine.proofs.FitsEvents.{AreFit, IsKnown, all_fit, all_known, drawn_now, passed_now}
 use Rattle.nv_machine.proofs.FitsStages.{Passed, made_locked}
-use Rattle.nv_machine.proofs.GrownRuns.{new_grown, point_shared}
+use Rattle.nv_machine.proofs.GrownRuns.{new_grown}
+use Rattle.nv_machine.proofs.GrownTurns.{point_shared}
 use Rattle.nv_machine.proofs.FitsRuns.{present_in, taken_of}
 use Rattle.nv_machine.proofs.Lists.{or_left, or_right}
 use Rattle.nv_machine.proofs.Locks.{all_same}

@@ -55,7 +55,8 @@ no_blocks h e = ap blocks_in e
 -- ---- the last steps
 
 -- the hand is empty
-pub last_hand : (g : GeometryNumbers) (e : Ending) (s : Shared) (h : HandState) (r : Running) → h ≡ empty_hand → OnHand g (last_turn e s h r)
+pub last_hand : (g : GeometryNumbers) (e : Ending) (s : Shared) (h : HandState) (r : Running) → h ≡ empty_hand
+    → OnHand g (last_turn e s h r)
 last_hand g Answers s h r empty = empty
 last_hand g (Refuses fault) s h r empty = empty
 last_hand g Overtaken s h r empty = empty

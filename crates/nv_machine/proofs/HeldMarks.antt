@@ -35,7 +35,8 @@ use Rattle.nv_machine.specs.Step.{after}
 use Rattle.nv_machine.specs.World.{Event, World, cell_at}
 use Rattle.nv_machine.proofs.FiledHeld.{any_of}
 use Rattle.nv_machine.proofs.FiledLaw.{all_marked, recorded_all, recorded_once}
-use Rattle.nv_machine.proofs.FiledLists.{HasHolder, all_front, count, held_filed}
+use Rattle.nv_machine.proofs.EachOf.{all_front, all_with}
+use Rattle.nv_machine.proofs.FiledLists.{HasHolder, count, held_filed}
 use Rattle.nv_machine.proofs.FiledMarks.{AreMarks, IsTold, is_filed_on, is_killed_on, pair_low}
 use Rattle.nv_machine.proofs.FiledParts.{log_in}
 use Rattle.nv_machine.proofs.FiledRuns.{all_listed}
@@ -70,11 +71,6 @@ any_there f (x ∷ xs) t (suc k, lt, at) e = or_true (f x) (any_there f xs t (k,
   or_true : (b : Bool) {c : Bool} → c ≡ true → (b || c) ≡ true
   or_true true q = refl
   or_true false q = q
-
-all_with : {X : Type 0} (P Q R : X → Type 0) → ((x : X) → P x → Q x → R x) → (xs : List X) → AllByRecursion P xs → AllByRecursion Q xs
-    → AllByRecursion R xs
-all_with P Q R f [] p q = tt
-all_with P Q R f (x ∷ xs) p q = (f x p.0 q.0, all_with P Q R f xs p.1 q.1)
 
 -- ---- by its mark a part is current, held, pending or killed, or none of these
 
@@ -182,7 +178,7 @@ used_there g events ino n within = go (slice_get (pairs cell.block (log_of cell)
       let T : Record → Type 0 = IsTold ino cell.block (log_of cell) in
       let all : AllByRecursion T (recorded_in w) = recorded_all g events T within m.told in
       in_use_there (ids w.shared.book.snaps) ino w.shared.book.snaps.epoch (killed_in w ino) _ cell.block (log_of cell) cell.marks log
-          m n pair e
+      m n pair e
       (all_records w.shared.book.manifests) (pending_in w) (all_front T (all_records w.shared.book.manifests) (pending_in w) all)
       (held_filed (ids w.shared.book.snaps) w.shared.book.manifests w.shared.book.deferred (records_after (formatted g) events []) l.list)
       (recorded_once g events within ino n)

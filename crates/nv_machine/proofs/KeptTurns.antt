@@ -165,9 +165,10 @@ snapshot_kept (Release draining picked) block a granted s h r st on =
     let tails = st.tails picked.ino here.1 st.before.mine.holder in
     kept_after block a s (snapshot_turn (Release draining picked) a granted s h r)
     (snapshot_keeps (IsLeft a s) (Release draining picked) a granted s h r
-    (still_left a s s st.kept (same_still s) st.kept.closed, still_nodes s s (same_still s))
-    (released_left a s st.kept picked.ino new here.0 here.1 is tails (st.apart picked.ino),
-    released_logs a s st.kept picked.ino new here.0 here.1 is tails (st.apart picked.ino))) on
+    (still_left a s s st.kept (same_still s) st.kept.closed, still_nodes s s (same_still s)) (
+      released_left a s st.kept picked.ino new here.0 here.1 is tails (st.apart picked.ino),
+      released_logs a s st.kept picked.ino new here.0 here.1 is tails (st.apart picked.ino),
+    )) on
 
 pub kept_turn : (k : Next) (block a : ℕ) (granted : Bool) (s : Shared) (h : HandState) (r : Running) → Standing k block a s h r
     → Keeps k block a granted s h r

@@ -1,5 +1,6 @@
 pub mod Reached
 pub mod Rows
+pub mod EachOf
 pub mod Lists
 pub mod Holding
 pub mod Locked
@@ -7,6 +8,8 @@ pub mod Framed
 pub mod SnapshotCalls
 pub mod SnapshotTurns
 pub mod BookRecords
+pub mod FewSlots
+pub mod FilesFall
 pub mod Bounded
 pub mod Events
 pub mod Locks
@@ -22,6 +25,7 @@ pub mod Parted
 pub mod Fitting
 pub mod Homes
 pub mod Handed
+pub mod HandedTakings
 pub mod HandedCommits
 pub mod Sorted
 pub mod Sound
@@ -46,6 +50,7 @@ pub mod Answered
 pub mod Grown
 pub mod Appended
 pub mod Settling
+pub mod GrownTurns
 pub mod GrownRuns
 pub mod DirectoriesBegun
 pub mod DirectoriesChanged
@@ -98,6 +103,7 @@ pub mod Returning
 pub mod ErasedRows
 pub mod HeldRows
 pub mod SnapshotRows
+pub mod WrongSnapshots
 pub mod Firsts
 pub mod Asking
 pub mod Refusing
@@ -144,6 +150,10 @@ pub mod ShowRuns
 pub mod ShowAll
 pub mod CopyMarks
 pub mod Drained
+pub mod Sequels
+pub mod DrainSteps
+pub mod DrainRuns
+pub mod NeededBlocks
 pub mod FiledLists
 pub mod FiledDrops
 pub mod FiledBooks

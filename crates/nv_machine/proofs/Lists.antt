@@ -8,6 +8,7 @@ use Rattle.nv_alloc.specs.Numbers.{IsRising, has}
 use Rattle.nv_machine.specs.Locks.{AreSlots}
 use Rattle.nv_machine.specs.Reads.{is_written, slot_at, slots_in, with_slot, written_slots}
 use Rattle.nv_machine.specs.World.{Running}
+use Rattle.nv_machine.proofs.EachOf.{all_filter}
 
 -- ---- one more of a list
 
@@ -157,13 +158,6 @@ pub has_later : (p : ℕ) (xs : List ℕ) (n : ℕ) → has (drop p xs) n ≡ tr
 has_later zero xs n h = h
 has_later (suc p) [] n h = h
 has_later (suc p) (x ∷ xs) n h = or_right (x == n) (has xs n) (has_later p xs n h)
-
-all_filter : (P : ℕ → Type 0) (f : ℕ → Bool) (xs : List ℕ) → AllByRecursion P xs → AllByRecursion P (filter f xs)
-all_filter P f [] h = tt
-all_filter P f (x ∷ xs) h = go (f x) (all_filter P f xs h.1) where
-  go : (b : Bool) → AllByRecursion P (filter f xs) → AllByRecursion P (if b then x ∷ filter f xs else filter f xs)
-  go true more = (h.0, more)
-  go false more = more
 
 pub rising_filter : (f : ℕ → Bool) (xs : List ℕ) → IsRising xs → IsRising (filter f xs)
 rising_filter f [] h = tt

@@ -25,7 +25,7 @@ use Rattle.nv_machine.specs.World.{Append, Back, Check, Close, Draining, Drop, E
 use Rattle.nv_machine.proofs.FitsCells.{append_logs, append_wider, publish_logs, wider_cells}
 use Rattle.nv_machine.proofs.Lists.{written_inside}
 use Rattle.nv_machine.proofs.FitsEvents.{commits_if}
-use Rattle.nv_machine.proofs.GrownRuns.{point_shared}
+use Rattle.nv_machine.proofs.GrownTurns.{point_shared}
 use Rattle.nv_machine.proofs.Journals.{closed_tail, open_same}
 use Rattle.nv_machine.proofs.Kept.{AfterTurn, back_deed, deed, number_deed, turn_keeps}
 use Rattle.nv_machine.proofs.KeptRuns.{standing}

@@ -231,11 +231,10 @@ show_locks : (a : ℕ) (owner : Option ℕ) (granted : Bool) (found : Option Nod
     → OnLocks a s (IsHeldByOther a (owner_at s slot)) (show_turn owner granted found snapshot showing s h r)
 show_locks a (Some other) granted found slot snapshot showing s h r e none mine are =
     not_mine a (owner_at s slot) other e (mine.owners slot)
-show_locks a None true found slot snapshot showing s h r e none mine are =
-    (
-      same_locks a s,
-      showing_locks a s snapshot (seen_on found showing).left (seen_on found showing).visits (seen_on found showing) r none mine are,
-    )
+show_locks a None true found slot snapshot showing s h r e none mine are = (
+  same_locks a s,
+  showing_locks a s snapshot (seen_on found showing).left (seen_on found showing).visits (seen_on found showing) r none mine are,
+)
 show_locks a None false found slot snapshot showing s h r e none mine are =
     (same_locks a s, holds_as s a _ [] false mine refl refl are none)
 

@@ -32,7 +32,8 @@ use Rattle.nv_machine.specs.World.{Append, Back, Check, Close, Draining, Drop, E
 use Rattle.nv_machine.proofs.Checking.{own_bytes}
 use Rattle.nv_machine.proofs.FiledCommits.{retire_mine}
 use Rattle.nv_machine.proofs.FiledLaw.{all_marked}
-use Rattle.nv_machine.proofs.FiledLists.{all_back, count, count_append, count_cons, one}
+use Rattle.nv_machine.proofs.EachOf.{all_back}
+use Rattle.nv_machine.proofs.FiledLists.{count, count_append, count_cons, one}
 use Rattle.nv_machine.proofs.FiledMarks.{IsTold}
 use Rattle.nv_machine.proofs.FiledRuns.{IsKnown, can_list, known}
 use Rattle.nv_machine.proofs.FiledWorlds.{AreMarked, picked_in}
@@ -131,12 +132,16 @@ module _ (g : GeometryNumbers) (w : World) (is_known : IsKnown g w) (rs : List R
       let had : picked_by_actor (actor_at w a) ≡ d ∷ [] =
       ap (λ (o : Option Running). picked_by_call o) is ∙ ap picked_at e in
       let told : AllByRecursion T (d ∷ []) = rw had at (own_all picked_by_actor T w.actors a there
-          (all_back T rs (picked_in w) mine.told)) in
+      (all_back T rs (picked_in w) mine.told)) in
       let after : List Record = rs ++ flat_map picked_by_actor (set w.actors a idle) in
       let counts : (p : Record → Bool) → count p (rs ++ picked_in w) ≡ one (p d) + count p after =
       λ p. omega (
-        arith, swap_count picked_by_actor p w.actors a idle there, ap (λ (ds : List Record). count p ds) had, count_cons p d [],
-        count_append p rs (picked_in w), count_append p rs (flat_map picked_by_actor (set w.actors a idle)),
+        arith,
+        swap_count picked_by_actor p w.actors a idle there,
+        ap (λ (ds : List Record). count p ds) had,
+        count_cons p d [],
+        count_append p rs (picked_in w),
+        count_append p rs (flat_map picked_by_actor (set w.actors a idle)),
       ) in
       set_parts g.block d.ino (erased (released d cell)) s low
       (erased_parts g.block (released d cell)

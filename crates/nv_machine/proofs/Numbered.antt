@@ -53,7 +53,7 @@ count_few : (n : ℕ) (w : World) (actor : ℕ) → count n w.shared (actor_at w
 count_few n w actor = omega (arith, all_times n w, part_times held_by_actor n w.actors actor idle refl)
 
 -- where each number below some stands once, what stands at all is below
-each_below : (many : ℕ) (bs : List BlockValue) → ((n : ℕ) → many ≤ n → times n (numbers_of bs) ≡ 0) → AreBelow many bs
+pub each_below : (many : ℕ) (bs : List BlockValue) → ((n : ℕ) → many ≤ n → times n (numbers_of bs) ≡ 0) → AreBelow many bs
 each_below many [] h = tt
 each_below many (b ∷ bs) h = (
   elim (cases_lt b.number many) [
@@ -63,7 +63,7 @@ each_below many (b ∷ bs) h = (
   each_below many bs (λ n le. omega (arith, h n le, times-cons n b.number (numbers_of bs))),
 )
 
-once_below : (g : GeometryNumbers) (w : World) (n : ℕ) → IsEachOnce g.blocks (all_blocks w) → g.blocks ≤ n → times n (all_blocks w) ≡ 0
+pub once_below : (g : GeometryNumbers) (w : World) (n : ℕ) → IsEachOnce g.blocks (all_blocks w) → g.blocks ≤ n → times n (all_blocks w) ≡ 0
 once_below g w n once le = once n ∙ (let e : nat_lt n g.blocks ≡ false = le-ltb n g.blocks le in rw e refl)
 
 once_few : (g : GeometryNumbers) (w : World) (n : ℕ) → IsEachOnce g.blocks (all_blocks w) → times n (all_blocks w) ≤ 1

@@ -23,7 +23,7 @@ use Rattle.nv_machine.proofs.FitsEvents.{AreFit, IsKnown, all_fit, all_known, ow
 use Rattle.nv_machine.proofs.FitsStages.{FitsOf}
 use Rattle.nv_machine.proofs.Framed.{framed}
 use Rattle.nv_machine.proofs.Grown.{CellsLeft, OnGrown}
-use Rattle.nv_machine.proofs.GrownRuns.{grown_turn, standing as grown_standing}
+use Rattle.nv_machine.proofs.GrownTurns.{grown_turn, standing as grown_standing}
 use Rattle.nv_machine.proofs.Kept.{AfterTurn, turn_keeps}
 use Rattle.nv_machine.proofs.Locked.{owner_is}
 use Rattle.nv_machine.proofs.Locks.{all_same, before}

@@ -263,7 +263,8 @@ marked marks k n mark P other own past = go (k == n) refl (cases_lt k (length ma
   go false q (inl lt) =
       subst P (sym (get_or-set_other marks k n mark Current (λ e. eqb-false k n q (sym e)))) (other (eqb-false k n q))
 
-pub settled_parted : (block : ℕ) (keeper : Option ℕ) (k : ℕ) (cell : CellState) → IsParted block cell → IsParted block (settled keeper k cell)
+pub settled_parted : (block : ℕ) (keeper : Option ℕ) (k : ℕ) (cell : CellState) → IsParted block cell
+    → IsParted block (settled keeper k cell)
 settled_parted block (Some s) k cell h = record {
   within = h.within;
   marks = length-set cell.marks k Kept ∙ h.marks;

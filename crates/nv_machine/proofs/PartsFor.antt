@@ -10,7 +10,8 @@ use Rattle.nv_machine.specs.Kinds.{first_killed}
 use Rattle.nv_machine.specs.Reads.{slot_at}
 use Rattle.nv_machine.specs.Sequence.{closing, publishing, retiring}
 use Rattle.nv_machine.specs.World.{Actor, Close, Leave, Publish, Retire, idle}
-use Rattle.nv_machine.proofs.FiledLists.{all_append, all_back, all_front, count, count_append}
+use Rattle.nv_machine.proofs.EachOf.{all_append, all_back, all_front}
+use Rattle.nv_machine.proofs.FiledLists.{count, count_append}
 use Rattle.nv_machine.proofs.Lists.{drop_all, self, take_all, take_more}
 
 -- ---- the parts of a slot
@@ -128,7 +129,9 @@ module _ {X : Type 0} (f : Actor → List X) where
   swap_count p [] a x lt = absurd (omega (arith, lt))
   swap_count p (y ∷ xs) zero x lt = omega (arith, count_append p (f x) (flat_map f xs), count_append p (f y) (flat_map f xs))
   swap_count p (y ∷ xs) (suc a) x lt = omega (
-    arith, swap_count p xs a x (omega (arith, lt)), count_append p (f y) (flat_map f (set xs a x)),
+    arith,
+    swap_count p xs a x (omega (arith, lt)),
+    count_append p (f y) (flat_map f (set xs a x)),
     count_append p (f y) (flat_map f xs),
   )
 

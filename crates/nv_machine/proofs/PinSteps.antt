@@ -1,6 +1,6 @@
 -- What a step leaves of the pins of a snapshot, beside what its call pins.
-use Rattle.std.proofs.Common.{◌≡◌, ℕ, zero, suc, ◌+◌, ◌-◌, ◌==◌, ◌∙◌, Bool, true, false, cond, if◌then◌else◌, nat_lt, List, [], ◌∷◌, length, Option, Some, None, ap, arith, refl, subst, sym}
-use Rattle.std.proofs.lemmas.Bool.{eqb-true, eqb-false}
+use Rattle.std.proofs.Common.{◌≡◌, ℕ, zero, suc, ◌+◌, ◌-◌, ◌==◌, ◌∙◌, Bool, true, false, cond, List, [], ◌∷◌, Option, Some, None, ap, arith, refl, subst, sym}
+use Rattle.std.proofs.lemmas.Bool.{eqb-false, eqb-true, false≢true}
 use Rattle.std.specs.Option.{option_map, option_or}
 use Rattle.std.specs.Prelude.{Ok, Err}
 use Rattle.nv_calls.specs.AllCalls.{blocks_wanted}
@@ -15,10 +15,10 @@ use Rattle.nv_book.specs.declared.record.Record.{Record}
 use Rattle.nv_machine.specs.Kinds.{again_turn, blocks_turn, check_turn, drained_turn, end_turn, enter_turn, grown, last_turn, lock_turn, look_turn, number_turn, over_turn, pages_turn, rest_turn, unlocked_turn, back_turn, visit_turn, wants_blocks, wants_pages}
 use Rattle.nv_machine.specs.Reading.{ArePins, pins_at, pins_on}
 use Rattle.nv_machine.specs.Reads.{copies, has_last_page, slots_of, written_slots}
-use Rattle.nv_machine.specs.Sequence.{appending, closing, directories, locking, looking, opening, publishing, retiring}
 use Rattle.nv_machine.specs.Snapshots.{drop_turn, drop_tests, if_free, lock_picked_turn, first_showing, make_tests, make_turn, picked_turn, pin_turn, seen_on, show_or_unpin, show_turn, snapshot_turn}
 use Rattle.nv_machine.specs.Step.{ending_at, kind_turn, with_made}
 use Rattle.nv_machine.specs.World.{Append, Back, Check, Close, Draining, Drains, Drop, Ending, Ends, Enter, Give, HandState, Leave, Lock, LockPicked, Look, Make, Moves, Next, Number, Open, Overtaken, Pick, Pin, Publish, Ready, Refuses, Release, Retire, Running, Shared, Show, Showing, SnapshotStep, Snapshots, TakeBlocks, TakePages, Turn, Unlock, Unpin, Visit, Waits, Answers}
+use Rattle.nv_machine.proofs.Sequels.{appending_on, is_on_files, locking_on, looking_on, publishing_on, retiring_on}
 
 -- ---- pins and shows
 
@@ -48,38 +48,11 @@ same_fits snapshot b living shows after e are = as_many shows after (pins_of liv
 pub plain_fits : (snapshot : ℕ) (now : Bool) (living : Living) → now ≡ false → Fits snapshot false now living living
 plain_fits snapshot now living e = subst (λ (b : Bool). Fits snapshot false b living living) (sym e) (same_fits snapshot false living)
 
--- ---- what comes next is no show
+-- ---- a step of a call on files and directories is no show
 
-no_pin : (snapshot : ℕ) (b : Bool) (x y : Next) → pins_at snapshot x ≡ false → pins_at snapshot y ≡ false
-    → pins_at snapshot (if b then x else y) ≡ false
-no_pin snapshot true x y e f = e
-no_pin snapshot false x y e f = f
-
-retiring_none : (snapshot place : ℕ) (written : List ℕ) → pins_at snapshot (retiring place written) ≡ false
-retiring_none snapshot place written = no_pin snapshot (nat_lt place (length written)) (Retire place) Leave refl refl
-
-closing_none : (snapshot : ℕ) (written : List ℕ) → pins_at snapshot (closing written) ≡ false
-closing_none snapshot written =
-    no_pin snapshot (nat_lt 1 (length written)) Close (retiring 0 written) refl (retiring_none snapshot 0 written)
-
-publishing_none : (snapshot place : ℕ) (written : List ℕ) → pins_at snapshot (publishing place written) ≡ false
-publishing_none snapshot place written =
-    no_pin snapshot (nat_lt place (length written)) (Publish place) (closing written) refl (closing_none snapshot written)
-
-opening_none : (snapshot : ℕ) (written : List ℕ) → pins_at snapshot (opening written) ≡ false
-opening_none snapshot written =
-    no_pin snapshot (nat_lt 1 (length written)) Open (publishing 0 written) refl (publishing_none snapshot 0 written)
-
-appending_none : (snapshot place : ℕ) (written : List ℕ) → pins_at snapshot (appending place written) ≡ false
-appending_none snapshot place written =
-    no_pin snapshot (nat_lt place (length written)) (Append place) (opening written) refl (opening_none snapshot written)
-
-pub locking_none : (snapshot place : ℕ) (slots : List ℕ) → pins_at snapshot (locking place slots) ≡ false
-locking_none snapshot place slots = no_pin snapshot (nat_lt place (length slots)) (Lock place) Check refl refl
-
-looking_none : (snapshot place : ℕ) (r : Running) → pins_at snapshot (looking place r) ≡ false
-looking_none snapshot place r =
-    no_pin snapshot (nat_lt place (length (directories r.call))) (Look place) (locking 0 r.slots) refl (locking_none snapshot 0 r.slots)
+pub no_pin : (snapshot : ℕ) (k : Next) → is_on_files k ≡ true → pins_at snapshot k ≡ false
+no_pin snapshot (Snapshots step) is = absurd (false≢true is)
+no_pin snapshot other is = refl
 
 -- ---- the last steps of a call
 
@@ -125,8 +98,8 @@ module _ (snapshot : ℕ) where
 
   number_pins : (numbers : List ℕ) (s : Shared) (h : HandState) (r : Running)
       → OnPins snapshot false s.book.snaps (number_turn numbers s h r)
-  number_pins [] s h r = plain_fits snapshot _ s.book.snaps (locking_none snapshot 0 _)
-  number_pins (ino ∷ numbers) s h r = plain_fits snapshot _ s.book.snaps (locking_none snapshot 0 _)
+  number_pins [] s h r = plain_fits snapshot _ s.book.snaps (no_pin snapshot _ (locking_on 0 _))
+  number_pins (ino ∷ numbers) s h r = plain_fits snapshot _ s.book.snaps (no_pin snapshot _ (locking_on 0 _))
 
   look_pins : (owner : Option ℕ) (tests : Tests) (found : Looked) (place : ℕ) (s : Shared) (h : HandState) (r : Running)
       → OnPins snapshot false s.book.snaps (look_turn owner tests found place s h r)
@@ -134,12 +107,12 @@ module _ (snapshot : ℕ) where
   look_pins None (Err fault) found place s h r = end_pins [] (Refuses fault) s h r
   look_pins None (Ok passed) found place s h r =
       plain_fits snapshot _ s.book.snaps
-      (looking_none snapshot (place + 1) (record r { looked = found; slots = slots_of s None found r.call }))
+      (no_pin snapshot _ (looking_on (place + 1) (record r { looked = found; slots = slots_of s None found r.call })))
 
   lock_pins : (owner : Option ℕ) (actor place : ℕ) (s : Shared) (h : HandState) (r : Running)
       → OnPins snapshot false s.book.snaps (lock_turn owner actor place s h r)
   lock_pins (Some other) actor place s h r = tt
-  lock_pins None actor place s h r = plain_fits snapshot _ s.book.snaps (locking_none snapshot (place + 1) _)
+  lock_pins None actor place s h r = plain_fits snapshot _ s.book.snaps (no_pin snapshot _ (locking_on (place + 1) _))
 
   pages_pins : (n : ℕ) (s : Shared) (h : HandState) (r : Running) → OnPins snapshot false s.book.snaps (wants_pages n s h r)
   pages_pins zero s h r = same_fits snapshot false s.book.snaps
@@ -173,7 +146,7 @@ module _ (snapshot : ℕ) where
   enter_pins None false false actor s h r = end_pins r.slots _ s h r
   enter_pins None false true actor s h r =
       plain_fits snapshot _ s.book.snaps
-      (appending_none snapshot 0 (written_slots (record r { commit = s.book.commit + 1; epoch = s.book.snaps.epoch })))
+      (no_pin snapshot _ (appending_on 0 (written_slots (record r { commit = s.book.commit + 1; epoch = s.book.snaps.epoch }))))
 
   unlock_pins : (more : Bool) (place : ℕ) (s : Shared) (h : HandState) (r : Running)
       → OnPins snapshot false s.book.snaps (unlocked_turn more place s h r)
@@ -341,13 +314,13 @@ module _ (snapshot : ℕ) where
   kind_pins Ready block actor granted s h r = grown_pins snapshot granted _ s h r (same_fits snapshot false s.book.snaps)
   kind_pins Enter block actor granted s h r = enter_pins snapshot s.holder _ granted actor s h r
   kind_pins (Append place) block actor granted s h r =
-      plain_fits snapshot _ s.book.snaps (appending_none snapshot (place + 1) (written_slots r))
-  kind_pins Open block actor granted s h r = plain_fits snapshot _ s.book.snaps (publishing_none snapshot 0 (written_slots r))
+      plain_fits snapshot _ s.book.snaps (no_pin snapshot _ (appending_on (place + 1) (written_slots r)))
+  kind_pins Open block actor granted s h r = plain_fits snapshot _ s.book.snaps (no_pin snapshot _ (publishing_on 0 (written_slots r)))
   kind_pins (Publish place) block actor granted s h r =
-      plain_fits snapshot _ s.book.snaps (publishing_none snapshot (place + 1) (written_slots r))
-  kind_pins Close block actor granted s h r = plain_fits snapshot _ s.book.snaps (retiring_none snapshot 0 (written_slots r))
+      plain_fits snapshot _ s.book.snaps (no_pin snapshot _ (publishing_on (place + 1) (written_slots r)))
+  kind_pins Close block actor granted s h r = plain_fits snapshot _ s.book.snaps (no_pin snapshot _ (retiring_on 0 (written_slots r)))
   kind_pins (Retire place) block actor granted s h r =
-      plain_fits snapshot _ s.book.snaps (retiring_none snapshot (place + 1) (written_slots r))
+      plain_fits snapshot _ s.book.snaps (no_pin snapshot _ (retiring_on (place + 1) (written_slots r)))
   kind_pins Leave block actor granted s h r = end_pins snapshot r.slots r.ending _ h r
   kind_pins (Unlock place) block actor granted s h r = unlock_pins snapshot _ place _ h r
   kind_pins (Give cpu) block actor granted s h r = rest_pins snapshot _ h.ino _ _ r

@@ -14,7 +14,8 @@ use Rattle.nv_machine.specs.Reading.{ArePins, pins_at, pins_by_call, pins_on, sh
 use Rattle.nv_machine.specs.Sequence.{beginning, begun, first_step}
 use Rattle.nv_machine.specs.Step.{after, go_step, start_step, step, turn, turned}
 use Rattle.nv_machine.specs.World.{Actor, Ends, Event, Go, Moves, Running, Shared, Start, Turn, Waits, World, actor_at, idle}
-use Rattle.nv_machine.proofs.PinSteps.{OnPins, kind_pins, locking_none, one_if, same_fits}
+use Rattle.nv_machine.proofs.PinSteps.{OnPins, kind_pins, no_pin, one_if, same_fits}
+use Rattle.nv_machine.proofs.Sequels.{locking_on}
 
 -- ---- an actor that changes its call
 
@@ -68,10 +69,10 @@ module _ (snapshot : ℕ) where
   pub begun_none : (c : Call) (s : Shared) → pins_at snapshot (begun (beginning c) s c).next ≡ false
   begun_none (call.Create dir name mode) s = refl
   begun_none (call.Mkdir dir name mode) s = refl
-  begun_none (call.Write file offset text) s = locking_none snapshot 0 _
+  begun_none (call.Write file offset text) s = no_pin snapshot _ (locking_on 0 _)
   begun_none (call.Read file offset count) s = refl
-  begun_none (call.Size file size) s = locking_none snapshot 0 _
-  begun_none (call.Mode handle mode) s = locking_none snapshot 0 _
+  begun_none (call.Size file size) s = no_pin snapshot _ (locking_on 0 _)
+  begun_none (call.Mode handle mode) s = no_pin snapshot _ (locking_on 0 _)
   begun_none (call.Stat handle) s = refl
   begun_none (call.List dir) s = refl
   begun_none (call.Lookup dir name) s = refl

@@ -45,7 +45,8 @@ use Rattle.nv_machine.proofs.Counted.{settled_times}
 use Rattle.nv_machine.proofs.Erased.{all_freed, behind, gone_erased}
 use Rattle.nv_machine.proofs.Erasing.{IsKnown, known, runs_inside}
 use Rattle.nv_machine.proofs.Events.{goes}
-use Rattle.nv_machine.proofs.FiledLists.{all_append, all_back, all_filed, all_front, count, count_append, count_cons, count_filed, held_filed}
+use Rattle.nv_machine.proofs.EachOf.{all_append, all_back, all_front}
+use Rattle.nv_machine.proofs.FiledLists.{all_filed, count, count_append, count_cons, count_filed, held_filed}
 use Rattle.nv_machine.proofs.FiledMarks.{IsTold, is_filed_on}
 use Rattle.nv_machine.proofs.FiledRuns as filed
 use Rattle.nv_machine.proofs.FiledSteps.{MarksOf, released_cell}
@@ -185,8 +186,11 @@ module _ (g : GeometryNumbers) (w : World) (all : IsKnown g w) (actor : ℕ) (dr
       (released_cell living epoch (killed_in w d.ino) (all.rs ++ picked_in w) (all.rs ++ picked_in but) d cell log_is
       (all.marked.cells d.ino) pair
       (λ p. omega (
-        arith, swap_count picked_by_actor p w.actors actor (record { hand = empty_hand; running = None }) here,
-        ap (λ (ys : List Record). count p ys) had, count_cons p d [], count_append p all.rs (picked_in w),
+        arith,
+        swap_count picked_by_actor p w.actors actor (record { hand = empty_hand; running = None }) here,
+        ap (λ (ys : List Record). count p ys) had,
+        count_cons p d [],
+        count_append p all.rs (picked_in w),
         count_append p all.rs (picked_in but),
       )) told unheld)
 
@@ -202,15 +206,18 @@ module _ (g : GeometryNumbers) (w : World) (all : IsKnown g w) (actor : ℕ) (dr
           go None e some = absurd (false≢true some)
           go (Some it) e some =
               let filed_told = all_filed T living s.book.manifests s.book.deferred all.rs all.listed.list
-                  (all_front T all.rs (picked_in but) told) in
+              (all_front T all.rs (picked_in but) told) in
               let p : Record → Bool = λ x. is_filed_on d.ino (log_of cell) n x in
               let once : count p (all_records s.book.manifests ++ pending_in but) ≡ bit (is_kept (mark_at left.marks n)) = omega (
-                arith, left_marks.kept_are n, count_append p (all_records s.book.manifests) (pending_in but),
-                count_append p s.book.deferred (picked_in but), count_append p all.rs (picked_in but),
+                arith,
+                left_marks.kept_are n,
+                count_append p (all_records s.book.manifests) (pending_in but),
+                count_append p s.book.deferred (picked_in but),
+                count_append p all.rs (picked_in but),
                 count_filed p living s.book.manifests s.book.deferred all.rs all.listed.rising all.listed.list,
               ) in
               let in_use = in_use_there living d.ino epoch [] (all.rs ++ picked_in but) cell.block (log_of cell) left.marks log_is
-                  left_marks n
+              left_marks n
               it e (all_records s.book.manifests) (pending_in but) (all_front T (all_records s.book.manifests) s.book.deferred filed_told)
               (held_filed living s.book.manifests s.book.deferred all.rs all.listed.list) once in
               let at : slice_get (pairs cell.block (settled s d.ino)) n ≡ Some it =
@@ -219,7 +226,7 @@ module _ (g : GeometryNumbers) (w : World) (all : IsKnown g w) (actor : ℕ) (dr
               ∙ ap (λ (names : List PartId). (is_current it || is_held living it) || list_any (has_name it) names)
               (append-nil (map name_of (filter (is_of_slot d.ino) (pending_in but))))
               ∙ at_place_of (λ (x : Pair). keeps (keepers_of (pending_but actor w) s d.ino) x ≡ false)
-                  (pairs cell.block (settled s d.ino)) n it
+              (pairs cell.block (settled s d.ino)) n it
               over.kept at
 
     is_now : is_erased left ≡ true

@@ -52,7 +52,10 @@ free_copies w grown snapshot handle none =
 many_cells : (g : GeometryNumbers) (events : List Event) → IsWithinLimits g → length (after (formatted g) events).shared.cells ≤ INODES
 many_cells g events within =
     omega (
-      arith, events_cells events (formatted g), many_same (g.inodes - 1) (empty_cell g.block g.page 1 0), within.inodes_fit,
+      arith,
+      events_cells events (formatted g),
+      many_same (g.inodes - 1) (empty_cell g.block g.page 1 0),
+      within.inodes_fit,
       within.some_inodes,
     )
 

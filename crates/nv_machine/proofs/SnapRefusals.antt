@@ -82,8 +82,8 @@ replies_told g events actor granted r kind within is next tested =
     (subst (λ (made : Step). (made.reply ≡ Waiting) ⊎ GoesBy (tests_on kind w.shared.book.snaps) made.reply)
     (sym (goes w actor granted r (there_is w actor r is) is).is_turn)
     (kind_tested actor granted w h r (empty_of r.next bare next) r.next kind next tested bare)) where
-  empty_of : (k : Next) → IsBare k (actor_at (after (formatted g) events) actor).hand r → k ≡ Snapshots kind
-      → (actor_at (after (formatted g) events) actor).hand ≡ empty_hand
-  empty_of k bare e =
-      let both : IsBare (Snapshots kind) (actor_at (after (formatted g) events) actor).hand r =
-      subst (λ (n : Next). IsBare n (actor_at (after (formatted g) events) actor).hand r) e bare in both.0
+      empty_of : (k : Next) → IsBare k (actor_at (after (formatted g) events) actor).hand r → k ≡ Snapshots kind
+          → (actor_at (after (formatted g) events) actor).hand ≡ empty_hand
+      empty_of k bare e =
+          let both : IsBare (Snapshots kind) (actor_at (after (formatted g) events) actor).hand r =
+          subst (λ (n : Next). IsBare n (actor_at (after (formatted g) events) actor).hand r) e bare in both.0

@@ -1,20 +1,17 @@
 -- What each step makes of the list of snapshots is what its deed in the plain world says.
-use Rattle.std.proofs.Common.{◌≡◌, ℕ, ◌+◌, ◌∙◌, Bool, true, false, if◌then◌else◌, List, [], ◌∷◌, length, nat_lt, Option, Some, None, ap, refl, subst, sym}
+use Rattle.std.proofs.Common.{◌≡◌, ℕ, ◌∙◌, Bool, true, false, if◌then◌else◌, List, [], ◌∷◌, length, nat_lt, Option, Some, None, refl, subst, sym}
 use Rattle.std.specs.Prelude.{Ok, Err}
-use Rattle.nv_alloc.specs.FreeList.{FreeBlocks}
-use Rattle.nv_base.specs.declared.fault.Fault.{Fault}
 use Rattle.nv_base.specs.declared.geometry.GeometryNumbers.{GeometryNumbers}
 use Rattle.nv_calls.specs.Refusals.{Check as Tests}
 use Rattle.nv_calls.specs.declared.call.Call.{Call}
 use Rattle.nv_epoch.specs.SnapList.{Snapshots as Living, after_making, after_pin, after_removal, after_unpin, pins_of}
 use Rattle.nv_machine.specs.Hands.{AreNumbers, HandAt, HandOf}
-use Rattle.nv_machine.specs.Kinds.{blocks_in, end_turn, refuse, rest_turn}
 use Rattle.nv_machine.specs.Locks.{AreLocks, HasSlots, IsInside, commits_at, slots_on}
 use Rattle.nv_machine.specs.PlainRun.{Commits, Deed, Nothing, Numbers, OnSnapshots, deed as deed_in, deed_by, deed_of, done_on, entered}
-use Rattle.nv_machine.specs.Reads.{home_from, written_slots}
+use Rattle.nv_machine.specs.Reads.{written_slots}
 use Rattle.nv_machine.specs.Snapshots.{drop_tests, drop_turn, if_free, make_tests, make_turn, pin_turn, snapshot_turn, unpin_turn}
 use Rattle.nv_machine.specs.Step.{go_step, kind_turn, start_step, step, turn, turned}
-use Rattle.nv_machine.specs.World.{Append, Back, Check, Close, Drop, Ends, Enter, Event, Give, Go, HandState, Leave, Lock, LockPicked, Look, Make, Moves, Next, Number, Open, Pick, Pin, Publish, Ready, Refuses, Release, Retire, Running, Shared, Show, SnapshotStep, Snapshots, Start, TakeBlocks, TakePages, Turn, Unlock, Unpin, Visit, Waits, World, actor_at, empty_hand}
+use Rattle.nv_machine.specs.World.{Append, Back, Check, Close, Drop, Ends, Enter, Event, Give, Go, HandState, Leave, Lock, LockPicked, Look, Make, Moves, Next, Number, Open, Pick, Pin, Publish, Ready, Release, Retire, Running, Shared, Show, SnapshotStep, Snapshots, Start, TakeBlocks, TakePages, Turn, Unlock, Unpin, Visit, Waits, World, actor_at, empty_hand}
 use Rattle.nv_machine.proofs.FiledTurns.{refused_at_once}
 use Rattle.nv_machine.proofs.Kept.{AfterTurn, back_deed, deed, number_deed, snapshot_deed, snapshot_keeps, turn_keeps}
 

@@ -1,5 +1,6 @@
--- Worked rows of snapshots: born and dead in one epoch, deferred is not free, a record moves down, and refusals.
-use Rattle.std.proofs.Common.{◌≡◌, ◌++◌, ℕ, List, [], ◌∷◌, Some, None, map, refl}
+-- Worked rows of snapshots: born and dead in one epoch, born behind the snapshot, deferred is not free, a record moves down, and
+-- refusals.
+use Rattle.std.proofs.Common.{◌≡◌, ◌++◌, ℕ, false, List, [], ◌∷◌, Some, None, map, refl}
 use Rattle.nv_base.specs.declared.fault.Fault.TheVariants as fault
 use Rattle.nv_base.specs.declared.node.Kind.{Kind}
 use Rattle.nv_base.specs.declared.node.Kind.TheVariants as kind
@@ -9,27 +10,28 @@ use Rattle.nv_calls.specs.declared.call.Call.TheVariants as call
 use Rattle.nv_calls.specs.declared.snapshot_call.SnapshotCall.TheVariants as on
 use Rattle.nv_epoch.specs.SnapList.{ids}
 use Rattle.nv_machine.specs.Format.{formatted}
-use Rattle.nv_machine.specs.World.{Done, Moved, Refused, Reply, Started, World}
+use Rattle.nv_machine.specs.Step.{step}
+use Rattle.nv_machine.specs.World.{Done, Go, Moved, Refused, Reply, Started, World}
 use Rattle.nv_machine.proofs.Scripts.{DoCall, Goes, Line, StartCall, device, handle, line, play, played, shown, space}
 
-abbrev snap : Line
+abbrev pub snap : Line
 snap = DoCall 0 (call.Snapshots on.Snap)
 
 abbrev dropping : ℕ → ℕ → Line
 dropping actor snapshot = DoCall actor (call.Snapshots (on.Drop snapshot))
 
 -- a page of four equal bytes
-abbrev page : ℕ → List ℕ
+abbrev pub page : ℕ → List ℕ
 page byte = byte ∷ byte ∷ byte ∷ byte ∷ []
 
-abbrev write : ℕ → Line
+abbrev pub write : ℕ → Line
 write byte = DoCall 0 (call.Write (handle 1 1) 0 (page byte))
 
 -- a file with a page
-abbrev made : List Line
+abbrev pub made : List Line
 made = DoCall 0 (call.Create (handle 0 1) (97 ∷ []) 420) ∷ write 97 ∷ []
 
-abbrev after_lines : List Line → World
+abbrev pub after_lines : List Line → World
 after_lines lines = played (formatted device) lines
 
 -- the nodes of a tree that is replied
@@ -39,7 +41,7 @@ told reply = []
 
 -- ---- born and dead in one epoch: the second page is free as soon as the third is written, and the first is held
 
-abbrev twice_written : List Line
+abbrev pub twice_written : List Line
 twice_written = made ++ snap ∷ write 98 ∷ write 99 ∷ []
 
 both_done : play (formatted device) twice_written
@@ -57,9 +59,20 @@ as_it_was : told (line (after_lines twice_written) (DoCall 0 (call.Snapshots (on
     ≡ ([], (kind.Dir, (493, []))) ∷ ((97 ∷ []) ∷ [], (kind.File, (420, page 97))) ∷ []
 as_it_was = refl
 
+-- ---- born behind the snapshot: what a write replaces is held by none, and its block is free
+
+abbrev born_later : List Line
+born_later = snap ∷ made ++ write 98 ∷ []
+
+none_held : space (after_lines born_later) ≡ 13 ∷ 2 ∷ 1 ∷ 0 ∷ 0 ∷ []
+none_held = refl
+
+held_by_none : held_of 1 (after_lines born_later).shared.book.manifests ≡ 0
+held_by_none = refl
+
 -- ---- deferred is not free, until it is drained: the page and its key
 
-abbrev deferring : List Line
+abbrev pub deferring : List Line
 deferring = made ++ snap ∷ write 98 ∷ dropping 0 1 ∷ []
 
 not_free : space (after_lines deferring) ≡ 12 ∷ 2 ∷ 1 ∷ 1 ∷ 0 ∷ []
@@ -73,7 +86,7 @@ free_then = refl
 
 -- ---- a record moves down
 
-abbrev twice_held : List Line
+abbrev pub twice_held : List Line
 twice_held = made ++ snap ∷ snap ∷ write 98 ∷ []
 
 held_by_both : held_of 1 (after_lines twice_held).shared.book.manifests ∷ held_of 2 (after_lines twice_held).shared.book.manifests ∷ []
@@ -111,3 +124,11 @@ dropped_then = refl
 
 three_left : ids (played showing_two (Goes 0 99 ∷ dropping 1 2 ∷ [])).shared.book.snaps ≡ 1 ∷ 3 ∷ 4 ∷ []
 three_left = refl
+
+-- a show whose memory is refused takes its pin off
+abbrev show_refused : World
+show_refused = (step showing_two (Go 0 false)).world
+
+unpinned_then : play show_refused (dropping 1 2 ∷ Goes 0 9 ∷ dropping 1 2 ∷ [])
+    ≡ Refused fault.Pinned ∷ Refused fault.OutOfMemory ∷ Done answer.Nothing ∷ []
+unpinned_then = refl

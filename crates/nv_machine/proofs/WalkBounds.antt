@@ -29,7 +29,11 @@ module _ (nodes : Handle → Option NodeCopy)
       let first = each bound (contains_first bound names) in
       let rest = names_few depth path names (λ b at. each b (contains_later b bound names at)) in
       omega (
-        arith, sum_by-cons f bound names, first, rest, ap (λ (ts : List TreeNode). length ts) (flat_map-cons g bound names),
+        arith,
+        sum_by-cons f bound names,
+        first,
+        rest,
+        ap (λ (ts : List TreeNode). length ts) (flat_map-cons g bound names),
         length-append (g bound) (flat_map g names),
       )
 

@@ -17,6 +17,7 @@ pub mod Kinds
 pub mod Locks
 pub mod Made
 pub mod Memory
+pub mod Needed
 pub mod Numbers
 pub mod Order
 pub mod Pages

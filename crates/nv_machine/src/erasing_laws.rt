@@ -29,8 +29,8 @@ pub fn gone_inodes_are_erased()
         (draining : Draining) (picked : Record) (granted : Bool) (r : Running) → IsWithinLimits g
         → (actor_at (after (formatted g) events) actor).running ≡ Some r
         → r.next ≡ Snapshots (Release draining picked)
-        → IsOver (pending_but actor (after (formatted g) events)) (after (formatted g) events).shared
-        picked.ino
+        → IsOver (pending_but actor (after (formatted g) events))
+        (after (formatted g) events).shared picked.ino
         → IsErasedWhole actor picked.ino (after (formatted g) events)
         (step (after (formatted g) events) (Go actor granted)).world }
     ensures hand { (g : GeometryNumbers) (events : List Event) (actor place : ℕ) (granted : Bool)
@@ -46,8 +46,8 @@ pub fn gone_inodes_are_erased()
         (draining : Draining) (picked : Record) (granted : Bool) (r : Running) → IsWithinLimits g
         → (actor_at (after (formatted g) events) actor).running ≡ Some r
         → r.next ≡ Snapshots (Release draining picked)
-        → IsOver (pending_but actor (after (formatted g) events)) (after (formatted g) events).shared
-        picked.ino
+        → IsOver (pending_but actor (after (formatted g) events))
+        (after (formatted g) events).shared picked.ino
         → is_withheld (cell_at (step (after (formatted g) events) (Go actor granted)).world.shared
         picked.ino) ≡ false
         → IsOnItsWay actor picked.ino

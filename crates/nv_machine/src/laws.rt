@@ -78,10 +78,11 @@ pub fn data_is_taken_before_log_pages()
 {}
 
 /// Memory that is refused makes one and the same turn of every step that grows anything (a check, a ready, an enter, a visit
-/// but a stat, a show's visit, a drain's first pick), also where that step of that call would have asked for none: where the step would have done its work, it
-/// refuses the call instead, and leaves all that is shared and the hand as they were. Where it would not, it waits or ends the
-/// call as it would have: so a refusal of the plain world, want of a number and the last commit number come first. All
-/// other steps go on as ever. And where memory is granted, no step refuses a call for want of it.
+/// but a stat, a show's visit, a drain's first pick), also where that step of that call would have asked for none: where the
+/// step would have done its work, it refuses the call instead, and leaves all that is shared and the hand as they were. Where
+/// it would not, it waits or ends the call as it would have: so a refusal of the plain world, want of a number and the last
+/// commit number come first. All other steps go on as ever. And where memory is granted, no step refuses a call for want of
+/// it.
 pub fn refused_memory_makes_one_turn()
     ensures refused { (block actor : ℕ) (s : Shared) (h : HandState) (r : Running)
         → grows r.next r.call ≡ true → turn block actor false s h r

@@ -260,10 +260,11 @@ pub fn refused_calls_leave_books_and_cells()
         → LeavesBooks r.next w.shared
         (turn w.numbers.block actor granted w.shared (actor_at w actor).hand r) }
     ensures reached { (g : GeometryNumbers) (events : List Event) (actor : ℕ) (granted : Bool)
-        (r : Running) → IsWithinLimits g → (actor_at (after (formatted g) events) actor).running ≡ Some r
+        (r : Running) → IsWithinLimits g
+        → (actor_at (after (formatted g) events) actor).running ≡ Some r
         → LeavesBooks r.next (after (formatted g) events).shared
-        (turn (after (formatted g) events).numbers.block actor granted (after (formatted g) events).shared
-        (actor_at (after (formatted g) events) actor).hand r) }
+        (turn (after (formatted g) events).numbers.block actor granted
+        (after (formatted g) events).shared (actor_at (after (formatted g) events) actor).hand r) }
 {}
 
 /// A call is contended only after eight checks that each found a name bound anew: a started call has eight such checks

@@ -2,7 +2,7 @@
 //! tree that stood when it was made, and what its calls are answered and refused. Each is the contract of a function that does
 //! nothing.
 
-ghost use Rattle.std.specs.Prelude.{◌≡◌, ◌⊎◌, ◌&&◌, ◌++◌, ◌+◌, ℕ, Bool, true, List, [], ◌∷◌, Contains, IsSome, None, Ok, Some, length, not, slice_get};
+ghost use Rattle.std.specs.Prelude.{◌≡◌, ◌⊎◌, ◌&&◌, ◌++◌, ◌<◌, ◌≤◌, ℕ, Bool, true, List, [], ◌∷◌, Contains, IsSome, None, Ok, Some, length, not, slice_get};
 ghost use Rattle.std.specs.List.{AllByRecursion};
 ghost use Rattle.nv_base.specs.Limits.{IsWithinLimits};
 ghost use Rattle.nv_base.specs.declared.fault.Fault.{Fault};
@@ -22,13 +22,15 @@ ghost use Rattle.nv_entry.specs.declared.tree.TreeNode.{TreeNode};
 ghost use Rattle.nv_epoch.specs.SnapList.{ids, pins_of};
 ghost use Rattle.nv_machine.specs.Bound.{AreNoStarts};
 ghost use Rattle.nv_machine.specs.Format.{formatted};
+ghost use Rattle.nv_machine.specs.Needed.{AreNoDrops, IsAtRest, drained, free_but_needed};
+ghost use Rattle.nv_machine.specs.Numbers.{free_of};
 ghost use Rattle.nv_machine.specs.PlainRun.{plain_after, plain_of};
 ghost use Rattle.nv_machine.specs.Reading.{AreCopied, ArePins, GoesBy, is_tested, plain_tests, releases, shows_of, tests_on};
 ghost use Rattle.nv_machine.specs.Recorded.{AreRecordedOnce, IsOfPair, is_killed_pair, is_recorded_for, recorded_in, records_after};
 ghost use Rattle.nv_machine.specs.Settled.{settled_copies, snapshot_tree};
 ghost use Rattle.nv_machine.specs.Snapshots.{snapshot_turn};
 ghost use Rattle.nv_machine.specs.Step.{after, step};
-ghost use Rattle.nv_machine.specs.World.{Done, Draining, Ends, Event, Go, HandState, Pick, Refused, Running, Shared, SnapshotStep, Snapshots, Start, Started, Unpin, Waiting, actor_at, cell_at};
+ghost use Rattle.nv_machine.specs.World.{Done, Draining, Ends, Event, Go, HandState, Pick, Refused, Running, Shared, SnapshotStep, Snapshots, Start, Started, Unpin, Waiting, actor_at, cell_at, list_at};
 
 /// The records are one list, whatever events came from a new world on: a retire step puts the killed parts of its inode to its
 /// end, in order, that a living snapshot holds; a drop moves there, in order, the records that its snapshot was the youngest to
@@ -143,4 +145,28 @@ pub fn drains_count_their_releases()
         (h after : HandState) (r : Running)
         → snapshot_turn (Pick draining) actor granted s h r ≡ Ends (Ok (answers.Count told)) t after
         → s.book.deferred ≡ [] }
+{}
+
+/// Where no call runs and nothing is deferred, each free list is exactly the numbers of its CPU's home range that nothing needs:
+/// no page of a chain is of that number, and no page of a pair that is current or that a living snapshot holds. And from a
+/// world in which no call runs, whatever events come but drops, nothing is deferred any more once drains were answered,
+/// together, as many records as were deferred there: so it is once `drain 1` was answered 1 as often as there were.
+pub fn drained_worlds_use_what_is_needed()
+    ensures rest { (g : GeometryNumbers) (events : List Event) (cpu : ℕ) → IsWithinLimits g
+        → cpu < g.cpus → IsAtRest (after (formatted g) events)
+        → (after (formatted g) events).shared.book.deferred ≡ []
+        → free_of (list_at (after (formatted g) events).shared cpu)
+        ≡ free_but_needed g (after (formatted g) events) cpu }
+    ensures drained { (g : GeometryNumbers) (before events : List Event) → IsWithinLimits g
+        → IsAtRest (after (formatted g) before) → AreNoDrops events
+        → length (after (formatted g) before).shared.book.deferred
+        ≤ drained (after (formatted g) before) events
+        → (after (formatted g) (before ++ events)).shared.book.deferred ≡ [] }
+    ensures lists { (g : GeometryNumbers) (before events : List Event) (cpu : ℕ) → IsWithinLimits g
+        → cpu < g.cpus → IsAtRest (after (formatted g) before) → AreNoDrops events
+        → length (after (formatted g) before).shared.book.deferred
+        ≤ drained (after (formatted g) before) events
+        → IsAtRest (after (formatted g) (before ++ events))
+        → free_of (list_at (after (formatted g) (before ++ events)).shared cpu)
+        ≡ free_but_needed g (after (formatted g) (before ++ events)) cpu }
 {}

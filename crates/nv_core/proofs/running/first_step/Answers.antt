@@ -1,4 +1,4 @@
-use Rattle.std.proofs.Common.{refl, sym}
+use Rattle.std.proofs.Common.{refl}
 use Rattle.nv_core.proofs.running.first_step.Goals as goal
 
 pub returns-in-Change-clause-before : goal.returns-in-Change-clause-before

@@ -1,10 +1,9 @@
-use Rattle.std.proofs.Common.{◌≡◌, ◌∙◌, ◌<◌, ℕ, List, ap, arith, get_or-set_other, length, length-set, refl, slice_set, subst, sym}
+use Rattle.std.proofs.Common.{◌≡◌, ◌∙◌, ◌<◌, ℕ, ap, get_or-set_other, length-set, refl, slice_set, subst}
 use Rattle.std.specs.List.{AllByRecursion}
 use Rattle.std.specs.Prelude.{None, Some, slice_index_or}
 use Rattle.nv_alloc.specs.Block.{BlockValue}
 use Rattle.nv_calls.specs.Cells.{no_cell}
 use Rattle.nv_cell.specs.Cell.{CellState}
-use Rattle.nv_machine.specs.World as machine
 use Rattle.nv_machine.specs.World.{cell_at}
 use Rattle.nv_core.specs.Shown.{draining_of, shared_of, shown}
 use Rattle.nv_core.proofs.Releases.{release_turns, released_below}
