@@ -16,6 +16,7 @@ mod commit;
 mod fill_pages;
 mod filling;
 mod held_nodes;
+mod in_hand;
 pub mod laws;
 mod lent;
 mod log_pages;

@@ -2,6 +2,10 @@ pub mod Actors
 pub mod AddedUp
 pub mod Among
 pub mod Appends
+pub mod AuditLaw
+pub mod AuditNamed
+pub mod AuditRecords
+pub mod AuditShown
 pub mod Bounds
 pub mod CheckJobs
 pub mod CheckTurns

@@ -1,4 +1,5 @@
 pub mod Appends
+pub mod Audited
 pub mod CommitSteps
 pub mod Committing
 pub mod Formats

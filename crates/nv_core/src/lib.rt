@@ -5,6 +5,7 @@
 //! the pool of inode numbers is held for one step alone.
 #![tactic(auto)]
 
+mod audit;
 mod bounded;
 mod ending;
 mod event;

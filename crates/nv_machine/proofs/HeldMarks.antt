@@ -44,7 +44,7 @@ use Rattle.nv_machine.proofs.Pairs.{current_is, has_number, named_same, number_i
 
 -- ---- whether any of a list passes a test
 
-any_filter : {X : Type 0} (f g : X → Bool) (xs : List X) → list_any f (filter g xs) ≡ list_any (λ x. g x && f x) xs
+pub any_filter : {X : Type 0} (f g : X → Bool) (xs : List X) → list_any f (filter g xs) ≡ list_any (λ x. g x && f x) xs
 any_filter f g [] = refl
 any_filter f g (x ∷ xs) = go (g x) (any_filter f g xs) where
   go : (b : Bool) → list_any f (filter g xs) ≡ list_any (λ x. g x && f x) xs
@@ -56,7 +56,7 @@ any_none : {X : Type 0} (f : X → Bool) (xs : List X) → AllByRecursion (λ x.
 any_none f [] h = refl
 any_none f (x ∷ xs) h = rw (h.0, any_none f xs h.1) refl
 
-any_gives : {X : Type 0} (f : X → Bool) (claim : Type 0) (xs : List X) → AllByRecursion (λ x. f x ≡ true → claim) xs
+pub any_gives : {X : Type 0} (f : X → Bool) (claim : Type 0) (xs : List X) → AllByRecursion (λ x. f x ≡ true → claim) xs
     → list_any f xs ≡ true → claim
 any_gives f claim [] h e = absurd (false≢true e)
 any_gives f claim (x ∷ xs) h e = go (f x) refl e (any_gives f claim xs h.1) where

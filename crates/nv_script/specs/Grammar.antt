@@ -164,6 +164,7 @@ plain_word name =
     else if bytes_eq name (codes "space") then Some word.Space
     else if bytes_eq name (codes "lists") then Some word.Lists
     else if bytes_eq name (codes "log") then Some word.Log
+    else if bytes_eq name (codes "audit") then Some word.Audit
     else None
 
 -- what a line is by its first words: a `format`, or a command on a made world
@@ -225,6 +226,7 @@ command_with word.Snaps words = Ok command.Snaps
 command_with word.Space words = Ok command.Space
 command_with word.Lists words = Ok command.Lists
 command_with word.Log words = value_at field.Number words 1 >>= λ ino. Ok (command.Log ino)
+command_with word.Audit words = Ok command.Audit
 
 -- a name, `=` and a number; the name comes with its `=`
 abbrev pub setting_of : List ℕ → List ℕ → Option ℕ

@@ -86,6 +86,7 @@ Acts old command.Snaps text new = Reports (snaps_lines (snaps_of old.shared.book
 Acts old command.Space text new = (text ≡ space_line (space_of old)) × (new ≡ old)
 Acts old command.Lists text new = Reports (lists_lines (lists_of old.shared)) old text new
 Acts old (command.Log ino) text new = ShowsLog (nat_lt ino (length old.shared.cells)) ino old text new
+Acts old command.Audit text new = Reports (line_of (codes "audit ok")) old text new
 
 -- the words of a line without a fault: a `format` where no world is made, and else a command on the world
 abbrev pub PlaysWords : Option World → List (List ℕ) → List ℕ → Option World → Type 0

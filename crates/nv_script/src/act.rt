@@ -105,6 +105,10 @@ fn act(world: &mut World, command: Command, out: &mut Vec<u8>) -> Result<(), All
             Ok(log) => push_log(out, ino, &log),
             Err(fault) => push_refused(out, &fault),
         },
+        Command::Audit => match world.audit() {
+            Ok(()) => out.extend_from_slice(b"audit ok\n"),
+            Err(fault) => push_refused(out, &fault),
+        },
     }
 }
 

@@ -41,6 +41,8 @@ pub(crate) enum Command {
     Lists,
     /// The log of a slot.
     Log(u64),
+    /// Whether each part is that of one scan of all logs.
+    Audit,
 }
 
 /// A command by its name, with the call that it names.
@@ -56,6 +58,7 @@ pub(crate) enum CommandWord {
     Space,
     Lists,
     Log,
+    Audit,
 }
 
 /// What a line is by its first words.
@@ -171,6 +174,9 @@ impl CommandWord {
         if name == b"log".as_slice() {
             return Some(CommandWord::Log);
         }
+        if name == b"audit".as_slice() {
+            return Some(CommandWord::Audit);
+        }
         None
     }
 
@@ -182,7 +188,11 @@ impl CommandWord {
             CommandWord::Start(_) | CommandWord::Do(_) => &[Field::Number],
             CommandWord::Run | CommandWord::SnapTree | CommandWord::Log => &[Field::Number],
             CommandWord::Go => &[Field::Number, Field::Number],
-            CommandWord::Tree | CommandWord::Snaps | CommandWord::Space | CommandWord::Lists => &[],
+            CommandWord::Tree
+            | CommandWord::Snaps
+            | CommandWord::Space
+            | CommandWord::Lists
+            | CommandWord::Audit => &[],
         }
     }
 
@@ -235,6 +245,7 @@ impl CommandWord {
             CommandWord::Space => Ok(Command::Space),
             CommandWord::Lists => Ok(Command::Lists),
             CommandWord::Log => Ok(Command::Log(number_at(words, 1)?)),
+            CommandWord::Audit => Ok(Command::Audit),
         }
     }
 }
