@@ -175,7 +175,14 @@ const DROPS: &[Says] = &[
 
 const SHOWS: &[Says] = &[Show(1), Show(2), Show(1), Show(2), Show(3), Show(4)];
 
-const DRAINS: &[Says] = &[Drain(1), Drain(2), Drain(3), Drain(0), Drain(5), Drain(u64::MAX)];
+const DRAINS: &[Says] = &[
+    Drain(1),
+    Drain(2),
+    Drain(3),
+    Drain(0),
+    Drain(5),
+    Drain(u64::MAX),
+];
 
 /// The calls, a row for each of the twelve and two for renames, and a row for each call on snapshots.
 const CALLS: &[&[Says]] = &[

@@ -17,7 +17,7 @@ use std::process::Abort;
 use std::test::Fail;
 
 /// With room for all calls at once, and for one snapshot more than are prepared.
-const ROW: Row = [64, 2, BLOCK, 2, 12, SNAPS, 3];
+const ROW: Row = [56, 2, BLOCK, 2, 10, SNAPS, 3];
 
 const SNAPS: u64 = 3;
 
@@ -69,14 +69,14 @@ impl Snapped {
         for says in SNAPPED {
             snapped.alone(rt, says)?;
         }
+        snapped.are_kept(rt)?;
         Ok(snapped)
     }
 
     /// Makes a call while no other is made.
     fn alone(&mut self, rt: &impl Abort, says: &Says) -> Result<(), Fail> {
         let reply = self.scene.alone(rt, says)?;
-        self.note(rt, says, &reply)?;
-        self.are_kept(rt)
+        self.note(rt, says, &reply)
     }
 
     /// Notes the tree of a snapshot that was made, and no longer that of one that was dropped. A show has the tree that was
@@ -184,8 +184,10 @@ impl Snapped {
     fn release_all(&mut self, rt: &impl Abort) -> Result<(), Fail> {
         for number in 0..self.noted.len() as u64 {
             self.alone(rt, &Says::Drop(number.saturating_add(1)))?;
+            self.are_kept(rt)?;
         }
-        self.alone(rt, &Drain(u64::MAX))
+        self.alone(rt, &Drain(u64::MAX))?;
+        self.are_kept(rt)
     }
 }
 
@@ -221,11 +223,7 @@ fn mix_two(
     seed: &mut u64,
 ) -> Result<(), Fail> {
     let any = below(seed, ALL_KINDS);
-    let calls = [
-        chosen(one, seed)?,
-        chosen(other, seed)?,
-        chosen(any, seed)?,
-    ];
+    let calls = [chosen(one, seed)?, chosen(other, seed)?, chosen(any, seed)?];
     mix(rt, alloc, &calls, seed)
 }
 

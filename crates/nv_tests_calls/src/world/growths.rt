@@ -212,13 +212,7 @@ const VISITS: &[Row] = &[
 /// Calls on snapshots. A snapshot is made and dropped without memory; a drain makes room for a block before its first
 /// pick, and a show takes memory at each visit. Behind that comes the unpin.
 const SNAPSHOTS: &[Row] = &[
-    (
-        "snap",
-        &[Create(ROOT, b"a")],
-        Snap,
-        Want::Snapshot(1),
-        &[],
-    ),
+    ("snap", &[Create(ROOT, b"a")], Snap, Want::Snapshot(1), &[]),
     (
         "drop",
         &[

@@ -28,7 +28,11 @@ impl Reports {
         let snaps = snaps_of(rt, world);
         let mut snap_trees = Vec::new(alloc);
         for counts in snaps.living.as_slice() {
-            push(rt, &mut snap_trees, snap_tree_of(rt, world, counts.snapshot));
+            push(
+                rt,
+                &mut snap_trees,
+                snap_tree_of(rt, world, counts.snapshot),
+            );
         }
         Reports {
             space: world.space(),
@@ -52,14 +56,22 @@ impl Reports {
             same(rt, log.entries, other.entries);
             same(rt, log.pages.as_slice(), other.pages.as_slice());
         }
-        same(rt, are_alike(self.tree.as_slice(), before.tree.as_slice()), true);
+        same(
+            rt,
+            are_alike(self.tree.as_slice(), before.tree.as_slice()),
+            true,
+        );
         self.have_those_snapshots(rt, before);
     }
 
     fn have_those_snapshots(&self, rt: &impl Abort, before: &Reports) {
         same(rt, self.snaps.epoch, before.snaps.epoch);
         same(rt, self.snaps.commit, before.snaps.commit);
-        same(rt, self.snaps.living.as_slice(), before.snaps.living.as_slice());
+        same(
+            rt,
+            self.snaps.living.as_slice(),
+            before.snaps.living.as_slice(),
+        );
         for (tree, other) in self.snap_trees.iter().zip(&before.snap_trees) {
             same(rt, are_alike(tree.as_slice(), other.as_slice()), true);
         }
