@@ -1,7 +1,8 @@
 //! Each of the four calls on snapshots against each of the sixteen calls, and a third call beside them, in an order by a seed.
 //!
-//! After every event each living snapshot reads as the tree that stood when it was made, and no other is there. At the end,
-//! when all snapshots are dropped and all deferred records released, plain scans find each block in one place.
+//! After every event each living snapshot reads as the tree that stood when it was made, no other is there, and the audit
+//! finds nothing. At the end, when all snapshots are dropped and all deferred records released, plain scans find each block
+//! in one place.
 
 use super::blocks::check_blocks;
 use super::says::{ALL_KINDS, KINDS, Says, chosen};
@@ -120,14 +121,14 @@ impl Snapped {
         }
     }
 
-    /// Each living snapshot reads as it did when it was made, and there is no other.
+    /// Each living snapshot reads as it did when it was made, there is no other, and the audit finds nothing.
     fn are_kept(&self, rt: &impl Abort) -> Result<(), Fail> {
         let mut number = 0u64;
         for noted in &self.noted {
             number = number.saturating_add(1);
             is_kept(rt, &self.scene.world, number, noted);
         }
-        Ok(())
+        Ok(self.scene.world.audit()?)
     }
 
     /// Makes calls at once to their ends, each by an actor of its own.

@@ -267,6 +267,7 @@ pub(super) const SECOND_LINES: &[(&str, ScriptFaultKind)] = &[
     ("do 0 drain\n", ScriptFaultKind::Count),
     ("snaps 1\n", ScriptFaultKind::Count),
     ("stree\n", ScriptFaultKind::Count),
+    ("audit 1\n", ScriptFaultKind::Count),
     ("go x\n", ScriptFaultKind::Number),
     ("go 0 0\n", ScriptFaultKind::Number),
     ("go 0 1048577\n", ScriptFaultKind::Number),

@@ -1,6 +1,21 @@
-//! Worked rows of snapshots: what scripts write, worked out by hand.
+//! Worked rows of snapshots and of the audit: what scripts write, worked out by hand.
 
 use super::worked::Row;
+
+const NOTHING_HELD: Row = (
+    "format blocks=16 cpus=2 block=4 page=4 inodes=8 snaps=4 actors=3\n\
+     tree\n\
+     space\n\
+     lists\n\
+     audit\n",
+    "formatted\n\
+     / d 493\n\
+     end\n\
+     free 15 chain 1 data 0 pending 0 hand 0\n\
+     cpu 0 1-7\n\
+     cpu 1 8-15\n\
+     audit ok\n",
+);
 
 const BORN_AND_DEAD_IN_ONE_EPOCH_TO_LOG: Row = (
     "format blocks=16 cpus=2 block=4 page=4 inodes=8 snaps=4 actors=3\n\
@@ -273,8 +288,9 @@ const DRAIN_WITHIN_A_RUN: Row = (
      cpu 1 8-15\n",
 );
 
-/// The rows of snapshots, all of which end well.
+/// These rows, all of which end well.
 pub(super) const OF_SNAPSHOTS: &[Row] = &[
+    NOTHING_HELD,
     BORN_AND_DEAD_IN_ONE_EPOCH_TO_LOG,
     BORN_AND_DEAD_IN_ONE_EPOCH,
     DEFERRED_IS_NOT_FREE,

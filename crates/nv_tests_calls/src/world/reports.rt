@@ -19,8 +19,9 @@ pub(super) struct Reports {
 }
 
 impl Reports {
-    /// What a world with so many slots reports.
+    /// What a world with so many slots reports. Its audit finds nothing.
     pub fn of(rt: &impl Abort, alloc: Global, world: &World, slots: u64) -> Reports {
+        is_audited(rt, world);
         let mut logs = Vec::new(alloc);
         for ino in 0..slots {
             push(rt, &mut logs, log_of(rt, world, ino));
@@ -96,6 +97,13 @@ fn tree_of(rt: &impl Abort, world: &World) -> Tree {
             same(rt, fault, Fault::OutOfMemory);
             world.tree().expect(rt, "memory for a tree")
         }
+    }
+}
+
+pub(super) fn is_audited(rt: &impl Abort, world: &World) {
+    if let Err(fault) = world.audit() {
+        same(rt, fault, Fault::OutOfMemory);
+        same(rt, world.audit(), Ok(()));
     }
 }
 

@@ -1,6 +1,6 @@
 //! Calls on snapshots by events and replies, and what a world reports of its snapshots.
 
-use super::reports::{snap_tree_of, snaps_of};
+use super::reports::{is_audited, snap_tree_of, snaps_of};
 use super::words::{Shown, Want, Words, are_shown};
 use super::{ONE, Played, ROOT, SMALL, Step, TWO, plays_anew};
 use crate::compare::same;
@@ -78,6 +78,7 @@ fn has_snapshots(rt: &impl Abort, world: &World) {
 fn snapshots(rt: HostRuntime) {
     let world = plays_anew(&rt, rt.alloc(), SMALL, STEPS);
     has_snapshots(&rt, &world);
+    is_audited(&rt, &world);
     let first = snap_tree_of(&rt, &world, Epoch::new(1));
     same(&rt, are_shown(first.as_slice(), FIRST), true);
     let dropped = world.snap_tree(Epoch::new(4));
