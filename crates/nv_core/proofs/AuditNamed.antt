@@ -104,7 +104,8 @@ module _ (ino : ℕ) (pair : Pair) where
             ≡ list_any in_killed (if b then parts else parts_for slots rest ino)
         go true e more =
             let apart : has slots ino ≡ false = ap (has slots) (sym (eqb-true slot ino e)) ∙ has-below slot slots r.0 in
-            let none : list_any in_part (slot_parts slots rest) ≡ false = more ∙ ap (list_any in_killed) (none_there slots rest ino apart) in
+            let none : list_any in_part (slot_parts slots rest) ≡ false =
+            more ∙ ap (list_any in_killed) (none_there slots rest ino apart) in
             ap (λ (b : Bool). list_any in_killed parts || b) none ∙ or_none (list_any in_killed parts)
         go false e more =
             ap (λ (b : Bool). b || list_any in_part (slot_parts slots rest)) (none_passes_none in_killed parts) ∙ more
@@ -141,7 +142,8 @@ module _ (ino : ℕ) (pair : Pair) where
 
   -- a pair is named in a hand or deferred exactly where it is killed or pending
   pub named_so : (w : World) → AreLocks w
-      → is_named (pending_of ino w.shared.book.deferred (flat_map parts_by_actor w.actors)) pair ≡ is_named (retention_at w ino).pending pair
+      → is_named (pending_of ino w.shared.book.deferred (flat_map parts_by_actor w.actors)) pair
+      ≡ is_named (retention_at w ino).pending pair
   named_so w locks =
       list_any-append (has_name pair) (deferred_of ino w.shared.book.deferred) (of_inode ino (flat_map parts_by_actor w.actors))
       ∙ ap₂ (λ (a b : Bool). a || b) (records_so w.shared.book.deferred) (hands_so w locks)

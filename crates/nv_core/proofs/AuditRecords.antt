@@ -50,83 +50,8 @@ use Rattle.nv_machine.proofs.HeldMarks.{any_gives}
 use Rattle.nv_machine.proofs.Lists.{self}
 use Rattle.nv_machine.proofs.Pairs.{has_number, its_name, its_number, name_is, own_name}
 use Rattle.nv_core.specs.Audited.{parts_by_actor}
+use Rattle.nv_core.proofs.AuditCounts.{count_any, count_below, count_filter, count_map, count_none, no_pass, none_numbered, one_numbered}
 use Rattle.nv_core.proofs.AuditNamed.{hands_so, in_killed, in_record}
-
--- ---- how many of a list pass a test
-
-count_map : {X Y : Type 0} (f : Y → Bool) (h : X → Y) (xs : List X) → count f (map h xs) ≡ count (λ x. f (h x)) xs
-count_map f h [] = refl
-count_map f h (x ∷ xs) = omega (arith, count_cons f (h x) (map h xs), count_cons (λ x. f (h x)) x xs, count_map f h xs)
-
-count_filter : {X : Type 0} (f h : X → Bool) (xs : List X) → count f (filter h xs) ≡ count (λ x. h x && f x) xs
-count_filter f h [] = refl
-count_filter f h (x ∷ xs) = go (h x) (count_filter f h xs) ∙ sym (count_cons (λ x. h x && f x) x xs) where
-  go : (b : Bool) → count f (filter h xs) ≡ count (λ x. h x && f x) xs
-      → count f (cond b (x ∷ filter h xs) (filter h xs)) ≡ one (b && f x) + count (λ x. h x && f x) xs
-  go true e = omega (arith, e, count_cons f x (filter h xs))
-  go false e = omega (arith, e)
-
-count_none : {X : Type 0} (f : X → Bool) (xs : List X) → AllByRecursion (λ x. f x ≡ false) xs → count f xs ≡ 0
-count_none f [] h = refl
-count_none f (x ∷ xs) h = omega (arith, count_cons f x xs, ap one h.0, count_none f xs h.1)
-
-one_below : (b c : Bool) → (b ≡ true → c ≡ true) → one b ≤ one c
-one_below true true h = omega arith
-one_below true false h = absurd (false≢true (h refl))
-one_below false c h = omega arith
-
-count_below : {X : Type 0} (f h : X → Bool) (xs : List X) → ((x : X) → f x ≡ true → h x ≡ true) → count f xs ≤ count h xs
-count_below f h [] gives = omega arith
-count_below f h (x ∷ xs) gives =
-    omega (arith, count_cons f x xs, count_cons h x xs, one_below (f x) (h x) (gives x), count_below f h xs gives)
-
--- of at most one
-count_any : {X : Type 0} (f : X → Bool) (xs : List X) → count f xs ≤ 1 → count f xs ≡ one (list_any f xs)
-count_any f [] few = refl
-count_any {X} f (x ∷ xs) few = go (f x) (count_cons f x xs) (count_any f xs) where
-  go : (b : Bool) → count f (x ∷ xs) ≡ one b + count f xs → (count f xs ≤ 1 → count f xs ≡ one (list_any f xs))
-      → count f (x ∷ xs) ≡ one (b || list_any f xs)
-  go true e more = omega (arith, e, few)
-  go false e more = omega (arith, e, more (omega (arith, e, few)))
-
-and_no : (a b : Bool) → (b ≡ true → ⊥) → (a && b) ≡ false
-and_no true true never = absurd (never refl)
-and_no true false never = refl
-and_no false b never = refl
-
-no_pass : (b : Bool) → (b ≡ true → ⊥) → b ≡ false
-no_pass true never = absurd (never refl)
-no_pass false never = refl
-
--- of a list in which one item at most passes the second test
-none_numbered : {X : Type 0} (f h : X → Bool) (xs : List X) → ((n : ℕ) (x : X) → slice_get xs n ≡ Some x → h x ≡ true → ⊥)
-    → count (λ x. f x && h x) xs ≡ 0
-none_numbered f h [] never = refl
-none_numbered f h (x ∷ xs) never =
-    omega (
-      arith, count_cons (λ x. f x && h x) x xs, ap one (and_no (f x) (h x) (never 0 x refl)),
-      none_numbered f h xs (λ n y. never (suc n) y),
-    )
-
-and_yes : (a b : Bool) → b ≡ true → (a && b) ≡ a
-and_yes true b e = e
-and_yes false b e = refl
-
-one_numbered : {X : Type 0} (f h : X → Bool) (m : ℕ) (xs : List X) (x : X) → slice_get xs m ≡ Some x → h x ≡ true
-    → ((n : ℕ) (y : X) → slice_get xs n ≡ Some y → h y ≡ true → n ≡ m) → count (λ x. f x && h x) xs ≡ one (f x)
-one_numbered f h m [] x got own only = cc
-one_numbered f h zero (y ∷ xs) x got own only =
-    let same : y ≡ x = same_Some y x got in
-    omega (
-      arith, count_cons (λ x. f x && h x) y xs, ap (λ z. one (f z && h z)) same, ap one (and_yes (f x) (h x) own),
-      none_numbered f h xs (λ n z at t. let bad = only (suc n) z at t in absurd (omega (arith, bad))),
-    )
-one_numbered f h (suc m) (y ∷ xs) x got own only =
-    omega (
-      arith, count_cons (λ x. f x && h x) y xs,
-      ap one (and_no (f y) (h y) (λ t. let bad = only 0 y refl t in absurd (omega (arith, bad)))),
-      one_numbered f h m xs x got own (λ n z at t. let next = only (suc n) z at t in omega (arith, next)),
-    )
 
 -- ---- by the records, and by the logs
 
@@ -177,7 +102,8 @@ module _ (s : ℕ) (p : InodePart) where
   before hands i [] lt = refl
   before hands i (cell ∷ cells) lt =
       omega (
-        arith, count_append (is_same p) (owed_by s (of_inode i hands) i cell) (owed_from s hands (i + 1) cells),
+        arith,
+        count_append (is_same p) (owed_by s (of_inode i hands) i cell) (owed_from s hands (i + 1) cells),
         elsewhere (of_inode i hands) i (pairs cell.block (log_of cell)) (λ e. absurd (omega (arith, e, lt))),
         before hands (i + 1) cells (omega (arith, lt)),
       )
@@ -189,13 +115,15 @@ module _ (s : ℕ) (p : InodePart) where
   owed_at hands zero i (cell ∷ cells) e =
       let here : i ≡ p.ino = omega (arith, e) in
       omega (
-        arith, count_append (is_same p) (owed_by s (of_inode i hands) i cell) (owed_from s hands (i + 1) cells),
+        arith,
+        count_append (is_same p) (owed_by s (of_inode i hands) i cell) (owed_from s hands (i + 1) cells),
         ap (λ (n : ℕ). count (is_same p) (owed_by s (of_inode n hands) n cell)) here,
         before hands (i + 1) cells (omega (arith, e)),
       )
   owed_at hands (suc k) i (cell ∷ cells) e =
       omega (
-        arith, count_append (is_same p) (owed_by s (of_inode i hands) i cell) (owed_from s hands (i + 1) cells),
+        arith,
+        count_append (is_same p) (owed_by s (of_inode i hands) i cell) (owed_from s hands (i + 1) cells),
         elsewhere (of_inode i hands) i (pairs cell.block (log_of cell)) (λ q. absurd (omega (arith, e, q))),
         owed_at hands k (i + 1) cells (omega (arith, e)),
       )
@@ -259,8 +187,11 @@ module _ (g : GeometryNumbers) (events : List Event) (within : IsWithinLimits g)
         (all_weaker (λ d. is_held_by s d ≡ false) (λ d. recorded s p d ≡ false)
         (λ d e. ap (λ (b : Bool). b && is_same p (inode_part d)) e) (picked_in w) out) in
         omega (
-          arith, by_records s p book, count_append (recorded s p) (all_records book.manifests) (book.deferred ++ picked_in w),
-          count_append (recorded s p) book.deferred (picked_in w), none,
+          arith,
+          by_records s p book,
+          count_append (recorded s p) (all_records book.manifests) (book.deferred ++ picked_in w),
+          count_append (recorded s p) book.deferred (picked_in w),
+          none,
         )
 
     owed_counted : (part : PartId) → let p : InodePart = record { ino = ino; part = part } in
@@ -313,8 +244,10 @@ module _ (g : GeometryNumbers) (events : List Event) (within : IsWithinLimits g)
       few : count (recorded s own_part) (recorded_in w) ≤ 1
       few =
           omega (
-            arith, count_below (recorded s own_part) (is_record_of cell ino m) (recorded_in w) filed,
-            recorded_once g events within ino m, bit_small (is_kept (mark_at cell.marks m)),
+            arith,
+            count_below (recorded s own_part) (is_record_of cell ino m) (recorded_in w) filed,
+            recorded_once g events within ino m,
+            bit_small (is_kept (mark_at cell.marks m)),
           )
 
       -- what is picked of the pair is held by no living snapshot

@@ -126,7 +126,8 @@ module _ (slots : List ℕ) where
       go true e =
           let none : c.retired ≡ 0 = (way.opened e).2 in
           some_left (map slot_of c.plans)
-          (ap (map slot_of) (sym (ap (λ (n : ℕ). drop n (take c.published c.plans)) none ∙ from_first (take c.published c.plans) ∙ whole le)))
+          (ap (map slot_of)
+          (sym (ap (λ (n : ℕ). drop n (take c.published c.plans)) none ∙ from_first (take c.published c.plans) ∙ whole le)))
       go false e = retiring le
 
     publishing : Parts (if nat_lt c.published many then step.Publish else if is_open c then step.Close

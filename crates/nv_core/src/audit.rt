@@ -35,8 +35,8 @@ use std::alloc::{AllocError, Global};
 use std::collections::vec_deque;
 
 impl World {
-    /// Judges the world as it stands: each part against one scan of all logs, of the snapshots and of the hands. No world
-    /// differs, whatever events came: it can only want memory. It costs what [`nv_audit::audit`] does.
+    /// Judges the world as it stands: each part against one scan of all logs, of the snapshots and of the hands. No
+    /// world differs, whatever events came: it can only want memory. It costs what [`nv_audit::audit`] does.
     pub fn audit(&self) -> Result<(), Fault>
         ensures { FailsOnly OutOfMemory result }
     {
@@ -111,8 +111,8 @@ fn push_numbers(
     Ok(())
 }
 
-/// The parts in all hands: those that are killed and not yet retired, and those of records that drains have picked and not
-/// yet released.
+/// The parts in all hands: those that are killed and not yet retired, and those of records that drains have picked and
+/// not yet released.
 fn parts_in_hands(alloc: Global, actors: &[Actor]) -> Result<Vec<InodePart>, AllocError>
     requires { (k : ℕ) (d : Actor) → k < length actors.now
         → HasPlans (slice_index_or actors.now k d).hold }
@@ -164,11 +164,7 @@ fn part_of(record: &Record) -> InodePart
 }
 
 /// Puts the parts that the publishes of a commit have killed to the end, of those inodes that aren't retired yet.
-fn push_killed(
-    parts: &mut Vec<InodePart>,
-    slots: &Slots,
-    commit: &Commit,
-) -> Result<(), AllocError>
+fn push_killed(parts: &mut Vec<InodePart>, slots: &Slots, commit: &Commit) -> Result<(), AllocError>
     requires { commit.now.published ≤ length commit.now.plans }
     ensures { OnOk result (parts.new.items ≡ parts.old.items
         ++ killed_by_plans (slots_in slots.now) commit.now) }

@@ -21,7 +21,8 @@ loop-j-preserved c =
     let lt : j < length first = omega (arith, under, c.requires, length-take commit.published commit.plans) in
     let ino = c.slot_at-ino.ensures ∙ ap (slot_at (slots_in c.args.slots.now)) c.place_of.ensures in
     step (flat_map f) (λ x xs. f x) (λ x xs. flat_map-cons f x xs) first j plan lt
-    (get_or_default commit.plans j no_plan plan (omega (arith, under, c.requires)) ∙ sym (get_or-take commit.published commit.plans j plan under))
+    (get_or_default commit.plans j no_plan plan (omega (arith, under, c.requires))
+    ∙ sym (get_or-take commit.published commit.plans j plan under))
     c.loop-j.parts.items c.push_killed_of.new.parts.items _
     (c.in_ok-push_killed_of.ensures ∙ ap₂ (λ n ks. c.loop-j.parts.items ++ map (killed_part n) ks) ino c.killed_of.ensures)
     c.loop-j.invariant
