@@ -126,6 +126,14 @@ fn ids_in_order(rt: HostRuntime) {
 }
 
 fn are_in_order(rt: &impl Abort, earlier: EntryId, later: EntryId) {
-    same(rt, (earlier < later, earlier.is_before(later)), (true, true));
-    same(rt, (later.is_before(earlier), later.is_before(later)), (false, false));
+    same(
+        rt,
+        (earlier < later, earlier.is_before(later)),
+        (true, true),
+    );
+    same(
+        rt,
+        (later.is_before(earlier), later.is_before(later)),
+        (false, false),
+    );
 }
