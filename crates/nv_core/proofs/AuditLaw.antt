@@ -1,5 +1,5 @@
 -- Whatever events came from a new world on, each part is that of one scan of all logs, so that an audit finds nothing that differs.
-use Rattle.std.proofs.Common.{◌≡◌, ℕ, ◌<◌, ◌++◌, ◌∙◌, Bool, List, Some, ap, arith, flat_map, length, refl, slice_get, slice_index_or, subst, sym}
+use Rattle.std.proofs.Common.{◌≡◌, ℕ, ◌++◌, ◌∙◌, Bool, List, Some, ap, arith, flat_map, refl, slice_get, slice_index_or, subst, sym}
 use Rattle.std.specs.Prelude.{◌||◌}
 use Rattle.std.specs.List.{Contains}
 use Rattle.std.proofs.lemmas.List.{get_or_default}
@@ -9,7 +9,7 @@ use Rattle.nv_audit.specs.Lists.{blocks_of_cell}
 use Rattle.nv_audit.specs.Pending.{retention_by}
 use Rattle.nv_audit.specs.Whole.{Agrees, AreFromScratch, HasMarkedCells, HasRecords, IsMarkedCell}
 use Rattle.nv_audit.proofs.Devices.{marked_agree}
-use Rattle.nv_cell.specs.Cell.{CellState, log_of}
+use Rattle.nv_cell.specs.Cell.{log_of}
 use Rattle.nv_cell.specs.Marks.{is_there, mark_at}
 use Rattle.nv_entry.specs.Held.{is_needed, keeps}
 use Rattle.nv_entry.specs.Log.{pairs}

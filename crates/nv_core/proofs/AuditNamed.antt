@@ -1,12 +1,12 @@
 -- The parts that an audit is told to be in hands are those that calls of the machine have killed or picked.
-use Rattle.std.proofs.Common.{◌≡◌, ℕ, zero, suc, ◌<◌, ◌==◌, ◌&&◌, ◌++◌, ◌∙◌, Bool, true, false, List, [], ◌∷◌, Option, Some, None, ap, ap₂, drop, filter, flat_map, if◌then◌else◌, length, map, refl, sym, take}
+use Rattle.std.proofs.Common.{◌≡◌, ℕ, zero, suc, ◌<◌, ◌==◌, ◌&&◌, ◌∙◌, Bool, true, false, List, [], ◌∷◌, Option, Some, None, ap, ap₂, drop, filter, flat_map, if◌then◌else◌, length, map, refl, sym, take}
 use Rattle.std.specs.Prelude.{◌||◌, slice_index_or}
 use Rattle.std.specs.List.{AllByRecursion, list_any}
 use Rattle.std.proofs.lemmas.Bool.{eqb-true}
 use Rattle.std.proofs.lemmas.List.Folds.{list_any-append}
 use Rattle.nv_alloc.specs.Numbers.{IsRising, has}
 use Rattle.nv_alloc.proofs.Lists.{has-below}
-use Rattle.nv_audit.specs.Pending.{deferred_of, of_inode, part_of, pending_of}
+use Rattle.nv_audit.specs.Pending.{deferred_of, of_inode, pending_of}
 use Rattle.nv_audit.specs.Records.{inode_part}
 use Rattle.nv_audit.specs.declared.part_list.InodePart.{InodePart}
 use Rattle.nv_book.specs.declared.record.Record.{Record}

@@ -1,15 +1,14 @@
 -- What the code gathers of hands is what the machine's calls have in them, so that a world agrees and an audit tells no mismatch.
-use Rattle.std.proofs.Common.{◌≡◌, ℕ, zero, suc, ◌+◌, ◌<◌, ◌≤◌, ◌==◌, ◌&&◌, ◌⊎◌, inl, inr, ◌++◌, ◌∙◌, Bool, true, false, List, [], ◌∷◌, Option, Some, None, ap, ap₂, arith, drop, filter, flat_map, if◌then◌else◌, length, map, nat_lt, refl, slice_index_or, subst, sym, take}
+use Rattle.std.proofs.Common.{◌≡◌, ℕ, zero, suc, ◌<◌, ◌≤◌, ◌==◌, ◌&&◌, ◌⊎◌, inl, inr, ◌++◌, ◌∙◌, Bool, true, false, List, [], ◌∷◌, Option, Some, None, ap, ap₂, arith, drop, filter, flat_map, if◌then◌else◌, length, map, nat_lt, refl, slice_index_or, subst, sym, take}
 use Rattle.std.specs.Prelude.{IfErr, Result, Ok, Err, not}
 use Rattle.std.proofs.lemmas.Bool.{and_parts, eqb-true, ltb-false, ltb-true}
 use Rattle.std.proofs.lemmas.List.{take-map}
 use Rattle.nv_base.specs.Refusals.{FailsOnly}
 use Rattle.nv_base.specs.declared.fault.Fault.{Fault}
 use Rattle.nv_base.specs.declared.fault.Fault.TheVariants.{Mismatch, OutOfMemory}
-use Rattle.nv_base.specs.declared.fault.MismatchPart.{MismatchPart}
 use Rattle.nv_base.specs.declared.fault.MismatchPart.TheVariants.{Counts, Index, Lists, Names, Records}
 use Rattle.nv_audit.specs.Records.{inode_part, states_of}
-use Rattle.nv_audit.specs.Whole.{Agrees, Device, IsFirst, IsMismatch}
+use Rattle.nv_audit.specs.Whole.{Agrees, Device, IsMismatch}
 use Rattle.nv_audit.specs.declared.part_list.InodePart.{InodePart}
 use Rattle.nv_alloc.specs.FreeList.{FreeBlocks}
 use Rattle.nv_calls.specs.Commit.{CommitValue}
@@ -23,11 +22,11 @@ use Rattle.nv_machine.specs.Held.{killed_slots, picked_at}
 use Rattle.nv_machine.specs.Numbers.{held_by_actor, held_in}
 use Rattle.nv_machine.specs.Reads.{is_written, slot_at, written_slots}
 use Rattle.nv_machine.specs.World as machine
-use Rattle.nv_core.specs.Audited.{HasPlans, blocks_by, device_of, killed_by_plan, killed_by_plans, killed_part, parts_by, parts_by_actor, parts_by_call, parts_with, picked_by, slot_parts}
+use Rattle.nv_core.specs.Audited.{HasPlans, blocks_by, device_of, killed_by_plan, killed_by_plans, parts_by, parts_by_actor, parts_by_call, parts_with, picked_by, slot_parts}
 use Rattle.nv_core.specs.Rooms.{HasActorRooms}
-use Rattle.nv_core.specs.Shown.{commit_next, held_by, killed_in, machine_step, next_of, shared_of, slots_in}
+use Rattle.nv_core.specs.Shown.{commit_next, held_by, killed_in, machine_step, next_of, slots_in}
 use Rattle.nv_core.specs.Told.{IsOnItsWay}
-use Rattle.nv_core.specs.Worlds.{IsWorld, ShowsActor, ShowsRunning, WorldState}
+use Rattle.nv_core.specs.Worlds.{IsWorld, ShowsRunning, WorldState}
 use Rattle.nv_core.specs.declared.hold.Hold.{Hold}
 use Rattle.nv_core.specs.declared.hold.Hold.TheVariants as hold
 use Rattle.nv_core.specs.declared.next.Next.{Next}

@@ -5,7 +5,6 @@ use Rattle.nv_audit.specs.Records.{inode_part}
 use Rattle.nv_audit.specs.Whole.{Device}
 use Rattle.nv_audit.specs.declared.part_list.InodePart.{InodePart}
 use Rattle.nv_base.specs.declared.geometry.GeometryNumbers.{GeometryNumbers}
-use Rattle.nv_book.specs.declared.record.Record.{Record}
 use Rattle.nv_calls.specs.Commit.{CommitValue}
 use Rattle.nv_calls.specs.Ready.{CellPlanValue}
 use Rattle.nv_cell.specs.declared.killed.KilledPart.{KilledPart}

@@ -1,8 +1,7 @@
-use Rattle.std.proofs.Common.{◌≡◌, ◌<◌, ◌++◌, ◌∙◌, ap, ap₂, arith, length, length-take, map, refl, sym, take}
+use Rattle.std.proofs.Common.{◌<◌, ◌++◌, ◌∙◌, ap, ap₂, arith, length, length-take, map, sym, take}
 use Rattle.std.specs.List.{flat_map}
 use Rattle.std.proofs.lemmas.List.{get_or-take, get_or_default}
 use Rattle.std.proofs.lemmas.List.Concat.{flat_map-cons}
-use Rattle.nv_audit.specs.declared.part_list.InodePart.{InodePart}
 use Rattle.nv_audit.proofs.Pushing.{step}
 use Rattle.nv_calls.specs.Ready.{no_plan, plan_at}
 use Rattle.nv_machine.specs.Reads.{slot_at}
