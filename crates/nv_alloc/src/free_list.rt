@@ -57,7 +57,8 @@ impl FreeList {
             list.end ≡ home_start geometry.now.numbers.blocks geometry.now.numbers.cpus (cpu + 1)) }
         ensures size { IfOk result (λ list. list.size ≡ geometry.now.numbers.block) }
         ensures blocks { IfOk result (λ list.
-            list.blocks ≡ zero_blocks geometry.now.numbers.block list.start (list.end - list.start)) }
+            list.blocks
+            ≡ zero_blocks geometry.now.numbers.block list.start (list.end - list.start)) }
         ensures err { FailsOnly Fault.OutOfMemory result }
     {
         let start = geometry.home_start(cpu);

@@ -26,8 +26,10 @@ impl Hand {
 
     /// An empty hand, for blocks of a geometry's device.
     pub fn new(alloc: Global, geometry: &Geometry) -> Hand
-        ensures data { result.data ≡ record { blocks = []; size = geometry.now.numbers.block; room = 0 } }
-        ensures pages { result.pages ≡ record { blocks = []; size = geometry.now.numbers.block; room = 0 } }
+        ensures data { result.data
+            ≡ record { blocks = []; size = geometry.now.numbers.block; room = 0 } }
+        ensures pages { result.pages
+            ≡ record { blocks = []; size = geometry.now.numbers.block; room = 0 } }
         ensures chain { result.chain ≡ [] }
         ensures ino { result.ino ≡ None }
     {
@@ -43,7 +45,8 @@ impl Hand {
     /// Whether the hand holds no block and no inode number.
     pub fn is_empty(&self) -> bool
         ensures { result ≡ ((length self.now.data.blocks == 0)
-            && (length self.now.pages.blocks == 0) && (length self.now.chain == 0) && is_none self.now.ino) }
+            && (length self.now.pages.blocks == 0) && (length self.now.chain == 0)
+            && is_none self.now.ino) }
     {
         self.data.is_empty() && self.pages.is_empty() && self.chain.is_empty() && self.ino.is_none()
     }

@@ -35,7 +35,8 @@ impl InodePool {
     /// The pool with all numbers of a geometry's inodes: `OutOfMemory` where there is no room for them.
     pub fn new(alloc: Global, geometry: &Geometry) -> Result<InodePool, Fault>
         ensures inodes { IfOk result (λ pool. pool.inodes ≡ geometry.now.numbers.inodes) }
-        ensures numbers { IfOk result (λ pool. pool.numbers ≡ range_with_len 0 geometry.now.numbers.inodes) }
+        ensures numbers { IfOk result (λ pool. pool.numbers
+            ≡ range_with_len 0 geometry.now.numbers.inodes) }
         ensures err { FailsOnly Fault.OutOfMemory result }
     {
         let inodes = geometry.numbers.inodes;

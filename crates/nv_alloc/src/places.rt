@@ -110,7 +110,8 @@ fn fill_nodes(tree: &mut [usize], len: usize)
 /// Gives a node the lower of its children's places.
 fn fill_node(tree: &mut [usize], node: usize)
     requires { 2 * node + 1 < length tree.old }
-    ensures { tree.new ≡ slice_set tree.old node (min (slice_index tree.old (2 * node)) (slice_index tree.old (2 * node + 1))) }
+    ensures { tree.new ≡ slice_set tree.old node
+        (min (slice_index tree.old (2 * node)) (slice_index tree.old (2 * node + 1))) }
 {
     tree[node] = tree[2 * node].min(tree[2 * node + 1]);
 }

@@ -259,7 +259,8 @@ fn set_pages(pages: &mut FileIndex, first: u32, len: u32, entry: EntryId)
     requires within { AreWithin (ref_at pages.old.pages) }
     ensures pages { (page : ℕ) → ref_at pages.new.pages page
         ≡ (if nat_le first page && nat_lt page (first + len) && is_page page
-        then Some (record { entry = entry; place = page - first }) else ref_at pages.old.pages page) }
+        then Some (record { entry = entry; place = page - first })
+        else ref_at pages.old.pages page) }
     ensures room { pages.old.room ≤ pages.new.room + 2 }
     ensures within { AreWithin (ref_at pages.new.pages) }
 {

@@ -89,7 +89,8 @@ fn grow_log(
     entries: usize,
     parts: usize,
 ) -> Result<(), Fault>
-    requires pages { length chain.old.state.blocks + chain.old.spare ≤ vec_capacity marks.old.pages }
+    requires pages { length chain.old.state.blocks
+        + chain.old.spare ≤ vec_capacity marks.old.pages }
     ensures chain { chain.new.state ≡ chain.old.state }
     ensures spare { chain.old.spare ≤ chain.new.spare }
     ensures marks { HaveGrown marks.old marks.new }

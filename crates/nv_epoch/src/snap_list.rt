@@ -42,7 +42,8 @@ impl SnapList {
     pub fn new(alloc: Global, snaps: u64, first_epoch: Epoch) -> Result<SnapList, Fault>
         requires some_epoch { 1 ≤ first_epoch }
         requires epoch_fits { first_epoch ≤ NUMBER }
-        ensures ok { IfOk result (λ list. list ≡ record { living = []; epoch = first_epoch; most = snaps }) }
+        ensures ok { IfOk result (λ list. list
+            ≡ record { living = []; epoch = first_epoch; most = snaps }) }
         ensures err { IfErr result (λ fault. fault ≡ Fault.OutOfMemory) }
     {
         Ok(SnapList {
@@ -56,7 +57,8 @@ impl SnapList {
     ///
     /// Costs one write. `EpochLimit` where the epoch is 2^62, before `TooManySnapshots` where there is no room.
     pub fn make(&mut self) -> Result<Epoch, Fault>
-        ensures made { IsOk result ↔ ((self.old.epoch < NUMBER) × (length self.old.living < self.old.most)) }
+        ensures made { IsOk result ↔ ((self.old.epoch < NUMBER)
+            × (length self.old.living < self.old.most)) }
         ensures epoch_limit { (result ≡ Err Fault.EpochLimit) ↔ (self.old.epoch ≡ NUMBER) }
         ensures too_many { (result ≡ Err Fault.TooManySnapshots) ↔
             ((self.old.epoch < NUMBER) × (length self.old.living ≡ self.old.most)) }
@@ -84,7 +86,8 @@ impl SnapList {
     pub fn remove(&mut self, s: Epoch) -> Result<(), Fault>
         ensures removed { IsOk result ↔ (pins_of self.old s ≡ Some 0) }
         ensures no_snapshot { (result ≡ Err Fault.NoSnapshot) ↔ (pins_of self.old s ≡ None) }
-        ensures pinned { (result ≡ Err Fault.Pinned) ↔ IsSomeAnd (pins_of self.old s) (λ pins. 0 < pins) }
+        ensures pinned { (result ≡ Err Fault.Pinned)
+            ↔ IsSomeAnd (pins_of self.old s) (λ pins. 0 < pins) }
 
         ensures ok { OnOk result (self.new ≡ after_removal self.old s) }
         ensures numbers { OnOk result (ids self.new ≡ without s (ids self.old)) }

@@ -80,7 +80,8 @@ impl FileIndex {
     #[tactic(auto, using(crate::proofs::Refs::refs_within))]
     pub fn next_from(&self, page: u32) -> Option<(u32, PageRef)>
         ensures next { IsNextFrom page (ref_at self.now.pages) result }
-        ensures within { IfSome result (λ found. (found.0 < FILE_PAGES) × (found.1.place < FILE_PAGES)) }
+        ensures within { IfSome result (λ found. (found.0 < FILE_PAGES)
+            × (found.1.place < FILE_PAGES)) }
         ensures value { AreWithin (ref_at self.now.pages) }
     {
         runs::find_next(&self.runs, page)
@@ -144,7 +145,8 @@ impl FileIndex {
         requires room { 2 ≤ self.old.room }
         ensures pages { SetsRun first len entry (ref_at self.old.pages) (ref_at self.new.pages) }
         ensures runs { run_count_of self.new.pages ≤ run_count_of self.old.pages + 2 }
-        ensures room { self.new.room + run_count_of self.new.pages ≡ self.old.room + run_count_of self.old.pages }
+        ensures room { self.new.room + run_count_of self.new.pages
+            ≡ self.old.room + run_count_of self.old.pages }
     {
         let run = PageRun {
             first,
@@ -160,7 +162,8 @@ impl FileIndex {
     pub fn cut_from(&mut self, page: u32)
         ensures pages { CutsFrom page (ref_at self.old.pages) (ref_at self.new.pages) }
         ensures runs { run_count_of self.new.pages ≤ run_count_of self.old.pages }
-        ensures room { self.new.room + run_count_of self.new.pages ≡ self.old.room + run_count_of self.old.pages }
+        ensures room { self.new.room + run_count_of self.new.pages
+            ≡ self.old.room + run_count_of self.old.pages }
     {
         runs::cut(&mut self.runs, page);
     }

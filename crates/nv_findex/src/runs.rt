@@ -220,7 +220,8 @@ fn splice(runs: &mut Vec<PageRun>, from: usize, to: usize, put: &[PageRun])
     requires order { from ≤ to }
     requires within { to ≤ vec_len runs.old }
     requires room { vec_len runs.old + length put.now ≤ vec_capacity runs.old + (to - from) }
-    ensures items { runs.new.items ≡ take from runs.old.items ++ (put.now ++ drop to runs.old.items) }
+    ensures items { runs.new.items ≡ take from runs.old.items
+        ++ (put.now ++ drop to runs.old.items) }
     ensures len { vec_len runs.new + (to - from) ≡ vec_len runs.old + length put.now }
     ensures capacity { vec_capacity runs.new ≡ vec_capacity runs.old }
 {
@@ -248,7 +249,8 @@ fn put_joined(runs: &mut Vec<PageRun>, from: usize, to: usize, run: PageRun, nex
     requires order { from ≤ to + 1 }
     requires variant { is_some next ≡ nat_lt to (vec_len runs.old) }
     requires room { vec_len runs.old + 2 ≤ vec_capacity runs.old }
-    ensures items { runs.new.items ≡ take from runs.old.items ++ join run (option_to_list next ++ drop (to + 1) runs.old.items) }
+    ensures items { runs.new.items ≡ take from runs.old.items
+        ++ join run (option_to_list next ++ drop (to + 1) runs.old.items) }
     ensures len { vec_len runs.new ≤ vec_len runs.old + 2 }
     ensures capacity { vec_capacity runs.new ≡ vec_capacity runs.old }
 {

@@ -83,7 +83,8 @@ impl Journal {
     /// The old tail that was noted for the inode, if the journal is open and names it.
     pub fn tail_of(&self, ino: Ino) -> Option<u64>
         ensures value { result ≡ tail_noted self.now ino }
-        ensures noted { (tail : ℕ) → (result ≡ Some tail) ↔ Contains self.now (record { ino = ino; tail = tail }) }
+        ensures noted { (tail : ℕ) → (result ≡ Some tail)
+            ↔ Contains self.now (record { ino = ino; tail = tail }) }
     {
         self.pending().iter().find(|t| t.ino == ino).map(|t| t.tail)
     }

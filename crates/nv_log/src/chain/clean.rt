@@ -16,7 +16,8 @@ use std::mem;
 impl Chain {
     /// How many entries that count each page with entries has. The time is linear in the pages.
     pub fn log_counts(&self, alloc: Global) -> Result<Vec<usize>, AllocError>
-        ensures value { IfOk result (λ counts. counts.items ≡ map length (log_pages self.now.state)) }
+        ensures value { IfOk result (λ counts. counts.items
+            ≡ map length (log_pages self.now.state)) }
         ensures total { IfOk result (λ counts. sum counts.items ≡ length (log self.now.state)) }
         ensures each { IfOk result (λ counts. length counts.items ≡ length self.now.state.ends) }
         ensures pages { IfOk result (λ counts. pages_by counts.items (log self.now.state)
@@ -67,7 +68,8 @@ impl Chain {
     /// Leaves the entries of the pages that stay, by flags from page `first` on. All blocks stay, so that
     /// those behind the pages that have entries left are without.
     fn leave_pages(&mut self, first: usize, stays: &[bool])
-        ensures state { self.new.state ≡ with_entries_left (flags_from first stays.now) self.old.state }
+        ensures state { self.new.state
+            ≡ with_entries_left (flags_from first stays.now) self.old.state }
         ensures spare { self.new.spare ≡ self.old.spare }
         ensures was { IsChain self.old.state }
     {

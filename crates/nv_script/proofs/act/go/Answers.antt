@@ -11,7 +11,8 @@ returns-then-not-matches c =
     elim c.match-matches.branch [
       | in-Moved w ↦ absurd (true≢false (sym w.matches-is ∙ c.if-not-matches.true))
       | in_default w ↦ goes c.args.world.now c.loop-again.world c.loop-again._again c.args.more c.args.actor c.loop-again.reply
-          c.loop-again.auto._again-end (λ moved. absurd (w.in_default.not-Moved (moved_only c.loop-again.reply moved))) c.loop-again.invariant
+          c.loop-again.auto._again-end (λ moved. absurd (w.in_default.not-Moved
+          (moved_only c.loop-again.reply moved))) c.loop-again.invariant
     ]
 
 pub loop-again-preserved : goal.loop-again-preserved
