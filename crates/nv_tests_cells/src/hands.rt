@@ -85,10 +85,13 @@ fn take_blocks(rt: &impl Abort, list: &mut FreeList, queue: &mut BlockQueue, cou
 fn has_numbers(rt: &impl Abort, blocks: vec_deque::Iter<'_, Block>, want: &[u64]) {
     let mut left = blocks;
     for number in want {
-        let found = left.next().map(|block| block.number());
-        same(rt, found, Some(BlockNo::new(*number)));
+        same(rt, number_of(left.next()), Some(BlockNo::new(*number)));
     }
     same(rt, left.next().is_none(), true);
+}
+
+fn number_of(block: Option<&Block>) -> Option<BlockNo> {
+    Some(block?.number())
 }
 
 /// Asserts what a hand holds.
@@ -96,7 +99,11 @@ pub fn holds(rt: &impl Abort, hand: &Hand, want: &Held) {
     has_numbers(rt, hand.data.iter(), want.data);
     has_numbers(rt, hand.pages.iter(), want.pages);
     has_numbers(rt, hand.chain.iter(), want.chain);
-    same(rt, hand.ino(), want.ino.map(|ino| handle(ino).ino));
+    same(rt, hand.ino(), ino_of(want.ino));
+}
+
+fn ino_of(said: Option<u64>) -> Option<Ino> {
+    Some(handle(said?).ino)
 }
 
 /// Gives all blocks of a hand back, and says which inode's number it has.
