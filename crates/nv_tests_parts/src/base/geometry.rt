@@ -7,7 +7,7 @@ use std::process::Abort;
 use std::test::Fail;
 
 /// Numbers with the field that they are refused for.
-const CHECKS: [(Row, Option<GeometryField>); 27] = [
+const CHECKS: &[(Row, Option<GeometryField>)] = &[
     ([16, 2, 4, 4, 8, 4, 3], None),
     ([2, 1, 1, 2, 1, 1, 1], None),
     ([2, 2, 1, 2, 1, 1, 1], None),
@@ -52,13 +52,13 @@ fn is_checked(rt: &impl Abort, row: Row, bad: Option<GeometryField>) {
 
 #[test]
 fn takes_the_limits_and_names_the_first_bad_field(rt: HostRuntime) {
-    for (row, bad) in &CHECKS {
+    for (row, bad) in CHECKS {
         is_checked(&rt, *row, *bad);
     }
 }
 
 /// Numbers, where the home range of each CPU starts and the last ends, and the home of each block.
-const HOMES: [(Row, &[u64], &[u64]); 2] = [
+const HOMES: &[(Row, &[u64], &[u64])] = &[
     (
         [16, 2, 4, 4, 8, 4, 3],
         &[0, 8, 16],
@@ -72,23 +72,27 @@ const HOMES: [(Row, &[u64], &[u64]); 2] = [
     ),
 ];
 
+fn number_at(list: &[u64], place: u64) -> Option<u64> {
+    Some(*list.get(place as usize)?)
+}
+
 fn homes_start(rt: &impl Abort, g: &Geometry, starts: &[u64]) {
     for cpu in 0..g.numbers.cpus + 1 {
-        let start = starts.get(cpu as usize).copied();
+        let start = number_at(starts, cpu);
         same_for(rt, &cpu, Some(g.home_start(cpu)), start);
     }
 }
 
 fn homes_are(rt: &impl Abort, g: &Geometry, homes: &[u64]) {
     for number in 0..g.numbers.blocks {
-        let home = homes.get(number as usize).copied();
+        let home = number_at(homes, number);
         same_for(rt, &number, Some(g.home_of(BlockNo::new(number))), home);
     }
 }
 
 #[test]
 fn cuts_blocks_into_home_ranges(rt: HostRuntime) -> Result<(), Fail> {
-    for (row, starts, homes) in &HOMES {
+    for (row, starts, homes) in HOMES {
         let device = geometry(*row)?;
         homes_start(&rt, &device, starts);
         homes_are(&rt, &device, homes);

@@ -9,7 +9,7 @@ use std::alloc::Global;
 use std::process::Abort;
 
 /// Each fault with its text, those with fields once for each word.
-const TEXTS: [(Fault, &str); 54] = [
+const TEXTS: &[(Fault, &str)] = &[
     (Fault::OutOfMemory, "E1 OutOfMemory"),
     (Fault::BadGeometry(Field::Blocks), "E2 BadGeometry(blocks)"),
     (Fault::BadGeometry(Field::Cpus), "E2 BadGeometry(cpus)"),
@@ -117,7 +117,7 @@ fn is_shown(rt: &impl Abort, alloc: Global, fault: Fault, text: &str) {
 
 #[test]
 fn faults_are_shown_by_number_name_and_fields(rt: HostRuntime) {
-    for (fault, text) in &TEXTS {
+    for (fault, text) in TEXTS {
         is_shown(&rt, rt.alloc(), *fault, text);
     }
 }
