@@ -8,6 +8,7 @@ use Rattle.std.proofs.lemmas.Grind.{flat_map-append}
 use Rattle.std.proofs.lemmas.List.{append_assoc, get_or-map, get_or_default, get_or_past, length-append, length-map, take-append-drop}
 use Rattle.std.proofs.lemmas.Option.{slice_get-get_or, slice_get_within}
 use Rattle.nv_alloc.specs.Block.{BlockValue, number_of, numbers_of}
+use Rattle.nv_base.proofs.Places.{by_place}
 use Rattle.nv_entry.specs.Covered.{part_count, part_total}
 use Rattle.nv_entry.specs.Held.{Retention, keeps}
 use Rattle.nv_entry.specs.Keys.{parts_of}
@@ -27,16 +28,6 @@ use Rattle.nv_cell.proofs.PagesNow.{front_block}
 use Rattle.nv_audit.specs.Lists.{block_said, blocks_kept, blocks_said, had_of, blocks_had, kept_of, kept_pair, said_of, said_part, used_by}
 
 -- ---- lists by their places
-
-by_place : {X Y : Type 0} (f : X → List Y) (g : ℕ → List Y) (d : X) (xs : List X) (from : ℕ)
-    → ((i : ℕ) → i < length xs → f (slice_index_or xs i d) ≡ g (from + i))
-    → flat_map f xs ≡ flat_map g (range_with_len from (length xs))
-by_place f g d [] from same = refl
-by_place f g d (x ∷ xs) from same =
-    let here : from + 0 ≡ from = omega arith in
-    let later : (i : ℕ) → from + suc i ≡ from + 1 + i = λ i. omega arith in
-    ap (λ l. l ++ flat_map f xs) (same 0 (omega arith) ∙ ap g here)
-    ∙ ap (λ l. g from ++ l) (by_place f g d xs (from + 1) (λ i lt. same (suc i) (omega (arith, lt)) ∙ ap g (later i)))
 
 range_split : (from c t : ℕ) → range_with_len from (c + t) ≡ range_with_len from c ++ range_with_len (from + c) t
 range_split from zero t =

@@ -1,2 +1,3 @@
 pub mod HomeRanges
 pub mod Ids
+pub mod Places

@@ -13,11 +13,13 @@ pub mod Nodes
 pub mod Numbered
 pub mod PageBytes
 pub mod PartLists
+pub mod PartNames
 pub mod PartsSet
 pub mod Placed
 pub mod SameReads
 pub mod Refs
 pub mod Removal
+pub mod Settings
 pub mod SoundLogs
 pub mod Spans
 pub mod Steps

@@ -7,6 +7,7 @@ use Rattle.std.proofs.lemmas.Bool.{cases_lt}
 use Rattle.std.proofs.lemmas.List.{get_or_past}
 use Rattle.nv_alloc.specs.Block.{BlockValue, number_of, numbers_of}
 use Rattle.nv_alloc.specs.Numbers.{has, unused}
+use Rattle.nv_base.proofs.Places.{by_place}
 use Rattle.nv_base.specs.Homes.{home_start}
 use Rattle.nv_base.specs.Limits.{IsWithinLimits}
 use Rattle.nv_base.specs.declared.geometry.GeometryNumbers.{GeometryNumbers}
@@ -23,18 +24,6 @@ use Rattle.nv_machine.specs.World.{Event, World, cell_at, list_at, no_cell}
 use Rattle.nv_machine.proofs.FromScratch.{scanned}
 use Rattle.nv_machine.proofs.HeldMarks.{used_there}
 use Rattle.nv_machine.proofs.MarkedRuns.{all_parts}
-
--- a list that is gone over by its places
-by_place : {X : Type 0} (f : X → List ℕ) (g : ℕ → List ℕ) (d : X) (xs : List X) (from : ℕ)
-    → ((i : ℕ) → i < length xs → f (slice_index_or xs i d) ≡ g (from + i))
-    → flat_map f xs ≡ flat_map g (range_with_len from (length xs))
-by_place f g d [] from same = refl
-by_place f g d (x ∷ xs) from same =
-    let here : from + 0 ≡ from = omega arith in
-    let later : (i : ℕ) → from + suc i ≡ from + 1 + i = λ i. omega arith in
-    ap (λ (l : List ℕ). l ++ flat_map f xs) (same 0 (omega arith) ∙ ap g here)
-    ∙ ap (λ (l : List ℕ). g from ++ l)
-    (by_place f g d xs (from + 1) (λ i lt. same (suc i) (omega (arith, lt)) ∙ ap g (later i)))
 
 of_block : (o : Option BlockValue) → of_part o ≡ option_to_list (option_map number_of o)
 of_block None = refl

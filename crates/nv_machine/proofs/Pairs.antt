@@ -22,18 +22,11 @@ use Rattle.nv_entry.specs.declared.part.Part.{Part}
 use Rattle.nv_entry.specs.declared.part.Part.TheVariants as part
 use Rattle.nv_entry.specs.declared.part.PartId.{PartId}
 use Rattle.nv_entry.proofs.Currents.{uncovered_are_current}
+use Rattle.nv_entry.proofs.PartNames.{same_name_is}
 use Rattle.nv_entry.proofs.Values.{first_cover-append}
 use Rattle.nv_machine.proofs.Lists.{self}
 
 -- ---- names
-
-same_part_is : (a b : Part) → same_part a b ≡ true → a ≡ b
-same_part_is part.Kind part.Kind e = refl
-same_part_is part.Mode part.Mode e = refl
-same_part_is part.Size part.Size e = refl
-same_part_is part.Bound part.Bound e = refl
-same_part_is (part.Page p) (part.Page q) e = ap (λ (n : ℕ). part.Page n) (eqb-true p q e)
-same_part_is a b e = absurd (false≢true e)
 
 own_part : (a : Part) → same_part a a ≡ true
 own_part part.Kind = refl
@@ -53,10 +46,7 @@ own_name pair =
     (own_part pair.part)
 
 pub name_is : (pair : Pair) (id : PartId) → has_name pair id ≡ true → id ≡ pair_name pair
-name_is pair id e =
-    let both = and_parts (is_same_id id.entry pair.entry) (same_part id.part pair.part) e in
-    ap₂ (λ (entry : EntryId) (p : Part). let x : PartId = record { entry = entry; part = p } in x)
-    ((ordered.same id.entry pair.entry).0 both.0) (same_part_is id.part pair.part both.1)
+name_is pair id e = same_name_is id (pair_name pair) e
 
 -- ---- the pair of a number
 
