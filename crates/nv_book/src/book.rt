@@ -315,7 +315,8 @@ impl Book {
 
     /// How many blocks the deferred records have. It takes time by their runs.
     pub fn deferred_blocks(&self) -> u64
-        ensures { result ≡ block_count self.now.state.deferred }
+        ensures value { result ≡ block_count self.now.state.deferred }
+        ensures few { result ≤ NUMBER }
     {
         self.store.deferred_blocks()
     }

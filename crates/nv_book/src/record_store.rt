@@ -1,6 +1,7 @@
 //! The records that a book has, by manifests, and the room for more.
 
 ghost use Rattle.std.specs.Prelude.{◌≡◌, ◌+◌, ◌-◌, ◌<◌, ◌≤◌, [], ◌∷◌, ◌++◌, drop, length, slice_get, slice_index, IfErr, IfOk, OnErr, OnOk, Some, None};
+ghost use Rattle.nv_base.specs.declared.limits.TheConstants.{NUMBER};
 ghost use Rattle.nv_base.specs.Refusals.{FailsOnly};
 ghost use Rattle.nv_epoch.specs.Holders.{IsRising};
 ghost use Rattle.nv_book.specs.Manifests.{snapshots, records_at, put_to, after_drop, after_make, runs_of, held_of, gain_of};
@@ -184,7 +185,8 @@ impl RecordStore {
 
     /// How many blocks the deferred records have. It takes time by their runs.
     pub fn deferred_blocks(&self) -> u64
-        ensures { result ≡ block_count self.now.deferred }
+        ensures value { result ≡ block_count self.now.deferred }
+        ensures few { result ≤ NUMBER }
     {
         self.deferred.blocks()
     }

@@ -185,6 +185,16 @@ module _ (block : ℕ) (plain others : Handle → Option PlainNode) (taken : Tak
         handles = refl;
         wanted = refl;
       }
+  call_same (call.Snapshots c) h = record {
+    found = refl;
+    early = refl;
+    refusal = refl;
+    effect = refl;
+    plan = refl;
+    answer = refl;
+    handles = refl;
+    wanted = refl;
+  }
   call_same (call.Lookup dir name) h =
       let e = same_node dir h.0 in
       record {

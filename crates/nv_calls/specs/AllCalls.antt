@@ -1,4 +1,4 @@
--- The file calls of the plain world, by the step that decides: what its looks find, refusal at the check, effect at the
+-- The calls of the plain world on files and directories, by the step that decides: what its looks find, refusal at the check, effect at the
 -- commit, and answer; and the plan of each. No changes: no commit.
 use Rattle.std.specs.Prelude.{◌≡◌, ℕ, ◌/◌, ◌<◌, ◌&&◌, nat_lt, Bool, true, false, List, [], ◌∷◌, length, Option, None, is_some}
 use Rattle.nv_base.specs.declared.limits.TheConstants.{FILE_PAGES}
@@ -66,6 +66,7 @@ late block nodes looked (call.Mode handle mode) = mode_refusal nodes handle
 late block nodes looked (call.Stat handle) = stat_refusal nodes handle
 late block nodes looked (call.List dir) = list_refusal nodes dir
 late block nodes looked (call.Lookup dir name) = lookup_refusal nodes dir name
+late block nodes looked (call.Snapshots c) = passes
 late block nodes looked (call.Unlink dir name) = unlink_late nodes looked.first
 late block nodes looked (call.Rmdir dir name) = rmdir_late nodes looked.first
 late block nodes looked (call.Rename from old to new) = rename_late nodes from old to new looked

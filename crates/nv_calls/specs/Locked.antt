@@ -34,6 +34,7 @@ handles looked (call.Mode handle mode) = handle ∷ []
 handles looked (call.Stat handle) = handle ∷ []
 handles looked (call.List dir) = dir ∷ []
 handles looked (call.Lookup dir name) = dir ∷ []
+handles looked (call.Snapshots c) = []
 handles looked (call.Unlink dir name) = dir ∷ if_any looked.first
 handles looked (call.Rmdir dir name) = dir ∷ if_any looked.first
 handles looked (call.Rename from old to new) = from ∷ to ∷ if_any looked.first ++ if_any looked.second

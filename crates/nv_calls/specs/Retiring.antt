@@ -1,4 +1,4 @@
--- What becomes of the parts that a commit killed: a snapshot keeps a part, or its block is free.
+-- What becomes of the parts that a commit killed: a snapshot keeps a part, until its record is released, or its block is free.
 use Rattle.std.specs.Prelude.{ℕ, ◌+◌, ◌-◌, ◌&&◌, Bool, if◌then◌else◌, nat_le, List, [], ◌∷◌, ◌++◌, Option, Some, None, length, option_to_list, slice_index_or}
 use Rattle.std.specs.List.{flat_map}
 use Rattle.nv_alloc.specs.Block.{BlockValue}
@@ -62,6 +62,19 @@ abbrev pub with_records : List ℕ → ℕ → ℕ → List KilledPart → List 
 with_records living ino epoch [] manifests = manifests
 with_records living ino epoch (killed ∷ later) manifests =
     with_records living ino epoch later (put_to (keeper_of living ino epoch killed) (record_of ino epoch killed ∷ []) manifests)
+
+-- ---- releasing
+
+-- a record's part
+abbrev pub name_of : Record → PartId
+name_of d = record { entry = d.entry; part = d.part }
+
+-- the cell once a record's part goes out, and the block that this sets free
+abbrev pub released : Record → CellState → CellState
+released d cell = settled None (number_in cell (name_of d)) cell
+
+abbrev pub released_blocks : Record → CellState → List BlockValue
+released_blocks d cell = freed None (number_in cell (name_of d)) cell
 
 -- ---- erasing
 

@@ -1,14 +1,14 @@
 //! What calls are answered.
 
-use nv_base::{Bytes, CommitNo, Handle, Kind, Mode};
-use nv_entry::NameList;
+use nv_base::{Bytes, CommitNo, Epoch, Handle, Kind, Mode};
+use nv_entry::{NameList, Tree};
 
 /// What a call is answered.
 #[derive(Debug, Drop)]
 pub enum Answer {
     /// The new inode, or the one that a name is bound to.
     Made(Handle),
-    /// How many bytes were written.
+    /// How many bytes were written, or how many records released.
     Count(u64),
     Nothing,
     Bytes(Bytes),
@@ -20,4 +20,8 @@ pub enum Answer {
         commit: CommitNo,
     },
     Names(NameList),
+    /// The snapshot that was made.
+    Snapshot(Epoch),
+    /// The tree of a snapshot.
+    Tree(Tree),
 }

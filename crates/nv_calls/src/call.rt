@@ -1,8 +1,9 @@
-//! The file calls.
+//! The calls.
 
+use crate::SnapshotCall;
 use nv_base::{Bytes, Handle, Mode};
 
-/// A call on files and directories. Names and texts are plain bytes: a name may be unlawful, and is
+/// A call, on files and directories or on snapshots. Names and texts are plain bytes: a name may be unlawful, and is
 /// refused then.
 #[derive(Debug, Drop)]
 pub enum Call {
@@ -71,4 +72,5 @@ pub enum Call {
         to: Handle,
         new: Bytes,
     },
+    Snapshots(SnapshotCall),
 }

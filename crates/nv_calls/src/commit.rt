@@ -121,7 +121,7 @@ impl Commit {
     }
 
     /// The place of a planned cell among the call's cells.
-    pub(crate) fn place_of(&self, j: usize) -> usize
+    pub fn place_of(&self, j: usize) -> usize
         requires { j < length self.now.plans }
         ensures { result ≡ (plan_at self.now.plans j).at }
     {

@@ -88,10 +88,11 @@ kept_at item m (x ∷ es) = go (keeps_name item x) refl (covers 1 item (NameKey 
   ]))
 
 -- what an entry leaves of a name's binding
-abbrev bound_after : EntryId → Item → List ℕ → Option Binding → Option Binding
+abbrev pub bound_after : EntryId → Item → List ℕ → Option Binding → Option Binding
 bound_after id item m before = option_or (cond (covers 1 item (NameKey m)) None before) (binding_of m (bound_by id item))
 
-after_push : (log : List Entry) (e : Entry) (m : List ℕ)
+-- one more entry leaves of each name the binding that it says
+pub after_push : (log : List Entry) (e : Entry) (m : List ℕ)
     → binding_of m (bindings_of (log ++ e ∷ [])) ≡ bound_after e.id e.item m (binding_of m (bindings_of log))
 after_push log e m =
     ap (λ (es : List Entry). binding_of m (all_of es)) (one_more_ref 1 log e).binders

@@ -11,6 +11,7 @@ mod index;
 mod killed;
 mod kills;
 pub mod laws;
+mod lends;
 mod mark;
 mod marks;
 mod may_go;

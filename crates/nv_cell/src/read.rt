@@ -72,7 +72,15 @@ impl InodeCell {
         // Ids rise along all entries, so that the one of an id stands in the log.
         let _ends = self.chain.ends();
         let page = u64::from(page);
-        let stretch = stretch_from(self.block, &self.index, &self.chain, &self.marks, page);
+        let mut place = 0;
+        let stretch = stretch_from(
+            self.block,
+            &self.index,
+            &self.chain,
+            &self.marks,
+            page,
+            &mut place,
+        );
         block_in(&self.blocks, stretch, page)
     }
 }
@@ -105,9 +113,10 @@ fn read_pages(
         end: 0,
         number: 0,
     };
+    let mut place = 0;
     for page in start / block..end.div_ceil(block) {
         if stretch.end <= page {
-            stretch = stretch_from(block, index, chain, marks, page);
+            stretch = stretch_from(block, index, chain, marks, page, &mut place);
         }
         let base = page * block;
         push_part(
@@ -120,8 +129,16 @@ fn read_pages(
     Ok(())
 }
 
-/// The stretch that has a page, or the first one behind it.
-fn stretch_from(block: u64, index: &CellIndex, chain: &Chain, marks: &Marks, page: u64) -> Stretch
+/// The stretch that has a page, or the first one behind it. Its run is looked for at a place first, which becomes the place
+/// behind it.
+fn stretch_from(
+    block: u64,
+    index: &CellIndex,
+    chain: &Chain,
+    marks: &Marks,
+    page: u64,
+    place: &mut usize,
+) -> Stretch
     requires block { 0 < block }
     requires page { page + 1 < 2 ^ 64 }
     requires index { IsIndexOf block (log chain.now.state) index.now }
@@ -134,7 +151,7 @@ fn stretch_from(block: u64, index: &CellIndex, chain: &Chain, marks: &Marks, pag
     let _ends = chain.ends();
     // No page of a file is present from the greatest file's end on.
     let from = page.min(u64::from(FILE_PAGES)) as u32;
-    match index.pages.run_from(from) {
+    match index.pages.run_near(from, place) {
         None => no_stretch(),
         Some(run) => stretch_of(chain, marks, &run),
     }

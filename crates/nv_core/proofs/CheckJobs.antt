@@ -1,6 +1,6 @@
 -- What the check of a job comes to, over its lent cells as in the machine.
 use Rattle.std.proofs.Common.{◌≡◌, ℕ, ◌<◌, ◌≤◌, ◌⊎◌, inl, inr, ◌||◌, ◌∙◌, not, Bool, true, false, cond, List, [], length, Option, Some, None, arith, refl, ap, sym, subst}
-use Rattle.std.specs.Prelude.{is_some, unwrap_or}
+use Rattle.std.specs.Prelude.{is_some, unwrap_or, Ok, Err}
 use Rattle.std.specs.Option.{ForSome}
 use Rattle.nv_alloc.specs.declared.hand.Hand.{Hand}
 use Rattle.std.proofs.lemmas.List.{length-map}
@@ -26,11 +26,14 @@ use Rattle.nv_machine.specs.World as machine
 use Rattle.nv_core.proofs.PassesSome.{some_cell}
 use Rattle.nv_core.proofs.Checks.{ends_same, few_wanted, overtaken_looks, passes_over, wanted_same}
 use Rattle.nv_core.proofs.Nodes.{cell_is, lent_has, lent_of}
-use Rattle.nv_core.specs.Nodes.{CanRead, ends_over}
-use Rattle.nv_core.specs.Rooms.{HasMade, IsChecked, IsNoVisit, LooksAsTold, WantsBlocks, blocks_to_take}
-use Rattle.nv_core.specs.Shown.{shared_of, slots_in}
+use Rattle.nv_core.specs.Nodes.{CanRead, check_ends, ends_over}
+use Rattle.nv_core.specs.Rooms.{CanDrain, HasMade, IsChecked, IsNoVisit, LooksAsTold, WantsBlocks, blocks_to_take}
+use Rattle.nv_core.specs.Shown.{ending_of, shared_of, slots_in}
 use Rattle.nv_core.specs.Steps.{CanBeChecked}
 use Rattle.nv_core.specs.Told.{IsChangeWith, IsJobOf, IsLookAt, IsOwed, is_change}
+use Rattle.nv_calls.specs.Refusals.{Check}
+use Rattle.nv_core.specs.declared.next.Ending.{Ending as Ended}
+use Rattle.nv_core.specs.declared.next.Ending.TheVariants as ending
 use Rattle.nv_core.specs.declared.job.Job.{Job}
 use Rattle.nv_core.specs.declared.job.Job.TheVariants as job
 use Rattle.nv_core.specs.declared.job.Owed.{Owed}
@@ -63,6 +66,7 @@ ending_told shared slots before number made (job.Change plan text) owed c found 
       n : Handle → Option NodeCopy
       n = copies (shared_of shared)
 ending_told shared slots before number made (job.Visit visit) owed c found change is can ends = cc
+ending_told shared slots before number made (job.Snapshots on) owed c found change is can ends = cc
 ending_told shared slots before number made job.Given owed c found change is can ends = cc
 
 -- and so many blocks are wanted
@@ -79,6 +83,7 @@ wanted_by_job shared slots before number wanted (job.Change plan text) owed c ch
     ∙ wanted_same shared slots plan.update text before can is.1 passed.same passed.passed
     ∙ sym over
 wanted_by_job shared slots before number wanted (job.Visit visit) owed c change is can ends over = cc
+wanted_by_job shared slots before number wanted (job.Snapshots on) owed c change is can ends over = cc
 wanted_by_job shared slots before number wanted job.Given owed c change is can ends over = cc
 
 -- which are no more than a file has pages
@@ -91,6 +96,7 @@ few_by_job shared slots before numbered wanted (job.Change plan text) some chang
     let passed = passes_over block o before numbered plan.update (sym ends) in
     subst (λ (k : ℕ). k ≤ 65536) (sym over) (few_wanted block o _ (blank_call plan.update) some passed.passed)
 few_by_job shared slots before numbered wanted (job.Visit visit) some change ends over = cc
+few_by_job shared slots before numbered wanted (job.Snapshots on) some change ends over = cc
 few_by_job shared slots before numbered wanted job.Given some change ends over = cc
 
 -- a call can be overtaken where it looks names up
@@ -100,17 +106,20 @@ overtaken_by_job shared slots before numbered (job.Change plan text) change look
     overtaken_looks shared.geometry.numbers.block (nodes_in (lent_cells slots shared.cells.items)) before numbered plan.update looks
     (sym ends)
 overtaken_by_job shared slots before numbered (job.Visit visit) change looks ends = cc
+overtaken_by_job shared slots before numbered (job.Snapshots on) change looks ends = cc
 overtaken_by_job shared slots before numbered job.Given change looks ends = cc
 
 -- whose answer is owed
 pub owed_by : (j : Job) (owed : Owed) (c : Call) → is_change j ≡ true → IsJobOf j owed c → IsOwed owed c
 owed_by (job.Change plan text) owed c change is = is.2
 owed_by (job.Visit visit) owed c change is = cc
+owed_by (job.Snapshots on) owed c change is = cc
 owed_by job.Given owed c change is = cc
 
 pub no_visit : (j : Job) → is_change j ≡ true → IsNoVisit j
 no_visit (job.Change plan text) change = tt
 no_visit (job.Visit visit) change = cc
+no_visit (job.Snapshots on) change = cc
 no_visit job.Given change = tt
 
 -- ---- a call that has passed
@@ -196,4 +205,26 @@ wants_by_job shared hand new running wanted cells can change number chain ends o
             over,
           )
       go (job.Visit visit) read has change ends over = cc
+      go (job.Snapshots on) read has change ends over = cc
       go job.Given read has change ends over = cc
+
+-- a check makes no drain go on
+plain_end : (early : Check) (same : Bool) (tests : Check) (numbered nothing : Bool) (how : Ended) (j : Job) (hand : Hand)
+    → check_ends early same tests numbered nothing ≡ Some (ending_of how) → CanDrain how j hand
+plain_end early same tests numbered nothing ending.Answers j hand is = tt
+plain_end early same tests numbered nothing (ending.Refuses fault) j hand is = tt
+plain_end early same tests numbered nothing ending.Overtaken j hand is = tt
+plain_end (Err fault) same tests numbered nothing (ending.Drains draining) j hand is = cc
+plain_end (Ok passed) false tests numbered nothing (ending.Drains draining) j hand is = cc
+plain_end (Ok passed) true (Err fault) numbered nothing (ending.Drains draining) j hand is = cc
+plain_end (Ok passed) true (Ok all) false nothing (ending.Drains draining) j hand is = cc
+plain_end (Ok passed) true (Ok all) true true (ending.Drains draining) j hand is = cc
+plain_end (Ok passed) true (Ok all) true false (ending.Drains draining) j hand is = cc
+
+pub drains_by_job : (shared : Shared) (slots : List ℕ) (before : Looked) (numbered : Bool) (j any : Job) (how : Ended) (hand : Hand)
+    → is_change j ≡ true → IsChangeWith (Ends shared slots before numbered (Some (ending_of how))) j → CanDrain how any hand
+drains_by_job shared slots before numbered (job.Change plan text) any how hand change ends =
+    plain_end _ _ _ _ _ how any hand (sym ends)
+drains_by_job shared slots before numbered (job.Visit visit) any how hand change ends = cc
+drains_by_job shared slots before numbered (job.Snapshots on) any how hand change ends = cc
+drains_by_job shared slots before numbered job.Given any how hand change ends = cc

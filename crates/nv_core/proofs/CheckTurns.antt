@@ -16,16 +16,17 @@ use Rattle.nv_machine.specs.Reads.{copies, has_last_page, pages_wanted, plan_by}
 use Rattle.nv_machine.specs.Step.{ending_at, made_in, with_made}
 use Rattle.nv_machine.specs.World.{HandState}
 use Rattle.nv_machine.specs.World as machine
-use Rattle.nv_core.proofs.CheckJobs.{Ends, ending_told, few_by_job, no_visit, overtaken_by_job, owed_by, wanted_by_job, wants_by_job}
+use Rattle.nv_core.proofs.CheckJobs.{Ends, drains_by_job, ending_told, few_by_job, no_visit, overtaken_by_job, owed_by, wanted_by_job, wants_by_job}
 use Rattle.nv_core.proofs.Takes.{is_changed, over_all}
 use Rattle.nv_core.specs.Parts.{AreHome}
-use Rattle.nv_core.specs.Rooms.{CanEnd, CanWantPages, FitsCall, HasItsBlocks, HasMade, HasRooms, IsChecked, IsHandOf, TakesBlocks, WantsBlocks, blocks_to_take}
+use Rattle.nv_core.specs.Rooms.{CanDrain, CanEnd, CanWantPages, FitsCall, HasItsBlocks, HasMade, HasRooms, IsChecked, IsHandOf, TakesBlocks, WantsBlocks, blocks_to_take}
 use Rattle.nv_core.specs.Shown.{Told, ending_of, hand_of, shared_of, shown, slots_in}
 use Rattle.nv_core.specs.Steps.{CanBeChecked}
 use Rattle.nv_core.specs.Told.{IsChangeWith, IsOwed, IsToldOf, OwesAt, is_change}
 use Rattle.nv_core.specs.declared.hold.Hold.TheVariants as hold
 use Rattle.nv_core.specs.declared.next.Ending.{Ending as Ended}
 use Rattle.nv_core.specs.declared.next.Next.TheVariants as next
+use Rattle.nv_core.specs.declared.job.Job.{Job}
 use Rattle.nv_core.specs.declared.running.Running.{Running}
 use Rattle.nv_core.specs.declared.shared.Shared.{Shared}
 
@@ -93,6 +94,7 @@ takes_blocks shared hand running wanted limits home sized call empty room pages 
           },
         ),
       )) has,
+  tt,
 ) where
   none : (hand.«data».blocks ≡ []) × ((hand.pages.blocks ≡ []) × (hand.chain ≡ []))
   none = none_in hand.«data».blocks hand.pages.blocks hand.chain empty
@@ -156,6 +158,12 @@ module _ (shared : Shared) (hand : Hand) (running now : Running) (numbered : Boo
             (subst (λ (x : Option Ended). EndsAs shared running (is_some hand.ino) (option_map ending_of x))
             (some ∙ ap Some over) own_ends);
       })
+
+  -- and it makes no drain go on
+  pub drains : (how : Ended) (any : Job) (h : Hand) → found ≡ Some how → CanDrain how any h
+  drains how any h some =
+      drains_by_job shared own_slots running.looked (is_some hand.ino) running.job any how h change
+      (subst (λ (x : Option Ended). EndsAs shared running (is_some hand.ino) (option_map ending_of x)) some own_ends)
 
   pub few : (new : Shared) (wanted : ℕ) → new ≡ shared → 0 < size → found ≡ None → WantsAs new now wanted → wanted ≤ 65536
   few new wanted same some none wants =

@@ -4,8 +4,8 @@ use Rattle.nv_base.specs.declared.geometry.GeometryNumbers.{GeometryNumbers}
 use Rattle.nv_calls.specs.declared.call.Call.{Call}
 use Rattle.nv_machine.specs.Format.{formatted}
 use Rattle.nv_machine.specs.Step.{after, go_step, start_step, step, turn, turned}
-use Rattle.nv_machine.specs.World.{Append, Back, Check, Close, Ends, Enter, Event, Give, Go, HandState, Leave, Lock, Look, Moves, Next, Number, Open, Publish, Ready, Retire, Running, Shared, Start, TakeBlocks, TakePages, Turn, Unlock, Visit, Waits, World, actor_at}
-use Rattle.nv_machine.proofs.Kept.{AfterTurn, back_deed, deed, number_deed, turn_keeps}
+use Rattle.nv_machine.specs.World.{Append, Back, Check, Close, Drop, Ends, Enter, Event, Give, Go, HandState, Leave, Lock, LockPicked, Look, Make, Moves, Next, Number, Open, Pick, Pin, Publish, Ready, Release, Retire, Running, Shared, Show, SnapshotStep, Snapshots, Start, TakeBlocks, TakePages, Turn, Unlock, Unpin, Visit, Waits, World, actor_at}
+use Rattle.nv_machine.proofs.Kept.{AfterTurn, back_deed, deed, number_deed, snapshot_deed, turn_keeps}
 use Rattle.std.proofs.lemmas.List.{length-replicate}
 
 -- a world is of these numbers of inodes and actors
@@ -22,6 +22,17 @@ number_pool (ino ∷ numbers) s h = refl
 back_pool : (number : Option ℕ) (s : Shared) (h : HandState) → (back_deed number s h).shared.pool.inodes ≡ s.pool.inodes
 back_pool None s h = refl
 back_pool (Some ino) s h = refl
+
+snapshot_pool : (step : SnapshotStep) (actor : ℕ) (s : Shared) (h : HandState)
+    → (snapshot_deed step actor s h).shared.pool.inodes ≡ s.pool.inodes
+snapshot_pool Make actor s h = refl
+snapshot_pool (Drop snapshot) actor s h = refl
+snapshot_pool (Pin snapshot) actor s h = refl
+snapshot_pool (Show snapshot showing) actor s h = refl
+snapshot_pool (Unpin snapshot seen) actor s h = refl
+snapshot_pool (Pick draining) actor s h = refl
+snapshot_pool (LockPicked draining picked) actor s h = refl
+snapshot_pool (Release draining picked) actor s h = refl
 
 deed_pool : (k : Next) (block actor : ℕ) (s : Shared) (h : HandState) (r : Running)
     → (deed k block actor s h r).shared.pool.inodes ≡ s.pool.inodes
@@ -43,6 +54,7 @@ deed_pool (Unlock place) block actor s h r = refl
 deed_pool (Give cpu) block actor s h r = refl
 deed_pool Back block actor s h r = back_pool h.ino s h
 deed_pool Visit block actor s h r = refl
+deed_pool (Snapshots step) block actor s h r = snapshot_pool step actor s h
 
 -- ---- events
 

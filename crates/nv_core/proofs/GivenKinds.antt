@@ -1,5 +1,6 @@
 -- What the laws of the machine give the next step of a call that has its hand alone.
-use Rattle.std.proofs.Common.{◌≡◌, ◌⊎◌, ℕ, ◌<◌, ◌∙◌, Bool, true, false, List, Option, Some, None, ap, arith, inl, inr, length, refl, subst, sym}
+use Rattle.std.proofs.Common.{◌≡◌, ◌⊎◌, ℕ, ◌<◌, ◌∙◌, Bool, true, false, List, [], ◌∷◌, Option, Some, None, ap, arith, inl, inr, length, refl, subst, sym}
+use Rattle.std.specs.List.{AllByRecursion}
 use Rattle.nv_alloc.specs.declared.hand.Hand.{Hand}
 use Rattle.nv_base.specs.declared.geometry.GeometryNumbers.{GeometryNumbers}
 use Rattle.nv_base.specs.declared.numbers.Handle.{Handle}
@@ -19,8 +20,9 @@ use Rattle.nv_machine.specs.Sequence.{beginning}
 use Rattle.nv_machine.specs.World as machine
 use Rattle.nv_core.specs.Nodes.{CanRead, HoldHandles}
 use Rattle.nv_core.specs.Rooms.{FitsNext}
-use Rattle.nv_core.specs.Shown.{Told, ending_of, hand_of, next_of, shared_of, shown, slots_in}
-use Rattle.nv_core.specs.Steps.{CanBeChecked, Given}
+use Rattle.nv_book.specs.declared.record.Record.{Record}
+use Rattle.nv_core.specs.Shown.{Told, draining_of, ending_of, hand_of, next_of, shared_of, showing_of, shown, slots_in}
+use Rattle.nv_core.specs.Steps.{CanBeChecked, Given, GivenOn}
 use Rattle.nv_core.specs.Told.{IsChangeWith, IsJobOf, IsToldOf, is_change}
 use Rattle.nv_core.specs.declared.job.Job.{Job}
 use Rattle.nv_core.specs.declared.job.Job.TheVariants as job
@@ -29,6 +31,8 @@ use Rattle.nv_core.specs.declared.next.Ending.{Ending}
 use Rattle.nv_core.specs.declared.next.Ending.TheVariants as ending
 use Rattle.nv_core.specs.declared.next.Next.{Next}
 use Rattle.nv_core.specs.declared.next.Next.TheVariants as next
+use Rattle.nv_core.specs.declared.next.SnapshotStep.{SnapshotStep}
+use Rattle.nv_core.specs.declared.next.SnapshotStep.TheVariants as on
 use Rattle.nv_core.specs.declared.running.Running.{Running}
 use Rattle.nv_core.specs.declared.shared.Shared.{Shared}
 use Rattle.nv_core.proofs.GivenCells.{all_lent, given_bytes, given_empty, given_own, given_still, many_cells}
@@ -40,6 +44,7 @@ answers_only : (how : Ending) → ending_of how ≡ machine.Answers → how ≡ 
 answers_only ending.Answers e = refl
 answers_only (ending.Refuses fault) e = cc
 answers_only ending.Overtaken e = cc
+answers_only (ending.Drains draining) e = cc
 
 -- ---- the call of a job
 
@@ -48,6 +53,7 @@ by_job : (P : Update → Type 0) (j : Job) (owed : Owed) (c : Call) → is_chang
     → ((u : Update) (text : List ℕ) → c ≡ call_of u text → P u) → IsChangeWith P j
 by_job P (job.Change plan text) owed c e is from = from plan.update text is.0
 by_job P (job.Visit visit) owed c e is from = cc
+by_job P (job.Snapshots on) owed c e is from = cc
 by_job P job.Given owed c e is from = cc
 
 -- a call with any text makes an inode or not
@@ -122,6 +128,36 @@ module _ (shared : Shared) (actor : ℕ) (told : Told) (hand : Hand) (running : 
           running.job running.owed told.call change is check_number;
     }
 
+  -- ---- calls on snapshots
+
+  -- the inode of a picked record has a slot
+  picked_slot : (picked : Record) → slots ≡ picked.ino ∷ [] → picked.ino < length shared.cells.items
+  picked_slot picked is =
+      let inside = (subst (λ (xs : List ℕ). AllByRecursion (λ n. n < length (shared_of shared).cells) xs) is given.slots.inside).0 in
+      omega (arith, inside, many_cells shared)
+
+  on_snapshots : (step : SnapshotStep) → running.next ≡ next.Snapshots step → GivenOn step shared
+  on_snapshots on.Make e = tt
+  on_snapshots (on.Drop snapshot) e = tt
+  on_snapshots (on.Pin snapshot) e = given.snapshots (machine.Pin snapshot) (ap next_of e)
+  on_snapshots (on.Show snapshot showing) e =
+      record { own = given_bytes shared given.apart; pages = given.snapshots (machine.Show snapshot (showing_of showing)) (ap next_of e) }
+  on_snapshots (on.Unpin snapshot seen) e = given.snapshots (machine.Unpin snapshot seen.items) (ap next_of e)
+  on_snapshots (on.Pick draining) e = tt
+  on_snapshots (on.LockPicked draining picked) e =
+      let slot = picked_slot picked (inside (next.Snapshots (on.LockPicked draining picked)) e) in
+      omega (arith, slot, given.wide, many_cells shared)
+  on_snapshots (on.Release draining picked) e =
+      let has_it = given.snapshots (machine.Release (draining_of draining) picked) (ap next_of e) in
+      record {
+        slot = picked_slot picked (inside (next.Snapshots (on.Release draining picked)) e);
+        kept = has_it.kept;
+        still = has_it.still;
+        chain = has_it.chain;
+        parts = has_it.parts;
+        generation = has_it.generation;
+      }
+
   -- ---- all kinds
 
   pub given_kind : (n : Next) → running.next ≡ n → FitsNext n running.job → Given n shared hand running
@@ -143,3 +179,4 @@ module _ (shared : Shared) (actor : ℕ) (told : Told) (hand : Hand) (running : 
     absent = λ ino has_it. (given.numbers ino has_it).1;
   }
   given_kind next.Visit e fits = (inside next.Visit e, given_bytes shared given.apart, hand_at next.Visit e)
+  given_kind (next.Snapshots step) e fits = (inside (next.Snapshots step) e, hand_at (next.Snapshots step) e, on_snapshots step e)

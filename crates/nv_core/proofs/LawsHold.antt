@@ -15,6 +15,7 @@ use Rattle.nv_machine.proofs.MarkedRuns.{are_cells}
 use Rattle.nv_machine.proofs.PoolLaw.{all_pooled}
 use Rattle.nv_machine.proofs.Versions.{cells_counted}
 use Rattle.nv_core.proofs.GivenLaws.{LawsOf}
+use Rattle.nv_core.proofs.OnSnapshots.{on_snapshots}
 
 pub laws_after : (g : GeometryNumbers) (events : List Event) → IsWithinLimits g → LawsOf g (after (formatted g) events)
 laws_after g events within =
@@ -35,6 +36,7 @@ laws_after g events within =
         number = λ n has_it. (let own = own_number g w actor q is e known pooled n has_it in (own.2, own.1));
         held = own_handles g w actor q is e pooled;
       };
+      snapshots = λ actor q step is e. on_snapshots g events within actor q is step e;
     }
 
 pub laws_of : (g : GeometryNumbers) (m : World) (events : List Event) → IsWithinLimits g → m ≡ after (formatted g) events → LawsOf g m

@@ -10,7 +10,7 @@ use Rattle.nv_base.specs.declared.geometry.GeometryNumbers.{GeometryNumbers}
 use Rattle.nv_base.specs.declared.numbers.Handle.{Handle}
 use Rattle.nv_calls.specs.declared.looked.Looked.{Looked}
 use Rattle.nv_calls.specs.declared.update.Update.{Update}
-use Rattle.nv_machine.specs.Kinds.{again_turn, blocks_turn, end_turn, less_list, over_turn, pages_turn, refuse, rest_turn, take_blocks_turn, take_pages_turn}
+use Rattle.nv_machine.specs.Kinds.{again_turn, blocks_turn, drained_turn, end_turn, last_turn, less_list, over_turn, pages_turn, refuse, rest_turn, take_blocks_turn, take_pages_turn}
 use Rattle.nv_machine.specs.World as machine
 use Rattle.nv_machine.specs.World.{list_at}
 use Rattle.nv_core.proofs.Takes.{fits_still, is_changed, over_all}
@@ -31,11 +31,20 @@ use Rattle.nv_core.proofs.TakenBlocks.{home_after, taken_count}
 
 -- ---- what a turn comes to
 
+last_goes : (how : machine.Ending) (s : machine.Shared) (h : machine.HandState) (r : machine.Running) → last_turn how s h r ≢ machine.Waits
+last_goes machine.Answers s h r e = cc
+last_goes (machine.Refuses fault) s h r e = cc
+last_goes machine.Overtaken s h r e = cc
+last_goes (machine.Drains draining) s h r e = go draining.left e where
+  go : (left : ℕ) → drained_turn left draining.released s h r ≢ machine.Waits
+  go zero e = cc
+  go (suc left) e = cc
+
 rest_goes : (cpu number : Option ℕ) (s : machine.Shared) (h : machine.HandState) (r : machine.Running)
     → rest_turn cpu number s h r ≢ machine.Waits
 rest_goes (Some cpu) number s h r e = cc
 rest_goes None (Some ino) s h r e = cc
-rest_goes None None s h r e = cc
+rest_goes None None s h r e = last_goes r.ending s h r e
 
 again_goes : (rounds : ℕ) (s : machine.Shared) (h : machine.HandState) (r : machine.Running) → again_turn rounds s h r ≢ machine.Waits
 again_goes zero s h r e = cc
@@ -44,6 +53,7 @@ again_goes (suc rounds) s h r e = cc
 over_goes : (how : machine.Ending) (s : machine.Shared) (h : machine.HandState) (r : machine.Running) → over_turn how s h r ≢ machine.Waits
 over_goes machine.Answers s h r e = rest_goes _ h.ino s h r e
 over_goes (machine.Refuses fault) s h r e = rest_goes _ h.ino s h r e
+over_goes (machine.Drains draining) s h r e = rest_goes _ h.ino s h r e
 over_goes machine.Overtaken s h r e = again_goes r.rounds s h r e
 
 -- a call that turns to its last steps does not wait
@@ -308,6 +318,7 @@ module _ (old new : Shared) (hand : Hand) (running : Running) (queue : QueueValu
               left
               (asked + 1) q lt)
               had,
+          tt,
         )
 
   module _ (at : running.next ≡ next.TakePages asked)
@@ -322,6 +333,7 @@ module _ (old new : Shared) (hand : Hand) (running : Running) (queue : QueueValu
               pages_taken old new slots hand running.looked running.made u below running.wanted cpu asked list queue geometry cells is h
               none)
               had,
+          tt,
         )
 
     pub rooms_pages : (left : ℕ) → left ≡ running.wanted - min running.wanted (length list.blocks) → asked + 1 < length new.lists.items
@@ -335,6 +347,7 @@ module _ (old new : Shared) (hand : Hand) (running : Running) (queue : QueueValu
               pages_next old new slots hand running.looked running.made u below running.wanted cpu asked list queue geometry cells is h left
               (asked + 1) q lt)
               had,
+          tt,
         )
 
 -- ---- what is shared after it

@@ -1,10 +1,12 @@
 pub mod Appends
+pub mod Audited
 pub mod CommitSteps
 pub mod Committing
 pub mod Formats
 pub mod Frames
 pub mod Nodes
 pub mod Parts
+pub mod Picked
 pub mod Readied
 pub mod Reports
 pub mod Rooms

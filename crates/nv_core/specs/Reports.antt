@@ -12,12 +12,17 @@ use Rattle.nv_book.specs.Book.{BookState}
 use Rattle.nv_book.specs.Records.{block_count}
 use Rattle.nv_cell.specs.declared.mark.Mark.{Mark}
 use Rattle.nv_cell.specs.declared.mark.Mark.TheVariants.{Current, Killed, Kept, Out}
-use Rattle.nv_epoch.specs.Holders.{youngest_holder}
+use Rattle.nv_book.specs.Manifests.{gain_of, held_of}
+use Rattle.nv_epoch.specs.Holders.{next_older, youngest_holder}
 use Rattle.nv_epoch.specs.SnapList.{ids}
+use Rattle.nv_epoch.specs.declared.snapshot.Snapshot.{Snapshot}
 use Rattle.nv_entry.specs.Covered.{part_count}
 use Rattle.nv_entry.specs.declared.item.Entry.{Entry}
 use Rattle.nv_core.specs.declared.reports.LogCounts.{LogCounts}
 use Rattle.nv_core.specs.declared.reports.Space.{Space}
+use Rattle.nv_core.specs.declared.snaps.SnapCounts.{SnapCounts}
+use Rattle.nv_core.specs.declared.snaps.Snaps.{Snaps}
+use Rattle.nv_machine.specs.Held.{pending_in}
 use Rattle.nv_machine.specs.World.{Shared, World, cell_at}
 
 -- the free lists, CPU by CPU, as maximal runs
@@ -30,6 +35,20 @@ counts_in cell = record { entries = cell.chain.tail; pages = map (counts_of cell
 
 abbrev pub log_at : Shared → ℕ → LogCounts
 log_at s ino = counts_in (cell_at s ino)
+
+-- ---- snapshots
+
+-- a living snapshot: the recorded blocks that it holds, those that a drop defers, and its pins
+abbrev pub snap_counts : BookState → Snapshot → SnapCounts
+snap_counts book snapshot = record {
+  snapshot = snapshot.number;
+  held = held_of snapshot.number book.manifests;
+  gain = gain_of snapshot.number (next_older (ids book.snaps) snapshot.number) book.manifests;
+  pins = snapshot.pins;
+}
+
+abbrev pub snaps_of : BookState → Snaps
+snaps_of book = record { epoch = book.snaps.epoch; commit = book.commit; living = map (snap_counts book) book.snaps.living }
 
 -- ---- space
 
@@ -84,18 +103,19 @@ chain_in cell = length cell.chain.blocks
 abbrev pub chain_of : Shared → ℕ
 chain_of s = sum_by chain_in s.cells
 
--- where the blocks are: in free lists, pages of logs, current or held by a living snapshot, deferred, and all others
-abbrev pub space_in : ℕ → Shared → Space
-space_in blocks s = record {
+-- where the blocks are: in free lists, pages of logs, current or held by a living snapshot, pending, of which there are so many,
+-- and all others
+abbrev pub space_in : ℕ → ℕ → Shared → Space
+space_in blocks pending s = record {
   free = free_of s;
   chain = chain_of s;
-  «data» = kept_of s - block_count s.book.deferred;
-  pending = block_count s.book.deferred;
+  «data» = kept_of s - pending;
+  pending = pending;
   hand = blocks - free_of s - chain_of s - kept_of s;
 }
 
 abbrev pub space_of : World → Space
-space_of w = space_in w.numbers.blocks w.shared
+space_of w = space_in w.numbers.blocks (block_count (pending_in w)) w.shared
 
 -- no block is at two of these places
 abbrev pub AddsUp : ℕ → Shared → Type 0

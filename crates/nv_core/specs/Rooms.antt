@@ -4,6 +4,7 @@ use Rattle.std.specs.Prelude.{◌≡◌, ℕ, ◌+◌, ◌<◌, ◌≤◌, ◌%�
 use Rattle.std.specs.List.{AllByRecursion}
 use Rattle.nv_alloc.specs.declared.hand.Hand.{Hand}
 use Rattle.nv_base.specs.declared.geometry.GeometryNumbers.{GeometryNumbers}
+use Rattle.nv_base.specs.declared.limits.TheConstants.{DRAIN}
 use Rattle.nv_base.specs.declared.numbers.Handle.{Handle}
 use Rattle.nv_calls.specs.AllCalls.{is_nothing, refusal}
 use Rattle.nv_calls.specs.AllCalls.{looked as found_in}
@@ -22,8 +23,8 @@ use Rattle.nv_cell.specs.Cell.{CellValue}
 use Rattle.nv_machine.specs.Sequence.{directories, nothing_looked}
 use Rattle.nv_core.specs.Committing.{IsCommitting}
 use Rattle.nv_core.specs.Nodes.{CanRead, wanted_over}
-use Rattle.nv_core.specs.Shown.{slots_in}
-use Rattle.nv_core.specs.Told.{IsChangeWith, IsLookAt, IsVisitOf, is_change, makes_inode}
+use Rattle.nv_core.specs.Shown.{is_over, showing_of, slots_in}
+use Rattle.nv_core.specs.Told.{IsChangeWith, IsLookAt, IsOnSnapshots, IsVisitOf, is_change, makes_inode}
 use Rattle.nv_core.specs.declared.hold.Hold.{Hold}
 use Rattle.nv_core.specs.declared.hold.Hold.TheVariants as hold
 use Rattle.nv_core.specs.declared.job.Job.{Job}
@@ -32,6 +33,8 @@ use Rattle.nv_core.specs.declared.next.Ending.{Ending}
 use Rattle.nv_core.specs.declared.next.Ending.TheVariants as ending
 use Rattle.nv_core.specs.declared.next.Next.{Next}
 use Rattle.nv_core.specs.declared.next.Next.TheVariants as next
+use Rattle.nv_core.specs.declared.next.SnapshotStep.{SnapshotStep}
+use Rattle.nv_core.specs.declared.next.SnapshotStep.TheVariants as on
 use Rattle.nv_core.specs.declared.running.Running.{Running}
 use Rattle.nv_core.specs.declared.shared.Shared.{Shared}
 use Rattle.nv_core.specs.declared.turn.Turn.{Turn}
@@ -49,6 +52,7 @@ abbrev pub FitsNext : Next → Job → Type 0
 FitsNext next.Number j = makes_inode j ≡ true
 FitsNext (next.Look place) j = IsLookAt place j
 FitsNext next.Visit j = IsVisitOf j
+FitsNext (next.Snapshots step) j = IsOnSnapshots j
 FitsNext (next.Unlock place) j = IsNoVisit j
 FitsNext (next.Give cpu) j = IsNoVisit j
 FitsNext next.Back j = IsNoVisit j
@@ -58,6 +62,27 @@ FitsNext before j = is_change j ≡ true
 abbrev pub LooksAsTold : Job → Looked → Type 0
 LooksAsTold (job.Change plan text) looked = directories (blank_call plan.update) ≡ [] → looked ≡ nothing_looked
 LooksAsTold other looked = Unit {0}
+
+-- the next step is one of a call on snapshots: of any, a visit of a show, or the end of one
+abbrev pub IsSnapshotStep : Next → Type 0
+IsSnapshotStep (next.Snapshots step) = Unit {0}
+IsSnapshotStep other = ⊥
+
+-- one that is lent the book
+abbrev pub IsOnBook : Next → Type 0
+IsOnBook (next.Snapshots (on.Show snapshot showing)) = ⊥
+IsOnBook (next.Snapshots (on.LockPicked draining picked)) = ⊥
+IsOnBook (next.Snapshots (on.Release draining picked)) = ⊥
+IsOnBook (next.Snapshots step) = Unit {0}
+IsOnBook other = ⊥
+
+abbrev pub IsShow : Next → Type 0
+IsShow (next.Snapshots (on.Show snapshot showing)) = Unit {0}
+IsShow other = ⊥
+
+abbrev pub IsUnpin : Next → Type 0
+IsUnpin (next.Snapshots (on.Unpin snapshot seen)) = Unit {0}
+IsUnpin other = ⊥
 
 -- a call whose names were bound anew looks them up
 pub record FitsCall (running : Running) : Type 0 where
@@ -170,6 +195,38 @@ WantsBlocks wanted shared hand running =
     × IsChecked shared (slots_in running.slots) hand running.looked u ×
     (wanted ≡ blocks_to_take shared (slots_in running.slots) u)) running.job
 
+-- ---- calls on snapshots
+
+-- a hand has room for a block once what it holds is given back
+abbrev pub HoldsOne : Hand → Type 0
+HoldsOne hand = 0 < hand.«data».room + length hand.«data».blocks
+
+-- a show has another visit to make; a drain releases no more than it may, and behind its first pick it has room for the block of
+-- a record
+abbrev pub HasStepRoom : SnapshotStep → Hand → Type 0
+HasStepRoom (on.Show snapshot showing) hand = is_over (showing_of showing) ≡ false
+HasStepRoom (on.Pick draining) hand = (draining.released + draining.left < DRAIN) × (0 < draining.released → HoldsOne hand)
+HasStepRoom (on.LockPicked draining picked) hand = (draining.released + draining.left < DRAIN) × HoldsOne hand
+HasStepRoom (on.Release draining picked) hand = (draining.released + draining.left < DRAIN) × HoldsOne hand
+HasStepRoom other hand = Unit {0}
+
+-- so has one that goes on to its next record, and it is a call on snapshots
+abbrev pub CanDrain : Ending → Job → Hand → Type 0
+CanDrain (ending.Drains draining) j hand = IsOnSnapshots j × (draining.released + draining.left ≤ DRAIN) × HoldsOne hand
+CanDrain other j hand = Unit {0}
+
+abbrev pub HasNextRoom : Next → Ending → Job → Hand → Type 0
+HasNextRoom (next.Snapshots step) how j hand = HasStepRoom step hand
+HasNextRoom (next.Unlock place) how j hand = CanDrain how j hand
+HasNextRoom (next.Give cpu) how j hand = CanDrain how j hand
+HasNextRoom next.Back how j hand = CanDrain how j hand
+HasNextRoom other how j hand = Unit {0}
+
+-- what ends so is no drain that goes on
+abbrev pub IsNoDrain : Ending → Type 0
+IsNoDrain (ending.Drains draining) = ⊥
+IsNoDrain other = Unit {0}
+
 -- ---- ready
 
 -- these cells and this call were made ready with that hand: since then the cells have changed in their room alone
@@ -190,6 +247,7 @@ committing_cpu shared = unwrap_or shared.holder 0 % length shared.lists.items
 abbrev pub HasRooms : Shared → Hold → Running → Type 0
 HasRooms shared (hold.Hand hand) running =
     FitsCall running × IsHandOf shared.geometry.numbers hand × TakesIf (takes running.next) shared hand running
+    × HasNextRoom running.next running.ending running.job hand
 HasRooms shared (hold.Ready ready) running =
     (running.job ≡ job.Given) × (running.ending ≡ ending.Answers) × IsHandOf shared.geometry.numbers ready.hand
     × IsReadyOver (lent_cells (slots_in running.slots) shared.cells.items) ready

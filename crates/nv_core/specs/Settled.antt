@@ -1,9 +1,11 @@
 -- Settled logs, the tree that they give, and what of a cell shows its node.
-pub use Rattle.nv_machine.specs.Settled.{noted_or, settled_tail, settled, node_by, settled_nodes, tree_of}
-use Rattle.std.specs.Prelude.{ℕ, ◌<◌, ◌≤◌, List, [], length}
+pub use Rattle.nv_machine.specs.Settled.{noted_or, settled_tail, settled, node_by, settled_copies, settled_nodes, snapshot_tree, tree_of}
+use Rattle.std.specs.Prelude.{◌≡◌, ℕ, ◌<◌, ◌≤◌, List, [], length}
+use Rattle.nv_base.specs.declared.numbers.Handle.{Handle}
 use Rattle.nv_calls.specs.Plain.{node_in}
 use Rattle.nv_entry.specs.Tree.{root, tree_from}
 use Rattle.nv_entry.specs.declared.tree.TreeNode.{TreeNode}
+use Rattle.nv_machine.specs.Snapshots.{copies_at}
 use Rattle.nv_machine.specs.World.{Shared, cell_at}
 use Rattle.nv_reader.specs.Cells.{NoneOut}
 use Rattle.nv_core.specs.Visits.{HasOwnBytes}
@@ -16,6 +18,13 @@ pub record CanSettle (s : Shared) (ino : ℕ) : Type 0 where
 
 abbrev pub AreSettled : Shared → Type 0
 AreSettled s = (ino : ℕ) → ino < length s.cells → CanSettle s ino
+
+-- a living snapshot is read by the logs up to their tails: at its epoch they have the nodes of the settled logs
+abbrev pub AreSettledAt : ℕ → Shared → Type 0
+AreSettledAt epoch s = (handle : Handle) → copies_at s epoch handle ≡ settled_copies s epoch handle
+
+abbrev pub tree_at : ℕ → Shared → List TreeNode
+tree_at epoch s = tree_from (settled_copies s epoch) (length s.cells) [] root
 
 abbrev pub tree_in : Shared → List TreeNode
 tree_in s = tree_from (node_in (settled_nodes s)) (length s.cells) [] root

@@ -1,5 +1,5 @@
 -- What the parts of a world are in the machine of steps, whatever room they have.
-use Rattle.std.specs.Prelude.{ℕ, List, [], drop, map, take}
+use Rattle.std.specs.Prelude.{ℕ, ◌==◌, ◌||◌, Bool, is_none, List, [], drop, map, take, Option, Some, None}
 use Rattle.nv_alloc.specs.declared.hand.Hand.{Hand}
 use Rattle.nv_base.specs.declared.numbers.Handle.{Handle}
 use Rattle.nv_calls.specs.declared.answer.Answer.{Answer}
@@ -17,12 +17,19 @@ use Rattle.nv_core.specs.declared.hold.Hold.{Hold}
 use Rattle.nv_core.specs.declared.hold.Hold.TheVariants as hold
 use Rattle.nv_core.specs.declared.job.Owed.{Owed}
 use Rattle.nv_core.specs.declared.job.Owed.TheVariants as owed
+use Rattle.nv_entry.specs.Tree.{root}
+use Rattle.nv_entry.specs.declared.tree.TreeNode.{TreeNode}
+use Rattle.nv_reader.specs.Walk.{Visit, next_handle, root_visit}
+use Rattle.nv_core.specs.declared.next.Draining.{Draining}
 use Rattle.nv_core.specs.declared.next.Ending.{Ending}
 use Rattle.nv_core.specs.declared.next.Ending.TheVariants as ending
 use Rattle.nv_core.specs.declared.next.Next.{Next}
 use Rattle.nv_core.specs.declared.next.Next.TheVariants as next
+use Rattle.nv_core.specs.declared.next.SnapshotStep.{SnapshotStep}
+use Rattle.nv_core.specs.declared.next.SnapshotStep.TheVariants as on
 use Rattle.nv_core.specs.declared.running.Running.{Running}
 use Rattle.nv_core.specs.declared.shared.Shared.{Shared}
+use Rattle.nv_core.specs.declared.showing.Showing.{Showing}
 use Rattle.nv_core.specs.declared.slots.Slots.{Slots}
 use Rattle.nv_core.specs.declared.turn.Turn.{Turn}
 use Rattle.nv_core.specs.declared.turn.Turn.TheVariants as turn
@@ -70,6 +77,31 @@ pub record Told : Type 0 where
   pub commit : ℕ
   pub epoch : ℕ
 
+-- the visits that a show is to make: before the first of them, that of the root
+abbrev pub visits_of : ℕ → Option (List Visit) → List Visit
+visits_of depth None = root_visit depth root
+visits_of depth (Some walk) = walk
+
+abbrev pub showing_of : Showing → machine.Showing
+showing_of showing = record { left = showing.left; visits = visits_of showing.depth showing.walk; seen = showing.seen.items }
+
+-- whether all visits are made
+abbrev pub is_over : machine.Showing → Bool
+is_over showing = (showing.left == 0) || is_none (next_handle showing.visits)
+
+abbrev pub draining_of : Draining → machine.Draining
+draining_of draining = record { released = draining.released; left = draining.left }
+
+abbrev pub step_on : SnapshotStep → machine.SnapshotStep
+step_on on.Make = machine.Make
+step_on (on.Drop snapshot) = machine.Drop snapshot
+step_on (on.Pin snapshot) = machine.Pin snapshot
+step_on (on.Show snapshot showing) = machine.Show snapshot (showing_of showing)
+step_on (on.Unpin snapshot seen) = machine.Unpin snapshot seen.items
+step_on (on.Pick draining) = machine.Pick (draining_of draining)
+step_on (on.LockPicked draining picked) = machine.LockPicked (draining_of draining) picked
+step_on (on.Release draining picked) = machine.Release (draining_of draining) picked
+
 abbrev pub next_of : Next → machine.Next
 next_of next.Number = machine.Number
 next_of (next.Look place) = machine.Look place
@@ -82,11 +114,27 @@ next_of (next.Unlock place) = machine.Unlock place
 next_of (next.Give cpu) = machine.Give cpu
 next_of next.Back = machine.Back
 next_of next.Visit = machine.Visit
+next_of (next.Snapshots step) = machine.Snapshots (step_on step)
+
+-- the snapshot of a show that visits or ends, its state before a visit, and what it has seen at its end
+abbrev pub snapshot_in : Next → ℕ
+snapshot_in (next.Snapshots (on.Show snapshot showing)) = snapshot
+snapshot_in (next.Snapshots (on.Unpin snapshot seen)) = snapshot
+snapshot_in other = 0
+
+abbrev pub showing_in : Next → machine.Showing
+showing_in (next.Snapshots (on.Show snapshot showing)) = showing_of showing
+showing_in other = record { left = 0; visits = []; seen = [] }
+
+abbrev pub seen_in : Next → List TreeNode
+seen_in (next.Snapshots (on.Unpin snapshot seen)) = seen.items
+seen_in other = []
 
 abbrev pub ending_of : Ending → machine.Ending
 ending_of ending.Answers = machine.Answers
 ending_of (ending.Refuses fault) = machine.Refuses fault
 ending_of ending.Overtaken = machine.Overtaken
+ending_of (ending.Drains draining) = machine.Drains (draining_of draining)
 
 -- the numbers of the slots, by rising number
 abbrev pub slots_in : Slots → List ℕ

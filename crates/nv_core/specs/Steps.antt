@@ -1,31 +1,39 @@
 -- What a step is given by the laws of the machine, beside what is told of its call.
 use Rattle.std.specs.Prelude.{Some, ◌≡◌, ℕ, ◌+◌, ◌<◌, ◌≤◌, ◌%◌, ◌⊎◌, false, true, [], length, None, slice_index_or}
 use Rattle.std.specs.List.{AllByRecursion}
-use Rattle.std.specs.Option.{ForSome}
-use Rattle.nv_alloc.specs.Block.{AreSized, numbers_of}
+use Rattle.std.specs.Option.{ForSome, IsSomeAnd}
+use Rattle.nv_alloc.specs.Block.{AreSized, BlockValue, numbers_of}
 use Rattle.nv_alloc.specs.Hand.{blocks_of}
 use Rattle.nv_alloc.specs.Numbers.{has, times}
 use Rattle.nv_alloc.specs.declared.hand.Hand.{Hand}
 use Rattle.nv_base.specs.Limits.{IsWithinLimits}
 use Rattle.nv_book.specs.Book.{after_enter}
-use Rattle.nv_base.specs.declared.limits.TheConstants.{NUMBER}
+use Rattle.nv_base.specs.declared.limits.TheConstants.{NUMBER, PINS}
+use Rattle.nv_book.specs.declared.record.Record.{Record}
+use Rattle.nv_calls.specs.Retiring.{name_of}
+use Rattle.nv_cell.specs.declared.mark.Mark.TheVariants.{Kept}
+use Rattle.nv_cell.specs.Readers.{is_gone}
+use Rattle.nv_entry.specs.Log.{up_to}
+use Rattle.nv_epoch.specs.SnapList.{pins_of}
+use Rattle.nv_machine.specs.Locks.{slots_on}
+use Rattle.nv_reader.specs.Cells.{NoneOut}
 use Rattle.nv_calls.specs.CanCommit.{TakesCommit}
 use Rattle.nv_calls.specs.Cells.{value_at}
 use Rattle.nv_calls.specs.Commit.{stamp_of}
 use Rattle.nv_calls.specs.Locked.{handles}
-use Rattle.nv_calls.specs.Prepared.{HasNumberFor, makes}
+use Rattle.nv_calls.specs.Prepared.{HasNumberFor, IsStill, makes}
 use Rattle.nv_calls.specs.Progress.{step_of}
 use Rattle.nv_calls.specs.Ready.{ReadyValue}
 use Rattle.nv_calls.specs.declared.progress.CommitStep.TheVariants.{Leave}
 use Rattle.nv_calls.specs.SlotCells.{lent_cells}
 use Rattle.nv_calls.specs.Updates.{blank_call}
-use Rattle.nv_cell.specs.Cell.{CellValue, log_of}
+use Rattle.nv_cell.specs.Cell.{CellValue, log_of, mark_named}
 use Rattle.nv_machine.specs.Effects.{IsSoundIn}
-use Rattle.nv_machine.specs.World.{empty_hand, list_at}
+use Rattle.nv_machine.specs.World.{cell_at, empty_hand, list_at}
 use Rattle.nv_core.specs.Nodes.{CanRead}
 use Rattle.nv_core.specs.Parts.{AreGiven, AreHome, AreSlots, AreStill, IsOfDevice}
 use Rattle.nv_core.specs.Rooms.{hand_held}
-use Rattle.nv_core.specs.Shown.{hand_of, shared_of, slots_in}
+use Rattle.nv_core.specs.Shown.{hand_of, shared_of, slots_in, step_on}
 use Rattle.nv_core.specs.Told.{IsChangeWith}
 use Rattle.nv_core.specs.Visits.{HasOwnBytes}
 use Rattle.nv_core.specs.declared.hold.Hold.{Hold}
@@ -33,6 +41,8 @@ use Rattle.nv_core.specs.declared.hold.Hold.TheVariants as hold
 use Rattle.nv_core.specs.declared.next.Ending.TheVariants as ending
 use Rattle.nv_core.specs.declared.next.Next.{Next}
 use Rattle.nv_core.specs.declared.next.Next.TheVariants as next
+use Rattle.nv_core.specs.declared.next.SnapshotStep.{SnapshotStep}
+use Rattle.nv_core.specs.declared.next.SnapshotStep.TheVariants as on
 use Rattle.nv_core.specs.declared.running.Running.{Running}
 use Rattle.nv_core.specs.declared.shared.Shared.{Shared}
 
@@ -71,6 +81,32 @@ pub record CanGetReady (shared : Shared) (running : Running) : Type 0 where
   pub sound : AllByRecursion (λ (c : ℕ × CellValue). IsSoundIn c.1.state (log_of c.1.state))
       (lent_cells (slots_in running.slots) shared.cells.items)
 
+-- each page of a snapshot has its block, the only one of its number in its cell
+pub record CanShow (shared : Shared) (snapshot : ℕ) : Type 0 where
+  pub own : (ino : ℕ) → HasOwnBytes (shared_of shared) ino
+  pub pages : (ino : ℕ) → let cell = cell_at (shared_of shared) ino in NoneOut cell (up_to snapshot (log_of cell))
+
+-- the part of a picked record is kept in the cell of its inode, which the drain holds
+pub record CanRelease (shared : Shared) (picked : Record) : Type 0 where
+  pub slot : picked.ino < length shared.cells.items
+  pub kept : mark_named (cell_at (shared_of shared) picked.ino) (name_of picked) ≡ Some Kept
+  pub still : IsStill shared.geometry.numbers.block (cell_at (shared_of shared) picked.ino)
+  pub chain : AllByRecursion (λ (b : BlockValue). b.number < shared.geometry.numbers.blocks)
+      (cell_at (shared_of shared) picked.ino).chain.blocks
+  pub parts : (n : ℕ) (b : BlockValue) → slice_index_or (cell_at (shared_of shared) picked.ino).blocks n None ≡ Some b
+      → b.number < shared.geometry.numbers.blocks
+  pub generation : is_gone (log_of (cell_at (shared_of shared) picked.ino)) ≡ true
+      → (cell_at (shared_of shared) picked.ino).generation < NUMBER
+
+-- what a step of a call on snapshots is given
+abbrev pub GivenOn : SnapshotStep → Shared → Type 0
+GivenOn (on.Pin snapshot) shared = ForSome (pins_of shared.book.state.snaps snapshot) (λ pins. pins < PINS)
+GivenOn (on.Show snapshot showing) shared = CanShow shared snapshot
+GivenOn (on.Unpin snapshot seen) shared = IsSomeAnd (pins_of shared.book.state.snaps snapshot) (λ pins. 0 < pins)
+GivenOn (on.LockPicked draining picked) shared = picked.ino < length shared.owners.items
+GivenOn (on.Release draining picked) shared = CanRelease shared picked
+GivenOn other shared = Unit {0}
+
 -- what the next step of a call is given that has its hand alone
 abbrev pub Given : Next → Shared → Hand → Running → Type 0
 Given next.Number shared hand running = hand.ino ≡ None
@@ -82,6 +118,8 @@ Given (next.Give cpu) shared hand running = CanGive shared hand cpu
 Given next.Back shared hand running = CanPutBack shared hand
 Given next.Visit shared hand running =
     (slots_in running.slots ≡ []) × ((ino : ℕ) → HasOwnBytes (shared_of shared) ino) × (hand_of hand ≡ empty_hand)
+Given (next.Snapshots step) shared hand running =
+    (slots_in running.slots ≡ slots_on (step_on step)) × (hand_of hand ≡ empty_hand) × GivenOn step shared
 Given other shared hand running = Unit {0}
 
 abbrev pub GivenBy : Shared → Hold → Running → ℕ → Type 0

@@ -9,6 +9,7 @@ use Rattle.nv_calls.specs.Ready.{CellPlanValue, ReadyValue, plan_at}
 use Rattle.nv_calls.specs.Slots.{items_for, place_in}
 use Rattle.nv_calls.specs.Updates.{blank_call, call_of, text_len}
 use Rattle.nv_calls.specs.declared.call.Call.{Call}
+use Rattle.nv_calls.specs.declared.call.Call.TheVariants as call
 use Rattle.nv_calls.specs.Prepared.{makes}
 use Rattle.nv_calls.specs.declared.plan.Plan.{Plan}
 use Rattle.nv_calls.specs.declared.plan.Planned.{Planned}
@@ -37,6 +38,7 @@ IsOwed owed c = (made : Handle) → answer (λ handle. None) made c ≡ answered
 abbrev pub IsJobOf : Job → Owed → Call → Type 0
 IsJobOf (job.Change plan text) owed c = (c ≡ call_of plan.update text) × (text_len plan.update ≡ length text) × IsOwed owed c
 IsJobOf (job.Visit visit) owed c = c ≡ visit
+IsJobOf (job.Snapshots on) owed c = (c ≡ call.Snapshots on) × IsOwed owed c
 IsJobOf job.Given owed c = IsOwed owed c
 
 abbrev pub IsToldOf : Running → Told → Type 0
@@ -161,6 +163,18 @@ IsChangeWith P other = ⊥
 abbrev pub IsVisitOf : Job → Type 0
 IsVisitOf (job.Visit visit) = IsVisit visit
 IsVisitOf other = ⊥
+
+-- a job on snapshots
+abbrev pub IsOnSnapshots : Job → Type 0
+IsOnSnapshots (job.Snapshots on) = Unit {0}
+IsOnSnapshots other = ⊥
+
+-- a job as it is when its call starts
+abbrev pub IsAtStart : Job → Type 0
+IsAtStart (job.Change plan text) = Unit {0}
+IsAtStart (job.Visit visit) = IsVisit visit
+IsAtStart (job.Snapshots on) = Unit {0}
+IsAtStart job.Given = ⊥
 
 -- a call that has a look at that place
 abbrev pub IsLookAt : ℕ → Job → Type 0

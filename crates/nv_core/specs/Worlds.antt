@@ -118,7 +118,7 @@ gos actor grants = map (machine.Go actor) grants
 
 -- more steps than any call has
 abbrev pub most_goes : ℕ
-most_goes = 1048576
+most_goes = 268435456
 
 -- no call is moved so often
 abbrev pub IsBounded : machine.World → Type 0

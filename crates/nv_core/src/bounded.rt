@@ -5,8 +5,11 @@ ghost use Rattle.nv_core.specs.Worlds.{IsBounded, Shows};
 
 use crate::World;
 
+/// More steps than any call has: a drain has the most.
+pub const MOST_STEPS: u64 = 268_435_456;
+
 impl World {
-    /// A law: calls end. No call moves on so often as a script's line goes on with it at most.
+    /// A law: calls end. No call moves on [`MOST_STEPS`] times in a row.
     pub fn bounded(&self)
         ensures { (m : machine.World) → Shows self.now m → IsBounded m }
     {

@@ -1,18 +1,19 @@
 //! How a call goes on, and how it ends.
 
 ghost use Rattle.std.specs.Prelude.{◌≡◌, ◌≢◌, None};
-ghost use Rattle.nv_machine.specs.Kinds.{again_turn, blocks_in, end_turn, over_turn, refuse, rest_turn, result_by};
+ghost use Rattle.nv_machine.specs.Kinds.{again_turn, blocks_in, drained_turn, end_turn, last_turn, over_turn, refuse, rest_turn, result_by};
 ghost use Rattle.nv_machine.specs.Reads.{home_from};
 ghost use Rattle.nv_machine.specs.World as machine;
 ghost use Rattle.nv_core.specs.Parts.{AreHome, IsOfDevice};
-ghost use Rattle.nv_core.specs.Rooms.{CanEnd, HasRoomsAfter, IsHandOf};
+ghost use Rattle.nv_core.specs.Rooms.{CanDrain, CanEnd, HasRoomsAfter, IsHandOf, IsNoDrain};
 ghost use Rattle.nv_core.specs.Shown.{Told, ending_of, hand_of, shared_of, shown, slots_in, turn_of};
-ghost use Rattle.nv_core.specs.Told.{IsOwed, KeepsJob, OwesAt};
+ghost use Rattle.nv_core.specs.Told.{KeepsJob, OwesAt};
 
 use crate::hold::Hold;
-use crate::next::{Ending, Next};
+use crate::next::{Draining, Ending, Next, SnapshotStep};
 use crate::running::Running;
 use crate::shared::Shared;
+use crate::slots::Slots;
 use crate::turn::Turn;
 use nv_alloc::Hand;
 use nv_base::Fault;
@@ -27,6 +28,7 @@ pub(crate) fn result_of(running: &Running) -> Result<Answer, Fault>
         Ending::Answers => Ok(running.owed.answer(running.made)),
         Ending::Refuses(fault) => Err(fault),
         Ending::Overtaken => Err(Fault::Contended),
+        Ending::Drains(draining) => Ok(Answer::Count(draining.released)),
     }
 }
 
@@ -36,12 +38,13 @@ pub(crate) fn give_back(shared: &Shared, hand: &Hand, running: &mut Running) -> 
     requires device { IsOfDevice shared.now.geometry.numbers hand.now }
     requires call { CanEnd running.old running.old.ending }
     requires sized { IsHandOf shared.now.geometry.numbers hand.now }
+    requires drains { CanDrain running.old.ending running.old.job hand.now }
     ensures turn { (told : Told) → OwesAt running.old.ending running.old told
         → let s = shared_of shared.now in let h = hand_of hand.now in
         rest_turn (home_from 0 0 s.lists (blocks_in h)) h.ino s h (shown told running.old)
         ≡ turn_of result s h (shown told running.new) }
     ensures job { KeepsJob running.old running.new }
-    ensures slots { running.new.slots ≡ running.old.slots }
+    ensures slots { IsNoDrain running.old.ending → running.new.slots ≡ running.old.slots }
     ensures goes { result ≢ Turn.Waits }
     ensures rooms { HasRoomsAfter result shared.now (Hold.Hand hand.now) running.new }
 {
@@ -60,10 +63,11 @@ fn give_number(hand: &Hand, running: &mut Running) -> Turn
         → let h = hand_of hand.now in rest_turn None h.ino s h (shown told running.old)
         ≡ turn_of result s h (shown told running.new) }
     ensures job { KeepsJob running.old running.new }
-    ensures slots { running.new.slots ≡ running.old.slots }
+    ensures slots { IsNoDrain running.old.ending → running.new.slots ≡ running.old.slots }
     ensures goes { result ≢ Turn.Waits }
     ensures rooms { (s : Shared) → CanEnd running.old running.old.ending
         → IsHandOf s.geometry.numbers hand.now
+        → CanDrain running.old.ending running.old.job hand.now
         → HasRoomsAfter result s (Hold.Hand hand.now) running.new }
 {
     match hand.ino() {
@@ -71,8 +75,51 @@ fn give_number(hand: &Hand, running: &mut Running) -> Turn
             running.next = Next::Back;
             Turn::Moves
         }
-        None => Turn::Ends(result_of(running)),
+        None => last(running),
     }
+}
+
+/// Nothing is locked, and nothing in the hand: the step replies, or a drain goes on.
+pub(crate) fn last(running: &mut Running) -> Turn
+    ensures turn { (told : Told) (s : machine.Shared) (h : machine.HandState)
+        → OwesAt running.old.ending running.old told
+        → last_turn (ending_of running.old.ending) s h (shown told running.old)
+        ≡ turn_of result s h (shown told running.new) }
+    ensures job { KeepsJob running.old running.new }
+    ensures slots { IsNoDrain running.old.ending → running.new.slots ≡ running.old.slots }
+    ensures goes { result ≢ Turn.Waits }
+    ensures rooms { (s : Shared) (hand : Hand) → CanEnd running.old running.old.ending
+        → IsHandOf s.geometry.numbers hand → CanDrain running.old.ending running.old.job hand
+        → HasRoomsAfter result s (Hold.Hand hand) running.new }
+{
+    match running.ending {
+        Ending::Drains(draining) => drained(draining, running),
+        Ending::Answers | Ending::Refuses(_) | Ending::Overtaken => Turn::Ends(result_of(running)),
+    }
+}
+
+/// A drain picks the next record, if it may release more.
+fn drained(draining: Draining, running: &mut Running) -> Turn
+    ensures turn { (told : Told) (s : machine.Shared) (h : machine.HandState)
+        → drained_turn draining.left draining.released s h (shown told running.old)
+        ≡ turn_of result s h (shown told running.new) }
+    ensures job { KeepsJob running.old running.new }
+    ensures goes { result ≢ Turn.Waits }
+    ensures rooms { (s : Shared) (hand : Hand) → IsHandOf s.geometry.numbers hand
+        → CanDrain (Ending.Drains draining) running.old.job hand
+        → HasRoomsAfter result s (Hold.Hand hand) running.new }
+{
+    if draining.left == 0 {
+        return Turn::Ends(Ok(Answer::Count(draining.released)));
+    }
+    let next = Draining {
+        released: draining.released,
+        left: draining.left - 1,
+    };
+    running.ending = Ending::Answers;
+    running.slots = Slots::none();
+    running.next = Next::Snapshots(SnapshotStep::Pick(next));
+    Turn::Moves
 }
 
 /// Nothing is locked: the next round of looks comes, if there is one, or what is in the hand goes back.
@@ -81,17 +128,20 @@ pub(crate) fn end_unlocked(shared: &Shared, hand: &Hand, running: &mut Running) 
     requires device { IsOfDevice shared.now.geometry.numbers hand.now }
     requires call { CanEnd running.old running.old.ending }
     requires sized { IsHandOf shared.now.geometry.numbers hand.now }
+    requires drains { CanDrain running.old.ending running.old.job hand.now }
     ensures turn { (told : Told) → OwesAt running.old.ending running.old told
         → let s = shared_of shared.now in let h = hand_of hand.now in
         over_turn (ending_of running.old.ending) s h (shown told running.old)
         ≡ turn_of result s h (shown told running.new) }
     ensures job { KeepsJob running.old running.new }
-    ensures slots { running.new.slots ≡ running.old.slots }
+    ensures slots { IsNoDrain running.old.ending → running.new.slots ≡ running.old.slots }
     ensures goes { result ≢ Turn.Waits }
     ensures rooms { HasRoomsAfter result shared.now (Hold.Hand hand.now) running.new }
 {
     match running.ending {
-        Ending::Answers | Ending::Refuses(_) => give_back(shared, hand, running),
+        Ending::Answers | Ending::Refuses(_) | Ending::Drains(_) => {
+            give_back(shared, hand, running)
+        }
         Ending::Overtaken => again(running),
     }
 }
@@ -102,7 +152,7 @@ fn again(running: &mut Running) -> Turn
         → again_turn running.old.rounds s h (shown told running.old)
         ≡ turn_of result s h (shown told running.new) }
     ensures job { KeepsJob running.old running.new }
-    ensures slots { running.new.slots ≡ running.old.slots }
+    ensures slots { IsNoDrain running.old.ending → running.new.slots ≡ running.old.slots }
     ensures goes { result ≢ Turn.Waits }
     ensures rooms { (s : Shared) (h : Hand) → CanEnd running.old Ending.Overtaken
         → IsHandOf s.geometry.numbers h → HasRoomsAfter result s (Hold.Hand h) running.new }
@@ -122,12 +172,13 @@ pub(crate) fn end(shared: &Shared, hand: &Hand, running: &mut Running, ending: E
     requires device { IsOfDevice shared.now.geometry.numbers hand.now }
     requires call { CanEnd running.old ending }
     requires sized { IsHandOf shared.now.geometry.numbers hand.now }
+    requires drains { CanDrain ending running.old.job hand.now }
     ensures turn { (told : Told) → OwesAt ending running.old told
         → let s = shared_of shared.now in let h = hand_of hand.now in
         end_turn (slots_in running.old.slots) (ending_of ending) s h (shown told running.old)
         ≡ turn_of result s h (shown told running.new) }
     ensures job { KeepsJob running.old running.new }
-    ensures slots { running.new.slots ≡ running.old.slots }
+    ensures slots { IsNoDrain ending → running.new.slots ≡ running.old.slots }
     ensures goes { result ≢ Turn.Waits }
     ensures rooms { HasRoomsAfter result shared.now (Hold.Hand hand.now) running.new }
 {

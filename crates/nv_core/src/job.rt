@@ -1,6 +1,6 @@
 //! What a call is to do.
 
-ghost use Rattle.std.specs.Prelude.{◌≡◌, ◌⊎◌, ◌++◌, ◌<◌, ◌∷◌, List, ℕ, None, [], false, length, map, true};
+ghost use Rattle.std.specs.Prelude.{◌≡◌, ◌++◌, ◌<◌, ◌∷◌, List, ℕ, None, [], false, length, map, true};
 ghost use Rattle.std.specs.Option.{option_map};
 ghost use Rattle.nv_base.specs.declared.numbers.Handle.{Handle};
 ghost use Rattle.nv_calls.specs.Locked.{handles};
@@ -10,10 +10,10 @@ ghost use Rattle.nv_machine.specs.Reads.{if_number};
 ghost use Rattle.nv_machine.specs.Sequence.{directories, nothing_looked};
 ghost use Rattle.nv_machine.specs.Step.{handle_at};
 ghost use Rattle.nv_core.specs.Shown.{answered};
-ghost use Rattle.nv_core.specs.Told.{IsJobOf, IsVisit, IsVisitOf, all_some, is_change};
+ghost use Rattle.nv_core.specs.Told.{IsAtStart, IsJobOf, IsVisit, all_some, is_change};
 
 use nv_base::{Bytes, Handle, Ino};
-use nv_calls::{Answer, Call, Looked, Plan, Update};
+use nv_calls::{Answer, Call, Looked, Plan, SnapshotCall, Update};
 use std::alloc::Global;
 
 /// What a call is to do.
@@ -23,6 +23,8 @@ pub(crate) enum Job {
     Change(Plan, Bytes),
     /// It reads one node.
     Visit(Call),
+    /// It is on snapshots.
+    Snapshots(SnapshotCall),
     /// Its commit has it.
     Given,
 }
@@ -51,7 +53,7 @@ impl Owed {
 /// The job of a call, and what it is answered. Takes no memory.
 pub(crate) fn job_of(alloc: Global, call: Call) -> (Job, Owed)
     ensures of { IsJobOf result.0 result.1 call }
-    ensures kind { (is_change result.0 ≡ true) ⊎ IsVisitOf result.0 }
+    ensures kind { IsAtStart result.0 }
 {
     let (update, owed) = match call {
         Call::Write { file, offset, text } => return job_of_write(file, offset, text),
@@ -64,6 +66,7 @@ pub(crate) fn job_of(alloc: Global, call: Call) -> (Job, Owed)
         Call::Rename { from, old, to, new } => {
             (Update::Rename { from, old, to, new }, Owed::Nothing)
         }
+        Call::Snapshots(call) => return (Job::Snapshots(call), Owed::Nothing),
         visit => return (Job::Visit(visit), Owed::Nothing),
     };
     let plan = Plan { update, blocks: 0 };

@@ -5,6 +5,7 @@
 //! the pool of inode numbers is held for one step alone.
 #![tactic(auto)]
 
+mod audit;
 mod bounded;
 mod ending;
 mod event;
@@ -22,14 +23,18 @@ mod next;
 mod reports;
 mod running;
 mod shared;
+mod showing;
 mod slots;
+mod snaps;
 mod step;
 mod tree;
 mod turn;
 mod world;
 
+pub use bounded::MOST_STEPS;
 pub use event::{Event, Reply};
-pub use nv_calls::{Answer, Call};
+pub use nv_calls::{Answer, Call, SnapshotCall};
 pub use nv_entry::{Path, Tree, TreeNode};
 pub use reports::{Lists, LogCounts, Space};
+pub use snaps::{SnapCounts, Snaps};
 pub use world::World;

@@ -1,6 +1,6 @@
 //! What a world reports of its blocks and logs.
 
-ghost use Rattle.std.specs.Prelude.{◌≡◌, ◌⊎◌, ◌<◌, ◌≤◌, ◌^◌, ℕ, IfErr, IfOk, Some, is_some, length, slice_get, slice_index_or};
+ghost use Rattle.std.specs.Prelude.{◌≡◌, ◌⊎◌, ◌+◌, ◌<◌, ◌≤◌, ◌^◌, ℕ, IfErr, IfOk, Some, is_some, length, slice_get, slice_index_or};
 ghost use Rattle.std.specs.List.{sum_by};
 ghost use Rattle.nv_alloc.specs.Block.{numbers_of};
 ghost use Rattle.nv_alloc.specs.Runs.{runs_of};
@@ -10,12 +10,17 @@ ghost use Rattle.nv_machine.specs.Numbers.{IsEachOnce, all_blocks};
 ghost use Rattle.nv_machine.specs.World as machine;
 ghost use Rattle.nv_cell.specs.Cell.{log_of};
 ghost use Rattle.nv_entry.specs.Covered.{part_count};
+ghost use Rattle.nv_book.specs.Records.{block_count};
 ghost use Rattle.nv_core.specs.Reports.{AddsUp, block_at, chain_in, counts_in, free_in, is_kept, kept_at, kept_in, lists_of, log_at, one_of, space_in, space_of};
+ghost use Rattle.nv_core.specs.Picked.{picked_at, picked_of};
 ghost use Rattle.nv_core.specs.Shown.{shared_of};
 ghost use Rattle.nv_core.specs.Worlds.{Shows};
 
 use crate::World;
+use crate::hold::Hold;
+use crate::next::{Next, SnapshotStep};
 use crate::shared::Shared;
+use crate::world::Actor;
 use nv_alloc::{FreeList, FreeRun};
 use nv_base::{Epoch, Fault, Ino, Items};
 use nv_book::Book;
@@ -32,7 +37,7 @@ pub struct Space {
     pub chain: u64,
     /// Data blocks that are current or held by a living snapshot.
     pub data: u64,
-    /// Data blocks whose record is deferred.
+    /// Data blocks whose record is deferred, or picked and not yet released.
     pub pending: u64,
     /// All others.
     pub hand: u64,
@@ -53,7 +58,8 @@ impl World {
     pub fn space(&self) -> Space
         ensures { (m : machine.World) → Shows self.now m → result ≡ space_of m }
     {
-        self.shared.space()
+        let picked = picked_blocks(&self.actors);
+        self.shared.space(picked)
     }
 
     /// The free lists, CPU by CPU. `OutOfMemory` where room for them was refused.
@@ -86,15 +92,17 @@ impl World {
 }
 
 impl Shared {
-    /// Where the blocks are.
-    fn space(&self) -> Space
-        requires { AddsUp self.now.geometry.numbers.blocks (shared_of self.now) }
-        ensures { result ≡ space_in self.now.geometry.numbers.blocks (shared_of self.now) }
+    /// Where the blocks are, of which so many are those of picked records.
+    fn space(&self, picked: u64) -> Space
+        requires blocks { AddsUp self.now.geometry.numbers.blocks (shared_of self.now) }
+        requires few { picked ≤ 64 }
+        ensures { result ≡ space_in self.now.geometry.numbers.blocks
+            (block_count self.now.book.state.deferred + picked) (shared_of self.now) }
     {
         let free = free_blocks(&self.lists);
         let chain = log_pages(&self.cells);
         let kept = data_blocks(&self.cells, &self.book);
-        let pending = self.book.deferred_blocks();
+        let pending = self.book.deferred_blocks() + picked;
         let data = kept.saturating_sub(pending);
         let hand = self.geometry.numbers.blocks - free - chain - kept;
         Space {
@@ -136,6 +144,42 @@ fn log_counts(alloc: Global, cell: &InodeCell) -> Result<LogCounts, Fault>
         entries: cell.tail(),
         pages: Items::from_vec(pages),
     })
+}
+
+/// How many blocks are those of records that drains have picked and not yet released.
+fn picked_blocks(actors: &[Actor]) -> u64
+    requires { length actors.now ≤ 64 }
+    ensures value { result ≡ sum_by picked_of actors.now }
+    ensures few { result ≤ length actors.now }
+{
+    let mut count = 0;
+    for actor in actors {
+        count += picked_by(actor);
+    }
+    count
+}
+
+/// How many are those of one actor: one or none.
+fn picked_by(actor: &Actor) -> u64
+    ensures value { result ≡ picked_of actor.now }
+    ensures few { result ≤ 1 }
+{
+    match (&actor.hold, &actor.running) {
+        (Hold::Hand(_), Some(running)) => picked_at(&running.next),
+        _ => 0,
+    }
+}
+
+/// How many are that of a call before this step.
+fn picked_at(next: &Next) -> u64
+    ensures value { result ≡ picked_at next.now }
+    ensures few { result ≤ 1 }
+{
+    match next {
+        Next::Snapshots(SnapshotStep::LockPicked(_, picked) | SnapshotStep::Release(_, picked))
+            if picked.is_page() => 1,
+        _ => 0,
+    }
 }
 
 /// How many blocks the lists have.

@@ -1,31 +1,32 @@
 //! A call that runs.
 
-ghost use Rattle.std.specs.Prelude.{◌≡◌, ◌⊎◌, ◌<◌, ◌+◌, ℕ, List, None, false, length, true};
+ghost use Rattle.std.specs.Prelude.{◌≡◌, ◌<◌, ◌+◌, ℕ, List, None, false, length, true};
 ghost use Rattle.nv_calls.specs.Prepared.{makes};
 ghost use Rattle.nv_machine.specs.Reads.{slots_of};
-ghost use Rattle.nv_machine.specs.Sequence.{begun, beginning, locking, looking, nothing_looked};
+ghost use Rattle.nv_machine.specs.Sequence.{begun, beginning, first_step, locking, looking, new_draining, nothing_looked};
+ghost use Rattle.nv_base.specs.declared.limits.TheConstants.{DRAIN};
 ghost use Rattle.nv_machine.specs.World as machine;
-ghost use Rattle.nv_core.specs.Rooms.{FitsCall, FitsNext, HasRooms, IsHandOf, takes};
-ghost use Rattle.nv_core.specs.Shown.{Told, next_of, shared_of, shown, slots_in};
+ghost use Rattle.nv_core.specs.Rooms.{FitsCall, FitsNext, HasNextRoom, HasRooms, HasStepRoom, IsHandOf, takes};
+ghost use Rattle.nv_core.specs.Shown.{Told, draining_of, next_of, shared_of, shown, slots_in, step_on};
 ghost use Rattle.nv_calls.specs.Updates.{call_of};
-ghost use Rattle.nv_core.specs.Told.{IsChangeBy, IsJobOf, IsToldOf, IsVisitOf, KeepsJob, is_change, looking_at, starting};
+ghost use Rattle.nv_core.specs.Told.{IsAtStart, IsChangeBy, IsJobOf, IsToldOf, is_change, looking_at, starting};
 
 use crate::hold::Hold;
 use crate::job::{Job, Owed, job_of, locked, look_count};
-use crate::next::{Ending, Next};
+use crate::next::{Draining, Ending, Next, SnapshotStep};
 use crate::shared::Shared;
 use crate::slots::Slots;
 use crate::turn::Turn;
 use nv_alloc::Hand;
-use nv_base::{Gen, Handle, Ino};
-use nv_calls::{Call, Looked, Plan, Update};
+use nv_base::{Gen, Handle, Ino, limits};
+use nv_calls::{Call, Looked, Plan, SnapshotCall, Update};
 use std::alloc::Global;
 
 /// How many more rounds of looks a call may make after its first.
 const ROUNDS: u64 = 7;
 
 /// A call that runs.
-#[derive(Debug, Drop)]
+#[derive(Drop)]
 pub(crate) struct Running {
     pub(crate) job: Job,
     pub(crate) owed: Owed,
@@ -48,6 +49,8 @@ pub(crate) fn locking(place: usize, slots: &Slots) -> Next
     ensures next { next_of result ≡ locking place (slots_in slots.now) }
     ensures before { (job : Job) → is_change job ≡ true → FitsNext result job }
     ensures none { takes result ≡ false }
+    ensures room { (how : Ending) (job : Job) (hand : Hand)
+        → HasNextRoom result how job hand }
 {
     if place < slots.len() {
         return Next::Lock(place);
@@ -62,6 +65,8 @@ pub(crate) fn looking(place: usize, update: &Update, slots: &Slots) -> Next
     ensures before { (job : Job) (plan : Plan) → IsChangeBy job plan → plan.update ≡ update.now
         → FitsNext result job }
     ensures none { takes result ≡ false }
+    ensures room { (how : Ending) (job : Job) (hand : Hand)
+        → HasNextRoom result how job hand }
 {
     if place < look_count(update) {
         return Next::Look(place);
@@ -85,18 +90,62 @@ pub(crate) fn slots_of(inodes: u64, number: Option<Ino>, update: &Update, looked
 
 /// The first step of a call, and the slots that it locks as far as they are known.
 fn first_step(inodes: u64, job: &Job, looked: &Looked) -> (Next, Slots)
-    requires job { (is_change job.now ≡ true) ⊎ IsVisitOf job.now }
+    requires job { IsAtStart job.now }
     requires looked { looked.now ≡ nothing_looked }
     ensures first { (s : machine.Shared) (owed : Owed) (c : Call) → length s.cells ≡ inodes
         → IsJobOf job.now owed c → let first = begun (beginning c) s c in
         (next_of result.0 ≡ first.next) × (slots_in result.1 ≡ first.slots) }
     ensures before { FitsNext result.0 job.now }
     ensures none { takes result.0 ≡ false }
+    ensures room { (how : Ending) (job : Job) (hand : Hand)
+        → HasNextRoom result.0 how job hand }
 {
     let none = Slots::none();
-    let Job::Change(Plan { update, .. }, _) = job else {
-        return (Next::Visit, none);
-    };
+    match job {
+        Job::Change(Plan { update, .. }, _) => first_of_change(inodes, update, looked),
+        Job::Snapshots(call) => (Next::Snapshots(first_on_snapshots(call)), none),
+        Job::Visit(_) | Job::Given => (Next::Visit, none),
+    }
+}
+
+/// The first step of a call on snapshots.
+fn first_on_snapshots(call: &SnapshotCall) -> SnapshotStep
+    ensures step { step_on result ≡ first_step call.now }
+    ensures room { (hand : Hand) → HasStepRoom result hand }
+{
+    match call {
+        SnapshotCall::Snap => SnapshotStep::Make,
+        SnapshotCall::Drop(snapshot) => SnapshotStep::Drop(snapshot.number()),
+        SnapshotCall::Show(snapshot) => SnapshotStep::Pin(snapshot.number()),
+        SnapshotCall::Drain(number) => SnapshotStep::Pick(new_draining(*number)),
+    }
+}
+
+/// A drain that may release so many records. A number outside 1 to [`limits::DRAIN`] counts as the nearest of these.
+fn new_draining(number: u64) -> Draining
+    ensures value { draining_of result ≡ new_draining number }
+    ensures few { result.released + result.left < DRAIN }
+    ensures none { result.released ≡ 0 }
+{
+    Draining {
+        released: 0,
+        left: limits::most_drained(number) - 1,
+    }
+}
+
+/// The first step of a call that changes nodes, and its slots as far as they are known.
+fn first_of_change(inodes: u64, update: &Update, looked: &Looked) -> (Next, Slots)
+    requires looked { looked.now ≡ nothing_looked }
+    ensures first { (s : machine.Shared) (text : List ℕ) → length s.cells ≡ inodes
+        → let c = call_of update.now text in let first = begun (beginning c) s c in
+        (next_of result.0 ≡ first.next) × (slots_in result.1 ≡ first.slots) }
+    ensures before { (job : Job) (plan : Plan) → IsChangeBy job plan → plan.update ≡ update.now
+        → FitsNext result.0 job }
+    ensures none { takes result.0 ≡ false }
+    ensures room { (how : Ending) (job : Job) (hand : Hand)
+        → HasNextRoom result.0 how job hand }
+{
+    let none = Slots::none();
     match update {
         Update::Create { .. } | Update::Mkdir { .. } => (Next::Number, none),
         Update::Unlink { .. } | Update::Rmdir { .. } | Update::Rename { .. } => {
@@ -149,7 +198,7 @@ impl Running {
     {
         match &self.job {
             Job::Change(plan, _) => plan,
-            Job::Visit(_) | Job::Given => unreachable!(),
+            Job::Visit(_) | Job::Snapshots(_) | Job::Given => unreachable!(),
         }
     }
 }

@@ -1,6 +1,6 @@
 //! The slots that a call locks.
 
-ghost use Rattle.std.specs.Prelude.{◌≡◌, ℕ, ◌<◌, ◌≤◌, AllPairs, [], length, slice_index_or, take};
+ghost use Rattle.std.specs.Prelude.{◌≡◌, ℕ, ◌<◌, ◌≤◌, AllPairs, [], ◌∷◌, length, slice_index_or, take};
 ghost use Rattle.nv_machine.specs.Reads.{with_slot};
 
 use nv_base::Ino;
@@ -27,6 +27,16 @@ impl Slots {
         Slots {
             inos: [Ino::new(0); PLACES],
             count: 0,
+        }
+    }
+
+    /// The slot of this number alone.
+    pub(crate) fn one(ino: Ino) -> Slots
+        ensures { slots_in result ≡ ino ∷ [] }
+    {
+        Slots {
+            inos: [ino; PLACES],
+            count: 1,
         }
     }
 

@@ -27,6 +27,7 @@ use crate::kinds::open::open;
 use crate::kinds::publish::publish;
 use crate::kinds::ready::ready;
 use crate::kinds::retire::retire;
+use crate::kinds::snapshots::on_snapshots;
 use crate::kinds::take::{take_blocks, take_pages};
 use crate::kinds::unlock::unlock;
 use crate::kinds::visit::visit;
@@ -178,7 +179,7 @@ fn turn(
     match hold {
         Hold::Hand(hand) => match running.next {
             Next::Ready => pass_on(alloc, shared, hold, running, actor),
-            _ => alone(shared, hand, running, actor),
+            _ => alone(alloc, shared, hand, running, actor),
         },
         Hold::Ready(_) => pass_on(alloc, shared, hold, running, actor),
         Hold::Commit(commit) => {
@@ -192,7 +193,13 @@ fn turn(
 }
 
 /// A step of a call whose hand is with the actor alone.
-fn alone(shared: &mut Shared, hand: &mut Hand, running: &mut Running, actor: u64) -> Turn
+fn alone(
+    alloc: Global,
+    shared: &mut Shared,
+    hand: &mut Hand,
+    running: &mut Running,
+    actor: u64,
+) -> Turn
     requires apart { running.old.next ≢ Next.Ready }
     requires can { CanStep shared.old (Hold.Hand hand.old) running.old actor }
     requires rooms { HasRooms shared.old (Hold.Hand hand.old) running.old }
@@ -218,6 +225,7 @@ fn alone(shared: &mut Shared, hand: &mut Hand, running: &mut Running, actor: u64
         Next::Give(cpu) => give(shared, hand, running, cpu),
         Next::Back => back(shared, hand, running),
         Next::Visit => visit(shared, running),
+        Next::Snapshots(_) => on_snapshots(alloc, shared, hand, running, actor),
     }
 }
 

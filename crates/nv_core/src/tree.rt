@@ -1,19 +1,23 @@
 //! The tree of a world: its nodes with their paths.
 
-ghost use Rattle.std.specs.Prelude.{◌≡◌, ℕ, IfOk};
+ghost use Rattle.std.specs.Prelude.{◌≡◌, ◌⊎◌, ℕ, IfErr, IfOk, IsSome, None};
 ghost use Rattle.nv_base.specs.Refusals.{FailsOnly};
-ghost use Rattle.nv_base.specs.declared.fault.Fault.TheVariants.{OutOfMemory};
+ghost use Rattle.nv_base.specs.declared.fault.Fault.TheVariants.{NoSnapshot, OutOfMemory};
 ghost use Rattle.nv_calls.specs.Plain.{node_in};
+ghost use Rattle.nv_epoch.specs.SnapList.{pins_of};
+ghost use Rattle.nv_machine.specs.Snapshots.{copies_at};
 ghost use Rattle.nv_machine.specs.World as machine;
-ghost use Rattle.nv_core.specs.Settled.{AreSettled, noted_or, settled_nodes, settled_tail, tree_in, tree_of};
+ghost use Rattle.nv_core.specs.Settled.{AreSettled, AreSettledAt, noted_or, settled_copies, settled_nodes, settled_tail, snapshot_tree, tree_at, tree_in, tree_of};
 ghost use Rattle.nv_core.specs.Shown.{shared_of};
+ghost use Rattle.nv_core.specs.Steps.{CanShow};
 ghost use Rattle.nv_core.specs.Worlds.{Shows};
 
 use crate::World;
 use crate::shared::Shared;
-use nv_base::{Fault, Gen, Handle, Ino};
+use crate::showing::root;
+use nv_base::{Epoch, Fault, Handle, Ino};
 use nv_entry::{NodeCopy, Tree};
-use nv_reader::{Walk, settled_on};
+use nv_reader::{Walk, settled_on, show_on};
 use std::alloc::Global;
 
 impl World {
@@ -25,6 +29,20 @@ impl World {
     {
         self.shared.tree(self.alloc)
     }
+
+    /// The tree of a living snapshot: the nodes at its epoch. `NoSnapshot` where it doesn't live, before `OutOfMemory`.
+    pub fn snap_tree(&self, snapshot: Epoch) -> Result<Tree, Fault>
+        ensures ok { (m : machine.World) → Shows self.now m → IfOk result (λ tree.
+            (tree ≡ snapshot_tree m snapshot) × IsSome (pins_of m.shared.book.snaps snapshot)) }
+        ensures err { (m : machine.World) → Shows self.now m → IfErr result (λ fault.
+            ((fault ≡ NoSnapshot) × (pins_of m.shared.book.snaps snapshot ≡ None))
+            ⊎ ((fault ≡ OutOfMemory) × IsSome (pins_of m.shared.book.snaps snapshot))) }
+    {
+        if !self.shared.book.snaps().has(snapshot) {
+            return Err(Fault::NoSnapshot);
+        }
+        self.shared.tree_at(self.alloc, snapshot)
+    }
 }
 
 impl Shared {
@@ -34,11 +52,7 @@ impl Shared {
         ensures ok { IfOk result (λ tree. tree ≡ tree_in (shared_of self.now)) }
         ensures err { FailsOnly OutOfMemory result }
     {
-        let root = Handle {
-            ino: Ino::new(0),
-            generation: Gen::new(1),
-        };
-        let mut walk = Walk::new(alloc, root, self.cells.len())?;
+        let mut walk = Walk::new(alloc, root(), self.cells.len())?;
         let mut nodes = Vec::new(alloc);
         while let Some(handle) = walk.wanted() {
             let node = self.settled_node(alloc, &handle)?;
@@ -47,6 +61,62 @@ impl Shared {
             }
         }
         Ok(Tree::from_vec(nodes))
+    }
+
+    /// The tree of these cells at the end of an epoch, from the root.
+    fn tree_at(&self, alloc: Global, epoch: Epoch) -> Result<Tree, Fault>
+        requires can { CanShow self.now epoch }
+        requires settled { AreSettledAt epoch (shared_of self.now) }
+        ensures ok { IfOk result (λ tree. tree ≡ tree_at epoch (shared_of self.now)) }
+        ensures err { FailsOnly OutOfMemory result }
+    {
+        let mut walk = Walk::new(alloc, root(), self.cells.len())?;
+        let mut shown = Vec::new(alloc);
+        while let Some(handle) = walk.wanted() {
+            let node = self.snapshot_node(alloc, &handle, epoch)?;
+            if let Some(given) = walk.hand_in(node)? {
+                shown.push(given)?;
+            }
+        }
+        Ok(Tree::from_vec(shown))
+    }
+
+    /// The node under a handle in a living snapshot: at its epoch the settled logs have the nodes of the logs.
+    fn snapshot_node(
+        &self,
+        alloc: Global,
+        handle: &Handle,
+        epoch: Epoch,
+    ) -> Result<Option<NodeCopy>, Fault>
+        requires can { CanShow self.now epoch }
+        requires settled { AreSettledAt epoch (shared_of self.now) }
+        ensures ok { IfOk result (λ node.
+            node ≡ settled_copies (shared_of self.now) epoch handle.now) }
+        ensures err { FailsOnly OutOfMemory result }
+    {
+        self.node_at(alloc, handle, epoch)
+    }
+
+    /// The node under a handle at the end of an epoch; none where the handle is stale.
+    pub(crate) fn node_at(
+        &self,
+        alloc: Global,
+        handle: &Handle,
+        epoch: Epoch,
+    ) -> Result<Option<NodeCopy>, Fault>
+        requires { CanShow self.now epoch }
+        ensures ok { IfOk result (λ node. node ≡ copies_at (shared_of self.now) epoch handle.now) }
+        ensures err { FailsOnly OutOfMemory result }
+    {
+        let place = handle.ino.number() as usize;
+        if place >= self.cells.len() {
+            return Ok(None);
+        }
+        let cell = &self.cells[place];
+        if handle.generation != cell.generation() {
+            return Ok(None);
+        }
+        show_on(alloc, cell, epoch)
     }
 
     /// The node under a handle by its settled log; none where the handle is stale.

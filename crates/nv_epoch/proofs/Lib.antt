@@ -1,5 +1,5 @@
 pub mod Last
-mod HolderLaws
+pub mod HolderLaws
 mod Places
 mod Sound
-mod Pins
+pub mod Pins

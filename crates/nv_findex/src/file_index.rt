@@ -65,6 +65,17 @@ impl FileIndex {
         runs::run_from(&self.runs, page)
     }
 
+    /// The same run, which is looked for at a place among the runs first: a right place spares the look-up. It becomes
+    /// the place behind the run, so that a walk over pages that goes on from each run's end costs one look-up in all.
+    #[tactic(auto, using(crate::proofs::Refs::refs_within))]
+    pub fn run_near(&self, page: u32, place: &mut usize) -> Option<PageRun>
+        ensures run { IsRunFrom page (ref_at self.now.pages) result }
+        ensures within { IfSome result (λ run. IsRun run) }
+        ensures value { AreWithin (ref_at self.now.pages) }
+    {
+        runs::run_near(&self.runs, page, place)
+    }
+
     /// The least present page that isn't below `page`, and where it lies. Costs one look-up.
     #[tactic(auto, using(crate::proofs::Refs::refs_within))]
     pub fn next_from(&self, page: u32) -> Option<(u32, PageRef)>

@@ -75,6 +75,19 @@ fn ended_by(runs: &[PageRun], page: u32) -> usize
     ended_near(runs, guess, page)
 }
 
+/// The same where it may be known: a right guess spares the search.
+fn ended_at(runs: &[PageRun], guess: usize, page: u32) -> usize
+    requires { AreRuns runs.now }
+    ensures within { result ≤ length runs.now }
+    ensures border { IsBorder page result runs.now }
+{
+    let guess = guess.min(runs.len());
+    if is_border(runs, guess, page) {
+        return guess;
+    }
+    ended_by(runs, page)
+}
+
 /// The run that holds a page, or else the first one behind it.
 pub fn run_from(runs: &[PageRun], page: u32) -> Option<PageRun>
     requires { AreRuns runs.now }
@@ -82,6 +95,17 @@ pub fn run_from(runs: &[PageRun], page: u32) -> Option<PageRun>
     ensures within { IfSome result (λ run. IsRun run) }
 {
     get(runs, ended_by(runs, page))
+}
+
+/// The same run, which is looked for at a place first. That becomes the place behind it.
+pub fn run_near(runs: &[PageRun], page: u32, place: &mut usize) -> Option<PageRun>
+    requires { AreRuns runs.now }
+    ensures run { IsRunFrom page (ref_at runs.now) result }
+    ensures within { IfSome result (λ run. IsRun run) }
+{
+    let at = ended_at(runs, *place, page);
+    *place = at.saturating_add(1);
+    get(runs, at)
 }
 
 /// Where a page lies.

@@ -1,5 +1,5 @@
 -- A call that is to end so ends so, whatever follows; and one that has committed is to be answered.
-use Rattle.std.proofs.Common.{◌≡◌, ℕ, ◌+◌, ◌%◌, ◌<◌, ◌∙◌, inl, inr, Bool, true, false, cond, List, [], ◌∷◌, Option, Some, None, ap, get_or-set_same, if◌then◌else◌, length, nat_lt, refl, subst, sym}
+use Rattle.std.proofs.Common.{Ok, Err, ◌≡◌, ℕ, ◌+◌, ◌%◌, ◌<◌, ◌∙◌, inl, inr, Bool, true, false, cond, List, [], ◌∷◌, Option, Some, None, ap, get_or-set_same, if◌then◌else◌, length, nat_lt, refl, subst, sym}
 use Rattle.std.proofs.lemmas.Bool.{false≢true, lt-ltb}
 use Rattle.nv_base.specs.declared.numbers.Handle.{Handle}
 use Rattle.nv_calls.specs.AllCalls.{answer}
@@ -9,13 +9,13 @@ use Rattle.nv_calls.specs.declared.call.Call.TheVariants as call
 use Rattle.nv_machine.specs.Answered.{GoesTo, IsFinal, IsLast, IsMovedTo, IsToEnd, answer_of}
 use Rattle.nv_machine.specs.Frame.{lent}
 use Rattle.nv_machine.specs.Kept.{IsKept, Knows, KnowsOf}
-use Rattle.nv_machine.specs.Kinds.{back_turn, end_turn, over_turn, rest_turn, result_by, unlocked_turn}
+use Rattle.nv_machine.specs.Kinds.{back_turn, end_turn, over_turn, rest_turn, result_by, unlocked_turn, last_turn}
 use Rattle.nv_machine.specs.Locks.{commits_at}
-use Rattle.nv_machine.specs.PlainRun.{Commits, Nothing, Numbers, deed, deed_by, deed_of, entered, keeps_nodes}
+use Rattle.nv_machine.specs.PlainRun.{Commits, Nothing, Numbers, deed, deed_by, deed_of, entered, keeps_nodes, done_on, Deed}
 use Rattle.nv_machine.specs.Reads.{written_slots}
 use Rattle.nv_machine.specs.Sequence.{Visits, appending, beginning, closing, opening, publishing, retiring}
 use Rattle.nv_machine.specs.Step.{kind_turn, reply_of, step, turn, turned}
-use Rattle.nv_machine.specs.World.{Actor, Answers, Append, Back, Check, Close, Ending, Ends, Enter, Give, Go, HandState, Leave, Lock, Look, Moves, Next, Number, Open, Overtaken, Publish, Ready, Refuses, Retire, Running, Shared, TakeBlocks, TakePages, Turn, Unlock, Visit, Waits, World, actor_at, idle}
+use Rattle.nv_machine.specs.World.{Actor, Answers, Append, Back, Check, Close, Ending, Ends, Enter, Give, Go, HandState, Leave, Lock, Look, Moves, Next, Number, Open, Overtaken, Publish, Ready, Refuses, Retire, Running, Shared, TakeBlocks, TakePages, Turn, Unlock, Visit, Waits, World, actor_at, idle, Drains, Snapshots, Drop, LockPicked, Make, Pick, Pin, Release, Show, SnapshotStep, Unpin}
 use Rattle.nv_machine.proofs.Events.{go_is_turn}
 
 -- a turn goes towards an end of a call
@@ -24,17 +24,26 @@ OnEnd e r (Moves t h q) = IsToEnd e q × (answer_of q ≡ answer_of r)
 OnEnd e r Waits = ⊥
 OnEnd e r (Ends result t h) = result ≡ result_by e r
 
-rest_end : (e : Ending) (home number : Option ℕ) (s : Shared) (h : HandState) (r : Running) → r.ending ≡ e
+last_end : (e : Ending) (s : Shared) (h : HandState) (r : Running) → IsFinal e → r.ending ≡ e → OnEnd e r (last_turn r.ending s h r)
+last_end e s h r final is = subst (λ x. OnEnd e r (last_turn x s h r)) (sym is) (go e final) where
+  go : (x : Ending) → IsFinal x → OnEnd x r (last_turn x s h r)
+  go Answers final = refl
+  go (Refuses fault) final = refl
+  go Overtaken final = absurd final
+  go (Drains draining) final = absurd final
+
+rest_end : (e : Ending) (home number : Option ℕ) (s : Shared) (h : HandState) (r : Running) → IsFinal e → r.ending ≡ e
     → OnEnd e r (rest_turn home number s h r)
-rest_end e (Some cpu) number s h r is = (record { ends = is; last = tt }, refl)
-rest_end e None (Some ino) s h r is = (record { ends = is; last = tt }, refl)
-rest_end e None None s h r is = rw is refl
+rest_end e (Some cpu) number s h r final is = (record { ends = is; last = tt }, refl)
+rest_end e None (Some ino) s h r final is = (record { ends = is; last = tt }, refl)
+rest_end e None None s h r final is = last_end e s h r final is
 
 over_end : (e : Ending) (s : Shared) (h : HandState) (r : Running) → IsFinal e → r.ending ≡ e
     → OnEnd e r (over_turn e s h r)
-over_end Answers s h r final is = rest_end Answers _ h.ino s h r is
-over_end (Refuses fault) s h r final is = rest_end (Refuses fault) _ h.ino s h r is
+over_end Answers s h r final is = rest_end Answers _ h.ino s h r final is
+over_end (Refuses fault) s h r final is = rest_end (Refuses fault) _ h.ino s h r final is
 over_end Overtaken s h r final is = absurd final
+over_end (Drains draining) s h r final is = absurd final
 
 unlocked_end : (e : Ending) (s : Shared) (h : HandState) (r : Running) → IsFinal e → r.ending ≡ e
     → OnEnd e r (over_turn r.ending s h r)
@@ -81,10 +90,10 @@ unlock_end : (e : Ending) (more : Bool) (place : ℕ) (s : Shared) (h : HandStat
 unlock_end e true place s h r final is = (record { ends = is; last = tt }, refl)
 unlock_end e false place s h r final is = unlocked_end e s h r final is
 
-back_end : (e : Ending) (number : Option ℕ) (s : Shared) (h : HandState) (r : Running) → r.ending ≡ e
+back_end : (e : Ending) (number : Option ℕ) (s : Shared) (h : HandState) (r : Running) → IsFinal e → r.ending ≡ e
     → OnEnd e r (back_turn number s h r)
-back_end e None s h r is = rw is refl
-back_end e (Some ino) s h r is = rw is refl
+back_end e None s h r final is = last_end e s h r final is
+back_end e (Some ino) s h r final is = last_end e _ _ r final is
 
 kind_end : (e : Ending) (k : Next) (block a : ℕ) (granted : Bool) (s : Shared) (h : HandState) (r : Running) → IsFinal e
     → r.ending ≡ e → IsLast k → OnEnd e r (kind_turn k block a granted s h r)
@@ -92,8 +101,8 @@ kind_end e (Retire place) block a granted s h r final is last =
     (record { ends = is; last = retiring_last (place + 1) (written_slots r) }, refl)
 kind_end e Leave block a granted s h r final is last = end_end e r.slots _ h r final is
 kind_end e (Unlock place) block a granted s h r final is last = unlock_end e _ place _ h r final is
-kind_end e (Give cpu) block a granted s h r final is last = rest_end e _ h.ino _ _ r is
-kind_end e Back block a granted s h r final is last = back_end e h.ino s h r is
+kind_end e (Give cpu) block a granted s h r final is last = rest_end e _ h.ino _ _ r final is
+kind_end e Back block a granted s h r final is last = back_end e h.ino s h r final is
 kind_end e Number block a granted s h r final is last = absurd last
 kind_end e (Look place) block a granted s h r final is last = absurd last
 kind_end e (Lock place) block a granted s h r final is last = absurd last
@@ -111,6 +120,7 @@ kind_end e (Publish place) block a granted s h r final is last =
 kind_end e Close block a granted s h r final is last =
     (record { ends = is; last = retiring_last 0 (written_slots r) }, refl)
 kind_end e Visit block a granted s h r final is last = absurd last
+kind_end e (Snapshots step) block a granted s h r final is last = absurd last
 
 -- ---- commit points
 
@@ -128,6 +138,32 @@ entered_none (Moves s h r) e = go (commits_at r.next) e where
   go false q = no_commit q
 entered_none Waits e = no_commit e
 entered_none (Ends result s h) e = no_commit e
+
+-- a deed that is no commit
+abbrev is_commit : Deed → Bool
+is_commit Commits = true
+is_commit other = false
+
+pub no_commit_on : (step : SnapshotStep) (t : Turn) → done_on step t ≡ Commits → ⊥
+no_commit_on step t e = false≢true (sym (never step t) ∙ ap is_commit e) where
+  never : (step : SnapshotStep) (t : Turn) → is_commit (done_on step t) ≡ false
+  never step (Moves s h r) = refl
+  never step Waits = refl
+  never (Unpin snapshot seen) (Ends result s h) = refl
+  never Make (Ends (Ok found) s h) = refl
+  never (Drop snapshot) (Ends (Ok found) s h) = refl
+  never (Pin snapshot) (Ends (Ok found) s h) = refl
+  never (Show snapshot showing) (Ends (Ok found) s h) = refl
+  never (Pick draining) (Ends (Ok found) s h) = refl
+  never (LockPicked draining picked) (Ends (Ok found) s h) = refl
+  never (Release draining picked) (Ends (Ok found) s h) = refl
+  never Make (Ends (Err fault) s h) = refl
+  never (Drop snapshot) (Ends (Err fault) s h) = refl
+  never (Pin snapshot) (Ends (Err fault) s h) = refl
+  never (Show snapshot showing) (Ends (Err fault) s h) = refl
+  never (Pick draining) (Ends (Err fault) s h) = refl
+  never (LockPicked draining picked) (Ends (Err fault) s h) = refl
+  never (Release draining picked) (Ends (Err fault) s h) = refl
 
 commit_answer : (k : Next) (block a cpu : ℕ) (granted : Bool) (s : Shared) (h : HandState) (r : Running) → Knows k block s cpu h r
     → deed k (written_slots r) (kind_turn k block a granted s h r) ≡ Commits → OnEnd Answers r (kind_turn k block a granted s h r)
@@ -149,6 +185,7 @@ commit_answer (Unlock place) block a cpu granted s h r knows e = absurd (no_comm
 commit_answer (Give home) block a cpu granted s h r knows e = absurd (no_commit e)
 commit_answer Back block a cpu granted s h r knows e = absurd (no_commit e)
 commit_answer Visit block a cpu granted s h r knows e = absurd (no_commit e)
+commit_answer (Snapshots step) block a cpu granted s h r knows e = absurd (no_commit_on step _ e)
 
 -- ---- events
 
@@ -191,33 +228,34 @@ commits_to_answer w actor granted r kept there is e =
 -- ---- a step that changes a cell
 
 cell_answers : (k : Next) (block cpus cpu a ino : ℕ) (s : Shared) (h : HandState) (r : Running) → Knows k block s cpu h r
-    → (lent k cpus a r).cell ≡ Some ino → (r.ending ≡ Answers) × IsLast k
-cell_answers (Append place) block cpus cpu a ino s h r knows e = (knows.1, tt)
-cell_answers (Publish place) block cpus cpu a ino s h r knows e = (knows.1, tt)
-cell_answers (Retire place) block cpus cpu a ino s h r knows e = (knows.1, tt)
-cell_answers Number block cpus cpu a ino s h r knows e = cc
-cell_answers (Look place) block cpus cpu a ino s h r knows e = cc
-cell_answers (Lock place) block cpus cpu a ino s h r knows e = cc
-cell_answers Check block cpus cpu a ino s h r knows e = cc
-cell_answers (TakeBlocks asked) block cpus cpu a ino s h r knows e = cc
-cell_answers (TakePages asked) block cpus cpu a ino s h r knows e = cc
-cell_answers Ready block cpus cpu a ino s h r knows e = cc
-cell_answers Enter block cpus cpu a ino s h r knows e = cc
-cell_answers Open block cpus cpu a ino s h r knows e = cc
-cell_answers Close block cpus cpu a ino s h r knows e = cc
-cell_answers Leave block cpus cpu a ino s h r knows e = cc
-cell_answers (Unlock place) block cpus cpu a ino s h r knows e = cc
-cell_answers (Give home) block cpus cpu a ino s h r knows e = cc
-cell_answers Back block cpus cpu a ino s h r knows e = cc
-cell_answers Visit block cpus cpu a ino s h r knows e = cc
+    → commits_at k ≡ true → (lent k cpus a r).cell ≡ Some ino → (r.ending ≡ Answers) × IsLast k
+cell_answers (Append place) block cpus cpu a ino s h r knows c e = (knows.1, tt)
+cell_answers (Publish place) block cpus cpu a ino s h r knows c e = (knows.1, tt)
+cell_answers (Retire place) block cpus cpu a ino s h r knows c e = (knows.1, tt)
+cell_answers Number block cpus cpu a ino s h r knows c e = cc
+cell_answers (Look place) block cpus cpu a ino s h r knows c e = cc
+cell_answers (Lock place) block cpus cpu a ino s h r knows c e = cc
+cell_answers Check block cpus cpu a ino s h r knows c e = cc
+cell_answers (TakeBlocks asked) block cpus cpu a ino s h r knows c e = cc
+cell_answers (TakePages asked) block cpus cpu a ino s h r knows c e = cc
+cell_answers Ready block cpus cpu a ino s h r knows c e = cc
+cell_answers Enter block cpus cpu a ino s h r knows c e = cc
+cell_answers Open block cpus cpu a ino s h r knows c e = cc
+cell_answers Close block cpus cpu a ino s h r knows c e = cc
+cell_answers Leave block cpus cpu a ino s h r knows c e = cc
+cell_answers (Unlock place) block cpus cpu a ino s h r knows c e = cc
+cell_answers (Give home) block cpus cpu a ino s h r knows c e = cc
+cell_answers Back block cpus cpu a ino s h r knows c e = cc
+cell_answers Visit block cpus cpu a ino s h r knows c e = cc
+cell_answers (Snapshots step) block cpus cpu a ino s h r knows c e = cc
 
 pub cells_are_answered : (w : World) (actor ino : ℕ) (r : Running) → IsKept w → (actor_at w actor).running ≡ Some r
-    → (lent r.next (length w.shared.lists) actor r).cell ≡ Some ino → IsToEnd Answers r
-cells_are_answered w actor ino r kept is e =
+    → commits_at r.next ≡ true → (lent r.next (length w.shared.lists) actor r).cell ≡ Some ino → IsToEnd Answers r
+cells_are_answered w actor ino r kept is c e =
     let both = cell_answers r.next w.numbers.block (length w.shared.lists) (actor % length w.shared.lists) actor ino w.shared
     (actor_at w actor).hand r
     (subst (λ (running : Option Running). KnowsOf running w.numbers.block w.shared (actor % length w.shared.lists)
-    (actor_at w actor).hand) is (kept.each actor)) e in
+    (actor_at w actor).hand) is (kept.each actor)) c e in
     record { ends = both.0; last = both.1 }
 
 -- ---- the answer of a call that commits is told by no node
@@ -236,3 +274,4 @@ no_node_tells nodes other made (call.Read file offset count) h = absurd (h refl)
 no_node_tells nodes other made (call.Stat handle) h = absurd (h refl)
 no_node_tells nodes other made (call.List dir) h = absurd (h refl)
 no_node_tells nodes other made (call.Lookup dir name) h = absurd (h refl)
+no_node_tells nodes other made (call.Snapshots what) h = refl

@@ -16,7 +16,7 @@ use Rattle.nv_machine.specs.Format.{formatted}
 use Rattle.nv_machine.specs.Hands.{HandOf, is_going}
 use Rattle.nv_machine.specs.Kinds.{asked_list, blocks_in, blocks_turn, end_turn, less_list, pages_turn, rest_turn, wants_pages}
 use Rattle.nv_machine.specs.Reads.{home_from, slots_of}
-use Rattle.nv_machine.specs.Sequence.{Beginning, Looks, Locks, Numbers, Visits, beginning, begun, nothing_looked}
+use Rattle.nv_machine.specs.Sequence.{Beginning, Locks, Looks, Numbers, OnSnapshots, Visits, beginning, begun, nothing_looked}
 use Rattle.nv_machine.specs.Step.{after, go_step, kind_turn, start_step, step, turn, turned}
 use Rattle.nv_machine.specs.Takings.{AreEmptied, Asked, IsEmptied, IsShortInAll, Taking, and_asked, asked_in, asking, asks_list, beginning_with, no_taking, taking_after, taking_by, taking_in, taking_of}
 use Rattle.nv_machine.specs.World.{Actor, Answers, Check, Ends, Event, Go, HandState, Lock, Moves, Next, Ready, Refuses, Running, Shared, Start, TakeBlocks, TakePages, Turn, Waits, World, actor_at, idle, list_at, no_list}
@@ -312,6 +312,7 @@ module _ (cpus actor : ℕ) (some : 0 < cpus) where
   begun_asks Looks s c taking = tt
   begun_asks Locks s c taking = locking_asks (nat_lt 0 (length (slots_of s None nothing_looked c))) 0 taking
   begun_asks Visits s c taking = tt
+  begun_asks (OnSnapshots first) s c taking = tt
 
   start_asks : (b : Bool) (running : Option Running) (w : World) (c : Call) (taking : Taking) → nat_lt actor (length w.actors) ≡ b
       → Own w taking → Own (start_step b running actor c w).world taking

@@ -3,7 +3,7 @@ use Rattle.std.proofs.Common.{◌≡◌, ℕ, zero, suc, ◌+◌, ◌-◌, ◌<�
 use Rattle.std.specs.Prelude.{Ok, Err}
 use Rattle.std.proofs.lemmas.Bool.{leb-true, ltb-false}
 use Rattle.nv_base.specs.declared.fault.Fault.{Fault}
-use Rattle.nv_base.specs.declared.fault.Fault.TheVariants.{CommitLimit, Contended, NoInode, NoSpace, OutOfMemory}
+use Rattle.nv_base.specs.declared.fault.Fault.TheVariants.{CommitLimit, Contended, NoInode, NoSpace, OutOfMemory, NoSnapshot}
 use Rattle.nv_base.specs.declared.limits.TheConstants.{NUMBER}
 use Rattle.nv_base.specs.declared.numbers.Handle.{Handle}
 use Rattle.nv_entry.specs.declared.node.NodeCopy.{NodeCopy}
@@ -12,12 +12,16 @@ use Rattle.nv_calls.specs.Plain.{Change}
 use Rattle.nv_calls.specs.Refusals.{Check as Tests, and_then, passes}
 use Rattle.nv_calls.specs.declared.answer.Answer.{Answer}
 use Rattle.nv_calls.specs.declared.looked.Looked.{Looked}
-use Rattle.nv_machine.specs.Causes.{EndsFor, FindsNone, IsOvertaken, MayBeOvertaken, IsCause, IsRefusal, IsRoundless, IsShort, RefusesFor}
-use Rattle.nv_machine.specs.Kinds.{again_turn, asked_list, back_turn, blocks_in, blocks_turn, check_ending, check_turn, end_turn, enter_turn, grown, lock_turn, look_tests, look_turn, number_turn, over_turn, pages_turn, rest_turn, unlocked_turn, visit_turn, wants_blocks, wants_pages}
+use Rattle.nv_machine.specs.Causes.{EndsFor, FindsNone, IsOvertaken, MayBeOvertaken, IsCause, IsRefusal, IsRoundless, IsShort, RefusesFor, IsCauseOn, IsDenied, ResultFor}
+use Rattle.nv_machine.specs.Kinds.{again_turn, asked_list, back_turn, blocks_in, blocks_turn, check_ending, check_turn, end_turn, enter_turn, grown, lock_turn, look_tests, look_turn, number_turn, over_turn, pages_turn, rest_turn, unlocked_turn, visit_turn, wants_blocks, wants_pages, drained_turn}
 use Rattle.nv_machine.specs.Reads.{copies, home_from, slots_of, written_slots}
 use Rattle.nv_machine.specs.Sequence.{appending, beginning, locking, looking, publishing, retiring}
 use Rattle.nv_machine.specs.Step.{ending_at, is_numbered, kind_turn, made_in, same_looked, visit_grows, with_made}
-use Rattle.nv_machine.specs.World.{Answers, Append, Back, Check, Close, Ending, Ends, Enter, Give, HandState, Leave, Lock, Look, Next, Number, Open, Overtaken, Publish, Ready, Refuses, Retire, Running, Shared, TakeBlocks, TakePages, Turn, Unlock, Visit, list_at}
+use Rattle.nv_machine.specs.World.{Answers, Append, Back, Check, Close, Ending, Ends, Enter, Give, HandState, Leave, Lock, Look, Next, Number, Open, Overtaken, Publish, Ready, Refuses, Retire, Running, Shared, TakeBlocks, TakePages, Turn, Unlock, Visit, list_at, Drop, LockPicked, Make, Pick, Pin, Release, Show, SnapshotStep, Snapshots, Unpin, Drains, Showing, Draining}
+use Rattle.nv_machine.specs.Snapshots.{drop_tests, drop_turn, if_free, is_first, lock_picked_turn, make_tests, make_turn, one_more, picked_turn, pin_turn, show_turn, shown_by, snapshot_turn, first_showing, seen_on, showing_on}
+use Rattle.nv_book.specs.declared.record.Record.{Record}
+use Rattle.nv_entry.specs.declared.tree.TreeNode.{TreeNode}
+use Rattle.nv_epoch.specs.SnapList.{pins_of}
 
 -- ---- a call that goes on or is answered
 
@@ -25,6 +29,7 @@ pub unrefused : (P : Fault → Type 0) (Q : Type 0) (next : Next) (e : Ending) �
 unrefused P Q next Answers e = tt
 unrefused P Q next (Refuses fault) e = cc
 unrefused P Q next Overtaken e = cc
+unrefused P Q next (Drains draining) e = cc
 
 rest_unrefused : (P : Fault → Type 0) (Q : Type 0) (home number : Option ℕ) (s : Shared) (h : HandState) (r : Running) → r.ending ≡ Answers
     → RefusesFor P Q (rest_turn home number s h r)
@@ -38,6 +43,7 @@ over_unrefused : (P : Fault → Type 0) (Q : Type 0) (e : Ending) (s : Shared) (
 over_unrefused P Q Answers s h r e f = rest_unrefused P Q _ h.ino s h r f
 over_unrefused P Q (Refuses fault) s h r e f = cc
 over_unrefused P Q Overtaken s h r e f = cc
+over_unrefused P Q (Drains draining) s h r e f = cc
 
 end_unrefused : (P : Fault → Type 0) (Q : Type 0) (slots : List ℕ) (s : Shared) (h : HandState) (r : Running) → r.ending ≡ Answers
     → RefusesFor P Q (end_turn slots r.ending s h r)
@@ -113,6 +119,7 @@ abbrev pub CheckCause : Tests → Bool → Tests → Bool → Option Ending → 
 CheckCause first same all numbered None = all ≡ passes
 CheckCause first same all numbered (Some Answers) = Unit {0}
 CheckCause first same all numbered (Some Overtaken) = (first ≡ passes) × (same ≡ false)
+CheckCause first same all numbered (Some (Drains draining)) = ⊥
 CheckCause first same all numbered (Some (Refuses fault)) =
     (first ≡ Err fault) ⊎ (all ≡ Err fault) ⊎ ((fault ≡ NoInode) × (numbered ≡ false) × (all ≡ passes))
 
@@ -143,6 +150,7 @@ check_caused nodes (Some Answers) granted wanted block actor s h r q told slots 
     rw (sym e) (end_unrefused _ _ q.slots s h q e)
 check_caused nodes (Some Overtaken) granted wanted block actor s h r q told slots rounds e =
     overtaken_caused _ _ q.slots s h q told (λ none over. inr (inr (inr (refl, told, sym slots ∙ none, sym rounds ∙ over))))
+check_caused nodes (Some (Drains draining)) granted wanted block actor s h r q told slots rounds e = absurd told
 check_caused nodes (Some (Refuses fault)) granted wanted block actor s h r q told slots rounds e =
     refused _ _ fault q.slots s h q (go told) where
       go : (early nodes r.call ≡ Err fault) ⊎ (refusal block nodes r.call ≡ Err fault)
@@ -205,6 +213,86 @@ visit_caused nodes None (Err fault) block actor given granted found s h r is lac
 visit_caused nodes None (Ok passed) block actor given granted found s h r is lack =
     denied _ _ given (Ends (Ok found) s h) s h r (λ e. inr ((refl, (lack e).0), (lack e).1, sym (is refl))) tt
 
+-- ---- calls on snapshots
+
+free_caused : (P : Fault → Type 0) (Q : Type 0) (holder : Option ℕ) (turn : Turn) → RefusesFor P Q turn
+    → RefusesFor P Q (if_free holder turn)
+free_caused P Q (Some other) turn told = tt
+free_caused P Q None turn told = told
+
+make_caused : (Q : Type 0) (tests : Tests) (s : Shared) (h : HandState) (r : Running)
+    → RefusesFor (λ fault. tests ≡ Err fault) Q (make_turn tests s h r)
+make_caused Q (Err fault) s h r = refused _ Q fault r.slots s h r refl
+make_caused Q (Ok passed) s h r = tt
+
+drop_caused : (Q : Type 0) (snapshot : ℕ) (tests : Tests) (s : Shared) (h : HandState) (r : Running)
+    → RefusesFor (λ fault. tests ≡ Err fault) Q (drop_turn snapshot tests s h r)
+drop_caused Q snapshot (Err fault) s h r = refused _ Q fault r.slots s h r refl
+drop_caused Q snapshot (Ok passed) s h r = tt
+
+pin_caused : (Q : Type 0) (snapshot : ℕ) (pins : Option ℕ) (s : Shared) (h : HandState) (r : Running) → r.ending ≡ Answers
+    → RefusesFor (λ fault. (fault ≡ NoSnapshot) × (pins ≡ None)) Q (pin_turn snapshot pins s h r)
+pin_caused Q snapshot None s h r e = refused _ Q NoSnapshot r.slots s h r (refl, refl)
+pin_caused Q snapshot (Some pins) s h r e = unrefused _ Q (Snapshots (showing_on snapshot (first_showing s))) r.ending e
+
+show_caused : (Q : Type 0) (owner : Option ℕ) (granted : Bool) (found : Option NodeCopy) (snapshot : ℕ) (showing : Showing) (s : Shared)
+    (h : HandState) (r : Running) → r.ending ≡ Answers
+    → RefusesFor (IsDenied granted) Q (show_turn owner granted found snapshot showing s h r)
+show_caused Q (Some other) granted found snapshot showing s h r e = tt
+show_caused Q None true found snapshot showing s h r e =
+    unrefused _ Q (Snapshots (showing_on snapshot (seen_on found showing))) r.ending e
+show_caused Q None false found snapshot showing s h r e = ((refl, refl), tt)
+
+unpin_caused : (P : Fault → Type 0) (Q : Type 0) (e : Ending) (seen : List TreeNode) → e ≡ Answers → ResultFor P (shown_by e seen)
+unpin_caused P Q Answers seen e = tt
+unpin_caused P Q (Refuses fault) seen e = cc
+unpin_caused P Q Overtaken seen e = cc
+unpin_caused P Q (Drains draining) seen e = cc
+
+picked_caused : (P : Fault → Type 0) (Q : Type 0) (deferred : List Record) (draining : Draining) (s : Shared) (h : HandState)
+    (r : Running) → r.ending ≡ Answers → RefusesFor P Q (picked_turn deferred draining s h r)
+picked_caused P Q [] draining s h r e = tt
+picked_caused P Q (picked ∷ deferred) draining s h r e = unrefused P Q (Snapshots (LockPicked draining picked)) r.ending e
+
+lock_picked_caused : (P : Fault → Type 0) (Q : Type 0) (owner : Option ℕ) (actor : ℕ) (draining : Draining) (picked : Record) (s : Shared)
+    (h : HandState) (r : Running) → r.ending ≡ Answers → RefusesFor P Q (lock_picked_turn owner actor draining picked s h r)
+lock_picked_caused P Q (Some other) actor draining picked s h r e = tt
+lock_picked_caused P Q None actor draining picked s h r e = unrefused P Q (Snapshots (Release draining picked)) r.ending e
+
+-- a drain goes on, whatever is left of its record
+last_released : (P : Fault → Type 0) (Q : Type 0) (left released : ℕ) (s : Shared) (h : HandState) (r : Running)
+    → RefusesFor P Q (drained_turn left released s h r)
+last_released P Q zero released s h r = tt
+last_released P Q (suc left) released s h r = tt
+
+rest_released : (P : Fault → Type 0) (Q : Type 0) (draining : Draining) (home number : Option ℕ) (s : Shared) (h : HandState) (r : Running)
+    → RefusesFor P Q (rest_turn home number s h (record r { ending = Drains draining }))
+rest_released P Q draining (Some cpu) number s h r = tt
+rest_released P Q draining None (Some ino) s h r = tt
+rest_released P Q draining None None s h r = last_released P Q draining.left draining.released s h _
+
+released_caused : (P : Fault → Type 0) (Q : Type 0) (draining : Draining) (slots : List ℕ) (s : Shared) (h : HandState) (r : Running)
+    → RefusesFor P Q (end_turn slots (Drains draining) s h r)
+released_caused P Q draining [] s h r = rest_released P Q draining _ h.ino s h r
+released_caused P Q draining (slot ∷ slots) s h r = tt
+
+snapshot_caused : (step : SnapshotStep) (Q : Type 0) (actor : ℕ) (granted : Bool) (s : Shared) (h : HandState) (r : Running)
+    → r.ending ≡ Answers → RefusesFor (IsCauseOn step granted s) Q (snapshot_turn step actor granted s h r)
+snapshot_caused Make Q actor granted s h r e = free_caused _ Q s.holder _ (make_caused Q (make_tests s.book.snaps) s h r)
+snapshot_caused (Drop snapshot) Q actor granted s h r e =
+    free_caused _ Q s.holder _ (drop_caused Q snapshot (drop_tests (pins_of s.book.snaps snapshot)) s h r)
+snapshot_caused (Pin snapshot) Q actor granted s h r e =
+    free_caused _ Q s.holder _ (pin_caused Q snapshot (pins_of s.book.snaps snapshot) s h r e)
+snapshot_caused (Show snapshot showing) Q actor granted s h r e = show_caused Q _ granted _ snapshot showing s h r e
+snapshot_caused (Unpin snapshot seen) Q actor granted s h r e = free_caused _ Q s.holder _ (unpin_caused _ Q r.ending seen e)
+snapshot_caused (Pick draining) Q actor granted s h r e =
+    free_caused _ Q s.holder _
+    (denied _ Q (granted || not (is_first draining)) (picked_turn s.book.deferred draining s h r) s h r
+    (λ lack. let none = no_growth granted (is_first draining) lack in ((refl, none.0), none.1))
+    (picked_caused _ Q s.book.deferred draining s h r e))
+snapshot_caused (LockPicked draining picked) Q actor granted s h r e = lock_picked_caused _ Q _ actor draining picked s h r e
+snapshot_caused (Release draining picked) Q actor granted s h r e = released_caused _ Q (one_more draining) r.slots _ _ r
+
 -- ---- all kinds
 
 pub caused : (k : Next) (block actor : ℕ) (granted : Bool) (s : Shared) (h : HandState) (r : Running) → r.ending ≡ Answers
@@ -236,6 +324,7 @@ caused Back block actor granted s h r e = back_caused _ _ h.ino s h r e
 caused Visit block actor granted s h r e =
     visit_caused (copies s) _ (refusal block (copies s) r.call) block actor _ granted _ s h r (λ free. refl)
     (no_growth granted (visit_grows r.call))
+caused (Snapshots step) block actor granted s h r e = snapshot_caused step _ actor granted s h r e
 
 -- ---- the last unlock of a call that was overtaken
 

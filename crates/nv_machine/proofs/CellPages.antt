@@ -83,17 +83,17 @@ sound_read bytes other block log same sound =
 
 -- ---- the part of a page
 
-record IsPart (block : ℕ) (log : List Entry) (number n : ℕ) : Type 0 where
-  uncovered : is_covered block log n ≡ false
-  low : n < part_total log
-  says : page_block block log n ≡ Some number
+pub record IsPart (block : ℕ) (log : List Entry) (number n : ℕ) : Type 0 where
+  pub uncovered : is_covered block log n ≡ false
+  pub low : n < part_total log
+  pub says : page_block block log n ≡ Some number
 
-low_and : (a b : Bool) → true ≡ (a && not b) → b ≡ false
+pub low_and : (a b : Bool) → true ≡ (a && not b) → b ≡ false
 low_and true true h = cc
 low_and true false h = refl
 low_and false b h = cc
 
-found : (block : ℕ) (log : List Entry) (page number : ℕ) → block_now block log page ≡ Some number
+pub found : (block : ℕ) (log : List Entry) (page number : ℕ) → block_now block log page ≡ Some number
     → (n : ℕ) × IsPart block log number n
 found block log page number h = go (scan_n block log (PageKey page)) refl (sym (block_scanned block log (PageKey page)) ∙ h) where
   go : (o : Option ℕ) → scan_n block log (PageKey page) ≡ o → option_and_then (page_block block log) o ≡ Some number

@@ -210,7 +210,7 @@ retires_on a b c f g = record {
   kept = λ n unc. g.kept n (rw (f.block, f.chain) unc) ∙ f.kept n unc;
 }
 
-slot_set : (xs : List (Option BlockValue)) (n m : ℕ) (P : Option BlockValue → Type 0) → (n ≡ m → P None) → P (slice_index_or xs m None)
+pub slot_set : (xs : List (Option BlockValue)) (n m : ℕ) (P : Option BlockValue → Type 0) → (n ≡ m → P None) → P (slice_index_or xs m None)
     → P (slice_index_or (set xs n None) m None)
 slot_set [] n m P here there = there
 slot_set (x ∷ xs) zero zero P here there = here refl
@@ -218,12 +218,12 @@ slot_set (x ∷ xs) zero (suc m) P here there = there
 slot_set (x ∷ xs) (suc n) zero P here there = there
 slot_set (x ∷ xs) (suc n) (suc m) P here there = slot_set xs n m P (λ e. here (ap suc e)) there
 
-length_set : (xs : List (Option BlockValue)) (n : ℕ) → length (set xs n None) ≡ length xs
+pub length_set : (xs : List (Option BlockValue)) (n : ℕ) → length (set xs n None) ≡ length xs
 length_set [] n = refl
 length_set (x ∷ xs) zero = refl
 length_set (x ∷ xs) (suc n) = ap suc (length_set xs n)
 
-one_retires : (keeper : Option ℕ) (n : ℕ) (cell : CellState) → is_covered cell.block (log_of cell) n ≡ true
+pub one_retires : (keeper : Option ℕ) (n : ℕ) (cell : CellState) → is_covered cell.block (log_of cell) n ≡ true
     → Retires cell (settled_part keeper n cell)
 one_retires (Some s) n cell h = record {
   block = refl;

@@ -13,6 +13,7 @@ use Rattle.nv_calls.specs.declared.call.Call.TheVariants as call
 use Rattle.nv_calls.specs.declared.looked.Looked.{Looked}
 use Rattle.nv_cell.specs.Cell.{log_of}
 use Rattle.nv_cell.specs.Pages.{AreBytesOf}
+use Rattle.nv_entry.specs.declared.node.NodeCopy.{NodeCopy}
 use Rattle.nv_machine.specs.Grown.{HasGrown, HasGrownBy}
 use Rattle.nv_machine.specs.Hands.{AreNumbers, HandAt, HandOf, HasTakenNone, makes_inode}
 use Rattle.nv_machine.specs.Locks.{HoldsIts, commits_at, held_at}
@@ -52,19 +53,21 @@ held_tails w actor r is runs out ino held =
 
 -- ---- a call reads some slot
 
-some_handle : (found : Looked) (c : Call) → 0 < length (handles found c)
-some_handle found (call.Create dir name mode) = omega arith
-some_handle found (call.Mkdir dir name mode) = omega arith
-some_handle found (call.Write file offset text) = omega arith
-some_handle found (call.Read file offset count) = omega arith
-some_handle found (call.Size file size) = omega arith
-some_handle found (call.Mode handle mode) = omega arith
-some_handle found (call.Stat handle) = omega arith
-some_handle found (call.List dir) = omega arith
-some_handle found (call.Lookup dir name) = omega arith
-some_handle found (call.Unlink dir name) = omega arith
-some_handle found (call.Rmdir dir name) = omega arith
-some_handle found (call.Rename from old to new) = omega arith
+some_handle : (nodes : Handle → Option NodeCopy) (made : Handle) (found : Looked) (c : Call) → 0 < length (effect nodes made c)
+    → 0 < length (handles found c)
+some_handle nodes made found (call.Create dir name mode) any = omega arith
+some_handle nodes made found (call.Mkdir dir name mode) any = omega arith
+some_handle nodes made found (call.Write file offset text) any = omega arith
+some_handle nodes made found (call.Read file offset count) any = omega arith
+some_handle nodes made found (call.Size file size) any = omega arith
+some_handle nodes made found (call.Mode handle mode) any = omega arith
+some_handle nodes made found (call.Stat handle) any = omega arith
+some_handle nodes made found (call.List dir) any = omega arith
+some_handle nodes made found (call.Lookup dir name) any = omega arith
+some_handle nodes made found (call.Snapshots what) any = absurd (omega (arith, any))
+some_handle nodes made found (call.Unlink dir name) any = omega arith
+some_handle nodes made found (call.Rmdir dir name) any = omega arith
+some_handle nodes made found (call.Rename from old to new) any = omega arith
 
 some_slot : (slots : List ℕ) (n : ℕ) → has slots n ≡ true → 0 < length slots
 some_slot [] n there = absurd (false≢true there)
@@ -135,5 +138,5 @@ module _ (g : GeometryNumbers) (w : World) (actor : ℕ) (r : Running) (runs : (
       let made = made_in s hand.ino r.made in
       let passed = checked (early (copies s) r.call) (same_looked (looked (copies s) r.call) r.looked) (refusal block (copies s) r.call)
       (is_numbered (beginning r.call) hand.ino) (effect (copies s) made r.call) e in
-      first_slot s r.slots (handles r.looked r.call) (some_handle r.looked r.call)
+      first_slot s r.slots (handles r.looked r.call) (some_handle (copies s) made r.looked r.call passed.some)
       (checked_inodes block s made r.looked r.call passed.passed passed.some passed.looked) (own_handles pooled)

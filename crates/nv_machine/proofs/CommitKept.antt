@@ -28,8 +28,8 @@ use Rattle.nv_machine.specs.World.{Answers, Append, Close, Ends, HandState, Leav
 use Rattle.nv_machine.proofs.CellPages.{later_pages}
 use Rattle.nv_machine.proofs.CellSteps.{Grows, HaveFront, Retires, append_grows, empty_pages, erased_none, items_in, killed_covered, retired_is, retired_node, retired_pages, retired_sound}
 use Rattle.nv_machine.proofs.Journals.{closed_again, closed_tail, open_free, open_same, open_stays}
-use Rattle.nv_machine.proofs.Lists.{drop_apart, rising_filter, take_all, take_apart, take_more}
-use Rattle.nv_machine.proofs.Written.{front_of, many_planned, within_of, written_inside, written_there}
+use Rattle.nv_machine.proofs.Lists.{drop_apart, rising_filter, take_all, take_apart, take_more, written_inside}
+use Rattle.nv_machine.proofs.Written.{front_of, many_planned, within_of, written_there}
 use Rattle.nv_machine.proofs.LogsKept.{KeptLeft, SameLogs, cell_left, cell_nodes, cell_set, node_at}
 
 -- what a turn owes: settled logs are kept, nodes stay but at a commit point, and the call knows what it is to know

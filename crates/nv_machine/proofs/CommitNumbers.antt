@@ -1,27 +1,39 @@
 -- The number of the last commit is the plain world's.
 use Rattle.std.proofs.Common.{◌≡◌, ℕ, zero, suc, ◌+◌, ◌∙◌, Bool, true, false, List, [], ◌∷◌, Option, Some, None, ap, if◌then◌else◌, length, nat_lt, refl, subst, sym}
+use Rattle.std.specs.Prelude.{Ok, Err}
 use Rattle.nv_book.specs.Book.{BookState}
 use Rattle.nv_calls.specs.declared.call.Call.{Call}
 use Rattle.nv_machine.specs.Frame.{IsFramed, Lent, Stays}
-use Rattle.nv_machine.specs.Kinds.{again_turn, end_turn, enter_turn, over_turn, rest_turn}
+use Rattle.nv_machine.specs.Kinds.{again_turn, drained_turn, end_turn, enter_turn, last_turn, over_turn, rest_turn}
 use Rattle.nv_machine.specs.Locks.{commits_at}
-use Rattle.nv_machine.specs.PlainRun.{Commits, Deed, Nothing, Numbers, Plain, deed, deed_by, deed_of, done, entered, plain_after, plain_step}
+use Rattle.nv_machine.specs.PlainRun.{Commits, Deed, Nothing, Numbers, OnSnapshots, Plain, deed, deed_by, deed_of, done, done_on, entered, plain_after, plain_step}
 use Rattle.nv_machine.specs.Reads.{written_slots}
 use Rattle.nv_machine.specs.Sequence.{appending, closing, opening, publishing, retiring}
+use Rattle.nv_machine.specs.Snapshots.{snapshot_turn}
 use Rattle.nv_machine.specs.Step.{after, go_step, kind_turn, start_step, step, turn, turned}
-use Rattle.nv_machine.specs.World.{Answers, Append, Back, Check, Close, Ending, Ends, Enter, Event, Give, Go, HandState, Leave, Lock, Look, Moves, Next, Number, Open, Overtaken, Publish, Ready, Refuses, Retire, Running, Shared, Start, TakeBlocks, TakePages, Turn, Unlock, Visit, Waits, World, actor_at}
+use Rattle.nv_machine.specs.World.{Answers, Append, Back, Check, Close, Drains, Drop, Ending, Ends, Enter, Event, Give, Go, HandState, Leave, Lock, LockPicked, Look, Make, Moves, Next, Number, Open, Overtaken, Pick, Pin, Publish, Ready, Refuses, Release, Retire, Running, Shared, Show, SnapshotStep, Snapshots, Start, TakeBlocks, TakePages, Turn, Unlock, Unpin, Visit, Waits, World, actor_at}
 use Rattle.nv_machine.proofs.Framed.{framed}
+use Rattle.nv_machine.proofs.Kept.{AfterTurn, snapshot_deed, snapshot_keeps}
 
 -- the number after a deed
 abbrev counted : Deed → ℕ → ℕ
 counted Nothing n = n
 counted Numbers n = n + 1
 counted Commits n = n
+counted (OnSnapshots step) n = n
 
 done_counted : (d : Deed) (running : Option Running) (p : Plain) → (done d running p).commit ≡ counted d p.commit
 done_counted Nothing running p = refl
 done_counted Numbers running p = refl
 done_counted Commits running p = refl
+done_counted (OnSnapshots Make) running p = refl
+done_counted (OnSnapshots (Drop snapshot)) running p = refl
+done_counted (OnSnapshots (Pin snapshot)) running p = refl
+done_counted (OnSnapshots (Show snapshot showing)) running p = refl
+done_counted (OnSnapshots (Unpin snapshot seen)) running p = refl
+done_counted (OnSnapshots (Pick draining)) running p = refl
+done_counted (OnSnapshots (LockPicked draining picked)) running p = refl
+done_counted (OnSnapshots (Release draining picked)) running p = refl
 
 -- a turn leaves the book with the number after its deed
 abbrev OnNumber : Deed → Shared → Turn → Type 0
@@ -69,11 +81,20 @@ enters_appending place written = go (nat_lt place (length written)) where
   go true = refl
   go false = enters_opening written
 
+last_counted : (e : Ending) (s : Shared) (h : HandState) (r : Running) → OnNumber (entered (last_turn e s h r)) s (last_turn e s h r)
+last_counted Answers s h r = refl
+last_counted (Refuses fault) s h r = refl
+last_counted Overtaken s h r = refl
+last_counted (Drains draining) s h r = go draining.left where
+  go : (left : ℕ) → OnNumber (entered (drained_turn left draining.released s h r)) s (drained_turn left draining.released s h r)
+  go zero = refl
+  go (suc left) = refl
+
 rest_counted : (home number : Option ℕ) (s : Shared) (h : HandState) (r : Running)
     → OnNumber (entered (rest_turn home number s h r)) s (rest_turn home number s h r)
 rest_counted (Some cpu) number s h r = refl
 rest_counted None (Some ino) s h r = refl
-rest_counted None None s h r = refl
+rest_counted None None s h r = last_counted r.ending s h r
 
 over_counted : (e : Ending) (s : Shared) (h : HandState) (r : Running) → OnNumber (entered (over_turn e s h r)) s (over_turn e s h r)
 over_counted Answers s h r = rest_counted _ h.ino s h r
@@ -82,6 +103,7 @@ over_counted Overtaken s h r = go r.rounds where
   go : (rounds : ℕ) → OnNumber (entered (again_turn rounds s h r)) s (again_turn rounds s h r)
   go zero = refl
   go (suc n) = refl
+over_counted (Drains draining) s h r = rest_counted _ h.ino s h r
 
 end_counted : (slots : List ℕ) (e : Ending) (s : Shared) (h : HandState) (r : Running)
     → OnNumber (entered (end_turn slots e s h r)) s (end_turn slots e s h r)
@@ -103,6 +125,48 @@ enter_counted None false true a s h r = go (commits_at (appending 0 (written_slo
 publish_stays : (b : Bool) (n : ℕ) → n ≡ counted (if b then Nothing else Commits) n
 publish_stays true n = refl
 publish_stays false n = refl
+
+-- a step of a call on snapshots leaves the number of the last commit
+deed_counted : (step : SnapshotStep) (n : ℕ) (t : Turn) → counted (done_on step t) n ≡ n
+deed_counted step n (Moves s h r) = refl
+deed_counted step n Waits = refl
+deed_counted (Unpin snapshot seen) n (Ends result s h) = refl
+deed_counted Make n (Ends (Ok found) s h) = refl
+deed_counted (Drop snapshot) n (Ends (Ok found) s h) = refl
+deed_counted (Pin snapshot) n (Ends (Ok found) s h) = refl
+deed_counted (Show snapshot showing) n (Ends (Ok found) s h) = refl
+deed_counted (Pick draining) n (Ends (Ok found) s h) = refl
+deed_counted (LockPicked draining picked) n (Ends (Ok found) s h) = refl
+deed_counted (Release draining picked) n (Ends (Ok found) s h) = refl
+deed_counted Make n (Ends (Err fault) s h) = refl
+deed_counted (Drop snapshot) n (Ends (Err fault) s h) = refl
+deed_counted (Pin snapshot) n (Ends (Err fault) s h) = refl
+deed_counted (Show snapshot showing) n (Ends (Err fault) s h) = refl
+deed_counted (Pick draining) n (Ends (Err fault) s h) = refl
+deed_counted (LockPicked draining picked) n (Ends (Err fault) s h) = refl
+deed_counted (Release draining picked) n (Ends (Err fault) s h) = refl
+
+after_counted : (d : Deed) (s : Shared) (t : Turn) → counted d s.book.commit ≡ s.book.commit
+    → AfterTurn (λ u h. u.book.commit ≡ s.book.commit) t → OnNumber d s t
+after_counted d s (Moves u h r) e on = on ∙ sym e
+after_counted d s Waits e on = sym e
+after_counted d s (Ends result u h) e on = on ∙ sym e
+
+snapshot_counted : (step : SnapshotStep) (a : ℕ) (granted : Bool) (s : Shared) (h : HandState) (r : Running)
+    → OnNumber (done_on step (snapshot_turn step a granted s h r)) s (snapshot_turn step a granted s h r)
+snapshot_counted step a granted s h r =
+    after_counted (done_on step (snapshot_turn step a granted s h r)) s (snapshot_turn step a granted s h r)
+    (deed_counted step s.book.commit (snapshot_turn step a granted s h r))
+    (snapshot_keeps (λ u h. u.book.commit ≡ s.book.commit) step a granted s h r refl (same step)) where
+      same : (step : SnapshotStep) → (snapshot_deed step a s h).shared.book.commit ≡ s.book.commit
+      same Make = refl
+      same (Drop snapshot) = refl
+      same (Pin snapshot) = refl
+      same (Show snapshot showing) = refl
+      same (Unpin snapshot seen) = refl
+      same (Pick draining) = refl
+      same (LockPicked draining picked) = refl
+      same (Release draining picked) = refl
 
 kind_counted : (k : Next) (block a : ℕ) (granted : Bool) (s : Shared) (h : HandState) (r : Running)
     → OnNumber (deed k (written_slots r) (kind_turn k block a granted s h r)) s (kind_turn k block a granted s h r)
@@ -126,6 +190,7 @@ kind_counted (Unlock place) block a granted s h r = same_book _ Nothing s _ refl
 kind_counted (Give cpu) block a granted s h r = same_book _ Nothing s _ refl (λ n. refl) (framed (Give cpu) block a granted s h r)
 kind_counted Back block a granted s h r = same_book _ Nothing s _ refl (λ n. refl) (framed Back block a granted s h r)
 kind_counted Visit block a granted s h r = same_book _ Nothing s _ refl (λ n. refl) (framed Visit block a granted s h r)
+kind_counted (Snapshots step) block a granted s h r = snapshot_counted step a granted s h r
 
 -- ---- events
 

@@ -9,12 +9,15 @@ use Rattle.nv_calls.specs.declared.answer.Answer.{Answer}
 use Rattle.nv_calls.specs.declared.call.Call.{Call}
 use Rattle.nv_calls.specs.declared.looked.Looked.{Looked}
 use Rattle.nv_machine.specs.Bound.{IsNoStart}
-use Rattle.nv_machine.specs.Kinds.{again_turn, back_turn, blocks_turn, check_turn, end_turn, enter_turn, grown, lock_turn, look_turn, number_turn, over_turn, pages_turn, rest_turn, unlocked_turn, visit_turn, wants_blocks, wants_pages}
+use Rattle.nv_machine.specs.Kinds.{again_turn, back_turn, blocks_turn, check_turn, end_turn, enter_turn, grown, lock_turn, look_turn, number_turn, over_turn, pages_turn, rest_turn, unlocked_turn, visit_turn, wants_blocks, wants_pages, drained_turn, last_turn}
 use Rattle.nv_machine.specs.Rounds.{HasRounds, checks_left, failed_checks, fails_by, fails_in, fails_of}
-use Rattle.nv_machine.specs.Sequence.{Beginning, Looks, Locks, Numbers, Visits, beginning, begun}
+use Rattle.nv_machine.specs.Sequence.{Beginning, Looks, Locks, Numbers, Visits, beginning, begun, OnSnapshots}
 use Rattle.nv_machine.specs.Step.{after, ending_at, go_step, kind_turn, start_step, step, turn, turned, with_made}
-use Rattle.nv_machine.specs.World.{Actor, Answers, Append, Back, Check, Close, Ending, Ends, Enter, Event, Give, Go, HandState, Leave, Lock, Look, Moves, Next, Number, Open, Overtaken, Publish, Ready, Refuses, Reply, Retire, Running, Shared, Start, Started, TakeBlocks, TakePages, Turn, Unlock, Visit, Waits, World, actor_at, idle}
+use Rattle.nv_machine.specs.World.{Actor, Answers, Append, Back, Check, Close, Ending, Ends, Enter, Event, Give, Go, HandState, Leave, Lock, Look, Moves, Next, Number, Open, Overtaken, Publish, Ready, Refuses, Reply, Retire, Running, Shared, Start, Started, TakeBlocks, TakePages, Turn, Unlock, Visit, Waits, World, actor_at, idle, Drop, LockPicked, Make, Pick, Pin, Release, Show, SnapshotStep, Snapshots, Unpin, Drains, Showing, Draining}
 use Rattle.nv_machine.proofs.Events.{starts, turned_others}
+use Rattle.nv_machine.specs.Snapshots.{drop_turn, if_free, lock_picked_turn, make_tests, make_turn, one_more as released_more, picked_turn, pin_turn, show_turn, snapshot_turn, unpin_turn}
+use Rattle.nv_book.specs.declared.record.Record.{Record}
+use Rattle.nv_entry.specs.declared.node.NodeCopy.{NodeCopy}
 
 -- what is moved on to has at least so many left, with these failed
 abbrev KeepsLeft : ℕ → ℕ → Turn → Type 0
@@ -26,14 +29,25 @@ one_more : (e : Ending) (rounds : ℕ) → checks_left e rounds ≤ rounds + 1
 one_more Answers rounds = omega arith
 one_more (Refuses fault) rounds = omega arith
 one_more Overtaken rounds = omega arith
+one_more (Drains draining) rounds = omega arith
 
 -- ---- last steps
+
+last_left : (e : Ending) (s : Shared) (h : HandState) (r : Running) (least failed : ℕ) → least ≤ failed + checks_left e r.rounds
+    → KeepsLeft least failed (last_turn e s h r)
+last_left Answers s h r least failed k = tt
+last_left (Refuses fault) s h r least failed k = tt
+last_left Overtaken s h r least failed k = tt
+last_left (Drains draining) s h r least failed k = go draining.left where
+  go : (left : ℕ) → KeepsLeft least failed (drained_turn left draining.released s h r)
+  go zero = tt
+  go (suc left) = k
 
 rest_left : (home number : Option ℕ) (s : Shared) (h : HandState) (r : Running) (least failed : ℕ)
     → least ≤ failed + checks_left r.ending r.rounds → KeepsLeft least failed (rest_turn home number s h r)
 rest_left (Some cpu) number s h r least failed k = k
 rest_left None (Some ino) s h r least failed k = k
-rest_left None None s h r least failed k = tt
+rest_left None None s h r least failed k = last_left r.ending s h r least failed k
 
 again_left : (rounds : ℕ) (s : Shared) (h : HandState) (r : Running) (least failed : ℕ) → least ≤ failed + rounds
     → KeepsLeft least failed (again_turn rounds s h r)
@@ -45,6 +59,7 @@ over_left : (e : Ending) (s : Shared) (h : HandState) (r : Running) (least faile
 over_left Answers s h r least failed is k = rest_left _ h.ino s h r least failed (rw is k)
 over_left (Refuses fault) s h r least failed is k = rest_left _ h.ino s h r least failed (rw is k)
 over_left Overtaken s h r least failed is k = again_left r.rounds s h r least failed k
+over_left (Drains draining) s h r least failed is k = rest_left _ h.ino s h r least failed (rw is k)
 
 end_left : (slots : List ℕ) (e : Ending) (s : Shared) (h : HandState) (r : Running) (least failed : ℕ)
     → least ≤ failed + checks_left e r.rounds → KeepsLeft least failed (end_turn slots e s h r)
@@ -94,6 +109,8 @@ check_left None granted wanted block s h r = grown_left granted (wants_blocks wa
     (wants_blocks_left wanted block s h r)
 check_left (Some Answers) granted wanted block s h r = end_left r.slots Answers s h r _ 0 (omega (arith, one_more r.ending r.rounds))
 check_left (Some (Refuses fault)) granted wanted block s h r = refuse_left r.slots fault s h r
+check_left (Some (Drains draining)) granted wanted block s h r =
+    end_left r.slots (Drains draining) s h r _ 0 (omega (arith, one_more r.ending r.rounds))
 check_left (Some Overtaken) granted wanted block s h r =
     let more = one_more r.ending r.rounds in end_left r.slots Overtaken s h r _ 1 (omega (arith, more))
 
@@ -120,15 +137,66 @@ unlocked_left : (more : Bool) (place : ℕ) (s : Shared) (h : HandState) (r : Ru
 unlocked_left true place s h r = omega arith
 unlocked_left false place s h r = over_left r.ending s h r _ 0 refl (omega arith)
 
-back_left : (number : Option ℕ) (s : Shared) (h : HandState) (r : Running) (least : ℕ) → KeepsLeft least 0 (back_turn number s h r)
-back_left None s h r least = tt
-back_left (Some ino) s h r least = tt
+back_left : (number : Option ℕ) (s : Shared) (h : HandState) (r : Running)
+    → KeepsLeft (checks_left r.ending r.rounds) 0 (back_turn number s h r)
+back_left None s h r = last_left r.ending s h r _ 0 (omega arith)
+back_left (Some ino) s h r = last_left r.ending _ _ r _ 0 (omega arith)
 
 visit_left : (owner : Option ℕ) (tests : Tests) (granted : Bool) (found : Answer) (s : Shared) (h : HandState) (r : Running)
     → KeepsLeft (checks_left r.ending r.rounds) 0 (visit_turn owner tests granted found s h r)
 visit_left (Some other) tests granted found s h r = tt
 visit_left None (Err fault) granted found s h r = refuse_left r.slots fault s h r
 visit_left None (Ok passed) granted found s h r = grown_left granted (Ends (Ok found) s h) s h r tt
+
+-- ---- calls on snapshots
+
+free_left : (least : ℕ) (holder : Option ℕ) (turn : Turn) → KeepsLeft least 0 turn → KeepsLeft least 0 (if_free holder turn)
+free_left least (Some other) turn k = tt
+free_left least None turn k = k
+
+make_left : (tests : Tests) (s : Shared) (h : HandState) (r : Running)
+    → KeepsLeft (checks_left r.ending r.rounds) 0 (make_turn tests s h r)
+make_left (Err fault) s h r = refuse_left r.slots fault s h r
+make_left (Ok passed) s h r = tt
+
+drop_left : (snapshot : ℕ) (tests : Tests) (s : Shared) (h : HandState) (r : Running)
+    → KeepsLeft (checks_left r.ending r.rounds) 0 (drop_turn snapshot tests s h r)
+drop_left snapshot (Err fault) s h r = refuse_left r.slots fault s h r
+drop_left snapshot (Ok passed) s h r = tt
+
+pin_left : (snapshot : ℕ) (pins : Option ℕ) (s : Shared) (h : HandState) (r : Running)
+    → KeepsLeft (checks_left r.ending r.rounds) 0 (pin_turn snapshot pins s h r)
+pin_left snapshot None s h r = refuse_left r.slots _ s h r
+pin_left snapshot (Some pins) s h r = omega arith
+
+show_left : (owner : Option ℕ) (granted : Bool) (found : Option NodeCopy) (snapshot : ℕ) (showing : Showing) (s : Shared)
+    (h : HandState) (r : Running) → KeepsLeft (checks_left r.ending r.rounds) 0 (show_turn owner granted found snapshot showing s h r)
+show_left (Some other) granted found snapshot showing s h r = tt
+show_left None true found snapshot showing s h r = omega arith
+show_left None false found snapshot showing s h r = omega (arith, one_more r.ending r.rounds)
+
+picked_left : (deferred : List Record) (draining : Draining) (s : Shared) (h : HandState) (r : Running)
+    → KeepsLeft (checks_left r.ending r.rounds) 0 (picked_turn deferred draining s h r)
+picked_left [] draining s h r = tt
+picked_left (picked ∷ deferred) draining s h r = omega arith
+
+lock_picked_left : (owner : Option ℕ) (actor : ℕ) (draining : Draining) (picked : Record) (s : Shared) (h : HandState) (r : Running)
+    → KeepsLeft (checks_left r.ending r.rounds) 0 (lock_picked_turn owner actor draining picked s h r)
+lock_picked_left (Some other) actor draining picked s h r = tt
+lock_picked_left None actor draining picked s h r = omega arith
+
+snapshot_left : (step : SnapshotStep) (actor : ℕ) (granted : Bool) (s : Shared) (h : HandState) (r : Running)
+    → KeepsLeft (checks_left r.ending r.rounds) 0 (snapshot_turn step actor granted s h r)
+snapshot_left Make actor granted s h r = free_left _ s.holder _ (make_left (make_tests s.book.snaps) s h r)
+snapshot_left (Drop snapshot) actor granted s h r = free_left _ s.holder _ (drop_left snapshot _ s h r)
+snapshot_left (Pin snapshot) actor granted s h r = free_left _ s.holder _ (pin_left snapshot _ s h r)
+snapshot_left (Show snapshot showing) actor granted s h r = show_left _ granted _ snapshot showing s h r
+snapshot_left (Unpin snapshot seen) actor granted s h r = free_left _ s.holder (unpin_turn snapshot seen s h r) tt
+snapshot_left (Pick draining) actor granted s h r =
+    free_left _ s.holder _ (grown_left _ _ s h r (picked_left s.book.deferred draining s h r))
+snapshot_left (LockPicked draining picked) actor granted s h r = lock_picked_left _ actor draining picked s h r
+snapshot_left (Release draining picked) actor granted s h r =
+    end_left r.slots (Drains (released_more draining)) _ _ r _ 0 (omega (arith, one_more r.ending r.rounds))
 
 kind_left : (k : Next) (block actor : ℕ) (granted : Bool) (s : Shared) (h : HandState) (r : Running)
     → KeepsLeft (checks_left r.ending r.rounds) (fails_by k (ending_at block s h r)) (kind_turn k block actor granted s h r)
@@ -148,8 +216,9 @@ kind_left (Retire place) block actor granted s h r = omega arith
 kind_left Leave block actor granted s h r = end_left r.slots r.ending _ h r _ 0 (omega arith)
 kind_left (Unlock place) block actor granted s h r = unlocked_left _ place _ h r
 kind_left (Give cpu) block actor granted s h r = rest_left _ h.ino _ _ r _ 0 (omega arith)
-kind_left Back block actor granted s h r = back_left h.ino s h r _
+kind_left Back block actor granted s h r = back_left h.ino s h r
 kind_left Visit block actor granted s h r = visit_left _ _ _ _ s h r
+kind_left (Snapshots step) block actor granted s h r = snapshot_left step actor granted s h r
 
 -- ---- over events
 
@@ -226,6 +295,7 @@ begun_rounds Numbers s c = omega arith
 begun_rounds Looks s c = omega arith
 begun_rounds Locks s c = omega arith
 begun_rounds Visits s c = omega arith
+begun_rounds (OnSnapshots what) s c = omega arith
 
 start_at : (b : Bool) (running : Option Running) (w : World) (actor : ℕ) (c : Call) → nat_lt actor (length w.actors) ≡ b
     → is_started (start_step b running actor c w).reply ≡ true

@@ -9,7 +9,7 @@ use Rattle.nv_alloc.specs.Giving.{after_giving, kept_of, takes}
 use Rattle.nv_alloc.specs.Numbers.{times}
 use Rattle.nv_alloc.proofs.GivingLemmas.{kept_of-append, times-blocks, times-given}
 use Rattle.nv_alloc.proofs.Lists.{times-append}
-use Rattle.nv_calls.specs.Retiring.{erased, freed, freed_by, freed_one, is_erased, keeper_of, retired, retired_one, settled}
+use Rattle.nv_calls.specs.Retiring.{erased, freed, freed_by, freed_one, is_erased, keeper_of, retired, retired_one, settled, name_of, released, released_blocks}
 use Rattle.nv_cell.specs.Append.{appended, blocks_for, slots_of}
 use Rattle.nv_cell.specs.Cell.{CellState, number_in, published}
 use Rattle.nv_cell.specs.declared.killed.KilledPart.{KilledPart}
@@ -23,9 +23,11 @@ use Rattle.nv_machine.specs.Numbers.{free_of, held_in, of_part, stored_in}
 use Rattle.nv_calls.proofs.FillPages.{filled_numbers}
 use Rattle.nv_calls.specs.FillPages.{fresh_pages}
 use Rattle.nv_machine.specs.Reads.{copies, pages_needed, slot_at, written_slots}
-use Rattle.nv_machine.specs.World.{Append, Back, Check, Close, Enter, Give, HandState, Leave, Lock, Look, Next, Number, Open, Publish, Ready, Retire, Running, Shared, TakeBlocks, TakePages, Unlock, Visit, cell_at, list_at, no_cell, no_list}
+use Rattle.nv_machine.specs.World.{Append, Back, Check, Close, Enter, Give, HandState, Leave, Lock, Look, Next, Number, Open, Publish, Ready, Retire, Running, Shared, TakeBlocks, TakePages, Unlock, Visit, cell_at, list_at, no_cell, no_list, Drop, LockPicked, Make, Pick, Pin, Release, Show, Snapshots, Unpin}
 use Rattle.nv_machine.proofs.Counting.{cut_times, set_times, three_times}
-use Rattle.nv_machine.proofs.Kept.{append_deed, back_deed, deed, number_deed, retire_deed}
+use Rattle.nv_machine.proofs.Kept.{append_deed, back_deed, deed, number_deed, retire_deed, release_deed}
+use Rattle.nv_machine.specs.Snapshots.{with_released}
+use Rattle.nv_book.specs.declared.record.Record.{Record}
 
 -- how often a number stands in what is shared and in one hand
 abbrev pub count : ℕ → Shared → HandState → ℕ
@@ -174,14 +176,14 @@ append_times n ino pages s h r inside =
 
 -- ---- retire: what is set free goes to the hand
 
-settled_times : (n : ℕ) (keeper : Option ℕ) (k : ℕ) (cell : CellState)
+pub settled_times : (n : ℕ) (keeper : Option ℕ) (k : ℕ) (cell : CellState)
     → times n (stored_in (settled keeper k cell)) + times n (numbers_of (freed keeper k cell)) ≡ times n (stored_in cell)
 settled_times n (Some s) k cell = omega (arith, stored_times n cell, stored_times n (settled (Some s) k cell))
 settled_times n None k cell =
     let e = set_times of_part n cell.blocks k None None (λ past. refl) in
     omega (arith, e, stored_times n cell, stored_times n (settled None k cell))
 
-retired_times : (n : ℕ) (living : List ℕ) (ino epoch : ℕ) (parts : List KilledPart) (cell : CellState)
+pub retired_times : (n : ℕ) (living : List ℕ) (ino epoch : ℕ) (parts : List KilledPart) (cell : CellState)
     → times n (stored_in (retired living ino epoch parts cell)) + times n (numbers_of (freed_by living ino epoch parts cell))
     ≡ times n (stored_in cell)
 retired_times n living ino epoch [] cell = omega arith
@@ -216,6 +218,18 @@ retire_times n ino killed s h r inside none =
     let one = retired_times n (ids s.book.snaps) ino r.epoch killed (cell_at s ino) in
     omega (arith, e, one, erased_times n ino cell freed none, held_times n h, held_times n freed, times-blocks n h.blocks blocks)
 
+-- a release sets its block free
+release_times : (n : ℕ) (picked : Record) (s : Shared) (h : HandState) → picked.ino < length s.cells
+    → (is_erased (released picked (cell_at s picked.ino)) ≡ true → flat_map of_part (released picked (cell_at s picked.ino)).blocks ≡ [])
+    → count n (release_deed picked s h).shared (release_deed picked s h).hand ≡ count n s h
+release_times n picked s h inside none =
+    let cell = released picked (cell_at s picked.ino) in
+    let freed = with_released picked s h in
+    let blocks = released_blocks picked (cell_at s picked.ino) in
+    let e = set_times stored_in n s.cells picked.ino (erased cell) no_cell (λ past. absurd (omega (arith, past, inside))) in
+    let one = settled_times n None (number_in (cell_at s picked.ino) (name_of picked)) (cell_at s picked.ino) in
+    omega (arith, e, one, erased_times n picked.ino cell freed none, held_times n h, held_times n freed, times-blocks n h.blocks blocks)
+
 -- ---- every kind
 
 -- what a kind needs to know: the cell that it is lent is there, and where it erases one no block is left in a part of it
@@ -225,6 +239,8 @@ CanCount (Publish place) s h r = slot_at (written_slots r) place < length s.cell
 CanCount (Retire place) s h r = (slot_at (written_slots r) place < length s.cells)
     × (is_erased (retired_cell (slot_at (written_slots r) place) (first_killed h.killed) s r) ≡ true
     → flat_map of_part (retired_cell (slot_at (written_slots r) place) (first_killed h.killed) s r).blocks ≡ [])
+CanCount (Snapshots (Release draining picked)) s h r = (picked.ino < length s.cells)
+    × (is_erased (released picked (cell_at s picked.ino)) ≡ true → flat_map of_part (released picked (cell_at s picked.ino)).blocks ≡ [])
 CanCount other s h r = Unit {0}
 
 number_times : (n : ℕ) (numbers : List ℕ) (s : Shared) (h : HandState)
@@ -275,3 +291,11 @@ deed_times (Unlock place) n block actor s h r can = refl
 deed_times (Give cpu) n block actor s h r can = given_times n cpu s h
 deed_times Back n block actor s h r can = back_times n h.ino s h
 deed_times Visit n block actor s h r can = refl
+deed_times (Snapshots (Release draining picked)) n block actor s h r can = release_times n picked s h can.0 can.1
+deed_times (Snapshots Make) n block actor s h r can = refl
+deed_times (Snapshots (Drop snapshot)) n block actor s h r can = refl
+deed_times (Snapshots (Pin snapshot)) n block actor s h r can = refl
+deed_times (Snapshots (Show snapshot showing)) n block actor s h r can = refl
+deed_times (Snapshots (Unpin snapshot seen)) n block actor s h r can = refl
+deed_times (Snapshots (Pick draining)) n block actor s h r can = refl
+deed_times (Snapshots (LockPicked draining picked)) n block actor s h r can = refl

@@ -1,5 +1,5 @@
 -- Memory that is refused makes the same turn of every step that grows anything, and want of it is answered only there.
-use Rattle.std.proofs.Common.{◌≡◌, ℕ, zero, suc, ◌||◌, not, Bool, true, false, List, [], ◌∷◌, Option, Some, None, if◌then◌else◌, length, nat_le, nat_lt, refl}
+use Rattle.std.proofs.Common.{◌≡◌, ◌||◌, ◌∷◌, ℕ, zero, suc, not, Bool, true, false, List, [], Option, Some, None, if◌then◌else◌, length, nat_le, nat_lt, refl, ap}
 use Rattle.std.specs.Prelude.{Ok, Err}
 use Rattle.nv_base.specs.declared.fault.Fault.{Fault}
 use Rattle.nv_base.specs.declared.fault.Fault.TheVariants.{CommitLimit, OutOfMemory}
@@ -8,19 +8,31 @@ use Rattle.nv_calls.specs.AllCalls.{answer, refusal}
 use Rattle.nv_calls.specs.Refusals.{Check as Tests}
 use Rattle.nv_calls.specs.declared.answer.Answer.{Answer}
 use Rattle.nv_calls.specs.Locked.{handles}
-use Rattle.nv_machine.specs.Kinds.{again_turn, check_turn, end_turn, enter_turn, over_turn, refuse, rest_turn, visit_turn, wants_blocks, wants_pages}
-use Rattle.nv_machine.specs.Memory.{denied_turn, does_its_work, grows, is_answered, is_onward, moves_onward, noted}
+use Rattle.nv_machine.specs.Kinds.{again_turn, check_turn, end_turn, enter_turn, over_turn, refuse, rest_turn, visit_turn, wants_blocks, wants_pages, drained_turn, last_turn, grown}
+use Rattle.nv_machine.specs.Memory.{denied_turn, does_its_work, grows, is_answered, is_onward, moves_onward, noted, denied_at, grows_on}
 use Rattle.nv_machine.specs.Reads.{copies, nodes, written_slots}
 use Rattle.nv_machine.specs.Sequence.{appending, closing, nothing_looked, opening, publishing, retiring}
 use Rattle.nv_machine.specs.Step.{ending_at, handle_at, kind_turn, visit_grows, with_made}
-use Rattle.nv_machine.specs.World.{Answers, Append, Check, Close, Ending, Enter, HandState, Leave, Next, Open, Overtaken, Publish, Ready, Refuses, Retire, Running, Shared, Turn, Visit, owner_at}
+use Rattle.nv_machine.specs.World.{Answers, Append, Check, Close, Ending, Enter, HandState, Leave, Next, Open, Overtaken, Publish, Ready, Refuses, Retire, Running, Shared, Turn, Visit, owner_at, Drop, LockPicked, Make, Pick, Pin, Release, Show, SnapshotStep, Snapshots, Unpin, Drains, Showing, Draining}
+use Rattle.nv_machine.specs.Snapshots.{if_free, is_first, picked_turn, show_turn, snapshot_turn}
+use Rattle.nv_book.specs.declared.record.Record.{Record}
+use Rattle.nv_entry.specs.declared.node.NodeCopy.{NodeCopy}
 
 -- ---- the last steps
+
+last_stops : (e : Ending) (s : Shared) (h : HandState) (r : Running) → moves_onward (last_turn e s h r) ≡ false
+last_stops Answers s h r = refl
+last_stops (Refuses fault) s h r = refl
+last_stops Overtaken s h r = refl
+last_stops (Drains draining) s h r = go draining.left where
+  go : (left : ℕ) → moves_onward (drained_turn left draining.released s h r) ≡ false
+  go zero = refl
+  go (suc left) = refl
 
 rest_stops : (home number : Option ℕ) (s : Shared) (h : HandState) (r : Running) → moves_onward (rest_turn home number s h r) ≡ false
 rest_stops (Some cpu) number s h r = refl
 rest_stops None (Some ino) s h r = refl
-rest_stops None None s h r = refl
+rest_stops None None s h r = last_stops r.ending s h r
 
 again_stops : (rounds : ℕ) (s : Shared) (h : HandState) (r : Running) → moves_onward (again_turn rounds s h r) ≡ false
 again_stops zero s h r = refl
@@ -30,6 +42,7 @@ over_stops : (e : Ending) (s : Shared) (h : HandState) (r : Running) → moves_o
 over_stops Answers s h r = rest_stops _ h.ino s h r
 over_stops (Refuses fault) s h r = rest_stops _ h.ino s h r
 over_stops Overtaken s h r = again_stops r.rounds s h r
+over_stops (Drains draining) s h r = rest_stops _ h.ino s h r
 
 end_stops : (slots : List ℕ) (e : Ending) (s : Shared) (h : HandState) (r : Running) → moves_onward (end_turn slots e s h r) ≡ false
 end_stops [] e s h r = over_stops e s h (record r { ending = e })
@@ -50,14 +63,14 @@ refused_unanswered fault (slot ∷ slots) s h r = refl
 
 stays_so : (k : Next) (s : Shared) (h : HandState) (r : Running) (t : Turn) → does_its_work k t ≡ false → t ≡ denied_turn k s h r t
 stays_so k s h r t e = go (does_its_work k t) e where
-  go : (b : Bool) → b ≡ false → t ≡ (if b then refuse OutOfMemory s h (noted k s h r) else t)
+  go : (b : Bool) → b ≡ false → t ≡ (if b then denied_at k s h (noted k s h r) else t)
   go true e = cc
   go false e = refl
 
 refuses_so : (k : Next) (s : Shared) (h : HandState) (r : Running) (t : Turn) → does_its_work k t ≡ true
-    → refuse OutOfMemory s h (noted k s h r) ≡ denied_turn k s h r t
+    → denied_at k s h (noted k s h r) ≡ denied_turn k s h r t
 refuses_so k s h r t e = go (does_its_work k t) e where
-  go : (b : Bool) → b ≡ true → refuse OutOfMemory s h (noted k s h r) ≡ (if b then refuse OutOfMemory s h (noted k s h r) else t)
+  go : (b : Bool) → b ≡ true → denied_at k s h (noted k s h r) ≡ (if b then denied_at k s h (noted k s h r) else t)
   go true e = refl
   go false e = cc
 
@@ -110,6 +123,53 @@ visit_denied (Some other) tests found s h r = refl
 visit_denied None (Err fault) found s h r = stays_so Visit s h r (refuse fault s h r) (refused_unanswered fault r.slots s h r)
 visit_denied None (Ok passed) found s h r = refl
 
+show_denied : (owner : Option ℕ) (found : Option NodeCopy) (snapshot : ℕ) (showing : Showing) (s : Shared) (h : HandState) (r : Running)
+    → show_turn owner false found snapshot showing s h r
+    ≡ denied_turn (Snapshots (Show snapshot showing)) s h r (show_turn owner true found snapshot showing s h r)
+show_denied (Some other) found snapshot showing s h r = refl
+show_denied None found snapshot showing s h r = refl
+
+picked_denied : (deferred : List Record) (draining : Draining) (s : Shared) (h : HandState) (r : Running)
+    → refuse OutOfMemory s h r ≡ denied_turn (Snapshots (Pick draining)) s h r (picked_turn deferred draining s h r)
+picked_denied [] draining s h r = refl
+picked_denied (picked ∷ deferred) draining s h r = refl
+
+-- a first pick makes room before it picks, and no other does
+pick_denied : (holder : Option ℕ) (first : Bool) (draining : Draining) (s : Shared) (h : HandState) (r : Running) → first ≡ true
+    → if_free holder (grown (false || not first) (picked_turn s.book.deferred draining s h r) s h r)
+    ≡ denied_turn (Snapshots (Pick draining)) s h r
+    (if_free holder (grown (true || not first) (picked_turn s.book.deferred draining s h r) s h r))
+pick_denied (Some other) first draining s h r e = refl
+pick_denied None true draining s h r e = picked_denied s.book.deferred draining s h r
+pick_denied None false draining s h r e = cc
+
+pick_alike : (first : Bool) (turn : Turn) (s : Shared) (h : HandState) (r : Running) → first ≡ false
+    → grown (false || not first) turn s h r ≡ grown (true || not first) turn s h r
+pick_alike true turn s h r e = cc
+pick_alike false turn s h r e = refl
+
+snapshot_denied : (step : SnapshotStep) (actor : ℕ) (s : Shared) (h : HandState) (r : Running) → grows_on step ≡ true
+    → snapshot_turn step actor false s h r ≡ denied_turn (Snapshots step) s h r (snapshot_turn step actor true s h r)
+snapshot_denied (Show snapshot showing) actor s h r e = show_denied _ _ snapshot showing s h r
+snapshot_denied (Pick draining) actor s h r e = pick_denied s.holder (is_first draining) draining s h r e
+snapshot_denied Make actor s h r e = cc
+snapshot_denied (Drop snapshot) actor s h r e = cc
+snapshot_denied (Pin snapshot) actor s h r e = cc
+snapshot_denied (Unpin snapshot seen) actor s h r e = cc
+snapshot_denied (LockPicked draining picked) actor s h r e = cc
+snapshot_denied (Release draining picked) actor s h r e = cc
+
+snapshot_alike : (step : SnapshotStep) (actor : ℕ) (s : Shared) (h : HandState) (r : Running) → grows_on step ≡ false
+    → snapshot_turn step actor false s h r ≡ snapshot_turn step actor true s h r
+snapshot_alike (Show snapshot showing) actor s h r e = cc
+snapshot_alike (Pick draining) actor s h r e = ap (if_free s.holder) (pick_alike (is_first draining) _ s h r e)
+snapshot_alike Make actor s h r e = refl
+snapshot_alike (Drop snapshot) actor s h r e = refl
+snapshot_alike (Pin snapshot) actor s h r e = refl
+snapshot_alike (Unpin snapshot seen) actor s h r e = refl
+snapshot_alike (LockPicked draining picked) actor s h r e = refl
+snapshot_alike (Release draining picked) actor s h r e = refl
+
 -- ---- all kinds
 
 pub denied_alike : (k : Next) (block actor : ℕ) (s : Shared) (h : HandState) (r : Running) → grows k r.call ≡ true
@@ -126,6 +186,7 @@ denied_alike Visit block actor s h r e = go (visit_grows r.call) e where
   go true e = visit_denied (owner_at s (handle_at (handles nothing_looked r.call) 0).ino) (refusal block (copies s) r.call)
       (answer (nodes s) r.made r.call) s h r
   go false e = cc
+denied_alike (Snapshots step) block actor s h r e = snapshot_denied step actor s h r e
 denied_alike other block actor s h r e = cc
 
 pub ungrown : (k : Next) (block actor : ℕ) (s : Shared) (h : HandState) (r : Running) → grows k r.call ≡ false
@@ -134,4 +195,5 @@ ungrown Check block actor s h r e = cc
 ungrown Ready block actor s h r e = cc
 ungrown Enter block actor s h r e = cc
 ungrown Visit block actor s h r e = rw e refl
+ungrown (Snapshots step) block actor s h r e = snapshot_alike step actor s h r e
 ungrown other block actor s h r e = refl

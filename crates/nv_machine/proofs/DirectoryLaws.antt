@@ -212,6 +212,7 @@ module _ (block : ℕ) (nodes : Handle → Option NodeCopy) (tree : AreTree node
   call_kept made (call.Stat handle) passed new = tree
   call_kept made (call.List dir) passed new = tree
   call_kept made (call.Lookup dir name) passed new = tree
+  call_kept made (call.Snapshots what) passed new = tree
   call_kept made (call.Unlink dir name) passed new =
       unlink_kept dir name (found nodes dir name) refl (both_passed (lookup_refusal nodes dir name) _ passed).1
   call_kept made (call.Rmdir dir name) passed new =

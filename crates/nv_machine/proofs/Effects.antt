@@ -34,7 +34,7 @@ use Rattle.nv_machine.specs.World.{Go, Running, Shared, World, actor_at, cell_at
 use Rattle.nv_machine.proofs.CellPages.{among_at, node_read, page_there, sound_read}
 use Rattle.nv_machine.proofs.CellSteps.{same_slot}
 use Rattle.nv_machine.proofs.Events.{goes}
-use Rattle.nv_machine.proofs.GrownRuns.{SameBlocks, point_shared}
+use Rattle.nv_machine.proofs.GrownTurns.{SameBlocks, point_shared}
 use Rattle.nv_machine.proofs.Journals.{closed_tail}
 use Rattle.nv_machine.proofs.KeptRuns.{event_kept, none_closed}
 use Rattle.nv_machine.proofs.Settling.{SettlesAll}

@@ -14,14 +14,13 @@ use Rattle.nv_machine.specs.Causes.{IsCause, MayBeOvertaken, RefusesFor}
 use Rattle.nv_machine.specs.Format.{formatted}
 use Rattle.nv_machine.specs.Kinds.{look_tests, look_turn}
 use Rattle.nv_machine.specs.Reads.{copies, nodes}
-use Rattle.nv_machine.specs.Sequence.{beginning, directories}
+use Rattle.nv_machine.specs.Sequence.{beginning, directories, Visits}
 use Rattle.nv_machine.specs.Settled.{settled_nodes}
 use Rattle.nv_machine.specs.Step.{after, ending_at, handle_at, is_numbered, kind_turn, made_in, same_looked, turn, visit_grows, with_made}
-use Rattle.nv_machine.specs.World.{Answers, Append, Back, Check, Close, Enter, Event, Give, HandState, Leave, Lock, Look, Next, Number, Open, Publish, Ready, Retire, Running, Shared, TakeBlocks, TakePages, Unlock, Visit, World, actor_at, owner_at}
+use Rattle.nv_machine.specs.World.{Answers, Append, Back, Check, Close, Enter, Event, Give, HandState, Leave, Lock, Look, Next, Number, Open, Publish, Ready, Retire, Running, Shared, TakeBlocks, TakePages, Unlock, Visit, World, actor_at, owner_at, Snapshots}
 use Rattle.nv_machine.proofs.Caused.{CheckCause, caused, check_caused, check_told, look_caused, no_growth, visit_caused}
 use Rattle.nv_machine.proofs.EndsRead.{ending_settled, first_look}
-use Rattle.nv_machine.proofs.EndsRuns.{relied, told_of}
-use Rattle.nv_machine.proofs.EndsTold.{Stage}
+use Rattle.nv_machine.proofs.EndsRuns.{relied, visits_of}
 use Rattle.nv_machine.proofs.EndsTurns.{Relied}
 use Rattle.nv_machine.proofs.FitsEvents.{all_fit, all_known}
 use Rattle.nv_machine.proofs.Visiting.{free_node}
@@ -43,7 +42,8 @@ module _ (block a cpu : ℕ) (s : Shared) (h : HandState) (r : Running) (going :
   first_told zero fault none e = sym (first_look (settled_nodes s) (nodes s) r.call (free (handle_at (directories r.call) 0) none)) ∙ e
   first_told (suc place) fault none e = cc
 
-  pub settled_caused : (k : Next) (granted : Bool) → Relied k block a cpu s h r → Stage k r.ending r.call
+  pub settled_caused : (k : Next) (granted : Bool) → Relied k block a cpu s h r
+      → (k ≡ Visit → beginning r.call ≡ Visits)
       → RefusesFor (IsCause k block a granted plain s h r) (MayBeOvertaken k plain r) (kind_turn k block a granted s h r)
   settled_caused (Look place) granted st stage =
       look_settled _ _ _ _ _ place s h r (λ fault none told. first_told place fault none told) going
@@ -55,7 +55,7 @@ module _ (block a cpu : ℕ) (s : Shared) (h : HandState) (r : Running) (going :
       (is_numbered (beginning r.call) h.ino) (effect plain (made_in s h.ino r.made) r.call))) refl refl going
   settled_caused Visit granted st stage =
       visit_caused plain _ (refusal block (copies s) r.call) block a _ granted _ s h r
-      (λ none. (st.visit stage none (record { made = r.made; runs = []; present = false })).refusal)
+      (λ none. (st.visit (stage refl) none (record { made = r.made; runs = []; present = false })).refusal)
       (no_growth granted (visit_grows r.call))
   settled_caused Number granted st stage = caused Number block a granted s h r going
   settled_caused (Lock place) granted st stage = caused (Lock place) block a granted s h r going
@@ -72,6 +72,7 @@ module _ (block a cpu : ℕ) (s : Shared) (h : HandState) (r : Running) (going :
   settled_caused (Unlock place) granted st stage = caused (Unlock place) block a granted s h r going
   settled_caused (Give home) granted st stage = caused (Give home) block a granted s h r going
   settled_caused Back granted st stage = caused Back block a granted s h r going
+  settled_caused (Snapshots step) granted st stage = caused (Snapshots step) block a granted s h r going
 
 pub plainly_caused : (g : GeometryNumbers) (events : List Event) (actor : ℕ) (granted : Bool) (r : Running) → IsWithinLimits g
     → (actor_at (after (formatted g) events) actor).running ≡ Some r → r.ending ≡ Answers
@@ -85,4 +86,4 @@ plainly_caused g events actor granted r within is going =
     let w : World = after (formatted g) events in
     let known = all_known g within events in
     settled_caused w.numbers.block actor _ w.shared (actor_at w actor).hand r going (free_node w known.reached.grown) r.next granted
-    (relied g w known (all_fit g within events) actor r is) (told_of g events actor within r is).stage
+    (relied g w known (all_fit g within events) actor r is) (visits_of g events actor within r is)

@@ -103,6 +103,7 @@ module _ (plain others : Handle → Option PlainNode) where
   looks_alike (call.Stat handle) h = record { found = refl; early = refl; look = refl }
   looks_alike (call.List dir) h = record { found = refl; early = refl; look = refl }
   looks_alike (call.Lookup dir name) h = record { found = refl; early = refl; look = refl }
+  looks_alike (call.Snapshots what) h = record { found = refl; early = refl; look = refl }
 
   -- a first look reads one directory
   pub first_look : (c : Call) → others (handle_at (directories c) 0) ≡ plain (handle_at (directories c) 0)
@@ -123,6 +124,7 @@ module _ (plain others : Handle → Option PlainNode) where
   first_look (call.Stat handle) e = refl
   first_look (call.List dir) e = refl
   first_look (call.Lookup dir name) e = refl
+  first_look (call.Snapshots what) e = refl
 
   -- the handles that a call names are among all that it reads
   named_agree : (seen : Looked) (c : Call) → Agree plain others (handles seen c) → Agree plain others (handles nothing_looked c)
@@ -138,6 +140,7 @@ module _ (plain others : Handle → Option PlainNode) where
   named_agree seen (call.Stat handle) h = h
   named_agree seen (call.List dir) h = h
   named_agree seen (call.Lookup dir name) h = h
+  named_agree seen (call.Snapshots what) h = h
 
 -- ---- the check
 

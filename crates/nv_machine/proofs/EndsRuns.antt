@@ -1,26 +1,26 @@
 -- A call that is answered was decided once, whatever events come.
-use Rattle.std.proofs.Common.{◌≡◌, ℕ, ◌%◌, ◌<◌, ◌==◌, ◌++◌, ◌∙◌, Bool, true, false, cond, List, [], ◌∷◌, Option, Some, None, ap, get_or-set_same, length, nat_lt, refl, subst, sym}
+use Rattle.std.proofs.Common.{◌≡◌, ◌%◌, ◌<◌, ◌==◌, ◌++◌, ◌∙◌, ◌∷◌, ℕ, Bool, true, false, cond, List, [], Option, Some, None, ap, get_or-set_same, length, nat_lt, refl, subst, sym}
 use Rattle.std.specs.Prelude.{Ok, Err}
 use Rattle.std.proofs.lemmas.Bool.{eqb-false, eqb-true, false≢true, lt-ltb, ltb-false, ltb-true}
 use Rattle.std.proofs.lemmas.List.{get_or_past}
 use Rattle.nv_base.specs.declared.fault.Fault.{Fault}
 use Rattle.nv_base.specs.declared.geometry.GeometryNumbers.{GeometryNumbers}
 use Rattle.nv_base.specs.Limits.{IsWithinLimits}
-use Rattle.nv_calls.specs.AllCalls.{effect, is_nothing}
+use Rattle.nv_calls.specs.AllCalls.{effect, is_nothing, answer}
 use Rattle.nv_calls.specs.Plain.{node_in}
 use Rattle.nv_calls.specs.declared.answer.Answer.{Answer}
 use Rattle.nv_calls.specs.declared.call.Call.{Call}
-use Rattle.nv_machine.specs.EndsDecided.{decided, decided_in, decision_of, unless_started}
+use Rattle.nv_machine.specs.EndsDecided.{decided, decided_in, decision_of, unless_started, is_on_snapshots}
 use Rattle.nv_machine.specs.Format.{formatted}
 use Rattle.nv_machine.specs.Hands.{HandOf}
 use Rattle.nv_machine.specs.Kept.{KnowsOf, Knows}
 use Rattle.nv_machine.specs.Locks.{commits_at}
 use Rattle.nv_machine.specs.PlainRun.{Commits, deed_of}
 use Rattle.nv_machine.specs.Reads.{slots_of, written_slots}
-use Rattle.nv_machine.specs.Sequence.{Beginning, Looks, Locks, Numbers, Visits, beginning, begun, nothing_looked}
+use Rattle.nv_machine.specs.Sequence.{Beginning, Looks, Locks, Numbers, Visits, beginning, begun, nothing_looked, OnSnapshots}
 use Rattle.nv_machine.specs.Settled.{settled_nodes}
 use Rattle.nv_machine.specs.Step.{Step, after, go_step, start_step, step, turn, turned}
-use Rattle.nv_machine.specs.World.{Actor, Append, Back, Check, Close, Done, Ending, Ends, Enter, Event, Give, Go, HandState, Leave, Lock, Look, Moves, Next, Number, Open, Publish, Ready, Refused, Retire, TakeBlocks, TakePages, Unlock, Visit, Reply, Running, Shared, Start, Turn, Waits, World, actor_at, idle}
+use Rattle.nv_machine.specs.World.{Actor, Append, Back, Check, Close, Done, Ending, Ends, Enter, Event, Give, Go, HandState, Leave, Lock, Look, Moves, Next, Number, Open, Publish, Ready, Refused, Retire, TakeBlocks, TakePages, Unlock, Visit, Reply, Running, Shared, Start, Turn, Waits, World, actor_at, idle, Snapshots}
 use Rattle.nv_calls.specs.declared.taken.Taken.{Taken}
 use Rattle.nv_calls.proofs.Nothing.{told_nothing}
 use Rattle.nv_machine.proofs.Answered.{deed_is}
@@ -35,14 +35,22 @@ use Rattle.nv_machine.proofs.FitsStages.{FitsAt, FitsOf}
 use Rattle.nv_machine.proofs.Lists.{self}
 use Rattle.nv_machine.proofs.Locks.{all_same, before}
 use Rattle.nv_machine.proofs.Visiting.{visit_same}
-use Rattle.nv_machine.proofs.EndsTold.{IsTold, OnTold, Stage, locking_told}
+use Rattle.nv_machine.proofs.EndsTold.{IsTold, OnTold, Stage, locking_told, no_visit, plain_visit}
 use Rattle.nv_machine.proofs.EndsTurns.{Relied, kind_told}
+use Rattle.nv_machine.proofs.SnapshotTurns.{is_quiet}
+use Rattle.nv_calls.specs.declared.call.Call.TheVariants as call
+use Rattle.nv_calls.specs.declared.snapshot_call.SnapshotCall.{SnapshotCall}
+use Rattle.nv_machine.proofs.EndsSilent.{IsSilent, OnSilent, decides_none, quiet_kind, quiet_out, silent_turn}
 
 -- ---- a call that runs
 
+abbrev ToldBy : Bool → Running → List Answer → Type 0
+ToldBy true r d = IsSilent r d
+ToldBy false r d = IsTold r.next r d
+
 abbrev pub HasTold : Option Running → List Answer → Type 0
 HasTold None d = Unit {0}
-HasTold (Some r) d = IsTold r.next r d
+HasTold (Some r) d = ToldBy (is_on_snapshots r.call) r d
 
 open_knows : (k : Next) (block : ℕ) (s : Shared) (cpu : ℕ) (h : HandState) (r : Running) → k ≡ Open → Knows k block s cpu h r
     → nat_lt 1 (length (written_slots r)) ≡ true
@@ -80,6 +88,7 @@ committing (Publish place) e c at stage = stage
 committing Close e c at stage = stage
 committing (Retire place) e c at stage = stage
 committing Leave e c at stage = stage
+committing (Snapshots step) e c at stage = absurd (false≢true at)
 committing Number e c at stage = absurd (false≢true at)
 committing (Look place) e c at stage = absurd (false≢true at)
 committing (Lock place) e c at stage = absurd (false≢true at)
@@ -93,23 +102,105 @@ committing (Give cpu) e c at stage = absurd (false≢true at)
 committing Back e c at stage = absurd (false≢true at)
 committing Visit e c at stage = absurd (false≢true at)
 
+-- a stage is that of a call on files and directories
+staged : (k : Next) (e : Ending) (c : Call) → Stage k e c → is_on_snapshots c ≡ false
+staged Number e c stage = stage.1
+staged (Look place) e c stage = stage.1
+staged (Lock place) e c stage = stage.1
+staged Check e c stage = stage.1
+staged Visit e c stage = plain_visit c stage
+staged (Unlock place) e c stage = stage.0.1
+staged (Give cpu) e c stage = stage.1
+staged Back e c stage = stage.1
+staged (Snapshots step) e c stage = absurd stage
+staged (TakeBlocks asked) e c stage = (no_visit c stage).1
+staged (TakePages asked) e c stage = (no_visit c stage).1
+staged Ready e c stage = (no_visit c stage).1
+staged Enter e c stage = (no_visit c stage).1
+staged (Append place) e c stage = (no_visit c stage).1
+staged Open e c stage = (no_visit c stage).1
+staged (Publish place) e c stage = (no_visit c stage).1
+staged Close e c stage = (no_visit c stage).1
+staged (Retire place) e c stage = (no_visit c stage).1
+staged Leave e c stage = (no_visit c stage).1
+
+told_running : (q : Running) (d : List Answer) → IsTold q.next q d → HasTold (Some q) d
+told_running q d is = subst (λ (b : Bool). ToldBy b q d) (sym (staged q.next q.ending q.call is.stage)) is
+
 -- ---- one event
 
+begun_plain : (c : Call) → ((what : SnapshotCall) → beginning c ≡ OnSnapshots what → ⊥) → is_on_snapshots c ≡ false
+begun_plain (call.Snapshots what) other = absurd (other what refl)
+begun_plain (call.Create dir name mode) other = refl
+begun_plain (call.Mkdir dir name mode) other = refl
+begun_plain (call.Write file offset text) other = refl
+begun_plain (call.Read file offset count) other = refl
+begun_plain (call.Size file size) other = refl
+begun_plain (call.Mode handle mode) other = refl
+begun_plain (call.Stat handle) other = refl
+begun_plain (call.List dir) other = refl
+begun_plain (call.Lookup dir name) other = refl
+begun_plain (call.Unlink dir name) other = refl
+begun_plain (call.Rmdir dir name) other = refl
+begun_plain (call.Rename from old to new) other = refl
+
+begun_on : (c : Call) (what : SnapshotCall) → beginning c ≡ OnSnapshots what → is_on_snapshots c ≡ true
+begun_on (call.Snapshots what) here e = refl
+begun_on (call.Create dir name mode) here e = cc
+begun_on (call.Mkdir dir name mode) here e = cc
+begun_on (call.Write file offset text) here e = cc
+begun_on (call.Read file offset count) here e = cc
+begun_on (call.Size file size) here e = cc
+begun_on (call.Mode handle mode) here e = cc
+begun_on (call.Stat handle) here e = cc
+begun_on (call.List dir) here e = cc
+begun_on (call.Lookup dir name) here e = cc
+begun_on (call.Unlink dir name) here e = cc
+begun_on (call.Rmdir dir name) here e = cc
+begun_on (call.Rename from old to new) here e = cc
+
 begun_told : (b : Beginning) (s : Shared) (c : Call) → beginning c ≡ b → HasTold (Some (begun b s c)) []
-begun_told Numbers s c e = record { told = refl; stage = λ v. cc }
-begun_told Looks s c e = record { told = refl; stage = λ v. cc }
-begun_told Visits s c e = record { told = refl; stage = e }
-begun_told Locks s c e = locking_told [] [] refl 0 (slots_of s None nothing_looked c) (begun Locks s c) (λ v. cc)
+begun_told Numbers s c e =
+    told_running (begun Numbers s c) [] (record { told = refl; stage = (λ v. cc, begun_plain c (λ what v. cc)) })
+begun_told Looks s c e =
+    told_running (begun Looks s c) [] (record { told = refl; stage = (λ v. cc, begun_plain c (λ what v. cc)) })
+begun_told Visits s c e = told_running (begun Visits s c) [] (record { told = refl; stage = e })
+begun_told Locks s c e =
+    told_running (begun Locks s c) []
+    (locking_told [] [] refl 0 (slots_of s None nothing_looked c) (begun Locks s c) (λ v. cc, begun_plain c (λ what v. cc)))
+begun_told (OnSnapshots what) s c e =
+    subst (λ (b : Bool). ToldBy b (begun (OnSnapshots what) s c) []) (sym (begun_on c what e))
+    (record { none = refl; quiet = refl; fair = refl })
 
 module _ (g : GeometryNumbers) (w : World) (known : IsKnown g w) (fit : AreFit w) (actor : ℕ) where
   turned_told : (t : Turn) (d before : List Answer) → actor < length w.actors → OnTold before d t
       → HasTold (actor_at w actor).running before → HasTold (actor_at (turned t actor w).world actor).running d
   turned_told (Moves s h q) d before there on had =
       subst (λ (x : Actor). HasTold x.running d)
-      (sym (get_or-set_same w.actors actor (record { hand = h; running = Some q }) idle there)) on
+      (sym (get_or-set_same w.actors actor (record { hand = h; running = Some q }) idle there)) (told_running q d on)
   turned_told Waits d before there on had = subst (HasTold (actor_at w actor).running) (sym on) had
   turned_told (Ends result s h) d before there on had =
       subst (λ (x : Actor). HasTold x.running d) (sym (get_or-set_same w.actors actor (record { hand = h; running = None }) idle there)) tt
+
+  turned_silent : (t : Turn) (d before : List Answer) (r : Running) → actor < length w.actors → (actor_at w actor).running ≡ Some r
+      → is_on_snapshots r.call ≡ true → d ≡ before → IsSilent r before → OnSilent r.call d t
+      → HasTold (actor_at (turned t actor w).world actor).running d
+  turned_silent (Moves s h q) d before r there is snapshot same had on =
+      subst (λ (x : Actor). HasTold x.running d)
+      (sym (get_or-set_same w.actors actor (record { hand = h; running = Some q }) idle there))
+      (subst (λ (b : Bool). ToldBy b q d) (sym (ap is_on_snapshots on.1 ∙ snapshot)) on.0)
+  turned_silent Waits d before r there is snapshot same had on =
+      subst (λ (o : Option Running). HasTold o d) (sym is) (subst (λ (b : Bool). ToldBy b r d) (sym snapshot)
+      (subst (IsSilent r) (sym same) had))
+  turned_silent (Ends result s h) d before r there is snapshot same had on =
+      subst (λ (x : Actor). HasTold x.running d) (sym (get_or-set_same w.actors actor (record { hand = h; running = None }) idle there)) tt
+
+  own_silent : (granted : Bool) (r : Running) (before : List Answer) → is_quiet r.next ≡ true
+      → decision_of (Some r) w actor granted ++ before ≡ before
+  own_silent granted r before quiet =
+      let t = turn w.numbers.block actor granted w.shared (actor_at w actor).hand r in
+      ap (λ (b : Bool). cond b (answer (settled_nodes w.shared) r.made r.call ∷ []) [] ++ before)
+      (decides_none r.next w.numbers.block w.shared r t quiet)
 
   -- an actor that is not there has no call
   outside : nat_lt actor (length w.actors) ≡ false → (actor_at w actor).running ≡ None
@@ -127,9 +218,23 @@ module _ (g : GeometryNumbers) (w : World) (known : IsKnown g w) (fit : AreFit w
       → HasTold (actor_at (go_step b running actor granted w).world actor).running (decision_of running w actor granted ++ before)
   own_told false running granted before there is had = rw (outside there) tt
   own_told true None granted before there is had = rw is tt
-  own_told true (Some r) granted before there is had =
-      turned_told (turn w.numbers.block actor granted w.shared (actor_at w actor).hand r) _ before (ltb-true actor (length w.actors) there)
-      (own_turn_told granted r before is had) (subst (λ (o : Option Running). HasTold o before) (sym is) had)
+  own_told true (Some r) granted before there is had = go (is_on_snapshots r.call) refl had where
+    t : Turn
+    t = turn w.numbers.block actor granted w.shared (actor_at w actor).hand r
+
+    in_range : actor < length w.actors
+    in_range = ltb-true actor (length w.actors) there
+
+    go : (b : Bool) → is_on_snapshots r.call ≡ b → ToldBy b r before
+        → HasTold (actor_at (turned t actor w).world actor).running (decision_of (Some r) w actor granted ++ before)
+    go false plain told =
+        turned_told t _ before in_range (own_turn_told granted r before is told)
+        (subst (λ (o : Option Running). HasTold o before) (sym is) had)
+    go true snapshot told =
+        let same = own_silent granted r before told.quiet in
+        let quiet = quiet_kind r.next w.numbers.block actor granted w.shared (actor_at w actor).hand r told.quiet told.fair in
+        turned_silent t _ before r in_range is snapshot same told
+        (silent_turn r _ t (same ∙ told.none) quiet.0 quiet.1)
 
   go_told : (other : ℕ) (granted same : Bool) (before : List Answer) → (other == actor) ≡ same → HasTold (actor_at w actor).running before
       → HasTold (actor_at (step w (Go other granted)).world actor).running
@@ -229,15 +334,25 @@ module _ (g : GeometryNumbers) (events : List Event) (actor : ℕ) (within : IsW
       (turn_replies (turn w.numbers.block actor granted w.shared (actor_at w actor).hand r) before_all _
       (own_turn_told g w (all_known g within events) (all_fit g within events) actor granted r before_all is had))
 
-  pub told_of : (r : Running) → (actor_at w actor).running ≡ Some r → IsTold r.next r before_all
+  told_of : (r : Running) → (actor_at w actor).running ≡ Some r → ToldBy (is_on_snapshots r.call) r before_all
   told_of r is = subst (λ (o : Option Running). HasTold o before_all) is all_told
 
-  all_replied : (granted : Bool) (r : Running) → (actor_at w actor).running ≡ Some r
+  -- a call at its visit begins with it
+  pub visits_of : (r : Running) → (actor_at w actor).running ≡ Some r → r.next ≡ Visit → beginning r.call ≡ Visits
+  visits_of r is next = go (is_on_snapshots r.call) (told_of r is) where
+    go : (b : Bool) → ToldBy b r before_all → beginning r.call ≡ Visits
+    go true told = absurd (false≢true (ap is_quiet (sym next) ∙ told.quiet))
+    go false told = subst (λ (k : Next). Stage k r.ending r.call) next told.stage
+
+  plainly_told : (r : Running) → (actor_at w actor).running ≡ Some r → is_on_snapshots r.call ≡ false → IsTold r.next r before_all
+  plainly_told r is plain = subst (λ (b : Bool). ToldBy b r before_all) plain (told_of r is)
+
+  all_replied : (granted : Bool) (r : Running) → (actor_at w actor).running ≡ Some r → is_on_snapshots r.call ≡ false
       → ReplyTold (step w (Go actor granted)).reply (decided actor (formatted g) (events ++ Go actor granted ∷ []) [])
-  all_replied granted r is =
+  all_replied granted r is plain =
       subst (ReplyTold (step w (Go actor granted)).reply)
       (sym (own_event granted ∙ ap (λ (o : Option Running). decision_of o w actor granted ++ before_all) is))
-      (replied (nat_lt actor (length w.actors)) granted r refl is (told_of r is))
+      (replied (nat_lt actor (length w.actors)) granted r refl is (plainly_told r is plain))
 
   abbrev decided_then : Bool → List Answer
   decided_then granted = decided actor (formatted g) (events ++ Go actor granted ∷ []) []
@@ -245,19 +360,23 @@ module _ (g : GeometryNumbers) (events : List Event) (actor : ℕ) (within : IsW
   -- a call that is refused was not decided
   pub is_undecided : (granted : Bool) (r : Running) (fault : Fault) → (actor_at w actor).running ≡ Some r
       → (step w (Go actor granted)).reply ≡ Refused fault → decided_then granted ≡ []
-  is_undecided granted r fault is e = subst (λ (x : Reply). ReplyTold x (decided_then granted)) e (all_replied granted r is)
+  is_undecided granted r fault is e = go (is_on_snapshots r.call) refl where
+    go : (b : Bool) → is_on_snapshots r.call ≡ b → decided_then granted ≡ []
+    go false plain = subst (λ (x : Reply). ReplyTold x (decided_then granted)) e (all_replied granted r is plain)
+    go true snapshot =
+        let silent : IsSilent r before_all = subst (λ (b : Bool). ToldBy b r before_all) snapshot (told_of r is) in
+        own_event granted ∙ ap (λ (o : Option Running). decision_of o w actor granted ++ before_all) is
+        ∙ own_silent g w (all_known g within events) (all_fit g within events) actor granted r before_all silent.quiet ∙ silent.none
 
-  no_call : (b granted : Bool) (told : Answer) → (go_step b None actor granted w).reply ≡ Done told → ⊥
-  no_call true granted told e = cc
-  no_call false granted told e = cc
+  -- and one on files and directories that is answered was, once
+  pub is_decided : (granted : Bool) (r : Running) (told : Answer) → (actor_at w actor).running ≡ Some r → is_on_snapshots r.call ≡ false
+      → (step w (Go actor granted)).reply ≡ Done told → decided_then granted ≡ told ∷ []
+  is_decided granted r told is plain e = subst (λ (x : Reply). ReplyTold x (decided_then granted)) e (all_replied granted r is plain)
 
-  -- and one that is answered was, once
-  pub is_decided : (granted : Bool) (told : Answer) → (step w (Go actor granted)).reply ≡ Done told → decided_then granted ≡ told ∷ []
-  is_decided granted told e = go (actor_at w actor).running refl where
-    go : (running : Option Running) → (actor_at w actor).running ≡ running → decided_then granted ≡ told ∷ []
-    go None is = absurd (no_call (nat_lt actor (length w.actors)) granted told
-        (subst (λ (o : Option Running). (go_step (nat_lt actor (length w.actors)) o actor granted w).reply ≡ Done told) is e))
-    go (Some r) is = subst (λ (x : Reply). ReplyTold x (decided_then granted)) e (all_replied granted r is)
+  -- a call that commits is on files and directories
+  commits_plainly : (r : Running) (b : Bool) → ToldBy b r before_all → commits_at r.next ≡ true → is_nothing r.call ≡ false
+  commits_plainly r false told at = committing r.next r.ending r.call at told.stage
+  commits_plainly r true silent at = absurd (false≢true (sym (quiet_out r.next silent.quiet) ∙ at))
 
   -- what commits has something to change
   pub commits_something : (granted : Bool) (r : Running) → actor < length w.actors → (actor_at w actor).running ≡ Some r
@@ -272,4 +391,4 @@ module _ (g : GeometryNumbers) (events : List Event) (actor : ℕ) (within : IsW
       (lt-ltb actor (length w.actors) there) is) ∙ e) fits in
       (told_nothing block (node_in (settled_nodes w.shared)) taken r.call
       (has_passed g events actor granted r within there is e)).some_effect
-      (committing r.next r.ending r.call point.0 (told_of r is).stage)
+      (commits_plainly r (is_on_snapshots r.call) (told_of r is) point.0)

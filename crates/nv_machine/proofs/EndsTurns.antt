@@ -1,5 +1,5 @@
 -- What each kind of step decides, and that what has been decided follows from the step that comes next.
-use Rattle.std.proofs.Common.{◌≡◌, ℕ, ◌+◌, ◌<◌, ◌++◌, ◌∙◌, ◌&&◌, ◌||◌, not, Bool, true, false, cond, List, [], ◌∷◌, Option, Some, None, ap, ap₂, arith, length, nat_le, nat_lt, refl, subst, sym}
+use Rattle.std.proofs.Common.{◌≡◌, ◌+◌, ◌<◌, ◌++◌, ◌∙◌, ◌&&◌, ◌||◌, ◌∷◌, ℕ, not, Bool, true, false, cond, List, [], Option, Some, None, ap, ap₂, arith, length, nat_le, nat_lt, refl, subst, sym, true≢false}
 use Rattle.std.specs.Prelude.{Ok, Err}
 use Rattle.std.proofs.lemmas.Bool.{and_parts, false≢true}
 use Rattle.nv_alloc.specs.Numbers.{has}
@@ -20,7 +20,7 @@ use Rattle.nv_calls.proofs.Nothing.{told_nothing}
 use Rattle.nv_calls.proofs.Passed.{both_passed}
 use Rattle.nv_cell.specs.Cell.{log_of}
 use Rattle.nv_machine.specs.Answered.{answer_of}
-use Rattle.nv_machine.specs.EndsDecided.{decision, has_nothing_to_do, is_answered, is_no_change, is_pass}
+use Rattle.nv_machine.specs.EndsDecided.{decision, has_nothing_to_do, is_answered, is_no_change, is_pass, is_on_snapshots}
 use Rattle.nv_machine.specs.Hands.{is_going}
 use Rattle.nv_machine.specs.Kinds.{check_ending, check_turn, end_turn, enter_turn, rest_turn, visit_turn, wants_blocks}
 use Rattle.nv_machine.specs.Locks.{IsInside, commits_at, held_at}
@@ -29,10 +29,10 @@ use Rattle.nv_machine.specs.Reads.{copies, nodes, written_slots}
 use Rattle.nv_machine.specs.Sequence.{Visits, appending, beginning, nothing_looked, publishing, retiring}
 use Rattle.nv_machine.specs.Settled.{settled, settled_nodes}
 use Rattle.nv_machine.specs.Step.{ending_at, handle_at, is_numbered, kind_turn, made_in, same_looked, visit_grows, with_made}
-use Rattle.nv_machine.specs.World.{Answers, Append, Back, Check, Close, Ending, Ends, Enter, Give, HandState, Leave, Lock, Look, Moves, Next, Number, Open, Overtaken, Publish, Ready, Refuses, Retire, Running, Shared, TakeBlocks, TakePages, Turn, Unlock, Visit, Waits, cell_at, go_to, owner_at}
+use Rattle.nv_machine.specs.World.{Answers, Append, Back, Check, Close, Ending, Ends, Enter, Give, HandState, Leave, Lock, Look, Moves, Next, Number, Open, Overtaken, Publish, Ready, Refuses, Retire, Running, Shared, TakeBlocks, TakePages, Turn, Unlock, Visit, Waits, cell_at, go_to, owner_at, Drains, Snapshots, Draining}
 use Rattle.nv_machine.proofs.Answered.{no_node_tells}
 use Rattle.nv_machine.proofs.EndsRead.{ending_settled, settled_ending}
-use Rattle.nv_machine.proofs.EndsTold.{IsNoVisit, IsTold, OnTold, appending_before, back_told, before_told, behind_told, blocks_told, end_told, granted_told, lock_told, look_told, no_visit, number_told, paging_told, refuse_told, rest_told, retiring_behind, several_before, single_behind, taking_told, told_by, unlocked_told}
+use Rattle.nv_machine.proofs.EndsTold.{IsNoVisit, IsTold, OnTold, appending_before, back_told, before_told, behind_told, blocks_told, end_told, granted_told, lock_told, look_told, no_visit, number_told, paging_told, refuse_told, rest_told, retiring_behind, several_before, single_behind, taking_told, told_by, unlocked_told, is_drain, plain_visit}
 use Rattle.nv_machine.proofs.FitsStages.{FitsAt}
 
 -- ---- what a check decides
@@ -42,6 +42,7 @@ is_answering None = false
 is_answering (Some Answers) = true
 is_answering (Some (Refuses fault)) = false
 is_answering (Some Overtaken) = false
+is_answering (Some (Drains draining)) = false
 
 -- by its tests, and by what it would change
 answers_where : (first : Tests) (same : Bool) (tests : Tests) (numbered : Bool) (changes : List Change)
@@ -76,6 +77,7 @@ any_made nodes made other (call.Mode handle mode) = refl
 any_made nodes made other (call.Stat handle) = refl
 any_made nodes made other (call.List dir) = refl
 any_made nodes made other (call.Lookup dir name) = refl
+any_made nodes made other (call.Snapshots what) = refl
 any_made nodes made other (call.Unlink dir name) = refl
 any_made nodes made other (call.Rmdir dir name) = refl
 any_made nodes made other (call.Rename from old to new) = refl
@@ -91,10 +93,11 @@ same_told nodes made other (call.Mode handle mode) changes none e = refl
 same_told nodes made other (call.Unlink dir name) changes none e = refl
 same_told nodes made other (call.Rmdir dir name) changes none e = refl
 same_told nodes made other (call.Rename from old to new) changes none e = refl
-same_told nodes made other (call.Read file offset count) changes none e = absurd (none refl)
-same_told nodes made other (call.Stat handle) changes none e = absurd (none refl)
-same_told nodes made other (call.List dir) changes none e = absurd (none refl)
-same_told nodes made other (call.Lookup dir name) changes none e = absurd (none refl)
+same_told nodes made other (call.Read file offset count) changes none e = absurd (none.0 refl)
+same_told nodes made other (call.Stat handle) changes none e = absurd (none.0 refl)
+same_told nodes made other (call.List dir) changes none e = absurd (none.0 refl)
+same_told nodes made other (call.Lookup dir name) changes none e = absurd (none.0 refl)
+same_told nodes made other (call.Snapshots what) changes none e = absurd (true≢false none.1)
 
 nothing_is : (changes : List Change) → is_no_change changes ≡ true → changes ≡ []
 nothing_is [] e = refl
@@ -124,6 +127,16 @@ goes_on (Ok passed) true (Err fault) numbered changes e = cc
 goes_on (Ok passed) true (Ok all) false changes e = cc
 goes_on (Ok passed) true (Ok all) true [] e = cc
 goes_on (Ok passed) true (Ok all) true (change ∷ changes) e = (refl, omega arith)
+
+-- nor does it lead to a drain
+no_drain : (first : Tests) (same : Bool) (tests : Tests) (numbered : Bool) (changes : List Change) (draining : Draining)
+    → check_ending first same tests numbered changes ≡ Some (Drains draining) → ⊥
+no_drain (Err fault) same tests numbered changes draining e = cc
+no_drain (Ok passed) false tests numbered changes draining e = cc
+no_drain (Ok passed) true (Err fault) numbered changes draining e = cc
+no_drain (Ok passed) true (Ok all) false changes draining e = cc
+no_drain (Ok passed) true (Ok all) true [] draining e = cc
+no_drain (Ok passed) true (Ok all) true (change ∷ changes) draining e = cc
 
 -- ---- turns that answer nothing
 
@@ -156,7 +169,7 @@ module _ (block a cpu : ℕ) (s : Shared) (h : HandState) (r : Running) where
 
   -- the plain world's answer at a commit point is the one that no node tells
   commit_answer : is_nothing r.call ≡ false → answer (settled_nodes s) r.made r.call ∷ [] ≡ answer_of r ∷ []
-  commit_answer some = ap (λ (x : Answer). x ∷ []) (no_node_tells (settled_nodes s) (λ handle. None) r.made r.call (no_visit r.call some))
+  commit_answer some = ap (λ (x : Answer). x ∷ []) (no_node_tells (settled_nodes s) (λ handle. None) r.made r.call (no_visit r.call some).0)
 
   -- ---- check
 
@@ -180,32 +193,36 @@ module _ (block a cpu : ℕ) (s : Shared) (h : HandState) (r : Running) where
         some_call block plain (made_in s h.ino r.made) r.call both.0 both.1
 
   check_told : (b : Bool) (e : Option Ending) (granted : Bool) (wanted : ℕ) (x : Answer) → b ≡ is_answering e
+      → ((draining : Draining) → e ≡ Some (Drains draining) → ⊥)
       → (e ≡ None → is_nothing r.call ≡ false) → (b ≡ true → x ≡ answer_of (with_made s h r)) → IsNoVisit r.call
       → (before : List Answer) → before ≡ []
       → OnTold before (cond b (x ∷ []) [] ++ before) (check_turn e granted wanted block s h (with_made s h r))
-  check_told true None granted wanted x is some same none before e = cc
-  check_told true (Some Answers) granted wanted x is some same none before e =
-      end_told before (x ∷ before) r.slots Answers s h (with_made s h r) (λ e v. cc)
+  check_told true None granted wanted x is drains some same none before e = cc
+  check_told true (Some Answers) granted wanted x is drains some same none before e =
+      end_told before (x ∷ before) r.slots Answers s h (with_made s h r) (refl, none.1) (λ e. cc)
       (ap₂ (λ (a : Answer) (l : List Answer). a ∷ l) (same refl) e)
-  check_told true (Some (Refuses fault)) granted wanted x is some same none before e = cc
-  check_told true (Some Overtaken) granted wanted x is some same none before e = cc
-  check_told false None granted wanted x is some same none before e =
-      granted_told before before e granted (wants_blocks wanted block s h (with_made s h r)) s h (with_made s h r)
+  check_told true (Some (Refuses fault)) granted wanted x is drains some same none before e = cc
+  check_told true (Some (Drains draining)) granted wanted x is drains some same none before e = cc
+  check_told true (Some Overtaken) granted wanted x is drains some same none before e = cc
+  check_told false None granted wanted x is drains some same none before e =
+      granted_told before before e granted (wants_blocks wanted block s h (with_made s h r)) s h (with_made s h r) none.1
       (blocks_told before before e wanted block s h (with_made s h r) (some refl))
-  check_told false (Some Answers) granted wanted x is some same none before e = cc
-  check_told false (Some (Refuses fault)) granted wanted x is some same none before e =
-      refuse_told before before r.slots fault s h (with_made s h r) e
-  check_told false (Some Overtaken) granted wanted x is some same none before e =
-      end_told before before r.slots Overtaken s h (with_made s h r) (λ over. none) e
+  check_told false (Some Answers) granted wanted x is drains some same none before e = cc
+  check_told false (Some (Refuses fault)) granted wanted x is drains some same none before e =
+      refuse_told before before r.slots fault s h (with_made s h r) none.1 e
+  check_told false (Some Overtaken) granted wanted x is drains some same none before e =
+      end_told before before r.slots Overtaken s h (with_made s h r) (refl, none.1) (λ over. none) e
+  check_told false (Some (Drains draining)) granted wanted x is drains some same none before e = absurd (drains draining refl)
 
   -- ---- enter and publish
 
   enter_told : (holder : Option ℕ) (last granted : Bool) (before d : List Answer) → before ≡ [] → d ≡ [] → is_nothing r.call ≡ false
       → 0 < length (written_slots r) → OnTold before d (enter_turn holder last granted a s h r)
   enter_told (Some other) last granted before d none is some written = is ∙ sym none
-  enter_told None true granted before d none is some written = refuse_told before d r.slots CommitLimit s h r is
+  enter_told None true granted before d none is some written =
+      refuse_told before d r.slots CommitLimit s h r (no_visit r.call some).1 is
   enter_told None false granted before d none is some written =
-      granted_told before d is granted _ s h r
+      granted_told before d is granted _ s h r (no_visit r.call some).1
       (before_told (appending 0 (written_slots r)) _ d (appending_before (written_slots r) 0 written) is some)
 
   entered_keeps : (t : Turn) → keeps_nodes (entered t) ≡ true
@@ -233,19 +250,19 @@ module _ (block a cpu : ℕ) (s : Shared) (h : HandState) (r : Running) where
   none_then true false x before e none = none
   none_then false q x before e none = none
 
-  visit_told : (owner : Option ℕ) (all tests : Tests) (given : Bool) (x found : Answer) (before : List Answer) → before ≡ []
-      → (owner ≡ None → (all ≡ tests) × (x ≡ found))
+  visit_told : (owner : Option ℕ) (all tests : Tests) (given : Bool) (x found : Answer) (before : List Answer)
+      → is_on_snapshots r.call ≡ false → before ≡ [] → (owner ≡ None → (all ≡ tests) × (x ≡ found))
       → OnTold before (cond (is_pass all && is_answered (visit_turn owner tests given found s h r)) (x ∷ []) [] ++ before)
       (visit_turn owner tests given found s h r)
-  visit_told (Some other) all tests given x found before none same =
+  visit_told (Some other) all tests given x found before on_files none same =
       none_then (is_pass all) false x before refl none ∙ sym none
-  visit_told None all (Err fault) given x found before none same =
-      refuse_told before _ r.slots fault s h r (none_then (is_pass all) _ x before (refuses fault r.slots s h r) none)
-  visit_told None (Err fault) (Ok passed) given x found before none same = let e = (same refl).0 in cc
-  visit_told None (Ok all) (Ok passed) true x found before none same =
+  visit_told None all (Err fault) given x found before on_files none same =
+      refuse_told before _ r.slots fault s h r on_files (none_then (is_pass all) _ x before (refuses fault r.slots s h r) none)
+  visit_told None (Err fault) (Ok passed) given x found before on_files none same = let e = (same refl).0 in cc
+  visit_told None (Ok all) (Ok passed) true x found before on_files none same =
       ap₂ (λ (a : Answer) (l : List Answer). a ∷ l) (same refl).1 none
-  visit_told None (Ok all) (Ok passed) false x found before none same =
-      refuse_told before _ r.slots OutOfMemory s h r (none_then true _ x before (refuses OutOfMemory r.slots s h r) none)
+  visit_told None (Ok all) (Ok passed) false x found before on_files none same =
+      refuse_told before _ r.slots OutOfMemory s h r on_files (none_then true _ x before (refuses OutOfMemory r.slots s h r) none)
 
   -- ---- all kinds
 
@@ -256,12 +273,17 @@ module _ (block a cpu : ℕ) (s : Shared) (h : HandState) (r : Running) where
   kind_told (Lock place) granted before st d = lock_told before before _ a place s h r d.told d.told d.stage
   kind_told Check granted before st d =
       check_told (has_nothing_to_do block plain r) (ending_at block s h r) granted _ (answer (settled_nodes s) r.made r.call)
-      (decided_is st d.stage) (some_then st d.stage) (λ e. same_told (settled_nodes s) r.made (made_in s h.ino r.made) r.call plain d.stage
+      (decided_is st d.stage)
+      (no_drain (early (copies s) r.call) (same_looked (looked (copies s) r.call) r.looked) (refusal block (copies s) r.call)
+      (is_numbered (beginning r.call) h.ino) (effect (copies s) (made_in s h.ino r.made) r.call))
+      (some_then st d.stage)
+      (λ e. same_told (settled_nodes s) r.made (made_in s h.ino r.made) r.call plain d.stage
       (and_parts (is_pass (refusal block plain r.call) && same_looked (looked plain r.call) r.looked)
       (is_no_change (effect plain r.made r.call)) e).1) d.stage before d.told
   kind_told (TakeBlocks asked) granted before st d = taking_told before before d.told _ _ asked block _ _ r d.stage
   kind_told (TakePages asked) granted before st d = paging_told before before d.told _ _ asked _ _ r d.stage
-  kind_told Ready granted before st d = granted_told before before d.told granted _ s h r (record { told = d.told; stage = d.stage })
+  kind_told Ready granted before st d =
+      granted_told before before d.told granted _ s h r (no_visit r.call d.stage).1 (record { told = d.told; stage = d.stage })
   kind_told Enter granted before st d =
       enter_told s.holder (nat_le NUMBER s.book.commit) granted before _ d.told
       (subst (λ (b : Bool). cond (not b) (answer (settled_nodes s) r.made r.call ∷ []) [] ++ before ≡ [])
@@ -280,13 +302,15 @@ module _ (block a cpu : ℕ) (s : Shared) (h : HandState) (r : Running) where
   kind_told (Retire place) granted before st d =
       behind_told (retiring (place + 1) (written_slots r)) _ before (retiring_behind (written_slots r) (place + 1)) d.told d.stage
   kind_told Leave granted before st d =
-      end_told before before r.slots r.ending _ h r (λ e. no_visit r.call d.stage)
+      end_told before before r.slots r.ending _ h r (ap is_drain (st.ending refl), (no_visit r.call d.stage).1)
+      (λ e. no_visit r.call d.stage)
       (d.told ∙ ap (λ (e : Ending). told_by e (answer_of r)) (sym (st.ending refl)))
-  kind_told (Unlock place) granted before st d = unlocked_told before before _ place _ h r d.stage d.told
-  kind_told (Give home) granted before st d = rest_told before before _ h.ino _ _ r d.told
-  kind_told Back granted before st d = back_told before before h.ino s h r d.told
+  kind_told (Unlock place) granted before st d = unlocked_told before before _ place _ h r d.stage.0 d.stage.1 d.told
+  kind_told (Give home) granted before st d = rest_told before before _ h.ino _ _ r d.stage d.told
+  kind_told Back granted before st d = back_told before before h.ino s h r d.stage d.told
   kind_told Visit granted before st d =
       visit_told (owner_at s (handle_at (handles nothing_looked r.call) 0).ino) (refusal block plain r.call)
       (refusal block (copies s) r.call) (granted || not (visit_grows r.call)) (answer (settled_nodes s) r.made r.call)
-      (answer (nodes s) r.made r.call) before d.told
+      (answer (nodes s) r.made r.call) before (plain_visit r.call d.stage) d.told
       (λ free. let c = st.visit d.stage free (record { made = r.made; runs = []; present = false }) in (sym c.refusal, sym c.answer))
+  kind_told (Snapshots step) granted before st d = absurd d.stage

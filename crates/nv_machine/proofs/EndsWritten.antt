@@ -97,6 +97,7 @@ module _ (block : ℕ) (nodes : Handle → Option NodeCopy) (taken : Taken) (pos
   plan_has (call.Stat handle) h some count = cc
   plan_has (call.List dir) h some count = cc
   plan_has (call.Lookup dir name) h some count = cc
+  plan_has (call.Snapshots what) h some count = cc
 
 -- so the slots that are written are not none
 pub some_written : (slots : List ℕ) (plan : List Planned) → ((ino : ℕ) → has slots ino ≡ false → items_for plan ino ≡ [])

@@ -6,7 +6,8 @@ use Rattle.std.specs.List.{AllByRecursion}
 use Rattle.nv_alloc.specs.Block.{BlockValue}
 use Rattle.nv_alloc.specs.Numbers.{has}
 use Rattle.nv_book.specs.Book.{BookState}
-use Rattle.nv_calls.specs.Retiring.{erased, is_erased, keeper_of, retired, retired_one, settled}
+use Rattle.nv_book.specs.declared.record.Record.{Record}
+use Rattle.nv_calls.specs.Retiring.{erased, is_erased, keeper_of, released, retired, retired_one, settled}
 use Rattle.nv_calls.proofs.Places.{log_rises}
 use Rattle.nv_calls.specs.Slots.{IsBefore, entries_of}
 use Rattle.nv_cell.specs.Cell.{CellState, empty_cell, number_in}
@@ -14,22 +15,15 @@ use Rattle.nv_cell.specs.declared.killed.KilledPart.{KilledPart}
 use Rattle.nv_entry.specs.declared.item.Entry.{Entry}
 use Rattle.nv_entry.specs.declared.item.Item.{Item}
 use Rattle.nv_machine.specs.Frame.{IsFramed, Lent}
-use Rattle.nv_machine.specs.Kinds.{again_turn, end_turn, over_turn, rest_turn, with_entries, with_pages}
+use Rattle.nv_machine.specs.Kinds.{again_turn, drained_turn, end_turn, last_turn, over_turn, rest_turn, with_entries, with_pages}
 use Rattle.nv_machine.specs.Locks.{HoldsIts, is_owner}
 use Rattle.nv_machine.specs.Order.{AreLogsOrdered, CommitsIn, entries_at, to_append}
 use Rattle.nv_machine.specs.Sequence.{closing, opening, publishing, retiring}
-use Rattle.nv_machine.specs.World.{Answers, Append, Close, Ending, Ends, HandState, Leave, Moves, Next, Open, Overtaken, Publish, Refuses, Retire, Running, Shared, Turn, Waits, cell_at}
+use Rattle.nv_machine.specs.World.{Answers, Append, Close, Drains, Ending, Ends, HandState, Leave, Moves, Next, Open, Overtaken, Publish, Refuses, Retire, Running, Shared, Turn, Waits, cell_at}
 use Rattle.nv_machine.proofs.Holding.{OnLocks}
+use Rattle.nv_machine.proofs.EachOf.{all_append, all_weaker}
 
 -- ---- entries of one commit
-
-all_more : (P : Entry → Type 0) (xs ys : List Entry) → AllByRecursion P xs → AllByRecursion P ys → AllByRecursion P (xs ++ ys)
-all_more P [] ys h more = more
-all_more P (x ∷ xs) ys h more = (h.0, all_more P xs ys h.1 more)
-
-all_weaker : (P Q : Entry → Type 0) → ((e : Entry) → P e → Q e) → (xs : List Entry) → AllByRecursion P xs → AllByRecursion Q xs
-all_weaker P Q f [] h = tt
-all_weaker P Q f (x ∷ xs) h = (f x h.0, all_weaker P Q f xs h.1)
 
 own_entries : (commit epoch place : ℕ) (items : List Item)
     → AllByRecursion (λ (e : Entry). (e.id.commit < commit + 1) × (e.epoch ≤ epoch)) (entries_of commit epoch place items)
@@ -49,7 +43,7 @@ pub appended_log : (commit epoch place : ℕ) (items : List Item) (log : List En
     → IsBefore (commit + 1) epoch (log ++ entries_of commit epoch place items)
 appended_log commit epoch place items log h = record {
   ordered = log_rises commit epoch place items log h.ordered h.earlier;
-  earlier = all_more (λ (e : Entry). (e.id.commit < commit + 1) × (e.epoch ≤ epoch)) log (entries_of commit epoch place items)
+  earlier = all_append (λ (e : Entry). (e.id.commit < commit + 1) × (e.epoch ≤ epoch)) log (entries_of commit epoch place items)
       (later_too commit epoch log h).earlier (own_entries commit epoch place items);
 }
 
@@ -77,6 +71,18 @@ retired_keeps living ino epoch [] cell = refl
 retired_keeps living ino epoch (killed ∷ later) cell =
     retired_keeps living ino epoch later (retired_one living ino epoch killed cell)
     ∙ settled_keeps (keeper_of living ino epoch killed) (number_in cell killed.part) cell
+
+pub released_keeps : (d : Record) (cell : CellState) → (released d cell).chain.entries ≡ cell.chain.entries
+released_keeps d cell = refl
+
+-- a later epoch
+pub later_epoch : (commit epoch : ℕ) (log : List Entry) → IsBefore commit epoch log → IsBefore commit (epoch + 1) log
+later_epoch commit epoch log h = record {
+  ordered = h.ordered;
+  earlier = all_weaker (λ (e : Entry). (e.id.commit < commit) × (e.epoch ≤ epoch))
+      (λ (e : Entry). (e.id.commit < commit) × (e.epoch ≤ epoch + 1))
+      (λ e b. let low = b.1 in (b.0, omega (arith, low))) log h.earlier;
+}
 
 -- an erased cell has no entries
 pub erased_log : (commit epoch : ℕ) (cell : CellState) → IsBefore commit epoch cell.chain.entries
@@ -118,7 +124,7 @@ same_order a s t logs book cells = record {
 }
 
 -- a step that is lent neither a cell nor the book nor the commit lock
-not_committing : (s : Shared) (a : ℕ) (q : Running) → HoldsIts s a (Some q) → is_owner a s.holder ≡ false → CommitsIn s (Some q)
+pub not_committing : (s : Shared) (a : ℕ) (q : Running) → HoldsIts s a (Some q) → is_owner a s.holder ≡ false → CommitsIn s (Some q)
 not_committing s a q own out e = absurd (false≢true (sym out ∙ own.holder ∙ e))
 
 none_some : (ino : ℕ) → None ≡ Some ino → ⊥
@@ -146,10 +152,19 @@ left_order a s t w (Moves u h q) left out same on = (
 left_order a s t w Waits left out same on = tt
 left_order a s t w (Ends result u h) left out same on = subst (λ (x : Shared). OrderLeft a s x) (sym same) left
 
+last_shared : (e : Ending) (t : Shared) (h : HandState) (r : Running) → OnShared t (last_turn e t h r)
+last_shared Answers t h r = refl
+last_shared (Refuses fault) t h r = refl
+last_shared Overtaken t h r = refl
+last_shared (Drains draining) t h r = go draining.left where
+  go : (left : ℕ) → OnShared t (drained_turn left draining.released t h r)
+  go zero = refl
+  go (suc left) = refl
+
 rest_shared : (home number : Option ℕ) (t : Shared) (h : HandState) (r : Running) → OnShared t (rest_turn home number t h r)
 rest_shared (Some cpu) number t h r = refl
 rest_shared None (Some ino) t h r = refl
-rest_shared None None t h r = refl
+rest_shared None None t h r = last_shared r.ending t h r
 
 again_shared : (rounds : ℕ) (t : Shared) (h : HandState) (r : Running) → OnShared t (again_turn rounds t h r)
 again_shared zero t h r = refl
@@ -159,6 +174,7 @@ over_shared : (e : Ending) (t : Shared) (h : HandState) (r : Running) → OnShar
 over_shared Answers t h r = rest_shared _ h.ino t h r
 over_shared (Refuses fault) t h r = rest_shared _ h.ino t h r
 over_shared Overtaken t h r = again_shared r.rounds t h r
+over_shared (Drains draining) t h r = rest_shared _ h.ino t h r
 
 pub end_shared : (slots : List ℕ) (e : Ending) (t : Shared) (h : HandState) (r : Running) → OnShared t (end_turn slots e t h r)
 end_shared [] e t h r = over_shared e t h (record r { ending = e })

@@ -8,6 +8,7 @@ use Rattle.nv_calls.specs.declared.call.Call.TheVariants as call
 use Rattle.nv_cell.specs.Cell.{CellState, empty_cell}
 use Rattle.nv_machine.specs.Erasing.{IsErasedWhole, IsOnItsWayOrBack, IsOver}
 use Rattle.nv_machine.specs.Format.{formatted}
+use Rattle.nv_machine.specs.Held.{pending_in}
 use Rattle.nv_machine.specs.World.{HandState, World, actor_at, cell_at, with_cell, with_numbers}
 use Rattle.nv_machine.proofs.Scripts.{DoCall, Goes, Line, StartCall, device, handle, line, played}
 
@@ -28,7 +29,7 @@ hand_at steps = (actor_at (at steps) 0).hand
 abbrev cell_now : ℕ → CellState
 cell_now steps = cell_at (at steps).shared 1
 
-over : IsOver (at 13).shared 1
+over : IsOver (pending_in (at 13)) (at 13).shared 1
 over = record { gone = refl; kept = (refl, (refl, (refl, (refl, (refl, tt))))) }
 
 slot : cell_now 14 ≡ empty_cell 4 4 2 3

@@ -1,8 +1,9 @@
 -- The law of erasing: in its retire step an inode that is gone is erased whole, and its number goes back to the pool.
-use Rattle.std.proofs.Common.{◌≡◌, inl, inr, ℕ, ◌+◌, ◌<◌, ◌==◌, ◌||◌, ◌++◌, ◌∙◌, Bool, true, false, List, [], ◌∷◌, Option, Some, None, ap, filter, get_or-set_same, if◌then◌else◌, length, map, nat_lt, refl, slice_index_or, subst, sym, take}
-use Rattle.std.specs.List.{AllByRecursion}
+use Rattle.std.proofs.Common.{◌≡◌, inl, inr, ℕ, ◌+◌, ◌<◌, ◌||◌, ◌++◌, ◌∙◌, Bool, true, false, List, [], Option, Some, None, ap, append-nil, arith, filter, get_or-set_same, if◌then◌else◌, length, map, nat_lt, refl, slice_get, slice_index_or, subst, sym, take}
+use Rattle.std.specs.List.{list_any}
 use Rattle.std.specs.Prelude.{nat_le}
-use Rattle.std.proofs.lemmas.Bool.{cases_lt}
+use Rattle.std.specs.Option.{IsSome}
+use Rattle.std.proofs.lemmas.Bool.{cases_lt, false≢true}
 use Rattle.std.proofs.lemmas.List.{get_or_past}
 use Rattle.std.proofs.lemmas.Option.{none-some}
 use Rattle.nv_alloc.specs.Block.{BlockValue, numbers_of}
@@ -11,22 +12,30 @@ use Rattle.nv_base.specs.Limits.{IsWithinLimits}
 use Rattle.nv_base.specs.declared.geometry.GeometryNumbers.{GeometryNumbers}
 use Rattle.nv_base.specs.declared.limits.TheConstants.{NUMBER}
 use Rattle.nv_book.specs.declared.record.Record.{Record}
-use Rattle.nv_calls.specs.Retiring.{erased, freed_by, is_erased, number_back}
+use Rattle.nv_book.specs.Listed.{all_records}
+use Rattle.nv_calls.specs.Retiring.{erased, freed_by, is_erased, name_of, number_back}
 use Rattle.nv_calls.proofs.Retires.{chain_stays, generation_stays}
 use Rattle.nv_cell.specs.Cell.{CellState, log_of}
 use Rattle.nv_cell.specs.Readers.{is_gone}
 use Rattle.nv_cell.specs.declared.killed.KilledPart.{KilledPart}
+use Rattle.nv_cell.specs.Marks.{bit, is_there, mark_at}
 use Rattle.nv_cell.proofs.Publishing.{take_whole}
+use Rattle.nv_cell.proofs.ValuesNow.{IsLog-take}
 use Rattle.nv_entry.specs.Covered.{part_total}
-use Rattle.nv_entry.specs.Held.{is_current, is_named, is_needed, keeps}
-use Rattle.nv_entry.specs.Log.{pairs}
+use Rattle.nv_entry.specs.Held.{has_name, is_current, is_held, is_named, is_needed, keeps}
+use Rattle.nv_entry.specs.Log.{IsLog, pairs}
+use Rattle.nv_entry.specs.declared.item.Entry.{Entry}
+use Rattle.nv_entry.specs.declared.part.PartId.{PartId}
+use Rattle.nv_entry.proofs.Covering.{at_place_of}
 use Rattle.nv_entry.specs.declared.held.Pair.{Pair}
 use Rattle.nv_epoch.specs.SnapList.{ids}
 use Rattle.nv_log.specs.Chain.{ChainState, log}
 use Rattle.nv_machine.specs.Erasing.{IsErasedWhole, IsOnItsWay, IsOver, emptied, is_late, keepers_of}
 use Rattle.nv_machine.specs.Format.{formatted}
-use Rattle.nv_machine.specs.Hands.{AreNumbers}
-use Rattle.nv_machine.specs.Held.{killed_slots, name_of, parts_for}
+use Rattle.nv_machine.specs.Hands.{AreNumbers, IsParted}
+use Rattle.nv_machine.specs.Held.{in_use_by, is_of_slot, killed_in, pending_at, pending_in, retention_at}
+use Rattle.nv_machine.specs.Locks.{commits_at}
+use Rattle.nv_machine.specs.Recorded.{is_kept, records_after, with_parts}
 use Rattle.nv_machine.specs.Kept.{AreClosed}
 use Rattle.nv_machine.specs.Kinds.{first_killed, retired_book, retired_cell, with_erased, with_freed}
 use Rattle.nv_machine.specs.PoolScan.{is_withheld}
@@ -36,15 +45,24 @@ use Rattle.nv_machine.specs.Sequence.{retiring}
 use Rattle.nv_machine.specs.Settled.{settled}
 use Rattle.nv_machine.specs.Step.{Step, after, changed, kind_turn, step, turned}
 use Rattle.nv_machine.specs.World.{Actor, Event, Go, HandState, Leave, Next, Retire, Running, Shared, World, actor_at, cell_at, go_to, idle, no_cell, owner_at, with_book, with_cell}
-use Rattle.nv_machine.proofs.Erased.{behind, erased_slot, gone_erased, gone_freed}
+use Rattle.nv_machine.proofs.Counted.{retired_times}
+use Rattle.nv_machine.proofs.Erased.{all_freed, behind, erased_slot, gone_erased}
 use Rattle.nv_machine.proofs.Events.{goes}
+use Rattle.nv_machine.proofs.FiledCommits.{retire_left}
+use Rattle.nv_machine.proofs.FiledLaw.{all_marked}
+use Rattle.nv_machine.proofs.EachOf.{all_append, all_back, all_front}
+use Rattle.nv_machine.proofs.FiledLists.{HasHolder, all_filed, count, count_append, count_filed, held_filed}
+use Rattle.nv_machine.proofs.FiledMarks.{IsTold, is_filed_on}
+use Rattle.nv_machine.proofs.FiledParts.{have_marks, log_in}
+use Rattle.nv_machine.proofs.FiledRuns as filed
+use Rattle.nv_machine.proofs.FiledRuns.{all_listed}
+use Rattle.nv_machine.proofs.FiledSteps.{MarksOf, parts_held, retired_block}
+use Rattle.nv_machine.proofs.FiledTurns.{Listed}
+use Rattle.nv_machine.proofs.FiledWorlds.{AreMarked, no_killed, picked_in}
 use Rattle.nv_machine.proofs.FromScratch.{all_numbers}
-use Rattle.nv_machine.proofs.GoneLogs.{none_current}
+use Rattle.nv_machine.proofs.HeldMarks.{in_use_there, same_default, used_there}
+use Rattle.nv_machine.proofs.Pairs.{pair_there}
 use Rattle.nv_machine.proofs.GoneRuns.{none_retiring}
-use Rattle.nv_machine.proofs.HeldLaw.{all_in_use}
-use Rattle.nv_machine.proofs.HeldParts.{HasInUse}
-use Rattle.nv_machine.proofs.HeldRuns.{AreInUse, own_in_use}
-use Rattle.nv_machine.proofs.HeldTurns.{AllInUse, KeepsNothing, retire_left, retire_told, rising_in}
 use Rattle.nv_machine.proofs.Journals.{closed_tail}
 use Rattle.nv_machine.proofs.KeptRuns.{standing as kept_standing}
 use Rattle.nv_machine.proofs.KeptTurns.{Standing as KeptStanding}
@@ -62,14 +80,18 @@ pub record IsKnown (g : GeometryNumbers) (w : World) : Type 0 where
   pub reached : IsReached w
   pub numbers : AreNumbers g w
   pub pooled : ArePooled g w
-  pub used : AreInUse w
+  pub rs : List Record
+  pub listed : Listed rs w.shared
+  pub marked : AreMarked w rs
 
 pub known : (g : GeometryNumbers) (events : List Event) → IsWithinLimits g → IsKnown g (after (formatted g) events)
 known g events within = record {
   reached = reached g events within;
   numbers = all_numbers g events within;
   pooled = all_pooled g events within;
-  used = all_in_use g events within;
+  rs = records_after (formatted g) events [];
+  listed = all_listed g events within;
+  marked = all_marked g events within;
 }
 
 -- an actor that runs a call is one of all
@@ -127,28 +149,90 @@ module _ (g : GeometryNumbers) (w : World) (all : IsKnown g w) (actor place : �
   whole : log_of cell ≡ cell.chain.entries
   whole = ap (λ (n : ℕ). take n cell.chain.entries) (stands.grown.tails slot owned refl) ∙ take_whole cell.chain.entries
 
-  used : HasInUse killed cell
-  used =
-      retire_told s h r (rising_in actor (Retire place) s r stands.before) place stands.before.inside low stands.hand
-      (subst (λ (k : Next). AllInUse (parts_for (killed_slots k (written_slots r)) h.killed) s) next
-      (own_in_use w actor r here runs all.reached.locks
-      (lent_holder (Retire place) actor s r stands.before refl) all.used))
+  filed_known : filed.IsKnown g w
+  filed_known = record { locks = all.reached.locks; order = all.reached.order; numbers = all.numbers }
 
-  left_used : HasInUse [] left
-  left_used = retire_left s h r (rising_in actor (Retire place) s r stands.before) place stands.before.inside low all.used.living.0 used
+  abbrev living : List ℕ
+  living = ids s.book.snaps
+
+  abbrev more : List Record
+  more = with_parts living slot r.epoch killed []
+
+  log_is : IsLog (log_of cell)
+  log_is = IsLog-take cell.chain.tail cell.chain.entries (all.reached.order.logs slot).ordered
+
+  left_marks : MarksOf living slot r.epoch [] ((all.rs ++ picked_in w) ++ more) left
+  left_marks =
+      retire_left w actor all.rs r here all.reached.locks (lent_holder (Retire place) actor s r stands.before refl) runs
+      ((filed.can_list g w actor r filed_known runs).epoch (ap commits_at next)) all.marked place next stands.before.inside stands.hand
+      (all.reached.order.logs slot).ordered
 
   left_chain : left.chain ≡ cell.chain
-  left_chain = chain_stays (ids s.book.snaps) slot r.epoch killed cell
+  left_chain = chain_stays living slot r.epoch killed cell
 
-  marks : length left.marks ≡ part_total (log_of left)
-  marks = (retired_parted g.block (ids s.book.snaps) slot r.epoch killed cell (all.numbers.cells slot)).marks
+  left_block : left.block ≡ cell.block
+  left_block = retired_block living slot r.epoch killed cell
 
-  module _ (over : IsOver s slot) where
+  left_log : log_of left ≡ log_of cell
+  left_log = ap (λ (c : ChainState). log c) left_chain
+
+  left_parted : IsParted g.block left
+  left_parted = retired_parted g.block living slot r.epoch killed cell (all.numbers.cells slot)
+
+  module _ (over : IsOver (pending_in w) s slot) where
     gone : is_gone (log_of cell) ≡ true
     gone = ap is_gone (sym settled_log) ∙ over.gone
 
+    abbrev T : Record → Type 0
+    T d = IsTold slot left.block (log_of left) d
+
+    -- nothing is there of what is left
+    outs : (n : ℕ) → n < length left.marks → is_there (mark_at left.marks n) ≡ false
+    outs n lt =
+        go (slice_get (pairs left.block (log_of left)) n) refl
+        (pair_there left.block (log_of left) n (subst IsLog (sym left_log) log_is) (omega (arith, lt, left_marks.len))) where
+          go : (o : Option Pair) → slice_get (pairs left.block (log_of left)) n ≡ o → IsSome o → is_there (mark_at left.marks n) ≡ false
+          go None e some = absurd (false≢true some)
+          go (Some pair) e some =
+              let ms = s.book.manifests in
+              let front = all_front T (all.rs ++ picked_in w) more left_marks.told in
+              let filed_told = all_filed T living ms s.book.deferred all.rs all.listed.list (all_front T all.rs (picked_in w) front) in
+              let in_use = in_use_there living slot r.epoch [] ((all.rs ++ picked_in w) ++ more) left.block (log_of left) left.marks
+              (subst IsLog (sym left_log) log_is) left_marks n pair e (all_records ms ++ more) (pending_in w)
+              (all_append T (all_records ms) more (all_front T (all_records ms) s.book.deferred filed_told)
+              (all_back T (all.rs ++ picked_in w) more left_marks.told))
+              (all_append (HasHolder living) (all_records ms) more (held_filed living ms s.book.deferred all.rs all.listed.list)
+              (parts_held living slot r.epoch killed [] tt))
+              (once pair) in
+              let at : slice_get (pairs cell.block (settled s slot)) n ≡ Some pair =
+              ap (λ (l : List Entry). slice_get (pairs cell.block l) n) (settled_log ∙ sym left_log)
+              ∙ ap (λ (b : ℕ). slice_get (pairs b (log_of left)) n) (sym left_block) ∙ e in
+              let kept = at_place_of (λ (p : Pair). keeps (keepers_of (pending_in w) s slot) p ≡ false)
+              (pairs cell.block (settled s slot)) n pair
+              over.kept at in
+              sym in_use
+              ∙ ap (λ (ids : List PartId). (is_current pair || is_held living pair) || list_any (has_name pair) ids)
+              (append-nil (map name_of (filter (is_of_slot slot) (pending_in w))))
+              ∙ kept
+            where
+              once : (pair : Pair) → count (λ d. is_filed_on slot (log_of left) n d)
+                  ((all_records s.book.manifests ++ more) ++ pending_in w)
+                  ≡ bit (is_kept (mark_at left.marks n))
+              once pair =
+                  let p : Record → Bool = λ d. is_filed_on slot (log_of left) n d in
+                  omega (
+                    arith,
+                    left_marks.kept_are n,
+                    count_append p (all_records s.book.manifests ++ more) (pending_in w),
+                    count_append p (all_records s.book.manifests) more,
+                    count_append p s.book.deferred (picked_in w),
+                    count_append p (all.rs ++ picked_in w) more,
+                    count_append p all.rs (picked_in w),
+                    count_filed p living s.book.manifests s.book.deferred all.rs all.listed.rising all.listed.list,
+                  )
+
     is_now : is_erased left ≡ true
-    is_now = gone_erased left left_used marks (ap (λ (c : ChainState). is_gone (log c)) left_chain ∙ gone)
+    is_now = gone_erased left (ap (λ (c : ChainState). is_gone (log c)) left_chain ∙ gone) outs
 
     hand_before : h.ino ≡ None
     hand_before = erased_number g w.numbers.block actor s h r place stands is_now
@@ -192,10 +276,21 @@ module _ (g : GeometryNumbers) (w : World) (all : IsKnown g w) (actor place : �
         (generation_stays (ids s.book.snaps) slot r.epoch killed cell)
         ∙ ap (λ (c : CellState). if is_withheld c then None else Some slot) (sym empty)
 
+    left_none : (n : ℕ) → slice_index_or left.blocks n None ≡ None
+    left_none n = elim (cases_lt n (length left.marks)) [
+      | inl lt ↦ left_parted.out n (ap is_there (same_default left.marks n lt) ∙ outs n lt)
+      | inr ge ↦
+          let entries = ap (λ (c : ChainState). part_total c.entries) left_chain in
+          let log = ap (λ (c : ChainState). part_total (log c)) left_chain in
+          let same = ap part_total whole in
+          get_or_past left.blocks n None (omega (arith, ge, left_parted.marks, left_parted.places, entries, log, same))
+    ]
+
     freed : (n : ℕ) (b : BlockValue) → slice_index_or cell.blocks n None ≡ Some b → has (numbers_of full.blocks) b.number ≡ true
-    freed n b is = behind h.blocks (freed_by (ids s.book.snaps) slot r.epoch killed cell) b.number
-        (subst (λ (list : List ℕ). has (numbers_of (freed_by list slot r.epoch killed cell)) b.number ≡ true) (sym all.used.living.0)
-        (gone_freed slot r.epoch killed cell used whole gone n b is))
+    freed n b is =
+        behind h.blocks (freed_by living slot r.epoch killed cell) b.number
+        (all_freed cell left (freed_by living slot r.epoch killed cell) left_chain
+        (λ k. retired_times k living slot r.epoch killed cell) left_none n b is)
 
     pub is_erased_whole : IsErasedWhole actor slot w new
     is_erased_whole = record {
@@ -222,7 +317,7 @@ module _ (g : GeometryNumbers) (w : World) (all : IsKnown g w) (actor place : �
 
 pub retire_erases : (g : GeometryNumbers) (events : List Event) (actor place : ℕ) (granted : Bool) (r : Running) → IsWithinLimits g
     → (actor_at (after (formatted g) events) actor).running ≡ Some r → r.next ≡ Retire place
-    → IsOver (after (formatted g) events).shared (slot_at (written_slots r) place)
+    → IsOver (pending_in (after (formatted g) events)) (after (formatted g) events).shared (slot_at (written_slots r) place)
     → IsErasedWhole actor (slot_at (written_slots r) place) (after (formatted g) events)
     (step (after (formatted g) events) (Go actor granted)).world
 retire_erases g events actor place granted r within runs next over =
@@ -233,7 +328,7 @@ retire_erases g events actor place granted r within runs next over =
 
 pub hand_has_it : (g : GeometryNumbers) (events : List Event) (actor place : ℕ) (granted : Bool) (r : Running) → IsWithinLimits g
     → (actor_at (after (formatted g) events) actor).running ≡ Some r → r.next ≡ Retire place
-    → IsOver (after (formatted g) events).shared (slot_at (written_slots r) place)
+    → IsOver (pending_in (after (formatted g) events)) (after (formatted g) events).shared (slot_at (written_slots r) place)
     → is_withheld (cell_at (step (after (formatted g) events) (Go actor granted)).world.shared (slot_at (written_slots r) place)) ≡ false
     → IsOnItsWay actor (slot_at (written_slots r) place) (step (after (formatted g) events) (Go actor granted)).world
 hand_has_it g events actor place granted r within runs next over free =
@@ -247,41 +342,40 @@ hand_has_it g events actor place granted r within runs next over free =
 -- ---- no slot has one with the commit lock free
 
 pub none_stays : (g : GeometryNumbers) (events : List Event) (ino : ℕ) → IsWithinLimits g
-    → (after (formatted g) events).shared.holder ≡ None → IsOver (after (formatted g) events).shared ino → ⊥
+    → (after (formatted g) events).shared.holder ≡ None
+    → IsOver (pending_in (after (formatted g) events)) (after (formatted g) events).shared ino → ⊥
 none_stays g events ino within free over =
-    let s = (after (formatted g) events).shared in
-    let closed : AreClosed s.book.journals = (reached g events within).kept.logs.closed free in
-    let same : settled s ino ≡ log_of (cell_at s ino) =
-    ap (λ (n : ℕ). take n (cell_at s ino).chain.entries) (closed_tail s.book.journals ino (cell_at s ino).chain.tail closed) in
-    none_retiring g events ino within free (sym (ap is_gone same) ∙ over.gone)
+    none_retiring g events ino within free (gone_erased cell (ap is_gone (sym same) ∙ over.gone) outs) where
+      w : World
+      w = after (formatted g) events
 
--- ---- no step makes a snapshot yet, so that of an inode that is gone nothing is kept
+      cell : CellState
+      cell = cell_at w.shared ino
 
-all_over : (P Q : Pair → Type 0) → ((pair : Pair) → P pair → Q pair) → (pairs : List Pair) → AllByRecursion P pairs
-    → AllByRecursion Q pairs
-all_over P Q each [] all = tt
-all_over P Q each (pair ∷ pairs) all = (each pair all.0, all_over P Q each pairs all.1)
+      closed : AreClosed w.shared.book.journals
+      closed = (reached g events within).kept.logs.closed free
 
-pub gone_is_over : (g : GeometryNumbers) (events : List Event) (ino : ℕ) → IsWithinLimits g
-    → is_gone (settled (after (formatted g) events).shared ino) ≡ true → IsOver (after (formatted g) events).shared ino
-gone_is_over g events ino within gone = record {
-  gone = gone;
-  kept = all_over (λ (pair : Pair). is_current pair ≡ false) (λ (pair : Pair). keeps (keepers_of s ino) pair ≡ false) kept_none
-      (pairs block (settled s ino)) (none_current block (settled s ino) gone);
-} where
-  s : Shared
-  s = (after (formatted g) events).shared
+      same : settled w.shared ino ≡ log_of cell
+      same = ap (λ (n : ℕ). take n cell.chain.entries) (closed_tail w.shared.book.journals ino cell.chain.tail closed)
 
-  block : ℕ
-  block = (cell_at s ino).block
+      none : killed_in w ino ≡ []
+      none = no_killed w ino (reached g events within).locks free
 
-  living : KeepsNothing s.book
-  living = (all_in_use g events within).living
-
-  kept_none : (pair : Pair) → is_current pair ≡ false → keeps (keepers_of s ino) pair ≡ false
-  kept_none pair past =
-      ap (λ (list : List ℕ). is_needed list pair
-      || is_named (map name_of (filter (λ (d : Record). d.ino == ino) s.book.deferred)) pair) living.0
-      ∙ ap (λ (deferred : List Record). is_needed [] pair
-      || is_named (map name_of (filter (λ (d : Record). d.ino == ino) deferred)) pair) living.1
-      ∙ ap (λ (b : Bool). (b || false) || false) past
+      outs : (n : ℕ) → n < length cell.marks → is_there (mark_at cell.marks n) ≡ false
+      outs n lt =
+          ap is_there (sym (same_default cell.marks n lt)) ∙ sym (used_there g events ino n within)
+          ∙ go (slice_get (pairs cell.block (log_of cell)) n) refl
+          (pair_there cell.block (log_of cell) n (log_in g events ino within)
+          (let len = (have_marks g events ino within).len in omega (arith, lt, len))) where
+            go : (o : Option Pair) → slice_get (pairs cell.block (log_of cell)) n ≡ o → IsSome o → in_use_by (retention_at w ino) o ≡ false
+            go None e some = absurd (false≢true some)
+            go (Some pair) e some =
+                let at : slice_get (pairs cell.block (settled w.shared ino)) n ≡ Some pair =
+                ap (λ (l : List Entry). slice_get (pairs cell.block l) n) same ∙ e in
+                ap (λ (parts : List KilledPart). is_needed (ids w.shared.book.snaps) pair
+                || is_named (pending_at w ino ++ map (λ (k : KilledPart). k.part) parts) pair) none
+                ∙ ap (λ (names : List PartId). is_needed (ids w.shared.book.snaps) pair || is_named names pair)
+                (append-nil (pending_at w ino))
+                ∙ at_place_of (λ (p : Pair). keeps (keepers_of (pending_in w) w.shared ino) p ≡ false)
+                (pairs cell.block (settled w.shared ino)) n
+                pair over.kept at

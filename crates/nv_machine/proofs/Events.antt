@@ -8,7 +8,7 @@ use Rattle.nv_base.specs.declared.fault.Fault.{Fault}
 use Rattle.nv_base.specs.declared.fault.Fault.TheVariants.{ActorBusy, ActorIdle, NoActor}
 use Rattle.nv_calls.specs.declared.answer.Answer.{Answer}
 use Rattle.nv_calls.specs.declared.call.Call.{Call}
-use Rattle.nv_machine.specs.Bound.{Falls, IsNoStart, bound, bound_at, bound_of, most_steps, moves, moves_by, moves_in}
+use Rattle.nv_machine.specs.Bound.{Falls, IsNoStart, bound, bound_at, bound_of, most_steps_of, moves, moves_by, moves_in}
 use Rattle.nv_machine.specs.Frame.{Frame, IsFramed, IsOneStep, IsStart, LeavesOthers, Lent, lent}
 use Rattle.nv_machine.specs.Sequence.{beginning, begun}
 use Rattle.nv_machine.specs.Step.{Step, after, go_step, reply_of, start_step, stays, step, turn, turned}
@@ -22,7 +22,7 @@ abbrev is_started : Reply → Bool
 is_started Started = true
 is_started other = false
 
-refused_started : {fault : Fault} → Refused fault ≡ Started → ⊥
+pub refused_started : {fault : Fault} → Refused fault ≡ Started → ⊥
 refused_started e = false≢true (ap is_started e)
 
 -- ---- other actors
@@ -131,7 +131,7 @@ idles w actor granted there is = go_idle _ _ w actor granted (lt-ltb actor (leng
 -- ---- the bound
 
 -- an actor that is set is there
-set_is : (actor : ℕ) (x : Actor) (w : World) (s : Shared) → actor < length w.actors
+pub set_is : (actor : ℕ) (x : Actor) (w : World) (s : Shared) → actor < length w.actors
     → actor_at (record w { shared = s; actors = set w.actors actor x }) actor ≡ x
 set_is actor x w s there = get_or-set_same w.actors actor x idle there
 
@@ -209,17 +209,17 @@ pub events_bound : (events : List Event) (w : World) (actor : ℕ) → AllByRecu
 events_bound [] w actor none = omega arith
 events_bound (e ∷ events) w actor none = omega (arith, event_bound w actor e none.0, events_bound events (step w e).world actor none.1)
 
--- a started call has at most eight rounds
+-- a started call has at most so many steps
 begun_at : (b : Bool) (running : Option Running) (w : World) (actor : ℕ) (c : Call) → nat_lt actor (length w.actors) ≡ b
     → (start_step b running actor c w).reply ≡ Started
-    → bound_at (start_step b running actor c w).world actor ≤ most_steps (length w.shared.lists)
+    → bound_at (start_step b running actor c w).world actor ≤ most_steps_of c (length w.shared.lists)
 begun_at false running w actor c there e = absurd (refused_started e)
 begun_at true (Some r) w actor c there e = absurd (refused_started e)
 begun_at true None w actor c there e =
     let set = set_is actor (record { hand = (actor_at w actor).hand; running = Some (begun (beginning c) w.shared c) }) w
     w.shared (ltb-true actor (length w.actors) there) in
-    rw set (begun_bound (beginning c) w.shared c)
+    rw set (begun_bound w.shared c)
 
 pub start_bound : (w : World) (actor : ℕ) (c : Call) → (step w (Start actor c)).reply ≡ Started
-    → bound_at (step w (Start actor c)).world actor ≤ most_steps (length w.shared.lists)
+    → bound_at (step w (Start actor c)).world actor ≤ most_steps_of c (length w.shared.lists)
 start_bound w actor c = begun_at (nat_lt actor (length w.actors)) (actor_at w actor).running w actor c refl

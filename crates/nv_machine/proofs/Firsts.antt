@@ -5,12 +5,13 @@ use Rattle.std.specs.Prelude.{Ok, Err}
 use Rattle.nv_calls.specs.Refusals.{Check as Tests}
 use Rattle.nv_calls.specs.declared.answer.Answer.{Answer}
 use Rattle.nv_calls.specs.declared.looked.Looked.{Looked}
-use Rattle.nv_machine.specs.Kinds.{again_turn, back_turn, check_turn, end_turn, enter_turn, grown, lock_turn, look_turn, number_turn, over_turn, rest_turn, unlocked_turn, visit_turn, wants_blocks, wants_pages}
+use Rattle.nv_machine.specs.Kinds.{again_turn, back_turn, check_turn, end_turn, enter_turn, grown, lock_turn, look_turn, number_turn, over_turn, rest_turn, unlocked_turn, visit_turn, wants_blocks, wants_pages, last_turn}
 use Rattle.nv_machine.specs.Reads.{slots_of, written_slots}
 use Rattle.nv_machine.specs.Sequence.{appending, closing, directories, locking, opening, publishing, retiring}
 use Rattle.nv_machine.specs.Step.{ending_at, kind_turn, with_made}
 use Rattle.nv_machine.specs.Takings.{asks_list}
-use Rattle.nv_machine.specs.World.{Answers, Append, Back, Check, Close, Ending, Ends, Enter, Give, HandState, Leave, Lock, Look, Moves, Next, Number, Open, Overtaken, Publish, Ready, Refuses, Retire, Running, Shared, TakeBlocks, TakePages, Turn, Unlock, Visit, Waits}
+use Rattle.nv_machine.specs.World.{Answers, Append, Back, Check, Close, Ending, Ends, Enter, Give, HandState, Leave, Lock, Look, Moves, Next, Number, Open, Overtaken, Publish, Ready, Refuses, Retire, Running, Shared, TakeBlocks, TakePages, Turn, Unlock, Visit, Waits, Drains, Snapshots}
+use Rattle.nv_machine.proofs.SnapshotTurns.{is_quiet, last_any, snapshot_any}
 
 abbrev pub IsFirst : Next → Type 0
 IsFirst (TakeBlocks asked) = (asked == 0) ≡ true
@@ -33,6 +34,7 @@ IsPlain (Unlock place) = Unit {0}
 IsPlain (Give cpu) = Unit {0}
 IsPlain Back = Unit {0}
 IsPlain Visit = Unit {0}
+IsPlain (Snapshots step) = Unit {0}
 IsPlain other = ⊥
 
 abbrev pub OnNext : (Next → Type 0) → Turn → Type 0
@@ -73,10 +75,21 @@ on_first t on = next_weaker IsApart IsFirst apart_first t on
 
 -- ---- the last steps
 
+-- a step of a call on snapshots, and one of the last, is such a step
+quiet_plain : (next : Next) → is_quiet next ≡ true → IsPlain next
+quiet_plain (Snapshots step) e = tt
+quiet_plain (Unlock place) e = tt
+quiet_plain (Give cpu) e = tt
+quiet_plain Back e = tt
+quiet_plain other e = cc
+
+last_plain : (e : Ending) (s : Shared) (h : HandState) (r : Running) → OnPlain (last_turn e s h r)
+last_plain e s h r = last_any OnPlain tt (λ result s h. tt) (λ s h q is fair. quiet_plain q.next is) e s h r
+
 rest_plain : (home number : Option ℕ) (s : Shared) (h : HandState) (r : Running) → OnPlain (rest_turn home number s h r)
 rest_plain (Some cpu) number s h r = tt
 rest_plain None (Some ino) s h r = tt
-rest_plain None None s h r = tt
+rest_plain None None s h r = last_plain r.ending s h r
 
 again_plain : (rounds : ℕ) (s : Shared) (h : HandState) (r : Running) → OnPlain (again_turn rounds s h r)
 again_plain zero s h r = tt
@@ -86,6 +99,7 @@ over_plain : (e : Ending) (s : Shared) (h : HandState) (r : Running) → OnPlain
 over_plain Answers s h r = rest_plain _ h.ino s h r
 over_plain (Refuses fault) s h r = rest_plain _ h.ino s h r
 over_plain Overtaken s h r = again_plain r.rounds s h r
+over_plain (Drains draining) s h r = rest_plain _ h.ino s h r
 
 pub end_plain : (slots : List ℕ) (e : Ending) (s : Shared) (h : HandState) (r : Running) → OnPlain (end_turn slots e s h r)
 end_plain [] e s h r = over_plain e s h (record r { ending = e })
@@ -96,8 +110,8 @@ unlocked_plain true place s h r = tt
 unlocked_plain false place s h r = over_plain r.ending s h r
 
 back_plain : (number : Option ℕ) (s : Shared) (h : HandState) (r : Running) → OnPlain (back_turn number s h r)
-back_plain None s h r = tt
-back_plain (Some ino) s h r = tt
+back_plain None s h r = last_plain r.ending s h r
+back_plain (Some ino) s h r = last_plain r.ending _ _ r
 
 visit_plain : (owner : Option ℕ) (tests : Tests) (granted : Bool) (found : Answer) (s : Shared) (h : HandState) (r : Running)
     → OnPlain (visit_turn owner tests granted found s h r)
@@ -172,6 +186,7 @@ leads_to_plain (Unlock place) = true
 leads_to_plain (Give cpu) = true
 leads_to_plain Back = true
 leads_to_plain Visit = true
+leads_to_plain (Snapshots step) = true
 leads_to_plain other = false
 
 pub plain : (k : Next) (block actor : ℕ) (granted : Bool) (s : Shared) (h : HandState) (r : Running) → leads_to_plain k ≡ true
@@ -184,6 +199,8 @@ plain (Unlock place) block actor granted s h r e = unlocked_plain _ place _ h r
 plain (Give cpu) block actor granted s h r e = rest_plain _ h.ino _ _ r
 plain Back block actor granted s h r e = back_plain h.ino s h r
 plain Visit block actor granted s h r e = visit_plain _ _ _ _ s h r
+plain (Snapshots step) block actor granted s h r e =
+    snapshot_any OnPlain tt (λ result s h. tt) (λ s h q is fair. quiet_plain q.next is) step actor granted s h r
 plain other block actor granted s h r e = cc
 
 abbrev pub leads_to_takings : Next → Bool

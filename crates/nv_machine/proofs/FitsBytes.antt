@@ -38,8 +38,8 @@ use Rattle.nv_machine.specs.Reads.{bytes_among, is_written, written_slots}
 use Rattle.nv_machine.specs.Sequence.{beginning}
 use Rattle.nv_machine.specs.Settled.{settled, settled_nodes}
 use Rattle.nv_machine.specs.Step.{kind_turn}
-use Rattle.nv_machine.specs.World.{Append, Back, Check, Close, Enter, Give, HandState, Leave, Lock, Look, Next, Number, Open, Publish, Ready, Retire, Running, Shared, TakeBlocks, TakePages, Unlock, Visit, World, cell_at, no_cell}
-use Rattle.nv_machine.proofs.Answered.{entered_none, no_commit}
+use Rattle.nv_machine.specs.World.{Append, Back, Check, Close, Enter, Give, HandState, Leave, Lock, Look, Next, Number, Open, Publish, Ready, Retire, Running, Shared, TakeBlocks, TakePages, Unlock, Visit, World, cell_at, no_cell, Snapshots}
+use Rattle.nv_machine.proofs.Answered.{entered_none, no_commit, no_commit_on}
 use Rattle.nv_machine.proofs.CellPages.{among_at, sound_read}
 use Rattle.nv_machine.proofs.Effects.{IsRead, outside, read_nodes, read_page}
 use Rattle.nv_machine.proofs.FitsCalls.{IsOfNode, planned_there}
@@ -232,6 +232,7 @@ pub point_fits : (k : Next) (block a : ℕ) (granted : Bool) (s : Shared) (h : H
 point_fits Close block a granted s h r e f = (refl, f.0, f.1)
 point_fits (Publish place) block a granted s h r e f = (refl, f.0, f.1)
 point_fits Enter block a granted s h r e f = absurd (entered_none _ e)
+point_fits (Snapshots step) block a granted s h r e f = absurd (no_commit_on step _ e)
 point_fits Number block a granted s h r e f = absurd (no_commit e)
 point_fits (Look place) block a granted s h r e f = absurd (no_commit e)
 point_fits (Lock place) block a granted s h r e f = absurd (no_commit e)

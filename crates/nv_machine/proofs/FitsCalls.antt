@@ -101,6 +101,7 @@ module _ (bytes : ℕ → List ℕ) (block : ℕ) (slots : ℕ → Slot) (taken 
   planned_there (call.Stat handle) h = tt
   planned_there (call.List dir) h = tt
   planned_there (call.Lookup dir name) h = tt
+  planned_there (call.Snapshots what) h = tt
   planned_there (call.Unlink dir name) h =
       let both = both_passed _ _ h in
       leave_there dir name (found nodes dir name) _ (there Dir (nodes dir) (look_passed nodes dir name both.0).0)
@@ -133,6 +134,7 @@ plan_all block nodes taken (call.Mode handle mode) e = sym (no_length (blocks_of
 plan_all block nodes taken (call.Stat handle) e = sym (no_length (blocks_of taken.runs) e)
 plan_all block nodes taken (call.List dir) e = sym (no_length (blocks_of taken.runs) e)
 plan_all block nodes taken (call.Lookup dir name) e = sym (no_length (blocks_of taken.runs) e)
+plan_all block nodes taken (call.Snapshots what) e = sym (no_length (blocks_of taken.runs) e)
 plan_all block nodes taken (call.Unlink dir name) e =
     leave_none block nodes taken dir name (found nodes dir name) ∙ sym (no_length (blocks_of taken.runs) e)
 plan_all block nodes taken (call.Rmdir dir name) e =

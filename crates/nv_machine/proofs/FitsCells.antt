@@ -21,6 +21,7 @@ use Rattle.nv_machine.proofs.Entered.{entries_more, pages_keep}
 use Rattle.nv_machine.proofs.Journals.{closed_tail}
 use Rattle.nv_machine.proofs.LogsKept.{cell_set}
 use Rattle.nv_machine.proofs.Settling.{paged_tail, tail_keeps}
+use Rattle.nv_machine.proofs.EachOf.{all_append}
 
 -- ---- a cell that has what it had, and more
 
@@ -70,10 +71,6 @@ all_to : (P Q : BlockValue → Type 0) → ((b : BlockValue) → P b → Q b) �
 all_to P Q f [] all = tt
 all_to P Q f (b ∷ bs) all = (f b all.0, all_to P Q f bs all.1)
 
-all_both : (P : BlockValue → Type 0) (xs ys : List BlockValue) → AllByRecursion P xs → AllByRecursion P ys → AllByRecursion P (xs ++ ys)
-all_both P [] ys all more = more
-all_both P (x ∷ xs) ys all more = (all.0, all_both P xs ys all.1 more)
-
 pub behind : (xs ys : List (Option BlockValue)) (n : ℕ) (b : BlockValue) → slice_index_or ys n None ≡ Some b
     → (m : ℕ) × (slice_index_or (xs ++ ys) m None ≡ Some b)
 behind [] ys n b e = (n, e)
@@ -112,7 +109,7 @@ entries_stored (e ∷ entries) bs cell front none =
     let now = with_entries (e ∷ entries) bs cell in
     let one = appended e (blocks_for e.item bs) cell in
     subst (AllByRecursion (IsIn now)) (take-append-drop k bs)
-    (all_both (IsIn now) (take k bs) (drop k bs)
+    (all_append (IsIn now) (take k bs) (drop k bs)
     (all_to (IsIn one) (IsIn now) (λ b m. (m.0, (entries_wider entries (drop k bs) one).blocks m.0 b m.1)) (take k bs)
     (one_stored e e.item refl (take k bs) cell (first_blocks e.item (items_in entries) bs front)))
     (entries_stored entries (drop k bs) one (later_blocks e.item (items_in entries) bs front)

@@ -14,7 +14,7 @@ use Rattle.nv_calls.specs.Plain.{node_in}
 use Rattle.nv_calls.specs.Slots.{Slot}
 use Rattle.nv_calls.specs.declared.call.Call.{Call}
 use Rattle.nv_cell.specs.Cell.{CellState, empty_cell, published}
-use Rattle.nv_calls.specs.Retiring.{erased}
+use Rattle.nv_calls.specs.Retiring.{erased, released}
 use Rattle.nv_entry.specs.declared.item.Entry.{Entry}
 use Rattle.nv_epoch.specs.SnapList.{ids}
 use Rattle.nv_machine.specs.Effects.{AreSound, HasPlanNow}
@@ -25,14 +25,15 @@ use Rattle.nv_machine.specs.Hands.{AreNumbers, HandAt, HandOf}
 use Rattle.nv_machine.specs.Kinds.{entries_for, first_killed, retired_cell, with_entries, with_pages}
 use Rattle.nv_machine.specs.Locks.{AreSlots, HoldsIts, commits_at}
 use Rattle.nv_machine.specs.Order.{CommitsIn}
-use Rattle.nv_machine.specs.PlainRun.{Commits, Deed, Nothing, Numbers as FixesNumber, deed_by, deed_of, keeps_nodes}
+use Rattle.nv_machine.specs.PlainRun.{Commits, Deed, Nothing, Numbers as FixesNumber, deed_by, deed_of, keeps_nodes, OnSnapshots}
 use Rattle.nv_machine.specs.Reached.{IsReached}
 use Rattle.nv_machine.specs.Reads.{pages_needed, slot_at, slots_of, written_slots}
 use Rattle.nv_machine.specs.Sequence.{Beginning, Looks, Locks, Numbers, Visits, beginning, begun, nothing_looked}
 use Rattle.nv_machine.specs.Settled.{node_by, settled, settled_nodes, settled_tail}
 use Rattle.nv_machine.specs.Step.{after, go_step, start_step, step, turn, turned}
-use Rattle.nv_machine.specs.World.{Actor, Append, Back, Check, Close, Ends, Enter, Event, Give, Go, HandState, Leave, Lock, Look, Moves, Next, Number, Open, Publish, Ready, Retire, Running, Shared, Start, TakeBlocks, TakePages, Turn, Unlock, Visit, Waits, World, actor_at, cell_at, empty_hand, idle, no_cell, owner_at, with_cell}
+use Rattle.nv_machine.specs.World.{Actor, Append, Back, Check, Close, Ends, Enter, Event, Give, Go, HandState, Leave, Lock, Look, Moves, Next, Number, Open, Publish, Ready, Retire, Running, Shared, Start, TakeBlocks, TakePages, Turn, Unlock, Visit, Waits, World, actor_at, cell_at, empty_hand, idle, no_cell, owner_at, with_cell, Drop, LockPicked, Make, Pick, Pin, Release, Show, Snapshots, Unpin}
 use Rattle.nv_machine.proofs.Answered.{deed_is}
+use Rattle.nv_machine.proofs.Lists.{written_inside}
 use Rattle.nv_machine.proofs.Effects.{new_sound, point_is_sound, take_none}
 use Rattle.nv_machine.proofs.FitsBytes.{all_read, plan_now, point_fits}
 use Rattle.nv_machine.proofs.FitsCells.{append_wider, erased_block, retired_block}
@@ -43,14 +44,16 @@ use Rattle.nv_machine.proofs.FitsTurns.{OnFits, locking_fits}
 use Rattle.nv_machine.proofs.Framed.{framed}
 use Rattle.nv_machine.proofs.FromScratch.{all_numbers}
 use Rattle.nv_machine.proofs.Grown.{CellsLeft, OnGrown}
-use Rattle.nv_machine.proofs.GrownRuns.{grown_turn, standing as grown_standing}
+use Rattle.nv_machine.proofs.GrownTurns.{grown_turn, standing as grown_standing}
 use Rattle.nv_machine.proofs.Kept.{AfterTurn, deed, number_deed, back_deed, turn_keeps}
 use Rattle.nv_machine.proofs.KeptRuns.{sound_stays, standing as kept_standing}
 use Rattle.nv_machine.proofs.Locked.{Before, owner_is}
 use Rattle.nv_machine.proofs.Locks.{all_same, before}
 use Rattle.nv_machine.proofs.LogsKept.{cell_set}
 use Rattle.nv_machine.proofs.Reached.{reached}
-use Rattle.nv_machine.proofs.Written.{written_inside}
+use Rattle.nv_machine.proofs.KeptTurns.{lent_inside_own}
+use Rattle.nv_calls.proofs.Next.{by_erased}
+use Rattle.nv_machine.specs.Sequence as sequence
 
 -- ---- blocks have one size
 
@@ -77,6 +80,18 @@ slots_in_cells k a s r b = subst (λ (n : ℕ). AreSlots n r.slots) b.wide b.are
 deed_sizes : (k : Next) (block a : ℕ) (s : Shared) (h : HandState) (r : Running) → Before a s k r → AreSizes block s
     → AreSizes block (deed k block a s h r).shared
 deed_sizes Number block a s h r b sizes = number_sizes block s.pool.numbers s h sizes
+deed_sizes (Snapshots Make) block a s h r b sizes = sizes
+deed_sizes (Snapshots (Drop snapshot)) block a s h r b sizes = sizes
+deed_sizes (Snapshots (Pin snapshot)) block a s h r b sizes = sizes
+deed_sizes (Snapshots (Show snapshot showing)) block a s h r b sizes = sizes
+deed_sizes (Snapshots (Unpin snapshot seen)) block a s h r b sizes = sizes
+deed_sizes (Snapshots (Pick draining)) block a s h r b sizes = sizes
+deed_sizes (Snapshots (LockPicked draining picked)) block a s h r b sizes = sizes
+deed_sizes (Snapshots (Release draining picked)) block a s h r b sizes =
+    let cell = released picked (cell_at s picked.ino) in
+    with_size block s picked.ino (erased cell)
+    (lent_inside_own (Snapshots (Release draining picked)) a s r b picked.ino refl).0
+    (by_erased (λ (c : CellState). c.block ≡ (cell_at s picked.ino).block) cell refl refl) sizes
 deed_sizes (Look place) block a s h r b sizes = sizes
 deed_sizes (Lock place) block a s h r b sizes = sizes
 deed_sizes Check block a s h r b sizes = sizes
@@ -278,6 +293,7 @@ module _ (g : GeometryNumbers) (w : World) (known : IsKnown g w) (fit : AreFit w
   begun_fits Numbers c h empty = tt
   begun_fits Looks c h empty = tt
   begun_fits Visits c h empty = tt
+  begun_fits (sequence.OnSnapshots what) c h empty = tt
   begun_fits Locks c h empty = locking_fits block 0 (slots_of w.shared None nothing_looked c) w.shared h (begun Locks w.shared c)
       (ap (λ (x : HandState). slots_of w.shared x.ino nothing_looked c) (sym empty))
 
@@ -294,6 +310,7 @@ module _ (g : GeometryNumbers) (w : World) (known : IsKnown g w) (fit : AreFit w
 
 pub commits_if : (d : Deed) → keeps_nodes d ≡ false → d ≡ Commits
 commits_if Nothing e = cc
+commits_if (OnSnapshots step) e = cc
 commits_if FixesNumber e = cc
 commits_if Commits e = refl
 

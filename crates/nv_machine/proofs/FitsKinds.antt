@@ -20,18 +20,18 @@ use Rattle.nv_machine.specs.Reads.{if_number, is_written, pages_needed, slot_at,
 use Rattle.nv_machine.specs.Sequence.{appending, publishing}
 use Rattle.nv_machine.specs.Settled.{settled}
 use Rattle.nv_machine.specs.Step.{ending_at, kind_turn, with_made}
-use Rattle.nv_machine.specs.World.{Append, Back, Check, Close, Enter, Give, HandState, Leave, Lock, Look, Next, Number, Open, Publish, Ready, Retire, Running, Shared, TakeBlocks, TakePages, Unlock, Visit, cell_at, go_to, owner_at, with_book, with_cell}
+use Rattle.nv_machine.specs.World.{Append, Back, Check, Close, Enter, Give, HandState, Leave, Lock, Look, Next, Number, Open, Publish, Ready, Retire, Running, Shared, TakeBlocks, TakePages, Unlock, Visit, cell_at, go_to, owner_at, with_book, with_cell, Snapshots}
 use Rattle.nv_machine.proofs.FitsCells.{append_logs, append_wider, publish_logs, same_wider, wider_cells}
 use Rattle.nv_machine.proofs.FitsOwn.{IsNumberFree, all_in, all_stored, passed_check, ready_fits, same_stored, wanted_check}
 use Rattle.nv_machine.proofs.FitsStages.{Drawn, FitsAt, IsDrawn, IsStored, Passed, SameStored, drawn_on, fits_still, passed_on, stored_on, view}
-use Rattle.nv_machine.proofs.FitsTurns.{OnFits, appending_fits, back_fits, check_fits, end_fits, enter_fits, lock_fits, look_fits, number_fits, publishing_fits, rest_fits, retiring_fits, single_fits, take_fits, taken_fits, unlock_fits, visit_fits}
+use Rattle.nv_machine.proofs.FitsTurns.{OnFits, appending_fits, back_fits, check_fits, end_fits, enter_fits, lock_fits, look_fits, number_fits, publishing_fits, rest_fits, retiring_fits, single_fits, take_fits, taken_fits, unlock_fits, visit_fits, snapshot_fits}
 use Rattle.nv_machine.proofs.Grown.{is_settled}
 use Rattle.nv_machine.proofs.Journals.{closed_tail, open_same}
 use Rattle.nv_machine.proofs.KeptTurns.{Standing, kept_turn}
-use Rattle.nv_machine.proofs.Lists.{has_filter}
+use Rattle.nv_machine.proofs.Lists.{has_filter, written_inside}
 use Rattle.nv_machine.proofs.Locked.{owner_is}
 use Rattle.nv_machine.proofs.LogsKept.{same_nodes}
-use Rattle.nv_machine.proofs.Written.{written_inside, written_there}
+use Rattle.nv_machine.proofs.Written.{written_there}
 
 -- ---- a step of its own
 
@@ -198,11 +198,13 @@ module _ (g : GeometryNumbers) (a : ℕ) (s : Shared) (h : HandState) (r : Runni
   own_turn (Give cpu) granted st = rest_fits g.block _ h.ino _ _ r
   own_turn Back granted st = back_fits g.block h.ino s h r
   own_turn Visit granted st = visit_fits g.block _ _ _ _ s h r
+  own_turn (Snapshots step) granted st = snapshot_fits g.block step a granted s h r
 
 -- ---- a step of another
 
 pub their_fits : (k : Next) (block : ℕ) (s t : Shared) (h : HandState) (r : Running) → length t.cells ≡ length s.cells
     → (held_at k r.slots ≡ r.slots → SameStored s t r.slots) → FitsAt k block s h r → FitsAt k block t h r
+their_fits (Snapshots step) block s t h r many same f = tt
 their_fits (Lock place) block s t h r many same f =
     f ∙ ap (λ (n : ℕ). slots_in n (if_number h.ino ++ map (λ (x : Handle). x.ino) (handles r.looked r.call))) (sym many)
 their_fits Check block s t h r many same f = fits_still block s t h r (same refl) Check f

@@ -12,7 +12,7 @@ use Rattle.nv_machine.specs.Format.{formatted}
 use Rattle.nv_machine.specs.PlainRun.{Commits, deed_of}
 use Rattle.nv_machine.specs.Settled.{settled_nodes}
 use Rattle.nv_machine.specs.Step.{after, step}
-use Rattle.nv_machine.specs.World.{Append, Back, Check, Close, Enter, Event, Give, Go, HandState, Leave, Lock, Look, Next, Number, Open, Publish, Ready, Retire, Running, Shared, TakeBlocks, TakePages, Unlock, Visit, World, actor_at}
+use Rattle.nv_machine.specs.World.{Append, Back, Check, Close, Enter, Event, Give, Go, HandState, Leave, Lock, Look, Next, Number, Open, Publish, Ready, Retire, Running, Shared, TakeBlocks, TakePages, Unlock, Visit, World, actor_at, Snapshots}
 use Rattle.nv_machine.proofs.Effects.{point_effect}
 use Rattle.nv_machine.proofs.FitsEvents.{all_fit, all_known, fits_now, passes_now}
 use Rattle.nv_machine.proofs.FitsStages.{FitsAt, FitsOf, Passed}
@@ -28,6 +28,7 @@ checked_passed (Append place) block s h r e f = f.0
 checked_passed Open block s h r e f = f.0
 checked_passed (Publish place) block s h r e f = f.0
 checked_passed Close block s h r e f = f.0
+checked_passed (Snapshots step) block s h r e f = cc
 checked_passed Number block s h r e f = cc
 checked_passed (Look place) block s h r e f = cc
 checked_passed (Lock place) block s h r e f = cc

@@ -28,7 +28,7 @@ use Rattle.nv_machine.specs.Kinds.{check_ending, entries_for, ready_turn, with_e
 use Rattle.nv_calls.proofs.FillPages.{filled_numbers, length_filled}
 use Rattle.nv_calls.specs.FillPages.{filled, fresh_pages}
 use Rattle.nv_machine.specs.Reads.{copies, has_last_page, if_number, is_written, nodes, plan_by, slots_of, written_slots}
-use Rattle.nv_machine.specs.Sequence.{Beginning, Looks, Locks, Numbers, Visits, beginning}
+use Rattle.nv_machine.specs.Sequence.{Beginning, Looks, Locks, Numbers, Visits, beginning, OnSnapshots}
 use Rattle.nv_machine.specs.Settled.{node_by, settled, settled_nodes, settled_tail}
 use Rattle.nv_machine.specs.Step.{ending_at, is_numbered, made_in, same_looked}
 use Rattle.nv_machine.specs.World.{HandState, Running, Shared, cell_at, no_cell, with_cell}
@@ -95,6 +95,7 @@ last_page block s (call.Mode handle mode) = refl
 last_page block s (call.Stat handle) = refl
 last_page block s (call.List dir) = refl
 last_page block s (call.Lookup dir name) = refl
+last_page block s (call.Snapshots what) = refl
 last_page block s (call.Unlink dir name) = refl
 last_page block s (call.Rmdir dir name) = refl
 last_page block s (call.Rename from old to new) = refl
@@ -130,6 +131,7 @@ cover_made P s number made (call.Mode handle mode) list e f all = all
 cover_made P s number made (call.Stat handle) list e f all = all
 cover_made P s number made (call.List dir) list e f all = all
 cover_made P s number made (call.Lookup dir name) list e f all = all
+cover_made P s number made (call.Snapshots what) list e f all = all
 cover_made P s number made (call.Unlink dir name) list e f all = all
 cover_made P s number made (call.Rmdir dir name) list e f all = all
 cover_made P s number made (call.Rename from old to new) list e f all = all
@@ -141,6 +143,7 @@ makes_number Numbers (Some ino) e f = (ino, refl)
 makes_number Looks number e f = cc
 makes_number Locks number e f = cc
 makes_number Visits number e f = cc
+makes_number (OnSnapshots what) number e f = cc
 
 -- ---- the check
 

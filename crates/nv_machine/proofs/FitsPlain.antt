@@ -10,10 +10,10 @@ use Rattle.nv_calls.specs.Plain.{PlainNode, node_in, nodes_after}
 use Rattle.nv_machine.specs.Effects.{AreSound}
 use Rattle.nv_machine.specs.FitsNow.{bytes_in}
 use Rattle.nv_machine.specs.Format.{formatted}
-use Rattle.nv_machine.specs.PlainRun.{Commits, Deed, Nothing, Numbers as FixesNumber, Plain, deed_by, deed_of, done, keeps_nodes, plain_after, plain_of, plain_step}
+use Rattle.nv_machine.specs.PlainRun.{Commits, Deed, Nothing, Numbers as FixesNumber, Plain, deed_by, deed_of, done, keeps_nodes, plain_after, plain_of, plain_step, OnSnapshots, after_step}
 use Rattle.nv_machine.specs.Settled.{settled_nodes}
 use Rattle.nv_machine.specs.Step.{after, step}
-use Rattle.nv_machine.specs.World.{Event, Go, Running, Start, World, actor_at}
+use Rattle.nv_machine.specs.World.{Drop, Event, Go, LockPicked, Make, Pick, Pin, Release, Running, Show, SnapshotStep, Start, Unpin, World, actor_at}
 use Rattle.nv_machine.proofs.CommitNumbers.{events_counted}
 use Rattle.nv_machine.proofs.Effects.{point_effect}
 use Rattle.nv_machine.proofs.FitsEvents.{AreFit, IsKnown, all_fit, all_known, commits_if, event_fits, fits_now, new_fit, number_now}
@@ -23,6 +23,16 @@ same_done : (d : Deed) (running : Option Running) (p : Plain) → keeps_nodes d 
 same_done Nothing running p e = refl
 same_done FixesNumber running p e = refl
 same_done Commits running p e = absurd (true≢false (sym e))
+same_done (OnSnapshots what) running p e = step_nodes what p where
+  step_nodes : (what : SnapshotStep) (p : Plain) → (after_step what p).nodes ≡ p.nodes
+  step_nodes Make p = refl
+  step_nodes (Drop snapshot) p = refl
+  step_nodes (Pin snapshot) p = refl
+  step_nodes (Show snapshot showing) p = refl
+  step_nodes (Unpin snapshot seen) p = refl
+  step_nodes (Pick draining) p = refl
+  step_nodes (LockPicked draining picked) p = refl
+  step_nodes (Release draining picked) p = refl
 
 module _ (g : GeometryNumbers) (w : World) (known : IsKnown g w) (fit : AreFit w) (p : Plain)
     (nodes : p.nodes ≡ settled_nodes w.shared) (number : w.shared.book.commit ≡ p.commit) where

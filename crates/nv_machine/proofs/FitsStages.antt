@@ -22,9 +22,10 @@ use Rattle.nv_calls.specs.FillPages.{filled}
 use Rattle.nv_machine.specs.Reads.{if_number, slots_in, slots_of}
 use Rattle.nv_machine.specs.Sequence.{beginning}
 use Rattle.nv_machine.specs.Settled.{settled_nodes}
-use Rattle.nv_machine.specs.World.{Append, Back, Check, Close, Enter, Give, HandState, Leave, Lock, Look, Next, Number, Open, Publish, Ready, Retire, Running, Shared, TakeBlocks, TakePages, Unlock, Visit, cell_at}
+use Rattle.nv_machine.specs.World.{Append, Back, Check, Close, Enter, Give, HandState, Leave, Lock, Look, Next, Number, Open, Publish, Ready, Retire, Running, Shared, TakeBlocks, TakePages, Unlock, Visit, cell_at, Snapshots}
 use Rattle.nv_calls.specs.Filled.{AreFilled}
 use Rattle.nv_machine.proofs.FitsRuns.{fresh_same, present_in, taken_of}
+use Rattle.nv_machine.proofs.EachOf.{all_back}
 
 -- ---- what a call reads
 
@@ -65,10 +66,6 @@ pub record SameFor (v w : View) (locked : List ℕ) : Type 0 where
   pub nodes : (handle : Handle) → IsLocked v.many locked handle → w.nodes handle ≡ v.nodes handle
   pub slots : (handle : Handle) → IsLocked v.many locked handle → w.slots handle.ino ≡ v.slots handle.ino
 
-all_after : {X : Type 0} (P : X → Type 0) (xs ys : List X) → AllByRecursion P (xs ++ ys) → AllByRecursion P ys
-all_after P [] ys all = all
-all_after P (x ∷ xs) ys all = all_after P xs ys all.1
-
 agree_on : (v w : View) (locked : List ℕ) → SameFor v w locked → (list : List Handle) → AllByRecursion (IsLocked v.many locked) list
     → Agree v.nodes w.nodes list
 agree_on v w locked same [] all = tt
@@ -84,7 +81,7 @@ made_locked many locked seen new other e all = cc
 module _ (block : ℕ) (v w : View) (c : Call) (seen : Looked) (new : Handle) (locked : List ℕ) (same : SameFor v w locked)
     (p : IsPassed block v c seen new locked) where
   agree : Agree v.nodes w.nodes (handles seen c)
-  agree = agree_on v w locked same (handles seen c) (all_after (IsLocked v.many locked) (made_by new c) (handles seen c) p.covers)
+  agree = agree_on v w locked same (handles seen c) (all_back (IsLocked v.many locked) (made_by new c) (handles seen c) p.covers)
 
   same_call : (taken : Taken) → SameCall block v.nodes w.nodes taken c
   same_call taken = call_same block v.nodes w.nodes taken c (subst (λ (l : Looked). Agree v.nodes w.nodes (handles l c))
@@ -120,6 +117,7 @@ module _ (block : ℕ) (v w : View) (c : Call) (seen : Looked) (new : Handle) (l
     go (call.Stat handle) all = refl
     go (call.List dir) all = refl
     go (call.Lookup dir name) all = refl
+    go (call.Snapshots what) all = refl
     go (call.Unlink dir name) all = refl
     go (call.Rmdir dir name) all = refl
     go (call.Rename from old to name) all = refl
@@ -232,6 +230,7 @@ module _ (block : ℕ) (s t : Shared) (h : HandState) (r : Running) (same : Same
 
   -- a step of another actor
   pub fits_still : (k : Next) → FitsAt k block s h r → FitsAt k block t h r
+  fits_still (Snapshots step) f = tt
   fits_still (Lock place) f = f ∙ ap slots_among (sym same.same.many)
   fits_still Check f = f ∙ ap slots_among (sym same.same.many)
   fits_still (TakeBlocks asked) f = (passed_on f.0, wanted_on _ f.0 f.1)

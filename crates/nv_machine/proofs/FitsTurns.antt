@@ -6,12 +6,14 @@ use Rattle.std.proofs.lemmas.Bool.{ltb-false, ltb-true}
 use Rattle.nv_book.specs.Book.{after_enter}
 use Rattle.nv_calls.specs.Refusals.{Check as Tests}
 use Rattle.nv_calls.specs.declared.looked.Looked.{Looked}
-use Rattle.nv_machine.specs.Kinds.{again_turn, back_turn, blocks_turn, check_turn, end_turn, enter_turn, grown, lock_turn, look_turn, number_turn, over_turn, pages_turn, rest_turn, take_blocks_turn, unlocked_turn, visit_turn, wants_blocks, wants_pages}
+use Rattle.nv_machine.specs.Kinds.{again_turn, back_turn, blocks_turn, check_turn, end_turn, enter_turn, grown, lock_turn, look_turn, number_turn, over_turn, pages_turn, rest_turn, take_blocks_turn, unlocked_turn, visit_turn, wants_blocks, wants_pages, last_turn}
 use Rattle.nv_machine.specs.Reads.{slot_at, slots_of, written_slots}
 use Rattle.nv_machine.specs.Sequence.{appending, closing, directories, locking, opening, publishing, retiring}
-use Rattle.nv_machine.specs.World.{Answers, Append, Check, Close, Ending, Ends, HandState, Leave, Lock, Look, Moves, Open, Overtaken, Publish, Refuses, Retire, Running, Shared, Turn, Waits, go_to, list_at, with_numbers, with_owner}
+use Rattle.nv_machine.specs.World.{Answers, Append, Check, Close, Ending, Ends, HandState, Leave, Lock, Look, Moves, Open, Overtaken, Publish, Refuses, Retire, Running, Shared, Turn, Waits, go_to, list_at, with_numbers, with_owner, Drains, Snapshots, SnapshotStep, Next, Unlock, Give, Back}
 use Rattle.nv_machine.proofs.FitsStages.{Drawn, FitsAt, IsStored, Passed, view, wanted_in}
 use Rattle.nv_machine.proofs.Knowing.{take_sum}
+use Rattle.nv_machine.specs.Snapshots.{snapshot_turn}
+use Rattle.nv_machine.proofs.SnapshotTurns.{is_quiet, last_any, snapshot_any}
 
 abbrev pub OnFits : ℕ → Turn → Type 0
 OnFits block (Moves t h q) = FitsAt q.next block t h q
@@ -21,10 +23,25 @@ OnFits block (Ends result t h) = Unit {0}
 module _ (block : ℕ) where
   -- ---- the last steps
 
+  quiet_fits : (next : Next) (t : Shared) (h : HandState) (q : Running) → is_quiet next ≡ true → FitsAt next block t h q
+  quiet_fits (Snapshots step) t h q e = tt
+  quiet_fits (Unlock place) t h q e = tt
+  quiet_fits (Give cpu) t h q e = tt
+  quiet_fits Back t h q e = tt
+  quiet_fits other t h q e = cc
+
+  last_fits : (e : Ending) (s : Shared) (h : HandState) (r : Running) → OnFits block (last_turn e s h r)
+  last_fits e s h r = last_any (OnFits block) tt (λ result s h. tt) (λ s h q is fair. quiet_fits q.next s h q is) e s h r
+
+  pub snapshot_fits : (step : SnapshotStep) (actor : ℕ) (granted : Bool) (s : Shared) (h : HandState) (r : Running)
+      → OnFits block (snapshot_turn step actor granted s h r)
+  snapshot_fits step actor granted s h r =
+      snapshot_any (OnFits block) tt (λ result s h. tt) (λ s h q is fair. quiet_fits q.next s h q is) step actor granted s h r
+
   pub rest_fits : (home number : Option ℕ) (s : Shared) (h : HandState) (r : Running) → OnFits block (rest_turn home number s h r)
   rest_fits (Some home) number s h r = tt
   rest_fits None (Some ino) s h r = tt
-  rest_fits None None s h r = tt
+  rest_fits None None s h r = last_fits r.ending s h r
 
   again_fits : (rounds : ℕ) (s : Shared) (h : HandState) (r : Running) → OnFits block (again_turn rounds s h r)
   again_fits zero s h r = tt
@@ -34,6 +51,7 @@ module _ (block : ℕ) where
   over_fits Answers s h r = rest_fits _ h.ino s h r
   over_fits (Refuses fault) s h r = rest_fits _ h.ino s h r
   over_fits Overtaken s h r = again_fits r.rounds s h r
+  over_fits (Drains draining) s h r = rest_fits _ h.ino s h r
 
   pub end_fits : (slots : List ℕ) (e : Ending) (s : Shared) (h : HandState) (r : Running) → OnFits block (end_turn slots e s h r)
   end_fits [] e s h r = over_fits e s h (record r { ending = e })
@@ -49,8 +67,8 @@ module _ (block : ℕ) where
   unlock_fits false place s h r = over_fits r.ending s h r
 
   pub back_fits : (number : Option ℕ) (s : Shared) (h : HandState) (r : Running) → OnFits block (back_turn number s h r)
-  back_fits None s h r = tt
-  back_fits (Some ino) s h r = tt
+  back_fits None s h r = last_fits r.ending s h r
+  back_fits (Some ino) s h r = last_fits r.ending _ _ r
 
   pub visit_fits : (owner : Option ℕ) (tests : Tests) (granted : Bool) (found : _) (s : Shared) (h : HandState) (r : Running)
       → OnFits block (visit_turn owner tests granted found s h r)

@@ -338,6 +338,7 @@ all_within block count nodes taken (call.Read file offset many) few fits = tt
 all_within block count nodes taken (call.Stat handle) few fits = tt
 all_within block count nodes taken (call.List dir) few fits = tt
 all_within block count nodes taken (call.Lookup dir name) few fits = tt
+all_within block count nodes taken (call.Snapshots what) few fits = tt
 
 pub plan_within : (block : ℕ) (nodes : Handle → Option NodeCopy) (taken : Taken) (c : Call) (numbers : List ℕ)
     → taken.runs ≡ runs_of numbers → FitsFile block c (length numbers) → (ino : ℕ)
@@ -379,6 +380,7 @@ wants_fitting block nodes made present (call.Mode handle mode) some passed any =
 wants_fitting block nodes made present (call.Stat handle) some passed any = refl
 wants_fitting block nodes made present (call.List dir) some passed any = refl
 wants_fitting block nodes made present (call.Lookup dir name) some passed any = refl
+wants_fitting block nodes made present (call.Snapshots what) some passed any = refl
 wants_fitting block nodes made present (call.Unlink dir name) some passed any = refl
 wants_fitting block nodes made present (call.Rmdir dir name) some passed any = refl
 wants_fitting block nodes made present (call.Rename from old to new) some passed any = refl

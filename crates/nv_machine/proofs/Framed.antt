@@ -5,14 +5,17 @@ use Rattle.nv_calls.specs.declared.looked.Looked.{Looked}
 use Rattle.nv_alloc.specs.FreeList.{FreeBlocks}
 use Rattle.nv_alloc.specs.InodePool.{FreeInodes}
 use Rattle.nv_book.specs.Book.{BookState}
+use Rattle.nv_book.specs.declared.record.Record.{Record}
 use Rattle.nv_calls.specs.Refusals.{Check as Tests}
 use Rattle.nv_calls.specs.declared.answer.Answer.{Answer}
 use Rattle.nv_cell.specs.Cell.{CellState}
-use Rattle.nv_machine.specs.Frame.{Frame, IsFramed, Lent, Stays, lent, nothing_lent}
-use Rattle.nv_machine.specs.Kinds.{again_turn, back_turn, blocks_turn, check_turn, end_turn, enter_turn, grown, lock_turn, look_turn, number_turn, over_turn, pages_turn, rest_turn, unlocked_turn, visit_turn, wants_blocks, wants_pages}
+use Rattle.nv_entry.specs.declared.node.NodeCopy.{NodeCopy}
+use Rattle.nv_machine.specs.Frame.{Frame, IsFramed, Lent, Stays, lent, lent_on, nothing_lent}
+use Rattle.nv_machine.specs.Kinds.{again_turn, back_turn, blocks_turn, check_turn, drained_turn, end_turn, enter_turn, grown, last_turn, lock_turn, look_turn, number_turn, over_turn, pages_turn, rest_turn, unlocked_turn, visit_turn, wants_blocks, wants_pages}
 use Rattle.nv_machine.specs.Reads.{slot_at}
+use Rattle.nv_machine.specs.Snapshots.{drop_turn, if_free, lock_picked_turn, make_tests, make_turn, picked_turn, pin_turn, show_turn, snapshot_turn}
 use Rattle.nv_machine.specs.Step.{ending_at, kind_turn, with_made}
-use Rattle.nv_machine.specs.World.{Answers, Append, Back, Check, Close, Ending, Enter, Give, HandState, Leave, Lock, Look, Next, Number, Open, Overtaken, Publish, Ready, Refuses, Retire, Running, Shared, TakeBlocks, TakePages, Turn, Unlock, Visit, no_cell, no_list, with_book, with_cell, with_list, with_owner}
+use Rattle.nv_machine.specs.World.{Answers, Append, Back, Check, Close, Draining, Drains, Drop, Ending, Enter, Give, HandState, Leave, Lock, LockPicked, Look, Make, Next, Number, Open, Overtaken, Pick, Pin, Publish, Ready, Refuses, Release, Retire, Running, Shared, Show, Showing, SnapshotStep, Snapshots, TakeBlocks, TakePages, Turn, Unlock, Unpin, Visit, no_cell, no_list, with_book, with_cell, with_list, with_owner}
 
 -- ---- what is changed
 
@@ -91,11 +94,20 @@ lock_frame ino owner s = record {
 
 -- ---- the last steps, and what grows
 
+last_framed : (l : Lent) (s t : Shared) (e : Ending) (h : HandState) (r : Running) → Frame l s t → IsFramed l s (last_turn e t h r)
+last_framed l s t Answers h r f = f
+last_framed l s t (Refuses fault) h r f = f
+last_framed l s t Overtaken h r f = f
+last_framed l s t (Drains draining) h r f = go draining.left where
+  go : (left : ℕ) → IsFramed l s (drained_turn left draining.released t h r)
+  go zero = f
+  go (suc left) = f
+
 rest_framed : (l : Lent) (s t : Shared) (home number : Option ℕ) (h : HandState) (r : Running) → Frame l s t
     → IsFramed l s (rest_turn home number t h r)
 rest_framed l s t (Some cpu) number h r f = f
 rest_framed l s t None (Some ino) h r f = f
-rest_framed l s t None None h r f = f
+rest_framed l s t None None h r f = last_framed l s t r.ending h r f
 
 again_framed : (l : Lent) (s t : Shared) (rounds : ℕ) (h : HandState) (r : Running) → Frame l s t → IsFramed l s (again_turn rounds t h r)
 again_framed l s t zero h r f = f
@@ -105,8 +117,9 @@ over_framed : (l : Lent) (s t : Shared) (e : Ending) (h : HandState) (r : Runnin
 over_framed l s t Answers h r f = rest_framed l s t _ h.ino h r f
 over_framed l s t (Refuses fault) h r f = rest_framed l s t _ h.ino h r f
 over_framed l s t Overtaken h r f = again_framed l s t r.rounds h r f
+over_framed l s t (Drains draining) h r f = rest_framed l s t _ h.ino h r f
 
-end_framed : (l : Lent) (s t : Shared) (slots : List ℕ) (e : Ending) (h : HandState) (r : Running) → Frame l s t
+pub end_framed : (l : Lent) (s t : Shared) (slots : List ℕ) (e : Ending) (h : HandState) (r : Running) → Frame l s t
     → IsFramed l s (end_turn slots e t h r)
 end_framed l s t [] e h r f = over_framed l s t e h (record r { ending = e }) f
 end_framed l s t (slot ∷ slots) e h r f = f
@@ -173,14 +186,64 @@ unlock_framed l false place s t h r f = over_framed l s t r.ending h r f
 
 back_framed : (number : Option ℕ) (s : Shared) (h : HandState) (r : Running)
     → IsFramed (record nothing_lent { pool = true }) s (back_turn number s h r)
-back_framed None s h r = same_frame _ s
-back_framed (Some ino) s h r = pool_frame _ s
+back_framed None s h r = last_framed _ s s r.ending h r (same_frame _ s)
+back_framed (Some ino) s h r = last_framed _ s _ r.ending _ r (pool_frame _ s)
 
 visit_framed : (owner : Option ℕ) (tests : Tests) (granted : Bool) (found : Answer) (s : Shared) (h : HandState) (r : Running)
     → IsFramed nothing_lent s (visit_turn owner tests granted found s h r)
 visit_framed (Some other) tests granted found s h r = tt
 visit_framed None (Err fault) granted found s h r = end_framed _ s s r.slots _ h r (same_frame _ s)
 visit_framed None (Ok passed) granted found s h r = grown_framed _ s s granted _ h r (same_frame _ s) (same_frame _ s)
+
+-- ---- the kinds of calls on snapshots
+
+free_framed : (l : Lent) (s : Shared) (holder : Option ℕ) (turn : Turn) → IsFramed l s turn → IsFramed l s (if_free holder turn)
+free_framed l s (Some other) turn f = tt
+free_framed l s None turn f = f
+
+make_framed : (tests : Tests) (s : Shared) (h : HandState) (r : Running)
+    → IsFramed (record nothing_lent { book = true }) s (make_turn tests s h r)
+make_framed (Err fault) s h r = end_framed _ s s r.slots _ h r (same_frame _ s)
+make_framed (Ok passed) s h r = book_frame _ s
+
+drop_framed : (snapshot : ℕ) (tests : Tests) (s : Shared) (h : HandState) (r : Running)
+    → IsFramed (record nothing_lent { book = true }) s (drop_turn snapshot tests s h r)
+drop_framed snapshot (Err fault) s h r = end_framed _ s s r.slots _ h r (same_frame _ s)
+drop_framed snapshot (Ok passed) s h r = book_frame _ s
+
+pin_framed : (snapshot : ℕ) (pins : Option ℕ) (s : Shared) (h : HandState) (r : Running)
+    → IsFramed (record nothing_lent { book = true }) s (pin_turn snapshot pins s h r)
+pin_framed snapshot None s h r = end_framed _ s s r.slots _ h r (same_frame _ s)
+pin_framed snapshot (Some pins) s h r = book_frame _ s
+
+show_framed : (owner : Option ℕ) (granted : Bool) (found : Option NodeCopy) (snapshot : ℕ) (showing : Showing) (s : Shared) (h : HandState)
+    (r : Running) → IsFramed nothing_lent s (show_turn owner granted found snapshot showing s h r)
+show_framed (Some other) granted found snapshot showing s h r = tt
+show_framed None true found snapshot showing s h r = same_frame _ s
+show_framed None false found snapshot showing s h r = same_frame _ s
+
+picked_framed : (deferred : List Record) (draining : Draining) (s : Shared) (h : HandState) (r : Running)
+    → IsFramed (record nothing_lent { book = true }) s (picked_turn deferred draining s h r)
+picked_framed [] draining s h r = same_frame _ s
+picked_framed (picked ∷ deferred) draining s h r = book_frame _ s
+
+lock_picked_framed : (owner : Option ℕ) (actor : ℕ) (draining : Draining) (picked : Record) (s : Shared) (h : HandState) (r : Running)
+    → IsFramed (record nothing_lent { lock = Some picked.ino }) s (lock_picked_turn owner actor draining picked s h r)
+lock_picked_framed (Some other) actor draining picked s h r = tt
+lock_picked_framed None actor draining picked s h r = lock_frame picked.ino (Some actor) s
+
+snapshot_framed : (step : SnapshotStep) (actor : ℕ) (granted : Bool) (s : Shared) (h : HandState) (r : Running)
+    → IsFramed (lent_on step) s (snapshot_turn step actor granted s h r)
+snapshot_framed Make actor granted s h r = free_framed _ s s.holder _ (make_framed (make_tests s.book.snaps) s h r)
+snapshot_framed (Drop snapshot) actor granted s h r = free_framed _ s s.holder _ (drop_framed snapshot _ s h r)
+snapshot_framed (Pin snapshot) actor granted s h r = free_framed _ s s.holder _ (pin_framed snapshot _ s h r)
+snapshot_framed (Show snapshot showing) actor granted s h r = show_framed _ granted _ snapshot showing s h r
+snapshot_framed (Unpin snapshot seen) actor granted s h r = free_framed _ s s.holder _ (book_frame _ s)
+snapshot_framed (Pick draining) actor granted s h r =
+    free_framed _ s s.holder _
+    (grown_framed _ s s _ _ h r (same_frame _ s) (picked_framed s.book.deferred draining s h r))
+snapshot_framed (LockPicked draining picked) actor granted s h r = lock_picked_framed _ actor draining picked s h r
+snapshot_framed (Release draining picked) actor granted s h r = end_framed _ s _ r.slots _ _ r (cell_frame false _ s.book _ s refl)
 
 pub framed : (k : Next) (block actor : ℕ) (granted : Bool) (s : Shared) (h : HandState) (r : Running)
     → IsFramed (lent k (length s.lists) actor r) s (kind_turn k block actor granted s h r)
@@ -202,3 +265,4 @@ framed (Unlock place) block actor granted s h r = unlock_framed _ _ place s _ h 
 framed (Give cpu) block actor granted s h r = rest_framed _ s _ _ h.ino _ r (list_frame cpu _ s)
 framed Back block actor granted s h r = back_framed h.ino s h r
 framed Visit block actor granted s h r = visit_framed _ _ _ _ s h r
+framed (Snapshots step) block actor granted s h r = snapshot_framed step actor granted s h r

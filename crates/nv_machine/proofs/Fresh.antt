@@ -24,7 +24,7 @@ use Rattle.nv_machine.specs.Grown.{fresh_entries}
 use Rattle.nv_machine.specs.Hands.{makes_inode}
 use Rattle.nv_machine.specs.Kinds.{entries_for}
 use Rattle.nv_machine.specs.Made.{handles_made, has_handle, made_at}
-use Rattle.nv_machine.specs.PlainRun.{Commits, Deed, Nothing, Numbers as FixesNumber, actor_of, deed_of, keeps_nodes}
+use Rattle.nv_machine.specs.PlainRun.{Commits, Deed, Nothing, Numbers as FixesNumber, OnSnapshots, actor_of, deed_of, keeps_nodes}
 use Rattle.nv_machine.specs.Reads.{is_written, written_slots}
 use Rattle.nv_machine.specs.Sequence.{beginning}
 use Rattle.nv_machine.specs.Settled.{node_by, settled, settled_nodes}
@@ -32,7 +32,8 @@ use Rattle.nv_machine.specs.Step.{after, step}
 use Rattle.nv_machine.specs.World.{Event, Go, Running, Shared, Start, World, actor_at, cell_at}
 use Rattle.nv_machine.proofs.FitsEvents.{AreFit, IsKnown, all_fit, all_known, drawn_now, passed_now}
 use Rattle.nv_machine.proofs.FitsStages.{Passed, made_locked}
-use Rattle.nv_machine.proofs.GrownRuns.{new_grown, point_shared}
+use Rattle.nv_machine.proofs.GrownRuns.{new_grown}
+use Rattle.nv_machine.proofs.GrownTurns.{point_shared}
 use Rattle.nv_machine.proofs.FitsRuns.{present_in, taken_of}
 use Rattle.nv_machine.proofs.Lists.{or_left, or_right}
 use Rattle.nv_machine.proofs.Locks.{all_same}
@@ -144,6 +145,7 @@ is_made made (call.Mode other mode) handle e = cc
 is_made made (call.Stat other) handle e = cc
 is_made made (call.List dir) handle e = cc
 is_made made (call.Lookup dir name) handle e = cc
+is_made made (call.Snapshots what) handle e = cc
 is_made made (call.Unlink dir name) handle e = cc
 is_made made (call.Rmdir dir name) handle e = cc
 is_made made (call.Rename from old to new) handle e = cc
@@ -154,6 +156,7 @@ module _ (g : GeometryNumbers) (w : World) (known : IsKnown g w) (fit : AreFit w
       → has_handle (made_at d running) handle ≡ true → IsUsed (step w (Go actor granted)).world.shared handle
   go_made b running actor granted there is Nothing e made = cc
   go_made b running actor granted there is FixesNumber e made = cc
+  go_made b running actor granted there is (OnSnapshots what) e made = cc
   go_made b None actor granted there is Commits e made = cc
   go_made false (Some r) actor granted there is Commits e made = absurd (no_deed (sym (rw there refl) ∙ e)) where
     no_deed : Nothing ≡ Commits → ⊥

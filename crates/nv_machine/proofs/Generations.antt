@@ -10,7 +10,7 @@ use Rattle.nv_alloc.proofs.Lists.{times-yes}
 use Rattle.nv_base.specs.Limits.{IsWithinLimits}
 use Rattle.nv_base.specs.declared.geometry.GeometryNumbers.{GeometryNumbers}
 use Rattle.nv_base.specs.declared.limits.TheConstants.{NUMBER}
-use Rattle.nv_calls.specs.Retiring.{erased}
+use Rattle.nv_calls.specs.Retiring.{erased, released}
 use Rattle.nv_calls.proofs.Next.{by_erased}
 use Rattle.nv_cell.specs.Cell.{CellState, empty_cell, published}
 use Rattle.nv_epoch.specs.SnapList.{ids}
@@ -23,12 +23,12 @@ use Rattle.nv_machine.specs.Locks.{AreLocks, AreSlots}
 use Rattle.nv_machine.specs.PoolScan.{has_entry, has_inode}
 use Rattle.nv_machine.specs.Reads.{is_written, pages_needed, slot_at, written_slots}
 use Rattle.nv_machine.specs.Step.{after, go_step, start_step, step, turn, turned}
-use Rattle.nv_machine.specs.World.{Append, Back, Check, Close, Ends, Enter, Event, Give, Go, HandState, Leave, Lock, Look, Moves, Next, Number, Open, Publish, Ready, Retire, Running, Shared, Start, TakeBlocks, TakePages, Turn, Unlock, Visit, Waits, World, actor_at, cell_at, no_cell, with_book}
+use Rattle.nv_machine.specs.World.{Append, Back, Check, Close, Ends, Enter, Event, Give, Go, HandState, Leave, Lock, Look, Moves, Next, Number, Open, Publish, Ready, Retire, Running, Shared, Start, TakeBlocks, TakePages, Turn, Unlock, Visit, Waits, World, actor_at, cell_at, no_cell, with_book, Drop, LockPicked, Make, Pick, Pin, Release, Show, Snapshots, Unpin, Draining, with_cell}
 use Rattle.nv_machine.proofs.FromScratch.{all_numbers, counted}
 use Rattle.nv_machine.proofs.Kept.{AfterTurn, back_deed, deed, number_deed, turn_keeps}
-use Rattle.nv_machine.proofs.Lists.{has_filter, self}
+use Rattle.nv_machine.proofs.Lists.{has_filter, self, written_inside}
 use Rattle.nv_machine.proofs.LogsKept.{cell_set}
-use Rattle.nv_machine.proofs.PoolCells.{IsLike, appended_like, no_inode, retired_like}
+use Rattle.nv_machine.proofs.PoolCells.{IsLike, appended_like, no_inode, retired_like, released_like}
 use Rattle.nv_machine.proofs.PoolCommits.{append_inside, begun_inode, retire_inside}
 use Rattle.nv_machine.proofs.PoolKnown.{HaveInodes}
 use Rattle.nv_machine.proofs.PoolLaw.{all_pooled}
@@ -36,7 +36,9 @@ use Rattle.nv_machine.proofs.PoolRuns.{ArePooled, standing}
 use Rattle.nv_machine.proofs.PoolTally.{is_begun, loose, loose_by, tally}
 use Rattle.nv_machine.proofs.PoolTurns.{Standing}
 use Rattle.nv_machine.proofs.Reached.{reached}
-use Rattle.nv_machine.proofs.Written.{written_inside, written_there}
+use Rattle.nv_machine.proofs.Written.{written_there}
+use Rattle.nv_book.specs.declared.record.Record.{Record}
+use Rattle.nv_machine.proofs.KeptTurns.{lent_inside_own}
 
 -- a cell that has an inode is not of the last generation
 abbrev pub IsEarly : CellState → Type 0
@@ -85,6 +87,7 @@ module _ (g : GeometryNumbers) (block a : ℕ) (s : Shared) (h : HandState) (r :
   checked_early Open e st = inode_early Open st st.sees.0
   checked_early (Publish place) e st = inode_early (Publish place) st st.sees.0
   checked_early Close e st = inode_early Close st st.sees.0
+  checked_early (Snapshots step) e st = cc
   checked_early Number e st = cc
   checked_early (Look place) e st = cc
   checked_early (Lock place) e st = cc
@@ -127,6 +130,17 @@ module _ (g : GeometryNumbers) (block a : ℕ) (s : Shared) (h : HandState) (r :
       (λ there. absurd (false≢true there)))
       (λ ne. early ino)
 
+  release_early : (draining : Draining) (picked : Record) → Standing g (Snapshots (Release draining picked)) a s h r
+      → AreEarly (with_cell picked.ino (erased (released picked (cell_at s picked.ino))) s)
+  release_early draining picked st ino =
+      let cell = released picked (cell_at s picked.ino) in
+      cell_set s picked.ino (erased cell) ino IsEarly
+      (lent_inside_own (Snapshots (Release draining picked)) a s r st.before picked.ino refl).0
+      (λ is. by_erased IsEarly cell
+      (like_early (cell_at s picked.ino) _ (released_like picked (cell_at s picked.ino)) (early picked.ino))
+      (λ there. absurd (false≢true there)))
+      (λ ne. early ino)
+
   number_deed_early : (numbers : List ℕ) → AreEarly (number_deed numbers s h).shared
   number_deed_early [] = early
   number_deed_early (ino ∷ numbers) = early
@@ -137,6 +151,14 @@ module _ (g : GeometryNumbers) (block a : ℕ) (s : Shared) (h : HandState) (r :
 
   deed_early : (k : Next) → Standing g k a s h r → AreEarly (deed k block a s h r).shared
   deed_early Number st = number_deed_early s.pool.numbers
+  deed_early (Snapshots Make) st = early
+  deed_early (Snapshots (Drop snapshot)) st = early
+  deed_early (Snapshots (Pin snapshot)) st = early
+  deed_early (Snapshots (Show snapshot showing)) st = early
+  deed_early (Snapshots (Unpin snapshot seen)) st = early
+  deed_early (Snapshots (Pick draining)) st = early
+  deed_early (Snapshots (LockPicked draining picked)) st = early
+  deed_early (Snapshots (Release draining picked)) st = release_early draining picked st
   deed_early (Look place) st = early
   deed_early (Lock place) st = early
   deed_early Check st = early

@@ -5,22 +5,20 @@ use Rattle.nv_alloc.specs.Numbers.{has}
 use Rattle.nv_base.specs.Limits.{IsWithinLimits}
 use Rattle.nv_base.specs.declared.geometry.GeometryNumbers.{GeometryNumbers}
 use Rattle.nv_calls.specs.declared.call.Call.{Call}
-use Rattle.nv_cell.specs.Cell.{empty_cell, log_of}
-use Rattle.nv_cell.specs.Readers.{is_gone}
+use Rattle.nv_calls.specs.Retiring.{is_erased}
+use Rattle.nv_cell.specs.Cell.{empty_cell}
 use Rattle.nv_machine.specs.Format.{formatted}
-use Rattle.nv_machine.specs.Frame.{IsFramed, lent}
-use Rattle.nv_machine.specs.Hands.{AreNumbers, HandOf}
+use Rattle.nv_machine.specs.Hands.{AreNumbers}
 use Rattle.nv_machine.specs.Held.{killed_slots}
 use Rattle.nv_machine.specs.Locks.{AreLocks, commits_at, commits_by, is_owner}
 use Rattle.nv_machine.specs.Reads.{written_slots}
 use Rattle.nv_machine.specs.Sequence.{beginning, begun}
 use Rattle.nv_machine.specs.Step.{after, go_step, kind_turn, start_step, step, turned}
 use Rattle.nv_machine.specs.World.{Actor, Append, Close, Ends, Event, Go, HandState, Leave, Moves, Next, Open, Publish, Retire, Running, Shared, Start, Turn, Waits, World, actor_at, cell_at, idle, no_cell}
-use Rattle.nv_machine.proofs.Framed.{framed}
+use Rattle.nv_machine.proofs.FiledWorlds.{others_out}
 use Rattle.nv_machine.proofs.FromScratch.{all_numbers}
-use Rattle.nv_machine.proofs.GoneTurns.{IsGoneAt, OnGone, OnlyGone, gone_kept}
-use Rattle.nv_machine.proofs.HeldLaw.{all_in_use}
-use Rattle.nv_machine.proofs.HeldRuns.{AreInUse, no_cell_lent, others_out, own_in_use}
+use Rattle.nv_machine.proofs.GoneTurns.{IsGoneAt, OnGone, OnlyGone, WasGone, gone_kept, turn_was}
+use Rattle.nv_machine.proofs.Kept.{AfterTurn}
 use Rattle.nv_machine.proofs.Locked.{lent_holder}
 use Rattle.nv_machine.proofs.Locks.{before}
 use Rattle.nv_machine.proofs.Reached.{reached}
@@ -96,43 +94,39 @@ turned_commit Waits a w there was on = was
 turned_commit (Ends result s h) a w there was on = λ ino gone. absurd (false≢true (on ino gone))
 
 turned_other : (t : Turn) (a : ℕ) (w : World) (r : Running) → (actor_at w a).running ≡ Some r → commits_at r.next ≡ false → AreRetiring w
-    → IsFramed (lent r.next (length w.shared.lists) a r) w.shared t → AreRetiring (turned t a w).world
-turned_other (Moves s h q) a w r is out was frame = λ ino gone.
-    others_retiring w a (record { hand = h; running = Some q }) s ino (ap commits_by is ∙ out)
-    (was ino (sym (ap (λ c. is_gone (log_of c)) (frame.cells ino (no_cell_lent r.next (length w.shared.lists) a r ino out))) ∙ gone))
-turned_other Waits a w r is out was frame = was
-turned_other (Ends result s h) a w r is out was frame = λ ino gone.
-    others_retiring w a (record { hand = h; running = None }) s ino (ap commits_by is ∙ out)
-    (was ino (sym (ap (λ c. is_gone (log_of c)) (frame.cells ino (no_cell_lent r.next (length w.shared.lists) a r ino out))) ∙ gone))
+    → AfterTurn (λ (u : Shared) (g : HandState). WasGone w.shared u) t → AreRetiring (turned t a w).world
+turned_other (Moves s h q) a w r is out was on = λ ino gone.
+    others_retiring w a (record { hand = h; running = Some q }) s ino (ap commits_by is ∙ out) (was ino (on ino gone))
+turned_other Waits a w r is out was on = was
+turned_other (Ends result s h) a w r is out was on = λ ino gone.
+    others_retiring w a (record { hand = h; running = None }) s ino (ap commits_by is ∙ out) (was ino (on ino gone))
 
 running_retiring : (g : GeometryNumbers) (w : World) (a : ℕ) (granted : Bool) (r : Running) → a < length w.actors
-    → (actor_at w a).running ≡ Some r → AreLocks w → AreNumbers g w → AreInUse w → AreRetiring w → (b : Bool) → commits_at r.next ≡ b
+    → (actor_at w a).running ≡ Some r → AreLocks w → AreNumbers g w → AreRetiring w → (b : Bool) → commits_at r.next ≡ b
     → AreRetiring (turned (kind_turn r.next w.numbers.block a granted w.shared (actor_at w a).hand r) a w).world
-running_retiring g w a granted r there is locks all used was b c = go b c where
+running_retiring g w a granted r there is locks all was b c = go b c where
   h : HandState
   h = (actor_at w a).hand
 
   t : Turn
   t = kind_turn r.next w.numbers.block a granted w.shared h r
 
-  own : HandOf g h (Some r)
-  own = subst (λ (o : Option Running). HandOf g h o) is (all.hands a)
-
   go : (b : Bool) → commits_at r.next ≡ b → AreRetiring (turned t a w).world
   go true c =
       let held = lent_holder r.next a w.shared r (before w a r locks is) c in
       turned_commit t a w there was
-      (gone_kept g r.next w.numbers.block a granted w.shared h r c (before w a r locks is) own.0 all.cells used.living.0
-      (own_in_use w a r there is locks held used) (only_own w a r locks held is was))
-  go false c = turned_other t a w r is c was (framed r.next w.numbers.block a granted w.shared h r)
+      (gone_kept r.next w.numbers.block a granted w.shared h r c (before w a r locks is) (λ ino. (all.cells ino).within)
+      (only_own w a r locks held is was))
+  go false c =
+      turned_other t a w r is c was (turn_was w.numbers.block a w.shared h r r.next granted c (before w a r locks is))
 
 go_retiring : (g : GeometryNumbers) (b : Bool) (running : Option Running) (w : World) (a : ℕ) (granted : Bool)
-    → nat_lt a (length w.actors) ≡ b → (actor_at w a).running ≡ running → AreLocks w → AreNumbers g w → AreInUse w → AreRetiring w
+    → nat_lt a (length w.actors) ≡ b → (actor_at w a).running ≡ running → AreLocks w → AreNumbers g w → AreRetiring w
     → AreRetiring (go_step b running a granted w).world
-go_retiring g false running w a granted e is locks all used was = was
-go_retiring g true None w a granted e is locks all used was = was
-go_retiring g true (Some r) w a granted e is locks all used was =
-    running_retiring g w a granted r (ltb-true a (length w.actors) e) is locks all used was (commits_at r.next) refl
+go_retiring g false running w a granted e is locks all was = was
+go_retiring g true None w a granted e is locks all was = was
+go_retiring g true (Some r) w a granted e is locks all was =
+    running_retiring g w a granted r (ltb-true a (length w.actors) e) is locks all was (commits_at r.next) refl
 
 start_retiring : (b : Bool) (running : Option Running) (w : World) (a : ℕ) (c : Call) → (actor_at w a).running ≡ running → AreRetiring w
     → AreRetiring (start_step b running a c w).world
@@ -142,37 +136,36 @@ start_retiring true None w a c is was = λ ino gone.
     others_retiring w a (record { hand = (actor_at w a).hand; running = Some (begun (beginning c) w.shared c) }) w.shared ino
     (ap commits_by is) (was ino gone)
 
-event_retiring : (g : GeometryNumbers) (w : World) (e : Event) → AreLocks w → AreNumbers g w → AreInUse w → AreRetiring w
+event_retiring : (g : GeometryNumbers) (w : World) (e : Event) → AreLocks w → AreNumbers g w → AreRetiring w
     → AreRetiring (step w e).world
-event_retiring g w (Start a c) locks all used was =
+event_retiring g w (Start a c) locks all was =
     start_retiring (nat_lt a (length w.actors)) (actor_at w a).running w a c refl was
-event_retiring g w (Go a granted) locks all used was =
-    go_retiring g (nat_lt a (length w.actors)) (actor_at w a).running w a granted refl refl locks all used was
+event_retiring g w (Go a granted) locks all was =
+    go_retiring g (nat_lt a (length w.actors)) (actor_at w a).running w a granted refl refl locks all was
 
 -- ---- every world
 
 new_cells : (g : GeometryNumbers) (n ino : ℕ)
-    → is_gone (log_of (slice_index_or (replicate n (empty_cell g.block g.page 1 0)) ino no_cell)) ≡ false
+    → is_erased (slice_index_or (replicate n (empty_cell g.block g.page 1 0)) ino no_cell) ≡ false
 new_cells g zero ino = refl
 new_cells g (suc n) zero = refl
 new_cells g (suc n) (suc ino) = new_cells g n ino
 
-new_cell : (g : GeometryNumbers) (ino : ℕ) → is_gone (log_of (cell_at (formatted g).shared ino)) ≡ false
+new_cell : (g : GeometryNumbers) (ino : ℕ) → is_erased (cell_at (formatted g).shared ino) ≡ false
 new_cell g zero = refl
 new_cell g (suc ino) = new_cells g (g.inodes - 1) ino
 
 events_retiring : (g : GeometryNumbers) (events : List Event) (w : World) → ((before : List Event) → AreLocks (after w before))
-    → ((before : List Event) → AreNumbers g (after w before)) → ((before : List Event) → AreInUse (after w before)) → AreRetiring w
-    → AreRetiring (after w events)
-events_retiring g [] w locks all used was = was
-events_retiring g (e ∷ events) w locks all used was =
-    events_retiring g events (step w e).world (λ before. locks (e ∷ before)) (λ before. all (e ∷ before)) (λ before. used (e ∷ before))
-    (event_retiring g w e (locks []) (all []) (used []) was)
+    → ((before : List Event) → AreNumbers g (after w before)) → AreRetiring w → AreRetiring (after w events)
+events_retiring g [] w locks all was = was
+events_retiring g (e ∷ events) w locks all was =
+    events_retiring g events (step w e).world (λ before. locks (e ∷ before)) (λ before. all (e ∷ before))
+    (event_retiring g w e (locks []) (all []) was)
 
 pub all_retiring : (g : GeometryNumbers) (events : List Event) → IsWithinLimits g → AreRetiring (after (formatted g) events)
 all_retiring g events within =
     events_retiring g events (formatted g) (λ before. (reached g before within).locks) (λ before. all_numbers g before within)
-    (λ before. all_in_use g before within) (λ ino gone. absurd (true≢false (sym gone ∙ new_cell g ino)))
+    (λ ino gone. absurd (true≢false (sym gone ∙ new_cell g ino)))
 
 -- with the commit lock free none is
 pub none_retiring : (g : GeometryNumbers) (events : List Event) (ino : ℕ) → IsWithinLimits g

@@ -1,10 +1,10 @@
 -- No test of the plain world refuses a call for want of memory, so that where it is granted no step does.
-use Rattle.std.proofs.Common.{◌≡◌, ℕ, ◌&&◌, ◌||◌, ◌*◌, ◌+◌, Bool, true, false, List, [], ◌∷◌, Option, Some, None, inl, inr, length, nat_lt, not, subst, sym}
+use Rattle.std.proofs.Common.{◌≡◌, ◌&&◌, ◌||◌, ◌*◌, ◌+◌, ◌∷◌, ℕ, Bool, true, false, List, [], Option, Some, None, inl, inr, length, nat_lt, not, subst, sym, if◌then◌else◌, nat_le, zero, suc}
 use Rattle.std.specs.Prelude.{Ok, Err, is_some}
 use Rattle.nv_base.specs.Names.{is_lawful_name}
 use Rattle.nv_base.specs.declared.fault.Fault.{Fault}
-use Rattle.nv_base.specs.declared.fault.Fault.TheVariants.{BadName, CommitLimit, Contended, Exists, FileTooBig, MoveDirectory, NoInode, NoSpace, NotEmpty, OutOfMemory, WriteTooBig}
-use Rattle.nv_base.specs.declared.limits.TheConstants.{FILE_PAGES}
+use Rattle.nv_base.specs.declared.fault.Fault.TheVariants.{BadName, CommitLimit, Contended, Exists, FileTooBig, MoveDirectory, NoInode, NoSpace, NotEmpty, OutOfMemory, WriteTooBig, EpochLimit, NoSnapshot, TooManySnapshots}
+use Rattle.nv_base.specs.declared.limits.TheConstants.{FILE_PAGES, NUMBER}
 use Rattle.nv_base.specs.declared.node.Kind.{Kind}
 use Rattle.nv_base.specs.declared.node.Kind.TheVariants.{Dir, File}
 use Rattle.nv_base.specs.declared.numbers.Handle.{Handle}
@@ -24,8 +24,10 @@ use Rattle.nv_machine.specs.Causes.{EndsFor, IsCause, IsDenied, IsShort, MayBeOv
 use Rattle.nv_machine.specs.Memory.{IsOther}
 use Rattle.nv_machine.specs.Reads.{copies}
 use Rattle.nv_machine.specs.Step.{kind_turn}
-use Rattle.nv_machine.specs.World.{Answers, Check, Ending, Ends, Enter, HandState, Look, Moves, Next, Overtaken, Ready, Refuses, Running, Shared, TakeBlocks, TakePages, Turn, Visit, Waits}
+use Rattle.nv_machine.specs.World.{Answers, Check, Ending, Ends, Enter, HandState, Look, Moves, Next, Overtaken, Ready, Refuses, Running, Shared, TakeBlocks, TakePages, Turn, Visit, Waits, Drop, LockPicked, Make, Pick, Pin, Release, Show, Snapshots, Unpin, Drains}
 use Rattle.nv_machine.proofs.Caused.{caused}
+use Rattle.nv_machine.specs.Snapshots.{drop_tests, make_tests}
+use Rattle.nv_epoch.specs.SnapList.{Snapshots as Living, pins_of}
 
 -- ---- tests, one after another
 
@@ -124,6 +126,7 @@ module _ (block : ℕ) (nodes : Handle → Option NodeCopy) where
   late_else found (call.Stat handle) = node_else (kind_of (nodes handle)) passes tt
   late_else found (call.List dir) = directory_else (kind_of (nodes dir)) passes tt
   late_else found (call.Lookup dir name) = lookup_else dir name
+  late_else found (call.Snapshots what) = tt
   late_else found (call.Unlink dir name) = bound_else found.first _ (λ to. file_else (kind_of (nodes to)) passes tt)
   late_else found (call.Rmdir dir name) =
       bound_else found.first _ (λ to. directory_else (kind_of (nodes to)) _
@@ -154,6 +157,18 @@ granted_other fault lack = let none = lack.1 in cc
 short_other : (s : Shared) (cpu asked : ℕ) (r : Running) (fault : Fault) → IsShort s cpu asked r fault → IsOther fault
 short_other s cpu asked r fault short = is_other fault NoSpace tt short.is
 
+make_else : (snaps : Living) → AreElse (make_tests snaps)
+make_else snaps = go (nat_le NUMBER snaps.epoch) (nat_le snaps.most (length snaps.living)) where
+  go : (b c : Bool) → AreElse (if b then Err EpochLimit else if c then Err TooManySnapshots else Ok tt)
+  go true c = tt
+  go false true = tt
+  go false false = tt
+
+drop_else : (pins : Option ℕ) → AreElse (drop_tests pins)
+drop_else None = tt
+drop_else (Some zero) = tt
+drop_else (Some (suc pins)) = tt
+
 cause_other : (k : Next) (block actor : ℕ) (s : Shared) (h : HandState) (r : Running) (fault : Fault)
     → IsCause k block actor true (copies s) s h r fault → IsOther fault
 cause_other (Look place) block actor s h r fault told =
@@ -171,6 +186,16 @@ cause_other Enter block actor s h r fault (inr lack) = granted_other fault lack
 cause_other Visit block actor s h r fault (inl told) =
     tests_other (refusal block (copies s) r.call) fault (refusal_else block (copies s) r.call) told
 cause_other Visit block actor s h r fault (inr lack) = granted_other fault lack.0
+cause_other (Snapshots Make) block actor s h r fault told =
+    tests_other (make_tests s.book.snaps) fault (make_else s.book.snaps) told
+cause_other (Snapshots (Drop snapshot)) block actor s h r fault told =
+    tests_other (drop_tests (pins_of s.book.snaps snapshot)) fault (drop_else (pins_of s.book.snaps snapshot)) told
+cause_other (Snapshots (Pin snapshot)) block actor s h r fault told = is_other fault NoSnapshot tt told.0
+cause_other (Snapshots (Show snapshot showing)) block actor s h r fault lack = granted_other fault lack
+cause_other (Snapshots (Pick draining)) block actor s h r fault lack = granted_other fault lack.0
+cause_other (Snapshots (Unpin snapshot seen)) block actor s h r fault none = absurd none
+cause_other (Snapshots (LockPicked draining picked)) block actor s h r fault none = absurd none
+cause_other (Snapshots (Release draining picked)) block actor s h r fault none = absurd none
 cause_other other block actor s h r fault none = absurd none
 
 module _ (P R : Fault → Type 0) (Q : Type 0) (more : (fault : Fault) → P fault → R fault) where
@@ -178,6 +203,7 @@ module _ (P R : Fault → Type 0) (Q : Type 0) (more : (fault : Fault) → P fau
   ends_more next (Refuses fault) ends = (more fault ends.0, ends.1)
   ends_more next Answers ends = tt
   ends_more next Overtaken ends = tt
+  ends_more next (Drains draining) ends = tt
 
   refuses_more : (t : Turn) → RefusesFor P Q t → RefusesFor R (Unit {0}) t
   refuses_more (Moves s h r) ends = ends_more r.next r.ending ends

@@ -5,7 +5,7 @@ use Rattle.nv_machine.specs.Grown.{HasGrown, IsAllSettled, fresh_entries, is_app
 use Rattle.nv_machine.specs.Locks.{commits_at, is_owner}
 use Rattle.nv_machine.specs.Reads.{written_slots}
 use Rattle.nv_machine.specs.Settled.{settled}
-use Rattle.nv_machine.specs.World.{Append, Back, Check, Close, Ends, Enter, Give, Leave, Lock, Look, Moves, Next, Number, Open, Publish, Ready, Retire, Running, Shared, TakeBlocks, TakePages, Turn, Unlock, Visit, Waits, cell_at, owner_at}
+use Rattle.nv_machine.specs.World.{Append, Back, Check, Close, Ends, Enter, Give, Leave, Lock, Look, Moves, Next, Number, Open, Publish, Ready, Retire, Running, Shared, TakeBlocks, TakePages, Turn, Unlock, Visit, Waits, cell_at, owner_at, Snapshots}
 use Rattle.nv_machine.proofs.Holding.{LocksLeft, OnLocks, apart}
 use Rattle.nv_machine.proofs.LogsKept.{Still}
 
@@ -14,7 +14,7 @@ pub record CellsLeft (a : ℕ) (s t : Shared) : Type 0 where
   pub cells : (ino : ℕ) → owner_at s ino ≢ Some a → cell_at t ino ≡ cell_at s ino
   pub logs : (ino : ℕ) → owner_at s ino ≢ Some a → settled t ino ≡ settled s ino
 
-abbrev AllFree : Shared → Type 0
+abbrev pub AllFree : Shared → Type 0
 AllFree s = (ino : ℕ) → owner_at s ino ≡ None → IsAllSettled s ino
 
 abbrev pub OnGrown : ℕ → Shared → Turn → Type 0
@@ -45,6 +45,7 @@ neither (Unlock place) written ino e = (refl, refl)
 neither (Give cpu) written ino e = (refl, refl)
 neither Back written ino e = (refl, refl)
 neither Visit written ino e = (refl, refl)
+neither (Snapshots step) written ino e = (refl, refl)
 
 pub not_appended : (k : Next) (written : List ℕ) (ino : ℕ) → commits_at k ≡ false → is_appended k written ino ≡ false
 not_appended k written ino e = (neither k written ino e).0

@@ -11,11 +11,11 @@ use Rattle.nv_calls.specs.declared.call.Call.TheVariants as call
 use Rattle.nv_calls.specs.declared.looked.Looked.{Looked}
 use Rattle.nv_cell.specs.declared.killed.KilledPart.{KilledPart}
 use Rattle.nv_machine.specs.Hands.{AreGiven, AreLists, FitsFile, HandOf, HasFitting, HasTakenNone, BeginsAnew, makes_inode}
-use Rattle.nv_machine.specs.Kinds.{again_turn, blocks_in, check_turn, end_turn, given, grown, lock_turn, look_turn, number_turn, over_turn, rest_turn, wants_blocks, wants_pages}
+use Rattle.nv_machine.specs.Kinds.{again_turn, blocks_in, check_turn, end_turn, given, grown, lock_turn, look_turn, number_turn, over_turn, rest_turn, wants_blocks, wants_pages, drained_turn, last_turn}
 use Rattle.nv_machine.specs.Reads.{home_from, slots_of}
 use Rattle.nv_machine.specs.Sequence.{beginning, directories, locking, looking, nothing_looked}
 use Rattle.nv_machine.specs.Step.{same_looked}
-use Rattle.nv_machine.specs.World.{Answers, Check, Ending, Ends, HandState, Lock, Look, Moves, Overtaken, Refuses, Running, Shared, Turn, Waits, empty_hand, go_to}
+use Rattle.nv_machine.specs.World.{Answers, Check, Ending, Ends, HandState, Lock, Look, Moves, Overtaken, Refuses, Running, Shared, Turn, Waits, empty_hand, go_to, Drains}
 use Rattle.nv_machine.proofs.Homes.{AreBelow, IsFound, found_home, given_all_home, given_none}
 
 -- ---- hands
@@ -54,6 +54,17 @@ no_blocks h e = ap blocks_in e
 
 -- ---- the last steps
 
+-- the hand is empty
+pub last_hand : (g : GeometryNumbers) (e : Ending) (s : Shared) (h : HandState) (r : Running) → h ≡ empty_hand
+    → OnHand g (last_turn e s h r)
+last_hand g Answers s h r empty = empty
+last_hand g (Refuses fault) s h r empty = empty
+last_hand g Overtaken s h r empty = empty
+last_hand g (Drains draining) s h r empty = go draining.left where
+  go : (left : ℕ) → OnHand g (drained_turn left draining.released s h r)
+  go zero = empty
+  go (suc left) = (empty, λ e. refl)
+
 pub rest_hand : (g : GeometryNumbers) (from : ℕ) (s t : Shared) (home number : Option ℕ) (h : HandState) (r : Running)
     → GoesHome g s h → home_from from 0 s.lists (blocks_in h) ≡ home → h.ino ≡ number → from ≤ g.cpus → AreGiven g from (blocks_in h)
     → h.killed ≡ [] → OnHand g (rest_turn home number t h r)
@@ -65,7 +76,7 @@ rest_hand g from s t None (Some ino) h r goes is same few given killed =
     ((killed, given_all_home g (blocks_in h) goes.some goes.below found), λ e. absurd (false≢true e))
 rest_hand g from s t None None h r goes is same few given killed =
     let found = subst (λ (o : Option ℕ). IsFound g g.cpus (blocks_in h) o) is (found_home g from s (blocks_in h) goes.lists few given) in
-    is_empty h (given_all_home g (blocks_in h) goes.some goes.below found) same killed
+    last_hand g r.ending t h r (is_empty h (given_all_home g (blocks_in h) goes.some goes.below found) same killed)
 
 again_hand : (g : GeometryNumbers) (rounds : ℕ) (s : Shared) (h : HandState) (r : Running) → BeginsAnew h r
     → OnHand g (again_turn rounds s h r)
@@ -79,6 +90,8 @@ over_hand g Answers s h r goes killed o =
 over_hand g (Refuses fault) s h r goes killed o =
     rest_hand g 0 s s _ h.ino h r goes refl refl (omega arith) (given_none g (blocks_in h) goes.some) killed
 over_hand g Overtaken s h r goes killed o = again_hand g r.rounds s h r (o refl)
+over_hand g (Drains draining) s h r goes killed o =
+    rest_hand g 0 s s _ h.ino h r goes refl refl (omega arith) (given_none g (blocks_in h) goes.some) killed
 
 pub end_hand : (g : GeometryNumbers) (slots : List ℕ) (e : Ending) (s : Shared) (h : HandState) (r : Running) → GoesHome g s h
     → h.killed ≡ [] → (e ≡ Overtaken → BeginsAnew h r) → OnHand g (end_turn slots e s h r)
@@ -91,6 +104,7 @@ abbrev is_overtaken : Ending → Bool
 is_overtaken Answers = false
 is_overtaken (Refuses fault) = false
 is_overtaken Overtaken = true
+is_overtaken (Drains draining) = false
 
 pub not_overtaken : {claim : Type 0} (e : Ending) → is_overtaken e ≡ false → e ≡ Overtaken → claim
 not_overtaken e other is = absurd (false≢true (sym other ∙ ap is_overtaken is))
@@ -192,6 +206,7 @@ same_nothing nodes (call.Mode handle mode) before makes is = cc
 same_nothing nodes (call.Stat handle) before makes is = cc
 same_nothing nodes (call.List dir) before makes is = cc
 same_nothing nodes (call.Lookup dir name) before makes is = cc
+same_nothing nodes (call.Snapshots what) before makes is = cc
 same_nothing nodes (call.Unlink dir name) before makes is = cc
 same_nothing nodes (call.Rmdir dir name) before makes is = cc
 same_nothing nodes (call.Rename from old to new) before makes is = cc

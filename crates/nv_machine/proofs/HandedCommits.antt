@@ -1,15 +1,14 @@
 -- What the hand of an actor has along a commit, and after every kind of step.
 use Rattle.std.proofs.Common.{◌≡◌, ℕ, zero, suc, ◌+◌, ◌-◌, ◌^◌, ◌<◌, ◌≤◌, ◌++◌, ◌∙◌, Bool, true, false, List, [], ◌∷◌, Option, Some, None, add-one, ap, arith, drop, drop-cons, if◌then◌else◌, length, length-append, nat_lt, refl, subst, sym, take}
-use Rattle.std.specs.Prelude.{Ok, Err, is_none}
-use Rattle.std.specs.List.{AllByRecursion, flat_map}
-use Rattle.std.proofs.lemmas.Bool.{false≢true, ltb-false, true≢false}
-use Rattle.std.proofs.lemmas.List.{drop-drop, length-map}
-use Rattle.nv_alloc.specs.Block.{AreSized, BlockValue, number_of, numbers_of}
+use Rattle.std.specs.Prelude.{Ok, Err}
+use Rattle.std.specs.List.{flat_map}
+use Rattle.std.proofs.lemmas.Bool.{false≢true, ltb-false}
+use Rattle.std.proofs.lemmas.List.{drop-drop}
+use Rattle.nv_alloc.specs.Block.{AreSized, BlockValue, numbers_of}
 use Rattle.nv_alloc.specs.Numbers.{times}
 use Rattle.nv_base.specs.declared.geometry.GeometryNumbers.{GeometryNumbers}
-use Rattle.nv_calls.specs.AllCalls.{blocks_wanted, early, effect, looked, refusal}
 use Rattle.nv_calls.specs.Refusals.{Check as Tests}
-use Rattle.nv_calls.specs.Retiring.{is_erased, number_back}
+use Rattle.nv_calls.specs.Retiring.{is_erased, number_back, released}
 use Rattle.nv_calls.specs.Slots.{entries_of, items_for, place_in}
 use Rattle.nv_calls.specs.declared.answer.Answer.{Answer}
 use Rattle.nv_calls.proofs.Appends.{front, map-drop}
@@ -17,136 +16,23 @@ use Rattle.nv_cell.specs.Cell.{CellState}
 use Rattle.nv_entry.specs.Blocks.{item_blocks}
 use Rattle.nv_entry.specs.declared.item.Entry.{Entry}
 use Rattle.nv_entry.specs.declared.item.Item.{Item}
-use Rattle.nv_machine.specs.Hands.{AreGiven, FitsFile, HandAt, HandOf, HasFitting, HasPlanned, HasTakenNone, BeginsAnew, is_going, makes_inode, planned_blocks}
-use Rattle.nv_machine.specs.Kinds.{asked_list, back_turn, blocks_in, blocks_left, blocks_turn, check_ending, enter_turn, entries_for, first_killed, given, pages_turn, retired_cell, unlocked_turn, visit_turn, with_bytes, with_erased, with_freed}
-use Rattle.nv_calls.proofs.FillPages.{filled_numbers}
-use Rattle.nv_calls.specs.FillPages.{filled, fresh_pages}
-use Rattle.nv_machine.specs.Reads.{copies, has_last_page, is_written, plan_by, slot_at, taken_by, written_slots}
-use Rattle.nv_machine.specs.Sequence.{appending, beginning, closing, opening, publishing, retiring}
-use Rattle.nv_machine.specs.Step.{ending_at, is_numbered, kind_turn, made_in, same_looked, with_made}
-use Rattle.nv_machine.specs.World.{Answers, Append, Back, Check, Close, Enter, Give, HandState, Leave, Lock, Look, Next, Number, Open, Overtaken, Publish, Ready, Retire, Running, Shared, TakeBlocks, TakePages, Unlock, Visit, empty_hand, go_to, list_at}
+use Rattle.nv_machine.specs.Hands.{AreGiven, FitsFile, HandAt, HandOf, HasPlanned, BeginsAnew, is_going, planned_blocks}
+use Rattle.nv_machine.specs.Kinds.{asked_list, back_turn, blocks_in, blocks_left, enter_turn, entries_for, first_killed, given, retired_cell, unlocked_turn, visit_turn, with_erased, with_freed, end_turn}
+use Rattle.nv_machine.specs.Reads.{slot_at, written_slots}
+use Rattle.nv_machine.specs.Sequence.{appending, closing, opening, publishing, retiring}
+use Rattle.nv_machine.specs.Step.{ending_at, kind_turn, with_made}
+use Rattle.nv_machine.specs.World.{Answers, Append, Back, Check, Close, Enter, Give, HandState, Leave, Lock, Look, Next, Number, Open, Overtaken, Publish, Ready, Retire, Running, Shared, TakeBlocks, TakePages, Unlock, Visit, empty_hand, go_to, list_at, Drop, LockPicked, Make, Pick, Pin, Release, Show, SnapshotStep, Snapshots, Unpin, Drains, Draining, Showing, Turn, cell_at, Refuses}
 use Rattle.nv_machine.proofs.Counted.{given_all}
-use Rattle.nv_machine.proofs.Fitting.{checked, plan_few, plan_first, plan_within, planned_few, wants_fitting}
-use Rattle.nv_machine.proofs.Handed.{GoesHome, OnHand, check_hand, end_hand, grown_hand, is_empty, lock_hand, look_hand, not_overtaken, number_hand, over_hand, rest_hand, same_nothing, wants_pages_hand}
-use Rattle.nv_machine.proofs.Homes.{AreBelow, all_given}
-use Rattle.nv_machine.proofs.Kept.{deed}
-use Rattle.nv_machine.proofs.Lists.{rising_filter}
+use Rattle.nv_machine.proofs.Handed.{GoesHome, OnHand, check_hand, end_hand, grown_hand, is_empty, lock_hand, look_hand, not_overtaken, number_hand, over_hand, rest_hand, last_hand}
+use Rattle.nv_machine.proofs.Homes.{all_given}
+use Rattle.nv_machine.proofs.Kept.{deed, release_deed}
 use Rattle.nv_machine.proofs.Locked.{Before}
 use Rattle.nv_machine.proofs.Parted.{entry_blocks}
-
--- ---- the check's own
-
-over_some : {X : Type 0} (x : X) → None ≡ Some x → ⊥
-over_some x e = true≢false (ap (λ (o : Option _). is_none o) e)
-
--- a call that is overtaken has looked names up
-overtaken_looked : (early : Tests) (same : Bool) (tests : Tests) (numbered : Bool) (changes : List _)
-    → check_ending early same tests numbered changes ≡ Some Overtaken → same ≡ false
-overtaken_looked (Err fault) same tests numbered changes h = cc
-overtaken_looked (Ok passed) false tests numbered changes h = refl
-overtaken_looked (Ok passed) true (Err fault) numbered changes h = cc
-overtaken_looked (Ok passed) true (Ok all) false changes h = cc
-overtaken_looked (Ok passed) true (Ok all) true [] h = cc
-overtaken_looked (Ok passed) true (Ok all) true (change ∷ changes) h = cc
-
-or_true : (b : Bool) → (b ≡ true → ⊥) → b ≡ false
-or_true true h = absurd (h refl)
-or_true false h = refl
-
-check_overtaken : (block : ℕ) (s : Shared) (h : HandState) (r : Running) → HasTakenNone h r
-    → ending_at block s h r ≡ Some Overtaken → BeginsAnew h r
-check_overtaken block s h r none is =
-    let bound_anew = overtaken_looked (early (copies s) r.call) (same_looked (looked (copies s) r.call) r.looked)
-    (refusal block (copies s) r.call) (is_numbered (beginning r.call) h.ino)
-    (effect (copies s) (made_in s h.ino r.made) r.call) is in
-    let looks = or_true (makes_inode (beginning r.call))
-    (λ makes. false≢true (sym bound_anew ∙ same_nothing (copies s) r.call r.looked makes (none.looked makes))) in
-    record { empty = is_empty h none.blocks (none.number looks) none.killed; looks = looks }
-
-check_fits : (g : GeometryNumbers) (s : Shared) (h : HandState) (r : Running) → 0 < g.block → HasTakenNone h r
-    → ending_at g.block s h r ≡ None
-    → HasFitting g.block h r (length h.blocks + blocks_wanted g.block (copies s) (has_last_page g.block s r.call) r.call)
-check_fits g s h r some none is =
-    let is_checked = checked (early (copies s) r.call) (same_looked (looked (copies s) r.call) r.looked)
-    (refusal g.block (copies s) r.call) (is_numbered (beginning r.call) h.ino)
-    (effect (copies s) (made_in s h.ino r.made) r.call) is in
-    let wanted = blocks_wanted g.block (copies s) (has_last_page g.block s r.call) r.call in
-    let fits = wants_fitting g.block (copies s) (made_in s h.ino r.made) (has_last_page g.block s r.call) r.call some
-    is_checked.passed is_checked.some in
-    let empty = ap length none.blocks in
-    let same : wanted ≡ length h.blocks + wanted =
-    omega (arith, empty, length-append (h.blocks ++ h.pages) h.chain, length-append h.blocks h.pages) in
-    record { killed = none.killed; fits = subst (λ (n : ℕ). FitsFile g.block r.call n) same fits }
-
--- ---- taking
-
-taken_count : (wanted : ℕ) (bs taken : List BlockValue) → length (bs ++ take wanted taken) + (wanted - length taken) ≡ length bs + wanted
-taken_count wanted bs taken = omega (arith, length-append bs (take wanted taken), first wanted taken) where
-  first : (n : ℕ) (xs : List BlockValue) → length (take n xs) + (n - length xs) ≡ n
-  first zero xs = omega arith
-  first (suc n) [] = omega arith
-  first (suc n) (x ∷ xs) = omega (arith, first n xs)
-
-blocks_hand : (g : GeometryNumbers) (n : ℕ) (more : Bool) (asked block : ℕ) (s : Shared) (h : HandState) (r : Running)
-    → GoesHome g s h → HasFitting g.block h r (length h.blocks + n) → r.ending ≡ Answers
-    → OnHand g (blocks_turn n more asked block s h r)
-blocks_hand g zero more asked block s h r goes fits going =
-    wants_pages_hand g _ s h r (record {
-      killed = fits.killed;
-      fits = let same : length h.blocks + 0 ≡ length h.blocks = omega arith in subst (λ (n : ℕ). FitsFile g.block r.call n) same fits.fits;
-    }) going
-blocks_hand g (suc n) true asked block s h r goes fits going = (record { killed = fits.killed; fits = fits.fits }, λ e. going)
-blocks_hand g (suc n) false asked block s h r goes fits going =
-    end_hand g r.slots _ s h r goes fits.killed (λ is. not_overtaken _ refl is)
-
-pages_hand : (g : GeometryNumbers) (n : ℕ) (more : Bool) (asked : ℕ) (s : Shared) (h : HandState) (r : Running)
-    → GoesHome g s h → HasFitting g.block h r (length h.blocks) → r.ending ≡ Answers → OnHand g (pages_turn n more asked s h r)
-pages_hand g zero more asked s h r goes fits going = (record { killed = fits.killed; fits = fits.fits }, λ e. going)
-pages_hand g (suc n) true asked s h r goes fits going = (record { killed = fits.killed; fits = fits.fits }, λ e. going)
-pages_hand g (suc n) false asked s h r goes fits going =
-    end_hand g r.slots _ s h r goes fits.killed (λ is. not_overtaken _ refl is)
-
--- ---- ready
-
-numbers_below : (many : ℕ) (bs : List BlockValue) → AreBelow many bs → AllByRecursion (λ n. n < many) (numbers_of bs)
-numbers_below many [] h = tt
-numbers_below many (b ∷ bs) h = (h.0, numbers_below many bs h.1)
-
-below_front : (many : ℕ) (xs ys : List BlockValue) → AreBelow many (xs ++ ys) → AreBelow many xs
-below_front many [] ys h = tt
-below_front many (x ∷ xs) ys h = (h.0, below_front many xs ys h.1)
-
-first_below : (many : ℕ) (h : HandState) → AreBelow many (blocks_in h) → AreBelow many h.blocks
-first_below many h below = below_front many h.blocks h.pages (below_front many (h.blocks ++ h.pages) h.chain below)
-
-ready_planned : (g : GeometryNumbers) (a : ℕ) (s : Shared) (h : HandState) (r : Running) → HasFitting g.block h r (length h.blocks)
-    → g.blocks < 2 ^ 64 → AreBelow g.blocks h.blocks → Before a s Ready r
-    → HasPlanned (with_bytes g.block s r h) (record r { plan = plan_by g.block s h r; next = Enter })
-    (written_slots (record r { plan = plan_by g.block s h r }))
-ready_planned g a s h r fits small below b =
-    let plan = plan_by g.block s h r in
-    let few = plan_few g.block (copies s) (taken_by g.block s h r) r.call (numbers_of h.blocks) refl in
-    let rising = planned_few plan (written_slots (record r { plan = plan })) (rising_filter (is_written plan) r.slots b.are.rising) in
-    let same = ap length (filled_numbers (fresh_pages g.block (copies s) r.call) h.blocks) in
-    record {
-      killed = fits.killed;
-      enough = omega (
-        arith,
-        few,
-        rising,
-        same,
-        length-map h.blocks number_of,
-        length-map (filled (fresh_pages g.block (copies s) r.call) h.blocks) number_of,
-      );
-      first = subst (λ (l : List ℕ). take (length (planned_blocks plan (written_slots (record r { plan = plan })))) l
-          ≡ planned_blocks plan (written_slots (record r { plan = plan })))
-          (sym (filled_numbers (fresh_pages g.block (copies s) r.call) h.blocks))
-          (plan_first g.block g.blocks (copies s) (taken_by g.block s h r) r.call (numbers_of h.blocks)
-          (written_slots (record r { plan = plan })) refl small (numbers_below g.blocks h.blocks below)
-          (rising_filter (is_written plan) r.slots b.are.rising));
-      within = plan_within g.block (copies s) (taken_by g.block s h r) r.call (numbers_of h.blocks) refl
-          (subst (λ (n : ℕ). FitsFile g.block r.call n) (sym (length-map h.blocks number_of)) fits.fits);
-    }
+use Rattle.nv_machine.specs.Snapshots.{drop_turn, if_free, lock_picked_turn, make_tests, make_turn, one_more, picked_turn, pin_turn, release_turn, show_turn, snapshot_turn, unpin_turn, with_released}
+use Rattle.nv_book.specs.declared.record.Record.{Record}
+use Rattle.nv_entry.specs.declared.node.NodeCopy.{NodeCopy}
+use Rattle.nv_base.specs.declared.fault.Fault.{Fault}
+use Rattle.nv_machine.proofs.HandedTakings.{blocks_hand, check_fits, check_overtaken, first_below, pages_hand, ready_planned, taken_count}
 
 -- ---- along a commit
 
@@ -298,8 +184,8 @@ unlock_hand g false place s h r goes killed o = over_hand g r.ending s h r goes 
 
 back_hand : (g : GeometryNumbers) (number : Option ℕ) (s : Shared) (h : HandState) (r : Running) → h.ino ≡ number → h.killed ≡ []
     → blocks_in h ≡ [] → OnHand g (back_turn number s h r)
-back_hand g None s h r is killed none = is_empty h none is killed
-back_hand g (Some ino) s h r is killed none = is_empty (record h { ino = None }) none refl killed
+back_hand g None s h r is killed none = last_hand g r.ending s h r (is_empty h none is killed)
+back_hand g (Some ino) s h r is killed none = last_hand g r.ending _ _ r (is_empty (record h { ino = None }) none refl killed)
 
 visit_hand : (g : GeometryNumbers) (owner : Option ℕ) (tests : Tests) (granted : Bool) (found : Answer) (s : Shared) (h : HandState)
     (r : Running) → GoesHome g s h → h ≡ empty_hand → OnHand g (visit_turn owner tests granted found s h r)
@@ -323,6 +209,74 @@ abbrev pub CanGive : GeometryNumbers → Next → Shared → HandState → Type 
 CanGive g (Give cpu) s h = AreSized g.block (blocks_in h)
     × ((n : ℕ) → times n (numbers_of (blocks_in h)) + times n (numbers_of (list_at s cpu).blocks) ≤ 1)
 CanGive g other s h = Unit {0}
+
+-- ---- calls on snapshots
+
+free_hand : (g : GeometryNumbers) (holder : Option ℕ) (turn : Turn) → OnHand g turn → OnHand g (if_free holder turn)
+free_hand g (Some other) turn on = tt
+free_hand g None turn on = on
+
+module _ (g : GeometryNumbers) (s : Shared) (h : HandState) (r : Running) (goes : GoesHome g s h) (empty : h ≡ empty_hand)
+    (going : r.ending ≡ Answers) where
+  refused_hand : (fault : Fault) → OnHand g (end_turn r.slots (Refuses fault) s h r)
+  refused_hand fault =
+      end_hand g r.slots (Refuses fault) s h r goes (ap (λ (x : HandState). x.killed) empty) (λ is. not_overtaken _ refl is)
+
+  make_hand : (tests : Tests) → OnHand g (make_turn tests s h r)
+  make_hand (Err fault) = refused_hand fault
+  make_hand (Ok passed) = empty
+
+  drop_hand : (snapshot : ℕ) (tests : Tests) → OnHand g (drop_turn snapshot tests s h r)
+  drop_hand snapshot (Err fault) = refused_hand fault
+  drop_hand snapshot (Ok passed) = empty
+
+  pin_hand : (snapshot : ℕ) (pins : Option ℕ) → OnHand g (pin_turn snapshot pins s h r)
+  pin_hand snapshot None = refused_hand _
+  pin_hand snapshot (Some pins) = (empty, λ e. going)
+
+  show_hand : (owner : Option ℕ) (granted : Bool) (found : Option NodeCopy) (snapshot : ℕ) (showing : Showing)
+      → OnHand g (show_turn owner granted found snapshot showing s h r)
+  show_hand (Some other) granted found snapshot showing = tt
+  show_hand None true found snapshot showing = (empty, λ e. going)
+  show_hand None false found snapshot showing = (empty, λ e. absurd (false≢true e))
+
+  picked_hand : (deferred : List Record) (draining : Draining) → OnHand g (picked_turn deferred draining s h r)
+  picked_hand [] draining = empty
+  picked_hand (picked ∷ deferred) draining = (empty, λ e. going)
+
+  lock_picked_hand : (owner : Option ℕ) (actor : ℕ) (draining : Draining) (picked : Record)
+      → OnHand g (lock_picked_turn owner actor draining picked s h r)
+  lock_picked_hand (Some other) actor draining picked = tt
+  lock_picked_hand None actor draining picked = (empty, λ e. going)
+
+  release_hand : (draining : Draining) (picked : Record)
+      → GoesHome g (release_deed picked s h).shared (release_deed picked s h).hand → OnHand g (release_turn draining picked s h r)
+  release_hand draining picked after =
+      end_hand g r.slots (Drains (one_more draining)) _ _ r after
+      (erased_killed picked.ino (released picked (cell_at s picked.ino)) (with_released picked s h)
+      ∙ ap (λ (x : HandState). x.killed) empty)
+      (λ is. not_overtaken _ refl is)
+
+snapshot_hand : (g : GeometryNumbers) (step : SnapshotStep) (a : ℕ) (granted : Bool) (s : Shared) (h : HandState) (r : Running)
+    → AllGoHome g (Snapshots step) s h r g.block a → h ≡ empty_hand → (is_going (Snapshots step) ≡ true → r.ending ≡ Answers)
+    → OnHand g (snapshot_turn step a granted s h r)
+snapshot_hand g Make a granted s h r goes empty going =
+    free_hand g s.holder _ (make_hand g s h r goes.0 empty (going refl) (make_tests s.book.snaps))
+snapshot_hand g (Drop snapshot) a granted s h r goes empty going =
+    free_hand g s.holder _ (drop_hand g s h r goes.0 empty (going refl) snapshot _)
+snapshot_hand g (Pin snapshot) a granted s h r goes empty going =
+    free_hand g s.holder _ (pin_hand g s h r goes.0 empty (going refl) snapshot _)
+snapshot_hand g (Show snapshot showing) a granted s h r goes empty going =
+    show_hand g s h r goes.0 empty (going refl) _ granted _ snapshot showing
+snapshot_hand g (Unpin snapshot seen) a granted s h r goes empty going = free_hand g s.holder (unpin_turn snapshot seen s h r) empty
+snapshot_hand g (Pick draining) a granted s h r goes empty going =
+    free_hand g s.holder _
+    (grown_hand g _ _ s h r goes.0 (ap (λ (x : HandState). x.killed) empty)
+    (picked_hand g s h r goes.0 empty (going refl) s.book.deferred draining))
+snapshot_hand g (LockPicked draining picked) a granted s h r goes empty going =
+    lock_picked_hand g s h r goes.0 empty (going refl) _ a draining picked
+snapshot_hand g (Release draining picked) a granted s h r goes empty going =
+    release_hand g s h r goes.0 empty (going refl) draining picked goes.1
 
 pub hand_kept : (g : GeometryNumbers) (k : Next) (a : ℕ) (granted : Bool) (s : Shared) (h : HandState) (r : Running) → 0 < g.block
     → g.blocks < 2 ^ 64 → Before a s k r → AllGoHome g k s h r g.block a → CanGive g k s h → HandAt g k h r → (is_going k ≡ true
@@ -376,3 +330,4 @@ hand_kept g (Give cpu) a granted s h r some small b goes give at going =
     (subst (λ (l : List BlockValue). AreGiven g (cpu + 1) l) (sym same) kept) at.0
 hand_kept g Back a granted s h r some small b goes give at going = back_hand g h.ino s h r refl at.0 at.1
 hand_kept g Visit a granted s h r some small b goes give at going = visit_hand g _ _ _ _ s h r goes.0 at
+hand_kept g (Snapshots step) a granted s h r some small b goes give at going = snapshot_hand g step a granted s h r goes at going

@@ -3,11 +3,11 @@ use Rattle.std.proofs.Common.{◌≡◌, ◌≢◌, ℕ, zero, suc, ◌+◌, ◌
 use Rattle.std.specs.Prelude.{◌||◌}
 use Rattle.std.proofs.lemmas.Bool.{eqb-false, eqb-true, ltb-false, ltb-true}
 use Rattle.nv_alloc.specs.Numbers.{has}
-use Rattle.nv_machine.specs.Kinds.{again_turn, end_turn, grown, over_turn, rest_turn}
+use Rattle.nv_machine.specs.Kinds.{again_turn, drained_turn, end_turn, grown, last_turn, over_turn, rest_turn}
 use Rattle.nv_machine.specs.Locks.{AreSlots, HoldsIts, IsInside, commits_at, held_at, is_owner}
 use Rattle.nv_machine.specs.Reads.{slot_at, written_slots}
 use Rattle.nv_machine.specs.Sequence.{appending, closing, locking, opening, publishing, retiring}
-use Rattle.nv_machine.specs.World.{Answers, Append, Back, Check, Close, Ending, Ends, Give, HandState, Leave, Lock, Look, Moves, Open, Overtaken, Publish, Refuses, Retire, Running, Shared, Turn, Unlock, Waits, go_to, owner_at, with_owner}
+use Rattle.nv_machine.specs.World.{Answers, Append, Back, Check, Close, Drains, Ending, Ends, Give, HandState, Leave, Lock, Look, Moves, Open, Overtaken, Publish, Refuses, Retire, Running, Shared, Turn, Unlock, Waits, go_to, owner_at, with_owner}
 use Rattle.nv_machine.proofs.Lists.{drop_apart, has_drop, has_take, self, slot_inside, take_all}
 
 -- ---- what a turn leaves of the locks
@@ -47,12 +47,22 @@ idle_as s a h = record { owners = h.owners; holder = h.holder; slots = tt }
 
 -- ---- the last steps
 
+pub last_locks : (a : ℕ) (s t : Shared) (w : Type 0) (e : Ending) (h : HandState) (r : Running) → LocksLeft a s t
+    → Holds t a [] false → OnLocks a s w (last_turn e t h r)
+last_locks a s t w Answers h r left mine = (left, idle_as t a mine)
+last_locks a s t w (Refuses fault) h r left mine = (left, idle_as t a mine)
+last_locks a s t w Overtaken h r left mine = (left, idle_as t a mine)
+last_locks a s t w (Drains draining) h r left mine = go draining.left where
+  go : (more : ℕ) → OnLocks a s w (drained_turn more draining.released t h r)
+  go zero = (left, idle_as t a mine)
+  go (suc more) = (left, holds_as t a _ [] false mine refl refl (record { rising = tt; inside = tt }) refl)
+
 pub rest_locks : (a : ℕ) (s t : Shared) (w : Type 0) (home number : Option ℕ) (h : HandState) (r : Running) → LocksLeft a s t
     → Holds t a [] false → AreSlots (length t.owners) r.slots
     → OnLocks a s w (rest_turn home number t h r)
 rest_locks a s t w (Some cpu) number h r left mine are = (left, holds_as t a (go_to (Give cpu) r) [] false mine refl refl are tt)
 rest_locks a s t w None (Some ino) h r left mine are = (left, holds_as t a (go_to Back r) [] false mine refl refl are tt)
-rest_locks a s t w None None h r left mine are = (left, idle_as t a mine)
+rest_locks a s t w None None h r left mine are = last_locks a s t w r.ending h r left mine
 
 again_locks : (a : ℕ) (s t : Shared) (w : Type 0) (rounds : ℕ) (h : HandState) (r : Running) → LocksLeft a s t
     → Holds t a [] false → AreSlots (length t.owners) r.slots
@@ -67,6 +77,7 @@ pub over_locks : (a : ℕ) (s t : Shared) (w : Type 0) (e : Ending) (h : HandSta
 over_locks a s t w Answers h r left mine are = rest_locks a s t w _ h.ino h r left mine are
 over_locks a s t w (Refuses fault) h r left mine are = rest_locks a s t w _ h.ino h r left mine are
 over_locks a s t w Overtaken h r left mine are = again_locks a s t w r.rounds h r left mine are
+over_locks a s t w (Drains draining) h r left mine are = rest_locks a s t w _ h.ino h r left mine are
 
 pub end_locks : (a : ℕ) (s t : Shared) (w : Type 0) (slots : List ℕ) (e : Ending) (h : HandState) (r : Running) → r.slots ≡ slots
     → LocksLeft a s t → Holds t a r.slots false

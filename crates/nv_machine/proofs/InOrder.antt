@@ -12,9 +12,9 @@ use Rattle.nv_machine.specs.Frame.{Frame, IsFramed, Lent, lent, nothing_lent}
 use Rattle.nv_machine.specs.Locks.{AreLocks, HoldsIts, commits_at, held_at}
 use Rattle.nv_machine.specs.Order.{CommitsIn, IsEntered, IsInOrder, entries_at, to_append}
 use Rattle.nv_machine.specs.Reads.{is_written, slots_of, written_slots}
-use Rattle.nv_machine.specs.Sequence.{Beginning, Looks, Locks, Numbers, Visits, beginning, begun, nothing_looked}
+use Rattle.nv_machine.specs.Sequence.{Beginning, Looks, Locks, Numbers, Visits, beginning, begun, nothing_looked, OnSnapshots}
 use Rattle.nv_machine.specs.Step.{after, go_step, start_step, step, turn, turned}
-use Rattle.nv_machine.specs.World.{Actor, Append, Back, Check, Close, Ends, Enter, Event, Give, Go, Leave, Lock, Look, Moves, Next, Number, Open, Publish, Ready, Retire, Running, Shared, Start, TakeBlocks, TakePages, Turn, Unlock, Visit, Waits, World, actor_at, idle, no_cell}
+use Rattle.nv_machine.specs.World.{Actor, Append, Back, Check, Close, Ends, Enter, Event, Give, Go, Leave, Lock, Look, Moves, Next, Number, Open, Publish, Ready, Retire, Running, Shared, Start, TakeBlocks, TakePages, Turn, Unlock, Visit, Waits, World, actor_at, idle, no_cell, Snapshots}
 use Rattle.nv_machine.proofs.Framed.{framed, same_frame}
 use Rattle.nv_machine.proofs.Lists.{has_filter, has_later}
 use Rattle.nv_machine.proofs.Locked.{lent_cell, slot_owned}
@@ -44,6 +44,7 @@ append_held (Unlock place) r ino there = absurd (false≢true there)
 append_held (Give cpu) r ino there = absurd (false≢true there)
 append_held Back r ino there = absurd (false≢true there)
 append_held Visit r ino there = absurd (false≢true there)
+append_held (Snapshots step) r ino there = absurd (false≢true there)
 
 some_same : (a b : ℕ) → Some a ≡ Some b → a ≡ b
 some_same a b e = ap (λ (o : Option ℕ). unwrap_or o 0) e
@@ -121,6 +122,7 @@ begun_commits Numbers s c = refl
 begun_commits Looks s c = refl
 begun_commits Locks s c = locking_commits 0 (slots_of s None nothing_looked c) (nat_lt 0 (length (slots_of s None nothing_looked c)))
 begun_commits Visits s c = refl
+begun_commits (OnSnapshots what) s c = refl
 
 start_order : (b : Bool) (running : Option Running) (w : World) (actor : ℕ) (c : Call) → nat_lt actor (length w.actors) ≡ b
     → AreLocks w → IsInOrder w → IsInOrder (start_step b running actor c w).world

@@ -1,8 +1,8 @@
 -- Settled logs are kept whatever events come, and nodes change at commit points alone.
-use Rattle.std.proofs.Common.{◌≡◌, ◌≢◌, ℕ, zero, suc, ◌-◌, ◌%◌, ◌<◌, ◌==◌, ◌∙◌, Bool, true, false, List, [], ◌∷◌, Option, Some, None, ap, arith, get_or-set_other, get_or-set_same, if◌then◌else◌, length, map, nat_lt, refl, replicate, set, subst, sym}
+use Rattle.std.proofs.Common.{◌≡◌, ◌≢◌, ◌-◌, ◌%◌, ◌<◌, ◌==◌, ◌∙◌, ◌∷◌, ◌≤◌, ℕ, zero, suc, Bool, true, false, List, [], Option, Some, None, ap, arith, get_or-set_other, get_or-set_same, if◌then◌else◌, length, map, nat_lt, refl, replicate, set, subst, sym}
 use Rattle.std.specs.List.{range_with_len}
-use Rattle.std.specs.Prelude.{slice_index_or}
-use Rattle.std.proofs.lemmas.Bool.{eqb-false, eqb-true, le-ltb, ltb-true}
+use Rattle.std.specs.Prelude.{slice_index_or, unwrap_or}
+use Rattle.std.proofs.lemmas.Bool.{eqb-false, eqb-true, le-ltb, ltb-true, eq-eqb, false≢true}
 use Rattle.std.proofs.lemmas.List.{length-map}
 use Rattle.std.proofs.lemmas.List.FromFn.{length-range_with_len}
 use Rattle.std.proofs.lemmas.Option.{none-some}
@@ -16,15 +16,15 @@ use Rattle.nv_entry.specs.declared.item.Entry.{Entry}
 use Rattle.nv_cell.specs.declared.killed.KilledPart.{KilledPart}
 use Rattle.nv_machine.specs.Format.{formatted, full_list, root_cell, without_lowest}
 use Rattle.nv_machine.specs.Effects.{AreSound}
-use Rattle.nv_machine.specs.Kept.{AreBlocksApart, AreClosed, AreKilledIn, HasNoted, HasNothing, HasPages, IsKept, IsNotedIf, Knows, KnowsOf}
-use Rattle.nv_machine.specs.Locks.{AreLocks, HoldsIts, commits_at}
+use Rattle.nv_machine.specs.Kept.{AreBlocksApart, AreClosed, AreKilledIn, HasNoted, HasNothing, HasPages, IsKept, IsNotedIf, Knows, KnowsOf, IsReleaseCoveredBy}
+use Rattle.nv_machine.specs.Locks.{AreLocks, HoldsIts, commits_at, commits_by, held_at, is_owner}
 use Rattle.nv_machine.specs.Order.{IsInOrder}
 use Rattle.nv_machine.specs.PlainRun.{Nothing, deed_by, deed_of, keeps_nodes}
-use Rattle.nv_machine.specs.Reads.{slots_of, written_slots}
-use Rattle.nv_machine.specs.Sequence.{Beginning, Looks, Locks, Numbers, Visits, beginning, begun, nothing_looked}
-use Rattle.nv_machine.specs.Settled.{settled, settled_nodes}
+use Rattle.nv_machine.specs.Reads.{slots_of, written_slots, is_written}
+use Rattle.nv_machine.specs.Sequence.{Beginning, Looks, Locks, Numbers, Visits, beginning, begun, nothing_looked, OnSnapshots}
+use Rattle.nv_machine.specs.Settled.{settled, settled_nodes, settled_tail}
 use Rattle.nv_machine.specs.Step.{after, go_step, start_step, step, turn, turned}
-use Rattle.nv_machine.specs.World.{Actor, Append, Back, Check, Close, Ends, Enter, Event, Give, Go, HandState, Leave, Lock, Look, Moves, Next, Number, Open, Publish, Ready, Retire, Running, Shared, Start, TakeBlocks, TakePages, Turn, Unlock, Visit, Waits, World, actor_at, cell_at, empty_hand, idle, no_cell}
+use Rattle.nv_machine.specs.World.{Actor, Append, Back, Check, Close, Ends, Enter, Event, Give, Go, HandState, Leave, Lock, Look, Moves, Next, Number, Open, Publish, Ready, Retire, Running, Shared, Start, TakeBlocks, TakePages, Turn, Unlock, Visit, Waits, World, actor_at, cell_at, empty_hand, idle, no_cell, Snapshots, owner_at}
 use Rattle.nv_machine.proofs.CellSteps.{empty_pages}
 use Rattle.nv_machine.proofs.CommitKept.{OnKept, same_killed}
 use Rattle.nv_machine.proofs.InOrder.{event_order}
@@ -32,31 +32,46 @@ use Rattle.nv_machine.proofs.KeptTurns.{Standing, kept_turn, same_still}
 use Rattle.nv_machine.proofs.Knowing.{locking_knows}
 use Rattle.nv_machine.proofs.Locks.{all_same, before, event_locks, many_same}
 use Rattle.nv_machine.proofs.LogsKept.{KeptLeft, SameLogs, same_nodes, still_left}
+use Rattle.nv_alloc.specs.Numbers.{has}
+use Rattle.nv_machine.proofs.Lists.{has_filter, has_later}
+use Rattle.nv_machine.proofs.Tails.{has_front}
+use Rattle.nv_machine.proofs.Locked.{slot_owned}
+use Rattle.nv_machine.proofs.Journals.{closed_tail}
 
 -- ---- what another actor knows stays
 
--- cells and journals that are as they were
-abbrev SameParts : Shared → Shared → Type 0
-SameParts s t = (t.book.journals ≡ s.book.journals) × ((ino : ℕ) → cell_at t ino ≡ cell_at s ino)
+-- journals, and the cells of these slots, that are as they were
+abbrev SameParts : Shared → Shared → List ℕ → Type 0
+SameParts s t slots = (t.book.journals ≡ s.book.journals) × ((ino : ℕ) → has slots ino ≡ true → cell_at t ino ≡ cell_at s ino)
 
-their_killed : (s t : Shared) (slots : List ℕ) (killed : List (List KilledPart)) → SameParts s t → AreKilledIn s slots killed
-    → AreKilledIn t slots killed
-their_killed s t slots killed same h = same_killed s t slots killed (λ ino there. same.1 ino) h
+their_killed : (s t : Shared) (all slots : List ℕ) (killed : List (List KilledPart)) → SameParts s t all
+    → ((ino : ℕ) → has slots ino ≡ true → has all ino ≡ true) → AreKilledIn s slots killed → AreKilledIn t slots killed
+their_killed s t all slots killed same among h = same_killed s t slots killed (λ ino there. same.1 ino (among ino there)) h
 
-their_noted : (s t : Shared) (cpu : ℕ) (written : List ℕ) → SameParts s t → HasNoted s cpu written → HasNoted t cpu written
+-- a slot that is not written has its own tail, whatever that is
+their_older : (s t : Shared) (cpu : ℕ) (written : List ℕ) → SameParts s t written → HasNoted s cpu written → (ino : ℕ)
+    → settled_tail s.book.journals ino (cell_at t ino).chain.tail ≤ (cell_at t ino).chain.tail
+their_older s t cpu written same h ino = go (has written ino) refl where
+  go : (b : Bool) → has written ino ≡ b
+      → settled_tail s.book.journals ino (cell_at t ino).chain.tail ≤ (cell_at t ino).chain.tail
+  go true there = rw (same.1 ino there) (h.older ino)
+  go false out = let own = h.free ino (cell_at t ino).chain.tail out in omega (arith, own)
+
+their_noted : (s t : Shared) (cpu : ℕ) (written : List ℕ) → SameParts s t written → HasNoted s cpu written → HasNoted t cpu written
 their_noted s t cpu written same h = record {
   alone = rw (same.0) h.alone;
   noted = rw (same.0) h.noted;
   free = rw (same.0) h.free;
-  older = λ ino. rw (same.0, same.1 ino) (h.older ino);
+  older = λ ino. rw (same.0) (their_older s t cpu written same h ino);
 }
 
-their_if : (b : Bool) (s t : Shared) (cpu : ℕ) (written : List ℕ) → SameParts s t → IsNotedIf b s cpu written → IsNotedIf b t cpu written
+their_if : (b : Bool) (s t : Shared) (cpu : ℕ) (written : List ℕ) → SameParts s t written → IsNotedIf b s cpu written
+    → IsNotedIf b t cpu written
 their_if true s t cpu written same h = their_noted s t cpu written same h
 their_if false s t cpu written same h = rw (same.0) h
 
 module _ (block : ℕ) (s t : Shared) (cpu : ℕ) (h : HandState) (r : Running) where
-  their_knows : (k : Next) → (commits_at k ≡ true → SameParts s t) → Knows k block s cpu h r → Knows k block t cpu h r
+  their_knows : (k : Next) → (commits_at k ≡ true → SameParts s t (written_slots r)) → Knows k block s cpu h r → Knows k block t cpu h r
   their_knows Number same k = k
   their_knows (Look place) same k = k
   their_knows (Lock place) same k = k
@@ -68,24 +83,46 @@ module _ (block : ℕ) (s t : Shared) (cpu : ℕ) (h : HandState) (r : Running) 
   their_knows (Append place) same k = (k.0, k.1, rw ((same refl).0) k.2, k.3)
   their_knows Open same k = (k.0, k.1, rw ((same refl).0) k.2, k.3)
   their_knows (Publish place) same k = (
-    their_killed s t _ h.killed (same refl) k.0,
+    their_killed s t (written_slots r) _ h.killed (same refl) (has_front place (written_slots r)) k.0,
     k.1,
     their_if (nat_lt 1 (length (written_slots r))) s t cpu (written_slots r)
         (same refl) k.2,
   )
-  their_knows Close same k = (their_killed s t _ h.killed (same refl) k.0, k.1, their_noted s t cpu (written_slots r) (same refl) k.2)
-  their_knows (Retire place) same k = (their_killed s t _ h.killed (same refl) k.0, k.1, rw ((same refl).0) k.2)
+  their_knows Close same k = (
+    their_killed s t (written_slots r) (written_slots r) h.killed (same refl) (λ ino there. there) k.0,
+    k.1,
+    their_noted s t cpu (written_slots r) (same refl) k.2,
+  )
+  their_knows (Retire place) same k = (
+    their_killed s t (written_slots r) _ h.killed (same refl) (has_later place (written_slots r)) k.0,
+    k.1,
+    rw ((same refl).0) k.2,
+  )
   their_knows Leave same k = (k.0, rw ((same refl).0) k.1)
   their_knows (Unlock place) same k = k
   their_knows (Give home) same k = k
   their_knows Back same k = k
   their_knows Visit same k = k
+  their_knows (Snapshots step) same k = k
+
+-- a commit holds the slots that it writes
+commit_held : (k : Next) (r : Running) (ino : ℕ) → commits_at k ≡ true → has (written_slots r) ino ≡ true
+    → has (held_at k r.slots) ino ≡ true
+commit_held (Append place) r ino e there = has_filter (is_written r.plan) r.slots ino there
+commit_held Open r ino e there = has_filter (is_written r.plan) r.slots ino there
+commit_held (Publish place) r ino e there = has_filter (is_written r.plan) r.slots ino there
+commit_held Close r ino e there = has_filter (is_written r.plan) r.slots ino there
+commit_held (Retire place) r ino e there = has_filter (is_written r.plan) r.slots ino there
+commit_held Leave r ino e there = has_filter (is_written r.plan) r.slots ino there
+commit_held other r ino e there = cc
 
 their_own : (a b block : ℕ) (s t : Shared) (h : HandState) (running : Option Running) → b ≢ a → KeptLeft a s t → HoldsIts s b running
     → KnowsOf running block s (b % length s.lists) h → KnowsOf running block t (b % length t.lists) h
 their_own a b block s t h None ne left holds k = tt
 their_own a b block s t h (Some r) ne left holds k =
-    rw (left.cpus) (their_knows block s t (b % length s.lists) h r r.next (λ e. left.others b ne (holds.holder ∙ e)) k)
+    rw (left.cpus) (their_knows block s t (b % length s.lists) h r r.next (λ e.
+    let all = left.others b ne (holds.holder ∙ e) in
+    (all.0, λ ino there. all.1 ino (slot_owned b s r ino holds (commit_held r.next r ino e there)))) k)
 
 -- ---- all actors
 
@@ -136,6 +173,56 @@ turned_nodes (Ends result s h) block actor w on = on.1 refl
 
 -- ---- one event
 
+-- no journal notes a slot that another actor than the committing one holds
+module _ (w : World) (locks : AreLocks w) (kept : IsKept w) (actor ino : ℕ) (mine : owner_at w.shared ino ≡ Some actor)
+    (out : is_owner actor w.shared.holder ≡ false) where
+  abbrev OwnTail : Type 0
+  OwnTail = (tail : ℕ) → settled_tail w.shared.book.journals ino tail ≡ tail
+
+  not_written : (b : ℕ) (r : Running) → b ≢ actor → HoldsIts w.shared b (Some r) → commits_at r.next ≡ true
+      → has (written_slots r) ino ≡ false
+  not_written b r ne holds e = go (has (written_slots r) ino) refl where
+    go : (c : Bool) → has (written_slots r) ino ≡ c → c ≡ false
+    go false there = refl
+    go true there =
+        absurd (ne (ap (λ (o : Option ℕ). unwrap_or o 0)
+        (sym (slot_owned b w.shared r ino holds (commit_held r.next r ino e there)) ∙ mine)))
+
+  noted_tail : (b : Bool) (cpu : ℕ) (written : List ℕ) → has written ino ≡ false → IsNotedIf b w.shared cpu written → OwnTail
+  noted_tail true cpu written none noted = λ tail. noted.free ino tail none
+  noted_tail false cpu written none closed = λ tail. closed_tail w.shared.book.journals ino tail closed
+
+  known_tail : (k : Next) (cpu : ℕ) (h : HandState) (r : Running) → commits_at k ≡ true → has (written_slots r) ino ≡ false
+      → Knows k w.numbers.block w.shared cpu h r → OwnTail
+  known_tail (Append place) cpu h r e none k = noted_tail false cpu (written_slots r) none k.2
+  known_tail Open cpu h r e none k = noted_tail false cpu (written_slots r) none k.2
+  known_tail (Publish place) cpu h r e none k = noted_tail _ cpu (written_slots r) none k.2
+  known_tail Close cpu h r e none k = noted_tail true cpu (written_slots r) none k.2
+  known_tail (Retire place) cpu h r e none k = noted_tail false cpu (written_slots r) none k.2
+  known_tail Leave cpu h r e none k = noted_tail false cpu (written_slots r) none k.1
+  known_tail other cpu h r e none k = cc
+
+  by_holder : (holder : Option ℕ) → w.shared.holder ≡ holder → OwnTail
+  by_holder None e = λ tail. closed_tail w.shared.book.journals ino tail (kept.logs.closed e)
+  by_holder (Some b) e = by_call (actor_at w b).running refl where
+    ne : b ≢ actor
+    ne is = false≢true (sym out ∙ ap (is_owner actor) e ∙ eq-eqb b actor is)
+
+    commits : commits_by (actor_at w b).running ≡ true
+    commits = sym (locks.each b).holder ∙ ap (is_owner b) e ∙ eq-eqb b b refl
+
+    by_call : (running : Option Running) → (actor_at w b).running ≡ running → OwnTail
+    by_call None none = absurd (false≢true (sym (ap commits_by none) ∙ commits))
+    by_call (Some r) some =
+        let at : commits_at r.next ≡ true = sym (ap commits_by some) ∙ commits in
+        let holds : HoldsIts w.shared b (Some r) = subst (λ (o : Option Running). HoldsIts w.shared b o) some (locks.each b) in
+        known_tail r.next (b % length w.shared.lists) (actor_at w b).hand r at (not_written b r ne holds at)
+        (subst (λ (o : Option Running). KnowsOf o w.numbers.block w.shared (b % length w.shared.lists) (actor_at w b).hand) some
+        (kept.each b))
+
+  pub own_tail : OwnTail
+  own_tail = by_holder w.shared.holder refl
+
 pub standing : (w : World) (actor : ℕ) (r : Running) → AreLocks w → IsInOrder w → IsKept w → AreBlocksApart w
     → (actor_at w actor).running ≡ Some r
     → Standing r.next w.numbers.block actor w.shared (actor_at w actor).hand r
@@ -149,6 +236,8 @@ standing w actor r locks order kept apart is = record {
   knows = subst (λ (running : Option Running). KnowsOf running w.numbers.block w.shared (actor % length w.shared.lists)
       (actor_at w actor).hand) is
       (kept.each actor);
+  releases = subst (λ (running : Option Running). IsReleaseCoveredBy w.shared running) is (apart.releases actor);
+  tails = λ ino mine out. own_tail w locks kept actor ino mine out;
 }
 
 go_kept : (b : Bool) (running : Option Running) (w : World) (actor : ℕ) (granted : Bool) → nat_lt actor (length w.actors) ≡ b
@@ -179,6 +268,7 @@ begun_knows Looks block cpu s c h none = (none, refl)
 begun_knows Locks block cpu s c h none =
     locking_knows block cpu 0 (slots_of s None nothing_looked c) s h (begun Locks s c) none refl
 begun_knows Visits block cpu s c h none = tt
+begun_knows (OnSnapshots what) block cpu s c h none = tt
 
 empty_nothing : (h : HandState) → h ≡ empty_hand → HasNothing h
 empty_nothing h e = record { blocks = ap (λ (x : HandState). x.blocks) e; killed = ap (λ (x : HandState). x.killed) e }

@@ -16,14 +16,16 @@ use Rattle.nv_calls.specs.declared.looked.Looked.{Looked}
 use Rattle.nv_base.specs.declared.numbers.Handle.{Handle}
 use Rattle.nv_entry.specs.declared.node.NodeCopy.{NodeCopy}
 use Rattle.nv_machine.specs.Kept.{AreClosed, HasNothing, IsInFile, IsPlanFor, Knows}
-use Rattle.nv_machine.specs.Kinds.{again_turn, back_turn, blocks_turn, check_ending, check_turn, end_turn, enter_turn, give_turn, grown, lock_turn, look_turn, number_turn, over_turn, pages_turn, ready_turn, rest_turn, take_blocks_turn, unlocked_turn, visit_turn, wants_blocks, wants_pages}
+use Rattle.nv_machine.specs.Kinds.{again_turn, back_turn, blocks_turn, check_ending, check_turn, end_turn, enter_turn, give_turn, grown, lock_turn, look_turn, number_turn, over_turn, pages_turn, ready_turn, rest_turn, take_blocks_turn, unlocked_turn, visit_turn, wants_blocks, wants_pages, drained_turn, last_turn}
 use Rattle.nv_calls.proofs.FillPages.{filled_numbers}
 use Rattle.nv_calls.specs.FillPages.{fresh_pages}
 use Rattle.nv_machine.specs.Reads.{copies, plan_by, slots_of, taken_by}
 use Rattle.nv_machine.specs.Sequence.{directories, locking}
-use Rattle.nv_machine.specs.World.{Answers, Ending, Ends, HandState, Lock, Look, Check, Moves, Overtaken, Refuses, Running, Shared, Turn, Waits, go_to, list_at}
+use Rattle.nv_machine.specs.World.{Answers, Ending, Ends, HandState, Lock, Look, Check, Moves, Overtaken, Refuses, Running, Shared, Turn, Waits, go_to, list_at, Drains, Snapshots, SnapshotStep, Next, Unlock, Give, Back}
 use Rattle.nv_machine.proofs.CommitKept.{knows_appending}
 use Rattle.nv_machine.proofs.Planned.{length_numbers, plan_fits, runs_are, small_numbers}
+use Rattle.nv_machine.specs.Snapshots.{snapshot_turn}
+use Rattle.nv_machine.proofs.SnapshotTurns.{is_fair, is_quiet, snapshot_any}
 
 abbrev pub OnKnows : ℕ → ℕ → Turn → Type 0
 OnKnows block cpu (Moves t h q) = Knows q.next block t cpu h q
@@ -34,6 +36,7 @@ abbrev is_overtaken : Ending → Bool
 is_overtaken Answers = false
 is_overtaken (Refuses fault) = false
 is_overtaken Overtaken = true
+is_overtaken (Drains draining) = false
 
 pub not_overtaken : (e : Ending) → e ≡ Answers → e ≡ Overtaken → ⊥
 not_overtaken e a o = false≢true (ap is_overtaken (sym a ∙ o))
@@ -44,10 +47,19 @@ refused fault e = false≢true (ap is_overtaken e)
 module _ (block cpu : ℕ) where
   -- ---- the last steps
 
+  last_knows : (e : Ending) (s : Shared) (h : HandState) (r : Running) → OnKnows block cpu (last_turn e s h r)
+  last_knows Answers s h r = tt
+  last_knows (Refuses fault) s h r = tt
+  last_knows Overtaken s h r = tt
+  last_knows (Drains draining) s h r = go draining.left where
+    go : (left : ℕ) → OnKnows block cpu (drained_turn left draining.released s h r)
+    go zero = tt
+    go (suc left) = tt
+
   rest_knows : (home number : Option ℕ) (s : Shared) (h : HandState) (r : Running) → OnKnows block cpu (rest_turn home number s h r)
   rest_knows (Some home) number s h r = tt
   rest_knows None (Some ino) s h r = tt
-  rest_knows None None s h r = tt
+  rest_knows None None s h r = last_knows r.ending s h r
 
   again_knows : (rounds : ℕ) (s : Shared) (h : HandState) (r : Running) → HasNothing h → OnKnows block cpu (again_turn rounds s h r)
   again_knows zero s h r none = tt
@@ -58,6 +70,7 @@ module _ (block cpu : ℕ) where
   over_knows Answers s h r none = rest_knows _ h.ino s h r
   over_knows (Refuses fault) s h r none = rest_knows _ h.ino s h r
   over_knows Overtaken s h r none = again_knows r.rounds s h r (none refl)
+  over_knows (Drains draining) s h r none = rest_knows _ h.ino s h r
 
   pub end_knows : (slots : List ℕ) (e : Ending) (s : Shared) (h : HandState) (r : Running) → (e ≡ Overtaken → HasNothing h)
       → OnKnows block cpu (end_turn slots e s h r)
@@ -183,14 +196,31 @@ module _ (block cpu : ℕ) where
   give_knows home s h r = rest_knows _ h.ino _ _ r
 
   pub back_knows : (number : Option ℕ) (s : Shared) (h : HandState) (r : Running) → OnKnows block cpu (back_turn number s h r)
-  back_knows None s h r = tt
-  back_knows (Some ino) s h r = tt
+  back_knows None s h r = last_knows r.ending s h r
+  back_knows (Some ino) s h r = last_knows r.ending _ _ r
 
   pub visit_knows : (owner : Option ℕ) (tests : Tests) (granted : Bool) (found : Answer) (s : Shared) (h : HandState) (r : Running)
       → OnKnows block cpu (visit_turn owner tests granted found s h r)
   visit_knows (Some other) tests granted found s h r = tt
   visit_knows None (Err fault) granted found s h r = refuse_knows fault s h r
   visit_knows None (Ok passed) granted found s h r = grown_knows granted _ s h r tt
+
+-- a call on snapshots knows nothing
+quiet_knows : (block cpu : ℕ) (next : Next) (t : Shared) (h : HandState) (q : Running) → is_quiet next ≡ true
+    → is_fair next q.ending ≡ true → Knows next block t cpu h q
+quiet_knows block cpu (Snapshots step) t h q e fair = tt
+quiet_knows block cpu (Unlock place) t h q e fair = λ is. absurd (unfair q.ending is fair) where
+  unfair : (ending : Ending) → ending ≡ Overtaken → is_fair (Unlock place) ending ≡ true → ⊥
+  unfair ending is e = false≢true (sym (ap (is_fair (Unlock place)) is) ∙ e)
+quiet_knows block cpu (Give home) t h q e fair = tt
+quiet_knows block cpu Back t h q e fair = tt
+quiet_knows block cpu other t h q e fair = cc
+
+pub snapshot_knows : (block cpu : ℕ) (step : SnapshotStep) (actor : ℕ) (granted : Bool) (s : Shared) (h : HandState) (r : Running)
+    → OnKnows block cpu (snapshot_turn step actor granted s h r)
+snapshot_knows block cpu step actor granted s h r =
+    snapshot_any (OnKnows block cpu) tt (λ result s h. tt) (λ s h q is fair. quiet_knows block cpu q.next s h q is fair)
+    step actor granted s h r
 
 -- ---- a call that passes its check
 
@@ -213,6 +243,7 @@ wanted_in_file block nodes present (call.Mode handle mode) some h = tt
 wanted_in_file block nodes present (call.Stat handle) some h = tt
 wanted_in_file block nodes present (call.List dir) some h = tt
 wanted_in_file block nodes present (call.Lookup dir name) some h = tt
+wanted_in_file block nodes present (call.Snapshots what) some h = tt
 wanted_in_file block nodes present (call.Unlink dir name) some h = tt
 wanted_in_file block nodes present (call.Rmdir dir name) some h = tt
 wanted_in_file block nodes present (call.Rename from old to new) some h = tt

@@ -1,12 +1,14 @@
 -- Lists of slots, and parts of them.
-use Rattle.std.proofs.Common.{◌≡◌, ℕ, zero, suc, ◌+◌, ◌<◌, ◌≤◌, ◌==◌, ◌++◌, ◌∙◌, Bool, true, false, List, [], ◌∷◌, add-one, ap, arith, drop, drop-cons, get_or, if◌then◌else◌, length, nat_lt, refl, sym, take, filter}
+use Rattle.std.proofs.Common.{◌≡◌, ℕ, zero, suc, ◌+◌, ◌<◌, ◌≤◌, ◌==◌, ◌++◌, ◌∙◌, Bool, true, false, List, [], ◌∷◌, add-one, ap, arith, drop, drop-cons, get_or, if◌then◌else◌, length, nat_lt, refl, subst, sym, take, filter}
 use Rattle.std.specs.Prelude.{◌||◌}
 use Rattle.std.proofs.lemmas.Bool.{eqb-false, eqb-true, ltb-false, ltb-true}
 use Rattle.std.proofs.lemmas.List.Folds.{list_any-append}
 use Rattle.std.specs.List.{AllByRecursion}
 use Rattle.nv_alloc.specs.Numbers.{IsRising, has}
 use Rattle.nv_machine.specs.Locks.{AreSlots}
-use Rattle.nv_machine.specs.Reads.{slot_at, slots_in, with_slot}
+use Rattle.nv_machine.specs.Reads.{is_written, slot_at, slots_in, with_slot, written_slots}
+use Rattle.nv_machine.specs.World.{Running}
+use Rattle.nv_machine.proofs.EachOf.{all_filter}
 
 -- ---- one more of a list
 
@@ -157,16 +159,23 @@ has_later zero xs n h = h
 has_later (suc p) [] n h = h
 has_later (suc p) (x ∷ xs) n h = or_right (x == n) (has xs n) (has_later p xs n h)
 
-all_filter : (P : ℕ → Type 0) (f : ℕ → Bool) (xs : List ℕ) → AllByRecursion P xs → AllByRecursion P (filter f xs)
-all_filter P f [] h = tt
-all_filter P f (x ∷ xs) h = go (f x) (all_filter P f xs h.1) where
-  go : (b : Bool) → AllByRecursion P (filter f xs) → AllByRecursion P (if b then x ∷ filter f xs else filter f xs)
-  go true more = (h.0, more)
-  go false more = more
-
 pub rising_filter : (f : ℕ → Bool) (xs : List ℕ) → IsRising xs → IsRising (filter f xs)
 rising_filter f [] h = tt
 rising_filter f (x ∷ xs) h = go (f x) (rising_filter f xs h.1) where
   go : (b : Bool) → IsRising (filter f xs) → IsRising (if b then x ∷ filter f xs else filter f xs)
   go true more = (all_filter (λ n. x < n) f xs h.0, more)
   go false more = more
+
+-- ---- slots that are written
+
+pub all_has : (P : ℕ → Type 0) (xs : List ℕ) (n : ℕ) → AllByRecursion P xs → has xs n ≡ true → P n
+all_has P [] n all h = cc
+all_has P (x ∷ xs) n all h = go (x == n) refl (λ k. all_has P xs n all.1 k) h where
+  go : (b : Bool) → (x == n) ≡ b → (has xs n ≡ true → P n) → (b || has xs n) ≡ true → P n
+  go true e more k = subst P (eqb-true x n e) all.0
+  go false e more k = more k
+
+pub written_inside : (many : ℕ) (r : Running) (place : ℕ) → AreSlots many r.slots → place < length (written_slots r)
+    → slot_at (written_slots r) place < many
+written_inside many r place are lt = all_has (λ n. n < many) r.slots (slot_at (written_slots r) place) are.inside
+    (has_filter (is_written r.plan) r.slots (slot_at (written_slots r) place) (has_at (written_slots r) place lt))

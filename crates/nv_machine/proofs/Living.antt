@@ -4,7 +4,8 @@ use Rattle.std.specs.Prelude.{slice_set}
 use Rattle.std.proofs.lemmas.Bool.{false≢true, ltb-true, true≢false}
 use Rattle.nv_alloc.specs.Numbers.{has}
 use Rattle.nv_base.specs.declared.numbers.Handle.{Handle}
-use Rattle.nv_calls.specs.Retiring.{is_erased}
+use Rattle.nv_book.specs.declared.record.Record.{Record}
+use Rattle.nv_calls.specs.Retiring.{is_erased, released}
 use Rattle.nv_calls.specs.declared.call.Call.{Call}
 use Rattle.nv_calls.proofs.Retires.{chain_stays, generation_stays}
 use Rattle.nv_cell.specs.Cell.{CellState, empty_cell, published}
@@ -20,16 +21,17 @@ use Rattle.nv_machine.specs.Reached.{IsReached}
 use Rattle.nv_machine.specs.Reads.{pages_needed, slot_at, written_slots}
 use Rattle.nv_machine.specs.Settled.{settled, settled_tail}
 use Rattle.nv_machine.specs.Step.{after, go_step, kind_turn, start_step, step, turn, turned}
-use Rattle.nv_machine.specs.World.{Append, Back, Check, Close, Ends, Enter, Event, Give, Go, HandState, Leave, Lock, Look, Moves, Next, Number, Open, Publish, Ready, Retire, Running, Shared, Start, TakeBlocks, TakePages, Turn, Unlock, Visit, Waits, World, actor_at, cell_at}
+use Rattle.nv_machine.specs.World.{Append, Back, Check, Close, Draining, Drop, Ends, Enter, Event, Give, Go, HandState, Leave, Lock, LockPicked, Look, Make, Moves, Next, Number, Open, Pick, Pin, Publish, Ready, Release, Retire, Running, Shared, Show, SnapshotStep, Snapshots, Start, TakeBlocks, TakePages, Turn, Unlock, Unpin, Visit, Waits, World, actor_at, cell_at}
 use Rattle.nv_machine.proofs.FitsCells.{append_logs, append_wider, publish_logs, wider_cells}
+use Rattle.nv_machine.proofs.Lists.{written_inside}
 use Rattle.nv_machine.proofs.FitsEvents.{commits_if}
-use Rattle.nv_machine.proofs.GrownRuns.{point_shared}
+use Rattle.nv_machine.proofs.GrownTurns.{point_shared}
 use Rattle.nv_machine.proofs.Journals.{closed_tail, open_same}
 use Rattle.nv_machine.proofs.Kept.{AfterTurn, back_deed, deed, number_deed, turn_keeps}
 use Rattle.nv_machine.proofs.KeptRuns.{standing}
 use Rattle.nv_machine.proofs.KeptTurns.{Standing}
 use Rattle.nv_machine.proofs.LogsKept.{cell_set}
-use Rattle.nv_machine.proofs.Written.{written_inside, written_there}
+use Rattle.nv_machine.proofs.Written.{written_there}
 
 -- ---- used handles
 
@@ -150,6 +152,25 @@ module _ (block a : ℕ) (s : Shared) (h : HandState) (r : Running) where
       (chain_stays (ids s.book.snaps) slot r.epoch (first_killed h.killed) (cell_at s slot))
       (generation_stays (ids s.book.snaps) slot r.epoch (first_killed h.killed) (cell_at s slot)) (is_erased old) ino
 
+  -- what a drain releases leaves its log, or its slot is erased
+  release_lives : (draining : Draining) (picked : Record) → Standing (Snapshots (Release draining picked)) block a s h r
+      → LivesOn s (deed (Snapshots (Release draining picked)) block a s h r).shared
+  release_lives draining picked st ino =
+      let old = released picked (cell_at s picked.ino) in
+      let slots = rw st.before.inside at (inside (Snapshots (Release draining picked)) st).inside in
+      retired_lives picked.ino slots.0 old refl refl (is_erased old) ino
+
+  snapshot_lives : (what : SnapshotStep) → Standing (Snapshots what) block a s h r
+      → LivesOn s (deed (Snapshots what) block a s h r).shared
+  snapshot_lives Make st = same_lives s
+  snapshot_lives (Drop snapshot) st = same_lives s
+  snapshot_lives (Pin snapshot) st = same_lives s
+  snapshot_lives (Show snapshot showing) st = same_lives s
+  snapshot_lives (Unpin snapshot seen) st = same_lives s
+  snapshot_lives (Pick draining) st = same_lives s
+  snapshot_lives (LockPicked draining picked) st = same_lives s
+  snapshot_lives (Release draining picked) st = release_lives draining picked st
+
   many_published : (b : Bool) → keeps_nodes (if b then Nothing else Commits) ≡ true → b ≡ true
   many_published true e = refl
   many_published false e = cc
@@ -174,6 +195,7 @@ module _ (block a : ℕ) (s : Shared) (h : HandState) (r : Running) where
   deed_lives (Give home) granted st keeps = same_lives s
   deed_lives Back granted st keeps = back_lives h.ino s h
   deed_lives Visit granted st keeps = same_lives s
+  deed_lives (Snapshots what) granted st keeps = snapshot_lives what st
 
 -- ---- events
 

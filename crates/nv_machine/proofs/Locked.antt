@@ -1,21 +1,27 @@
 -- Each actor holds exactly the locks of its call, and waits for another's alone.
-use Rattle.std.proofs.Common.{◌≡◌, ℕ, zero, suc, ◌+◌, ◌<◌, ◌==◌, ◌∙◌, Bool, true, false, List, [], ◌∷◌, Option, Some, None, ap, drop, length, nat_lt, refl, subst, sym}
+use Rattle.std.proofs.Common.{◌≡◌, ℕ, zero, suc, ◌+◌, ◌<◌, ◌==◌, ◌∙◌, Bool, true, false, List, [], ◌∷◌, Option, Some, None, ap, arith, drop, length, nat_lt, refl, subst, sym}
 use Rattle.std.proofs.lemmas.Option.{none-some}
-use Rattle.std.specs.Prelude.{unwrap_or, ◌||◌, Ok, Err, slice_index_or}
+use Rattle.std.specs.Prelude.{◌||◌, unwrap_or, Ok, Err, slice_index_or, not}
 use Rattle.std.proofs.lemmas.Bool.{eqb-false, eqb-true, false≢true, ltb-false, ltb-true}
+use Rattle.std.specs.List.{AllByRecursion}
 use Rattle.nv_alloc.specs.Numbers.{has}
+use Rattle.nv_book.specs.declared.record.Record.{Record}
 use Rattle.nv_calls.specs.Refusals.{Check as Tests}
 use Rattle.nv_calls.specs.declared.answer.Answer.{Answer}
-use Rattle.nv_machine.specs.Frame.{lent}
-use Rattle.nv_machine.specs.Kinds.{back_turn, blocks_turn, check_turn, enter_turn, lock_turn, look_turn, number_turn, pages_turn, unlocked_turn, visit_turn, wants_blocks, wants_pages}
-use Rattle.nv_machine.specs.Locks.{AreSlots, HoldsIts, IsHeldByOther, IsInside, WaitsFor, commits_at, held_at, is_owner}
+use Rattle.nv_entry.specs.declared.node.NodeCopy.{NodeCopy}
+use Rattle.nv_reader.specs.Walk as walk
+use Rattle.nv_machine.specs.Frame.{lent, lent_on}
+use Rattle.nv_machine.specs.Kinds.{back_turn, blocks_turn, check_turn, enter_turn, lock_turn, look_turn, number_turn, pages_turn, unlocked_turn, visit_turn, wants_blocks, wants_pages, with_erased}
+use Rattle.nv_machine.specs.Locks.{AreSlots, HoldsIts, IsHeldByOther, IsInside, IsOfSlot, WaitsFor, WaitsOn, commits_at, held_at, is_owner}
 use Rattle.nv_calls.specs.declared.looked.Looked.{Looked}
 use Rattle.nv_machine.specs.Reads.{is_written, slot_at, slots_of, written_slots}
 use Rattle.nv_machine.specs.Sequence.{directories}
+use Rattle.nv_machine.specs.Snapshots.{drop_turn, if_free, lock_picked_turn, make_tests, make_turn, picked_turn, pin_turn, show_or_unpin, show_turn, snapshot_turn, visited, first_showing, seen_on, one_more, with_released, is_first}
 use Rattle.nv_machine.specs.Step.{ending_at, kind_turn, with_made}
-use Rattle.nv_machine.specs.World.{Append, Back, Check, Close, Ending, Ends, Enter, Give, HandState, Leave, Lock, Look, Next, Number, Open, Publish, Ready, Refuses, Retire, Running, Shared, TakeBlocks, TakePages, Unlock, Visit, go_to, owner_at, with_owner}
+use Rattle.nv_machine.specs.World.{Append, Back, Check, Close, Draining, Drop, Ending, Ends, Enter, Give, HandState, Leave, Lock, LockPicked, Look, Make, Next, Number, Open, Pick, Pin, Publish, Ready, Refuses, Release, Retire, Running, Shared, Show, Showing, SnapshotStep, Snapshots, TakeBlocks, TakePages, Turn, Unlock, Unpin, Visit, go_to, owner_at, with_owner, Drains, cell_at, with_cell}
 use Rattle.nv_machine.proofs.Lists.{drop_all, has_at, has_drop, has_filter, self, slot_inside, slots_are, take_apart}
-use Rattle.nv_machine.proofs.Holding.{Holds, LocksLeft, OnLocks, apart, appending_holds, end_locks, grown_locks, holds_as, idle_as, locked_holds, locked_left, locking_holds, look_here, others_not, over_locks, publishing_holds, rest_locks, retiring_holds, same_locks, unlocked_holds, unlocked_left}
+use Rattle.nv_machine.proofs.Holding.{Holds, LocksLeft, OnLocks, apart, appending_holds, end_locks, grown_locks, holds_as, idle_as, last_locks, locked_holds, locked_left, locking_holds, look_here, others_not, over_locks, publishing_holds, rest_locks, retiring_holds, same_locks, unlocked_holds, unlocked_left}
+use Rattle.nv_calls.specs.Retiring.{erased, released}
 
 -- ---- the kinds
 
@@ -25,6 +31,7 @@ pub record Before (a : ℕ) (s : Shared) (k : Next) (r : Running) : Type 0 where
   pub are : AreSlots (length s.owners) r.slots
   pub inside : IsInside k r
   pub wide : length s.owners ≡ length s.cells
+  pub deferred : AllByRecursion (IsOfSlot (length s.owners)) s.book.deferred
 
 pub new_slots : (s : Shared) (number : Option ℕ) (looked : Looked) (r : Running) → length s.owners ≡ length s.cells
     → AreSlots (length s.owners) (slots_of s number looked r.call)
@@ -149,11 +156,10 @@ unlock_locks a false place s t h r e left mine are =
 
 back_locks : (a : ℕ) (number : Option ℕ) (s : Shared) (h : HandState) (r : Running) → Before a s Back r
     → OnLocks a s ⊥ (back_turn number s h r)
-back_locks a None s h r b = (same_locks a s, idle_as s a b.mine)
-back_locks a (Some ino) s h r b = (
-  record { owners = λ o ne n. refl; holder = λ o ne. refl; wide = refl },
-  idle_as _ a (record { owners = b.mine.owners; holder = b.mine.holder }),
-)
+back_locks a None s h r b = last_locks a s s _ r.ending h r (same_locks a s) b.mine
+back_locks a (Some ino) s h r b =
+    last_locks a s _ _ r.ending _ r (record { owners = λ o ne n. refl; holder = λ o ne. refl; wide = refl })
+    (record { owners = b.mine.owners; holder = b.mine.holder })
 
 visit_locks : (a : ℕ) (owner : Option ℕ) (slot : ℕ) (tests : Tests) (granted : Bool) (found : Answer) (s : Shared)
     (h : HandState) (r : Running) → owner_at s slot ≡ owner → Before a s Visit r
@@ -173,6 +179,111 @@ as_before a s t e f = record {
   holder = λ b ne. ap (is_owner b) f;
   wide = ap (λ (l : List (Option ℕ)). length l) e;
 }
+
+-- ---- the kinds of calls on snapshots
+
+-- a call without slots, before its step
+none_held : (s : Shared) (a : ℕ) (r : Running) → r.slots ≡ [] → Holds s a [] false → Holds s a r.slots false
+none_held s a r none mine = subst (λ (l : List ℕ). Holds s a l false) (sym none) mine
+
+free_locks : (a : ℕ) (holder : Option ℕ) (s : Shared) (turn : Turn) → s.holder ≡ holder → is_owner a s.holder ≡ false
+    → OnLocks a s (IsHeldByOther a s.holder) turn → OnLocks a s (IsHeldByOther a s.holder) (if_free holder turn)
+free_locks a (Some other) s turn e own on = not_mine a s.holder other e own
+free_locks a None s turn e own on = on
+
+make_locks : (a : ℕ) (w : Type 0) (tests : Tests) (s : Shared) (h : HandState) (r : Running) → r.slots ≡ []
+    → Holds s a [] false → AreSlots (length s.owners) r.slots
+    → OnLocks a s w (make_turn tests s h r)
+make_locks a w (Err fault) s h r none mine are =
+    end_locks a s s w r.slots _ h r refl (same_locks a s) (none_held s a r none mine) are
+make_locks a w (Ok passed) s h r none mine are =
+    (as_before a s _ refl refl, idle_as _ a (record { owners = mine.owners; holder = mine.holder }))
+
+drop_locks : (a : ℕ) (w : Type 0) (snapshot : ℕ) (tests : Tests) (s : Shared) (h : HandState) (r : Running) → r.slots ≡ []
+    → Holds s a [] false → AreSlots (length s.owners) r.slots
+    → OnLocks a s w (drop_turn snapshot tests s h r)
+drop_locks a w snapshot (Err fault) s h r none mine are =
+    end_locks a s s w r.slots _ h r refl (same_locks a s) (none_held s a r none mine) are
+drop_locks a w snapshot (Ok passed) s h r none mine are =
+    (as_before a s _ refl refl, idle_as _ a (record { owners = mine.owners; holder = mine.holder }))
+
+-- the next step of a show holds nothing
+showing_locks : (a : ℕ) (s : Shared) (snapshot left : ℕ) (visits : List walk.Visit) (showing : Showing) (r : Running) → r.slots ≡ []
+    → Holds s a [] false → AreSlots (length s.owners) r.slots
+    → HoldsIts s a (Some (go_to (Snapshots (show_or_unpin left visits snapshot showing)) r))
+showing_locks a s snapshot zero visits showing r none mine are = holds_as s a _ [] false mine refl refl are none
+showing_locks a s snapshot (suc left) [] showing r none mine are = holds_as s a _ [] false mine refl refl are none
+showing_locks a s snapshot (suc left) (visit ∷ visits) showing r none mine are = holds_as s a _ [] false mine refl refl are none
+
+pin_locks : (a : ℕ) (w : Type 0) (snapshot : ℕ) (pins : Option ℕ) (s : Shared) (h : HandState) (r : Running) → r.slots ≡ []
+    → Holds s a [] false → AreSlots (length s.owners) r.slots
+    → OnLocks a s w (pin_turn snapshot pins s h r)
+pin_locks a w snapshot None s h r none mine are =
+    end_locks a s s w r.slots _ h r refl (same_locks a s) (none_held s a r none mine) are
+pin_locks a w snapshot (Some pins) s h r none mine are = (
+  as_before a s _ refl refl,
+  showing_locks a _ snapshot (first_showing s).left (first_showing s).visits (first_showing s) r none
+      (record { owners = mine.owners; holder = mine.holder }) are,
+)
+
+show_locks : (a : ℕ) (owner : Option ℕ) (granted : Bool) (found : Option NodeCopy) (slot snapshot : ℕ) (showing : Showing) (s : Shared)
+    (h : HandState) (r : Running) → owner_at s slot ≡ owner → r.slots ≡ [] → Holds s a [] false → AreSlots (length s.owners) r.slots
+    → OnLocks a s (IsHeldByOther a (owner_at s slot)) (show_turn owner granted found snapshot showing s h r)
+show_locks a (Some other) granted found slot snapshot showing s h r e none mine are =
+    not_mine a (owner_at s slot) other e (mine.owners slot)
+show_locks a None true found slot snapshot showing s h r e none mine are = (
+  same_locks a s,
+  showing_locks a s snapshot (seen_on found showing).left (seen_on found showing).visits (seen_on found showing) r none mine are,
+)
+show_locks a None false found slot snapshot showing s h r e none mine are =
+    (same_locks a s, holds_as s a _ [] false mine refl refl are none)
+
+picked_locks : (a : ℕ) (w : Type 0) (deferred : List Record) (draining : Draining) (s : Shared) (h : HandState) (r : Running)
+    → AllByRecursion (IsOfSlot (length s.owners)) deferred → Holds s a [] false
+    → OnLocks a s w (picked_turn deferred draining s h r)
+picked_locks a w [] draining s h r are mine = (same_locks a s, idle_as s a mine)
+picked_locks a w (picked ∷ deferred) draining s h r are mine = (
+  as_before a s _ refl refl,
+  holds_as _ a _ [] false (record { owners = mine.owners; holder = mine.holder }) refl refl
+      (record { rising = (tt, tt); inside = (are.0, tt) }) refl,
+)
+
+lock_picked_locks : (a : ℕ) (owner : Option ℕ) (draining : Draining) (picked : Record) (s : Shared) (h : HandState) (r : Running)
+    → owner_at s picked.ino ≡ owner → Before a s (Snapshots (LockPicked draining picked)) r
+    → OnLocks a s (IsHeldByOther a (owner_at s picked.ino)) (lock_picked_turn owner a draining picked s h r)
+lock_picked_locks a (Some other) draining picked s h r e b = not_mine a (owner_at s picked.ino) other e (b.mine.owners picked.ino)
+lock_picked_locks a None draining picked s h r e b =
+    let in-range = (subst (λ (l : List ℕ). AreSlots (length s.owners) l) b.inside b.are).inside.0 in
+    let left = locked_left a s picked.ino in-range e in
+    let now = locked_holds a s 0 (picked.ino ∷ []) (omega arith) in-range b.mine in (
+      left,
+      holds_as _ a _ r.slots false (subst (λ (l : List ℕ). Holds (with_owner picked.ino (Some a) s) a l false) (sym b.inside) now)
+          refl refl (subst (λ (n : ℕ). AreSlots n r.slots) (sym left.wide) b.are) b.inside,
+    )
+
+snapshot_locks : (step : SnapshotStep) (a : ℕ) (granted : Bool) (s : Shared) (h : HandState) (r : Running)
+    → Before a s (Snapshots step) r → OnLocks a s (WaitsOn s a step) (snapshot_turn step a granted s h r)
+snapshot_locks Make a granted s h r b =
+    free_locks a s.holder s _ refl b.mine.holder (make_locks a _ (make_tests s.book.snaps) s h r b.inside b.mine b.are)
+snapshot_locks (Drop snapshot) a granted s h r b =
+    free_locks a s.holder s _ refl b.mine.holder (drop_locks a _ snapshot _ s h r b.inside b.mine b.are)
+snapshot_locks (Pin snapshot) a granted s h r b =
+    free_locks a s.holder s _ refl b.mine.holder (pin_locks a _ snapshot _ s h r b.inside b.mine b.are)
+snapshot_locks (Show snapshot showing) a granted s h r b =
+    show_locks a _ granted _ (visited showing.visits).ino snapshot showing s h r refl b.inside b.mine b.are
+snapshot_locks (Unpin snapshot seen) a granted s h r b =
+    free_locks a s.holder s _ refl b.mine.holder
+    (as_before a s _ refl refl, idle_as _ a (record { owners = b.mine.owners; holder = b.mine.holder }))
+snapshot_locks (Pick draining) a granted s h r b =
+    free_locks a s.holder s _ refl b.mine.holder
+    (grown_locks a s s (IsHeldByOther a s.holder) (granted || not (is_first draining)) (picked_turn s.book.deferred draining s h r) h r
+    (same_locks a s) (none_held s a r b.inside b.mine) b.are
+    (picked_locks a _ s.book.deferred draining s h r b.deferred b.mine))
+snapshot_locks (LockPicked draining picked) a granted s h r b = lock_picked_locks a _ draining picked s h r refl b
+snapshot_locks (Release draining picked) a granted s h r b =
+    end_locks a s (with_cell picked.ino (erased (released picked (cell_at s picked.ino))) s) ⊥ r.slots (Drains (one_more draining))
+    (with_erased picked.ino (released picked (cell_at s picked.ino)) (with_released picked s h)) r refl (as_before a s _ refl refl)
+    (record { owners = b.mine.owners; holder = b.mine.holder }) b.are
 
 pub locks_kept : (k : Next) (block a : ℕ) (granted : Bool) (s : Shared) (h : HandState) (r : Running) → Before a s k r
     → OnLocks a s (WaitsFor s a r k) (kind_turn k block a granted s h r)
@@ -210,6 +321,7 @@ locks_kept (Give cpu) block a granted s h r b = rest_locks a s _ _ _ h.ino _ r (
     (record { owners = b.mine.owners; holder = b.mine.holder }) b.are
 locks_kept Back block a granted s h r b = back_locks a h.ino s h r b
 locks_kept Visit block a granted s h r b = visit_locks a _ _ _ _ _ s h r refl b
+locks_kept (Snapshots step) block a granted s h r b = snapshot_locks step a granted s h r b
 
 -- ---- what a step is lent is its actor's
 
@@ -230,6 +342,23 @@ slot_owned a s r ino mine there = owner_is a (owner_at s ino) (mine.owners ino �
 
 some_cell : (a n ino : ℕ) (s : Shared) → owner_at s n ≡ Some a → Some n ≡ Some ino → owner_at s ino ≡ Some a
 some_cell a n ino s own e = subst (λ (m : ℕ). owner_at s m ≡ Some a) (ap (λ (o : Option ℕ). unwrap_or o 0) e) own
+
+self_or : (n : ℕ) → has (n ∷ []) n ≡ true
+self_or n = ap (λ (b : Bool). b || false) (self n)
+
+-- the slot of a picked record
+lent_on_cell : (step : SnapshotStep) (a : ℕ) (s : Shared) (r : Running) → Before a s (Snapshots step) r → (ino : ℕ)
+    → (lent_on step).cell ≡ Some ino → owner_at s ino ≡ Some a
+lent_on_cell Make a s r b ino e = absurd (none-some ino e)
+lent_on_cell (Drop snapshot) a s r b ino e = absurd (none-some ino e)
+lent_on_cell (Pin snapshot) a s r b ino e = absurd (none-some ino e)
+lent_on_cell (Show snapshot showing) a s r b ino e = absurd (none-some ino e)
+lent_on_cell (Unpin snapshot seen) a s r b ino e = absurd (none-some ino e)
+lent_on_cell (Pick draining) a s r b ino e = absurd (none-some ino e)
+lent_on_cell (LockPicked draining picked) a s r b ino e = absurd (none-some ino e)
+lent_on_cell (Release draining picked) a s r b ino e = some_cell a picked.ino ino s
+    (owner_is a (owner_at s picked.ino)
+    (b.mine.owners picked.ino ∙ ap (λ (l : List ℕ). has l picked.ino) b.inside ∙ self_or picked.ino)) e
 
 pub lent_cell : (k : Next) (cpus a : ℕ) (s : Shared) (r : Running) → Before a s k r → (ino : ℕ)
     → (lent k cpus a r).cell ≡ Some ino → owner_at s ino ≡ Some a
@@ -254,6 +383,7 @@ lent_cell (Unlock place) cpus a s r b ino e = absurd (none-some ino e)
 lent_cell (Give cpu) cpus a s r b ino e = absurd (none-some ino e)
 lent_cell Back cpus a s r b ino e = absurd (none-some ino e)
 lent_cell Visit cpus a s r b ino e = absurd (none-some ino e)
+lent_cell (Snapshots step) cpus a s r b ino e = lent_on_cell step a s r b ino e
 
 pub lent_holder : (k : Next) (a : ℕ) (s : Shared) (r : Running) → Before a s k r → commits_at k ≡ true → s.holder ≡ Some a
 lent_holder k a s r b e = owner_is a s.holder (b.mine.holder ∙ e)

@@ -4,18 +4,22 @@ use Rattle.std.specs.Prelude.{Ok, Err, slice_index_or}
 use Rattle.std.proofs.lemmas.Bool.{eqb-false, eqb-true, lt-ltb, ltb-true, true≢false}
 use Rattle.nv_base.specs.Limits.{IsWithinLimits}
 use Rattle.nv_base.specs.declared.geometry.GeometryNumbers.{GeometryNumbers}
+use Rattle.nv_book.specs.Book.{BookState}
 use Rattle.nv_calls.specs.declared.call.Call.{Call}
+use Rattle.nv_calls.specs.declared.snapshot_call.SnapshotCall.TheVariants as on
 use Rattle.nv_cell.specs.Cell.{empty_cell}
 use Rattle.nv_machine.specs.Format.{formatted}
 use Rattle.nv_machine.specs.Frame.{lent}
-use Rattle.nv_machine.specs.Locks.{AreLocks, AreSlots, HasSlots, HasLent, HoldsIts, WaitsFor, is_owner}
-use Rattle.nv_machine.specs.Sequence.{Beginning, Looks, Locks, Numbers, Visits, beginning, begun, nothing_looked, started}
+use Rattle.nv_machine.specs.Locks.{AllRecords, AreLocks, AreSlots, HasSlots, HasLent, HoldsIts, IsInside, IsOfSlot, WaitsFor, held_on, is_owner, slots_on}
+use Rattle.nv_machine.specs.Sequence.{Beginning, Looks, Locks, Numbers, OnSnapshots, Visits, beginning, begun, new_draining, nothing_looked, started}
 use Rattle.nv_machine.specs.Step.{Step, after, go_step, start_step, step, turn, turned}
-use Rattle.nv_machine.specs.Reads.{slots_of}
-use Rattle.nv_machine.specs.World.{Actor, Check, Ends, Event, Go, Moves, Reply, Running, Shared, Start, Turn, Waiting, Waits, World, actor_at, idle}
+use Rattle.nv_machine.specs.Reads.{slots_of, written_slots}
+use Rattle.nv_machine.specs.World.{Actor, Check, Drop, Ends, Event, Go, Make, Moves, Next, Pick, Pin, Reply, Retire, Running, Shared, SnapshotStep, Snapshots, Start, Turn, Waiting, Waits, World, actor_at, idle}
+use Rattle.nv_machine.proofs.BookRecords.{OnRecords, records_all}
 use Rattle.nv_machine.proofs.Events.{go_is_turn, turned_frame}
 use Rattle.nv_machine.proofs.Framed.{framed}
 use Rattle.nv_machine.proofs.Holding.{Holds, LocksLeft, OnLocks, holds_as, locking_holds, same_locks}
+use Rattle.nv_machine.proofs.Lists.{written_inside}
 use Rattle.nv_machine.proofs.Locked.{Before, lent_cell, lent_holder, locks_kept, new_slots}
 
 -- ---- replies
@@ -33,7 +37,13 @@ pub before : (w : World) (actor : ℕ) (r : Running) → AreLocks w → (actor_a
 before w actor r locks is =
     let own : HoldsIts w.shared actor (Some r) = subst (λ (running : Option Running). HoldsIts w.shared actor running) is
     (locks.each actor) in
-    record { mine = record { owners = own.owners; holder = own.holder }; are = own.slots.0; inside = own.slots.1; wide = locks.wide }
+    record {
+      mine = record { owners = own.owners; holder = own.holder };
+      are = own.slots.0;
+      inside = own.slots.1;
+      wide = locks.wide;
+      deferred = locks.records.deferred;
+    }
 
 -- ---- what others hold
 
@@ -61,17 +71,27 @@ set_each w actor x t there left own all b = go (actor == b) refl where
       (sym (get_or-set_other w.actors actor b x idle (λ is. eqb-false actor b e (sym is))))
       (theirs actor b w.shared t (actor_at w b).running left (λ is. eqb-false actor b e (sym is)) (all b))
 
+-- the records of a book where the slots are as many
+as_many : (n m : ℕ) (b : BookState) → n ≡ m → AllRecords (IsOfSlot n) b → AllRecords (IsOfSlot m) b
+as_many n m b e h = subst (λ (k : ℕ). AllRecords (IsOfSlot k) b) e h
+
 turned_locks : (t : Turn) (actor : ℕ) (w : World) (waits : Type 0) → actor < length w.actors → AreLocks w → OnLocks actor w.shared waits t
+    → OnRecords (IsOfSlot (length w.shared.owners)) t
     → length (turned t actor w).world.shared.cells ≡ length w.shared.cells → AreLocks (turned t actor w).world
-turned_locks (Moves s h r) actor w waits there locks on e = record {
+turned_locks (Moves s h r) actor w waits there locks on records e = record {
   each = set_each w actor (record { hand = h; running = Some r }) s there on.0 on.1 locks.each;
   wide = on.0.wide ∙ locks.wide ∙ sym e;
+  records = as_many (length w.shared.owners) (length s.owners) s.book (sym on.0.wide) records;
 }
-turned_locks Waits actor w waits there locks on e = locks
-turned_locks (Ends result s h) actor w waits there locks on e = record {
+turned_locks Waits actor w waits there locks on records e = locks
+turned_locks (Ends result s h) actor w waits there locks on records e = record {
   each = set_each w actor (record { hand = h; running = None }) s there on.0 on.1 locks.each;
   wide = on.0.wide ∙ locks.wide ∙ sym e;
+  records = as_many (length w.shared.owners) (length s.owners) s.book (sym on.0.wide) records;
 }
+
+retire_inside : (place : ℕ) (r : Running) → r.next ≡ Retire place → IsInside r.next r → place < length (written_slots r)
+retire_inside place r e inside = subst (λ (k : Next). IsInside k r) e inside
 
 go_locks : (b : Bool) (running : Option Running) (w : World) (actor : ℕ) (granted : Bool) → nat_lt actor (length w.actors) ≡ b
     → (actor_at w actor).running ≡ running → AreLocks w
@@ -80,13 +100,20 @@ go_locks false running w actor granted e is locks = locks
 go_locks true None w actor granted e is locks = locks
 go_locks true (Some r) w actor granted e is locks =
     let t = turn w.numbers.block actor granted w.shared (actor_at w actor).hand r in
+    let b = before w actor r locks is in
     turned_locks t actor w (WaitsFor w.shared actor r r.next) (ltb-true actor (length w.actors) e) locks
-    (locks_kept r.next w.numbers.block actor granted w.shared (actor_at w actor).hand r (before w actor r locks is))
+    (locks_kept r.next w.numbers.block actor granted w.shared (actor_at w actor).hand r b)
+    (records_all (IsOfSlot (length w.shared.owners)) r.next w.numbers.block actor granted w.shared (actor_at w actor).hand r
+    (λ place k killed. written_inside (length w.shared.owners) r place b.are (retire_inside place r k b.inside)) locks.records)
     (turned_frame (lent r.next (length w.shared.lists) actor r) t actor w
     (framed r.next w.numbers.block actor granted w.shared (actor_at w actor).hand r)).slots
 
 no_slots : (n : ℕ) → AreSlots n []
 no_slots n = record { rising = tt; inside = tt }
+
+first_holds : (step : SnapshotStep) (s : Shared) (actor : ℕ) (c : Call) → Holds s actor [] false
+    → held_on step [] ≡ [] → [] ≡ slots_on step → HoldsIts s actor (Some (started c (Snapshots step) []))
+first_holds step s actor c h e f = holds_as s actor (started c (Snapshots step) []) [] false h e refl (no_slots (length s.owners)) f
 
 begun_locks : (b : Beginning) (w : World) (actor : ℕ) (c : Call) → AreLocks w → Holds w.shared actor [] false
     → HoldsIts w.shared actor (Some (begun b w.shared c))
@@ -99,6 +126,10 @@ begun_locks Locks w actor c locks h =
     locking_holds w.shared actor 0 (started c Check slots) h (new_slots w.shared None nothing_looked (started c Check slots) locks.wide)
 begun_locks Visits w actor c locks h = holds_as w.shared actor (begun Visits w.shared c) [] false h refl refl
     (no_slots (length w.shared.owners)) refl
+begun_locks (OnSnapshots on.Snap) w actor c locks h = first_holds Make w.shared actor c h refl refl
+begun_locks (OnSnapshots (on.Drop snapshot)) w actor c locks h = first_holds (Drop snapshot) w.shared actor c h refl refl
+begun_locks (OnSnapshots (on.Show snapshot)) w actor c locks h = first_holds (Pin snapshot) w.shared actor c h refl refl
+begun_locks (OnSnapshots (on.Drain count)) w actor c locks h = first_holds (Pick (new_draining count)) w.shared actor c h refl refl
 
 start_locks : (b : Bool) (running : Option Running) (w : World) (actor : ℕ) (c : Call) → nat_lt actor (length w.actors) ≡ b
     → (actor_at w actor).running ≡ running → AreLocks w
@@ -113,6 +144,7 @@ start_locks true None w actor c e is locks =
       each = set_each w actor (record { hand = (actor_at w actor).hand; running = Some (begun (beginning c) w.shared c) })
           w.shared (ltb-true actor (length w.actors) e) (same_locks actor w.shared) own locks.each;
       wide = locks.wide;
+      records = locks.records;
     }
 
 pub event_locks : (w : World) (e : Event) → AreLocks w → AreLocks (step w e).world
@@ -150,6 +182,7 @@ new_locks g within = record {
       let cells = many_same (g.inodes - 1) (empty_cell g.block g.page 1 0) in
       let owners = many_same {X = Option ℕ} g.inodes None in
       omega (arith, some, cells, owners);
+  records = record { filed = tt; deferred = tt };
 }
 
 -- ---- who waits

@@ -11,7 +11,7 @@ use Rattle.nv_machine.specs.Effects.{AreSound, IsSoundIn}
 use Rattle.nv_machine.specs.Kept.{AreClosed, AreLogsKept, HasPages}
 use Rattle.nv_machine.specs.Locks.{is_owner}
 use Rattle.nv_machine.specs.Settled.{node_by, settled, settled_nodes, settled_tail}
-use Rattle.nv_machine.specs.World.{Shared, cell_at, no_cell, with_book, with_cell}
+use Rattle.nv_machine.specs.World.{Shared, cell_at, no_cell, with_book, with_cell, owner_at}
 
 -- ---- nodes
 
@@ -33,11 +33,11 @@ pub record SameLogs (s t : Shared) : Type 0 where
 
 -- ---- what a turn leaves
 
--- settled logs are kept, and whoever else commits finds journals and cells as they were
+-- settled logs are kept, and whoever else commits finds journals, and the cells that it holds, as they were
 pub record KeptLeft (a : ℕ) (s t : Shared) : Type 0 where
   pub logs : AreLogsKept t
   pub others : (b : ℕ) → b ≢ a → is_owner b s.holder ≡ true
-      → (t.book.journals ≡ s.book.journals) × ((ino : ℕ) → cell_at t ino ≡ cell_at s ino)
+      → (t.book.journals ≡ s.book.journals) × ((ino : ℕ) → owner_at s ino ≡ Some b → cell_at t ino ≡ cell_at s ino)
   pub cpus : length t.lists ≡ length s.lists
 
 -- cells and journals are as they were
@@ -60,7 +60,7 @@ still_left a s t k h closed = record {
     wide = ap (λ (l : List (List OldTail)). length l) h.journals ∙ k.wide ∙ sym h.cpus;
     some = rw (h.cpus) k.some;
   };
-  others = λ b ne e. (h.journals, h.cells);
+  others = λ b ne e. (h.journals, λ ino theirs. h.cells ino);
   cpus = h.cpus;
 }
 

@@ -1,7 +1,7 @@
 -- A call has a look to come only where it has names to look up.
 use Rattle.std.proofs.Common.{◌≡◌, ℕ, zero, suc, ◌+◌, ◌<◌, ◌∙◌, Bool, true, false, List, [], ◌∷◌, Option, Some, None, ap, arith, if◌then◌else◌, length, nat_lt, refl, subst, sym}
 use Rattle.std.specs.Prelude.{Ok, Err}
-use Rattle.std.proofs.lemmas.Bool.{ltb-true, true≢false}
+use Rattle.std.proofs.lemmas.Bool.{ltb-true, true≢false, false≢true}
 use Rattle.nv_base.specs.declared.fault.Fault.{Fault}
 use Rattle.nv_base.specs.declared.geometry.GeometryNumbers.{GeometryNumbers}
 use Rattle.nv_base.specs.declared.numbers.Handle.{Handle}
@@ -15,15 +15,18 @@ use Rattle.nv_calls.specs.declared.looked.Looked.{Looked}
 use Rattle.nv_entry.specs.declared.node.NodeCopy.{NodeCopy}
 use Rattle.nv_machine.specs.Answered.{IsLast}
 use Rattle.nv_machine.specs.Format.{formatted}
-use Rattle.nv_machine.specs.Kinds.{again_turn, back_turn, blocks_turn, check_turn, end_turn, enter_turn, grown, lock_turn, look_turn, number_turn, over_turn, pages_turn, rest_turn, unlocked_turn, visit_turn, wants_blocks, wants_pages}
+use Rattle.nv_machine.specs.Kinds.{again_turn, back_turn, blocks_turn, check_turn, end_turn, enter_turn, grown, lock_turn, look_turn, number_turn, over_turn, pages_turn, rest_turn, unlocked_turn, visit_turn, wants_blocks, wants_pages, drained_turn, last_turn}
 use Rattle.nv_machine.specs.Reads.{copies, slots_of, written_slots}
-use Rattle.nv_machine.specs.Sequence.{Beginning, Looks, Locks, Numbers, Visits, beginning, begun, directories, locking, looking, nothing_looked, sequel}
+use Rattle.nv_machine.specs.Sequence.{Beginning, Looks, Locks, Numbers, Visits, beginning, begun, directories, locking, looking, nothing_looked, sequel, OnSnapshots}
 use Rattle.nv_machine.specs.Step.{after, ending_at, go_step, is_numbered, kind_turn, made_in, same_looked, start_step, step, turn, turned, with_made}
-use Rattle.nv_machine.specs.World.{Actor, Answers, Append, Back, Check, Close, Ending, Ends, Enter, Event, Give, Go, HandState, Leave, Lock, Look, Moves, Next, Number, Open, Overtaken, Publish, Ready, Refuses, Retire, Running, Shared, Start, TakeBlocks, TakePages, Turn, Unlock, Visit, Waits, World, actor_at, go_to, idle}
+use Rattle.nv_machine.specs.World.{Actor, Answers, Append, Back, Check, Close, Ending, Ends, Enter, Event, Give, Go, HandState, Leave, Lock, Look, Moves, Next, Number, Open, Overtaken, Publish, Ready, Refuses, Retire, Running, Shared, Start, TakeBlocks, TakePages, Turn, Unlock, Visit, Waits, World, actor_at, go_to, idle, Drains, SnapshotStep, Snapshots}
 use Rattle.nv_machine.proofs.Answered.{appending_last, publishing_last, retiring_last}
 use Rattle.nv_machine.proofs.Caused.{CheckCause, check_told}
 use Rattle.nv_machine.proofs.Locks.{all_same}
 use Rattle.nv_machine.proofs.Numbered.{set_actor}
+use Rattle.nv_machine.specs.Snapshots.{snapshot_turn}
+use Rattle.nv_machine.proofs.SnapshotTurns.{is_quiet, snapshot_any}
+use Rattle.nv_machine.proofs.SnapshotCalls.{OnFrom, snapshot_from}
 
 -- ---- what is known of a call before a step
 
@@ -81,11 +84,22 @@ looking_in place r = go (nat_lt place (length (directories r.call))) refl where
 
 -- ---- last steps
 
+drained_looks : (k : Next) (left released : ℕ) (s : Shared) (h : HandState) (r : Running) → HasLooks k r
+    → OnLooks (drained_turn left released s h r)
+drained_looks k zero released s h r has = tt
+drained_looks k (suc left) released s h r has = record { place = λ p e. cc; nothing = has.nothing; names = λ e. cc }
+
+last_looks : (k : Next) (e : Ending) (s : Shared) (h : HandState) (r : Running) → HasLooks k r → OnLooks (last_turn e s h r)
+last_looks k Answers s h r has = tt
+last_looks k (Refuses fault) s h r has = tt
+last_looks k Overtaken s h r has = tt
+last_looks k (Drains draining) s h r has = drained_looks k draining.left draining.released s h r has
+
 rest_looks : (k : Next) (home number : Option ℕ) (s : Shared) (h : HandState) (r : Running) → HasLooks k r
     → OnLooks (rest_turn home number s h r)
 rest_looks k (Some cpu) number s h r has = moved k r (go_to (Give cpu) r) refl refl refl (λ p e. cc) has
 rest_looks k None (Some ino) s h r has = moved k r (go_to Back r) refl refl refl (λ p e. cc) has
-rest_looks k None None s h r has = tt
+rest_looks k None None s h r has = last_looks k r.ending s h r has
 
 again_looks : (k : Next) (rounds : ℕ) (s : Shared) (h : HandState) (r : Running) → HasLooks k r → r.ending ≡ Overtaken
     → OnLooks (again_turn rounds s h r)
@@ -100,6 +114,7 @@ over_looks : (k : Next) (e : Ending) (s : Shared) (h : HandState) (r : Running) 
     → OnLooks (over_turn e s h r)
 over_looks k Answers s h r is has = rest_looks k _ h.ino s h r has
 over_looks k (Refuses fault) s h r is has = rest_looks k _ h.ino s h r has
+over_looks k (Drains draining) s h r is has = rest_looks k _ h.ino s h r has
 over_looks k Overtaken s h r is has = again_looks k r.rounds s h r has is
 
 -- with another ending
@@ -177,6 +192,7 @@ alike nodes (call.Mode handle mode) before none e = absurd (not_alike before (no
 alike nodes (call.Stat handle) before none e = absurd (not_alike before (none refl) e)
 alike nodes (call.List dir) before none e = absurd (not_alike before (none refl) e)
 alike nodes (call.Lookup dir name) before none e = absurd (not_alike before (none refl) e)
+alike nodes (call.Snapshots what) before none e = absurd (not_alike before (none refl) e)
 
 overtaken_names : (block : ℕ) (s : Shared) (h : HandState) (r : Running) → HasLooks Check r → ending_at block s h r ≡ Some Overtaken
     → 0 < length (directories r.call)
@@ -222,15 +238,36 @@ unlocked_looks : (k : Next) (more : Bool) (place : ℕ) (s : Shared) (h : HandSt
 unlocked_looks k true place s h r has = moved k r _ refl refl refl (λ p e. cc) has
 unlocked_looks k false place s h r has = over_looks k r.ending s h r refl has
 
-back_looks : (number : Option ℕ) (s : Shared) (h : HandState) (r : Running) → OnLooks (back_turn number s h r)
-back_looks None s h r = tt
-back_looks (Some ino) s h r = tt
+back_looks : (number : Option ℕ) (s : Shared) (h : HandState) (r : Running) → HasLooks Back r → OnLooks (back_turn number s h r)
+back_looks None s h r has = last_looks Back r.ending s h r has
+back_looks (Some ino) s h r has = last_looks Back r.ending _ _ r has
 
 visit_looks : (owner : Option ℕ) (tests : Tests) (granted : Bool) (found : Answer) (s : Shared) (h : HandState) (r : Running)
     → HasLooks Visit r → OnLooks (visit_turn owner tests granted found s h r)
 visit_looks (Some other) tests granted found s h r has = tt
 visit_looks None (Err fault) granted found s h r has = refuse_looks Visit r.slots fault s h r has
 visit_looks None (Ok passed) granted found s h r has = grown_looks Visit granted (Ends (Ok found) s h) s h r has tt
+
+-- a turn that leaves its call what it is and goes on to no look
+abbrev OnQuiet : Turn → Type 0
+OnQuiet (Moves t h q) = is_quiet q.next ≡ true
+OnQuiet Waits = Unit {0}
+OnQuiet (Ends result t h) = Unit {0}
+
+quiet_looks : (k : Next) (r : Running) (t : Turn) → HasLooks k r → OnQuiet t → OnFrom r t → OnLooks t
+quiet_looks k r (Moves t h q) has quiet from = record {
+  place = λ p e. absurd (false≢true (ap is_quiet (sym e) ∙ quiet));
+  nothing = λ none. from.looked ∙ has.nothing (ap directories (sym from.call) ∙ none);
+  names = λ over. subst (λ (c : Call). 0 < length (directories c)) (sym from.call) (has.names (from.over over));
+}
+quiet_looks k r Waits has quiet from = tt
+quiet_looks k r (Ends result t h) has quiet from = tt
+
+snapshot_looks : (step : SnapshotStep) (actor : ℕ) (granted : Bool) (s : Shared) (h : HandState) (r : Running)
+    → HasLooks (Snapshots step) r → OnLooks (snapshot_turn step actor granted s h r)
+snapshot_looks step actor granted s h r has =
+    quiet_looks (Snapshots step) r (snapshot_turn step actor granted s h r) has
+    (snapshot_any OnQuiet tt (λ result t x. tt) (λ t x q e fair. e) step actor granted s h r) (snapshot_from step actor granted s h r)
 
 kind_looks : (k : Next) (block actor : ℕ) (granted : Bool) (s : Shared) (h : HandState) (r : Running) → HasLooks k r
     → OnLooks (kind_turn k block actor granted s h r)
@@ -255,8 +292,9 @@ kind_looks (Retire place) block actor granted s h r has =
 kind_looks Leave block actor granted s h r has = end_looks Leave r.slots r.ending _ h r has.names has
 kind_looks (Unlock place) block actor granted s h r has = unlocked_looks (Unlock place) _ place _ h r has
 kind_looks (Give cpu) block actor granted s h r has = rest_looks (Give cpu) _ h.ino _ _ r has
-kind_looks Back block actor granted s h r has = back_looks h.ino s h r
+kind_looks Back block actor granted s h r has = back_looks h.ino s h r has
 kind_looks Visit block actor granted s h r has = visit_looks _ _ _ _ s h r has
+kind_looks (Snapshots step) block actor granted s h r has = snapshot_looks step actor granted s h r has
 
 -- ---- events
 
@@ -293,6 +331,7 @@ looks_have (call.Mode handle mode) e = cc
 looks_have (call.Stat handle) e = cc
 looks_have (call.List dir) e = cc
 looks_have (call.Lookup dir name) e = cc
+looks_have (call.Snapshots what) e = cc
 
 begun_looks : (b : Beginning) (s : Shared) (c : Call) → beginning c ≡ b → HasLooksOf (Some (begun b s c))
 begun_looks Numbers s c is = record { place = λ p e. cc; nothing = λ none. refl; names = λ e. cc }
@@ -307,6 +346,7 @@ begun_looks Locks s c is = record {
   names = λ e. cc;
 }
 begun_looks Visits s c is = record { place = λ p e. cc; nothing = λ none. refl; names = λ e. cc }
+begun_looks (OnSnapshots what) s c is = record { place = λ p e. cc; nothing = λ none. refl; names = λ e. cc }
 
 start_looks : (b : Bool) (running : Option Running) (w : World) (actor : ℕ) (c : Call) → nat_lt actor (length w.actors) ≡ b
     → HaveLooks w → HaveLooks (start_step b running actor c w).world

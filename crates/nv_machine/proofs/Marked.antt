@@ -1,31 +1,38 @@
 -- A cell has the marks and blocks of its parts, whatever is appended, published or retired there.
-use Rattle.std.proofs.Common.{◌≡◌, ℕ, ◌+◌, ◌<◌, ◌≤◌, ◌++◌, ◌∙◌, Bool, true, false, cond, not, List, [], ◌∷◌, None, ap, arith, drop, if◌then◌else◌, inl, inr, length, length-append, map, nat_lt, refl, subst, sym, take}
+use Rattle.std.proofs.Common.{◌≡◌, ℕ, ◌+◌, ◌<◌, ◌≤◌, ◌++◌, ◌∙◌, Bool, true, false, cond, not, List, [], ◌∷◌, Option, Some, None, ap, arith, drop, if◌then◌else◌, inl, inr, length, length-append, map, nat_lt, refl, subst, sym, take}
+use Rattle.std.specs.Prelude.{unwrap_or}
 use Rattle.std.specs.List.{AllByRecursion, range_with_len}
 use Rattle.std.proofs.lemmas.Bool.{cases_lt, false≢true, le-ltb}
 use Rattle.std.proofs.lemmas.List.{get_or_past}
 use Rattle.std.proofs.lemmas.List.FromFn.{get_or-map-range_with_len, length-map-range_with_len}
 use Rattle.nv_alloc.specs.Block.{AreSized, BlockValue, numbers_of}
-use Rattle.nv_calls.specs.Retiring.{erased, is_erased, retired}
+use Rattle.nv_book.specs.Listed.{with_retired}
+use Rattle.nv_book.specs.declared.record.Record.{Record}
+use Rattle.nv_calls.specs.Retiring.{erased, is_erased, keeper_of, name_of, record_of, released, retired, settled}
 use Rattle.nv_calls.proofs.Appends.{front, map-drop, map-take}
 use Rattle.nv_cell.specs.Append.{IsWithinFile, appended, blocks_for}
-use Rattle.nv_cell.specs.Cell.{CellState, empty_cell, log_of, number_in, page_block, published, without_part}
-use Rattle.nv_cell.specs.Marks.{mark_at}
+use Rattle.nv_cell.specs.Cell.{CellState, empty_cell, log_of, number_in, page_block, published, with_mark, without_part}
+use Rattle.nv_cell.specs.Marks.{is_current, is_killed, is_there, mark_at}
 use Rattle.nv_cell.specs.Numbers.{part_base, published_mark}
 use Rattle.nv_cell.specs.declared.killed.KilledPart.{KilledPart}
 use Rattle.nv_cell.specs.declared.mark.Mark.{Mark}
-use Rattle.nv_cell.specs.declared.mark.Mark.TheVariants.{Out}
+use Rattle.nv_cell.specs.declared.mark.Mark.TheVariants.{Current, Kept, Killed, Out}
 use Rattle.nv_cell.proofs.Appending.{blocks_append, log_stays}
 use Rattle.nv_cell.proofs.Cells.{mark_now}
 use Rattle.nv_cell.proofs.Published.{there_stays}
 use Rattle.nv_cell.proofs.Publishing.{take_whole, total_take}
-use Rattle.nv_cell.proofs.Remarking.{block_leaves, marks_stay}
+use Rattle.nv_cell.proofs.Remarking.{block_leaves, blocks_stay, marks_stay}
 use Rattle.nv_entry.specs.Blocks.{item_blocks}
 use Rattle.nv_entry.specs.Covered.{is_covered, part_total}
+use Rattle.nv_entry.specs.Log.{IsLog}
 use Rattle.nv_entry.specs.declared.item.Entry.{Entry}
-use Rattle.nv_machine.specs.Kept.{AreCovered}
 use Rattle.nv_machine.specs.Kinds.{with_entries, with_pages}
+use Rattle.nv_machine.specs.Recorded.{is_kept}
 use Rattle.nv_machine.specs.Whole.{HasItsParts}
-use Rattle.nv_machine.proofs.MarksInUse.{past_log}
+use Rattle.nv_machine.proofs.FiledLists.{count, one}
+use Rattle.nv_machine.proofs.FiledMarks.{filed_number, is_so, kept_not_current, kept_so, killed_not_current, low, low_filed}
+use Rattle.nv_machine.proofs.FiledSteps.{MarksOf, number_is_its, settled_is_log, settled_marks}
+use Rattle.nv_machine.proofs.Pairs.{HasPair}
 use Rattle.nv_machine.proofs.Parted.{entry_blocks, sized_first, sized_later}
 
 -- ---- more log pages, and more entries
@@ -116,34 +123,85 @@ published_parts block cell h = record {
     | inr ge ↦ get_or_past new n Out (omega (arith, ge, many)) ∙ sym (is_out n ge)
   ]
 
--- ---- retired, where nothing is kept
+-- ---- retired, and released
 
--- a part that is covered is one of the log
-part_there : (cell : CellState) (n : ℕ) → is_covered cell.block (log_of cell) n ≡ true → n < part_total (log_of cell)
-part_there cell n covered = elim (cases_lt n (part_total (log_of cell))) [
-  | inl lt ↦ lt
-  | inr ge ↦ absurd (false≢true (sym (past_log cell.block (log_of cell) n ge) ∙ covered))
-]
-
-one_out : (block n : ℕ) (cell : CellState) → is_covered cell.block (log_of cell) n ≡ true → HasItsParts block cell
+one_out : (block n : ℕ) (cell : CellState) → n < length cell.marks → is_current (mark_at cell.marks n) ≡ false → HasItsParts block cell
     → HasItsParts block (without_part cell n)
-one_out block n cell covered h =
-    let lt = part_there cell n covered in
-    let marks = marks_stay cell n Out h.marks (omega (arith, lt, h.marks.len)) (h.marks.current n lt ∙ ap not covered) refl in
+one_out block n cell low was h =
+    let marks = marks_stay cell n Out h.marks low was refl in
     record {
       size = h.size;
       within = h.within;
       marks = record { len = marks.len; current = marks.current };
-      blocks = block_leaves cell n h.blocks (omega (arith, lt, h.marks.len))
-          (omega (arith, lt, h.blocks.len, total_take cell.chain.entries cell.chain.tail));
+      blocks = block_leaves cell n h.blocks low
+          (omega (arith, low, h.marks.len, h.blocks.len, total_take cell.chain.entries cell.chain.tail));
     }
 
-pub retired_parts : (block ino epoch : ℕ) (parts : List KilledPart) (cell : CellState) → AreCovered cell parts → HasItsParts block cell
-    → HasItsParts block (retired [] ino epoch parts cell)
-retired_parts block ino epoch [] cell covered h = h
-retired_parts block ino epoch (k ∷ parts) cell covered h =
-    retired_parts block ino epoch parts (without_part cell (number_in cell k.part)) covered.1
-    (one_out block (number_in cell k.part) cell covered.0 h)
+one_kept : (block n : ℕ) (cell : CellState) → n < length cell.marks → is_current (mark_at cell.marks n) ≡ false
+    → is_there (mark_at cell.marks n) ≡ true → HasItsParts block cell → HasItsParts block (with_mark cell n Kept)
+one_kept block n cell low was there h =
+    let marks = marks_stay cell n Kept h.marks low was refl in
+    let blocks = blocks_stay cell n Kept h.blocks low there refl in
+    record {
+      size = h.size;
+      within = h.within;
+      marks = record { len = marks.len; current = marks.current };
+      blocks = record { len = blocks.len; numbers = blocks.numbers; sized = blocks.sized };
+    }
+
+killed_there : (m : Mark) → is_killed m ≡ true → is_there m ≡ true
+killed_there Current e = refl
+killed_there Killed e = refl
+killed_there Kept e = refl
+killed_there Out e = absurd (false≢true e)
+
+pub retired_parts : (block : ℕ) (living : List ℕ) (ino epoch : ℕ) (parts : List KilledPart) (rs : List Record) (cell : CellState)
+    → IsLog (log_of cell) → MarksOf living ino epoch parts rs cell → HasItsParts block cell
+    → HasItsParts block (retired living ino epoch parts cell)
+retired_parts block living ino epoch [] rs cell is m h = h
+retired_parts block living ino epoch (k ∷ parts) rs cell is m h =
+    retired_parts block living ino epoch parts (with_retired living (record_of ino epoch k) rs)
+    (settled (keeper_of living ino epoch k) n cell) (settled_is_log living ino epoch k parts rs cell is m)
+    (settled_marks living ino epoch k parts rs cell is m) (one (keeper_of living ino epoch k)) where
+      n : ℕ
+      n = number_in cell k.part
+
+      same : m.dying.0.n ≡ n
+      same = sym (number_is_its living ino epoch k parts rs cell is m)
+
+      killed : is_killed (mark_at cell.marks n) ≡ true
+      killed = ap (λ (i : ℕ). is_killed (mark_at cell.marks i)) (sym same)
+          ∙ is_so living ino epoch k parts rs cell.block (log_of cell) cell.marks is m
+
+      there : n < length cell.marks
+      there = let l = low living ino epoch k parts rs cell.block (log_of cell) cell.marks is m in omega (arith, l, same)
+
+      one : (o : Option ℕ) → HasItsParts block (settled o n cell)
+      one (Some s) =
+          one_kept block n cell there (killed_not_current (mark_at cell.marks n) killed) (killed_there (mark_at cell.marks n) killed) h
+      one None = one_out block n cell there (killed_not_current (mark_at cell.marks n) killed) h
+
+pub released_parts : (block : ℕ) (living : List ℕ) (epoch : ℕ) (killed : List KilledPart) (before after : List Record) (d : Record)
+    (cell : CellState) → IsLog (log_of cell) → MarksOf living d.ino epoch killed before cell
+    → HasPair cell.block (log_of cell) (name_of d) d.birth d.death → ((p : Record → Bool) → count p before ≡ one (p d) + count p after)
+    → HasItsParts block cell → HasItsParts block (released d cell)
+released_parts block living epoch killed before after d cell is m pair counts h =
+    one_out block n cell there (kept_not_current (mark_at cell.marks n) kept) h where
+      n : ℕ
+      n = number_in cell (name_of d)
+
+      same : pair.n ≡ n
+      same = sym (ap (λ (o : Option ℕ). unwrap_or o 0)
+          (filed_number living d.ino epoch killed before after d cell.block (log_of cell) cell.marks is m refl pair counts))
+
+      kept : is_kept (mark_at cell.marks n) ≡ true
+      kept = ap (λ (i : ℕ). is_kept (mark_at cell.marks i)) (sym same)
+          ∙ kept_so living d.ino epoch killed before after d cell.block (log_of cell) cell.marks is m refl pair counts
+
+      there : n < length cell.marks
+      there =
+          let l = low_filed living d.ino epoch killed before after d cell.block (log_of cell) cell.marks is m refl pair counts in
+          omega (arith, l, same)
 
 -- ---- erased
 

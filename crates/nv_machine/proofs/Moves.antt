@@ -15,6 +15,7 @@ use Rattle.nv_machine.proofs.Framed.{framed}
 use Rattle.nv_machine.proofs.FromScratch.{all_numbers}
 use Rattle.nv_machine.proofs.Lists.{self}
 use Rattle.nv_machine.proofs.Locks.{all_same}
+use Rattle.nv_machine.proofs.Bounded.{steps_of_any}
 
 -- ---- the bound of every call
 
@@ -37,7 +38,8 @@ own_start : (b : Bool) (running : Option Running) (w : World) (actor : ℕ) (c :
     → bound_at (step w (Start actor c)).world actor ≤ most_steps (length w.shared.lists)
 own_start false running w actor c there is few = rw there few
 own_start true (Some r) w actor c there is few = rw there (rw is few)
-own_start true None w actor c there is few = start_bound w actor c (rw there (rw is refl))
+own_start true None w actor c there is few =
+    let one = start_bound w actor c (rw there (rw is refl)) in omega (arith, one, steps_of_any c (length w.shared.lists))
 
 event_few : (w : World) (actor : ℕ) (e : Event) → bound_at w actor ≤ most_steps (length w.shared.lists)
     → bound_at (step w e).world actor ≤ most_steps (length w.shared.lists)

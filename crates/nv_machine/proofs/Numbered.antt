@@ -15,7 +15,7 @@ use Rattle.nv_machine.specs.Kinds.{blocks_in, first_killed, retired_cell}
 use Rattle.nv_machine.specs.Locks.{AreLocks}
 use Rattle.nv_machine.specs.Numbers.{IsEachOnce, all_blocks, free_of, held_by_actor, stored_in, used_blocks}
 use Rattle.nv_machine.specs.Reads.{slot_at, written_slots}
-use Rattle.nv_machine.specs.World.{Actor, Append, Back, Check, Close, Enter, Give, HandState, Leave, Lock, Look, Next, Number, Open, Publish, Ready, Retire, Running, Shared, TakeBlocks, TakePages, Unlock, Visit, World, actor_at, cell_at, idle, no_list, owner_at}
+use Rattle.nv_machine.specs.World.{Actor, Append, Back, Check, Close, Enter, Give, HandState, Leave, Lock, Look, Next, Number, Open, Publish, Ready, Retire, Running, Shared, TakeBlocks, TakePages, Unlock, Visit, World, actor_at, cell_at, idle, no_list, owner_at, Drop, LockPicked, Make, Pick, Pin, Release, Show, Snapshots, Unpin}
 use Rattle.nv_machine.proofs.Counted.{CanCount, count}
 use Rattle.nv_machine.proofs.Counting.{set_times}
 use Rattle.nv_machine.proofs.Handed.{GoesHome}
@@ -23,10 +23,12 @@ use Rattle.nv_machine.proofs.HandedCommits.{CanGive}
 use Rattle.nv_machine.proofs.Homes.{AreBelow}
 use Rattle.nv_machine.proofs.Lists.{self}
 use Rattle.nv_machine.proofs.Locked.{Before, lent_cell}
-use Rattle.nv_machine.proofs.Parted.{retired_parted}
+use Rattle.nv_machine.proofs.Parted.{retired_parted, settled_parted}
 use Rattle.nv_machine.proofs.Sound.{IsSound}
 use Rattle.nv_machine.proofs.Tails.{IsTailLast, erased_none, others_published, retired_tail}
 use Rattle.nv_epoch.specs.SnapList.{ids}
+use Rattle.nv_calls.specs.Retiring.{name_of, released}
+use Rattle.nv_cell.specs.Cell.{number_in}
 
 -- ---- how often a number stands
 
@@ -51,7 +53,7 @@ count_few : (n : ℕ) (w : World) (actor : ℕ) → count n w.shared (actor_at w
 count_few n w actor = omega (arith, all_times n w, part_times held_by_actor n w.actors actor idle refl)
 
 -- where each number below some stands once, what stands at all is below
-each_below : (many : ℕ) (bs : List BlockValue) → ((n : ℕ) → many ≤ n → times n (numbers_of bs) ≡ 0) → AreBelow many bs
+pub each_below : (many : ℕ) (bs : List BlockValue) → ((n : ℕ) → many ≤ n → times n (numbers_of bs) ≡ 0) → AreBelow many bs
 each_below many [] h = tt
 each_below many (b ∷ bs) h = (
   elim (cases_lt b.number many) [
@@ -61,7 +63,7 @@ each_below many (b ∷ bs) h = (
   each_below many bs (λ n le. omega (arith, h n le, times-cons n b.number (numbers_of bs))),
 )
 
-once_below : (g : GeometryNumbers) (w : World) (n : ℕ) → IsEachOnce g.blocks (all_blocks w) → g.blocks ≤ n → times n (all_blocks w) ≡ 0
+pub once_below : (g : GeometryNumbers) (w : World) (n : ℕ) → IsEachOnce g.blocks (all_blocks w) → g.blocks ≤ n → times n (all_blocks w) ≡ 0
 once_below g w n once le = once n ∙ (let e : nat_lt n g.blocks ≡ false = le-ltb n g.blocks le in rw e refl)
 
 once_few : (g : GeometryNumbers) (w : World) (n : ℕ) → IsEachOnce g.blocks (all_blocks w) → times n (all_blocks w) ≤ 1
@@ -129,6 +131,25 @@ can_count g w actor r (Unlock place) next locks all is b = tt
 can_count g w actor r (Give cpu) next locks all is b = tt
 can_count g w actor r Back next locks all is b = tt
 can_count g w actor r Visit next locks all is b = tt
+can_count g w actor r (Snapshots (Release draining picked)) next locks all is b =
+    let s = w.shared in
+    let own = lent_cell (Snapshots (Release draining picked)) (length s.lists) actor s r b picked.ino refl in
+    let none : has (unpublished_by (actor_at w actor).running) picked.ino ≡ false =
+    ap (λ (o : Option Running). has (unpublished_by o) picked.ino) is
+    ∙ ap (λ (k : Next). has (unpublished_at k (written_slots r)) picked.ino) next in
+    let settled = lent_settled w actor picked.ino locks all.tails own none in (
+      lent_inside (Snapshots (Release draining picked)) actor s r b picked.ino refl,
+      erased_none g.block (released picked (cell_at s picked.ino))
+          (settled_parted g.block None (number_in (cell_at s picked.ino) (name_of picked)) (cell_at s picked.ino) (all.cells picked.ino))
+          settled,
+    )
+can_count g w actor r (Snapshots Make) next locks all is b = tt
+can_count g w actor r (Snapshots (Drop snapshot)) next locks all is b = tt
+can_count g w actor r (Snapshots (Pin snapshot)) next locks all is b = tt
+can_count g w actor r (Snapshots (Show snapshot showing)) next locks all is b = tt
+can_count g w actor r (Snapshots (Unpin snapshot seen)) next locks all is b = tt
+can_count g w actor r (Snapshots (Pick draining)) next locks all is b = tt
+can_count g w actor r (Snapshots (LockPicked draining picked)) next locks all is b = tt
 
 pub can_give : (g : GeometryNumbers) (w : World) (actor : ℕ) (k : Next) → AreNumbers g w → CanGive g k w.shared (actor_at w actor).hand
 can_give g w actor (Give cpu) all = (
@@ -152,6 +173,7 @@ can_give g w actor Leave all = tt
 can_give g w actor (Unlock place) all = tt
 can_give g w actor Back all = tt
 can_give g w actor Visit all = tt
+can_give g w actor (Snapshots step) all = tt
 
 -- ---- what a turn leaves
 

@@ -11,7 +11,7 @@ use Rattle.nv_machine.specs.Hands.{AreNumbers, HandOf, makes_inode, unpublished_
 use Rattle.nv_machine.specs.Kinds.{blocks_in}
 use Rattle.nv_machine.specs.Locks.{AreLocks}
 use Rattle.nv_machine.specs.Reads.{slots_of, written_slots}
-use Rattle.nv_machine.specs.Sequence.{Beginning, Looks, Locks, Numbers, Visits, beginning, begun, nothing_looked, started}
+use Rattle.nv_machine.specs.Sequence.{Beginning, Looks, Locks, Numbers, Visits, beginning, begun, nothing_looked, started, OnSnapshots}
 use Rattle.nv_machine.specs.Step.{after, go_step, kind_turn, start_step, step, turned}
 use Rattle.nv_machine.specs.World.{Actor, Check, Ends, Event, Go, HandState, Lock, Moves, Running, Shared, Start, Turn, Waits, World, actor_at, cell_at, empty_hand, owner_at}
 use Rattle.nv_machine.proofs.Counted.{deed_times}
@@ -119,6 +119,7 @@ begun_hand : (g : GeometryNumbers) (b : Beginning) (s : Shared) (c : Call) (h : 
 begun_hand g Numbers s c h is empty = ((empty, ap makes_inode is, refl), λ e. refl)
 begun_hand g Looks s c h is empty = ((empty, ap makes_inode is), λ e. refl)
 begun_hand g Visits s c h is empty = (empty, λ e. refl)
+begun_hand g (OnSnapshots what) s c h is empty = (empty, λ e. refl)
 begun_hand g Locks s c h is empty =
     let slots = slots_of s None nothing_looked c in
     go slots (nat_lt 0 (length slots)) where
@@ -130,6 +131,7 @@ begun_published : (b : Beginning) (s : Shared) (c : Call) (ino : ℕ) → has (u
 begun_published Numbers s c ino = refl
 begun_published Looks s c ino = refl
 begun_published Visits s c ino = refl
+begun_published (OnSnapshots what) s c ino = refl
 begun_published Locks s c ino =
     let slots = slots_of s None nothing_looked c in
     go slots (nat_lt 0 (length slots)) where

@@ -1,12 +1,13 @@
 -- Ids rise and epochs never fall.
-use Rattle.std.proofs.Common.{◌≡◌, ◌≢◌, ℕ, ◌+◌, ◌<◌, ◌==◌, ◌++◌, ◌∙◌, Bool, true, false, List, [], Option, Some, None, ap, drop, get_or-set_other, get_or-set_same, length, nat_lt, refl, subst, sym, take}
+use Rattle.std.proofs.Common.{◌≡◌, ◌≢◌, ℕ, ◌+◌, ◌<◌, ◌==◌, ◌++◌, ◌∙◌, ◌⊎◌, inl, inr, Bool, true, false, List, [], Option, Some, None, ap, drop, get_or-set_other, get_or-set_same, length, nat_lt, refl, subst, sym, take}
 use Rattle.std.specs.Prelude.{◌||◌, slice_index_or}
 use Rattle.std.proofs.lemmas.Bool.{eqb-false, eqb-true, false≢true, ltb-false, ltb-true}
 use Rattle.std.proofs.lemmas.List.{set_past}
 use Rattle.nv_alloc.specs.Block.{BlockValue}
 use Rattle.nv_alloc.specs.Numbers.{IsRising, has}
 use Rattle.nv_book.specs.Book.{BookState}
-use Rattle.nv_calls.specs.Retiring.{erased}
+use Rattle.nv_book.specs.declared.record.Record.{Record}
+use Rattle.nv_calls.specs.Retiring.{erased, released}
 use Rattle.nv_calls.specs.Slots.{IsBefore, items_for, place_in}
 use Rattle.nv_cell.specs.Cell.{CellState, published}
 use Rattle.nv_cell.specs.declared.killed.KilledPart.{KilledPart}
@@ -17,13 +18,15 @@ use Rattle.nv_machine.specs.Locks.{commits_at, is_owner}
 use Rattle.nv_machine.specs.Order.{AreLogsOrdered, CommitsIn, entries_at, to_append}
 use Rattle.nv_machine.specs.Reads.{is_written, slot_at, written_slots}
 use Rattle.nv_machine.specs.Sequence.{publishing, retiring}
+use Rattle.nv_machine.specs.Snapshots.{if_free, make_tests, release_turn, snapshot_turn}
 use Rattle.nv_machine.specs.Step.{kind_turn}
-use Rattle.nv_machine.specs.World.{Append, Back, Check, Close, Enter, Give, HandState, Leave, Lock, Look, Next, Number, Open, Publish, Ready, Retire, Running, Shared, TakeBlocks, TakePages, Unlock, Visit, cell_at, go_to, no_cell, with_book, with_cell}
+use Rattle.nv_machine.specs.World.{Append, Back, Check, Close, Draining, Drop, Ends, Enter, Give, HandState, Leave, Lock, LockPicked, Look, Make, Moves, Next, Number, Open, Pick, Pin, Publish, Ready, Release, Retire, Running, Shared, Show, SnapshotStep, Snapshots, TakeBlocks, TakePages, Turn, Unlock, Unpin, Visit, Waits, cell_at, go_to, no_cell, with_book, with_cell}
 use Rattle.nv_machine.proofs.Framed.{framed}
+use Rattle.nv_machine.proofs.Kept.{AfterTurn, drop_keeps, grown_keeps, make_keeps, picked_keeps, pin_keeps}
 use Rattle.nv_machine.proofs.Lists.{drop_apart, has_drop, rising_filter, self}
 use Rattle.nv_machine.proofs.Holding.{OnLocks}
 use Rattle.nv_machine.proofs.Locked.{Before, locks_kept}
-use Rattle.nv_machine.proofs.Entered.{KeepsNumber, OnOrder, OrderLeft, appended_log, end_shared, entries_more, erased_log, later_too, left_order, none_publishing, none_retiring, nothing_left, pages_keep, quiet, retired_keeps, same_order, still_left}
+use Rattle.nv_machine.proofs.Entered.{KeepsNumber, OnOrder, OrderLeft, appended_log, end_shared, entries_more, erased_log, later_epoch, later_too, left_order, none_publishing, none_retiring, not_committing, nothing_left, pages_keep, quiet, retired_keeps, same_order, still_left}
 
 -- ---- the kinds of a commit
 
@@ -187,6 +190,78 @@ enter_order a None false true s h r w e logs on = (
   λ c. record { commit = refl; epoch = refl; earlier = λ ino there. logs ino },
 )
 
+-- ---- the kinds of calls on snapshots
+
+-- a book of the same commit, and of this epoch or the next one, while nobody has the commit lock
+free_order : (a : ℕ) (s : Shared) (book : BookState) → s.holder ≡ None → AreLogsOrdered s → book.commit ≡ s.book.commit
+    → (book.snaps.epoch ≡ s.book.snaps.epoch) ⊎ (book.snaps.epoch ≡ s.book.snaps.epoch + 1) → OrderLeft a s (with_book book s)
+free_order a s book free logs commit epoch = record {
+  logs = λ ino. subst (λ (n : ℕ). IsBefore (n + 1) book.snaps.epoch (entries_at s ino)) (sym commit) (go epoch ino);
+  others = λ b ne held. absurd (false≢true (sym (not_held b s free) ∙ held));
+} where
+  go : (book.snaps.epoch ≡ s.book.snaps.epoch) ⊎ (book.snaps.epoch ≡ s.book.snaps.epoch + 1) → (ino : ℕ)
+      → IsBefore (s.book.commit + 1) book.snaps.epoch (entries_at s ino)
+  go (inl same) ino = subst (λ (n : ℕ). IsBefore (s.book.commit + 1) n (entries_at s ino)) (sym same) (logs ino)
+  go (inr next) ino = subst (λ (n : ℕ). IsBefore (s.book.commit + 1) n (entries_at s ino)) (sym next)
+      (later_epoch (s.book.commit + 1) s.book.snaps.epoch (entries_at s ino) (logs ino))
+
+-- what is left where the book is lent
+book_order : (a : ℕ) (s : Shared) (w : Type 0) (holder : Option ℕ) (turn : Turn) → s.holder ≡ holder
+    → (s.holder ≡ None → AfterTurn (λ t h. OrderLeft a s t × (t.holder ≡ s.holder)) turn)
+    → OnLocks a s w (if_free holder turn) → OnOrder a s (if_free holder turn)
+book_order a s w (Some other) turn e left on = tt
+book_order a s w None (Moves t h q) e left on =
+    ((left e).0, not_committing t a q on.1 (ap (is_owner a) ((left e).1 ∙ e)))
+book_order a s w None Waits e left on = tt
+book_order a s w None (Ends result t h) e left on = (left e).0
+
+-- a release leaves the entries of its log, or erases them all
+release_order : (a : ℕ) (draining : Draining) (picked : Record) (s : Shared) (h : HandState) (r : Running)
+    → Before a s (Snapshots (Release draining picked)) r → AreLogsOrdered s → OnOrder a s (release_turn draining picked s h r)
+release_order a draining picked s h r b logs =
+    let cell = released picked (cell_at s picked.ino) in
+    left_order a s (with_cell picked.ino (erased cell) s) ⊥ (release_turn draining picked s h r)
+    (record {
+      logs = changed_cell s picked.ino (erased cell) logs
+          (erased_log (s.book.commit + 1) s.book.snaps.epoch cell (logs picked.ino));
+      others = λ o ne e. record { commit = refl; epoch = refl };
+    }) b.mine.holder (end_shared r.slots _ _ _ r)
+    (locks_kept (Snapshots (Release draining picked)) 0 a true s h r b)
+
+snapshot_order : (step : SnapshotStep) (a : ℕ) (granted : Bool) (s : Shared) (h : HandState) (r : Running)
+    → Before a s (Snapshots step) r → AreLogsOrdered s → OnOrder a s (snapshot_turn step a granted s h r)
+snapshot_order Make a granted s h r b logs =
+    book_order a s _ s.holder _ refl
+    (λ free. make_keeps (λ t k. OrderLeft a s t × (t.holder ≡ s.holder)) (make_tests s.book.snaps) s h r (stays_order a s logs, refl)
+    (free_order a s _ free logs refl (inr refl), refl))
+    (locks_kept (Snapshots Make) 0 a granted s h r b)
+snapshot_order (Drop snapshot) a granted s h r b logs =
+    book_order a s _ s.holder _ refl
+    (λ free. drop_keeps (λ t k. OrderLeft a s t × (t.holder ≡ s.holder)) snapshot _ s h r (stays_order a s logs, refl)
+    (free_order a s _ free logs refl (inl refl), refl))
+    (locks_kept (Snapshots (Drop snapshot)) 0 a granted s h r b)
+snapshot_order (Pin snapshot) a granted s h r b logs =
+    book_order a s _ s.holder _ refl
+    (λ free. pin_keeps (λ t k. OrderLeft a s t × (t.holder ≡ s.holder)) snapshot _ s h r (stays_order a s logs, refl)
+    (free_order a s _ free logs refl (inl refl), refl))
+    (locks_kept (Snapshots (Pin snapshot)) 0 a granted s h r b)
+snapshot_order (Show snapshot showing) a granted s h r b logs =
+    quiet a s _ None false None _ logs b.mine.holder (framed (Snapshots (Show snapshot showing)) 0 a granted s h r)
+    (locks_kept (Snapshots (Show snapshot showing)) 0 a granted s h r b)
+snapshot_order (Unpin snapshot seen) a granted s h r b logs =
+    book_order a s _ s.holder _ refl (λ free. (free_order a s _ free logs refl (inl refl), refl))
+    (locks_kept (Snapshots (Unpin snapshot seen)) 0 a granted s h r b)
+snapshot_order (Pick draining) a granted s h r b logs =
+    book_order a s _ s.holder _ refl
+    (λ free. grown_keeps (λ t k. OrderLeft a s t × (t.holder ≡ s.holder)) _ _ s h r (stays_order a s logs, refl)
+    (picked_keeps (λ t k. OrderLeft a s t × (t.holder ≡ s.holder)) s.book.deferred draining s h r (stays_order a s logs, refl)
+    (free_order a s _ free logs refl (inl refl), refl)))
+    (locks_kept (Snapshots (Pick draining)) 0 a granted s h r b)
+snapshot_order (LockPicked draining picked) a granted s h r b logs =
+    quiet a s _ None false (Some picked.ino) _ logs b.mine.holder (framed (Snapshots (LockPicked draining picked)) 0 a granted s h r)
+    (locks_kept (Snapshots (LockPicked draining picked)) 0 a granted s h r b)
+snapshot_order (Release draining picked) a granted s h r b logs = release_order a draining picked s h r b logs
+
 -- ---- every kind
 
 pub order_kept : (k : Next) (block a : ℕ) (granted : Bool) (s : Shared) (h : HandState) (r : Running) → Before a s k r
@@ -239,3 +314,4 @@ order_kept Back block a granted s h r b own logs = quiet a s _ None true None _ 
     (framed Back block a granted s h r) (locks_kept Back block a granted s h r b)
 order_kept Visit block a granted s h r b own logs = quiet a s _ None false None _ logs b.mine.holder
     (framed Visit block a granted s h r) (locks_kept Visit block a granted s h r b)
+order_kept (Snapshots step) block a granted s h r b own logs = snapshot_order step a granted s h r b logs

@@ -8,7 +8,7 @@ use Rattle.std.specs.List.{AllByRecursion}
 use Rattle.std.proofs.lemmas.List.{length-take-le, length_push}
 use Rattle.nv_alloc.specs.Block.{BlockValue}
 use Rattle.nv_base.specs.declared.limits.TheConstants.{LEAST_PAGE_ENTRIES, PAGE_ENTRIES}
-use Rattle.nv_calls.specs.Retiring.{erased, is_erased, keeper_of, retired, retired_one, settled as settled_part}
+use Rattle.nv_calls.specs.Retiring.{erased, is_erased, keeper_of, retired, retired_one, settled as settled_part, released}
 use Rattle.nv_cell.specs.Append.{appended, blocks_for}
 use Rattle.nv_cell.specs.Cell.{CellState, empty_cell, number_in, published}
 use Rattle.nv_cell.specs.declared.killed.KilledPart.{KilledPart}
@@ -21,6 +21,7 @@ use Rattle.nv_log.proofs.Chains.{IsOpen, appends_entry, is_open, open_within}
 use Rattle.nv_log.proofs.Parts.{AreEnds-push, AreEnds-take, start_past}
 use Rattle.nv_machine.specs.Kinds.{with_entries, with_pages}
 use Rattle.nv_machine.specs.Pages.{AreOnPages}
+use Rattle.nv_book.specs.declared.record.Record.{Record}
 
 -- ---- room
 
@@ -305,3 +306,7 @@ pub retire_on : (page : ℕ) (living : List ℕ) (ino epoch : ℕ) (parts : List
 retire_on page living ino epoch parts cell on =
     erased_on page (retired living ino epoch parts cell)
     (subst (AreOnPages page) (sym (retired_chain living ino epoch parts cell)) on)
+
+pub release_on : (page : ℕ) (picked : Record) (cell : CellState) → AreOnPages page cell.chain
+    → AreOnPages page (erased (released picked cell)).chain
+release_on page picked cell on = erased_on page (released picked cell) on

@@ -15,7 +15,7 @@ use Rattle.nv_machine.specs.Locks.{HoldsIts, held_at}
 use Rattle.nv_machine.specs.Order.{CommitsIn, entries_at}
 use Rattle.nv_machine.specs.Pages.{AreOnPages, HasLogPages}
 use Rattle.nv_machine.specs.Reads.{slots_of, written_slots}
-use Rattle.nv_machine.specs.Sequence.{Beginning, Looks, Locks, Numbers, Visits, beginning, begun, nothing_looked}
+use Rattle.nv_machine.specs.Sequence.{Beginning, Looks, Locks, Numbers, Visits, beginning, begun, nothing_looked, OnSnapshots}
 use Rattle.nv_machine.specs.Step.{after, go_step, start_step, step, turn, turned}
 use Rattle.nv_machine.specs.World.{Actor, Check, Ends, Event, Go, HandState, Lock, Moves, Running, Shared, Start, Turn, Waits, World, actor_at, cell_at, idle, no_cell, owner_at}
 use Rattle.nv_machine.proofs.Entered.{appended_log}
@@ -23,7 +23,7 @@ use Rattle.nv_machine.proofs.FitsEvents.{AreFit, IsKnown, all_fit, all_known, ow
 use Rattle.nv_machine.proofs.FitsStages.{FitsOf}
 use Rattle.nv_machine.proofs.Framed.{framed}
 use Rattle.nv_machine.proofs.Grown.{CellsLeft, OnGrown}
-use Rattle.nv_machine.proofs.GrownRuns.{grown_turn, standing as grown_standing}
+use Rattle.nv_machine.proofs.GrownTurns.{grown_turn, standing as grown_standing}
 use Rattle.nv_machine.proofs.Kept.{AfterTurn, turn_keeps}
 use Rattle.nv_machine.proofs.Locked.{owner_is}
 use Rattle.nv_machine.proofs.Locks.{all_same, before}
@@ -117,6 +117,7 @@ module _ (g : GeometryNumbers) (limits : IsWithinLimits g) (w : World) (known : 
   begun_pages Numbers c h = tt
   begun_pages Looks c h = tt
   begun_pages Visits c h = tt
+  begun_pages (OnSnapshots what) c h = tt
   begun_pages Locks c h = go (nat_lt 0 (length (slots_of w.shared None nothing_looked c))) where
     go : (b : Bool) → HasLogPages (if b then Lock 0 else Check) block w.shared h (begun Locks w.shared c)
     go true = tt

@@ -9,7 +9,7 @@ use Rattle.nv_base.specs.declared.geometry.GeometryNumbers.{GeometryNumbers}
 use Rattle.nv_base.specs.declared.numbers.Handle.{Handle}
 use Rattle.nv_calls.specs.AllCalls.{plan}
 use Rattle.nv_calls.specs.Plain.{node_in}
-use Rattle.nv_calls.specs.Retiring.{erased, is_erased}
+use Rattle.nv_calls.specs.Retiring.{erased, is_erased, released}
 use Rattle.nv_calls.specs.Slots.{Slot, entries_of, items_for, place_in}
 use Rattle.nv_cell.specs.Cell.{CellState, log_of, published}
 use Rattle.nv_entry.specs.Log.{IsLog}
@@ -26,7 +26,7 @@ use Rattle.nv_machine.specs.Reads.{is_written, node_of, pages_needed, pages_want
 use Rattle.nv_machine.specs.Sequence.{appending}
 use Rattle.nv_machine.specs.Step.{ending_at, kind_turn, with_made}
 use Rattle.nv_machine.specs.Wanted.{log_pages_wanted}
-use Rattle.nv_machine.specs.World.{Append, Back, Check, Close, Enter, Give, HandState, Leave, Lock, Look, Next, Number, Open, Publish, Ready, Retire, Running, Shared, TakeBlocks, TakePages, Unlock, Visit, cell_at, go_to, list_at, no_cell, owner_at, with_cell}
+use Rattle.nv_machine.specs.World.{Append, Back, Check, Close, Enter, Give, HandState, Leave, Lock, Look, Next, Number, Open, Publish, Ready, Retire, Running, Shared, TakeBlocks, TakePages, Unlock, Visit, cell_at, go_to, list_at, no_cell, owner_at, with_cell, Drop, LockPicked, Make, Pick, Pin, Release, Show, Snapshots, Unpin}
 use Rattle.nv_machine.proofs.Firsts.{plain}
 use Rattle.nv_machine.proofs.FitsEvents.{slots_in_cells}
 use Rattle.nv_machine.proofs.FitsKinds.{logs_of}
@@ -34,12 +34,12 @@ use Rattle.nv_machine.proofs.FitsOwn.{last_page, now, same_then}
 use Rattle.nv_machine.proofs.FitsRuns.{present_in, taken_of}
 use Rattle.nv_machine.proofs.FitsStages.{FitsAt, IsLocked, IsPassed, Passed, SameFor, passed_still, plan_still, view}
 use Rattle.nv_machine.proofs.Kept.{deed, number_deed, back_deed}
-use Rattle.nv_machine.proofs.Lists.{drop_apart, has_filter, has_later, or_left, rising_filter, self}
+use Rattle.nv_machine.proofs.Lists.{drop_apart, has_filter, has_later, or_left, rising_filter, self, written_inside}
 use Rattle.nv_machine.proofs.Locked.{Before}
 use Rattle.nv_machine.proofs.LogsKept.{cell_set}
-use Rattle.nv_machine.proofs.PageCells.{append_on, publish_on, retire_on}
+use Rattle.nv_machine.proofs.PageCells.{append_on, publish_on, retire_on, release_on}
 use Rattle.nv_machine.proofs.PageTurns.{OnPages, appending_pages, blocks_pages, check_pages, end_pages, enter_pages, erased_pages, from_plain, next_want, publishing_pages, retiring_pages, same_want, taken_pages}
-use Rattle.nv_machine.proofs.Written.{written_inside}
+use Rattle.nv_machine.proofs.KeptTurns.{lent_inside_own}
 
 -- ---- an append
 
@@ -136,6 +136,7 @@ module _ (g : GeometryNumbers) (a : ℕ) (granted : Bool) (s : Shared) (h : Hand
   own_pages (Give cpu) at b has_them = from_plain g.block _ (plain (Give cpu) g.block a granted s h r refl)
   own_pages Back at b has_them = from_plain g.block _ (plain Back g.block a granted s h r refl)
   own_pages Visit at b has_them = from_plain g.block _ (plain Visit g.block a granted s h r refl)
+  own_pages (Snapshots step) at b has_them = from_plain g.block _ (plain (Snapshots step) g.block a granted s h r refl)
 
 -- ---- cells
 
@@ -185,6 +186,18 @@ module _ (g : GeometryNumbers) (within : IsWithinLimits g) (a : ℕ) (s : Shared
       with_on g.page s slot (erased (retired_cell slot killed s r)) low
       (retire_on g.page (ids s.book.snaps) slot r.epoch killed (cell_at s slot) (all slot low)) all
   deed_on Back b has_them logs = back_on g.page h.ino s h all
+  deed_on (Snapshots Make) b has_them logs = all
+  deed_on (Snapshots (Drop snapshot)) b has_them logs = all
+  deed_on (Snapshots (Pin snapshot)) b has_them logs = all
+  deed_on (Snapshots (Show snapshot showing)) b has_them logs = all
+  deed_on (Snapshots (Unpin snapshot seen)) b has_them logs = all
+  deed_on (Snapshots (Pick draining)) b has_them logs = all
+  deed_on (Snapshots (LockPicked draining picked)) b has_them logs = all
+  deed_on (Snapshots (Release draining picked)) b has_them logs =
+      let cell = released picked (cell_at s picked.ino) in
+      let low = (lent_inside_own (Snapshots (Release draining picked)) a s r b picked.ino refl).0 in
+      with_on g.page s picked.ino (erased cell) low
+      (release_on g.page picked (cell_at s picked.ino) (all picked.ino low)) all
   deed_on other b has_them logs = all
 
 pub appends_commit : (k : Next) (written : List ℕ) (ino : ℕ) → has (to_append k written) ino ≡ true → commits_at k ≡ true

@@ -16,7 +16,7 @@ use Rattle.nv_machine.specs.Pages.{HasLogPages}
 use Rattle.nv_machine.specs.Reads.{is_written, pages_needed, pages_wanted, slot_at, written_slots}
 use Rattle.nv_machine.specs.Sequence.{appending, closing, opening, publishing, retiring}
 use Rattle.nv_machine.specs.Wanted.{log_pages_wanted}
-use Rattle.nv_machine.specs.World.{Append, Back, Check, Close, Ending, Ends, Give, HandState, Leave, Lock, Look, Moves, Next, Number, Open, Publish, Refuses, Retire, Running, Shared, Turn, Unlock, Visit, Waits, cell_at}
+use Rattle.nv_machine.specs.World.{Append, Back, Check, Close, Ending, Ends, Give, HandState, Leave, Lock, Look, Moves, Next, Number, Open, Publish, Refuses, Retire, Running, Shared, Turn, Unlock, Visit, Waits, cell_at, Snapshots}
 use Rattle.nv_machine.proofs.Firsts.{IsPlain, OnPlain, end_plain}
 use Rattle.nv_machine.proofs.Lists.{or_left, or_right, self}
 
@@ -89,6 +89,7 @@ module _ (block : ℕ) where
   plain_pages (Give cpu) t h q is = tt
   plain_pages Back t h q is = tt
   plain_pages Visit t h q is = tt
+  plain_pages (Snapshots step) t h q is = tt
   plain_pages other t h q is = absurd is
 
   pub from_plain : (turn : Turn) → OnPlain turn → OnPages block turn

@@ -263,7 +263,8 @@ marked marks k n mark P other own past = go (k == n) refl (cases_lt k (length ma
   go false q (inl lt) =
       subst P (sym (get_or-set_other marks k n mark Current (λ e. eqb-false k n q (sym e)))) (other (eqb-false k n q))
 
-settled_parted : (block : ℕ) (keeper : Option ℕ) (k : ℕ) (cell : CellState) → IsParted block cell → IsParted block (settled keeper k cell)
+pub settled_parted : (block : ℕ) (keeper : Option ℕ) (k : ℕ) (cell : CellState) → IsParted block cell
+    → IsParted block (settled keeper k cell)
 settled_parted block (Some s) k cell h = record {
   within = h.within;
   marks = length-set cell.marks k Kept ∙ h.marks;
@@ -301,7 +302,7 @@ retired_parted block living ino epoch (killed ∷ later) cell h =
     retired_parted block living ino epoch later (retired_one living ino epoch killed cell)
     (settled_parted block (keeper_of living ino epoch killed) (number_in cell killed.part) cell h)
 
-freed_sized : (block : ℕ) (keeper : Option ℕ) (k : ℕ) (cell : CellState) → IsParted block cell → AreSized block (freed keeper k cell)
+pub freed_sized : (block : ℕ) (keeper : Option ℕ) (k : ℕ) (cell : CellState) → IsParted block cell → AreSized block (freed keeper k cell)
 freed_sized block (Some s) k cell h = tt
 freed_sized block None k cell h = go (slice_index_or cell.blocks k None) refl where
   go : (o : Option BlockValue) → slice_index_or cell.blocks k None ≡ o → AreSized block (option_to_list o)

@@ -124,6 +124,7 @@ module _ (block : ℕ) (nodes : Handle → Option NodeCopy) (taken : Taken) wher
   all_within (call.Stat handle) h = tt
   all_within (call.List dir) h = tt
   all_within (call.Lookup dir name) h = tt
+  all_within (call.Snapshots what) h = tt
   all_within (call.Unlink dir name) h = leave_within dir name (found nodes dir name)
   all_within (call.Rmdir dir name) h = leave_within dir name (found nodes dir name)
   all_within (call.Rename from old to new) h =

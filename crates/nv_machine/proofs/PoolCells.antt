@@ -6,7 +6,7 @@ use Rattle.std.proofs.lemmas.Bool.{and_parts, false≢true}
 use Rattle.std.proofs.lemmas.List.{take-append-le}
 use Rattle.nv_alloc.specs.Block.{BlockValue}
 use Rattle.nv_base.specs.declared.limits.TheConstants.{NUMBER}
-use Rattle.nv_calls.specs.Retiring.{is_erased, retired}
+use Rattle.nv_calls.specs.Retiring.{is_erased, retired, released}
 use Rattle.nv_calls.specs.Slots.{entries_of, items_for, place_in}
 use Rattle.nv_calls.proofs.Grown.{last_step}
 use Rattle.nv_calls.proofs.Retires.{chain_stays, generation_stays}
@@ -24,6 +24,7 @@ use Rattle.nv_machine.specs.PoolScan.{has_entry, has_inode, is_withheld}
 use Rattle.nv_machine.specs.Reads.{is_written}
 use Rattle.nv_machine.specs.World.{Running}
 use Rattle.nv_machine.proofs.Entered.{entries_more, pages_keep}
+use Rattle.nv_book.specs.declared.record.Record.{Record}
 
 -- ---- one for a slot whose number is not free
 
@@ -141,6 +142,9 @@ retired_like living ino epoch parts cell = record {
   log = ap log (chain_stays living ino epoch parts cell);
   generation = generation_stays living ino epoch parts cell;
 }
+
+pub released_like : (picked : Record) (cell : CellState) → IsLike cell (released picked cell)
+released_like picked cell = record { log = refl; generation = refl }
 
 -- one that is gone has a log
 pub gone_inode : (cell : CellState) → is_gone (log_of cell) ≡ true → has_inode cell ≡ true

@@ -108,6 +108,7 @@ module _ (nodes : Handle → Option NodeCopy) where
   handles_there block made (call.Stat handle) passed any = absurd (omega (arith, any))
   handles_there block made (call.List dir) passed any = absurd (omega (arith, any))
   handles_there block made (call.Lookup dir name) passed any = absurd (omega (arith, any))
+  handles_there block made (call.Snapshots what) passed any = absurd (omega (arith, any))
 
 -- ---- and the handles that the looks found are these
 
@@ -146,6 +147,7 @@ module _ (s : Shared) where
   same_handles (call.Stat handle) now before same all = all
   same_handles (call.List dir) now before same all = all
   same_handles (call.Lookup dir name) now before same all = all
+  same_handles (call.Snapshots what) now before same all = all
   same_handles (call.Unlink dir name) now before same all =
       let both = and_parts (same_found now.first before.first) (same_found now.second before.second) same in
       (all.0, same_any now.first before.first both.0 all.1)

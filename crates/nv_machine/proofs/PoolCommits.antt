@@ -18,9 +18,9 @@ use Rattle.nv_machine.specs.Locks.{AreSlots, held_at}
 use Rattle.nv_machine.specs.PoolScan.{has_entry, has_inode}
 use Rattle.nv_machine.specs.Reads.{is_written, pages_needed, slot_at, written_slots}
 use Rattle.nv_machine.specs.Settled.{settled}
-use Rattle.nv_machine.specs.World.{Append, Back, Check, Close, Enter, Give, HandState, Leave, Lock, Look, Next, Number, Open, Publish, Ready, Retire, Running, Shared, TakeBlocks, TakePages, Unlock, Visit, cell_at, owner_at, with_book, with_cell}
+use Rattle.nv_machine.specs.World.{Append, Back, Check, Close, Enter, Give, HandState, Leave, Lock, Look, Next, Number, Open, Publish, Ready, Retire, Running, Shared, TakeBlocks, TakePages, Unlock, Visit, cell_at, owner_at, with_book, with_cell, Snapshots}
 use Rattle.nv_machine.proofs.Kept.{deed}
-use Rattle.nv_machine.proofs.Lists.{drop_apart, has_drop, has_filter, has_later, or_right, rising_filter, self}
+use Rattle.nv_machine.proofs.Lists.{drop_apart, has_drop, has_filter, has_later, or_right, rising_filter, self, written_inside}
 use Rattle.nv_machine.proofs.Locked.{Before, owner_is}
 use Rattle.nv_machine.proofs.LogsKept.{cell_set}
 use Rattle.nv_machine.proofs.PoolCells.{EndsWith, IsLike, appended_like, ends_gone, ends_some, erased_gone, like_inode, published_log, retired_like, written_some}
@@ -29,7 +29,7 @@ use Rattle.nv_machine.proofs.PoolSlots.{filtered, two_of}
 use Rattle.nv_machine.proofs.PoolTally.{is_begun}
 use Rattle.nv_machine.proofs.PoolTurns.{Standing, set_inodes}
 use Rattle.nv_machine.proofs.Tails.{has_front}
-use Rattle.nv_machine.proofs.Written.{written_inside, written_there}
+use Rattle.nv_machine.proofs.Written.{written_there}
 
 -- a number in a list of one is its first
 only_one : (xs : List ℕ) (n m : ℕ) → length xs ≤ 1 → has xs n ≡ true → has xs m ≡ true → n ≡ m
@@ -158,6 +158,7 @@ module _ (g : GeometryNumbers) (block a : ℕ) (s : Shared) (h : HandState) (r :
       ends_some (entries_for r n) _ (log_ends (Publish place) st refl (λ ino. refl) n there (first_alone place written n rising is))
       (some_for n there)
   begun_inode Close st n is = ends_some (entries_for r n) _ (log_ends Close st refl (λ ino. refl) n is refl) (some_for n is)
+  begun_inode (Snapshots step) st n is = absurd (false≢true is)
   begun_inode Number st n is = absurd (false≢true is)
   begun_inode (Look place) st n is = absurd (false≢true is)
   begun_inode (Lock place) st n is = absurd (false≢true is)

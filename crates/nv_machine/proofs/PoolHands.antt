@@ -14,7 +14,7 @@ use Rattle.nv_machine.specs.Locks.{AreLocks, held_at}
 use Rattle.nv_machine.specs.PoolScan.{has_inode}
 use Rattle.nv_machine.specs.Reads.{is_written, written_slots}
 use Rattle.nv_machine.specs.Step.{after}
-use Rattle.nv_machine.specs.World.{Append, Back, Check, Close, Enter, Event, Give, Leave, Lock, Look, Next, Number, Open, Publish, Ready, Retire, Running, TakeBlocks, TakePages, Unlock, Visit, World, actor_at, cell_at, idle, owner_at}
+use Rattle.nv_machine.specs.World.{Append, Back, Check, Close, Enter, Event, Give, Leave, Lock, Look, Next, Number, Open, Publish, Ready, Retire, Running, TakeBlocks, TakePages, Unlock, Visit, World, actor_at, cell_at, idle, owner_at, Snapshots}
 use Rattle.nv_machine.proofs.FromScratch.{all_numbers}
 use Rattle.nv_machine.proofs.Lists.{has_filter, self}
 use Rattle.nv_machine.proofs.Locked.{owner_is}
@@ -63,6 +63,7 @@ begun_held (Unlock place) r n is = absurd (false≢true is)
 begun_held (Give cpu) r n is = absurd (false≢true is)
 begun_held Back r n is = absurd (false≢true is)
 begun_held Visit r n is = absurd (false≢true is)
+begun_held (Snapshots step) r n is = absurd (false≢true is)
 
 -- its inode is published, and the slot is locked
 pub record HasBegun (w : World) (actor n : ℕ) : Type 0 where

@@ -12,14 +12,16 @@ use Rattle.nv_calls.specs.declared.plan.Planned.{Planned}
 use Rattle.nv_cell.specs.Cell.{log_of}
 use Rattle.nv_cell.specs.Readers.{is_gone}
 use Rattle.nv_machine.specs.Hands.{makes_inode}
-use Rattle.nv_machine.specs.Kinds.{again_turn, back_turn, blocks_turn, check_turn, end_turn, entries_for, grown, lock_turn, look_turn, number_turn, over_turn, pages_turn, rest_turn, unlocked_turn, visit_turn, wants_blocks, wants_pages}
+use Rattle.nv_machine.specs.Kinds.{again_turn, back_turn, blocks_turn, check_turn, end_turn, entries_for, grown, lock_turn, look_turn, number_turn, over_turn, pages_turn, rest_turn, unlocked_turn, visit_turn, wants_blocks, wants_pages, last_turn}
 use Rattle.nv_machine.specs.PoolScan.{has_inode}
 use Rattle.nv_machine.specs.Reads.{slots_of, written_slots}
 use Rattle.nv_machine.specs.Sequence.{appending, beginning, closing, directories, locking, opening, publishing, retiring}
-use Rattle.nv_machine.specs.World.{Answers, Append, Check, Close, Ending, Ends, Enter, HandState, Leave, Lock, Look, Moves, Next, Open, Overtaken, Publish, Ready, Refuses, Retire, Running, Shared, TakeBlocks, TakePages, Turn, Waits, cell_at, go_to}
+use Rattle.nv_machine.specs.World.{Answers, Append, Check, Close, Ending, Ends, Enter, HandState, Leave, Lock, Look, Moves, Next, Open, Overtaken, Publish, Ready, Refuses, Retire, Running, Shared, TakeBlocks, TakePages, Turn, Waits, cell_at, go_to, Back, Drains, Give, Number, SnapshotStep, Snapshots, Unlock, Visit}
 use Rattle.nv_machine.proofs.Lists.{drop_all, take_all}
 use Rattle.nv_machine.proofs.PoolPlans.{LeavesOne, parent_of}
 use Rattle.nv_machine.proofs.PoolTally.{is_begun}
+use Rattle.nv_machine.specs.Snapshots.{snapshot_turn}
+use Rattle.nv_machine.proofs.SnapshotTurns.{is_quiet, last_any, snapshot_any}
 
 -- ---- what is known
 
@@ -96,10 +98,63 @@ Seen turn = OnSeen none_begun turn
 
 -- ---- the last steps
 
+-- no step of a call on snapshots and none of the last knows of inodes
+quiet_next : (k : Next) (s : Shared) (h : HandState) (r : Running) → is_quiet k ≡ true → Sees k s h r
+quiet_next (Snapshots step) s h r e = tt
+quiet_next (Unlock place) s h r e = tt
+quiet_next (Give cpu) s h r e = tt
+quiet_next Back s h r e = tt
+quiet_next Number s h r e = absurd (false≢true e)
+quiet_next (Look place) s h r e = absurd (false≢true e)
+quiet_next (Lock place) s h r e = absurd (false≢true e)
+quiet_next Check s h r e = absurd (false≢true e)
+quiet_next (TakeBlocks asked) s h r e = absurd (false≢true e)
+quiet_next (TakePages asked) s h r e = absurd (false≢true e)
+quiet_next Ready s h r e = absurd (false≢true e)
+quiet_next Enter s h r e = absurd (false≢true e)
+quiet_next (Append place) s h r e = absurd (false≢true e)
+quiet_next Open s h r e = absurd (false≢true e)
+quiet_next (Publish place) s h r e = absurd (false≢true e)
+quiet_next Close s h r e = absurd (false≢true e)
+quiet_next (Retire place) s h r e = absurd (false≢true e)
+quiet_next Leave s h r e = absurd (false≢true e)
+quiet_next Visit s h r e = absurd (false≢true e)
+
+quiet_begun : (k : Next) (written : List ℕ) (n : ℕ) → is_quiet k ≡ true → is_begun k written n ≡ false
+quiet_begun (Snapshots step) written n e = refl
+quiet_begun (Unlock place) written n e = refl
+quiet_begun (Give cpu) written n e = refl
+quiet_begun Back written n e = refl
+quiet_begun Number written n e = refl
+quiet_begun (Look place) written n e = refl
+quiet_begun (Lock place) written n e = refl
+quiet_begun Check written n e = refl
+quiet_begun (TakeBlocks asked) written n e = refl
+quiet_begun (TakePages asked) written n e = refl
+quiet_begun Ready written n e = refl
+quiet_begun Enter written n e = refl
+quiet_begun (Append place) written n e = refl
+quiet_begun Open written n e = refl
+quiet_begun (Publish place) written n e = absurd (false≢true e)
+quiet_begun Close written n e = absurd (false≢true e)
+quiet_begun (Retire place) written n e = refl
+quiet_begun Leave written n e = refl
+quiet_begun Visit written n e = refl
+
+quiet_seen : (s : Shared) (h : HandState) (q : Running) → is_quiet q.next ≡ true → Seen (Moves s h q)
+quiet_seen s h q e = (quiet_next q.next s h q e, λ n. quiet_begun q.next (written_slots q) n e)
+
+pub snapshot_seen : (step : SnapshotStep) (a : ℕ) (granted : Bool) (s : Shared) (h : HandState) (r : Running)
+    → Seen (snapshot_turn step a granted s h r)
+snapshot_seen step a granted s h r = snapshot_any Seen tt (λ result t x. tt) (λ t x q e fair. quiet_seen t x q e) step a granted s h r
+
+last_seen : (e : Ending) (s : Shared) (h : HandState) (r : Running) → Seen (last_turn e s h r)
+last_seen e s h r = last_any Seen tt (λ result t x. tt) (λ t x q e fair. quiet_seen t x q e) e s h r
+
 rest_seen : (home number : Option ℕ) (s : Shared) (h : HandState) (r : Running) → Seen (rest_turn home number s h r)
 rest_seen (Some home) number s h r = (tt, λ n. refl)
 rest_seen None (Some ino) s h r = (tt, λ n. refl)
-rest_seen None None s h r = tt
+rest_seen None None s h r = last_seen r.ending s h r
 
 again_seen : (rounds : ℕ) (s : Shared) (h : HandState) (r : Running) → Seen (again_turn rounds s h r)
 again_seen zero s h r = tt
@@ -108,6 +163,7 @@ again_seen (suc rounds) s h r = (tt, λ n. refl)
 over_seen : (e : Ending) (s : Shared) (h : HandState) (r : Running) → Seen (over_turn e s h r)
 over_seen Answers s h r = rest_seen _ h.ino s h r
 over_seen (Refuses fault) s h r = rest_seen _ h.ino s h r
+over_seen (Drains draining) s h r = rest_seen _ h.ino s h r
 over_seen Overtaken s h r = again_seen r.rounds s h r
 
 pub end_seen : (slots : List ℕ) (e : Ending) (s : Shared) (h : HandState) (r : Running) → Seen (end_turn slots e s h r)
@@ -126,8 +182,8 @@ pub give_seen : (home number : Option ℕ) (s : Shared) (h : HandState) (r : Run
 give_seen home number s h r = rest_seen home number s h r
 
 pub back_seen : (number : Option ℕ) (s : Shared) (h : HandState) (r : Running) → Seen (back_turn number s h r)
-back_seen None s h r = tt
-back_seen (Some ino) s h r = tt
+back_seen None s h r = last_seen r.ending s h r
+back_seen (Some ino) s h r = last_seen r.ending _ _ r
 
 pub visit_seen : (owner : Option ℕ) (tests : Tests) (granted : Bool) (found : Answer) (s : Shared) (h : HandState) (r : Running)
     → Seen (visit_turn owner tests granted found s h r)

@@ -89,6 +89,7 @@ one_leaves block nodes taken (call.Read file offset count) = (0, tt)
 one_leaves block nodes taken (call.Stat handle) = (0, tt)
 one_leaves block nodes taken (call.List dir) = (0, tt)
 one_leaves block nodes taken (call.Lookup dir name) = (0, tt)
+one_leaves block nodes taken (call.Snapshots what) = (0, tt)
 
 pub plan_leaves : (block : ℕ) (nodes : Handle → Option NodeCopy) (taken : Taken) (c : Call) → LeavesOne (plan block nodes taken c)
 plan_leaves block nodes taken c commit epoch p q i j first second =
@@ -120,6 +121,7 @@ plan_makes block nodes taken (call.Mode handle mode) makes ne = absurd (false≢
 plan_makes block nodes taken (call.Stat handle) makes ne = absurd (false≢true makes)
 plan_makes block nodes taken (call.List dir) makes ne = absurd (false≢true makes)
 plan_makes block nodes taken (call.Lookup dir name) makes ne = absurd (false≢true makes)
+plan_makes block nodes taken (call.Snapshots what) makes ne = absurd (false≢true makes)
 plan_makes block nodes taken (call.Unlink dir name) makes ne = absurd (false≢true makes)
 plan_makes block nodes taken (call.Rmdir dir name) makes ne = absurd (false≢true makes)
 plan_makes block nodes taken (call.Rename from old to new) makes ne = absurd (false≢true makes)

@@ -14,9 +14,9 @@ use Rattle.nv_machine.specs.Grown.{AreGrown, HasGrownBy}
 use Rattle.nv_machine.specs.Hands.{AreNumbers, HandOf}
 use Rattle.nv_machine.specs.Locks.{AreLocks, HoldsIts, held_at}
 use Rattle.nv_machine.specs.Reads.{if_number, is_written, slots_in, slots_of, written_slots}
-use Rattle.nv_machine.specs.Sequence.{Beginning, Looks, Locks, Numbers, Visits, beginning, begun, nothing_looked, started}
+use Rattle.nv_machine.specs.Sequence.{Beginning, Looks, Locks, Numbers, Visits, beginning, begun, nothing_looked, started, OnSnapshots}
 use Rattle.nv_machine.specs.Step.{after, go_step, kind_turn, start_step, step, turned}
-use Rattle.nv_machine.specs.World.{Actor, Append, Back, Check, Close, Ends, Enter, Event, Give, Go, HandState, Leave, Lock, Look, Moves, Next, Number, Open, Publish, Ready, Retire, Running, Shared, Start, TakeBlocks, TakePages, Turn, Unlock, Visit, Waits, World, actor_at, cell_at, idle, owner_at}
+use Rattle.nv_machine.specs.World.{Actor, Append, Back, Check, Close, Ends, Enter, Event, Give, Go, HandState, Leave, Lock, Look, Moves, Next, Number, Open, Publish, Ready, Retire, Running, Shared, Start, TakeBlocks, TakePages, Turn, Unlock, Visit, Waits, World, actor_at, cell_at, idle, owner_at, Drop, LockPicked, Make, Pick, Pin, Release, Show, Snapshots, Unpin}
 use Rattle.nv_machine.proofs.Counting.{set_times}
 use Rattle.nv_machine.proofs.Framed.{framed}
 use Rattle.nv_machine.proofs.Kept.{AfterTurn, back_deed, deed, number_deed, turn_keeps}
@@ -68,6 +68,7 @@ module _ (s t : Shared) (h : HandState) (r : Running) (many : length t.cells ≡
     λ ino there. rw (same ino (has_filter (is_written r.plan) r.slots ino (has_later place (written_slots r) ino there))) (e.1 ino there),
     e.2,
   )
+  their_sees (Snapshots step) same e = tt
   their_sees Number same e = tt
   their_sees (Look place) same e = tt
   their_sees Leave same e = tt
@@ -173,6 +174,14 @@ back_rising (Some ino) s h none rising = rising_put ino s.pool.numbers (none ino
 deed_rising : (g : GeometryNumbers) (k : Next) (block a : ℕ) (s : Shared) (h : HandState) (r : Running) → Standing g k a s h r
     → IsRising s.pool.numbers → IsRising (deed k block a s h r).shared.pool.numbers
 deed_rising g Number block a s h r st rising = number_rising s.pool.numbers s h refl rising
+deed_rising g (Snapshots Make) block a s h r st rising = rising
+deed_rising g (Snapshots (Drop snapshot)) block a s h r st rising = rising
+deed_rising g (Snapshots (Pin snapshot)) block a s h r st rising = rising
+deed_rising g (Snapshots (Show snapshot showing)) block a s h r st rising = rising
+deed_rising g (Snapshots (Unpin snapshot seen)) block a s h r st rising = rising
+deed_rising g (Snapshots (Pick draining)) block a s h r st rising = rising
+deed_rising g (Snapshots (LockPicked draining picked)) block a s h r st rising = rising
+deed_rising g (Snapshots (Release draining picked)) block a s h r st rising = rising
 deed_rising g (Look place) block a s h r st rising = rising
 deed_rising g (Lock place) block a s h r st rising = rising
 deed_rising g Check block a s h r st rising = rising
@@ -276,6 +285,7 @@ begun_sees : (b : Beginning) (s : Shared) (c : Call) (h : HandState) → h.ino �
 begun_sees Numbers s c h none = tt
 begun_sees Looks s c h none = tt
 begun_sees Visits s c h none = tt
+begun_sees (OnSnapshots what) s c h none = tt
 begun_sees Locks s c h none = go (nat_lt 0 (length slots)) where
   slots : List ℕ
   slots = slots_of s None nothing_looked c

@@ -10,16 +10,17 @@ use Rattle.nv_cell.specs.Cell.{published}
 use Rattle.nv_machine.specs.Kinds.{enter_turn}
 use Rattle.nv_machine.specs.Reads.{if_number, is_written, slot_at, written_slots}
 use Rattle.nv_machine.specs.Step.{ending_at, kind_turn, with_made}
-use Rattle.nv_machine.specs.World.{Append, Back, Check, Close, Ends, Enter, Give, HandState, Leave, Lock, Look, Moves, Next, Number, Open, Publish, Ready, Retire, Running, Shared, TakeBlocks, TakePages, Turn, Unlock, Visit, Waits, cell_at, with_cell}
+use Rattle.nv_machine.specs.World.{Append, Back, Check, Close, Ends, Enter, Give, HandState, Leave, Lock, Look, Moves, Next, Number, Open, Publish, Ready, Retire, Running, Shared, TakeBlocks, TakePages, Turn, Unlock, Visit, Waits, cell_at, with_cell, Drop, LockPicked, Make, Pick, Pin, Release, Show, SnapshotStep, Snapshots, Unpin}
 use Rattle.nv_machine.proofs.Kept.{AfterTurn, deed, turn_keeps}
 use Rattle.nv_machine.proofs.Lists.{has_filter, has_take, rising_filter, self, take_apart}
 use Rattle.nv_machine.proofs.LogsKept.{cell_set}
 use Rattle.nv_machine.proofs.PoolCells.{taken_once, with_inode}
 use Rattle.nv_machine.proofs.PoolCommits.{append_inside, append_plan, close_retiring, erased_number, publish_inode, publish_inside, publish_plan, publish_retiring, retire_inside, retire_retiring}
-use Rattle.nv_machine.proofs.PoolKnown.{HasPlan, OnSeen, appending_seen, back_seen, beginning_seen, begun_by, blocks_seen, check_seen, end_seen, give_seen, grown_seen, lock_seen, look_seen, none_begun, number_seen, publishing_seen, retiring_seen, taken_seen, unlock_seen, visit_seen}
+use Rattle.nv_machine.proofs.PoolKnown.{HasPlan, OnSeen, appending_seen, back_seen, beginning_seen, begun_by, blocks_seen, check_seen, end_seen, give_seen, grown_seen, lock_seen, look_seen, none_begun, number_seen, publishing_seen, retiring_seen, taken_seen, unlock_seen, visit_seen, snapshot_seen}
 use Rattle.nv_machine.proofs.PoolTally.{CanTally, deed_tally, is_begun, loose, not_begun, other_times, tally}
 use Rattle.nv_machine.proofs.PoolTurns.{Standing, check_taken, ready_plan}
 use Rattle.nv_machine.proofs.Written.{written_there}
+use Rattle.nv_machine.proofs.KeptTurns.{lent_inside_own}
 
 -- ---- what the call knows
 
@@ -61,6 +62,7 @@ turn_seen g (Unlock place) block a granted s h r st = unlock_seen _ place _ h r
 turn_seen g (Give cpu) block a granted s h r st = give_seen _ h.ino _ _ r
 turn_seen g Back block a granted s h r st = back_seen h.ino s h r
 turn_seen g Visit block a granted s h r st = visit_seen _ _ _ _ s h r
+turn_seen g (Snapshots step) block a granted s h r st = snapshot_seen step a granted s h r
 
 -- ---- each number
 
@@ -218,6 +220,20 @@ close_tally g block a s h r st n = ap (tally n s) (go h.ino refl) where
 
 -- ---- every kind
 
+can_tally : (g : GeometryNumbers) (step : SnapshotStep) (a : ℕ) (s : Shared) (h : HandState) (r : Running)
+    → Standing g (Snapshots step) a s h r → CanTally (Snapshots step) s h r
+can_tally g Make a s h r st = tt
+can_tally g (Drop snapshot) a s h r st = tt
+can_tally g (Pin snapshot) a s h r st = tt
+can_tally g (Show snapshot showing) a s h r st = tt
+can_tally g (Unpin snapshot seen) a s h r st = tt
+can_tally g (Pick draining) a s h r st = tt
+can_tally g (LockPicked draining picked) a s h r st = tt
+can_tally g (Release draining picked) a s h r st = (
+  (lent_inside_own (Snapshots (Release draining picked)) a s r st.before picked.ino refl).0,
+  λ q. ap (λ (x : HandState). x.ino) st.hand,
+)
+
 pub turn_tally : (g : GeometryNumbers) (k : Next) (n block a : ℕ) (granted : Bool) (s : Shared) (h : HandState) (r : Running)
     → Standing g k a s h r
     → OnTally n (tally n s (loose k (written_slots r) h.ino)) (kind_turn k block a granted s h r)
@@ -259,3 +275,5 @@ turn_tally g Back n block a granted s h r st = quiet_tally g Back n block a gran
     (turn_seen g Back block a granted s h r st)
 turn_tally g Visit n block a granted s h r st = quiet_tally g Visit n block a granted s h r tt (λ m. refl)
     (turn_seen g Visit block a granted s h r st)
+turn_tally g (Snapshots step) n block a granted s h r st = quiet_tally g (Snapshots step) n block a granted s h r
+    (can_tally g step a s h r st) (λ m. refl) (turn_seen g (Snapshots step) block a granted s h r st)

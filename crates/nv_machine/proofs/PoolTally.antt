@@ -1,22 +1,24 @@
 -- A step moves inode numbers between the pool, the hand and the slots: each stands as often as before.
-use Rattle.std.proofs.Common.{◌≡◌, ◌≢◌, ℕ, ◌+◌, ◌<◌, ◌≤◌, ◌==◌, ◌∙◌, Bool, true, false, cond, List, [], ◌∷◌, Option, Some, None, ap, arith, length, refl, subst, sym, take}
+use Rattle.std.proofs.Common.{◌≡◌, ◌≢◌, ◌+◌, ◌<◌, ◌≤◌, ◌==◌, ◌∙◌, ◌∷◌, ℕ, Bool, true, false, cond, List, [], Option, Some, None, ap, arith, length, refl, subst, sym, take, if◌then◌else◌}
 use Rattle.std.specs.Prelude.{nat_le}
 use Rattle.std.proofs.lemmas.Bool.{eqb-true}
 use Rattle.std.proofs.lemmas.List.{map-id}
 use Rattle.nv_alloc.specs.Numbers.{has, put_by, times}
 use Rattle.nv_alloc.proofs.Lists.{times-cons, times-no, times-put_by, times-yes}
 use Rattle.nv_base.specs.declared.limits.TheConstants.{NUMBER}
-use Rattle.nv_calls.specs.Retiring.{is_erased, number_back}
+use Rattle.nv_calls.specs.Retiring.{erased, is_erased, number_back, released}
 use Rattle.nv_cell.specs.Cell.{CellState, empty_cell}
 use Rattle.nv_cell.specs.declared.killed.KilledPart.{KilledPart}
 use Rattle.nv_epoch.specs.SnapList.{ids}
-use Rattle.nv_machine.specs.Kinds.{entries_for, first_killed, retired_cell}
+use Rattle.nv_machine.specs.Kinds.{entries_for, first_killed, retired_cell, with_erased, with_freed}
 use Rattle.nv_machine.specs.Reads.{if_number, pages_needed, slot_at, written_slots}
-use Rattle.nv_machine.specs.World.{Actor, Append, Back, Check, Close, Enter, Give, HandState, Leave, Lock, Look, Next, Number, Open, Publish, Ready, Retire, Running, Shared, TakeBlocks, TakePages, Unlock, Visit, cell_at, with_cell}
-use Rattle.nv_machine.proofs.Kept.{back_deed, deed, number_deed, retire_deed}
+use Rattle.nv_machine.specs.World.{Actor, Append, Back, Check, Close, Enter, Give, HandState, Leave, Lock, Look, Next, Number, Open, Publish, Ready, Retire, Running, Shared, TakeBlocks, TakePages, Unlock, Visit, cell_at, with_cell, Drop, LockPicked, Make, Pick, Pin, Release, Show, Snapshots, Unpin}
+use Rattle.nv_machine.proofs.Kept.{back_deed, deed, number_deed, retire_deed, release_deed}
 use Rattle.nv_machine.proofs.Lists.{self}
 use Rattle.nv_machine.proofs.LogsKept.{cell_set}
-use Rattle.nv_machine.proofs.PoolCells.{IsLike, appended_like, erased_gone, gone_inode, like_taken, one_if, retired_like, taken_once, with_inode}
+use Rattle.nv_machine.proofs.PoolCells.{IsLike, appended_like, erased_gone, gone_inode, like_taken, one_if, retired_like, taken_once, with_inode, released_like}
+use Rattle.nv_book.specs.declared.record.Record.{Record}
+use Rattle.nv_machine.specs.Snapshots.{with_released}
 
 -- ---- how often a number stands
 
@@ -96,42 +98,63 @@ other_back n ino cell ne = go (nat_le NUMBER (cell.generation + 1)) where
   go true = refl
   go false = other_times n ino ne
 
-retire_tally : (n ino : ℕ) (killed : List KilledPart) (s : Shared) (h : HandState) (r : Running) → ino < length s.cells
-    → (is_erased (retired_cell ino killed s r) ≡ true → h.ino ≡ None)
-    → tally n (retire_deed ino killed s h r).shared (if_number (retire_deed ino killed s h r).hand.ino) ≡ tally n s (if_number h.ino)
-retire_tally n ino killed s h r inside none = go (is_erased cell) refl where
-  cell : CellState
-  cell = retired_cell ino killed s r
-
-  like : IsLike (cell_at s ino) cell
-  like = retired_like (ids s.book.snaps) ino r.epoch killed (cell_at s ino)
-
+-- a cell that is settled, and erased where nothing is left of it
+erased_tally : (n ino : ℕ) (cell : CellState) (s : Shared) (number : Option ℕ) → ino < length s.cells
+    → IsLike (cell_at s ino) cell → (is_erased cell ≡ true → number ≡ None)
+    → times n s.pool.numbers + times n (if_number (if is_erased cell then number_back ino cell number else number))
+    + taken_once (cell_at (with_cell ino (erased cell) s) n) ≡ tally n s (if_number number)
+erased_tally n ino cell s number inside like none = go (is_erased cell) refl where
   Kept : CellState → Option ℕ → Type 0
-  Kept new number =
-      times n s.pool.numbers + times n (if_number number) + taken_once (cell_at (with_cell ino new s) n) ≡ tally n s (if_number h.ino)
+  Kept new o =
+      times n s.pool.numbers + times n (if_number o) + taken_once (cell_at (with_cell ino new s) n) ≡ tally n s (if_number number)
 
-  erased_one : is_erased cell ≡ true → Kept (emptied cell) (number_back ino cell h.ino)
+  erased_one : is_erased cell ≡ true → Kept (emptied cell) (number_back ino cell number)
   erased_one q =
       let hand = ap (λ (o : Option ℕ). times n (if_number o)) (none q) in
       let new = ap (λ (o : Option ℕ). times n (if_number (number_back ino cell o))) (none q) in
       let was : taken_once (cell_at s ino) ≡ 1 =
       sym (like_taken (cell_at s ino) cell like) ∙ with_inode cell (gone_inode cell (erased_gone cell q)) in
-      cell_set s ino (emptied cell) n (λ (c : CellState). times n s.pool.numbers + times n (if_number (number_back ino cell h.ino))
-      + taken_once c ≡ tally n s (if_number h.ino)) inside
-      (λ is. subst (λ (k : ℕ). times k s.pool.numbers + times k (if_number (number_back ino cell h.ino)) + taken_once (emptied cell)
-      ≡ tally k s (if_number h.ino)) is
+      cell_set s ino (emptied cell) n (λ (c : CellState). times n s.pool.numbers + times n (if_number (number_back ino cell number))
+      + taken_once c ≡ tally n s (if_number number)) inside
+      (λ is. subst (λ (k : ℕ). times k s.pool.numbers + times k (if_number (number_back ino cell number)) + taken_once (emptied cell)
+      ≡ tally k s (if_number number)) is
       (let hand = ap (λ (o : Option ℕ). times ino (if_number o)) (none q) in
       let new = ap (λ (o : Option ℕ). times ino (if_number (number_back ino cell o))) (none q) in
       omega (arith, hand, new, was, own_back ino cell)))
       (λ ne. omega (arith, hand, new, other_back n ino cell ne))
 
-  kept_one : Kept cell h.ino
+  kept_one : Kept cell number
   kept_one = let e = set_taken s ino cell n inside like in omega (arith, e)
 
   go : (b : Bool) → is_erased cell ≡ b
-      → tally n (retire_deed ino killed s h r).shared (if_number (retire_deed ino killed s h r).hand.ino) ≡ tally n s (if_number h.ino)
+      → times n s.pool.numbers + times n (if_number (if is_erased cell then number_back ino cell number else number))
+      + taken_once (cell_at (with_cell ino (erased cell) s) n) ≡ tally n s (if_number number)
   go true q = rw q (erased_one q)
   go false q = rw q kept_one
+
+hand_erased : (ino : ℕ) (cell : CellState) (h : HandState)
+    → (with_erased ino cell h).ino ≡ (if is_erased cell then number_back ino cell h.ino else h.ino)
+hand_erased ino cell h = go (is_erased cell) refl where
+  go : (b : Bool) → is_erased cell ≡ b → (with_erased ino cell h).ino ≡ (if is_erased cell then number_back ino cell h.ino else h.ino)
+  go true q = rw q refl
+  go false q = rw q refl
+
+retire_tally : (n ino : ℕ) (killed : List KilledPart) (s : Shared) (h : HandState) (r : Running) → ino < length s.cells
+    → (is_erased (retired_cell ino killed s r) ≡ true → h.ino ≡ None)
+    → tally n (retire_deed ino killed s h r).shared (if_number (retire_deed ino killed s h r).hand.ino) ≡ tally n s (if_number h.ino)
+retire_tally n ino killed s h r inside none =
+    let cell = retired_cell ino killed s r in
+    ap (λ (o : Option ℕ). tally n (retire_deed ino killed s h r).shared (if_number o)) (hand_erased ino cell (with_freed ino killed s r h))
+    ∙ erased_tally n ino cell s h.ino inside (retired_like (ids s.book.snaps) ino r.epoch killed (cell_at s ino)) none
+
+release_tally : (n : ℕ) (picked : Record) (s : Shared) (h : HandState) → picked.ino < length s.cells
+    → (is_erased (released picked (cell_at s picked.ino)) ≡ true → h.ino ≡ None)
+    → tally n (release_deed picked s h).shared (if_number (release_deed picked s h).hand.ino) ≡ tally n s (if_number h.ino)
+release_tally n picked s h inside none =
+    let cell = released picked (cell_at s picked.ino) in
+    ap (λ (o : Option ℕ). tally n (release_deed picked s h).shared (if_number o))
+    (hand_erased picked.ino cell (with_released picked s h))
+    ∙ erased_tally n picked.ino cell s h.ino inside (released_like picked (cell_at s picked.ino)) none
 
 -- ---- every kind but publish and close
 
@@ -144,6 +167,8 @@ CanTally (Publish place) s h r = ⊥
 CanTally Close s h r = ⊥
 CanTally (Retire place) s h r = (slot_at (written_slots r) place < length s.cells)
     × (is_erased (retired_cell (slot_at (written_slots r) place) (first_killed h.killed) s r) ≡ true → h.ino ≡ None)
+CanTally (Snapshots (Release draining picked)) s h r = (picked.ino < length s.cells)
+    × (is_erased (released picked (cell_at s picked.ino)) ≡ true → h.ino ≡ None)
 CanTally other s h r = Unit {0}
 
 pub deed_tally : (k : Next) (n block actor : ℕ) (s : Shared) (h : HandState) (r : Running) → CanTally k s h r
@@ -171,3 +196,11 @@ deed_tally (Unlock place) n block actor s h r can = refl
 deed_tally (Give cpu) n block actor s h r can = refl
 deed_tally Back n block actor s h r can = back_tally n h.ino s h refl
 deed_tally Visit n block actor s h r can = refl
+deed_tally (Snapshots Make) n block actor s h r can = refl
+deed_tally (Snapshots (Drop snapshot)) n block actor s h r can = refl
+deed_tally (Snapshots (Pin snapshot)) n block actor s h r can = refl
+deed_tally (Snapshots (Show snapshot showing)) n block actor s h r can = refl
+deed_tally (Snapshots (Unpin snapshot seen)) n block actor s h r can = refl
+deed_tally (Snapshots (Pick draining)) n block actor s h r can = refl
+deed_tally (Snapshots (LockPicked draining picked)) n block actor s h r can = refl
+deed_tally (Snapshots (Release draining picked)) n block actor s h r can = release_tally n picked s h can.0 can.1

@@ -20,6 +20,7 @@ use Rattle.nv_machine.specs.Settled.{settled_nodes}
 use Rattle.nv_machine.specs.Step.{after, step}
 use Rattle.nv_machine.specs.World.{Actor, Event, World, actor_at, cell_at, idle, no_cell}
 use Rattle.nv_base.specs.declared.numbers.Handle.{Handle}
+use Rattle.nv_machine.proofs.FiledParts.{releases_covered}
 use Rattle.nv_machine.proofs.FromScratch.{each_once, idle_nothing}
 use Rattle.nv_machine.proofs.GrownRuns.{events_grown, new_grown}
 use Rattle.nv_machine.proofs.InOrder.{events_order, new_order}
@@ -152,6 +153,7 @@ blocks_apart g events within =
       cells = cells_apart g.blocks w each;
       small = hands_small g.blocks w (omega (arith, within.blocks_fit)) each;
       idle = λ actor is. (idle_nothing g events within actor is).hand;
+      releases = λ actor. releases_covered g events actor within;
     }
 
 pub reached : (g : GeometryNumbers) (events : List Event) → IsWithinLimits g → IsReached (after (formatted g) events)

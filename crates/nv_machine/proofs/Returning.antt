@@ -1,5 +1,5 @@
 -- A number in the hand of a call that is late stays there, up to the step that ends the call and puts it into the pool.
-use Rattle.std.proofs.Common.{◌≡◌, ◌≢◌, inl, inr, ℕ, ◌+◌, ◌<◌, ◌==◌, ◌++◌, ◌∙◌, Bool, true, false, List, [], ◌∷◌, Option, Some, None, ap, arith, get_or-set_other, get_or-set_same, if◌then◌else◌, length, map, nat_lt, refl, set, subst, sym}
+use Rattle.std.proofs.Common.{◌≡◌, ◌≢◌, ◌⊎◌, inl, inr, ℕ, zero, suc, ◌+◌, ◌<◌, ◌==◌, ◌++◌, ◌∙◌, Bool, true, false, List, [], ◌∷◌, Option, Some, None, ap, arith, get_or-set_other, get_or-set_same, if◌then◌else◌, length, map, nat_lt, refl, set, subst, sym}
 use Rattle.std.proofs.lemmas.Bool.{eqb-false, eqb-true, false≢true}
 use Rattle.std.proofs.lemmas.List.{map-id}
 use Rattle.std.proofs.lemmas.Option.{none-some}
@@ -10,13 +10,13 @@ use Rattle.nv_base.specs.declared.geometry.GeometryNumbers.{GeometryNumbers}
 use Rattle.nv_calls.specs.Retiring.{is_erased, number_back}
 use Rattle.nv_calls.specs.declared.call.Call.{Call}
 use Rattle.nv_cell.specs.Cell.{CellState}
-use Rattle.nv_machine.specs.Erasing.{IsOnItsWay, IsOnItsWayOrBack, is_late}
+use Rattle.nv_machine.specs.Erasing.{IsOnItsWay, IsOnItsWayOrBack, is_done_with, is_late}
 use Rattle.nv_machine.specs.Format.{formatted}
 use Rattle.nv_machine.specs.Hands.{HandOf, is_going}
-use Rattle.nv_machine.specs.Kinds.{back_turn, end_turn, first_killed, over_turn, rest_turn, retired_cell, unlocked_turn, with_freed}
+use Rattle.nv_machine.specs.Kinds.{back_turn, drained_turn, end_turn, first_killed, last_turn, over_turn, rest_turn, retired_cell, unlocked_turn, with_freed}
 use Rattle.nv_machine.specs.Reads.{slot_at, written_slots}
 use Rattle.nv_machine.specs.Step.{Step, after, go_step, kind_turn, start_step, step, turned}
-use Rattle.nv_machine.specs.World.{Actor, Answers, Append, Back, Check, Close, Ending, Ends, Enter, Event, Give, Go, HandState, Leave, Lock, Look, Moves, Next, Number, Open, Overtaken, Publish, Ready, Refuses, Retire, Running, Shared, Start, TakeBlocks, TakePages, Turn, Unlock, Visit, Waits, World, actor_at, idle}
+use Rattle.nv_machine.specs.World.{Actor, Answers, Append, Back, Check, Close, Drains, Ending, Ends, Enter, Event, Give, Go, HandState, Leave, Lock, Look, Moves, Next, Number, Open, Overtaken, Publish, Ready, Refuses, Retire, Running, Shared, Snapshots, Start, TakeBlocks, TakePages, Turn, Unlock, Visit, Waits, World, actor_at, idle}
 use Rattle.nv_machine.proofs.Erasing.{IsKnown, known, runs_inside}
 use Rattle.nv_machine.proofs.Events.{goes}
 use Rattle.nv_machine.proofs.FromScratch.{not_counted}
@@ -27,32 +27,34 @@ use Rattle.nv_machine.proofs.PoolTurns.{Standing}
 
 -- ---- a turn
 
--- it leaves the number in the hand of a call that is late, or ends with the number in the pool
+-- it leaves the number in the hand of a call that is late, or ends, or goes on to the next pick, with the number in the pool
 abbrev OnWay : ℕ → Turn → Type 0
-OnWay ino (Moves t h q) = (is_late q.next ≡ true) × (h.ino ≡ Some ino)
+OnWay ino (Moves t h q) =
+    ((is_late q.next ≡ true) × (h.ino ≡ Some ino)) ⊎ ((is_done_with (Some q) ≡ true) × (has t.pool.numbers ino ≡ true))
 OnWay ino Waits = Unit {0}
 OnWay ino (Ends result t h) = has t.pool.numbers ino ≡ true
 
 rest_way : (ino : ℕ) (home number : Option ℕ) (s : Shared) (h : HandState) (r : Running) → number ≡ Some ino → h.ino ≡ Some ino
     → OnWay ino (rest_turn home number s h r)
-rest_way ino (Some cpu) number s h r same is = (refl, is)
-rest_way ino None (Some n) s h r same is = (refl, is)
+rest_way ino (Some cpu) number s h r same is = inl (refl, is)
+rest_way ino None (Some n) s h r same is = inl (refl, is)
 rest_way ino None None s h r same is = absurd (none-some ino same)
 
 over_way : (ino : ℕ) (e : Ending) (s : Shared) (h : HandState) (r : Running) → h.ino ≡ Some ino → e ≢ Overtaken
     → OnWay ino (over_turn e s h r)
 over_way ino Answers s h r is going = rest_way ino _ h.ino s h r is is
 over_way ino (Refuses fault) s h r is going = rest_way ino _ h.ino s h r is is
+over_way ino (Drains draining) s h r is going = rest_way ino _ h.ino s h r is is
 over_way ino Overtaken s h r is going = absurd (going refl)
 
 end_way : (ino : ℕ) (slots : List ℕ) (e : Ending) (s : Shared) (h : HandState) (r : Running) → h.ino ≡ Some ino → e ≢ Overtaken
     → OnWay ino (end_turn slots e s h r)
 end_way ino [] e s h r is going = over_way ino e s h (record r { ending = e }) is going
-end_way ino (slot ∷ slots) e s h r is going = (refl, is)
+end_way ino (slot ∷ slots) e s h r is going = inl (refl, is)
 
 unlock_way : (ino : ℕ) (more : Bool) (place : ℕ) (s : Shared) (h : HandState) (r : Running) → h.ino ≡ Some ino → r.ending ≢ Overtaken
     → OnWay ino (unlocked_turn more place s h r)
-unlock_way ino true place s h r is going = (refl, is)
+unlock_way ino true place s h r is going = inl (refl, is)
 unlock_way ino false place s h r is going = over_way ino r.ending s h r is going
 
 put_has : (ino : ℕ) (numbers : List ℕ) → has (put_by (λ n. n) ino numbers) ino ≡ true
@@ -66,16 +68,26 @@ put_has ino numbers = go (has (put_by (λ n. n) ino numbers) ino) refl where
   go true e = refl
   go false e = absurd (omega (arith, many, not_counted ino (put_by (λ n. n) ino numbers) e))
 
+last_way : (ino : ℕ) (e : Ending) (s : Shared) (h : HandState) (r : Running) → has s.pool.numbers ino ≡ true
+    → OnWay ino (last_turn e s h r)
+last_way ino Answers s h r there = there
+last_way ino (Refuses fault) s h r there = there
+last_way ino Overtaken s h r there = there
+last_way ino (Drains draining) s h r there = go draining.left where
+  go : (left : ℕ) → OnWay ino (drained_turn left draining.released s h r)
+  go zero = there
+  go (suc left) = inr (refl, there)
+
 back_way : (ino : ℕ) (number : Option ℕ) (s : Shared) (h : HandState) (r : Running) → number ≡ Some ino
     → OnWay ino (back_turn number s h r)
 back_way ino None s h r is = absurd (none-some ino is)
 back_way ino (Some n) s h r is =
-    subst (λ (o : Option ℕ). OnWay ino (back_turn o s h r)) (sym is) (put_has ino s.pool.numbers)
+    subst (λ (o : Option ℕ). OnWay ino (back_turn o s h r)) (sym is) (last_way ino r.ending _ _ r (put_has ino s.pool.numbers))
 
 module _ (g : GeometryNumbers) (block a ino : ℕ) (granted : Bool) (s : Shared) (h : HandState) (r : Running)
     (is : h.ino ≡ Some ino) where
   retire_way : (place : ℕ) → Standing g (Retire place) a s h r → OnWay ino (kind_turn (Retire place) block a granted s h r)
-  retire_way place st = (next (nat_lt (place + 1) (length (written_slots r))), number (is_erased cell) refl) where
+  retire_way place st = inl (next (nat_lt (place + 1) (length (written_slots r))), number (is_erased cell) refl) where
     slot : ℕ
     slot = slot_at (written_slots r) place
 
@@ -121,6 +133,7 @@ module _ (g : GeometryNumbers) (block a ino : ℕ) (granted : Bool) (s : Shared)
   late_way (Publish place) late st going = absurd (false≢true late)
   late_way Close late st going = absurd (false≢true late)
   late_way Visit late st going = absurd (false≢true late)
+  late_way (Snapshots step) late st going = absurd (false≢true late)
 
 -- ---- an event
 
@@ -143,18 +156,23 @@ turned_other (Ends result s h) actor b ino w ne way = other_way actor b ino w (r
 
 turned_own : (t : Turn) (actor ino : ℕ) (w : World) → actor < length w.actors → IsOnItsWay actor ino w → OnWay ino t
     → IsOnItsWayOrBack actor ino (turned t actor w).world
-turned_own (Moves s h q) actor ino w there way on =
-    let own = get_or-set_same w.actors actor (record { hand = h; running = Some q }) idle there in
-    inl (record {
-      running = q;
-      runs = ap (λ (x : Actor). x.running) own;
-      late = on.0;
-      number = ap (λ (x : Actor). x.hand.ino) own ∙ on.1;
-    })
+turned_own (Moves s h q) actor ino w there way on = go on where
+  own : actor_at (turned (Moves s h q) actor w).world actor ≡ record { hand = h; running = Some q }
+  own = get_or-set_same w.actors actor (record { hand = h; running = Some q }) idle there
+
+  go : OnWay ino (Moves s h q) → IsOnItsWayOrBack actor ino (turned (Moves s h q) actor w).world
+  go (inl late) = inl (record {
+    running = q;
+    runs = ap (λ (x : Actor). x.running) own;
+    late = late.0;
+    number = ap (λ (x : Actor). x.hand.ino) own ∙ late.1;
+  })
+  go (inr back) = inr (record { ended = ap (λ (x : Actor). is_done_with x.running) own ∙ back.0; pool = back.1 })
 turned_own Waits actor ino w there way on = inl way
 turned_own (Ends result s h) actor ino w there way on =
     inr (record {
-      ended = ap (λ (x : Actor). x.running) (get_or-set_same w.actors actor (record { hand = h; running = None }) idle there);
+      ended = ap (λ (x : Actor). is_done_with x.running)
+          (get_or-set_same w.actors actor (record { hand = h; running = None }) idle there);
       pool = on;
     })
 

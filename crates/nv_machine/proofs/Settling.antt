@@ -22,11 +22,11 @@ use Rattle.nv_machine.specs.Reads.{is_written, slot_at, written_slots}
 use Rattle.nv_machine.specs.Sequence.{appending, closing, publishing, retiring}
 use Rattle.nv_machine.specs.Settled.{settled, settled_tail}
 use Rattle.nv_machine.specs.World.{Append, Close, HandState, Open, Publish, Retire, Running, Shared, cell_at, no_cell, owner_at, with_book, with_cell}
-use Rattle.nv_machine.proofs.Written.{written_inside, written_there}
+use Rattle.nv_machine.proofs.Written.{written_there}
 use Rattle.nv_machine.proofs.Appended.{AreTests, GrownBy, as_next, tests_appending, tests_retiring, tests_several, tests_single}
 use Rattle.nv_machine.proofs.Grown.{CellsLeft, OnGrown}
 use Rattle.nv_machine.proofs.Journals.{closed_tail, open_same}
-use Rattle.nv_machine.proofs.Lists.{has_drop, has_later, has_take, rising_filter, take_apart}
+use Rattle.nv_machine.proofs.Lists.{has_drop, has_later, has_take, rising_filter, take_apart, written_inside}
 use Rattle.nv_machine.proofs.LogsKept.{cell_set}
 use Rattle.nv_machine.proofs.Entered.{entries_more, pages_keep}
 

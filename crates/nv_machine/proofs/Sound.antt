@@ -10,12 +10,12 @@ use Rattle.nv_alloc.specs.FreeList.{FreeBlocks}
 use Rattle.nv_alloc.specs.Giving.{after_giving}
 use Rattle.nv_alloc.proofs.GivingLemmas.{AreSized-kept}
 use Rattle.nv_base.specs.declared.geometry.GeometryNumbers.{GeometryNumbers}
-use Rattle.nv_calls.specs.Retiring.{erased, freed_by, is_erased, number_back}
+use Rattle.nv_calls.specs.Retiring.{erased, freed_by, is_erased, number_back, name_of, released, released_blocks}
 use Rattle.nv_calls.specs.Slots.{entries_of, items_for, place_in}
 use Rattle.nv_calls.specs.declared.call.Call.{Call}
 use Rattle.nv_calls.specs.declared.call.Call.TheVariants as call
 use Rattle.nv_cell.specs.Append.{IsWithinFile}
-use Rattle.nv_cell.specs.Cell.{CellState, published}
+use Rattle.nv_cell.specs.Cell.{CellState, published, number_in}
 use Rattle.nv_cell.specs.declared.killed.KilledPart.{KilledPart}
 use Rattle.nv_entry.specs.Bytes.{page_of}
 use Rattle.nv_entry.specs.declared.item.Entry.{Entry}
@@ -25,13 +25,15 @@ use Rattle.nv_machine.specs.Hands.{AreLists, HandAt, HasPlanned, IsParted}
 use Rattle.nv_machine.specs.Kinds.{asked_list, blocks_in, blocks_left, entries_for, first_killed, less_list, retired_cell, with_entries, with_freed, with_pages}
 use Rattle.nv_calls.specs.FillPages.{filled, fresh_pages}
 use Rattle.nv_machine.specs.Reads.{copies, pages_needed, slot_at, written_slots}
-use Rattle.nv_machine.specs.World.{Append, Back, Check, Close, Enter, Give, HandState, Leave, Lock, Look, Next, Number, Open, Publish, Ready, Retire, Running, Shared, TakeBlocks, TakePages, Unlock, Visit, cell_at, list_at, no_cell, no_list, with_cell}
+use Rattle.nv_machine.specs.World.{Append, Back, Check, Close, Enter, Give, HandState, Leave, Lock, Look, Next, Number, Open, Publish, Ready, Retire, Running, Shared, TakeBlocks, TakePages, Unlock, Visit, cell_at, list_at, no_cell, no_list, with_cell, Drop, LockPicked, Make, Pick, Pin, Release, Show, Snapshots, Unpin}
 use Rattle.nv_machine.proofs.Counted.{given_all}
 use Rattle.nv_machine.proofs.HandedCommits.{slot_first}
-use Rattle.nv_machine.proofs.Kept.{append_deed, back_deed, deed, number_deed, retire_deed}
+use Rattle.nv_machine.proofs.Kept.{append_deed, back_deed, deed, number_deed, retire_deed, release_deed}
 use Rattle.nv_machine.proofs.Locked.{Before}
-use Rattle.nv_machine.proofs.Parted.{entries_parted, erased_parted, freed_by_sized, paged_parted, published_parted, retired_parted, sized_both, sized_first, sized_later}
+use Rattle.nv_machine.proofs.Parted.{entries_parted, erased_parted, freed_by_sized, paged_parted, published_parted, retired_parted, sized_both, sized_first, sized_later, freed_sized, settled_parted}
 use Rattle.nv_machine.proofs.Sorted.{given_free, less_free, with_home}
+use Rattle.nv_machine.specs.Snapshots.{with_released}
+use Rattle.nv_book.specs.declared.record.Record.{Record}
 
 -- ---- all cells, where one is another
 
@@ -128,6 +130,7 @@ fresh_sized block nodes (call.Mode handle mode) = tt
 fresh_sized block nodes (call.Stat handle) = tt
 fresh_sized block nodes (call.List dir) = tt
 fresh_sized block nodes (call.Lookup dir name) = tt
+fresh_sized block nodes (call.Snapshots what) = tt
 fresh_sized block nodes (call.Unlink dir name) = tt
 fresh_sized block nodes (call.Rmdir dir name) = tt
 fresh_sized block nodes (call.Rename from old to new) = tt
@@ -211,6 +214,44 @@ retire_sound g ino killed s h r sound = record {
     chain = sized_both g.block h.chain (retired_cell ino killed s r).chain.blocks freed.chain parted.pages;
   })
   sized false = in_all g.block (with_freed ino killed s r h) freed
+
+-- a release: the block goes to the hand, and an erased chain too
+release_sound : (g : GeometryNumbers) (picked : Record) (s : Shared) (h : HandState) → IsSound g s h
+    → IsSound g (release_deed picked s h).shared (release_deed picked s h).hand
+release_sound g picked s h sound = record {
+  lists = record { cpus = sound.lists.cpus; each = sound.lists.each };
+  cells = with_parted g picked.ino (erased cell) s sound.cells (erased_parted g.block cell parted);
+  sized = sized (is_erased cell);
+} where
+  cell : CellState
+  cell = released picked (cell_at s picked.ino)
+
+  parted : IsParted g.block (released picked (cell_at s picked.ino))
+  parted = settled_parted g.block None (number_in (cell_at s picked.ino) (name_of picked)) (cell_at s picked.ino) (sound.cells picked.ino)
+
+  freed : AllSized g.block (with_released picked s h)
+  freed =
+      let all = all_sized g.block h sound.sized in
+      record {
+        blocks = sized_both g.block h.blocks (released_blocks picked (cell_at s picked.ino)) all.blocks
+            (freed_sized g.block None (number_in (cell_at s picked.ino) (name_of picked)) (cell_at s picked.ino) (sound.cells picked.ino));
+        pages = all.pages;
+        chain = all.chain;
+      }
+
+  with_chain : HandState
+  with_chain = record (with_released picked s h) {
+    chain = h.chain ++ (released picked (cell_at s picked.ino)).chain.blocks;
+    ino = number_back picked.ino (released picked (cell_at s picked.ino)) h.ino;
+  }
+
+  sized : (b : Bool) → AreSized g.block (blocks_in (if b then with_chain else with_released picked s h))
+  sized true = in_all g.block with_chain (record {
+    blocks = freed.blocks;
+    pages = freed.pages;
+    chain = sized_both g.block h.chain (released picked (cell_at s picked.ino)).chain.blocks freed.chain parted.pages;
+  })
+  sized false = in_all g.block (with_released picked s h) freed
 
 -- ---- every kind
 
@@ -297,3 +338,17 @@ deed_sound g (Give cpu) a s h r b at sound = record {
 }
 deed_sound g Back a s h r b at sound = back_sound g h.ino s h sound
 deed_sound g Visit a s h r b at sound = sound
+deed_sound g (Snapshots (Release draining picked)) a s h r b at sound = release_sound g picked s h sound
+deed_sound g (Snapshots (Show snapshot showing)) a s h r b at sound = sound
+deed_sound g (Snapshots Make) a s h r b at sound =
+    record { lists = record { cpus = sound.lists.cpus; each = sound.lists.each }; cells = sound.cells; sized = sound.sized }
+deed_sound g (Snapshots (Drop snapshot)) a s h r b at sound =
+    record { lists = record { cpus = sound.lists.cpus; each = sound.lists.each }; cells = sound.cells; sized = sound.sized }
+deed_sound g (Snapshots (Pin snapshot)) a s h r b at sound =
+    record { lists = record { cpus = sound.lists.cpus; each = sound.lists.each }; cells = sound.cells; sized = sound.sized }
+deed_sound g (Snapshots (Unpin snapshot seen)) a s h r b at sound =
+    record { lists = record { cpus = sound.lists.cpus; each = sound.lists.each }; cells = sound.cells; sized = sound.sized }
+deed_sound g (Snapshots (Pick draining)) a s h r b at sound =
+    record { lists = record { cpus = sound.lists.cpus; each = sound.lists.each }; cells = sound.cells; sized = sound.sized }
+deed_sound g (Snapshots (LockPicked draining picked)) a s h r b at sound =
+    record { lists = record { cpus = sound.lists.cpus; each = sound.lists.each }; cells = sound.cells; sized = sound.sized }

@@ -6,7 +6,7 @@ use Rattle.std.proofs.lemmas.Bool.{and_parts, eqb-true, false≢true, ltb-false}
 use Rattle.std.proofs.lemmas.Option.{none-some}
 use Rattle.nv_alloc.specs.Block.{BlockValue}
 use Rattle.nv_alloc.specs.Numbers.{has}
-use Rattle.nv_calls.specs.Retiring.{erased, is_erased}
+use Rattle.nv_calls.specs.Retiring.{erased, is_erased, released}
 use Rattle.nv_calls.proofs.Retires.{chain_stays}
 use Rattle.nv_cell.specs.Cell.{CellState, empty_cell, mark_or_fresh, published}
 use Rattle.nv_cell.specs.Marks.{is_there}
@@ -26,9 +26,11 @@ use Rattle.nv_machine.specs.Numbers.{of_part}
 use Rattle.nv_machine.specs.Reads.{is_written, slot_at, written_slots}
 use Rattle.nv_machine.specs.Sequence.{appending, closing, opening, publishing}
 use Rattle.nv_machine.specs.Step.{kind_turn}
-use Rattle.nv_machine.specs.World.{Append, Back, Check, Close, Ends, Enter, Give, HandState, Leave, Lock, Look, Moves, Next, Number, Open, Publish, Ready, Retire, Running, Shared, TakeBlocks, TakePages, Turn, Unlock, Visit, Waits, cell_at, no_cell, owner_at}
+use Rattle.nv_machine.specs.World.{Append, Back, Check, Close, Ends, Enter, Give, HandState, Leave, Lock, Look, Moves, Next, Number, Open, Publish, Ready, Retire, Running, Shared, TakeBlocks, TakePages, Turn, Unlock, Visit, Waits, cell_at, no_cell, owner_at, Drop, LockPicked, Make, Pick, Pin, Release, Show, Snapshots, Unpin, Drains}
 use Rattle.nv_machine.proofs.Lists.{drop_all, has_drop, has_filter, has_later, has_take, self}
 use Rattle.nv_machine.proofs.Locked.{Before}
+use Rattle.nv_machine.specs.Snapshots.{one_more}
+use Rattle.nv_machine.proofs.Kept.{AfterTurn, end_keeps}
 
 -- ---- what is unpublished is held
 
@@ -63,6 +65,7 @@ unpublished_held (Unlock place) r ino h = absurd (false≢true h)
 unpublished_held (Give cpu) r ino h = absurd (false≢true h)
 unpublished_held Back r ino h = absurd (false≢true h)
 unpublished_held Visit r ino h = absurd (false≢true h)
+unpublished_held (Snapshots step) r ino h = absurd (false≢true h)
 
 none_true : (b : Bool) → (b ≡ true → ⊥) → b ≡ false
 none_true true h = absurd (h refl)
@@ -148,6 +151,7 @@ left_unpublished (Unlock place) block a granted s h r b ino apart there = absurd
 left_unpublished (Give cpu) block a granted s h r b ino apart there = absurd (false≢true there)
 left_unpublished Back block a granted s h r b ino apart there = absurd (false≢true there)
 left_unpublished Visit block a granted s h r b ino apart there = absurd (false≢true there)
+left_unpublished (Snapshots step) block a granted s h r b ino apart there = absurd (false≢true there)
 
 -- ---- the cell that is lent
 
@@ -180,6 +184,11 @@ none_lent ino e = absurd (none-some ino e)
 
 same_slot : (n ino : ℕ) → Some n ≡ Some ino → n ≡ ino
 same_slot n ino e = ap (λ (o : Option ℕ). unwrap_or o 0) e
+
+after_tail : (ino : ℕ) (t : Turn) → AfterTurn (λ u k. IsTailLast (cell_at u ino)) t → LeavesTail ino t
+after_tail ino (Moves u k q) on = inr on
+after_tail ino Waits on = tt
+after_tail ino (Ends result u k) on = on
 
 -- of the cell that is lent
 pub lent_tail : (k : Next) (block a : ℕ) (granted : Bool) (s : Shared) (h : HandState) (r : Running) → Before a s k r → (ino : ℕ)
@@ -219,6 +228,21 @@ lent_tail (Unlock place) block a granted s h r b ino is inside was = none_lent i
 lent_tail (Give cpu) block a granted s h r b ino is inside was = none_lent ino is
 lent_tail Back block a granted s h r b ino is inside was = none_lent ino is
 lent_tail Visit block a granted s h r b ino is inside was = none_lent ino is
+lent_tail (Snapshots (Release draining picked)) block a granted s h r b ino is inside was =
+    let same = same_slot picked.ino ino is in
+    let cell = released picked (cell_at s picked.ino) in
+    let last = subst (λ (n : ℕ). IsTailLast (cell_at s n)) (sym same) (was refl) in
+    after_tail ino (kind_turn (Snapshots (Release draining picked)) block a granted s h r)
+    (end_keeps (λ t k. IsTailLast (cell_at t ino)) r.slots (Drains (one_more draining)) _ _ r
+    (subst (λ (n : ℕ). IsTailLast (slice_index_or (set s.cells picked.ino (erased cell)) n no_cell)) same
+    (set_tail picked.ino (erased cell) s (omega (arith, same, inside)) (erased_tail cell last))))
+lent_tail (Snapshots Make) block a granted s h r b ino is inside was = none_lent ino is
+lent_tail (Snapshots (Drop snapshot)) block a granted s h r b ino is inside was = none_lent ino is
+lent_tail (Snapshots (Pin snapshot)) block a granted s h r b ino is inside was = none_lent ino is
+lent_tail (Snapshots (Show snapshot showing)) block a granted s h r b ino is inside was = none_lent ino is
+lent_tail (Snapshots (Unpin snapshot seen)) block a granted s h r b ino is inside was = none_lent ino is
+lent_tail (Snapshots (Pick draining)) block a granted s h r b ino is inside was = none_lent ino is
+lent_tail (Snapshots (LockPicked draining picked)) block a granted s h r b ino is inside was = none_lent ino is
 
 -- ---- an erased cell has no block in a part
 

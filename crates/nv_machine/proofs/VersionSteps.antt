@@ -5,7 +5,7 @@ use Rattle.std.proofs.lemmas.Bool.{false≢true, leb-false}
 use Rattle.nv_alloc.specs.Block.{BlockValue}
 use Rattle.nv_alloc.specs.Numbers.{has}
 use Rattle.nv_base.specs.declared.limits.TheConstants.{NUMBER}
-use Rattle.nv_calls.specs.Retiring.{erased}
+use Rattle.nv_calls.specs.Retiring.{erased, released}
 use Rattle.nv_calls.proofs.Next.{by_erased, keeps}
 use Rattle.nv_cell.specs.Append.{appended, blocks_for}
 use Rattle.nv_cell.specs.Cell.{CellState, published}
@@ -19,15 +19,16 @@ use Rattle.nv_machine.specs.Reads.{is_written, pages_needed, slot_at, written_sl
 use Rattle.nv_machine.specs.Sequence.{closing, opening, publishing, retiring}
 use Rattle.nv_machine.specs.Step.{kind_turn}
 use Rattle.nv_machine.specs.Versions.{AreVersions, HasUnseen, to_publish}
-use Rattle.nv_machine.specs.World.{Append, Back, Check, Close, Ends, Enter, Give, HandState, Leave, Lock, Look, Moves, Next, Number, Open, Publish, Ready, Retire, Running, Shared, TakeBlocks, TakePages, Turn, Unlock, Visit, Waits, cell_at, no_cell, with_book, with_cell}
+use Rattle.nv_machine.specs.World.{Append, Back, Check, Close, Ends, Enter, Give, HandState, Leave, Lock, Look, Moves, Next, Number, Open, Publish, Ready, Retire, Running, Shared, TakeBlocks, TakePages, Turn, Unlock, Visit, Waits, cell_at, no_cell, with_book, with_cell, Drop, LockPicked, Make, Pick, Pin, Release, Show, Snapshots, Unpin}
 use Rattle.nv_machine.proofs.Entered.{OnShared, end_shared}
 use Rattle.nv_machine.proofs.Framed.{framed}
 use Rattle.nv_machine.proofs.Holding.{OnLocks}
 use Rattle.nv_machine.proofs.Kept.{AfterTurn, back_deed, deed, end_keeps, number_deed, turn_keeps}
-use Rattle.nv_machine.proofs.Lists.{drop_apart, has_drop, has_filter, has_later, or_right, rising_filter, self}
+use Rattle.nv_machine.proofs.Lists.{drop_apart, has_drop, has_filter, has_later, or_right, rising_filter, self, written_inside}
 use Rattle.nv_machine.proofs.Locked.{Before, locks_kept}
 use Rattle.nv_machine.proofs.LogsKept.{cell_set}
-use Rattle.nv_machine.proofs.Written.{written_inside, written_there}
+use Rattle.nv_machine.proofs.Written.{written_there}
+use Rattle.nv_machine.proofs.KeptTurns.{lent_inside_own}
 
 -- ---- cells
 
@@ -80,6 +81,7 @@ pub publish_held : (next : Next) (r : Running) (ino : ℕ) → has (to_publish n
 publish_held (Append place) r ino there = has_filter (is_written r.plan) r.slots ino there
 publish_held Open r ino there = has_filter (is_written r.plan) r.slots ino there
 publish_held (Publish place) r ino there = has_filter (is_written r.plan) r.slots ino (has_later place (written_slots r) ino there)
+publish_held (Snapshots step) r ino there = absurd (false≢true there)
 publish_held Number r ino there = absurd (false≢true there)
 publish_held (Look place) r ino there = absurd (false≢true there)
 publish_held (Lock place) r ino there = absurd (false≢true there)
@@ -191,6 +193,14 @@ module _ (block a : ℕ) (s : Shared) (h : HandState) (r : Running) (are : AreVe
   turn_unseen (Give cpu) granted b yet = silent (Give cpu) granted refl refl b
   turn_unseen Back granted b yet = silent Back granted refl refl b
   turn_unseen Visit granted b yet = silent Visit granted refl refl b
+  turn_unseen (Snapshots Make) granted b yet = silent (Snapshots Make) granted refl refl b
+  turn_unseen (Snapshots (Drop snapshot)) granted b yet = silent (Snapshots (Drop snapshot)) granted refl refl b
+  turn_unseen (Snapshots (Pin snapshot)) granted b yet = silent (Snapshots (Pin snapshot)) granted refl refl b
+  turn_unseen (Snapshots (Show snapshot showing)) granted b yet = silent (Snapshots (Show snapshot showing)) granted refl refl b
+  turn_unseen (Snapshots (Unpin snapshot seen)) granted b yet = silent (Snapshots (Unpin snapshot seen)) granted refl refl b
+  turn_unseen (Snapshots (Pick draining)) granted b yet = silent (Snapshots (Pick draining)) granted refl refl b
+  turn_unseen (Snapshots (LockPicked draining picked)) granted b yet = silent (Snapshots (LockPicked draining picked)) granted refl refl b
+  turn_unseen (Snapshots (Release draining picked)) granted b yet = silent (Snapshots (Release draining picked)) granted refl refl b
 
   -- ---- all cells
 
@@ -268,3 +278,23 @@ module _ (block a : ℕ) (s : Shared) (h : HandState) (r : Running) (are : AreVe
   turn_versions (Give cpu) granted b yet = keeps_versions (Give cpu) granted (record { cells = are.cells; limit = are.limit })
   turn_versions Back granted b yet = keeps_versions Back granted (back_versions h.ino)
   turn_versions Visit granted b yet = keeps_versions Visit granted are
+  turn_versions (Snapshots Make) granted b yet =
+      keeps_versions (Snapshots Make) granted (record { cells = are.cells; limit = are.limit })
+  turn_versions (Snapshots (Drop snapshot)) granted b yet =
+      keeps_versions (Snapshots (Drop snapshot)) granted (record { cells = are.cells; limit = are.limit })
+  turn_versions (Snapshots (Pin snapshot)) granted b yet =
+      keeps_versions (Snapshots (Pin snapshot)) granted (record { cells = are.cells; limit = are.limit })
+  turn_versions (Snapshots (Show snapshot showing)) granted b yet = keeps_versions (Snapshots (Show snapshot showing)) granted are
+  turn_versions (Snapshots (Unpin snapshot seen)) granted b yet =
+      keeps_versions (Snapshots (Unpin snapshot seen)) granted (record { cells = are.cells; limit = are.limit })
+  turn_versions (Snapshots (Pick draining)) granted b yet =
+      keeps_versions (Snapshots (Pick draining)) granted (record { cells = are.cells; limit = are.limit })
+  turn_versions (Snapshots (LockPicked draining picked)) granted b yet =
+      keeps_versions (Snapshots (LockPicked draining picked)) granted (record { cells = are.cells; limit = are.limit })
+  turn_versions (Snapshots (Release draining picked)) granted b yet =
+      let cell = released picked (cell_at s picked.ino) in
+      let same : cell.version ≤ s.book.commit = are.cells picked.ino in
+      keeps_versions (Snapshots (Release draining picked)) granted
+      (with_version s picked.ino (erased cell) refl refl
+      (lent_inside_own (Snapshots (Release draining picked)) a s r b picked.ino refl).0
+      (by_erased (λ (c : CellState). c.version ≤ s.book.commit) cell same same))

@@ -50,6 +50,7 @@ module _ (w : World) (logs : AreGrown w) where
       call_same w.numbers.block (settled_nodes w.shared) (nodes w.shared) taken (call.List dir) (free_node dir free, tt)
   visit_same taken (call.Lookup dir name) is free =
       call_same w.numbers.block (settled_nodes w.shared) (nodes w.shared) taken (call.Lookup dir name) (free_node dir free, tt)
+  visit_same taken (call.Snapshots what) is free = cc
   visit_same taken (call.Create dir name mode) is free = cc
   visit_same taken (call.Mkdir dir name mode) is free = cc
   visit_same taken (call.Write file offset text) is free = cc

@@ -1,5 +1,5 @@
 -- The slots that a plan is written in, and what it has for each.
-use Rattle.std.proofs.Common.{◌≡◌, ℕ, ◌<◌, ◌≤◌, ◌==◌, ◌||◌, ◌++◌, ◌∙◌, ◌⊎◌, inl, inr, Bool, true, false, cond, List, [], ◌∷◌, ap, arith, filter, flat_map, length, nat_lt, refl, subst, sym}
+use Rattle.std.proofs.Common.{◌≡◌, ℕ, ◌<◌, ◌≤◌, ◌==◌, ◌++◌, ◌∙◌, ◌⊎◌, inl, inr, Bool, true, false, cond, List, [], ◌∷◌, ap, arith, filter, flat_map, length, nat_lt, refl, sym}
 use Rattle.std.specs.List.{AllByRecursion}
 use Rattle.std.proofs.lemmas.Bool.{eqb-true, false≢true}
 use Rattle.nv_alloc.specs.Numbers.{IsRising, has}
@@ -10,29 +10,16 @@ use Rattle.nv_cell.specs.Append.{IsWithinFile}
 use Rattle.nv_entry.specs.Blocks.{item_blocks}
 use Rattle.nv_entry.specs.declared.item.Item.{Item}
 use Rattle.nv_machine.specs.Kept.{IsPlanFor}
-use Rattle.nv_machine.specs.Locks.{AreSlots}
 use Rattle.nv_machine.specs.Reads.{is_written, slot_at, written_slots}
 use Rattle.nv_machine.specs.World.{Running}
 use Rattle.nv_machine.proofs.CellSteps.{HaveFront}
-use Rattle.nv_machine.proofs.Lists.{has_at, has_filter}
+use Rattle.nv_machine.proofs.Lists.{has_at}
 
 -- ---- slots that are written
-
-all_has : (P : ℕ → Type 0) (xs : List ℕ) (n : ℕ) → AllByRecursion P xs → has xs n ≡ true → P n
-all_has P [] n all h = cc
-all_has P (x ∷ xs) n all h = go (x == n) refl (λ k. all_has P xs n all.1 k) h where
-  go : (b : Bool) → (x == n) ≡ b → (has xs n ≡ true → P n) → (b || has xs n) ≡ true → P n
-  go true e more k = subst P (eqb-true x n e) all.0
-  go false e more k = more k
 
 pub written_there : (r : Running) (place : ℕ) → place < length (written_slots r)
     → has (written_slots r) (slot_at (written_slots r) place) ≡ true
 written_there r place lt = has_at (written_slots r) place lt
-
-pub written_inside : (many : ℕ) (r : Running) (place : ℕ) → AreSlots many r.slots → place < length (written_slots r)
-    → slot_at (written_slots r) place < many
-written_inside many r place are lt = all_has (λ n. n < many) r.slots (slot_at (written_slots r) place) are.inside
-    (has_filter (is_written r.plan) r.slots (slot_at (written_slots r) place) (has_at (written_slots r) place lt))
 
 -- a plan of one inode is written in one slot
 none_above : (f : ℕ → Bool) (k : ℕ) → ((n : ℕ) → f n ≡ true → n ≡ k) → (xs : List ℕ) → AllByRecursion (λ n. k < n) xs → filter f xs ≡ []

@@ -1,8 +1,27 @@
 -- How many steps a call has left at most.
 use Rattle.std.specs.Prelude.{ℕ, ◌+◌, ◌-◌, ◌*◌, ◌<◌, ◌≢◌, ◌==◌, if◌then◌else◌, List, [], ◌∷◌, length, Option, Some, None}
 use Rattle.std.specs.List.{AllByRecursion}
+use Rattle.nv_base.specs.declared.limits.TheConstants.{DRAIN, INODES}
+use Rattle.nv_calls.specs.declared.call.Call.{Call}
+use Rattle.nv_calls.specs.declared.call.Call.TheVariants as call
+use Rattle.nv_calls.specs.declared.snapshot_call.SnapshotCall.TheVariants as on
 use Rattle.nv_machine.specs.Step.{step}
-use Rattle.nv_machine.specs.World.{Append, Back, Check, Close, Ends, Enter, Event, Give, Go, Leave, Lock, Look, Moved, Moves, Next, Number, Open, Publish, Ready, Reply, Retire, Running, Start, TakeBlocks, TakePages, Turn, Unlock, Visit, Waits, World, actor_at}
+use Rattle.nv_machine.specs.World.{Append, Back, Check, Close, Drains, Drop, Ending, Ends, Enter, Event, Give, Go, Leave, Lock, LockPicked, Look, Make, Moved, Moves, Next, Number, Open, Pick, Pin, Publish, Ready, Release, Reply, Retire, Running, Show, SnapshotStep, Snapshots, Start, TakeBlocks, TakePages, Turn, Unlock, Unpin, Visit, Waits, World, actor_at}
+
+-- a whole round, whatever its looks find
+abbrev pub round : ℕ → ℕ
+round cpus = 44 + 3 * cpus
+
+-- the steps left of a call on snapshots, of a drain with the records that it may still release
+abbrev pub rank_on : ℕ → ℕ → SnapshotStep → ℕ
+rank_on cpus slots Make = 4 + cpus + slots
+rank_on cpus slots (Drop snapshot) = 4 + cpus + slots
+rank_on cpus slots (Pin snapshot) = INODES + (4 + cpus + slots)
+rank_on cpus slots (Show snapshot showing) = 2 + showing.left
+rank_on cpus slots (Unpin snapshot seen) = 1
+rank_on cpus slots (Release draining picked) = draining.left * round cpus + (4 + cpus + slots)
+rank_on cpus slots (LockPicked draining picked) = draining.left * round cpus + (5 + cpus + slots)
+rank_on cpus slots (Pick draining) = draining.left * round cpus + (7 + cpus + slots)
 
 -- the steps left in one round, by the step that comes next, with so many CPUs and slots to lock
 abbrev pub rank : ℕ → ℕ → Next → ℕ
@@ -24,18 +43,26 @@ rank cpus slots Visit = 14 + 3 * cpus + 4 * slots
 rank cpus slots (Lock place) = 15 + 3 * cpus + 4 * slots + (slots - place)
 rank cpus slots Number = 41 + 3 * cpus
 rank cpus slots (Look place) = 41 + 3 * cpus + (2 - place)
+rank cpus slots (Snapshots step) = rank_on cpus slots step
 
--- a whole round, whatever its looks find
-abbrev pub round : ℕ → ℕ
-round cpus = 44 + 3 * cpus
+-- and behind a record that a drain has released, those of the records that it may still release
+abbrev pub rank_behind : ℕ → Ending → ℕ
+rank_behind cpus (Drains draining) = draining.left * round cpus
+rank_behind cpus other = 0
 
 -- the steps left of a call, with the rounds that it may still make
 abbrev pub bound : ℕ → Running → ℕ
-bound cpus r = r.rounds * round cpus + rank cpus (length r.slots) r.next
+bound cpus r = rank_behind cpus r.ending + r.rounds * round cpus + rank cpus (length r.slots) r.next
 
--- eight rounds
+-- the steps of a call: eight rounds, a visit for each inode that there can be, or a round for each record that it may release
+abbrev pub most_steps_of : Call → ℕ → ℕ
+most_steps_of (call.Snapshots (on.Drain count)) cpus = (8 + DRAIN) * round cpus
+most_steps_of (call.Snapshots c) cpus = 8 * round cpus + INODES
+most_steps_of c cpus = 8 * round cpus
+
+-- and of any call
 abbrev pub most_steps : ℕ → ℕ
-most_steps cpus = 8 * round cpus
+most_steps cpus = (8 + DRAIN) * round cpus
 
 -- what is moved on to has fewer steps left than so many
 abbrev pub Falls : ℕ → ℕ → Turn → Type 0

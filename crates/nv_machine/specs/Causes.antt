@@ -1,18 +1,20 @@
 -- For what a step refuses its call.
 use Rattle.std.specs.Prelude.{◌≡◌, ℕ, ◌+◌, ◌<◌, ◌≤◌, ◌⊎◌, Bool, true, false, [], length, Option, None, Result, Ok, Err}
 use Rattle.nv_base.specs.declared.fault.Fault.{Fault}
-use Rattle.nv_base.specs.declared.fault.Fault.TheVariants.{CommitLimit, Contended, NoInode, NoSpace, OutOfMemory}
+use Rattle.nv_base.specs.declared.fault.Fault.TheVariants.{CommitLimit, Contended, NoInode, NoSnapshot, NoSpace, OutOfMemory}
 use Rattle.nv_base.specs.declared.limits.TheConstants.{NUMBER}
 use Rattle.nv_base.specs.declared.numbers.Handle.{Handle}
 use Rattle.nv_entry.specs.declared.node.NodeCopy.{NodeCopy}
 use Rattle.nv_calls.specs.AllCalls.{early, look_refusal, looked, refusal}
 use Rattle.nv_calls.specs.Refusals.{passes}
 use Rattle.nv_calls.specs.declared.answer.Answer.{Answer}
-use Rattle.nv_machine.specs.Answered.{IsLast}
+use Rattle.nv_machine.specs.Answered.{IsEnding}
 use Rattle.nv_machine.specs.Kinds.{asked_list}
 use Rattle.nv_machine.specs.Sequence.{beginning}
+use Rattle.nv_epoch.specs.SnapList.{pins_of}
+use Rattle.nv_machine.specs.Snapshots.{drop_tests, is_first, make_tests}
 use Rattle.nv_machine.specs.Step.{is_numbered, same_looked, visit_grows}
-use Rattle.nv_machine.specs.World.{Answers, Check, Ending, Ends, Enter, HandState, Look, Moves, Next, Overtaken, Ready, Refuses, Running, Shared, TakeBlocks, TakePages, Turn, Visit, Waits, list_at}
+use Rattle.nv_machine.specs.World.{Answers, Check, Drains, Drop, Ending, Ends, Enter, HandState, Look, Make, Moves, Next, Overtaken, Pick, Pin, Ready, Refuses, Running, Shared, Show, SnapshotStep, Snapshots, TakeBlocks, TakePages, Turn, Visit, Waits, list_at}
 
 -- ---- causes
 
@@ -54,6 +56,16 @@ IsLastRound nodes r fault = (fault ≡ Contended) × IsOvertaken nodes r × (r.s
 abbrev pub IsRoundless : Running → Fault → Type 0
 IsRoundless r fault = (fault ≡ Contended) × (r.rounds ≡ 0)
 
+-- for what a step of a call on snapshots refuses it: no further epoch or no room for one more snapshot, no such snapshot, one that
+-- has a pin, or memory that a show or a first pick asks for
+abbrev pub IsCauseOn : SnapshotStep → Bool → Shared → Fault → Type 0
+IsCauseOn Make granted s fault = make_tests s.book.snaps ≡ Err fault
+IsCauseOn (Drop snapshot) granted s fault = drop_tests (pins_of s.book.snaps snapshot) ≡ Err fault
+IsCauseOn (Pin snapshot) granted s fault = (fault ≡ NoSnapshot) × (pins_of s.book.snaps snapshot ≡ None)
+IsCauseOn (Show snapshot showing) granted s fault = IsDenied granted fault
+IsCauseOn (Pick draining) granted s fault = IsDenied granted fault × (is_first draining ≡ true)
+IsCauseOn other granted s fault = ⊥
+
 -- for what each step refuses its call, where it reads these nodes; the others refuse nothing
 abbrev pub IsCause : Next → ℕ → ℕ → Bool → (Handle → Option NodeCopy) → Shared → HandState → Running → Fault → Type 0
 IsCause (Look place) block actor granted nodes s h r fault = look_refusal nodes r.call ≡ Err fault
@@ -66,6 +78,7 @@ IsCause Ready block actor granted nodes s h r fault = IsDenied granted fault
 IsCause Enter block actor granted nodes s h r fault = IsAtLimit s fault ⊎ IsDenied granted fault
 IsCause Visit block actor granted nodes s h r fault =
     IsRefusal block nodes r fault ⊎ (IsDenied granted fault × (visit_grows r.call ≡ true) × Passes block nodes r)
+IsCause (Snapshots step) block actor granted nodes s h r fault = IsCauseOn step granted s fault
 IsCause other block actor granted nodes s h r fault = ⊥
 
 -- a call may be overtaken at its check alone
@@ -77,9 +90,10 @@ MayBeOvertaken other nodes r = ⊥
 
 -- whatever fault a call is to end with meets this, and the call has only its last steps left; and this holds where it is overtaken
 abbrev pub EndsFor : (Fault → Type 0) → Type 0 → Next → Ending → Type 0
-EndsFor P Q next (Refuses fault) = P fault × IsLast next
+EndsFor P Q next (Refuses fault) = P fault × IsEnding next
 EndsFor P Q next Answers = Unit {0}
 EndsFor P Q next Overtaken = Q
+EndsFor P Q next (Drains draining) = Unit {0}
 
 abbrev pub ResultFor : (Fault → Type 0) → Result Answer Fault → Type 0
 ResultFor P (Ok found) = Unit {0}

@@ -6,6 +6,8 @@ use Rattle.nv_calls.specs.AllCalls.{answer, effect, looked, refusal}
 use Rattle.nv_calls.specs.Plain.{Change, node_in}
 use Rattle.nv_calls.specs.Refusals.{Check as Tests}
 use Rattle.nv_calls.specs.declared.answer.Answer.{Answer}
+use Rattle.nv_calls.specs.declared.call.Call.{Call}
+use Rattle.nv_calls.specs.declared.call.Call.TheVariants as call
 use Rattle.nv_machine.specs.PlainRun.{deed, keeps_nodes}
 use Rattle.nv_machine.specs.Reads.{written_slots}
 use Rattle.nv_machine.specs.Settled.{settled_nodes}
@@ -33,6 +35,11 @@ is_answered (Moves s h r) = false
 is_answered Waits = false
 is_answered (Ends (Ok told) s h) = true
 is_answered (Ends (Err fault) s h) = false
+
+-- a call on snapshots, of which the laws of snapshots tell the answer
+abbrev pub is_on_snapshots : Call → Bool
+is_on_snapshots (call.Snapshots c) = true
+is_on_snapshots other = false
 
 -- WHETHER A STEP DECIDES that its call is answered, by the nodes of the plain world: a commit point does; a check where the call has
 -- nothing to do; and a visit that is answered, and that the plain world does not refuse

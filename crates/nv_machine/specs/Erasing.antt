@@ -1,5 +1,5 @@
 -- What becomes of an inode that is gone, once nothing is kept of it.
-use Rattle.std.specs.Prelude.{◌≡◌, ◌⊎◌, ℕ, ◌+◌, ◌==◌, ◌++◌, Bool, true, false, if◌then◌else◌, Some, None, filter, map, slice_index_or}
+use Rattle.std.specs.Prelude.{◌≡◌, ◌⊎◌, ℕ, ◌+◌, ◌++◌, Bool, true, false, if◌then◌else◌, List, Option, Some, None, filter, map, slice_index_or}
 use Rattle.std.specs.List.{AllByRecursion}
 use Rattle.nv_alloc.specs.Block.{BlockValue, numbers_of}
 use Rattle.nv_alloc.specs.Numbers.{has}
@@ -10,24 +10,31 @@ use Rattle.nv_entry.specs.Held.{Retention, keeps}
 use Rattle.nv_entry.specs.Log.{pairs}
 use Rattle.nv_entry.specs.declared.held.Pair.{Pair}
 use Rattle.nv_epoch.specs.SnapList.{ids}
-use Rattle.nv_machine.specs.Held.{name_of}
+use Rattle.nv_calls.specs.Retiring.{name_of}
+use Rattle.nv_machine.specs.Held.{is_of_slot, pending_in}
 use Rattle.nv_machine.specs.PoolScan.{is_withheld}
 use Rattle.nv_machine.specs.Settled.{settled}
-use Rattle.nv_machine.specs.World.{Back, Give, Leave, Next, Retire, Running, Shared, Unlock, World, actor_at, cell_at}
+use Rattle.nv_machine.specs.Step.{changed}
+use Rattle.nv_machine.specs.World.{Back, Give, Leave, Next, Pick, Retire, Running, Shared, Snapshots, Unlock, World, actor_at, cell_at, empty_hand}
 
--- what keeps the pairs of a slot, but for a hand that has killed them: the living snapshots and, by name, what is deferred
-abbrev pub keepers_of : Shared → ℕ → Retention
-keepers_of s ino = record {
+-- what keeps the pairs of a slot, but for a hand that has killed them: the living snapshots and, by name, these that are pending
+abbrev pub keepers_of : List Record → Shared → ℕ → Retention
+keepers_of pending s ino = record {
   block = (cell_at s ino).block;
   snapshots = ids s.book.snaps;
-  pending = map name_of (filter (λ (d : Record). d.ino == ino) s.book.deferred);
+  pending = map name_of (filter (is_of_slot ino) pending);
 }
 
 -- THE INODE OF A SLOT IS GONE, AND NOTHING IS KEPT OF IT: its settled log ends with the entry that says it is gone, and no
--- pair of that log is current, held by a living snapshot or deferred
-pub record IsOver (s : Shared) (ino : ℕ) : Type 0 where
+-- pair of that log is current, held by a living snapshot or among these that are pending
+pub record IsOver (pending : List Record) (s : Shared) (ino : ℕ) : Type 0 where
   pub gone : is_gone (settled s ino) ≡ true
-  pub kept : AllByRecursion (λ (pair : Pair). keeps (keepers_of s ino) pair ≡ false) (pairs (cell_at s ino).block (settled s ino))
+  pub kept : AllByRecursion (λ (pair : Pair). keeps (keepers_of pending s ino) pair ≡ false)
+      (pairs (cell_at s ino).block (settled s ino))
+
+-- what is pending, but for what this actor has picked
+abbrev pub pending_but : ℕ → World → List Record
+pending_but actor w = pending_in (changed w.shared empty_hand None actor w)
 
 -- the slot as it is left: empty, of the next generation, and of the version that it had
 abbrev pub emptied : CellState → CellState
@@ -60,9 +67,17 @@ pub record IsOnItsWay (actor ino : ℕ) (w : World) : Type 0 where
   pub late : is_late running.next ≡ true
   pub number : (actor_at w actor).hand.ino ≡ Some ino
 
--- a call has ended, and the pool has the number
+-- a call has ended, or a drain is to pick its next record
+abbrev pub is_done_with : Option Running → Bool
+is_done_with None = true
+is_done_with (Some r) = picks_next r.next where
+  picks_next : Next → Bool
+  picks_next (Snapshots (Pick draining)) = true
+  picks_next other = false
+
+-- so it is, and the pool has the number
 pub record IsBack (actor ino : ℕ) (w : World) : Type 0 where
-  pub ended : (actor_at w actor).running ≡ None
+  pub ended : is_done_with (actor_at w actor).running ≡ true
   pub pool : has w.shared.pool.numbers ino ≡ true
 
 abbrev pub IsOnItsWayOrBack : ℕ → ℕ → World → Type 0

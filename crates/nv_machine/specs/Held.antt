@@ -1,23 +1,23 @@
 -- The free lists by the logs: which blocks are used, said by logs, chains and hands, and not by the blocks that cells have.
-use Rattle.std.specs.Prelude.{ℕ, ◌+◌, ◌-◌, ◌==◌, ◌||◌, Bool, not, if◌then◌else◌, List, [], ◌∷◌, ◌++◌, drop, filter, length, map, take, Option, Some, None, option_to_list}
-use Rattle.std.specs.List.{flat_map, list_any, range_with_len}
+use Rattle.std.specs.Prelude.{ℕ, ◌+◌, ◌-◌, ◌==◌, Bool, true, if◌then◌else◌, List, [], ◌∷◌, ◌++◌, drop, filter, length, map, take, Option, Some, None, option_to_list, slice_get}
+use Rattle.std.specs.List.{flat_map, range_with_len}
 use Rattle.nv_alloc.specs.Block.{numbers_of}
 use Rattle.nv_alloc.specs.Numbers.{has, unused}
 use Rattle.nv_base.specs.Homes.{home_start}
 use Rattle.nv_base.specs.declared.geometry.GeometryNumbers.{GeometryNumbers}
 use Rattle.nv_book.specs.declared.record.Record.{Record}
 use Rattle.nv_cell.specs.Cell.{CellState, log_of, page_block}
-use Rattle.nv_cell.specs.Named.{number_named}
-use Rattle.nv_cell.specs.Numbers.{is_number}
 use Rattle.nv_cell.specs.declared.killed.KilledPart.{KilledPart}
-use Rattle.nv_entry.specs.Covered.{is_covered, part_total}
-use Rattle.nv_entry.specs.declared.item.Entry.{Entry}
+use Rattle.nv_calls.specs.Retiring.{name_of}
+use Rattle.nv_entry.specs.Covered.{part_total}
+use Rattle.nv_entry.specs.declared.held.Pair.{Pair}
 use Rattle.nv_entry.specs.declared.part.PartId.{PartId}
-use Rattle.nv_entry.specs.Held.{Retention}
+use Rattle.nv_entry.specs.Held.{Retention, keeps}
+use Rattle.nv_entry.specs.Log.{pairs}
 use Rattle.nv_epoch.specs.SnapList.{ids}
 use Rattle.nv_machine.specs.Numbers.{held_by_actor}
 use Rattle.nv_machine.specs.Reads.{written_slots}
-use Rattle.nv_machine.specs.World.{Actor, Close, HandState, Next, Publish, Retire, Running, World, cell_at}
+use Rattle.nv_machine.specs.World.{Actor, Close, HandState, LockPicked, Next, Publish, Release, Retire, Running, SnapshotStep, Snapshots, World, cell_at}
 
 -- ---- what is killed: published over, and not yet retired
 
@@ -45,29 +45,65 @@ killed_by_actor ino actor = killed_by_call actor.running actor.hand ino
 abbrev pub killed_in : World → ℕ → List KilledPart
 killed_in w ino = flat_map (killed_by_actor ino) w.actors
 
+-- ---- what is pending: deferred, or picked by a drain and not yet released
+
+abbrev pub picked_on : SnapshotStep → List Record
+picked_on (LockPicked draining picked) = picked ∷ []
+picked_on (Release draining picked) = picked ∷ []
+picked_on other = []
+
+abbrev pub picked_at : Next → List Record
+picked_at (Snapshots step) = picked_on step
+picked_at other = []
+
+abbrev pub picked_by_call : Option Running → List Record
+picked_by_call None = []
+picked_by_call (Some r) = picked_at r.next
+
+abbrev pub picked_by_actor : Actor → List Record
+picked_by_actor actor = picked_by_call actor.running
+
+abbrev pub pending_in : World → List Record
+pending_in w = w.shared.book.deferred ++ flat_map picked_by_actor w.actors
+
+-- those of a slot
+abbrev pub is_of_slot : ℕ → Record → Bool
+is_of_slot ino d = d.ino == ino
+
+abbrev pub pending_at : World → ℕ → List PartId
+pending_at w ino = map name_of (filter (is_of_slot ino) (pending_in w))
+
+-- what keeps the pairs of a slot: the living snapshots and, by name, those that are pending or killed
+abbrev pub retention_at : World → ℕ → Retention
+retention_at w ino = record {
+  block = (cell_at w.shared ino).block;
+  snapshots = ids w.shared.book.snaps;
+  pending = pending_at w ino ++ map (λ (k : KilledPart). k.part) (killed_in w ino);
+}
+
 -- ---- what is used
 
--- the part n of a log is one of these
-abbrev pub is_among : List Entry → List KilledPart → ℕ → Bool
-is_among log parts n = list_any (λ (k : KilledPart). is_number (number_named log k.part) n) parts
+-- a pair is in use that is needed, pending or killed
+abbrev pub in_use_by : Retention → Option Pair → Bool
+in_use_by r None = true
+in_use_by r (Some pair) = keeps r pair
 
--- a part is in use that no later entry of the log covers, up to its tail, and one that is killed; so are all parts of entries
--- past the tail, which the commit under way has appended
-abbrev pub is_in_use : List KilledPart → CellState → ℕ → Bool
-is_in_use killed cell n = not (is_covered cell.block (log_of cell) n) || is_among (log_of cell) killed n
+-- a part is in use whose pair is; and so are all parts of entries past the tail, which the commit under way has appended
+abbrev pub is_in_use : Retention → CellState → ℕ → Bool
+is_in_use r cell n = in_use_by r (slice_get (pairs cell.block (log_of cell)) n)
 
 -- the block of a part in use, as its entry says, if it is a page
-abbrev pub block_in_use : List KilledPart → CellState → ℕ → Option ℕ
-block_in_use killed cell n = if is_in_use killed cell n then page_block cell.block cell.chain.entries n else None
+abbrev pub block_in_use : Retention → CellState → ℕ → Option ℕ
+block_in_use r cell n = if is_in_use r cell n then page_block cell.block cell.chain.entries n else None
 
 -- the blocks of all parts in use of a slot
-abbrev pub blocks_in_use : List KilledPart → CellState → List ℕ
-blocks_in_use killed cell =
-    flat_map (λ n. option_to_list (block_in_use killed cell n)) (range_with_len 0 (part_total cell.chain.entries))
+abbrev pub blocks_in_use : Retention → CellState → List ℕ
+blocks_in_use r cell =
+    flat_map (λ n. option_to_list (block_in_use r cell n)) (range_with_len 0 (part_total cell.chain.entries))
 
 -- the blocks of a slot: the pages of its chain, and those of its parts in use
 abbrev pub used_by_slot : World → ℕ → List ℕ
-used_by_slot w ino = numbers_of (cell_at w.shared ino).chain.blocks ++ blocks_in_use (killed_in w ino) (cell_at w.shared ino)
+used_by_slot w ino = numbers_of (cell_at w.shared ino).chain.blocks ++ blocks_in_use (retention_at w ino) (cell_at w.shared ino)
 
 -- THE USED BLOCKS: those of slots, and those in hands
 abbrev pub used_by_logs : World → List ℕ
@@ -78,18 +114,3 @@ abbrev pub free_by_logs : GeometryNumbers → World → ℕ → List ℕ
 free_by_logs g w cpu =
     unused (has (used_by_logs w)) (home_start g.blocks g.cpus cpu)
     (home_start g.blocks g.cpus (cpu + 1) - home_start g.blocks g.cpus cpu)
-
--- ---- by pairs
-
--- a record's part
-abbrev pub name_of : Record → PartId
-name_of d = record { entry = d.entry; part = d.part }
-
--- what keeps the pairs of a slot: the living snapshots and, by name, those that are deferred or killed
-abbrev pub retention_at : World → ℕ → Retention
-retention_at w ino = record {
-  block = (cell_at w.shared ino).block;
-  snapshots = ids w.shared.book.snaps;
-  pending = map name_of (filter (λ (d : Record). d.ino == ino) w.shared.book.deferred)
-      ++ map (λ (k : KilledPart). k.part) (killed_in w ino);
-}

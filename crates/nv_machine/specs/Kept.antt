@@ -6,6 +6,7 @@ use Rattle.nv_alloc.specs.Block.{BlockValue, number_of, numbers_of}
 use Rattle.nv_alloc.specs.Numbers.{has}
 use Rattle.nv_base.specs.declared.limits.TheConstants.{FILE_PAGES}
 use Rattle.nv_calls.specs.Plan.{plan_blocks}
+use Rattle.nv_calls.specs.Retiring.{name_of}
 use Rattle.nv_calls.specs.declared.call.Call.{Call}
 use Rattle.nv_calls.specs.declared.call.Call.TheVariants as call
 use Rattle.nv_calls.specs.declared.plan.Planned.{Planned}
@@ -17,7 +18,7 @@ use Rattle.nv_entry.specs.declared.item.Entry.{Entry}
 use Rattle.nv_journal.specs.declared.old_tail.OldTail.{OldTail}
 use Rattle.nv_machine.specs.Reads.{written_slots}
 use Rattle.nv_machine.specs.Settled.{settled, settled_tail}
-use Rattle.nv_machine.specs.World.{Answers, Append, Back, Check, Close, Enter, Give, HandState, Leave, Lock, Look, Next, Number, Open, Overtaken, Publish, Ready, Retire, Running, Shared, TakeBlocks, TakePages, Unlock, Visit, World, actor_at, cell_at, empty_hand}
+use Rattle.nv_machine.specs.World.{Answers, Append, Back, Check, Close, Enter, Give, HandState, Leave, Lock, Look, Next, Number, Open, Overtaken, Publish, Ready, Release, Retire, Running, Shared, Snapshots, TakeBlocks, TakePages, Unlock, Visit, World, actor_at, cell_at, empty_hand}
 
 -- ---- blocks
 
@@ -33,12 +34,23 @@ abbrev pub AreApart : List (Option BlockValue) → Type 0
 AreApart slots = (n m : ℕ) (b c : BlockValue) → slice_index_or slots n None ≡ Some b → slice_index_or slots m None ≡ Some c
     → b.number ≡ c.number → n ≡ m
 
+-- a part that is to be released is covered in its log
+abbrev pub IsReleaseCovered : Shared → Next → Type 0
+IsReleaseCovered s (Snapshots (Release draining picked)) =
+    is_covered (cell_at s picked.ino).block (log_of (cell_at s picked.ino)) (number_in (cell_at s picked.ino) (name_of picked)) ≡ true
+IsReleaseCovered s other = Unit {0}
+
+abbrev pub IsReleaseCoveredBy : Shared → Option Running → Type 0
+IsReleaseCoveredBy s None = Unit {0}
+IsReleaseCoveredBy s (Some r) = IsReleaseCovered s r.next
+
 -- what is known of the numbers of blocks: those of a cell differ, those in hands are numbers of blocks, and the hand of an
--- actor without a call is empty
+-- actor without a call is empty; and drains release what is covered
 pub record AreBlocksApart (w : World) : Type 0 where
   pub cells : (ino : ℕ) → AreApart (cell_at w.shared ino).blocks
   pub small : (actor : ℕ) → AllByRecursion (λ (b : BlockValue). b.number < 2 ^ 32) (actor_at w actor).hand.blocks
   pub idle : (actor : ℕ) → (actor_at w actor).running ≡ None → (actor_at w actor).hand ≡ empty_hand
+  pub releases : (actor : ℕ) → IsReleaseCoveredBy w.shared (actor_at w actor).running
 
 -- ---- journals
 
@@ -116,6 +128,7 @@ Knows (Unlock place) block s cpu h r = r.ending ≡ Overtaken → HasNothing h
 Knows (Give home) block s cpu h r = Unit {0}
 Knows Back block s cpu h r = Unit {0}
 Knows Visit block s cpu h r = Unit {0}
+Knows (Snapshots step) block s cpu h r = Unit {0}
 
 abbrev pub KnowsOf : Option Running → ℕ → Shared → ℕ → HandState → Type 0
 KnowsOf None block s cpu h = Unit {0}

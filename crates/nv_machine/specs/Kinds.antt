@@ -14,6 +14,7 @@ use Rattle.nv_calls.specs.Refusals.{Check as Tests}
 use Rattle.nv_calls.specs.Retiring.{erased, freed_by, is_erased, killed_by, number_back, retired, with_records}
 use Rattle.nv_calls.specs.Slots.{entries_of, items_for, place_in}
 use Rattle.nv_calls.specs.declared.answer.Answer.{Answer}
+use Rattle.nv_calls.specs.declared.answer.Answer.TheVariants as answers
 use Rattle.nv_entry.specs.Blocks.{item_blocks}
 use Rattle.nv_cell.specs.Append.{appended, blocks_for}
 use Rattle.nv_cell.specs.Cell.{CellState, published}
@@ -25,7 +26,7 @@ use Rattle.nv_log.specs.Chain.{with_page}
 use Rattle.nv_calls.specs.FillPages.{filled, fresh_pages}
 use Rattle.nv_machine.specs.Reads.{copies, home_from, pages_wanted, plan_by, slot_at, slots_of, written_slots}
 use Rattle.nv_machine.specs.Sequence.{sequel}
-use Rattle.nv_machine.specs.World.{Answers, Append, Back, Close, Ending, Ends, Enter, Give, HandState, Lock, Look, Moves, Next, Number, Open, Overtaken, Publish, Ready, Refuses, Retire, Running, Shared, TakeBlocks, TakePages, Turn, Unlock, Waits, cell_at, go_to, list_at, with_book, with_cell, with_list, with_numbers, with_owner}
+use Rattle.nv_machine.specs.World.{Answers, Append, Back, Close, Drains, Ending, Ends, Enter, Give, HandState, Lock, Look, Moves, Next, Number, Open, Overtaken, Pick, Publish, Ready, Refuses, Retire, Running, Shared, Snapshots, TakeBlocks, TakePages, Turn, Unlock, Waits, cell_at, go_to, list_at, with_book, with_cell, with_list, with_numbers, with_owner}
 
 -- ---- how a call ends
 
@@ -37,12 +38,27 @@ abbrev pub result_by : Ending → Running → Result Answer Fault
 result_by Answers r = Ok (answer (λ handle. None) r.made r.call)
 result_by (Refuses fault) r = Err fault
 result_by Overtaken r = Err Contended
+result_by (Drains draining) r = Ok (answers.Count draining.released)
 
--- nothing is locked: blocks go home, CPU by CPU, and then a number goes back; where nothing is left, the step replies
+-- a drain picks the next record, if it may release more
+abbrev pub drained_turn : ℕ → ℕ → Shared → HandState → Running → Turn
+drained_turn zero released s h r = Ends (Ok (answers.Count released)) s h
+drained_turn (suc left) released s h r =
+    Moves s h (record r { ending = Answers; slots = []; next = Snapshots (Pick (record { released = released; left = left })) })
+
+-- nothing is locked, and nothing in the hand
+abbrev pub last_turn : Ending → Shared → HandState → Running → Turn
+last_turn Answers s h r = Ends (result_by Answers r) s h
+last_turn (Refuses fault) s h r = Ends (Err fault) s h
+last_turn Overtaken s h r = Ends (Err Contended) s h
+last_turn (Drains draining) s h r = drained_turn draining.left draining.released s h r
+
+-- nothing is locked: blocks go home, CPU by CPU, and then a number goes back; where nothing is left, the step replies, or a drain
+-- goes on
 abbrev pub rest_turn : Option ℕ → Option ℕ → Shared → HandState → Running → Turn
 rest_turn (Some cpu) number s h r = Moves s h (go_to (Give cpu) r)
 rest_turn None (Some ino) s h r = Moves s h (go_to Back r)
-rest_turn None None s h r = Ends (result_by r.ending r) s h
+rest_turn None None s h r = last_turn r.ending s h r
 
 -- the next round of looks, if there is one
 abbrev pub again_turn : ℕ → Shared → HandState → Running → Turn
@@ -52,6 +68,7 @@ again_turn (suc rounds) s h r = Moves s h (record r { ending = Answers; rounds =
 abbrev pub over_turn : Ending → Shared → HandState → Running → Turn
 over_turn Answers s h r = rest_turn (home_from 0 0 s.lists (blocks_in h)) h.ino s h r
 over_turn (Refuses fault) s h r = rest_turn (home_from 0 0 s.lists (blocks_in h)) h.ino s h r
+over_turn (Drains draining) s h r = rest_turn (home_from 0 0 s.lists (blocks_in h)) h.ino s h r
 over_turn Overtaken s h r = again_turn r.rounds s h r
 
 -- the call turns to its last steps, of which the first is to unlock what is locked
@@ -287,8 +304,8 @@ give_turn cpu s h r =
 -- ---- back: the number in the hand goes to the pool
 
 abbrev pub back_turn : Option ℕ → Shared → HandState → Running → Turn
-back_turn None s h r = Ends (result_by r.ending r) s h
-back_turn (Some ino) s h r = Ends (result_by r.ending r) (with_numbers (put_by (λ n. n) ino s.pool.numbers) s) (record h { ino = None })
+back_turn None s h r = last_turn r.ending s h r
+back_turn (Some ino) s h r = last_turn r.ending (with_numbers (put_by (λ n. n) ino s.pool.numbers) s) (record h { ino = None }) r
 
 -- ---- visit
 

@@ -1,15 +1,24 @@
 -- Which locks a call holds, and what a step may wait for.
-use Rattle.std.specs.Prelude.{◌≡◌, ◌≢◌, ℕ, ◌<◌, ◌==◌, Bool, true, false, List, [], drop, length, take, Option, Some, None}
+use Rattle.std.specs.Prelude.{◌≡◌, ◌≢◌, ℕ, ◌<◌, ◌==◌, Bool, true, false, List, [], ◌∷◌, drop, length, take, Option, Some, None}
 use Rattle.std.specs.List.{AllByRecursion}
 use Rattle.nv_alloc.specs.Numbers.{IsRising, has}
+use Rattle.nv_book.specs.Book.{BookState}
+use Rattle.nv_book.specs.declared.manifest.Manifest.{Manifest}
+use Rattle.nv_book.specs.declared.record.Record.{Record}
 use Rattle.nv_machine.specs.Frame.{lent}
 use Rattle.nv_machine.specs.Reads.{slot_at, written_slots}
 use Rattle.nv_machine.specs.Sequence.{directories, nothing_looked}
 use Rattle.nv_machine.specs.Step.{handle_at}
 use Rattle.nv_calls.specs.Locked.{handles}
-use Rattle.nv_machine.specs.World.{Append, Back, Close, Enter, Give, Leave, Lock, Look, Next, Number, Open, Publish, Retire, Running, Shared, Unlock, Visit, World, actor_at, owner_at}
+use Rattle.nv_machine.specs.Snapshots.{visited}
+use Rattle.nv_machine.specs.World.{Append, Back, Close, Enter, Give, Leave, Lock, LockPicked, Look, Next, Number, Open, Publish, Release, Retire, Running, Shared, Show, SnapshotStep, Snapshots, Unlock, Visit, World, actor_at, owner_at}
 
 -- ---- what a call holds
+
+-- a drain has locked the inode of a record that it releases
+abbrev pub held_on : SnapshotStep → List ℕ → List ℕ
+held_on (Release draining picked) slots = slots
+held_on other slots = []
 
 -- the slots that a call holds before a step: those that it has locked and not yet unlocked
 abbrev pub held_at : Next → List ℕ → List ℕ
@@ -20,6 +29,7 @@ held_at (Unlock place) slots = drop place slots
 held_at (Give cpu) slots = []
 held_at Back slots = []
 held_at Visit slots = []
+held_at (Snapshots step) slots = held_on step slots
 held_at other slots = slots
 
 -- whether it holds the commit lock: from its enter to its leave
@@ -49,6 +59,12 @@ pub record AreSlots (slots : ℕ) (list : List ℕ) : Type 0 where
   pub rising : IsRising list
   pub inside : AllByRecursion (λ ino. ino < slots) list
 
+-- a call on snapshots locks the inode of the record that it has picked, and none else
+abbrev pub slots_on : SnapshotStep → List ℕ
+slots_on (LockPicked draining picked) = picked.ino ∷ []
+slots_on (Release draining picked) = picked.ino ∷ []
+slots_on other = []
+
 -- a loop stands at one of those that it goes over; a visit has no slots
 abbrev pub IsInside : Next → Running → Type 0
 IsInside (Lock place) r = place < length r.slots
@@ -57,6 +73,7 @@ IsInside (Append place) r = place < length (written_slots r)
 IsInside (Publish place) r = place < length (written_slots r)
 IsInside (Retire place) r = place < length (written_slots r)
 IsInside Visit r = r.slots ≡ []
+IsInside (Snapshots step) r = r.slots ≡ slots_on step
 IsInside other r = Unit {0}
 
 abbrev pub HasSlots : ℕ → Option Running → Type 0
@@ -69,10 +86,20 @@ pub record HoldsIts (s : Shared) (actor : ℕ) (running : Option Running) : Type
   pub holder : is_owner actor s.holder ≡ commits_by running
   pub slots : HasSlots (length s.owners) running
 
--- what holds of the locks of each world
+-- each record of a book, in a manifest or deferred
+pub record AllRecords (P : Record → Type 0) (b : BookState) : Type 0 where
+  pub filed : AllByRecursion (λ (m : Manifest). AllByRecursion P m.records) b.manifests
+  pub deferred : AllByRecursion P b.deferred
+
+-- a record is of a slot of the world
+abbrev pub IsOfSlot : ℕ → Record → Type 0
+IsOfSlot slots d = d.ino < slots
+
+-- what holds of the locks of each world; and a drain locks slots of records
 pub record AreLocks (w : World) : Type 0 where
   pub each : (actor : ℕ) → HoldsIts w.shared actor (actor_at w actor).running
   pub wide : length w.shared.owners ≡ length w.shared.cells
+  pub records : AllRecords (IsOfSlot (length w.shared.owners)) w.shared.book
 
 -- ---- what a step waits for
 
@@ -80,12 +107,20 @@ pub record AreLocks (w : World) : Type 0 where
 abbrev pub IsHeldByOther : ℕ → Option ℕ → Type 0
 IsHeldByOther actor owner = (other : ℕ) × (owner ≡ Some other) × (other ≢ actor)
 
+-- the lock that a step of a call on snapshots needs
+abbrev pub WaitsOn : Shared → ℕ → SnapshotStep → Type 0
+WaitsOn s actor (Show snapshot showing) = IsHeldByOther actor (owner_at s (visited showing.visits).ino)
+WaitsOn s actor (LockPicked draining picked) = IsHeldByOther actor (owner_at s picked.ino)
+WaitsOn s actor (Release draining picked) = ⊥
+WaitsOn s actor other = IsHeldByOther actor s.holder
+
 -- the lock that a step needs; most need none that is not held already
 abbrev pub WaitsFor : Shared → ℕ → Running → Next → Type 0
 WaitsFor s actor r (Look place) = IsHeldByOther actor (owner_at s (handle_at (directories r.call) place).ino)
 WaitsFor s actor r (Lock place) = IsHeldByOther actor (owner_at s (slot_at r.slots place))
 WaitsFor s actor r Enter = IsHeldByOther actor s.holder
 WaitsFor s actor r Visit = IsHeldByOther actor (owner_at s (handle_at (handles nothing_looked r.call) 0).ino)
+WaitsFor s actor r (Snapshots step) = WaitsOn s actor step
 WaitsFor s actor r other = ⊥
 
 -- ---- what is lent

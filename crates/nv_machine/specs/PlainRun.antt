@@ -1,50 +1,72 @@
 -- The plain world beside the run: what each event does to it.
-use Rattle.std.specs.Prelude.{ℕ, ◌+◌, Bool, true, false, if◌then◌else◌, nat_lt, List, [], ◌∷◌, length, Option, Some, None}
+use Rattle.std.specs.Prelude.{ℕ, ◌+◌, ◌-◌, ◌==◌, ◌++◌, Bool, true, false, if◌then◌else◌, nat_lt, not, List, [], ◌∷◌, filter, length, map, Option, Some, None, Ok, Err}
 use Rattle.nv_base.specs.declared.node.Kind.TheVariants.{Dir}
 use Rattle.nv_base.specs.declared.numbers.Handle.{Handle}
 use Rattle.nv_calls.specs.AllCalls.{effect}
 use Rattle.nv_calls.specs.Plain.{PlainNode, node_in, nodes_after, same_handle}
 use Rattle.nv_entry.specs.Sound.{empty_node}
 use Rattle.nv_entry.specs.Tree.{root}
+use Rattle.nv_entry.specs.declared.node.NodeCopy.{NodeCopy}
+use Rattle.nv_epoch.specs.declared.snapshot.Snapshot.{Snapshot}
 use Rattle.nv_machine.specs.Locks.{commits_at}
 use Rattle.nv_machine.specs.Reads.{written_slots}
-use Rattle.nv_machine.specs.Settled.{settled_nodes}
+use Rattle.nv_machine.specs.Settled.{settled_copies, settled_nodes}
 use Rattle.nv_machine.specs.Step.{step, turn}
-use Rattle.nv_machine.specs.World.{Close, Enter, Event, Go, Moves, Next, Publish, Running, Start, Turn, World, actor_at}
+use Rattle.nv_machine.specs.World.{Close, Drop, Ends, Enter, Event, Go, Make, Moves, Next, Pin, Publish, Running, Shared, SnapshotStep, Snapshots, Start, Turn, Unpin, Waits, World, actor_at}
 
--- the nodes by handle, and the number of the last commit
+-- a snapshot: all nodes as they were when it was made, and how many shows pin it
+pub record Copy : Type 0 where
+  pub snapshot : ℕ
+  pub nodes : Handle → Option NodeCopy
+  pub pins : ℕ
+
+-- the nodes by handle, the number of the last commit, the epoch, and the living snapshots, oldest first
 pub record Plain : Type 0 where
   pub nodes : Handle → Option PlainNode
   pub commit : ℕ
+  pub epoch : ℕ
+  pub copies : List Copy
 
--- the plain world at first: the root, an empty directory of mode 493, and nothing else; no commit yet
+-- the plain world at first: the root, an empty directory of mode 493, and nothing else; no commit yet, and no snapshot
 abbrev pub root_alone : PlainNode
 root_alone = record { node = empty_node Dir 493; changed = 0 }
 
 abbrev pub new_plain : Plain
-new_plain = record { nodes = λ handle. if same_handle handle root then Some root_alone else None; commit = 0 }
+new_plain = record { nodes = λ handle. if same_handle handle root then Some root_alone else None; commit = 0; epoch = 1; copies = [] }
 
--- what a step does there: nothing; it fixes the number of a commit; or the commit has its effect
+-- what a step does there: nothing; it fixes the number of a commit; the commit has its effect; or a step of a call on snapshots
+-- has its own
 pub data Deed : Type 0 where
   Nothing : Deed
   Numbers : Deed
   Commits : Deed
+  OnSnapshots : (step : SnapshotStep) → Deed
 
 abbrev pub keeps_nodes : Deed → Bool
 keeps_nodes Nothing = true
 keeps_nodes Numbers = true
 keeps_nodes Commits = false
+keeps_nodes (OnSnapshots step) = true
 
 -- an enter that goes on into its commit fixes the number
 abbrev pub entered : Turn → Deed
 entered (Moves s h r) = if commits_at r.next then Numbers else Nothing
 entered other = Nothing
 
+-- a step of a call on snapshots that is not refused and does not wait
+abbrev pub done_on : SnapshotStep → Turn → Deed
+done_on step (Moves s h r) = OnSnapshots step
+done_on step Waits = Nothing
+done_on (Unpin snapshot seen) (Ends result s h) = OnSnapshots (Unpin snapshot seen)
+done_on step (Ends (Ok found) s h) = OnSnapshots step
+done_on step (Ends (Err fault) s h) = Nothing
+
 -- a publish is the commit point where one inode gets entries, and else the close is
 abbrev pub deed : Next → List ℕ → Turn → Deed
 deed Enter written t = entered t
 deed (Publish place) written t = if nat_lt 1 (length written) then Nothing else Commits
 deed Close written t = Commits
+deed (Snapshots step) written t = done_on step t
 deed other written t = Nothing
 
 abbrev pub deed_by : Option Running → World → ℕ → Bool → Deed
@@ -62,10 +84,30 @@ abbrev pub nodes_by : Option Running → Plain → Handle → Option PlainNode
 nodes_by None p = p.nodes
 nodes_by (Some r) p = nodes_after p.commit (effect (node_in p.nodes) r.made r.call) p.nodes
 
+-- the snapshot is one of these
+abbrev pub is_of : ℕ → Copy → Bool
+is_of snapshot copy = copy.snapshot == snapshot
+
+abbrev pub with_pins : ℕ → (ℕ → ℕ) → Copy → Copy
+with_pins snapshot change copy = if is_of snapshot copy then record copy { pins = change copy.pins } else copy
+
+-- a making adds a copy of the nodes as they are, which the epoch names, and begins the next epoch; a drop takes one out; a show has
+-- a pin from its first step to its last. A drain changes nothing
+abbrev pub after_step : SnapshotStep → Plain → Plain
+after_step Make p = record p {
+  epoch = p.epoch + 1;
+  copies = p.copies ++ (record { snapshot = p.epoch; nodes = node_in p.nodes; pins = 0 }) ∷ [];
+}
+after_step (Drop snapshot) p = record p { copies = filter (λ copy. not (is_of snapshot copy)) p.copies }
+after_step (Pin snapshot) p = record p { copies = map (with_pins snapshot (λ pins. pins + 1)) p.copies }
+after_step (Unpin snapshot seen) p = record p { copies = map (with_pins snapshot (λ pins. pins - 1)) p.copies }
+after_step other p = p
+
 abbrev pub done : Deed → Option Running → Plain → Plain
 done Nothing running p = p
 done Numbers running p = record p { commit = p.commit + 1 }
 done Commits running p = record p { nodes = nodes_by running p }
+done (OnSnapshots step) running p = after_step step p
 
 abbrev pub actor_of : Event → ℕ
 actor_of (Start actor c) = actor
@@ -81,5 +123,13 @@ plain_after w [] p = p
 plain_after w (e ∷ events) p = plain_after (step w e).world events (plain_step w e p)
 
 -- the plain world of a world's settled logs and book
+abbrev pub copy_in : Shared → Snapshot → Copy
+copy_in s snapshot = record { snapshot = snapshot.number; nodes = settled_copies s snapshot.number; pins = snapshot.pins }
+
 abbrev pub plain_of : World → Plain
-plain_of w = record { nodes = settled_nodes w.shared; commit = w.shared.book.commit }
+plain_of w = record {
+  nodes = settled_nodes w.shared;
+  commit = w.shared.book.commit;
+  epoch = w.shared.book.snaps.epoch;
+  copies = map (copy_in w.shared) w.shared.book.snaps.living;
+}

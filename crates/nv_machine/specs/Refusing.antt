@@ -1,20 +1,33 @@
 -- What a call that is not to be answered leaves as it is.
-use Rattle.std.specs.Prelude.{◌≡◌, Ok, Err}
-use Rattle.nv_machine.specs.World.{Answers, Ending, Ends, Moves, Overtaken, Refuses, Shared, Turn, Waits}
+use Rattle.std.specs.Prelude.{◌≡◌, true, Ok, Err}
+use Rattle.nv_book.specs.Book.{BookState, after_unpin_snapshot}
+use Rattle.nv_machine.specs.Hands.{is_going_on}
+use Rattle.nv_machine.specs.World.{Answers, Drains, Ending, Ends, Moves, Next, Overtaken, Refuses, Shared, Snapshots, Turn, Unpin, Waits}
 
 -- the call is to be refused, or its names are looked up again
 abbrev pub IsUnanswered : Ending → Type 0
 IsUnanswered Answers = ⊥
 IsUnanswered (Refuses fault) = Unit {0}
 IsUnanswered Overtaken = Unit {0}
+IsUnanswered (Drains draining) = ⊥
+
+-- the book as it was: a show that is refused takes its pin off
+abbrev pub book_left : Next → BookState → BookState
+book_left (Snapshots (Unpin snapshot seen)) b = after_unpin_snapshot snapshot b
+book_left other b = b
 
 -- the book with its number, epoch, journals and records, and all cells
-abbrev pub SameBooks : Shared → Shared → Type 0
-SameBooks s t = (t.book ≡ s.book) × (t.cells ≡ s.cells)
+abbrev pub SameBooks : Next → Shared → Shared → Type 0
+SameBooks next s t = (t.book ≡ book_left next s.book) × (t.cells ≡ s.cells)
 
 -- a step after which its call is not to be answered, or that refuses it, leaves these
-abbrev pub LeavesBooks : Shared → Turn → Type 0
-LeavesBooks s (Moves t h r) = IsUnanswered r.ending → SameBooks s t
-LeavesBooks s Waits = Unit {0}
-LeavesBooks s (Ends (Ok found) t h) = Unit {0}
-LeavesBooks s (Ends (Err fault) t h) = SameBooks s t
+abbrev pub LeavesBooks : Next → Shared → Turn → Type 0
+LeavesBooks next s (Moves t h r) = IsUnanswered r.ending → SameBooks next s t
+LeavesBooks next s Waits = Unit {0}
+LeavesBooks next s (Ends (Ok found) t h) = Unit {0}
+LeavesBooks next s (Ends (Err fault) t h) = SameBooks next s t
+
+-- a call on snapshots is to be answered up to its last steps, but for a show that is refused, which is left to take its pin off
+abbrev pub GoesOn : Next → Ending → Type 0
+GoesOn (Snapshots step) e = is_going_on step ≡ true → e ≡ Answers
+GoesOn other e = Unit {0}

@@ -1,22 +1,27 @@
 -- The order of a call's steps.
-use Rattle.std.specs.Prelude.{ℕ, ◌+◌, if◌then◌else◌, nat_lt, List, [], ◌∷◌, length, None}
+use Rattle.std.specs.Prelude.{ℕ, ◌+◌, ◌-◌, if◌then◌else◌, max, min, nat_lt, List, [], ◌∷◌, length, None}
 use Rattle.nv_calls.specs.declared.looked.Looked.{Looked}
+use Rattle.nv_base.specs.declared.limits.TheConstants.{DRAIN}
 use Rattle.nv_base.specs.declared.numbers.Handle.{Handle}
 use Rattle.nv_calls.specs.Plain.{same_handle}
 use Rattle.nv_calls.specs.declared.call.Call.{Call}
 use Rattle.nv_calls.specs.declared.call.Call.TheVariants as call
+use Rattle.nv_calls.specs.declared.snapshot_call.SnapshotCall.{SnapshotCall}
+use Rattle.nv_calls.specs.declared.snapshot_call.SnapshotCall.TheVariants as on
 use Rattle.nv_entry.specs.Tree.{root}
 use Rattle.nv_machine.specs.Reads.{slots_of, written_slots}
-use Rattle.nv_machine.specs.World.{Answers, Append, Check, Close, Enter, Leave, Lock, Look, Next, Number, Open, Publish, Ready, Retire, Running, Shared, Visit}
+use Rattle.nv_machine.specs.World.{Answers, Append, Check, Close, Draining, Drop, Enter, Leave, Lock, Look, Make, Next, Number, Open, Pick, Pin, Publish, Ready, Retire, Running, Shared, SnapshotStep, Snapshots, Visit}
 
 -- ---- how calls begin
 
--- a new inode takes its number first; names are looked up; slots that are told are locked; a visit is its call's only step
+-- a new inode takes its number first; names are looked up; slots that are told are locked; a visit is its call's only step; a
+-- call on snapshots has steps of its own
 pub data Beginning : Type 0 where
   Numbers : Beginning
   Looks : Beginning
   Locks : Beginning
   Visits : Beginning
+  OnSnapshots : (what : SnapshotCall) → Beginning
 
 abbrev pub beginning : Call → Beginning
 beginning (call.Create dir name mode) = Numbers
@@ -31,6 +36,7 @@ beginning (call.Lookup dir name) = Visits
 beginning (call.Unlink dir name) = Looks
 beginning (call.Rmdir dir name) = Looks
 beginning (call.Rename from old to new) = Looks
+beginning (call.Snapshots what) = OnSnapshots what
 
 -- the directories in which a call looks its names up, one look for each
 abbrev pub directories : Call → List Handle
@@ -98,8 +104,19 @@ started c next slots = record {
   epoch = 0;
 }
 
+-- a drain may release as many records as its number says, where a number outside 1 to 1,048,576 counts as the nearest of these
+abbrev pub new_draining : ℕ → Draining
+new_draining count = record { released = 0; left = max 1 (min count DRAIN) - 1 }
+
+abbrev pub first_step : SnapshotCall → SnapshotStep
+first_step on.Snap = Make
+first_step (on.Drop snapshot) = Drop snapshot
+first_step (on.Show snapshot) = Pin snapshot
+first_step (on.Drain count) = Pick (new_draining count)
+
 abbrev pub begun : Beginning → Shared → Call → Running
 begun Numbers s c = started c Number []
 begun Looks s c = started c (Look 0) []
 begun Locks s c = started c (locking 0 (slots_of s None nothing_looked c)) (slots_of s None nothing_looked c)
 begun Visits s c = started c Visit []
+begun (OnSnapshots what) s c = started c (Snapshots (first_step what)) []

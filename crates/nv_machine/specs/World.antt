@@ -8,11 +8,14 @@ use Rattle.nv_base.specs.declared.fault.Fault.{Fault}
 use Rattle.nv_base.specs.declared.geometry.GeometryNumbers.{GeometryNumbers}
 use Rattle.nv_base.specs.declared.numbers.Handle.{Handle}
 use Rattle.nv_book.specs.Book.{BookState}
+use Rattle.nv_book.specs.declared.record.Record.{Record}
 use Rattle.nv_calls.specs.declared.answer.Answer.{Answer}
 use Rattle.nv_calls.specs.declared.call.Call.{Call}
 use Rattle.nv_calls.specs.declared.plan.Planned.{Planned}
 use Rattle.nv_cell.specs.Cell.{CellState, empty_cell}
 use Rattle.nv_cell.specs.declared.killed.KilledPart.{KilledPart}
+use Rattle.nv_entry.specs.declared.tree.TreeNode.{TreeNode}
+use Rattle.nv_reader.specs.Walk as walk
 
 -- ---- what is shared
 
@@ -37,6 +40,29 @@ pub record HandState : Type 0 where
   pub ino : Option ℕ
   pub killed : List (List KilledPart)
 
+-- a show that goes on: how many visits it may make yet, those that are to come, and the nodes that it has seen
+pub record Showing : Type 0 where
+  pub left : ℕ
+  pub visits : List walk.Visit
+  pub seen : List TreeNode
+
+-- a drain that goes on: how many records it has released, and how many more it may release behind the next one
+pub record Draining : Type 0 where
+  pub released : ℕ
+  pub left : ℕ
+
+-- a step of a call on snapshots. It makes one, or drops one; it pins one, shows its nodes inode by inode and unpins it, with what
+-- it has seen; or it picks a deferred record, locks its inode and releases it
+pub data SnapshotStep : Type 0 where
+  Make : SnapshotStep
+  Drop : (snapshot : ℕ) → SnapshotStep
+  Pin : (snapshot : ℕ) → SnapshotStep
+  Show : (snapshot : ℕ) (showing : Showing) → SnapshotStep
+  Unpin : (snapshot : ℕ) (seen : List TreeNode) → SnapshotStep
+  Pick : (draining : Draining) → SnapshotStep
+  LockPicked : (draining : Draining) (picked : Record) → SnapshotStep
+  Release : (draining : Draining) (picked : Record) → SnapshotStep
+
 -- the step of a call that comes next; in a loop with its place: of a directory, a slot, a list asked, an inode written
 pub data Next : Type 0 where
   Number : Next
@@ -57,12 +83,15 @@ pub data Next : Type 0 where
   Give : (cpu : ℕ) → Next
   Back : Next
   Visit : Next
+  Snapshots : (step : SnapshotStep) → Next
 
--- how a call is to end: with its answer, refused, or not yet, since a name was bound anew after the looks
+-- how a call is to end: with its answer, refused, or not yet, since a name was bound anew after the looks; a drain goes on to
+-- the next record, as long as it may release more
 pub data Ending : Type 0 where
   Answers : Ending
   Refuses : (fault : Fault) → Ending
   Overtaken : Ending
+  Drains : (draining : Draining) → Ending
 
 -- a call that runs: what its looks found, and how many more rounds of them it may make; the slots that it locks, in rising
 -- number; the handle of a new inode; how many blocks of a taking it still wants; its plan; its commit's number and epoch

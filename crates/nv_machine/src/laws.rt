@@ -9,7 +9,7 @@ ghost use Rattle.nv_base.specs.Limits.{IsWithinLimits};
 ghost use Rattle.nv_base.specs.declared.fault.Fault.TheVariants.{ActorBusy, ActorIdle, NoActor};
 ghost use Rattle.nv_base.specs.declared.geometry.GeometryNumbers.{GeometryNumbers};
 ghost use Rattle.nv_calls.specs.declared.call.Call.{Call};
-ghost use Rattle.nv_machine.specs.Bound.{AreNoStarts, bound_at, most_steps, moves};
+ghost use Rattle.nv_machine.specs.Bound.{AreNoStarts, bound_at, most_steps_of, moves};
 ghost use Rattle.nv_cell.specs.Cell.{log_of};
 ghost use Rattle.nv_entry.specs.Held.{keeps};
 ghost use Rattle.nv_entry.specs.Log.{pairs};
@@ -20,7 +20,7 @@ ghost use Rattle.nv_machine.specs.Format.{formatted};
 ghost use Rattle.nv_machine.specs.Frame.{IsOneStep, IsStart, lent};
 ghost use Rattle.nv_machine.specs.Kinds.{asked_list};
 ghost use Rattle.nv_machine.specs.Locks.{AreLocks, HasLent, WaitsFor};
-ghost use Rattle.nv_machine.specs.Held.{block_in_use, free_by_logs, is_in_use, killed_in, retention_at};
+ghost use Rattle.nv_machine.specs.Held.{block_in_use, free_by_logs, is_in_use, retention_at};
 ghost use Rattle.nv_machine.specs.Hands.{AreLists, ArePagesTold};
 ghost use Rattle.nv_machine.specs.Numbers.{IdleHaveNothing, IsEachOnce, all_blocks, free_from_scratch, free_of};
 ghost use Rattle.nv_machine.specs.Order.{IsInOrder};
@@ -78,10 +78,11 @@ pub fn data_is_taken_before_log_pages()
 {}
 
 /// Memory that is refused makes one and the same turn of every step that grows anything (a check, a ready, an enter, a visit
-/// but a stat), also where that step of that call would have asked for none: where the step would have done its work, it
-/// refuses the call instead, and leaves all that is shared and the hand as they were. Where it would not, it waits or ends the
-/// call as it would have: so a refusal of the plain world, want of a number and the last commit number come first. All
-/// other steps go on as ever. And where memory is granted, no step refuses a call for want of it.
+/// but a stat, a show's visit, a drain's first pick), also where that step of that call would have asked for none: where the
+/// step would have done its work, it refuses the call instead, and leaves all that is shared and the hand as they were. Where
+/// it would not, it waits or ends the call as it would have: so a refusal of the plain world, want of a number and the last
+/// commit number come first. All other steps go on as ever. And where memory is granted, no step refuses a call for want of
+/// it.
 pub fn refused_memory_makes_one_turn()
     ensures refused { (block actor : ℕ) (s : Shared) (h : HandState) (r : Running)
         → grows r.next r.call ≡ true → turn block actor false s h r
@@ -111,12 +112,12 @@ pub fn who_waits()
         → ((step w (Go actor granted)).world ≡ w) × WaitsFor w.shared actor r r.next }
 {}
 
-/// Calls end: a call is started with a bound on its steps that depends on the number of CPUs alone, each `Go`
+/// Calls end: a call is started with a bound on its steps that depends on the call and the number of CPUs alone, each `Go`
 /// that moves it lowers the bound, and no event of another actor raises it. So however the events of all
 /// actors go, a call moves at most as often as its bound says, up to the next start of its actor.
 pub fn calls_end()
     ensures starts { (w : World) (actor : ℕ) (c : Call) → (step w (Start actor c)).reply ≡ Started
-        → bound_at (step w (Start actor c)).world actor ≤ most_steps (length w.shared.lists) }
+        → bound_at (step w (Start actor c)).world actor ≤ most_steps_of c (length w.shared.lists) }
     ensures falls { (events : List Event) (w : World) (actor : ℕ)
         → AreNoStarts actor events
         → moves actor w events + bound_at (after w events) actor ≤ bound_at w actor }
@@ -154,10 +155,10 @@ pub fn lists_are_from_scratch()
 {}
 
 /// Each free list is what the logs leave: the numbers of the CPU's home range that no page of a chain has, no page of
-/// a log in use and no hand. In use is a part that no later entry of its log covers, up to the tail (so each of the entries
-/// that a commit has appended and not yet published), and one that is killed: published over, and not yet
-/// retired by the call in whose hand it stands. A cell has the block of each page in use, of the number that its
-/// entry says, and no other. Of the pairs of a log, in order, those are in use that are needed, deferred or killed.
+/// a log in use and no hand. Of the pairs of a log, in order, those are in use that are needed (current, or held by a living
+/// snapshot), pending (deferred, or picked by a drain that has not yet released them) or killed: published over, and not yet
+/// retired by the call in whose hand they stand. So is each part of the entries that a commit has appended and not yet
+/// published. A cell has the block of each page in use, of the number that its entry says, and no other.
 pub fn lists_are_told_by_logs()
     ensures lists { (g : GeometryNumbers) (events : List Event) (cpu : ℕ)
         → IsWithinLimits g → cpu < g.cpus
@@ -166,13 +167,13 @@ pub fn lists_are_told_by_logs()
     ensures blocks { (g : GeometryNumbers) (events : List Event) (ino n : ℕ) → IsWithinLimits g
         → option_map number_of
         (slice_index_or (cell_at (after (formatted g) events).shared ino).blocks n None)
-        ≡ block_in_use (killed_in (after (formatted g) events) ino)
+        ≡ block_in_use (retention_at (after (formatted g) events) ino)
         (cell_at (after (formatted g) events).shared ino) n }
     ensures pairs { (g : GeometryNumbers) (events : List Event) (ino n : ℕ) (pair : Pair)
         → IsWithinLimits g
         → slice_get (pairs (cell_at (after (formatted g) events).shared ino).block
         (log_of (cell_at (after (formatted g) events).shared ino))) n ≡ Some pair
-        → is_in_use (killed_in (after (formatted g) events) ino)
+        → is_in_use (retention_at (after (formatted g) events) ino)
         (cell_at (after (formatted g) events).shared ino) n
         ≡ keeps (retention_at (after (formatted g) events) ino) pair }
 {}

@@ -7,4 +7,5 @@ pub mod erasing_laws;
 pub mod hand_laws;
 pub mod laws;
 pub mod plain_laws;
+pub mod snapshot_laws;
 pub mod tree_laws;

@@ -22,21 +22,21 @@ ghost use Rattle.nv_entry.specs.Tree.{root};
 ghost use Rattle.nv_machine.specs.Answered.{GoesTo, IsFinal, IsToEnd};
 ghost use Rattle.nv_machine.specs.Causes.{FindsNone, IsCause, IsRoundless, MayBeOvertaken, RefusesFor};
 ghost use Rattle.nv_machine.specs.Effects.{AreSound, HasPlanNow};
-ghost use Rattle.nv_machine.specs.EndsDecided.{decided};
+ghost use Rattle.nv_machine.specs.EndsDecided.{decided, is_on_snapshots};
 ghost use Rattle.nv_machine.specs.FitsNow.{bytes_in, is_checked};
 ghost use Rattle.nv_machine.specs.Format.{formatted};
 ghost use Rattle.nv_machine.specs.Frame.{lent};
 ghost use Rattle.nv_machine.specs.Grown.{AreGrown, fresh_entries};
 ghost use Rattle.nv_machine.specs.Kept.{AreBlocksApart, IsKept};
 ghost use Rattle.nv_machine.specs.Kinds.{refuse};
-ghost use Rattle.nv_machine.specs.Locks.{AreLocks};
+ghost use Rattle.nv_machine.specs.Locks.{AreLocks, commits_at};
 ghost use Rattle.nv_machine.specs.Hands.{makes_inode};
 ghost use Rattle.nv_machine.specs.Made.{handles_made, has_handle};
 ghost use Rattle.nv_machine.specs.Order.{IsInOrder};
 ghost use Rattle.nv_machine.specs.Reached.{IsReached};
 ghost use Rattle.nv_machine.specs.PlainRun.{Commits, Plain, deed_of, keeps_nodes, new_plain, plain_after, plain_of};
 ghost use Rattle.nv_machine.specs.Reads.{copies, nodes, written_slots};
-ghost use Rattle.nv_machine.specs.Refusing.{LeavesBooks};
+ghost use Rattle.nv_machine.specs.Refusing.{GoesOn, LeavesBooks};
 ghost use Rattle.nv_machine.specs.Rounds.{HasRounds, failed_checks};
 ghost use Rattle.nv_machine.specs.Sequence.{Visits, beginning, nothing_looked};
 ghost use Rattle.nv_machine.specs.Settled.{settled, settled_nodes};
@@ -67,7 +67,7 @@ pub fn the_plain_world_counts_commits()
 
 /// A call that has begun to append is answered, whatever follows, and one that was refused is answered that
 /// refusal: from there on each of its steps moves it on towards that end, or is its last and replies it. A call whose
-/// step is lent a cell to change is such a call, so that one which ends refused has changed no log
+/// commit is lent a cell to change is such a call, so that one which ends refused has changed no log
 /// ([`crate::laws::one_step`]) and made no commit. Of calls that commit no node tells the answer, so that it is the one of the
 /// commit point.
 pub fn what_commits_is_answered()
@@ -80,6 +80,7 @@ pub fn what_commits_is_answered()
         → GoesTo e actor r (step w (Go actor granted)) }
     ensures writes { (w : World) (actor ino : ℕ) (r : Running) → IsKept w
         → (actor_at w actor).running ≡ Some r
+        → commits_at r.next ≡ true
         → (lent r.next (length w.shared.lists) actor r).cell ≡ Some ino → IsToEnd Answers r }
     ensures same { (nodes other : Handle → Option PlainNode) (made : Handle) (c : Call)
         → (beginning c ≡ Visits → ⊥) → answer nodes made c ≡ answer other made c }
@@ -249,14 +250,21 @@ pub fn short_takings_have_asked_every_list()
         (after (formatted g) events).shared (actor_at (after (formatted g) events) actor).hand r) }
 {}
 
-/// A step that refuses its call leaves the book (the number of the last commit, the epoch, journals and records) and all
-/// cells as they were, also an enter, which is lent the book; and so does each further step of a call that is
-/// not to be answered.
+/// A step that refuses its call leaves the book (the number of the last commit, the epoch, journals, snapshots and records) and
+/// all cells as they were, also an enter, which is lent the book; and so does each further step of a call that is
+/// not to be answered, but that the last step of a show takes its pin off. A call on snapshots that is refused has its
+/// last steps left alone; so it is in every world that events lead to.
 pub fn refused_calls_leave_books_and_cells()
-    ensures { (w : World) (actor : ℕ) (granted : Bool) (r : Running) → IsKept w
-        → (actor_at w actor).running ≡ Some r
-        → LeavesBooks w.shared
+    ensures kept { (w : World) (actor : ℕ) (granted : Bool) (r : Running) → IsKept w
+        → (actor_at w actor).running ≡ Some r → GoesOn r.next r.ending
+        → LeavesBooks r.next w.shared
         (turn w.numbers.block actor granted w.shared (actor_at w actor).hand r) }
+    ensures reached { (g : GeometryNumbers) (events : List Event) (actor : ℕ) (granted : Bool)
+        (r : Running) → IsWithinLimits g
+        → (actor_at (after (formatted g) events) actor).running ≡ Some r
+        → LeavesBooks r.next (after (formatted g) events).shared
+        (turn (after (formatted g) events).numbers.block actor granted
+        (after (formatted g) events).shared (actor_at (after (formatted g) events) actor).hand r) }
 {}
 
 /// A call is contended only after eight checks that each found a name bound anew: a started call has eight such checks
@@ -306,14 +314,16 @@ pub fn visits_read_settled_nodes()
         → told ≡ answer (settled_nodes w.shared) r.made r.call }
 {}
 
-/// A call is answered only where that was decided, and once: whatever events come from a new world on, a call that
+/// A call on files and directories is answered only where that was decided, and once: whatever events come from a new world on, a call that
 /// is Done has made its commit since it was started, or is a visit, or had nothing to change at its check, and at that
 /// event the plain world does not refuse it (at a commit point by [`plans_fit_at_commit_points`]); it is told what the
 /// plain world answers there, on the settled nodes. Of a call that is refused nothing was decided. And what commits has
 /// something to change.
 pub fn calls_are_decided_once()
     ensures done { (g : GeometryNumbers) (events : List Event) (actor : ℕ) (granted : Bool)
-        (told : Answer) → IsWithinLimits g
+        (r : Running) (told : Answer) → IsWithinLimits g
+        → (actor_at (after (formatted g) events) actor).running ≡ Some r
+        → is_on_snapshots r.call ≡ false
         → (step (after (formatted g) events) (Go actor granted)).reply ≡ Done told
         → decided actor (formatted g) (events ++ Go actor granted ∷ []) [] ≡ told ∷ [] }
     ensures refused { (g : GeometryNumbers) (events : List Event) (actor : ℕ) (granted : Bool)

@@ -6,10 +6,12 @@ use denote.Ref.{Bor}
 use Rattle.nv_base.specs.declared.fault.ScriptFaultKind.{ScriptFaultKind}
 use Rattle.nv_base.specs.declared.fault.ScriptFaultKind.TheVariants as kind
 use Rattle.nv_base.specs.declared.geometry.GeometryNumbers.{GeometryNumbers}
-use Rattle.nv_base.specs.declared.limits.TheConstants.{MODE}
+use Rattle.nv_base.specs.declared.limits.TheConstants.{DRAIN, MODE}
 use Rattle.nv_base.specs.declared.numbers.Handle.{Handle}
 use Rattle.nv_calls.specs.declared.call.Call.{Call}
 use Rattle.nv_calls.specs.declared.call.Call.TheVariants as call
+use Rattle.nv_calls.specs.declared.snapshot_call.SnapshotCall.{SnapshotCall}
+use Rattle.nv_calls.specs.declared.snapshot_call.SnapshotCall.TheVariants as snapshots
 use Rattle.nv_script.specs.declared.call.CallWord.{CallWord}
 use Rattle.nv_script.specs.declared.call.CallWord.TheVariants as calls
 use Rattle.nv_script.specs.declared.command.Command.{Command}
@@ -22,7 +24,6 @@ use Rattle.nv_script.specs.declared.fault.LineFault.{LineFault}
 use Rattle.nv_script.specs.declared.fault.LineFault.TheVariants as line
 use Rattle.nv_script.specs.declared.field.Field.{Field}
 use Rattle.nv_script.specs.declared.field.Field.TheVariants as field
-use Rattle.nv_core.specs.Worlds.{most_goes}
 use Rattle.nv_script.specs.Words.{number_of, number_up_to, positive_up_to, handle_of, text_of}
 
 -- what was read, or the fault of the line
@@ -49,6 +50,7 @@ abbrev pub Value : Field → Type 0
 Value field.Handle = Handle
 Value field.Number = ℕ
 Value field.Mode = ℕ
+Value field.Records = ℕ
 Value field.Text = List ℕ
 
 -- the word at a place, read as its kind says
@@ -56,6 +58,7 @@ abbrev pub value_at : (f : Field) → List (List ℕ) → ℕ → Parsed (Value 
 value_at field.Handle words place = ok_or (handle_of (word_at words place)) kind.Number
 value_at field.Number words place = ok_or (number_of (word_at words place)) kind.Number
 value_at field.Mode words place = ok_or (number_up_to MODE (word_at words place)) kind.Number
+value_at field.Records words place = ok_or (positive_up_to DRAIN (word_at words place)) kind.Number
 value_at field.Text words place = ok_or (text_of (word_at words place)) kind.Text
 
 -- what makes an A of one value for each field
@@ -86,11 +89,15 @@ row calls.Lookup = entry (codes "lookup") (field.Handle ∷ field.Text ∷ []) (
 row calls.Unlink = entry (codes "unlink") (field.Handle ∷ field.Text ∷ []) (λ dir name. call.Unlink dir name)
 row calls.Rmdir = entry (codes "rmdir") (field.Handle ∷ field.Text ∷ []) (λ dir name. call.Rmdir dir name)
 row calls.Rename = entry (codes "rename") (field.Handle ∷ field.Text ∷ field.Handle ∷ field.Text ∷ []) (λ from old to new. call.Rename from old to new)
+row calls.Snap = entry (codes "snap") [] (call.Snapshots snapshots.Snap)
+row calls.Drop = entry (codes "drop") (field.Number ∷ []) (λ s. call.Snapshots (snapshots.Drop s))
+row calls.Show = entry (codes "show") (field.Number ∷ []) (λ s. call.Snapshots (snapshots.Show s))
+row calls.Drain = entry (codes "drain") (field.Records ∷ []) (λ most. call.Snapshots (snapshots.Drain most))
 
 abbrev pub all_calls : List CallWord
 all_calls =
     calls.Create ∷ calls.Mkdir ∷ calls.Write ∷ calls.Read ∷ calls.Size ∷ calls.Mode ∷ calls.Stat ∷ calls.List
-    ∷ calls.Lookup ∷ calls.Unlink ∷ calls.Rmdir ∷ calls.Rename ∷ []
+    ∷ calls.Lookup ∷ calls.Unlink ∷ calls.Rmdir ∷ calls.Rename ∷ calls.Snap ∷ calls.Drop ∷ calls.Show ∷ calls.Drain ∷ []
 
 abbrev pub name_in : Row → List ℕ
 name_in (entry name fields make) = name
@@ -119,6 +126,23 @@ reads_or_unbinds calls.Lookup = true
 reads_or_unbinds calls.Unlink = true
 reads_or_unbinds calls.Rmdir = true
 reads_or_unbinds calls.Rename = true
+reads_or_unbinds calls.Snap = false
+reads_or_unbinds calls.Drop = false
+reads_or_unbinds calls.Show = false
+reads_or_unbinds calls.Drain = false
+
+-- the calls on snapshots
+abbrev pub is_on_snapshots : CallWord → Bool
+is_on_snapshots calls.Snap = true
+is_on_snapshots calls.Drop = true
+is_on_snapshots calls.Show = true
+is_on_snapshots calls.Drain = true
+is_on_snapshots other = false
+
+-- a call on snapshots that was read
+abbrev pub snapshots_read : Parsed SnapshotCall → Parsed Call
+snapshots_read (Ok c) = Ok (call.Snapshots c)
+snapshots_read (Err fault) = Err fault
 
 -- the first of some calls that has this name
 abbrev pub named_among : List CallWord → List ℕ → Option CallWord
@@ -135,9 +159,12 @@ plain_word name =
     if bytes_eq name (codes "go") then Some word.Go
     else if bytes_eq name (codes "run") then Some word.Run
     else if bytes_eq name (codes "tree") then Some word.Tree
+    else if bytes_eq name (codes "stree") then Some word.SnapTree
+    else if bytes_eq name (codes "snaps") then Some word.Snaps
     else if bytes_eq name (codes "space") then Some word.Space
     else if bytes_eq name (codes "lists") then Some word.Lists
     else if bytes_eq name (codes "log") then Some word.Log
+    else if bytes_eq name (codes "audit") then Some word.Audit
     else None
 
 -- what a line is by its first words: a `format`, or a command on a made world
@@ -154,6 +181,7 @@ own_fields (word.Start c) = field.Number ∷ []
 own_fields (word.Do c) = field.Number ∷ []
 own_fields word.Go = field.Number ∷ field.Number ∷ []
 own_fields word.Run = field.Number ∷ []
+own_fields word.SnapTree = field.Number ∷ []
 own_fields word.Log = field.Number ∷ []
 own_fields _ = []
 
@@ -178,6 +206,10 @@ none_empty words = list_all (λ w. nat_lt 0 (length w)) words
 abbrev pub are_counted : (most optional : ℕ) → List (List ℕ) → Bool
 are_counted most optional words = nat_le most (length words + optional) && nat_le (length words) most && none_empty words
 
+-- the most steps of a `go`
+abbrev pub most_goes : ℕ
+most_goes = 1048576
+
 -- how often a `go` goes
 abbrev pub goes_in : List (List ℕ) → Parsed ℕ
 goes_in words = if nat_lt 2 (length words) then ok_or (positive_up_to most_goes (word_at words 2)) kind.Number else Ok 1
@@ -189,9 +221,12 @@ command_with (word.Do c) words = value_at field.Number words 1 >>= λ actor. cal
 command_with word.Go words = value_at field.Number words 1 >>= λ actor. goes_in words >>= λ count. Ok (command.Go actor (count - 1))
 command_with word.Run words = value_at field.Number words 1 >>= λ actor. Ok (command.Run actor)
 command_with word.Tree words = Ok command.Tree
+command_with word.SnapTree words = value_at field.Number words 1 >>= λ s. Ok (command.SnapTree s)
+command_with word.Snaps words = Ok command.Snaps
 command_with word.Space words = Ok command.Space
 command_with word.Lists words = Ok command.Lists
 command_with word.Log words = value_at field.Number words 1 >>= λ ino. Ok (command.Log ino)
+command_with word.Audit words = Ok command.Audit
 
 -- a name, `=` and a number; the name comes with its `=`
 abbrev pub setting_of : List ℕ → List ℕ → Option ℕ

@@ -11,14 +11,15 @@ use Rattle.nv_base.specs.declared.geometry.GeometryNumbers.{GeometryNumbers}
 use Rattle.nv_machine.specs.Format.{formatted}
 use Rattle.nv_machine.specs.Step.{after, replies, step}
 use Rattle.nv_machine.specs.World.{Moved, Reply, Start, Started, World}
-use Rattle.nv_core.specs.Reports.{lists_of, log_at, space_of}
-use Rattle.nv_core.specs.Settled.{tree_of}
+use Rattle.nv_epoch.specs.SnapList.{pins_of}
+use Rattle.nv_core.specs.Reports.{lists_of, log_at, snaps_of, space_of}
+use Rattle.nv_core.specs.Settled.{snapshot_tree, tree_of}
 use Rattle.nv_core.specs.Worlds.{gos}
 use Rattle.nv_script.specs.declared.command.Command.{Command}
 use Rattle.nv_script.specs.declared.command.Command.TheVariants as command
 use Rattle.nv_script.specs.Grammar.{command_of, format_of, is_skipped}
 use Rattle.nv_script.specs.Lines.{IsCutOff, IsLine, ended}
-use Rattle.nv_script.specs.Texts.{line_of, lists_lines, log_line, refused_line, reply_line, space_line, tree_lines}
+use Rattle.nv_script.specs.Texts.{line_of, lists_lines, log_line, refused_line, reply_line, snaps_lines, space_line, tree_lines}
 use Rattle.nv_script.specs.Words.{words_of}
 
 -- a `format` makes an empty world; or it is refused, for a number or for want of memory, and there is still none
@@ -66,6 +67,11 @@ abbrev pub ShowsLog : Bool → ℕ → World → List ℕ → World → Type 0
 ShowsLog true ino old text new = Reports (log_line ino (log_at old.shared ino)) old text new
 ShowsLog false ino old text new = (text ≡ refused_line fault.Stale) × (new ≡ old)
 
+-- the tree of a snapshot, or a refusal where it does not live
+abbrev pub ShowsTree : Bool → ℕ → World → List ℕ → World → Type 0
+ShowsTree true snapshot old text new = Reports (tree_lines (snapshot_tree old snapshot)) old text new
+ShowsTree false snapshot old text new = (text ≡ refused_line fault.NoSnapshot) × (new ≡ old)
+
 -- what a command writes and leaves
 abbrev pub Acts : World → Command → List ℕ → World → Type 0
 Acts old (command.Start actor call) text new =
@@ -75,9 +81,12 @@ Acts old (command.Run actor) text new = Answers (Runs old actor) text new
 Acts old (command.Do actor call) text new =
     Answers (RunsFrom (step old (Start actor call)).reply (step old (Start actor call)).world actor) text new
 Acts old command.Tree text new = Reports (tree_lines (tree_of old)) old text new
+Acts old (command.SnapTree snapshot) text new = ShowsTree (is_some (pins_of old.shared.book.snaps snapshot)) snapshot old text new
+Acts old command.Snaps text new = Reports (snaps_lines (snaps_of old.shared.book)) old text new
 Acts old command.Space text new = (text ≡ space_line (space_of old)) × (new ≡ old)
 Acts old command.Lists text new = Reports (lists_lines (lists_of old.shared)) old text new
 Acts old (command.Log ino) text new = ShowsLog (nat_lt ino (length old.shared.cells)) ino old text new
+Acts old command.Audit text new = Reports (line_of (codes "audit ok")) old text new
 
 -- the words of a line without a fault: a `format` where no world is made, and else a command on the world
 abbrev pub PlaysWords : Option World → List (List ℕ) → List ℕ → Option World → Type 0

@@ -14,6 +14,8 @@ use Rattle.nv_entry.specs.declared.names.BoundName.{BoundName}
 use Rattle.nv_machine.specs.World.{Done, Moved, Refused, Reply, Started, Waiting}
 use Rattle.nv_core.specs.declared.reports.LogCounts.{LogCounts}
 use Rattle.nv_core.specs.declared.reports.Space.{Space}
+use Rattle.nv_core.specs.declared.snaps.SnapCounts.{SnapCounts}
+use Rattle.nv_core.specs.declared.snaps.Snaps.{Snaps}
 use Rattle.nv_entry.specs.declared.tree.TreeNode.{TreeNode}
 use Rattle.nv_script.specs.Words.{escaped}
 
@@ -41,23 +43,6 @@ letter Dir = codes "d"
 abbrev pub bound_text : BoundName → List ℕ
 bound_text bound = codes "\n" ++ escaped bound.name ++ codes " " ++ handle_text bound.to
 
--- what an answer shows behind the word `done`
-abbrev pub answer_text : Answer → List ℕ
-answer_text (answer.Made handle) = codes " " ++ handle_text handle
-answer_text (answer.Count count) = codes " " ++ decimal count
-answer_text answer.Nothing = []
-answer_text (answer.Bytes bytes) = codes " " ++ counted_bytes bytes
-answer_text (answer.Stat kind mode size commit) =
-    codes " " ++ letter kind ++ codes " " ++ decimal mode ++ codes " " ++ decimal size ++ codes " " ++ decimal commit
-answer_text (answer.Names names) = codes " " ++ decimal (length names) ++ flat_map bound_text names
-
-abbrev pub reply_line : Reply → List ℕ
-reply_line Started = line_of (codes "started")
-reply_line Moved = line_of (codes "moved")
-reply_line Waiting = line_of (codes "waits")
-reply_line (Done answer) = line_of (codes "done" ++ answer_text answer)
-reply_line (Refused fault) = refused_line fault
-
 -- each name behind a `/`
 abbrev pub names_text : List (List ℕ) → List ℕ
 names_text names = flat_map (λ name. codes "/" ++ escaped name) names
@@ -77,6 +62,35 @@ node_line node = line_of (path_text node.path ++ codes " " ++ kind_text node.nod
 
 abbrev pub tree_lines : List TreeNode → List ℕ
 tree_lines nodes = flat_map node_line nodes ++ line_of (codes "end")
+
+-- what an answer shows behind the word `done`
+abbrev pub answer_text : Answer → List ℕ
+answer_text (answer.Made handle) = codes " " ++ handle_text handle
+answer_text (answer.Count count) = codes " " ++ decimal count
+answer_text answer.Nothing = []
+answer_text (answer.Bytes bytes) = codes " " ++ counted_bytes bytes
+answer_text (answer.Stat kind mode size commit) =
+    codes " " ++ letter kind ++ codes " " ++ decimal mode ++ codes " " ++ decimal size ++ codes " " ++ decimal commit
+answer_text (answer.Names names) = codes " " ++ decimal (length names) ++ flat_map bound_text names
+answer_text (answer.Snapshot s) = codes " " ++ decimal s
+answer_text (answer.Tree nodes) = codes "\n" ++ flat_map node_line nodes ++ codes "end"
+
+abbrev pub reply_line : Reply → List ℕ
+reply_line Started = line_of (codes "started")
+reply_line Moved = line_of (codes "moved")
+reply_line Waiting = line_of (codes "waits")
+reply_line (Done answer) = line_of (codes "done" ++ answer_text answer)
+reply_line (Refused fault) = refused_line fault
+
+-- the snapshots: how many live, epoch and last commit; and of each the blocks that it holds, those that a drop defers, and pins
+abbrev pub snap_line : SnapCounts → List ℕ
+snap_line snap = line_of (codes "snap " ++ decimal snap.snapshot ++ codes " held " ++ decimal snap.held ++ codes " gain " ++ decimal snap.gain
+    ++ codes " pins " ++ decimal snap.pins)
+
+abbrev pub snaps_lines : Snaps → List ℕ
+snaps_lines snaps =
+    line_of (codes "snaps " ++ decimal (length snaps.living) ++ codes " epoch " ++ decimal snaps.epoch ++ codes " commit " ++ decimal snaps.commit)
+    ++ flat_map snap_line snaps.living
 
 -- where the blocks are
 abbrev pub space_line : Space → List ℕ

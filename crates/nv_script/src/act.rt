@@ -8,12 +8,14 @@ ghost use Rattle.nv_script.specs.Play.{Acts, GoesOn, Runs, RunsFrom};
 ghost use Rattle.nv_script.specs.Results.{IsNewWorld, LineIs, MakesWorld};
 ghost use Rattle.nv_core.specs.Worlds.{Leads, reply_of};
 
-use crate::command::{Command, MOST_GOES, is_skipped, read_command, read_format};
+use crate::command::{Command, is_skipped, read_command, read_format};
 use crate::fault::LineFault;
-use crate::text::{push_lists, push_log, push_refused, push_reply, push_space, push_tree};
+use crate::text::{
+    push_lists, push_log, push_refused, push_reply, push_snaps, push_space, push_tree,
+};
 use crate::word::words;
-use nv_base::{Fault, Geometry, GeometryNumbers, Ino};
-use nv_core::{Call, Event, Reply, World};
+use nv_base::{Epoch, Fault, Geometry, GeometryNumbers, Ino};
+use nv_core::{Call, Event, MOST_STEPS, Reply, World};
 use std::alloc::{AllocError, Global};
 
 /// Plays one line, which has no line end. The text that it writes is in `out` then, in place of what that held.
@@ -86,6 +88,14 @@ fn act(world: &mut World, command: Command, out: &mut Vec<u8>) -> Result<(), All
             Ok(tree) => push_tree(out, tree.as_slice()),
             Err(fault) => push_refused(out, &fault),
         },
+        Command::SnapTree(s) => match world.snap_tree(Epoch::new(s)) {
+            Ok(tree) => push_tree(out, tree.as_slice()),
+            Err(fault) => push_refused(out, &fault),
+        },
+        Command::Snaps => match world.snaps() {
+            Ok(snaps) => push_snaps(out, &snaps),
+            Err(fault) => push_refused(out, &fault),
+        },
         Command::Space => push_space(out, &world.space()),
         Command::Lists => match world.lists() {
             Ok(lists) => push_lists(out, lists.as_slice()),
@@ -93,6 +103,10 @@ fn act(world: &mut World, command: Command, out: &mut Vec<u8>) -> Result<(), All
         },
         Command::Log(ino) => match world.log(Ino::new(ino)) {
             Ok(log) => push_log(out, ino, &log),
+            Err(fault) => push_refused(out, &fault),
+        },
+        Command::Audit => match world.audit() {
+            Ok(()) => out.extend_from_slice(b"audit ok\n"),
             Err(fault) => push_refused(out, &fault),
         },
     }
@@ -118,7 +132,7 @@ fn run(world: &mut World, actor: u64) -> Reply
 {
     // No call has so many steps.
     world.bounded();
-    go(world, actor, MOST_GOES - 1)
+    go(world, actor, MOST_STEPS - 1)
 }
 
 /// Starts a call, and runs it if it was started.

@@ -2,12 +2,12 @@
 //! definition of the same name.
 
 ghost use Rattle.std.specs.Prelude.{◌≡◌, true};
-ghost use Rattle.nv_script.specs.Grammar.{Reads, all_calls, call_with, fields_in, name_in, named_among, reads_or_unbinds, row, texts, third_call};
+ghost use Rattle.nv_script.specs.Grammar.{Reads, all_calls, call_with, fields_in, is_on_snapshots, name_in, named_among, reads_or_unbinds, row, snapshots_read, texts, third_call};
 
 use crate::fault::LineFault;
-use crate::field::{Field, handle_at, mode_at, number_at, text_at, word_at};
-use nv_base::ScriptFaultKind;
-use nv_core::Call;
+use crate::field::{Field, handle_at, mode_at, number_at, records_at, text_at, word_at};
+use nv_base::{Epoch, ScriptFaultKind};
+use nv_core::{Call, SnapshotCall};
 use std::alloc::Global;
 
 /// A call by its name.
@@ -25,6 +25,10 @@ pub(crate) enum CallWord {
     Unlink,
     Rmdir,
     Rename,
+    Snap,
+    Drop,
+    Show,
+    Drain,
 }
 
 /// A row of the table of calls: the name, and what the words after it are.
@@ -35,7 +39,7 @@ pub(crate) struct CallRow {
 }
 
 impl CallWord {
-    const ALL: [CallWord; 12] = [
+    const ALL: [CallWord; 16] = [
         CallWord::Create,
         CallWord::Mkdir,
         CallWord::Write,
@@ -48,6 +52,10 @@ impl CallWord {
         CallWord::Unlink,
         CallWord::Rmdir,
         CallWord::Rename,
+        CallWord::Snap,
+        CallWord::Drop,
+        CallWord::Show,
+        CallWord::Drain,
     ];
 
     /// The table of calls.
@@ -77,6 +85,10 @@ impl CallWord {
             CallWord::Unlink => b"unlink",
             CallWord::Rmdir => b"rmdir",
             CallWord::Rename => b"rename",
+            CallWord::Snap => b"snap",
+            CallWord::Drop => b"drop",
+            CallWord::Show => b"show",
+            CallWord::Drain => b"drain",
         }
     }
 
@@ -93,6 +105,9 @@ impl CallWord {
             CallWord::Stat | CallWord::List => &[Field::Handle],
             CallWord::Lookup | CallWord::Unlink | CallWord::Rmdir => &[Field::Handle, Field::Text],
             CallWord::Rename => &[Field::Handle, Field::Text, Field::Handle, Field::Text],
+            CallWord::Snap => &[],
+            CallWord::Drop | CallWord::Show => &[Field::Number],
+            CallWord::Drain => &[Field::Records],
         }
     }
 
@@ -151,6 +166,9 @@ impl CallWord {
                 handle: handle_at(words, 3)?,
                 mode: mode_at(words, 4)?,
             }),
+            CallWord::Snap | CallWord::Drop | CallWord::Show | CallWord::Drain => {
+                Ok(Call::Snapshots(self.read_snapshots(words)?))
+            }
             _ => self.read_names(alloc, words),
         }
     }
@@ -185,6 +203,20 @@ impl CallWord {
                 to: handle_at(words, 5)?,
                 new: text_at(alloc, words, 6)?,
             }),
+            _ => unreachable!(),
+        }
+    }
+
+    /// The calls on snapshots.
+    fn read_snapshots(self, words: &[&[u8]]) -> Result<SnapshotCall, ScriptFaultKind>
+        requires { is_on_snapshots self ≡ true }
+        ensures { snapshots_read result ≡ call_with self (texts words.now) }
+    {
+        match self {
+            CallWord::Snap => Ok(SnapshotCall::Snap),
+            CallWord::Drop => Ok(SnapshotCall::Drop(Epoch::new(number_at(words, 3)?))),
+            CallWord::Show => Ok(SnapshotCall::Show(Epoch::new(number_at(words, 3)?))),
+            CallWord::Drain => Ok(SnapshotCall::Drain(records_at(words, 3)?)),
             _ => unreachable!(),
         }
     }

@@ -31,12 +31,18 @@ pub(crate) enum Command {
     Do(u64, Call),
     /// The tree now.
     Tree,
+    /// The tree of a snapshot.
+    SnapTree(u64),
+    /// The living snapshots.
+    Snaps,
     /// Where the blocks are.
     Space,
     /// The free lists.
     Lists,
     /// The log of a slot.
     Log(u64),
+    /// Whether each part is that of one scan of all logs.
+    Audit,
 }
 
 /// A command by its name, with the call that it names.
@@ -47,9 +53,12 @@ pub(crate) enum CommandWord {
     Run,
     Do(CallWord),
     Tree,
+    SnapTree,
+    Snaps,
     Space,
     Lists,
     Log,
+    Audit,
 }
 
 /// What a line is by its first words.
@@ -150,6 +159,12 @@ impl CommandWord {
         if name == b"tree".as_slice() {
             return Some(CommandWord::Tree);
         }
+        if name == b"stree".as_slice() {
+            return Some(CommandWord::SnapTree);
+        }
+        if name == b"snaps".as_slice() {
+            return Some(CommandWord::Snaps);
+        }
         if name == b"space".as_slice() {
             return Some(CommandWord::Space);
         }
@@ -158,6 +173,9 @@ impl CommandWord {
         }
         if name == b"log".as_slice() {
             return Some(CommandWord::Log);
+        }
+        if name == b"audit".as_slice() {
+            return Some(CommandWord::Audit);
         }
         None
     }
@@ -168,9 +186,13 @@ impl CommandWord {
     {
         match self {
             CommandWord::Start(_) | CommandWord::Do(_) => &[Field::Number],
-            CommandWord::Run | CommandWord::Log => &[Field::Number],
+            CommandWord::Run | CommandWord::SnapTree | CommandWord::Log => &[Field::Number],
             CommandWord::Go => &[Field::Number, Field::Number],
-            CommandWord::Tree | CommandWord::Space | CommandWord::Lists => &[],
+            CommandWord::Tree
+            | CommandWord::Snaps
+            | CommandWord::Space
+            | CommandWord::Lists
+            | CommandWord::Audit => &[],
         }
     }
 
@@ -218,9 +240,12 @@ impl CommandWord {
             CommandWord::Go => Ok(Command::Go(number_at(words, 1)?, goes_in(words)? - 1)),
             CommandWord::Run => Ok(Command::Run(number_at(words, 1)?)),
             CommandWord::Tree => Ok(Command::Tree),
+            CommandWord::SnapTree => Ok(Command::SnapTree(number_at(words, 1)?)),
+            CommandWord::Snaps => Ok(Command::Snaps),
             CommandWord::Space => Ok(Command::Space),
             CommandWord::Lists => Ok(Command::Lists),
             CommandWord::Log => Ok(Command::Log(number_at(words, 1)?)),
+            CommandWord::Audit => Ok(Command::Audit),
         }
     }
 }

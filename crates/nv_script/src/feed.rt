@@ -5,7 +5,7 @@ ghost use Rattle.std.specs.Vec.{vec_capacity};
 ghost use Rattle.std.specs.Io.KnownBytes.{prepend_known, Consumes, Keeps, IsAtEnd};
 ghost use Rattle.nv_script.specs.Lines.{EndsLine, HasNoEnd};
 
-use crate::scan::count_before;
+use memchr::memchr;
 use std::alloc::{AllocError, Global};
 use std::io::Read;
 use std::marker::Model;
@@ -190,7 +190,7 @@ fn before_end(bytes: &[u8]) -> usize
     ensures clean { HasNoEnd (take result bytes.now) }
     ensures end { result < length bytes.now → slice_index bytes.now result ≡ LINE_END }
 {
-    count_before(LINE_END, bytes)
+    memchr(LINE_END, bytes).unwrap_or(bytes.len())
 }
 
 /// The place behind the last line end of some bytes, or 0 where there is none.

@@ -4,8 +4,8 @@ ghost use Rattle.std.specs.Prelude.{◌≡◌};
 ghost use Rattle.nv_script.specs.Grammar.{Reads, setting_at, setting_of, texts, value_at, word_at};
 
 use crate::fault::LineFault;
-use crate::word::{handle, mode, number, text};
-use nv_base::{Bytes, Handle, Mode, ScriptFaultKind};
+use crate::word::{handle, mode, number, positive, text};
+use nv_base::{Bytes, Handle, Mode, ScriptFaultKind, limits};
 use std::alloc::Global;
 
 /// What a word of a line is read as.
@@ -14,6 +14,8 @@ pub(crate) enum Field {
     Handle,
     Number,
     Mode,
+    /// How many records a drain is to release at most.
+    Records,
     /// A name, or the bytes of a write.
     Text,
 }
@@ -44,6 +46,12 @@ pub(crate) fn mode_at(words: &[&[u8]], place: usize) -> Result<Mode, ScriptFault
     ensures { result ≡ value_at Field.Mode (texts words.now) place }
 {
     mode(word_at(words, place)).ok_or(ScriptFaultKind::Number)
+}
+
+pub(crate) fn records_at(words: &[&[u8]], place: usize) -> Result<u64, ScriptFaultKind>
+    ensures { result ≡ value_at Field.Records (texts words.now) place }
+{
+    positive(limits::DRAIN, word_at(words, place)).ok_or(ScriptFaultKind::Number)
 }
 
 pub(crate) fn text_at(alloc: Global, words: &[&[u8]], place: usize) -> Result<Bytes, LineFault>

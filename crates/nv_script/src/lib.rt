@@ -13,7 +13,6 @@ mod field;
 mod format;
 mod outbox;
 mod outcome;
-mod scan;
 mod script;
 mod send;
 mod text;

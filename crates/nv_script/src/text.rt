@@ -2,7 +2,7 @@
 
 ghost use Rattle.std.specs.Prelude.{◌≡◌, ◌++◌, IfOk, OnOk, codes, decimal, string_bytes};
 ghost use Rattle.nv_base.specs.Texts.{bracketed, fault_text, script_fault_name};
-ghost use Rattle.nv_script.specs.Texts.{answer_text, bound_text, counted_bytes, counts_text, handle_text, kind_text, letter, lists_lines, log_line, names_text, node_line, path_text, refused_line, reply_line, run_text, runs_text, space_line, tree_lines};
+ghost use Rattle.nv_script.specs.Texts.{answer_text, bound_text, counted_bytes, counts_text, handle_text, kind_text, letter, lists_lines, log_line, names_text, node_line, path_text, refused_line, reply_line, run_text, runs_text, snap_line, snaps_lines, space_line, tree_lines};
 ghost use Rattle.std.specs.List.{flat_map};
 ghost use Rattle.nv_machine.specs.World.{Done};
 ghost use Rattle.nv_core.specs.Worlds.{reply_of};
@@ -11,7 +11,7 @@ use crate::word::{push_escaped, push_number};
 use nv_alloc::FreeRun;
 use nv_base::{Fault, Handle, Items, Kind, Mode, Name, ScriptFaultKind};
 use nv_cell::PageCounts;
-use nv_core::{Answer, LogCounts, Path, Reply, Space, TreeNode};
+use nv_core::{Answer, LogCounts, Path, Reply, SnapCounts, Snaps, Space, TreeNode};
 use nv_entry::{BoundName, NodeCopy};
 use std::alloc::{AllocError, Global};
 
@@ -157,6 +157,12 @@ fn push_answer(out: &mut Vec<u8>, answer: &Answer) -> Result<(), AllocError>
             push_labelled(out, b" ", names.len() as u64)?;
             push_bound(out, names)
         }
+        Answer::Snapshot(s) => push_labelled(out, b" ", s.number()),
+        Answer::Tree(tree) => {
+            out.extend_from_slice(b"\n")?;
+            push_nodes(out, tree.as_slice())?;
+            out.extend_from_slice(b"end")
+        }
     }
 }
 
@@ -246,6 +252,39 @@ pub(crate) fn push_tree(out: &mut Vec<u8>, nodes: &[TreeNode]) -> Result<(), All
 {
     push_nodes(out, nodes)?;
     out.extend_from_slice(b"end\n")
+}
+
+/// Adds the line of a living snapshot.
+fn push_snap(out: &mut Vec<u8>, snap: &SnapCounts) -> Result<(), AllocError>
+    ensures { OnOk result (out.new.items ≡ out.old.items ++ snap_line snap.now) }
+{
+    push_labelled(out, b"snap ", snap.snapshot.number())?;
+    push_labelled(out, b" held ", snap.held)?;
+    push_labelled(out, b" gain ", snap.gain)?;
+    push_labelled(out, b" pins ", u64::from(snap.pins))?;
+    out.extend_from_slice(b"\n")
+}
+
+/// Adds the lines of living snapshots.
+fn push_living(out: &mut Vec<u8>, living: &[SnapCounts]) -> Result<(), AllocError>
+    ensures { OnOk result (out.new.items ≡ out.old.items ++ flat_map snap_line living.now) }
+{
+    for snap in living {
+        push_snap(out, snap)?;
+    }
+    Ok(())
+}
+
+/// Adds the epoch and the last commit, and the living snapshots.
+pub(crate) fn push_snaps(out: &mut Vec<u8>, snaps: &Snaps) -> Result<(), AllocError>
+    ensures { OnOk result (out.new.items ≡ out.old.items ++ snaps_lines snaps.now) }
+{
+    let living = snaps.living.as_slice();
+    push_labelled(out, b"snaps ", living.len() as u64)?;
+    push_labelled(out, b" epoch ", snaps.epoch.number())?;
+    push_labelled(out, b" commit ", snaps.commit.number())?;
+    out.extend_from_slice(b"\n")?;
+    push_living(out, living)
 }
 
 /// Adds where the blocks are.

@@ -6,7 +6,7 @@ ghost use Rattle.std.specs.Fmt.{digit_glyph};
 ghost use Rattle.nv_base.specs.declared.limits.TheConstants.{MODE};
 ghost use Rattle.nv_script.specs.Words.{number_of, number_up_to, positive_up_to, words_of, handle_from, handle_of, is_plain, hex_value, before, unescaped, unescaped_behind, text_of, escaped_byte, escaped};
 
-use crate::scan::PIECE;
+use memchr::memchr;
 use nv_base::{Bytes, Gen, Handle, Ino, Mode, limits};
 use std::alloc::{AllocError, Global};
 
@@ -21,6 +21,9 @@ const POINT: u8 = b'.';
 
 /// What begins the two digits of an escaped byte.
 const ESCAPE: u8 = b'%';
+
+/// How many bytes are asked together whether they are plain.
+const PIECE: usize = 32;
 
 /// The number that 1 to 20 decimal digits spell, if it is below 2 to the power of 64.
 pub fn number(word: &[u8]) -> Option<u64>
@@ -90,7 +93,12 @@ pub fn words(alloc: Global, line: &[u8]) -> Result<Vec<&[u8]>, AllocError>
     ensures { IfOk result (λ v. map (λ w. w.now) v.items ≡ words_of line.now) }
 {
     let mut found = Vec::with_capacity(alloc, MOST_WORDS)?;
-    found.extend(line.split(|byte| *byte == b' '))?;
+    let mut rest = line;
+    while let Some(space) = memchr(b' ', rest) {
+        found.push(&rest[..space])?;
+        rest = &rest[space + 1..];
+    }
+    found.push(rest)?;
     Ok(found)
 }
 
@@ -163,7 +171,11 @@ fn push_plain<'a>(out: &mut Vec<u8>, bytes: &'a [u8]) -> Result<&'a [u8], AllocE
         ≡ unescaped_behind out.old.items bytes.now) }
     ensures shorter { IfOk result (λ rest. length rest.now ≤ length bytes.now) }
 {
-    let (plain, rest) = bytes.split_at(plain_count(bytes));
+    let count = plain_count(bytes);
+    if count == 0 {
+        return Ok(bytes);
+    }
+    let (plain, rest) = bytes.split_at(count);
     out.extend_from_slice(plain)?;
     Ok(rest)
 }
@@ -204,10 +216,11 @@ fn push_byte(out: &mut Vec<u8>, byte: u8) -> Result<(), AllocError>
     ensures { OnOk result (out.new.items ≡ out.old.items ++ escaped_byte byte) }
 {
     if is_plain(byte) {
-        Ok(out.push(byte)?)
-    } else {
-        out.extend_from_slice(&[ESCAPE, hex_digit(byte / 16), hex_digit(byte % 16)])
+        return Ok(out.push(byte)?);
     }
+    out.push(ESCAPE)?;
+    out.push(hex_digit(byte / 16))?;
+    Ok(out.push(hex_digit(byte % 16))?)
 }
 
 /// Adds bytes as they are printed. Plain ones are copied together.

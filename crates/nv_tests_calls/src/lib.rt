@@ -16,4 +16,6 @@ mod mixed;
 #[cfg(test)]
 mod script;
 #[cfg(test)]
+mod trees;
+#[cfg(test)]
 mod world;

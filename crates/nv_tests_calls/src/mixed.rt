@@ -11,6 +11,7 @@ mod blocks;
 mod same;
 mod says;
 mod scene;
+mod snapshots;
 
 use crate::compare::{push, same_for};
 use blocks::check_blocks;

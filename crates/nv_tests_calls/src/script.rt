@@ -7,5 +7,6 @@ mod lines;
 mod pieces;
 mod rows;
 mod scripts;
+mod snapshots;
 mod words;
 mod worked;

@@ -1,8 +1,10 @@
 //! Worlds: a first path by events and replies, and each call while the runner refuses memory once.
 
+mod audits;
 mod growths;
 mod playing;
 mod reports;
+mod snapshots;
 mod words;
 
 use crate::compare::{holds_for, push, same};

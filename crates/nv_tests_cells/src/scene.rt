@@ -107,6 +107,23 @@ impl Scene {
         }
     }
 
+    /// The cells by their numbers, and what calls share.
+    pub fn into_cells(self, rt: &impl Abort, alloc: Global) -> (Vec<InodeCell>, Stock) {
+        let Scene {
+            root,
+            first,
+            second,
+            third,
+            stock,
+        } = self;
+        let mut cells = Vec::new(alloc);
+        push_cell(rt, &mut cells, root);
+        push_cell(rt, &mut cells, first);
+        push_cell(rt, &mut cells, second);
+        push_cell(rt, &mut cells, third);
+        (cells, stock)
+    }
+
     pub fn dismantle(self) {
         let Scene {
             root,
@@ -120,5 +137,11 @@ impl Scene {
         second.dismantle();
         third.dismantle();
         stock.dismantle();
+    }
+}
+
+fn push_cell(rt: &impl Abort, cells: &mut Vec<InodeCell>, cell: InodeCell) {
+    if let Err(failed) = cells.push(cell) {
+        cells.push(failed.value).expect(rt, "memory for a cell");
     }
 }

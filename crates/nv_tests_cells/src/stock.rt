@@ -73,6 +73,19 @@ impl Stock {
         }
     }
 
+    /// The device, its book and its list.
+    pub fn into_parts(self) -> (Geometry, Book, FreeList) {
+        let Stock {
+            alloc: _,
+            device,
+            book,
+            list,
+            leaves: _,
+            gone: _,
+        } = self;
+        (device, book, list)
+    }
+
     pub fn dismantle(self) {
         let Stock {
             alloc: _,
@@ -98,7 +111,7 @@ fn free_list(rt: &impl Abort, alloc: Global, device: &Geometry) -> FreeList {
     }
 }
 
-fn new_book(rt: &impl Abort, alloc: Global, device: &Geometry) -> Book {
+pub fn new_book(rt: &impl Abort, alloc: Global, device: &Geometry) -> Book {
     match Book::new(alloc, device) {
         Ok(book) => book,
         Err(fault) => {

@@ -35,7 +35,7 @@ fn hand_for(rt: &impl Abort, alloc: Global, data: u64, pages: u64) -> Hand {
     let mut hand = Hand::new(alloc, &device(rt));
     reserve(rt, &mut hand.data, data);
     reserve(rt, &mut hand.pages, pages);
-    assert!(rt; hand.is_empty());
+    same(rt, hand.is_empty(), true);
     hand
 }
 
@@ -60,6 +60,12 @@ fn assert_runs(rt: &impl Abort, list: &FreeList, want: &[(u64, u64)]) {
     same(rt, runs.next(), None);
 }
 
+/// Whether a block is at home in the list, and free.
+fn stands(rt: &impl Abort, list: &FreeList, number: u64, want: (bool, bool)) {
+    let number = BlockNo::new(number);
+    same(rt, (list.is_home(number), list.has(number)), want);
+}
+
 #[test]
 fn takes_the_lowest_and_shows_runs(rt: HostRuntime) {
     let mut list = list_of(&rt, rt.alloc(), 0);
@@ -69,14 +75,9 @@ fn takes_the_lowest_and_shows_runs(rt: HostRuntime) {
     same(&rt, take(&rt, &mut list, &mut hand.pages, 2), 2);
     has_numbers(&rt, &hand.data, &[0, 1, 2, 3, 4]);
     has_numbers(&rt, &hand.pages, &[5, 6]);
-    for (number, is_home, is_free) in [(6, true, false), (7, true, true), (8, false, false)] {
-        let number = BlockNo::new(number);
-        same(
-            &rt,
-            (list.is_home(number), list.has(number)),
-            (is_home, is_free),
-        );
-    }
+    stands(&rt, &list, 6, (true, false));
+    stands(&rt, &list, 7, (true, true));
+    stands(&rt, &list, 8, (false, false));
     give_next(&rt, &mut hand.data, &mut list, 0);
     let first = next(&rt, &mut hand.data);
     put(&rt, &mut hand.data, first);
@@ -93,11 +94,11 @@ fn takes_what_there_is(rt: HostRuntime) {
     let mut list = list_of(&rt, rt.alloc(), 1);
     let mut hand = hand_for(&rt, rt.alloc(), 20, 0);
     same(&rt, take(&rt, &mut list, &mut hand.data, 20), 8);
-    assert!(rt; list.is_empty());
+    same(&rt, list.is_empty(), true);
     same(&rt, take(&rt, &mut list, &mut hand.data, 1), 0);
     same(&rt, hand.data.room(), 12);
     hand.give_home(&mut list);
-    assert!(rt; hand.is_empty());
+    same(&rt, hand.is_empty(), true);
     assert_runs(&rt, &list, &[(8, 15)]);
     hand.dismantle();
     list.dismantle();
@@ -238,7 +239,7 @@ fn holds_a_chain_and_a_number(rt: HostRuntime) {
     same(&rt, (hand.is_empty(), pages.len()), (true, 1));
     put_chain(&rt, &mut hand, pages);
     hand.give_home(&mut list);
-    assert!(rt; hand.chain.is_empty());
+    same(&rt, hand.chain.is_empty(), true);
     assert_runs(&rt, &list, &[(0, 7)]);
     hold_number(&rt, &mut hand);
     hand.dismantle();
@@ -253,13 +254,17 @@ fn hands_out_the_lowest_inode(rt: HostRuntime) {
         same(&rt, pool.take(), Some(Ino::new(ino)));
     }
     same(&rt, pool.take(), None);
-    assert!(rt; pool.is_empty());
-    for ino in [Ino::new(2), Ino::new(1)] {
-        assert!(rt; pool.is_inode(ino) && !pool.has(ino));
-        pool.give(ino);
-    }
-    assert!(rt; !pool.is_inode(Ino::new(3)) && !pool.has(Ino::new(3)));
+    same(&rt, pool.is_empty(), true);
+    give_back(&rt, &mut pool, Ino::new(2));
+    give_back(&rt, &mut pool, Ino::new(1));
+    let third = Ino::new(3);
+    same(&rt, (pool.is_inode(third), pool.has(third)), (false, false));
     same(&rt, pool.take(), Some(Ino::new(1)));
+}
+
+fn give_back(rt: &impl Abort, pool: &mut InodePool, ino: Ino) {
+    assert!(rt; pool.is_inode(ino) && !pool.has(ino));
+    pool.give(ino);
 }
 
 #[test]

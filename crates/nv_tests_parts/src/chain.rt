@@ -131,7 +131,7 @@ fn assert_pages(rt: &impl Abort, chain: &Chain, pages: &[Page], log: &[u64]) {
 }
 
 fn number_at(blocks: &[Block], k: usize) -> Option<BlockNo> {
-    blocks.get(k).map(|block| block.number())
+    Some(blocks.get(k)?.number())
 }
 
 /// Lets the pages of a whole chain go.

@@ -150,8 +150,8 @@ fn a_refused_growth_changes_nothing(rt: HostRuntime) {
     let mut index = FileIndex::new(rt.alloc());
     write_all(&rt, &mut index, &[(4, 2, 2, 0, 1)]);
     let before = sizes(&index);
-    for runs in [usize::MAX, usize::MAX / 2, 1 << 62] {
-        same(&rt, index.reserve_for(runs), Err(Fault::OutOfMemory));
+    for runs in &[usize::MAX, usize::MAX / 2, 1 << 62] {
+        same(&rt, index.reserve_for(*runs), Err(Fault::OutOfMemory));
         same(&rt, sizes(&index), before);
     }
     same(&rt, index.at(3), None);
@@ -249,6 +249,13 @@ fn assert_same_at(
     let next = run.map(|run| run.first.max(page));
     same(rt, index.next_from(page).map(|found| found.0), next);
     assert!(rt; index.run_from(page) == run, "page {page}");
+    for guess in [0, 7, usize::MAX] {
+        let mut place = guess;
+        assert!(rt;
+            index.run_near(page, &mut place) == run,
+            "page {page} from {guess}"
+        );
+    }
 }
 
 fn assert_same(rt: &impl Abort, alloc: Global, index: &FileIndex, slots: &[Option<PageRef>]) {

@@ -136,8 +136,8 @@ const HOLDERS: &[(u64, u64, Option<u64>)] = &[
 fn finds_holders(rt: HostRuntime) {
     let list = three_living(&rt, rt.alloc());
     let mut ids = list.ids();
-    for number in [3, 4, 7] {
-        same(&rt, ids.next(), Some(Epoch::new(number)));
+    for number in &[3, 4, 7] {
+        same(&rt, ids.next(), Some(Epoch::new(*number)));
     }
     same(&rt, ids.next(), None);
     for (birth, death, holder) in HOLDERS {

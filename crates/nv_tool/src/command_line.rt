@@ -40,10 +40,11 @@ directory 0.1 with mode 420 (octal 644), and list all. 'novacore play first.nova
   /notes f 420 0
   end
 
-Commands: format, do, start, go, run, tree, space, lists, log.
+Commands: format, do, start, go, run, tree, stree, snaps, space, lists, log, audit.
 Calls, which follow 'do' or 'start' and the number of an actor: create, mkdir, write, read, size,
-mode, stat, list, lookup, unlink, rmdir, rename. 'do' makes a call whole; 'start', 'go' and 'run'
-take it step by step, between the steps of other actors.
+mode, stat, list, lookup, unlink, rmdir, rename; and on snapshots snap, drop, show, drain.
+'do' makes a call whole; 'start', 'go' and 'run' take it step by step, between the steps of other
+actors.
 
 Answers go to standard output. A call that cannot be made is answered with the reason, as
 'refused E8 Exists', and the script goes on. A fault ends it: a line that is no command, or a read

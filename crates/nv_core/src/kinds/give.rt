@@ -7,7 +7,7 @@ ghost use Rattle.nv_alloc.specs.Numbers.{times};
 ghost use Rattle.nv_machine.specs.Kinds.{blocks_in, give_turn};
 ghost use Rattle.nv_machine.specs.World.{list_at};
 ghost use Rattle.nv_core.specs.Parts.{AreGiven, AreHome, IsOfDevice};
-ghost use Rattle.nv_core.specs.Rooms.{HasRooms, HasRoomsAfter, IsNoVisit};
+ghost use Rattle.nv_core.specs.Rooms.{CanDrain, HasRooms, HasRoomsAfter, IsNoVisit};
 ghost use Rattle.nv_core.specs.Shown.{Told, hand_of, shared_of, shown, turn_of};
 ghost use Rattle.nv_core.specs.Told.{KeepsJob, OwesAt};
 
@@ -22,6 +22,7 @@ use nv_alloc::Hand;
 pub(crate) fn give(shared: &mut Shared, hand: &mut Hand, running: &mut Running, cpu: u64) -> Turn
     requires rooms { HasRooms shared.old (Hold.Hand hand.old) running.old }
     requires job { IsNoVisit running.old.job }
+    requires drains { CanDrain running.old.ending running.old.job hand.old }
     requires cpu { cpu < shared.old.geometry.numbers.cpus }
     requires home { AreHome shared.old }
     requires device { IsOfDevice shared.old.geometry.numbers hand.old }

@@ -5,7 +5,7 @@ ghost use Rattle.nv_calls.specs.Progress.{step_of};
 ghost use Rattle.nv_machine.specs.Kinds.{leave_turn};
 ghost use Rattle.nv_machine.specs.World as machine;
 ghost use Rattle.nv_core.specs.Parts.{AreHome, IsOfDevice};
-ghost use Rattle.nv_core.specs.Rooms.{HasRooms, HasRoomsAfter};
+ghost use Rattle.nv_core.specs.Rooms.{HasRooms, HasRoomsAfter, IsNoDrain};
 ghost use Rattle.nv_core.specs.Shown.{Told, hand_in, hand_of, shared_of, shown, shown_at, turn_of};
 ghost use Rattle.nv_core.specs.Told.{KeepsJob, OwesAt};
 
@@ -29,7 +29,7 @@ pub(crate) fn leave(shared: &mut Shared, commit: Commit, running: &mut Running) 
         ≡ turn_of result.1 (shared_of shared.new) (hand_of result.0) (shown told running.new) }
     ensures job { KeepsJob running.old running.new }
     ensures goes { result.1 ≢ Turn.Waits }
-    ensures slots { running.new.slots ≡ running.old.slots }
+    ensures slots { IsNoDrain running.old.ending → running.new.slots ≡ running.old.slots }
     ensures rooms { HasRoomsAfter result.1 shared.new (Hold.Hand result.0) running.new }
     ensures rest { shared.new ≡ record shared.old { holder = None } }
 {

@@ -4,9 +4,11 @@ ghost use Rattle.std.specs.Prelude.{◌≡◌, ◌≢◌, None, false, length, t
 ghost use Rattle.nv_machine.specs.Kinds.{go_on, number_turn};
 ghost use Rattle.nv_machine.specs.Reads.{slots_of};
 ghost use Rattle.nv_machine.specs.World as machine;
-ghost use Rattle.nv_core.specs.Rooms.{FitsCall, HasRooms, HasRoomsAfter, takes};
+ghost use Rattle.nv_core.specs.Rooms.{FitsCall, HasNextRoom, HasRooms, HasRoomsAfter, takes};
 ghost use Rattle.nv_core.specs.Shown.{Told, hand_of, shared_of, shown, turn_of};
 ghost use Rattle.nv_core.specs.Told.{IsToldOf, KeepsJob, makes_inode};
+ghost use Rattle.nv_core.specs.declared.job.Job.{Job};
+ghost use Rattle.nv_core.specs.declared.next.Ending.{Ending};
 
 use crate::hold::Hold;
 use crate::running::{Running, locking, slots_of};
@@ -48,6 +50,8 @@ fn go_on(inodes: u64, running: &mut Running, number: Option<Ino>) -> Turn
     ensures job { KeepsJob running.old running.new }
     ensures fits { FitsCall running.new }
     ensures none { takes running.new.next ≡ false }
+    ensures room { (how : Ending) (job : Job) (hand : Hand)
+        → HasNextRoom running.new.next how job hand }
     ensures moves { result ≡ Turn.Moves }
 {
     let update = &running.plan().update;

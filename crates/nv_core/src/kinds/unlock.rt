@@ -4,7 +4,7 @@ ghost use Rattle.std.specs.Prelude.{◌≡◌, ◌≢◌, ◌<◌, length};
 ghost use Rattle.nv_machine.specs.Kinds.{unlock_turn};
 ghost use Rattle.nv_machine.specs.Reads.{slot_at};
 ghost use Rattle.nv_core.specs.Parts.{AreHome, IsOfDevice};
-ghost use Rattle.nv_core.specs.Rooms.{HasRooms, HasRoomsAfter, IsNoVisit};
+ghost use Rattle.nv_core.specs.Rooms.{CanDrain, HasRooms, HasRoomsAfter, IsNoVisit};
 ghost use Rattle.nv_core.specs.Shown.{Told, hand_of, shared_of, shown, slots_in, turn_of};
 ghost use Rattle.nv_core.specs.Told.{KeepsJob, OwesAt};
 
@@ -20,6 +20,7 @@ use nv_alloc::Hand;
 pub(crate) fn unlock(shared: &mut Shared, hand: &Hand, running: &mut Running, place: usize) -> Turn
     requires rooms { HasRooms shared.old (Hold.Hand hand.now) running.old }
     requires job { IsNoVisit running.old.job }
+    requires drains { CanDrain running.old.ending running.old.job hand.now }
     requires place { place < length (slots_in running.old.slots) }
     requires there { slot_at (slots_in running.old.slots) place < length shared.old.owners.items }
     requires home { AreHome shared.old }

@@ -4,8 +4,9 @@
 
 use super::says::MADE;
 use crate::compare::push;
+use crate::trees::have_same_path;
 use nv_base::Handle;
-use nv_core::{Answer, Path, Reply, TreeNode};
+use nv_core::{Answer, Reply, TreeNode};
 use nv_entry::BoundName;
 use std::process::Abort;
 
@@ -67,15 +68,6 @@ pub(super) fn same_reply(rt: &impl Abort, one: &Reply, other: &Reply, twins: &mu
     }
 }
 
-fn same_path(path: &Path, others: &Path) -> bool {
-    for (one, other) in path.as_slice().iter().zip(others.as_slice()) {
-        if one.bytes() != other.bytes() {
-            return false;
-        }
-    }
-    path.len() == others.len()
-}
-
 /// Whether all but paths and names are the same.
 fn same_inode(one: &TreeNode, other: &TreeNode) -> bool {
     one.node.kind == other.node.kind
@@ -91,7 +83,7 @@ pub(super) fn same_tree(
     twins: &mut Twins,
 ) -> bool {
     for (one, other) in tree.iter().zip(others) {
-        if !same_path(&one.path, &other.path) || !same_inode(one, other) {
+        if !have_same_path(&one.path, &other.path) || !same_inode(one, other) {
             return false;
         }
         let names = one.node.names.as_slice();

@@ -1,12 +1,13 @@
-//! The twelve calls, each on several nodes of what is prepared.
+//! The twelve calls on files and directories, each on several nodes of what is prepared, and the four on snapshots.
 
-use nv_base::{Bytes, Mode};
-use nv_core::Call;
+use nv_base::{Bytes, Epoch, Mode};
+use nv_core::{Call, SnapshotCall};
 use nv_scenes::{below, handle};
 use std::alloc::Global;
 use std::test::Fail;
 
-/// A call: the inode of its handle, and then its name, or its numbers and text. A rename has two of both.
+/// A call: the inode of its handle, and then its name, or its numbers and text. A rename has two of both, and a call on
+/// snapshots a number alone.
 #[derive(Clone, Copy, Debug)]
 pub(super) enum Says {
     Create(u64, &'static [u8]),
@@ -21,9 +22,15 @@ pub(super) enum Says {
     Unlink(u64, &'static [u8]),
     Rmdir(u64, &'static [u8]),
     Rename(u64, &'static [u8], u64, &'static [u8]),
+    Snap,
+    Drop(u64),
+    Show(u64),
+    Drain(u64),
 }
 
-use Says::{Create, List, Lookup, Mkdir, Read, Rename, Rmdir, Size, Stat, Unlink, Write};
+use Says::{
+    Create, Drain, List, Lookup, Mkdir, Read, Rename, Rmdir, Show, Size, Snap, Stat, Unlink, Write,
+};
 
 /// Files 1, 2 and 5, and directories 3 and 4, of which 3 is empty.
 pub(super) const PREPARED: &[Says] = &[
@@ -40,8 +47,10 @@ pub(super) const PREPARED: &[Says] = &[
 /// The last inode that is prepared.
 pub(super) const MADE: u64 = 5;
 
-/// How many rows of calls there are, and how many calls in each.
+/// How many rows of calls on files and directories there are, how many of all calls, and how many calls in each.
 pub(super) const KINDS: u64 = 13;
+
+pub(super) const ALL_KINDS: u64 = 17;
 
 const EACH: u64 = 6;
 
@@ -152,7 +161,30 @@ const RENAMES_BETWEEN: &[Says] = &[
     Rename(0, b"d", 4, b"n"),
 ];
 
-/// The calls, a row for each of the twelve and two for renames.
+const SNAPS: &[Says] = &[Snap, Snap, Snap, Snap, Snap, Snap];
+
+/// Behind what is snapped, 1 and 2 live, and 4 is the next.
+const DROPS: &[Says] = &[
+    Says::Drop(1),
+    Says::Drop(2),
+    Says::Drop(1),
+    Says::Drop(2),
+    Says::Drop(3),
+    Says::Drop(4),
+];
+
+const SHOWS: &[Says] = &[Show(1), Show(2), Show(1), Show(2), Show(3), Show(4)];
+
+const DRAINS: &[Says] = &[
+    Drain(1),
+    Drain(2),
+    Drain(3),
+    Drain(0),
+    Drain(5),
+    Drain(u64::MAX),
+];
+
+/// The calls, a row for each of the twelve and two for renames, and a row for each call on snapshots.
 const CALLS: &[&[Says]] = &[
     CREATES,
     MKDIRS,
@@ -167,6 +199,10 @@ const CALLS: &[&[Says]] = &[
     RMDIRS,
     RENAMES_WITHIN,
     RENAMES_BETWEEN,
+    SNAPS,
+    DROPS,
+    SHOWS,
+    DRAINS,
 ];
 
 impl Says {
@@ -218,6 +254,10 @@ pub(super) fn call(alloc: Global, says: &Says) -> Result<Call, Fail> {
             handle: handle(node),
         }),
         List(dir) => Ok(Call::List { dir: handle(dir) }),
+        Snap => Ok(Call::Snapshots(SnapshotCall::Snap)),
+        Says::Drop(number) => Ok(Call::Snapshots(SnapshotCall::Drop(Epoch::new(number)))),
+        Show(number) => Ok(Call::Snapshots(SnapshotCall::Show(Epoch::new(number)))),
+        Drain(most) => Ok(Call::Snapshots(SnapshotCall::Drain(most))),
     }
 }
 

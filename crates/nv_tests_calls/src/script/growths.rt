@@ -1,5 +1,7 @@
-//! Worked rows while the runner refuses memory once: a line that is refused is given again.
+//! Worked rows while the runner refuses memory once: a line that is refused is given again, and a call that is refused on its
+//! way is made again by `do`. `tools/refused-growths` refuses each growth of each row in turn.
 
+use super::snapshots::{A_RECORD_MOVES_DOWN, BORN_AND_DEAD_IN_ONE_EPOCH, SNAPSHOT_REFUSALS};
 use super::worked::{CUT_THEN_GROWN, NAMES, PARTIAL_AT_BOTH_ENDS, Row};
 use crate::compare::same_for;
 use nv_base::Fault;
@@ -17,11 +19,12 @@ fn next_line(script: &[u8]) -> (&[u8], &[u8]) {
     script.split_at(end.map_or(script.len(), |place| place + 1))
 }
 
-/// Gives one line at a time, and a line again that was refused memory.
+/// Gives one line at a time, and a line again that was refused memory; in the place of a `run` the call that it ran.
 #[derive(Drop)]
 struct Patient<'a> {
     line: &'a [u8],
     rest: &'a [u8],
+    run: &'a [u8],
     is_refused: &'a Cell<bool>,
 }
 
@@ -29,6 +32,8 @@ impl<'a> Read for Patient<'a> {
     fn read(&mut self, buf: &mut [u8]) -> io::Result<usize> {
         if !self.is_refused.replace(false) {
             (self.line, self.rest) = next_line(self.rest);
+        } else if self.line.starts_with(b"run ") {
+            self.line = self.run;
         }
         let count = self.line.len().min(buf.len());
         buf[..count].copy_from_slice(&self.line[..count]);
@@ -62,13 +67,14 @@ impl<'a> Write for Expecting<'a> {
     }
 }
 
-/// Plays a row whose calls are all made at once. Each line has its answer, where it was refused at the next try; or want
-/// of memory for a line or its text ends the script behind the answers of the lines before.
-fn answers_in_the_end<R: AllocGlobal + Abort>(rt: &R, row: Row) {
+/// Plays a row; what its `run` runs, if it has one, is given too. Each line has its answer, where it was refused at the next
+/// try; or want of memory for a line or its text ends the script behind the answers of the lines before.
+fn answers_in_the_end<R: AllocGlobal + Abort>(rt: &R, row: Row, run: &[u8]) {
     let is_refused = Cell::new(false);
     let mut reader = Patient {
         line: b"",
         rest: row.0.as_bytes(),
+        run,
         is_refused: &is_refused,
     };
     let mut writer = Expecting {
@@ -86,15 +92,30 @@ fn answers_in_the_end<R: AllocGlobal + Abort>(rt: &R, row: Row) {
 
 #[test]
 fn partial_at_both_ends_with_one_refused_growth(rt: HostRuntime) {
-    answers_in_the_end(&rt, PARTIAL_AT_BOTH_ENDS);
+    answers_in_the_end(&rt, PARTIAL_AT_BOTH_ENDS, b"");
 }
 
 #[test]
 fn cut_then_grown_with_one_refused_growth(rt: HostRuntime) {
-    answers_in_the_end(&rt, CUT_THEN_GROWN);
+    answers_in_the_end(&rt, CUT_THEN_GROWN, b"");
 }
 
 #[test]
 fn names_with_one_refused_growth(rt: HostRuntime) {
-    answers_in_the_end(&rt, NAMES);
+    answers_in_the_end(&rt, NAMES, b"");
+}
+
+#[test]
+fn a_record_moves_down_with_one_refused_growth(rt: HostRuntime) {
+    answers_in_the_end(&rt, A_RECORD_MOVES_DOWN, b"");
+}
+
+#[test]
+fn born_and_dead_in_one_epoch_with_one_refused_growth(rt: HostRuntime) {
+    answers_in_the_end(&rt, BORN_AND_DEAD_IN_ONE_EPOCH, b"");
+}
+
+#[test]
+fn snapshot_refusals_with_one_refused_growth(rt: HostRuntime) {
+    answers_in_the_end(&rt, SNAPSHOT_REFUSALS, b"do 0 show 2\n");
 }

@@ -216,16 +216,16 @@ pub(super) const FORMAT: &str =
     "format blocks=16 cpus=2 block=4 page=4 inodes=8 snaps=4 actors=3\n";
 
 /// Second lines, after `FORMAT`, with the fault of each.
-pub(super) const SECOND_LINES: [(&str, ScriptFaultKind); 83] = [
+pub(super) const SECOND_LINES: &[(&str, ScriptFaultKind)] = &[
     ("jump\n", ScriptFaultKind::Word),
     ("tree\r\n", ScriptFaultKind::Word),
     (" tree\n", ScriptFaultKind::Word),
     ("TREE\n", ScriptFaultKind::Word),
     ("trees\n", ScriptFaultKind::Word),
-    ("snaps\n", ScriptFaultKind::Word),
+    ("fast\n", ScriptFaultKind::Word),
     ("do 0 \n", ScriptFaultKind::Word),
-    ("do 0 snap\n", ScriptFaultKind::Word),
-    ("start 0 snap\n", ScriptFaultKind::Word),
+    ("do 0 fast 1\n", ScriptFaultKind::Word),
+    ("start 0 auto 1\n", ScriptFaultKind::Word),
     ("start 0 \n", ScriptFaultKind::Word),
     ("stop\n", ScriptFaultKind::Word),
     ("fork\n", ScriptFaultKind::Word),
@@ -261,6 +261,13 @@ pub(super) const SECOND_LINES: [(&str, ScriptFaultKind); 83] = [
     ("do 0 unlink 0.1\n", ScriptFaultKind::Count),
     ("do 0 rmdir 0.1 a a\n", ScriptFaultKind::Count),
     ("do 0 rename 0.1 a b\n", ScriptFaultKind::Count),
+    ("do 0 snap 1\n", ScriptFaultKind::Count),
+    ("do 0 drop\n", ScriptFaultKind::Count),
+    ("do 0 show 1 2\n", ScriptFaultKind::Count),
+    ("do 0 drain\n", ScriptFaultKind::Count),
+    ("snaps 1\n", ScriptFaultKind::Count),
+    ("stree\n", ScriptFaultKind::Count),
+    ("audit 1\n", ScriptFaultKind::Count),
     ("go x\n", ScriptFaultKind::Number),
     ("go 0 0\n", ScriptFaultKind::Number),
     ("go 0 1048577\n", ScriptFaultKind::Number),
@@ -273,6 +280,11 @@ pub(super) const SECOND_LINES: [(&str, ScriptFaultKind); 83] = [
     ("do 0 stat 1\n", ScriptFaultKind::Number),
     ("do 0 list x\n", ScriptFaultKind::Number),
     ("do 0 rename 0.1 a b %4\n", ScriptFaultKind::Number),
+    ("do 0 drop x\n", ScriptFaultKind::Number),
+    ("do 0 show 1.1\n", ScriptFaultKind::Number),
+    ("do 0 drain 0\n", ScriptFaultKind::Number),
+    ("do 0 drain 1048577\n", ScriptFaultKind::Number),
+    ("stree -1\n", ScriptFaultKind::Number),
     ("do -1 create 0.1 a 420\n", ScriptFaultKind::Number),
     (
         "do 18446744073709551616 create 0.1 a 420\n",
@@ -312,7 +324,7 @@ pub(super) const SECOND_LINES: [(&str, ScriptFaultKind); 83] = [
 ];
 
 /// First lines, with the fault of each. Comments and empty lines count.
-pub(super) const FIRST_LINES: [(&str, u64, ScriptFaultKind); 14] = [
+pub(super) const FIRST_LINES: &[(&str, u64, ScriptFaultKind)] = &[
     ("tree\n", 1, ScriptFaultKind::Order),
     ("# a comment\n\ntree 1\n", 3, ScriptFaultKind::Order),
     ("do 0 create 0.1 a 420\n", 1, ScriptFaultKind::Order),

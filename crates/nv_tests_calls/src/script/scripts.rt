@@ -2,6 +2,7 @@
 
 use super::pieces::play_in_pieces;
 use super::rows::{FAULTS, FORMAT, SCRIPTS};
+use super::snapshots::OF_SNAPSHOTS;
 use super::worked::{Row, WORKED};
 use crate::compare::{same, same_for};
 use nv_base::{Fault, ScriptFaultKind};
@@ -52,6 +53,7 @@ fn check_all<R: AllocGlobal + Abort>(rt: &R, rows: &[Row]) {
 fn scripts_write_their_texts(rt: HostRuntime) -> Result<(), Fail> {
     check_all(&rt, &WORKED);
     check_all(&rt, &SCRIPTS);
+    check_all(&rt, OF_SNAPSHOTS);
     for (front, letters, end, text) in LONGEST {
         let script = filled(rt.alloc(), front, b'a', letters, end.as_bytes())?;
         check(&rt, &script, Ok(()), text.as_bytes());
@@ -215,6 +217,7 @@ fn are_one_write<R: AllocGlobal + Abort>(rt: &R, rows: &[Row]) {
 fn answers_are_one_write_where_no_line_is_waited_for(rt: HostRuntime) {
     are_one_write(&rt, &WORKED);
     are_one_write(&rt, &SCRIPTS);
+    are_one_write(&rt, OF_SNAPSHOTS);
 }
 
 /// Fronts of texts, how many zeros follow, and their ends.
@@ -270,6 +273,7 @@ fn come_and_go_byte_by_byte<R: AllocGlobal + Abort>(rt: &R, rows: &[Row]) {
 fn scripts_come_and_go_byte_by_byte(rt: HostRuntime) {
     come_and_go_byte_by_byte(&rt, &WORKED);
     come_and_go_byte_by_byte(&rt, &SCRIPTS);
+    come_and_go_byte_by_byte(&rt, OF_SNAPSHOTS);
 }
 
 #[test]

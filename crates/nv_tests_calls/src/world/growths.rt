@@ -6,7 +6,10 @@ use super::playing::{alone, new_world};
 use super::reports::Reports;
 use super::words::{Want, Words, is_wanted};
 use crate::compare::same_for;
-use Words::{Create, List, Lookup, Mkdir, Mode, Read, Rename, Rmdir, Size, Stat, Unlink, Write};
+use Words::{
+    Create, Drain, List, Lookup, Mkdir, Mode, Read, Rename, Rmdir, Show, Size, Snap, Stat, Unlink,
+    Write,
+};
 use nv_base::{Fault, Kind};
 use nv_core::World;
 use nv_scenes as scenes;
@@ -34,7 +37,7 @@ const ONE: (u64, u64) = (1, 1);
 const TWO: (u64, u64) = (2, 1);
 
 /// Four slots. A page of a log has four entries.
-const ROOMY: scenes::Row = [24, 2, 4, 4, 4, 1, 2];
+const ROOMY: scenes::Row = [24, 2, 4, 4, 4, 2, 2];
 
 /// The actor that makes the calls before, and the one whose call may be refused: its blocks are the upper half.
 const EARLIER: u64 = 0;
@@ -206,6 +209,59 @@ const VISITS: &[Row] = &[
     ),
 ];
 
+/// Calls on snapshots. A snapshot is made and dropped without memory; a drain makes room for a block before its first
+/// pick, and a show takes memory at each visit. Behind that comes the unpin.
+const SNAPSHOTS: &[Row] = &[
+    ("snap", &[Create(ROOT, b"a")], Snap, Want::Snapshot(1), &[]),
+    (
+        "drop",
+        &[
+            Create(ROOT, b"a"),
+            Write(ONE, 0, FOUR_PAGES),
+            Snap,
+            Snap,
+            Write(ONE, 3, b"zz"),
+        ],
+        Words::Drop(2),
+        Want::Nothing,
+        &[],
+    ),
+    (
+        "drain",
+        &[
+            Create(ROOT, b"a"),
+            Write(ONE, 0, FOUR_PAGES),
+            Snap,
+            Write(ONE, 3, b"zz"),
+            Words::Drop(1),
+        ],
+        Drain(9),
+        Want::Count(3),
+        &[("pick", 1)],
+    ),
+    (
+        "drain of nothing",
+        &[Snap],
+        Drain(1),
+        Want::Count(0),
+        &[("pick", 1)],
+    ),
+    (
+        "show",
+        &[
+            Mkdir(ROOT, b"d"),
+            Create(ONE, b"a"),
+            Write(TWO, 0, FOUR_PAGES),
+            Snap,
+            Write(TWO, 3, b"zz"),
+            Create(ROOT, b"b"),
+        ],
+        Show(1),
+        Want::Tree(&[(b"", b""), (b"d", b""), (b"a", FOUR_PAGES)]),
+        &[("first visit", 3), ("second visit", 4), ("third visit", 5)],
+    ),
+];
+
 const REFUSED: Want = Want::Refused(Fault::OutOfMemory);
 
 /// A new world in which these calls were made, once more where they were refused memory.
@@ -270,4 +326,9 @@ fn names_with_one_refused_growth(rt: HostRuntime) {
 #[test]
 fn visits_with_one_refused_growth(rt: HostRuntime) {
     make_all(&rt, rt.alloc(), VISITS);
+}
+
+#[test]
+fn calls_on_snapshots_with_one_refused_growth(rt: HostRuntime) {
+    make_all(&rt, rt.alloc(), SNAPSHOTS);
 }

@@ -1,9 +1,9 @@
 //! What a world reports, which a call without effect leaves as it was.
 
 use crate::compare::{push, same};
-use nv_base::{Fault, Ino};
-use nv_core::{Lists, LogCounts, Path, Space, Tree, TreeNode, World};
-use nv_entry::BoundName;
+use crate::trees::are_alike;
+use nv_base::{Epoch, Fault, Ino};
+use nv_core::{Lists, LogCounts, Snaps, Space, Tree, World};
 use std::alloc::Global;
 use std::process::Abort;
 
@@ -14,20 +14,34 @@ pub(super) struct Reports {
     lists: Lists,
     tree: Tree,
     logs: Vec<LogCounts>,
+    snaps: Snaps,
+    snap_trees: Vec<Tree>,
 }
 
 impl Reports {
-    /// What a world with so many slots reports.
+    /// What a world with so many slots reports. Its audit finds nothing.
     pub fn of(rt: &impl Abort, alloc: Global, world: &World, slots: u64) -> Reports {
+        is_audited(rt, world);
         let mut logs = Vec::new(alloc);
         for ino in 0..slots {
             push(rt, &mut logs, log_of(rt, world, ino));
+        }
+        let snaps = snaps_of(rt, world);
+        let mut snap_trees = Vec::new(alloc);
+        for counts in snaps.living.as_slice() {
+            push(
+                rt,
+                &mut snap_trees,
+                snap_tree_of(rt, world, counts.snapshot),
+            );
         }
         Reports {
             space: world.space(),
             lists: lists_of(rt, world),
             tree: tree_of(rt, world),
             logs,
+            snaps,
+            snap_trees,
         }
     }
 
@@ -43,45 +57,26 @@ impl Reports {
             same(rt, log.entries, other.entries);
             same(rt, log.pages.as_slice(), other.pages.as_slice());
         }
-        let (tree, other) = (self.tree.as_slice(), before.tree.as_slice());
-        assert!(rt; are_alike(tree, other), "trees");
+        same(
+            rt,
+            are_alike(self.tree.as_slice(), before.tree.as_slice()),
+            true,
+        );
+        self.have_those_snapshots(rt, before);
     }
-}
 
-fn have_same_path(path: &Path, other: &Path) -> bool {
-    for (name, other) in path.as_slice().iter().zip(other.as_slice()) {
-        if name.bytes() != other.bytes() {
-            return false;
+    fn have_those_snapshots(&self, rt: &impl Abort, before: &Reports) {
+        same(rt, self.snaps.epoch, before.snaps.epoch);
+        same(rt, self.snaps.commit, before.snaps.commit);
+        same(
+            rt,
+            self.snaps.living.as_slice(),
+            before.snaps.living.as_slice(),
+        );
+        for (tree, other) in self.snap_trees.iter().zip(&before.snap_trees) {
+            same(rt, are_alike(tree.as_slice(), other.as_slice()), true);
         }
     }
-    path.len() == other.len()
-}
-
-fn have_same_names(names: &[BoundName], others: &[BoundName]) -> bool {
-    for (name, other) in names.iter().zip(others) {
-        if name.name.bytes() != other.name.bytes() || name.to != other.to {
-            return false;
-        }
-    }
-    names.len() == others.len()
-}
-
-fn is_alike(node: &TreeNode, other: &TreeNode) -> bool {
-    have_same_path(&node.path, &other.path)
-        && node.node.kind == other.node.kind
-        && node.node.mode == other.node.mode
-        && node.node.size == other.node.size
-        && node.node.bytes.as_slice() == other.node.bytes.as_slice()
-        && have_same_names(node.node.names.as_slice(), other.node.names.as_slice())
-}
-
-fn are_alike(tree: &[TreeNode], others: &[TreeNode]) -> bool {
-    for (node, other) in tree.iter().zip(others) {
-        if !is_alike(node, other) {
-            return false;
-        }
-    }
-    tree.len() == others.len()
 }
 
 /// Each report that wants for memory is asked for once more.
@@ -101,6 +96,34 @@ fn tree_of(rt: &impl Abort, world: &World) -> Tree {
         Err(fault) => {
             same(rt, fault, Fault::OutOfMemory);
             world.tree().expect(rt, "memory for a tree")
+        }
+    }
+}
+
+pub(super) fn is_audited(rt: &impl Abort, world: &World) {
+    if let Err(fault) = world.audit() {
+        same(rt, fault, Fault::OutOfMemory);
+        same(rt, world.audit(), Ok(()));
+    }
+}
+
+pub(super) fn snaps_of(rt: &impl Abort, world: &World) -> Snaps {
+    match world.snaps() {
+        Ok(snaps) => snaps,
+        Err(fault) => {
+            same(rt, fault, Fault::OutOfMemory);
+            world.snaps().expect(rt, "memory for snapshots")
+        }
+    }
+}
+
+pub(super) fn snap_tree_of(rt: &impl Abort, world: &World, snapshot: Epoch) -> Tree {
+    match world.snap_tree(snapshot) {
+        Ok(tree) => tree,
+        Err(fault) => {
+            same(rt, fault, Fault::OutOfMemory);
+            let again = world.snap_tree(snapshot);
+            again.expect(rt, "memory for a tree of a snapshot")
         }
     }
 }

@@ -1,7 +1,7 @@
 //! Calls by their words, and replies that are wanted.
 
-use nv_base::{Bytes, Fault, Handle, Kind, Mode};
-use nv_core::{Answer, Call, Reply};
+use nv_base::{Bytes, Epoch, Fault, Handle, Kind, Mode};
+use nv_core::{Answer, Call, Reply, SnapshotCall, TreeNode};
 use nv_entry::BoundName;
 use nv_scenes::handle_of;
 use std::alloc::Global;
@@ -10,7 +10,7 @@ use std::process::Abort;
 /// The inode and the generation of a handle.
 pub(super) type At = (u64, u64);
 
-/// A call: its handle, and then its name, or its numbers and text.
+/// A call: its handle, and then its name, or its numbers and text. A call on snapshots has a number alone.
 #[derive(Clone, Copy)]
 pub(super) enum Words {
     Create(At, &'static [u8]),
@@ -25,7 +25,14 @@ pub(super) enum Words {
     Unlink(At, &'static [u8]),
     Rmdir(At, &'static [u8]),
     Rename(At, &'static [u8], At, &'static [u8]),
+    Snap,
+    Drop(u64),
+    Show(u64),
+    Drain(u64),
 }
+
+/// A node of a tree: its last name, which the root has none of, and its bytes.
+pub(super) type Shown = (&'static [u8], &'static [u8]);
 
 /// A reply. A node has its kind, mode, size and last commit, and a name the inode that it leads to, of generation 1.
 #[derive(Clone, Copy)]
@@ -39,6 +46,8 @@ pub(super) enum Want {
     Bytes(&'static [u8]),
     Stat(Kind, u16, u64, u64),
     Names(&'static [(&'static [u8], u64)]),
+    Snapshot(u64),
+    Tree(&'static [Shown]),
     Refused(Fault),
 }
 
@@ -118,6 +127,17 @@ fn call_on_a_node(rt: &impl Abort, alloc: Global, words: &Words) -> Call {
             dir: at_handle(at),
             name: bytes(rt, alloc, name),
         },
+        _ => Call::Snapshots(call_on_snapshots(rt, words)),
+    }
+}
+
+/// The same for calls on snapshots.
+fn call_on_snapshots(rt: &impl Abort, words: &Words) -> SnapshotCall {
+    match *words {
+        Words::Snap => SnapshotCall::Snap,
+        Words::Drop(number) => SnapshotCall::Drop(Epoch::new(number)),
+        Words::Show(number) => SnapshotCall::Show(Epoch::new(number)),
+        Words::Drain(most) => SnapshotCall::Drain(most),
         _ => panic!(rt; "a call on names"),
     }
 }
@@ -135,6 +155,24 @@ fn are_named(names: &[BoundName], wanted: &[(&[u8], u64)]) -> bool {
     names.len() == wanted.len()
 }
 
+fn is_shown(node: &TreeNode, (name, bytes): &Shown) -> bool {
+    let is_named = match node.path.as_slice().last() {
+        Some(last) => last.bytes() == *name,
+        None => name.is_empty(),
+    };
+    is_named && node.node.bytes.as_slice() == *bytes
+}
+
+/// Whether a tree has these nodes.
+pub(super) fn are_shown(nodes: &[TreeNode], wanted: &[Shown]) -> bool {
+    for (node, shown) in nodes.iter().zip(wanted) {
+        if !is_shown(node, shown) {
+            return false;
+        }
+    }
+    nodes.len() == wanted.len()
+}
+
 fn is_answer(answer: &Answer, want: &Want) -> bool {
     match (answer, *want) {
         (Answer::Made(made), Want::Made(at)) => *made == at_handle(at),
@@ -142,6 +180,8 @@ fn is_answer(answer: &Answer, want: &Want) -> bool {
         (Answer::Nothing, Want::Nothing) => true,
         (Answer::Bytes(bytes), Want::Bytes(want)) => bytes.as_slice() == want,
         (Answer::Names(names), Want::Names(want)) => are_named(names.as_slice(), want),
+        (Answer::Snapshot(snapshot), Want::Snapshot(number)) => snapshot.number() == number,
+        (Answer::Tree(tree), Want::Tree(want)) => are_shown(tree.as_slice(), want),
         (
             Answer::Stat {
                 kind,

@@ -42,14 +42,18 @@ fn checked(row: Row) -> Result<GeometryNumbers, Fault> {
     Ok(geometry(row)?.numbers)
 }
 
+fn is_checked(rt: &impl Abort, row: Row, bad: Option<GeometryField>) {
+    let want = match bad {
+        None => Ok(numbers(row)),
+        Some(field) => Err(Fault::BadGeometry(field)),
+    };
+    same_for(rt, &row, checked(row), want);
+}
+
 #[test]
 fn takes_the_limits_and_names_the_first_bad_field(rt: HostRuntime) {
-    for (row, bad) in CHECKS {
-        let want = match bad {
-            None => Ok(numbers(row)),
-            Some(field) => Err(Fault::BadGeometry(field)),
-        };
-        same_for(&rt, &row, checked(row), want);
+    for (row, bad) in &CHECKS {
+        is_checked(&rt, *row, *bad);
     }
 }
 
@@ -84,8 +88,8 @@ fn homes_are(rt: &impl Abort, g: &Geometry, homes: &[u64]) {
 
 #[test]
 fn cuts_blocks_into_home_ranges(rt: HostRuntime) -> Result<(), Fail> {
-    for (row, starts, homes) in HOMES {
-        let device = geometry(row)?;
+    for (row, starts, homes) in &HOMES {
+        let device = geometry(*row)?;
         homes_start(&rt, &device, starts);
         homes_are(&rt, &device, homes);
     }

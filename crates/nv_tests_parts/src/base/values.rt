@@ -3,7 +3,7 @@
 use crate::compare::{push, same, same_for};
 use crate::device::name;
 use nv_base::limits::{is_contended, most_drained};
-use nv_base::{BlockNo, Bytes, CommitNo, Epoch, Fault, Gen, Ino, Kind, Mode, Name};
+use nv_base::{BlockNo, Bytes, CommitNo, EntryId, Epoch, Fault, Gen, Ino, Kind, Mode, Name};
 use nv_scenes::id;
 use std::alloc::Global;
 use std::process::Abort;
@@ -31,8 +31,8 @@ const CHECKED: [(&[u8], bool); 17] = [
 
 #[test]
 fn names(rt: HostRuntime) {
-    for (bytes, lawful) in CHECKED {
-        if lawful {
+    for (bytes, lawful) in &CHECKED {
+        if *lawful {
             is_name(&rt, rt.alloc(), bytes);
         } else {
             is_no_name(&rt, rt.alloc(), bytes);
@@ -47,7 +47,7 @@ fn is_name(rt: &impl Abort, alloc: Global, bytes: &[u8]) {
         Ok(copy) => copy,
         Err(_) => name.copied(alloc).expect(rt, "memory for a copy"),
     };
-    assert!(rt; name.bytes() == bytes && copy.bytes() == bytes, "{bytes:?}");
+    same(rt, (name.bytes(), copy.bytes()), (bytes, bytes));
 }
 
 fn is_no_name(rt: &impl Abort, alloc: Global, bytes: &[u8]) {
@@ -56,35 +56,42 @@ fn is_no_name(rt: &impl Abort, alloc: Global, bytes: &[u8]) {
     same_for(rt, &bytes, read, Some(Fault::BadName));
 }
 
+/// Bits, and whether they are a mode.
+const MODES: [(u16, bool); 6] = [
+    (0, true),
+    (420, true),
+    (493, true),
+    (4_095, true),
+    (4_096, false),
+    (65_535, false),
+];
+
+fn is_mode(rt: &impl Abort, bits: u16, lawful: bool) {
+    match Mode::checked(bits) {
+        Some(mode) => same(rt, (mode.bits(), lawful), (bits, true)),
+        None => same_for(rt, &bits, lawful, false),
+    }
+}
+
 #[test]
 fn modes(rt: HostRuntime) {
-    for (bits, lawful) in [
-        (0, true),
-        (420, true),
-        (493, true),
-        (4_095, true),
-        (4_096, false),
-        (65_535, false),
-    ] {
-        let kept = Mode::checked(bits).map(|mode| mode.bits());
-        same(&rt, kept, lawful.then_some(bits));
+    for (bits, lawful) in &MODES {
+        is_mode(&rt, *bits, *lawful);
     }
-    assert!(rt; Kind::File != Kind::Dir);
+    same(&rt, Kind::File == Kind::Dir, false);
 }
 
 #[test]
 fn bytes_of_a_vec(rt: HostRuntime) {
     let empty = Bytes::empty(rt.alloc());
-    assert!(rt; empty.is_empty());
-    same(&rt, empty.len(), 0);
+    same(&rt, (empty.is_empty(), empty.len()), (true, 0));
 
     let mut three = Vec::new(rt.alloc());
-    for byte in *b"abc" {
-        push(&rt, &mut three, byte);
+    for byte in b"abc" {
+        push(&rt, &mut three, *byte);
     }
     let bytes = Bytes::from_vec(three);
-    assert!(rt; !bytes.is_empty());
-    same(&rt, bytes.len(), 3);
+    same(&rt, (bytes.is_empty(), bytes.len()), (false, 3));
     same(&rt, bytes.as_slice(), b"abc".as_slice());
     same(&rt, bytes.into_vec().as_slice(), b"abc".as_slice());
 }
@@ -98,23 +105,35 @@ fn numbers(rt: HostRuntime) {
     same(&rt, CommitNo::new(0).next(), CommitNo::new(1));
     same(&rt, (Gen::new(3).number(), Epoch::new(4).number()), (3, 4));
     same(&rt, CommitNo::new(5).number(), 5);
-    for (number, records) in [
-        (0, 1),
-        (1, 1),
-        (1_048_576, 1_048_576),
-        (1_048_577, 1_048_576),
-    ] {
-        same(&rt, most_drained(number), records);
+    for (number, records) in &DRAINED {
+        same(&rt, most_drained(*number), *records);
     }
-    assert!(rt; !is_contended(7) && is_contended(8));
+    same(&rt, (is_contended(7), is_contended(8)), (false, true));
 }
+
+/// What a drain is asked for, and how many records it takes at most.
+const DRAINED: [(u64, u64); 4] = [
+    (0, 1),
+    (1, 1),
+    (1_048_576, 1_048_576),
+    (1_048_577, 1_048_576),
+];
 
 #[test]
 fn ids_in_order(rt: HostRuntime) {
-    for (earlier, later) in [(id(2, 0), id(2, 1)), (id(2, 9), id(3, 0))] {
-        assert!(rt; earlier < later);
-        assert!(rt; earlier.is_before(later));
-        assert!(rt; !later.is_before(earlier));
-        assert!(rt; !later.is_before(later));
-    }
+    are_in_order(&rt, id(2, 0), id(2, 1));
+    are_in_order(&rt, id(2, 9), id(3, 0));
+}
+
+fn are_in_order(rt: &impl Abort, earlier: EntryId, later: EntryId) {
+    same(
+        rt,
+        (earlier < later, earlier.is_before(later)),
+        (true, true),
+    );
+    same(
+        rt,
+        (later.is_before(earlier), later.is_before(later)),
+        (false, false),
+    );
 }

@@ -7,7 +7,7 @@ use super::told::{is_empty, list, read, tells};
 use crate::compare::{same, same_for};
 use nv_base::Epoch;
 use nv_cell::{InodeCell, Mark, Stat};
-use nv_entry::NodeCopy;
+use nv_entry::{BoundName, NodeCopy};
 use nv_scenes::{below, id};
 use std::alloc::Global;
 use std::process::Abort;
@@ -90,7 +90,7 @@ impl Both {
             (cell.tail(), cell.len()),
             (slow.log.len(), slow.log.len()),
         );
-        same(rt, cell.last_id(), slow.log.last().map(|entry| entry.id));
+        same(rt, cell.last_id(), slow.last_id());
         same(rt, cell.is_gone(), slow.is_gone());
         same(rt, cell.keeps_nothing(), slow.keeps_nothing());
         for page in 0..slow.log.len() / 4 + 2 {
@@ -203,13 +203,18 @@ fn names_are(rt: &impl Abort, cell: &InodeCell, node: &NodeCopy) {
         same(rt, cell.lookup(want.name.bytes()), Some(want.to));
     }
     for name in &NAMES {
-        let bound = node
-            .names
-            .as_slice()
-            .iter()
-            .any(|bound| bound.name.bytes() == *name);
+        let bound = is_bound(node.names.as_slice(), name);
         same(rt, cell.lookup(name).is_some(), bound);
     }
+}
+
+fn is_bound(names: &[BoundName], name: &[u8]) -> bool {
+    for bound in names {
+        if bound.name.bytes() == name {
+            return true;
+        }
+    }
+    false
 }
 
 #[test]

@@ -112,7 +112,7 @@ const MODES: &[Step] = &[
 
 #[test]
 fn cleaners_leave_what_is_read(rt: HostRuntime) {
-    for (page, steps) in [(4, KILLER), (4, TOMBSTONE), (2, MODES)] {
-        play(&rt, rt.alloc(), 1, page, steps);
-    }
+    play(&rt, rt.alloc(), 1, 4, KILLER);
+    play(&rt, rt.alloc(), 1, 4, TOMBSTONE);
+    play(&rt, rt.alloc(), 1, 2, MODES);
 }

@@ -145,6 +145,10 @@ impl SlowCell {
         }
     }
 
+    pub fn last_id(&self) -> Option<EntryId> {
+        Some(self.log.last()?.id)
+    }
+
     pub fn is_gone(&self) -> bool {
         matches!(
             self.log.last(),
@@ -156,7 +160,12 @@ impl SlowCell {
     }
 
     pub fn keeps_nothing(&self) -> bool {
-        self.parts.iter().all(|part| part.mark == Mark::Out)
+        for part in &self.parts {
+            if part.mark != Mark::Out {
+                return false;
+            }
+        }
+        true
     }
 
     /// How many entries of a page of four have a current part, and how many one that is not out.
@@ -180,9 +189,12 @@ impl SlowCell {
     }
 
     fn keeps(&self, place: usize) -> bool {
-        self.parts
-            .iter()
-            .any(|part| part.place == place && part.mark != Mark::Out)
+        for part in &self.parts {
+            if part.place == place && part.mark != Mark::Out {
+                return true;
+            }
+        }
+        false
     }
 
     /// Empties the slot.

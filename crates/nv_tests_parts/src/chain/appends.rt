@@ -28,7 +28,7 @@ fn has_three(rt: &impl Abort, chain: &Chain) {
 }
 
 fn last_published(chain: &Chain) -> Option<EntryId> {
-    chain.last_published().map(|entry| entry.id)
+    Some(chain.last_published()?.id)
 }
 
 /// Publishes the commits 1 to 3 in two steps.

@@ -178,9 +178,14 @@ fn kinds_of_values(rt: HostRuntime) -> Result<(), Fail> {
 
 #[test]
 fn epochs_that_are_seen(rt: HostRuntime) {
+    sees(&rt, 1, true);
+    sees(&rt, 2, true);
+    sees(&rt, 3, false);
+}
+
+/// Whether a snapshot of epoch 2 sees this one, as now does.
+fn sees(rt: &impl Abort, epoch: u64, want: bool) {
+    let epoch = Epoch::new(epoch);
     let two = When::At(Epoch::new(2));
-    for (epoch, seen) in [(1, true), (2, true), (3, false)] {
-        same(&rt, two.sees(Epoch::new(epoch)), seen);
-        assert!(rt; When::Now.sees(Epoch::new(epoch)));
-    }
+    same(rt, (two.sees(epoch), When::Now.sees(epoch)), (want, true));
 }

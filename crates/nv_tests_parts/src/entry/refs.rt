@@ -32,11 +32,16 @@ const HELD: &[(&[Line], Key<'static>, Option<(u64, u32, u32)>)] = &[
 fn parts_that_hold(rt: HostRuntime) -> Result<(), Fail> {
     for (lines, key, held) in HELD {
         let log = log_of(rt.alloc(), lines)?;
-        let wanted = held.map(|(commit, place, part)| PartRef {
-            entry: id(commit, place),
-            place: part,
-        });
+        let wanted = part_ref(*held);
         same_for(&rt, &(key, lines), current_part(BLOCK, &log, *key), wanted);
     }
     Ok(())
+}
+
+fn part_ref(held: Option<(u64, u32, u32)>) -> Option<PartRef> {
+    let (commit, place, part) = held?;
+    Some(PartRef {
+        entry: id(commit, place),
+        place: part,
+    })
 }

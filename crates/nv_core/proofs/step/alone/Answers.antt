@@ -68,8 +68,8 @@ returns-in-Give-clause-turn c r shows =
 pub returns-in-Back-clause-turn : goal.returns-in-Back-clause-turn
 returns-in-Back-clause-turn c r shows =
     turns_alone next.Back c.args.actor c.args.shared.now c.args.hand.now c.args.running.now r c.back.result c.back.new.shared
-    c.back.new.hand c.args.running.now
-    c.in-Back.is shows (record { job = refl; owed = refl }) (λ told is.
+    c.back.new.hand c.back.new.running
+    c.in-Back.is shows c.back.ensures.job (λ told is.
     (true, c.back.ensures.turn told (owes_back c.args.running.now told c.in-Back.is c.requires.rooms.0 is)))
 
 pub returns-in-Visit-clause-turn : goal.returns-in-Visit-clause-turn
@@ -85,3 +85,9 @@ returns-in-Visit-clause-turn c r shows =
 
 pub returns-in-Lock-clause-rooms : goal.returns-in-Lock-clause-rooms
 returns-in-Lock-clause-rooms c = c.lock.ensures.rooms c.args.hand.now c.requires.rooms
+
+pub returns-in-Snapshots-clause-turn : goal.returns-in-Snapshots-clause-turn
+returns-in-Snapshots-clause-turn c r shows =
+    turns_alone c.args.running.now.next c.args.actor c.args.shared.now c.args.hand.now c.args.running.now r c.on_snapshots.result
+    c.on_snapshots.new.shared c.on_snapshots.new.hand c.on_snapshots.new.running refl shows c.on_snapshots.ensures.job
+    (λ told is. either _ _ (c.on_snapshots.ensures.turn told))

@@ -2,7 +2,7 @@ use Rattle.nv_machine.proofs.EndsRuns.{commits_something, is_decided, is_undecid
 use Rattle.nv_machine.proofs.plain_laws.calls_are_decided_once.Goals as goal
 
 pub returns-clause-done : goal.returns-clause-done
-returns-clause-done c = λ g events actor granted told within. is_decided g events actor within granted told
+returns-clause-done c = λ g events actor granted r told within. is_decided g events actor within granted r told
 
 pub returns-clause-refused : goal.returns-clause-refused
 returns-clause-refused c = λ g events actor granted r fault within. is_undecided g events actor within granted r fault

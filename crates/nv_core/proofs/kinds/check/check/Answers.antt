@@ -2,7 +2,7 @@ use Rattle.std.proofs.Common.{◌∙◌, inl, inr, ap, arith, subst, sym}
 use Rattle.std.specs.Prelude.{is_some}
 use Rattle.std.proofs.lemmas.List.{length-take}
 use Rattle.nv_alloc.specs.declared.hand.Hand.{Hand}
-use Rattle.nv_core.proofs.CheckTurns.{can_end, few, no_chain, owes, turn_ends, turn_goes, turn_refuses, wants}
+use Rattle.nv_core.proofs.CheckTurns.{can_end, drains, few, no_chain, owes, turn_ends, turn_goes, turn_refuses, wants}
 use Rattle.nv_core.proofs.Nodes.{lent_are}
 use Rattle.nv_core.specs.Shown.{hand_of, shared_of, shown, slots_in, turn_of}
 use Rattle.nv_core.specs.Told.{IsToldOf}
@@ -63,3 +63,9 @@ make_room-requires c =
     c.note_made.ensures (c.is_some.ensures ∙ ap is_some c.ino.ensures) c.requires.change c.requires.can c.ending_of.ensures.ends
     c.ending_of.new.shared c.wanted_by-wanted.result c.ending_of.ensures.same c.requires.limits.some_bytes c.in_default.is
     c.wanted_by-wanted.ensures.wanted in omega (arith, least)
+
+pub end-requires-clause-drains : goal.end-requires-clause-drains
+end-requires-clause-drains c =
+    drains c.args.shared.now c.args.hand.now c.args.running.now c.note_made.new.running c.is_some.result c.ending_of.result
+    c.note_made.ensures (c.is_some.ensures ∙ ap is_some c.ino.ensures) c.requires.change c.requires.can c.ending_of.ensures.ends
+    c.in-Some.ending c.note_made.new.running.job c.args.hand.now c.in-Some.is

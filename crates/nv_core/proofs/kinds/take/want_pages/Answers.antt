@@ -1,31 +1,35 @@
-use Rattle.std.proofs.Common.{◌≡◌}
+use Rattle.std.proofs.Common.{◌≡◌, ℕ}
+use Rattle.nv_alloc.specs.declared.hand.Hand.{Hand}
 use Rattle.nv_calls.specs.declared.update.Update.{Update}
 use Rattle.nv_machine.specs.Reads.{has_last_page, pages_wanted, plan_by}
-use Rattle.nv_core.specs.Rooms.{HasItsBlocks, HasMade, IsChecked}
+use Rattle.nv_core.specs.Rooms.{CanWantPages, HasItsBlocks, HasMade, IsChecked, pages_to_take}
 use Rattle.nv_core.specs.Shown.{Told, hand_of, shared_of, shown, slots_in}
-use Rattle.nv_core.specs.Told.{IsToldOf}
+use Rattle.nv_core.specs.Told.{IsChangeWith, IsToldOf}
+use Rattle.nv_core.specs.declared.running.Running.{Running}
+use Rattle.nv_core.specs.declared.shared.Shared.{Shared}
 use Rattle.nv_core.proofs.Takes.{none_wanted, over_all, rooms_next, rooms_none, some_wanted, wanted_same}
 use Rattle.nv_core.proofs.kinds.take.want_pages.Goals as goal
-use Rattle.nv_core.proofs.kinds.take.want_pages.Goals.{After-pages_by-running}
 
-same : (c : After-pages_by-running) (told : Told) → IsToldOf c.args.running.now told → let shared = c.args.shared.now in
-    let s = shared_of shared in let r = shown told c.args.running.now in
-    pages_wanted s r.slots (plan_by shared.geometry.numbers.block s (hand_of c.args.hand.now) r) ≡ c.pages_by-running.result
-same c told is =
-    let shared = c.args.shared.now in let running = c.args.running.now in let slots = slots_in running.slots in let hand =
-    c.args.hand.now in
+same : (shared : Shared) (hand : Hand) (running : Running) (pages : ℕ) (told : Told) → IsToldOf running told
+    → CanWantPages shared hand running
+    → IsChangeWith (λ (u : Update). pages ≡ pages_to_take shared (slots_in running.slots) hand u) running.job
+    → let s = shared_of shared in let r = shown told running in
+    pages_wanted s r.slots (plan_by shared.geometry.numbers.block s (hand_of hand) r) ≡ pages
+same shared hand running pages told is can wanted =
+    let slots = slots_in running.slots in
     wanted_same shared slots hand running.looked running.made running.job running.owed told.call
-    (has_last_page shared.geometry.numbers.block (shared_of shared) told.call) c.pages_by-running.result is
+    (has_last_page shared.geometry.numbers.block (shared_of shared) told.call) pages is
     (over_all (λ (u : Update). HasMade shared slots hand running.made u × IsChecked shared slots hand running.looked u × HasItsBlocks
     shared slots hand u)
     (λ (u : Update). HasMade shared slots hand running.made u × IsChecked shared slots hand running.looked u) running.job
-    (λ u h. (h.0, h.1)) c.requires.can)
-    c.pages_by-running.ensures.wanted
+    (λ u h. (h.0, h.1)) can)
+    wanted
 
 pub returns-then-running-eq0-clause-turn : goal.returns-then-running-eq0-clause-turn
 returns-then-running-eq0-clause-turn c told is =
     none_wanted _ c.pages_by-running.result (shared_of c.args.shared.now) (hand_of c.args.hand.now) (shown told c.args.running.now)
-    (same c.before.before.before told is) c.if-running-eq0.true
+    (same c.args.shared.now c.args.hand.now c.args.running.now c.pages_by-running.result told is c.requires.can
+    c.pages_by-running.ensures.wanted) c.if-running-eq0.true
 
 pub returns-then-running-eq0-clause-rooms : goal.returns-then-running-eq0-clause-rooms
 returns-then-running-eq0-clause-rooms c =
@@ -35,7 +39,8 @@ returns-then-running-eq0-clause-rooms c =
 pub returns-clause-turn : goal.returns-clause-turn
 returns-clause-turn c told is =
     some_wanted _ c.pages_by-running.result (shared_of c.args.shared.now) (hand_of c.args.hand.now) (shown told c.args.running.now)
-    (same c.before.before.before told is) c.if-running-eq0.false
+    (same c.args.shared.now c.args.hand.now c.args.running.now c.pages_by-running.result told is c.requires.can
+    c.pages_by-running.ensures.wanted) c.if-running-eq0.false
 
 pub returns-clause-rooms : goal.returns-clause-rooms
 returns-clause-rooms c =

@@ -17,7 +17,7 @@ overflow_sub-hand-3 c =
     let kept : c.data_blocks-kept.result ≡ kept_of (shared_of s) =
     c.data_blocks-kept.ensures ∙ ap (sum_by (λ (v : CellValue). kept_in s.book.state v.state)) c.deref-3.ensures.value
     ∙ sym (sum_states (kept_in s.book.state) s.cells.items) in
-    omega (arith, free, chain, kept, c.requires)
+    omega (arith, free, chain, kept, c.requires.blocks)
 
 pub returns : goal.returns
 returns c =
@@ -30,4 +30,4 @@ returns c =
     let kept : c.data_blocks-kept.result ≡ kept_of (shared_of s) =
     c.data_blocks-kept.ensures ∙ ap (sum_by (λ (v : CellValue). kept_in s.book.state v.state)) c.deref-3.ensures.value
     ∙ sym (sum_states (kept_in s.book.state) s.cells.items) in
-    rw (c.saturating_sub-data.ensures, free, chain, kept, c.deferred_blocks-pending.ensures) refl
+    rw (c.saturating_sub-data.ensures, free, chain, kept, c.deferred_blocks.ensures.value) refl

@@ -1,0 +1,99 @@
+-- Names that a log binds stand in it.
+use Rattle.std.proofs.Common.{◌≡◌, ℕ, ◌⊎◌, inl, inr, Bool, true, false, cond, List, [], ◌∷◌, ◌++◌, not, None, refl, sym, ◌∙◌, subst}
+use Rattle.std.specs.Prelude.{◌&&◌}
+use Rattle.std.specs.List.{AllByRecursion, flat_map}
+use Rattle.std.proofs.lemmas.List.Elements.{recursion_from_All}
+use Rattle.std.proofs.lemmas.List.Concat.{flat_map-cons}
+use Rattle.nv_base.specs.Names.{same_name}
+use Rattle.nv_entry.specs.declared.item.Entry.{Entry}
+use Rattle.nv_entry.specs.declared.item.Item.{Item}
+use Rattle.nv_entry.specs.declared.item.Item.TheVariants.{Init, Write, SetSize, SetMode, Bind, Unbind, Gone}
+use Rattle.nv_entry.specs.Covered.{any_cover}
+use Rattle.nv_entry.specs.Keys.{NameKey, name_of}
+use Rattle.nv_entry.specs.Refs.{binders_of, is_bind}
+use Rattle.nv_entry.proofs.Hiding.{same_name-equal}
+use Rattle.nv_nindex.specs.declared.binding.Binding.{Binding}
+use Rattle.nv_nindex.specs.NameIndex.{HaveSameBindings, binding_of}
+use Rattle.nv_cell.specs.Index.{bindings_of, bound_by}
+use Rattle.nv_audit.specs.Names.{AreIndexNames, AreLogNames, IsItemName, IsNameOf}
+
+abbrev Bound : Type 0
+Bound = List ℕ × Binding
+
+abbrev binding_list : List Entry → List Bound
+binding_list es = flat_map (λ (e : Entry). bound_by e.id e.item) es
+
+-- what holds of each name of a list holds of a name that is bound in it
+bound_there : (P : List ℕ → Type 0) (name : List ℕ) (bs : List Bound) → AllByRecursion (λ (b : Bound). P b.0) bs
+    → (binding_of name bs ≡ None) ⊎ P name
+bound_there P name [] h = inl refl
+bound_there P name (b ∷ bs) h = go (same_name name b.0) refl (bound_there P name bs h.1) where
+  go : (t : Bool) → same_name name b.0 ≡ t → (binding_of name bs ≡ None) ⊎ P name → (binding_of name (b ∷ bs) ≡ None) ⊎ P name
+  go true e rest = inr (subst P (sym (same_name-equal name b.0 e)) h.0)
+  go false e (inl none) = inl (rw e none)
+  go false e (inr p) = inr p
+
+-- what holds of the name of each binding entry
+abbrev OfItem : (List ℕ → Type 0) → Item → Type 0
+OfItem P (Bind name to) = P name
+OfItem P item = Unit {0}
+
+-- holds of each name that the log binds
+log_bound : (P : List ℕ → Type 0) (es : List Entry) → AllByRecursion (λ (e : Entry). OfItem P e.item) es
+    → AllByRecursion (λ (b : Bound). P b.0) (bindings_of es)
+log_bound P [] h = tt
+log_bound P (e ∷ es) h = go (is_bind e.item && not (any_cover 1 es (NameKey (name_of e.item)))) (log_bound P es h.1) where
+  one : (item : Item) → OfItem P item → (rest : List Bound) → AllByRecursion (λ (b : Bound). P b.0) rest
+      → AllByRecursion (λ (b : Bound). P b.0) (bound_by e.id item ++ rest)
+  one (Bind name to) p rest all = (p, all)
+  one (Init kind mode) p rest all = all
+  one (Write first run size) p rest all = all
+  one (SetSize size) p rest all = all
+  one (SetMode mode) p rest all = all
+  one (Unbind name) p rest all = all
+  one Gone p rest all = all
+
+  go : (t : Bool) → AllByRecursion (λ (b : Bound). P b.0) (bindings_of es)
+      → AllByRecursion (λ (b : Bound). P b.0) (binding_list (cond t (e ∷ binders_of es) (binders_of es)))
+  go true rest = subst (λ (bs : List Bound). AllByRecursion (λ (b : Bound). P b.0) bs)
+      (sym (flat_map-cons (λ (x : Entry). bound_by x.id x.item) e (binders_of es))) (one e.item h.0 (bindings_of es) rest)
+  go false rest = rest
+
+as_item : (log : List Entry) (names : List Bound) (item : Item) → IsItemName log names item → OfItem (IsNameOf log names) item
+as_item log names (Bind name to) h = h
+as_item log names (Init kind mode) h = tt
+as_item log names (Write first run size) h = tt
+as_item log names (SetSize size) h = tt
+as_item log names (SetMode mode) h = tt
+as_item log names (Unbind name) h = tt
+as_item log names Gone h = tt
+
+as_items : (log : List Entry) (names : List Bound) (es : List Entry) → AllByRecursion (λ (e : Entry). IsItemName log names e.item) es
+    → AllByRecursion (λ (e : Entry). OfItem (IsNameOf log names) e.item) es
+as_items log names [] h = tt
+as_items log names (e ∷ es) h = (as_item log names e.item h.0, as_items log names es h.1)
+
+-- names that are told alike by the log's entries and by the list are told alike
+pub same_of_both : (log : List Entry) (names : List Bound) → AreLogNames log names log → AreIndexNames log names names
+    → HaveSameBindings (bindings_of log) names
+same_of_both log names first second name =
+    let P : List ℕ → Type 0 = IsNameOf log names in
+    elim (bound_there P name (bindings_of log)
+    (log_bound P log (as_items log names log (recursion_from_All (λ (e : Entry). IsItemName log names e.item) log first)))) [
+      | inr same ↦ same
+      | inl none ↦ elim (bound_there P name names (recursion_from_All (λ (b : Bound). P b.0) names second)) [
+        | inr same ↦ same
+        | inl also ↦ also ∙ sym none
+      ]
+    ]
+
+-- names that are told alike are so for each item
+pub same_item : (log : List Entry) (names : List Bound) → HaveSameBindings (bindings_of log) names → (item : Item)
+    → IsItemName log names item
+same_item log names same (Bind name to) = same name
+same_item log names same (Init kind mode) = tt
+same_item log names same (Write first run size) = tt
+same_item log names same (SetSize size) = tt
+same_item log names same (SetMode mode) = tt
+same_item log names same (Unbind name) = tt
+same_item log names same Gone = tt

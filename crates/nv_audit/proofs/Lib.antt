@@ -1,0 +1,12 @@
+pub mod PartNames
+pub mod PartLists
+pub mod Pages
+pub mod BoundNames
+pub mod PageEntries
+pub mod Pushing
+pub mod Loops
+pub mod States
+pub mod Differs
+pub mod Marks
+pub mod PartBlocks
+pub mod Devices

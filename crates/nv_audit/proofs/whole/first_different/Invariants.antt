@@ -1,0 +1,10 @@
+use Rattle.std.proofs.Common.{ℕ, ◌<◌, slice_index_or}
+use Rattle.nv_cell.specs.Cell.{CellState}
+use Rattle.nv_audit.specs.Records.{states_of}
+use Rattle.nv_audit.specs.Whole.{IsCountedBy}
+use Rattle.nv_audit.proofs.whole.first_different.Given as goal
+
+abbrev pub invariant-loop-place : goal.invariant-loop-place
+invariant-loop-place l =
+    (ino : ℕ) (d : CellState) → ino < l.place
+    → IsCountedBy l.snapshots l.deferred l.in_hands ino (slice_index_or (states_of l.cells) ino d)

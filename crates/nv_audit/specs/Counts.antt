@@ -1,0 +1,20 @@
+-- Counts of pages that are the scan of a log.
+use Rattle.std.specs.Prelude.{◌≡◌, ℕ, ◌<◌, drop, length}
+use Rattle.nv_entry.specs.Counts.{live_of, valid_of}
+use Rattle.nv_entry.specs.Held.{Retention}
+use Rattle.nv_log.specs.Chain.{start_of}
+use Rattle.nv_cell.specs.Cell.{CellState, log_of}
+use Rattle.nv_cell.specs.Readers.{counts_of}
+use Rattle.nv_cell.specs.Retained.{published_on}
+use Rattle.nv_cell.specs.declared.tally.PageCounts.{PageCounts}
+
+-- the counts of a page from scratch: of its published entries, in the log from its first one on
+abbrev pub scanned_counts : Retention → CellState → ℕ → PageCounts
+scanned_counts r cell page = record {
+  live = live_of r.block (published_on cell page) (drop (start_of cell.chain page) (log_of cell));
+  valid = valid_of r (published_on cell page) (drop (start_of cell.chain page) (log_of cell));
+}
+
+-- each page with entries has these
+abbrev pub AreCounted : Retention → CellState → Type 0
+AreCounted r cell = (page : ℕ) → page < length cell.chain.ends → counts_of cell page ≡ scanned_counts r cell page

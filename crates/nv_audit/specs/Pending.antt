@@ -1,0 +1,31 @@
+-- What is on its way: in hands, or deferred.
+use Rattle.std.specs.Prelude.{ℕ, ◌==◌, List, ◌++◌, filter, map}
+use Rattle.nv_entry.specs.declared.part.PartId.{PartId}
+use Rattle.nv_entry.specs.Held.{Retention}
+use Rattle.nv_book.specs.declared.record.Record.{Record}
+use Rattle.nv_audit.specs.declared.part_list.InodePart.{InodePart}
+use Rattle.nv_cell.specs.Cell.{CellState}
+
+-- the part of a record
+abbrev pub part_of : Record → PartId
+part_of r = record { entry = r.entry; part = r.part }
+
+-- the parts of an inode among these
+abbrev pub of_inode : ℕ → List InodePart → List PartId
+of_inode ino parts = map (λ (p : InodePart). p.part) (filter (λ (p : InodePart). p.ino == ino) parts)
+
+abbrev pub deferred_of : ℕ → List Record → List PartId
+deferred_of ino deferred = map part_of (filter (λ (r : Record). r.ino == ino) deferred)
+
+-- those of an inode that are deferred or in hands
+abbrev pub pending_of : ℕ → List Record → List InodePart → List PartId
+pending_of ino deferred parts = deferred_of ino deferred ++ of_inode ino parts
+
+-- what keeps the pairs of an inode's log that are not current, where these snapshots live, these records are deferred, and calls have
+-- these parts in their hands
+abbrev pub retention_by : List ℕ → List Record → List InodePart → ℕ → CellState → Retention
+retention_by snapshots deferred in_hands ino cell = record {
+  block = cell.block;
+  snapshots = snapshots;
+  pending = pending_of ino deferred in_hands;
+}

@@ -1,0 +1,90 @@
+-- A device between two steps, and the first part of it that differs from one scan of all logs.
+use Rattle.std.specs.Prelude.{◌≡◌, ℕ, ◌+◌, ◌-◌, ◌<◌, List, length, slice_index_or}
+use Rattle.nv_base.specs.declared.fault.Fault.{Fault}
+use Rattle.nv_base.specs.declared.fault.Fault.TheVariants.{Mismatch}
+use Rattle.nv_base.specs.declared.fault.MismatchPart.{MismatchPart}
+use Rattle.nv_base.specs.declared.fault.MismatchPart.TheVariants.{Index, Names, Counts, Records, Lists}
+use Rattle.nv_base.specs.declared.geometry.GeometryNumbers.{GeometryNumbers}
+use Rattle.nv_alloc.specs.Block.{numbers_of}
+use Rattle.nv_alloc.specs.FreeList.{FreeBlocks}
+use Rattle.nv_alloc.specs.Numbers.{has, unused}
+use Rattle.nv_base.specs.Homes.{home_start}
+use Rattle.nv_book.specs.Book.{BookState}
+use Rattle.nv_book.specs.declared.record.Record.{Record}
+use Rattle.nv_cell.specs.Cell.{CellState, IsCell}
+use Rattle.nv_cell.specs.Retained.{AreMarksOf}
+use Rattle.nv_epoch.specs.SnapList.{ids}
+use Rattle.nv_audit.specs.Counts.{AreCounted}
+use Rattle.nv_audit.specs.Lists.{AreFree, no_list, used_of}
+use Rattle.nv_audit.specs.Pending.{retention_by}
+use Rattle.nv_audit.specs.Records.{AreRecorded}
+use Rattle.nv_audit.specs.declared.part_list.InodePart.{InodePart}
+
+-- the numbers of its geometry, the cell of each inode, the free list of each CPU and the book; and of the hands of all calls the
+-- blocks, and the parts that are killed or picked
+pub record Device : Type 0 where
+  pub numbers : GeometryNumbers
+  pub cells : List CellState
+  pub lists : List FreeBlocks
+  pub book : BookState
+  pub in_hands : List InodePart
+  pub blocks : List ℕ
+
+-- the counts of an inode are those of its log, where these snapshots live, these records are deferred, and calls have these parts in
+-- their hands
+abbrev pub IsCountedBy : List ℕ → List Record → List InodePart → ℕ → CellState → Type 0
+IsCountedBy snapshots deferred in_hands ino cell = AreCounted (retention_by snapshots deferred in_hands ino cell) cell
+
+-- so are those of each inode
+abbrev pub CountsAgreeBy : List ℕ → List Record → List InodePart → List CellState → Type 0
+CountsAgreeBy snapshots deferred in_hands cells =
+    (ino : ℕ) (default : CellState) → ino < length cells → IsCountedBy snapshots deferred in_hands ino (slice_index_or cells ino default)
+
+abbrev pub CountsAgree : BookState → List InodePart → List CellState → Type 0
+CountsAgree book in_hands cells = CountsAgreeBy (ids book.snaps) book.deferred in_hands cells
+
+abbrev pub HasCounts : Device → Type 0
+HasCounts d = CountsAgree d.book d.in_hands d.cells
+
+abbrev pub HasRecords : Device → Type 0
+HasRecords d = AreRecorded d.cells d.book d.in_hands
+
+abbrev pub HasLists : Device → Type 0
+HasLists d = AreFree d.numbers d.lists (used_of d.cells d.book d.in_hands d.blocks)
+
+-- EACH PART IS THAT OF THE SCAN; the index and the names of a cell are at all times
+pub record Agrees (d : Device) : Type 0 where
+  pub counts : HasCounts d
+  pub records : HasRecords d
+  pub lists : HasLists d
+
+-- the first part that differs
+abbrev pub IsFirst : MismatchPart → Device → Type 0
+IsFirst Index d = ⊥
+IsFirst Names d = ⊥
+IsFirst Counts d = ¬ HasCounts d
+IsFirst Records d = HasCounts d × (¬ HasRecords d)
+IsFirst Lists d = HasCounts d × HasRecords d × (¬ HasLists d)
+
+-- the fault tells it
+abbrev pub IsMismatch : Device → Fault → Type 0
+IsMismatch d (Mismatch part) = IsFirst part d
+IsMismatch d fault = ⊥
+
+-- ---- what a world keeps, from which counts and lists follow
+
+-- the marks of a cell are those of its log
+abbrev pub IsMarkedCell : List ℕ → List Record → List InodePart → ℕ → CellState → Type 0
+IsMarkedCell snapshots deferred in_hands ino cell = IsCell cell × AreMarksOf (retention_by snapshots deferred in_hands ino cell) cell
+
+abbrev pub HasMarkedCells : Device → Type 0
+HasMarkedCells d =
+    (ino : ℕ) (default : CellState) → ino < length d.cells
+    → IsMarkedCell (ids d.book.snaps) d.book.deferred d.in_hands ino (slice_index_or d.cells ino default)
+
+-- each CPU's list has the numbers of its home range that are not used
+abbrev pub AreFromScratch : GeometryNumbers → List FreeBlocks → List ℕ → Type 0
+AreFromScratch g lists used =
+    (cpu : ℕ) → cpu < g.cpus
+    → numbers_of (slice_index_or lists cpu no_list).blocks ≡ unused (has used) (home_start g.blocks g.cpus cpu)
+    (home_start g.blocks g.cpus (cpu + 1) - home_start g.blocks g.cpus cpu)

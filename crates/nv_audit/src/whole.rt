@@ -1,0 +1,163 @@
+//! The whole audit.
+
+ghost use Rattle.std.specs.Prelude.{◌≡◌, ◌⊎◌, IfErr, IfOk, IsTrue, MatchOption, OnOk};
+ghost use Rattle.nv_base.specs.Refusals.{FailsOnly};
+ghost use Rattle.nv_base.specs.declared.fault.Fault.TheVariants.{OutOfMemory};
+ghost use Rattle.nv_base.specs.declared.fault.MismatchPart.TheVariants.{Counts};
+ghost use Rattle.nv_entry.specs.Held.{retention_of};
+ghost use Rattle.nv_audit.specs.Counts.{AreCounted};
+ghost use Rattle.nv_audit.specs.Records.{states_of};
+ghost use Rattle.nv_audit.specs.Whole.{Agrees, CountsAgree, CountsAgreeBy, IsCountedBy, IsMismatch};
+
+use crate::pending::{listed, living};
+use crate::{
+    InHands, InodePart, are_counted, are_free, are_names_of, are_pages_of, are_recorded,
+    is_part_of, pending_of,
+};
+use nv_alloc::FreeList;
+use nv_base::{Epoch, Fault, Geometry, Ino, MismatchPart};
+use nv_book::{Book, Record};
+use nv_cell::InodeCell;
+use nv_entry::{Key, Retention};
+use std::alloc::Global;
+
+/// Judges a device between two steps, of which the hands of all calls have some blocks and parts.
+///
+/// `Mismatch` with the first part that differs from one scan of all logs: inode by inode the index, the names and the
+/// counts, and then the records and the free lists. What a cell keeps as its index and names is at all times the scan of its
+/// log, so that these two never differ. `OutOfMemory` where room was refused. It costs what [`are_pages_of`],
+/// [`are_names_of`], [`are_counted`], [`are_recorded`] and [`are_free`] cost, the first three for each inode.
+pub fn audit(
+    alloc: Global,
+    geometry: &Geometry,
+    cells: &[InodeCell],
+    lists: &[FreeList],
+    book: &Book,
+    hands: &InHands<'_>,
+) -> Result<(), Fault>
+    ensures ok { OnOk result (Agrees (record {
+      numbers = geometry.now.numbers;
+      cells = states_of cells.now;
+      lists = lists.now;
+      book = book.now.state;
+      in_hands = hands.now.parts.now;
+      blocks = hands.now.blocks.now;
+    })) }
+    ensures err { IfErr result (λ fault. (fault ≡ OutOfMemory) ⊎ IsMismatch (record {
+      numbers = geometry.now.numbers;
+      cells = states_of cells.now;
+      lists = lists.now;
+      book = book.now.state;
+      in_hands = hands.now.parts.now;
+      blocks = hands.now.blocks.now;
+    }) fault) }
+{
+    let differs = cells_differ(alloc, cells, book, hands)?;
+    if let Some(part) = differs {
+        return Err(Fault::Mismatch(part));
+    }
+    let recorded = are_recorded(alloc, cells, book, hands)?;
+    if !recorded {
+        return Err(Fault::Mismatch(MismatchPart::Records));
+    }
+    let free = are_free(alloc, geometry, cells, lists, book, hands)?;
+    if !free {
+        return Err(Fault::Mismatch(MismatchPart::Lists));
+    }
+    Ok(())
+}
+
+/// The first part of the first cell that differs.
+fn cells_differ(
+    alloc: Global,
+    cells: &[InodeCell],
+    book: &Book,
+    hands: &InHands<'_>,
+) -> Result<Option<MismatchPart>, Fault>
+    ensures ok { IfOk result (λ part. MatchOption part
+        (CountsAgree book.now.state hands.now.parts.now (states_of cells.now))
+        (λ part. (part ≡ Counts)
+        × (¬ CountsAgree book.now.state hands.now.parts.now (states_of cells.now)))) }
+    ensures err { FailsOnly OutOfMemory result }
+{
+    let snapshots = living(alloc, book)?;
+    let deferred = listed(alloc, book.deferred())?;
+    first_different(alloc, cells, &snapshots, &deferred, hands.parts)
+}
+
+/// The same, where these snapshots live and these records are deferred.
+fn first_different(
+    alloc: Global,
+    cells: &[InodeCell],
+    snapshots: &[Epoch],
+    deferred: &[Record],
+    in_hands: &[InodePart],
+) -> Result<Option<MismatchPart>, Fault>
+    ensures ok { IfOk result (λ part. MatchOption part
+        (CountsAgreeBy snapshots.now deferred.now in_hands.now (states_of cells.now))
+        (λ part. (part ≡ Counts)
+        × (¬ CountsAgreeBy snapshots.now deferred.now in_hands.now (states_of cells.now)))) }
+    ensures err { FailsOnly OutOfMemory result }
+{
+    for place in 0..cells.len() {
+        let ino = Ino::new(place as u64);
+        let differs = inode_differs(alloc, ino, &cells[place], snapshots, deferred, in_hands)?;
+        if differs.is_some() {
+            return Ok(differs);
+        }
+    }
+    Ok(None)
+}
+
+/// The first part of an inode that differs.
+fn inode_differs(
+    alloc: Global,
+    ino: Ino,
+    cell: &InodeCell,
+    snapshots: &[Epoch],
+    deferred: &[Record],
+    in_hands: &[InodePart],
+) -> Result<Option<MismatchPart>, Fault>
+    ensures ok { IfOk result (λ part. MatchOption part
+        (IsCountedBy snapshots.now deferred.now in_hands.now ino cell.now.state)
+        (λ part. (part ≡ Counts)
+        × (¬ IsCountedBy snapshots.now deferred.now in_hands.now ino cell.now.state))) }
+    ensures err { FailsOnly OutOfMemory result }
+{
+    let pending = pending_of(alloc, ino, deferred, in_hands)?;
+    let retention = Retention {
+        block: cell.block_bytes(),
+        snapshots,
+        pending: &pending,
+    };
+    Ok(cell_differs(cell, &retention))
+}
+
+/// The same for a cell whose pairs are kept so.
+fn cell_differs(cell: &InodeCell, retention: &Retention<'_>) -> Option<MismatchPart>
+    ensures { MatchOption result (AreCounted (retention_of retention.now) cell.now.state)
+        (λ part. (part ≡ Counts) × (¬ AreCounted (retention_of retention.now) cell.now.state)) }
+{
+    if !is_indexed(cell) {
+        return Some(MismatchPart::Index);
+    }
+    if !are_names_of(cell.log().log(), cell.name_index()) {
+        return Some(MismatchPart::Names);
+    }
+    if !are_counted(retention, cell) {
+        return Some(MismatchPart::Counts);
+    }
+    None
+}
+
+/// Whether the index of a cell is the scan of its log, as it is at all times.
+fn is_indexed(cell: &InodeCell) -> bool
+    ensures { IsTrue result }
+{
+    let block = cell.block_bytes();
+    let log = cell.log().log();
+    is_part_of(block, log, Key::Kind, cell.indexed(Key::Kind))
+        && is_part_of(block, log, Key::Mode, cell.indexed(Key::Mode))
+        && is_part_of(block, log, Key::Size, cell.indexed(Key::Size))
+        && are_pages_of(block, log, cell.page_index())
+}

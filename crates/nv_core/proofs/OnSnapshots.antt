@@ -1,0 +1,216 @@
+-- What the laws of the machine say of the steps of calls on snapshots: pins are those of the shows under way, a living snapshot has all
+-- its pages, and a picked record's part is kept in a cell that stands still.
+use Rattle.std.proofs.Common.{◌≡◌, ℕ, zero, suc, ◌<◌, ◌≤◌, ◌++◌, ◌∙◌, Bool, true, false, cond, List, [], ◌∷◌, Option, Some, None, IsSome, ap, arith, inl, inr, length, refl, slice_get, slice_index_or, subst, sym}
+use Rattle.std.specs.Prelude.{count_by, option_and_then}
+use Rattle.std.specs.List.{AllByRecursion, Contains, flat_map}
+use Rattle.std.specs.Option.{ForSome, IsSomeAnd}
+use Rattle.std.proofs.lemmas.Bool.{cases_lt}
+use Rattle.std.proofs.lemmas.List.{get_or_past}
+use Rattle.std.proofs.lemmas.List.Sums.{count_by-le-length}
+use Rattle.std.proofs.lemmas.Option.{slice_get-get_or}
+use Rattle.nv_base.specs.Limits.{IsWithinLimits}
+use Rattle.nv_base.specs.declared.geometry.GeometryNumbers.{GeometryNumbers}
+use Rattle.nv_base.specs.declared.limits.TheConstants.{PINS}
+use Rattle.nv_book.specs.Listed.{all_records}
+use Rattle.nv_book.specs.declared.record.Record.{Record}
+use Rattle.nv_calls.specs.Retiring.{name_of}
+use Rattle.nv_cell.proofs.Runs.{count_cons}
+use Rattle.nv_cell.proofs.ValuesNow.{IsLog-take}
+use Rattle.nv_cell.specs.Cell.{CellState, log_of}
+use Rattle.nv_cell.specs.Marks.{mark_at}
+use Rattle.nv_cell.specs.Named.{number_named}
+use Rattle.nv_cell.specs.declared.mark.Mark.{Mark}
+use Rattle.nv_cell.specs.declared.mark.Mark.TheVariants.{Current, Kept, Killed, Out}
+use Rattle.nv_entry.specs.Log.{IsLog}
+use Rattle.nv_epoch.proofs.Pins.{lives-from_pins}
+use Rattle.nv_epoch.specs.SnapList.{ids, pins_of}
+use Rattle.nv_machine.specs.Format.{formatted}
+use Rattle.nv_machine.specs.Held.{picked_at, picked_by_actor, picked_by_call}
+use Rattle.nv_machine.specs.Reading.{ArePins, pins_at, pins_by_call, shows_of}
+use Rattle.nv_machine.specs.Recorded.{IsOfPair, is_kept, is_record_of}
+use Rattle.nv_machine.specs.Step.{after}
+use Rattle.nv_machine.specs.World.{Actor, Draining, Drop, Event, LockPicked, Make, Next, Pick, Pin, Release, Running, Show, SnapshotStep, Snapshots, Unpin, World, actor_at, cell_at, idle, owner_at}
+use Rattle.nv_machine.proofs.EachOf.{all_back}
+use Rattle.nv_machine.proofs.Erasing.{runs_inside}
+use Rattle.nv_machine.proofs.FiledLaw.{recorded_once, recorded_pairs}
+use Rattle.nv_machine.proofs.FiledLists.{count, count_append}
+use Rattle.nv_machine.proofs.FiledMarks.{bit_is}
+use Rattle.nv_machine.proofs.FromScratch.{all_numbers}
+use Rattle.nv_machine.proofs.Generations.{inodes_early}
+use Rattle.nv_machine.proofs.HandNumbers.{chains_below, parts_below}
+use Rattle.nv_machine.proofs.Lists.{self}
+use Rattle.nv_machine.proofs.Locked.{lent_cell}
+use Rattle.nv_machine.proofs.MarkedRuns.{all_parts}
+use Rattle.nv_machine.proofs.Numbered.{lent_inside}
+use Rattle.nv_machine.proofs.Pairs.{its_number}
+use Rattle.nv_machine.proofs.PartsFor.{own_all, own_count}
+use Rattle.nv_machine.proofs.Pins.{pins_of_shows}
+use Rattle.nv_machine.proofs.PoolCells.{gone_inode}
+use Rattle.nv_machine.proofs.PoolLaw.{all_pooled}
+use Rattle.nv_machine.proofs.PoolRuns.{standing}
+use Rattle.nv_machine.proofs.PoolTurns.{Standing}
+use Rattle.nv_machine.proofs.Reached.{reached}
+use Rattle.nv_core.proofs.GivenCounts.{of_numbers}
+use Rattle.nv_core.proofs.GivenOn.{HasOn, HasPicked}
+use Rattle.nv_core.proofs.HeldPages.{none_out_at}
+
+-- ---- one of some
+
+at_most_one : (b : Bool) → cond b 1 0 ≤ 1
+at_most_one true = omega arith
+at_most_one false = omega arith
+
+-- that passes a test
+some_passes : {X : Type 0} (p : X → Bool) (xs : List X) (i : ℕ) (d : X) → i < length xs → p (slice_index_or xs i d) ≡ true
+    → 0 < count_by p xs
+some_passes p [] i d lt e = absurd (omega (arith, lt))
+some_passes p (x ∷ xs) zero d lt e = omega (arith, count_cons p x xs, ap {B = ℕ} (λ (b : Bool). cond b 1 0) e)
+some_passes p (x ∷ xs) (suc i) d lt e = omega (arith, count_cons p x xs, some_passes p xs i d (omega (arith, lt)) e)
+
+-- and one that fails it
+some_fails : {X : Type 0} (p : X → Bool) (xs : List X) (i : ℕ) (d : X) → i < length xs → p (slice_index_or xs i d) ≡ false
+    → count_by p xs < length xs
+some_fails p [] i d lt e = absurd (omega (arith, lt))
+some_fails p (x ∷ xs) zero d lt e =
+    omega (arith, count_cons p x xs, ap {B = ℕ} (λ (b : Bool). cond b 1 0) e, count_by-le-length p xs)
+some_fails p (x ∷ xs) (suc i) d lt e =
+    omega (arith, count_cons p x xs, at_most_one (p x), some_fails p xs i d (omega (arith, lt)) e)
+
+-- ---- marks
+
+-- what is marked kept is a part
+kept_there : (marks : List Mark) (n : ℕ) → is_kept (mark_at marks n) ≡ true → slice_get marks n ≡ Some Kept
+kept_there marks n kept = elim (cases_lt n (length marks)) [
+  | inl lt ↦ slice_get-get_or marks n Out lt ∙ ap (λ (m : Mark). Some m) (go (mark_at marks n) kept)
+  | inr ge ↦ absurd (out (sym (ap is_kept (get_or_past marks n Out ge)) ∙ kept))
+] where
+  out : false ≡ true → ⊥
+  out e = cc
+
+  go : (m : Mark) → is_kept m ≡ true → m ≡ Kept
+  go Kept e = refl
+  go Current e = cc
+  go Killed e = cc
+  go Out e = cc
+
+-- ---- a world that events lead to
+
+module _ (g : GeometryNumbers) (events : List Event) (within : IsWithinLimits g) where
+  abbrev w : World
+  w = after (formatted g) events
+
+  abbrev cell : ℕ → CellState
+  cell ino = cell_at w.shared ino
+
+  -- ---- pins
+
+  module _ (actor : ℕ) (q : Running) (is : (actor_at w actor).running ≡ Some q) (snapshot : ℕ) where
+    its_pins : (b : Bool) → pins_at snapshot q.next ≡ b → pins_by_call snapshot (actor_at w actor).running ≡ b
+    its_pins b e = ap (pins_by_call snapshot) is ∙ e
+
+    some_show : pins_at snapshot q.next ≡ true → 0 < shows_of snapshot w
+    some_show e =
+        some_passes (λ (a : Actor). pins_by_call snapshot a.running) w.actors actor idle (runs_inside w actor q is) (its_pins true e)
+
+    pin_fewer : pins_at snapshot q.next ≡ false → ForSome (pins_of w.shared.book.snaps snapshot) (λ pins. pins < PINS)
+    pin_fewer e pins has_it =
+        let are : pins ≡ shows_of snapshot w = subst (ArePins (shows_of snapshot w)) has_it (pins_of_shows g events snapshot) in
+        let fewer = some_fails (λ (a : Actor). pins_by_call snapshot a.running) w.actors actor idle (runs_inside w actor q is)
+        (its_pins false e) in
+        let many = (of_numbers g events).actors in
+        let fit = within.actors_fit in
+        omega (arith, are, fewer, many, fit)
+
+    has_pin : pins_at snapshot q.next ≡ true → IsSomeAnd (pins_of w.shared.book.snaps snapshot) (λ pins. 0 < pins)
+    has_pin e = go (pins_of w.shared.book.snaps snapshot) (pins_of_shows g events snapshot) where
+      go : (o : Option ℕ) → ArePins (shows_of snapshot w) o → IsSomeAnd o (λ pins. 0 < pins)
+      go None are = absurd (omega (arith, are, some_show e))
+      go (Some pins) are = omega (arith, are, some_show e)
+
+    lives : pins_at snapshot q.next ≡ true → Contains (ids w.shared.book.snaps) snapshot
+    lives e = lives-from_pins w.shared.book.snaps.living snapshot (go (pins_of w.shared.book.snaps snapshot) (has_pin e)) where
+      go : (o : Option ℕ) → IsSomeAnd o (λ pins. 0 < pins) → IsSome o
+      go None some = absurd some
+      go (Some pins) some = refl
+
+  log_is : (ino : ℕ) → IsLog (log_of (cell ino))
+  log_is ino = IsLog-take (cell ino).chain.tail (cell ino).chain.entries ((reached g events within).order.logs ino).ordered
+
+  -- ---- a picked record
+
+  module _ (actor : ℕ) (q : Running) (is : (actor_at w actor).running ≡ Some q) (draining : Draining) (picked : Record)
+      (e : q.next ≡ Snapshots (Release draining picked)) where
+    has_it : picked_by_actor (actor_at w actor) ≡ picked ∷ []
+    has_it = ap picked_by_call is ∙ ap picked_at e
+
+    -- the pair of the record
+    of_pair : IsOfPair w picked
+    of_pair =
+        let book = w.shared.book in
+        let rest = all_back (IsOfPair w) (all_records book.manifests) _ (recorded_pairs g events within) in
+        let all = all_back (IsOfPair w) book.deferred (flat_map picked_by_actor w.actors) rest in
+        (subst (AllByRecursion (IsOfPair w)) has_it
+        (own_all picked_by_actor (IsOfPair w) w.actors actor (runs_inside w actor q is) all)).0
+
+    number_is : number_named (log_of (cell picked.ino)) (name_of picked) ≡ Some of_pair.n
+    number_is =
+        ap (number_named (log_of (cell picked.ino))) (sym of_pair.name)
+        ∙ its_number (cell picked.ino).block (log_of (cell picked.ino)) (log_is picked.ino) of_pair.n of_pair.pair of_pair.is
+
+    own_record : is_record_of (cell picked.ino) picked.ino of_pair.n picked ≡ true
+    own_record = rw (self picked.ino, number_is) (self of_pair.n)
+
+    -- it is one of the records of its part
+    recorded : is_kept (mark_at (cell picked.ino).marks of_pair.n) ≡ true
+    recorded =
+        let book = w.shared.book in
+        let p : Record → Bool = is_record_of (cell picked.ino) picked.ino of_pair.n in
+        let own : count p (picked_by_actor (actor_at w actor)) ≡ 1 =
+        ap (λ (ds : List Record). count p ds) has_it ∙ ap (λ (b : Bool). length (cond b (picked ∷ []) [])) own_record in
+        bit_is (is_kept (mark_at (cell picked.ino).marks of_pair.n)) (omega (
+          arith,
+          own,
+          own_count picked_by_actor p w.actors actor (runs_inside w actor q is),
+          count_append p (all_records book.manifests) (book.deferred ++ flat_map picked_by_actor w.actors),
+          count_append p book.deferred (flat_map picked_by_actor w.actors),
+          recorded_once g events within picked.ino of_pair.n,
+        ))
+
+    stands : Standing g (Snapshots (Release draining picked)) actor w.shared (actor_at w actor).hand q
+    stands =
+        let known = reached g events within in
+        subst (λ (k : Next). Standing g k actor w.shared (actor_at w actor).hand q) e
+        (standing g w actor q known.locks (all_numbers g events within) known.grown (all_pooled g events within) is)
+
+    low : picked.ino < length w.shared.cells
+    low = lent_inside (Snapshots (Release draining picked)) actor w.shared q stands.before picked.ino refl
+
+    owned : owner_at w.shared picked.ino ≡ Some actor
+    owned = lent_cell (Snapshots (Release draining picked)) (length w.shared.lists) actor w.shared q stands.before picked.ino refl
+
+    has_picked : HasPicked g w.shared picked
+    has_picked = record {
+      kept = ap (option_and_then (λ n. slice_get (cell picked.ino).marks n)) number_is
+          ∙ kept_there (cell picked.ino).marks of_pair.n recorded;
+      still = record {
+        size = (all_parts g events within picked.ino low).size;
+        settled = stands.grown.tails picked.ino owned refl;
+      };
+      chain = chains_below g w picked.ino (all_numbers g events within);
+      parts = λ n b at. parts_below g w picked.ino n b (all_numbers g events within) at;
+      generation = λ gone. inodes_early g events picked.ino within (gone_inode (cell picked.ino) gone);
+    }
+
+  -- ---- every kind
+
+  pub on_snapshots : (actor : ℕ) (q : Running) → (actor_at w actor).running ≡ Some q → (step : SnapshotStep) → q.next ≡ Snapshots step
+      → HasOn g w.shared step
+  on_snapshots actor q is Make e = tt
+  on_snapshots actor q is (Drop snapshot) e = tt
+  on_snapshots actor q is (Pin snapshot) e = pin_fewer actor q is snapshot (ap (pins_at snapshot) e)
+  on_snapshots actor q is (Show snapshot showing) e =
+      none_out_at g events within snapshot (lives actor q is snapshot (ap (pins_at snapshot) e ∙ self snapshot))
+  on_snapshots actor q is (Unpin snapshot seen) e = has_pin actor q is snapshot (ap (pins_at snapshot) e ∙ self snapshot)
+  on_snapshots actor q is (Pick draining) e = tt
+  on_snapshots actor q is (LockPicked draining picked) e = tt
+  on_snapshots actor q is (Release draining picked) e = has_picked actor q is draining picked e

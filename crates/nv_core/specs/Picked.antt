@@ -1,0 +1,37 @@
+-- How many blocks drains have picked and not yet released.
+use Rattle.std.specs.Prelude.{ℕ, if◌then◌else◌, Option, Some, None}
+use Rattle.nv_book.specs.Records.{is_page}
+use Rattle.nv_book.specs.declared.record.Record.{Record}
+use Rattle.nv_core.specs.declared.hold.Hold.{Hold}
+use Rattle.nv_core.specs.declared.hold.Hold.TheVariants as hold
+use Rattle.nv_core.specs.declared.next.Next.{Next}
+use Rattle.nv_core.specs.declared.next.Next.TheVariants as next
+use Rattle.nv_core.specs.declared.next.SnapshotStep.{SnapshotStep}
+use Rattle.nv_core.specs.declared.next.SnapshotStep.TheVariants as on
+use Rattle.nv_core.specs.declared.running.Running.{Running}
+use Rattle.nv_core.specs.declared.world.Actor.{Actor}
+
+abbrev pub block_of : Record → ℕ
+block_of d = if is_page d.part then 1 else 0
+
+abbrev pub picked_on : SnapshotStep → ℕ
+picked_on (on.LockPicked draining picked) = block_of picked
+picked_on (on.Release draining picked) = block_of picked
+picked_on other = 0
+
+abbrev pub picked_at : Next → ℕ
+picked_at (next.Snapshots step) = picked_on step
+picked_at other = 0
+
+abbrev pub picked_by : Option Running → ℕ
+picked_by None = 0
+picked_by (Some running) = picked_at running.next
+
+-- while its hand is with the actor alone
+abbrev pub picked_with : Hold → Option Running → ℕ
+picked_with (hold.Hand hand) running = picked_by running
+picked_with other running = 0
+
+-- those of one actor: one or none
+abbrev pub picked_of : Actor → ℕ
+picked_of actor = picked_with actor.hold actor.running

@@ -1,0 +1,205 @@
+//! A whole world against one scan of all its logs.
+
+ghost use Rattle.std.specs.Prelude.{◌≡◌, ◌<◌, ◌≤◌, ◌++◌, ℕ, List, IfOk, OnOk, length, map, slice_index_or};
+ghost use Rattle.std.specs.List.{flat_map};
+ghost use Rattle.std.specs.VecDeque.Iter.{deque_iter_rest};
+ghost use Rattle.nv_alloc.specs.Block.{numbers_of};
+ghost use Rattle.nv_base.specs.Limits.{IsWithinLimits};
+ghost use Rattle.nv_base.specs.Refusals.{FailsOnly};
+ghost use Rattle.nv_base.specs.declared.fault.Fault.TheVariants.{OutOfMemory};
+ghost use Rattle.nv_base.specs.declared.geometry.GeometryNumbers.{GeometryNumbers};
+ghost use Rattle.nv_audit.specs.Records.{inode_part};
+ghost use Rattle.nv_audit.specs.Whole.{Agrees};
+ghost use Rattle.nv_machine.specs.Format.{formatted};
+ghost use Rattle.nv_machine.specs.Numbers.{held_by_actor, held_in};
+ghost use Rattle.nv_machine.specs.Reads.{slot_at};
+ghost use Rattle.nv_machine.specs.Step.{after};
+ghost use Rattle.nv_machine.specs.World as machine;
+ghost use Rattle.nv_core.specs.Audited.{HasPlans, blocks_by, device_of, killed_by_plans, killed_part, parts_by, picked_by};
+ghost use Rattle.nv_core.specs.Rooms.{hand_held};
+ghost use Rattle.nv_core.specs.Shown.{hand_of, slots_in};
+
+use crate::World;
+use crate::hold::Hold;
+use crate::next::{Next, SnapshotStep};
+use crate::slots::Slots;
+use crate::world::Actor;
+use nv_alloc::{Block, Hand};
+use nv_audit::{InHands, InodePart};
+use nv_base::{BlockNo, Fault, Ino};
+use nv_book::Record;
+use nv_calls::Commit;
+use nv_cell::KilledPart;
+use nv_entry::PartId;
+use std::alloc::{AllocError, Global};
+use std::collections::vec_deque;
+
+impl World {
+    /// Judges the world as it stands: each part against one scan of all logs, of the snapshots and of the hands. No
+    /// world differs, whatever events came: it can only want memory. It costs what [`nv_audit::audit`] does.
+    pub fn audit(&self) -> Result<(), Fault>
+        ensures { FailsOnly OutOfMemory result }
+    {
+        let blocks = blocks_in_hands(self.alloc, &self.actors)?;
+        let parts = parts_in_hands(self.alloc, &self.actors)?;
+        let hands = InHands {
+            blocks: &blocks,
+            parts: &parts,
+        };
+        let shared = &self.shared;
+        let book = &shared.book;
+        nv_audit::audit(
+            self.alloc,
+            &shared.geometry,
+            &shared.cells,
+            &shared.lists,
+            book,
+            &hands,
+        )
+    }
+}
+
+/// Whatever events came from a new world on, each part is that of one scan.
+fn worlds_agree()
+    ensures { (g : GeometryNumbers) (events : List machine.Event) → IsWithinLimits g
+        → Agrees (device_of g (after (formatted g) events)) }
+{}
+
+/// The numbers of the blocks in all hands.
+fn blocks_in_hands(alloc: Global, actors: &[Actor]) -> Result<Vec<BlockNo>, AllocError>
+    ensures { IfOk result (λ blocks. blocks.items ≡ flat_map blocks_by actors.now) }
+{
+    let mut blocks = Vec::new(alloc);
+    for actor in actors {
+        push_blocks(&mut blocks, hand_of(&actor.hold))?;
+    }
+    Ok(blocks)
+}
+
+/// The hand, whoever has it.
+fn hand_of(hold: &Hold) -> &Hand
+    ensures { result.now ≡ hand_held hold.now }
+{
+    match hold {
+        Hold::Hand(hand) => hand,
+        Hold::Ready(ready) => ready.hand(),
+        Hold::Commit(commit) => commit.hand(),
+    }
+}
+
+/// Puts the numbers of a hand's blocks to the end.
+fn push_blocks(numbers: &mut Vec<BlockNo>, hand: &Hand) -> Result<(), AllocError>
+    ensures { OnOk result (numbers.new.items
+        ≡ numbers.old.items ++ held_in (hand_of hand.now)) }
+{
+    push_numbers(numbers, hand.data.iter())?;
+    push_numbers(numbers, hand.pages.iter())?;
+    push_numbers(numbers, hand.chain.iter())
+}
+
+/// Puts the numbers of blocks to the end.
+fn push_numbers(
+    numbers: &mut Vec<BlockNo>,
+    blocks: vec_deque::Iter<'_, Block>,
+) -> Result<(), AllocError>
+    ensures { OnOk result (numbers.new.items
+        ≡ numbers.old.items ++ numbers_of (deque_iter_rest blocks.entry)) }
+{
+    for block in blocks {
+        numbers.push(block.number())?;
+    }
+    Ok(())
+}
+
+/// The parts in all hands: those that are killed and not yet retired, and those of records that drains have picked and
+/// not yet released.
+fn parts_in_hands(alloc: Global, actors: &[Actor]) -> Result<Vec<InodePart>, AllocError>
+    requires { (k : ℕ) (d : Actor) → k < length actors.now
+        → HasPlans (slice_index_or actors.now k d).hold }
+    ensures { IfOk result (λ parts. parts.items ≡ flat_map parts_by actors.now) }
+{
+    let mut parts = Vec::new(alloc);
+    for actor in actors {
+        push_parts(&mut parts, actor)?;
+    }
+    Ok(parts)
+}
+
+/// Puts those of one actor to the end.
+fn push_parts(parts: &mut Vec<InodePart>, actor: &Actor) -> Result<(), AllocError>
+    requires { HasPlans actor.now.hold }
+    ensures { OnOk result (parts.new.items ≡ parts.old.items ++ parts_by actor.now) }
+{
+    match (&actor.hold, &actor.running) {
+        (Hold::Hand(_), Some(running)) => push_picked(parts, &running.next),
+        (Hold::Commit(commit), Some(running)) => push_killed(parts, &running.slots, commit),
+        _ => Ok(()),
+    }
+}
+
+/// Puts the part of a record that a drain has picked to the end.
+fn push_picked(parts: &mut Vec<InodePart>, next: &Next) -> Result<(), AllocError>
+    ensures { OnOk result (parts.new.items ≡ parts.old.items ++ picked_by next.now) }
+{
+    match next {
+        Next::Snapshots(SnapshotStep::LockPicked(_, picked) | SnapshotStep::Release(_, picked)) => {
+            parts.push(part_of(picked))?;
+            Ok(())
+        }
+        _ => Ok(()),
+    }
+}
+
+/// The part of a record.
+fn part_of(record: &Record) -> InodePart
+    ensures { result ≡ inode_part record.now }
+{
+    InodePart {
+        ino: record.ino,
+        part: PartId {
+            entry: record.entry,
+            part: record.part,
+        },
+    }
+}
+
+/// Puts the parts that the publishes of a commit have killed to the end, of those inodes that aren't retired yet.
+fn push_killed(parts: &mut Vec<InodePart>, slots: &Slots, commit: &Commit) -> Result<(), AllocError>
+    requires { commit.now.published ≤ length commit.now.plans }
+    ensures { OnOk result (parts.new.items ≡ parts.old.items
+        ++ killed_by_plans (slots_in slots.now) commit.now) }
+{
+    for j in commit.retired()..commit.published() {
+        let ino = slot_at(slots, commit.place_of(j));
+        push_killed_of(parts, ino, commit.killed_of(j))?;
+    }
+    Ok(())
+}
+
+/// The slot of a plan's cell, by its place among the slots of the call.
+fn slot_at(slots: &Slots, place: usize) -> Ino
+    ensures { result ≡ slot_at (slots_in slots.now) place }
+{
+    match slots.as_slice().get(place) {
+        Some(ino) => *ino,
+        None => Ino::new(0),
+    }
+}
+
+/// Puts the killed parts of one inode to the end.
+fn push_killed_of(
+    parts: &mut Vec<InodePart>,
+    ino: Ino,
+    killed: &[KilledPart],
+) -> Result<(), AllocError>
+    ensures { OnOk result (parts.new.items
+        ≡ parts.old.items ++ map (killed_part ino) killed.now) }
+{
+    for dead in killed {
+        parts.push(InodePart {
+            ino,
+            part: dead.part,
+        })?;
+    }
+    Ok(())
+}

@@ -1,0 +1,27 @@
+//! A snapshot is dropped.
+
+ghost use Rattle.std.specs.Prelude.{◌≡◌, ◌≢◌, []};
+ghost use Rattle.nv_epoch.specs.SnapList.{pins_of};
+ghost use Rattle.nv_machine.specs.Snapshots.{drop_tests, drop_turn};
+ghost use Rattle.nv_machine.specs.World as machine;
+ghost use Rattle.nv_machine.specs.World.{empty_hand};
+ghost use Rattle.nv_core.specs.Shown.{shared_of, turn_of};
+
+use crate::shared::Shared;
+use crate::turn::Turn;
+use nv_base::Epoch;
+use nv_calls::Answer;
+
+/// Drops a snapshot that has no pin, which is the call's only step.
+pub(crate) fn drop_snapshot(shared: &mut Shared, snapshot: u64) -> Turn
+    ensures turn { (r : machine.Running) → r.slots ≡ [] → let s = shared_of shared.old in
+        drop_turn snapshot (drop_tests (pins_of s.book.snaps snapshot)) s empty_hand r
+        ≡ turn_of result (shared_of shared.new) empty_hand r }
+    ensures ends { (result ≢ Turn.Moves) × (result ≢ Turn.Waits) }
+    ensures rest { shared.new ≡ record shared.old { book = shared.new.book } }
+{
+    match shared.book.drop_snapshot(Epoch::new(snapshot)) {
+        Ok(()) => Turn::Ends(Ok(Answer::Nothing)),
+        Err(fault) => Turn::Ends(Err(fault)),
+    }
+}

@@ -1,0 +1,27 @@
+//! A snapshot is made.
+
+ghost use Rattle.std.specs.Prelude.{◌≡◌, ◌≢◌, []};
+ghost use Rattle.nv_machine.specs.Snapshots.{make_tests, make_turn};
+ghost use Rattle.nv_machine.specs.World as machine;
+ghost use Rattle.nv_machine.specs.World.{empty_hand};
+ghost use Rattle.nv_core.specs.Shown.{shared_of, turn_of};
+
+use crate::shared::Shared;
+use crate::turn::Turn;
+use nv_calls::Answer;
+
+/// Makes a snapshot of the current epoch, which is the call's only step.
+pub(crate) fn make_snapshot(shared: &mut Shared) -> Turn
+    ensures turn { (r : machine.Running) → r.slots ≡ [] → let s = shared_of shared.old in
+        make_turn (make_tests s.book.snaps) s empty_hand r
+        ≡ turn_of result (shared_of shared.new) empty_hand r }
+    ensures ends { (result ≢ Turn.Moves) × (result ≢ Turn.Waits) }
+    ensures rest { shared.new ≡ record shared.old { book = shared.new.book } }
+{
+    // Neither the epoch nor the number of snapshots is over its limit.
+    let _living = shared.book.snaps().snapshots();
+    match shared.book.make_snapshot() {
+        Ok(snapshot) => Turn::Ends(Ok(Answer::Snapshot(snapshot))),
+        Err(fault) => Turn::Ends(Err(fault)),
+    }
+}

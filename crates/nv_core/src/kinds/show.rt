@@ -1,0 +1,138 @@
+//! A snapshot is pinned, shown inode by inode, and unpinned.
+
+ghost use Rattle.std.specs.Prelude.{◌≡◌, ◌≢◌, ◌<◌, [], IfOk, false};
+ghost use Rattle.std.specs.Option.{ForSome, IsSomeAnd};
+ghost use Rattle.nv_base.specs.Refusals.{FailsOnly};
+ghost use Rattle.nv_base.specs.declared.fault.Fault.TheVariants.{OutOfMemory};
+ghost use Rattle.nv_base.specs.declared.limits.TheConstants.{PINS};
+ghost use Rattle.nv_epoch.specs.SnapList.{pins_of};
+ghost use Rattle.nv_machine.specs.Snapshots.{copies_at, pin_turn, seen_on, show_turn, showing_on, unpin_turn, visited};
+ghost use Rattle.nv_machine.specs.World as machine;
+ghost use Rattle.nv_machine.specs.World.{HandState, empty_hand, owner_at};
+ghost use Rattle.nv_core.specs.Rooms.{HasRooms, HasRoomsAfter, HasStepRoom, IsShow, IsUnpin};
+ghost use Rattle.nv_core.specs.Shown.{Told, is_over, seen_in, shared_of, showing_in, showing_of, shown, slots_in, snapshot_in, step_on, turn_of};
+ghost use Rattle.nv_core.specs.Steps.{CanShow};
+ghost use Rattle.nv_core.specs.Told.{IsEither, KeepsJob};
+
+use crate::hold::Hold;
+use crate::next::{Ending, Next, SnapshotStep};
+use crate::running::Running;
+use crate::shared::Shared;
+use crate::showing::Showing;
+use crate::turn::Turn;
+use nv_alloc::Hand;
+use nv_base::{Epoch, Fault};
+use nv_calls::Answer;
+use nv_entry::{Tree, TreeNode};
+use std::alloc::Global;
+use std::mem;
+
+/// Pins a snapshot, if it lives. Takes no memory.
+pub(crate) fn pin(alloc: Global, shared: &mut Shared, running: &mut Running, snapshot: u64) -> Turn
+    requires next { running.old.next ≡ Next.Snapshots (SnapshotStep.Pin snapshot) }
+    requires slots { slots_in running.old.slots ≡ [] }
+    requires pins { ForSome (pins_of shared.old.book.state.snaps snapshot) (λ pins. pins < PINS) }
+    ensures turn { (told : Told) → let s = shared_of shared.old in
+        pin_turn snapshot (pins_of s.book.snaps snapshot) s empty_hand (shown told running.old)
+        ≡ turn_of result (shared_of shared.new) empty_hand (shown told running.new) }
+    ensures job { KeepsJob running.old running.new }
+    ensures goes { result ≢ Turn.Waits }
+    ensures rooms { (hand : Hand) → HasRooms shared.old (Hold.Hand hand) running.old
+        → HasRoomsAfter result shared.new (Hold.Hand hand) running.new }
+    ensures rest { shared.new ≡ record shared.old { book = shared.new.book } }
+{
+    if let Err(fault) = shared.book.pin(Epoch::new(snapshot)) {
+        return Turn::Ends(Err(fault));
+    }
+    let showing = Showing::first(alloc, shared.cells.len());
+    running.next = Next::Snapshots(showing_on(snapshot, showing));
+    Turn::Moves
+}
+
+/// The next visit, or the end where there is none.
+fn showing_on(snapshot: u64, showing: Showing) -> SnapshotStep
+    ensures step { step_on result ≡ showing_on snapshot (showing_of showing) }
+    ensures room { (hand : Hand) → HasStepRoom result hand }
+{
+    if showing.is_over() {
+        let Showing { seen, .. } = showing;
+        return SnapshotStep::Unpin(snapshot, seen);
+    }
+    SnapshotStep::Show(snapshot, showing)
+}
+
+/// Visits one inode at the epoch of a snapshot, or waits for its lock. Where memory is refused, the pin is to go.
+pub(crate) fn show(alloc: Global, shared: &Shared, running: &mut Running) -> Turn
+    requires next { IsShow running.old.next }
+    requires can { CanShow shared.now (snapshot_in running.old.next) }
+    requires more { is_over (showing_in running.old.next) ≡ false }
+    ensures turn { (told : Told) (h : HandState) → let s = shared_of shared.now in
+        let snapshot = snapshot_in running.old.next in let to = showing_in running.old.next in
+        IsEither (λ granted. show_turn (owner_at s (visited to.visits).ino) granted
+        (copies_at s snapshot (visited to.visits)) snapshot to s h (shown told running.old))
+        (turn_of result s h (shown told running.new)) }
+    ensures waits { result ≡ Turn.Waits → running.new ≡ running.old }
+    ensures job { KeepsJob running.old running.new }
+    ensures rooms { (hand : Hand) → HasRooms shared.now (Hold.Hand hand) running.old
+        → HasRoomsAfter result shared.now (Hold.Hand hand) running.new }
+{
+    let Next::Snapshots(SnapshotStep::Show(_, showing)) = &running.next else {
+        unreachable!()
+    };
+    if shared.is_locked(showing.visited().ino) {
+        return Turn::Waits;
+    }
+    let Next::Snapshots(SnapshotStep::Show(snapshot, showing)) = mem::replace(
+        &mut running.next,
+        Next::Visit,
+    ) else {
+        unreachable!()
+    };
+    match see(alloc, shared, snapshot, showing) {
+        Ok(showing) => running.next = Next::Snapshots(showing_on(snapshot, showing)),
+        Err(fault) => {
+            running.ending = Ending::Refuses(fault);
+            running.next = Next::Snapshots(SnapshotStep::Unpin(snapshot, Vec::new(alloc)));
+        }
+    }
+    Turn::Moves
+}
+
+/// Makes the next visit of a show.
+fn see(alloc: Global, shared: &Shared, snapshot: u64, showing: Showing) -> Result<Showing, Fault>
+    requires can { CanShow shared.now snapshot }
+    requires more { is_over (showing_of showing) ≡ false }
+    ensures ok { IfOk result (λ after. let s = shared_of shared.now in
+        let to = showing_of showing in
+        showing_of after ≡ seen_on (copies_at s snapshot (visited to.visits)) to) }
+    ensures err { FailsOnly OutOfMemory result }
+{
+    let handle = showing.visited();
+    let node = shared.node_at(alloc, &handle, Epoch::new(snapshot))?;
+    showing.see(alloc, node)
+}
+
+/// Takes the pin off, and answers the nodes that were seen. This is the call's last step.
+pub(crate) fn unpin(shared: &mut Shared, running: &mut Running) -> Turn
+    requires next { IsUnpin running.old.next }
+    requires pins { IsSomeAnd (pins_of shared.old.book.state.snaps (snapshot_in running.old.next))
+        (λ pins. 0 < pins) }
+    ensures turn { (told : Told) (h : HandState) → unpin_turn (snapshot_in running.old.next)
+        (seen_in running.old.next) (shared_of shared.old) h (shown told running.old)
+        ≡ turn_of result (shared_of shared.new) h (shown told running.new) }
+    ensures ends { (result ≢ Turn.Moves) × (result ≢ Turn.Waits) }
+    ensures job { KeepsJob running.old running.new }
+    ensures rest { shared.new ≡ record shared.old { book = shared.new.book } }
+{
+    let Next::Snapshots(SnapshotStep::Unpin(snapshot, seen)) = mem::replace(
+        &mut running.next,
+        Next::Visit,
+    ) else {
+        unreachable!()
+    };
+    shared.book.unpin(Epoch::new(snapshot));
+    match running.ending {
+        Ending::Refuses(fault) => Turn::Ends(Err(fault)),
+        _ => Turn::Ends(Ok(Answer::Tree(Tree::from_vec(seen)))),
+    }
+}

@@ -1,0 +1,93 @@
+//! The steps of calls on snapshots.
+
+ghost use Rattle.std.specs.Prelude.{◌≡◌, []};
+ghost use Rattle.nv_machine.specs.Step.{kind_turn};
+ghost use Rattle.nv_core.specs.Frames.{LeavesRest};
+ghost use Rattle.nv_core.specs.Rooms.{HasRooms, HasRoomsAfter, IsOnBook, IsSnapshotStep};
+ghost use Rattle.nv_core.specs.Shown.{Told, hand_of, next_of, shared_of, shown, slots_in, turn_of};
+ghost use Rattle.nv_core.specs.Steps.{CanStep};
+ghost use Rattle.nv_core.specs.Told.{IsEither, KeepsJob};
+ghost use Rattle.nv_machine.specs.Locks.{held_at};
+
+use crate::hold::Hold;
+use crate::kinds::drain::{lock_picked, pick};
+use crate::kinds::drop_snapshot::drop_snapshot;
+use crate::kinds::make_snapshot::make_snapshot;
+use crate::kinds::release::release;
+use crate::kinds::show::{pin, show, unpin};
+use crate::next::{Next, SnapshotStep};
+use crate::running::Running;
+use crate::shared::Shared;
+use crate::turn::Turn;
+use nv_alloc::Hand;
+use std::alloc::Global;
+
+/// A step of a call on snapshots.
+pub(crate) fn on_snapshots(
+    alloc: Global,
+    shared: &mut Shared,
+    hand: &mut Hand,
+    running: &mut Running,
+    actor: u64,
+) -> Turn
+    requires step { IsSnapshotStep running.old.next }
+    requires can { CanStep shared.old (Hold.Hand hand.old) running.old actor }
+    requires rooms { HasRooms shared.old (Hold.Hand hand.old) running.old }
+    ensures turn { (told : Told) → IsEither (λ granted. kind_turn (next_of running.old.next)
+        shared.old.geometry.numbers.block actor granted (shared_of shared.old) (hand_of hand.old)
+        (shown told running.old))
+        (turn_of result (shared_of shared.new) (hand_of hand.new) (shown told running.new)) }
+    ensures waits { result ≡ Turn.Waits
+        → (shared.new ≡ shared.old) × (hand.new ≡ hand.old) × (running.new ≡ running.old) }
+    ensures job { KeepsJob running.old running.new }
+    ensures rooms { HasRoomsAfter result shared.new (Hold.Hand hand.new) running.new }
+    ensures rest { LeavesRest actor (held_at (next_of running.old.next)
+        (slots_in running.old.slots)) shared.old shared.new }
+{
+    match running.next {
+        Next::Snapshots(SnapshotStep::Show(..)) => show(alloc, shared, running),
+        Next::Snapshots(SnapshotStep::LockPicked(draining, picked)) => {
+            lock_picked(shared, running, actor, draining, picked)
+        }
+        Next::Snapshots(SnapshotStep::Release(draining, picked)) => {
+            release(shared, hand, running, draining, picked)
+        }
+        _ => on_book(alloc, shared, hand, running, actor),
+    }
+}
+
+/// A step that is lent the book: it waits while a commit is under way.
+#[tactic(auto, using(crate::proofs::SnapRest::none_held))]
+fn on_book(
+    alloc: Global,
+    shared: &mut Shared,
+    hand: &mut Hand,
+    running: &mut Running,
+    actor: u64,
+) -> Turn
+    requires step { IsOnBook running.old.next }
+    requires can { CanStep shared.old (Hold.Hand hand.old) running.old actor }
+    requires rooms { HasRooms shared.old (Hold.Hand hand.old) running.old }
+    ensures turn { (told : Told) → IsEither (λ granted. kind_turn (next_of running.old.next)
+        shared.old.geometry.numbers.block actor granted (shared_of shared.old) (hand_of hand.old)
+        (shown told running.old))
+        (turn_of result (shared_of shared.new) (hand_of hand.new) (shown told running.new)) }
+    ensures waits { result ≡ Turn.Waits
+        → (shared.new ≡ shared.old) × (hand.new ≡ hand.old) × (running.new ≡ running.old) }
+    ensures job { KeepsJob running.old running.new }
+    ensures rooms { HasRoomsAfter result shared.new (Hold.Hand hand.new) running.new }
+    ensures held { held_at (next_of running.old.next) (slots_in running.old.slots) ≡ [] }
+    ensures rest { LeavesRest actor [] shared.old shared.new }
+{
+    if shared.holder.is_some() {
+        return Turn::Waits;
+    }
+    match running.next {
+        Next::Snapshots(SnapshotStep::Make) => make_snapshot(shared),
+        Next::Snapshots(SnapshotStep::Drop(snapshot)) => drop_snapshot(shared, snapshot),
+        Next::Snapshots(SnapshotStep::Pin(snapshot)) => pin(alloc, shared, running, snapshot),
+        Next::Snapshots(SnapshotStep::Unpin(..)) => unpin(shared, running),
+        Next::Snapshots(SnapshotStep::Pick(draining)) => pick(shared, hand, running, draining),
+        _ => unreachable!(),
+    }
+}

@@ -1,0 +1,72 @@
+//! What a world reports of its snapshots.
+
+ghost use Rattle.std.specs.Prelude.{◌≡◌, IfOk};
+ghost use Rattle.nv_base.specs.Refusals.{FailsOnly};
+ghost use Rattle.nv_base.specs.declared.fault.Fault.TheVariants.{OutOfMemory};
+ghost use Rattle.nv_machine.specs.World as machine;
+ghost use Rattle.nv_core.specs.Reports.{snap_counts, snaps_of};
+ghost use Rattle.nv_core.specs.Worlds.{Shows};
+
+use crate::World;
+use nv_base::{CommitNo, Epoch, Fault, Items};
+use nv_book::Book;
+use nv_epoch::Snapshot;
+use std::alloc::Global;
+
+/// A living snapshot: the blocks that it holds and that are no longer current, those that a drop puts on the deferred
+/// list, and its pins.
+#[derive(Clone, Copy, Debug, PartialEq, Eq)]
+pub struct SnapCounts {
+    pub snapshot: Epoch,
+    pub held: u64,
+    pub gain: u64,
+    pub pins: u32,
+}
+
+/// The current epoch, the last commit, and the living snapshots, oldest first.
+#[derive(Debug, Drop)]
+pub struct Snaps {
+    pub epoch: Epoch,
+    pub commit: CommitNo,
+    pub living: Items<SnapCounts>,
+}
+
+impl World {
+    /// The snapshots. It takes time by all records, for each snapshot.
+    pub fn snaps(&self) -> Result<Snaps, Fault>
+        ensures ok { (m : machine.World) → Shows self.now m
+            → IfOk result (λ snaps. snaps ≡ snaps_of m.shared.book) }
+        ensures err { FailsOnly OutOfMemory result }
+    {
+        snaps_in(self.alloc, &self.shared.book)
+    }
+}
+
+/// The snapshots of a book.
+fn snaps_in(alloc: Global, book: &Book) -> Result<Snaps, Fault>
+    ensures ok { IfOk result (λ snaps. snaps ≡ snaps_of book.now.state) }
+    ensures err { FailsOnly OutOfMemory result }
+{
+    let snapshots = book.snaps().snapshots();
+    let mut living = Vec::with_capacity(alloc, snapshots.len())?;
+    for snapshot in snapshots {
+        living.push(counts_of(book, snapshot))?;
+    }
+    Ok(Snaps {
+        epoch: book.epoch(),
+        commit: book.commit(),
+        living: Items::from_vec(living),
+    })
+}
+
+/// One of them in numbers.
+fn counts_of(book: &Book, snapshot: &Snapshot) -> SnapCounts
+    ensures { result ≡ snap_counts book.now.state snapshot.now }
+{
+    SnapCounts {
+        snapshot: snapshot.number,
+        held: book.held(snapshot.number),
+        gain: book.gain(snapshot.number),
+        pins: snapshot.pins,
+    }
+}

@@ -1,0 +1,176 @@
+-- A making copies the nodes as they are, and leaves cells and journals.
+use Rattle.std.proofs.Common.{◌≡◌, ℕ, zero, suc, ◌+◌, ◌<◌, ◌≤◌, ◌==◌, ◌∙◌, Bool, true, false, cond, List, [], ◌∷◌, if◌then◌else◌, length, nat_lt, Option, Some, None, ap, refl, subst, sym, take}
+use Rattle.std.specs.List.{AllByRecursion}
+use Rattle.std.specs.Option.{option_map}
+use Rattle.std.specs.Prelude.{Ok, Err}
+use Rattle.std.proofs.lemmas.Bool.{le-leb}
+use Rattle.nv_base.specs.declared.numbers.Handle.{Handle}
+use Rattle.nv_calls.specs.Plain.{PlainNode, node_in, stamped}
+use Rattle.nv_calls.specs.Slots.{last_commit}
+use Rattle.nv_entry.specs.Log.{up_to}
+use Rattle.nv_entry.specs.Node.{node_now}
+use Rattle.nv_entry.specs.declared.item.Entry.{Entry}
+use Rattle.nv_entry.specs.declared.node.NodeCopy.{NodeCopy}
+use Rattle.nv_journal.specs.declared.old_tail.OldTail.{OldTail}
+use Rattle.nv_cell.specs.Cell.{CellState}
+use Rattle.nv_machine.specs.Locks.{commits_at}
+use Rattle.nv_machine.specs.Order.{AreLogsOrdered}
+use Rattle.nv_machine.specs.PlainRun.{Commits, Deed, Nothing, Numbers, OnSnapshots, deed as deed_in, deed_by, deed_of, done_on, entered}
+use Rattle.nv_machine.specs.Reads.{bytes_among, written_slots}
+use Rattle.nv_machine.specs.Settled.{node_by, settled, settled_copies, settled_nodes, settled_tail}
+use Rattle.nv_machine.specs.Step.{go_step, kind_turn, step, turn, turned}
+use Rattle.nv_machine.specs.World.{Append, Back, Check, Close, Drop, Ends, Enter, Event, Give, Go, HandState, Leave, Lock, LockPicked, Look, Make, Moves, Next, Number, Open, Pick, Pin, Publish, Ready, Release, Retire, Running, Shared, Show, SnapshotStep, Snapshots, Start, TakeBlocks, TakePages, Turn, Unlock, Unpin, Visit, Waits, World, actor_at, cell_at}
+use Rattle.nv_machine.proofs.Kept.{AfterTurn, turn_keeps}
+
+-- ---- which step makes a snapshot
+
+abbrev pub is_make_step : SnapshotStep → Bool
+is_make_step Make = true
+is_make_step other = false
+
+abbrev pub is_make : Deed → Bool
+is_make (OnSnapshots step) = is_make_step step
+is_make other = false
+
+make_is : (step : SnapshotStep) → is_make_step step ≡ true → step ≡ Make
+make_is Make e = refl
+make_is (Drop snapshot) e = cc
+make_is (Pin snapshot) e = cc
+make_is (Show snapshot showing) e = cc
+make_is (Unpin snapshot seen) e = cc
+make_is (Pick draining) e = cc
+make_is (LockPicked draining picked) e = cc
+make_is (Release draining picked) e = cc
+
+done_make : (step : SnapshotStep) (t : Turn) → is_make (done_on step t) ≡ true → step ≡ Make
+done_make step (Moves s h r) e = make_is step e
+done_make step Waits e = cc
+done_make Make (Ends result s h) e = refl
+done_make (Drop snapshot) (Ends (Ok found) s h) e = cc
+done_make (Pin snapshot) (Ends (Ok found) s h) e = cc
+done_make (Show snapshot showing) (Ends (Ok found) s h) e = cc
+done_make (Unpin snapshot seen) (Ends (Ok found) s h) e = cc
+done_make (Pick draining) (Ends (Ok found) s h) e = cc
+done_make (LockPicked draining picked) (Ends (Ok found) s h) e = cc
+done_make (Release draining picked) (Ends (Ok found) s h) e = cc
+done_make (Drop snapshot) (Ends (Err fault) s h) e = cc
+done_make (Pin snapshot) (Ends (Err fault) s h) e = cc
+done_make (Show snapshot showing) (Ends (Err fault) s h) e = cc
+done_make (Unpin snapshot seen) (Ends (Err fault) s h) e = cc
+done_make (Pick draining) (Ends (Err fault) s h) e = cc
+done_make (LockPicked draining picked) (Ends (Err fault) s h) e = cc
+done_make (Release draining picked) (Ends (Err fault) s h) e = cc
+
+entered_none : (t : Turn) → is_make (entered t) ≡ true → ⊥
+entered_none (Moves s h r) e = go (commits_at r.next) e where
+  go : (b : Bool) → is_make (if b then Numbers else Nothing) ≡ true → ⊥
+  go true e = cc
+  go false e = cc
+entered_none Waits e = cc
+entered_none (Ends result s h) e = cc
+
+published_none : (b : Bool) → is_make (if b then Nothing else Commits) ≡ true → ⊥
+published_none true e = cc
+published_none false e = cc
+
+kind_is : (k : Next) (written : List ℕ) (t : Turn) → is_make (deed_in k written t) ≡ true → k ≡ Snapshots Make
+kind_is Enter written t e = absurd (entered_none t e)
+kind_is (Publish place) written t e = absurd (published_none (nat_lt 1 (length written)) e)
+kind_is (Snapshots step) written t e = ap Snapshots (done_make step t e)
+kind_is Number written t e = cc
+kind_is (Look place) written t e = cc
+kind_is (Lock place) written t e = cc
+kind_is Check written t e = cc
+kind_is (TakeBlocks asked) written t e = cc
+kind_is (TakePages asked) written t e = cc
+kind_is Ready written t e = cc
+kind_is (Append place) written t e = cc
+kind_is Open written t e = cc
+kind_is Close written t e = cc
+kind_is (Retire place) written t e = cc
+kind_is Leave written t e = cc
+kind_is (Unlock place) written t e = cc
+kind_is (Give cpu) written t e = cc
+kind_is Back written t e = cc
+kind_is Visit written t e = cc
+
+-- ---- it leaves cells and journals
+
+abbrev Leaves : Shared → Shared → Type 0
+Leaves s t = (t.cells ≡ s.cells) × (t.book.journals ≡ s.book.journals)
+
+made_keeps : (k : Next) (block a : ℕ) (granted : Bool) (s : Shared) (h : HandState) (r : Running) → k ≡ Snapshots Make
+    → AfterTurn (λ (t : Shared) (x : HandState). Leaves s t) (kind_turn k block a granted s h r)
+made_keeps k block a granted s h r e =
+    subst (λ (n : Next). AfterTurn (λ (t : Shared) (x : HandState). Leaves s t) (kind_turn n block a granted s h r)) (sym e)
+    (turn_keeps (λ (t : Shared) (x : HandState). Leaves s t) (Snapshots Make) block a granted s h r (refl, refl) (refl, refl))
+
+turned_leaves : (t : Turn) (actor : ℕ) (w : World) → AfterTurn (λ (u : Shared) (h : HandState). Leaves w.shared u) t
+    → Leaves w.shared (turned t actor w).world.shared
+turned_leaves (Moves s h r) actor w on = on
+turned_leaves Waits actor w on = (refl, refl)
+turned_leaves (Ends result s h) actor w on = on
+
+go_leaves : (b : Bool) (running : Option Running) (w : World) (actor : ℕ) (granted : Bool)
+    → is_make (if b then deed_by running w actor granted else Nothing) ≡ true
+    → Leaves w.shared (go_step b running actor granted w).world.shared
+go_leaves false running w actor granted e = cc
+go_leaves true None w actor granted e = cc
+go_leaves true (Some r) w actor granted e =
+    let t = turn w.numbers.block actor granted w.shared (actor_at w actor).hand r in
+    turned_leaves t actor w (made_keeps r.next w.numbers.block actor granted w.shared (actor_at w actor).hand r
+    (kind_is r.next (written_slots r) t e))
+
+event_leaves : (w : World) (e : Event) → is_make (deed_of w e) ≡ true → Leaves w.shared (step w e).world.shared
+event_leaves w (Start actor c) e = cc
+event_leaves w (Go actor granted) e = go_leaves (nat_lt actor (length w.actors)) (actor_at w actor).running w actor granted e
+
+abbrev copies_by : List CellState → List (List OldTail) → Shared → ℕ → Handle → Option NodeCopy
+copies_by cells journals s = settled_copies (record s { cells = cells; book = record s.book { journals = journals } })
+
+pub make_copies : (w : World) (e : Event) → is_make (deed_of w e) ≡ true → (epoch : ℕ) (handle : Handle)
+    → settled_copies (step w e).world.shared epoch handle ≡ settled_copies w.shared epoch handle
+make_copies w e made epoch handle =
+    let both = event_leaves w e made in
+    let v = (step w e).world.shared in
+    ap (λ (cells : List CellState). copies_by cells v.book.journals v epoch handle) both.0
+    ∙ ap (λ (journals : List (List OldTail)). copies_by w.shared.cells journals v epoch handle) both.1
+
+-- ---- the nodes at the end of this epoch are those of now
+
+all_up : (commit epoch : ℕ) (log : List Entry) → AllByRecursion (λ (e : Entry). (e.id.commit < commit) × (e.epoch ≤ epoch)) log
+    → up_to epoch log ≡ log
+all_up commit epoch [] all = refl
+all_up commit epoch (e ∷ log) all =
+    ap (λ (b : Bool). cond b (e ∷ up_to epoch log) (up_to epoch log)) (le-leb e.epoch epoch all.0.1)
+    ∙ ap (λ (l : List Entry). e ∷ l) (all_up commit epoch log all.1)
+
+all_front : (P : Entry → Type 0) (n : ℕ) (log : List Entry) → AllByRecursion P log → AllByRecursion P (take n log)
+all_front P zero [] all = tt
+all_front P (suc n) [] all = tt
+all_front P zero (e ∷ log) all = tt
+all_front P (suc n) (e ∷ log) all = (all.0, all_front P n log all.1)
+
+unstamped : (commit : ℕ) (node : Option NodeCopy) → option_map (λ (p : PlainNode). p.node) (stamped commit node) ≡ node
+unstamped commit None = refl
+unstamped commit (Some node) = refl
+
+pub copies_now : (s : Shared) → AreLogsOrdered s → (handle : Handle)
+    → settled_copies s s.book.snaps.epoch handle ≡ node_in (settled_nodes s) handle
+copies_now s ordered handle = go (handle.generation == cell.generation) where
+  cell : CellState
+  cell = cell_at s handle.ino
+
+  log : List Entry
+  log = settled s handle.ino
+
+  all : up_to s.book.snaps.epoch log ≡ log
+  all = all_up (s.book.commit + 1) s.book.snaps.epoch log
+      (all_front (λ (e : Entry). (e.id.commit < s.book.commit + 1) × (e.epoch ≤ s.book.snaps.epoch))
+      (settled_tail s.book.journals handle.ino cell.chain.tail) cell.chain.entries (ordered handle.ino).earlier)
+
+  go : (b : Bool) → (if b then node_now (bytes_among cell.blocks) cell.block (up_to s.book.snaps.epoch log) else None)
+      ≡ option_map (λ (p : PlainNode). p.node) (if b then node_by cell log else None)
+  go true = ap (node_now (bytes_among cell.blocks) cell.block) all
+      ∙ sym (unstamped (last_commit log) (node_now (bytes_among cell.blocks) cell.block log))
+  go false = refl

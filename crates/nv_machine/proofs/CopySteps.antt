@@ -1,0 +1,267 @@
+-- What becomes of the copies at the end of an earlier epoch at every kind of step: each cell keeps its own, or had none and is
+-- emptied.
+use Rattle.std.proofs.Common.{◌≡◌, ◌⊎◌, ℕ, ◌+◌, ◌<◌, ◌++◌, ◌∙◌, Bool, true, false, List, [], ◌∷◌, if◌then◌else◌, inl, inr, length, Option, Some, None, ap, refl, set, subst, sym, take}
+use Rattle.std.specs.List.{Contains}
+use Rattle.std.specs.Prelude.{slice_index_or}
+use Rattle.std.proofs.lemmas.Bool.{and_parts}
+use Rattle.std.proofs.lemmas.Option.{same_Some}
+use Rattle.nv_alloc.specs.Block.{BlockValue}
+use Rattle.nv_book.specs.declared.record.Record.{Record}
+use Rattle.nv_calls.specs.Retiring.{erased, is_erased, keeper_of, name_of, released, retired, retired_one, settled as settled_part}
+use Rattle.nv_calls.specs.Slots.{entries_of}
+use Rattle.nv_cell.specs.Cell.{CellState, empty_cell, log_of, number_in, published}
+use Rattle.nv_cell.specs.Readers.{is_gone, keeps_nothing}
+use Rattle.nv_cell.specs.declared.killed.KilledPart.{KilledPart}
+use Rattle.nv_cell.specs.declared.mark.Mark.TheVariants.{Kept, Out}
+use Rattle.nv_cell.proofs.Publishing.{take_whole}
+use Rattle.nv_cell.proofs.Remarking.{length_set}
+use Rattle.nv_entry.specs.Covered.{is_covered, part_total}
+use Rattle.nv_entry.specs.Keys.{KindKey}
+use Rattle.nv_entry.specs.Later.{AreAfter}
+use Rattle.nv_entry.proofs.Later.{up_to-append}
+use Rattle.nv_entry.specs.declared.item.Item.{Item}
+use Rattle.nv_entry.specs.Log.{IsLog, up_to, value_now}
+use Rattle.nv_entry.specs.declared.item.Entry.{Entry}
+use Rattle.nv_epoch.specs.SnapList.{ids}
+use Rattle.nv_log.specs.Chain.{ChainState}
+use Rattle.nv_machine.specs.Grown.{HasGrown}
+use Rattle.nv_machine.specs.Kinds.{entries_for, first_killed, retired_cell, with_entries, with_pages}
+use Rattle.nv_machine.specs.Locks.{commits_at}
+use Rattle.nv_machine.specs.Reads.{pages_needed, slot_at, written_slots}
+use Rattle.nv_machine.specs.World.{Append, Back, Check, Close, Draining, Drop, Enter, Give, HandState, Leave, Lock, LockPicked, Look, Make, Next, Number, Open, Pick, Pin, Publish, Ready, Release, Retire, Running, Shared, Show, SnapshotStep, Snapshots, TakeBlocks, TakePages, Unlock, Unpin, Visit, cell_at, no_cell}
+use Rattle.nv_machine.proofs.CellSteps.{slot_set}
+use Rattle.nv_machine.proofs.Entered.{entries_more, pages_keep}
+use Rattle.nv_machine.proofs.EpochLogs.{HaveSameBlocks, IsHeldAt, copy_at, log_at, none_at, nothing_kept}
+use Rattle.nv_machine.proofs.EpochSteps.{AreParts, out_held, retired_held}
+use Rattle.nv_machine.proofs.FitsCells.{append_wider}
+use Rattle.nv_machine.proofs.Kept.{back_deed, deed, number_deed}
+use Rattle.nv_machine.proofs.Locked.{Before, lent_cell}
+use Rattle.nv_machine.proofs.LogsKept.{cell_set}
+use Rattle.nv_machine.proofs.Numbered.{lent_inside}
+
+-- ---- one cell
+
+-- the copy of the epoch goes on
+pub record Continues (epoch : ℕ) (a b : CellState) : Type 0 where
+  pub block : b.block ≡ a.block
+  pub generation : b.generation ≡ a.generation
+  pub log : log_at epoch b ≡ log_at epoch a
+  pub same : HaveSameBlocks a b
+
+-- the cell had none, and is emptied
+pub record IsEmptied (epoch : ℕ) (a b : CellState) : Type 0 where
+  pub none : copy_at epoch a ≡ None
+  pub empty : b.chain.entries ≡ []
+
+abbrev pub StepsTo : ℕ → CellState → CellState → Type 0
+StepsTo epoch a b = Continues epoch a b ⊎ IsEmptied epoch a b
+
+pub same_cell : (epoch : ℕ) (cell : CellState) → StepsTo epoch cell cell
+same_cell epoch cell = inl (record { block = refl; generation = refl; log = refl; same = λ n x y e f. same_Some x y (sym e ∙ f) })
+
+-- fewer blocks, of the same log
+pub record Fewer (a b : CellState) : Type 0 where
+  pub block : b.block ≡ a.block
+  pub chain : b.chain ≡ a.chain
+  pub generation : b.generation ≡ a.generation
+  pub marks : length b.marks ≡ length a.marks
+  pub less : (n : ℕ) (x : BlockValue) → slice_index_or b.blocks n None ≡ Some x → slice_index_or a.blocks n None ≡ Some x
+
+fewer_on : (a b c : CellState) → Fewer a b → Fewer b c → Fewer a c
+fewer_on a b c f g = record {
+  block = g.block ∙ f.block;
+  chain = g.chain ∙ f.chain;
+  generation = g.generation ∙ f.generation;
+  marks = g.marks ∙ f.marks;
+  less = λ n x e. f.less n x (g.less n x e);
+}
+
+one_fewer : (keeper : Option ℕ) (n : ℕ) (cell : CellState) → Fewer cell (settled_part keeper n cell)
+one_fewer (Some s) n cell =
+    record { block = refl; chain = refl; generation = refl; marks = length_set cell.marks n Kept; less = λ m x e. e }
+one_fewer None n cell = record {
+  block = refl;
+  chain = refl;
+  generation = refl;
+  marks = length_set cell.marks n Out;
+  less = λ m x. slot_set cell.blocks n m (λ (o : Option BlockValue). o ≡ Some x → slice_index_or cell.blocks m None ≡ Some x) (λ e q. cc)
+      (λ e. e);
+}
+
+retired_fewer : (living : List ℕ) (ino epoch : ℕ) (parts : List KilledPart) (cell : CellState)
+    → Fewer cell (retired living ino epoch parts cell)
+retired_fewer living ino epoch [] cell =
+    record { block = refl; chain = refl; generation = refl; marks = refl; less = λ n x e. e }
+retired_fewer living ino epoch (k ∷ parts) cell =
+    fewer_on cell (retired_one living ino epoch k cell) (retired living ino epoch parts (retired_one living ino epoch k cell))
+    (one_fewer (keeper_of living ino epoch k) (number_in cell k.part) cell)
+    (retired_fewer living ino epoch parts (retired_one living ino epoch k cell))
+
+fewer_continues : (epoch : ℕ) (a b : CellState) → Fewer a b → Continues epoch a b
+fewer_continues epoch a b f = record {
+  block = f.block;
+  generation = f.generation;
+  log = ap (λ (c : ChainState). up_to epoch c.entries) f.chain;
+  same = λ n x y e q. same_Some x y (sym e ∙ f.less n y q);
+}
+
+-- a cell that is left so, or erased, where all its parts are out then
+erased_steps : (epoch : ℕ) (a b : CellState) → Fewer a b → IsLog a.chain.entries → length a.marks ≡ part_total a.chain.entries
+    → IsHeldAt epoch b → StepsTo epoch a (erased b)
+erased_steps epoch a b f is len held = go (is_erased b) refl where
+  none : is_erased b ≡ true → copy_at epoch a ≡ None
+  none e =
+      let kind = nothing_kept epoch b (subst (λ (c : ChainState). IsLog c.entries) (sym f.chain) is)
+      (f.marks ∙ len ∙ ap (λ (c : ChainState). part_total c.entries) (sym f.chain)) held
+      (and_parts (is_gone (log_of b)) (keeps_nothing b) e).1 in
+      none_at epoch a
+      (ap (λ (c : ChainState). value_now a.block (up_to epoch c.entries) KindKey) (sym f.chain)
+      ∙ ap (λ (size : ℕ). value_now size (log_at epoch b) KindKey) (sym f.block) ∙ kind)
+
+  go : (c : Bool) → is_erased b ≡ c
+      → StepsTo epoch a (if c then empty_cell b.block b.chain.page (b.generation + 1) b.version else b)
+  go true e = inr (record { none = none e; empty = refl })
+  go false e = inl (fewer_continues epoch a b f)
+
+are_after : (epoch commit now place : ℕ) (items : List Item) → epoch < now → AreAfter epoch (entries_of commit now place items)
+are_after epoch commit now place [] lt = tt
+are_after epoch commit now place (item ∷ items) lt = (lt, are_after epoch commit now (place + 1) items lt)
+
+-- the entries of a commit of a later epoch
+pub entries_later : (epoch : ℕ) (r : Running) (ino : ℕ) (log : List Entry) → epoch < r.epoch
+    → up_to epoch (log ++ entries_for r ino) ≡ up_to epoch log
+entries_later epoch r ino log lt = up_to-append epoch log (entries_for r ino) (are_after epoch r.commit r.epoch _ _ lt)
+
+append_continues : (epoch : ℕ) (entries : List Entry) (bs pages : List BlockValue) (cell : CellState)
+    → up_to epoch (cell.chain.entries ++ entries) ≡ up_to epoch cell.chain.entries
+    → Continues epoch cell (with_entries entries bs (with_pages pages cell))
+append_continues epoch entries bs pages cell later =
+    let w = append_wider entries bs pages cell in
+    record {
+      block = w.block;
+      generation = w.generation;
+      log = ap (up_to epoch) (entries_more entries bs (with_pages pages cell)
+          ∙ ap (λ (l : List Entry). l ++ entries) (pages_keep pages cell)) ∙ later;
+      same = λ n x y e q. same_Some x y (sym (w.blocks n x e) ∙ q);
+    }
+
+-- ---- every kind
+
+-- what is ready to go out: the killed parts of a retire are of its cell; and the part of a release is not one that the epoch's log
+-- has and has not covered
+abbrev pub GoesOut : ℕ → Next → Shared → HandState → Running → Type 0
+GoesOut epoch (Retire place) s h r = AreParts (cell_at s (slot_at (written_slots r) place)) (first_killed h.killed)
+GoesOut epoch (Snapshots (Release draining picked)) s h r =
+    let cell : CellState = cell_at s picked.ino in
+    number_in cell (name_of picked) < part_total (log_at epoch cell)
+    → is_covered cell.block (log_at epoch cell) (number_in cell (name_of picked)) ≡ false → ⊥
+GoesOut epoch other s h r = Unit {0}
+
+-- what a step may rely on
+pub record Stands (epoch : ℕ) (k : Next) (a : ℕ) (s : Shared) (h : HandState) (r : Running) : Type 0 where
+  pub before : Before a s k r
+  pub lives : Contains (ids s.book.snaps) epoch
+  pub later : commits_at k ≡ true → epoch < r.epoch
+  pub grown : HasGrown k s a r
+  pub logs : (ino : ℕ) → IsLog (cell_at s ino).chain.entries
+  pub marks : (ino : ℕ) → ino < length s.cells → length (cell_at s ino).marks ≡ part_total (log_of (cell_at s ino))
+  pub held : (ino : ℕ) → IsHeldAt epoch (cell_at s ino)
+  pub goes : GoesOut epoch k s h r
+
+module _ (epoch block a : ℕ) (s : Shared) (h : HandState) (r : Running) where
+  all_marks : (k : Next) → Stands epoch k a s h r → (ino : ℕ) → ino < length s.cells
+      → (cell_at s ino).chain.tail ≡ length (cell_at s ino).chain.entries
+      → length (cell_at s ino).marks ≡ part_total (cell_at s ino).chain.entries
+  all_marks k st ino low tail =
+      let es = (cell_at s ino).chain.entries in
+      st.marks ino low ∙ ap (λ (n : ℕ). part_total (take n es)) tail ∙ ap part_total (take_whole es)
+
+  set_steps : (slot : ℕ) (cell : CellState) → slot < length s.cells → StepsTo epoch (cell_at s slot) cell → (ino : ℕ)
+      → StepsTo epoch (cell_at s ino) (slice_index_or (set s.cells slot cell) ino no_cell)
+  set_steps slot cell low to ino =
+      cell_set s slot cell ino (StepsTo epoch (cell_at s ino)) low
+      (λ e. subst (λ (n : ℕ). StepsTo epoch (cell_at s n) cell) e to) (λ ne. same_cell epoch (cell_at s ino))
+
+  append_steps : (place : ℕ) → Stands epoch (Append place) a s h r → (ino : ℕ)
+      → StepsTo epoch (cell_at s ino) (cell_at (deed (Append place) block a s h r).shared ino)
+  append_steps place st =
+      let slot = slot_at (written_slots r) place in
+      let pages = take (pages_needed s r.plan slot) h.pages in
+      set_steps slot (with_entries (entries_for r slot) h.blocks (with_pages pages (cell_at s slot)))
+      (lent_inside (Append place) a s r st.before slot refl)
+      (inl (append_continues epoch (entries_for r slot) h.blocks pages (cell_at s slot)
+      (entries_later epoch r slot (cell_at s slot).chain.entries (st.later refl))))
+
+  publish_steps : (place : ℕ) → Stands epoch (Publish place) a s h r → (ino : ℕ)
+      → StepsTo epoch (cell_at s ino) (cell_at (deed (Publish place) block a s h r).shared ino)
+  publish_steps place st =
+      let slot = slot_at (written_slots r) place in
+      set_steps slot (published (cell_at s slot)) (lent_inside (Publish place) a s r st.before slot refl)
+      (inl (record { block = refl; generation = refl; log = refl; same = λ n x y e f. same_Some x y (sym e ∙ f) }))
+
+  retire_steps : (place : ℕ) → Stands epoch (Retire place) a s h r → (ino : ℕ)
+      → StepsTo epoch (cell_at s ino) (cell_at (deed (Retire place) block a s h r).shared ino)
+  retire_steps place st =
+      let slot = slot_at (written_slots r) place in
+      let cell = cell_at s slot in
+      let parts = first_killed h.killed in
+      let low = lent_inside (Retire place) a s r st.before slot refl in
+      let tail = st.grown.tails slot (lent_cell (Retire place) (length s.lists) a s r st.before slot refl) refl in
+      set_steps slot (erased (retired_cell slot parts s r)) low
+      (erased_steps epoch cell (retired_cell slot parts s r) (retired_fewer (ids s.book.snaps) slot r.epoch parts cell) (st.logs slot)
+      (all_marks (Retire place) st slot low tail)
+      (retired_held (ids s.book.snaps) epoch slot r.epoch parts cell st.lives (st.later refl) (st.logs slot) st.goes (st.held slot)))
+
+  release_steps : (draining : Draining) (picked : Record) → Stands epoch (Snapshots (Release draining picked)) a s h r → (ino : ℕ)
+      → StepsTo epoch (cell_at s ino) (cell_at (deed (Snapshots (Release draining picked)) block a s h r).shared ino)
+  release_steps draining picked st =
+      let k : Next = Snapshots (Release draining picked) in
+      let slot = picked.ino in
+      let cell = cell_at s slot in
+      let low = lent_inside k a s r st.before slot refl in
+      let tail = st.grown.tails slot (lent_cell k (length s.lists) a s r st.before slot refl) refl in
+      set_steps slot (erased (released picked cell)) low
+      (erased_steps epoch cell (released picked cell) (one_fewer None (number_in cell (name_of picked)) cell) (st.logs slot)
+      (all_marks k st slot low tail)
+      (out_held epoch (number_in cell (name_of picked)) cell st.goes (st.held slot)))
+
+  number_steps : (numbers : List ℕ) (ino : ℕ) → StepsTo epoch (cell_at s ino) (cell_at (number_deed numbers s h).shared ino)
+  number_steps [] ino = same_cell epoch (cell_at s ino)
+  number_steps (n ∷ numbers) ino = same_cell epoch (cell_at s ino)
+
+  back_steps : (number : Option ℕ) (ino : ℕ) → StepsTo epoch (cell_at s ino) (cell_at (back_deed number s h).shared ino)
+  back_steps None ino = same_cell epoch (cell_at s ino)
+  back_steps (Some n) ino = same_cell epoch (cell_at s ino)
+
+  snapshot_steps : (step : SnapshotStep) → Stands epoch (Snapshots step) a s h r → (ino : ℕ)
+      → StepsTo epoch (cell_at s ino) (cell_at (deed (Snapshots step) block a s h r).shared ino)
+  snapshot_steps (Release draining picked) st ino = release_steps draining picked st ino
+  snapshot_steps Make st ino = same_cell epoch (cell_at s ino)
+  snapshot_steps (Drop snapshot) st ino = same_cell epoch (cell_at s ino)
+  snapshot_steps (Pin snapshot) st ino = same_cell epoch (cell_at s ino)
+  snapshot_steps (Show snapshot showing) st ino = same_cell epoch (cell_at s ino)
+  snapshot_steps (Unpin snapshot seen) st ino = same_cell epoch (cell_at s ino)
+  snapshot_steps (Pick draining) st ino = same_cell epoch (cell_at s ino)
+  snapshot_steps (LockPicked draining picked) st ino = same_cell epoch (cell_at s ino)
+
+  pub deed_steps : (k : Next) → Stands epoch k a s h r → (ino : ℕ)
+      → StepsTo epoch (cell_at s ino) (cell_at (deed k block a s h r).shared ino)
+  deed_steps Number st ino = number_steps s.pool.numbers ino
+  deed_steps (Look place) st ino = same_cell epoch (cell_at s ino)
+  deed_steps (Lock place) st ino = same_cell epoch (cell_at s ino)
+  deed_steps Check st ino = same_cell epoch (cell_at s ino)
+  deed_steps (TakeBlocks asked) st ino = same_cell epoch (cell_at s ino)
+  deed_steps (TakePages asked) st ino = same_cell epoch (cell_at s ino)
+  deed_steps Ready st ino = same_cell epoch (cell_at s ino)
+  deed_steps Enter st ino = same_cell epoch (cell_at s ino)
+  deed_steps (Append place) st ino = append_steps place st ino
+  deed_steps Open st ino = same_cell epoch (cell_at s ino)
+  deed_steps (Publish place) st ino = publish_steps place st ino
+  deed_steps Close st ino = same_cell epoch (cell_at s ino)
+  deed_steps (Retire place) st ino = retire_steps place st ino
+  deed_steps Leave st ino = same_cell epoch (cell_at s ino)
+  deed_steps (Unlock place) st ino = same_cell epoch (cell_at s ino)
+  deed_steps (Give cpu) st ino = same_cell epoch (cell_at s ino)
+  deed_steps Back st ino = back_steps h.ino ino
+  deed_steps Visit st ino = same_cell epoch (cell_at s ino)
+  deed_steps (Snapshots step) st ino = snapshot_steps step st ino

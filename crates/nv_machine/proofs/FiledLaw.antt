@@ -1,0 +1,205 @@
+-- Whatever events come, marks say of every slot what is killed, recorded and out; so each part that is kept has one record.
+use Rattle.std.proofs.Common.{◌≡◌, ℕ, zero, suc, ◌-◌, ◌<◌, ◌≤◌, ◌++◌, ◌∙◌, Bool, true, false, List, [], ◌∷◌, Option, Some, None, ap, arith, flat_map, if◌then◌else◌, length, nat_lt, refl, replicate, subst, sym}
+use Rattle.std.specs.Prelude.{not, slice_index_or}
+use Rattle.std.specs.List.{AllByRecursion}
+use Rattle.std.proofs.lemmas.Bool.{ltb-true}
+use Rattle.nv_base.specs.Limits.{IsWithinLimits}
+use Rattle.nv_base.specs.declared.geometry.GeometryNumbers.{GeometryNumbers}
+use Rattle.nv_book.specs.Listed.{all_records}
+use Rattle.nv_book.specs.Records.{holder_of}
+use Rattle.nv_book.specs.declared.record.Record.{Record}
+use Rattle.nv_calls.specs.declared.call.Call.{Call}
+use Rattle.nv_cell.specs.Cell.{CellState, empty_cell, log_of}
+use Rattle.nv_cell.specs.Marks.{bit, is_current, is_killed, mark_at}
+use Rattle.nv_cell.specs.declared.killed.KilledPart.{KilledPart}
+use Rattle.nv_entry.specs.Covered.{is_covered}
+use Rattle.nv_epoch.specs.SnapList.{ids}
+use Rattle.nv_machine.specs.Format.{formatted, root_cell}
+use Rattle.nv_machine.specs.Held.{killed_by_actor, killed_by_call, picked_by_actor, picked_by_call}
+use Rattle.nv_machine.specs.PlainRun as plain
+use Rattle.nv_machine.specs.Recorded.{AreRecordedOnce, IsOfPair, after_deed, is_kept, recorded_in, records_after, records_in, retired_in}
+use Rattle.nv_machine.specs.Sequence.{beginning, begun}
+use Rattle.nv_machine.specs.Step.{after, go_step, start_step, step}
+use Rattle.nv_machine.specs.World.{Actor, Event, Go, Running, Start, World, actor_at, cell_at, idle, no_cell}
+use Rattle.nv_machine.proofs.FiledKinds.{kind_marked}
+use Rattle.nv_machine.proofs.EachOf.{all_append, all_back, all_front}
+use Rattle.nv_machine.proofs.FiledLists.{all_filed, count_append, count_filed}
+use Rattle.nv_machine.proofs.FiledMarks.{IsTold, is_filed_on}
+use Rattle.nv_machine.proofs.FiledPicks.{begun_none}
+use Rattle.nv_machine.proofs.FiledRuns.{IsKnown, all_listed, event_listed, known, new_listed, not_there}
+use Rattle.nv_machine.proofs.FiledSteps.{AreFresh, MarksOf}
+use Rattle.nv_machine.proofs.FiledTurns.{Listed}
+use Rattle.nv_machine.proofs.FiledWorlds.{AreMarked, outside, picked_in, quiet_marked, same_quiet}
+use Rattle.nv_machine.proofs.InOrder.{begun_commits}
+use Rattle.nv_machine.proofs.Locks.{all_same}
+use Rattle.nv_machine.proofs.PartsFor.{none_of}
+
+-- ---- events
+
+module _ (g : GeometryNumbers) (w : World) (is_known : IsKnown g w) (rs : List Record) (l : Listed rs w.shared) (m : AreMarked w rs) where
+  go_marked : (b : Bool) (running : Option Running) (actor : ℕ) (granted : Bool) → nat_lt actor (length w.actors) ≡ b
+      → (actor_at w actor).running ≡ running
+      → AreMarked (go_step b running actor granted w).world
+      (after_deed (if b then plain.deed_by running w actor granted else plain.Nothing) (ids w.shared.book.snaps)
+      (retired_in w (Go actor granted) running rs))
+  go_marked false None actor granted there e = m
+  go_marked false (Some r) actor granted there e = absurd (not_there w actor r there e)
+  go_marked true None actor granted there e = m
+  go_marked true (Some r) actor granted there e =
+      kind_marked g w is_known rs l m actor w.numbers.block granted r (ltb-true actor (length w.actors) there) e r.next refl
+
+  start_marked : (b : Bool) (running : Option Running) (actor : ℕ) (c : Call) → (actor_at w actor).running ≡ running
+      → AreMarked (start_step b running actor c w).world rs
+  start_marked false running actor c e = m
+  start_marked true (Some r) actor c e = m
+  start_marked true None actor c e =
+      let h = (actor_at w actor).hand in
+      let new : Running = begun (beginning c) w.shared c in
+      quiet_marked w actor rs w.shared h (Some new) (same_quiet w.shared)
+      (λ ino. outside (Some new) h ino (begun_commits (beginning c) w.shared c)
+      ∙ sym (ap (λ (o : Option Running). killed_by_call o h ino) e))
+      (begun_none w.shared c ∙ sym (ap (λ (o : Option Running). picked_by_call o) e)) m
+
+  pub event_marked : (e : Event) → AreMarked (step w e).world (records_in w e rs)
+  event_marked (Start actor c) = start_marked (nat_lt actor (length w.actors)) (actor_at w actor).running actor c refl
+  event_marked (Go actor granted) = go_marked (nat_lt actor (length w.actors)) (actor_at w actor).running actor granted refl refl
+
+events_marked : (g : GeometryNumbers) (events : List Event) (w : World) (rs : List Record)
+    → ((before : List Event) → IsKnown g (after w before)) → Listed rs w.shared → AreMarked w rs
+    → AreMarked (after w events) (records_after w events rs)
+events_marked g [] w rs each l m = m
+events_marked g (e ∷ events) w rs each l m =
+    events_marked g events (step w e).world (records_in w e rs) (λ before. each (e ∷ before)) (event_listed g w (each []) rs l e)
+    (event_marked g w (each []) rs l m e)
+
+-- ---- a new world
+
+root_marks : (g : GeometryNumbers) (ino : ℕ) → MarksOf [] ino 1 [] [] (root_cell g)
+root_marks g ino = record {
+  len = refl;
+  current = current;
+  killed_are = killed;
+  kept_are = kept;
+  dying = tt;
+  told = tt;
+  out = λ n pair got e. tt;
+} where
+  current : (n : ℕ) → n < 3 → is_current (mark_at (root_cell g).marks n) ≡ not (is_covered g.block (log_of (root_cell g)) n)
+  current zero lt = refl
+  current (suc zero) lt = refl
+  current (suc (suc zero)) lt = refl
+  current (suc (suc (suc n))) lt = absurd (omega (arith, lt))
+
+  killed : (n : ℕ) → 0 ≡ bit (is_killed (mark_at (root_cell g).marks n))
+  killed zero = refl
+  killed (suc zero) = refl
+  killed (suc (suc zero)) = refl
+  killed (suc (suc (suc n))) = refl
+
+  kept : (n : ℕ) → 0 ≡ bit (is_kept (mark_at (root_cell g).marks n))
+  kept zero = refl
+  kept (suc zero) = refl
+  kept (suc (suc zero)) = refl
+  kept (suc (suc (suc n))) = refl
+
+empty_marks : (ino block page : ℕ) → MarksOf [] ino 1 [] [] (empty_cell block page 1 0)
+empty_marks ino block page = record {
+  len = refl;
+  current = λ n lt. absurd (omega (arith, lt));
+  killed_are = λ n. refl;
+  kept_are = λ n. refl;
+  dying = tt;
+  told = tt;
+  out = λ n pair got e. tt;
+}
+
+record IsNew (ino : ℕ) (cell : CellState) : Type 0 where
+  marks : MarksOf [] ino 1 [] [] cell
+  fresh : AreFresh 1 cell
+
+new_cells : (g : GeometryNumbers) (n ino slot : ℕ) → IsNew slot (slice_index_or (replicate n (empty_cell g.block g.page 1 0)) ino no_cell)
+new_cells g zero ino slot = record { marks = no_marks; fresh = tt } where
+  no_marks : MarksOf [] slot 1 [] [] no_cell
+  no_marks = record {
+    len = refl;
+    current = λ n lt. absurd (omega (arith, lt));
+    killed_are = λ n. refl;
+    kept_are = λ n. refl;
+    dying = tt;
+    told = tt;
+    out = λ n pair got e. tt;
+  }
+new_cells g (suc n) zero slot = record { marks = empty_marks slot g.block g.page; fresh = tt }
+new_cells g (suc n) (suc ino) slot = new_cells g n ino slot
+
+new_cell : (g : GeometryNumbers) (ino : ℕ) → IsNew ino (cell_at (formatted g).shared ino)
+new_cell g zero = record { marks = root_marks g 0; fresh = tt }
+new_cell g (suc ino) = new_cells g (g.inodes - 1) ino (suc ino)
+
+new_marked : (g : GeometryNumbers) → AreMarked (formatted g) []
+new_marked g = record {
+  cells = λ ino. subst (λ (killed : List KilledPart). MarksOf [] ino 1 killed (picked_in (formatted g)) (cell_at (formatted g).shared ino))
+      (sym (nobody (killed_by_actor ino) refl))
+      (subst (λ (ds : List Record). MarksOf [] ino 1 [] ds (cell_at (formatted g).shared ino)) (sym (nobody picked_by_actor refl))
+      (new_cell g ino).marks);
+  fresh = λ ino. (new_cell g ino).fresh;
+  unheld = subst (AllByRecursion (λ d. holder_of [] d ≡ None)) (sym (nobody picked_by_actor refl)) tt;
+  dead = subst (AllByRecursion (λ (d : Record). d.death ≤ 1)) (sym (nobody picked_by_actor refl)) tt;
+} where
+  nobody : {X : Type 0} (f : Actor → List X) → f idle ≡ [] → flat_map f (formatted g).actors ≡ []
+  nobody f e = none_of f (formatted g).actors (λ b. ap f (all_same g.actors b idle) ∙ e)
+
+-- ---- every world
+
+pub all_marked : (g : GeometryNumbers) (events : List Event) → IsWithinLimits g
+    → AreMarked (after (formatted g) events) (records_after (formatted g) events [])
+all_marked g events within =
+    events_marked g events (formatted g) [] (λ before. known g before within) (new_listed g) (new_marked g)
+
+-- ---- the laws
+
+pub recorded_once : (g : GeometryNumbers) (events : List Event) → IsWithinLimits g → AreRecordedOnce (after (formatted g) events)
+recorded_once g events within ino n =
+    let w = after (formatted g) events in
+    let rs = records_after (formatted g) events [] in
+    let l = all_listed g events within in
+    let book = w.shared.book in
+    let p : Record → Bool = is_filed_on ino (log_of (cell_at w.shared ino)) n in
+    let all = count_append p (all_records book.manifests) (book.deferred ++ picked_in w) in
+    let rest = count_append p book.deferred (picked_in w) in
+    let filed = count_filed p (ids book.snaps) book.manifests book.deferred rs l.rising l.list in
+    let both = count_append p rs (picked_in w) in
+    let is = ((all_marked g events within).cells ino).kept_are n in
+    omega (arith, all, rest, filed, both, is)
+
+-- what holds of all that is listed or picked holds of each record
+pub recorded_all : (g : GeometryNumbers) (events : List Event) (P : Record → Type 0) → IsWithinLimits g
+    → AllByRecursion P (records_after (formatted g) events [] ++ picked_in (after (formatted g) events))
+    → AllByRecursion P (recorded_in (after (formatted g) events))
+recorded_all g events P within all =
+    let w = after (formatted g) events in
+    let rs = records_after (formatted g) events [] in
+    let l = all_listed g events within in
+    let book = w.shared.book in
+    let filed = all_filed P (ids book.snaps) book.manifests book.deferred rs l.list (all_front P rs (picked_in w) all) in
+    all_append P (all_records book.manifests) (book.deferred ++ picked_in w) (all_front P (all_records book.manifests) book.deferred filed)
+    (all_append P book.deferred (picked_in w) (all_back P (all_records book.manifests) book.deferred filed)
+    (all_back P rs (picked_in w) all))
+
+-- what is told of each slot is told of each record
+each_of : (w : World) (rs : List Record)
+    → ((ino : ℕ) → AllByRecursion (IsTold ino (cell_at w.shared ino).block (log_of (cell_at w.shared ino))) rs)
+    → AllByRecursion (IsOfPair w) rs
+each_of w [] told = tt
+each_of w (d ∷ rs) told =
+    let pair = (told d.ino).0 refl in (
+      record { n = pair.n; pair = pair.pair; is = pair.is; name = pair.name; birth = pair.birth_is; death = pair.death_is },
+      each_of w rs (λ ino. (told ino).1),
+    )
+
+pub recorded_pairs : (g : GeometryNumbers) (events : List Event) → IsWithinLimits g
+    → AllByRecursion (IsOfPair (after (formatted g) events)) (recorded_in (after (formatted g) events))
+recorded_pairs g events within =
+    let w = after (formatted g) events in
+    recorded_all g events (IsOfPair w) within
+    (each_of w (records_after (formatted g) events [] ++ picked_in w) (λ ino. ((all_marked g events within).cells ino).told))

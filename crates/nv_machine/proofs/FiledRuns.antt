@@ -1,0 +1,128 @@
+-- What is filed is told by the record list, whatever events come.
+use Rattle.std.proofs.Common.{◌≡◌, ℕ, ◌∙◌, Bool, true, false, if◌then◌else◌, List, [], ◌∷◌, Option, Some, None, ap, arith, length, nat_lt, refl, subst, sym}
+use Rattle.std.proofs.lemmas.Bool.{ltb-false}
+use Rattle.std.proofs.lemmas.List.{get_or_past}
+use Rattle.std.proofs.lemmas.Option.{none-some}
+use Rattle.nv_base.specs.Limits.{IsWithinLimits}
+use Rattle.nv_base.specs.declared.geometry.GeometryNumbers.{GeometryNumbers}
+use Rattle.nv_book.specs.Listed.{IsRecordList, unheld}
+use Rattle.nv_book.specs.declared.record.Record.{Record}
+use Rattle.nv_calls.specs.declared.call.Call.{Call}
+use Rattle.nv_epoch.specs.SnapList.{ids}
+use Rattle.nv_machine.specs.Format.{formatted}
+use Rattle.nv_machine.specs.Hands.{AreNumbers, HandAt, HandOf}
+use Rattle.nv_machine.specs.Locks.{AreLocks, HasSlots, IsInside, slots_on}
+use Rattle.nv_machine.specs.Order.{CommitsIn, IsInOrder}
+use Rattle.nv_machine.specs.PlainRun as plain
+use Rattle.nv_machine.specs.Recorded.{after_deed, records_after, records_in, retired_in}
+use Rattle.nv_machine.specs.Step.{after, go_step, start_step, step, turn, turned}
+use Rattle.nv_machine.specs.World.{Actor, Ends, Event, Go, HandState, Moves, Next, Running, SnapshotStep, Snapshots, Start, Turn, Waits, World, actor_at, empty_hand, idle}
+use Rattle.nv_machine.proofs.FiledTurns.{CanList, Listed, OnListed, list_after, turn_listed, waits_listed}
+use Rattle.nv_machine.proofs.FromScratch.{all_numbers}
+use Rattle.nv_machine.proofs.InOrder.{events_order, new_order}
+use Rattle.nv_machine.proofs.Locks.{events_locks, new_locks}
+
+-- what is known of each world that events lead to
+pub record IsKnown (g : GeometryNumbers) (w : World) : Type 0 where
+  pub locks : AreLocks w
+  pub order : IsInOrder w
+  pub numbers : AreNumbers g w
+
+pub known : (g : GeometryNumbers) (events : List Event) → IsWithinLimits g → IsKnown g (after (formatted g) events)
+known g events within = record {
+  locks = events_locks events (formatted g) (new_locks g within);
+  order = events_order events (formatted g) (new_locks g within) (new_order g);
+  numbers = all_numbers g events within;
+}
+
+pub can_list : (g : GeometryNumbers) (w : World) (actor : ℕ) (r : Running) → IsKnown g w → (actor_at w actor).running ≡ Some r
+    → CanList r.next w.shared (actor_at w actor).hand r
+can_list g w actor r known is = record {
+  epoch = λ c. (own c).epoch;
+  alone = λ step e. (at step e, slots step e);
+} where
+  h : HandState
+  h = (actor_at w actor).hand
+
+  own : CommitsIn w.shared (Some r)
+  own = subst (λ (running : Option Running). CommitsIn w.shared running) is (known.order.each actor)
+
+  at : (step : SnapshotStep) → r.next ≡ Snapshots step → h ≡ empty_hand
+  at step e =
+      let hand : HandOf g h (Some r) = subst (λ (o : Option Running). HandOf g h o) is (known.numbers.hands actor) in
+      let here : HandAt g (Snapshots step) h r = subst (λ (k : Next). HandAt g k h r) e hand.0 in here
+
+  slots : (step : SnapshotStep) → r.next ≡ Snapshots step → r.slots ≡ slots_on step
+  slots step e =
+      let has : HasSlots (length w.shared.owners) (Some r) =
+      subst (λ (o : Option Running). HasSlots (length w.shared.owners) o) is (known.locks.each actor).slots in
+      let inside : IsInside (Snapshots step) r = subst (λ (k : Next). IsInside k r) e has.1 in inside
+
+-- ---- events
+
+turned_listed : (k : Next) (rs : List Record) (t : Turn) (actor : ℕ) (w : World) (h : HandState) (r : Running) → Listed rs w.shared
+    → (t ≡ Waits → list_after k w.shared h r Waits rs ≡ rs) → OnListed (list_after k w.shared h r t rs) t
+    → Listed (list_after k w.shared h r t rs) (turned t actor w).world.shared
+turned_listed k rs (Moves s g q) actor w h r is waits on = on
+turned_listed k rs Waits actor w h r is waits on = subst (λ (l : List Record). Listed l w.shared) (sym (waits refl)) is
+turned_listed k rs (Ends result s g) actor w h r is waits on = on
+
+-- an actor that is not there has no call
+pub not_there : (w : World) (actor : ℕ) (r : Running) → nat_lt actor (length w.actors) ≡ false → (actor_at w actor).running ≡ Some r → ⊥
+not_there w actor r e is =
+    none-some r (sym (ap (λ (x : Actor). x.running) (get_or_past w.actors actor idle (ltb-false actor (length w.actors) e))) ∙ is)
+
+module _ (g : GeometryNumbers) (w : World) (known : IsKnown g w) (rs : List Record) (is : Listed rs w.shared) where
+  go_listed : (b : Bool) (running : Option Running) (actor : ℕ) (granted : Bool) → nat_lt actor (length w.actors) ≡ b
+      → (actor_at w actor).running ≡ running
+      → Listed (after_deed (if b then plain.deed_by running w actor granted else plain.Nothing) (ids w.shared.book.snaps)
+      (retired_in w (Go actor granted) running rs)) (go_step b running actor granted w).world.shared
+  go_listed false None actor granted there e = is
+  go_listed false (Some r) actor granted there e = absurd (not_there w actor r there e)
+  go_listed true None actor granted there e = is
+  go_listed true (Some r) actor granted there e =
+      let h = (actor_at w actor).hand in
+      turned_listed r.next rs (turn w.numbers.block actor granted w.shared h r) actor w h r is
+      (waits_listed w.numbers.block actor granted rs w.shared h r is r.next)
+      (turn_listed w.numbers.block actor granted rs w.shared h r is r.next (can_list g w actor r known e))
+
+  start_listed : (b : Bool) (running : Option Running) (actor : ℕ) (c : Call)
+      → Listed rs (start_step b running actor c w).world.shared
+  start_listed false running actor c = is
+  start_listed true (Some r) actor c = is
+  start_listed true None actor c = is
+
+  pub event_listed : (e : Event) → Listed (records_in w e rs) (step w e).world.shared
+  event_listed (Start actor c) = start_listed (nat_lt actor (length w.actors)) (actor_at w actor).running actor c
+  event_listed (Go actor granted) = go_listed (nat_lt actor (length w.actors)) (actor_at w actor).running actor granted refl refl
+
+events_listed : (g : GeometryNumbers) (events : List Event) (w : World) (rs : List Record)
+    → ((before : List Event) → IsKnown g (after w before)) → Listed rs w.shared
+    → Listed (records_after w events rs) (after w events).shared
+events_listed g [] w rs each is = is
+events_listed g (e ∷ events) w rs each is =
+    events_listed g events (step w e).world (records_in w e rs) (λ before. each (e ∷ before)) (event_listed g w (each []) rs is e)
+
+-- ---- every world
+
+pub new_listed : (g : GeometryNumbers) → Listed [] (formatted g).shared
+new_listed g = record {
+  rising = tt;
+  below = λ k d lt. absurd (omega (arith, lt));
+  list = record { manifests_are = refl; deferred_is = refl };
+  dead = tt;
+}
+
+pub all_listed : (g : GeometryNumbers) (events : List Event) → IsWithinLimits g
+    → Listed (records_after (formatted g) events []) (after (formatted g) events).shared
+all_listed g events within = events_listed g events (formatted g) [] (λ before. known g before within) (new_listed g)
+
+pub are_listed : (g : GeometryNumbers) (events : List Event) → IsWithinLimits g
+    → IsRecordList (ids (after (formatted g) events).shared.book.snaps) (after (formatted g) events).shared.book.manifests
+    (after (formatted g) events).shared.book.deferred (records_after (formatted g) events [])
+are_listed g events within = (all_listed g events within).list
+
+pub are_deferred : (g : GeometryNumbers) (events : List Event) → IsWithinLimits g
+    → (after (formatted g) events).shared.book.deferred
+    ≡ unheld (ids (after (formatted g) events).shared.book.snaps) (records_after (formatted g) events [])
+are_deferred g events within = (are_listed g events within).deferred_is

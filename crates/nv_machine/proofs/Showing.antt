@@ -1,0 +1,235 @@
+-- A show has seen the front of its snapshot's tree, and what is to come of its walk is the rest: kind by kind.
+use Rattle.std.proofs.Common.{◌≡◌, ℕ, zero, suc, ◌-◌, ◌≤◌, ◌++◌, ◌∙◌, Bool, true, false, List, [], ◌∷◌, Option, Some, None, ap, append_assoc, arith, refl, subst, sym}
+use Rattle.std.specs.Option.{option_to_list}
+use Rattle.std.specs.Prelude.{Ok, Err}
+use Rattle.std.proofs.lemmas.Bool.{true≢false}
+use Rattle.std.proofs.lemmas.List.{append-nil}
+use Rattle.std.proofs.lemmas.List.Sums.{sum_by-cons}
+use Rattle.nv_base.specs.declared.numbers.Handle.{Handle}
+use Rattle.nv_book.specs.declared.record.Record.{Record}
+use Rattle.nv_calls.specs.Refusals.{Check as Tests}
+use Rattle.nv_entry.specs.Tree.{root, tree_from}
+use Rattle.nv_entry.specs.declared.node.NodeCopy.{NodeCopy}
+use Rattle.nv_entry.specs.declared.tree.TreeNode.{TreeNode}
+use Rattle.nv_epoch.specs.SnapList.{Snapshots as Living, pins_of}
+use Rattle.nv_machine.specs.Kinds.{grown}
+use Rattle.nv_machine.specs.Reading.{ArePins, pins_at}
+use Rattle.nv_machine.specs.Snapshots.{copies_at, drop_tests, drop_turn, first_showing, if_free, lock_picked_turn, make_tests, make_turn, picked_turn, pin_turn, seen_on, show_or_unpin, show_turn, showing_on, snapshot_turn, visited}
+use Rattle.nv_machine.specs.Step.{kind_turn}
+use Rattle.nv_machine.specs.World.{Append, Back, Check, Close, Draining, Drop, Ending, Ends, Enter, Give, HandState, Leave, Lock, LockPicked, Look, Make, Moves, Next, Number, Open, Pick, Pin, Publish, Ready, Refuses, Release, Retire, Running, Shared, Show, Showing, SnapshotStep, Snapshots, TakeBlocks, TakePages, Turn, Unlock, Unpin, Visit, Waits, empty_hand, owner_at}
+use Rattle.nv_machine.proofs.FiledTurns.{refused_at_once}
+use Rattle.nv_machine.proofs.Kept.{AfterTurn, deed, turn_keeps}
+use Rattle.nv_machine.proofs.Lists.{self}
+use Rattle.nv_machine.proofs.PinSteps.{Fits, OnPins, kind_pins}
+use Rattle.nv_machine.proofs.SnapSteps.{IsBare, back_same, number_same}
+use Rattle.nv_reader.specs.Walk as walk
+use Rattle.nv_reader.proofs.Coming.{handed_next}
+
+-- ---- what a show has seen
+
+-- what it has seen and what is to come of its walk are the tree, and it may make as many visits as it has to
+pub record IsSeen (nodes : Handle → Option NodeCopy) (tree : List TreeNode) (showing : Showing) : Type 0 where
+  pub seen : showing.seen ++ walk.to_come nodes showing.visits ≡ tree
+  pub enough : walk.visits_to_come nodes showing.visits ≤ showing.left
+
+-- at its end it has seen the tree, unless it was refused
+abbrev pub HasSeen : Ending → List TreeNode → List TreeNode → Type 0
+HasSeen (Refuses fault) seen tree = Unit {0}
+HasSeen other seen tree = seen ≡ tree
+
+abbrev pub tree_by : (ℕ → Handle → Option NodeCopy) → ℕ → ℕ → List TreeNode
+tree_by copies inodes snapshot = tree_from (copies snapshot) inodes [] root
+
+abbrev pub ShowsOn : (ℕ → Handle → Option NodeCopy) → ℕ → SnapshotStep → Ending → Type 0
+ShowsOn copies inodes (Show snapshot showing) e = IsSeen (copies snapshot) (tree_by copies inodes snapshot) showing
+ShowsOn copies inodes (Unpin snapshot seen) e = HasSeen e seen (tree_by copies inodes snapshot)
+ShowsOn copies inodes other e = Unit {0}
+
+abbrev pub ShowsAt : (ℕ → Handle → Option NodeCopy) → ℕ → Next → Ending → Type 0
+ShowsAt copies inodes (Snapshots step) e = ShowsOn copies inodes step e
+ShowsAt copies inodes other e = Unit {0}
+
+-- ---- one visit
+
+none_left : (nodes : Handle → Option NodeCopy) (visits : List walk.Visit) → walk.visits_to_come nodes visits ≤ 0 → visits ≡ []
+none_left nodes [] le = refl
+none_left nodes (visit ∷ later) le =
+    absurd (omega (arith, le, sum_by-cons (λ (v : walk.Visit). walk.visit_count nodes (suc v.below) v.handle) visit later))
+
+all_seen : (nodes : Handle → Option NodeCopy) (tree : List TreeNode) (showing : Showing) → IsSeen nodes tree showing → showing.visits ≡ []
+    → showing.seen ≡ tree
+all_seen nodes tree showing is none =
+    sym (append-nil showing.seen)
+    ∙ ap (λ (visits : List walk.Visit). showing.seen ++ walk.to_come nodes visits) (sym none) ∙ is.seen
+
+has_seen : (e : Ending) (seen tree : List TreeNode) → seen ≡ tree → HasSeen e seen tree
+has_seen (Refuses fault) seen tree is = tt
+has_seen other seen tree is = is
+
+next_shows : (copies : ℕ → Handle → Option NodeCopy) (inodes snapshot : ℕ) (showing : Showing) (e : Ending)
+    → IsSeen (copies snapshot) (tree_by copies inodes snapshot) showing → ShowsOn copies inodes (showing_on snapshot showing) e
+next_shows copies inodes snapshot showing e is = go showing.left showing.visits refl refl where
+  tree : List TreeNode
+  tree = tree_by copies inodes snapshot
+
+  go : (left : ℕ) (visits : List walk.Visit) → showing.left ≡ left → showing.visits ≡ visits
+      → ShowsOn copies inodes (show_or_unpin left visits snapshot showing) e
+  go zero visits none q =
+      has_seen e showing.seen tree (all_seen (copies snapshot) tree showing is
+      (none_left (copies snapshot) showing.visits (let le = is.enough in omega (arith, le, none))))
+  go (suc left) [] some q = has_seen e showing.seen tree (all_seen (copies snapshot) tree showing is q)
+  go (suc left) (visit ∷ visits) some q = is
+
+-- the parts of a show after a visit
+one_visit : (nodes : Handle → Option NodeCopy) (tree seen : List TreeNode) (left : ℕ) (visits : List walk.Visit) (found : Option NodeCopy)
+    → seen ++ walk.to_come nodes visits ≡ tree → walk.visits_to_come nodes visits ≤ left → found ≡ nodes (visited visits)
+    → ((seen ++ option_to_list (walk.given_for visits found)) ++ walk.to_come nodes (walk.visits_after visits found) ≡ tree)
+    × (walk.visits_to_come nodes (walk.visits_after visits found) ≤ left - 1)
+one_visit nodes tree seen left [] None is enough same = (ap (λ (l : List TreeNode). l ++ []) (append-nil seen) ∙ is, omega arith)
+one_visit nodes tree seen left [] (Some node) is enough same = (ap (λ (l : List TreeNode). l ++ []) (append-nil seen) ∙ is, omega arith)
+one_visit nodes tree seen left (visit ∷ later) found is enough same =
+    let visits : List walk.Visit = visit ∷ later in
+    let next = handed_next nodes visits found (walk.given_for visits found) (walk.visits_after visits found) refl same refl refl in
+    let fewer = next.fewer in (
+      append_assoc seen (option_to_list (walk.given_for visits found)) (walk.to_come nodes (walk.visits_after visits found))
+          ∙ ap (λ (l : List TreeNode). seen ++ l) (sym next.next) ∙ is,
+      omega (arith, enough, fewer),
+    )
+
+visit_seen : (nodes : Handle → Option NodeCopy) (tree : List TreeNode) (showing : Showing) (found : Option NodeCopy)
+    → IsSeen nodes tree showing → found ≡ nodes (visited showing.visits) → IsSeen nodes tree (seen_on found showing)
+visit_seen nodes tree showing found is same =
+    let both = one_visit nodes tree showing.seen showing.left showing.visits found is.seen is.enough same in
+    record { seen = both.0; enough = both.1 }
+
+-- ---- a step that comes next and is of no show
+
+pub no_show : (copies : ℕ → Handle → Option NodeCopy) (inodes : ℕ) (k : Next) (e : Ending) → ((n : ℕ) → pins_at n k ≡ false)
+    → ShowsAt copies inodes k e
+no_show copies inodes (Snapshots (Show snapshot showing)) e none = absurd (true≢false (sym (self snapshot) ∙ none snapshot))
+no_show copies inodes (Snapshots (Unpin snapshot seen)) e none = absurd (true≢false (sym (self snapshot) ∙ none snapshot))
+no_show copies inodes (Snapshots Make) e none = tt
+no_show copies inodes (Snapshots (Drop snapshot)) e none = tt
+no_show copies inodes (Snapshots (Pin snapshot)) e none = tt
+no_show copies inodes (Snapshots (Pick draining)) e none = tt
+no_show copies inodes (Snapshots (LockPicked draining picked)) e none = tt
+no_show copies inodes (Snapshots (Release draining picked)) e none = tt
+no_show copies inodes other e none = tt
+
+-- where pins and shows went together and no pin came, no show came
+never_more : (living : Living) (n : ℕ) (now : Bool) → Fits n false now living living → now ≡ false
+never_more living n false fits = refl
+never_more living n true fits = absurd (go (pins_of living n) refl) where
+  go : (pins : Option ℕ) → pins_of living n ≡ pins → ⊥
+  go None q =
+      let one : 1 ≡ 0 = subst (ArePins 1) q (fits 0 1 refl (subst (ArePins 0) (sym q) refl)) in omega (arith, one)
+  go (Some pins) q =
+      let more : pins ≡ suc pins = subst (ArePins (suc pins)) q (fits pins (suc pins) (omega arith) (subst (ArePins pins) (sym q) refl)) in
+      omega (arith, more)
+
+-- ---- every kind
+
+module _ (copies : ℕ → Handle → Option NodeCopy) (inodes : ℕ) where
+  abbrev pub OnShows : Turn → Type 0
+  OnShows (Moves t h q) = ShowsAt copies inodes q.next q.ending
+  OnShows Waits = Unit {0}
+  OnShows (Ends result t h) = Unit {0}
+
+  free_shows : (holder : Option ℕ) (t : Turn) → OnShows t → OnShows (if_free holder t)
+  free_shows (Some other) t on = tt
+  free_shows None t on = on
+
+  module _ (block a : ℕ) (granted : Bool) (s : Shared) (h : HandState) (r : Running) where
+    plain_shows : (k : Next) → ((n : ℕ) → pins_at n k ≡ false) → (deed k block a s h r).shared.book.snaps ≡ s.book.snaps
+        → OnShows (kind_turn k block a granted s h r)
+    plain_shows k none same =
+        go (kind_turn k block a granted s h r) (λ n. kind_pins n k block a granted s h r)
+        (turn_keeps (λ (u : Shared) (x : HandState). u.book.snaps ≡ s.book.snaps) k block a granted s h r refl same)
+      where
+        go : (t : Turn) → ((n : ℕ) → OnPins n (pins_at n k) s.book.snaps t)
+            → AfterTurn (λ (u : Shared) (x : HandState). u.book.snaps ≡ s.book.snaps) t → OnShows t
+        go (Moves u x q) on is =
+            no_show copies inodes q.next q.ending (λ n. never_more s.book.snaps n (pins_at n q.next)
+            (subst (λ (l : Living). Fits n false (pins_at n q.next) s.book.snaps l) is
+            (subst (λ (b : Bool). Fits n b (pins_at n q.next) s.book.snaps u.book.snaps) (none n) (on n))))
+        go Waits on is = tt
+        go (Ends result u x) on is = tt
+
+    module _ (empty : h ≡ empty_hand)
+        (found : (snapshot : ℕ) (handle : Handle) → owner_at s handle.ino ≡ None → copies_at s snapshot handle ≡ copies snapshot handle)
+        (first : (snapshot pins : ℕ) → pins_of s.book.snaps snapshot ≡ Some pins
+        → IsSeen (copies snapshot) (tree_by copies inodes snapshot) (first_showing s)) where
+      make_shows : (tests : Tests) → r.slots ≡ [] → OnShows (make_turn tests s h r)
+      make_shows (Err fault) none = subst OnShows (sym (refused_at_once fault s h r empty none)) tt
+      make_shows (Ok passed) none = tt
+
+      drop_shows : (snapshot : ℕ) (tests : Tests) → r.slots ≡ [] → OnShows (drop_turn snapshot tests s h r)
+      drop_shows snapshot (Err fault) none = subst OnShows (sym (refused_at_once fault s h r empty none)) tt
+      drop_shows snapshot (Ok passed) none = tt
+
+      pin_shows : (snapshot : ℕ) (pins : Option ℕ) → pins_of s.book.snaps snapshot ≡ pins → r.slots ≡ []
+          → OnShows (pin_turn snapshot pins s h r)
+      pin_shows snapshot None is none = subst OnShows (sym (refused_at_once _ s h r empty none)) tt
+      pin_shows snapshot (Some pins) is none =
+          next_shows copies inodes snapshot (first_showing s) r.ending (first snapshot pins is)
+
+      show_shows : (owner : Option ℕ) (given : Bool) (snapshot : ℕ) (showing : Showing) → owner_at s (visited showing.visits).ino ≡ owner
+          → IsSeen (copies snapshot) (tree_by copies inodes snapshot) showing
+          → OnShows (show_turn owner given (copies_at s snapshot (visited showing.visits)) snapshot showing s h r)
+      show_shows (Some other) given snapshot showing is seen = tt
+      show_shows None true snapshot showing is seen =
+          next_shows copies inodes snapshot (seen_on (copies_at s snapshot (visited showing.visits)) showing) r.ending
+          (visit_seen (copies snapshot) (tree_by copies inodes snapshot) showing (copies_at s snapshot (visited showing.visits)) seen
+          (found snapshot (visited showing.visits) is))
+      show_shows None false snapshot showing is seen = tt
+
+      picked_shows : (deferred : List Record) (draining : Draining) → OnShows (picked_turn deferred draining s h r)
+      picked_shows [] draining = tt
+      picked_shows (picked ∷ deferred) draining = tt
+
+      grown_shows : (given : Bool) (t : Turn) → r.slots ≡ [] → OnShows t → OnShows (grown given t s h r)
+      grown_shows true t none on = on
+      grown_shows false t none on = subst OnShows (sym (refused_at_once _ s h r empty none)) tt
+
+      locked_shows : (owner : Option ℕ) (draining : Draining) (picked : Record) → OnShows (lock_picked_turn owner a draining picked s h r)
+      locked_shows (Some other) draining picked = tt
+      locked_shows None draining picked = tt
+
+      step_shows : (step : SnapshotStep) → IsBare (Snapshots step) h r → ShowsOn copies inodes step r.ending
+          → OnShows (snapshot_turn step a granted s h r)
+      step_shows Make bare is = free_shows s.holder _ (make_shows (make_tests s.book.snaps) bare.1)
+      step_shows (Drop snapshot) bare is =
+          free_shows s.holder _ (drop_shows snapshot (drop_tests (pins_of s.book.snaps snapshot)) bare.1)
+      step_shows (Pin snapshot) bare is = free_shows s.holder _ (pin_shows snapshot (pins_of s.book.snaps snapshot) refl bare.1)
+      step_shows (Show snapshot showing) bare is =
+          show_shows (owner_at s (visited showing.visits).ino) granted snapshot showing refl is
+      step_shows (Unpin snapshot seen) bare is = free_shows s.holder _ tt
+      step_shows (Pick draining) bare is =
+          free_shows s.holder _ (grown_shows _ _ bare.1 (picked_shows s.book.deferred draining))
+      step_shows (LockPicked draining picked) bare is = locked_shows _ draining picked
+      step_shows (Release draining picked) bare is = plain_shows (Snapshots (Release draining picked)) (λ n. refl) refl
+
+    pub kind_shows : (k : Next) → IsBare k h r
+        → ((snapshot : ℕ) (handle : Handle) → owner_at s handle.ino ≡ None → copies_at s snapshot handle ≡ copies snapshot handle)
+        → ((snapshot pins : ℕ) → pins_of s.book.snaps snapshot ≡ Some pins
+        → IsSeen (copies snapshot) (tree_by copies inodes snapshot) (first_showing s))
+        → ShowsAt copies inodes k r.ending → OnShows (kind_turn k block a granted s h r)
+    kind_shows (Snapshots step) bare found first is = step_shows bare.0 found first step bare is
+    kind_shows Number bare found first is = plain_shows Number (λ n. refl) (number_same s.pool.numbers s h)
+    kind_shows (Look place) bare found first is = plain_shows (Look place) (λ n. refl) refl
+    kind_shows (Lock place) bare found first is = plain_shows (Lock place) (λ n. refl) refl
+    kind_shows Check bare found first is = plain_shows Check (λ n. refl) refl
+    kind_shows (TakeBlocks asked) bare found first is = plain_shows (TakeBlocks asked) (λ n. refl) refl
+    kind_shows (TakePages asked) bare found first is = plain_shows (TakePages asked) (λ n. refl) refl
+    kind_shows Ready bare found first is = plain_shows Ready (λ n. refl) refl
+    kind_shows Enter bare found first is = plain_shows Enter (λ n. refl) refl
+    kind_shows (Append place) bare found first is = plain_shows (Append place) (λ n. refl) refl
+    kind_shows Open bare found first is = plain_shows Open (λ n. refl) refl
+    kind_shows (Publish place) bare found first is = plain_shows (Publish place) (λ n. refl) refl
+    kind_shows Close bare found first is = plain_shows Close (λ n. refl) refl
+    kind_shows (Retire place) bare found first is = plain_shows (Retire place) (λ n. refl) refl
+    kind_shows Leave bare found first is = plain_shows Leave (λ n. refl) refl
+    kind_shows (Unlock place) bare found first is = plain_shows (Unlock place) (λ n. refl) refl
+    kind_shows (Give cpu) bare found first is = plain_shows (Give cpu) (λ n. refl) refl
+    kind_shows Back bare found first is = plain_shows Back (λ n. refl) (back_same h.ino s h)
+    kind_shows Visit bare found first is = plain_shows Visit (λ n. refl) refl

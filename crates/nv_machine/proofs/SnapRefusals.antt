@@ -1,0 +1,89 @@
+-- A step that the list of snapshots may refuse waits, or it goes by its tests.
+use Rattle.std.proofs.Common.{◌≡◌, ◌⊎◌, ℕ, ◌<◌, ◌∙◌, Bool, true, List, [], inl, inr, length, Option, Some, None, ap, refl, subst, sym}
+use Rattle.std.specs.Prelude.{Ok, Err}
+use Rattle.std.proofs.lemmas.Bool.{cases_lt}
+use Rattle.std.proofs.lemmas.List.{get_or_past}
+use Rattle.std.proofs.lemmas.Option.{none-some}
+use Rattle.nv_base.specs.Limits.{IsWithinLimits}
+use Rattle.nv_base.specs.declared.geometry.GeometryNumbers.{GeometryNumbers}
+use Rattle.nv_calls.specs.Refusals.{Check as Tests}
+use Rattle.nv_epoch.specs.SnapList.{pins_of}
+use Rattle.nv_machine.specs.Format.{formatted}
+use Rattle.nv_machine.specs.PlainRun.{plain_after, plain_of}
+use Rattle.nv_machine.specs.Reading.{GoesBy, is_tested, plain_tests, test_there, tests_on}
+use Rattle.nv_machine.specs.Snapshots.{drop_turn, if_free, make_tests, make_turn, pin_turn, snapshot_turn}
+use Rattle.nv_machine.specs.Step.{Step, after, kind_turn, step, turned}
+use Rattle.nv_machine.specs.World.{Actor, Drop, Event, Go, HandState, LockPicked, Make, Next, Pick, Pin, Release, Running, Show, SnapshotStep, Snapshots, Turn, Unpin, Waiting, World, actor_at, empty_hand, idle}
+use Rattle.nv_machine.proofs.Events.{goes}
+use Rattle.nv_machine.proofs.FiledTurns.{refused_at_once}
+use Rattle.nv_machine.proofs.SnapRuns.{all_bare, refusals_told}
+use Rattle.nv_machine.proofs.SnapSteps.{IsBare}
+
+module _ (a : ℕ) (granted : Bool) (w : World) (h : HandState) (r : Running) (empty : h ≡ empty_hand) where
+  -- it waits, or goes by these tests
+  abbrev Tested : Tests → Turn → Type 0
+  Tested tests t = ((turned t a w).reply ≡ Waiting) ⊎ GoesBy tests (turned t a w).reply
+
+  free_tested : (tests : Tests) (holder : Option ℕ) (t : Turn) → Tested tests t → Tested tests (if_free holder t)
+  free_tested tests (Some other) t is = inl refl
+  free_tested tests None t is = is
+
+  make_tested : (tests : Tests) → r.slots ≡ [] → Tested tests (make_turn tests w.shared h r)
+  make_tested (Err fault) none = subst (Tested (Err fault)) (sym (refused_at_once fault w.shared h r empty none)) (inr refl)
+  make_tested (Ok passed) none = inr (λ fault e. cc)
+
+  drop_tested : (snapshot : ℕ) (tests : Tests) → r.slots ≡ [] → Tested tests (drop_turn snapshot tests w.shared h r)
+  drop_tested snapshot (Err fault) none = subst (Tested (Err fault)) (sym (refused_at_once fault w.shared h r empty none)) (inr refl)
+  drop_tested snapshot (Ok passed) none = inr (λ fault e. cc)
+
+  pin_tested : (snapshot : ℕ) (pins : Option ℕ) → r.slots ≡ [] → Tested (test_there pins) (pin_turn snapshot pins w.shared h r)
+  pin_tested snapshot None none = subst (Tested (test_there None)) (sym (refused_at_once _ w.shared h r empty none)) (inr refl)
+  pin_tested snapshot (Some pins) none = inr (λ fault e. cc)
+
+  step_tested : (kind : SnapshotStep) → is_tested kind ≡ true → IsBare (Snapshots kind) h r
+      → Tested (tests_on kind w.shared.book.snaps) (snapshot_turn kind a granted w.shared h r)
+  step_tested Make is bare =
+      free_tested (make_tests w.shared.book.snaps) w.shared.holder _ (make_tested (make_tests w.shared.book.snaps) bare.1)
+  step_tested (Drop snapshot) is bare =
+      free_tested (tests_on (Drop snapshot) w.shared.book.snaps) w.shared.holder _
+      (drop_tested snapshot (tests_on (Drop snapshot) w.shared.book.snaps) bare.1)
+  step_tested (Pin snapshot) is bare =
+      free_tested (tests_on (Pin snapshot) w.shared.book.snaps) w.shared.holder _
+      (pin_tested snapshot (pins_of w.shared.book.snaps snapshot) bare.1)
+  step_tested (Show snapshot showing) is bare = cc
+  step_tested (Unpin snapshot seen) is bare = cc
+  step_tested (Pick draining) is bare = cc
+  step_tested (LockPicked draining picked) is bare = cc
+  step_tested (Release draining picked) is bare = cc
+
+  kind_tested : (k : Next) (kind : SnapshotStep) → k ≡ Snapshots kind → is_tested kind ≡ true → IsBare k h r
+      → Tested (tests_on kind w.shared.book.snaps) (kind_turn k w.numbers.block a granted w.shared h r)
+  kind_tested k kind next is bare =
+      subst (λ (n : Next). Tested (tests_on kind w.shared.book.snaps) (kind_turn n w.numbers.block a granted w.shared h r)) (sym next)
+      (step_tested kind is (subst (λ (n : Next). IsBare n h r) next bare))
+
+there_is : (w : World) (actor : ℕ) (r : Running) → (actor_at w actor).running ≡ Some r → actor < length w.actors
+there_is w actor r is = elim (cases_lt actor (length w.actors)) [
+  | inl low ↦ low
+  | inr past ↦ absurd (none-some r (sym (ap (λ (x : Actor). x.running) (get_or_past w.actors actor idle past)) ∙ is))
+]
+
+pub replies_told : (g : GeometryNumbers) (events : List Event) (actor : ℕ) (granted : Bool) (r : Running) (kind : SnapshotStep)
+    → IsWithinLimits g → (actor_at (after (formatted g) events) actor).running ≡ Some r → r.next ≡ Snapshots kind → is_tested kind ≡ true
+    → ((step (after (formatted g) events) (Go actor granted)).reply ≡ Waiting)
+    ⊎ GoesBy (plain_tests g.snaps kind (plain_after (formatted g) events (plain_of (formatted g))))
+    (step (after (formatted g) events) (Go actor granted)).reply
+replies_told g events actor granted r kind within is next tested =
+    let w = after (formatted g) events in
+    let h = (actor_at w actor).hand in
+    let bare = all_bare g events within actor r is in
+    subst (λ (tests : Tests). ((step w (Go actor granted)).reply ≡ Waiting) ⊎ GoesBy tests (step w (Go actor granted)).reply)
+    (refusals_told g events kind within)
+    (subst (λ (made : Step). (made.reply ≡ Waiting) ⊎ GoesBy (tests_on kind w.shared.book.snaps) made.reply)
+    (sym (goes w actor granted r (there_is w actor r is) is).is_turn)
+    (kind_tested actor granted w h r (empty_of r.next bare next) r.next kind next tested bare)) where
+      empty_of : (k : Next) → IsBare k (actor_at (after (formatted g) events) actor).hand r → k ≡ Snapshots kind
+          → (actor_at (after (formatted g) events) actor).hand ≡ empty_hand
+      empty_of k bare e =
+          let both : IsBare (Snapshots kind) (actor_at (after (formatted g) events) actor).hand r =
+          subst (λ (n : Next). IsBare n (actor_at (after (formatted g) events) actor).hand r) e bare in both.0

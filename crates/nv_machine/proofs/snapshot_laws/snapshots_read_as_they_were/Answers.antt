@@ -1,0 +1,18 @@
+use Rattle.nv_machine.proofs.CopiesAll.{all_copied, all_form_trees}
+use Rattle.nv_machine.proofs.CopyMarks.{all_have_marks}
+use Rattle.nv_machine.proofs.ShowAll.{all_told}
+use Rattle.nv_machine.proofs.SnapRuns.{in_step}
+use Rattle.nv_machine.proofs.snapshot_laws.snapshots_read_as_they_were.Goals as goal
+
+pub returns-clause-copies : goal.returns-clause-copies
+returns-clause-copies c g events within = all_copied g within (all_have_marks g within) events
+
+pub returns-clause-epoch : goal.returns-clause-epoch
+returns-clause-epoch c g events within = (in_step g events within).epoch
+
+pub returns-clause-tree : goal.returns-clause-tree
+returns-clause-tree c g events snapshot within lives = all_form_trees g within (all_have_marks g within) events snapshot lives
+
+pub returns-clause-show : goal.returns-clause-show
+returns-clause-show c g events actor snapshot granted r seen told within is next reply =
+    all_told g within (all_have_marks g within) events actor snapshot granted r seen told is next reply

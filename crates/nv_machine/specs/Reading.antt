@@ -1,0 +1,115 @@
+-- Snapshots beside the plain world's copies: what they read as, their pins, and for what their calls are refused.
+use Rattle.std.specs.Prelude.{◌≡◌, ◌≢◌, ℕ, zero, suc, ◌+◌, ◌==◌, Bool, true, false, if◌then◌else◌, nat_le, List, [], ◌∷◌, count_by, length, Option, Some, None, Ok, Err}
+use Rattle.nv_base.specs.declared.fault.Fault.{Fault}
+use Rattle.nv_base.specs.declared.fault.Fault.TheVariants.{EpochLimit, NoSnapshot, Pinned, TooManySnapshots}
+use Rattle.nv_base.specs.declared.limits.TheConstants.{NUMBER}
+use Rattle.nv_base.specs.declared.numbers.Handle.{Handle}
+use Rattle.nv_calls.specs.Refusals.{Check as Tests, passes}
+use Rattle.nv_epoch.specs.SnapList.{Snapshots as Living, pins_of}
+use Rattle.nv_epoch.specs.declared.snapshot.Snapshot.{Snapshot}
+use Rattle.nv_machine.specs.PlainRun.{Copy, Plain, is_of}
+use Rattle.nv_machine.specs.Settled.{settled_copies}
+use Rattle.nv_machine.specs.Snapshots.{drop_tests, make_tests}
+use Rattle.nv_machine.specs.Step.{step}
+use Rattle.nv_machine.specs.World.{Actor, Drop, Event, Go, Make, Next, Pin, Refused, Release, Reply, Running, Shared, Show, SnapshotStep, Snapshots, Start, Unpin, World, actor_at}
+
+-- ---- copies
+
+-- a living snapshot and the plain world's copy: the same number and pins, and at its epoch each node is the copy's
+pub record IsCopied (s : Shared) (snapshot : Snapshot) (copy : Copy) : Type 0 where
+  pub number : snapshot.number ≡ copy.snapshot
+  pub pins : snapshot.pins ≡ copy.pins
+  pub nodes : (handle : Handle) → settled_copies s snapshot.number handle ≡ copy.nodes handle
+
+-- so of all, in order
+abbrev pub AreCopied : Shared → List Snapshot → List Copy → Type 0
+AreCopied s [] [] = Unit {0}
+AreCopied s [] (copy ∷ copies) = ⊥
+AreCopied s (snapshot ∷ living) [] = ⊥
+AreCopied s (snapshot ∷ living) (copy ∷ copies) = IsCopied s snapshot copy × AreCopied s living copies
+
+-- ---- pins: what is between a show's first step and its last
+
+abbrev pub pins_on : ℕ → SnapshotStep → Bool
+pins_on snapshot (Show other showing) = other == snapshot
+pins_on snapshot (Unpin other seen) = other == snapshot
+pins_on snapshot other = false
+
+abbrev pub pins_at : ℕ → Next → Bool
+pins_at snapshot (Snapshots step) = pins_on snapshot step
+pins_at snapshot other = false
+
+abbrev pub pins_by_call : ℕ → Option Running → Bool
+pins_by_call snapshot None = false
+pins_by_call snapshot (Some r) = pins_at snapshot r.next
+
+-- how many shows of a snapshot are under way
+abbrev pub shows_of : ℕ → World → ℕ
+shows_of snapshot w = count_by (λ (actor : Actor). pins_by_call snapshot actor.running) w.actors
+
+-- a snapshot that lives has a pin for each; one that does not live has none
+abbrev pub ArePins : ℕ → Option ℕ → Type 0
+ArePins shows None = shows ≡ 0
+ArePins shows (Some pins) = pins ≡ shows
+
+-- ---- refusals
+
+-- the pins of a copy, if there is one of the snapshot
+abbrev pub pins_in : List Copy → ℕ → Option ℕ
+pins_in [] snapshot = None
+pins_in (copy ∷ copies) snapshot = if is_of snapshot copy then Some copy.pins else pins_in copies snapshot
+
+abbrev pub test_pins : Option ℕ → Tests
+test_pins None = Err NoSnapshot
+test_pins (Some zero) = passes
+test_pins (Some (suc pins)) = Err Pinned
+
+abbrev pub test_there : Option ℕ → Tests
+test_there None = Err NoSnapshot
+test_there (Some pins) = passes
+
+-- for what the plain world refuses a step, where so many snapshots may live
+abbrev pub plain_tests : ℕ → SnapshotStep → Plain → Tests
+plain_tests most Make p =
+    if nat_le NUMBER p.epoch then Err EpochLimit else if nat_le most (length p.copies) then Err TooManySnapshots else passes
+plain_tests most (Drop snapshot) p = test_pins (pins_in p.copies snapshot)
+plain_tests most (Pin snapshot) p = test_there (pins_in p.copies snapshot)
+plain_tests most other p = passes
+
+-- and for what the machine does, by its list of snapshots
+abbrev pub tests_on : SnapshotStep → Living → Tests
+tests_on Make snaps = make_tests snaps
+tests_on (Drop snapshot) snaps = drop_tests (pins_of snaps snapshot)
+tests_on (Pin snapshot) snaps = test_there (pins_of snaps snapshot)
+tests_on other snaps = passes
+
+-- the steps that the list of snapshots may refuse
+abbrev pub is_tested : SnapshotStep → Bool
+is_tested Make = true
+is_tested (Drop snapshot) = true
+is_tested (Pin snapshot) = true
+is_tested other = false
+
+-- a reply goes by tests: it tells their fault, and no fault where they pass
+abbrev pub GoesBy : Tests → Reply → Type 0
+GoesBy (Err fault) reply = reply ≡ Refused fault
+GoesBy (Ok passed) reply = (fault : Fault) → reply ≢ Refused fault
+
+-- ---- releases
+
+abbrev pub releases_at : Next → ℕ
+releases_at (Snapshots (Release draining picked)) = 1
+releases_at other = 0
+
+abbrev pub releases_of : Option Running → ℕ
+releases_of None = 0
+releases_of (Some r) = releases_at r.next
+
+abbrev pub releases_in : ℕ → World → Event → ℕ
+releases_in actor w (Start other c) = 0
+releases_in actor w (Go other granted) = if other == actor then releases_of (actor_at w actor).running else 0
+
+-- HOW MANY RECORDS an actor's steps release
+abbrev pub releases : ℕ → World → List Event → ℕ
+releases actor w [] = 0
+releases actor w (e ∷ events) = releases_in actor w e + releases actor (step w e).world events

@@ -1,0 +1,154 @@
+-- The steps of calls on snapshots, one function a kind. What decides a step is an argument.
+use Rattle.std.specs.Prelude.{ℕ, zero, suc, ◌+◌, ◌-◌, ◌==◌, ◌++◌, ◌||◌, Bool, true, false, if◌then◌else◌, nat_le, not, List, [], ◌∷◌, length, Option, Some, None, Result, Ok, Err}
+use Rattle.std.specs.Option.{option_to_list}
+use Rattle.nv_base.specs.declared.fault.Fault.{Fault}
+use Rattle.nv_base.specs.declared.fault.Fault.TheVariants.{EpochLimit, NoSnapshot, OutOfMemory, Pinned, TooManySnapshots}
+use Rattle.nv_base.specs.declared.limits.TheConstants.{INODES, NUMBER}
+use Rattle.nv_base.specs.declared.numbers.Handle.{Handle}
+use Rattle.nv_book.specs.Book.{after_drop_snapshot, after_make_snapshot, after_pick, after_pin_snapshot, after_unpin_snapshot}
+use Rattle.nv_book.specs.declared.record.Record.{Record}
+use Rattle.nv_calls.specs.Refusals.{Check as Tests}
+use Rattle.nv_calls.specs.Retiring.{erased, released, released_blocks}
+use Rattle.nv_calls.specs.declared.answer.Answer.{Answer}
+use Rattle.nv_calls.specs.declared.answer.Answer.TheVariants as answers
+use Rattle.nv_cell.specs.Cell.{log_of}
+use Rattle.nv_entry.specs.Node.{node_at}
+use Rattle.nv_entry.specs.Tree.{root}
+use Rattle.nv_entry.specs.declared.node.NodeCopy.{NodeCopy}
+use Rattle.nv_entry.specs.declared.tree.TreeNode.{TreeNode}
+use Rattle.nv_epoch.specs.SnapList.{Snapshots as Living, pins_of}
+use Rattle.nv_reader.specs.Walk as walk
+use Rattle.nv_machine.specs.Kinds.{end_turn, grown, refuse, with_erased}
+use Rattle.nv_machine.specs.Reads.{bytes_among}
+use Rattle.nv_machine.specs.World.{Draining, Drains, Drop, Ending, Ends, HandState, LockPicked, Make, Moves, Pick, Pin, Refuses, Release, Running, Shared, Show, Showing, SnapshotStep, Snapshots, Turn, Unpin, Waits, cell_at, go_to, owner_at, with_book, with_cell, with_owner}
+
+-- a step that is lent the book waits while a commit is under way
+abbrev pub if_free : Option ℕ → Turn → Turn
+if_free (Some other) turn = Waits
+if_free None turn = turn
+
+-- ---- make: the current epoch becomes a snapshot
+
+abbrev pub make_tests : Living → Tests
+make_tests snaps =
+    if nat_le NUMBER snaps.epoch then Err EpochLimit
+    else if nat_le snaps.most (length snaps.living) then Err TooManySnapshots else Ok tt
+
+abbrev pub make_turn : Tests → Shared → HandState → Running → Turn
+make_turn (Err fault) s h r = refuse fault s h r
+make_turn (Ok passed) s h r = Ends (Ok (answers.Snapshot s.book.snaps.epoch)) (with_book (after_make_snapshot s.book) s) h
+
+-- ---- drop: a snapshot that lives and has no pin, by its pins
+
+abbrev pub drop_tests : Option ℕ → Tests
+drop_tests None = Err NoSnapshot
+drop_tests (Some zero) = Ok tt
+drop_tests (Some (suc pins)) = Err Pinned
+
+abbrev pub drop_turn : ℕ → Tests → Shared → HandState → Running → Turn
+drop_turn snapshot (Err fault) s h r = refuse fault s h r
+drop_turn snapshot (Ok passed) s h r = Ends (Ok answers.Nothing) (with_book (after_drop_snapshot snapshot s.book) s) h
+
+-- ---- pin, show and unpin
+
+-- the root is visited first; a walk makes no more visits than there can be inodes
+abbrev pub first_showing : Shared → Showing
+first_showing s = record { left = INODES; visits = walk.root_visit (length s.cells) root; seen = [] }
+
+-- the next visit, or the end where there is none
+abbrev pub show_or_unpin : ℕ → List walk.Visit → ℕ → Showing → SnapshotStep
+show_or_unpin zero visits snapshot showing = Unpin snapshot showing.seen
+show_or_unpin (suc left) [] snapshot showing = Unpin snapshot showing.seen
+show_or_unpin (suc left) (visit ∷ visits) snapshot showing = Show snapshot showing
+
+abbrev pub showing_on : ℕ → Showing → SnapshotStep
+showing_on snapshot showing = show_or_unpin showing.left showing.visits snapshot showing
+
+abbrev pub pin_turn : ℕ → Option ℕ → Shared → HandState → Running → Turn
+pin_turn snapshot None s h r = refuse NoSnapshot s h r
+pin_turn snapshot (Some pins) s h r =
+    Moves (with_book (after_pin_snapshot snapshot s.book) s) h (go_to (Snapshots (showing_on snapshot (first_showing s))) r)
+
+-- the slot and the node of the next visit
+abbrev pub visited : List walk.Visit → Handle
+visited [] = root
+visited (visit ∷ visits) = visit.handle
+
+-- the node under a handle at the end of an epoch, by the log of its cell
+abbrev pub copies_at : Shared → ℕ → Handle → Option NodeCopy
+copies_at s epoch handle =
+    if handle.generation == (cell_at s handle.ino).generation
+    then node_at (bytes_among (cell_at s handle.ino).blocks) (cell_at s handle.ino).block epoch (log_of (cell_at s handle.ino))
+    else None
+
+-- the node is seen, and what its names lead to comes next
+abbrev pub seen_on : Option NodeCopy → Showing → Showing
+seen_on found showing = record {
+  left = showing.left - 1;
+  visits = walk.visits_after showing.visits found;
+  seen = showing.seen ++ option_to_list (walk.given_for showing.visits found);
+}
+
+-- a show whose memory is refused takes its pin off
+abbrev pub show_turn : Option ℕ → Bool → Option NodeCopy → ℕ → Showing → Shared → HandState → Running → Turn
+show_turn (Some other) granted found snapshot showing s h r = Waits
+show_turn None true found snapshot showing s h r =
+    Moves s h (go_to (Snapshots (showing_on snapshot (seen_on found showing))) r)
+show_turn None false found snapshot showing s h r =
+    Moves s h (record r { ending = Refuses OutOfMemory; next = Snapshots (Unpin snapshot []) })
+
+abbrev pub shown_by : Ending → List TreeNode → Result Answer Fault
+shown_by (Refuses fault) seen = Err fault
+shown_by other seen = Ok (answers.Tree seen)
+
+abbrev pub unpin_turn : ℕ → List TreeNode → Shared → HandState → Running → Turn
+unpin_turn snapshot seen s h r = Ends (shown_by r.ending seen) (with_book (after_unpin_snapshot snapshot s.book) s) h
+
+-- ---- pick: the first deferred record; where there is none, a drain is over
+
+abbrev pub picked_turn : List Record → Draining → Shared → HandState → Running → Turn
+picked_turn [] draining s h r = Ends (Ok (answers.Count draining.released)) s h
+picked_turn (picked ∷ deferred) draining s h r =
+    Moves (with_book (after_pick s.book) s) h (record r { slots = picked.ino ∷ []; next = Snapshots (LockPicked draining picked) })
+
+-- the first pick of a drain makes room in the hand for a block
+abbrev pub is_first : Draining → Bool
+is_first draining = draining.released == 0
+
+abbrev pub pick_turn : Draining → Bool → Shared → HandState → Running → Turn
+pick_turn draining granted s h r = grown (granted || not (is_first draining)) (picked_turn s.book.deferred draining s h r) s h r
+
+-- ---- lock the inode of the picked record
+
+abbrev pub lock_picked_turn : Option ℕ → ℕ → Draining → Record → Shared → HandState → Running → Turn
+lock_picked_turn (Some other) actor draining picked s h r = Waits
+lock_picked_turn None actor draining picked s h r =
+    Moves (with_owner picked.ino (Some actor) s) h (go_to (Snapshots (Release draining picked)) r)
+
+-- ---- release: the part goes out, and its block goes to the hand; a gone inode that keeps nothing is erased
+
+abbrev pub with_released : Record → Shared → HandState → HandState
+with_released picked s h = record h { blocks = h.blocks ++ released_blocks picked (cell_at s picked.ino) }
+
+abbrev pub one_more : Draining → Draining
+one_more draining = record draining { released = draining.released + 1 }
+
+abbrev pub release_turn : Draining → Record → Shared → HandState → Running → Turn
+release_turn draining picked s h r =
+    end_turn r.slots (Drains (one_more draining)) (with_cell picked.ino (erased (released picked (cell_at s picked.ino))) s)
+    (with_erased picked.ino (released picked (cell_at s picked.ino)) (with_released picked s h)) r
+
+-- ---- THE STEP of a call on snapshots
+
+abbrev pub snapshot_turn : SnapshotStep → ℕ → Bool → Shared → HandState → Running → Turn
+snapshot_turn Make actor granted s h r = if_free s.holder (make_turn (make_tests s.book.snaps) s h r)
+snapshot_turn (Drop snapshot) actor granted s h r =
+    if_free s.holder (drop_turn snapshot (drop_tests (pins_of s.book.snaps snapshot)) s h r)
+snapshot_turn (Pin snapshot) actor granted s h r = if_free s.holder (pin_turn snapshot (pins_of s.book.snaps snapshot) s h r)
+snapshot_turn (Show snapshot showing) actor granted s h r =
+    show_turn (owner_at s (visited showing.visits).ino) granted (copies_at s snapshot (visited showing.visits)) snapshot showing s h r
+snapshot_turn (Unpin snapshot seen) actor granted s h r = if_free s.holder (unpin_turn snapshot seen s h r)
+snapshot_turn (Pick draining) actor granted s h r = if_free s.holder (pick_turn draining granted s h r)
+snapshot_turn (LockPicked draining picked) actor granted s h r =
+    lock_picked_turn (owner_at s picked.ino) actor draining picked s h r
+snapshot_turn (Release draining picked) actor granted s h r = release_turn draining picked s h r

@@ -1,0 +1,172 @@
+//! Laws of the machine of steps on snapshots: which records there are, what each living snapshot holds, that it reads as the
+//! tree that stood when it was made, and what its calls are answered and refused. Each is the contract of a function that does
+//! nothing.
+
+ghost use Rattle.std.specs.Prelude.{◌≡◌, ◌⊎◌, ◌&&◌, ◌++◌, ◌<◌, ◌≤◌, ℕ, Bool, true, List, [], ◌∷◌, Contains, IsSome, None, Ok, Some, length, not, slice_get};
+ghost use Rattle.std.specs.List.{AllByRecursion};
+ghost use Rattle.nv_base.specs.Limits.{IsWithinLimits};
+ghost use Rattle.nv_base.specs.declared.fault.Fault.{Fault};
+ghost use Rattle.nv_base.specs.declared.fault.Fault.TheVariants.{OutOfMemory};
+ghost use Rattle.nv_base.specs.declared.geometry.GeometryNumbers.{GeometryNumbers};
+ghost use Rattle.nv_book.specs.Listed.{IsRecordList, unheld};
+ghost use Rattle.nv_calls.specs.declared.answer.Answer.{Answer};
+ghost use Rattle.nv_calls.specs.declared.answer.Answer.TheVariants as answers;
+ghost use Rattle.nv_calls.specs.declared.call.Call.TheVariants as call;
+ghost use Rattle.nv_calls.specs.declared.snapshot_call.SnapshotCall.TheVariants as on;
+ghost use Rattle.nv_cell.specs.Cell.{log_of};
+ghost use Rattle.nv_entry.specs.Held.{holds, is_current};
+ghost use Rattle.nv_entry.specs.Log.{pairs};
+ghost use Rattle.nv_entry.specs.Tree.{FormTree};
+ghost use Rattle.nv_entry.specs.declared.held.Pair.{Pair};
+ghost use Rattle.nv_entry.specs.declared.tree.TreeNode.{TreeNode};
+ghost use Rattle.nv_epoch.specs.SnapList.{ids, pins_of};
+ghost use Rattle.nv_machine.specs.Bound.{AreNoStarts};
+ghost use Rattle.nv_machine.specs.Format.{formatted};
+ghost use Rattle.nv_machine.specs.Needed.{AreNoDrops, IsAtRest, drained, free_but_needed};
+ghost use Rattle.nv_machine.specs.Numbers.{free_of};
+ghost use Rattle.nv_machine.specs.PlainRun.{plain_after, plain_of};
+ghost use Rattle.nv_machine.specs.Reading.{AreCopied, ArePins, GoesBy, is_tested, plain_tests, releases, shows_of, tests_on};
+ghost use Rattle.nv_machine.specs.Recorded.{AreRecordedOnce, IsOfPair, is_killed_pair, is_recorded_for, recorded_in, records_after};
+ghost use Rattle.nv_machine.specs.Settled.{settled_copies, snapshot_tree};
+ghost use Rattle.nv_machine.specs.Snapshots.{snapshot_turn};
+ghost use Rattle.nv_machine.specs.Step.{after, step};
+ghost use Rattle.nv_machine.specs.World.{Done, Draining, Ends, Event, Go, HandState, Pick, Refused, Running, Shared, SnapshotStep, Snapshots, Start, Started, Unpin, Waiting, actor_at, cell_at, list_at};
+
+/// The records are one list, whatever events came from a new world on: a retire step puts the killed parts of its inode to its
+/// end, in order, that a living snapshot holds; a drop moves there, in order, the records that its snapshot was the youngest to
+/// hold; and a pick takes out the first that no living snapshot holds. The manifests and the deferred list are that list,
+/// each record with its youngest living holder, or deferred where it has none. A part is marked kept exactly where it has one
+/// record, in a manifest, deferred, or picked by a drain that has not yet released it; none has two; and each record is of a
+/// pair of its inode's log.
+pub fn records_are_filed()
+    ensures list { (g : GeometryNumbers) (events : List Event) → IsWithinLimits g
+        → IsRecordList (ids (after (formatted g) events).shared.book.snaps)
+        (after (formatted g) events).shared.book.manifests
+        (after (formatted g) events).shared.book.deferred
+        (records_after (formatted g) events []) }
+    ensures deferred { (g : GeometryNumbers) (events : List Event) → IsWithinLimits g
+        → (after (formatted g) events).shared.book.deferred
+        ≡ unheld (ids (after (formatted g) events).shared.book.snaps)
+        (records_after (formatted g) events []) }
+    ensures once { (g : GeometryNumbers) (events : List Event) → IsWithinLimits g
+        → AreRecordedOnce (after (formatted g) events) }
+    ensures pairs { (g : GeometryNumbers) (events : List Event) → IsWithinLimits g
+        → AllByRecursion (IsOfPair (after (formatted g) events))
+        (recorded_in (after (formatted g) events)) }
+{}
+
+/// For each living snapshot the pairs that are recorded with it as a holder are those that it holds by the logs, less the
+/// current ones and those that are killed and not yet retired.
+pub fn snapshots_hold_what_logs_tell()
+    ensures { (g : GeometryNumbers) (events : List Event) (snapshot ino n : ℕ) (pair : Pair)
+        → IsWithinLimits g
+        → Contains (ids (after (formatted g) events).shared.book.snaps) snapshot
+        → slice_get (pairs (cell_at (after (formatted g) events).shared ino).block
+        (log_of (cell_at (after (formatted g) events).shared ino))) n ≡ Some pair
+        → is_recorded_for snapshot (after (formatted g) events) ino pair
+        ≡ (holds snapshot pair && (not (is_current pair)
+        && not (is_killed_pair (after (formatted g) events) ino pair))) }
+{}
+
+/// Each living snapshot reads as the nodes that stood when it was made, whatever events came since: at its epoch the settled
+/// logs give the plain world's copy, which no event changes. So they form a tree. A show that is answered is told that tree,
+/// and its snapshot lives up to its last step.
+pub fn snapshots_read_as_they_were()
+    ensures copies { (g : GeometryNumbers) (events : List Event) → IsWithinLimits g
+        → AreCopied (after (formatted g) events).shared
+        (after (formatted g) events).shared.book.snaps.living
+        (plain_after (formatted g) events (plain_of (formatted g))).copies }
+    ensures epoch { (g : GeometryNumbers) (events : List Event) → IsWithinLimits g
+        → (after (formatted g) events).shared.book.snaps.epoch
+        ≡ (plain_after (formatted g) events (plain_of (formatted g))).epoch }
+    ensures tree { (g : GeometryNumbers) (events : List Event) (snapshot : ℕ) → IsWithinLimits g
+        → Contains (ids (after (formatted g) events).shared.book.snaps) snapshot
+        → FormTree (settled_copies (after (formatted g) events).shared snapshot)
+        (length (after (formatted g) events).shared.cells) }
+    ensures show { (g : GeometryNumbers) (events : List Event) (actor snapshot : ℕ) (granted : Bool)
+        (r : Running) (seen : List TreeNode) (told : Answer) → IsWithinLimits g
+        → (actor_at (after (formatted g) events) actor).running ≡ Some r
+        → r.next ≡ Snapshots (Unpin snapshot seen)
+        → (step (after (formatted g) events) (Go actor granted)).reply ≡ Done told
+        → (told ≡ answers.Tree (snapshot_tree (after (formatted g) events) snapshot))
+        × Contains (ids (after (formatted g) events).shared.book.snaps) snapshot }
+{}
+
+/// A snapshot has a pin for each show of it that is between its first step and its last; so each snapshot that such a show is of
+/// lives.
+pub fn pins_are_of_shows()
+    ensures { (g : GeometryNumbers) (events : List Event) (snapshot : ℕ) → IsWithinLimits g
+        → ArePins (shows_of snapshot (after (formatted g) events))
+        (pins_of (after (formatted g) events).shared.book.snaps snapshot) }
+{}
+
+/// What a making, a drop and a show are refused for is what the plain world refuses them for at that step, with its epoch and its
+/// copies: such a step waits, or it is refused for that fault, and for none where there is none.
+pub fn snapshot_refusals_are_told()
+    ensures tests { (g : GeometryNumbers) (events : List Event) (kind : SnapshotStep)
+        → IsWithinLimits g → tests_on kind (after (formatted g) events).shared.book.snaps
+        ≡ plain_tests g.snaps kind (plain_after (formatted g) events (plain_of (formatted g))) }
+    ensures replies { (g : GeometryNumbers) (events : List Event) (actor : ℕ) (granted : Bool)
+        (r : Running) (kind : SnapshotStep) → IsWithinLimits g
+        → (actor_at (after (formatted g) events) actor).running ≡ Some r
+        → r.next ≡ Snapshots kind → is_tested kind ≡ true
+        → ((step (after (formatted g) events) (Go actor granted)).reply ≡ Waiting)
+        ⊎ GoesBy
+        (plain_tests g.snaps kind (plain_after (formatted g) events (plain_of (formatted g))))
+        (step (after (formatted g) events) (Go actor granted)).reply }
+{}
+
+/// A drain is answered how many records its steps have released; as long as it runs it is refused only for want of memory before
+/// the first. And a pick finds nothing only where nothing is deferred.
+pub fn drains_count_their_releases()
+    ensures answer { (g : GeometryNumbers) (before events : List Event) (actor count told : ℕ)
+        (granted : Bool) → IsWithinLimits g
+        → (step (after (formatted g) before) (Start actor (call.Snapshots (on.Drain count)))).reply
+        ≡ Started → AreNoStarts actor events
+        → (step (after (step (after (formatted g) before)
+        (Start actor (call.Snapshots (on.Drain count)))).world events) (Go actor granted)).reply
+        ≡ Done (answers.Count told)
+        → told ≡ releases actor (step (after (formatted g) before)
+        (Start actor (call.Snapshots (on.Drain count)))).world
+        (events ++ Go actor granted ∷ []) }
+    ensures refused { (g : GeometryNumbers) (before events : List Event) (actor count : ℕ)
+        (fault : Fault) (granted : Bool) → IsWithinLimits g
+        → (step (after (formatted g) before) (Start actor (call.Snapshots (on.Drain count)))).reply
+        ≡ Started → AreNoStarts actor events
+        → IsSome (actor_at (after (step (after (formatted g) before)
+        (Start actor (call.Snapshots (on.Drain count)))).world events) actor).running
+        → (step (after (step (after (formatted g) before)
+        (Start actor (call.Snapshots (on.Drain count)))).world events) (Go actor granted)).reply
+        ≡ Refused fault
+        → (fault ≡ OutOfMemory) × (releases actor (step (after (formatted g) before)
+        (Start actor (call.Snapshots (on.Drain count)))).world
+        (events ++ Go actor granted ∷ []) ≡ 0) }
+    ensures nothing { (draining : Draining) (actor told : ℕ) (granted : Bool) (s t : Shared)
+        (h after : HandState) (r : Running)
+        → snapshot_turn (Pick draining) actor granted s h r ≡ Ends (Ok (answers.Count told)) t after
+        → s.book.deferred ≡ [] }
+{}
+
+/// Where no call runs and nothing is deferred, each free list is exactly the numbers of its CPU's home range that nothing needs:
+/// no page of a chain is of that number, and no page of a pair that is current or that a living snapshot holds. And from a
+/// world in which no call runs, whatever events come but drops, nothing is deferred any more once drains were answered,
+/// together, as many records as were deferred there: so it is once `drain 1` was answered 1 as often as there were.
+pub fn drained_worlds_use_what_is_needed()
+    ensures rest { (g : GeometryNumbers) (events : List Event) (cpu : ℕ) → IsWithinLimits g
+        → cpu < g.cpus → IsAtRest (after (formatted g) events)
+        → (after (formatted g) events).shared.book.deferred ≡ []
+        → free_of (list_at (after (formatted g) events).shared cpu)
+        ≡ free_but_needed g (after (formatted g) events) cpu }
+    ensures drained { (g : GeometryNumbers) (before events : List Event) → IsWithinLimits g
+        → IsAtRest (after (formatted g) before) → AreNoDrops events
+        → length (after (formatted g) before).shared.book.deferred
+        ≤ drained (after (formatted g) before) events
+        → (after (formatted g) (before ++ events)).shared.book.deferred ≡ [] }
+    ensures lists { (g : GeometryNumbers) (before events : List Event) (cpu : ℕ) → IsWithinLimits g
+        → cpu < g.cpus → IsAtRest (after (formatted g) before) → AreNoDrops events
+        → length (after (formatted g) before).shared.book.deferred
+        ≤ drained (after (formatted g) before) events
+        → IsAtRest (after (formatted g) (before ++ events))
+        → free_of (list_at (after (formatted g) (before ++ events)).shared cpu)
+        ≡ free_but_needed g (after (formatted g) (before ++ events)) cpu }
+{}

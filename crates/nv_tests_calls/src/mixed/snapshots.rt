@@ -1,0 +1,259 @@
+//! Each of the four calls on snapshots against each of the sixteen calls, and a third call beside them, in an order by a seed.
+//!
+//! After every event each living snapshot reads as the tree that stood when it was made, no other is there, and the audit
+//! finds nothing. At the end, when all snapshots are dropped and all deferred records released, plain scans find each block
+//! in one place.
+
+use super::blocks::check_blocks;
+use super::says::{ALL_KINDS, KINDS, Says, chosen};
+use super::scene::{BLOCK, Scene};
+use crate::compare::{push, same};
+use crate::trees::are_alike;
+use Says::{Create, Drain, Mode, Show, Snap, Unlink, Write};
+use nv_base::{Epoch, Fault};
+use nv_core::{Answer, Reply, Tree, World};
+use nv_scenes::{Row, below};
+use std::alloc::Global;
+use std::process::Abort;
+use std::test::Fail;
+
+/// With room for all calls at once, and for one snapshot more than are prepared.
+const ROW: Row = [56, 2, BLOCK, 2, 10, SNAPS, 3];
+
+const SNAPS: u64 = 3;
+
+/// Calls behind what is prepared: snapshots 1 and 2 live then and hold what is no longer current, a whole file among it, and
+/// what 3 held besides is deferred.
+const SNAPPED: &[Says] = &[
+    Create(0, b"f"),
+    Write(6, 0, b"before"),
+    Snap,
+    Write(1, 2, b"12345"),
+    Snap,
+    Unlink(0, b"f"),
+    Write(2, 0, b"rs"),
+    Snap,
+    Write(2, 0, b"tu"),
+    Mode(1, 3),
+    Says::Drop(3),
+];
+
+/// How often each two kinds are made at once.
+const ROUNDS: u64 = 2;
+
+/// No calls of three actors have so many events.
+const EVENTS: u64 = 2_000;
+
+/// The first actor begins to go on among so many events of the others.
+const LATE: u64 = 30;
+
+/// Calls of actors in a world with snapshots.
+#[derive(Drop)]
+struct Snapped {
+    scene: Scene,
+    /// The tree at the making of each snapshot, as long as that lives.
+    noted: Vec<Option<Tree>>,
+    /// The calls that go on.
+    going: Vec<Option<Says>>,
+}
+
+impl Snapped {
+    fn prepared(rt: &impl Abort, alloc: Global) -> Result<Snapped, Fail> {
+        let scene = Scene::prepared(rt, alloc, ROW)?;
+        let noted = Vec::new(alloc);
+        let going = Vec::new(alloc);
+        let mut snapped = Snapped {
+            scene,
+            noted,
+            going,
+        };
+        for says in SNAPPED {
+            snapped.alone(rt, says)?;
+        }
+        snapped.are_kept(rt)?;
+        Ok(snapped)
+    }
+
+    /// Makes a call while no other is made.
+    fn alone(&mut self, rt: &impl Abort, says: &Says) -> Result<(), Fail> {
+        let reply = self.scene.alone(rt, says)?;
+        self.note(rt, says, &reply)
+    }
+
+    /// Notes the tree of a snapshot that was made, and no longer that of one that was dropped. A show has the tree that was
+    /// noted.
+    fn note(&mut self, rt: &impl Abort, says: &Says, reply: &Reply) -> Result<(), Fail> {
+        match (says, reply) {
+            (Snap, Reply::Done(_)) => push(rt, &mut self.noted, Some(self.scene.world.tree()?)),
+            (Snap, _) => same(rt, self.living(), SNAPS),
+            (Says::Drop(number), Reply::Done(_)) => self.forget(rt, *number),
+            (Show(number), Reply::Done(Answer::Tree(tree))) => {
+                reads_as(rt, tree, self.noted_at(*number).ok_or("a snapshot")?)
+            }
+            (Says::Drop(number) | Show(number), Reply::Refused(Fault::NoSnapshot)) => {
+                same(rt, self.noted_at(*number).is_none(), true)
+            }
+            _ => {}
+        }
+        Ok(())
+    }
+
+    fn noted_at(&self, number: u64) -> Option<&Tree> {
+        self.noted.get(number.wrapping_sub(1) as usize)?.as_ref()
+    }
+
+    /// How many snapshots live.
+    fn living(&self) -> u64 {
+        let mut living = 0u64;
+        for noted in &self.noted {
+            if noted.is_some() {
+                living = living.saturating_add(1);
+            }
+        }
+        living
+    }
+
+    fn forget(&mut self, rt: &impl Abort, number: u64) {
+        let place = number.wrapping_sub(1) as usize;
+        same(rt, self.noted_at(number).is_some(), true);
+        if place < self.noted.len() {
+            self.noted[place] = None;
+        }
+    }
+
+    /// Each living snapshot reads as it did when it was made, there is no other, and the audit finds nothing.
+    fn are_kept(&self, rt: &impl Abort) -> Result<(), Fail> {
+        let mut number = 0u64;
+        for noted in &self.noted {
+            number = number.saturating_add(1);
+            is_kept(rt, &self.scene.world, number, noted);
+        }
+        Ok(self.scene.world.audit()?)
+    }
+
+    /// Makes calls at once to their ends, each by an actor of its own.
+    fn make_all(&mut self, rt: &impl Abort, calls: &[Says], seed: &mut u64) -> Result<(), Fail> {
+        let mut actor = 0u64;
+        for says in calls {
+            self.scene.start(rt, actor, says)?;
+            push(rt, &mut self.going, Some(*says));
+            actor = actor.saturating_add(1);
+        }
+        self.finish(rt, seed)
+    }
+
+    fn finish(&mut self, rt: &impl Abort, seed: &mut u64) -> Result<(), Fail> {
+        let late = below(seed, LATE);
+        for event in 0..EVENTS {
+            if self.is_over() {
+                return Ok(());
+            }
+            let actor = below(seed, 3);
+            if actor > 0 || event >= late {
+                self.goes(rt, actor)?;
+            }
+        }
+        panic!(rt; "calls that do not end");
+    }
+
+    fn is_over(&self) -> bool {
+        for says in &self.going {
+            if says.is_some() {
+                return false;
+            }
+        }
+        true
+    }
+
+    /// One step of an actor, if it has a call.
+    fn goes(&mut self, rt: &impl Abort, actor: u64) -> Result<(), Fail> {
+        let place = actor as usize;
+        if place >= self.going.len() {
+            return Ok(());
+        }
+        let Some(says) = self.going[place] else {
+            return Ok(());
+        };
+        if let Some(reply) = self.scene.go(actor) {
+            self.going[place] = None;
+            self.note(rt, &says, &reply)?;
+        }
+        self.are_kept(rt)
+    }
+
+    /// Drops each snapshot, and releases what is deferred.
+    fn release_all(&mut self, rt: &impl Abort) -> Result<(), Fail> {
+        for number in 0..self.noted.len() as u64 {
+            self.alone(rt, &Says::Drop(number.saturating_add(1)))?;
+            self.are_kept(rt)?;
+        }
+        self.alone(rt, &Drain(u64::MAX))?;
+        self.are_kept(rt)
+    }
+}
+
+fn reads_as(rt: &impl Abort, tree: &Tree, noted: &Tree) {
+    same(rt, are_alike(tree.as_slice(), noted.as_slice()), true);
+}
+
+fn is_kept(rt: &impl Abort, world: &World, number: u64, noted: &Option<Tree>) {
+    match (world.snap_tree(Epoch::new(number)), noted) {
+        (Ok(tree), Some(noted)) => reads_as(rt, &tree, noted),
+        (Ok(_), None) => panic!(rt; "a snapshot that was dropped"),
+        (Err(fault), _) => {
+            same(rt, fault, Fault::NoSnapshot);
+            same(rt, noted.is_none(), true);
+        }
+    }
+}
+
+/// These calls, all at once.
+fn mix(rt: &impl Abort, alloc: Global, calls: &[Says], seed: &mut u64) -> Result<(), Fail> {
+    let mut snapped = Snapped::prepared(rt, alloc)?;
+    snapped.make_all(rt, calls, seed)?;
+    snapped.release_all(rt)?;
+    check_blocks(rt, &snapped.scene, true, true)
+}
+
+/// A call of these two kinds each, and of any.
+fn mix_two(
+    rt: &impl Abort,
+    alloc: Global,
+    one: u64,
+    other: u64,
+    seed: &mut u64,
+) -> Result<(), Fail> {
+    let any = below(seed, ALL_KINDS);
+    let calls = [chosen(one, seed)?, chosen(other, seed)?, chosen(any, seed)?];
+    mix(rt, alloc, &calls, seed)
+}
+
+/// A call on snapshots of this kind, with each kind.
+fn mix_each(rt: &impl Abort, alloc: Global, one: u64, mut seed: u64) -> Result<(), Fail> {
+    for _round in 0..ROUNDS {
+        for other in 0..ALL_KINDS {
+            mix_two(rt, alloc, one, other, &mut seed)?;
+        }
+    }
+    Ok(())
+}
+
+#[test]
+fn snap_and_two_calls(rt: HostRuntime) -> Result<(), Fail> {
+    mix_each(&rt, rt.alloc(), KINDS, 61)
+}
+
+#[test]
+fn drop_and_two_calls(rt: HostRuntime) -> Result<(), Fail> {
+    mix_each(&rt, rt.alloc(), KINDS + 1, 62)
+}
+
+#[test]
+fn show_and_two_calls(rt: HostRuntime) -> Result<(), Fail> {
+    mix_each(&rt, rt.alloc(), KINDS + 2, 63)
+}
+
+#[test]
+fn drain_and_two_calls(rt: HostRuntime) -> Result<(), Fail> {
+    mix_each(&rt, rt.alloc(), KINDS + 3, 64)
+}
