@@ -13,6 +13,7 @@ pub mod CheckTurns
 pub mod Checks
 pub mod Closes
 pub mod CommitTurns
+pub mod Consistent
 pub mod Ends
 pub mod Enters
 pub mod FewPages

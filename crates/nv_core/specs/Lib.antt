@@ -2,6 +2,7 @@ pub mod Appends
 pub mod Audited
 pub mod CommitSteps
 pub mod Committing
+pub mod Consistent
 pub mod Formats
 pub mod Frames
 pub mod Nodes

@@ -4,18 +4,14 @@ ghost use Rattle.std.specs.Prelude.{◌≡◌, ◌<◌, ◌≤◌, ◌++◌, ℕ
 ghost use Rattle.std.specs.List.{flat_map};
 ghost use Rattle.std.specs.VecDeque.Iter.{deque_iter_rest};
 ghost use Rattle.nv_alloc.specs.Block.{numbers_of};
-ghost use Rattle.nv_base.specs.Limits.{IsWithinLimits};
 ghost use Rattle.nv_base.specs.Refusals.{FailsOnly};
 ghost use Rattle.nv_base.specs.declared.fault.Fault.TheVariants.{OutOfMemory};
-ghost use Rattle.nv_base.specs.declared.geometry.GeometryNumbers.{GeometryNumbers};
 ghost use Rattle.nv_audit.specs.Records.{inode_part};
-ghost use Rattle.nv_audit.specs.Whole.{Agrees};
-ghost use Rattle.nv_machine.specs.Format.{formatted};
-ghost use Rattle.nv_machine.specs.Numbers.{held_by_actor, held_in};
+ghost use Rattle.nv_machine.specs.Numbers.{held_in};
 ghost use Rattle.nv_machine.specs.Reads.{slot_at};
-ghost use Rattle.nv_machine.specs.Step.{after};
 ghost use Rattle.nv_machine.specs.World as machine;
-ghost use Rattle.nv_core.specs.Audited.{HasPlans, blocks_by, device_of, killed_by_plans, killed_part, parts_by, picked_by};
+ghost use Rattle.nv_core.specs.Audited.{HasPlans, blocks_by, killed_by_plans, killed_part, parts_by, picked_by};
+ghost use Rattle.nv_core.specs.Consistent.{IsConsistentWorld};
 ghost use Rattle.nv_core.specs.Rooms.{hand_held};
 ghost use Rattle.nv_core.specs.Shown.{hand_of, slots_in};
 
@@ -36,9 +32,11 @@ use std::collections::vec_deque;
 
 impl World {
     /// Judges the world as it stands: each part against one scan of all logs, of the snapshots and of the hands. No
-    /// world differs, whatever events came: it can only want memory. It costs what [`nv_audit::audit`] does.
+    /// world differs, whatever events came: it can only want memory. And whatever it answers, the world is consistent
+    /// ([`crate::laws::worlds_are_consistent`]). It costs what [`nv_audit::audit`] does.
     pub fn audit(&self) -> Result<(), Fault>
-        ensures { FailsOnly OutOfMemory result }
+        ensures world { IsConsistentWorld self.now }
+        ensures answer { FailsOnly OutOfMemory result }
     {
         let blocks = blocks_in_hands(self.alloc, &self.actors)?;
         let parts = parts_in_hands(self.alloc, &self.actors)?;
@@ -58,12 +56,6 @@ impl World {
         )
     }
 }
-
-/// Whatever events came from a new world on, each part is that of one scan.
-fn worlds_agree()
-    ensures { (g : GeometryNumbers) (events : List machine.Event) → IsWithinLimits g
-        → Agrees (device_of g (after (formatted g) events)) }
-{}
 
 /// The numbers of the blocks in all hands.
 fn blocks_in_hands(alloc: Global, actors: &[Actor]) -> Result<Vec<BlockNo>, AllocError>

@@ -14,6 +14,7 @@ mod format;
 mod hold;
 mod job;
 mod kinds;
+pub mod laws;
 mod lent;
 mod lent_open;
 mod lent_ready;

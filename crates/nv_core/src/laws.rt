@@ -1,0 +1,17 @@
+//! A law of worlds: the contract of a function that does nothing.
+
+ghost use Rattle.std.specs.Prelude.{List};
+ghost use Rattle.nv_base.specs.Limits.{IsWithinLimits};
+ghost use Rattle.nv_base.specs.declared.geometry.GeometryNumbers.{GeometryNumbers};
+ghost use Rattle.nv_core.specs.Consistent.{IsConsistentAfter};
+ghost use Rattle.nv_machine.specs.World as machine;
+
+/// Whatever events come from a new world on, each inode's counts, the records that living snapshots hold and each free list are
+/// what one scan of all logs and of the snapshots gives, with what hands have and what is deferred named apart; the settled logs
+/// give the nodes of the plain world, in which each call makes its change at its commit point; and each living snapshot reads as
+/// the nodes that stood when it was made. An inode's index and names are at all times those of one scan of its log
+/// ([`nv_cell::InodeCell`]).
+pub fn worlds_are_consistent()
+    ensures { (g : GeometryNumbers) (events : List machine.Event) → IsWithinLimits g
+        → IsConsistentAfter g events }
+{}
