@@ -33,6 +33,16 @@ pub fn holds_for(rt: &impl Abort, row: usize, holds: bool) {
     assert!(rt; holds, "row {row}");
 }
 
+/// Whether all bytes are 0.
+pub fn are_zeros(bytes: &[u8]) -> bool {
+    for byte in bytes {
+        if *byte != 0 {
+            return false;
+        }
+    }
+    true
+}
+
 /// Adds an item to what a test notes for itself.
 pub fn push<T>(rt: &impl Abort, items: &mut Vec<T>, item: T) {
     let len = items.len();

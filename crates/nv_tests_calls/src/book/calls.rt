@@ -95,9 +95,10 @@ fn bordered(rt: &impl Abort, alloc: Global) -> Both {
     }
     for birth in 1..5 {
         for death in birth..5 {
-            for part in [Part::Kind, Part::Page(7), Part::Page(8)] {
-                both.retire(rt, birth * 10 + death, part, birth, death);
-            }
+            let commit = birth * 10 + death;
+            both.retire(rt, commit, Part::Kind, birth, death);
+            both.retire(rt, commit, Part::Page(7), birth, death);
+            both.retire(rt, commit, Part::Page(8), birth, death);
         }
     }
     both
@@ -125,18 +126,18 @@ fn pick_all(rt: &impl Abort, both: &mut Both, count: u64) {
     same(rt, both.pick(rt), false);
 }
 
-fn drops_in_order(rt: &impl Abort, alloc: Global, order: [u64; 3]) {
+fn drops_in_order(rt: &impl Abort, alloc: Global, order: &[u64; 3]) {
     let mut both = bordered(rt, alloc);
     compare(rt, &both.book, &both.slow);
     for s in order {
-        drop_next(rt, &mut both, s);
+        drop_next(rt, &mut both, *s);
     }
     pick_all(rt, &mut both, 18);
 }
 
 #[test]
 fn drops_in_each_order(rt: HostRuntime) {
-    for order in ORDERS {
+    for order in &ORDERS {
         drops_in_order(&rt, rt.alloc(), order);
     }
 }

@@ -24,9 +24,8 @@ fn overwritten(rt: &impl Abort, book: &mut Book, snaps: u32) {
         makes(rt, book, Ok(Epoch::new(s)));
     }
     enters(rt, book, 2, now, 3);
-    for part in [Part::Size, Part::Page(0)] {
-        retires(rt, book, record(2, part, 1, now), Retired::Kept);
-    }
+    retires(rt, book, record(2, Part::Size, 1, now), Retired::Kept);
+    retires(rt, book, record(2, Part::Page(0), 1, now), Retired::Kept);
 }
 
 #[test]
@@ -61,20 +60,24 @@ fn deferred_is_not_free(rt: HostRuntime) {
     same(&rt, book.stored(), 0);
 }
 
-// Four pages of one entry, a gap, and a page of another entry, each with its commit.
-const KILLED: [(u64, u32); 6] = [(1, 0), (1, 1), (1, 2), (1, 3), (1, 5), (2, 6)];
+// Four pages of one entry, a gap, and a page of another entry, each with its commit; and how many runs there are after each of
+// them is picked.
+const KILLED: [(u64, u32, u64); 6] = [
+    (1, 0, 3),
+    (1, 1, 3),
+    (1, 2, 3),
+    (1, 3, 2),
+    (1, 5, 1),
+    (2, 6, 0),
+];
 
-// How many runs there are after each of them is picked.
-const RUNS: [u64; 6] = [3, 3, 3, 2, 1, 0];
-
-fn killed(place: usize) -> Record {
-    let (commit, page) = KILLED[place % KILLED.len()];
+fn killed(commit: u64, page: u32) -> Record {
     record(commit, Part::Page(page), 1, 2)
 }
 
 fn lists_killed(rt: &impl Abort, book: &Book) {
-    for (listed, (commit, page)) in book.deferred().iter().zip(KILLED) {
-        same_for(rt, &page, listed, record(commit, Part::Page(page), 1, 2));
+    for (listed, (commit, page, _)) in book.deferred().iter().zip(&KILLED) {
+        same_for(rt, page, listed, killed(*commit, *page));
     }
 }
 
@@ -83,16 +86,16 @@ fn drain_within_a_run(rt: HostRuntime) {
     let mut book = new_book(&rt, rt.alloc());
     makes(&rt, &mut book, Ok(Epoch::new(1)));
     enters(&rt, &mut book, 6, 2, 1);
-    for place in 0..6 {
-        retires(&rt, &mut book, killed(place), Retired::Kept);
+    for (commit, page, _) in &KILLED {
+        retires(&rt, &mut book, killed(*commit, *page), Retired::Kept);
     }
     same(&rt, book.stored(), 3);
     drops(&rt, &mut book, 1, Ok(()));
     same(&rt, (book.stored(), book.deferred_blocks()), (3, 6));
     lists_killed(&rt, &book);
-    for place in 0..6 {
-        picks(&rt, &mut book, Some(killed(place)));
-        same_for(&rt, &place, book.stored(), RUNS[place]);
+    for (commit, page, runs) in &KILLED {
+        picks(&rt, &mut book, Some(killed(*commit, *page)));
+        same_for(&rt, page, book.stored(), *runs);
     }
 }
 
@@ -102,7 +105,7 @@ fn pins(rt: &impl Abort, book: &mut Book, s: Epoch) {
 }
 
 fn pins_nothing(rt: &impl Abort, book: &mut Book, s: Epoch) {
-    assert_eq!(rt; book.snaps().pins(s), None);
+    same(rt, book.snaps().pins(s), None);
     same(rt, book.pin(s), Err(Fault::NoSnapshot));
 }
 
@@ -207,10 +210,10 @@ fn keeps(rt: &impl Abort, book: &Book, base: u64, kept: usize) {
 
 #[test]
 fn keeps_the_latest_events(rt: HostRuntime) {
-    for (commits, base, kept) in LATEST_EVENTS {
+    for (commits, base, kept) in &LATEST_EVENTS {
         let mut book = new_book(&rt, rt.alloc());
-        enter_all(&rt, &mut book, 5, commits);
-        keeps(&rt, &book, base, kept);
+        enter_all(&rt, &mut book, 5, *commits);
+        keeps(&rt, &book, *base, *kept);
     }
 }
 
@@ -249,9 +252,9 @@ fn folds_snapshots_into_the_base(rt: HostRuntime) {
     drops(&rt, &mut book, 2, Ok(()));
     let dropped = Event::Dropped(Epoch::new(2));
     same(&rt, book.history().event(3), Some(dropped));
-    for (commits, count, second) in FOLDED {
-        enter_all(&rt, &mut book, 0, commits);
-        has_lived(&rt, &book, count, second);
+    for (commits, count, second) in &FOLDED {
+        enter_all(&rt, &mut book, 0, *commits);
+        has_lived(&rt, &book, *count, *second);
     }
     let base = base_of(&rt, &book);
     same(&rt, base.epoch(), Epoch::new(4));

@@ -29,11 +29,23 @@ fn holder(living: &[Epoch], killed: &Record, gone: Option<Epoch>) -> Option<Epoc
 
 // Whether the second is the next page of the same entry with the same birth and death.
 fn is_next(one: &Record, other: &Record) -> bool {
-    let same = (one.ino, one.entry, one.birth, one.death)
-        == (other.ino, other.entry, other.birth, other.death);
+    if one.ino != other.ino || one.entry != other.entry {
+        return false;
+    }
+    if one.birth != other.birth || one.death != other.death {
+        return false;
+    }
     match (one.part, other.part) {
-        (Part::Page(page), Part::Page(next)) => same && page.checked_add(1) == Some(next),
+        (Part::Page(page), Part::Page(next)) => page < next && next - page == 1,
         _ => false,
+    }
+}
+
+// Whether a record goes on a run that ends with the last one.
+fn goes_on(last: Option<Record>, next: &Record) -> bool {
+    match last {
+        Some(last) => is_next(&last, next),
+        None => false,
     }
 }
 
@@ -63,7 +75,13 @@ impl SlowBook {
     }
 
     pub fn pins(&self, s: Epoch) -> u64 {
-        self.pinned.iter().filter(|t| **t == s).count() as u64
+        let mut count = 0u64;
+        for pinned in &self.pinned {
+            if *pinned == s {
+                count = count.saturating_add(1);
+            }
+        }
+        count
     }
 
     pub fn pin(&mut self, rt: &impl Abort, s: Epoch) {
@@ -118,7 +136,7 @@ impl SlowBook {
         let mut last: Option<Record> = None;
         for r in &self.records {
             if holder(&self.living, r, None) == of {
-                if !last.is_some_and(|l| is_next(&l, r)) {
+                if !goes_on(last, r) {
                     count = count.saturating_add(1);
                 }
                 last = Some(*r);
@@ -137,10 +155,13 @@ impl SlowBook {
     }
 
     fn held(&self, s: Epoch) -> u64 {
-        self.records
-            .iter()
-            .filter(|r| r.is_page() && r.is_held_by(s))
-            .count() as u64
+        let mut count = 0u64;
+        for r in &self.records {
+            if r.is_page() && r.is_held_by(s) {
+                count = count.saturating_add(1);
+            }
+        }
+        count
     }
 
     fn gain(&self, s: Epoch) -> u64 {

@@ -8,7 +8,7 @@ use nv_calls::Nodes;
 use nv_entry::{BoundName, NodeCopy};
 
 /// A node under a handle, and whether each of its first pages is present.
-#[derive(Debug, Drop)]
+#[derive(Drop)]
 pub struct KnownNode {
     pub handle: Handle,
     pub node: NodeCopy,
@@ -16,7 +16,7 @@ pub struct KnownNode {
 }
 
 /// The nodes that there are.
-#[derive(Debug, Drop)]
+#[derive(Drop)]
 pub struct Known {
     pub nodes: Vec<KnownNode>,
 }

@@ -2,7 +2,7 @@
 
 use super::says::Says;
 use super::world::{Outcome, Row, World};
-use crate::compare::{same, same_for, same_shown};
+use crate::compare::{are_zeros, same, same_for, same_shown};
 use LogSays::{Bind, Directory, File, Gone, Size, Unbind, Write};
 use Outcome::{Commits, Nothing, Refused};
 use nv_base::Fault;
@@ -250,7 +250,7 @@ fn is_log(
 fn is_node(rt: &impl Abort, world: &World, ino: u64, has: Has) -> Result<(), Fail> {
     let known = world.nodes.node(&handle(ino));
     if let Has::NoNode = has {
-        assert!(rt; known.is_none(), "{ino}");
+        same_for(rt, &ino, known.is_none(), true);
         return Ok(());
     }
     let node = &known.ok_or("a node")?.node;
@@ -258,7 +258,7 @@ fn is_node(rt: &impl Abort, world: &World, ino: u64, has: Has) -> Result<(), Fai
         Has::Bytes(bytes) => same_for(rt, &ino, node.bytes.as_slice(), bytes),
         Has::Zeros(size) => {
             same_for(rt, &ino, node.size, size);
-            assert!(rt; node.bytes.as_slice().iter().all(|byte| *byte == 0));
+            same_for(rt, &ino, are_zeros(node.bytes.as_slice()), true);
         }
         Has::Names(names) => {
             same_for(rt, &ino, node.names.len(), names.len());

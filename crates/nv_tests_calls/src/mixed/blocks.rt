@@ -1,7 +1,7 @@
 //! Plain scans over what a world reports of its blocks.
 
 use super::scene::{BLOCK, Scene};
-use crate::compare::same;
+use crate::compare::{are_zeros, same};
 use nv_alloc::FreeRun;
 use nv_base::{Geometry, Ino};
 use nv_core::{LogCounts, Space, TreeNode};
@@ -41,9 +41,10 @@ fn all_of(space: &Space) -> u64 {
         pending,
         hand,
     } = *space;
-    [free, chain, data, pending, hand]
-        .iter()
-        .fold(0u64, |sum, part| sum.saturating_add(*part))
+    free.saturating_add(chain)
+        .saturating_add(data)
+        .saturating_add(pending)
+        .saturating_add(hand)
 }
 
 /// How many blocks the free lists name.
@@ -119,7 +120,7 @@ fn in_files(scene: &Scene) -> Result<u64, Fail> {
 fn pages_of(node: &TreeNode) -> u64 {
     let mut pages = 0u64;
     for page in node.node.bytes.as_slice().chunks(BLOCK as usize) {
-        if page.iter().any(|byte| *byte != 0) {
+        if !are_zeros(page) {
             pages = pages.saturating_add(1);
         }
     }

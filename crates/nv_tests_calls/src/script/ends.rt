@@ -1,10 +1,9 @@
 //! Scripts that end early: a read or a write that fails.
 
-use super::pieces::{AT_ONCE, play_in_pieces};
+use super::pieces::{AT_ONCE, ending, play_in_pieces};
 use super::worked::PARTIAL_AT_BOTH_ENDS;
 use crate::compare::{same, same_for};
 use nv_base::Fault;
-use nv_script::play;
 use std::alloc::Global;
 use std::process::Abort;
 
@@ -53,7 +52,7 @@ fn failed_writes(rt: HostRuntime) {
 fn play_into(alloc: Global, script: &[u8], room: &mut [u8]) -> (Result<(), Fault>, usize) {
     let mut reader = script;
     let mut writer = room;
-    let outcome = play(alloc, &mut reader, &mut writer);
+    let outcome = ending(alloc, &mut reader, &mut writer);
     (outcome, writer.len())
 }
 

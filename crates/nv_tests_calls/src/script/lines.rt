@@ -40,19 +40,22 @@ impl Lines {
     }
 }
 
+/// How the lines of `one`, nothing, `two` and `rest` are taken.
+const TAKEN: [(Taken, &[u8]); 6] = [
+    (Taken::Line, b"one"),
+    (Taken::Line, b""),
+    (Taken::Line, b"two\r"),
+    (Taken::Unended, b"rest"),
+    (Taken::End, b""),
+    (Taken::End, b""),
+];
+
 #[test]
 fn lines_and_ends(rt: HostRuntime) -> Result<(), Fail> {
     let mut lines = Lines::new(rt.alloc())?;
     let mut reader = b"one\n\ntwo\r\nrest".as_slice();
-    for (taken, want) in [
-        (Taken::Line, b"one".as_slice()),
-        (Taken::Line, b"".as_slice()),
-        (Taken::Line, b"two\r".as_slice()),
-        (Taken::Unended, b"rest".as_slice()),
-        (Taken::End, b"".as_slice()),
-        (Taken::End, b"".as_slice()),
-    ] {
-        lines.take(&rt, &mut reader, Ok(taken), want);
+    for (taken, want) in &TAKEN {
+        lines.take(&rt, &mut reader, Ok(*taken), want);
     }
     let mut last_ended = b"a\n".as_slice();
     lines.take(&rt, &mut last_ended, Ok(Taken::Line), b"a");
@@ -63,18 +66,32 @@ fn lines_and_ends(rt: HostRuntime) -> Result<(), Fail> {
 #[test]
 fn longest_lines(rt: HostRuntime) -> Result<(), Fail> {
     let longest = vec![in rt.alloc(); b'a'; MAX_LINE_BYTES]?;
-    for (tail, taken) in [
-        (b"\n".as_slice(), Taken::Line),
-        (b"".as_slice(), Taken::Unended),
-        (b"b".as_slice(), Taken::Long),
-        (b"b\n".as_slice(), Taken::Long),
-    ] {
-        let mut text = Vec::from_slice(rt.alloc(), &longest)?;
-        text.extend_from_slice(tail)?;
-        let mut reader = text.as_slice();
-        let mut lines = Lines::new(rt.alloc())?;
-        lines.take(&rt, &mut reader, Ok(taken), &longest);
+    for (tail, taken) in &TAILS {
+        takes_longest(&rt, rt.alloc(), &longest, tail, *taken)?;
     }
+    Ok(())
+}
+
+/// What stands behind the longest line, and how that line is taken.
+const TAILS: [(&[u8], Taken); 4] = [
+    (b"\n", Taken::Line),
+    (b"", Taken::Unended),
+    (b"b", Taken::Long),
+    (b"b\n", Taken::Long),
+];
+
+fn takes_longest(
+    rt: &impl Abort,
+    alloc: Global,
+    longest: &[u8],
+    tail: &[u8],
+    taken: Taken,
+) -> Result<(), Fail> {
+    let mut text = Vec::from_slice(alloc, longest)?;
+    text.extend_from_slice(tail)?;
+    let mut reader = text.as_slice();
+    let mut lines = Lines::new(alloc)?;
+    lines.take(rt, &mut reader, Ok(taken), longest);
     Ok(())
 }
 

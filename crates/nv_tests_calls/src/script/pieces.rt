@@ -44,6 +44,15 @@ impl<T: Write> Write for Pieces<T> {
     }
 }
 
+/// Plays a script, and says how it ends. No clause says here what a script does, so that no test carries that along.
+pub(super) fn ending<R: Read, W: Write>(
+    alloc: Global,
+    reader: &mut R,
+    writer: &mut W,
+) -> Result<(), Fault> {
+    play(alloc, reader, writer)
+}
+
 /// The most bytes of a call, and how many calls there are before one is interrupted.
 pub(super) type Pace = (usize, usize);
 
@@ -67,6 +76,6 @@ pub(super) fn play_in_pieces(
         most: writes.0,
         calls: writes.1,
     };
-    let outcome = play(alloc, &mut reader, &mut writer);
+    let outcome = ending(alloc, &mut reader, &mut writer);
     (outcome, writer.inner)
 }

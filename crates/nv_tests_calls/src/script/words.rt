@@ -134,8 +134,8 @@ fn long_text_is_printed_and_read(rt: HostRuntime) -> Result<(), Fail> {
 fn numbers_are_printed_in_decimal(rt: HostRuntime) -> Result<(), Fail> {
     let alloc = rt.alloc();
     let mut out = Vec::new(alloc);
-    for number in [0, 9, 10, 420, 1_000_000, u64::MAX] {
-        push_number(&mut out, number)?;
+    for number in &[0, 9, 10, 420, 1_000_000, u64::MAX] {
+        push_number(&mut out, *number)?;
         out.push(b' ')?;
     }
     let shown = b"0 9 10 420 1000000 18446744073709551615 ".as_slice();

@@ -24,10 +24,15 @@ pub(super) fn new_world(rt: &impl Abort, alloc: Global, row: Row) -> World {
     }
 }
 
+/// One event. No clause says here what it does, so that no test carries that along.
+pub(super) fn reply_to(world: &mut World, event: Event) -> Reply {
+    world.step(event)
+}
+
 /// A call of an actor goes on to its end: how many steps it makes, and the last reply.
 pub(super) fn finish(rt: &impl Abort, world: &mut World, actor: u64) -> (u64, Reply) {
     for step in 1..STEPS {
-        let reply = world.step(Event::Go(actor));
+        let reply = reply_to(world, Event::Go(actor));
         if !matches!(reply, Reply::Moved) {
             return (step, reply);
         }
@@ -43,7 +48,7 @@ pub(super) fn alone(
     actor: u64,
     words: &Words,
 ) -> (u64, Reply) {
-    let started = world.step(Event::Start(actor, call(rt, alloc, words)));
+    let started = reply_to(world, Event::Start(actor, call(rt, alloc, words)));
     assert!(rt; matches!(started, Reply::Started));
     finish(rt, world, actor)
 }
