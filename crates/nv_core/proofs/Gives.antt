@@ -13,10 +13,11 @@ use Rattle.nv_alloc.specs.declared.hand.Hand.{Hand}
 use Rattle.nv_alloc.proofs.GivingLemmas.{goes_home, kept_of-append}
 use Rattle.nv_base.specs.Homes.{home_start}
 use Rattle.nv_base.specs.declared.geometry.GeometryNumbers.{GeometryNumbers}
+use Rattle.nv_machine.specs.Hands.{AreGiven}
 use Rattle.nv_machine.specs.Kinds.{blocks_in, give_turn, given, rest_turn, with_given}
 use Rattle.nv_machine.specs.Reads.{home_from}
 use Rattle.nv_machine.specs.World.{HandState, Running, Shared, list_at, no_list, with_list}
-use Rattle.nv_core.specs.Parts.{AreGiven, AreListsOf, IsListOf}
+use Rattle.nv_core.specs.Parts.{AreListsOf, IsListOf}
 use Rattle.nv_core.specs.Shown.{hand_of}
 use Rattle.nv_core.proofs.Homes.{AreHomes, are_homes, none_home, starts_rise}
 

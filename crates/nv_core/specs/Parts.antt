@@ -1,5 +1,5 @@
 -- What the steps rely on of the parts that are lent to them.
-use Rattle.std.specs.Prelude.{◌≡◌, ℕ, ◌+◌, ◌<◌, ◌≤◌, List, length, slice_index_or, slice_set}
+use Rattle.std.specs.Prelude.{◌≡◌, ℕ, ◌+◌, ◌<◌, List, length, slice_index_or, slice_set}
 use Rattle.std.specs.List.{AllByRecursion}
 use Rattle.nv_alloc.specs.Block.{BlockValue}
 use Rattle.nv_alloc.specs.FreeList.{FreeBlocks}
@@ -44,10 +44,6 @@ IsOnlyAt ino old new = new ≡ slice_set old ino (cell_in new ino)
 -- each of these slots has a cell
 abbrev pub AreSlots : Shared → List ℕ → Type 0
 AreSlots shared slots = HaveSlots shared.cells.items slots
-
--- all blocks of the hand that were at home on a lower CPU are given
-abbrev pub AreGiven : GeometryNumbers → ℕ → List BlockValue → Type 0
-AreGiven g cpu blocks = AllByRecursion (λ (b : BlockValue). home_start g.blocks g.cpus cpu ≤ b.number) blocks
 
 -- ---- cells
 

@@ -15,6 +15,7 @@ use Rattle.nv_cell.specs.declared.mark.Mark.TheVariants.{Kept}
 use Rattle.nv_cell.specs.Readers.{is_gone}
 use Rattle.nv_entry.specs.Log.{up_to}
 use Rattle.nv_epoch.specs.SnapList.{pins_of}
+use Rattle.nv_machine.specs.Hands.{AreGiven}
 use Rattle.nv_machine.specs.Locks.{slots_on}
 use Rattle.nv_reader.specs.Cells.{NoneOut}
 use Rattle.nv_calls.specs.CanCommit.{TakesCommit}
@@ -31,7 +32,7 @@ use Rattle.nv_cell.specs.Cell.{CellValue, log_of, mark_named}
 use Rattle.nv_machine.specs.Effects.{IsSoundIn}
 use Rattle.nv_machine.specs.World.{cell_at, empty_hand, list_at}
 use Rattle.nv_core.specs.Nodes.{CanRead}
-use Rattle.nv_core.specs.Parts.{AreGiven, AreHome, AreSlots, AreStill, IsOfDevice}
+use Rattle.nv_core.specs.Parts.{AreHome, AreSlots, AreStill, IsOfDevice}
 use Rattle.nv_core.specs.Rooms.{hand_held}
 use Rattle.nv_core.specs.Shown.{hand_of, shared_of, slots_in, step_on}
 use Rattle.nv_core.specs.Told.{IsChangeWith}

@@ -4,9 +4,10 @@ ghost use Rattle.std.specs.Prelude.{◌≡◌, ◌≢◌, ◌+◌, ◌<◌, ◌�
 ghost use Rattle.nv_alloc.specs.Block.{AreSized, numbers_of};
 ghost use Rattle.nv_alloc.specs.Hand.{blocks_of};
 ghost use Rattle.nv_alloc.specs.Numbers.{times};
+ghost use Rattle.nv_machine.specs.Hands.{AreGiven};
 ghost use Rattle.nv_machine.specs.Kinds.{blocks_in, give_turn};
 ghost use Rattle.nv_machine.specs.World.{list_at};
-ghost use Rattle.nv_core.specs.Parts.{AreGiven, AreHome, IsOfDevice};
+ghost use Rattle.nv_core.specs.Parts.{AreHome, IsOfDevice};
 ghost use Rattle.nv_core.specs.Rooms.{CanDrain, HasRooms, HasRoomsAfter, IsNoVisit};
 ghost use Rattle.nv_core.specs.Shown.{Told, hand_of, shared_of, shown, turn_of};
 ghost use Rattle.nv_core.specs.Told.{KeepsJob, OwesAt};
