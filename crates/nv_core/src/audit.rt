@@ -38,6 +38,13 @@ impl World {
         ensures world { IsConsistentWorld self.now }
         ensures answer { FailsOnly OutOfMemory result }
     {
+        self.judge()
+    }
+
+    /// What the audit finds.
+    fn judge(&self) -> Result<(), Fault>
+        ensures { FailsOnly OutOfMemory result }
+    {
         let blocks = blocks_in_hands(self.alloc, &self.actors)?;
         let parts = parts_in_hands(self.alloc, &self.actors)?;
         let hands = InHands {

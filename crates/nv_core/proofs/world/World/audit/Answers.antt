@@ -1,10 +1,6 @@
-use Rattle.std.proofs.Common.{◌∙◌, ap, List, subst}
-use Rattle.std.specs.List.{flat_map}
-use Rattle.nv_core.specs.Audited.{blocks_by, parts_by}
+use Rattle.std.proofs.Common.{subst}
 use Rattle.nv_core.specs.Consistent.{IsConsistentWorld}
 use Rattle.nv_core.specs.Worlds.{WorldState}
-use Rattle.nv_core.specs.declared.world.Actor.{Actor}
-use Rattle.nv_core.proofs.AuditShown.{told}
 use Rattle.nv_core.proofs.Consistent.{consistent_world}
 use Rattle.nv_core.proofs.world.World.audit.Goals as goal
 
@@ -12,11 +8,3 @@ pub returns-clause-world : goal.returns-clause-world
 returns-clause-world c =
     let w : WorldState = record { shared = c.self.inside.shared; actors = c.self.inside.actors.items } in
     subst IsConsistentWorld c.self.view_is (consistent_world w c.self.invariant)
-
-pub returns-clause-answer : goal.returns-clause-answer
-returns-clause-answer c =
-    let w : WorldState = record { shared = c.self.inside.shared; actors = c.self.inside.actors.items } in
-    told w c.self.invariant _ _ _ _ c.audit.result c.deref-5.ensures.value c.deref-6.ensures.value
-    (c.deref-4.ensures.value ∙ c.in_ok-parts.ensures ∙ ap (λ (xs : List Actor). flat_map parts_by xs) c.deref-2.ensures.value)
-    (c.deref-3.ensures.value ∙ c.in_ok-blocks.ensures ∙ ap (λ (xs : List Actor). flat_map blocks_by xs) c.deref.ensures.value)
-    c.audit.ensures.err
