@@ -6,7 +6,7 @@ use Rattle.nv_machine.proofs.CopiesAll.{all_copied}
 use Rattle.nv_machine.proofs.CopyMarks.{all_have_marks}
 use Rattle.nv_machine.proofs.FitsPlain.{plain_nodes}
 use Rattle.nv_machine.proofs.SnapRuns.{in_step}
-use Rattle.nv_machine.specs.World.{Event, World}
+use Rattle.nv_machine.specs.World.{Event}
 use Rattle.nv_core.proofs.AuditLaw.{agree}
 use Rattle.nv_core.specs.Consistent.{IsConsistentAfter, IsConsistentWorld}
 use Rattle.nv_core.specs.Worlds.{IsWorld, Shows, WorldState}

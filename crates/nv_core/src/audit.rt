@@ -33,11 +33,12 @@ use std::collections::vec_deque;
 impl World {
     /// Judges the world as it stands: each part against one scan of all logs, of the snapshots and of the hands. No
     /// world differs, whatever events came: it can only want memory. And whatever it answers, the world is consistent
-    /// ([`crate::laws::worlds_are_consistent`]). It costs what [`nv_audit::audit`] does.
+    /// ([`World::consistent`]). It costs what [`nv_audit::audit`] does.
     pub fn audit(&self) -> Result<(), Fault>
         ensures world { IsConsistentWorld self.now }
         ensures answer { FailsOnly OutOfMemory result }
     {
+        self.consistent();
         self.judge()
     }
 

@@ -1,10 +1,12 @@
-//! A law of worlds: the contract of a function that does nothing.
+//! That worlds are consistent: laws, each the contract of a function that does nothing.
 
 ghost use Rattle.std.specs.Prelude.{List};
 ghost use Rattle.nv_base.specs.Limits.{IsWithinLimits};
 ghost use Rattle.nv_base.specs.declared.geometry.GeometryNumbers.{GeometryNumbers};
-ghost use Rattle.nv_core.specs.Consistent.{IsConsistentAfter};
+ghost use Rattle.nv_core.specs.Consistent.{IsConsistentAfter, IsConsistentWorld};
 ghost use Rattle.nv_machine.specs.World as machine;
+
+use crate::World;
 
 /// Whatever events come from a new world on, each inode's counts, the records that living snapshots hold and each free list are
 /// what one scan of all logs and of the snapshots gives, with what hands have and what is deferred named apart; the settled logs
@@ -15,3 +17,13 @@ pub fn worlds_are_consistent()
     ensures { (g : GeometryNumbers) (events : List machine.Event) → IsWithinLimits g
         → IsConsistentAfter g events }
 {}
+
+impl World {
+    /// A law: some events lead from a new world to what this one shows, and after them it is as
+    /// [`worlds_are_consistent`] says.
+    pub fn consistent(&self)
+        ensures { IsConsistentWorld self.now }
+    {
+        let _ = &self.shared;
+    }
+}
