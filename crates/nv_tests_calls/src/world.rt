@@ -237,7 +237,7 @@ fn run_all(rt: &impl Abort, world: &mut World, events: Vec<Event>) -> Vec<Reply>
 }
 
 /// The last reply of each call, by its place.
-const REPLIES: [(usize, Want); 3] = [
+const REPLIES: &[(usize, Want)] = &[
     (18, Want::Made(ONE)),
     (37, Want::Made(TWO)),
     (48, Want::Count(5)),
@@ -246,10 +246,11 @@ const REPLIES: [(usize, Want); 3] = [
 fn are_wanted(rt: &impl Abort, replies: &[Reply]) {
     same(rt, replies.len(), 49);
     for (place, want) in REPLIES {
-        let is_there = replies
-            .get(place)
-            .is_some_and(|reply| is_wanted(reply, &want));
-        holds_for(rt, place, is_there);
+        let is_there = match replies.get(*place) {
+            Some(reply) => is_wanted(reply, want),
+            None => false,
+        };
+        holds_for(rt, *place, is_there);
     }
 }
 

@@ -107,7 +107,7 @@ const UNENDED: Result<(), Fault> = Err(Fault::ScriptFault(2, ScriptFaultKind::Un
 
 const PAST: Result<(), Fault> = Err(Fault::ScriptFault(1_048_577, ScriptFaultKind::Lines));
 
-const MANY: [Behind; 7] = [
+const MANY: &[Behind] = &[
     (b'#', 4_096, "\n", Ok(())),
     (b'#', 4_096, "", UNENDED),
     (b'#', 4_097, "\n", LONG),
@@ -120,8 +120,8 @@ const MANY: [Behind; 7] = [
 #[test]
 fn long_lines_and_many_lines(rt: HostRuntime) -> Result<(), Fail> {
     for (byte, count, end, outcome) in MANY {
-        let script = filled(rt.alloc(), FORMAT, byte, count, end.as_bytes())?;
-        check(&rt, &script, outcome, b"formatted\n");
+        let script = filled(rt.alloc(), FORMAT, *byte, *count, end.as_bytes())?;
+        check(&rt, &script, *outcome, b"formatted\n");
     }
     Ok(())
 }

@@ -362,7 +362,7 @@ pub(super) const FIRST_LINES: &[(&str, u64, ScriptFaultKind)] = &[
 ];
 
 /// Faults with their texts.
-pub(super) const FAULTS: [(Fault, &str); 7] = [
+pub(super) const FAULTS: &[(Fault, &str)] = &[
     (Fault::OutOfMemory, "E1 OutOfMemory"),
     (
         Fault::BadGeometry(GeometryField::Cpus),

@@ -55,7 +55,7 @@ fn scripts_write_their_texts(rt: HostRuntime) -> Result<(), Fail> {
     check_all(&rt, &SCRIPTS);
     check_all(&rt, OF_SNAPSHOTS);
     for (front, letters, end, text) in LONGEST {
-        let script = filled(rt.alloc(), front, b'a', letters, end.as_bytes())?;
+        let script = filled(rt.alloc(), front, b'a', *letters, end.as_bytes())?;
         check(&rt, &script, Ok(()), text.as_bytes());
     }
     Ok(())
@@ -83,7 +83,7 @@ const LIMITS: &str = "format blocks=8 cpus=9 block=1 page=2 inodes=2 snaps=1 act
      do 0 write 1.1 65536 ";
 
 /// What stands before so many letters, what stands behind them, and the text of that script.
-const LONGEST: [(&str, usize, &str, &str); 4] = [
+const LONGEST: &[(&str, usize, &str, &str)] = &[
     (ONE_PAGE, 1_024, "\n", "formatted\ndone 1.1\ndone 1024\n"),
     (
         ONE_PAGE,
@@ -279,7 +279,7 @@ fn scripts_come_and_go_byte_by_byte(rt: HostRuntime) {
 #[test]
 fn faults_have_their_texts(rt: HostRuntime) -> Result<(), Fail> {
     for (fault, want) in FAULTS {
-        same(&rt, fault_text(rt.alloc(), &fault)?.as_str(), want);
+        same(&rt, fault_text(rt.alloc(), fault)?.as_str(), *want);
     }
     Ok(())
 }
