@@ -13,6 +13,7 @@ mod field;
 mod format;
 mod outbox;
 mod outcome;
+mod plain_bytes;
 mod script;
 mod send;
 mod text;

@@ -6,6 +6,7 @@ ghost use Rattle.std.specs.Fmt.{digit_glyph};
 ghost use Rattle.nv_base.specs.declared.limits.TheConstants.{MODE};
 ghost use Rattle.nv_script.specs.Words.{number_of, number_up_to, positive_up_to, words_of, handle_from, handle_of, is_plain, hex_value, before, unescaped, unescaped_behind, text_of, escaped_byte, escaped};
 
+use crate::plain_bytes::is_plain;
 use memchr::memchr;
 use nv_base::{Bytes, Gen, Handle, Ino, Mode, limits};
 use std::alloc::{AllocError, Global};
@@ -100,13 +101,6 @@ pub fn words(alloc: Global, line: &[u8]) -> Result<Vec<&[u8]>, AllocError>
     }
     found.push(rest)?;
     Ok(found)
-}
-
-/// Whether a byte stands for itself in escaped text: it is visible, and does not begin an escaped byte.
-fn is_plain(byte: u8) -> bool
-    ensures { result ≡ is_plain byte }
-{
-    byte.is_ascii_graphic() && byte != ESCAPE
 }
 
 /// The value of a hexadecimal digit of either case.
