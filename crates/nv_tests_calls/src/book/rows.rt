@@ -105,7 +105,7 @@ fn pins(rt: &impl Abort, book: &mut Book, s: Epoch) {
 }
 
 fn pins_nothing(rt: &impl Abort, book: &mut Book, s: Epoch) {
-    same(rt, book.snaps().pins(s), None);
+    assert_eq!(rt; book.snaps().pins(s), None);
     same(rt, book.pin(s), Err(Fault::NoSnapshot));
 }
 
