@@ -76,7 +76,7 @@ fault_name fault.NoActor = codes "E23 NoActor"
 fault_name (fault.Mismatch first) = codes "E24 Mismatch"
 fault_name fault.SeatsOut = codes "E25 SeatsOut"
 fault_name (fault.BadImage first) = codes "E26 BadImage"
-fault_name (fault.ScriptFault line first) = codes "E27 ScriptFault"
+fault_name (fault.ScriptFault first line) = codes "E27 ScriptFault"
 fault_name fault.Read = codes "E28 Read"
 fault_name fault.Write = codes "E29 Write"
 
@@ -88,7 +88,7 @@ abbrev pub fault_fields : Fault → List ℕ
 fault_fields (fault.BadGeometry first) = bracketed (field_name first)
 fault_fields (fault.Mismatch first) = bracketed (part_name first)
 fault_fields (fault.BadImage first) = bracketed (image_fault_name first)
-fault_fields (fault.ScriptFault line first) = bracketed (decimal line ++ codes ", " ++ script_fault_name first)
+fault_fields (fault.ScriptFault first line) = bracketed (decimal line ++ codes ", " ++ script_fault_name first)
 fault_fields _ = []
 
 -- number, name and fields

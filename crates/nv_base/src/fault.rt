@@ -217,8 +217,8 @@ pub enum Fault {
     SeatsOut,
     /// The first fault of an image.
     BadImage(ImageFault),
-    /// The first fault of a script: its line, counted from 1, and its kind.
-    ScriptFault(u64, ScriptFaultKind),
+    /// The first fault of a script: its kind, and its line, counted from 1.
+    ScriptFault(ScriptFaultKind, u64),
     /// A read failed.
     Read,
     /// A write failed.
@@ -273,7 +273,7 @@ impl fmt::Display for Fault {
             Fault::BadGeometry(field) => write!(f, "({field})"),
             Fault::Mismatch(part) => write!(f, "({part})"),
             Fault::BadImage(fault) => write!(f, "({fault})"),
-            Fault::ScriptFault(line, kind) => write!(f, "({line}, {kind})"),
+            Fault::ScriptFault(kind, line) => write!(f, "({line}, {kind})"),
             _ => Ok(()),
         }
     }

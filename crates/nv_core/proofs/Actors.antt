@@ -1,8 +1,7 @@
 -- An actor after a turn of its call.
-use Rattle.std.proofs.Common.{◌≡◌, ◌∙◌, ℕ, true, false, Option, Some, None, ap, refl, subst, sym, true≢false}
-use Rattle.std.specs.Prelude.{is_none, unwrap_or}
+use Rattle.std.proofs.Common.{◌≡◌, ◌∙◌, ℕ, Option, Some, ap, subst, sym}
+use Rattle.std.specs.Prelude.{unwrap_or}
 use Rattle.nv_machine.specs.World as machine
-use Rattle.nv_core.specs.Rooms.{HasActorRooms, HasRoomsAfter}
 use Rattle.nv_core.specs.Turns.{HasTurned, IsTurn, replied, still}
 use Rattle.nv_core.specs.Worlds.{ShowsCall}
 use Rattle.nv_core.specs.declared.event.Reply.{Reply}
@@ -12,22 +11,6 @@ use Rattle.nv_core.specs.declared.shared.Shared.{Shared}
 use Rattle.nv_core.specs.declared.turn.Turn.{Turn}
 use Rattle.nv_core.specs.declared.turn.Turn.TheVariants as turn
 use Rattle.nv_core.specs.declared.world.Actor.{Actor}
-
-pub ended : (t : Turn) (after : Running) → is_none (still t after) ≡ true → still t after ≡ None
-ended turn.Moves after e = absurd (true≢false (sym e))
-ended turn.Waits after e = absurd (true≢false (sym e))
-ended (turn.Ends result) after e = refl
-
-pub goes : (t : Turn) (after : Running) → is_none (still t after) ≡ false → still t after ≡ Some after
-goes turn.Moves after e = refl
-goes turn.Waits after e = refl
-goes (turn.Ends result) after e = absurd (true≢false e)
-
-pub rooms_still : (t : Turn) (shared : Shared) (h : Hold) (after : Running) → HasRoomsAfter t shared h after
-    → HasActorRooms shared h (still t after)
-rooms_still turn.Moves shared h after has = has
-rooms_still turn.Waits shared h after has = has
-rooms_still (turn.Ends result) shared h after has = has
 
 pub same_some : (a b : Running) → Some a ≡ Some b → a ≡ b
 same_some a b e = ap (λ (o : Option Running). unwrap_or o a) e

@@ -151,14 +151,14 @@ fn push_picked(parts: &mut Vec<InodePart>, next: &Next) -> Result<(), AllocError
 }
 
 /// The part of a record.
-fn part_of(record: &Record) -> InodePart
-    ensures { result ≡ inode_part record.now }
+fn part_of(picked: &Record) -> InodePart
+    ensures { result ≡ inode_part picked.now }
 {
     InodePart {
-        ino: record.ino,
+        ino: picked.ino,
         part: PartId {
-            entry: record.entry,
-            part: record.part,
+            entry: picked.entry,
+            part: picked.part,
         },
     }
 }

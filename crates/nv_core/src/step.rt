@@ -34,7 +34,7 @@ use crate::kinds::visit::visit;
 use crate::next::Next;
 use crate::running::Running;
 use crate::shared::Shared;
-use crate::turn::Turn;
+use crate::turn::{Turn, ended};
 use crate::world::{Actor, World};
 use crate::{Event, Reply};
 use nv_alloc::Hand;
@@ -81,7 +81,8 @@ impl World {
         Vec::with_capacity(self.alloc, room)
     }
 
-    fn start(&mut self, actor: u64, call: Call) -> Reply
+    /// An actor starts a call: [`Event::Start`]. It is refused where the actor has a call already.
+    pub fn start(&mut self, actor: u64, call: Call) -> Reply
         ensures { (m : machine.World) → Shows self.old m
             → IsStep m (Event.Start actor call) result self.new }
     {
@@ -91,7 +92,8 @@ impl World {
         begin(self.alloc, &self.shared, state, call)
     }
 
-    fn go(&mut self, actor: u64) -> Reply
+    /// An actor's call goes on by one step: [`Event::Go`].
+    pub fn go(&mut self, actor: u64) -> Reply
         ensures { (m : machine.World) → Shows self.old m
             → IsStep m (Event.Go actor) result self.new }
     {
@@ -144,11 +146,14 @@ fn go_on(alloc: Global, shared: &mut Shared, state: &mut Actor, actor: u64) -> R
     let Some(call) = running else {
         return Reply::Refused(Fault::ActorIdle);
     };
-    let done = turn(alloc, shared, hold, call, actor);
-    if done.ends() {
-        forget(running);
+    match turn(alloc, shared, hold, call, actor) {
+        Turn::Moves => Reply::Moved,
+        Turn::Waits => Reply::Waits,
+        Turn::Ends(told) => {
+            forget(running);
+            ended(told)
+        }
     }
-    done.reply()
 }
 
 /// No call runs any more.

@@ -1,8 +1,7 @@
 //! What a step comes to.
 
-ghost use Rattle.std.specs.Prelude.{◌≡◌, false, is_none, true};
-ghost use Rattle.nv_core.specs.Turns.{replied, still};
-ghost use Rattle.nv_core.specs.declared.running.Running.{Running};
+ghost use Rattle.std.specs.Prelude.{◌≡◌};
+ghost use Rattle.nv_core.specs.Turns.{replied};
 
 use crate::Reply;
 use nv_base::Fault;
@@ -16,23 +15,12 @@ pub(crate) enum Turn {
     Ends(Result<Answer, Fault>),
 }
 
-impl Turn {
-    /// Whether the call is over.
-    pub(crate) fn ends(&self) -> bool
-        ensures { (running : Running) → result ≡ is_none (still self.now running) }
-    {
-        matches!(self, Turn::Ends(_))
-    }
-
-    /// The reply to the event that made the step.
-    pub(crate) fn reply(self) -> Reply
-        ensures { result ≡ replied self }
-    {
-        match self {
-            Turn::Moves => Reply::Moved,
-            Turn::Waits => Reply::Waits,
-            Turn::Ends(Ok(answer)) => Reply::Done(answer),
-            Turn::Ends(Err(fault)) => Reply::Refused(fault),
-        }
+/// The reply to the event whose step was the last of its call.
+pub(crate) fn ended(told: Result<Answer, Fault>) -> Reply
+    ensures { result ≡ replied (Turn.Ends told) }
+{
+    match told {
+        Ok(answer) => Reply::Done(answer),
+        Err(fault) => Reply::Refused(fault),
     }
 }

@@ -56,21 +56,24 @@ fn near(entries: &[Entry], place: usize, id: EntryId) -> usize {
     low + entries[low..high].partition_point(|entry| entry.id < id)
 }
 
-/// The place of the entry of that id. It is guessed as if commits lay evenly, and twice more from what stands at the guess:
-/// where the entry is near, this costs the same at any number of entries, and else the logarithm of them all.
+/// The place of the entry of that id. Among more than a few entries it is guessed as if commits lay evenly, and twice more
+/// from what stands at the guess: where the entry is near, this costs the same at any number of entries, and else the
+/// logarithm of them all.
 pub fn place_of(entries: &[Entry], id: EntryId) -> Option<usize>
     requires { IsLog entries.now }
     ensures value { result ≡ place_of entries.now id }
     ensures within { IfSome result (λ place. place < length entries.now) }
 {
-    let guess = guess_from(entries, 0, id);
-    if is_at(entries, guess, id) {
-        return Some(guess);
-    }
-    let closer = guess_from(entries, guess, id);
-    let place = near(entries, guess_from(entries, closer, id), id);
-    if is_at(entries, place, id) {
-        return Some(place);
+    if entries.len() > NEAR {
+        let guess = guess_from(entries, 0, id);
+        if is_at(entries, guess, id) {
+            return Some(guess);
+        }
+        let closer = guess_from(entries, guess, id);
+        let place = near(entries, guess_from(entries, closer, id), id);
+        if is_at(entries, place, id) {
+            return Some(place);
+        }
     }
     entries.binary_search_by(|entry| entry.id.cmp(&id)).ok()
 }

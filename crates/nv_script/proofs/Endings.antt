@@ -141,7 +141,7 @@ broken input left old new lines rest text world split few all some =
 pub ends_on : (result : Result (Unit {0}) Fault) (input left : Option (List ℕ)) (Old New : List ℕ → Type 0)
     → ((text : List ℕ) → Old text → New text) → Ends result input left Old → Ends result input left New
 ends_on (Ok done) input left Old New turn e = (e.0, e.1, e.2, e.3, e.4, turn e.1 e.5)
-ends_on (Err (fault.ScriptFault number why)) input left Old New turn e = (e.0, e.1, e.2, e.3, e.4, e.5, turn e.2 e.6)
+ends_on (Err (fault.ScriptFault why number)) input left Old New turn e = (e.0, e.1, e.2, e.3, e.4, e.5, turn e.2 e.6)
 ends_on (Err fault.Read) input left Old New turn e = (e.0, e.1, e.2, e.3, e.4, e.5, turn e.2 e.6)
 ends_on (Err fault.OutOfMemory) input left Old New turn e = (e.0, e.1, e.2, e.3, e.4, e.5, turn e.2 e.6)
 ends_on (Err fault.Write) input left Old New turn e = (e.0, e.1, e.2, e.3, e.4, e.5, e.6, turn (e.2 ++ e.3) e.7)
@@ -161,7 +161,7 @@ pub broken_off : (result : Result (Unit {0}) Fault) (input left old mid new : Op
     → Ends result input left (λ text. WritesFront old mid text gathered) → WritesSome mid new gathered
     → EndsBy fault.Write input left (λ text. Appends old new text)
 broken_off (Ok done) input left old mid new gathered e some = broken_played input left old mid new gathered e.0 [] e.1 e.2 e.3 e.5 some
-broken_off (Err (fault.ScriptFault number why)) input left old mid new gathered e some = broken_played input left old mid new gathered e.0
+broken_off (Err (fault.ScriptFault why number)) input left old mid new gathered e some = broken_played input left old mid new gathered e.0
     e.1 e.2 e.3 e.4 e.6 some
 broken_off (Err fault.Read) input left old mid new gathered e some = broken_played input left old mid new gathered e.0 e.1 e.2 e.3 e.4 e.6
     some
@@ -190,7 +190,7 @@ within number made bytes why few is = rw (le-ltb most_lines number few) is
 
 -- what past the last line is answered, and what before it
 answered : (number : ℕ) (answer told : Result Bool Fault) → within_lines number answer ≡ told
-    → ((most_lines < number) × (told ≡ Err (fault.ScriptFault number kind.Lines))) ⊎ ((number ≤ most_lines) × (told ≡ answer))
+    → ((most_lines < number) × (told ≡ Err (fault.ScriptFault kind.Lines number))) ⊎ ((number ≤ most_lines) × (told ≡ answer))
 answered number answer told is =
     elim (cases_lt most_lines number) [
       | inl many ↦ inl (many, sym (rw (lt-ltb most_lines number many) at is))
@@ -293,22 +293,22 @@ module _ (input known old new : Option (List ℕ)) (gathered : List ℕ) (number
 
   faulty : (after left : Option (List ℕ)) (piece : List ℕ) (why : ScriptFaultKind) → Consumes known after piece
       → ((rest : List ℕ) → IsFault number (is_some world) (piece ++ rest) why)
-      → EndsBy (fault.ScriptFault number why) input left Written
+      → EndsBy (fault.ScriptFault why number) input left Written
   faulty after left piece why more is = let p = played after piece more in
       (at.lines, piece ++ p.0, at.text, world, p.1, (sym at.count, is p.0), at.written)
 
   too_many : (after left : Option (List ℕ)) (piece : List ℕ) → most_lines < number → piece ≢ [] → Consumes known after piece
-      → EndsBy (fault.ScriptFault number kind.Lines) input left Written
+      → EndsBy (fault.ScriptFault kind.Lines number) input left Written
   too_many after left piece many some more = faulty after left piece kind.Lines more
       (λ rest. past number (is_some world) (piece ++ rest) many (some_after piece rest some))
 
   too_long : (after left : Option (List ℕ)) (line : List ℕ) → number ≤ most_lines → IsLine line → TakenIs taken.Long known after line
-      → EndsBy (fault.ScriptFault number kind.Long) input left Written
+      → EndsBy (fault.ScriptFault kind.Long number) input left Written
   too_long after left line inside lawful is = faulty after left (line ++ is.0 ∷ []) kind.Long is.1
       (λ rest. within number (is_some world) _ kind.Long inside (inl (refl, (line, rest, is.0, lawful, is.3, is.2, refl))))
 
   unended : (after left : Option (List ℕ)) (line : List ℕ) → number ≤ most_lines → IsLine line → TakenIs taken.Unended known after line
-      → EndsBy (fault.ScriptFault number kind.Unended) input left Written
+      → EndsBy (fault.ScriptFault kind.Unended number) input left Written
   unended after left line inside lawful is = (
     at.lines,
     line,

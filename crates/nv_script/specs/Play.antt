@@ -160,7 +160,7 @@ EndsAfter input Writes Also = (lines : List (List ℕ)) × (rest text : List ℕ
 -- reader no more than a piece of the next line is gone; for want of memory, before the first line or at a command;
 -- by a failed write, which leaves a front of the text of the line after them
 abbrev pub EndsBy : Fault → (input left : Option (List ℕ)) → (List ℕ → Type 0) → Type 0
-EndsBy (fault.ScriptFault number why) input left Writes = EndsAfter input Writes (λ lines rest world. (number ≡ length lines + 1) × IsFault number (is_some world) rest why)
+EndsBy (fault.ScriptFault why number) input left Writes = EndsAfter input Writes (λ lines rest world. (number ≡ length lines + 1) × IsFault number (is_some world) rest why)
 EndsBy fault.Read input left Writes = EndsAfter input Writes (λ lines rest world. (piece : List ℕ) × IsLine piece × Consumes input left (ended lines ++ piece))
 EndsBy fault.OutOfMemory input left Writes = EndsAfter input Writes (λ lines rest world. (lines ≡ []) ⊎ HasCommand rest)
 EndsBy fault.Write input left Writes = (lines : List (List ℕ)) × (rest text sent : List ℕ) × (world : Option World) × Played input lines rest text world × BreaksOff rest world sent × Writes (text ++ sent)

@@ -59,18 +59,18 @@ Gathers false old text new = new ≡ old
 -- how a line's fault ends the script
 abbrev pub ending_of : ℕ → LineFault → Fault
 ending_of number line_fault.OutOfMemory = fault.OutOfMemory
-ending_of number (line_fault.Faulty kind) = fault.ScriptFault number kind
+ending_of number (line_fault.Faulty kind) = fault.ScriptFault kind number
 
 -- past the last allowed line there is but one answer
 abbrev pub within_lines : ℕ → Result Bool Fault → Result Bool Fault
-within_lines number answer = if nat_lt most_lines number then Err (fault.ScriptFault number kind.Lines) else answer
+within_lines number answer = if nat_lt most_lines number then Err (fault.ScriptFault kind.Lines number) else answer
 
 -- whether what was taken is a line to play; or how it ends the script
 abbrev pub is_line : ℕ → Taken → Result Bool Fault
 is_line number taken.End = Ok false
 is_line number taken.Line = within_lines number (Ok true)
-is_line number taken.Long = within_lines number (Err (fault.ScriptFault number kind.Long))
-is_line number taken.Unended = within_lines number (Err (fault.ScriptFault number kind.Unended))
+is_line number taken.Long = within_lines number (Err (fault.ScriptFault kind.Long number))
+is_line number taken.Unended = within_lines number (Err (fault.ScriptFault kind.Unended number))
 
 -- what holds before the line with a number: the lines before it were taken and played, and their text was written
 -- but for its end, which is gathered

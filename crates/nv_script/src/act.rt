@@ -15,7 +15,7 @@ use crate::text::{
 };
 use crate::word::words;
 use nv_base::{Epoch, Fault, Geometry, GeometryNumbers, Ino};
-use nv_core::{Call, Event, MOST_STEPS, Reply, World};
+use nv_core::{Call, MOST_STEPS, Reply, World};
 use std::alloc::{AllocError, Global};
 
 /// Plays one line, which has no line end. The text that it writes is in `out` then, in place of what that held.
@@ -80,7 +80,7 @@ fn act(world: &mut World, command: Command, out: &mut Vec<u8>) -> Result<(), All
         (Leads (λ m n. Acts m command out.new.items n) world.old world.new) }
 {
     match command {
-        Command::Start(actor, call) => push_reply(out, &world.step(Event::Start(actor, call))),
+        Command::Start(actor, call) => push_reply(out, &world.start(actor, call)),
         Command::Go(actor, more) => push_reply(out, &go(world, actor, more)),
         Command::Run(actor) => push_reply(out, &run(world, actor)),
         Command::Do(actor, call) => push_reply(out, &make(world, actor, call)),
@@ -116,12 +116,12 @@ fn act(world: &mut World, command: Command, out: &mut Vec<u8>) -> Result<(), All
 fn go(world: &mut World, actor: u64, more: u64) -> Reply
     ensures { Leads (λ m n. GoesOn (more + 1) m actor (reply_of result) n) world.old world.new }
 {
-    let mut reply = world.step(Event::Go(actor));
+    let mut reply = world.go(actor);
     for _again in 0..more {
         if !matches!(reply, Reply::Moved) {
             return reply;
         }
-        reply = world.step(Event::Go(actor));
+        reply = world.go(actor);
     }
     reply
 }
@@ -140,7 +140,7 @@ fn make(world: &mut World, actor: u64, call: Call) -> Reply
     ensures { Leads (λ m n. RunsFrom (step m (machine.Start actor call)).reply
         (step m (machine.Start actor call)).world actor (reply_of result) n) world.old world.new }
 {
-    match world.step(Event::Start(actor, call)) {
+    match world.start(actor, call) {
         Reply::Started => run(world, actor),
         reply => reply,
     }

@@ -163,10 +163,10 @@ fn is_line(number: u64, taken: Taken) -> Result<bool, Fault>
 {
     match taken {
         Taken::End => Ok(false),
-        _ if number > MAX_LINES => Err(Fault::ScriptFault(number, ScriptFaultKind::Lines)),
+        _ if number > MAX_LINES => Err(Fault::ScriptFault(ScriptFaultKind::Lines, number)),
         Taken::Line => Ok(true),
-        Taken::Long => Err(Fault::ScriptFault(number, ScriptFaultKind::Long)),
-        Taken::Unended => Err(Fault::ScriptFault(number, ScriptFaultKind::Unended)),
+        Taken::Long => Err(Fault::ScriptFault(ScriptFaultKind::Long, number)),
+        Taken::Unended => Err(Fault::ScriptFault(ScriptFaultKind::Unended, number)),
     }
 }
 
@@ -176,6 +176,6 @@ fn ending_of(number: u64, fault: LineFault) -> Fault
 {
     match fault {
         LineFault::OutOfMemory => Fault::OutOfMemory,
-        LineFault::Faulty(kind) => Fault::ScriptFault(number, kind),
+        LineFault::Faulty(kind) => Fault::ScriptFault(kind, number),
     }
 }

@@ -31,7 +31,7 @@ fn push_fault(out: &mut Vec<u8>, fault: &Fault) -> Result<(), AllocError>
         Fault::BadGeometry(field) => push_bracketed(out, field.name().as_bytes()),
         Fault::Mismatch(part) => push_bracketed(out, part.name().as_bytes()),
         Fault::BadImage(fault) => push_bracketed(out, fault.name().as_bytes()),
-        Fault::ScriptFault(line, kind) => push_place(out, *line, *kind),
+        Fault::ScriptFault(kind, line) => push_place(out, *line, *kind),
         _ => Ok(()),
     }
 }

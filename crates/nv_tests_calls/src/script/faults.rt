@@ -22,11 +22,11 @@ fn is_faulty<R: AllocGlobal + Abort>(
 #[test]
 fn lines_have_their_faults(rt: HostRuntime) -> Result<(), Fail> {
     for (line, kind) in SECOND_LINES {
-        let fault = Fault::ScriptFault(2, *kind);
+        let fault = Fault::ScriptFault(*kind, 2);
         is_faulty(&rt, FORMAT, line, fault, b"formatted\n")?;
     }
     for (script, line, kind) in FIRST_LINES {
-        let fault = Fault::ScriptFault(*line, *kind);
+        let fault = Fault::ScriptFault(*kind, *line);
         is_faulty(&rt, "", script, fault, b"")?;
     }
     Ok(())
@@ -92,7 +92,7 @@ const ENDED: &[(&str, &str, &str, u64, ScriptFaultKind)] = &[
 #[test]
 fn last_lines_have_their_faults(rt: HostRuntime) -> Result<(), Fail> {
     for (front, text, line, number, kind) in ENDED {
-        let fault = Fault::ScriptFault(*number, *kind);
+        let fault = Fault::ScriptFault(*kind, *number);
         is_faulty(&rt, front, line, fault, text.as_bytes())?;
     }
     Ok(())
@@ -101,11 +101,11 @@ fn last_lines_have_their_faults(rt: HostRuntime) -> Result<(), Fail> {
 /// Bytes behind a format: so many of one, and an end, with how the script ends.
 type Behind = (u8, usize, &'static str, Result<(), Fault>);
 
-const LONG: Result<(), Fault> = Err(Fault::ScriptFault(2, ScriptFaultKind::Long));
+const LONG: Result<(), Fault> = Err(Fault::ScriptFault(ScriptFaultKind::Long, 2));
 
-const UNENDED: Result<(), Fault> = Err(Fault::ScriptFault(2, ScriptFaultKind::Unended));
+const UNENDED: Result<(), Fault> = Err(Fault::ScriptFault(ScriptFaultKind::Unended, 2));
 
-const PAST: Result<(), Fault> = Err(Fault::ScriptFault(1_048_577, ScriptFaultKind::Lines));
+const PAST: Result<(), Fault> = Err(Fault::ScriptFault(ScriptFaultKind::Lines, 1_048_577));
 
 const MANY: &[Behind] = &[
     (b'#', 4_096, "\n", Ok(())),

@@ -372,7 +372,7 @@ pub(super) const FAULTS: &[(Fault, &str)] = &[
     (Fault::Mismatch(MismatchPart::Lists), "E24 Mismatch(lists)"),
     (Fault::BadImage(ImageFault::Chain), "E26 BadImage(chain)"),
     (
-        Fault::ScriptFault(12, ScriptFaultKind::Word),
+        Fault::ScriptFault(ScriptFaultKind::Word, 12),
         "E27 ScriptFault(12, word)",
     ),
     (Fault::Write, "E29 Write"),

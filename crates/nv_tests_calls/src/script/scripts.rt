@@ -289,7 +289,7 @@ fn a_fault_is_told_in_one_line(rt: HostRuntime) -> Result<(), Fail> {
     for (fault, want) in [
         (Fault::Read, "novacore: E28 Read\n"),
         (
-            Fault::ScriptFault(2, ScriptFaultKind::Word),
+            Fault::ScriptFault(ScriptFaultKind::Word, 2),
             "novacore: E27 ScriptFault(2, word)\n",
         ),
     ] {

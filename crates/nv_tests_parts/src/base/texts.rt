@@ -55,35 +55,35 @@ const TEXTS: [(Fault, &str); 54] = [
     (Fault::BadImage(Image::Journal), "E26 BadImage(journal)"),
     (Fault::BadImage(Image::Snaps), "E26 BadImage(snaps)"),
     (
-        Fault::ScriptFault(1, Kind::Lines),
+        Fault::ScriptFault(Kind::Lines, 1),
         "E27 ScriptFault(1, lines)",
     ),
     (
-        Fault::ScriptFault(2, Kind::Long),
+        Fault::ScriptFault(Kind::Long, 2),
         "E27 ScriptFault(2, long)",
     ),
     (
-        Fault::ScriptFault(3, Kind::Unended),
+        Fault::ScriptFault(Kind::Unended, 3),
         "E27 ScriptFault(3, unended)",
     ),
     (
-        Fault::ScriptFault(12, Kind::Word),
+        Fault::ScriptFault(Kind::Word, 12),
         "E27 ScriptFault(12, word)",
     ),
     (
-        Fault::ScriptFault(20, Kind::Order),
+        Fault::ScriptFault(Kind::Order, 20),
         "E27 ScriptFault(20, order)",
     ),
     (
-        Fault::ScriptFault(99, Kind::Count),
+        Fault::ScriptFault(Kind::Count, 99),
         "E27 ScriptFault(99, count)",
     ),
     (
-        Fault::ScriptFault(100, Kind::Number),
+        Fault::ScriptFault(Kind::Number, 100),
         "E27 ScriptFault(100, number)",
     ),
     (
-        Fault::ScriptFault(101, Kind::Text),
+        Fault::ScriptFault(Kind::Text, 101),
         "E27 ScriptFault(101, text)",
     ),
     (Fault::Read, "E28 Read"),
@@ -96,7 +96,7 @@ fn word_in(fault: Fault) -> &'static str {
         Fault::BadGeometry(field) => field.name(),
         Fault::Mismatch(part) => part.name(),
         Fault::BadImage(fault) => fault.name(),
-        Fault::ScriptFault(_, kind) => kind.name(),
+        Fault::ScriptFault(kind, _) => kind.name(),
         _ => "",
     }
 }

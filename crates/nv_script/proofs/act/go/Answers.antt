@@ -4,7 +4,7 @@ use Rattle.nv_script.proofs.act.go.Goals as goal
 use Rattle.nv_script.proofs.act.go.Goals.{in-Moved, in_default}
 
 pub loop-again-init : goal.loop-again-init
-loop-again-init c = gone_once c.args.world.now c.step-reply.new.self c.args.actor _ c.step-reply.ensures
+loop-again-init c = gone_once c.args.world.now c.go-reply.new.self c.args.actor _ c.go-reply.ensures
 
 pub returns-then-not-matches : goal.returns-then-not-matches
 returns-then-not-matches c =
@@ -17,8 +17,8 @@ returns-then-not-matches c =
 pub loop-again-preserved : goal.loop-again-preserved
 loop-again-preserved c =
     elim c.match-matches.branch [
-      | in-Moved w ↦ gone_more c.args.world.now c.loop-again.world c.step-reply-in-loop-again.new.self c.loop-again._again c.args.actor
-          c.loop-again.reply c.step-reply-in-loop-again.result w.in-Moved.is c.loop-again.invariant c.step-reply-in-loop-again.ensures
+      | in-Moved w ↦ gone_more c.args.world.now c.loop-again.world c.go-reply-in-loop-again.new.self c.loop-again._again c.args.actor
+          c.loop-again.reply c.go-reply-in-loop-again.result w.in-Moved.is c.loop-again.invariant c.go-reply-in-loop-again.ensures
       | in_default w ↦ absurd (true≢false (sym c.if-not-matches.false ∙ w.matches-is))
     ]
 

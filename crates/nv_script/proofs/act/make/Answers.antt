@@ -3,5 +3,5 @@ use Rattle.nv_script.proofs.act.make.Goals as goal
 
 pub returns-in-Started : goal.returns-in-Started
 returns-in-Started c =
-    started_runs c.args.world.now c.step.new.self c.run.new.world c.args.actor c.args.call c.step.result c.run.result c.in-Started.is
-    c.step.ensures c.run.ensures
+    started_runs c.args.world.now c.start.new.self c.run.new.world c.args.actor c.args.call c.start.result c.run.result c.in-Started.is
+    c.start.ensures c.run.ensures
