@@ -1,4 +1,5 @@
 pub mod Finding
+pub mod Runs
 pub mod Parts
 pub mod Flags
 pub mod Logs

@@ -2,6 +2,7 @@
 use Rattle.std.specs.Prelude.{◌-◌, ◌*◌, ◌≤◌, vec_len, vec_capacity}
 use Rattle.nv_log.specs.declared.chain.Chain.TheInside.{Inside}
 use Rattle.nv_log.specs.Chain.{ChainState, ChainValue, IsChain}
+use Rattle.nv_log.specs.CommitRun.{IsCommitRun}
 
 abbrev pub state_in : Inside → ChainState
 state_in c = record { page = c.page; blocks = c.blocks.items; ends = c.ends.items; entries = c.entries.items; tail = c.tail }
@@ -9,9 +10,10 @@ state_in c = record { page = c.page; blocks = c.blocks.items; ends = c.ends.item
 abbrev pub value_in : Inside → ChainValue
 value_in c = record { state = state_in c; spare = c.reserved - vec_len c.blocks }
 
--- the fields are a chain's, and there is room for as many pages as are reserved, with their ends and their entries
+-- the fields are a chain's, with a run of commits at its end, and there is room for as many pages as are reserved, with their ends and their entries
 pub record AreFields (c : Inside) : Type 0 where
   pub chain : IsChain (state_in c)
+  pub run : IsCommitRun c.entries.items c.run
   pub there : vec_len c.blocks ≤ c.reserved
   pub blocks_room : c.reserved ≤ vec_capacity c.blocks
   pub ends_room : c.reserved ≤ vec_capacity c.ends

@@ -1,2 +1,3 @@
+pub mod CommitRun
 pub mod Chain
 pub mod Fields

@@ -9,6 +9,7 @@ ghost use Rattle.nv_log.specs.Chain.{AppendsEntry, IsChain, appended, empty_chai
 
 mod clean;
 
+use crate::commit_run::CommitRun;
 use crate::reads::ReadCount;
 use crate::{pages, search};
 use nv_alloc::Block;
@@ -34,6 +35,7 @@ pub struct Chain {
     ends: Vec<usize>,
     entries: Vec<Entry>,
     tail: usize,
+    run: CommitRun,
     // How many pages there is room for, those that are there included.
     reserved: usize,
     reads: ReadCount,
@@ -65,6 +67,7 @@ impl Chain {
             ends: Vec::new(alloc),
             entries: Vec::new(alloc),
             tail: 0,
+            run: CommitRun::behind(0),
             reserved: 0,
             reads: ReadCount::new(),
         }
@@ -180,7 +183,7 @@ impl Chain {
         ensures value { result ≡ place_of self.now.state.entries id }
         ensures within { IfSome result (λ place. place < length self.now.state.entries) }
     {
-        search::place_of(&self.entries, id)
+        search::place_of(&self.entries, self.run, id)
     }
 
     /// The entry of that id. The time grows with the logarithm of the entries.
@@ -301,6 +304,7 @@ impl Chain {
         ensures spare { self.new.spare ≡ self.old.spare }
     {
         let open = pages::open_page(self.page, &self.ends, self.entries.len());
+        self.run = self.run.with(&self.entries, entry.id);
         self.entries.push_reserved(entry);
         self.ends.truncate(open);
         self.ends.push_reserved(self.entries.len());
@@ -328,6 +332,7 @@ impl Chain {
             ends,
             entries,
             tail: published,
+            run,
             reserved,
             reads: _,
         } = chain;
@@ -335,6 +340,7 @@ impl Chain {
         self.ends = ends;
         self.entries = entries;
         self.tail = published;
+        self.run = run;
         self.reserved = reserved;
         mem::replace(&mut self.blocks, blocks)
     }
@@ -350,6 +356,7 @@ impl Chain {
             ends: _,
             entries: _,
             tail: _,
+            run: _,
             reserved: _,
             reads: _,
         } = self;

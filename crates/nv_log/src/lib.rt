@@ -5,6 +5,7 @@
 #![tactic(auto)]
 
 mod chain;
+mod commit_run;
 mod pages;
 mod reads;
 mod removal;

@@ -4,7 +4,9 @@ ghost use Rattle.std.specs.Prelude.{◌≡◌, ◌<◌, ◌≤◌, ◌↔◌, If
 ghost use Rattle.nv_base.specs.Ids.{IsIdBefore};
 ghost use Rattle.nv_entry.specs.Log.{IsLog};
 ghost use Rattle.nv_log.specs.Chain.{place_of};
+ghost use Rattle.nv_log.specs.CommitRun.{IsCommitRun};
 
+use crate::commit_run::CommitRun;
 use nv_base::{EntryId, Epoch};
 use nv_entry::Entry;
 
@@ -56,14 +58,18 @@ fn near(entries: &[Entry], place: usize, id: EntryId) -> usize {
     low + entries[low..high].partition_point(|entry| entry.id < id)
 }
 
-/// The place of the entry of that id. Among more than a few entries it is guessed as if commits lay evenly, and twice more
-/// from what stands at the guess: where the entry is near, this costs the same at any number of entries, and else the
-/// logarithm of them all.
-pub fn place_of(entries: &[Entry], id: EntryId) -> Option<usize>
-    requires { IsLog entries.now }
+/// The place of the entry of that id. In a run of commits it is told by the id. Among more than a few entries it is guessed
+/// as if commits lay evenly, and twice more from what stands at the guess: where the entry is near, this costs the same
+/// at any number of entries, and else the logarithm of them all.
+pub fn place_of(entries: &[Entry], run: CommitRun, id: EntryId) -> Option<usize>
+    requires log { IsLog entries.now }
+    requires run { IsCommitRun entries.now run }
     ensures value { result ≡ place_of entries.now id }
     ensures within { IfSome result (λ place. place < length entries.now) }
 {
+    if let Some(place) = run.place_of(entries, id) {
+        return Some(place);
+    }
     if entries.len() > NEAR {
         let guess = guess_from(entries, 0, id);
         if is_at(entries, guess, id) {

@@ -8,6 +8,7 @@ ghost use Rattle.nv_entry.specs.Clean.{pages_by, select};
 ghost use Rattle.nv_log.specs.Chain.{IsChain, KeepsPages, all_but, compacted, flags_from, gone_of, joined, left_of, log, log_pages, pages_of, with_entries_left, with_pages_left};
 
 use super::Chain;
+use crate::commit_run::CommitRun;
 use crate::{pages, removal};
 use nv_alloc::{Block, BlockQueue};
 use std::alloc::{AllocError, Global};
@@ -72,6 +73,7 @@ impl Chain {
         ensures was { IsChain self.old.state }
     {
         self.tail = removal::take_pages(&mut self.entries, &mut self.ends, self.tail, first, stays);
+        self.run = CommitRun::behind(self.entries.len());
     }
 
     /// How many entries stay where the log keeps those that are flagged as staying, a flag for each. The time
@@ -99,6 +101,7 @@ impl Chain {
         self.tail = removal::staying(&self.entries[..self.tail], stays);
         removal::take_entries(&mut self.entries, stays);
         pages::pack(&mut self.ends, self.page, self.entries.len());
+        self.run = CommitRun::behind(self.entries.len());
         self.reserved = pages.len();
         mem::replace(&mut self.blocks, pages)
     }

@@ -8,5 +8,5 @@ pub returns : goal.returns
 returns c =
     let facts = c.binary_search_by.ensures in
     let by_id = facts.position (λ e. id_cmp e.id c.args.id) (always_returns_same _ _ _ (λ a r f' called. (search rules, search rules))) in
-    let is = c.ok.ensures.value ∙ found c.args.entries.now c.args.id c.binary_search_by.result c.requires facts.bound by_id in
+    let is = c.ok.ensures.value ∙ found c.args.entries.now c.args.id c.binary_search_by.result c.requires.log facts.bound by_id in
     record { value = is; within = found_within c.args.entries.now c.args.id c.ok.result is }

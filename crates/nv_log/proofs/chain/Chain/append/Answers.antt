@@ -42,6 +42,7 @@ whole : (c : goal.After-push_reserved-2) → state_in (record {
   ends = c.push_reserved-2.new.self;
   entries = c.push_reserved.new.self;
   tail = c.self.inside.tail;
+  run = c.with-self-inside.result;
   reserved = c.self.inside.reserved;
   reads = c.self.inside.reads;
 }) ≡ appended c.args.entry (state_in c.self.inside)
@@ -64,6 +65,7 @@ invariant_of-self c =
       blocks_room = c.self.invariant.blocks_room;
       ends_room = rw (c.push_reserved-2.ensures.capacity, c.truncate.ensures.capacity) c.self.invariant.ends_room;
       entries_room = rw c.push_reserved.ensures.capacity c.self.invariant.entries_room;
+      run = rw c.push_reserved.ensures.items (rw c.deref-2.ensures.value at c.with-self-inside.ensures c.args.entry refl);
     }
 
 pub returns-clause-state : goal.returns-clause-state

@@ -29,6 +29,7 @@ whole : (c : goal.After-replace) → state_in (record {
   ends = c.pack.new.ends;
   entries = c.take_entries.new.entries;
   tail = c.staying-self-inside.result;
+  run = c.behind-self-inside.result;
   reserved = c.len-self-inside.result;
   reads = c.self.inside.reads;
 }) ≡ compacted c.args.stays.now c.args.pages.items (state_in c.self.inside)
@@ -58,6 +59,7 @@ invariant_of-self c =
     mul-le-mul_right c.self.inside.page few in
     record {
       chain = subst IsChain (sym (whole c)) (IsChain-compacted stays c.args.pages.items chain c.self.invariant.chain count);
+      run = c.behind-self-inside.ensures c.take_entries.new.entries.items (omega (arith, c.len-2.ensures, c.take_entries.new.entries.ok));
       there = rw (c.replace.ensures.after, c.len-self-inside.ensures) (omega arith);
       blocks_room = rw (c.replace.ensures.after, c.len-self-inside.ensures) (omega (arith, c.args.pages.ok));
       ends_room = rw (c.pack.ensures.capacity, c.len-self-inside.ensures) (omega (arith, few, c.self.invariant.ends_room));

@@ -20,6 +20,7 @@ whole : (c : goal.After-remove) → state_in (record {
   ends = c.self.inside.ends;
   entries = c.self.inside.entries;
   tail = c.self.inside.tail;
+  run = c.self.inside.run;
   reserved = c.self.inside.reserved;
   reads = c.self.inside.reads;
 }) ≡ with_pages_left (all_but c.args.k) c.args.self.now.state
@@ -36,6 +37,7 @@ invariant_of-self c = record {
   chain = subst IsChain (sym (whole c)) (IsChain-with_pages_left (all_but c.args.k) c.args.self.now.state c.leave_pages.ensures.was);
   there = omega (arith, c.self.invariant.there, c.remove.ensures.len);
   blocks_room = rw c.remove.ensures.capacity c.self.invariant.blocks_room;
+  run = c.self.invariant.run;
   ends_room = c.self.invariant.ends_room;
   entries_room = c.self.invariant.entries_room;
 }

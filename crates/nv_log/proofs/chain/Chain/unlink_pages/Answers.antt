@@ -17,6 +17,7 @@ whole : (c : goal.After-hand_out) → state_in (record {
   ends = c.self.inside.ends;
   entries = c.self.inside.entries;
   tail = c.self.inside.tail;
+  run = c.self.inside.run;
   reserved = c.self.inside.reserved;
   reads = c.self.inside.reads;
 }) ≡ with_pages_left c.args.stays.now c.args.self.now.state
@@ -42,6 +43,7 @@ invariant_of-self c =
             c.hand_out.new.blocks.ok,
           );
       blocks_room = rw c.hand_out.ensures.capacity c.self.invariant.blocks_room;
+      run = c.self.invariant.run;
       ends_room = c.self.invariant.ends_room;
       entries_room = c.self.invariant.entries_room;
     }

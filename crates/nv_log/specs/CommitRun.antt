@@ -1,0 +1,14 @@
+-- Entries whose commits follow one another.
+use Rattle.std.specs.Prelude.{◌≡◌, ℕ, ◌+◌, ◌-◌, ◌<◌, ◌≤◌, List, length, slice_index_or}
+use Rattle.nv_base.specs.declared.numbers.EntryId.{EntryId}
+use Rattle.nv_entry.specs.declared.item.Entry.{Entry}
+use Rattle.nv_log.specs.declared.commit_run.CommitRun.{CommitRun}
+
+-- the entry at place `n` of a run: the first of its commit
+abbrev pub id_in : CommitRun → ℕ → EntryId
+id_in run n = record { commit = run.first + (n - run.from); place = 0 }
+
+-- the entries from a place on are each the first of its commit, and their commits follow one another
+abbrev pub IsCommitRun : List Entry → CommitRun → Type 0
+IsCommitRun entries run = (n : ℕ) (none : Entry) → run.from ≤ n → n < length entries
+    → (slice_index_or entries n none).id ≡ id_in run n
