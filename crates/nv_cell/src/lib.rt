@@ -7,6 +7,7 @@ mod closing;
 mod effects;
 mod erase;
 mod found;
+mod grow;
 mod index;
 mod killed;
 mod kills;

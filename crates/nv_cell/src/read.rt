@@ -114,19 +114,76 @@ fn read_pages(
         number: 0,
     };
     let mut place = 0;
-    for page in start / block..end.div_ceil(block) {
-        if stretch.end <= page {
-            stretch = stretch_from(block, index, chain, marks, page, &mut place);
+    let first = start / block;
+    let last = end.div_ceil(block);
+    let mut ahead = if first < last {
+        next_block(
+            block,
+            index,
+            chain,
+            marks,
+            slots,
+            first,
+            &mut stretch,
+            &mut place,
+        )
+    } else {
+        None
+    };
+    for page in first..last {
+        // The next page is looked up before the bytes of this one are copied: both wait for memory at one time.
+        let found = ahead;
+        if page + 1 < last {
+            ahead = next_block(
+                block,
+                index,
+                chain,
+                marks,
+                slots,
+                page + 1,
+                &mut stretch,
+                &mut place,
+            );
         }
         let base = page * block;
         push_part(
             bytes,
-            block_in(slots, stretch, page),
+            found,
             start.saturating_sub(base) as usize,
             block.min(end - base) as usize,
         )?;
     }
     Ok(())
+}
+
+/// The block of a page, by the stretch that has it or comes behind it: the last one, or where that has ended the next, which
+/// is looked for at a place among the runs first.
+fn next_block<'a>(
+    block: u64,
+    index: &CellIndex,
+    chain: &Chain,
+    marks: &Marks,
+    slots: &'a [Option<Block>],
+    page: u64,
+    stretch: &mut Stretch,
+    place: &mut usize,
+) -> Option<&'a Block>
+    requires block { 0 < block }
+    requires page { page + 1 < 2 ^ 64 }
+    requires index { IsIndexOf block (log chain.now.state) index.now }
+    requires ends { (i : ℕ) → i < chain.now.state.tail
+        → start_at marks.now.ends.items i ≡ part_base chain.now.state.entries i }
+    requires small { part_total (log chain.now.state) < 2 ^ 64 }
+    requires last { page < stretch.old.end
+        → IsStretch (page_number chain.now.state.entries index.now) page stretch.old }
+    ensures block { option_copied result ≡ option_and_then (λ n. slice_index_or slots.now n None)
+        (page_number chain.now.state.entries index.now page) }
+    ensures stretch { IsStretch (page_number chain.now.state.entries index.now) page stretch.new }
+{
+    if stretch.end <= page {
+        *stretch = stretch_from(block, index, chain, marks, page, place);
+    }
+    block_in(slots, *stretch, page)
 }
 
 /// The stretch that has a page, or the first one behind it. Its run is looked for at a place first, which becomes the place

@@ -12,6 +12,7 @@ ghost use Rattle.nv_cell.specs.Room.{HasGrown, HasNoLess, HaveGrown, IsReadyFor}
 ghost use Rattle.nv_cell.specs.Tallies.{HasSpare};
 ghost use Rattle.nv_cell.specs.Weights.{parts_in, runs_of, weights_by, weights_in};
 
+use crate::grow::grow;
 use crate::needs::{most_killed, part_total};
 use crate::{CellIndex, InodeCell, KilledPart, Marks, NumberedPart};
 use nv_alloc::Block;
@@ -107,6 +108,6 @@ fn grow_log(
     let pages = chain.pages_for(entries);
     let all = chain.blocks().len().saturating_add(pages);
     marks.reserve(parts, entries, all)?;
-    blocks.reserve(parts)?;
+    grow(blocks, parts)?;
     chain.reserve(pages)
 }

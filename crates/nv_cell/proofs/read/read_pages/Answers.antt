@@ -5,17 +5,17 @@ use Rattle.nv_cell.specs.Pages.{IsStretch, page_now, page_number, pages_now, slo
 use Rattle.nv_cell.proofs.ReadAt.{begins_within, ends_all, ends_behind, is_counted, read_more}
 use Rattle.nv_cell.proofs.Stretches.{full_page, slot_enough, stretch_on}
 use Rattle.nv_cell.proofs.read.read_pages.Goals as goal
-use Rattle.nv_cell.proofs.read.read_pages.Goals.{then-stretch-page, else-stretch-page}
+use Rattle.nv_cell.proofs.read.read_pages.Goals.{then-page-last, else-page-last}
+
+pub next_block-ahead-requires-then-page-last-clause-last : goal.next_block-ahead-requires-then-page-last-clause-last
+next_block-ahead-requires-then-page-last-clause-last c lt =
+    let numbers : ℕ → Option ℕ = page_number c.args.chain.now.state.entries c.args.index.now in
+    stretch_on numbers c.loop-page.page c.loop-page.stretch (c.loop-page.invariant.stretch (omega arith)) lt
 
 pub push_part-requires-clause-within : goal.push_part-requires-clause-within
 push_part-requires-clause-within c =
     let numbers : ℕ → Option ℕ = page_number c.args.chain.now.state.entries c.args.index.now in
-    let is : IsStretch numbers c.loop-page.page c.if-stretch-page.stretch =
-    elim c.if-stretch-page.branch [
-      | then-stretch-page w ↦ rw w.stretch-is w.stretch_from-stretch.ensures
-      | else-stretch-page w ↦ rw w.stretch-is (c.loop-page.invariant.stretch w.if-stretch-page.false)
-    ] in
-    rw (c.block_in.ensures numbers is)
+    rw (c.loop-page.invariant.ahead c.loop-page-test.true)
     (slot_enough c.args.block c.min.result c.args.slots.now (numbers c.loop-page.page) c.requires.sized (omega (arith, c.min.ensures)))
 
 pub loop-page-preserved : goal.loop-page-preserved
@@ -26,13 +26,8 @@ loop-page-preserved c =
     let slots = c.args.slots.now in
     let start = c.args.places.start in
     let end = c.args.places.end in
-    let is : IsStretch numbers page c.if-stretch-page.stretch =
-    elim c.if-stretch-page.branch [
-      | then-stretch-page w ↦ rw w.stretch-is w.stretch_from-stretch.ensures
-      | else-stretch-page w ↦ rw w.stretch-is (c.loop-page.invariant.stretch w.if-stretch-page.false)
-    ] in
     let within : page * block < end =
-    begins_within end block page c.requires.block (omega (arith, c.loop-page-test.true, c.div_ceil-page-end.ensures)) in
+    begins_within end block page c.requires.block (omega (arith, c.loop-page-test.true, c.div_ceil-last.ensures)) in
     let behind : start ≤ page * block + block = ends_behind start block page c.requires.block c.loop-page.invariant.begun in
     record {
       begun = omega (arith, c.loop-page.invariant.begun);
@@ -42,16 +37,23 @@ loop-page-preserved c =
           (is_counted end block page count within le) c.requires.order (omega (arith, within)) behind in
           let pushed = c.in_ok-push_part.ensures block (omega (arith, c.min.ensures)) in
           let piece : take (c.min.result - c.saturating_sub.result)
-          (drop c.saturating_sub.result (slot_bytes block (option_copied c.block_in.result)))
+          (drop c.saturating_sub.result (slot_bytes block (option_copied c.loop-page.ahead)))
           ≡ take (min block (end - page * block) - (start - page * block))
           (drop (start - page * block) (page_now block slots numbers page)) =
-          rw (c.block_in.ensures numbers is, c.min.ensures, c.saturating_sub.ensures) refl in
+          rw (c.loop-page.invariant.ahead c.loop-page-test.true, c.min.ensures, c.saturating_sub.ensures) refl in
           pushed
           ∙ ap (λ (xs : List ℕ). xs ++ take (c.min.result - c.saturating_sub.result)
-          (drop c.saturating_sub.result (slot_bytes block (option_copied c.block_in.result)))) (c.loop-page.invariant.bytes count le)
+          (drop c.saturating_sub.result (slot_bytes block (option_copied c.loop-page.ahead)))) (c.loop-page.invariant.bytes count le)
           ∙ ap (λ (xs : List ℕ). read_at start (min end (page * block) - start) (pages_now block slots numbers count) ++ xs) piece
           ∙ more;
-      stretch = λ lt. stretch_on numbers page c.if-stretch-page.stretch is lt;
+      ahead = λ lt. elim c.if-page-last.branch [
+        | then-page-last w ↦ rw w.ahead-is w.next_block-ahead-then-page-last.ensures.block
+        | else-page-last w ↦ absurd (omega (arith, lt, w.if-page-last.false))
+      ];
+      stretch = λ lt. elim c.if-page-last.branch [
+        | then-page-last w ↦ rw w.stretch-is w.next_block-ahead-then-page-last.ensures.stretch
+        | else-page-last w ↦ absurd (omega (arith, lt, w.if-page-last.false))
+      ];
     }
 
 pub returns : goal.returns
@@ -62,6 +64,6 @@ returns c count le =
     let page = c.loop-page.page in
     let all = pages_now block c.args.slots.now (page_number c.args.chain.now.state.entries c.args.index.now) count in
     let past : end ≤ page * block =
-    ends_all end block page c.requires.block (omega (arith, c.loop-page-test.false, c.div_ceil-page-end.ensures)) in
+    ends_all end block page c.requires.block (omega (arith, c.loop-page-test.false, c.div_ceil-last.ensures)) in
     let whole : min end (page * block) ≡ end = omega (arith, past) in
     c.loop-page.invariant.bytes count le ∙ ap (λ (k : ℕ). read_at start (k - start) all) whole

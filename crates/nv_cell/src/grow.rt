@@ -1,0 +1,21 @@
+//! Growth of the lists that go along with a log.
+
+ghost use Rattle.std.specs.Prelude.{◌+◌, ◌≤◌, IsOk, OnOk, vec_capacity, vec_len};
+ghost use Rattle.nv_cell.specs.Room.{HasGrown};
+
+use std::alloc::AllocError;
+
+/// For how many more items a list grows at least: a small file has its room at once.
+const LEAST_GROWTH: usize = 16;
+
+/// Makes room for so many more items. Where it is missing the list grows by a few more, so that it grows seldom.
+pub fn grow<T>(list: &mut Vec<T>, count: usize) -> Result<(), AllocError>
+    ensures grown { HasGrown list.old list.new }
+    ensures ok { OnOk result (vec_len list.new + count ≤ vec_capacity list.new) }
+    ensures enough { vec_len list.old + count ≤ vec_capacity list.old → IsOk result }
+{
+    if count <= list.capacity() - list.len() {
+        return Ok(());
+    }
+    list.reserve(count.max(LEAST_GROWTH))
+}
