@@ -1,8 +1,8 @@
 -- Blocks that go home to one list, as the machine's.
-use Rattle.std.proofs.Common.{◌≡◌, ℕ, zero, suc, ◌+◌, ◌-◌, ◌<◌, ◌≤◌, ◌∙◌, ◌++◌, Bool, true, false, List, [], ◌∷◌, Option, Some, ap, arith, filter, if◌then◌else◌, length, nat_lt, not, refl, subst, sym}
-use Rattle.std.specs.Prelude.{nat_le, slice_index_or, slice_set}
+use Rattle.std.proofs.Common.{◌≡◌, ℕ, zero, suc, ◌+◌, ◌-◌, ◌<◌, ◌≤◌, ◌∙◌, ◌++◌, Bool, true, false, List, [], ◌∷◌, Option, Some, ap, arith, if◌then◌else◌, length, nat_lt, not, refl, subst, sym}
+use Rattle.std.specs.Prelude.{slice_index_or, slice_set}
 use Rattle.std.specs.List.{AllByRecursion, list_any}
-use Rattle.std.proofs.lemmas.Bool.{le-leb, ltb-false, ltb-true, false≢true}
+use Rattle.std.proofs.lemmas.Bool.{ltb-true, false≢true}
 use Rattle.std.proofs.lemmas.List.{length-set}
 use Rattle.nv_alloc.specs.Block.{AreSized, BlockValue, numbers_of}
 use Rattle.nv_alloc.specs.FreeList.{FreeBlocks, is_home}
@@ -10,7 +10,7 @@ use Rattle.nv_alloc.specs.Giving.{after_giving, after_offer, kept_of, takes}
 use Rattle.nv_alloc.specs.Numbers.{times}
 use Rattle.nv_alloc.specs.Queue.{after_home}
 use Rattle.nv_alloc.specs.declared.hand.Hand.{Hand}
-use Rattle.nv_alloc.proofs.GivingLemmas.{goes_home, kept_of-append}
+use Rattle.nv_alloc.proofs.GivingLemmas.{kept_of-append}
 use Rattle.nv_base.specs.Homes.{home_start}
 use Rattle.nv_base.specs.declared.geometry.GeometryNumbers.{GeometryNumbers}
 use Rattle.nv_machine.specs.Hands.{AreGiven}
@@ -19,36 +19,15 @@ use Rattle.nv_machine.specs.Reads.{home_from}
 use Rattle.nv_machine.specs.World.{HandState, Running, Shared, list_at, no_list, with_list}
 use Rattle.nv_core.specs.Parts.{AreListsOf, IsListOf}
 use Rattle.nv_core.specs.Shown.{hand_of}
-use Rattle.nv_core.proofs.Homes.{AreHomes, are_homes, none_home, starts_rise}
+use Rattle.nv_machine.proofs.Homes.{AreHomes, kept_is_given}
+use Rattle.nv_core.proofs.Homes.{are_homes, none_home, starts_rise}
 
 -- ---- what a list does not take
-
-past_home : (list : FreeBlocks) (n from next : ℕ) → list.start ≡ from → list.end ≡ next → from ≤ n → is_home list n ≡ false → next ≤ n
-past_home list n from next start end low h = go (nat_lt n list.end) refl where
-  go : (b : Bool) → nat_lt n list.end ≡ b → next ≤ n
-  go true q =
-      let first : nat_le list.start n ≡ true = le-leb list.start n (omega (arith, start, low)) in
-      let z : true ≡ false = sym (rw (first, q) refl) ∙ h in absurd (false≢true (sym z))
-  go false q = omega (arith, end, ltb-false n list.end q)
-
-kept_given : (g : GeometryNumbers) (cpu : ℕ) (list : FreeBlocks) (bs : List BlockValue) → list.start ≡ home_start g.blocks g.cpus cpu
-    → list.end ≡ home_start g.blocks g.cpus (cpu + 1) → AreGiven g cpu bs
-    → AreGiven g (cpu + 1) (filter (λ (b : BlockValue). not (is_home list b.number)) bs)
-kept_given g cpu list [] start end given = tt
-kept_given g cpu list (b ∷ bs) start end given = go (is_home list b.number) refl (kept_given g cpu list bs start end given.1) where
-  go : (c : Bool) → is_home list b.number ≡ c → AreGiven g (cpu + 1) (filter (λ (b : BlockValue). not (is_home list b.number)) bs)
-      → AreGiven g (cpu + 1) (if not c then b ∷ filter (λ (b : BlockValue). not (is_home list b.number)) bs
-      else filter (λ (b : BlockValue). not (is_home list b.number)) bs)
-  go true q more = more
-  go false q more =
-      (past_home list b.number (home_start g.blocks g.cpus cpu) (home_start g.blocks g.cpus (cpu + 1)) start end given.0 q, more)
 
 pub all_given : (g : GeometryNumbers) (cpu : ℕ) (list : FreeBlocks) (bs : List BlockValue) → IsListOf g cpu list → AreSized g.block bs
     → ((n : ℕ) → times n (numbers_of bs) + times n (numbers_of list.blocks) ≤ 1) → AreGiven g cpu bs
     → AreGiven g (cpu + 1) (kept_of list bs)
-all_given g cpu list bs home sized once given =
-    let goes = goes_home list bs (subst (λ (n : ℕ). AreSized n bs) (sym home.size) sized) once in
-    subst (λ (l : List BlockValue). AreGiven g (cpu + 1) l) (sym goes.kept) (kept_given g cpu list bs home.start home.end given)
+all_given g cpu list bs home sized once given = kept_is_given g cpu list bs home.start home.end home.size sized once given
 
 -- what is kept is of those that were offered
 pub kept_all : (P : BlockValue → Type 0) (list : FreeBlocks) (bs : List BlockValue) → AllByRecursion P bs

@@ -1,6 +1,6 @@
 -- The first CPU that is home of some blocks, by the lists and by the lowest number.
 use Rattle.std.proofs.Common.{rules, ◌≡◌, ℕ, zero, suc, ◌+◌, ◌-◌, ◌<◌, ◌≤◌, ◌∙◌, Bool, true, false, List, [], ◌∷◌, Some, None, ap, arith, if◌then◌else◌, length, nat_lt, refl, subst, sym}
-use Rattle.std.specs.Prelude.{◌||◌, ◌&&◌, ◌==◌, nat_le, slice_index_or}
+use Rattle.std.specs.Prelude.{◌||◌, ◌&&◌, ◌==◌, nat_le}
 use Rattle.std.specs.List.{AllByRecursion, list_any}
 use Rattle.std.proofs.lemmas.Bool.{le-leb, ltb-false, ltb-true, lt-ltb, false≢true}
 use Rattle.nv_alloc.specs.Block.{BlockValue, numbers_of}
@@ -10,33 +10,8 @@ use Rattle.nv_base.specs.Homes.{IsHome, home_start}
 use Rattle.nv_base.specs.declared.geometry.GeometryNumbers.{GeometryNumbers}
 use Rattle.nv_base.proofs.HomeRanges.{cuts}
 use Rattle.nv_machine.specs.Reads.{home_from}
-use Rattle.nv_machine.specs.World.{no_list}
+use Rattle.nv_machine.proofs.Homes.{AreHomes, homes_from}
 use Rattle.nv_core.specs.Parts.{AreListsOf}
-
--- lists from a CPU on have their home ranges
-abbrev pub AreHomes : GeometryNumbers → ℕ → List FreeBlocks → Type 0
-AreHomes g cpu [] = Unit {0}
-AreHomes g cpu (list ∷ lists) =
-    ((list.start ≡ home_start g.blocks g.cpus cpu) × (list.end ≡ home_start g.blocks g.cpus (cpu + 1))) × AreHomes g (cpu + 1) lists
-
-homes_from : (g : GeometryNumbers) (cpu : ℕ) (lists : List FreeBlocks)
-    → ((k : ℕ) → k < length lists → ((slice_index_or lists k no_list).start ≡ home_start g.blocks g.cpus (cpu + k))
-    × ((slice_index_or lists k no_list).end ≡ home_start g.blocks g.cpus (cpu + k + 1))) → AreHomes g cpu lists
-homes_from g cpu [] each = tt
-homes_from g cpu (list ∷ lists) each =
-    let here = each 0 (omega arith) in
-    let same : cpu + 0 ≡ cpu = omega arith in (
-      (
-        here.0 ∙ ap (home_start g.blocks g.cpus) same,
-        here.1 ∙ ap (λ (n : ℕ). home_start g.blocks g.cpus (n + 1)) same,
-      ),
-      homes_from g (cpu + 1) lists (λ k lt.
-          let there = each (suc k) (omega (arith, lt)) in
-          let more : cpu + suc k ≡ cpu + 1 + k = omega arith in (
-            there.0 ∙ ap (home_start g.blocks g.cpus) more,
-            there.1 ∙ ap (λ (n : ℕ). home_start g.blocks g.cpus (n + 1)) more,
-          )),
-    )
 
 pub are_homes : (g : GeometryNumbers) (lists : List FreeBlocks) → AreListsOf g lists → AreHomes g 0 lists
 are_homes g lists are =

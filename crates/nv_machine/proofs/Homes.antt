@@ -23,7 +23,7 @@ AreHomes g cpu [] = Unit {0}
 AreHomes g cpu (list ∷ lists) =
     ((list.start ≡ home_start g.blocks g.cpus cpu) × (list.end ≡ home_start g.blocks g.cpus (cpu + 1))) × AreHomes g (cpu + 1) lists
 
-homes_from : (g : GeometryNumbers) (cpu : ℕ) (lists : List FreeBlocks)
+pub homes_from : (g : GeometryNumbers) (cpu : ℕ) (lists : List FreeBlocks)
     → ((k : ℕ) → k < length lists → ((slice_index_or lists k no_list).start ≡ home_start g.blocks g.cpus (cpu + k))
     × ((slice_index_or lists k no_list).end ≡ home_start g.blocks g.cpus (cpu + k + 1))) → AreHomes g cpu lists
 homes_from g cpu [] each = tt
@@ -142,9 +142,16 @@ kept_given g cpu list (b ∷ bs) start end given = go (is_home list b.number) re
   go false q more =
       (past_home list b.number (home_start g.blocks g.cpus cpu) (home_start g.blocks g.cpus (cpu + 1)) start end given.0 q, more)
 
+-- the same of what a list keeps of them
+pub kept_is_given : (g : GeometryNumbers) (cpu : ℕ) (list : FreeBlocks) (bs : List BlockValue) → list.start ≡ home_start g.blocks g.cpus cpu
+    → list.end ≡ home_start g.blocks g.cpus (cpu + 1) → list.size ≡ g.block → AreSized g.block bs
+    → ((n : ℕ) → times n (numbers_of bs) + times n (numbers_of list.blocks) ≤ 1) → AreGiven g cpu bs
+    → AreGiven g (cpu + 1) (kept_of list bs)
+kept_is_given g cpu list bs start end size sized once given =
+    let goes = goes_home list bs (subst (λ (n : ℕ). AreSized n bs) (sym size) sized) once in
+    subst (λ (l : List BlockValue). AreGiven g (cpu + 1) l) (sym goes.kept) (kept_given g cpu list bs start end given)
+
 pub all_given : (g : GeometryNumbers) (cpu : ℕ) (list : FreeBlocks) (bs : List BlockValue) → IsHomeList g cpu list → AreSized g.block bs
     → ((n : ℕ) → times n (numbers_of bs) + times n (numbers_of list.blocks) ≤ 1) → AreGiven g cpu bs
     → AreGiven g (cpu + 1) (kept_of list bs)
-all_given g cpu list bs home sized once given =
-    let goes = goes_home list bs (subst (λ (n : ℕ). AreSized n bs) (sym home.size) sized) once in
-    subst (λ (l : List BlockValue). AreGiven g (cpu + 1) l) (sym goes.kept) (kept_given g cpu list bs home.start home.end given)
+all_given g cpu list bs home sized once given = kept_is_given g cpu list bs home.start home.end home.size sized once given
