@@ -90,8 +90,8 @@ no_run (Some x ∷ slots) a b = absurd (b (omega arith) refl)
 -- what is after a gap and a run is placed too
 pub moved : (start gap len : ℕ) (slots rest after : List (Option BlockValue)) → rest ≡ drop gap slots → after ≡ drop len rest
     → gap ≤ length slots → len ≤ length rest
-    → ArePlaced start slots → start + length slots < 2 ^ 62
-    → ArePlaced (start + gap + len) after × (start + gap + len + length after < 2 ^ 62)
+    → ArePlaced start slots → start + length slots < 2 ^ 32
+    → ArePlaced (start + gap + len) after × (start + gap + len + length after < 2 ^ 32)
 moved start gap len slots rest after e f within inside placed small =
     let cut : ArePlaced (start + gap) rest = subst (λ xs. ArePlaced (start + gap) xs) (sym e) (ArePlaced-drop gap start slots placed) in (
       subst (λ xs. ArePlaced (start + gap + len) xs) (sym f) (ArePlaced-drop len (start + gap) rest cut),

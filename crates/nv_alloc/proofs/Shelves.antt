@@ -70,7 +70,7 @@ module _ {start size count : ℕ} {slots : List (Option BlockValue)} {free : Lis
   pub shelf_length : length free ≡ length slots
   shelf_length = ap length shelf.flags ∙ length-map slots is_some
 
-  pub shelf_count : count < 2 ^ 62
+  pub shelf_count : count < 2 ^ 32
   shelf_count = let k = length-present slots in omega (arith, k, shelf.counted, shelf.small)
 
   pub shelf_lawful : IsFreeList list_of
@@ -159,7 +159,7 @@ module _ {start size count : ℕ} {slots : List (Option BlockValue)} {free : Lis
         none (Some b) q = cc
 
 pub shelf_full : (size start count : ℕ) (slots : List (Option BlockValue)) (free : List Bool) → slots ≡ full_slots size start count
-    → free ≡ replicate count true → start + count < 2 ^ 62
+    → free ≡ replicate count true → start + count < 2 ^ 32
     → IsShelf start size slots free count
 shelf_full size start count slots free e f small = rw (e, f) (record {
   placed = ArePlaced-full size start count;

@@ -35,4 +35,4 @@ pub record IsShelf (start size : ℕ) (slots : List (Option BlockValue)) (free :
   pub flags : free ≡ map is_some slots
   pub counted : count ≡ length (present slots)
   pub sized : AreSized size (present slots)
-  pub small : start + length slots < 2 ^ 62
+  pub small : start + length slots < 2 ^ 32

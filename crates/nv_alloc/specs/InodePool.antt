@@ -18,4 +18,4 @@ pub record IsPool (pool : FreeInodes) : Type 0 where
 pub record IsCounted (inodes count : ℕ) (free : List Bool) : Type 0 where
   pub sized : length free ≡ inodes
   pub counted : count ≡ length (places 0 free)
-  pub small : inodes < 2 ^ 62
+  pub small : inodes < 2 ^ 32

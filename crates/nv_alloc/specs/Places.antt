@@ -25,7 +25,7 @@ IsNode tree i = slice_index tree i ≡ min (slice_index tree (2 * i)) (slice_ind
 -- each leaf has its own place or none, written as `len`, and each node the lowest place below it
 pub record IsTree (len : ℕ) (tree : List ℕ) : Type 0 where
   pub size : length tree ≡ 2 * len
-  pub small : len < 2 ^ 62
+  pub small : len < 2 ^ 32
   pub leaf : (k : ℕ) → k < len → (slice_index tree (len + k) ≡ k) ⊎ (slice_index tree (len + k) ≡ len)
   pub node : (i : ℕ) → 1 ≤ i → i < len → IsNode tree i
 

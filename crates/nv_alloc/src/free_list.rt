@@ -62,7 +62,7 @@ impl FreeList {
     {
         let start = geometry.home_start(cpu);
         let count = geometry.home_start(cpu + 1) - start;
-        let free = PlaceSet::full(alloc, count as usize)?;
+        let free = PlaceSet::full(alloc, count as u32)?;
         let size = geometry.numbers.block as usize;
         let slots = full_slots(alloc, start, count as usize, size)?;
         Ok(FreeList {
@@ -162,7 +162,7 @@ impl FreeList {
         };
         self.free.remove(place);
         self.count -= 1;
-        match self.slots[place].take() {
+        match self.slots[place as usize].take() {
             Some(block) => block,
             None => unreachable!(),
         }
@@ -174,7 +174,7 @@ impl FreeList {
         ensures { self.new ≡ record self.old { blocks = put_block block self.old.blocks } }
     {
         let place = (block.number().number() - self.start) as usize;
-        self.free.insert(place);
+        self.free.insert(place as u32);
         self.count += 1;
         match mem::replace(&mut self.slots[place], Some(block)) {
             None => {}
@@ -202,7 +202,7 @@ fn full_slots(
     count: usize,
     size: usize,
 ) -> Result<Vec<Option<Block>>, AllocError>
-    requires { start + count < 2 ^ 62 }
+    requires { start + count < 2 ^ 32 }
     ensures { IfOk result (λ slots.
         slots.items ≡ map (λ number. Some (zero_block size number)) (range_with_len start count)) }
 {
@@ -226,7 +226,7 @@ fn fill(
 ) -> Result<(), AllocError>
     requires empty { vec_len slots.old ≡ 0 }
     requires room { count ≤ vec_capacity slots.old }
-    requires small { start + count < 2 ^ 62 }
+    requires small { start + count < 2 ^ 32 }
     ensures { OnOk result (slots.new.items
         ≡ map (λ number. Some (zero_block size number)) (range_with_len start count)) }
 {

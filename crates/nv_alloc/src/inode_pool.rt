@@ -39,7 +39,7 @@ impl InodePool {
         ensures err { FailsOnly Fault.OutOfMemory result }
     {
         let inodes = geometry.numbers.inodes;
-        let free = PlaceSet::full(alloc, inodes as usize)?;
+        let free = PlaceSet::full(alloc, inodes as u32)?;
         Ok(InodePool {
             free,
             count: inodes,
@@ -73,7 +73,7 @@ impl InodePool {
         ensures { result ≡ has self.now.numbers ino }
     {
         let free = &self.free;
-        self.is_inode(ino) && free.has(ino.number() as usize)
+        self.is_inode(ino) && free.has(ino.number() as u32)
     }
 
     /// Takes the lowest free number out, where there is one.
@@ -84,7 +84,7 @@ impl InodePool {
         let place = self.free.lowest()?;
         self.free.remove(place);
         self.count -= 1;
-        Some(Ino::new(place as u64))
+        Some(Ino::new(u64::from(place)))
     }
 
     /// Takes a number back.
@@ -93,7 +93,7 @@ impl InodePool {
         requires absent { has self.old.numbers ino ≡ false }
         ensures { self.new ≡ record self.old { numbers = put_by (λ n. n) ino self.old.numbers } }
     {
-        self.free.insert(ino.number() as usize);
+        self.free.insert(ino.number() as u32);
         self.count += 1;
     }
 }

@@ -38,13 +38,13 @@ impl<'a> Model for Runs<'a> {
 
     ghost view = { λ r. runs_of (numbers_of (present r.slots.now)) };
 
-    ghost invariant = { λ r. ArePlaced r.start r.slots.now × (r.start + length r.slots.now < 2 ^ 62) };
+    ghost invariant = { λ r. ArePlaced r.start r.slots.now × (r.start + length r.slots.now < 2 ^ 32) };
 }
 
 impl<'a> Runs<'a> {
     pub(crate) fn new(slots: &'a [Option<Block>], start: u64) -> Runs<'a>
         requires placed { ArePlaced start slots.now }
-        requires small { start + length slots.now < 2 ^ 62 }
+        requires small { start + length slots.now < 2 ^ 32 }
         ensures { result ≡ runs_of (numbers_of (present slots.now)) }
     {
         Runs { slots, start }

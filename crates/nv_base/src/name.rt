@@ -12,7 +12,8 @@ use std::marker::Model;
 /// A lawful name: 1 to 255 bytes without `/` and NUL, and neither `.` nor `..`. Contracts see its bytes.
 #[derive(Debug, Drop)]
 pub struct Name {
-    bytes: Vec<u8>,
+    // On the heap, so that a name takes one word of each log entry: most entries have none.
+    bytes: Box<Vec<u8>>,
 }
 
 impl Model for Name {
@@ -21,9 +22,9 @@ impl Model for Name {
 
     ghost Value = { List ℕ };
 
-    ghost view = { λ n. n.bytes.items };
+    ghost view = { λ n. n.bytes.value.items };
 
-    ghost invariant = { λ n. IsTrue (is_lawful_name n.bytes.items) };
+    ghost invariant = { λ n. IsTrue (is_lawful_name n.bytes.value.items) };
 }
 
 impl Name {
@@ -47,16 +48,18 @@ impl Name {
         ensures unlawful { IsRefusedBy result Fault.BadName ↔ (is_lawful_name bytes.now ≡ false) }
     {
         Name::check(bytes)?;
-        let bytes = Vec::from_slice(alloc, bytes)?;
-        Ok(Name { bytes })
+        Ok(Name {
+            bytes: boxed(alloc, bytes)?,
+        })
     }
 
     /// The same name once more.
     pub fn copied(&self, alloc: Global) -> Result<Name, AllocError>
         ensures { IfOk result (λ name. name ≡ self.now) }
     {
-        let bytes = Vec::from_slice(alloc, &self.bytes)?;
-        Ok(Name { bytes })
+        Ok(Name {
+            bytes: boxed(alloc, &self.bytes)?,
+        })
     }
 
     /// The bytes of the name.
@@ -66,6 +69,14 @@ impl Name {
     {
         &self.bytes
     }
+}
+
+/// A copy of the bytes on the heap.
+fn boxed(alloc: Global, bytes: &[u8]) -> Result<Box<Vec<u8>>, AllocError>
+    ensures { IfOk result (λ b. b.value.items ≡ bytes.now) }
+{
+    let bytes = Vec::from_slice(alloc, bytes)?;
+    Ok(Box::new(alloc, bytes)?)
 }
 
 fn has_name_bytes(bytes: &[u8]) -> bool

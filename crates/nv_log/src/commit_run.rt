@@ -10,8 +10,8 @@ use nv_base::EntryId;
 use nv_entry::Entry;
 
 /// Where the last entries of a log begin that are each the first of its commit, and whose commits follow one another
-/// without a gap: the place of such an entry follows from its id, and none is looked at. All entries of a file that is
-/// written alone are such.
+/// without a gap: the place of such an entry follows from its id, and none is looked at. Of a file that is written
+/// alone, all entries but the first are such.
 #[derive(Clone, Copy, Debug, PartialEq, Eq)]
 pub struct CommitRun {
     /// The place of the first of these entries.

@@ -58,7 +58,8 @@ fn near(entries: &[Entry], place: usize, id: EntryId) -> usize {
     low + entries[low..high].partition_point(|entry| entry.id < id)
 }
 
-/// The place of the entry of that id. In a run of commits it is told by the id. Among more than a few entries it is guessed
+/// The place of the entry of that id. In a run of commits it is told by the id. The last entry and the first are asked
+/// before others, since most parts that are looked for are theirs. Among more than a few entries it is guessed
 /// as if commits lay evenly, and twice more from what stands at the guess: where the entry is near, this costs the same
 /// at any number of entries, and else the logarithm of them all.
 pub fn place_of(entries: &[Entry], run: CommitRun, id: EntryId) -> Option<usize>
@@ -69,6 +70,13 @@ pub fn place_of(entries: &[Entry], run: CommitRun, id: EntryId) -> Option<usize>
 {
     if let Some(place) = run.place_of(entries, id) {
         return Some(place);
+    }
+    let last = entries.len().saturating_sub(1);
+    if is_at(entries, last, id) {
+        return Some(last);
+    }
+    if is_at(entries, 0, id) {
+        return Some(0);
     }
     if entries.len() > NEAR {
         let guess = guess_from(entries, 0, id);

@@ -20,5 +20,5 @@ mod text;
 pub mod word;
 
 pub use outcome::{Outcome, exit_code, fault_line};
-pub use script::play;
+pub use script::{play, play_and_leave};
 pub use text::fault_text;

@@ -19,6 +19,7 @@ use nv_base::{Fault, ScriptFaultKind};
 use nv_core::World;
 use std::alloc::{AllocError, Global};
 use std::io::{Read, Write};
+use std::mem;
 
 /// The most lines of a script.
 const MAX_LINES: u64 = 1_048_576;
@@ -45,10 +46,24 @@ pub fn play<R: Read, W: Write>(alloc: Global, reader: &mut R, writer: &mut W) ->
     let Ok(mut player) = Player::new(alloc) else {
         return Err(Fault::OutOfMemory);
     };
-    let outcome = player.play_lines(alloc, reader, writer);
-    let Ok(()) = player.outbox.flush(writer) else {
-        return Err(Fault::Write);
+    player.play(alloc, reader, writer)
+}
+
+/// Plays a script as [`play`] does, and does not take its world apart: for a program that ends then, whose memory goes back
+/// as a whole. Taking a large world apart block by block can take a tenth of the time of its script.
+pub fn play_and_leave<R: Read, W: Write>(
+    alloc: Global,
+    reader: &mut R,
+    writer: &mut W,
+) -> Result<(), Fault>
+    ensures { PlaysScript result (R.remaining reader.old) (R.remaining reader.new)
+        (W.contents writer.old) (W.contents writer.new) }
+{
+    let Ok(mut player) = Player::new(alloc) else {
+        return Err(Fault::OutOfMemory);
     };
+    let outcome = player.play(alloc, reader, writer);
+    mem::forget(player);
     outcome
 }
 
@@ -78,6 +93,26 @@ impl Player {
             outbox: Outbox::new(alloc)?,
             world: None,
         })
+    }
+
+    /// Plays a script. All of its text is written then, but where a write fails.
+    fn play<R: Read, W: Write>(
+        &mut self,
+        alloc: Global,
+        reader: &mut R,
+        writer: &mut W,
+    ) -> Result<(), Fault>
+        requires ahead { self.old.feed ≡ [] }
+        requires gathered { self.old.outbox ≡ [] }
+        requires world { self.old.world ≡ None }
+        ensures { PlaysScript result (R.remaining reader.old) (R.remaining reader.new)
+            (W.contents writer.old) (W.contents writer.new) }
+    {
+        let outcome = self.play_lines(alloc, reader, writer);
+        let Ok(()) = self.outbox.flush(writer) else {
+            return Err(Fault::Write);
+        };
+        outcome
     }
 
     /// Plays all lines. Of their text, the last may still be gathered.

@@ -11,7 +11,7 @@ mod tests;
 use clap::error::ErrorKind;
 use command_line::Task;
 use nv_base::Fault;
-use nv_script::{Outcome, exit_code, fault_line, play};
+use nv_script::{Outcome, exit_code, fault_line, play_and_leave};
 use std::env::Env;
 use std::process::ExitCode;
 use std::rt::Files;
@@ -59,12 +59,12 @@ fn play_script<R: AllocGlobal + Files + Input + Print>(
 ) -> Result<(), Fault> {
     let mut writer = io::writer(rt);
     match file {
-        None => play(rt.alloc(), &mut rt.reader(), &mut writer),
+        None => play_and_leave(rt.alloc(), &mut rt.reader(), &mut writer),
         Some(path) => {
             let Ok(mut file) = fs::open(rt, path) else {
                 return Err(Fault::Read);
             };
-            play(rt.alloc(), &mut file, &mut writer)
+            play_and_leave(rt.alloc(), &mut file, &mut writer)
         }
     }
 }

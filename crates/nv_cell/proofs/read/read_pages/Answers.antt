@@ -1,7 +1,7 @@
 use Rattle.std.proofs.Common.{◌≡◌, ℕ, ◌+◌, ◌-◌, ◌*◌, ◌<◌, ◌≤◌, ◌++◌, List, min, take, drop, Option, arith, refl, ap, ◌∙◌}
 use Rattle.std.specs.Option.{option_copied}
 use Rattle.nv_entry.specs.Bytes.{read_at}
-use Rattle.nv_cell.specs.Pages.{IsStretch, page_now, page_number, pages_now, slot_bytes}
+use Rattle.nv_cell.specs.Pages.{page_now, page_number, pages_now, slot_bytes}
 use Rattle.nv_cell.proofs.ReadAt.{begins_within, ends_all, ends_behind, is_counted, read_more}
 use Rattle.nv_cell.proofs.Stretches.{full_page, slot_enough, stretch_on}
 use Rattle.nv_cell.proofs.read.read_pages.Goals as goal

@@ -1,4 +1,4 @@
-use Rattle.std.proofs.Common.{arith, ◌<◌, length, nat_lt, sym, refl, subst}
+use Rattle.std.proofs.Common.{arith, length, nat_lt, refl}
 use Rattle.nv_log.proofs.Runs.{told_by_run}
 use Rattle.nv_log.proofs.commit_run.CommitRun.place_of.Goals as goal
 
