@@ -6,7 +6,7 @@ use Rattle.std.proofs.lemmas.List.{drop-append-le, drop-drop, drop-take, drop_at
 use Rattle.std.specs.Int.{div_ceil}
 use Rattle.std.proofs.lemmas.Grind.{div_ceil_times}
 use Rattle.std.proofs.Math.ListN.{drop_of_length-le}
-use Rattle.std.proofs.Math.Nat.{div-mul-le_self, lt-div-mul-add, mul-le-mul_right}
+use Rattle.std.proofs.Math.Nat.{lt-div-mul-add, mul-le-mul_right}
 use Rattle.nv_entry.specs.Bytes.{read_at}
 
 -- ---- one piece behind another
@@ -82,13 +82,6 @@ read_more f block count page start end full lt order begun near = go (page * blo
       ∙ piece f block count page d n full lt fits in
       rw (next, q, reach) (ap (λ (ys : List ℕ). take a (drop start all) ++ ys) (sym got) ∙ sym (take_two a n (drop start all)))
 
--- nothing is read before the first page
-pub read_none : (f : ℕ → List ℕ) (block count page start end : ℕ) → page * block ≤ start
-    → [] ≡ read_at start (min end (page * block) - start) (flat_map f (range_with_len 0 count))
-read_none f block count page start end le =
-    let none : min end (page * block) - start ≡ 0 = omega (arith, le) in
-    rw none refl
-
 -- ---- a file cut at its size
 
 pub read_cut : (at len size start end : ℕ) (all : List ℕ) → end ≡ min size (at + len) → start ≡ min at end
@@ -133,9 +126,6 @@ ends_behind start block page some le =
     let most : start / block * block ≤ page * block = mul-le-mul_right block le in
     let below : start < start / block * block + block = lt-div-mul-add some in
     omega (arith, below, most)
-
-pub begins_before : (start block page : ℕ) → 0 < block → page ≡ start / block → page * block ≤ start
-begins_before start block page some is = rw is (div-mul-le_self start block)
 
 pub ends_all : (end block page : ℕ) → 0 < block → div_ceil end block ≤ page → end ≤ page * block
 ends_all end block page some le =

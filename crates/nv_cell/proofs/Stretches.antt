@@ -1,7 +1,7 @@
 -- The pages of a file by the runs of its index.
 use Rattle.std.proofs.Common.{◌≡◌, ℕ, ◌+◌, ◌-◌, ◌<◌, ◌≤◌, ◌^◌, min, List, length, take, Option, Some, None, arith, refl, ap, sym, ◌∙◌, slice_index_or, inl, inr}
 use Rattle.std.specs.Prelude.{option_and_then, unwrap_or}
-use Rattle.std.specs.Option.{IfSome, IsSome, option_map}
+use Rattle.std.specs.Option.{IsSome, option_map}
 use Rattle.std.proofs.lemmas.Bool.{cases_lt}
 use Rattle.std.proofs.lemmas.List.{length-replicate}
 use Rattle.nv_alloc.specs.Block.{BlockValue}
@@ -102,12 +102,3 @@ stretch_on numbers page s h lt = record {
   absent = λ p ge l. h.absent p (omega (arith, ge)) l;
   present = h.present;
 }
-
--- a block of so many bytes has as many as a piece of it asks for
-pub slot_enough : (block to : ℕ) (slots : List (Option BlockValue)) (o : Option ℕ) → AreSlotsSized block slots → to ≤ block
-    → IfSome (option_and_then (λ n. slice_index_or slots n None) o) (λ b. to ≤ length b.bytes)
-slot_enough block to slots None sized le = tt
-slot_enough block to slots (Some n) sized le = go (slice_index_or slots n None) refl where
-  go : (slot : Option BlockValue) → slice_index_or slots n None ≡ slot → IfSome slot (λ b. to ≤ length b.bytes)
-  go None q = tt
-  go (Some b) q = omega (arith, le, sized n b q)

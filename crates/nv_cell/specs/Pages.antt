@@ -1,7 +1,8 @@
 -- The bytes of a file's pages, by the index and the blocks of its cell.
-use Rattle.std.specs.Prelude.{◌≡◌, ℕ, ◌+◌, ◌-◌, ◌<◌, ◌≤◌, ◌^◌, List, replicate, Option, Some, None, option_and_then, slice_index_or, take}
+use Rattle.std.specs.Prelude.{◌≡◌, ℕ, ◌+◌, ◌-◌, ◌*◌, ◌<◌, ◌≤◌, ◌^◌, List, min, replicate, Option, Some, None, option_and_then, slice_index_or, take}
 use Rattle.std.specs.List.{flat_map, range_with_len}
 use Rattle.nv_alloc.specs.Block.{BlockValue}
+use Rattle.nv_entry.specs.Bytes.{read_at}
 use Rattle.nv_entry.specs.declared.item.Entry.{Entry}
 use Rattle.nv_entry.specs.Keys.{PageKey, pages_for}
 use Rattle.nv_entry.specs.Node.{size_now}
@@ -29,13 +30,22 @@ abbrev pub block_at_page : CellState → ℕ → Option BlockValue
 block_at_page cell page =
     option_and_then (λ r. slice_index_or cell.blocks (number cell.chain.entries r) None) (scan_ref cell.block (log_of cell) (PageKey page))
 
+-- the block of the part that holds a page, by the numbers of the parts
+abbrev pub block_of : List (Option BlockValue) → (ℕ → Option ℕ) → ℕ → Option BlockValue
+block_of slots numbers page = option_and_then (λ n. slice_index_or slots n None) (numbers page)
+
 -- the bytes of a page of a file by its part's block
 abbrev pub page_now : ℕ → List (Option BlockValue) → (ℕ → Option ℕ) → ℕ → List ℕ
-page_now block slots numbers page = slot_bytes block (option_and_then (λ n. slice_index_or slots n None) (numbers page))
+page_now block slots numbers page = slot_bytes block (block_of slots numbers page)
 
 -- the first pages of a file, one after another
 abbrev pub pages_now : ℕ → List (Option BlockValue) → (ℕ → Option ℕ) → ℕ → List ℕ
 pages_now block slots numbers count = flat_map (page_now block slots numbers) (range_with_len 0 count)
+
+-- these are the bytes of a file from a place up to another, those of its pages before one
+abbrev pub AreReadTo : ℕ → List (Option BlockValue) → (ℕ → Option ℕ) → ℕ → ℕ → ℕ → ℕ → List ℕ → Type 0
+AreReadTo block slots numbers count start end page bytes =
+    bytes ≡ read_at start (min end (page * block) - start) (pages_now block slots numbers count)
 
 -- the bytes of the file that a cell holds, by the blocks that it has: page by page, cut at the size
 abbrev pub own_page : CellState → ℕ → List ℕ

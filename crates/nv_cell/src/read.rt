@@ -1,8 +1,9 @@
 //! The bytes of a file, read by its index.
 
-ghost use Rattle.std.specs.Prelude.{◌≡◌, ℕ, ◌+◌, ◌-◌, ◌*◌, ◌<◌, ◌≤◌, ◌^◌, ◌++◌, IfErr, IfOk, IfSome, IsSome, List, OnOk, [], None, Option, drop, length, option_and_then, replicate, slice_index_or, take, unwrap_or};
+ghost use Rattle.std.specs.Prelude.{◌≡◌, ℕ, ◌+◌, ◌-◌, ◌*◌, ◌/◌, ◌<◌, ◌≤◌, ◌^◌, ◌++◌, IfErr, IfOk, IfSome, IsSome, List, OnOk, [], None, Option, drop, length, option_and_then, replicate, slice_index_or, take, unwrap_or};
 ghost use Rattle.std.specs.Option.{option_copied, option_map};
-ghost use Rattle.nv_alloc.specs.Block.{number_of};
+ghost use Rattle.std.specs.Int.{div_ceil};
+ghost use Rattle.nv_alloc.specs.Block.{BlockValue, number_of};
 ghost use Rattle.nv_base.specs.declared.fault.Fault.TheVariants.{OutOfMemory};
 ghost use Rattle.nv_entry.specs.Bytes.{read_at};
 ghost use Rattle.nv_entry.specs.Covered.{part_total};
@@ -10,9 +11,10 @@ ghost use Rattle.nv_entry.specs.Node.{block_now, file_bytes};
 ghost use Rattle.nv_log.specs.Chain.{log, place_of};
 ghost use Rattle.nv_cell.specs.Cell.{AreSlotsSized, log_of};
 ghost use Rattle.nv_cell.specs.Numbers.{part_base};
-ghost use Rattle.nv_cell.specs.Pages.{AreBytesOf, IsStretch, block_at_page, own_bytes, page_number, pages_now, slot_bytes};
+ghost use Rattle.nv_cell.specs.Pages.{AreBytesOf, AreReadTo, IsStretch, block_at_page, block_of, own_bytes, page_number, pages_now, slot_bytes};
 ghost use Rattle.nv_cell.specs.Reading.{IsIndexOf};
 ghost use Rattle.nv_cell.specs.Tallies.{start_at};
+ghost use Rattle.nv_cell.specs.declared.read.TheConstants.{GROUP};
 
 use crate::reading::size_of;
 use crate::{CellIndex, InodeCell, Marks};
@@ -23,6 +25,9 @@ use nv_findex::PageRun;
 use nv_log::Chain;
 use std::alloc::AllocError;
 use std::ops::Range;
+
+/// How many pages a read looks up before it copies their bytes.
+const GROUP: usize = 16;
 
 /// Pages that follow one another and lie so in one entry, with the number of the first one's part. No page from one
 /// that was asked for up to the first of these is present.
@@ -81,7 +86,7 @@ impl InodeCell {
             page,
             &mut place,
         );
-        block_in(&self.blocks, stretch, page)
+        block_at(&self.blocks, number_in(stretch, page))
     }
 }
 
@@ -107,83 +112,124 @@ fn read_pages(
         ≡ read_at places.start (places.end - places.start)
         (pages_now block slots.now (page_number chain.now.state.entries index.now) count)) }
 {
-    let Range { start, end } = places;
-    let mut stretch = Stretch {
-        first: 0,
-        end: 0,
-        number: 0,
-    };
+    let last = places.end.div_ceil(block);
+    let mut page = places.start / block;
     let mut place = 0;
-    let first = start / block;
-    let last = end.div_ceil(block);
-    let mut ahead = if first < last {
-        next_block(
-            block,
-            index,
-            chain,
-            marks,
-            slots,
-            first,
-            &mut stretch,
-            &mut place,
-        )
-    } else {
-        None
-    };
-    for page in first..last {
-        // The next page is looked up before the bytes of this one are copied: both wait for memory at one time.
-        let found = ahead;
-        if page + 1 < last {
-            ahead = next_block(
-                block,
-                index,
-                chain,
-                marks,
-                slots,
-                page + 1,
-                &mut stretch,
-                &mut place,
-            );
-        }
-        let base = page * block;
-        push_part(
-            bytes,
-            found,
-            start.saturating_sub(base) as usize,
-            block.min(end - base) as usize,
-        )?;
+    let mut numbers = [None; GROUP];
+    let mut blocks: [Option<&Block>; GROUP] = [None; GROUP];
+    while page < last {
+        let pages = page..last.min(page.saturating_add(GROUP as u64));
+        let count = (pages.end - pages.start) as usize;
+        find_numbers(block, index, chain, marks, &pages, &mut place, &mut numbers);
+        find_blocks(slots, &numbers, count, &mut blocks);
+        push_pages(bytes, block, &blocks, &pages, &places)?;
+        page = pages.end;
     }
     Ok(())
 }
 
-/// The block of a page, by the stretch that has it or comes behind it: the last one, or where that has ended the next, which
-/// is looked for at a place among the runs first.
-fn next_block<'a>(
+/// Puts the numbers of the parts that hold some pages in front of a list; none for a page that is absent. The first page's
+/// run is looked for at a place among the runs first, which becomes the place behind the last one's.
+fn find_numbers(
     block: u64,
     index: &CellIndex,
     chain: &Chain,
     marks: &Marks,
-    slots: &'a [Option<Block>],
-    page: u64,
-    stretch: &mut Stretch,
+    pages: &Range<u64>,
     place: &mut usize,
-) -> Option<&'a Block>
+    numbers: &mut [Option<usize>; GROUP],
+)
     requires block { 0 < block }
-    requires page { page + 1 < 2 ^ 64 }
+    requires page { pages.now.end < 2 ^ 64 }
+    requires few { pages.now.end ≤ pages.now.start + GROUP }
     requires index { IsIndexOf block (log chain.now.state) index.now }
     requires ends { (i : ℕ) → i < chain.now.state.tail
         → start_at marks.now.ends.items i ≡ part_base chain.now.state.entries i }
     requires small { part_total (log chain.now.state) < 2 ^ 64 }
-    requires last { page < stretch.old.end
-        → IsStretch (page_number chain.now.state.entries index.now) page stretch.old }
-    ensures block { option_copied result ≡ option_and_then (λ n. slice_index_or slots.now n None)
-        (page_number chain.now.state.entries index.now page) }
-    ensures stretch { IsStretch (page_number chain.now.state.entries index.now) page stretch.new }
+    ensures { (k : ℕ) → pages.now.start + k < pages.now.end → slice_index_or numbers.new k None
+        ≡ page_number chain.now.state.entries index.now (pages.now.start + k) }
 {
-    if stretch.end <= page {
-        *stretch = stretch_from(block, index, chain, marks, page, place);
+    let mut stretch = no_stretch();
+    for page in pages.start..pages.end {
+        if page == pages.start || stretch.end <= page {
+            stretch = stretch_from(block, index, chain, marks, page, place);
+        }
+        numbers[(page - pages.start) as usize] = number_in(stretch, page);
     }
-    block_in(slots, *stretch, page)
+}
+
+/// The number of the part that holds a page, by the stretch that has the page or comes behind it.
+fn number_in(stretch: Stretch, page: u64) -> Option<usize>
+    requires small { stretch.number + (stretch.end - stretch.first) < 2 ^ 64 }
+    requires ahead { page < stretch.end }
+    ensures { (numbers : ℕ → Option ℕ) → IsStretch numbers page stretch → result ≡ numbers page }
+{
+    if page < stretch.first {
+        return None;
+    }
+    Some(stretch.number + (page - stretch.first) as usize)
+}
+
+/// Puts the blocks of the parts of the first so many numbers in front of a list. Nothing else is done between one look and
+/// the next, so that all of them come from memory at one time.
+fn find_blocks<'a>(
+    slots: &'a [Option<Block>],
+    numbers: &[Option<usize>; GROUP],
+    count: usize,
+    blocks: &mut [Option<&'a Block>; GROUP],
+)
+    requires { count ≤ GROUP }
+    ensures { (k : ℕ) → k < count → option_copied (slice_index_or blocks.new k None)
+        ≡ option_and_then (λ n. slice_index_or slots.now n None) (slice_index_or numbers.now k None) }
+{
+    for k in 0..count {
+        blocks[k] = block_at(slots, numbers[k]);
+    }
+}
+
+/// The block of the part of a number, if there is one.
+fn block_at(slots: &[Option<Block>], number: Option<usize>) -> Option<&Block>
+    ensures { option_copied result ≡ option_and_then (λ n. slice_index_or slots.now n None) number }
+{
+    slots.get(number?)?.as_ref()
+}
+
+/// Puts the bytes of some pages on a list, of those places that are asked for, by the blocks of the pages.
+fn push_pages(
+    bytes: &mut Vec<u8>,
+    block: u64,
+    blocks: &[Option<&Block>; GROUP],
+    pages: &Range<u64>,
+    places: &Range<u64>,
+) -> Result<(), AllocError>
+    requires block { 0 < block }
+    requires rising { pages.now.start ≤ pages.now.end }
+    requires few { pages.now.end ≤ pages.now.start + GROUP }
+    requires begun { places.now.start / block ≤ pages.now.start }
+    requires last { pages.now.end ≤ div_ceil places.now.end block }
+    requires order { places.now.start ≤ places.now.end }
+    requires sized { (k : ℕ) → pages.now.start + k < pages.now.end
+        → IfSome (option_copied (slice_index_or blocks.now k None)) (λ b. length b.bytes ≡ block) }
+    ensures { (slots : List (Option BlockValue)) (numbers : ℕ → Option ℕ) (count : ℕ)
+        → places.now.end ≤ count * block → AreSlotsSized block slots
+        → ((k : ℕ) → pages.now.start + k < pages.now.end
+        → option_copied (slice_index_or blocks.now k None)
+        ≡ block_of slots numbers (pages.now.start + k))
+        → AreReadTo block slots numbers count places.now.start places.now.end pages.now.start
+        bytes.old.items
+        → OnOk result (AreReadTo block slots numbers count places.now.start places.now.end
+        pages.now.end bytes.new.items) }
+{
+    for page in pages.start..pages.end {
+        let base = page * block;
+        push_part(
+            bytes,
+            blocks[(page - pages.start) as usize],
+            places.start.saturating_sub(base) as usize,
+            block.min(places.end - base) as usize,
+        )?;
+    }
+    Ok(())
 }
 
 /// The stretch that has a page, or the first one behind it. Its run is looked for at a place first, which becomes the place
@@ -245,21 +291,6 @@ fn stretch_of(chain: &Chain, marks: &Marks, run: &PageRun) -> Stretch
         end: u64::from(run.end),
         number: marks.first(place) + 1 + run.start.place as usize,
     }
-}
-
-/// The block of a page that a stretch tells of.
-fn block_in(slots: &[Option<Block>], stretch: Stretch, page: u64) -> Option<&Block>
-    requires small { stretch.number + (stretch.end - stretch.first) < 2 ^ 64 }
-    requires ahead { page < stretch.end }
-    ensures { (numbers : ℕ → Option ℕ) → IsStretch numbers page stretch → option_copied result
-        ≡ option_and_then (λ n. slice_index_or slots.now n None) (numbers page) }
-{
-    if page < stretch.first {
-        return None;
-    }
-    slots
-        .get(stretch.number + (page - stretch.first) as usize)?
-        .as_ref()
 }
 
 /// Puts some of the bytes of a block on a list; zeros where there is no block.

@@ -13,7 +13,6 @@ mod field;
 mod format;
 mod outbox;
 mod outcome;
-mod plain_bytes;
 mod script;
 mod send;
 mod text;

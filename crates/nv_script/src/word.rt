@@ -6,7 +6,6 @@ ghost use Rattle.std.specs.Fmt.{digit_glyph};
 ghost use Rattle.nv_base.specs.declared.limits.TheConstants.{MODE};
 ghost use Rattle.nv_script.specs.Words.{number_of, number_up_to, positive_up_to, words_of, handle_from, handle_of, is_plain, hex_value, before, unescaped, unescaped_behind, text_of, escaped_byte, escaped};
 
-use crate::plain_bytes::is_plain;
 use memchr::memchr;
 use nv_base::{Bytes, Gen, Handle, Ino, Mode, limits};
 use std::alloc::{AllocError, Global};
@@ -103,6 +102,14 @@ pub fn words(alloc: Global, line: &[u8]) -> Result<Vec<&[u8]>, AllocError>
     Ok(found)
 }
 
+/// Whether a byte stands for itself in escaped text: a visible one, but the one that begins an escaped byte. It is asked
+/// without a branch, so that many bytes are asked at once.
+fn is_plain(byte: u8) -> bool
+    ensures { result ≡ is_plain byte }
+{
+    (b'!' <= byte) & (byte <= b'~') & (byte != ESCAPE)
+}
+
 /// The value of a hexadecimal digit of either case.
 fn hex_value(digit: u8) -> Option<u8>
     ensures { result ≡ hex_value digit }
@@ -147,6 +154,9 @@ fn plain_count(bytes: &[u8]) -> usize
     ensures within { result ≤ length bytes.now }
     ensures plain { list_all is_plain (take result bytes.now) ≡ true }
 {
+    if !bytes.first().is_some_and(|byte| is_plain(*byte)) {
+        return 0;
+    }
     let mut count = 0;
     while PIECE <= bytes.len() - count && all_plain(&bytes[count..count + PIECE]) {
         count += PIECE;
@@ -212,9 +222,7 @@ fn push_byte(out: &mut Vec<u8>, byte: u8) -> Result<(), AllocError>
     if is_plain(byte) {
         return Ok(out.push(byte)?);
     }
-    out.push(ESCAPE)?;
-    out.push(hex_digit(byte / 16))?;
-    Ok(out.push(hex_digit(byte % 16))?)
+    out.extend_from_slice(&[ESCAPE, hex_digit(byte / 16), hex_digit(byte % 16)])
 }
 
 /// Adds bytes as they are printed. Plain ones are copied together.

@@ -14,12 +14,13 @@ stretch_from-stretch-requires-clause-ends c =
     first_base i.marks.ends.items i.chain.state.entries i.chain.state.tail c.self.invariant.ends
 
 -- the block by the number of the page's part
-found : (c : goal.After-block_in) → option_copied c.block_in.result
+found : (c : goal.After-block_at) → option_copied c.block_at.result
     ≡ option_and_then (λ n. slice_index_or (state_in c.self.inside).blocks n None)
     (page_number c.self.inside.chain.state.entries c.self.inside.index c.args.page)
 found c =
     let numbers = page_number c.self.inside.chain.state.entries c.self.inside.index in
-    c.block_in.ensures numbers c.stretch_from-stretch.ensures ∙ rw (c.deref.ensures.value, c.from-page.ensures) refl
+    c.block_at.ensures
+    ∙ rw (c.number_in.ensures numbers c.stretch_from-stretch.ensures, c.deref.ensures.value, c.from-page.ensures) refl
 
 pub returns-clause-block : goal.returns-clause-block
 returns-clause-block c =
