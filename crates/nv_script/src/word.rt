@@ -222,7 +222,11 @@ fn push_byte(out: &mut Vec<u8>, byte: u8) -> Result<(), AllocError>
     if is_plain(byte) {
         return Ok(out.push(byte)?);
     }
-    out.extend_from_slice(&[ESCAPE, hex_digit(byte / 16), hex_digit(byte % 16)])
+    out.reserve(3)?;
+    out.push_reserved(ESCAPE);
+    out.push_reserved(hex_digit(byte / 16));
+    out.push_reserved(hex_digit(byte % 16));
+    Ok(())
 }
 
 /// Adds bytes as they are printed. Plain ones are copied together.
