@@ -1,18 +1,8 @@
 -- The blocks that a cell keeps, entry by entry and part by part.
-use Rattle.std.proofs.Common.{◌≡◌, ℕ, zero, suc, ◌+◌, ◌-◌, ◌<◌, ◌≤◌, is_some, List, [], ◌∷◌, ◌++◌, drop, length, map, replicate, take, Option, Some, None, slice_get, slice_index_or, ◌∙◌, ap, arith, refl, sym}
+use Rattle.std.proofs.Common.{◌≡◌, ℕ, zero, suc, ◌+◌, ◌<◌, ◌≤◌, List, [], ◌∷◌, ◌++◌, drop, length, map, replicate, take, Option, Some, None, slice_get, slice_index_or, ◌∙◌, ap, arith, refl, sym}
 use Rattle.std.proofs.Common.{append_assoc, append-nil, drop-drop, length-append}
 use Rattle.std.proofs.lemmas.List.{length-replicate}
-use Rattle.std.proofs.lemmas.Option.{slice_get_within}
-use Rattle.nv_cell.specs.Cell.{block_named}
-use Rattle.nv_cell.specs.Numbers.{killed_part}
-use Rattle.nv_cell.proofs.NamedParts.{number_told}
-use Rattle.nv_cell.proofs.Publishes.{part_at_number}
-use Rattle.nv_entry.specs.Keys.{parts_of}
-use Rattle.nv_entry.specs.Log.{IsLog}
-use Rattle.std.specs.Borrow.{Bor}
-use Rattle.std.specs.Option.{option_copied}
 use Rattle.std.proofs.lemmas.List.Sums.{sum_by-cons}
-use Rattle.nv_entry.specs.declared.part.Part.{Part}
 use Rattle.std.specs.List.{sum_by}
 use Rattle.nv_alloc.specs.Block.{BlockValue}
 use Rattle.nv_book.specs.Book.{BookState}
@@ -23,7 +13,7 @@ use Rattle.nv_cell.specs.Numbers.{part_base}
 use Rattle.nv_cell.specs.Readers.{marks_by_entry}
 use Rattle.nv_entry.specs.declared.item.Entry.{Entry}
 use Rattle.nv_entry.specs.Covered.{part_count, part_total}
-use Rattle.nv_core.specs.Reports.{block_at, births, kept_among, kept_at, one_of}
+use Rattle.nv_core.specs.Reports.{births, kept_among, kept_at, one_of}
 
 -- ---- the parts of an entry
 
@@ -123,41 +113,6 @@ pub entry_within : (log : List Entry) (i : ℕ) (e : Entry) → slice_get log i 
 entry_within [] i e at = absurd cc
 entry_within (x ∷ log) zero e at = let is : x ≡ e = cc in rw is (omega arith)
 entry_within (x ∷ log) (suc i) e at = let rest = entry_within log i e at in omega (arith, rest)
-
-base_next : (log : List Entry) (i : ℕ) (e : Entry) → slice_get log i ≡ Some e → part_base log (suc i) ≡ part_base log i + part_count e
-base_next [] i e at = absurd cc
-base_next (x ∷ log) zero e at = let is : x ≡ e = cc in rw is (omega arith)
-base_next (x ∷ log) (suc i) e at = let rest = base_next log i e at in omega (arith, rest)
-
--- ---- the blocks of an entry
-
-at_place : {X : Type 0} (xs : List X) (i : ℕ) (x : X) → slice_get xs i ≡ Some x → x ≡ slice_index_or xs i x
-at_place [] i x at = refl
-at_place (y ∷ xs) zero x at = cc
-at_place (y ∷ xs) (suc i) x at = at_place xs i x at
-
--- the block of a part of an entry, by its name
-pub block_is : (cell : CellState) (place k : ℕ) (e : Entry) (p : Part) → IsLog (log_of cell) → k < part_count e
-    → slice_get (log_of cell) place ≡ Some e → slice_get (parts_of e.item) k ≡ Some p
-    → block_named cell (record { entry = e.id; part = p }) ≡ block_at cell place k
-block_is cell place k e p lawful few at part =
-    let log = log_of cell in
-    let n = part_base log place + k in
-    let next = base_next log place e at in
-    let on : place + 1 ≡ suc place = omega arith in
-    let to : n < part_base log (place + 1) = rw on (omega (arith, next, few)) in
-    let within : place < length log = slice_get_within log place e at in
-    let is : e ≡ slice_index_or log place e = at_place log place e at in
-    let back : n - part_base log place ≡ k = omega arith in
-    let killed = part_at_number log place n e within is (omega arith) to in
-    let known : killed_part log n ≡ Some (record { part = record { entry = e.id; part = p }; birth = e.epoch }) =
-    rw (back, part) at killed in
-    let number = number_told log n (record { part = record { entry = e.id; part = p }; birth = e.epoch }) lawful known in
-    rw number refl
-
-pub some_copied : (o : Option (Bor BlockValue)) → is_some (option_copied o) ≡ is_some o
-some_copied None = refl
-some_copied (Some b) = refl
 
 pub none_past : {X : Type 0} (xs : List X) (i : ℕ) → i < length xs → slice_get xs i ≡ None → ⊥
 none_past [] i lt none = omega (arith, lt)

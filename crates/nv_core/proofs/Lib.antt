@@ -7,6 +7,7 @@ pub mod AuditLaw
 pub mod AuditNamed
 pub mod AuditRecords
 pub mod AuditShown
+pub mod Blocked
 pub mod Bounds
 pub mod CheckJobs
 pub mod CheckTurns
@@ -26,7 +27,6 @@ pub mod GivenEnter
 pub mod GivenKinds
 pub mod GivenLaws
 pub mod GivenOn
-pub mod OnSnapshots
 pub mod GivenReady
 pub mod Gives
 pub mod HeldPages
@@ -38,6 +38,7 @@ pub mod LivingLogs
 pub mod Locked
 pub mod Looks
 pub mod Nodes
+pub mod OnSnapshots
 pub mod Opens
 pub mod Others
 pub mod PageParts
@@ -49,8 +50,8 @@ pub mod Plans
 pub mod PublishPhase
 pub mod Publishes
 pub mod Readies
-pub mod RetirePhase
 pub mod Releases
+pub mod RetirePhase
 pub mod Retires
 pub mod RoomsAfter
 pub mod Runs
@@ -69,8 +70,8 @@ pub mod StartShown
 pub mod Starts
 pub mod Stays
 pub mod Stepped
-pub mod Takes
 pub mod TakenBlocks
+pub mod Takes
 pub mod Takings
 pub mod Turns
 pub mod VisitTurns

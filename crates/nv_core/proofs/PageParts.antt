@@ -67,11 +67,11 @@ page_with item part.Bound page h = cc
 page_with item (part.Page other) page h = let same : other ≡ page = cc in ap part.Page same
 
 -- what an entry sets a page to is a block
-record HasBlock (block : ℕ) (item : Item) (page : ℕ) : Type 0 where
-  number : ℕ
-  is : option_and_then block_in (value_of (sets block item (PageKey page))) ≡ Some number
+pub record HasBlock (block : ℕ) (item : Item) (page : ℕ) : Type 0 where
+  pub number : ℕ
+  pub is : option_and_then block_in (value_of (sets block item (PageKey page))) ≡ Some number
 
-has_block : (block : ℕ) (item : Item) (page : ℕ) → is_present (sets block item (PageKey page)) ≡ true → HasBlock block item page
+pub has_block : (block : ℕ) (item : Item) (page : ℕ) → is_present (sets block item (PageKey page)) ≡ true → HasBlock block item page
 has_block block (Write first run size) page h = go (in_run first run page) refl h where
   go : (b : Bool) → in_run first run page ≡ b
       → is_present (cond b (Present (Block (run.start + (page - first)))) Untouched) ≡ true → HasBlock block (Write first run size) page

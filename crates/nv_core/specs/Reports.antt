@@ -5,7 +5,7 @@ use Rattle.nv_alloc.specs.Block.{BlockValue, numbers_of}
 use Rattle.nv_alloc.specs.FreeList.{FreeBlocks}
 use Rattle.nv_alloc.specs.Runs.{runs_of}
 use Rattle.nv_alloc.specs.declared.runs.FreeRun.{FreeRun}
-use Rattle.nv_cell.specs.Cell.{CellState, log_of}
+use Rattle.nv_cell.specs.Cell.{CellState, log_of, mark_or_fresh}
 use Rattle.nv_cell.specs.Numbers.{part_base}
 use Rattle.nv_cell.specs.Readers.{counts_of}
 use Rattle.nv_book.specs.Book.{BookState}
@@ -79,11 +79,14 @@ kept_among book (birth ∷ births) (mark ∷ marks) (block ∷ blocks) =
 abbrev pub kept_in : BookState → CellState → ℕ
 kept_in book cell = kept_among book (births (log_of cell)) cell.marks cell.blocks
 
--- the same of the parts of one entry, and the block of one of them
+-- the same of the parts of one entry, and the mark and the block of one of them
 abbrev pub kept_at : BookState → CellState → ℕ → Entry → ℕ
 kept_at book cell place e =
     kept_among book (replicate (part_count e) e.epoch) (drop (part_base (log_of cell) place) cell.marks)
     (drop (part_base (log_of cell) place) cell.blocks)
+
+abbrev pub mark_of : CellState → ℕ → ℕ → Mark
+mark_of cell place k = mark_or_fresh cell.marks (part_base (log_of cell) place + k)
 
 abbrev pub block_at : CellState → ℕ → ℕ → Option BlockValue
 block_at cell place k = slice_index_or cell.blocks (part_base (log_of cell) place + k) None

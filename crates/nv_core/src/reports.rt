@@ -1,6 +1,6 @@
 //! What a world reports of its blocks and logs.
 
-ghost use Rattle.std.specs.Prelude.{◌≡◌, ◌⊎◌, ◌+◌, ◌<◌, ◌≤◌, ◌^◌, ℕ, IfErr, IfOk, Some, is_some, length, slice_get, slice_index_or};
+ghost use Rattle.std.specs.Prelude.{◌≡◌, ◌⊎◌, ◌+◌, ◌<◌, ◌≤◌, ◌^◌, ℕ, IfErr, IfOk, Some, is_some, true, length, slice_get, slice_index_or};
 ghost use Rattle.std.specs.List.{sum_by};
 ghost use Rattle.nv_alloc.specs.Block.{numbers_of};
 ghost use Rattle.nv_alloc.specs.Runs.{runs_of};
@@ -9,9 +9,10 @@ ghost use Rattle.nv_base.specs.declared.fault.Fault.TheVariants.{OutOfMemory, St
 ghost use Rattle.nv_machine.specs.Numbers.{IsEachOnce, all_blocks};
 ghost use Rattle.nv_machine.specs.World as machine;
 ghost use Rattle.nv_cell.specs.Cell.{log_of};
+ghost use Rattle.nv_cell.specs.Marks.{is_there};
 ghost use Rattle.nv_entry.specs.Covered.{part_count};
-ghost use Rattle.nv_book.specs.Records.{block_count};
-ghost use Rattle.nv_core.specs.Reports.{AddsUp, block_at, chain_in, counts_in, free_in, is_kept, kept_at, kept_in, lists_of, log_at, one_of, space_in, space_of};
+ghost use Rattle.nv_book.specs.Records.{block_count, is_page};
+ghost use Rattle.nv_core.specs.Reports.{AddsUp, block_at, chain_in, counts_in, free_in, is_kept, kept_at, kept_in, lists_of, log_at, mark_of, one_of, space_in, space_of};
 ghost use Rattle.nv_core.specs.Picked.{picked_at, picked_of};
 ghost use Rattle.nv_core.specs.Shown.{shared_of};
 ghost use Rattle.nv_core.specs.Worlds.{Shows};
@@ -25,7 +26,7 @@ use nv_alloc::{FreeList, FreeRun};
 use nv_base::{Epoch, Fault, Ino, Items};
 use nv_book::Book;
 use nv_cell::{InodeCell, Mark, PageCounts};
-use nv_entry::{Entry, PartId};
+use nv_entry::{Entry, Part};
 use std::alloc::Global;
 
 /// Where the blocks of the device are; all together they are its blocks.
@@ -257,6 +258,7 @@ fn mark_at(marks: &[Mark], k: u32) -> Mark
 fn kept_part(cell: &InodeCell, book: &Book, entry: &Entry, k: u32, mark: Mark) -> u64
     requires { k < part_count entry.now }
     ensures value { (place : ℕ) → slice_get (log_of cell.now.state) place ≡ Some entry.now
+        → mark ≡ mark_of cell.now.state place k
         → result ≡ one_of book.now.state entry.now.epoch mark (block_at cell.now.state place k) }
     ensures few { result ≤ 1 }
 {
@@ -267,23 +269,25 @@ fn kept_part(cell: &InodeCell, book: &Book, entry: &Entry, k: u32, mark: Mark) -
     }
 }
 
-/// Whether a part of an entry has a block.
+/// Whether a part of an entry that is not out has a block: a page has one, and no other part.
 fn has_block(cell: &InodeCell, entry: &Entry, k: u32) -> bool
     requires { k < part_count entry.now }
     ensures { (place : ℕ) → slice_get (log_of cell.now.state) place ≡ Some entry.now
+        → is_there (mark_of cell.now.state place k) ≡ true
         → result ≡ is_some (block_at cell.now.state place k) }
 {
     cell.known();
     match entry.item.part_at(k) {
-        Some(part) => {
-            let id = PartId {
-                entry: entry.id,
-                part,
-            };
-            cell.block_of(id).is_some()
-        }
+        Some(part) => is_page(part),
         None => false,
     }
+}
+
+/// Whether a part is a page.
+fn is_page(part: Part) -> bool
+    ensures { result ≡ is_page part }
+{
+    matches!(part, Part::Page(_))
 }
 
 /// Whether a part counts as data or as pending. What was killed and not yet retired dies in the present epoch.

@@ -4,7 +4,7 @@ use Rattle.nv_calls.specs.declared.call.Call.{Call}
 use Rattle.nv_machine.specs.Step.{after, replies, step}
 use Rattle.nv_machine.specs.World as machine
 use Rattle.nv_script.specs.Play.{GoesOn, Runs, RunsFrom}
-use Rattle.nv_script.specs.Results.{HasGone}
+use Rattle.nv_script.specs.Results.{HasMoved}
 use Rattle.nv_core.specs.declared.event.Event.TheVariants.{Go, Start}
 use Rattle.nv_core.specs.declared.event.Reply.{Reply}
 use Rattle.nv_core.specs.declared.event.Reply.TheVariants.{Done, Moved, Refused, Started, Waits}
@@ -36,28 +36,25 @@ one_more n = omega arith
 
 -- ---- the worlds that are shown
 
-pub gone_once : (old new : WorldState) (actor : ℕ) (reply : Reply) → ((m : machine.World) → Shows old m → IsStep m (Go actor) reply new)
-    → Leads (HasGone 0 actor reply) old new
-gone_once old new actor reply makes m shows =
-    let made = makes m shows in (
-      (step m (machine.Go actor made.granted)).world,
-      record {
-        grants = made.granted ∷ [];
-        replies = ap (λ (r : machine.Reply). r ∷ []) (sym made.reply_is);
-        world = refl;
-      },
-      made.shows,
-    )
+-- it went on so often and once more: it moved each time before the last, which had this reply
+record HasGone (times actor : ℕ) (reply : Reply) (old new : machine.World) : Type 0 where
+  grants : List Bool
+  replies : replies old (gos actor grants) ≡ replicate times machine.Moved ++ reply_of reply ∷ []
+  world : new ≡ after old (gos actor grants)
 
--- a step more, where the last one moved the call
-pub gone_more : (old mid new : WorldState) (again actor : ℕ) (last reply : Reply) → last ≡ Moved → Leads (HasGone again actor last) old mid
-    → ((m : machine.World) → Shows mid m → IsStep m (Go actor) reply new) → Leads (HasGone (again + 1) actor reply) old new
-gone_more old mid new again actor last reply moved gone makes m shows =
-    let by = gone m shows in
+pub moved_none : (w : WorldState) (actor : ℕ) → Leads (HasMoved 0 actor) w w
+moved_none w actor m shows = (m, record { grants = []; replies = refl; world = refl }, shows)
+
+-- a step more
+gone : (old mid new : WorldState) (times actor : ℕ) (reply : Reply) → Leads (HasMoved times actor) old mid
+    → ((m : machine.World) → Shows mid m → IsStep m (Go actor) reply new) → Leads (HasGone times actor reply) old new
+gone old mid new times actor reply moved makes m shows =
+    let by = moved m shows in
     let had = by.1 in
     let made = makes by.0 by.2 in
     let events = gos actor had.grants in
-    let more : gos actor (had.grants ++ made.granted ∷ []) ≡ events ++ machine.Go actor made.granted ∷ [] = gos-more actor had.grants made.granted in (
+    let more : gos actor (had.grants ++ made.granted ∷ []) ≡ events ++ machine.Go actor made.granted ∷ [] =
+    gos-more actor had.grants made.granted in (
       (step by.0 (machine.Go actor made.granted)).world,
       record {
         grants = had.grants ++ made.granted ∷ [];
@@ -65,8 +62,7 @@ gone_more old mid new again actor last reply moved gone makes m shows =
             ap (replies m) more ∙ replies-more m events (machine.Go actor made.granted)
             ∙ ap (λ (w : machine.World). replies m events ++ (step w (machine.Go actor made.granted)).reply ∷ []) (sym had.world)
             ∙ ap (λ (r : machine.Reply). replies m events ++ r ∷ []) (sym made.reply_is)
-            ∙ ap (λ (all : List machine.Reply). all ++ reply_of reply ∷ [])
-            (had.replies ∙ ap (λ (r : Reply). replicate again machine.Moved ++ reply_of r ∷ []) moved ∙ replicate-more again machine.Moved ∙ ap (λ (k : ℕ). replicate k machine.Moved) (one_more again));
+            ∙ ap (λ (all : List machine.Reply). all ++ reply_of reply ∷ []) had.replies;
         world =
             ap (λ (w : machine.World). (step w (machine.Go actor made.granted)).world) had.world
             ∙ sym (ap (after m) more ∙ after-more m events (machine.Go actor made.granted));
@@ -74,17 +70,36 @@ gone_more old mid new again actor last reply moved gone makes m shows =
       made.shows,
     )
 
+-- it moved once more
+pub moved_more : (old mid new : WorldState) (times actor : ℕ) (reply : Reply) → reply ≡ Moved → Leads (HasMoved times actor) old mid
+    → ((m : machine.World) → Shows mid m → IsStep m (Go actor) reply new) → Leads (HasMoved (times + 1) actor) old new
+moved_more old mid new times actor reply is moved makes m shows =
+    let by = gone old mid new times actor reply moved makes m shows in
+    let had = by.1 in (
+      by.0,
+      record {
+        grants = had.grants;
+        replies =
+            had.replies ∙ ap (λ (r : Reply). replicate times machine.Moved ++ reply_of r ∷ []) is ∙ replicate-more times machine.Moved
+            ∙ ap (λ (k : ℕ). replicate k machine.Moved) (one_more times);
+        world = had.world;
+      },
+      by.2,
+    )
+
 -- so an actor's call goes on so often at most
-pub goes : (old new : WorldState) (again more actor : ℕ) (reply : Reply) → again ≤ more → (reply_of reply ≡ machine.Moved → again ≡ more)
-    → Leads (HasGone again actor reply) old new → Leads (λ m n. GoesOn (more + 1) m actor (reply_of reply) n) old new
-goes old new again more actor reply few all gone m shows =
-    let by = gone m shows in
+pub goes : (old mid new : WorldState) (times more actor : ℕ) (reply : Reply) → times ≤ more
+    → (reply_of reply ≡ machine.Moved → times ≡ more) → Leads (HasMoved times actor) old mid
+    → ((m : machine.World) → Shows mid m → IsStep m (Go actor) reply new)
+    → Leads (λ m n. GoesOn (more + 1) m actor (reply_of reply) n) old new
+goes old mid new times more actor reply few all moved makes m shows =
+    let by = gone old mid new times actor reply moved makes m shows in
     let had = by.1 in (
       by.0,
       record {
         grants = had.grants;
         replies = record {
-          before = again;
+          before = times;
           all_are = had.replies;
           few = omega (arith, few);
           ends = λ moved. ap (λ (n : ℕ). n + 1) (all moved);

@@ -1,5 +1,5 @@
 -- What inner functions of a script's run tell each other.
-use Rattle.std.specs.Prelude.{◌≡◌, ◌≤◌, ℕ, ◌+◌, Bool, true, false, nat_lt, if◌then◌else◌, List, [], ◌∷◌, ◌++◌, length, replicate, Option, Some, None, is_some, Result, Ok, Err, MatchResult}
+use Rattle.std.specs.Prelude.{◌≡◌, ◌≤◌, ℕ, ◌+◌, Bool, true, false, nat_lt, if◌then◌else◌, List, ◌++◌, length, replicate, Option, Some, None, is_some, Result, Ok, Err, MatchResult}
 use Rattle.std.specs.Io.KnownBytes.{Consumes}
 use Rattle.nv_base.specs.declared.fault.Fault.{Fault}
 use Rattle.nv_base.specs.declared.fault.Fault.TheVariants as fault
@@ -11,8 +11,7 @@ use Rattle.nv_machine.specs.Format.{formatted}
 use Rattle.nv_machine.specs.Step.{after, replies}
 use Rattle.nv_machine.specs.World as machine
 use Rattle.nv_core.specs.Worlds.{WorldState}
-use Rattle.nv_core.specs.declared.event.Reply.{Reply}
-use Rattle.nv_core.specs.Worlds.{Shows, ShowsAny, gos, reply_of}
+use Rattle.nv_core.specs.Worlds.{Shows, ShowsAny, gos}
 use Rattle.nv_script.specs.declared.fault.LineFault.{LineFault}
 use Rattle.nv_script.specs.declared.fault.LineFault.TheVariants as line_fault
 use Rattle.nv_script.specs.declared.feed.Taken.{Taken}
@@ -89,8 +88,8 @@ TurnIs (Ok true) input left known old new gathered number world =
 TurnIs (Ok false) input left known old new gathered number world = EndsWell input left (λ text. WritesFront old new text gathered)
 TurnIs (Err why) input left known old new gathered number world = EndsBy why input left (λ text. WritesFront old new text gathered)
 
--- a call went on once and so often again: it moved each time but for the last, which had this reply
-pub record HasGone (again actor : ℕ) (reply : Reply) (old new : machine.World) : Type 0 where
+-- a call went on so often, and moved each time
+pub record HasMoved (times actor : ℕ) (old new : machine.World) : Type 0 where
   pub grants : List Bool
-  pub replies : replies old (gos actor grants) ≡ replicate again machine.Moved ++ reply_of reply ∷ []
+  pub replies : replies old (gos actor grants) ≡ replicate times machine.Moved
   pub world : new ≡ after old (gos actor grants)

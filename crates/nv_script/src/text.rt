@@ -44,16 +44,16 @@ fn push_place(out: &mut Vec<u8>, line: u64, kind: ScriptFaultKind) -> Result<(),
     push_labelled(out, b"(", line)?;
     out.extend_from_slice(b", ")?;
     out.extend_from_slice(kind.name().as_bytes())?;
-    out.extend_from_slice(b")")
+    Ok(out.push(b')')?)
 }
 
 /// Adds a text in brackets.
 fn push_bracketed(out: &mut Vec<u8>, text: &[u8]) -> Result<(), AllocError>
     ensures { OnOk result (out.new.items ≡ out.old.items ++ bracketed text.now) }
 {
-    out.extend_from_slice(b"(")?;
+    out.push(b'(')?;
     out.extend_from_slice(text)?;
-    out.extend_from_slice(b")")
+    Ok(out.push(b')')?)
 }
 
 /// Adds the line of a refusal.
@@ -62,7 +62,7 @@ pub(crate) fn push_refused(out: &mut Vec<u8>, fault: &Fault) -> Result<(), Alloc
 {
     out.extend_from_slice(b"refused ")?;
     push_fault(out, fault)?;
-    out.extend_from_slice(b"\n")
+    Ok(out.push(b'\n')?)
 }
 
 /// Adds a number behind a label.
@@ -79,10 +79,10 @@ fn push_counted_bytes(out: &mut Vec<u8>, bytes: &[u8]) -> Result<(), AllocError>
 {
     let count = bytes.len();
     if count == 0 {
-        return out.extend_from_slice(b"0");
+        return Ok(out.push(b'0')?);
     }
     push_number(out, count as u64)?;
-    out.extend_from_slice(b" ")?;
+    out.push(b' ')?;
     push_escaped(out, bytes)
 }
 
@@ -99,9 +99,9 @@ fn push_bound(out: &mut Vec<u8>, names: &[BoundName]) -> Result<(), AllocError>
     ensures { OnOk result (out.new.items ≡ out.old.items ++ flat_map bound_text names.now) }
 {
     for bound in names {
-        out.extend_from_slice(b"\n")?;
+        out.push(b'\n')?;
         push_escaped(out, bound.name.bytes())?;
-        out.extend_from_slice(b" ")?;
+        out.push(b' ')?;
         push_handle(out, &bound.to)?;
     }
     Ok(())
@@ -132,13 +132,13 @@ fn push_answer(out: &mut Vec<u8>, answer: &Answer) -> Result<(), AllocError>
 {
     match answer {
         Answer::Made(handle) => {
-            out.extend_from_slice(b" ")?;
+            out.push(b' ')?;
             push_handle(out, handle)
         }
         Answer::Count(count) => push_labelled(out, b" ", *count),
         Answer::Nothing => Ok(()),
         Answer::Bytes(bytes) => {
-            out.extend_from_slice(b" ")?;
+            out.push(b' ')?;
             push_counted_bytes(out, bytes.as_slice())
         }
         Answer::Stat {
@@ -147,7 +147,7 @@ fn push_answer(out: &mut Vec<u8>, answer: &Answer) -> Result<(), AllocError>
             size,
             commit,
         } => {
-            out.extend_from_slice(b" ")?;
+            out.push(b' ')?;
             push_mode(out, *kind, *mode)?;
             push_labelled(out, b" ", *size)?;
             push_labelled(out, b" ", commit.number())
@@ -159,7 +159,7 @@ fn push_answer(out: &mut Vec<u8>, answer: &Answer) -> Result<(), AllocError>
         }
         Answer::Snapshot(s) => push_labelled(out, b" ", s.number()),
         Answer::Tree(tree) => {
-            out.extend_from_slice(b"\n")?;
+            out.push(b'\n')?;
             push_nodes(out, tree.as_slice())?;
             out.extend_from_slice(b"end")
         }
@@ -172,7 +172,7 @@ fn push_done(out: &mut Vec<u8>, answer: &Answer) -> Result<(), AllocError>
 {
     out.extend_from_slice(b"done")?;
     push_answer(out, answer)?;
-    out.extend_from_slice(b"\n")
+    Ok(out.push(b'\n')?)
 }
 
 /// Adds the line of a reply.
@@ -194,7 +194,7 @@ fn push_names(out: &mut Vec<u8>, names: &[Name]) -> Result<(), AllocError>
     ensures { OnOk result (out.new.items ≡ out.old.items ++ names_text names.now) }
 {
     for name in names {
-        out.extend_from_slice(b"/")?;
+        out.push(b'/')?;
         push_escaped(out, name.bytes())?;
     }
     Ok(())
@@ -206,7 +206,7 @@ fn push_path(out: &mut Vec<u8>, path: &Path) -> Result<(), AllocError>
 {
     let names = path.as_slice();
     if names.is_empty() {
-        return out.extend_from_slice(b"/");
+        return Ok(out.push(b'/')?);
     }
     push_names(out, names)
 }
@@ -219,7 +219,7 @@ fn push_kind(out: &mut Vec<u8>, node: &NodeCopy) -> Result<(), AllocError>
     push_mode(out, node.kind, node.mode)?;
     match node.kind {
         Kind::File => {
-            out.extend_from_slice(b" ")?;
+            out.push(b' ')?;
             push_counted_bytes(out, node.bytes.as_slice())
         }
         Kind::Dir => Ok(()),
@@ -231,9 +231,9 @@ fn push_node(out: &mut Vec<u8>, node: &TreeNode) -> Result<(), AllocError>
     ensures { OnOk result (out.new.items ≡ out.old.items ++ node_line node.now) }
 {
     push_path(out, &node.path)?;
-    out.extend_from_slice(b" ")?;
+    out.push(b' ')?;
     push_kind(out, &node.node)?;
-    out.extend_from_slice(b"\n")
+    Ok(out.push(b'\n')?)
 }
 
 /// Adds the lines of nodes.
@@ -262,7 +262,7 @@ fn push_snap(out: &mut Vec<u8>, snap: &SnapCounts) -> Result<(), AllocError>
     push_labelled(out, b" held ", snap.held)?;
     push_labelled(out, b" gain ", snap.gain)?;
     push_labelled(out, b" pins ", u64::from(snap.pins))?;
-    out.extend_from_slice(b"\n")
+    Ok(out.push(b'\n')?)
 }
 
 /// Adds the lines of living snapshots.
@@ -283,7 +283,7 @@ pub(crate) fn push_snaps(out: &mut Vec<u8>, snaps: &Snaps) -> Result<(), AllocEr
     push_labelled(out, b"snaps ", living.len() as u64)?;
     push_labelled(out, b" epoch ", snaps.epoch.number())?;
     push_labelled(out, b" commit ", snaps.commit.number())?;
-    out.extend_from_slice(b"\n")?;
+    out.push(b'\n')?;
     push_living(out, living)
 }
 
@@ -296,7 +296,7 @@ pub(crate) fn push_space(out: &mut Vec<u8>, space: &Space) -> Result<(), AllocEr
     push_labelled(out, b" data ", space.data)?;
     push_labelled(out, b" pending ", space.pending)?;
     push_labelled(out, b" hand ", space.hand)?;
-    out.extend_from_slice(b"\n")
+    Ok(out.push(b'\n')?)
 }
 
 /// Adds a run of free blocks by its ends, or one block by its number.
@@ -336,7 +336,7 @@ pub(crate) fn push_lists(out: &mut Vec<u8>, lists: &[Items<FreeRun>]) -> Result<
     for (cpu, runs) in lists.iter().enumerate() {
         push_labelled(out, b"cpu ", cpu as u64)?;
         push_runs(out, runs.as_slice())?;
-        out.extend_from_slice(b"\n")?;
+        out.push(b'\n')?;
     }
     Ok(())
 }
@@ -361,5 +361,5 @@ pub(crate) fn push_log(out: &mut Vec<u8>, ino: u64, log: &LogCounts) -> Result<(
     push_labelled(out, b" ", log.entries as u64)?;
     push_labelled(out, b" ", pages.len() as u64)?;
     push_counts(out, pages)?;
-    out.extend_from_slice(b"\n")
+    Ok(out.push(b'\n')?)
 }

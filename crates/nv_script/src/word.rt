@@ -1,6 +1,6 @@
 //! The words of a line, and what a word spells: a number, a mode, a handle, escaped bytes.
 
-ghost use Rattle.std.specs.Prelude.{◌≡◌, ◌<◌, ◌≤◌, ◌++◌, ◌∷◌, ℕ, List, false, length, map, IfOk, IfSome, OnOk, MatchOption, decimal, take, true};
+ghost use Rattle.std.specs.Prelude.{◌≡◌, ◌+◌, ◌<◌, ◌≤◌, ◌++◌, ◌∷◌, ℕ, List, false, length, map, IfOk, IfSome, OnOk, MatchOption, decimal, take, true, vec_len, vec_capacity};
 ghost use Rattle.std.specs.List.{All, list_all};
 ghost use Rattle.std.specs.Fmt.{digit_glyph};
 ghost use Rattle.nv_base.specs.declared.limits.TheConstants.{MODE};
@@ -22,7 +22,7 @@ const POINT: u8 = b'.';
 /// What begins the two digits of an escaped byte.
 const ESCAPE: u8 = b'%';
 
-/// How many bytes are asked together whether they are plain.
+/// How many bytes are asked together whether they are plain, and are printed together where one is not.
 const PIECE: usize = 32;
 
 /// The number that 1 to 20 decimal digits spell, if it is below 2 to the power of 64.
@@ -216,26 +216,42 @@ fn hex_digit(value: u8) -> u8
 }
 
 /// Adds one byte as it is printed.
-fn push_byte(out: &mut Vec<u8>, byte: u8) -> Result<(), AllocError>
-    ensures { OnOk result (out.new.items ≡ out.old.items ++ escaped_byte byte) }
+fn push_byte(out: &mut Vec<u8>, byte: u8)
+    requires { vec_len out.old + 3 ≤ vec_capacity out.old }
+    ensures items { out.new.items ≡ out.old.items ++ escaped_byte byte }
+    ensures len { vec_len out.new ≤ vec_len out.old + 3 }
+    ensures capacity { vec_capacity out.new ≡ vec_capacity out.old }
 {
     if is_plain(byte) {
-        return Ok(out.push(byte)?);
+        out.push_reserved(byte);
+        return;
     }
-    out.reserve(3)?;
     out.push_reserved(ESCAPE);
     out.push_reserved(hex_digit(byte / 16));
     out.push_reserved(hex_digit(byte % 16));
+}
+
+/// Adds a piece byte by byte as it is printed, with room made once as if each took three bytes.
+fn push_piece(out: &mut Vec<u8>, piece: &[u8]) -> Result<(), AllocError>
+    requires { length piece.now ≤ PIECE }
+    ensures { OnOk result (out.new.items ≡ out.old.items ++ escaped piece.now) }
+{
+    out.reserve(3 * piece.len())?;
+    for byte in piece {
+        push_byte(out, *byte);
+    }
     Ok(())
 }
 
-/// Adds bytes as they are printed. Plain ones are copied together.
+/// Adds bytes as they are printed. Plain ones in front are copied together, and so are those behind each piece that
+/// begins with another.
 pub fn push_escaped(out: &mut Vec<u8>, bytes: &[u8]) -> Result<(), AllocError>
     ensures { OnOk result (out.new.items ≡ out.old.items ++ escaped bytes.now) }
 {
     let mut rest = push_plain(out, bytes)?;
-    while let Some((byte, after)) = rest.split_first() {
-        push_byte(out, *byte)?;
+    while !rest.is_empty() {
+        let (piece, after) = rest.split_at(PIECE.min(rest.len()));
+        push_piece(out, piece)?;
         rest = push_plain(out, after)?;
     }
     Ok(())

@@ -39,7 +39,8 @@ loop-k-preserved c =
     (omega (arith, c.loop-k-test.true, c.part_count-k-end.ensures)) in
     let part : c.kept_part-count.result ≡ one_of c.args.book.now.state e.epoch (slice_index_or (drop base cell.marks) c.loop-k.k Current)
     (slice_index_or (drop base cell.blocks) c.loop-k.k None) =
-    rw (← mark, get_or-drop base cell.blocks c.loop-k.k None) (c.kept_part-count.ensures.value c.args.place c.requires) in
+    rw (← mark, get_or-drop base cell.blocks c.loop-k.k None) (c.kept_part-count.ensures.value c.args.place c.requires
+    (mark ∙ get_or-drop base cell.marks c.loop-k.k Current)) in
     record {
       count = omega (arith, more, part, c.loop-k.invariant.count);
       few = omega arith;

@@ -1,28 +1,39 @@
-use Rattle.std.proofs.Common.{◌∙◌, arith, sym, true≢false}
-use Rattle.nv_script.proofs.Goes.{goes, gone_more, gone_once, moved_only}
+use Rattle.std.proofs.Common.{◌≡◌, ℕ, ◌+◌, ◌-◌, arith, subst}
+use Rattle.nv_core.specs.declared.event.Reply.{Reply}
+use Rattle.nv_core.specs.Worlds.{Leads, reply_of}
+use Rattle.nv_script.specs.Play.{GoesOn}
+use Rattle.nv_script.specs.Results.{HasMoved}
+use Rattle.nv_script.proofs.Goes.{goes, moved_more, moved_none, moved_only}
 use Rattle.nv_script.proofs.act.go.Goals as goal
-use Rattle.nv_script.proofs.act.go.Goals.{in-Moved, in_default}
 
-pub loop-again-init : goal.loop-again-init
-loop-again-init c = gone_once c.args.world.now c.go-reply.new.self c.args.actor _ c.go-reply.ensures
+pub loop-reply-init : goal.loop-reply-init
+loop-reply-init c =
+    let none : 0 ≡ c.args.more - c.args.more = omega arith in
+    record {
+      few = omega arith;
+      moved = subst (λ (n : ℕ). Leads (HasMoved n c.args.actor) c.args.world.now c.args.world.now) none
+          (moved_none c.args.world.now c.args.actor);
+    }
 
-pub returns-then-not-matches : goal.returns-then-not-matches
-returns-then-not-matches c =
-    elim c.match-matches.branch [
-      | in-Moved w ↦ absurd (true≢false (sym w.matches-is ∙ c.if-not-matches.true))
-      | in_default w ↦ goes c.args.world.now c.loop-again.world c.loop-again._again c.args.more c.args.actor c.loop-again.reply
-          c.loop-again.auto._again-end (λ moved. absurd (w.in_default.not-Moved (moved_only c.loop-again.reply moved))) c.loop-again.invariant
-    ]
+pub loop-reply-preserved : goal.loop-reply-preserved
+loop-reply-preserved c =
+    let few = c.loop-reply.invariant.few in
+    let more : c.args.more - c.loop-reply.left + 1 ≡ c.args.more - (c.loop-reply.left - 1) = omega (arith, few, c.if-left-eq0.false) in
+    record {
+      few = omega (arith, few);
+      moved = subst (λ (n : ℕ). Leads (HasMoved n c.args.actor) c.args.world.now c.go.new.self) more
+          (moved_more c.args.world.now c.loop-reply.world c.go.new.self (c.args.more - c.loop-reply.left) c.args.actor c.go.result
+          c.in-Moved.is c.loop-reply.invariant.moved c.go.ensures);
+    }
 
-pub loop-again-preserved : goal.loop-again-preserved
-loop-again-preserved c =
-    elim c.match-matches.branch [
-      | in-Moved w ↦ gone_more c.args.world.now c.loop-again.world c.go-reply-in-loop-again.new.self c.loop-again._again c.args.actor
-          c.loop-again.reply c.go-reply-in-loop-again.result w.in-Moved.is c.loop-again.invariant c.go-reply-in-loop-again.ensures
-      | in_default w ↦ absurd (true≢false (sym c.if-not-matches.false ∙ w.matches-is))
-    ]
+pub returns-in_default : goal.returns-in_default
+returns-in_default c =
+    goes c.args.world.now c.loop-reply.world c.go.new.self (c.args.more - c.loop-reply.left) c.args.more c.args.actor c.go.result
+    (omega arith) (λ moved. absurd (c.in_default.not-Moved (moved_only c.go.result moved))) c.loop-reply.invariant.moved c.go.ensures
 
-pub returns : goal.returns
-returns c =
-    goes c.args.world.now c.loop-again.world c.loop-again._again c.args.more c.args.actor c.loop-again.reply
-    c.loop-again.auto._again-end (λ moved. omega (arith, c.loop-again.auto._again-end, c.loop-again-test.false)) c.loop-again.invariant
+pub returns-then-left-eq0 : goal.returns-then-left-eq0
+returns-then-left-eq0 c =
+    subst (λ (r : Reply). Leads (λ m n. GoesOn (c.args.more + 1) m c.args.actor (reply_of r) n) c.args.world.now c.go.new.self)
+    c.in-Moved.is
+    (goes c.args.world.now c.loop-reply.world c.go.new.self (c.args.more - c.loop-reply.left) c.args.more c.args.actor c.go.result
+    (omega arith) (λ moved. omega (arith, c.if-left-eq0.true)) c.loop-reply.invariant.moved c.go.ensures)

@@ -1,6 +1,13 @@
-use Rattle.nv_script.specs.Results.{HasGone}
+use Rattle.std.proofs.Common.{◌-◌, ◌≤◌}
+use Rattle.nv_script.specs.Results.{HasMoved}
 use Rattle.nv_core.specs.Worlds.{Leads}
 use Rattle.nv_script.proofs.act.go.Given as goal
 
-abbrev pub invariant-loop-again : goal.invariant-loop-again
-invariant-loop-again l = Leads (HasGone l._again l.actor l.reply) l.fn.world l.world
+abbrev pub invariant-loop-reply : goal.invariant-loop-reply
+invariant-loop-reply l = record {
+  few : l.left ≤ l.more;
+  moved : Leads (HasMoved (l.more - l.left) l.actor) l.fn.world l.world;
+}
+
+abbrev pub decreases-loop-reply : goal.decreases-loop-reply
+decreases-loop-reply l = l.left
