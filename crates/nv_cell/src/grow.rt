@@ -5,11 +5,14 @@ ghost use Rattle.nv_cell.specs.Room.{HasGrown};
 
 use std::alloc::AllocError;
 
-/// For how many more items a list grows at least: a small file has its room at once.
-const LEAST_GROWTH: usize = 16;
+/// For how many more entries a list of them grows at least: a small file has its room at once.
+pub const LEAST_ENTRIES: usize = 16;
 
-/// Makes room for so many more items. Where it is missing the list grows by a few more, so that it grows seldom.
-pub fn grow<T>(list: &mut Vec<T>, count: usize) -> Result<(), AllocError>
+/// For how many more parts a list of them grows at least: a write has two or more.
+pub const LEAST_PARTS: usize = 32;
+
+/// Makes room for so many more items. Where it is missing the list grows by so many at least, so that it grows seldom.
+pub fn grow<T>(list: &mut Vec<T>, count: usize, least: usize) -> Result<(), AllocError>
     ensures grown { HasGrown list.old list.new }
     ensures ok { OnOk result (vec_len list.new + count ≤ vec_capacity list.new) }
     ensures enough { vec_len list.old + count ≤ vec_capacity list.old → IsOk result }
@@ -17,5 +20,5 @@ pub fn grow<T>(list: &mut Vec<T>, count: usize) -> Result<(), AllocError>
     if count <= list.capacity() - list.len() {
         return Ok(());
     }
-    list.reserve(count.max(LEAST_GROWTH))
+    list.reserve(count.max(least))
 }

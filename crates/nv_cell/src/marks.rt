@@ -9,7 +9,7 @@ ghost use Rattle.nv_cell.specs.Marks.{bit, is_current, is_there, mark_at};
 ghost use Rattle.nv_cell.specs.Tallies.{AreCounts, AreRuns, AreTallied, HasSpare, IsInRun, SameCapacity, end_at, is_in, is_valid, moved, start_at, tally_at, counts_at};
 ghost use Rattle.nv_cell.specs.declared.mark.Mark.TheVariants as mark;
 
-use crate::grow::grow;
+use crate::grow::{LEAST_ENTRIES, LEAST_PARTS, grow};
 use crate::{Mark, NumberedPart, PageCounts, Tally};
 use nv_base::Fault;
 use std::alloc::Global;
@@ -133,9 +133,9 @@ impl Marks {
             → IsOk result }
         ensures err { FailsOnly OutOfMemory result }
     {
-        grow(&mut self.marks, parts)?;
-        grow(&mut self.ends, entries)?;
-        grow(&mut self.tallies, entries)?;
+        grow(&mut self.marks, parts, LEAST_PARTS)?;
+        grow(&mut self.ends, entries, LEAST_ENTRIES)?;
+        grow(&mut self.tallies, entries, LEAST_ENTRIES)?;
         self.pages.reserve(pages.saturating_sub(self.pages.len()))?;
         Ok(())
     }

@@ -12,7 +12,7 @@ ghost use Rattle.nv_cell.specs.Room.{HasGrown, HasNoLess, HaveGrown, IsReadyFor}
 ghost use Rattle.nv_cell.specs.Tallies.{HasSpare};
 ghost use Rattle.nv_cell.specs.Weights.{parts_in, runs_of, weights_by, weights_in};
 
-use crate::grow::grow;
+use crate::grow::{LEAST_PARTS, grow};
 use crate::needs::{most_killed, part_total};
 use crate::{CellIndex, InodeCell, KilledPart, Marks, NumberedPart};
 use nv_alloc::Block;
@@ -108,6 +108,6 @@ fn grow_log(
     let pages = chain.pages_for(entries);
     let all = chain.blocks().len().saturating_add(pages);
     marks.reserve(parts, entries, all)?;
-    grow(blocks, parts)?;
+    grow(blocks, parts, LEAST_PARTS)?;
     chain.reserve(pages)
 }
