@@ -2,7 +2,7 @@
 //! snapshot list.
 //!
 //! The scans share no code with what they judge. They ask the functions of `nv_entry`, which say what a log means, and
-//! read each log from its first entry on; of the parts that they judge they take no more than what these show.
+//! read the entries of the logs alone; of the parts that they judge they take no more than what these show.
 #![tactic(auto)]
 
 mod counts;

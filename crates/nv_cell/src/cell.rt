@@ -20,8 +20,8 @@ use std::alloc::Global;
 use std::marker::Model;
 use std::mem;
 
-/// An inode with its log, or an empty slot. Its index, the marks of its parts and the counts of its pages are at all
-/// times those of one scan of its log.
+/// An inode with its log, or an empty slot. Its index, and which of its parts are marked current, are at all times those
+/// of one scan of its log; the counts of its pages are those of its marks.
 ///
 /// A cell owns the blocks of its log pages and of its data, so it is no `Drop`.
 pub struct InodeCell {

@@ -10,7 +10,7 @@ pub enum Mark {
     Current,
     /// It is no longer current, and not yet retired.
     Killed,
-    /// It is recorded for a snapshot.
+    /// It has a record: a living snapshot holds it, or it waits for its release.
     Kept,
     /// Nothing keeps it, and its block is gone.
     Out,

@@ -40,7 +40,8 @@ pub struct Stretch {
 
 impl InodeCell {
     /// At most `len` bytes of a file from a place on, none past its end: zeros where it has no page. `OutOfMemory` where
-    /// room for them was refused. Costs the pages that it reads, and one look-up for each run of them.
+    /// room for them was refused. Costs the pages that it reads, and one look-up for each run of them and for each
+    /// sixteen pages.
     pub fn read(&self, at: u64, len: u64) -> Result<Bytes, Fault>
         ensures own { IfOk result (λ read. read ≡ read_at at len (own_bytes self.now.state)) }
         ensures bytes { (bytes : ℕ → List ℕ) → AreBytesOf self.now.state bytes

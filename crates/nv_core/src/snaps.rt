@@ -32,7 +32,7 @@ pub struct Snaps {
 }
 
 impl World {
-    /// The snapshots. It takes time by all records, for each snapshot.
+    /// The snapshots. It takes time by all runs of records, for each snapshot.
     pub fn snaps(&self) -> Result<Snaps, Fault>
         ensures ok { (m : machine.World) → Shows self.now m
             → IfOk result (λ snaps. snaps ≡ snaps_of m.shared.book) }

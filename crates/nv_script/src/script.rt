@@ -32,7 +32,7 @@ const TEXT_BYTES: usize = 4096;
 /// What is written is the text of the lines before the first fault, and after a failed write a front of the text
 /// of the next line too. Faults are `ScriptFault` with the line, counted from 1, and its kind; `Read` for any failed
 /// read; `Write` for any failed write and one that takes no byte; `OutOfMemory` where room for the lines, their
-/// words or their texts is refused. A format, call or tree whose own growth is refused is printed as refused and
+/// words or their texts is refused. A format, call or report whose own growth is refused is printed as refused and
 /// changes nothing, and the script goes on.
 ///
 /// Answers are gathered, and written before the reader is asked for more bytes, at the end, and where there is no
