@@ -174,3 +174,5 @@ pub mod FiledHeld
 pub mod FiledParts
 pub mod HeldMarks
 pub mod Releasing
+pub mod CopyTrees
+pub mod SnapAnswers

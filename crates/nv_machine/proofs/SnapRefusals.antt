@@ -62,7 +62,7 @@ module _ (a : ℕ) (granted : Bool) (w : World) (h : HandState) (r : Running) (e
       subst (λ (n : Next). Tested (tests_on kind w.shared.book.snaps) (kind_turn n w.numbers.block a granted w.shared h r)) (sym next)
       (step_tested kind is (subst (λ (n : Next). IsBare n h r) next bare))
 
-there_is : (w : World) (actor : ℕ) (r : Running) → (actor_at w actor).running ≡ Some r → actor < length w.actors
+pub there_is : (w : World) (actor : ℕ) (r : Running) → (actor_at w actor).running ≡ Some r → actor < length w.actors
 there_is w actor r is = elim (cases_lt actor (length w.actors)) [
   | inl low ↦ low
   | inr past ↦ absurd (none-some r (sym (ap (λ (x : Actor). x.running) (get_or_past w.actors actor idle past)) ∙ is))

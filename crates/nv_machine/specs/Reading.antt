@@ -4,7 +4,10 @@ use Rattle.nv_base.specs.declared.fault.Fault.{Fault}
 use Rattle.nv_base.specs.declared.fault.Fault.TheVariants.{EpochLimit, NoSnapshot, Pinned, TooManySnapshots}
 use Rattle.nv_base.specs.declared.limits.TheConstants.{NUMBER}
 use Rattle.nv_base.specs.declared.numbers.Handle.{Handle}
+use Rattle.nv_calls.specs.Plain.{node_in}
 use Rattle.nv_calls.specs.Refusals.{Check as Tests, passes}
+use Rattle.nv_entry.specs.Tree.{root, tree_from}
+use Rattle.nv_entry.specs.declared.tree.TreeNode.{TreeNode}
 use Rattle.nv_epoch.specs.SnapList.{Snapshots as Living, pins_of}
 use Rattle.nv_epoch.specs.declared.snapshot.Snapshot.{Snapshot}
 use Rattle.nv_machine.specs.PlainRun.{Copy, Plain, is_of}
@@ -27,6 +30,18 @@ AreCopied s [] [] = Unit {0}
 AreCopied s [] (copy ∷ copies) = ⊥
 AreCopied s (snapshot ∷ living) [] = ⊥
 AreCopied s (snapshot ∷ living) (copy ∷ copies) = IsCopied s snapshot copy × AreCopied s living copies
+
+-- ---- trees
+
+-- the tree of the plain world where there are so many inodes
+abbrev pub plain_tree : ℕ → Plain → List TreeNode
+plain_tree inodes p = tree_from (node_in p.nodes) inodes [] root
+
+-- that of its copy of a snapshot, if it has one
+abbrev pub copied_tree : ℕ → List Copy → ℕ → Option (List TreeNode)
+copied_tree inodes [] snapshot = None
+copied_tree inodes (copy ∷ copies) snapshot =
+    if is_of snapshot copy then Some (tree_from copy.nodes inodes [] root) else copied_tree inodes copies snapshot
 
 -- ---- pins: what is between a show's first step and its last
 

@@ -35,11 +35,12 @@ ghost use Rattle.nv_machine.specs.Made.{handles_made, has_handle};
 ghost use Rattle.nv_machine.specs.Order.{IsInOrder};
 ghost use Rattle.nv_machine.specs.Reached.{IsReached};
 ghost use Rattle.nv_machine.specs.PlainRun.{Commits, Plain, deed_of, keeps_nodes, new_plain, plain_after, plain_of};
+ghost use Rattle.nv_machine.specs.Reading.{plain_tree};
 ghost use Rattle.nv_machine.specs.Reads.{copies, nodes, written_slots};
 ghost use Rattle.nv_machine.specs.Refusing.{GoesOn, LeavesBooks};
 ghost use Rattle.nv_machine.specs.Rounds.{HasRounds, failed_checks};
 ghost use Rattle.nv_machine.specs.Sequence.{Visits, beginning, nothing_looked};
-ghost use Rattle.nv_machine.specs.Settled.{settled, settled_nodes};
+ghost use Rattle.nv_machine.specs.Settled.{settled, settled_nodes, tree_of};
 ghost use Rattle.nv_machine.specs.Step.{after, handle_at, kind_turn, stays, step, turn};
 ghost use Rattle.nv_machine.specs.Takings.{IsShortInAll, asks_list, no_taking, taking_after, taking_of};
 ghost use Rattle.nv_machine.specs.World.{Answers, Done, Ending, Enter, Event, Go, HandState, Number, Overtaken, Refused, Running, Shared, Start, Started, Unlock, Visit, World, actor_at, owner_at};
@@ -186,18 +187,25 @@ pub fn checked_calls_still_pass()
 {}
 
 /// The plain world of a new world has the root, an empty directory of mode 493 that no commit has changed, and nothing else;
-/// and it has no commit.
+/// and it has no commit and no snapshot, and is in the first epoch.
 pub fn the_plain_world_begins_with_the_root()
     ensures nodes { (g : GeometryNumbers) → IsWithinLimits g → (handle : Handle)
         → (plain_of (formatted g)).nodes handle ≡ new_plain.nodes handle }
     ensures commit { (g : GeometryNumbers) → (plain_of (formatted g)).commit ≡ new_plain.commit }
+    ensures epoch { (g : GeometryNumbers) → (plain_of (formatted g)).epoch ≡ new_plain.epoch }
+    ensures copies { (g : GeometryNumbers) → (plain_of (formatted g)).copies ≡ new_plain.copies }
 {}
 
-/// The plain world's nodes are those of the settled logs after every list of events, and these logs are sound.
+/// The plain world's nodes are those of the settled logs after every list of events, so its tree is theirs, and these logs are
+/// sound.
 pub fn the_plain_world_is_that_of_settled_logs()
     ensures nodes { (g : GeometryNumbers) (events : List Event) → IsWithinLimits g
         → (handle : Handle) → settled_nodes (after (formatted g) events).shared handle
         ≡ (plain_after (formatted g) events (plain_of (formatted g))).nodes handle }
+    ensures tree { (g : GeometryNumbers) (events : List Event) → IsWithinLimits g
+        → tree_of (after (formatted g) events)
+        ≡ plain_tree (length (after (formatted g) events).shared.cells)
+        (plain_after (formatted g) events (plain_of (formatted g))) }
     ensures sound { (g : GeometryNumbers) (events : List Event) → IsWithinLimits g
         → AreSound (after (formatted g) events).shared }
 {}

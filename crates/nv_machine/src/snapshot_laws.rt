@@ -25,12 +25,12 @@ ghost use Rattle.nv_machine.specs.Format.{formatted};
 ghost use Rattle.nv_machine.specs.Needed.{AreNoDrops, IsAtRest, drained, free_but_needed};
 ghost use Rattle.nv_machine.specs.Numbers.{free_of};
 ghost use Rattle.nv_machine.specs.PlainRun.{plain_after, plain_of};
-ghost use Rattle.nv_machine.specs.Reading.{AreCopied, ArePins, GoesBy, is_tested, plain_tests, releases, shows_of, tests_on};
+ghost use Rattle.nv_machine.specs.Reading.{AreCopied, ArePins, GoesBy, copied_tree, is_tested, plain_tests, releases, shows_of, tests_on};
 ghost use Rattle.nv_machine.specs.Recorded.{AreRecordedOnce, IsOfPair, is_killed_pair, is_recorded_for, recorded_in, records_after};
 ghost use Rattle.nv_machine.specs.Settled.{settled_copies, snapshot_tree};
 ghost use Rattle.nv_machine.specs.Snapshots.{snapshot_turn};
 ghost use Rattle.nv_machine.specs.Step.{after, step};
-ghost use Rattle.nv_machine.specs.World.{Done, Draining, Ends, Event, Go, HandState, Pick, Refused, Running, Shared, SnapshotStep, Snapshots, Start, Started, Unpin, Waiting, actor_at, cell_at, list_at};
+ghost use Rattle.nv_machine.specs.World.{Done, Draining, Drop, Ends, Event, Go, HandState, Make, Pick, Refused, Refuses, Running, Shared, SnapshotStep, Snapshots, Start, Started, Unpin, Waiting, actor_at, cell_at, list_at};
 
 /// The records are one list, whatever events came from a new world on: a retire step puts the killed parts of its inode to its
 /// end, in order, that a living snapshot holds; a drop moves there, in order, the records that its snapshot was the youngest to
@@ -69,8 +69,9 @@ pub fn snapshots_hold_what_logs_tell()
 {}
 
 /// Each living snapshot reads as the nodes that stood when it was made, whatever events came since: at its epoch the settled
-/// logs give the plain world's copy, which no event changes. So they form a tree. A show that is answered is told that tree,
-/// and its snapshot lives up to its last step.
+/// logs give the plain world's copy, which no event changes. So they form a tree, and it is the tree of that copy. A show that
+/// is answered is told that tree, and its snapshot lives up to its last step; one whose memory was refused is told so by that
+/// step.
 pub fn snapshots_read_as_they_were()
     ensures copies { (g : GeometryNumbers) (events : List Event) → IsWithinLimits g
         → AreCopied (after (formatted g) events).shared
@@ -83,6 +84,17 @@ pub fn snapshots_read_as_they_were()
         → Contains (ids (after (formatted g) events).shared.book.snaps) snapshot
         → FormTree (settled_copies (after (formatted g) events).shared snapshot)
         (length (after (formatted g) events).shared.cells) }
+    ensures reads { (g : GeometryNumbers) (events : List Event) (snapshot : ℕ) → IsWithinLimits g
+        → Contains (ids (after (formatted g) events).shared.book.snaps) snapshot
+        → copied_tree (length (after (formatted g) events).shared.cells)
+        (plain_after (formatted g) events (plain_of (formatted g))).copies snapshot
+        ≡ Some (snapshot_tree (after (formatted g) events) snapshot) }
+    ensures refused { (g : GeometryNumbers) (events : List Event) (actor snapshot : ℕ)
+        (granted : Bool) (r : Running) (seen : List TreeNode) (fault : Fault)
+        → (actor_at (after (formatted g) events) actor).running ≡ Some r
+        → r.next ≡ Snapshots (Unpin snapshot seen) → r.ending ≡ Refuses fault
+        → ((step (after (formatted g) events) (Go actor granted)).reply ≡ Waiting)
+        ⊎ ((step (after (formatted g) events) (Go actor granted)).reply ≡ Refused fault) }
     ensures show { (g : GeometryNumbers) (events : List Event) (actor snapshot : ℕ) (granted : Bool)
         (r : Running) (seen : List TreeNode) (told : Answer) → IsWithinLimits g
         → (actor_at (after (formatted g) events) actor).running ≡ Some r
@@ -114,6 +126,23 @@ pub fn snapshot_refusals_are_told()
         ⊎ GoesBy
         (plain_tests g.snaps kind (plain_after (formatted g) events (plain_of (formatted g))))
         (step (after (formatted g) events) (Go actor granted)).reply }
+{}
+
+/// A making that is answered is told the epoch that it ends, which its snapshot is named by; a drop is told nothing more.
+pub fn makings_and_drops_are_answered()
+    ensures made { (g : GeometryNumbers) (events : List Event) (actor : ℕ) (granted : Bool)
+        (r : Running) (told : Answer) → IsWithinLimits g
+        → (actor_at (after (formatted g) events) actor).running ≡ Some r
+        → r.next ≡ Snapshots Make
+        → (step (after (formatted g) events) (Go actor granted)).reply ≡ Done told
+        → told ≡ answers.Snapshot
+        (plain_after (formatted g) events (plain_of (formatted g))).epoch }
+    ensures dropped { (g : GeometryNumbers) (events : List Event) (actor snapshot : ℕ)
+        (granted : Bool) (r : Running) (told : Answer) → IsWithinLimits g
+        → (actor_at (after (formatted g) events) actor).running ≡ Some r
+        → r.next ≡ Snapshots (Drop snapshot)
+        → (step (after (formatted g) events) (Go actor granted)).reply ≡ Done told
+        → told ≡ answers.Nothing }
 {}
 
 /// A drain is answered how many records its steps have released; as long as it runs it is refused only for want of memory before

@@ -7,3 +7,9 @@ returns-clause-nodes c = plain_start
 
 pub returns-clause-commit : goal.returns-clause-commit
 returns-clause-commit c = λ g. refl
+
+pub returns-clause-epoch : goal.returns-clause-epoch
+returns-clause-epoch c = λ g. refl
+
+pub returns-clause-copies : goal.returns-clause-copies
+returns-clause-copies c = λ g. refl

@@ -1,6 +1,8 @@
 use Rattle.nv_machine.proofs.CopiesAll.{all_copied, all_form_trees}
 use Rattle.nv_machine.proofs.CopyMarks.{all_have_marks}
+use Rattle.nv_machine.proofs.CopyTrees.{trees_are_copied}
 use Rattle.nv_machine.proofs.ShowAll.{all_told}
+use Rattle.nv_machine.proofs.SnapAnswers.{unpin_refused}
 use Rattle.nv_machine.proofs.SnapRuns.{in_step}
 use Rattle.nv_machine.proofs.snapshot_laws.snapshots_read_as_they_were.Goals as goal
 
@@ -16,3 +18,10 @@ returns-clause-tree c g events snapshot within lives = all_form_trees g within (
 pub returns-clause-show : goal.returns-clause-show
 returns-clause-show c g events actor snapshot granted r seen told within is next reply =
     all_told g within (all_have_marks g within) events actor snapshot granted r seen told is next reply
+
+pub returns-clause-reads : goal.returns-clause-reads
+returns-clause-reads c = trees_are_copied
+
+pub returns-clause-refused : goal.returns-clause-refused
+returns-clause-refused c g events actor snapshot granted r seen fault is next ending =
+    unpin_refused g events actor granted r is snapshot seen fault next ending
