@@ -9,8 +9,9 @@ use Rattle.nv_machine.specs.Numbers.{IsEachOnce, all_blocks}
 use Rattle.nv_machine.specs.World as machine
 use Rattle.nv_core.proofs.GivenCounts.{IsOfNumbers, of_numbers}
 use Rattle.nv_core.proofs.Pending.{pending_counts}
+use Rattle.nv_core.proofs.PendingKept.{pending_few}
 use Rattle.nv_core.proofs.SpaceLaw.{adds_up}
-use Rattle.nv_core.specs.Reports.{AddsUp, space_in, space_of}
+use Rattle.nv_core.specs.Reports.{AddsUp, kept_of, space_in, space_of}
 use Rattle.nv_core.specs.Picked.{picked_of}
 use Rattle.nv_core.specs.Shown.{shared_of}
 use Rattle.nv_core.specs.Worlds.{IsWorld, Shows, WorldState}
@@ -20,6 +21,23 @@ world_adds_up w is =
     let g = w.shared.geometry.numbers in
     let once = subst (λ (m : machine.World). IsEachOnce g.blocks (all_blocks m)) (sym is.2.reached) (each_once g is.1 is.2.limits) in
     subst (λ (s : machine.Shared). AddsUp g.blocks s) (sym is.2.shows.shared) (adds_up g.blocks is.0 once)
+
+-- and no more are pending than are kept
+pub pending_fits : (w : WorldState) (picked : ℕ) → IsWorld w → picked ≡ sum_by picked_of w.actors
+    → block_count w.shared.book.state.deferred + picked ≤ kept_of (shared_of w.shared)
+pending_fits w picked is same =
+    let g = w.shared.geometry.numbers in
+    let few = subst (λ (m : machine.World). block_count (pending_in m) ≤ kept_of m.shared) (sym is.2.reached)
+    (pending_few g is.1 is.2.limits) in
+    let counts = pending_counts w is.0 is.2.shows in
+    let kept = ap kept_of is.2.shows.shared in
+    omega (arith, few, counts, kept, same)
+
+-- so its space is all of its blocks
+pub all_spaced : (blocks pending : ℕ) (s : machine.Shared) → AddsUp blocks s → pending ≤ kept_of s
+    → (space_in blocks pending s).free + (space_in blocks pending s).chain + (space_in blocks pending s).«data»
+    + (space_in blocks pending s).pending + (space_in blocks pending s).hand ≡ blocks
+all_spaced blocks pending s adds few = omega (arith, adds, few)
 
 pub few_actors : (w : WorldState) → IsWorld w → length w.actors ≤ 64
 few_actors w is =

@@ -81,7 +81,7 @@ no_block block Gone SizeKey h = refl
 no_block block Gone (NameKey name) h = refl
 
 -- a page has a block
-says : (block : ℕ) (item : Item) (k : ℕ) (p : Part) → slice_get (parts_of item) k ≡ Some p
+pub says : (block : ℕ) (item : Item) (k : ℕ) (p : Part) → slice_get (parts_of item) k ≡ Some p
     → is_some (option_and_then block_in (value_of (sets block item (key_of item p)))) ≡ is_page p
 says block item k part.Kind at = ap is_some (no_block block item KindKey refl)
 says block item k part.Mode at = ap is_some (no_block block item ModeKey refl)
@@ -89,7 +89,7 @@ says block item k part.Size at = ap is_some (no_block block item SizeKey refl)
 says block item k part.Bound at = ap is_some (no_block block item (NameKey (name_of item)) refl)
 says block item k (part.Page page) at = ap is_some (has_block block item page (part_present block item k (part.Page page) at)).is
 
-some_number : (o : Option BlockValue) → is_some (option_map number_of o) ≡ is_some o
+pub some_number : (o : Option BlockValue) → is_some (option_map number_of o) ≡ is_some o
 some_number None = refl
 some_number (Some b) = refl
 

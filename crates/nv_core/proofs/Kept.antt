@@ -64,7 +64,7 @@ births_cut (e ∷ log) (suc i) =
     ap (λ (l : List ℕ). replicate (part_count e) e.epoch ++ l) (births_cut log i)
     ∙ sym (append_assoc (replicate (part_count e) e.epoch) (births (take i log)) (births (drop i log)))
 
-length_births : (log : List Entry) → length (births log) ≡ part_total log
+pub length_births : (log : List Entry) → length (births log) ≡ part_total log
 length_births [] = refl
 length_births (e ∷ log) =
     length-append (replicate (part_count e) e.epoch) (births log)

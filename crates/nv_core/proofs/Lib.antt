@@ -45,6 +45,7 @@ pub mod PageParts
 pub mod PassTurns
 pub mod PassesSome
 pub mod Pending
+pub mod PendingKept
 pub mod Phases
 pub mod Plans
 pub mod PublishPhase
@@ -70,6 +71,7 @@ pub mod StartShown
 pub mod Starts
 pub mod Stays
 pub mod Stepped
+pub mod SumsTo
 pub mod TakenBlocks
 pub mod Takes
 pub mod Takings

@@ -13,11 +13,12 @@ use Rattle.nv_cell.specs.declared.mark.Mark.{Mark}
 use Rattle.nv_machine.specs.Numbers.{IsEachOnce, all_blocks, free_of as free_numbers, held_by_actor, of_part, stored_in, used_blocks}
 use Rattle.nv_machine.specs.World.{World}
 use Rattle.nv_machine.proofs.Reached.{most_once}
+use Rattle.nv_core.proofs.SumsTo.{sum_to}
 use Rattle.nv_core.specs.Reports.{AddsUp, births, chain_in, free_in, is_kept, kept_among, kept_in, one_of}
 
 -- ---- numbers that stand once
 
-times_cons : (k x : ℕ) (xs : List ℕ) → times k (x ∷ xs) ≡ cond (x == k) 1 0 + times k xs
+pub times_cons : (k x : ℕ) (xs : List ℕ) → times k (x ∷ xs) ≡ cond (x == k) 1 0 + times k xs
 times_cons k x xs = sum_by-cons (λ (m : ℕ). cond (m == k) 1 0) x xs
 
 times_same : (x : ℕ) (xs : List ℕ) → times x (x ∷ xs) ≡ suc (times x xs)
@@ -36,8 +37,7 @@ times_tail k x xs = let all = times_cons k x xs in omega (arith, all)
 
 -- how many of a list are below a number
 abbrev tally : ℕ → List ℕ → ℕ
-tally zero xs = 0
-tally (suc k) xs = times k xs + tally k xs
+tally k xs = sum_to k (λ n. times n xs)
 
 differs : (x k : ℕ) (b : Bool) → (x == k) ≡ b → (x ≡ k → ⊥) → b ≡ false
 differs x k true is apart = absurd (apart (eqb-true x k is))
@@ -79,11 +79,11 @@ tally_none : (k : ℕ) → tally k [] ≡ 0
 tally_none zero = refl
 tally_none (suc k) = let rest = tally_none k in omega (arith, rest)
 
-tally_all : (many : ℕ) (xs : List ℕ) → ((n : ℕ) → many ≤ n → times n xs ≡ 0) → tally many xs ≡ length xs
-tally_all many [] none = tally_none many
-tally_all many (x ∷ xs) none =
+pub times_all : (many : ℕ) (xs : List ℕ) → ((n : ℕ) → many ≤ n → times n xs ≡ 0) → sum_to many (λ n. times n xs) ≡ length xs
+times_all many [] none = tally_none many
+times_all many (x ∷ xs) none =
     let lt : x < many = go (nat_lt x many) refl in
-    let rest = tally_all many xs (λ n le. let a = none n le in let b = times_tail n x xs in omega (arith, a, b)) in
+    let rest = times_all many xs (λ n le. let a = none n le in let b = times_tail n x xs in omega (arith, a, b)) in
     let here = tally_in many x xs lt in
     omega (arith, here, rest) where
       go : (b : Bool) → nat_lt x many ≡ b → x < many
@@ -96,7 +96,7 @@ tally_few (suc k) xs few = let one = few k in let rest = tally_few k xs few in o
 
 pub no_more : (many : ℕ) (numbers : List ℕ) → IsEachOnce many numbers → length numbers ≤ many
 no_more many numbers each =
-    let all = tally_all many numbers none in
+    let all = times_all many numbers none in
     let few = tally_few many numbers (most_once many numbers each) in
     omega (arith, all, few) where
       none : (n : ℕ) → many ≤ n → times n numbers ≡ 0

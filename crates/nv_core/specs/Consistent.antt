@@ -1,29 +1,46 @@
 -- What holds of a world whatever events led to it.
-use Rattle.std.specs.Prelude.{◌≡◌, List}
+use Rattle.std.specs.Prelude.{◌≡◌, ℕ, Contains, List, [], Some, length}
 use Rattle.nv_audit.specs.Whole.{Agrees}
 use Rattle.nv_base.specs.declared.geometry.GeometryNumbers.{GeometryNumbers}
 use Rattle.nv_base.specs.declared.numbers.Handle.{Handle}
+use Rattle.nv_book.specs.Listed.{unheld}
+use Rattle.nv_book.specs.declared.record.Record.{Record}
+use Rattle.nv_epoch.specs.SnapList.{ids}
 use Rattle.nv_machine.specs.Format.{formatted}
+use Rattle.nv_machine.specs.Numbers.{IdleHaveNothing}
 use Rattle.nv_machine.specs.PlainRun.{Plain, plain_after, plain_of}
-use Rattle.nv_machine.specs.Reading.{AreCopied}
-use Rattle.nv_machine.specs.Settled.{settled_nodes}
+use Rattle.nv_machine.specs.PoolScan.{pool_from_scratch}
+use Rattle.nv_machine.specs.Reading.{AreCopied, copied_tree, plain_tree}
+use Rattle.nv_machine.specs.Recorded.{records_after}
+use Rattle.nv_machine.specs.Settled.{settled_nodes, snapshot_tree, tree_of}
 use Rattle.nv_machine.specs.Step.{after}
 use Rattle.nv_machine.specs.World as machine
 use Rattle.nv_core.specs.Audited.{device_of}
 use Rattle.nv_core.specs.Worlds.{Shows, WorldState}
 
--- A WORLD BESIDE THE PLAIN WORLD. Each inode's counts, the records that living snapshots hold and each free list are what one scan
--- of all logs and of the snapshots gives, where what hands have and what is deferred are named apart; the settled logs give the
--- plain world's nodes; and each living snapshot reads as the plain world's copy, which was taken when it was made
-pub record IsConsistent (g : GeometryNumbers) (w : machine.World) (plain : Plain) : Type 0 where
+-- A WORLD BESIDE THE PLAIN WORLD AND THE LIST OF ITS RECORDS. Each inode's counts, the records that living snapshots hold and each
+-- free list are what one scan of all logs and of the snapshots gives, where what hands have and what is deferred are named apart, and
+-- so is the pool of inode numbers; an actor without a call has an empty hand and no lock, and deferred are the records that no living
+-- snapshot holds. The settled logs give the plain world's nodes, and so its tree. And each living snapshot reads as the plain
+-- world's copy, which was taken when it was made: node by node, and so as a tree
+pub record IsConsistent (g : GeometryNumbers) (w : machine.World) (plain : Plain) (records : List Record) : Type 0 where
   pub scan : Agrees (device_of g w)
+  pub pool : w.shared.pool.numbers ≡ pool_from_scratch g w
+  pub idle : IdleHaveNothing w
+  pub deferred : w.shared.book.deferred ≡ unheld (ids w.shared.book.snaps) records
   pub nodes : (handle : Handle) → settled_nodes w.shared handle ≡ plain.nodes handle
+  pub tree : tree_of w ≡ plain_tree (length w.shared.cells) plain
+  pub commit : w.shared.book.commit ≡ plain.commit
   pub epoch : w.shared.book.snaps.epoch ≡ plain.epoch
   pub snapshots : AreCopied w.shared w.shared.book.snaps.living plain.copies
+  pub snapshot_trees : (snapshot : ℕ) → Contains (ids w.shared.book.snaps) snapshot
+      → copied_tree (length w.shared.cells) plain.copies snapshot ≡ Some (snapshot_tree w snapshot)
 
--- the same of the world to which events lead from a new one, beside the plain world to which they lead
+-- the same of the world to which events lead from a new one, beside the plain world and the record list to which they lead
 abbrev pub IsConsistentAfter : GeometryNumbers → List machine.Event → Type 0
-IsConsistentAfter g events = IsConsistent g (after (formatted g) events) (plain_after (formatted g) events (plain_of (formatted g)))
+IsConsistentAfter g events =
+    IsConsistent g (after (formatted g) events) (plain_after (formatted g) events (plain_of (formatted g)))
+    (records_after (formatted g) events [])
 
 -- A WORLD IS CONSISTENT: some events lead from a new world to what it shows, and so it is after these
 abbrev pub IsConsistentWorld : WorldState → Type 0

@@ -12,7 +12,7 @@ ghost use Rattle.nv_cell.specs.Cell.{log_of};
 ghost use Rattle.nv_cell.specs.Marks.{is_there};
 ghost use Rattle.nv_entry.specs.Covered.{part_count};
 ghost use Rattle.nv_book.specs.Records.{block_count, is_page};
-ghost use Rattle.nv_core.specs.Reports.{AddsUp, block_at, chain_in, counts_in, free_in, is_kept, kept_at, kept_in, lists_of, log_at, mark_of, one_of, space_in, space_of};
+ghost use Rattle.nv_core.specs.Reports.{AddsUp, block_at, chain_in, counts_in, free_in, is_kept, kept_at, kept_in, kept_of, lists_of, log_at, mark_of, one_of, space_in, space_of};
 ghost use Rattle.nv_core.specs.Picked.{picked_at, picked_of};
 ghost use Rattle.nv_core.specs.Shown.{shared_of};
 ghost use Rattle.nv_core.specs.Worlds.{Shows};
@@ -55,9 +55,12 @@ pub struct LogCounts {
 }
 
 impl World {
-    /// Where the blocks are. Takes no memory, and time by all blocks.
+    /// Where the blocks are: no block is lost, and none is counted twice. Takes no memory, and time by all slots, by the parts
+    /// of all logs, and by the runs of deferred records.
     pub fn space(&self) -> Space
-        ensures { (m : machine.World) → Shows self.now m → result ≡ space_of m }
+        ensures places { (m : machine.World) → Shows self.now m → result ≡ space_of m }
+        ensures all { result.free + result.chain + result.data + result.pending + result.hand
+            ≡ self.now.shared.geometry.numbers.blocks }
     {
         let picked = picked_blocks(&self.actors);
         self.shared.space(picked)
@@ -97,6 +100,8 @@ impl Shared {
     fn space(&self, picked: u64) -> Space
         requires blocks { AddsUp self.now.geometry.numbers.blocks (shared_of self.now) }
         requires few { picked ≤ 64 }
+        requires pending { block_count self.now.book.state.deferred + picked
+            ≤ kept_of (shared_of self.now) }
         ensures { result ≡ space_in self.now.geometry.numbers.blocks
             (block_count self.now.book.state.deferred + picked) (shared_of self.now) }
     {
@@ -104,7 +109,7 @@ impl Shared {
         let chain = log_pages(&self.cells);
         let kept = data_blocks(&self.cells, &self.book);
         let pending = self.book.deferred_blocks() + picked;
-        let data = kept.saturating_sub(pending);
+        let data = kept - pending;
         let hand = self.geometry.numbers.blocks - free - chain - kept;
         Space {
             free,

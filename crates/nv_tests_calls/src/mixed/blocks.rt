@@ -4,7 +4,7 @@ use super::scene::{BLOCK, Scene};
 use crate::compare::{are_zeros, same};
 use nv_alloc::FreeRun;
 use nv_base::{Geometry, Ino};
-use nv_core::{LogCounts, Space, TreeNode};
+use nv_core::{LogCounts, TreeNode};
 use nv_scenes::geometry;
 use std::process::Abort;
 use std::test::Fail;
@@ -28,23 +28,8 @@ pub(super) fn check_blocks(
         "blocks of a file are gone"
     );
     same(rt, space.pending, 0);
-    same(rt, all_of(&space), scene.row[0]);
     assert!(rt; !is_over || space.hand == 0, "blocks in hand");
     Ok(())
-}
-
-fn all_of(space: &Space) -> u64 {
-    let Space {
-        free,
-        chain,
-        data,
-        pending,
-        hand,
-    } = *space;
-    free.saturating_add(chain)
-        .saturating_add(data)
-        .saturating_add(pending)
-        .saturating_add(hand)
 }
 
 /// How many blocks the free lists name.

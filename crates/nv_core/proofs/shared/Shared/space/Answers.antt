@@ -19,6 +19,14 @@ overflow_sub-hand-3 c =
     ∙ sym (sum_states (kept_in s.book.state) s.cells.items) in
     omega (arith, free, chain, kept, c.requires.blocks)
 
+pub overflow_sub-data : goal.overflow_sub-data
+overflow_sub-data c =
+    let s = c.args.self.now in
+    let kept : c.data_blocks-kept.result ≡ kept_of (shared_of s) =
+    c.data_blocks-kept.ensures ∙ ap (sum_by (λ (v : CellValue). kept_in s.book.state v.state)) c.deref-3.ensures.value
+    ∙ sym (sum_states (kept_in s.book.state) s.cells.items) in
+    omega (arith, kept, c.deferred_blocks.ensures.value, c.requires.pending)
+
 pub returns : goal.returns
 returns c =
     let s = c.args.self.now in
@@ -30,4 +38,4 @@ returns c =
     let kept : c.data_blocks-kept.result ≡ kept_of (shared_of s) =
     c.data_blocks-kept.ensures ∙ ap (sum_by (λ (v : CellValue). kept_in s.book.state v.state)) c.deref-3.ensures.value
     ∙ sym (sum_states (kept_in s.book.state) s.cells.items) in
-    rw (c.saturating_sub-data.ensures, free, chain, kept, c.deferred_blocks.ensures.value) refl
+    rw (free, chain, kept, c.deferred_blocks.ensures.value) refl

@@ -1,7 +1,9 @@
-use Rattle.std.proofs.Common.{◌∙◌, List, ap, arith, length, subst, sym}
+use Rattle.std.proofs.Common.{◌∙◌, ◌+◌, List, ap, arith, length, subst, sym}
 use Rattle.std.specs.List.{sum_by}
-use Rattle.nv_core.proofs.AddedUp.{few_actors, space_shown, world_adds_up}
+use Rattle.nv_core.proofs.AddedUp.{all_spaced, few_actors, pending_fits, space_shown, world_adds_up}
+use Rattle.nv_book.specs.Records.{block_count}
 use Rattle.nv_core.specs.Picked.{picked_of}
+use Rattle.nv_core.specs.Shown.{shared_of}
 use Rattle.nv_core.specs.Worlds.{Shows, WorldState}
 use Rattle.nv_core.specs.declared.world.Actor.{Actor}
 use Rattle.nv_core.proofs.world.World.space.Goals as goal
@@ -26,9 +28,25 @@ space-requires-clause-few c =
       c.picked_blocks-picked.ensures.few,
     )
 
-pub returns : goal.returns
-returns c m shows =
+pub space-requires-clause-pending : goal.space-requires-clause-pending
+space-requires-clause-pending c =
+    let w : WorldState = record { shared = c.self.inside.shared; actors = c.self.inside.actors.items } in
+    pending_fits w c.picked_blocks-picked.result c.self.invariant
+    (c.picked_blocks-picked.ensures.value ∙ ap (sum_by picked_of) c.deref.ensures.value)
+
+pub returns-clause-places : goal.returns-clause-places
+returns-clause-places c m shows =
     let w : WorldState = record { shared = c.self.inside.shared; actors = c.self.inside.actors.items } in
     c.space.ensures
     ∙ space_shown w m c.picked_blocks-picked.result (subst (λ (v : WorldState). Shows v m) (sym c.self.view_is) shows)
     (c.picked_blocks-picked.ensures.value ∙ ap (sum_by picked_of) c.deref.ensures.value)
+
+pub returns-clause-all : goal.returns-clause-all
+returns-clause-all c =
+    let w : WorldState = record { shared = c.self.inside.shared; actors = c.self.inside.actors.items } in
+    let picked = c.picked_blocks-picked.ensures.value ∙ ap (sum_by picked_of) c.deref.ensures.value in
+    rw c.space.ensures (
+    all_spaced w.shared.geometry.numbers.blocks (block_count w.shared.book.state.deferred + c.picked_blocks-picked.result)
+    (shared_of w.shared) (world_adds_up w c.self.invariant) (pending_fits w c.picked_blocks-picked.result c.self.invariant picked)
+    ∙ ap (λ (v : WorldState). v.shared.geometry.numbers.blocks) c.self.view_is
+    )
