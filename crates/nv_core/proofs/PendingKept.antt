@@ -280,7 +280,8 @@ pending_few g events within =
     (λ ino lt. cell_pending book (cell_at w.shared ino) ino (pending_in w) (cells ino lt) (λ n. once ino n)) in
     let all = sum_list (kept_in book) w.shared.cells no_cell in
     omega (arith, pages, each, all) where
-      once : (ino n : ℕ) → count (is_record_of (cell_at (after (formatted g) events).shared ino) ino n) (pending_in (after (formatted g) events))
+      once : (ino n : ℕ)
+          → count (is_record_of (cell_at (after (formatted g) events).shared ino) ino n) (pending_in (after (formatted g) events))
           ≤ bit (is_kept (mark_at (cell_at (after (formatted g) events).shared ino).marks n))
       once ino n =
           let w = after (formatted g) events in

@@ -53,7 +53,8 @@ module _ (s : Shared) (inodes n : ℕ) where
 
 pub trees_are_copied : (g : GeometryNumbers) (events : List Event) (snapshot : ℕ) → IsWithinLimits g
     → Contains (ids (after (formatted g) events).shared.book.snaps) snapshot
-    → copied_tree (length (after (formatted g) events).shared.cells) (plain_after (formatted g) events (plain_of (formatted g))).copies snapshot
+    → copied_tree (length (after (formatted g) events).shared.cells)
+    (plain_after (formatted g) events (plain_of (formatted g))).copies snapshot
     ≡ Some (snapshot_tree (after (formatted g) events) snapshot)
 trees_are_copied g events snapshot within lives =
     let w = after (formatted g) events in
