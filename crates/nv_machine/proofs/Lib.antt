@@ -176,3 +176,4 @@ pub mod HeldMarks
 pub mod Releasing
 pub mod CopyTrees
 pub mod SnapAnswers
+pub mod Alone

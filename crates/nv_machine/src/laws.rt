@@ -1,7 +1,7 @@
 //! Laws of the machine of steps: what a step changes and waits for, that calls end, and where each block and each number
 //! stands. Each is the contract of a function that does nothing; [`crate::plain_laws`] has those of nodes and answers.
 
-ghost use Rattle.std.specs.Prelude.{◌≡◌, ◌+◌, ◌<◌, ◌≤◌, ℕ, Bool, List, Some, None, length, true, slice_get, slice_index_or, false};
+ghost use Rattle.std.specs.Prelude.{◌≡◌, ◌≢◌, ◌+◌, ◌<◌, ◌≤◌, ℕ, Bool, List, Some, None, length, true, slice_get, slice_index_or, false};
 ghost use Rattle.std.specs.Option.{option_map};
 ghost use Rattle.nv_alloc.specs.Block.{number_of};
 ghost use Rattle.nv_alloc.specs.Numbers.{IsRising};
@@ -104,12 +104,16 @@ pub fn who_holds_what()
         → (actor_at w actor).running ≡ Some r → HasLent w.shared actor r }
 {}
 
-/// A `Go` that waits changes nothing, and comes only where another actor holds the lock that the step needs.
+/// A `Go` that waits changes nothing, and comes only where another actor holds the lock that the step needs: so none waits where
+/// no other actor runs a call.
 pub fn who_waits()
-    ensures { (w : World) (actor : ℕ) (granted : Bool) (r : Running) → AreLocks w
+    ensures why { (w : World) (actor : ℕ) (granted : Bool) (r : Running) → AreLocks w
         → actor < length w.actors → (actor_at w actor).running ≡ Some r
         → (step w (Go actor granted)).reply ≡ Waiting
         → ((step w (Go actor granted)).world ≡ w) × WaitsFor w.shared actor r r.next }
+    ensures alone { (w : World) (actor : ℕ) (granted : Bool) → AreLocks w
+        → ((other : ℕ) → other ≢ actor → (actor_at w other).running ≡ None)
+        → (step w (Go actor granted)).reply ≢ Waiting }
 {}
 
 /// Calls end: a call is started with a bound on its steps that depends on the call and the number of CPUs alone, each `Go`

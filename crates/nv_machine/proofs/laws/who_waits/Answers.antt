@@ -1,5 +1,9 @@
+use Rattle.nv_machine.proofs.Alone.{never_waits}
 use Rattle.nv_machine.proofs.Locks.{waits}
 use Rattle.nv_machine.proofs.laws.who_waits.Goals as goal
 
-pub returns : goal.returns
-returns c = waits
+pub returns-clause-why : goal.returns-clause-why
+returns-clause-why c = waits
+
+pub returns-clause-alone : goal.returns-clause-alone
+returns-clause-alone c w actor granted locks idle = never_waits w actor locks idle granted
