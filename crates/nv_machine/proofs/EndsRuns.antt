@@ -287,7 +287,7 @@ events_told g (e ∷ events) w actor before known fit had =
     (event_told g w (known []) (fit []) actor e before had)
 
 -- one more event
-decided_more : (events : List Event) (w : World) (actor : ℕ) (e : Event) (before : List Answer)
+pub decided_more : (events : List Event) (w : World) (actor : ℕ) (e : Event) (before : List Answer)
     → decided actor w (events ++ e ∷ []) before ≡ decided_in actor (after w events) e (decided actor w events before)
 decided_more [] w actor e before = refl
 decided_more (f ∷ events) w actor e before = decided_more events (step w f).world actor e (decided_in actor w f before)
@@ -344,7 +344,7 @@ module _ (g : GeometryNumbers) (events : List Event) (actor : ℕ) (within : IsW
     go true told = absurd (false≢true (ap is_quiet (sym next) ∙ told.quiet))
     go false told = subst (λ (k : Next). Stage k r.ending r.call) next told.stage
 
-  plainly_told : (r : Running) → (actor_at w actor).running ≡ Some r → is_on_snapshots r.call ≡ false → IsTold r.next r before_all
+  pub plainly_told : (r : Running) → (actor_at w actor).running ≡ Some r → is_on_snapshots r.call ≡ false → IsTold r.next r before_all
   plainly_told r is plain = subst (λ (b : Bool). ToldBy b r before_all) plain (told_of r is)
 
   all_replied : (granted : Bool) (r : Running) → (actor_at w actor).running ≡ Some r → is_on_snapshots r.call ≡ false

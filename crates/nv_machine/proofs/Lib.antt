@@ -177,3 +177,6 @@ pub mod Releasing
 pub mod CopyTrees
 pub mod SnapAnswers
 pub mod Alone
+pub mod CallsStay
+pub mod AloneRuns
+pub mod AloneEnds

@@ -1,3 +1,4 @@
+pub mod Alone
 pub mod Answered
 pub mod Bound
 pub mod Causes

@@ -7,5 +7,6 @@ pub mod erasing_laws;
 pub mod hand_laws;
 pub mod laws;
 pub mod plain_laws;
+pub mod serial_laws;
 pub mod snapshot_laws;
 pub mod tree_laws;

@@ -1,0 +1,382 @@
+-- A call that is made alone is told what the plain world answers on the nodes that stood when it was started.
+use Rattle.std.proofs.Common.{◌≡◌, ◌⊎◌, ◌∙◌, ℕ, ◌&&◌, ◌++◌, if◌then◌else◌, get_or-set_same, inl, inr, Bool, true, false, cond, List, [], ◌∷◌, Option, Some, None, ap, append-nil, append_assoc, length, nat_lt, refl, subst, sym}
+use Rattle.std.specs.Prelude.{Ok, Err, not}
+use Rattle.std.proofs.Math.Path.{fun_ext}
+use Rattle.std.proofs.lemmas.Bool.{false≢true, lt-ltb, ltb-true}
+use Rattle.nv_base.specs.Limits.{IsWithinLimits}
+use Rattle.nv_base.specs.declared.fault.Fault.{Fault}
+use Rattle.nv_base.specs.declared.geometry.GeometryNumbers.{GeometryNumbers}
+use Rattle.nv_base.specs.declared.numbers.Handle.{Handle}
+use Rattle.nv_calls.specs.AllCalls.{answer, effect, refusal}
+use Rattle.nv_calls.specs.Plain.{Change, PlainNode, node_in, nodes_after}
+use Rattle.nv_calls.specs.Refusals.{Check as Tests, passes}
+use Rattle.nv_calls.specs.declared.answer.Answer.{Answer}
+use Rattle.nv_calls.specs.declared.call.Call.{Call}
+use Rattle.nv_calls.specs.declared.call.Call.TheVariants as call
+use Rattle.nv_entry.specs.declared.node.NodeCopy.{NodeCopy}
+use Rattle.nv_machine.specs.Alone.{IsAnsweredOn, goes}
+use Rattle.nv_machine.specs.EndsDecided.{decided, decides, decision_of, is_no_change, is_on_snapshots, is_pass, unless_started}
+use Rattle.nv_machine.specs.Format.{formatted}
+use Rattle.nv_machine.specs.PlainRun.{Commits, Deed, Nothing, Numbers, OnSnapshots, deed, deed_by, deed_of, keeps_nodes}
+use Rattle.nv_machine.specs.Reads.{written_slots}
+use Rattle.nv_machine.specs.Sequence as sequence
+use Rattle.nv_machine.specs.Sequence.{Beginning, beginning, begun}
+use Rattle.nv_machine.specs.Settled.{settled_nodes}
+use Rattle.nv_machine.specs.Step.{after, go_step, start_step, step, turn}
+use Rattle.nv_machine.specs.World.{Actor, Append, Back, Check, Close, Done, Enter, Event, Give, Go, Leave, Lock, Look, Next, Number, Open, Publish, Ready, Refused, Reply, Retire, Running, Shared, Snapshots, Start, Started, TakeBlocks, TakePages, Turn, Unlock, Visit, World, actor_at, idle}
+use Rattle.nv_machine.proofs.CallsStay.{IsCallOf, call_stays}
+use Rattle.nv_machine.proofs.CopiesAll.{after_one}
+use Rattle.nv_machine.proofs.EndsRuns.{decided_more, is_decided, is_undecided, visits_of}
+use Rattle.nv_machine.proofs.FitsLaws.{has_effect, has_passed}
+use Rattle.nv_machine.proofs.FromScratch.{all_numbers}
+use Rattle.nv_machine.proofs.Lists.{self}
+use Rattle.nv_machine.proofs.Reached.{reached, reached_nodes}
+use Rattle.nv_machine.proofs.SnapRefusals.{there_is}
+
+-- ---- what a step decides
+
+no_not : (b : Bool) → not b ≡ false → b ≡ true
+no_not true e = refl
+no_not false e = absurd (false≢true (sym e))
+
+a_not : (b : Bool) → not b ≡ true → b ≡ false
+a_not true e = absurd (false≢true e)
+a_not false e = refl
+
+-- where nothing is decided the nodes stay
+undecided : (k : Next) (block : ℕ) (s : Shared) (r : Running) (t : Turn) → decides k block s r t ≡ false
+    → keeps_nodes (deed k (written_slots r) t) ≡ true
+undecided Check block s r t e = refl
+undecided Visit block s r t e = refl
+undecided Number block s r t e = no_not _ e
+undecided (Look place) block s r t e = no_not _ e
+undecided (Lock place) block s r t e = no_not _ e
+undecided (TakeBlocks asked) block s r t e = no_not _ e
+undecided (TakePages asked) block s r t e = no_not _ e
+undecided Ready block s r t e = no_not _ e
+undecided Enter block s r t e = no_not _ e
+undecided (Append place) block s r t e = no_not _ e
+undecided Open block s r t e = no_not _ e
+undecided (Publish place) block s r t e = no_not _ e
+undecided Close block s r t e = no_not _ e
+undecided (Retire place) block s r t e = no_not _ e
+undecided Leave block s r t e = no_not _ e
+undecided (Unlock place) block s r t e = no_not _ e
+undecided (Give cpu) block s r t e = no_not _ e
+undecided Back block s r t e = no_not _ e
+undecided (Snapshots kind) block s r t e = no_not _ e
+
+commits : (d : Deed) → keeps_nodes d ≡ false → d ≡ Commits
+commits Nothing e = absurd (false≢true (sym e))
+commits Numbers e = absurd (false≢true (sym e))
+commits Commits e = refl
+commits (OnSnapshots kind) e = absurd (false≢true (sym e))
+
+all_pass : (tests : Tests) → is_pass tests ≡ true → tests ≡ passes
+all_pass (Ok done) e = refl
+all_pass (Err fault) e = absurd (false≢true e)
+
+front_true : (a b : Bool) → (a && b) ≡ true → a ≡ true
+front_true true b e = refl
+front_true false b e = absurd (false≢true e)
+
+back_true : (a b : Bool) → (a && b) ≡ true → b ≡ true
+back_true true b e = e
+back_true false b e = absurd (false≢true e)
+
+-- where it is, that is a commit point; or the call passes, and changes nothing
+record ChangesNothing (k : Next) (block : ℕ) (s : Shared) (r : Running) (t : Turn) : Type 0 where
+  passes_is : refusal block (node_in (settled_nodes s)) r.call ≡ passes
+  keeps : keeps_nodes (deed k (written_slots r) t) ≡ true
+  no_effect : effect (node_in (settled_nodes s)) r.made r.call ≡ []
+
+no_change : (effect : List Change) → is_no_change effect ≡ true → effect ≡ []
+no_change [] e = refl
+no_change (change ∷ effect) e = absurd (false≢true e)
+
+visit_effect : (nodes : Handle → Option NodeCopy) (made : Handle) (c : Call) → beginning c ≡ sequence.Visits → effect nodes made c ≡ []
+visit_effect nodes made (call.Create dir name mode) e = cc
+visit_effect nodes made (call.Mkdir dir name mode) e = cc
+visit_effect nodes made (call.Write file offset text) e = cc
+visit_effect nodes made (call.Read file offset count) e = refl
+visit_effect nodes made (call.Size file size) e = cc
+visit_effect nodes made (call.Mode handle mode) e = cc
+visit_effect nodes made (call.Stat handle) e = refl
+visit_effect nodes made (call.List dir) e = refl
+visit_effect nodes made (call.Lookup dir name) e = refl
+visit_effect nodes made (call.Unlink dir name) e = cc
+visit_effect nodes made (call.Rmdir dir name) e = cc
+visit_effect nodes made (call.Rename from old to new) e = cc
+visit_effect nodes made (call.Snapshots what) e = refl
+
+decided_how : (k : Next) (block : ℕ) (s : Shared) (r : Running) (t : Turn) → (k ≡ Visit → beginning r.call ≡ sequence.Visits)
+    → decides k block s r t ≡ true → ChangesNothing k block s r t ⊎ (deed k (written_slots r) t ≡ Commits)
+decided_how Check block s r t visits e = inl (record {
+  passes_is = all_pass _ (front_true _ _ (front_true _ _ e));
+  keeps = refl;
+  no_effect = no_change _ (back_true _ _ e);
+})
+decided_how Visit block s r t visits e = inl (record {
+  passes_is = all_pass _ (front_true _ _ e);
+  keeps = refl;
+  no_effect = visit_effect _ r.made r.call (visits refl);
+})
+decided_how Number block s r t visits e = inr (commits _ (a_not _ e))
+decided_how (Look place) block s r t visits e = inr (commits _ (a_not _ e))
+decided_how (Lock place) block s r t visits e = inr (commits _ (a_not _ e))
+decided_how (TakeBlocks asked) block s r t visits e = inr (commits _ (a_not _ e))
+decided_how (TakePages asked) block s r t visits e = inr (commits _ (a_not _ e))
+decided_how Ready block s r t visits e = inr (commits _ (a_not _ e))
+decided_how Enter block s r t visits e = inr (commits _ (a_not _ e))
+decided_how (Append place) block s r t visits e = inr (commits _ (a_not _ e))
+decided_how Open block s r t visits e = inr (commits _ (a_not _ e))
+decided_how (Publish place) block s r t visits e = inr (commits _ (a_not _ e))
+decided_how Close block s r t visits e = inr (commits _ (a_not _ e))
+decided_how (Retire place) block s r t visits e = inr (commits _ (a_not _ e))
+decided_how Leave block s r t visits e = inr (commits _ (a_not _ e))
+decided_how (Unlock place) block s r t visits e = inr (commits _ (a_not _ e))
+decided_how (Give cpu) block s r t visits e = inr (commits _ (a_not _ e))
+decided_how Back block s r t visits e = inr (commits _ (a_not _ e))
+decided_how (Snapshots kind) block s r t visits e = inr (commits _ (a_not _ e))
+
+kept_if : (b : Bool) (d : Deed) → keeps_nodes d ≡ true → keeps_nodes (if b then d else Nothing) ≡ true
+kept_if true d e = e
+kept_if false d e = refl
+
+-- ---- from event to event
+
+-- up to its decision these are the nodes, and what is decided is told on them
+pub record IsAlone (g : GeometryNumbers) (actor : ℕ) (c : Call) (nodes : Handle → Option PlainNode) (events : List Event) : Type 0 where
+  pub call : IsCallOf c (actor_at (after (formatted g) events) actor).running
+  pub nodes_are : decided actor (formatted g) events [] ≡ [] → (handle : Handle)
+      → settled_nodes (after (formatted g) events).shared handle ≡ nodes handle
+  pub told : (a : Answer) → decided actor (formatted g) events [] ≡ a ∷ []
+      → IsAnsweredOn g.block nodes (settled_nodes (after (formatted g) events).shared) c a
+
+module _ (g : GeometryNumbers) (within : IsWithinLimits g) (actor : ℕ) (c : Call) (nodes : Handle → Option PlainNode)
+    (events : List Event) (granted : Bool) (was : IsAlone g actor c nodes events) where
+  abbrev w : World
+  w = after (formatted g) events
+
+  abbrev e : Event
+  e = Go actor granted
+
+  abbrev before : List Answer
+  before = decided actor (formatted g) events []
+
+  next : (step w e).world ≡ after (formatted g) (events ++ e ∷ [])
+  next = after_one events (formatted g) e
+
+  list : decided actor (formatted g) (events ++ e ∷ []) [] ≡ decision_of (actor_at w actor).running w actor granted ++ before
+  list = decided_more events (formatted g) actor e []
+      ∙ ap (λ (b : Bool). cond b (decision_of (actor_at w actor).running w actor granted ++ before) before) (self actor)
+
+  call_then : IsCallOf c (actor_at (step w e).world actor).running
+      → IsCallOf c (actor_at (after (formatted g) (events ++ e ∷ [])) actor).running
+  call_then = subst (λ (v : World). IsCallOf c (actor_at v actor).running) next
+
+  quiet : IsCallOf c (actor_at (step w e).world actor).running → decision_of (actor_at w actor).running w actor granted ≡ []
+      → keeps_nodes (deed_of w e) ≡ true → IsAlone g actor c nodes (events ++ e ∷ [])
+  quiet call none keeps =
+      let same : decided actor (formatted g) (events ++ e ∷ []) [] ≡ before = list ∙ ap (λ (l : List Answer). l ++ before) none in
+      record {
+        call = call_then call;
+        nodes_are = λ d handle. subst (λ (v : World). settled_nodes v.shared handle ≡ nodes handle) next
+            (reached_nodes w e (reached g events within) keeps handle ∙ was.nodes_are (sym same ∙ d) handle);
+        told = λ a d.
+            let on = was.told a (sym same ∙ d) in
+            record {
+              made = on.made;
+              commit = on.commit;
+              passes_is = on.passes_is;
+              told_is = on.told_is;
+              becomes = λ handle. ap (λ (v : World). settled_nodes v.shared handle) (sym next)
+                  ∙ reached_nodes w e (reached g events within) keeps handle ∙ on.becomes handle;
+            };
+      }
+
+  idle_call : (b : Bool) (running : Option Running) → running ≡ None
+      → IsCallOf c (actor_at (go_step b running actor granted w).world actor).running
+  idle_call false running is = was.call
+  idle_call true None is = was.call
+  idle_call true (Some r) is = cc
+
+  module _ (r : Running) (is : (actor_at w actor).running ≡ Some r) where
+    abbrev t : Turn
+    t = turn w.numbers.block actor granted w.shared (actor_at w actor).hand r
+
+    same_call : r.call ≡ c
+    same_call = subst (IsCallOf c) is was.call
+
+    deed_is : deed_of w e ≡ (if nat_lt actor (length w.actors) then deed r.next (written_slots r) t else Nothing)
+    deed_is = ap (λ (o : Option Running). if nat_lt actor (length w.actors) then deed_by o w actor granted else Nothing) is
+
+    abbrev left : Handle → Option PlainNode
+    left = settled_nodes (after (formatted g) (events ++ e ∷ [])).shared
+
+    abbrev now : Answer
+    now = answer (settled_nodes w.shared) r.made r.call
+
+    stands : (handle : Handle) → left handle ≡ settled_nodes (step w e).world.shared handle
+    stands handle = ap (λ (v : World). settled_nodes v.shared handle) (sym next)
+
+    -- what is decided, on the nodes of now
+    answered_now : decides r.next w.numbers.block w.shared r t ≡ true
+        → IsAnsweredOn w.numbers.block (settled_nodes w.shared) left r.call now
+    answered_now here =
+        go (decided_how r.next w.numbers.block w.shared r t (λ visit. visits_of g events actor within r is visit) here) where
+          go : ChangesNothing r.next w.numbers.block w.shared r t ⊎ (deed r.next (written_slots r) t ≡ Commits)
+              → IsAnsweredOn w.numbers.block (settled_nodes w.shared) left r.call now
+          go (inl quiet_it) = record {
+            made = r.made;
+            commit = r.commit;
+            passes_is = quiet_it.passes_is;
+            told_is = refl;
+            becomes = λ handle. stands handle
+                ∙ reached_nodes w e (reached g events within)
+                (ap keeps_nodes deed_is ∙ kept_if (nat_lt actor (length w.actors)) (deed r.next (written_slots r) t) quiet_it.keeps) handle
+                ∙ ap (λ (l : List Change). nodes_after r.commit l (settled_nodes w.shared) handle) (sym quiet_it.no_effect);
+          }
+          go (inr commits_it) =
+              let there = there_is w actor r is in
+              let point = deed_is ∙ ap (λ (b : Bool). if b then deed r.next (written_slots r) t else Nothing)
+              (lt-ltb actor (length w.actors) there) ∙ commits_it in
+              record {
+                made = r.made;
+                commit = r.commit;
+                passes_is = has_passed g events actor granted r within there is point;
+                told_is = refl;
+                becomes = λ handle. stands handle ∙ has_effect g events actor granted r within there is point handle;
+              }
+
+    loud : decides r.next w.numbers.block w.shared r t ≡ true → IsAlone g actor c nodes (events ++ e ∷ [])
+    loud here =
+        let said : decided actor (formatted g) (events ++ e ∷ []) [] ≡ now ∷ before =
+        list ∙ ap (λ (o : Option Running). decision_of o w actor granted ++ before) is
+        ∙ ap (λ (b : Bool). cond b (now ∷ []) [] ++ before) here in
+        record {
+          call = call_then (call_stays w actor granted r c is same_call);
+          nodes_are = λ d. absurd (cons_nil now before (sym said ∙ d));
+          told = λ a d. answered a (sym said ∙ d);
+        } where
+          cons_nil : (a : Answer) (l : List Answer) → a ∷ l ≡ [] → ⊥
+          cons_nil a l e = cc
+
+          answered : (a : Answer) → now ∷ before ≡ a ∷ [] → IsAnsweredOn g.block nodes left c a
+          answered a both =
+              let none : before ≡ [] = cc in
+              let first : now ≡ a = cc in
+              let same : settled_nodes w.shared ≡ nodes = fun_ext (λ (handle : Handle). was.nodes_are none handle) in
+              let numbers : w.numbers ≡ g = (all_numbers g events within).numbers in
+              subst (λ (told : Answer). IsAnsweredOn g.block nodes left c told) first
+              (subst (λ (d : Call). IsAnsweredOn g.block nodes left d now) same_call
+              (subst (λ (n : Handle → Option PlainNode). IsAnsweredOn g.block n left r.call now) same
+              (subst (λ (x : GeometryNumbers). IsAnsweredOn x.block (settled_nodes w.shared) left r.call now) numbers
+              (answered_now here))))
+
+    running_goes : (b : Bool) → decides r.next w.numbers.block w.shared r t ≡ b → IsAlone g actor c nodes (events ++ e ∷ [])
+    running_goes true here = loud here
+    running_goes false other =
+        quiet (call_stays w actor granted r c is same_call)
+        (ap (λ (o : Option Running). decision_of o w actor granted) is
+        ∙ ap (λ (b : Bool). cond b (answer (settled_nodes w.shared) r.made r.call ∷ []) []) other)
+        (ap keeps_nodes deed_is ∙ kept_if (nat_lt actor (length w.actors)) (deed r.next (written_slots r) t)
+        (undecided r.next w.numbers.block w.shared r t other))
+
+  pub more : IsAlone g actor c nodes (events ++ e ∷ [])
+  more = go (actor_at w actor).running refl where
+    go : (running : Option Running) → (actor_at w actor).running ≡ running → IsAlone g actor c nodes (events ++ e ∷ [])
+    go (Some r) is = running_goes r is (decides r.next w.numbers.block w.shared r (t r is)) refl
+    go None is =
+        quiet (idle_call (nat_lt actor (length w.actors)) (actor_at w actor).running is)
+        (ap (λ (o : Option Running). decision_of o w actor granted) is)
+        (ap (λ (o : Option Running). keeps_nodes (if nat_lt actor (length w.actors) then deed_by o w actor granted else Nothing)) is
+        ∙ kept_if (nat_lt actor (length w.actors)) Nothing refl)
+
+-- ---- from the start on
+
+begun_call : (b : Beginning) (s : Shared) (c : Call) → (begun b s c).call ≡ c
+begun_call sequence.Numbers s c = refl
+begun_call sequence.Looks s c = refl
+begun_call sequence.Locks s c = refl
+begun_call sequence.Visits s c = refl
+begun_call (sequence.OnSnapshots what) s c = refl
+
+module _ (g : GeometryNumbers) (within : IsWithinLimits g) (actor : ℕ) (c : Call) (before : List Event)
+    (started : (step (after (formatted g) before) (Start actor c)).reply ≡ Started) where
+  abbrev first : World
+  first = after (formatted g) before
+
+  abbrev nodes : Handle → Option PlainNode
+  nodes = settled_nodes first.shared
+
+  starts_with : (b : Bool) (running : Option Running) → nat_lt actor (length first.actors) ≡ b
+      → (start_step b running actor c first).reply ≡ Started
+      → (actor_at (start_step b running actor c first).world actor).running ≡ Some (begun (beginning c) first.shared c)
+  starts_with false running there e = cc
+  starts_with true (Some r) there e = cc
+  starts_with true None there e =
+      ap (λ (x : Actor). x.running)
+      (get_or-set_same first.actors actor
+      (record { hand = (actor_at first actor).hand; running = Some (begun (beginning c) first.shared c) }) idle
+      (ltb-true actor (length first.actors) there))
+
+  pub starts : (actor_at (after (formatted g) (before ++ Start actor c ∷ [])) actor).running ≡ Some (begun (beginning c) first.shared c)
+  starts =
+      ap (λ (v : World). (actor_at v actor).running) (sym (after_one before (formatted g) (Start actor c)))
+      ∙ starts_with (nat_lt actor (length first.actors)) (actor_at first actor).running refl started
+
+  none_yet : decided actor (formatted g) (before ++ Start actor c ∷ []) [] ≡ []
+  none_yet =
+      decided_more before (formatted g) actor (Start actor c) []
+      ∙ ap (λ (b : Bool). cond b (unless_started (step first (Start actor c)).reply (decided actor (formatted g) before []))
+      (decided actor (formatted g) before [])) (self actor)
+      ∙ ap (λ (x : Reply). unless_started x (decided actor (formatted g) before [])) started
+
+  pub begins : IsAlone g actor c nodes (before ++ Start actor c ∷ [])
+  begins =
+      let next : (step first (Start actor c)).world ≡ after (formatted g) (before ++ Start actor c ∷ []) =
+      after_one before (formatted g) (Start actor c) in
+      record {
+        call = subst (IsCallOf c) (sym starts) (begun_call (beginning c) first.shared c);
+        nodes_are = λ d handle. subst (λ (v : World). settled_nodes v.shared handle ≡ nodes handle) next
+            (reached_nodes first (Start actor c) (reached g before within) refl handle);
+        told = λ a d. absurd (nil_cons a (sym none_yet ∙ d));
+      } where
+        nil_cons : (a : Answer) → [] ≡ a ∷ [] → ⊥
+        nil_cons a e = cc
+
+  all_goes : (grants : List Bool) (events : List Event) → IsAlone g actor c nodes events
+      → IsAlone g actor c nodes (events ++ goes actor grants)
+  all_goes [] events was = subst (IsAlone g actor c nodes) (sym (append-nil events)) was
+  all_goes (b ∷ grants) events was =
+      subst (IsAlone g actor c nodes) (append_assoc events (Go actor b ∷ []) (goes actor grants))
+      (all_goes grants (events ++ Go actor b ∷ []) (more g within actor c nodes events b was))
+
+  abbrev pub ran : List Bool → List Event
+  ran grants = before ++ Start actor c ∷ goes actor grants
+
+  pub alone : (grants : List Bool) → IsAlone g actor c nodes (ran grants)
+  alone grants =
+      subst (IsAlone g actor c nodes) (append_assoc before (Start actor c ∷ []) (goes actor grants))
+      (all_goes grants (before ++ Start actor c ∷ []) begins)
+
+  pub told_alone : (grants : List Bool) (granted : Bool) (r : Running) (told : Answer) → is_on_snapshots c ≡ false
+      → (actor_at (after (formatted g) (ran grants)) actor).running ≡ Some r
+      → (step (after (formatted g) (ran grants)) (Go actor granted)).reply ≡ Done told
+      → IsAnsweredOn g.block nodes (settled_nodes (step (after (formatted g) (ran grants)) (Go actor granted)).world.shared) c told
+  told_alone grants granted r told plain is reply =
+      let same : r.call ≡ c = subst (IsCallOf c) is (alone grants).call in
+      subst (λ (v : World). IsAnsweredOn g.block nodes (settled_nodes v.shared) c told)
+      (sym (after_one (ran grants) (formatted g) (Go actor granted)))
+      ((more g within actor c nodes (ran grants) granted (alone grants)).told told
+      (is_decided g (ran grants) actor within granted r told is (ap is_on_snapshots same ∙ plain) reply))
+
+  pub refused_alone : (grants : List Bool) (granted : Bool) (r : Running) (fault : Fault)
+      → (actor_at (after (formatted g) (ran grants)) actor).running ≡ Some r
+      → (step (after (formatted g) (ran grants)) (Go actor granted)).reply ≡ Refused fault → (handle : Handle)
+      → settled_nodes (step (after (formatted g) (ran grants)) (Go actor granted)).world.shared handle ≡ nodes handle
+  refused_alone grants granted r fault is reply handle =
+      ap (λ (v : World). settled_nodes v.shared handle) (after_one (ran grants) (formatted g) (Go actor granted))
+      ∙ (more g within actor c nodes (ran grants) granted (alone grants)).nodes_are
+      (is_undecided g (ran grants) actor within granted r fault is reply) handle

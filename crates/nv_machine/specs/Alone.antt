@@ -1,0 +1,38 @@
+-- A call that is made alone: from its start to its last step no other actor makes one.
+use Rattle.std.specs.Prelude.{◌≡◌, ◌⊎◌, ℕ, Bool, true, false, List, map, Option, Err}
+use Rattle.nv_base.specs.declared.fault.Fault.{Fault}
+use Rattle.nv_base.specs.declared.fault.Fault.TheVariants.{CommitLimit, Contended, NoInode, NoSpace, OutOfMemory}
+use Rattle.nv_base.specs.declared.numbers.Handle.{Handle}
+use Rattle.nv_calls.specs.AllCalls.{answer, effect, refusal}
+use Rattle.nv_calls.specs.Plain.{PlainNode, node_in, nodes_after}
+use Rattle.nv_calls.specs.Refusals.{passes}
+use Rattle.nv_calls.specs.declared.answer.Answer.{Answer}
+use Rattle.nv_calls.specs.declared.call.Call.{Call}
+use Rattle.nv_machine.specs.World.{Event, Go}
+
+-- steps of one actor, of which each is granted the memory that it asks for or not
+abbrev pub goes : ℕ → List Bool → List Event
+goes actor grants = map (Go actor) grants
+
+-- a call is told what the plain world answers on these nodes, which do not refuse it, and `after` are those with its effect; `made` is
+-- the handle of a new inode, and `commit` the number of the commit, if it makes one
+pub record IsAnsweredOn (block : ℕ) (nodes after : Handle → Option PlainNode) (c : Call) (told : Answer) : Type 0 where
+  pub made : Handle
+  pub commit : ℕ
+  pub passes_is : refusal block (node_in nodes) c ≡ passes
+  pub told_is : told ≡ answer nodes made c
+  pub becomes : (handle : Handle) → after handle ≡ nodes_after commit (effect (node_in nodes) made c) nodes handle
+
+-- for want of a number, of blocks, of a commit number or of memory, which no node tells
+abbrev pub is_want : Fault → Bool
+is_want NoInode = true
+is_want NoSpace = true
+is_want CommitLimit = true
+is_want OutOfMemory = true
+is_want other = false
+
+-- a call is refused for what these nodes refuse it for, which come before all else; or for want; or it is contended
+abbrev pub IsRefusedOn : ℕ → (Handle → Option PlainNode) → Call → Fault → Type 0
+IsRefusedOn block nodes c fault =
+    (refusal block (node_in nodes) c ≡ Err fault)
+    ⊎ ((refusal block (node_in nodes) c ≡ passes) × (is_want fault ≡ true)) ⊎ (fault ≡ Contended)
