@@ -180,3 +180,6 @@ pub mod Alone
 pub mod CallsStay
 pub mod AloneRuns
 pub mod AloneEnds
+pub mod AloneLooks
+pub mod AloneFinds
+pub mod AloneFine

@@ -1,7 +1,7 @@
 -- A call that is made alone: from its start to its last step no other actor makes one.
 use Rattle.std.specs.Prelude.{◌≡◌, ◌⊎◌, ℕ, Bool, true, false, List, map, Option, Err}
 use Rattle.nv_base.specs.declared.fault.Fault.{Fault}
-use Rattle.nv_base.specs.declared.fault.Fault.TheVariants.{CommitLimit, Contended, NoInode, NoSpace, OutOfMemory}
+use Rattle.nv_base.specs.declared.fault.Fault.TheVariants.{CommitLimit, NoInode, NoSpace, OutOfMemory}
 use Rattle.nv_base.specs.declared.numbers.Handle.{Handle}
 use Rattle.nv_calls.specs.AllCalls.{answer, effect, refusal}
 use Rattle.nv_calls.specs.Plain.{PlainNode, node_in, nodes_after}
@@ -31,8 +31,7 @@ is_want CommitLimit = true
 is_want OutOfMemory = true
 is_want other = false
 
--- a call is refused for what these nodes refuse it for, which come before all else; or for want; or it is contended
+-- a call is refused for what these nodes refuse it for; or, where they do not, for want
 abbrev pub IsRefusedOn : ℕ → (Handle → Option PlainNode) → Call → Fault → Type 0
 IsRefusedOn block nodes c fault =
-    (refusal block (node_in nodes) c ≡ Err fault)
-    ⊎ ((refusal block (node_in nodes) c ≡ passes) × (is_want fault ≡ true)) ⊎ (fault ≡ Contended)
+    (refusal block (node_in nodes) c ≡ Err fault) ⊎ ((refusal block (node_in nodes) c ≡ passes) × (is_want fault ≡ true))

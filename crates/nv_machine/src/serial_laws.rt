@@ -18,7 +18,7 @@ ghost use Rattle.nv_machine.specs.World.{Done, Event, Go, Refused, Running, Star
 /// A call on files and directories that is made alone is told what the plain world answers on the nodes that stood when it was
 /// started; these do not refuse it, and with its effect they are those that stand after its last step. One that is refused is
 /// refused for what these nodes refuse it for; where they do not, for want of a number, of blocks, of a commit number or of
-/// memory, or as contended. It leaves the nodes as they stood. None waits where no other actor runs a call
+/// memory, and never as contended. It leaves the nodes as they stood. None waits where no other actor runs a call
 /// ([`crate::laws::who_waits`]).
 pub fn calls_alone_are_the_plain_worlds()
     ensures answered { (g : GeometryNumbers) (before : List Event) (actor : ℕ) (c : Call)
