@@ -122,7 +122,7 @@ module _ (block actor : ℕ) (granted : Bool) (nodes : Handle → Option PlainNo
   cause_early Back a cause = absurd cause
 
 -- a call that looks nothing up finds nothing
-nothing_to_look : (c : Call) (nodes : Handle → Option PlainNode) → (beginning c ≡ sequence.Looks → ⊥)
+pub nothing_to_look : (c : Call) (nodes : Handle → Option PlainNode) → (beginning c ≡ sequence.Looks → ⊥)
     → nothing_looked ≡ looked (node_in nodes) c
 nothing_to_look (call.Unlink dir name) nodes other = absurd (other refl)
 nothing_to_look (call.Rmdir dir name) nodes other = absurd (other refl)

@@ -183,3 +183,4 @@ pub mod AloneEnds
 pub mod AloneLooks
 pub mod AloneFinds
 pub mod AloneFine
+pub mod Numberless

@@ -19,6 +19,7 @@ pub mod Locks
 pub mod Made
 pub mod Memory
 pub mod Needed
+pub mod Numberless
 pub mod Numbers
 pub mod Order
 pub mod Pages

@@ -34,6 +34,7 @@ ghost use Rattle.nv_machine.specs.Hands.{makes_inode};
 ghost use Rattle.nv_machine.specs.Made.{handles_made, has_handle};
 ghost use Rattle.nv_machine.specs.Order.{IsInOrder};
 ghost use Rattle.nv_machine.specs.Reached.{IsReached};
+ghost use Rattle.nv_machine.specs.Numberless.{met_none};
 ghost use Rattle.nv_machine.specs.PlainRun.{Commits, Plain, deed_of, keeps_nodes, new_plain, plain_after, plain_of};
 ghost use Rattle.nv_machine.specs.Reading.{plain_tree};
 ghost use Rattle.nv_machine.specs.Reads.{copies, nodes, written_slots};
@@ -41,9 +42,9 @@ ghost use Rattle.nv_machine.specs.Refusing.{GoesOn, LeavesBooks};
 ghost use Rattle.nv_machine.specs.Rounds.{HasRounds, failed_checks};
 ghost use Rattle.nv_machine.specs.Sequence.{Visits, beginning, nothing_looked};
 ghost use Rattle.nv_machine.specs.Settled.{settled, settled_nodes, tree_of};
-ghost use Rattle.nv_machine.specs.Step.{after, handle_at, kind_turn, stays, step, turn};
+ghost use Rattle.nv_machine.specs.Step.{after, handle_at, is_numbered, kind_turn, stays, step, turn};
 ghost use Rattle.nv_machine.specs.Takings.{IsShortInAll, asks_list, no_taking, taking_after, taking_of};
-ghost use Rattle.nv_machine.specs.World.{Answers, Done, Ending, Enter, Event, Go, HandState, Number, Overtaken, Refused, Running, Shared, Start, Started, Unlock, Visit, World, actor_at, owner_at};
+ghost use Rattle.nv_machine.specs.World.{Answers, Check, Done, Ending, Enter, Event, Go, HandState, Number, Overtaken, Refused, Running, Shared, Start, Started, Unlock, Visit, World, actor_at, owner_at};
 
 /// Only commit points change nodes. Each settled log has the blocks of its pages, but of those that a later
 /// entry covers, and a journal is open only within a commit of several inodes, from a new world on and whatever
@@ -290,6 +291,19 @@ pub fn contended_calls_have_failed_eight_checks()
         → (actor_at (after (step w (Start actor c)).world events) actor).running ≡ Some r
         → r.ending ≡ Overtaken → r.rounds ≡ 0
         → 8 ≤ failed_checks actor (step w (Start actor c)).world events }
+{}
+
+/// A call is refused for want of a number only after its number step found none free: one that has none at its check has met
+/// such a step since it was started.
+pub fn calls_without_a_number_found_none()
+    ensures { (g : GeometryNumbers) (before events : List Event) (actor : ℕ) (c : Call)
+        (r : Running) → IsWithinLimits g
+        → (step (after (formatted g) before) (Start actor c)).reply ≡ Started
+        → AreNoStarts actor events
+        → let w = after (formatted g) (before ++ Start actor c ∷ events) in
+        (actor_at w actor).running ≡ Some r → r.next ≡ Check
+        → is_numbered (beginning r.call) (actor_at w actor).hand.ino ≡ false
+        → met_none actor (step (after (formatted g) before) (Start actor c)).world events ≡ true }
 {}
 
 /// A new inode's handle is new, whatever events came from a new world on: at the commit point of a call that makes an inode
