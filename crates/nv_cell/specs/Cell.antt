@@ -20,8 +20,9 @@ use Rattle.nv_cell.specs.Named.{number_named}
 use Rattle.nv_cell.specs.Numbers.{killed_numbers, published_mark}
 use Rattle.nv_cell.specs.Weights.{runs_of, weights_in}
 
--- the size of blocks in bytes; how often the slot was emptied, and how many commits the cell has seen; the chain of the
--- log; by part number the mark of each published part, and the block of each part that has one
+-- the size of blocks in bytes; the generation, which rises each time that the slot is emptied, and how many commits the
+-- cell has seen; the chain of the log; by part number the mark of each published part, and the block of each part that
+-- has one
 pub record CellState : Type 0 where
   pub block : ℕ
   pub generation : ℕ

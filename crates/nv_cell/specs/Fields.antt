@@ -33,7 +33,8 @@ value_in c = record {
   };
 }
 
--- the index, the tallies and the counts are the scan of the log; and there is room for as much as the fields say
+-- index and names are the scan of the log, tallies and counts those of the marks; and there is room for as much as the
+-- fields say
 pub record AreFields (c : Inside) : Type 0 where
   pub some : 0 < c.block
   pub pages : AreSized c.block c.chain.state.blocks

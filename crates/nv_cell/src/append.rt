@@ -17,7 +17,8 @@ use nv_base::limits::FILE_PAGES;
 use nv_entry::{Entry, Item};
 
 impl InodeCell {
-    /// Adds a page of the log behind the others: a block of the cell's size. Takes no memory. What the cell is ready for, it stays ready for.
+    /// Adds a page of the log behind the others: a block of the cell's size. Takes no memory. What the cell is ready for,
+    /// it stays ready for.
     pub fn add_page(&mut self, block: Block)
         requires reserved { 0 < self.old.room.pages }
         requires sized { length block.bytes ≡ self.old.state.block }

@@ -103,9 +103,9 @@ impl InodeCell {
 
     /// Publishes all entries past the tail, and gives the parts that were current, or are newly published, and are not
     /// current after it, by entry in log order and then by part. They are marked killed. The entries use up at most the
-    /// room for runs of pages that they ask for, and the reserved name only where they bind one. Takes no memory; the time is
-    /// that of the entries and parts that change, times a logarithm at most, and for each Write after which the file
-    /// has more or fewer runs of pages one move of the runs behind.
+    /// room for runs of pages that they ask for, and the reserved name only where they bind one. Takes no memory; the
+    /// time is that of the entries and parts that change, times a logarithm at most, and for each Write after which the
+    /// file has more or fewer runs of pages one move of the runs behind.
     pub fn publish(&mut self) -> Vec<KilledPart>
         requires some { self.old.state.chain.tail < length self.old.state.chain.entries }
         requires version { self.old.state.version < 2 ^ 62 }

@@ -12,8 +12,10 @@ use nv_log::Chain;
 use std::mem;
 
 impl InodeCell {
-    /// Hands out the chain of a gone inode whose parts are all out, and leaves an empty slot of the next generation.
-    /// The version stays. Takes no memory; the time is that of the parts and entries, which are let go.
+    /// Hands out the chain of a gone inode whose entries are all published and whose parts are all out, and leaves an
+    /// empty slot of the next generation. One of the last generation stays as it is, so that no handle comes again
+    /// ([`InodeCell::is_withheld`] tells). The version stays. Takes no memory; the time is that of the parts and
+    /// entries, which are let go.
     pub fn erase(&mut self) -> Chain
         requires gone { is_gone (log_of self.old.state) ≡ true }
         requires nothing { keeps_nothing self.old.state ≡ true }

@@ -15,7 +15,8 @@ use nv_base::Fault;
 use std::alloc::Global;
 
 /// The mark of each published part by its number, where the parts of each entry end among them, and how many of each
-/// entry's parts and of each page's entries are kept. Pages are those of the chain: where they end is told by it.
+/// entry's parts are current or not out, and how many entries of each page have such a part. Pages are those of the
+/// chain: where they end is told by it.
 #[derive(Debug, Drop)]
 pub struct Marks {
     pub(crate) marks: Vec<Mark>,

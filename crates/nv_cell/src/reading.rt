@@ -29,14 +29,15 @@ impl InodeCell {
         bound_in(&self.index, name)
     }
 
-    /// The kind; `None` in an empty slot and where the inode is gone. Costs one look-up.
+    /// The kind that the log gives, and none where it gives none: so in an empty slot, and where its last entry is
+    /// Gone. Costs one look-up.
     pub fn kind(&self) -> Option<Kind>
         ensures { result ≡ (stored self.now.state.block (log_of self.now.state)).kind }
     {
         kind_of(self.block, &self.chain, &self.index)
     }
 
-    /// Whether the inode has a kind, as it has but in an empty slot and where it is gone. Costs no look-up.
+    /// Whether the log gives a kind. Costs no look-up.
     #[tactic(auto, using(crate::proofs::ValuesNow::kind_held))]
     pub fn has_kind(&self) -> bool
         ensures { result ≡ is_some (stored self.now.state.block (log_of self.now.state)).kind }
@@ -51,8 +52,8 @@ impl InodeCell {
         size_of(self.block, &self.chain, &self.index)
     }
 
-    /// Kind, mode, size, and the last commit that changed the inode; `None` in an empty slot and where it is gone.
-    /// Costs one look-up for each of the first three.
+    /// Kind, mode, size, and the last commit that changed the inode; none where the log gives no kind. Costs one
+    /// look-up for each of the first three.
     pub fn stat(&self) -> Option<Stat>
         ensures { result ≡ stat_now self.now.state.block (log_of self.now.state) }
     {

@@ -22,8 +22,9 @@ use nv_log::Chain;
 
 impl InodeCell {
     /// Makes every growth of what follows for entries with these items: after it they can be appended and
-    /// published without memory. The time is that of the items, and for each cut that of the runs of pages
-    /// that it takes out, where no growth moves anything.
+    /// published without memory. No entry stands past the tail yet, and at most one of the items is a Bind, of a name
+    /// that none before it takes out. The time is that of the items, and for each cut that of the runs of pages that it
+    /// takes out, where no growth moves anything.
     ///
     /// `OutOfMemory` where room was missing and its growth refused: then nothing has changed but room.
     pub fn ready(&mut self, items: &[Item]) -> Result<(), Fault>

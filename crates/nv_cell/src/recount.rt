@@ -1,4 +1,4 @@
-//! Where the parts of entries end, and what entries and pages keep, told anew by the marks.
+//! Where the parts of entries end, and the tallies of entries and counts of pages, told anew by the marks.
 
 ghost use Rattle.std.specs.Prelude.{◌≡◌, ℕ, ◌+◌, ◌<◌, ◌≤◌, length, vec_capacity};
 ghost use Rattle.std.specs.List.{count_by};

@@ -71,7 +71,8 @@ impl InodeCell {
     /// Leaves the entries of the log that are flagged as staying, a flag for each, and those past the tail, and moves
     /// them to fresh pages, which take the place of the old ones: the blocks of these are handed out. The last published
     /// entry stays; each part of an entry that goes is out, and it hides no earlier one that stays ([`InodeCell::may_go`]
-    /// tells). The index stays as it is. The time is linear in the log's entries and parts, and no memory is taken.
+    /// tells). A scan of the log finds the same as before. The time is linear in the log's entries and parts, and no
+    /// memory is taken.
     pub fn compact(&mut self, stays: &[bool], pages: Vec<Block>) -> Vec<Block>
         requires flags { length stays.now ≡ self.old.state.chain.tail }
         requires pages { vec_len pages ≡ div_ceil
@@ -102,8 +103,8 @@ impl InodeCell {
     /// Leaves the pages with entries that are flagged as staying, a flag for each, and those without an entry. The
     /// blocks of the others are put into the queue, in order: each of these ends at the tail or before it, none has the
     /// last published entry, each part of their entries is out, and none hides an earlier entry that stays
-    /// ([`InodeCell::pages_may_go`] tells). The index stays as it is. The time is linear in the log's entries and parts
-    /// where all pages before the last one with entries are full, and no memory is taken.
+    /// ([`InodeCell::pages_may_go`] tells). A scan of the log finds the same as before. The time is linear in the log's
+    /// entries and parts where all pages before the last one with entries are full, and no memory is taken.
     pub fn remove_pages(&mut self, stays: &[bool], queue: &mut BlockQueue)
         requires flags { length stays.now ≡ length self.old.state.chain.ends }
         requires published { ArePublished stays.now self.old.state.chain }

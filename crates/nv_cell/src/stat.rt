@@ -7,7 +7,7 @@ use nv_base::{CommitNo, Kind, Mode};
 pub struct Stat {
     pub kind: Kind,
     pub mode: Mode,
-    /// Bytes of a file; 0 for a directory.
+    /// Bytes of a file; 0 for a directory, whose log has no Write and no SetSize.
     pub size: u64,
     /// The last commit that changed it.
     pub commit: CommitNo,

@@ -14,7 +14,7 @@ pub enum Stays<'a> {
 }
 
 impl Stays<'_> {
-    /// Whether the entry at a place stays. Its page is guessed, as all pages before the last one with entries are full.
+    /// Whether the entry at a place stays. The search for its page begins where it stands if all pages before are full.
     pub fn at(self, chain: &Chain, place: usize) -> bool
         requires flags { AreFlags self chain.now.state }
         requires place { place < chain.now.state.tail }

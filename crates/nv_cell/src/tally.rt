@@ -1,4 +1,4 @@
-//! How many parts of an entry are kept, and how many entries of a page.
+//! How many parts of an entry are current or not out, and how many entries of a page have such a part.
 
 ghost use Rattle.std.specs.Prelude.{◌≡◌, ◌+◌, ◌-◌, ◌<◌, ◌≤◌, ◌^◌, true, false};
 ghost use Rattle.nv_cell.specs.Marks.{bit, is_current, is_there};
