@@ -4,7 +4,7 @@ use super::entries::Says;
 use super::steps::{End, Step, play};
 use End::{Kept, Out};
 use Says::{Bind, Directory, File, Size, Unbind, Write};
-use Step::{Commit, Counts, Free, Names, Read, Release, Stat, Unbound};
+use Step::{Commit, Counts, Free, Most, Names, Read, Release, Stat, Unbound};
 use nv_base::Kind;
 use nv_entry::Part;
 
@@ -86,7 +86,9 @@ const RUNS: &[Step] = &[
 
 /// Ten bytes, then snapshot 1, then a cut at 5, for which page 1 is written anew, and a greater size.
 const CUT: &[Step] = &[
+    Most(&[File], 3),
     Commit(1, 1, 1, &[File], &[]),
+    Most(&[Write(0, 2, b"abcdefghij\0\0", 10)], 4),
     Commit(
         2,
         0,
@@ -94,6 +96,11 @@ const CUT: &[Step] = &[
         &[Write(0, 2, b"abcdefghij\0\0", 10)],
         &[(1, 1, Part::Size, 1, Out(None))],
     ),
+    Most(&[Size(0)], 4),
+    Most(&[Size(5)], 2),
+    Most(&[Size(9)], 1),
+    Most(&[Write(1, 5, b"e\0\0\0", 5), Size(5)], 5),
+    Most(&[Says::Gone], 6),
     Commit(
         3,
         0,
@@ -178,6 +185,8 @@ const NAMES: &[Step] = &[
         &[(1, 0, Part::Bound, 1, Out(None))],
     ),
     Names(&[(b"f", 3), (b"e", 1)]),
+    Most(&[Unbind(b"e"), Bind(b"d", 1)], 2),
+    Most(&[Says::Gone], 5),
     Unbound(b"d"),
     Commit(5, 0, 1, &[Bind(b"x", 2)], &[]),
     Commit(

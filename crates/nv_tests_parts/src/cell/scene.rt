@@ -48,6 +48,12 @@ impl Scene {
         commit(rt, &mut self.cell, &mut self.device, at, items)
     }
 
+    /// How many parts a commit of these entries kills at most.
+    pub fn most_killed(&self, rt: &impl Abort, says: &[Says]) -> usize {
+        let items = items(rt, self.alloc, says);
+        self.cell.most_killed(items.as_slice())
+    }
+
     pub fn retire(&mut self, rt: &impl Abort, part: PartId) {
         assert!(rt; matches!(self.cell.mark(part), Some(Mark::Killed)));
         self.cell.retire(part);

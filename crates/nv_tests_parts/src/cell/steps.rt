@@ -25,6 +25,8 @@ pub type Killed = (u64, u32, Part, u64, End);
 pub enum Step {
     /// Commit, place of its first entry, and epoch; what the entries say, and which parts they kill.
     Commit(u64, u32, u64, &'static [Says], &'static [Killed]),
+    /// How many parts a commit of these entries kills at most, by item.
+    Most(&'static [Says], usize),
     /// A kept part is released: commit and place of the entry, part, and its block.
     Release(u64, u32, Part, Option<u64>),
     /// The bytes from 0 on, at most 20.
@@ -71,6 +73,7 @@ fn make(rt: &impl Abort, scene: &mut Scene, step: &Step) {
             let found = scene.commit(rt, at, says);
             ends(rt, scene, &found, killed);
         }
+        Step::Most(says, want) => same_for(rt, says, scene.most_killed(rt, says), *want),
         Step::Release(commit, place, part, block) => scene.release(
             rt,
             part_id(*commit, *place, *part),
