@@ -5,10 +5,13 @@ use Rattle.std.specs.Option.{option_map}
 use Rattle.std.proofs.lemmas.Bool.{cases_lt}
 use Rattle.std.proofs.lemmas.List.{get_or_past}
 use Rattle.nv_alloc.specs.Block.{BlockValue, number_of}
+use Rattle.nv_entry.specs.declared.item.Entry.{Entry}
 use Rattle.nv_entry.specs.Covered.{part_total}
 use Rattle.nv_cell.specs.declared.mark.Mark.{Mark}
 use Rattle.nv_cell.specs.Cell.{CellState, HasBlocks, mark_or_fresh, page_block}
 use Rattle.nv_cell.specs.Marks.{is_there}
+use Rattle.nv_cell.specs.Slots.{by_part, slot_total}
+use Rattle.nv_cell.proofs.Slots.{part_of_slot, slot_is_part}
 
 none_there : (marks : List Mark) (n : ℕ) → not (list_any is_there marks) ≡ true → n < length marks
     → is_there (mark_or_fresh marks n) ≡ false
@@ -34,3 +37,7 @@ none_left cell h all none n = elim (cases_lt n (length cell.marks)) [
       (h.numbers n ∙ ap (λ (b : Bool). cond b (page_block cell.block cell.chain.entries n) None) out)
   | inr ge ↦ get_or_past cell.blocks n None (omega (arith, ge, all, h.len))
 ]
+
+pub slots_empty : (es : List Entry) (slots : List (Option BlockValue)) → length slots ≡ slot_total es
+    → ((n : ℕ) → slice_index_or (by_part es slots) n None ≡ None) → (k : ℕ) → slice_index_or slots k None ≡ None
+slots_empty es slots len none k = slot_is_part es slots k len ∙ none (part_of_slot es k)

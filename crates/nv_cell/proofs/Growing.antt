@@ -14,6 +14,7 @@ use Rattle.nv_cell.specs.Index.{IndexValue, bindings_of}
 use Rattle.nv_cell.specs.Marks.{is_there}
 use Rattle.nv_cell.specs.Numbers.{part_base}
 use Rattle.nv_cell.specs.Room.{HasGrown, HasSameParts, HaveGrown}
+use Rattle.nv_cell.specs.Slots.{slot_total}
 use Rattle.nv_cell.specs.Tallies.{AreTallied, HasSpare, end_at}
 
 pub same_parts : (index : IndexValue) → HasSameParts index index
@@ -46,7 +47,7 @@ pub record Grows (old new : Inside) : Type 0 where
   pub killed : HasGrown old.killed new.killed
   pub spare : HasSpare new.marks (part_total old.chain.state.entries - length old.marks.marks.items + new.parts)
       (length old.chain.state.entries - old.chain.state.tail + new.entries)
-  pub places : part_total old.chain.state.entries + new.parts ≤ vec_capacity new.blocks
+  pub places : slot_total old.chain.state.entries + new.parts ≤ vec_capacity new.blocks
   pub pages : length new.chain.state.blocks + new.chain.spare ≤ vec_capacity new.marks.pages
 
 pub same_state : (old new : Inside) → Grows old new → state_in new ≡ state_in old
@@ -82,6 +83,7 @@ fields_grown old new h g =
         ends = omega (arith, g.spare.ends, entries);
         tallies = omega (arith, g.spare.tallies, entries);
       };
+      slots = ap length g.blocks.items ∙ h.slots ∙ ap (λ (s : ChainState). slot_total s.entries) (sym g.chain);
       blocks_room = rw g.chain g.places;
       pages_room = g.pages;
       no_numbers = g.numbers.items ∙ h.no_numbers;

@@ -8,6 +8,7 @@ pub mod NameWalk
 pub mod Publishing
 pub mod Cells
 pub mod Publishes
+pub mod FirstSlots
 pub mod Published
 pub mod Naming
 pub mod NamedParts
@@ -32,6 +33,8 @@ pub mod PageBlocks
 pub mod RunFlags
 pub mod Droppable
 pub mod Recounting
+pub mod Slots
+pub mod PartSlots
 pub mod Sources
 pub mod LastStays
 mod Leaving

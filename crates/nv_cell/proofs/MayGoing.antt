@@ -18,13 +18,11 @@ use Rattle.nv_cell.specs.Removal.{AreFlags, HideNoneLeft, flags_of, part_flags}
 use Rattle.nv_cell.specs.declared.stays.Stays.{Stays}
 use Rattle.nv_cell.specs.declared.tally.Tally.{Tally}
 use Rattle.nv_cell.specs.Tallies.{AreTallies, end_at, is_valid, start_at, tally_at}
-use Rattle.nv_cell.proofs.Cells.{base_next}
 use Rattle.nv_cell.proofs.Droppable.{all_join, all_out}
 use Rattle.nv_cell.proofs.PageFlags.{flags-count}
 use Rattle.nv_cell.proofs.PageMarks.{any_counts}
 use Rattle.nv_cell.proofs.Publishes.{first_base}
-use Rattle.nv_cell.proofs.RunFlags.{AreNext, flags_end, flags_next, goes_on, gone_of-run, run_gone}
-use Rattle.nv_cell.proofs.Publishing.{total_take}
+use Rattle.nv_cell.proofs.RunFlags.{AreNext, flags_end, goes_on, gone_of-run, next_of, part_totals, run_gone}
 
 abbrev pub AreOut : List Mark → Type 0
 AreOut marks = AllByRecursion (λ m. m ≡ Out) marks
@@ -84,8 +82,8 @@ module _ (block : ℕ) (flags : List Bool) (es : List Entry) (marks : List Mark)
       ∙ ap (λ (xs : List Entry). HidesNone block (select (take i flags) es) e
       × HideNoneLeft block xs (drop (i + 1) es) (drop (i + 1) flags)) same
 
-  next : (b : Bool) → b ≡ get_or flags i b → AreNext flags es i b e
-  next b is = record { ahead = flags_next flags es i b e lf le is at; to = base_next es i e le at; within = total_take es (i + 1) }
+  next : (b : Bool) → b ≡ get_or flags i b → AreNext part_count part_total flags es i b e
+  next b is = next_of part_totals flags es i b e lf le is at
 
   out_before : (b : Bool) → b ≡ get_or flags i b → AreOut (cond b [] (marks_at es marks i e))
       → AreOut (gone_of (part_flags (drop (i + 1) flags) (drop (i + 1) es)) (drop (part_base es (i + 1)) marks))
@@ -139,7 +137,7 @@ module _ (block : ℕ) (flags : List Bool) (es : List Entry) (marks : List Mark)
   pub front_is : (ends : List ℕ) → start_at ends i ≡ part_base es i → end_at ends i ≡ part_base es (i + 1)
       → take (end_at ends i - start_at ends i) (drop (start_at ends i) marks) ≡ marks_at es marks i e
   front_is ends from to =
-      let n : AreNext flags es i (get_or flags i true) e = next (get_or flags i true) (own flags i lf) in
+      let n : AreNext part_count part_total flags es i (get_or flags i true) e = next (get_or flags i true) (own flags i lf) in
       let len : end_at ends i - start_at ends i ≡ part_count e = omega (arith, from, to, n.to) in
       ap (λ (k : ℕ). take k (drop (start_at ends i) marks)) len ∙ ap (λ (k : ℕ). take (part_count e) (drop k marks)) from
     where
@@ -150,7 +148,7 @@ module _ (block : ℕ) (flags : List Bool) (es : List Entry) (marks : List Mark)
 pub none_left : (block : ℕ) (flags : List Bool) (es : List Entry) (marks : List Mark) (i : ℕ) → length flags ≤ i → length es ≤ i
     → RestGoes block flags es marks i
 none_left block flags es marks i lf le = record {
-  out = subst (λ (fs : List Bool). AreOut (gone_of fs (drop (part_base es i) marks))) (sym (flags_end flags es i lf)) tt;
+  out = subst (λ (fs : List Bool). AreOut (gone_of fs (drop (part_base es i) marks))) (sym (flags_end part_count flags es i lf)) tt;
   hidden =
       subst (λ (xs : List Entry). HideNoneLeft block (select (take i flags) es) xs (drop i flags)) (sym (drop_all i es le)) tt;
 }

@@ -241,15 +241,15 @@ own_place_of es k d is within =
     (λ _. own_id (get_or es k d).id) in
     rw at (rw (lt-ltb k (length es) within) refl)
 
-at_split : (pre : List Entry) (x : Entry) (post : List Entry) (d : Entry) → get_or (pre ++ x ∷ post) (length pre) d ≡ x
+pub at_split : (pre : List Entry) (x : Entry) (post : List Entry) (d : Entry) → get_or (pre ++ x ∷ post) (length pre) d ≡ x
 at_split [] x post d = refl
 at_split (y ∷ pre) x post d = at_split pre x post d
 
-take_split : (pre rest : List Entry) → take (length pre) (pre ++ rest) ≡ pre
+pub take_split : (pre rest : List Entry) → take (length pre) (pre ++ rest) ≡ pre
 take_split [] rest = refl
 take_split (y ∷ pre) rest = ap (λ xs. y ∷ xs) (take_split pre rest)
 
-place_split : (pre : List Entry) (x : Entry) (post : List Entry) → IsLog (pre ++ x ∷ post)
+pub place_split : (pre : List Entry) (x : Entry) (post : List Entry) → IsLog (pre ++ x ∷ post)
     → place_of (pre ++ x ∷ post) x.id ≡ Some (length pre)
 place_split pre x post is =
     let within : length pre < length (pre ++ x ∷ post) = omega (arith, length-append pre (x ∷ post)) in

@@ -1,5 +1,5 @@
 -- The block of a page now, and the bytes of a file by its pages' blocks.
-use Rattle.std.proofs.Common.{◌≡◌, ℕ, zero, suc, ◌+◌, ◌&&◌, Bool, true, false, not, cond, nat_lt, List, ◌++◌, length, take, drop, Option, Some, None, arith, refl, ap, sym, ◌∙◌, slice_index_or}
+use Rattle.std.proofs.Common.{◌≡◌, ℕ, zero, suc, ◌+◌, ◌&&◌, Bool, true, false, not, cond, nat_lt, List, ◌++◌, length, take, drop, Option, Some, None, arith, refl, ap, sym, ◌∙◌, subst, slice_index_or}
 use Rattle.std.specs.Prelude.{option_and_then}
 use Rattle.std.specs.List.{flat_map, range_with_len}
 use Rattle.std.specs.Option.{IfSome, option_map}
@@ -13,16 +13,21 @@ use Rattle.nv_entry.specs.Keys.{Key, PageKey, pages_for}
 use Rattle.nv_entry.specs.Log.{IsLog}
 use Rattle.nv_entry.specs.Node.{block_now, file_bytes, page_bytes, size_now}
 use Rattle.nv_entry.specs.Refs.{scan_ref}
+use Rattle.nv_findex.specs.declared.page_ref.PageRef.{PageRef}
+use Rattle.nv_findex.specs.Pages.{ref_at}
 use Rattle.nv_cell.specs.declared.mark.Mark.{Mark}
 use Rattle.nv_cell.specs.declared.mark.Mark.TheVariants.{Current, Killed, Kept, Out}
 use Rattle.nv_cell.specs.Cell.{AreSlotsSized, CellState, HasBlocks, HasMarks, IsCell, log_of, mark_or_fresh, page_block}
-use Rattle.nv_cell.specs.Index.{IndexValue, ref_of}
+use Rattle.nv_cell.specs.Index.{IndexValue, page_part, ref_of}
 use Rattle.nv_cell.specs.Marks.{is_current, is_there, mark_at}
 use Rattle.nv_cell.specs.Numbers.{is_number, number}
-use Rattle.nv_cell.specs.Pages.{AreBytesOf, block_at_page, own_bytes, own_page, page_now, page_number, pages_now, slot_bytes}
+use Rattle.nv_cell.specs.Pages.{AreBytesOf, block_at_page, own_bytes, own_page, page_now, pages_now, slot_bytes}
+use Rattle.nv_cell.specs.Slots.{by_part, page_slot, slot, slot_total}
 use Rattle.nv_cell.proofs.Numbers.{scan_key, scan_n, scan_names}
 use Rattle.nv_cell.proofs.PagesNow.{block_scanned, front_block}
+use Rattle.nv_cell.proofs.PartSlots.{scanned_slot}
 use Rattle.nv_cell.proofs.Publishing.{scanned}
+use Rattle.nv_cell.proofs.Slots.{part_of_slot, slot_is_part}
 use Rattle.nv_cell.proofs.Tallies.{same_mark}
 
 -- ---- the block of a page
@@ -74,17 +79,26 @@ slot_page bytes block (Some b) h = h b refl
 abbrev slot_by : List (Option BlockValue) → Option ℕ → Option BlockValue
 slot_by slots o = option_and_then (λ n. slice_index_or slots n None) o
 
-pub page_slot : (cell : CellState) (index : IndexValue) (page : ℕ)
+-- the block of a page is the one in the slot of its part
+pub page_in_slot : (cell : CellState) (slots : List (Option BlockValue)) (index : IndexValue) (page : ℕ)
+    → cell.blocks ≡ by_part cell.chain.entries slots → length slots ≡ slot_total cell.chain.entries → IsLog cell.chain.entries
     → ((key : Key) → ref_of index key ≡ scan_ref cell.block (log_of cell) key)
-    → slot_by cell.blocks (page_number cell.chain.entries index page) ≡ block_at_page cell page
-page_slot cell index page refs =
-    ap (λ (o : Option PartRef). slot_by cell.blocks (option_map (number cell.chain.entries) o)) (refs (PageKey page))
-    ∙ go (scan_ref cell.block (log_of cell) (PageKey page))
-  where
-    go : (o : Option PartRef) → slot_by cell.blocks (option_map (number cell.chain.entries) o)
-        ≡ option_and_then (λ r. slice_index_or cell.blocks (number cell.chain.entries r) None) o
-    go None = refl
-    go (Some r) = refl
+    → slot_by slots (page_slot cell.chain.entries index page) ≡ block_at_page cell page
+page_in_slot cell slots index page blocks len is refs = go (ref_at index.pages.pages page) refl where
+  es : List Entry
+  es = cell.chain.entries
+
+  own : Option PartRef → Option BlockValue
+  own o = option_and_then (λ r. slice_index_or cell.blocks (number es r) None) o
+
+  go : (o : Option PageRef) → ref_at index.pages.pages page ≡ o
+      → slot_by slots (option_map (slot es) (option_map page_part o)) ≡ block_at_page cell page
+  go None q = ap own (sym (ap (option_map page_part) q) ∙ refs (PageKey page))
+  go (Some at) q =
+      let found : scan_ref cell.block (log_of cell) (PageKey page) ≡ Some (page_part at) =
+      sym (refs (PageKey page)) ∙ ap (option_map page_part) q in
+      scanned_slot cell.block es cell.chain.tail (PageKey page) (page_part at) slots is found (omega arith) len
+      ∙ ap (λ bs. slice_index_or bs (number es (page_part at)) None) (sym blocks) ∙ ap own (sym found)
 
 -- the part that holds a page, by number
 abbrev scanned_page : CellState → ℕ → Option ℕ
@@ -112,13 +126,19 @@ page_number_is cell page is marks blocks =
     go None q = refl
     go (Some n) q = sym (slot_is cell page n marks blocks q)
 
-pub slot_sized : (block : ℕ) (slots : List (Option BlockValue)) (o : Option ℕ) → AreSlotsSized block slots
+slot_sized : (block : ℕ) (slots : List (Option BlockValue)) (o : Option ℕ) → AreSlotsSized block slots
     → IfSome (slot_by slots o) (λ b. length b.bytes ≡ block)
 slot_sized block slots None sized = tt
 slot_sized block slots (Some n) sized = go (slice_index_or slots n None) refl where
   go : (slot : Option BlockValue) → slice_index_or slots n None ≡ slot → IfSome slot (λ b. length b.bytes ≡ block)
   go None q = tt
   go (Some b) q = sized n b q
+
+pub page_sized : (cell : CellState) (page : ℕ) → IsLog cell.chain.entries → AreSlotsSized cell.block cell.blocks
+    → IfSome (block_at_page cell page) (λ b. length b.bytes ≡ cell.block)
+page_sized cell page is sized =
+    subst (λ o. IfSome o (λ b. length b.bytes ≡ cell.block)) (sym (at_scanned cell page is))
+    (slot_sized cell.block cell.blocks (scanned_page cell page) sized)
 
 -- ---- the bytes of a file
 
@@ -149,9 +169,15 @@ file_is cell bytes is are =
     (λ page. sym (page_is cell bytes page is are)))
 
 -- the pages that an index names are the file's
-pub pages_are : (cell : CellState) (index : IndexValue) (count : ℕ)
+pub pages_are : (cell : CellState) (slots : List (Option BlockValue)) (index : IndexValue) (count : ℕ)
+    → cell.blocks ≡ by_part cell.chain.entries slots → length slots ≡ slot_total cell.chain.entries → IsLog cell.chain.entries
     → ((key : Key) → ref_of index key ≡ scan_ref cell.block (log_of cell) key)
-    → pages_now cell.block cell.blocks (page_number cell.chain.entries index) count ≡ flat_map (own_page cell) (range_with_len 0 count)
-pages_are cell index count refs =
-    flat_same (page_now cell.block cell.blocks (page_number cell.chain.entries index)) (own_page cell) 0 count
-    (λ page. ap (slot_bytes cell.block) (page_slot cell index page refs))
+    → pages_now cell.block slots (page_slot cell.chain.entries index) count ≡ flat_map (own_page cell) (range_with_len 0 count)
+pages_are cell slots index count blocks len is refs =
+    flat_same (page_now cell.block slots (page_slot cell.chain.entries index)) (own_page cell) 0 count
+    (λ page. ap (slot_bytes cell.block) (page_in_slot cell slots index page blocks len is refs))
+
+-- each slot has as many bytes as a block
+pub slots_sized : (block : ℕ) (es : List Entry) (slots : List (Option BlockValue)) → length slots ≡ slot_total es
+    → AreSlotsSized block (by_part es slots) → AreSlotsSized block slots
+slots_sized block es slots len sized k b is = sized (part_of_slot es k) b (sym (slot_is_part es slots k len) ∙ is)

@@ -9,8 +9,11 @@ use Rattle.nv_cell.specs.declared.mark.Mark.{Mark}
 use Rattle.nv_cell.specs.declared.tally.Tally.{Tally}
 use Rattle.nv_cell.specs.Marks.{is_current, is_there}
 use Rattle.nv_cell.specs.Numbers.{part_base}
-use Rattle.nv_cell.specs.Tallies.{AreTallies, count_in, end_at, start_at, tally_at}
+use Rattle.nv_cell.specs.Slots.{slot_base}
+use Rattle.nv_cell.specs.Tallies.{AreTallies, count_in, end_at, first_slot, start_at, tally_at}
 use Rattle.nv_cell.proofs.Cells.{base_rises}
+use Rattle.nv_cell.proofs.FirstSlots.{slot_step}
+use Rattle.nv_cell.proofs.Tallies.{next_slot}
 
 -- where entry `i` of so many begins
 begins : (ends : List ℕ) (es : List Entry) (tail : ℕ) → ((i : ℕ) → i < tail → end_at ends i ≡ part_base es (i + 1))
@@ -30,14 +33,23 @@ last_end ends es (suc t) n len ended lt =
     let d : t + 1 ≡ suc t = omega arith in
     (omega (arith, len), rw last (let e = ended t (omega arith) in let f = rw d at e in omega (arith, f, lt)))
 
--- tallies that count the marks of each entry's parts
+-- where the slots of entry `i` of so many begin
+slots_begin : (tallies : List Tally) (es : List Entry) (tail : ℕ)
+    → ((i : ℕ) → i < tail → (tally_at tallies i).slots ≡ slot_base es (i + 1)) → (i : ℕ) → i < tail
+    → first_slot tallies i ≡ slot_base es i
+slots_begin tallies es tail h zero lt = refl
+slots_begin tallies es tail h (suc i) lt =
+    let d : i + 1 ≡ suc i = omega arith in
+    next_slot tallies i ∙ rw d at (h i (omega (arith, lt)))
+
+-- tallies that count the marks of each entry's parts, and its slots
 pub tallied_by : (tallies : List Tally) (ends : List ℕ) (marks : List Mark) (es : List Entry) (tail : ℕ) → length ends ≡ tail
     → length tallies ≡ tail
     → length marks ≡ part_base es tail → ((i : ℕ) → i < tail → end_at ends i ≡ part_base es (i + 1))
     → ((i : ℕ) → i < tail → (tally_at tallies i).current ≡ count_in is_current marks (part_base es i) (part_base es (i + 1)))
     → ((i : ℕ) → i < tail → (tally_at tallies i).there ≡ count_in is_there marks (part_base es i) (part_base es (i + 1)))
-    → AreTallies tallies ends marks
-tallied_by tallies ends marks es tail ends_len len marks_len ended current there = record {
+    → ((i : ℕ) → i < tail → (tally_at tallies i).slots ≡ slot_base es (i + 1)) → AreTallies tallies ends marks
+tallied_by tallies ends marks es tail ends_len len marks_len ended current there slots = record {
   runs = record {
     rising = λ i j le lt. omega (
       arith,
@@ -57,7 +69,16 @@ tallied_by tallies ends marks es tail ends_len len marks_len ended current there
   len = len ∙ sym ends_len;
   current = λ i lt. current i (omega (arith, lt, ends_len)) ∙ sym (run is_current i (omega (arith, lt, ends_len)));
   there = λ i lt. there i (omega (arith, lt, ends_len)) ∙ sym (run is_there i (omega (arith, lt, ends_len)));
+  slots = λ i lt. own i (omega (arith, lt, ends_len));
 } where
+  own : (i : ℕ) → i < tail → (tally_at tallies i).slots ≡ first_slot tallies i + (end_at ends i - start_at ends i - 1)
+  own i lt =
+      let d : i + 1 ≡ suc i = omega arith in
+      let now = rw d at (slots i lt) in
+      let end = rw d at (ended i lt) in
+      let start = begins ends es tail ended i (omega (arith, lt)) in
+      omega (arith, now, end, start, slots_begin tallies es tail slots i lt, slot_step es i)
+
   run : (test : Mark → Bool) (i : ℕ) → i < tail
       → count_in test marks (start_at ends i) (end_at ends i) ≡ count_in test marks (part_base es i) (part_base es (i + 1))
   run test i lt = rw (begins ends es tail ended i (omega (arith, lt)), ended i lt) refl

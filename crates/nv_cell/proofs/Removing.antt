@@ -29,12 +29,15 @@ use Rattle.nv_cell.specs.Marks.{is_current, is_there}
 use Rattle.nv_cell.specs.Readers.{is_last_word}
 use Rattle.nv_cell.specs.Reading.{stat_now}
 use Rattle.nv_cell.specs.declared.stat.Stat.{Stat}
-use Rattle.nv_cell.specs.Removal.{KeepsTheLast, MayGo, left_in, part_flags}
+use Rattle.nv_cell.specs.Removal.{KeepsTheLast, MayGo, flags_by, left_in, part_flags, slot_flags}
+use Rattle.nv_cell.specs.Slots.{by_part, slot_count, slot_total}
 use Rattle.nv_cell.proofs.LastStays.{last_left}
 use Rattle.nv_cell.proofs.Publishing.{total_take}
 use Rattle.nv_cell.proofs.Leaving.{covered_left, cell_may_leave}
 use Rattle.nv_cell.proofs.NamesLeft.{bindings_left}
-use Rattle.nv_cell.proofs.Sources.{source, at_source, source_within, block_left, total_left, length-part_flags}
+use Rattle.nv_cell.proofs.RunFlags.{part_totals, slot_totals}
+use Rattle.nv_cell.proofs.Slots.{slots_gone, slots_left}
+use Rattle.nv_cell.proofs.Sources.{source, at_source, source_within, block_left, left_within, length-part_flags, total_left}
 
 -- ---- the cell
 
@@ -45,14 +48,16 @@ pub record IsLeft (flags : List Bool) (old new : ChainState) : Type 0 where
   pub log_is : log new ≡ select flags (log old)
   pub tail : new.tail ≡ length (left_of flags (log old))
 
-flags_of_all : (flags : List Bool) (chain : ChainState) → length flags ≡ length (log chain)
-    → part_flags flags chain.entries ≡ part_flags flags (log chain)
-flags_of_all flags chain len = front flags chain.tail chain.entries (omega (arith, len)) where
-  front : (fs : List Bool) (t : ℕ) (es : List Entry) → length fs ≤ length (take t es) → part_flags fs es ≡ part_flags fs (take t es)
+-- flags of the log's entries say nothing of those past it
+flags_of_all : (count : Entry → ℕ) (flags : List Bool) (chain : ChainState) → length flags ≡ length (log chain)
+    → flags_by count flags chain.entries ≡ flags_by count flags (log chain)
+flags_of_all count flags chain len = front flags chain.tail chain.entries (omega (arith, len)) where
+  front : (fs : List Bool) (t : ℕ) (es : List Entry) → length fs ≤ length (take t es)
+      → flags_by count fs es ≡ flags_by count fs (take t es)
   front [] t es le = refl
   front (b ∷ fs) zero es le = absurd (omega arith)
   front (b ∷ fs) (suc t) [] le = refl
-  front (b ∷ fs) (suc t) (e ∷ es) le = ap (λ gs. replicate (part_count e) b ++ gs) (front fs t es (omega (arith, le)))
+  front (b ∷ fs) (suc t) (e ∷ es) le = ap (λ gs. replicate (count e) b ++ gs) (front fs t es (omega (arith, le)))
 
 no_number : (o : Option BlockValue) → option_map number_of o ≡ None → o ≡ None
 no_number None h = refl
@@ -99,7 +104,7 @@ module _ {flags : List Bool} {cell : CellState} {chain : ChainState} (left : IsL
   few = omega (arith, length-part_flags flags (log_of cell), marks.len)
 
   pub marks_count : length (left_of (part_flags flags (log_of cell)) cell.marks) ≡ part_total (log chain)
-  marks_count = total_left flags (log_of cell) cell.marks marks.len
+  marks_count = total_left part_totals flags (log_of cell) cell.marks marks.len
       ∙ ap part_total (left_of-select flags (log_of cell) left.flags_len ∙ sym left.log_is)
 
   pub marks_left : HasMarks (left_in flags chain cell)
@@ -119,9 +124,9 @@ module _ {flags : List Bool} {cell : CellState} {chain : ChainState} (left : IsL
   pub blocks_left : HasBlocks (left_in flags chain cell)
   blocks_left =
       let fs = part_flags flags (log_of cell) in
-      let all = flags_of_all flags cell.chain left.flags_len in
+      let all = flags_of_all part_count flags cell.chain left.flags_len in
       record {
-        len = ap (λ gs. length (left_of gs cell.blocks)) (sym all) ∙ total_left flags cell.chain.entries cell.blocks blocks.len
+        len = ap (λ gs. length (left_of gs cell.blocks)) (sym all) ∙ total_left part_totals flags cell.chain.entries cell.blocks blocks.len
             ∙ ap part_total (sym left.entries);
         numbers = λ n.
             ap (option_map number_of) (at_source fs cell.blocks n None some) ∙ blocks.numbers (source fs n)
@@ -200,21 +205,42 @@ packed_within flags pages chain is =
     omega (arith, size, pages_within flags chain is)
 
 -- no more is there than before
-pub record IsFewer (flags : List Bool) (cell : CellState) (chain : ChainState) : Type 0 where
-  pub entries : length chain.entries ≤ length cell.chain.entries
-  pub tail : chain.tail ≤ length (log_of cell)
-  pub parts : part_total chain.entries ≤ part_total cell.chain.entries
+pub record IsFewer (old new : ChainState) : Type 0 where
+  pub entries : length new.entries ≤ length old.entries
+  pub tail : new.tail ≤ length (log old)
+  pub parts : part_total new.entries ≤ part_total old.entries
+  pub slots : slot_total new.entries ≤ slot_total old.entries
 
-pub fewer : {flags : List Bool} {cell : CellState} {chain : ChainState} → IsLeft flags cell.chain chain → HasBlocks cell
-    → IsFewer flags cell chain
-fewer {flags} {cell} {chain} left blocks =
-    let all = flags_of_all flags cell.chain left.flags_len in
-    let fs = part_flags flags (log_of cell) in
-    let total : length (left_of fs cell.blocks) ≡ part_total chain.entries =
-    ap (λ gs. length (left_of gs cell.blocks)) (sym all) ∙ total_left flags cell.chain.entries cell.blocks blocks.len
-    ∙ ap part_total (sym left.entries) in
-    record {
-      entries = omega (arith, ap length left.entries, length-left_of flags cell.chain.entries);
-      tail = omega (arith, left.tail, length-left_of flags (log_of cell));
-      parts = omega (arith, total, length-left_of fs cell.blocks, blocks.len);
-    }
+pub fewer : {flags : List Bool} {old new : ChainState} → IsLeft flags old new → IsFewer old new
+fewer {flags} {old} {new} left = record {
+  entries = omega (arith, ap length left.entries, length-left_of flags old.entries);
+  tail = omega (arith, left.tail, length-left_of flags (log old));
+  parts = omega (arith, ap part_total left.entries, left_within part_totals flags old.entries);
+  slots = omega (arith, ap slot_total left.entries, left_within slot_totals flags old.entries);
+}
+
+-- ---- the slots
+
+module _ {flags : List Bool} {old new : ChainState} (left : IsLeft flags old new) (slots : List (Option BlockValue))
+    (len : length slots ≡ slot_total old.entries) where
+  -- no slot that goes has a block where no part that goes has one
+  pub no_slot_gone : AllByRecursion (λ b. b ≡ None) (gone_of (part_flags flags (log old)) (by_part old.entries slots))
+      → AllByRecursion (λ b. b ≡ None) (gone_of (slot_flags flags (log old)) slots)
+  no_slot_gone none =
+      let parts = flags_of_all part_count flags old left.flags_len in
+      subst (λ fs. AllByRecursion (λ b. b ≡ None) (gone_of fs slots)) (flags_of_all slot_count flags old left.flags_len)
+      (slots_gone flags old.entries slots len
+      (subst (λ fs. AllByRecursion (λ b. b ≡ None) (gone_of fs (by_part old.entries slots))) (sym parts) none))
+
+  -- what is left of the slots is what is left of the blocks by number
+  pub left_by_part : (next : List (Option BlockValue)) → next ≡ left_of (slot_flags flags (log old)) slots
+      → (by_part new.entries next ≡ left_of (part_flags flags (log old)) (by_part old.entries slots))
+      × (length next ≡ slot_total new.entries)
+  left_by_part next is =
+      let parts = flags_of_all part_count flags old left.flags_len in
+      let all : next ≡ left_of (slot_flags flags old.entries) slots =
+      is ∙ ap (λ fs. left_of fs slots) (sym (flags_of_all slot_count flags old left.flags_len)) in (
+        ap (by_part new.entries) all ∙ ap (λ es. by_part es (left_of (slot_flags flags old.entries) slots)) left.entries
+            ∙ slots_left flags old.entries slots len ∙ ap (λ fs. left_of fs (by_part old.entries slots)) parts,
+        ap length all ∙ total_left slot_totals flags old.entries slots len ∙ ap slot_total (sym left.entries),
+      )

@@ -2,16 +2,14 @@
 use Rattle.std.proofs.Common.{◌≡◌, ℕ, zero, suc, ◌+◌, ◌-◌, ◌<◌, ◌≤◌, Bool, true, false, cond, List, [], ◌∷◌, ◌++◌, length, take, drop, replicate, get_or, arith, refl, ap, sym, ◌∙◌, subst, append_assoc, length-append, length-drop, Some}
 use Rattle.std.specs.Prelude.{slice_get}
 use Rattle.std.proofs.lemmas.Option.{get_or_from_slice_get}
-use Rattle.std.proofs.lemmas.List.{append-nil, drop-drop, take-append-le, drop-append-le, length-take, get_or-take}
+use Rattle.std.proofs.lemmas.List.{append-nil, drop-drop, take-append-le, drop-append-le, length-take, get_or-take, take_all}
 use Rattle.nv_entry.specs.declared.item.Entry.{Entry}
 use Rattle.nv_entry.specs.Covered.{part_count, part_total}
 use Rattle.std.specs.List.{AllByRecursion}
 use Rattle.nv_log.specs.Chain.{gone_of, left_of}
 use Rattle.nv_log.proofs.Flags.{spread}
-use Rattle.nv_cell.specs.Numbers.{part_base}
-use Rattle.nv_cell.specs.Removal.{part_flags, run_flags}
-use Rattle.nv_cell.proofs.Cells.{base_next}
-use Rattle.nv_cell.proofs.Publishing.{total_take}
+use Rattle.nv_cell.specs.Removal.{flags_by, run_flags}
+use Rattle.nv_cell.specs.Slots.{slot_count, slot_total}
 
 -- a run that goes, and one that stays
 pub left_of-goes : {X : Type 0} (n : ℕ) (flags : List Bool) (xs : List X)
@@ -161,114 +159,162 @@ stays_on (suc t) (b ∷ flags) [] h = refl
 stays_on (suc t) (true ∷ flags) (x ∷ xs) h = ap (λ ys. x ∷ ys) (stays_on t flags xs (λ i le. h (suc i) (omega (arith, le))))
 stays_on (suc t) (false ∷ flags) (x ∷ xs) h = stays_on t flags xs (λ i le. h (suc i) (omega (arith, le)))
 
--- ---- parts by entries
+-- ---- parts and slots by entries
 
--- the flags of an entry's parts stand before those of the later ones
-pub flags_next : (flags : List Bool) (es : List Entry) (i : ℕ) (b : Bool) (e : Entry) → i < length flags → i < length es
-    → b ≡ get_or flags i b
-    → e ≡ get_or es i e → part_flags (drop i flags) (drop i es) ≡ replicate (part_count e) b
-    ++ part_flags (drop (i + 1) flags) (drop (i + 1) es)
-flags_next [] es i b e lf le qb qe = absurd (omega arith)
-flags_next (c ∷ flags) [] i b e lf le qb qe = absurd (omega arith)
-flags_next (c ∷ flags) (x ∷ es) zero b e lf le qb qe = rw (qb, qe) refl
-flags_next (c ∷ flags) (x ∷ es) (suc i) b e lf le qb qe =
+-- how many items a list of entries has, each entry so many
+pub record IsTotal (count : Entry → ℕ) (total : List Entry → ℕ) : Type 0 where
+  pub none : total [] ≡ 0
+  pub more : (e : Entry) (es : List Entry) → total (e ∷ es) ≡ count e + total es
+
+pub part_totals : IsTotal part_count part_total
+part_totals = record { none = refl; more = λ e es. refl }
+
+pub slot_totals : IsTotal slot_count slot_total
+slot_totals = record { none = refl; more = λ e es. refl }
+
+-- the first entries have no more than all, with each entry more they have its own more, and in the end they have all
+pub base_within : {count : Entry → ℕ} {total : List Entry → ℕ} → IsTotal count total → (es : List Entry) (i : ℕ)
+    → total (take i es) ≤ total es
+base_within t [] zero = omega arith
+base_within t [] (suc i) = omega arith
+base_within t (x ∷ es) zero = omega (arith, t.none)
+base_within t (x ∷ es) (suc i) = omega (arith, t.more x (take i es), t.more x es, base_within t es i)
+
+base_on : {count : Entry → ℕ} {total : List Entry → ℕ} → IsTotal count total → (es : List Entry) (i : ℕ) (e : Entry) → i < length es
+    → e ≡ get_or es i e → total (take (i + 1) es) ≡ total (take i es) + count e
+base_on t [] i e lt is = absurd (omega arith)
+base_on {count} t (x ∷ es) zero e lt is = omega (arith, t.more x [], t.none, ap count is)
+base_on t (x ∷ es) (suc i) e lt is =
     let s : suc i + 1 ≡ suc (i + 1) = omega arith in
-    rw s (flags_next flags es i b e (omega (arith, lf)) (omega (arith, le)) qb qe)
+    rw s (omega (arith, t.more x (take (i + 1) es), t.more x (take i es), base_on t es i e (omega (arith, lt)) is))
 
--- the parts of the entry that comes next, with their flag
-pub record AreNext (flags : List Bool) (es : List Entry) (i : ℕ) (b : Bool) (e : Entry) : Type 0 where
-  pub ahead : part_flags (drop i flags) (drop i es) ≡ replicate (part_count e) b ++ part_flags (drop (i + 1) flags) (drop (i + 1) es)
-  pub to : part_base es (i + 1) ≡ part_base es i + part_count e
-  pub within : part_base es (i + 1) ≤ part_total es
+-- the items of an entry of the log, and of those before it, are no more than all
+pub own_within : {count : Entry → ℕ} {total : List Entry → ℕ} → IsTotal count total → (all : List Entry) (tail i : ℕ) (e : Entry)
+    → i < tail → tail ≤ length all → slice_get all i ≡ Some e → total (take i (take tail all)) + count e ≤ total (take tail all)
+own_within t all tail i e lt le at =
+    let is : e ≡ get_or (take tail all) i e = sym (get_or-take tail all i e lt ∙ get_or_from_slice_get all i e e at) in
+    omega (arith, base_on t (take tail all) i e (omega (arith, length-take tail all, lt, le)) is, base_within t (take tail all) (i + 1))
 
-pub next_parts : (flags : List Bool) (all : List Entry) (tail i : ℕ) (b : Bool) (e : Entry) → i < length flags → i < tail
-    → tail ≤ length all
-    → b ≡ get_or flags i b → slice_get all i ≡ Some e → AreNext flags (take tail all) i b e
-next_parts flags all tail i b e lf lt le qb at =
-    let es = take tail all in
-    let few : i < length es = omega (arith, length-take tail all) in
-    let is : e ≡ get_or es i e = sym (get_or-take tail all i e lt ∙ get_or_from_slice_get all i e e at) in
-    record {
-      ahead = flags_next flags es i b e lf few qb is;
-      to = base_next es i e few is;
-      within = total_take es (i + 1);
-    }
+pub base_past : (total : List Entry → ℕ) (es : List Entry) (i : ℕ) → length es ≤ i → total (take i es) ≡ total es
+base_past total es i le = ap total (take_all i es le)
 
-pub base_past : (es : List Entry) (i : ℕ) → length es ≤ i → part_base es i ≡ part_total es
-base_past [] zero le = refl
-base_past [] (suc i) le = refl
-base_past (e ∷ es) zero le = absurd (omega arith)
-base_past (e ∷ es) (suc i) le = ap (λ n. part_count e + n) (base_past es i (omega (arith, le)))
+-- the flags of an entry's items stand before those of the later ones
+flags_next : (count : Entry → ℕ) (flags : List Bool) (es : List Entry) (i : ℕ) (b : Bool) (e : Entry) → i < length flags → i < length es
+    → b ≡ get_or flags i b
+    → e ≡ get_or es i e → flags_by count (drop i flags) (drop i es) ≡ replicate (count e) b
+    ++ flags_by count (drop (i + 1) flags) (drop (i + 1) es)
+flags_next count [] es i b e lf le qb qe = absurd (omega arith)
+flags_next count (c ∷ flags) [] i b e lf le qb qe = absurd (omega arith)
+flags_next count (c ∷ flags) (x ∷ es) zero b e lf le qb qe = rw (qb, qe) refl
+flags_next count (c ∷ flags) (x ∷ es) (suc i) b e lf le qb qe =
+    let s : suc i + 1 ≡ suc (i + 1) = omega arith in
+    rw s (flags_next count flags es i b e (omega (arith, lf)) (omega (arith, le)) qb qe)
 
-pub flags_end : (flags : List Bool) (es : List Entry) (i : ℕ) → length flags ≤ i → part_flags (drop i flags) (drop i es) ≡ []
-flags_end [] es zero le = refl
-flags_end [] es (suc i) le = refl
-flags_end (b ∷ flags) es zero le = absurd (omega arith)
-flags_end (b ∷ flags) [] (suc i) le = none (drop i flags) where
-  none : (fs : List Bool) → part_flags fs [] ≡ []
+-- past the last entry no flags are left
+pub flags_end : (count : Entry → ℕ) (flags : List Bool) (es : List Entry) (i : ℕ) → length flags ≤ i
+    → flags_by count (drop i flags) (drop i es) ≡ []
+flags_end count [] es zero le = refl
+flags_end count [] es (suc i) le = refl
+flags_end count (b ∷ flags) es zero le = absurd (omega arith)
+flags_end count (b ∷ flags) [] (suc i) le = none (drop i flags) where
+  none : (fs : List Bool) → flags_by count fs [] ≡ []
   none [] = refl
   none (c ∷ fs) = refl
-flags_end (b ∷ flags) (e ∷ es) (suc i) le = flags_end flags es i (omega (arith, le))
+flags_end count (b ∷ flags) (e ∷ es) (suc i) le = flags_end count flags es i (omega (arith, le))
 
--- flags past a log say nothing of its parts
-pub flags_within : (flags : List Bool) (es : List Entry) → part_flags (take (length es) flags) es ≡ part_flags flags es
-flags_within [] [] = refl
-flags_within (b ∷ flags) [] = refl
-flags_within [] (e ∷ es) = refl
-flags_within (b ∷ flags) (e ∷ es) = ap (λ fs. replicate (part_count e) b ++ fs) (flags_within flags es)
+-- flags past a log say nothing of its items
+pub flags_within : (count : Entry → ℕ) (flags : List Bool) (es : List Entry)
+    → flags_by count (take (length es) flags) es ≡ flags_by count flags es
+flags_within count [] [] = refl
+flags_within count (b ∷ flags) [] = refl
+flags_within count [] (e ∷ es) = refl
+flags_within count (b ∷ flags) (e ∷ es) = ap (λ fs. replicate (count e) b ++ fs) (flags_within count flags es)
 
--- the parts of one more entry have passed
-pub passes_on : {X : Type 0} (old queue next : List X) (flags : List Bool) (es : List Entry) (i count : ℕ) (b : Bool) (e : Entry)
-    → AreNext flags es i b e
-    → count ≡ part_count e → part_total es ≤ length old
-    → IsPassing old queue (part_flags flags es) (part_base es i) (part_flags (drop i flags) (drop i es))
-    → next ≡ drop count queue ++ cond b (take count queue) []
-    → IsPassing old next (part_flags flags es) (part_base es (i + 1)) (part_flags (drop (i + 1) flags) (drop (i + 1) es))
-passes_on old queue next flags es i count b e h is fits passing turned =
-    let later = part_flags (drop (i + 1) flags) (drop (i + 1) es) in
-    let ahead : part_flags (drop i flags) (drop i es) ≡ replicate count b ++ later = h.ahead ∙ ap (λ k. replicate k b ++ later) (sym is) in
-    run_passes old queue next (part_flags flags es) (part_base es i) count (part_base es (i + 1)) b later
-    (subst (IsPassing old queue (part_flags flags es) (part_base es i)) ahead passing) (omega (arith, h.to, is))
-    (omega (arith, h.within, fits)) turned
+-- the items of the entry that comes next, with their flag
+pub record AreNext (count : Entry → ℕ) (total : List Entry → ℕ) (flags : List Bool) (es : List Entry) (i : ℕ) (b : Bool) (e : Entry)
+    : Type 0 where
+  pub ahead : flags_by count (drop i flags) (drop i es) ≡ replicate (count e) b ++ flags_by count (drop (i + 1) flags) (drop (i + 1) es)
+  pub to : total (take (i + 1) es) ≡ total (take i es) + count e
+  pub within : total (take (i + 1) es) ≤ total es
 
--- what goes of the rest is known to pass a test, also behind the next entry, and for the next entry itself
-pub goes_on : {X : Type 0} (P : X → Type 0) (old : List X) (flags : List Bool) (es : List Entry) (i : ℕ) (b : Bool) (e : Entry)
-    → AreNext flags es i b e
-    → AllByRecursion P (gone_of (part_flags (drop i flags) (drop i es)) (drop (part_base es i) old))
-    → AllByRecursion P (gone_of (part_flags (drop (i + 1) flags) (drop (i + 1) es)) (drop (part_base es (i + 1)) old))
-goes_on P old flags es i b e h all =
-    gone_passes P old (part_base es i) (part_count e) (part_base es (i + 1)) b (part_flags (drop (i + 1) flags) (drop (i + 1) es)) h.to
-    (subst (λ fs. AllByRecursion P (gone_of fs (drop (part_base es i) old))) h.ahead all)
+-- an entry's items come next: of any entries, and of those of a log
+pub next_of : {count : Entry → ℕ} {total : List Entry → ℕ} → IsTotal count total → (flags : List Bool) (es : List Entry) (i : ℕ) (b : Bool)
+    (e : Entry) → i < length flags → i < length es → b ≡ get_or flags i b → e ≡ get_or es i e → AreNext count total flags es i b e
+next_of {count} t flags es i b e lf le qb qe = record {
+  ahead = flags_next count flags es i b e lf le qb qe;
+  to = base_on t es i e le qe;
+  within = base_within t es (i + 1);
+}
 
-pub entry_goes : {X : Type 0} (P : X → Type 0) (old queue : List X) (flags : List Bool) (es : List Entry) (i count : ℕ) (e : Entry)
-    → AreNext flags es i false e
-    → count ≡ part_count e → part_total es ≤ length old
-    → IsPassing old queue (part_flags flags es) (part_base es i) (part_flags (drop i flags) (drop i es))
-    → AllByRecursion P (gone_of (part_flags (drop i flags) (drop i es)) (drop (part_base es i) old)) → AllByRecursion P (take count queue)
-entry_goes P old queue flags es i count e h is fits passing all =
-    let front = front_is old queue (part_flags flags es) (part_base es i) count (part_flags (drop i flags) (drop i es)) passing
-    (omega (arith, h.to, h.within, is, fits)) in
-    let one = run_gone P (part_count e) (part_flags (drop (i + 1) flags) (drop (i + 1) es)) (drop (part_base es i) old)
-    (subst (λ fs. AllByRecursion P (gone_of fs (drop (part_base es i) old))) h.ahead all) in
-    subst (AllByRecursion P) (ap (λ k. take k (drop (part_base es i) old)) (sym is) ∙ sym front.0) one
+pub next_in_log : {count : Entry → ℕ} {total : List Entry → ℕ} → IsTotal count total → (flags : List Bool) (all : List Entry) (tail i : ℕ)
+    (b : Bool) (e : Entry) → i < length flags → i < tail → tail ≤ length all
+    → b ≡ get_or flags i b → slice_get all i ≡ Some e → AreNext count total flags (take tail all) i b e
+next_in_log t flags all tail i b e lf lt le qb at =
+    next_of t flags (take tail all) i b e lf (omega (arith, length-take tail all, lt, le)) qb
+    (sym (get_or-take tail all i e lt ∙ get_or_from_slice_get all i e e at))
 
-pub entry_there : {X : Type 0} (old queue : List X) (flags : List Bool) (es : List Entry) (i count : ℕ) (b : Bool) (e : Entry)
-    → AreNext flags es i b e
-    → count ≡ part_count e → part_total es ≤ length old
-    → IsPassing old queue (part_flags flags es) (part_base es i) (part_flags (drop i flags) (drop i es)) → count ≤ length queue
-entry_there old queue flags es i count b e h is fits passing =
-    (front_is old queue (part_flags flags es) (part_base es i) count (part_flags (drop i flags) (drop i es)) passing
-    (omega (arith, h.to, h.within, is, fits))).1
+-- a queue that the items of the first entries have passed through
+abbrev pub IsPassed : {X : Type 0} → (Entry → ℕ) → (List Entry → ℕ) → List X → List X → List Bool → List Entry → ℕ → Type 0
+IsPassed count total old queue flags es i =
+    IsPassing old queue (flags_by count flags es) (total (take i es)) (flags_by count (drop i flags) (drop i es))
+
+-- all items pass a test that go of those behind the first entries'
+abbrev pub AllGone : {X : Type 0} → (X → Type 0) → (Entry → ℕ) → (List Entry → ℕ) → List X → List Bool → List Entry → ℕ → Type 0
+AllGone P count total old flags es i = AllByRecursion P (gone_of (flags_by count (drop i flags) (drop i es)) (drop (total (take i es)) old))
+
+module _ {X : Type 0} {count : Entry → ℕ} {total : List Entry → ℕ} (old queue : List X) (flags : List Bool) (es : List Entry) (i n : ℕ)
+    (b : Bool) (e : Entry) (h : AreNext count total flags es i b e) (is : n ≡ count e) (fits : total es ≤ length old) where
+  -- the items of one more entry have passed
+  pub passes_on : (next : List X) → IsPassed count total old queue flags es i → next ≡ drop n queue ++ cond b (take n queue) []
+      → IsPassed count total old next flags es (i + 1)
+  passes_on next passing turned =
+      let later = flags_by count (drop (i + 1) flags) (drop (i + 1) es) in
+      let start = total (take i es) in
+      let ahead : flags_by count (drop i flags) (drop i es) ≡ replicate n b ++ later = h.ahead
+      ∙ ap (λ k. replicate k b ++ later) (sym is) in
+      run_passes old queue next (flags_by count flags es) start n (total (take (i + 1) es)) b later
+      (subst (IsPassing old queue (flags_by count flags es) start) ahead passing) (omega (arith, h.to, is))
+      (omega (arith, h.within, fits)) turned
+
+  -- they stand in the queue
+  pub entry_there : IsPassed count total old queue flags es i → n ≤ length queue
+  entry_there passing =
+      (front_is old queue (flags_by count flags es) (total (take i es)) n (flags_by count (drop i flags) (drop i es)) passing
+      (omega (arith, h.to, h.within, is, fits))).1
+
+  -- the items of the next entry pass a test where it goes
+  pub entry_goes : (P : X → Type 0) → b ≡ false → IsPassed count total old queue flags es i → AllGone P count total old flags es i
+      → AllByRecursion P (take n queue)
+  entry_goes P goes passing all =
+      let later = flags_by count (drop (i + 1) flags) (drop (i + 1) es) in
+      let rest = drop (total (take i es)) old in
+      let front = front_is old queue (flags_by count flags es) (total (take i es)) n (flags_by count (drop i flags) (drop i es)) passing
+      (omega (arith, h.to, h.within, is, fits)) in
+      let ahead : flags_by count (drop i flags) (drop i es) ≡ replicate (count e) false ++ later = h.ahead
+      ∙ ap (λ c. replicate (count e) c ++ later) goes in
+      let one = run_gone P (count e) later rest (subst (λ fs. AllByRecursion P (gone_of fs rest)) ahead all) in
+      subst (AllByRecursion P) (ap (λ k. take k rest) (sym is) ∙ sym front.0) one
+
+-- what goes of the rest is known to pass a test, also behind the next entry
+pub goes_on : {X : Type 0} {count : Entry → ℕ} {total : List Entry → ℕ} (P : X → Type 0) (old : List X) (flags : List Bool)
+    (es : List Entry) (i : ℕ) (b : Bool) (e : Entry) → AreNext count total flags es i b e
+    → AllGone P count total old flags es i → AllGone P count total old flags es (i + 1)
+goes_on {count = count} {total = total} P old flags es i b e h all =
+    let start = total (take i es) in
+    gone_passes P old start (count e) (total (take (i + 1) es)) b (flags_by count (drop (i + 1) flags) (drop (i + 1) es)) h.to
+    (subst (λ fs. AllByRecursion P (gone_of fs (drop start old))) h.ahead all)
 
 -- all entries of the log have passed
-pub log_passed : {X : Type 0} (old queue next : List X) (flags : List Bool) (es : List Entry) (i fresh : ℕ) → length flags ≡ length es
+pub log_passed : {X : Type 0} (count : Entry → ℕ) (total : List Entry → ℕ) (old queue next : List X) (flags : List Bool)
+    (es : List Entry) (i fresh : ℕ) → length flags ≡ length es
     → length es ≤ i
-    → fresh ≡ length old - part_total es
-    → IsPassing old queue (part_flags flags es) (part_base es i) (part_flags (drop i flags) (drop i es))
-    → next ≡ drop fresh queue ++ take fresh queue → next ≡ left_of (part_flags flags es) old
-log_passed old queue next flags es i fresh len past size passing turned =
-    let none = flags_end flags es i (omega (arith, past, len)) in
-    let rest : fresh ≡ length old - part_base es i = omega (arith, size, base_past es i past) in
-    all_passed old queue next (part_flags flags es) (part_base es i)
-    (subst (IsPassing old queue (part_flags flags es) (part_base es i)) none passing)
+    → fresh ≡ length old - total es
+    → IsPassed count total old queue flags es i
+    → next ≡ drop fresh queue ++ take fresh queue → next ≡ left_of (flags_by count flags es) old
+log_passed count total old queue next flags es i fresh len past size passing turned =
+    let none = flags_end count flags es i (omega (arith, past, len)) in
+    let start = total (take i es) in
+    let rest : fresh ≡ length old - start = omega (arith, size, base_past total es i past) in
+    all_passed old queue next (flags_by count flags es) start
+    (subst (IsPassing old queue (flags_by count flags es) start) none passing)
     (turned ∙ ap (λ k. drop k queue ++ take k queue) rest)

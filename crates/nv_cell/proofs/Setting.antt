@@ -7,7 +7,7 @@ use Rattle.nv_cell.specs.declared.mark.Mark.TheVariants.{Current, Out}
 use Rattle.nv_cell.specs.declared.tally.PageCounts.{PageCounts}
 use Rattle.nv_cell.specs.declared.tally.Tally.{Tally}
 use Rattle.nv_cell.specs.Marks.{bit, is_current, is_there, mark_at}
-use Rattle.nv_cell.specs.Tallies.{AreRuns, AreTallied, AreTallies, IsInRun, counts_at, no_counts, is_valid, moved, no_tally, recounted, tally_at, with_entry}
+use Rattle.nv_cell.specs.Tallies.{AreRuns, AreTallied, AreTallies, IsInRun, counts_at, first_slot, no_counts, is_valid, moved, no_tally, recounted, tally_at, with_entry}
 use Rattle.nv_cell.specs.declared.marks.Marks.{Marks}
 use Rattle.std.specs.Vec.{with_item}
 use Rattle.std.specs.Global.{Vec}
@@ -106,23 +106,23 @@ count_append test [] ys = omega arith
 count_append test (x ∷ xs) ys = omega (arith, count_cons test x (xs ++ ys), count_cons test x xs, count_append test xs ys)
 
 -- one more entry, with parts that are all current
-pub add_tallied : (m : Marks) (page_ends : List ℕ) (k parts : ℕ) (before c : PageCounts) (marks : Vec Mark) (ends : Vec ℕ)
+pub add_tallied : (m : Marks) (page_ends : List ℕ) (k parts : ℕ) (t : Tally) (before c : PageCounts) (marks : Vec Mark) (ends : Vec ℕ)
     (tallies : Vec Tally) → AreTallied m page_ends
     → IsInRun page_ends (length m.tallies.items) k → AreRuns page_ends (length m.tallies.items + 1)
+    → t.current ≡ parts → t.there ≡ parts → t.slots ≡ first_slot m.tallies.items (length m.tallies.items) + (parts - 1)
     → marks.items ≡ m.marks.items ++ replicate parts Current → ends.items ≡ m.ends.items ++ (length m.marks.items + parts) ∷ []
-    → tallies.items ≡ m.tallies.items ++ (record { current = parts; there = parts }) ∷ []
-    → before ≡ slice_index_or m.pages.items k before → c ≡ with_entry before (record { current = parts; there = parts })
+    → tallies.items ≡ m.tallies.items ++ t ∷ [] → before ≡ slice_index_or m.pages.items k before → c ≡ with_entry before t
     → AreTallied (record { marks = marks; ends = ends; tallies = tallies; pages = with_item m.pages k c; there = m.there + parts })
     page_ends
-add_tallied m page_ends k parts before c marks ends tallies h at runs marks_is ends_is tallies_is before_at c_is =
+add_tallied m page_ends k parts t before c marks ends tallies h at runs current there slots marks_is ends_is tallies_is before_at c_is =
     let lk : k < length m.pages.items = omega (arith, at.within, h.counts.len) in
     let b : before ≡ counts_at m.pages.items k = at_index m.pages.items k before no_counts before_at lk in
     record {
-      tallies = rw (marks_is, ends_is, tallies_is) (add_tallies m.tallies.items m.ends.items m.marks.items parts h.tallies);
+      tallies = rw (marks_is, ends_is, tallies_is)
+          (add_tallies m.tallies.items t m.ends.items m.marks.items parts h.tallies current there slots);
       counts =
-          rw tallies_is (add_counts m.tallies.items page_ends m.pages.items k
-          (record { current = parts; there = parts }) c h.counts at.within at.start at.end runs (rw (c_is, b) refl)
-          (rw (c_is, b) refl));
+          rw tallies_is (add_counts m.tallies.items page_ends m.pages.items k t c h.counts at.within at.start at.end runs
+          (rw (c_is, b) refl) (rw (c_is, b) refl));
       there =
           omega (
             arith,

@@ -6,8 +6,8 @@ use Rattle.nv_entry.specs.declared.item.Entry.{Entry}
 use Rattle.nv_entry.specs.Covered.{part_count, part_total}
 use Rattle.nv_log.specs.Chain.{left_of}
 use Rattle.nv_cell.specs.Cell.{page_block}
-use Rattle.nv_cell.specs.Removal.{part_flags}
-use Rattle.nv_cell.proofs.RunFlags.{left_of-goes, left_of-stays}
+use Rattle.nv_cell.specs.Removal.{flags_by, part_flags}
+use Rattle.nv_cell.proofs.RunFlags.{IsTotal, left_of-goes, left_of-stays}
 
 abbrev pub source : List Bool → ℕ → ℕ
 source [] n = n
@@ -73,19 +73,34 @@ block_left block (true ∷ flags) (e ∷ es) n = go (nat_lt n (part_count e)) re
       let d : part_count e + m - part_count e ≡ m = omega arith in
       rw (s, a, d, q) same
 
--- how many parts are left
-pub total_left : {X : Type 0} (flags : List Bool) (es : List Entry) (xs : List X) → length xs ≡ part_total es
-    → length (left_of (part_flags flags es) xs) ≡ part_total (left_of flags es)
-total_left [] es xs is = is
-total_left (b ∷ flags) [] xs is = is
-total_left (true ∷ flags) (e ∷ es) xs is =
-    let c = part_count e in
-    let fits : c ≤ length xs = omega (arith, is) in
-    ap length (left_of-stays c (part_flags flags es) xs) ∙ length-append (take c xs) (left_of (part_flags flags es) (drop c xs))
-    ∙ omega (arith, length-take-le c xs fits, total_left flags es (drop c xs) (omega (arith, length-drop c xs, is)))
-total_left (false ∷ flags) (e ∷ es) xs is =
-    let c = part_count e in
-    ap length (left_of-goes c (part_flags flags es) xs) ∙ total_left flags es (drop c xs) (omega (arith, length-drop c xs, is))
+-- how many items are left of a list that has so many of each entry
+pub total_left : {X : Type 0} {count : Entry → ℕ} {total : List Entry → ℕ} → IsTotal count total → (flags : List Bool) (es : List Entry)
+    (xs : List X) → length xs ≡ total es → length (left_of (flags_by count flags es) xs) ≡ total (left_of flags es)
+total_left t [] es xs is = is
+total_left t (b ∷ flags) [] xs is = is
+total_left {count = count} t (true ∷ flags) (e ∷ es) xs is =
+    let c = count e in
+    let rest = drop c xs in
+    let fits : c ≤ length xs = omega (arith, is, t.more e es) in
+    ap length (left_of-stays c (flags_by count flags es) xs) ∙ length-append (take c xs) (left_of (flags_by count flags es) rest)
+    ∙ omega (
+      arith,
+      length-take-le c xs fits,
+      total_left t flags es rest (omega (arith, length-drop c xs, is, t.more e es)),
+      t.more e (left_of flags es),
+    )
+total_left {count = count} t (false ∷ flags) (e ∷ es) xs is =
+    let c = count e in
+    ap length (left_of-goes c (flags_by count flags es) xs)
+    ∙ total_left t flags es (drop c xs) (omega (arith, length-drop c xs, is, t.more e es))
+
+-- they are no more than before
+pub left_within : {count : Entry → ℕ} {total : List Entry → ℕ} → IsTotal count total → (flags : List Bool) (es : List Entry)
+    → total (left_of flags es) ≤ total es
+left_within t [] es = omega arith
+left_within t (b ∷ flags) [] = omega arith
+left_within t (true ∷ flags) (e ∷ es) = omega (arith, left_within t flags es, t.more e es, t.more e (left_of flags es))
+left_within t (false ∷ flags) (e ∷ es) = omega (arith, left_within t flags es, t.more e es)
 
 pub length-part_flags : (flags : List Bool) (es : List Entry) → length (part_flags flags es) ≤ part_total es
 length-part_flags [] es = omega arith

@@ -14,12 +14,15 @@ use Rattle.nv_findex.specs.declared.page_run.PageRun.{PageRun}
 use Rattle.nv_findex.specs.Pages.{IsRun, IsRunFrom, IsRunOf, ref_at, run_ref}
 use Rattle.nv_log.specs.Chain.{place_of}
 use Rattle.nv_cell.specs.declared.read.Stretch.{Stretch}
+use Rattle.nv_cell.specs.declared.tally.Tally.{Tally}
 use Rattle.nv_cell.specs.Cell.{AreSlotsSized}
 use Rattle.nv_cell.specs.Index.{IndexValue, page_part, ref_of}
-use Rattle.nv_cell.specs.Numbers.{number, part_base}
-use Rattle.nv_cell.specs.Pages.{IsStretch, page_now, page_number, slot_bytes}
-use Rattle.nv_cell.specs.Tallies.{start_at}
+use Rattle.nv_cell.specs.Numbers.{number, number_at, part_base}
+use Rattle.nv_cell.specs.Pages.{IsStretch, page_now, slot_bytes}
+use Rattle.nv_cell.specs.Slots.{page_slot, slot, slot_base}
+use Rattle.nv_cell.specs.Tallies.{first_slot}
 use Rattle.nv_cell.proofs.Cells.{base_rises}
+use Rattle.nv_cell.proofs.FirstSlots.{slot_few}
 use Rattle.nv_cell.proofs.Numbers.{scan_key}
 use Rattle.nv_cell.proofs.Publishing.{IsScan, are_named, by_number}
 
@@ -39,23 +42,26 @@ full_page block slots numbers page sized = go (numbers page) where
 
 -- ---- the stretch of a run
 
--- the number of a page in a run, and that the log has so many parts
-pub page_found : (block : ℕ) (es : List Entry) (t : ℕ) (index : IndexValue) (ends : List ℕ) (run : PageRun) (page : ℕ)
-    → IsScan block es t index → ((i : ℕ) → i < t → start_at ends i ≡ part_base es i)
+-- the slot of a page in a run, and that the log has more parts
+pub page_found : (block : ℕ) (es : List Entry) (t : ℕ) (index : IndexValue) (tallies : List Tally) (run : PageRun) (page : ℕ)
+    → IsScan block es t index → ((i : ℕ) → i < t → first_slot tallies i ≡ slot_base es i)
     → IsRunOf (ref_at index.pages.pages) run → run.first ≤ page → page < run.end
-    → (page_number es index page
-    ≡ Some (start_at ends (unwrap_or (place_of es run.start.entry) 0) + 1 + run.start.place + (page - run.first)))
-    × (start_at ends (unwrap_or (place_of es run.start.entry) 0) + 1 + run.start.place + (page - run.first) < part_total (take t es))
-page_found block es t index ends run page scan bases is ge lt =
+    → (page_slot es index page
+    ≡ Some (first_slot tallies (unwrap_or (place_of es run.start.entry) 0) + run.start.place + (page - run.first)))
+    × (first_slot tallies (unwrap_or (place_of es run.start.entry) 0) + run.start.place + (page - run.first) < part_total (take t es))
+page_found block es t index tallies run page scan bases is ge lt =
     let place = unwrap_or (place_of es run.start.entry) 0 in
     let n = part_base es place + (run.start.place + (page - run.first) + 1) in
-    let q : page_number es index page ≡ Some n =
+    let q : number_at es index (PageKey page) ≡ Some n =
     ap (λ (o : Option PageRef). option_map (number es) (option_map page_part o)) (is.pages page ge lt) in
+    let k = slot_base es place + (run.start.place + (page - run.first) + 1 - 1) in
+    let s : page_slot es index page ≡ Some k =
+    ap (λ (o : Option PageRef). option_map (slot es) (option_map page_part o)) (is.pages page ge lt) in
     let low = (scan_key block (take t es) (PageKey page) n (sym (by_number block es t index scan (PageKey page)) ∙ q)).0 in
     elim (cases_lt place t) [
       | inl within ↦
-          let same : n ≡ start_at ends place + 1 + run.start.place + (page - run.first) = omega (arith, bases place within) in
-          (q ∙ ap Some same, omega (arith, low, same))
+          let same : k ≡ first_slot tallies place + run.start.place + (page - run.first) = omega (arith, bases place within) in
+          (s ∙ ap Some same, omega (arith, low, same, slot_few es place))
       | inr past ↦ absurd (omega (arith, low, base_rises es t place past))
     ]
 
@@ -67,29 +73,29 @@ run_known block es t index run scan is =
     ap (option_map page_part) (is.pages run.first (omega arith) is.some) in
     ((are_named block es t index scan).parts (PageKey run.first) (page_part (run_ref run run.first)) r).entry
 
-pub stretch_is : (block : ℕ) (es : List Entry) (t : ℕ) (index : IndexValue) (ends : List ℕ) (run : PageRun) (from page : ℕ)
-    → IsScan block es t index → ((i : ℕ) → i < t → start_at ends i ≡ part_base es i)
+pub stretch_is : (block : ℕ) (es : List Entry) (t : ℕ) (index : IndexValue) (tallies : List Tally) (run : PageRun) (from page : ℕ)
+    → IsScan block es t index → ((i : ℕ) → i < t → first_slot tallies i ≡ slot_base es i)
     → part_total (take t es) < 2 ^ 64 → IsRunFrom from (ref_at index.pages.pages) (Some run) → IsRun run → from ≡ min page FILE_PAGES
-    → IsStretch (page_number es index) page
-    (record { first = run.first; end = run.end; number = start_at ends (unwrap_or (place_of es run.start.entry) 0) + 1 + run.start.place })
-stretch_is block es t index ends run from page scan bases small is good at =
-    let last = page_found block es t index ends run (run.end - 1) scan bases is.0 (omega (arith, good.some)) (omega (arith, good.some)) in
+    → IsStretch (page_slot es index) page
+    (record { first = run.first; end = run.end; number = first_slot tallies (unwrap_or (place_of es run.start.entry) 0) + run.start.place })
+stretch_is block es t index tallies run from page scan bases small is good at =
+    let last = page_found block es t index tallies run (run.end - 1) scan bases is.0 (omega (arith, good.some)) (omega (arith, good.some)) in
     let same : from ≡ page = omega (arith, at, is.1, good.within) in
     record {
       ahead = omega (arith, same, is.1);
       small = omega (arith, last.1, good.some, small);
       absent =
-          λ p ge lt. ap (λ (o : Option PageRef). option_map (number es) (option_map page_part o)) (is.2 p (omega (arith, ge, same)) lt);
-      present = λ p ge lt. (page_found block es t index ends run p scan bases is.0 ge lt).0;
+          λ p ge lt. ap (λ (o : Option PageRef). option_map (slot es) (option_map page_part o)) (is.2 p (omega (arith, ge, same)) lt);
+      present = λ p ge lt. (page_found block es t index tallies run p scan bases is.0 ge lt).0;
     }
 
 pub no_stretch_is : (es : List Entry) (index : IndexValue) (from page : ℕ) → IsRunFrom from (ref_at index.pages.pages) None
     → from ≡ min page FILE_PAGES → page + 1 < 2 ^ 64
-    → IsStretch (page_number es index) page (record { first = 2 ^ 64 - 1; end = 2 ^ 64 - 1; number = 0 })
+    → IsStretch (page_slot es index) page (record { first = 2 ^ 64 - 1; end = 2 ^ 64 - 1; number = 0 })
 no_stretch_is es index from page is at small = record {
   ahead = omega (arith, small);
   small = omega arith;
-  absent = λ p ge lt. ap (λ (o : Option PageRef). option_map (number es) (option_map page_part o)) (is p (omega (arith, ge, at)));
+  absent = λ p ge lt. ap (λ (o : Option PageRef). option_map (slot es) (option_map page_part o)) (is p (omega (arith, ge, at)));
   present = λ p ge lt. absurd (omega (arith, ge, lt));
 }
 

@@ -6,7 +6,7 @@ use Rattle.nv_cell.specs.declared.mark.Mark.TheVariants.{Current, Out}
 use Rattle.nv_cell.specs.declared.tally.Tally.{Tally}
 use Rattle.nv_cell.specs.declared.tally.PageCounts.{PageCounts}
 use Rattle.nv_cell.specs.Marks.{is_current, is_there, bit, mark_at}
-use Rattle.nv_cell.specs.Tallies.{AreRuns, AreTallies, AreCounts, start_at, end_at, count_in, is_live, is_valid, moved, recounted, tally_at, no_tally, counts_at, no_counts, IsInRun}
+use Rattle.nv_cell.specs.Tallies.{AreRuns, AreTallies, AreCounts, start_at, end_at, count_in, is_live, is_valid, moved, recounted, tally_at, no_tally, counts_at, no_counts, first_slot, IsInRun}
 use Rattle.std.specs.Prelude.{count_by}
 use Rattle.std.proofs.lemmas.List.Sums.{sum_by-cons}
 use Rattle.std.proofs.lemmas.Bool.{eqb-true, cases_lt}
@@ -81,6 +81,48 @@ pick_there : (b : Bool) (t u : Tally) → (cond b t u).there ≡ cond b t.there 
 pick_there true t u = refl
 pick_there false t u = refl
 
+-- an entry's slots, and a run, begin where those before end
+pub next_slot : (tallies : List Tally) (i : ℕ) → first_slot tallies (suc i) ≡ (tally_at tallies i).slots
+next_slot tallies i =
+    let a : (suc i == 0) ≡ false = grind (arith, nat_tests) in
+    let b : suc i - 1 ≡ i = omega arith in
+    rw (a, b) refl
+
+next_start : (ends : List ℕ) (i : ℕ) → start_at ends (suc i) ≡ end_at ends i
+next_start ends i =
+    let a : (suc i == 0) ≡ false = grind (arith, nat_tests) in
+    let b : suc i - 1 ≡ i = omega arith in
+    rw (a, b) refl
+
+-- another tally with as many slots moves none
+same_slots : (tallies : List Tally) (i j : ℕ) (t : Tally) → i < length tallies → t.slots ≡ (tally_at tallies i).slots
+    → (tally_at (slice_set tallies i t) j).slots ≡ (tally_at tallies j).slots
+same_slots tallies i j t lt is = ap (λ (x : Tally). x.slots) (tally_set tallies i j t lt) ∙ go (i == j) refl where
+  go : (b : Bool) → (i == j) ≡ b → (cond (i == j) t (tally_at tallies j)).slots ≡ (tally_at tallies j).slots
+  go true q = let same : i ≡ j = eqb-true i j q in rw q (is ∙ ap (λ (k : ℕ). (tally_at tallies k).slots) same)
+  go false q = rw q refl
+
+same_first : (tallies : List Tally) (i j : ℕ) (t : Tally) → i < length tallies → t.slots ≡ (tally_at tallies i).slots
+    → first_slot (slice_set tallies i t) j ≡ first_slot tallies j
+same_first tallies i zero t lt is = refl
+same_first tallies i (suc j) t lt is =
+    next_slot (slice_set tallies i t) j ∙ same_slots tallies i j t lt is ∙ sym (next_slot tallies j)
+
+-- a run does not end before it starts
+start_end_rises : (ends : List ℕ) (len i : ℕ) → AreRuns ends len → i < length ends → start_at ends i ≤ end_at ends i
+start_end_rises ends len zero h lt = omega arith
+start_end_rises ends len (suc i) h lt = rw (next_start ends i) (h.rising i (suc i) (omega arith) lt)
+
+-- no more slots than parts lie in front of an entry
+pub few_slots : (tallies : List Tally) (ends : List ℕ) (marks : List Mark) → AreTallies tallies ends marks → (i : ℕ) → i ≤ length ends
+    → first_slot tallies i ≤ start_at ends i
+few_slots tallies ends marks h zero le = omega arith
+few_slots tallies ends marks h (suc i) le =
+    let lt : i < length ends = omega (arith, le) in
+    let before = few_slots tallies ends marks h i (omega (arith, lt)) in
+    rw (next_slot tallies i, next_start ends i)
+    (omega (arith, h.slots i lt, before, start_end_rises ends (length marks) i h.runs lt))
+
 pub new_tallies : (tallies : List Tally) (ends : List ℕ) (marks : List Mark) (i n : ℕ) (m : Mark) → AreTallies tallies ends marks
     → i < length ends → start_at ends i ≤ n → n < end_at ends i → n < length marks
     → AreTallies (slice_set tallies i (moved (tally_at tallies i) (mark_at marks n) m)) ends (slice_set marks n m)
@@ -115,6 +157,8 @@ new_tallies tallies ends marks i n m h li s e ln =
           ))
           (λ j. ap (λ (x : Tally). x.there) (tally_set tallies i j t lt) ∙ pick_there (i == j) t (tally_at tallies j)
           ∙ rw (bit_cond (is_there (mark_at marks n)), bit_cond (is_there m)) refl);
+      slots = λ j lj. same_slots tallies i j t lt refl ∙ h.slots j lj
+          ∙ ap (λ (k : ℕ). k + (end_at ends j - start_at ends j - 1)) (sym (same_first tallies i j t lt refl));
     }
 
 pub same_mark : (marks : List Mark) (n : ℕ) → n < length marks → slice_index_or marks n Current ≡ mark_at marks n
@@ -305,29 +349,56 @@ each_new test f tallies t ends marks count len whole h =
     ap (λ (i : ℕ). f (tally_at (tallies ++ t ∷ []) i)) (sym len) ∙ ap f (tally_new tallies t) ∙ h
     ∙ rw (start_old ends (length marks + count) (length ends) (omega arith), whole, end_new ends (length marks + count)) (sym n)
 
-pub add_tallies : (tallies : List Tally) (ends : List ℕ) (marks : List Mark) (count : ℕ) → AreTallies tallies ends marks
-    → AreTallies (tallies ++ (record { current = count; there = count }) ∷ []) (ends ++ (length marks + count) ∷ [])
-    (marks ++ replicate count Current)
-add_tallies tallies ends marks count h = record {
+first_old : (tallies : List Tally) (t : Tally) (j : ℕ) → j ≤ length tallies → first_slot (tallies ++ t ∷ []) j ≡ first_slot tallies j
+first_old tallies t zero h = refl
+first_old tallies t (suc j) h =
+    next_slot (tallies ++ t ∷ []) j ∙ ap (λ (x : Tally). x.slots) (tally_old tallies t j (omega (arith, h))) ∙ sym (next_slot tallies j)
+
+-- the slots of old entries, and the new one's
+slots_old : (tallies : List Tally) (t : Tally) (ends : List ℕ) (x j : ℕ) → length tallies ≡ length ends → j < length ends
+    → (tally_at tallies j).slots ≡ first_slot tallies j + (end_at ends j - start_at ends j - 1)
+    → (tally_at (tallies ++ t ∷ []) j).slots
+    ≡ first_slot (tallies ++ t ∷ []) j + (end_at (ends ++ x ∷ []) j - start_at (ends ++ x ∷ []) j - 1)
+slots_old tallies t ends x j len lt h =
+    ap (λ (y : Tally). y.slots) (tally_old tallies t j (omega (arith, len, lt))) ∙ h
+    ∙ rw (first_old tallies t j (omega (arith, len, lt)), start_old ends x j (omega (arith, lt)), end_old ends x j lt) refl
+
+slots_new : (tallies : List Tally) (t : Tally) (ends : List ℕ) (len count : ℕ) → length tallies ≡ length ends
+    → start_at ends (length ends) ≡ len → t.slots ≡ first_slot tallies (length tallies) + (count - 1)
+    → (tally_at (tallies ++ t ∷ []) (length ends)).slots
+    ≡ first_slot (tallies ++ t ∷ []) (length ends)
+    + (end_at (ends ++ (len + count) ∷ []) (length ends) - start_at (ends ++ (len + count) ∷ []) (length ends) - 1)
+slots_new tallies t ends len count same whole is =
+    let own : (tally_at (tallies ++ t ∷ []) (length ends)).slots ≡ t.slots =
+    ap (λ (i : ℕ). (tally_at (tallies ++ t ∷ []) i).slots) (sym same) ∙ ap (λ (x : Tally). x.slots) (tally_new tallies t) in
+    let first : first_slot (tallies ++ t ∷ []) (length ends) ≡ first_slot tallies (length tallies) =
+    ap (λ (i : ℕ). first_slot (tallies ++ t ∷ []) i) (sym same) ∙ first_old tallies t (length tallies) (omega arith) in
+    let start = start_old ends (len + count) (length ends) (omega arith) in
+    omega (arith, own, is, first, start, whole, end_new ends (len + count))
+
+pub add_tallies : (tallies : List Tally) (t : Tally) (ends : List ℕ) (marks : List Mark) (count : ℕ) → AreTallies tallies ends marks
+    → t.current ≡ count → t.there ≡ count → t.slots ≡ first_slot tallies (length tallies) + (count - 1)
+    → AreTallies (tallies ++ t ∷ []) (ends ++ (length marks + count) ∷ []) (marks ++ replicate count Current)
+add_tallies tallies t ends marks count h current_is there_is slots_is = record {
   runs = rw size (add_runs ends (length marks) count h.runs h.within);
   within = λ j lj. within j lj;
   whole = rw more (start_end ends (length marks + count)) ∙ sym size;
-  len = omega (arith, length-append tallies ((record { current = count; there = count }) ∷ []), more, h.len);
+  len = omega (arith, length-append tallies (t ∷ []), more, h.len);
   current = λ j lj. elim (cases_lt j (length ends)) [
-    | inl l ↦ each_old is_current (λ t. t.current) tallies (record { current = count; there = count }) ends marks (replicate count Current)
-        (length marks + count) j h.len l (h.within j l) (h.current j l)
-    | inr g ↦ let same : j ≡ length ends =
-        omega (arith, lj, more, g) in rw same
-        (each_new is_current (λ t. t.current) tallies (record { current = count; there = count }) ends marks count h.len h.whole
-        (sym (count_all is_current Current count refl)))
+    | inl l ↦ each_old is_current (λ t. t.current) tallies t ends marks (replicate count Current) (length marks + count) j h.len l
+        (h.within j l) (h.current j l)
+    | inr g ↦ rw (at_end j lj g) (each_new is_current (λ t. t.current) tallies t ends marks count h.len h.whole
+        (current_is ∙ sym (count_all is_current Current count refl)))
   ];
   there = λ j lj. elim (cases_lt j (length ends)) [
-    | inl l ↦ each_old is_there (λ t. t.there) tallies (record { current = count; there = count }) ends marks (replicate count Current)
-        (length marks + count) j h.len l (h.within j l) (h.there j l)
-    | inr g ↦ let same : j ≡ length ends =
-        omega (arith, lj, more, g) in rw same
-        (each_new is_there (λ t. t.there) tallies (record { current = count; there = count }) ends marks count h.len h.whole
-        (sym (count_all is_there Current count refl)))
+    | inl l ↦ each_old is_there (λ t. t.there) tallies t ends marks (replicate count Current) (length marks + count) j h.len l
+        (h.within j l) (h.there j l)
+    | inr g ↦ rw (at_end j lj g) (each_new is_there (λ t. t.there) tallies t ends marks count h.len h.whole
+        (there_is ∙ sym (count_all is_there Current count refl)))
+  ];
+  slots = λ j lj. elim (cases_lt j (length ends)) [
+    | inl l ↦ slots_old tallies t ends (length marks + count) j h.len l (h.slots j l)
+    | inr g ↦ rw (at_end j lj g) (slots_new tallies t ends (length marks) count h.len h.whole slots_is)
   ];
 } where
   size : length (marks ++ replicate count Current) ≡ length marks + count
@@ -336,11 +407,14 @@ add_tallies tallies ends marks count h = record {
   more : length (ends ++ (length marks + count) ∷ []) ≡ length ends + 1
   more = length-append ends ((length marks + count) ∷ [])
 
+  at_end : (j : ℕ) → j < length (ends ++ (length marks + count) ∷ []) → length ends ≤ j → j ≡ length ends
+  at_end j lj g = omega (arith, lj, more, g)
+
   within : (j : ℕ) → j < length (ends ++ (length marks + count) ∷ [])
       → end_at (ends ++ (length marks + count) ∷ []) j ≤ length (marks ++ replicate count Current)
   within j lj = elim (cases_lt j (length ends)) [
     | inl l ↦ omega (arith, end_old ends (length marks + count) j l, h.within j l, size)
-    | inr g ↦ let same : j ≡ length ends = omega (arith, lj, more, g) in rw same (omega (arith, end_new ends (length marks + count), size))
+    | inr g ↦ rw (at_end j lj g) (omega (arith, end_new ends (length marks + count), size))
   ]
 
 pub add_counts : (tallies : List Tally) (ends : List ℕ) (pages : List PageCounts) (k : ℕ) (t : Tally) (c : PageCounts)

@@ -8,6 +8,7 @@ use Rattle.nv_cell.specs.Cell.{CellState, CellValue, HasBlocks, HasMarks, log_of
 use Rattle.nv_cell.specs.Index.{bindings_of}
 use Rattle.nv_cell.specs.Numbers.{part_base}
 use Rattle.nv_cell.specs.Reading.{IsIndexOf}
+use Rattle.nv_cell.specs.Slots.{by_part, slot_total}
 use Rattle.nv_cell.specs.Tallies.{AreTallied, HasSpare, end_at}
 
 abbrev pub state_in : Inside → CellState
@@ -17,7 +18,7 @@ state_in c = record {
   version = c.version;
   chain = c.chain.state;
   marks = c.marks.marks.items;
-  blocks = c.blocks.items;
+  blocks = by_part c.chain.state.entries c.blocks.items;
 }
 
 abbrev pub value_in : Inside → CellValue
@@ -47,7 +48,8 @@ pub record AreFields (c : Inside) : Type 0 where
   pub tallied : AreTallied c.marks c.chain.state.ends
   pub spare : HasSpare c.marks (part_total c.chain.state.entries - length c.marks.marks.items + c.parts)
       (length c.chain.state.entries - c.chain.state.tail + c.entries)
-  pub blocks_room : part_total c.chain.state.entries + c.parts ≤ vec_capacity c.blocks
+  pub slots : length c.blocks.items ≡ slot_total c.chain.state.entries
+  pub blocks_room : slot_total c.chain.state.entries + c.parts ≤ vec_capacity c.blocks
   pub pages_room : length c.chain.state.blocks + c.chain.spare ≤ vec_capacity c.marks.pages
   pub no_numbers : c.numbers.items ≡ []
   pub no_killed : c.killed.items ≡ []

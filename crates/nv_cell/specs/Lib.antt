@@ -9,6 +9,7 @@ pub mod Numbers
 pub mod Marks
 pub mod Tallies
 pub mod Pages
+pub mod Slots
 pub mod Readers
 pub mod Reading
 pub mod Weights

@@ -53,6 +53,12 @@ pub record IsPart (es : List Entry) (r : PartRef) : Type 0 where
   pub entry : IsSome (place_of es r.entry)
   pub within : number es r < part_total es
 
+-- a part stands in the entry that it comes with
+pub record StandsIn (es : List Entry) (p : NumberedPart) : Type 0 where
+  pub within : p.entry < length es
+  pub start : part_base es p.entry ≤ p.number
+  pub end : p.number < part_base es (p.entry + 1)
+
 -- the index names parts of the log, at their keys
 pub record AreNamed (es : List Entry) (index : IndexValue) : Type 0 where
   pub parts : (key : Key) (r : PartRef) → ref_of index key ≡ Some r → IsPart es r

@@ -3,14 +3,12 @@ use Rattle.std.specs.Prelude.{◌≡◌, ℕ, ◌+◌, ◌-◌, ◌*◌, ◌<◌
 use Rattle.std.specs.List.{flat_map, range_with_len}
 use Rattle.nv_alloc.specs.Block.{BlockValue}
 use Rattle.nv_entry.specs.Bytes.{read_at}
-use Rattle.nv_entry.specs.declared.item.Entry.{Entry}
 use Rattle.nv_entry.specs.Keys.{PageKey, pages_for}
 use Rattle.nv_entry.specs.Node.{size_now}
 use Rattle.nv_entry.specs.Refs.{scan_ref}
 use Rattle.nv_cell.specs.declared.read.Stretch.{Stretch}
 use Rattle.nv_cell.specs.Cell.{CellState, log_of}
-use Rattle.nv_cell.specs.Index.{IndexValue}
-use Rattle.nv_cell.specs.Numbers.{number, number_at}
+use Rattle.nv_cell.specs.Numbers.{number}
 
 -- these are the bytes of each block that the cell has
 abbrev pub AreBytesOf : CellState → (ℕ → List ℕ) → Type 0
@@ -21,20 +19,16 @@ abbrev pub slot_bytes : ℕ → Option BlockValue → List ℕ
 slot_bytes block None = replicate block 0
 slot_bytes block (Some b) = b.bytes
 
--- the number of the part that holds a page
-abbrev pub page_number : List Entry → IndexValue → ℕ → Option ℕ
-page_number es index page = number_at es index (PageKey page)
-
 -- the block of the part that holds a page now
 abbrev pub block_at_page : CellState → ℕ → Option BlockValue
 block_at_page cell page =
     option_and_then (λ r. slice_index_or cell.blocks (number cell.chain.entries r) None) (scan_ref cell.block (log_of cell) (PageKey page))
 
--- the block of the part that holds a page, by the numbers of the parts
+-- the block in the slot of a page, by the numbers of the slots
 abbrev pub block_of : List (Option BlockValue) → (ℕ → Option ℕ) → ℕ → Option BlockValue
 block_of slots numbers page = option_and_then (λ n. slice_index_or slots n None) (numbers page)
 
--- the bytes of a page of a file by its part's block
+-- the bytes of a page of a file by its slot
 abbrev pub page_now : ℕ → List (Option BlockValue) → (ℕ → Option ℕ) → ℕ → List ℕ
 page_now block slots numbers page = slot_bytes block (block_of slots numbers page)
 

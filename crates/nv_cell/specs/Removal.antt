@@ -11,6 +11,7 @@ use Rattle.nv_cell.specs.declared.stays.Stays.TheVariants.{Entries, Pages}
 use Rattle.nv_cell.specs.Cell.{CellState, log_of}
 use Rattle.nv_cell.specs.Readers.{is_gone}
 use Rattle.nv_cell.specs.Reading.{stat_now}
+use Rattle.nv_cell.specs.Slots.{slot_count}
 
 -- a flag for each item of a list, by those of the runs that end at these places
 abbrev pub run_flags : ℕ → List Bool → List ℕ → List Bool
@@ -18,11 +19,18 @@ run_flags start [] ends = []
 run_flags start (stays ∷ flags) [] = []
 run_flags start (stays ∷ flags) (end ∷ ends) = replicate (end - start) stays ++ run_flags end flags ends
 
--- a flag for each part of a log, by those of its entries
+-- a flag for each of so many items of each entry of a log, by those of the entries
+abbrev pub flags_by : (Entry → ℕ) → List Bool → List Entry → List Bool
+flags_by count [] log = []
+flags_by count (stays ∷ flags) [] = []
+flags_by count (stays ∷ flags) (e ∷ log) = replicate (count e) stays ++ flags_by count flags log
+
+-- a flag for each part of a log, and for each slot
 abbrev pub part_flags : List Bool → List Entry → List Bool
-part_flags [] log = []
-part_flags (stays ∷ flags) [] = []
-part_flags (stays ∷ flags) (e ∷ log) = replicate (part_count e) stays ++ part_flags flags log
+part_flags flags log = flags_by part_count flags log
+
+abbrev pub slot_flags : List Bool → List Entry → List Bool
+slot_flags flags log = flags_by slot_count flags log
 
 -- a flag for each entry of the log, by those of the pages
 abbrev pub log_flags : List Bool → ChainState → List Bool

@@ -120,13 +120,13 @@ fn push_empty(slots: &mut Vec<Option<Block>>, count: u32)
     }
 }
 
-/// Puts the block of each part of an item on a list.
+/// Puts the block of each part of an item but the first on a list.
 fn push_slots(slots: &mut Vec<Option<Block>>, item: &Item, queue: &mut BlockQueue)
-    requires room { vec_len slots.old + length (parts_of item.now) ≤ vec_capacity slots.old }
+    requires room { vec_len slots.old + (length (parts_of item.now) - 1) ≤ vec_capacity slots.old }
     requires within { IsWithinFile item.now }
     requires there { length (item_blocks item.now) ≤ length queue.old.blocks }
     ensures slots { slots.new.items
-        ≡ slots.old.items ++ slots_of item.now (blocks_for item.now queue.old.blocks) }
+        ≡ slots.old.items ++ drop 1 (slots_of item.now (blocks_for item.now queue.old.blocks)) }
     ensures capacity { vec_capacity slots.new ≡ vec_capacity slots.old }
     ensures queue { queue.new ≡ record queue.old {
       blocks = drop (length (item_blocks item.now)) queue.old.blocks;
@@ -134,10 +134,9 @@ fn push_slots(slots: &mut Vec<Option<Block>>, item: &Item, queue: &mut BlockQueu
     } }
 {
     if let Item::Write { run, .. } = item {
-        slots.push_reserved(None);
         push_blocks(slots, run.len, queue);
     } else {
-        push_empty(slots, item.part_count());
+        push_empty(slots, item.part_count().saturating_sub(1));
     }
 }
 

@@ -1,12 +1,13 @@
 //! The inode cell.
 
-ghost use Rattle.std.specs.Prelude.{◌≡◌, ◌+◌, ◌<◌, ◌≤◌, ◌^◌, ◌⊎◌, [], None, Some, slice_index_or, length, map, vec_len};
+ghost use Rattle.std.specs.Prelude.{◌≡◌, ◌+◌, ◌<◌, ◌≤◌, ◌^◌, ◌⊎◌, [], IfSome, None, Some, option_and_then, slice_index_or, length, map, vec_capacity, vec_len};
 ghost use Rattle.std.specs.List.{sum_by};
 ghost use Rattle.nv_base.specs.declared.limits.TheConstants.{LEAST_PAGE_ENTRIES, PAGE_ENTRIES};
 ghost use Rattle.nv_cell.specs.Cell.{IsCell, IsReady, KeepsAppendRoom, empty_cell, fresh_of, killed_of, log_of, mark_named, no_room, number_in, published, with_mark, without_part};
 ghost use Rattle.nv_cell.specs.Effects.{BindNone, items_of};
 ghost use Rattle.nv_cell.specs.Killed.{AreKilled};
 ghost use Rattle.nv_cell.specs.Numbers.{killed_part};
+ghost use Rattle.nv_cell.specs.Slots.{emptied};
 ghost use Rattle.nv_cell.specs.Weights.{runs_of, weights_in};
 
 use crate::number::find_part;
@@ -33,7 +34,8 @@ pub struct InodeCell {
     pub(crate) chain: Chain,
     pub(crate) index: CellIndex,
     pub(crate) marks: Marks,
-    // The block of each page part that is not out, by part number; also of parts that are not yet published.
+    // The block of each page part that is not out, by slot; also of parts that are not yet published. Each part of an entry
+    // has a slot but the first, which is no page.
     pub(crate) blocks: Vec<Option<Block>>,
     // For how many more entries, and parts of entries, there is room.
     pub(crate) entries: usize,
@@ -173,8 +175,20 @@ impl InodeCell {
         ensures room { self.new.room ≡ self.old.room }
     {
         let found = find_part(&self.chain, &self.marks, part).unwrap();
+        let slot = self.marks.slot(found);
         self.marks.set(self.chain.ends(), found, Mark::Out);
-        let slot = &mut self.blocks[found.number];
-        slot.take()
+        take_block(&mut self.blocks, slot)
     }
+}
+
+/// Takes the block out of a slot, if there is one.
+fn take_block(slots: &mut Vec<Option<Block>>, slot: Option<usize>) -> Option<Block>
+    requires { IfSome slot (λ k. k < length slots.old.items) }
+    ensures block { result
+        ≡ option_and_then (λ k. slice_index_or slots.old.items k None) slot }
+    ensures slots { slots.new.items ≡ emptied slots.old.items slot }
+    ensures capacity { vec_capacity slots.new ≡ vec_capacity slots.old }
+{
+    let place = &mut slots[slot?];
+    place.take()
 }

@@ -1,85 +1,96 @@
-//! Marks and blocks of parts close up where entries go.
+//! Marks of parts and slots of blocks close up where entries go.
 
-ghost use Rattle.std.specs.Prelude.{◌≡◌, ℕ, ◌+◌, ◌<◌, ◌≤◌, ◌++◌, [], None, false, if◌then◌else◌, drop, length, take};
+ghost use Rattle.std.specs.Prelude.{◌≡◌, ℕ, ◌+◌, ◌-◌, ◌<◌, ◌≤◌, ◌++◌, [], None, false, if◌then◌else◌, drop, length, take};
 ghost use Rattle.std.specs.List.{AllByRecursion};
 ghost use Rattle.std.specs.VecDeque.{deque_capacity};
 ghost use Rattle.nv_entry.specs.Covered.{part_total};
 ghost use Rattle.nv_log.specs.Chain.{gone_of, left_of, log};
-ghost use Rattle.nv_cell.specs.Removal.{AreFlags, flags_of, part_flags};
+ghost use Rattle.nv_cell.specs.Removal.{AreFlags, flags_of, part_flags, slot_flags};
+ghost use Rattle.nv_cell.specs.Slots.{slot_total};
 
 use crate::{Mark, Stays};
 use nv_alloc::Block;
 use nv_log::Chain;
 use std::collections::VecDeque;
 
-/// Lets the next parts go, which have no block.
-fn let_go(marks: &mut VecDeque<Mark>, blocks: &mut VecDeque<Option<Block>>, count: usize)
-    requires marks_there { count ≤ length marks.old.items }
-    requires blocks_there { count ≤ length blocks.old.items }
-    requires none { AllByRecursion (λ block. block ≡ None) (take count blocks.old.items) }
+/// Lets the marks of the next parts go.
+fn drop_marks(marks: &mut VecDeque<Mark>, count: usize)
+    requires { count ≤ length marks.old.items }
     ensures marks { marks.new.items ≡ drop count marks.old.items }
-    ensures blocks { blocks.new.items ≡ drop count blocks.old.items }
-    ensures marks_room { deque_capacity marks.new ≡ deque_capacity marks.old }
-    ensures blocks_room { deque_capacity blocks.new ≡ deque_capacity blocks.old }
+    ensures room { deque_capacity marks.new ≡ deque_capacity marks.old }
 {
     for _gone in 0..count {
         marks.pop_front();
-        match blocks.pop_front() {
+    }
+}
+
+/// Lets the next slots go, which have no block.
+fn drop_slots(slots: &mut VecDeque<Option<Block>>, count: usize)
+    requires there { count ≤ length slots.old.items }
+    requires none { AllByRecursion (λ block. block ≡ None) (take count slots.old.items) }
+    ensures slots { slots.new.items ≡ drop count slots.old.items }
+    ensures room { deque_capacity slots.new ≡ deque_capacity slots.old }
+{
+    for _gone in 0..count {
+        match slots.pop_front() {
             Some(None) | None => {}
             Some(Some(_block)) => unreachable!(),
         }
     }
 }
 
-/// Passes the next parts: those that stay go to the back.
-fn pass(marks: &mut VecDeque<Mark>, blocks: &mut VecDeque<Option<Block>>, count: usize, stays: bool)
+/// Passes the parts of the next entry, which has so many, with their slots: those that stay go to the back.
+fn pass(marks: &mut VecDeque<Mark>, slots: &mut VecDeque<Option<Block>>, count: usize, stays: bool)
     requires marks_there { count ≤ length marks.old.items }
-    requires blocks_there { count ≤ length blocks.old.items }
+    requires slots_there { count - 1 ≤ length slots.old.items }
     requires none { stays ≡ false
-        → AllByRecursion (λ block. block ≡ None) (take count blocks.old.items) }
+        → AllByRecursion (λ block. block ≡ None) (take (count - 1) slots.old.items) }
     ensures marks { marks.new.items ≡ drop count marks.old.items
         ++ (if stays then take count marks.old.items else []) }
-    ensures blocks { blocks.new.items ≡ drop count blocks.old.items
-        ++ (if stays then take count blocks.old.items else []) }
+    ensures slots { slots.new.items ≡ drop (count - 1) slots.old.items
+        ++ (if stays then take (count - 1) slots.old.items else []) }
     ensures marks_room { deque_capacity marks.new ≡ deque_capacity marks.old }
-    ensures blocks_room { deque_capacity blocks.new ≡ deque_capacity blocks.old }
+    ensures slots_room { deque_capacity slots.new ≡ deque_capacity slots.old }
 {
+    let slot_count = count.saturating_sub(1);
     if stays {
         marks.rotate_left(count);
-        blocks.rotate_left(count);
+        slots.rotate_left(slot_count);
     } else {
-        let_go(marks, blocks, count);
+        drop_marks(marks, count);
+        drop_slots(slots, slot_count);
     }
 }
 
-/// Leaves the parts of the entries that stay.
+/// Leaves the parts of the entries that stay, and their slots.
 pub fn pass_parts(
     marks: &mut VecDeque<Mark>,
-    blocks: &mut VecDeque<Option<Block>>,
+    slots: &mut VecDeque<Option<Block>>,
     chain: &Chain,
     stays: Stays<'_>,
 )
     requires flags { AreFlags stays chain.now.state }
     requires marks_there { length marks.old.items ≡ part_total (log chain.now.state) }
-    requires blocks_there { length marks.old.items ≤ length blocks.old.items }
+    requires slots_there { slot_total (log chain.now.state) ≤ length slots.old.items }
     requires none { AllByRecursion (λ block. block ≡ None)
-        (gone_of (part_flags (flags_of stays chain.now.state) (log chain.now.state))
-        blocks.old.items) }
+        (gone_of (slot_flags (flags_of stays chain.now.state) (log chain.now.state))
+        slots.old.items) }
     ensures marks { marks.new.items
         ≡ left_of (part_flags (flags_of stays.entry chain.now.state) (log chain.now.state))
         marks.old.items }
-    ensures blocks { blocks.new.items
-        ≡ left_of (part_flags (flags_of stays.entry chain.now.state) (log chain.now.state))
-        blocks.old.items }
+    ensures slots { slots.new.items
+        ≡ left_of (slot_flags (flags_of stays.entry chain.now.state) (log chain.now.state))
+        slots.old.items }
     ensures marks_room { deque_capacity marks.new ≡ deque_capacity marks.old }
-    ensures blocks_room { deque_capacity blocks.new ≡ deque_capacity blocks.old }
+    ensures slots_room { deque_capacity slots.new ≡ deque_capacity slots.old }
 {
     // The chain is one, so that its tail is no further than its entries.
     let _ends = chain.ends();
-    let fresh = blocks.len() - marks.len();
+    let mut fresh = slots.len();
     for i in 0..chain.tail() {
         let count = chain.entry_at(i).item.part_count() as usize;
-        pass(marks, blocks, count, stays.at(chain, i));
+        fresh -= count.saturating_sub(1);
+        pass(marks, slots, count, stays.at(chain, i));
     }
-    blocks.rotate_left(fresh);
+    slots.rotate_left(fresh);
 }

@@ -1,12 +1,12 @@
 //! The marks of a log's parts by number, with what follows from them by entry and by page.
 
-ghost use Rattle.std.specs.Prelude.{◌≡◌, ℕ, ◌+◌, ◌-◌, ◌<◌, ◌≤◌, ◌^◌, ◌++◌, ◌∷◌, [], Bool, true, false, if◌then◌else◌, IfErr, IsOk, OnOk, length, replicate, slice_get, slice_index, slice_index_or, slice_set, vec_capacity, vec_len};
+ghost use Rattle.std.specs.Prelude.{◌≡◌, ℕ, ◌+◌, ◌-◌, ◌<◌, ◌≤◌, ◌^◌, ◌++◌, ◌∷◌, [], Bool, None, Some, true, false, if◌then◌else◌, nat_lt, IfErr, IsOk, OnOk, length, replicate, slice_get, slice_index, slice_index_or, slice_set, vec_capacity, vec_len};
 ghost use Rattle.nv_base.specs.declared.fault.Fault.TheVariants.{OutOfMemory};
 ghost use Rattle.nv_base.specs.Refusals.{FailsOnly};
 ghost use Rattle.nv_cell.specs.Room.{HaveGrown};
 ghost use Rattle.nv_cell.specs.Numbers.{numbers_in};
 ghost use Rattle.nv_cell.specs.Marks.{bit, is_current, is_there, mark_at};
-ghost use Rattle.nv_cell.specs.Tallies.{AreCounts, AreRuns, AreTallied, HasSpare, IsInRun, SameCapacity, end_at, is_in, is_valid, moved, start_at, tally_at, counts_at};
+ghost use Rattle.nv_cell.specs.Tallies.{AreCounts, AreRuns, AreTallied, HasSpare, IsInRun, SameCapacity, end_at, first_slot, is_in, is_valid, moved, start_at, tally_at, counts_at};
 ghost use Rattle.nv_cell.specs.declared.mark.Mark.TheVariants as mark;
 
 use crate::grow::{LEAST_ENTRIES, LEAST_PARTS, grow};
@@ -14,9 +14,9 @@ use crate::{Mark, NumberedPart, PageCounts, Tally};
 use nv_base::Fault;
 use std::alloc::Global;
 
-/// The mark of each published part by its number, where the parts of each entry end among them, and how many of each
-/// entry's parts are current or not out, and how many entries of each page have such a part. Pages are those of the
-/// chain: where they end is told by it.
+/// The mark of each published part by its number, where the parts of each entry end among them, how many of each
+/// entry's parts are current or not out, where its slots end, and how many entries of each page have such a part. Pages
+/// are those of the chain: where they end is told by it.
 #[derive(Debug, Drop)]
 pub struct Marks {
     pub(crate) marks: Vec<Mark>,
@@ -98,6 +98,34 @@ impl Marks {
         start_of(&self.ends, entry)
     }
 
+    /// Where the slots of an entry begin, by the entry's place in the log.
+    pub fn first_slot(&self, entry: usize) -> usize
+        ensures { result ≡ first_slot self.now.tallies.items entry }
+    {
+        if entry == 0 {
+            return 0;
+        }
+        match self.tallies.get(entry - 1) {
+            Some(tally) => tally.slots,
+            None => 0,
+        }
+    }
+
+    /// The slot of a part, in the entry that it comes with. The first part of an entry has none: it is no page.
+    pub fn slot(&self, part: NumberedPart) -> Option<usize>
+        requires few { first_slot self.now.tallies.items part.entry
+            ≤ start_at self.now.ends.items part.entry }
+        ensures { result ≡ (if nat_lt (start_at self.now.ends.items part.entry) part.number
+            then Some (first_slot self.now.tallies.items part.entry
+            + (part.number - start_at self.now.ends.items part.entry - 1)) else None) }
+    {
+        let first = self.first(part.entry);
+        if part.number <= first {
+            return None;
+        }
+        Some(self.first_slot(part.entry) + (part.number - first - 1))
+    }
+
     /// The mark of a part, if there are so many parts.
     pub fn get(&self, n: usize) -> Option<Mark>
         ensures { result ≡ slice_get self.now.marks.items n }
@@ -156,6 +184,7 @@ impl Marks {
         let tally = Tally {
             current: parts,
             there: parts,
+            slots: self.first_slot(self.tallies.len()) + parts.saturating_sub(1),
         };
         let k = page_of(page_ends, self.tallies.len());
         self.pages[k] = self.pages[k].with_entry(tally);

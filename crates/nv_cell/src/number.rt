@@ -1,12 +1,12 @@
 //! The parts of a log by number.
 
-ghost use Rattle.std.specs.Prelude.{◌≡◌, ℕ, ◌+◌, ◌-◌, ◌<◌, ◌≤◌, ◌^◌, Some, None, if◌then◌else◌};
+ghost use Rattle.std.specs.Prelude.{◌≡◌, ℕ, ◌+◌, ◌-◌, ◌<◌, ◌≤◌, ◌^◌, IfSome, Some, None, if◌then◌else◌};
 ghost use Rattle.std.specs.Option.{option_map};
 ghost use Rattle.nv_entry.specs.Covered.{part_total};
 ghost use Rattle.nv_entry.specs.Keys.{in_run};
 ghost use Rattle.nv_log.specs.Chain.{log};
 ghost use Rattle.nv_cell.specs.Named.{number_named, place_of};
-ghost use Rattle.nv_cell.specs.Numbers.{part_base};
+ghost use Rattle.nv_cell.specs.Numbers.{StandsIn, part_base};
 ghost use Rattle.nv_cell.specs.Tallies.{start_at};
 
 use crate::Marks;
@@ -69,7 +69,9 @@ pub fn find_part(chain: &Chain, marks: &Marks, id: PartId) -> Option<NumberedPar
     requires ends { (i : ℕ) → i < chain.now.state.tail
         → start_at marks.now.ends.items i ≡ part_base chain.now.state.entries i }
     requires small { part_total (log chain.now.state) < 2 ^ 64 }
-    ensures { option_map (λ p. p.number) result ≡ number_named (log chain.now.state) id }
+    ensures number { option_map (λ p. p.number) result ≡ number_named (log chain.now.state) id }
+    ensures entry { IfSome result (λ p. p.entry < chain.now.state.tail) }
+    ensures stands { IfSome result (StandsIn chain.now.state.entries) }
 {
     let Some(i) = chain.place_of(id.entry) else {
         return None;

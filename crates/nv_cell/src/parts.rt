@@ -6,6 +6,7 @@ ghost use Rattle.nv_cell.specs.Cell.{block_named, log_of};
 ghost use Rattle.nv_cell.specs.Readers.{has_killed, marks_by_entry};
 
 use crate::number::find_part;
+use crate::read::block_at;
 use crate::{InodeCell, Mark};
 use nv_alloc::Block;
 use nv_entry::PartId;
@@ -30,7 +31,7 @@ impl InodeCell {
         ensures { option_copied result ≡ block_named self.now.state part }
     {
         let found = find_part(&self.chain, &self.marks, part)?;
-        self.blocks.get(found.number)?.as_ref()
+        block_at(&self.blocks, self.marks.slot(found))
     }
 
     /// Whether a part is killed: neither retired nor released since the publish that killed it. The time is linear in

@@ -10,10 +10,10 @@ ghost use Rattle.nv_entry.specs.Covered.{part_total};
 ghost use Rattle.nv_entry.specs.Node.{block_now, file_bytes};
 ghost use Rattle.nv_log.specs.Chain.{log, place_of};
 ghost use Rattle.nv_cell.specs.Cell.{AreSlotsSized, log_of};
-ghost use Rattle.nv_cell.specs.Numbers.{part_base};
-ghost use Rattle.nv_cell.specs.Pages.{AreBytesOf, AreReadTo, IsStretch, block_at_page, block_of, own_bytes, page_number, pages_now, slot_bytes};
+ghost use Rattle.nv_cell.specs.Pages.{AreBytesOf, AreReadTo, IsStretch, block_at_page, block_of, own_bytes, pages_now, slot_bytes};
 ghost use Rattle.nv_cell.specs.Reading.{IsIndexOf};
-ghost use Rattle.nv_cell.specs.Tallies.{start_at};
+ghost use Rattle.nv_cell.specs.Slots.{page_slot, slot_base};
+ghost use Rattle.nv_cell.specs.Tallies.{first_slot};
 ghost use Rattle.nv_cell.specs.declared.read.TheConstants.{GROUP};
 
 use crate::reading::size_of;
@@ -29,7 +29,7 @@ use std::ops::Range;
 /// How many pages a read looks up before it copies their bytes.
 const GROUP: usize = 16;
 
-/// Pages that follow one another and lie so in one entry, with the number of the first one's part. No page from one
+/// Pages that follow one another and lie so in one entry, with the number of the first one's slot. No page from one
 /// that was asked for up to the first of these is present.
 #[derive(Clone, Copy, Debug, PartialEq, Eq)]
 pub struct Stretch {
@@ -104,14 +104,14 @@ fn read_pages(
     requires empty { bytes.old.items ≡ [] }
     requires block { 0 < block }
     requires index { IsIndexOf block (log chain.now.state) index.now }
-    requires ends { (i : ℕ) → i < chain.now.state.tail
-        → start_at marks.now.ends.items i ≡ part_base chain.now.state.entries i }
+    requires slots { (i : ℕ) → i < chain.now.state.tail
+        → first_slot marks.now.tallies.items i ≡ slot_base chain.now.state.entries i }
     requires small { part_total (log chain.now.state) < 2 ^ 64 }
     requires sized { AreSlotsSized block slots.now }
     requires order { places.start ≤ places.end }
     ensures { (count : ℕ) → places.end ≤ count * block → OnOk result (bytes.new.items
         ≡ read_at places.start (places.end - places.start)
-        (pages_now block slots.now (page_number chain.now.state.entries index.now) count)) }
+        (pages_now block slots.now (page_slot chain.now.state.entries index.now) count)) }
 {
     let last = places.end.div_ceil(block);
     let mut page = places.start / block;
@@ -129,8 +129,8 @@ fn read_pages(
     Ok(())
 }
 
-/// Puts the numbers of the parts that hold some pages in front of a list; none for a page that is absent. The first page's
-/// run is looked for at a place among the runs first, which becomes the place behind the last one's.
+/// Puts the numbers of some pages' slots in front of a list; none for a page that is absent. The first page's run is
+/// looked for at a place among the runs first, which becomes the place behind the last one's.
 fn find_numbers(
     block: u64,
     index: &CellIndex,
@@ -144,11 +144,11 @@ fn find_numbers(
     requires page { pages.now.end < 2 ^ 64 }
     requires few { pages.now.end ≤ pages.now.start + GROUP }
     requires index { IsIndexOf block (log chain.now.state) index.now }
-    requires ends { (i : ℕ) → i < chain.now.state.tail
-        → start_at marks.now.ends.items i ≡ part_base chain.now.state.entries i }
+    requires slots { (i : ℕ) → i < chain.now.state.tail
+        → first_slot marks.now.tallies.items i ≡ slot_base chain.now.state.entries i }
     requires small { part_total (log chain.now.state) < 2 ^ 64 }
     ensures { (k : ℕ) → pages.now.start + k < pages.now.end → slice_index_or numbers.new k None
-        ≡ page_number chain.now.state.entries index.now (pages.now.start + k) }
+        ≡ page_slot chain.now.state.entries index.now (pages.now.start + k) }
 {
     let mut stretch = no_stretch();
     for page in pages.start..pages.end {
@@ -159,7 +159,7 @@ fn find_numbers(
     }
 }
 
-/// The number of the part that holds a page, by the stretch that has the page or comes behind it.
+/// The number of a page's slot, by the stretch that has the page or comes behind it.
 fn number_in(stretch: Stretch, page: u64) -> Option<usize>
     requires small { stretch.number + (stretch.end - stretch.first) < 2 ^ 64 }
     requires ahead { page < stretch.end }
@@ -171,7 +171,7 @@ fn number_in(stretch: Stretch, page: u64) -> Option<usize>
     Some(stretch.number + (page - stretch.first) as usize)
 }
 
-/// Puts the blocks of the parts of the first so many numbers in front of a list. Nothing else is done between one look and
+/// Puts the blocks of the slots of the first so many numbers in front of a list. Nothing else is done between one look and
 /// the next, so that all of them come from memory at one time.
 fn find_blocks<'a>(
     slots: &'a [Option<Block>],
@@ -188,8 +188,8 @@ fn find_blocks<'a>(
     }
 }
 
-/// The block of the part of a number, if there is one.
-fn block_at(slots: &[Option<Block>], number: Option<usize>) -> Option<&Block>
+/// The block of the slot of a number, if there is one.
+pub fn block_at(slots: &[Option<Block>], number: Option<usize>) -> Option<&Block>
     ensures { option_copied result ≡ option_and_then (λ n. slice_index_or slots.now n None) number }
 {
     slots.get(number?)?.as_ref()
@@ -246,10 +246,10 @@ fn stretch_from(
     requires block { 0 < block }
     requires page { page + 1 < 2 ^ 64 }
     requires index { IsIndexOf block (log chain.now.state) index.now }
-    requires ends { (i : ℕ) → i < chain.now.state.tail
-        → start_at marks.now.ends.items i ≡ part_base chain.now.state.entries i }
+    requires slots { (i : ℕ) → i < chain.now.state.tail
+        → first_slot marks.now.tallies.items i ≡ slot_base chain.now.state.entries i }
     requires small { part_total (log chain.now.state) < 2 ^ 64 }
-    ensures { IsStretch (page_number chain.now.state.entries index.now) page result }
+    ensures { IsStretch (page_slot chain.now.state.entries index.now) page result }
 {
     // Ids rise along all entries, so that the one of an id stands in the log.
     let _ends = chain.ends();
@@ -272,25 +272,25 @@ fn no_stretch() -> Stretch
     }
 }
 
-/// A run of pages, with the number of the part of its first one.
+/// A run of pages, with the number of the slot of its first one.
 fn stretch_of(chain: &Chain, marks: &Marks, run: &PageRun) -> Stretch
     requires known { IsSome (place_of chain.now.state.entries run.now.start.entry) }
-    requires small { start_at marks.now.ends.items
+    requires small { first_slot marks.now.tallies.items
         (unwrap_or (place_of chain.now.state.entries run.now.start.entry) 0)
-        + run.now.start.place + 1 < 2 ^ 64 }
+        + run.now.start.place < 2 ^ 64 }
     ensures { result ≡ record {
       first = run.now.first;
       end = run.now.end;
-      number = start_at marks.now.ends.items
+      number = first_slot marks.now.tallies.items
           (unwrap_or (place_of chain.now.state.entries run.now.start.entry) 0)
-          + 1 + run.now.start.place;
+          + run.now.start.place;
     } }
 {
     let place = chain.place_of(run.start.entry).unwrap();
     Stretch {
         first: u64::from(run.first),
         end: u64::from(run.end),
-        number: marks.first(place) + 1 + run.start.place as usize,
+        number: marks.first_slot(place) + run.start.place as usize,
     }
 }
 

@@ -61,7 +61,6 @@ impl InodeCell {
     }
 
     /// The names with their handles, in the order of the log. `OutOfMemory` where room for them was refused.
-    #[tactic(auto, using(crate::proofs::NamesNow::listed_is))]
     pub fn list(&self) -> Result<NameList, Fault>
         ensures names { IfOk result (λ names. names ≡ names_of (log_of self.now.state)) }
         ensures err { IfErr result (λ fault. fault ≡ OutOfMemory) }

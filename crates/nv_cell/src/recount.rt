@@ -11,25 +11,35 @@ ghost use Rattle.nv_cell.specs.Tallies.{AreCounts, AreRuns, AreTallied, AreTalli
 use crate::{Mark, Marks, PageCounts, Tally};
 use nv_log::Chain;
 
-/// How many marks are current, and how many are not out.
-fn tally_of(marks: &[Mark]) -> Tally
+/// How many marks are current, and how many are not out, of an entry whose slots end there.
+fn tally_of(marks: &[Mark], slots: usize) -> Tally
     ensures current { result.current ≡ count_by is_current marks.now }
     ensures there { result.there ≡ count_by is_there marks.now }
+    ensures slots { result.slots ≡ slots }
 {
     Tally {
         current: marks.iter().filter(|mark| mark.is_current()).count(),
-        there: marks.iter().filter(|mark| mark.is_there()).count(),
+        there: there_in(marks),
+        slots,
     }
 }
 
-/// The tally of the marks of a run.
-fn tally_in(marks: &[Mark], start: usize, end: usize) -> Tally
+/// How many marks are not out.
+fn there_in(marks: &[Mark]) -> usize
+    ensures { result ≡ count_by is_there marks.now }
+{
+    marks.iter().filter(|mark| mark.is_there()).count()
+}
+
+/// The tally of the marks of a run, of an entry whose slots end there.
+fn tally_in(marks: &[Mark], start: usize, end: usize, slots: usize) -> Tally
     requires onward { start ≤ end }
     requires within { end ≤ length marks.now }
     ensures current { result.current ≡ count_in is_current marks.now start end }
     ensures there { result.there ≡ count_in is_there marks.now start end }
+    ensures slots { result.slots ≡ slots }
 {
-    tally_of(&marks[start..end])
+    tally_of(&marks[start..end], slots)
 }
 
 /// How many entries with these tallies are live, and how many are valid.
@@ -43,7 +53,7 @@ fn counts_of(tallies: &[Tally]) -> PageCounts
     }
 }
 
-/// Tells where the parts of each entry of the log end, and what each entry has, by the marks.
+/// Tells where the parts and slots of each entry of the log end, and what each entry has, by the marks.
 fn retally(ends: &mut Vec<usize>, tallies: &mut Vec<Tally>, marks: &[Mark], chain: &Chain)
     requires marks { length marks.now ≡ part_total (log chain.now.state) }
     requires ends_room { chain.now.state.tail ≤ vec_capacity ends.old }
@@ -58,10 +68,12 @@ fn retally(ends: &mut Vec<usize>, tallies: &mut Vec<Tally>, marks: &[Mark], chai
     ends.clear();
     tallies.clear();
     let mut start = 0;
+    let mut slots = 0;
     for t in 0..chain.tail() {
         let count = chain.entry_at(t).item.part_count() as usize;
         let end = start + count;
-        let tally = tally_in(marks, start, end);
+        slots += count.saturating_sub(1);
+        let tally = tally_in(marks, start, end, slots);
         tallies.push_reserved(tally);
         ends.push_reserved(end);
         start = end;
@@ -101,6 +113,6 @@ impl Marks {
     {
         retally(&mut self.ends, &mut self.tallies, &self.marks, chain);
         recount_pages(&mut self.pages, chain.ends(), &self.tallies);
-        self.there = tally_of(&self.marks).there;
+        self.there = there_in(&self.marks);
     }
 }

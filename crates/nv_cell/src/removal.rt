@@ -10,7 +10,8 @@ ghost use Rattle.nv_entry.specs.Covered.{part_total};
 ghost use Rattle.nv_entry.specs.Leaving.{KeepsTheRest};
 ghost use Rattle.nv_log.specs.Chain.{compacted, gone_of, left_of, log, with_pages_left};
 ghost use Rattle.nv_cell.specs.Cell.{log_of};
-ghost use Rattle.nv_cell.specs.Removal.{AreFlags, ArePublished, KeepsTheLast, MayGo, flags_of, left_in, log_flags, part_flags};
+ghost use Rattle.nv_cell.specs.Removal.{AreFlags, ArePublished, KeepsTheLast, MayGo, flags_of, left_in, log_flags, part_flags, slot_flags};
+ghost use Rattle.nv_cell.specs.Slots.{slot_total};
 
 use crate::closing::pass_parts;
 use crate::{InodeCell, Mark, Stays};
@@ -38,33 +39,33 @@ fn put_back<T>(items: &mut Vec<T>, queue: VecDeque<T>)
     mem::replace(items, queue.into_vec()).destroy_empty();
 }
 
-/// Leaves the marks and blocks of the entries that stay.
+/// Leaves the marks and slots of the entries that stay.
 fn close_parts(
     marks: &mut Vec<Mark>,
-    blocks: &mut Vec<Option<Block>>,
+    slots: &mut Vec<Option<Block>>,
     chain: &Chain,
     stays: Stays<'_>,
 )
     requires flags { AreFlags stays chain.now.state }
     requires marks_there { length marks.old.items ≡ part_total (log chain.now.state) }
-    requires blocks_there { length marks.old.items ≤ length blocks.old.items }
+    requires slots_there { slot_total (log chain.now.state) ≤ length slots.old.items }
     requires none { AllByRecursion (λ block. block ≡ None)
-        (gone_of (part_flags (flags_of stays chain.now.state) (log chain.now.state))
-        blocks.old.items) }
+        (gone_of (slot_flags (flags_of stays chain.now.state) (log chain.now.state))
+        slots.old.items) }
     ensures marks { marks.new.items
         ≡ left_of (part_flags (flags_of stays.entry chain.now.state) (log chain.now.state))
         marks.old.items }
-    ensures blocks { blocks.new.items
-        ≡ left_of (part_flags (flags_of stays.entry chain.now.state) (log chain.now.state))
-        blocks.old.items }
+    ensures slots { slots.new.items
+        ≡ left_of (slot_flags (flags_of stays.entry chain.now.state) (log chain.now.state))
+        slots.old.items }
     ensures marks_room { vec_capacity marks.new ≡ vec_capacity marks.old }
-    ensures blocks_room { vec_capacity blocks.new ≡ vec_capacity blocks.old }
+    ensures slots_room { vec_capacity slots.new ≡ vec_capacity slots.old }
 {
     let mut mark_queue = queue_of(marks);
-    let mut block_queue = queue_of(blocks);
-    pass_parts(&mut mark_queue, &mut block_queue, chain, stays);
+    let mut slot_queue = queue_of(slots);
+    pass_parts(&mut mark_queue, &mut slot_queue, chain, stays);
     put_back(marks, mark_queue);
-    put_back(blocks, block_queue);
+    put_back(slots, slot_queue);
 }
 
 impl InodeCell {

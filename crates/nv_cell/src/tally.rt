@@ -6,11 +6,12 @@ ghost use Rattle.nv_cell.specs.Tallies.{is_live, is_valid, moved, recounted, wit
 
 use crate::Mark;
 
-/// How many parts of an entry are current, and how many are not out.
+/// How many parts of an entry are current, how many are not out, and where its slots end among those of all entries.
 #[derive(Clone, Copy, Debug, PartialEq, Eq)]
 pub struct Tally {
     pub current: usize,
     pub there: usize,
+    pub slots: usize,
 }
 
 /// How many entries of a page have a current part, and how many have one that is current, killed or kept.
@@ -48,6 +49,7 @@ impl Tally {
             } else {
                 self.there - 1
             },
+            slots: self.slots,
         }
     }
 }

@@ -1,24 +1,19 @@
-use Rattle.std.proofs.Common.{◌≡◌, drop}
-use Rattle.std.specs.List.{AllByRecursion}
+use Rattle.std.proofs.Common.{◌≡◌, ◌-◌, length}
 use Rattle.std.specs.Prelude.{None}
 use Rattle.std.specs.VecDeque.{deque_capacity}
-use Rattle.nv_log.specs.Chain.{gone_of, log}
-use Rattle.nv_cell.specs.Numbers.{part_base}
-use Rattle.nv_cell.specs.Removal.{flags_of, part_flags}
-use Rattle.nv_cell.proofs.RunFlags.{IsPassing}
+use Rattle.nv_entry.specs.Covered.{part_count, part_total}
+use Rattle.nv_log.specs.Chain.{log}
+use Rattle.nv_cell.specs.Removal.{flags_of}
+use Rattle.nv_cell.specs.Slots.{slot_base, slot_count, slot_total}
+use Rattle.nv_cell.proofs.RunFlags.{AllGone, IsPassed}
 use Rattle.nv_cell.proofs.closing.pass_parts.Given as goal
 
 abbrev pub invariant-loop-i : goal.invariant-loop-i
 invariant-loop-i l = record {
-  marks : IsPassing l.fn.marks.items l.marks.items (part_flags (flags_of l.stays l.chain.state) (log l.chain.state))
-      (part_base (log l.chain.state) l.i)
-      (part_flags (drop l.i (flags_of l.stays l.chain.state)) (drop l.i (log l.chain.state)));
-  blocks : IsPassing l.fn.blocks.items l.blocks.items (part_flags (flags_of l.stays l.chain.state) (log l.chain.state))
-      (part_base (log l.chain.state) l.i)
-      (part_flags (drop l.i (flags_of l.stays l.chain.state)) (drop l.i (log l.chain.state)));
-  none : AllByRecursion (λ b. b ≡ None)
-      (gone_of (part_flags (drop l.i (flags_of l.stays l.chain.state)) (drop l.i (log l.chain.state)))
-      (drop (part_base (log l.chain.state) l.i) l.fn.blocks.items));
+  marks : IsPassed part_count part_total l.fn.marks.items l.marks.items (flags_of l.stays l.chain.state) (log l.chain.state) l.i;
+  slots : IsPassed slot_count slot_total l.fn.slots.items l.slots.items (flags_of l.stays l.chain.state) (log l.chain.state) l.i;
+  none : AllGone (λ b. b ≡ None) slot_count slot_total l.fn.slots.items (flags_of l.stays l.chain.state) (log l.chain.state) l.i;
+  fresh : l.fresh ≡ length l.fn.slots.items - slot_base (log l.chain.state) l.i;
   marks_room : deque_capacity l.marks ≡ deque_capacity l.fn.marks;
-  blocks_room : deque_capacity l.blocks ≡ deque_capacity l.fn.blocks;
+  slots_room : deque_capacity l.slots ≡ deque_capacity l.fn.slots;
 }

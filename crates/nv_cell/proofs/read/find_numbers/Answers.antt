@@ -2,14 +2,15 @@ use Rattle.std.proofs.Common.{◌≡◌, ℕ, ◌+◌, ◌-◌, ◌∙◌, None,
 use Rattle.std.proofs.lemmas.Bool.{cases_lt}
 use Rattle.std.proofs.lemmas.Grind.{get_or-set_at}
 use Rattle.std.proofs.lemmas.List.{get_or-set_other, length-set}
-use Rattle.nv_cell.specs.Pages.{IsStretch, page_number}
+use Rattle.nv_cell.specs.Pages.{IsStretch}
+use Rattle.nv_cell.specs.Slots.{page_slot}
 use Rattle.nv_cell.proofs.Stretches.{stretch_on}
 use Rattle.nv_cell.proofs.read.find_numbers.Goals as goal
 use Rattle.nv_cell.proofs.read.find_numbers.Goals.{then-page-pages, else-page-pages+else-stretch-page}
 
 pub loop-page-preserved : goal.loop-page-preserved
 loop-page-preserved c =
-    let numbers : ℕ → Option ℕ = page_number c.args.chain.now.state.entries c.args.index.now in
+    let numbers : ℕ → Option ℕ = page_slot c.args.chain.now.state.entries c.args.index.now in
     let page = c.loop-page.page in
     let start = c.args.pages.now.start in
     let is : IsStretch numbers page c.if-page-pages.stretch = elim c.if-page-pages.branch [

@@ -25,8 +25,8 @@ stretch_of-requires-clause-small c =
     record { log = c.ends-ends.ensures.chain.rising; scan = c.requires.index } in
     let run : IsRunFrom c.min-from.result (ref_at index.pages.pages) (Some run') =
     subst (λ (v : IndexValue). IsRunFrom c.min-from.result (ref_at v.pages.pages) (Some run')) c.index.view_is c.in-Some.ensures.run in
-    let found = page_found c.args.block chain.entries chain.tail index c.args.marks.now.ends.items
-    run' run'.first scan c.requires.ends run.0 (omega arith) run.0.some in
+    let found = page_found c.args.block chain.entries chain.tail index c.args.marks.now.tallies.items
+    run' run'.first scan c.requires.slots run.0 (omega arith) run.0.some in
     omega (arith, found.1, c.requires.small)
 
 pub returns-in-Some : goal.returns-in-Some
@@ -39,6 +39,6 @@ returns-in-Some c =
     let run : IsRunFrom c.min-from.result (ref_at index.pages.pages) (Some run') =
     subst (λ (v : IndexValue). IsRunFrom c.min-from.result (ref_at v.pages.pages) (Some run')) c.index.view_is c.in-Some.ensures.run in
     rw c.stretch_of.ensures
-    (stretch_is c.args.block chain.entries chain.tail index c.args.marks.now.ends.items
-    run' c.min-from.result c.args.page scan c.requires.ends c.requires.small
+    (stretch_is c.args.block chain.entries chain.tail index c.args.marks.now.tallies.items
+    run' c.min-from.result c.args.page scan c.requires.slots c.requires.small
     run c.in-Some.ensures.within (omega (arith, c.min-from.ensures, c.from.ensures)))

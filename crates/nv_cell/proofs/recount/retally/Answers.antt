@@ -3,8 +3,10 @@ use Rattle.std.proofs.lemmas.Option.{get_or_from_slice_get, slice_get_within}
 use Rattle.std.proofs.lemmas.List.{length_push}
 use Rattle.nv_cell.specs.Marks.{is_current, is_there}
 use Rattle.nv_cell.specs.Numbers.{part_base}
+use Rattle.nv_cell.specs.Slots.{slot_base}
 use Rattle.nv_cell.specs.Tallies.{count_in, no_tally}
 use Rattle.nv_cell.proofs.Cells.{base_next, base_rises, end_step}
+use Rattle.nv_cell.proofs.FirstSlots.{slot_few, slot_next}
 use Rattle.nv_cell.proofs.Recounting.{tallied_by, one_more}
 use Rattle.nv_cell.proofs.recount.retally.Goals as goal
 
@@ -24,6 +26,25 @@ overflow_add-end c =
       all,
       c.part_count-count.ensures,
       c.loop-t.invariant.started,
+    )
+
+pub overflow_add-slots : goal.overflow_add-slots
+overflow_add-slots c =
+    let es = c.args.chain.now.state.entries in
+    let t = c.loop-t.t in
+    let e = c.entry_at.result.now in
+    let lt : t < length es = slice_get_within es t e c.entry_at.ensures in
+    let is : e ≡ slice_index_or es t e = sym (get_or_from_slice_get es t e e c.entry_at.ensures) in
+    let tail = c.args.chain.now.state.tail in
+    let all : length c.args.marks.now ≡ part_base es tail = c.requires.marks in
+    omega (
+      arith,
+      slot_next es t e lt is,
+      slot_few es (t + 1),
+      base_rises es (t + 1) tail (omega (arith, c.loop-t-test.true, c.tail-t-end.ensures.value)),
+      all,
+      c.part_count-count.ensures,
+      c.loop-t.invariant.slotted,
     )
 
 pub tally_in-tally-requires-clause-within : goal.tally_in-tally-requires-clause-within
@@ -62,8 +83,13 @@ loop-t-preserved c =
     ∙ ap (λ s. count_in is_current marks s end) inv.started ∙ ap (λ k. count_in is_current marks (part_base es t) k) to in
     let there : tally.there ≡ want_there t = c.tally_in-tally.ensures.there ∙ ap (λ s. count_in is_there marks s end) inv.started
     ∙ ap (λ k. count_in is_there marks (part_base es t) k) to in
+    let want_slots : ℕ → ℕ = λ i. slot_base es (i + 1) in
+    let next : c.loop-t.slots + c.saturating_sub-slots.result ≡ slot_base es (t + 1) =
+    omega (arith, slot_next es t e lt is, c.part_count-count.ensures, c.saturating_sub-slots.ensures, inv.slotted) in
+    let slots : tally.slots ≡ want_slots t = c.tally_in-tally.ensures.slots ∙ next in
     record {
       started = to;
+      slotted = next;
       ends_len = ap length c.push_reserved-in-loop-t.ensures.items ∙ length_push c.loop-t.ends.items end ∙ ap (λ n. n + 1) inv.ends_len;
       tallies_len = ap length c.push_reserved.ensures.items ∙ length_push c.loop-t.tallies.items tally ∙ ap (λ n. n + 1) inv.tallies_len;
       ended = λ i li. rw c.push_reserved-in-loop-t.ensures.items
@@ -72,6 +98,8 @@ loop-t-preserved c =
           (one_more (λ x. x.current) no_tally c.loop-t.tallies.items tally want_current t inv.tallies_len inv.current current i li);
       there = λ i li. rw c.push_reserved.ensures.items
           (one_more (λ x. x.there) no_tally c.loop-t.tallies.items tally want_there t inv.tallies_len inv.there there i li);
+      slots = λ i li. rw c.push_reserved.ensures.items
+          (one_more (λ x. x.slots) no_tally c.loop-t.tallies.items tally want_slots t inv.tallies_len inv.slots slots i li);
       ends_capacity = c.push_reserved-in-loop-t.ensures.capacity ∙ inv.ends_capacity;
       tallies_capacity = c.push_reserved.ensures.capacity ∙ inv.tallies_capacity;
     }
@@ -85,4 +113,4 @@ returns-clause-tallies c =
     tallied_by c.loop-t.tallies.items c.loop-t.ends.items c.args.marks.now es tail (inv.ends_len ∙ done)
     (inv.tallies_len ∙ done) c.requires.marks
     (λ i lt. inv.ended i (omega (arith, lt, done))) (λ i lt. inv.current i (omega (arith, lt, done)))
-    (λ i lt. inv.there i (omega (arith, lt, done)))
+    (λ i lt. inv.there i (omega (arith, lt, done))) (λ i lt. inv.slots i (omega (arith, lt, done)))

@@ -22,6 +22,7 @@ invariant_of-self c =
       ends = inv.ends;
       tallied = inv.tallied;
       spare = inv.spare;
+      slots = inv.slots;
       blocks_room = inv.blocks_room;
       pages_room =
           omega (arith, inv.pages_room, length-append c.self.inside.chain.state.blocks (c.args.block ∷ []), c.add_page.ensures.spare);

@@ -18,7 +18,15 @@ use Rattle.nv_cell.proofs.Numbers.{total_append}
 use Rattle.nv_cell.proofs.Opening.{counts_for, counts_grow}
 use Rattle.nv_cell.proofs.Publishing.{total_take}
 use Rattle.nv_cell.proofs.ReadySteps.{others_ready}
+use Rattle.nv_cell.proofs.Slots.{slot_total-append, slots_append}
 use Rattle.nv_cell.proofs.cell.InodeCell.append.Goals as goal
+
+pub push_slots-requires-clause-room : goal.push_slots-requires-clause-room
+push_slots-requires-clause-room c =
+    let inv = c.self.invariant in
+    let parts : part_count c.args.entry ≤ c.self.inside.parts =
+    subst (λ (v : CellValue). part_count c.args.entry ≤ v.room.parts) (sym c.self.view_is) c.requires.next.parts in
+    omega (arith, inv.slots, inv.blocks_room, parts)
 
 pub invariant_of-self : goal.invariant_of-self
 invariant_of-self c =
@@ -41,6 +49,8 @@ invariant_of-self c =
     let few : length s.marks ≤ part_total es = omega (arith, inv.marks.len, total_take es s.chain.tail) in
     let blocks : HasBlocks (appended e bs s) = blocks_append s e bs inv.blocks few c.requires.next.within c.requires.blocks sized in
     let after : CellState = appended e bs s in
+    let spread = slots_append es c.self.inside.blocks.items c.push_slots.new.slots.items e bs inv.slots c.requires.next.within
+    c.requires.blocks c.push_slots.ensures.slots in
     let log : take s.chain.tail (es ++ e ∷ []) ≡ take s.chain.tail es = log_stays s.chain.tail es e within in
     let total : part_total (es ++ e ∷ []) ≡ part_total es + part_count e = omega (arith, total_append es (e ∷ [])) in
     let more : length (es ++ e ∷ []) ≡ length es + 1 = length-append es (e ∷ []) in
@@ -59,7 +69,7 @@ invariant_of-self c =
         current = λ n lt. inv.marks.current n (rw log at lt) ∙ ap (λ (xs : List Entry). not (is_covered s.block xs n)) (sym log);
       };
       blocks =
-          subst (λ (slots : List (Option BlockValue)). HasBlocks (record after { blocks = slots })) (sym c.push_slots.ensures.slots) blocks;
+          subst (λ (bs : List (Option BlockValue)). HasBlocks (record after { blocks = bs })) (sym spread.0) blocks;
       refs = λ key. inv.refs key ∙ ap (λ (xs : List Entry). scan_ref s.block xs key) (sym log);
       names =
           subst (λ (xs : List Entry). HaveSameBindings (bindings_of xs) c.self.inside.index.names.names) (sym log) inv.names;
@@ -71,7 +81,8 @@ invariant_of-self c =
         ends = omega (arith, inv.spare.ends, more, within, entries);
         tallies = omega (arith, inv.spare.tallies, more, within, entries);
       };
-      blocks_room = omega (arith, inv.blocks_room, total, parts, c.part_count-parts.ensures, c.push_slots.ensures.capacity);
+      slots = spread.1;
+      blocks_room = omega (arith, inv.blocks_room, slot_total-append es (e ∷ []), parts, c.part_count-parts.ensures, c.push_slots.ensures.capacity);
       pages_room = omega (arith, inv.pages_room, c.append.ensures.spare, c.count_pages.ensures.capacity);
       no_numbers = inv.no_numbers;
       no_killed = inv.no_killed;
@@ -83,7 +94,17 @@ returns-clause-ready c later h =
     let e : Entry = c.args.entry in
     let bs = blocks_for e.item c.args.queue.now.blocks in
     let page : 0 < room_of i.chain.state = subst (λ (v : CellValue). 0 < room_of v.state.chain) (sym c.self.view_is) c.requires.next.page in
+    let spread = slots_append i.chain.state.entries i.blocks.items c.push_slots.new.slots.items e bs c.self.invariant.slots
+    c.requires.next.within c.requires.blocks c.push_slots.ensures.slots in
     others_ready e bs later (value_in i) _ c.ends-ends.ensures.chain page
-    (rw (c.append.ensures.state, c.push_slots.ensures.slots) refl)
+    (rw (c.append.ensures.state, spread.0) refl)
     (rw (c.append.ensures.spare, c.part_count-parts.ensures) refl)
     (subst (λ (v : CellValue). IsReadyFor (e.item ∷ later) v) (sym c.self.view_is) h)
+
+pub returns-clause-state : goal.returns-clause-state
+returns-clause-state c =
+    let i = c.self.inside in
+    let e : Entry = c.args.entry in
+    let spread = slots_append i.chain.state.entries i.blocks.items c.push_slots.new.slots.items e (blocks_for e.item c.args.queue.now.blocks)
+    c.self.invariant.slots c.requires.next.within c.requires.blocks c.push_slots.ensures.slots in
+    rw (← c.self.view_is, c.append.ensures.state, spread.0) refl

@@ -10,14 +10,14 @@ use Rattle.nv_cell.specs.Cell.{log_of}
 use Rattle.nv_cell.specs.Fields.{state_in}
 use Rattle.nv_cell.specs.Removal.{MayGo}
 use Rattle.nv_cell.proofs.Publishing.{total_take}
-use Rattle.nv_cell.proofs.Removing.{blocks_left, compact_left, fewer, fresh_within, last_stays, marks_count, marks_left, may_leave, names_left, none_gone, packed_within, refs_left}
+use Rattle.nv_cell.proofs.Removing.{blocks_left, compact_left, fewer, fresh_within, last_stays, left_by_part, marks_count, marks_left, may_leave, names_left, no_slot_gone, none_gone, packed_within, refs_left}
+use Rattle.nv_cell.proofs.RunFlags.{base_within, slot_totals}
 use Rattle.nv_cell.proofs.cell.InodeCell.compact.Goals as goal
 
-pub close_parts-requires-clause-blocks_there : goal.close_parts-requires-clause-blocks_there
-close_parts-requires-clause-blocks_there c =
+pub close_parts-requires-clause-slots_there : goal.close_parts-requires-clause-slots_there
+close_parts-requires-clause-slots_there c =
     let s = state_in c.self.inside in
-    let inv = c.self.invariant in
-    omega (arith, inv.marks.len, inv.blocks.len, total_take s.chain.entries s.chain.tail)
+    omega (arith, c.self.invariant.slots, base_within slot_totals s.chain.entries s.chain.tail)
 
 pub close_parts-requires-clause-none : goal.close_parts-requires-clause-none
 close_parts-requires-clause-none c =
@@ -26,7 +26,8 @@ close_parts-requires-clause-none c =
     let stays = c.args.stays.now in
     let may = subst (λ v. MayGo stays v.state) (sym c.self.view_is) c.requires.may in
     let len : length stays ≡ s.chain.tail = c.requires.flags ∙ sym (ap (λ v. v.state.chain.tail) c.self.view_is) in
-    none_gone (compact_left stays c.args.pages.items s.chain len c.ends-ends.ensures.chain.within) inv.marks inv.blocks may
+    let left = compact_left stays c.args.pages.items s.chain len c.ends-ends.ensures.chain.within in
+    no_slot_gone left c.self.inside.blocks.items inv.slots (none_gone left inv.marks inv.blocks may)
 
 pub recount-requires-clause-marks : goal.recount-requires-clause-marks
 recount-requires-clause-marks c =
@@ -45,7 +46,7 @@ recount-requires-clause-ends_room c =
     let stays = c.args.stays.now in
     let len : length stays ≡ s.chain.tail = c.requires.flags ∙ sym (ap (λ v. v.state.chain.tail) c.self.view_is) in
     let left = compact_left stays c.args.pages.items s.chain len c.ends-ends.ensures.chain.within in
-    let few = fewer left inv.blocks in
+    let few = fewer left in
     rw c.compact-old.ensures.state (omega (arith, few.tail, left.flags_len, len, inv.spare.ends, inv.ends_len))
 
 pub recount-requires-clause-tallies_room : goal.recount-requires-clause-tallies_room
@@ -55,7 +56,7 @@ recount-requires-clause-tallies_room c =
     let stays = c.args.stays.now in
     let len : length stays ≡ s.chain.tail = c.requires.flags ∙ sym (ap (λ v. v.state.chain.tail) c.self.view_is) in
     let left = compact_left stays c.args.pages.items s.chain len c.ends-ends.ensures.chain.within in
-    let few = fewer left inv.blocks in
+    let few = fewer left in
     rw c.compact-old.ensures.state (omega (arith, few.tail, left.flags_len, len, inv.spare.tallies, inv.tallied.tallies.len, inv.ends_len))
 
 pub recount-requires-clause-pages_room : goal.recount-requires-clause-pages_room
@@ -73,8 +74,9 @@ invariant_of-self c =
     let may = subst (λ v. MayGo stays v.state) (sym c.self.view_is) c.requires.may in
     let len : length stays ≡ s.chain.tail = c.requires.flags ∙ sym (ap (λ v. v.state.chain.tail) c.self.view_is) in
     let left = compact_left stays c.args.pages.items s.chain len c.ends-ends.ensures.chain.within in
-    let few = fewer left inv.blocks in
+    let few = fewer left in
     let blocks = blocks_left left inv.marks inv.blocks may in
+    let slots = left_by_part left c.self.inside.blocks.items inv.slots c.close_parts.new.slots.items c.close_parts.ensures.slots in
     let chain = compacted stays c.args.pages.items s.chain in
     let r = c.recount.ensures.room in
     let count : length c.recount.new.self.marks.items ≡ part_total (log chain) =
@@ -92,7 +94,7 @@ invariant_of-self c =
       pages = rw c.compact-old.ensures.state (subst (λ v. AreSized v.state.block c.args.pages.items) (sym c.self.view_is) c.requires.sized);
       marks = rw (c.compact-old.ensures.state, c.recount.ensures.marks, c.close_parts.ensures.marks)
           (let h = marks_left left inv.marks inv.blocks may in record { len = h.len; current = h.current });
-      blocks = rw (c.compact-old.ensures.state, c.recount.ensures.marks, c.close_parts.ensures.marks, c.close_parts.ensures.blocks)
+      blocks = rw (c.compact-old.ensures.state, c.recount.ensures.marks, c.close_parts.ensures.marks, slots.0)
           (record { len = blocks.len; numbers = blocks.numbers; sized = blocks.sized });
       refs = λ key. rw c.compact-old.ensures.state (inv.refs key ∙ sym (refs_left left inv.marks inv.blocks may key));
       names = rw c.compact-old.ensures.state
@@ -127,7 +129,8 @@ invariant_of-self c =
           r.tallies,
         );
       });
-      blocks_room = rw c.compact-old.ensures.state (omega (arith, few.parts, inv.blocks_room, c.close_parts.ensures.blocks_room));
+      slots = rw c.compact-old.ensures.state slots.1;
+      blocks_room = rw c.compact-old.ensures.state (omega (arith, few.slots, inv.blocks_room, c.close_parts.ensures.slots_room));
       pages_room = rw (c.compact-old.ensures.state, c.compact-old.ensures.spare)
           (omega (arith, inv.pages_room, r.pages, size, c.ends-ends.ensures.chain.paged));
       no_numbers = inv.no_numbers;
@@ -136,13 +139,13 @@ invariant_of-self c =
 
 pub returns-clause-state : goal.returns-clause-state
 returns-clause-state c =
-    rw (
-      ← c.self.view_is,
-      c.compact-old.ensures.state,
-      c.recount.ensures.marks,
-      c.close_parts.ensures.marks,
-      c.close_parts.ensures.blocks,
-    ) refl
+    let s = state_in c.self.inside in
+    let stays = c.args.stays.now in
+    let len : length stays ≡ s.chain.tail = c.requires.flags ∙ sym (ap (λ v. v.state.chain.tail) c.self.view_is) in
+    let left = compact_left stays c.args.pages.items s.chain len c.ends-ends.ensures.chain.within in
+    let slots = left_by_part left c.self.inside.blocks.items c.self.invariant.slots c.close_parts.new.slots.items
+    c.close_parts.ensures.slots in
+    rw (← c.self.view_is, c.compact-old.ensures.state, c.recount.ensures.marks, c.close_parts.ensures.marks, slots.0) refl
 
 pub returns-clause-room : goal.returns-clause-room
 returns-clause-room c = rw (← c.self.view_is, c.compact-old.ensures.spare) refl

@@ -3,7 +3,7 @@ use Rattle.nv_entry.specs.Covered.{part_total}
 use Rattle.nv_cell.specs.Cell.{CellValue}
 use Rattle.nv_cell.specs.Fields.{state_in}
 use Rattle.nv_cell.specs.Readers.{keeps_nothing}
-use Rattle.nv_cell.proofs.Erasing.{none_left}
+use Rattle.nv_cell.proofs.Erasing.{none_left, slots_empty}
 use Rattle.nv_cell.proofs.Publishing.{take_whole}
 use Rattle.nv_cell.proofs.cell.InodeCell.erase.Goals as goal
 
@@ -16,4 +16,4 @@ clear_slots-requires c =
     subst (λ (v : CellValue). v.state.chain.tail ≡ length v.state.chain.entries) (sym c.self.view_is) c.requires.published in
     let all : length s.marks ≡ part_total s.chain.entries =
     inv.marks.len ∙ ap (λ (t : ℕ). part_total (take t s.chain.entries)) tail ∙ ap part_total (take_whole s.chain.entries) in
-    none_left s inv.blocks all nothing
+    slots_empty s.chain.entries c.self.inside.blocks.items inv.slots (none_left s inv.blocks all nothing)

@@ -14,6 +14,6 @@ find_part-requires-clause-ends c =
 pub returns : goal.returns
 returns c =
     let s = state_in c.self.inside in
-    let named : number_named (log_of s) c.args.part ≡ Some c.in_ok-found.found.number = sym c.find_part.ensures
+    let named : number_named (log_of s) c.args.part ≡ Some c.in_ok-found.found.number = sym c.find_part.ensures.number
     ∙ ap (option_map (λ p. p.number)) c.in_ok-found.was in
     rw (← c.self.view_is, named) c.get.ensures

@@ -110,6 +110,7 @@ invariant_of-self c =
           c.take_effect.ensures.tallied.tallies.len,
         );
       };
+      slots = inv.slots;
       blocks_room = inv.blocks_room;
       pages_room = omega (arith, inv.pages_room, r.pages, c.publish_to.ensures.spare);
       no_numbers = c.clear.ensures.items;

@@ -95,7 +95,7 @@ invariant_of-self-2 c =
             c.grow_log.ensures.blocks.capacity,
             c.in_ok-grow_log.ensures.places,
             ap length c.grow_log.ensures.blocks.items,
-            inv.blocks.len,
+            inv.slots,
             parts,
           );
       pages = c.grow_log.ensures.pages;
@@ -168,7 +168,7 @@ returns-in_err-grow_log-clause-enough c ready =
       ends = omega (arith, inv.spare.ends, r.append.entries);
       tallies = omega (arith, inv.spare.tallies, r.append.entries);
     })
-    (omega (arith, inv.blocks_room, inv.blocks.len, r.append.parts, c.part_total-parts.ensures)) r.append.pages in
+    (omega (arith, inv.blocks_room, inv.slots, r.append.parts, c.part_total-parts.ensures)) r.append.pages in
     cc
 
 pub returns-in_err-reserve-clause-enough : goal.returns-in_err-reserve-clause-enough

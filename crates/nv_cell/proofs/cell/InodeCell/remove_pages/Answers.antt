@@ -7,17 +7,17 @@ use Rattle.nv_cell.specs.Cell.{log_of}
 use Rattle.nv_cell.specs.Fields.{state_in}
 use Rattle.nv_cell.specs.Removal.{ArePublished, MayGo, log_flags}
 use Rattle.nv_cell.proofs.Publishing.{total_take}
-use Rattle.nv_cell.proofs.Removing.{blocks_left, fewer, last_stays, marks_count, marks_left, may_leave, names_left, none_gone, refs_left}
+use Rattle.nv_cell.proofs.Removing.{blocks_left, fewer, last_stays, left_by_part, marks_count, marks_left, may_leave, names_left, no_slot_gone, none_gone, refs_left}
 use Rattle.nv_cell.proofs.PageFlags.{pages_fewer, pages_left}
 use Rattle.nv_log.proofs.Flags.{all_gone, all_left, length-left_of}
 use Rattle.std.proofs.lemmas.List.{length-take}
+use Rattle.nv_cell.proofs.RunFlags.{base_within, slot_totals}
 use Rattle.nv_cell.proofs.cell.InodeCell.remove_pages.Goals as goal
 
-pub close_parts-requires-clause-blocks_there : goal.close_parts-requires-clause-blocks_there
-close_parts-requires-clause-blocks_there c =
+pub close_parts-requires-clause-slots_there : goal.close_parts-requires-clause-slots_there
+close_parts-requires-clause-slots_there c =
     let s = state_in c.self.inside in
-    let inv = c.self.invariant in
-    omega (arith, inv.marks.len, inv.blocks.len, total_take s.chain.entries s.chain.tail)
+    omega (arith, c.self.invariant.slots, base_within slot_totals s.chain.entries s.chain.tail)
 
 pub close_parts-requires-clause-none : goal.close_parts-requires-clause-none
 close_parts-requires-clause-none c =
@@ -27,7 +27,8 @@ close_parts-requires-clause-none c =
     let may = subst (λ v. MayGo (log_flags stays v.state.chain) v.state) (sym c.self.view_is) c.requires.may in
     let len : length stays ≡ length s.chain.ends = c.requires.flags ∙ sym (ap (λ v. length v.state.chain.ends) c.self.view_is) in
     let published = subst (λ v. ArePublished stays v.state.chain) (sym c.self.view_is) c.requires.published in
-    none_gone (pages_left stays s.chain c.ends-ends.ensures.chain len published) inv.marks inv.blocks may
+    let left = pages_left stays s.chain c.ends-ends.ensures.chain len published in
+    no_slot_gone left c.self.inside.blocks.items inv.slots (none_gone left inv.marks inv.blocks may)
 
 pub unlink_pages-requires-clause-sized : goal.unlink_pages-requires-clause-sized
 unlink_pages-requires-clause-sized c =
@@ -54,7 +55,7 @@ recount-requires-clause-ends_room c =
     let len : length stays ≡ length s.chain.ends = c.requires.flags ∙ sym (ap (λ v. length v.state.chain.ends) c.self.view_is) in
     let published = subst (λ v. ArePublished stays v.state.chain) (sym c.self.view_is) c.requires.published in
     let left = pages_left stays s.chain c.ends-ends.ensures.chain len published in
-    let few = fewer left inv.blocks in
+    let few = fewer left in
     let size : length (log s.chain) ≤ s.chain.tail = omega (arith, length-take s.chain.tail s.chain.entries) in
     rw c.unlink_pages.ensures.state (omega (arith, few.tail, size, inv.spare.ends, inv.ends_len))
 
@@ -66,7 +67,7 @@ recount-requires-clause-tallies_room c =
     let len : length stays ≡ length s.chain.ends = c.requires.flags ∙ sym (ap (λ v. length v.state.chain.ends) c.self.view_is) in
     let published = subst (λ v. ArePublished stays v.state.chain) (sym c.self.view_is) c.requires.published in
     let left = pages_left stays s.chain c.ends-ends.ensures.chain len published in
-    let few = fewer left inv.blocks in
+    let few = fewer left in
     let size : length (log s.chain) ≤ s.chain.tail = omega (arith, length-take s.chain.tail s.chain.entries) in
     rw c.unlink_pages.ensures.state (omega (arith, few.tail, size, inv.spare.tallies, inv.tallied.tallies.len, inv.ends_len))
 
@@ -86,9 +87,10 @@ invariant_of-self c =
     let len : length stays ≡ length s.chain.ends = c.requires.flags ∙ sym (ap (λ v. length v.state.chain.ends) c.self.view_is) in
     let published = subst (λ v. ArePublished stays v.state.chain) (sym c.self.view_is) c.requires.published in
     let left = pages_left stays s.chain c.ends-ends.ensures.chain len published in
-    let few = fewer left inv.blocks in
+    let few = fewer left in
     let size : length (log s.chain) ≤ s.chain.tail = omega (arith, length-take s.chain.tail s.chain.entries) in
     let blocks = blocks_left left inv.marks inv.blocks may in
+    let slots = left_by_part left c.self.inside.blocks.items inv.slots c.close_parts.new.slots.items c.close_parts.ensures.slots in
     let chain = with_pages_left stays s.chain in
     let r = c.recount.ensures.room in
     let count : length c.recount.new.self.marks.items ≡ part_total (log chain) =
@@ -102,7 +104,7 @@ invariant_of-self c =
       pages = rw c.unlink_pages.ensures.state (all_left (λ b. length b.bytes ≡ s.block) stays s.chain.blocks inv.pages);
       marks = rw (c.unlink_pages.ensures.state, c.recount.ensures.marks, c.close_parts.ensures.marks)
           (let h = marks_left left inv.marks inv.blocks may in record { len = h.len; current = h.current });
-      blocks = rw (c.unlink_pages.ensures.state, c.recount.ensures.marks, c.close_parts.ensures.marks, c.close_parts.ensures.blocks)
+      blocks = rw (c.unlink_pages.ensures.state, c.recount.ensures.marks, c.close_parts.ensures.marks, slots.0)
           (record { len = blocks.len; numbers = blocks.numbers; sized = blocks.sized });
       refs = λ key. rw c.unlink_pages.ensures.state (inv.refs key ∙ sym (refs_left left inv.marks inv.blocks may key));
       names = rw c.unlink_pages.ensures.state
@@ -136,7 +138,8 @@ invariant_of-self c =
           r.tallies,
         );
       });
-      blocks_room = rw c.unlink_pages.ensures.state (omega (arith, few.parts, inv.blocks_room, c.close_parts.ensures.blocks_room));
+      slots = rw c.unlink_pages.ensures.state slots.1;
+      blocks_room = rw c.unlink_pages.ensures.state (omega (arith, few.slots, inv.blocks_room, c.close_parts.ensures.slots_room));
       pages_room = rw (c.unlink_pages.ensures.state, c.unlink_pages.ensures.spare)
           (omega (arith, inv.pages_room, r.pages, length-left_of stays s.chain.blocks));
       no_numbers = inv.no_numbers;
@@ -145,13 +148,14 @@ invariant_of-self c =
 
 pub returns-clause-state : goal.returns-clause-state
 returns-clause-state c =
-    rw (
-      ← c.self.view_is,
-      c.unlink_pages.ensures.state,
-      c.recount.ensures.marks,
-      c.close_parts.ensures.marks,
-      c.close_parts.ensures.blocks,
-    ) refl
+    let s = state_in c.self.inside in
+    let stays = c.args.stays.now in
+    let len : length stays ≡ length s.chain.ends = c.requires.flags ∙ sym (ap (λ v. length v.state.chain.ends) c.self.view_is) in
+    let published = subst (λ v. ArePublished stays v.state.chain) (sym c.self.view_is) c.requires.published in
+    let left = pages_left stays s.chain c.ends-ends.ensures.chain len published in
+    let slots = left_by_part left c.self.inside.blocks.items c.self.invariant.slots c.close_parts.new.slots.items
+    c.close_parts.ensures.slots in
+    rw (← c.self.view_is, c.unlink_pages.ensures.state, c.recount.ensures.marks, c.close_parts.ensures.marks, slots.0) refl
 
 pub returns-clause-room : goal.returns-clause-room
 returns-clause-room c = rw (← c.self.view_is, c.unlink_pages.ensures.spare) refl

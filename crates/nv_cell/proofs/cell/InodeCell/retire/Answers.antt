@@ -18,7 +18,7 @@ set-requires-clause-there c =
     let inv = c.self.invariant in
     let m = is_killed s c.args.part (ap (λ v. mark_named v.state c.args.part) c.self.view_is ∙ c.requires) in
     let e : c.unwrap-found.result.number ≡ number_in s c.args.part =
-    some_same (sym (ap (option_map (λ p. p.number)) c.unwrap-found.ensures) ∙ c.find_part.ensures ∙ m.number) in
+    some_same (sym (ap (option_map (λ p. p.number)) c.unwrap-found.ensures) ∙ c.find_part.ensures.number ∙ m.number) in
     rw e m.there
 
 pub invariant_of-self : goal.invariant_of-self
@@ -27,7 +27,7 @@ invariant_of-self c =
     let inv = c.self.invariant in
     let m = is_killed s c.args.part (ap (λ v. mark_named v.state c.args.part) c.self.view_is ∙ c.requires) in
     let e : c.unwrap-found.result.number ≡ number_in s c.args.part =
-    some_same (sym (ap (option_map (λ p. p.number)) c.unwrap-found.ensures) ∙ c.find_part.ensures ∙ m.number) in
+    some_same (sym (ap (option_map (λ p. p.number)) c.unwrap-found.ensures) ∙ c.find_part.ensures.number ∙ m.number) in
     let r = c.set.ensures.room in
     let len = length_set s.marks c.unwrap-found.result.number Kept in
     record {
@@ -53,6 +53,7 @@ invariant_of-self c =
               (λ v. length v.items) c.set.ensures.ends,
         );
       };
+      slots = inv.slots;
       blocks_room = inv.blocks_room;
       pages_room = omega (arith, inv.pages_room, r.pages);
       no_numbers = inv.no_numbers;
@@ -65,5 +66,5 @@ returns-clause-state c =
     let inv = c.self.invariant in
     let m = is_killed s c.args.part (ap (λ v. mark_named v.state c.args.part) c.self.view_is ∙ c.requires) in
     let e : c.unwrap-found.result.number ≡ number_in s c.args.part =
-    some_same (sym (ap (option_map (λ p. p.number)) c.unwrap-found.ensures) ∙ c.find_part.ensures ∙ m.number) in
+    some_same (sym (ap (option_map (λ p. p.number)) c.unwrap-found.ensures) ∙ c.find_part.ensures.number ∙ m.number) in
     rw (← c.self.view_is, c.set.ensures.marks, e) refl
