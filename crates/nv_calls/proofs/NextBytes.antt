@@ -8,7 +8,7 @@ use Rattle.nv_entry.specs.Keys.{parts_of}
 use Rattle.nv_entry.specs.declared.item.Entry.{Entry}
 use Rattle.nv_entry.specs.declared.item.Item.{Item}
 use Rattle.nv_entry.specs.declared.item.Item.TheVariants.{Init, Write, SetSize, SetMode, Bind, Unbind, Gone}
-use Rattle.nv_cell.specs.Append.{blocks_for, slots_of}
+use Rattle.nv_cell.specs.Append.{blocks_for, part_blocks}
 use Rattle.nv_cell.specs.Cell.{CellState, CellValue, IsCell, number_in}
 use Rattle.nv_cell.specs.declared.killed.KilledPart.{KilledPart}
 use Rattle.nv_calls.specs.CanCommit.{CanCommit}
@@ -83,7 +83,7 @@ rest_read bytes (suc n) (b ∷ blocks) read = rest_read bytes n blocks read.1
 
 -- ---- a cell with more entries
 
-slots_read : (bytes : ℕ → List ℕ) (item : Item) (blocks : List BlockValue) → AreRead bytes blocks → AllRead bytes (slots_of item blocks)
+slots_read : (bytes : ℕ → List ℕ) (item : Item) (blocks : List BlockValue) → AreRead bytes blocks → AllRead bytes (part_blocks item blocks)
 slots_read bytes (Write first run size) blocks read = (tt, some_read bytes blocks read)
 slots_read bytes (Init kind mode) blocks read = none_read bytes (length (parts_of (Init kind mode)))
 slots_read bytes (SetSize size) blocks read = none_read bytes (length (parts_of (SetSize size)))
@@ -98,7 +98,7 @@ entries_read bytes [] blocks cell read all = all
 entries_read bytes (e ∷ es) blocks cell read all =
     entries_read bytes es (drop (length (item_blocks e.item)) blocks) (with_entry e blocks cell)
     (rest_read bytes (length (item_blocks e.item)) blocks read)
-    (more_read bytes cell.state.blocks (slots_of e.item (blocks_for e.item blocks)) all
+    (more_read bytes cell.state.blocks (part_blocks e.item (blocks_for e.item blocks)) all
     (slots_read bytes e.item (blocks_for e.item blocks) (front_read bytes (length (item_blocks e.item)) blocks read)))
 
 -- ---- a cell with parts that are kept or out

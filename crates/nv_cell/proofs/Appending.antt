@@ -23,7 +23,7 @@ use Rattle.nv_entry.specs.Data.{block_in}
 use Rattle.nv_entry.specs.Keys.{Key, KindKey, ModeKey, SizeKey, NameKey, PageKey, in_run, is_page, is_past, key_of, parts_of, sets}
 use Rattle.nv_entry.specs.Log.{value_of}
 use Rattle.nv_cell.specs.declared.mark.Mark.TheVariants.{Current}
-use Rattle.nv_cell.specs.Append.{IsWithinFile, appended, slots_of}
+use Rattle.nv_cell.specs.Append.{IsWithinFile, appended, part_blocks}
 use Rattle.nv_cell.specs.Cell.{CellState, HasBlocks, mark_or_fresh, page_block}
 use Rattle.nv_cell.specs.Marks.{is_there}
 use Rattle.nv_cell.proofs.Numbers.{total_append}
@@ -140,13 +140,13 @@ written block first size k run bs within nums lt =
     ∙ sym (rw (low, page_at first size k run within lt, in_file first k run within lt, back) refl)
 
 -- the blocks of an item's parts are those that the item says
-pub slot_block : (block : ℕ) (item : Item) (bs : List BlockValue) (m : ℕ) → IsWithinFile item → numbers_of bs ≡ item_blocks item
-    → option_map number_of (slice_index_or (slots_of item bs) m None) ≡ own_block block item m
-slot_block block (Write first run size) bs zero within nums =
+pub part_block_is : (block : ℕ) (item : Item) (bs : List BlockValue) (m : ℕ) → IsWithinFile item → numbers_of bs ≡ item_blocks item
+    → option_map number_of (slice_index_or (part_blocks item bs) m None) ≡ own_block block item m
+part_block_is block (Write first run size) bs zero within nums =
     let some : nat_lt 0 (length (parts_of (Write first run size))) ≡ true =
     lt-ltb 0 (length (parts_of (Write first run size))) (omega (arith, length_parts first size run within)) in
     rw some refl
-slot_block block (Write first run size) bs (suc k) within nums = elim (cases_lt k run.len) [
+part_block_is block (Write first run size) bs (suc k) within nums = elim (cases_lt k run.len) [
   | inl lt ↦ written block first size k run bs within nums lt
   | inr ge ↦
       let len : length (map Some bs) ≡ run.len =
@@ -155,24 +155,24 @@ slot_block block (Write first run size) bs (suc k) within nums = elim (cases_lt 
       le-ltb (suc k) (length (parts_of (Write first run size))) (omega (arith, length_parts first size run within, ge)) in
       rw (get_or_past (map Some bs) k None (omega (arith, len, ge)), past) refl
 ]
-slot_block block (Init kind mode) bs m within nums = bare block (Init kind mode) m refl
-slot_block block (SetSize size) bs m within nums = bare block (SetSize size) m refl
-slot_block block (SetMode mode) bs m within nums = bare block (SetMode mode) m refl
-slot_block block (Bind name to) bs m within nums = bare block (Bind name to) m refl
-slot_block block (Unbind name) bs m within nums = bare block (Unbind name) m refl
-slot_block block Gone bs m within nums = bare block Gone m refl
+part_block_is block (Init kind mode) bs m within nums = bare block (Init kind mode) m refl
+part_block_is block (SetSize size) bs m within nums = bare block (SetSize size) m refl
+part_block_is block (SetMode mode) bs m within nums = bare block (SetMode mode) m refl
+part_block_is block (Bind name to) bs m within nums = bare block (Bind name to) m refl
+part_block_is block (Unbind name) bs m within nums = bare block (Unbind name) m refl
+part_block_is block Gone bs m within nums = bare block Gone m refl
 
-pub length_slots : (item : Item) (bs : List BlockValue) → IsWithinFile item → numbers_of bs ≡ item_blocks item
-    → length (slots_of item bs) ≡ length (parts_of item)
-length_slots (Write first run size) bs within nums =
+pub length_part_blocks : (item : Item) (bs : List BlockValue) → IsWithinFile item → numbers_of bs ≡ item_blocks item
+    → length (part_blocks item bs) ≡ length (parts_of item)
+length_part_blocks (Write first run size) bs within nums =
     ap suc (length-map bs Some ∙ sym (length-map bs number_of) ∙ ap length nums ∙ length-range_with_len run.start run.len)
     ∙ sym (length_parts first size run within)
-length_slots (Init kind mode) bs within nums = length_none 3
-length_slots (SetSize size) bs within nums = length_none 1
-length_slots (SetMode mode) bs within nums = length_none 1
-length_slots (Bind name to) bs within nums = length_none 1
-length_slots (Unbind name) bs within nums = refl
-length_slots Gone bs within nums = refl
+length_part_blocks (Init kind mode) bs within nums = length_none 3
+length_part_blocks (SetSize size) bs within nums = length_none 1
+length_part_blocks (SetMode mode) bs within nums = length_none 1
+length_part_blocks (Bind name to) bs within nums = length_none 1
+length_part_blocks (Unbind name) bs within nums = refl
+length_part_blocks Gone bs within nums = refl
 
 one_of : (size : ℕ) (bs : List BlockValue) (k : ℕ) (b : BlockValue) → AreSized size bs → slice_index_or (map Some bs) k None ≡ Some b
     → length b.bytes ≡ size
@@ -183,16 +183,16 @@ one_of size (x ∷ bs) (suc k) b all h = one_of size bs k b all.1 h
 none_of : (size n m : ℕ) (b : BlockValue) → slice_index_or (replicate n None) m None ≡ Some b → length b.bytes ≡ size
 none_of size n m b h = let z : None ≡ Some b = sym (no_slot n m) ∙ h in cc
 
-slot_sized : (size : ℕ) (item : Item) (bs : List BlockValue) (m : ℕ) (b : BlockValue) → AreSized size bs
-    → slice_index_or (slots_of item bs) m None ≡ Some b → length b.bytes ≡ size
-slot_sized size (Write first run len) bs zero b all h = cc
-slot_sized size (Write first run len) bs (suc k) b all h = one_of size bs k b all h
-slot_sized size (Init kind mode) bs m b all h = none_of size 3 m b h
-slot_sized size (SetSize len) bs m b all h = none_of size 1 m b h
-slot_sized size (SetMode mode) bs m b all h = none_of size 1 m b h
-slot_sized size (Bind name to) bs m b all h = none_of size 1 m b h
-slot_sized size (Unbind name) bs m b all h = none_of size 0 m b h
-slot_sized size Gone bs m b all h = none_of size 0 m b h
+part_block_sized : (size : ℕ) (item : Item) (bs : List BlockValue) (m : ℕ) (b : BlockValue) → AreSized size bs
+    → slice_index_or (part_blocks item bs) m None ≡ Some b → length b.bytes ≡ size
+part_block_sized size (Write first run len) bs zero b all h = cc
+part_block_sized size (Write first run len) bs (suc k) b all h = one_of size bs k b all h
+part_block_sized size (Init kind mode) bs m b all h = none_of size 3 m b h
+part_block_sized size (SetSize len) bs m b all h = none_of size 1 m b h
+part_block_sized size (SetMode mode) bs m b all h = none_of size 1 m b h
+part_block_sized size (Bind name to) bs m b all h = none_of size 1 m b h
+part_block_sized size (Unbind name) bs m b all h = none_of size 0 m b h
+part_block_sized size Gone bs m b all h = none_of size 0 m b h
 
 -- ---- the blocks of all parts
 
@@ -212,10 +212,10 @@ blocks_append cell e bs h few within nums sized = record { len = len; numbers = 
   es = cell.chain.entries
 
   slots : List (Option BlockValue)
-  slots = slots_of e.item bs
+  slots = part_blocks e.item bs
 
   len : length (cell.blocks ++ slots) ≡ part_total (es ++ e ∷ [])
-  len = omega (arith, length-append cell.blocks slots, h.len, length_slots e.item bs within nums, total_append es (e ∷ []))
+  len = omega (arith, length-append cell.blocks slots, h.len, length_part_blocks e.item bs within nums, total_append es (e ∷ []))
 
   numbers : (n : ℕ) → option_map number_of (slice_index_or (cell.blocks ++ slots) n None)
       ≡ cond (is_there (mark_or_fresh cell.marks n)) (page_block cell.block (es ++ e ∷ []) n) None
@@ -226,14 +226,14 @@ blocks_append cell e bs h few within nums sized = record { len = len; numbers = 
     | inr ge ↦
         let fresh : mark_or_fresh cell.marks n ≡ Current = get_or_past cell.marks n Current (omega (arith, ge, few)) in
         ap (option_map number_of) (get_or-append_right cell.blocks slots (part_total es) n None h.len ge)
-        ∙ slot_block cell.block e.item bs (n - part_total es) within nums
+        ∙ part_block_is cell.block e.item bs (n - part_total es) within nums
         ∙ sym (rw (fresh, back_block cell.block es (e ∷ []) n ge) refl)
   ]
 
   sizes : (n : ℕ) (b : BlockValue) → slice_index_or (cell.blocks ++ slots) n None ≡ Some b → length b.bytes ≡ cell.block
   sizes n b q = elim (cases_lt n (part_total es)) [
     | inl lt ↦ h.sized n b (sym (get_or_append_left cell.blocks slots None n (omega (arith, lt, h.len))) ∙ q)
-    | inr ge ↦ slot_sized cell.block e.item bs (n - part_total es) b sized
+    | inr ge ↦ part_block_sized cell.block e.item bs (n - part_total es) b sized
         (sym (get_or-append_right cell.blocks slots (part_total es) n None h.len ge) ∙ q)
   ]
 

@@ -21,7 +21,7 @@ use Rattle.nv_cell.specs.Marks.{is_there}
 use Rattle.nv_cell.specs.Removal.{ArePublished, HideNoneLeft, MayGo, log_flags, part_flags, run_flags}
 use Rattle.nv_cell.specs.Retained.{AreMarksOf}
 use Rattle.nv_cell.proofs.NamedParts.{pair_first, pair_later}
-use Rattle.nv_cell.proofs.RunFlags.{gone_of-run}
+use Rattle.nv_cell.proofs.RunFlags.{all_append, gone_of-run}
 use Rattle.nv_cell.proofs.Scanned.{AreAlike, any_alike, front_mark, later_mark}
 
 -- each of the entries to come that goes is not the last, is not kept, and hides no earlier one that stays
@@ -64,11 +64,6 @@ all_out (Current ∷ marks) h = cc
 all_out (Killed ∷ marks) h = cc
 all_out (Kept ∷ marks) h = cc
 
-pub all_join : (xs ys : List Mark) → AllByRecursion (λ m. m ≡ Out) xs → AllByRecursion (λ m. m ≡ Out) ys
-    → AllByRecursion (λ m. m ≡ Out) (xs ++ ys)
-all_join [] ys all more = more
-all_join (x ∷ xs) ys all more = (all.0, all_join xs ys all.1 more)
-
 -- the marks of the first entry, and of the others
 first_alike : (r : Retention) (e : Entry) (later : List Entry) (marks : List Mark) → length marks ≡ part_total (e ∷ later)
     → AreAlike is_there (keeps r) r.block (e ∷ later) marks → list_any is_there (take (part_count e) marks) ≡ is_kept r e later
@@ -103,7 +98,7 @@ out r kept (e ∷ later) (true ∷ flags) marks h len alike =
 out r kept (e ∷ later) (false ∷ flags) marks h len alike =
     let c = part_count e in
     rw (gone_of-run c false (part_flags flags later) marks)
-    (all_join (take c marks) (gone_of (part_flags flags later) (drop c marks))
+    (all_append (λ m. m ≡ Out) (take c marks) (gone_of (part_flags flags later) (drop c marks))
     (all_out (take c marks) (first_alike r e later marks len alike ∙ h.1))
     (out r kept later flags (drop c marks) h.3 (omega (arith, length-drop c marks, len)) (later_alike r e later marks alike)))
 

@@ -18,11 +18,11 @@ use Rattle.nv_cell.specs.Removal.{AreFlags, HideNoneLeft, flags_of, part_flags}
 use Rattle.nv_cell.specs.declared.stays.Stays.{Stays}
 use Rattle.nv_cell.specs.declared.tally.Tally.{Tally}
 use Rattle.nv_cell.specs.Tallies.{AreTallies, end_at, is_valid, start_at, tally_at}
-use Rattle.nv_cell.proofs.Droppable.{all_join, all_out}
+use Rattle.nv_cell.proofs.Droppable.{all_out}
 use Rattle.nv_cell.proofs.PageFlags.{flags-count}
 use Rattle.nv_cell.proofs.PageMarks.{any_counts}
 use Rattle.nv_cell.proofs.Publishes.{first_base}
-use Rattle.nv_cell.proofs.RunFlags.{AreNext, flags_end, goes_on, gone_of-run, next_of, part_totals, run_gone}
+use Rattle.nv_cell.proofs.RunFlags.{all_append, AreNext, flags_end, goes_on, gone_of-run, next_of, part_totals, run_gone}
 
 abbrev pub AreOut : List Mark → Type 0
 AreOut marks = AllByRecursion (λ m. m ≡ Out) marks
@@ -98,7 +98,7 @@ module _ (block : ℕ) (flags : List Bool) (es : List Entry) (marks : List Mark)
       ap (λ (fs : List Bool). gone_of fs xs) n.ahead ∙ gone_of-run c b later xs
       ∙ ap (λ (ms : List Mark). cond b [] (take c xs) ++ gone_of later ms)
       (drop-drop c (part_base es i) marks ∙ ap (λ (k : ℕ). drop k marks) (sym n.to)) in
-      subst AreOut (sym split) (all_join (cond b [] (take c xs)) (gone_of later (drop (part_base es (i + 1)) marks)) front rest)
+      subst AreOut (sym split) (all_append (λ m. m ≡ Out) (cond b [] (take c xs)) (gone_of later (drop (part_base es (i + 1)) marks)) front rest)
 
   -- what the entries from one on may do, the later ones may do
   pub rest_goes : (b : Bool) → b ≡ get_or flags i b → RestGoes block flags es marks i → RestGoes block flags es marks (i + 1)

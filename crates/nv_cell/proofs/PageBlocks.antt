@@ -60,9 +60,9 @@ scanned_there cell key n marks q =
     ap is_there (same_mark cell.marks n (omega (arith, s.0, marks.len))) ∙ current_there (mark_at cell.marks n) current
 
 -- the block of a page is the one that the cell has for its part
-slot_is : (cell : CellState) (page n : ℕ) → HasMarks cell → HasBlocks cell → scan_n cell.block (log_of cell) (PageKey page) ≡ Some n
+block_is : (cell : CellState) (page n : ℕ) → HasMarks cell → HasBlocks cell → scan_n cell.block (log_of cell) (PageKey page) ≡ Some n
     → page_block cell.block (log_of cell) n ≡ option_map number_of (slice_index_or cell.blocks n None)
-slot_is cell page n marks blocks q =
+block_is cell page n marks blocks q =
     let es = cell.chain.entries in
     let low = (scan_key cell.block (log_of cell) (PageKey page) n q).0 in
     let whole : log_of cell ++ drop cell.chain.tail es ≡ es = take_drop es cell.chain.tail in
@@ -76,14 +76,14 @@ slot_page bytes block None h = refl
 slot_page bytes block (Some b) h = h b refl
 
 -- the block of a part by its number
-abbrev slot_by : List (Option BlockValue) → Option ℕ → Option BlockValue
-slot_by slots o = option_and_then (λ n. slice_index_or slots n None) o
+abbrev block_by : List (Option BlockValue) → Option ℕ → Option BlockValue
+block_by slots o = option_and_then (λ n. slice_index_or slots n None) o
 
 -- the block of a page is the one in the slot of its part
 pub page_in_slot : (cell : CellState) (slots : List (Option BlockValue)) (index : IndexValue) (page : ℕ)
     → cell.blocks ≡ by_part cell.chain.entries slots → length slots ≡ slot_total cell.chain.entries → IsLog cell.chain.entries
     → ((key : Key) → ref_of index key ≡ scan_ref cell.block (log_of cell) key)
-    → slot_by slots (page_slot cell.chain.entries index page) ≡ block_at_page cell page
+    → block_by slots (page_slot cell.chain.entries index page) ≡ block_at_page cell page
 page_in_slot cell slots index page blocks len is refs = go (ref_at index.pages.pages page) refl where
   es : List Entry
   es = cell.chain.entries
@@ -92,7 +92,7 @@ page_in_slot cell slots index page blocks len is refs = go (ref_at index.pages.p
   own o = option_and_then (λ r. slice_index_or cell.blocks (number es r) None) o
 
   go : (o : Option PageRef) → ref_at index.pages.pages page ≡ o
-      → slot_by slots (option_map (slot es) (option_map page_part o)) ≡ block_at_page cell page
+      → block_by slots (option_map (slot es) (option_map page_part o)) ≡ block_at_page cell page
   go None q = ap own (sym (ap (option_map page_part) q) ∙ refs (PageKey page))
   go (Some at) q =
       let found : scan_ref cell.block (log_of cell) (PageKey page) ≡ Some (page_part at) =
@@ -105,13 +105,13 @@ abbrev scanned_page : CellState → ℕ → Option ℕ
 scanned_page cell page = scan_n cell.block (log_of cell) (PageKey page)
 
 at_scanned : (cell : CellState) (page : ℕ) → IsLog cell.chain.entries
-    → block_at_page cell page ≡ slot_by cell.blocks (scanned_page cell page)
+    → block_at_page cell page ≡ block_by cell.blocks (scanned_page cell page)
 at_scanned cell page is =
     go (scan_ref cell.block (log_of cell) (PageKey page))
-    ∙ ap (slot_by cell.blocks) (scanned cell.block cell.chain.entries cell.chain.tail (PageKey page) is)
+    ∙ ap (block_by cell.blocks) (scanned cell.block cell.chain.entries cell.chain.tail (PageKey page) is)
   where
     go : (o : Option PartRef) → option_and_then (λ r. slice_index_or cell.blocks (number cell.chain.entries r) None) o
-        ≡ slot_by cell.blocks (option_map (number cell.chain.entries) o)
+        ≡ block_by cell.blocks (option_map (number cell.chain.entries) o)
     go None = refl
     go (Some r) = refl
 
@@ -122,12 +122,12 @@ page_number_is cell page is marks blocks =
     ∙ sym (block_scanned cell.block (log_of cell) (PageKey page))
   where
     go : (o : Option ℕ) → scanned_page cell page ≡ o
-        → option_map number_of (slot_by cell.blocks o) ≡ option_and_then (page_block cell.block (log_of cell)) o
+        → option_map number_of (block_by cell.blocks o) ≡ option_and_then (page_block cell.block (log_of cell)) o
     go None q = refl
-    go (Some n) q = sym (slot_is cell page n marks blocks q)
+    go (Some n) q = sym (block_is cell page n marks blocks q)
 
 slot_sized : (block : ℕ) (slots : List (Option BlockValue)) (o : Option ℕ) → AreSlotsSized block slots
-    → IfSome (slot_by slots o) (λ b. length b.bytes ≡ block)
+    → IfSome (block_by slots o) (λ b. length b.bytes ≡ block)
 slot_sized block slots None sized = tt
 slot_sized block slots (Some n) sized = go (slice_index_or slots n None) refl where
   go : (slot : Option BlockValue) → slice_index_or slots n None ≡ slot → IfSome slot (λ b. length b.bytes ≡ block)
@@ -150,7 +150,7 @@ page_is cell bytes page is are =
     ∙ slot_page bytes cell.block (block_at_page cell page)
     (λ b q. own (scanned_page cell page) b (sym (at_scanned cell page is.chain.rising) ∙ q))
   where
-    own : (o : Option ℕ) (b : BlockValue) → slot_by cell.blocks o ≡ Some b → bytes b.number ≡ b.bytes
+    own : (o : Option ℕ) (b : BlockValue) → block_by cell.blocks o ≡ Some b → bytes b.number ≡ b.bytes
     own None b q = cc
     own (Some n) b q = are n b q
 
@@ -177,7 +177,7 @@ pages_are cell slots index count blocks len is refs =
     flat_same (page_now cell.block slots (page_slot cell.chain.entries index)) (own_page cell) 0 count
     (λ page. ap (slot_bytes cell.block) (page_in_slot cell slots index page blocks len is refs))
 
--- each slot has as many bytes as a block
+-- the block in each slot has as many bytes as it should
 pub slots_sized : (block : ℕ) (es : List Entry) (slots : List (Option BlockValue)) → length slots ≡ slot_total es
     → AreSlotsSized block (by_part es slots) → AreSlotsSized block slots
 slots_sized block es slots len sized k b is = sized (part_of_slot es k) b (sym (slot_is_part es slots k len) ∙ is)

@@ -21,10 +21,11 @@ use Rattle.nv_cell.specs.Numbers.{StandsIn, number, part_base}
 use Rattle.nv_cell.specs.Slots.{by_part, emptied, slot, slot_base, slot_total}
 use Rattle.nv_cell.specs.Tallies.{first_slot, start_at}
 use Rattle.nv_cell.proofs.Cells.{base_next}
-use Rattle.nv_cell.proofs.FirstSlots.{first_slots, slot_few}
+use Rattle.nv_cell.proofs.FirstSlots.{first_slots}
 use Rattle.nv_cell.proofs.Numbers.{at_split, place_split}
 use Rattle.nv_cell.proofs.Publishes.{first_base}
 use Rattle.nv_cell.proofs.Slots.{block_at_slot, slot_leaves, slot_within}
+use Rattle.nv_cell.proofs.Tallies.{few_slots}
 
 -- this is the slot of the part n, if it has one
 pub record IsSlotOf (es : List Entry) (slots : List (Option BlockValue)) (n : ℕ) (o : Option ℕ) : Type 0 where
@@ -32,9 +33,6 @@ pub record IsSlotOf (es : List Entry) (slots : List (Option BlockValue)) (n : �
   pub within : IfSome o (λ k. k < length slots)
   pub leaves : by_part es (emptied slots o) ≡ slice_set (by_part es slots) n None
   pub len : length (emptied slots o) ≡ length slots
-
-entry_at : (es : List Entry) (i : ℕ) (d : Entry) → i < length es → slice_index_or es i d ≡ slice_index_or es i (slice_index_or es i d)
-entry_at es i d lt = get_or_default es i d (slice_index_or es i d) lt
 
 pub is_slot_of : (es : List Entry) (slots : List (Option BlockValue)) (p : NumberedPart) (start first : ℕ) (o : Option ℕ) → StandsIn es p
     → start ≡ part_base es p.entry → first ≡ slot_base es p.entry → length slots ≡ slot_total es
@@ -54,7 +52,7 @@ is_slot_of (x ∷ xs) slots p start first o h start_is first_is len o_is = go (n
   e = slice_index_or es i x
 
   is : e ≡ slice_index_or es i e
-  is = entry_at es i x h.within
+  is = get_or_default es i x e h.within
 
   count : part_base es (i + 1) ≡ part_base es i + part_count e
   count = base_next es i e h.within is
@@ -140,7 +138,8 @@ module _ (i : Inside) (inv : AreFields i) (p : NumberedPart) (low : p.entry < i.
 
   -- slots are no more than parts
   pub few_found : first_slot i.marks.tallies.items p.entry ≤ start_at i.marks.ends.items p.entry
-  few_found = omega (arith, start, first, slot_few i.chain.state.entries p.entry)
+  few_found = few_slots i.marks.tallies.items i.marks.ends.items i.marks.marks.items inv.tallied.tallies p.entry
+      (omega (arith, low, inv.ends_len))
 
   pub slot_found : StandsIn i.chain.state.entries p → (o : Option ℕ)
       → o ≡ cond (nat_lt (start_at i.marks.ends.items p.entry) p.number) (Some (first_slot i.marks.tallies.items p.entry
@@ -149,3 +148,13 @@ module _ (i : Inside) (inv : AreFields i) (p : NumberedPart) (low : p.entry < i.
   slot_found h o is =
       is_slot_of i.chain.state.entries i.blocks.items p (start_at i.marks.ends.items p.entry) (first_slot i.marks.tallies.items p.entry) o h
       start first inv.slots is
+
+-- the slot of a part that was looked for and found
+pub slot_taken : (i : Inside) → AreFields i → (o : Option NumberedPart) (p : NumberedPart) → o ≡ Some p
+    → IfSome o (λ q. q.entry < i.chain.state.tail) → IfSome o (StandsIn i.chain.state.entries) → (k : Option ℕ)
+    → k ≡ cond (nat_lt (start_at i.marks.ends.items p.entry) p.number) (Some (first_slot i.marks.tallies.items p.entry
+    + (p.number - start_at i.marks.ends.items p.entry - 1))) None
+    → IsSlotOf i.chain.state.entries i.blocks.items p.number k
+slot_taken i inv o p found low stands k is =
+    slot_found i inv p (subst (λ q. IfSome q (λ r. r.entry < i.chain.state.tail)) found low)
+    (subst (λ q. IfSome q (StandsIn i.chain.state.entries)) found stands) k is

@@ -34,11 +34,11 @@ last_end ends es (suc t) n len ended lt =
     (omega (arith, len), rw last (let e = ended t (omega arith) in let f = rw d at e in omega (arith, f, lt)))
 
 -- where the slots of entry `i` of so many begin
-slots_begin : (tallies : List Tally) (es : List Entry) (tail : ℕ)
-    → ((i : ℕ) → i < tail → (tally_at tallies i).slots ≡ slot_base es (i + 1)) → (i : ℕ) → i < tail
+slots_start : (tallies : List Tally) (es : List Entry) (tail : ℕ)
+    → ((i : ℕ) → i < tail → (tally_at tallies i).slots_end ≡ slot_base es (i + 1)) → (i : ℕ) → i < tail
     → first_slot tallies i ≡ slot_base es i
-slots_begin tallies es tail h zero lt = refl
-slots_begin tallies es tail h (suc i) lt =
+slots_start tallies es tail h zero lt = refl
+slots_start tallies es tail h (suc i) lt =
     let d : i + 1 ≡ suc i = omega arith in
     next_slot tallies i ∙ rw d at (h i (omega (arith, lt)))
 
@@ -48,7 +48,7 @@ pub tallied_by : (tallies : List Tally) (ends : List ℕ) (marks : List Mark) (e
     → length marks ≡ part_base es tail → ((i : ℕ) → i < tail → end_at ends i ≡ part_base es (i + 1))
     → ((i : ℕ) → i < tail → (tally_at tallies i).current ≡ count_in is_current marks (part_base es i) (part_base es (i + 1)))
     → ((i : ℕ) → i < tail → (tally_at tallies i).there ≡ count_in is_there marks (part_base es i) (part_base es (i + 1)))
-    → ((i : ℕ) → i < tail → (tally_at tallies i).slots ≡ slot_base es (i + 1)) → AreTallies tallies ends marks
+    → ((i : ℕ) → i < tail → (tally_at tallies i).slots_end ≡ slot_base es (i + 1)) → AreTallies tallies ends marks
 tallied_by tallies ends marks es tail ends_len len marks_len ended current there slots = record {
   runs = record {
     rising = λ i j le lt. omega (
@@ -71,13 +71,13 @@ tallied_by tallies ends marks es tail ends_len len marks_len ended current there
   there = λ i lt. there i (omega (arith, lt, ends_len)) ∙ sym (run is_there i (omega (arith, lt, ends_len)));
   slots = λ i lt. own i (omega (arith, lt, ends_len));
 } where
-  own : (i : ℕ) → i < tail → (tally_at tallies i).slots ≡ first_slot tallies i + (end_at ends i - start_at ends i - 1)
+  own : (i : ℕ) → i < tail → (tally_at tallies i).slots_end ≡ first_slot tallies i + (end_at ends i - start_at ends i - 1)
   own i lt =
       let d : i + 1 ≡ suc i = omega arith in
       let now = rw d at (slots i lt) in
       let end = rw d at (ended i lt) in
       let start = begins ends es tail ended i (omega (arith, lt)) in
-      omega (arith, now, end, start, slots_begin tallies es tail slots i lt, slot_step es i)
+      omega (arith, now, end, start, slots_start tallies es tail slots i lt, slot_step es i)
 
   run : (test : Mark → Bool) (i : ℕ) → i < tail
       → count_in test marks (start_at ends i) (end_at ends i) ≡ count_in test marks (part_base es i) (part_base es (i + 1))

@@ -41,6 +41,10 @@ all_split : {X : Type 0} (P : X → Type 0) (xs ys : List X) → AllByRecursion 
 all_split P [] ys h = (tt, h)
 all_split P (x ∷ xs) ys h = let rest = all_split P xs ys h.1 in ((h.0, rest.0), rest.1)
 
+pub all_append : {X : Type 0} (P : X → Type 0) (xs ys : List X) → AllByRecursion P xs → AllByRecursion P ys → AllByRecursion P (xs ++ ys)
+all_append P [] ys h k = k
+all_append P (x ∷ xs) ys h k = (h.0, all_append P xs ys h.1 k)
+
 -- what holds of all that go holds of the run that goes next, and of those that go behind it
 pub run_gone : {X : Type 0} (P : X → Type 0) (n : ℕ) (flags : List Bool) (xs : List X)
     → AllByRecursion P (gone_of (replicate n false ++ flags) xs)
@@ -65,9 +69,6 @@ pub record IsPassing {X : Type 0} (old queue : List X) (flags : List Bool) (star
   pub done : List X
   pub queue_is : queue ≡ drop start old ++ done
   pub all : left_of flags old ≡ done ++ left_of ahead (drop start old)
-
-pub none_passed : {X : Type 0} (old : List X) (flags : List Bool) → IsPassing old old flags 0 flags
-none_passed old flags = record { done = []; queue_is = sym (append-nil old); all = refl }
 
 stays_next : {X : Type 0} (old queue next : List X) (flags : List Bool) (start count to : ℕ) (ahead : List Bool)
     → IsPassing old queue flags start (replicate count true ++ ahead) → to ≡ start + count → to ≤ length old
@@ -221,14 +222,6 @@ flags_end count (b ∷ flags) [] (suc i) le = none (drop i flags) where
   none [] = refl
   none (c ∷ fs) = refl
 flags_end count (b ∷ flags) (e ∷ es) (suc i) le = flags_end count flags es i (omega (arith, le))
-
--- flags past a log say nothing of its items
-pub flags_within : (count : Entry → ℕ) (flags : List Bool) (es : List Entry)
-    → flags_by count (take (length es) flags) es ≡ flags_by count flags es
-flags_within count [] [] = refl
-flags_within count (b ∷ flags) [] = refl
-flags_within count [] (e ∷ es) = refl
-flags_within count (b ∷ flags) (e ∷ es) = ap (λ fs. replicate (count e) b ++ fs) (flags_within count flags es)
 
 -- the items of the entry that comes next, with their flag
 pub record AreNext (count : Entry → ℕ) (total : List Entry → ℕ) (flags : List Bool) (es : List Entry) (i : ℕ) (b : Bool) (e : Entry)

@@ -109,7 +109,7 @@ count_append test (x ∷ xs) ys = omega (arith, count_cons test x (xs ++ ys), co
 pub add_tallied : (m : Marks) (page_ends : List ℕ) (k parts : ℕ) (t : Tally) (before c : PageCounts) (marks : Vec Mark) (ends : Vec ℕ)
     (tallies : Vec Tally) → AreTallied m page_ends
     → IsInRun page_ends (length m.tallies.items) k → AreRuns page_ends (length m.tallies.items + 1)
-    → t.current ≡ parts → t.there ≡ parts → t.slots ≡ first_slot m.tallies.items (length m.tallies.items) + (parts - 1)
+    → t.current ≡ parts → t.there ≡ parts → t.slots_end ≡ first_slot m.tallies.items (length m.tallies.items) + (parts - 1)
     → marks.items ≡ m.marks.items ++ replicate parts Current → ends.items ≡ m.ends.items ++ (length m.marks.items + parts) ∷ []
     → tallies.items ≡ m.tallies.items ++ t ∷ [] → before ≡ slice_index_or m.pages.items k before → c ≡ with_entry before t
     → AreTallied (record { marks = marks; ends = ends; tallies = tallies; pages = with_item m.pages k c; there = m.there + parts })

@@ -2,7 +2,7 @@
 use Rattle.std.proofs.Common.{◌≡◌, ℕ, zero, suc, ◌+◌, ◌-◌, ◌<◌, ◌≤◌, Bool, true, false, cond, nat_lt, List, [], ◌∷◌, ◌++◌, length, take, drop, replicate, append_assoc, length-append, map, Option, Some, None, arith, refl, ap, sym, ◌∙◌, subst, slice_index_or, slice_set}
 use Rattle.std.specs.List.{AllByRecursion}
 use Rattle.std.proofs.lemmas.Bool.{ltb-false, ltb-true}
-use Rattle.std.proofs.lemmas.List.{append-nil, drop-append-le, drop-set-add, drop-set-lt, get_or-append_right, get_or-drop, get_or-take, get_or_append_left, length-drop, length-take-le, set-append_left, set-append_right, take-append-le, take-set-le}
+use Rattle.std.proofs.lemmas.List.{append-nil, drop-append-le, drop-set-add, drop-set-lt, get_or-append_right, get_or-drop, get_or-take, get_or_append_left, length-drop, length-take-le, set-append_left, set-append_right, take-append-le, take-set-le, take-take}
 use Rattle.std.proofs.Math.Seq.{drop-append_seam, take-append_seam, take-length, take-set-lt}
 use Rattle.nv_alloc.specs.Block.{BlockValue, numbers_of}
 use Rattle.nv_entry.specs.declared.item.Entry.{Entry}
@@ -12,12 +12,12 @@ use Rattle.nv_entry.specs.Blocks.{item_blocks}
 use Rattle.nv_entry.specs.Covered.{part_count}
 use Rattle.nv_entry.specs.Keys.{parts_of}
 use Rattle.nv_log.specs.Chain.{gone_of, left_of}
-use Rattle.nv_cell.specs.Append.{IsWithinFile, slots_of}
+use Rattle.nv_cell.specs.Append.{IsWithinFile, part_blocks}
 use Rattle.nv_cell.specs.Numbers.{part_base}
 use Rattle.nv_cell.specs.Removal.{part_flags, slot_flags}
 use Rattle.nv_cell.specs.Slots.{by_part, slot_base, slot_count, slot_total}
-use Rattle.nv_cell.proofs.Appending.{length_slots}
-use Rattle.nv_cell.proofs.RunFlags.{gone_of-run, left_of-goes, left_of-stays, rest_gone, run_gone}
+use Rattle.nv_cell.proofs.Appending.{length_part_blocks}
+use Rattle.nv_cell.proofs.RunFlags.{all_append, gone_of-run, left_of-goes, left_of-stays, rest_gone, run_gone}
 
 -- ---- the parts of one entry
 
@@ -57,9 +57,9 @@ slot_total-append (x ∷ xs) ys = omega (arith, slot_total-append xs ys)
 
 -- the blocks of an item's parts are those behind the first, which has none
 behind_first : (item : Item) (bs : List BlockValue) → IsWithinFile item → numbers_of bs ≡ item_blocks item
-    → take (length (parts_of item)) (None ∷ drop 1 (slots_of item bs)) ≡ slots_of item bs
+    → take (length (parts_of item)) (None ∷ drop 1 (part_blocks item bs)) ≡ part_blocks item bs
 behind_first (Write first run size) bs within nums =
-    subst (λ (n : ℕ). take n (None ∷ map Some bs) ≡ None ∷ map Some bs) (length_slots (Write first run size) bs within nums)
+    subst (λ (n : ℕ). take n (None ∷ map Some bs) ≡ None ∷ map Some bs) (length_part_blocks (Write first run size) bs within nums)
     (take-length (None ∷ map Some bs))
 behind_first (Init kind mode) bs within nums = refl
 behind_first (SetSize size) bs within nums = refl
@@ -68,20 +68,21 @@ behind_first (Bind name to) bs within nums = refl
 behind_first (Unbind name) bs within nums = refl
 behind_first Gone bs within nums = refl
 
+-- the blocks of all parts, and the number of slots, with one more entry
 pub slots_append : (es : List Entry) (slots new : List (Option BlockValue)) (e : Entry) (bs : List BlockValue)
     → length slots ≡ slot_total es → IsWithinFile e.item → numbers_of bs ≡ item_blocks e.item
-    → new ≡ slots ++ drop 1 (slots_of e.item bs)
-    → (by_part (es ++ e ∷ []) new ≡ by_part es slots ++ slots_of e.item bs) × (length new ≡ slot_total (es ++ e ∷ []))
+    → new ≡ slots ++ drop 1 (part_blocks e.item bs)
+    → (by_part (es ++ e ∷ []) new ≡ by_part es slots ++ part_blocks e.item bs) × (length new ≡ slot_total (es ++ e ∷ []))
 slots_append es slots new e bs len within nums is =
-    let more = drop 1 (slots_of e.item bs) in (
+    let more = drop 1 (part_blocks e.item bs) in (
       ap (by_part (es ++ e ∷ [])) is ∙ by_part_append es (e ∷ []) slots more len
           ∙ ap (λ ys. by_part es slots ++ ys) (append-nil (own e more) ∙ behind_first e.item bs within nums),
       omega (
         arith,
         ap length is,
         length-append slots more,
-        length-drop 1 (slots_of e.item bs),
-        length_slots e.item bs within nums,
+        length-drop 1 (part_blocks e.item bs),
+        length_part_blocks e.item bs within nums,
         slot_total-append es (e ∷ []),
         len,
       ),
@@ -90,25 +91,28 @@ slots_append es slots new e bs len within nums is =
 -- ---- the block of a part by its slot
 
 -- what a part's block is by the slots from one on: the first part has none
-abbrev pub slot_at : List (Option BlockValue) → ℕ → ℕ → Option BlockValue
-slot_at slots base zero = None
-slot_at slots base (suc place) = slice_index_or slots (base + place) None
+abbrev pub block_in_slot : List (Option BlockValue) → ℕ → ℕ → Option BlockValue
+block_in_slot slots base zero = None
+block_in_slot slots base (suc place) = slice_index_or slots (base + place) None
 
-own_at : (e : Entry) (slots : List (Option BlockValue)) (p : ℕ) → p < part_count e → slice_index_or (own e slots) p None ≡ slot_at slots 0 p
+own_at : (e : Entry) (slots : List (Option BlockValue)) (p : ℕ) → p < part_count e
+    → slice_index_or (own e slots) p None ≡ block_in_slot slots 0 p
 own_at e slots zero lt = get_or-take (part_count e) (None ∷ slots) 0 None lt
 own_at e slots (suc p) lt =
     let z : 0 + p ≡ p = omega arith in
     rw z (get_or-take (part_count e) (None ∷ slots) (suc p) None lt)
 
-slot_later : (slots : List (Option BlockValue)) (count base p : ℕ) → slot_at (drop count slots) base p ≡ slot_at slots (count + base) p
+slot_later : (slots : List (Option BlockValue)) (count base p : ℕ)
+    → block_in_slot (drop count slots) base p ≡ block_in_slot slots (count + base) p
 slot_later slots count base zero = refl
 slot_later slots count base (suc p) =
     let z : count + (base + p) ≡ count + base + p = omega arith in
     get_or-drop count slots (base + p) None ∙ ap (λ n. slice_index_or slots n None) z
 
+-- the block of a part, by its entry and its place there
 pub block_at_slot : (es : List Entry) (slots : List (Option BlockValue)) (i p : ℕ) (e : Entry) → i < length es
     → e ≡ slice_index_or es i e → p < part_count e → slot_total es ≤ length slots
-    → slice_index_or (by_part es slots) (part_base es i + p) None ≡ slot_at slots (slot_base es i) p
+    → slice_index_or (by_part es slots) (part_base es i + p) None ≡ block_in_slot slots (slot_base es i) p
 block_at_slot [] slots i p e lt is within fits = absurd (omega (arith, lt))
 block_at_slot (x ∷ es) slots zero p e lt is within fits =
     let len = own_length x slots (omega (arith, fits)) in
@@ -164,8 +168,8 @@ slot_leaves (x ∷ es) slots (suc i) p e b lt is within fits =
       drop-set-add (slot_count x) slots (slot_base es i + p) b,
       slot_leaves es (drop (slot_count x) slots) i p e b (omega (arith, lt)) is within less,
     )
-    (sym (set-append_right (own x slots) (by_part es (drop (slot_count x) slots)) (part_count x) (part_count x + part_base es i + suc p) b len
-    (omega arith)
+    (sym (set-append_right (own x slots) (by_part es (drop (slot_count x) slots)) (part_count x)
+    (part_count x + part_base es i + suc p) b len (omega arith)
     ∙ ap (λ n. own x slots ++ slice_set (by_part es (drop (slot_count x) slots)) n b) back))
 
 -- ---- the part of a slot
@@ -209,17 +213,13 @@ slot_is_part (e ∷ es) slots k len = go (nat_lt k (slot_count e)) refl (slot_is
 -- the parts of an entry, of a list that has no more than its slots in front
 own_front : (e : Entry) (slots : List (Option BlockValue)) → own e (take (slot_count e) slots) ≡ own e slots
 own_front e slots = go (part_count e) where
-  twice : (n : ℕ) (xs : List (Option BlockValue)) → take n (take n xs) ≡ take n xs
-  twice zero xs = refl
-  twice (suc n) [] = refl
-  twice (suc n) (x ∷ xs) = ap (λ ys. x ∷ ys) (twice n xs)
-
   go : (n : ℕ) → take n (None ∷ take (n - 1) slots) ≡ take n (None ∷ slots)
   go zero = refl
   go (suc n) =
       let z : suc n - 1 ≡ n = omega arith in
-      rw z (ap (λ ys. None ∷ ys) (twice n slots))
+      rw z (ap (λ ys. None ∷ ys) (take-take n n slots (omega arith)))
 
+-- what is left of entries and of their slots has the blocks that are left
 pub slots_left : (flags : List Bool) (es : List Entry) (slots : List (Option BlockValue)) → length slots ≡ slot_total es
     → by_part (left_of flags es) (left_of (slot_flags flags es) slots) ≡ left_of (part_flags flags es) (by_part es slots)
 slots_left [] es slots len = refl
@@ -254,13 +254,9 @@ slots_left (false ∷ flags) (e ∷ es) slots len =
     )
     (slots_left flags es rest (omega (arith, length-drop (slot_count e) slots, len)))
 
--- where no part that goes has a block, no slot that goes has one
+-- none of these has a block
 abbrev AreEmpty : List (Option BlockValue) → Type 0
 AreEmpty slots = AllByRecursion (λ b. b ≡ None) slots
-
-both_empty : (xs ys : List (Option BlockValue)) → AreEmpty xs → AreEmpty ys → AreEmpty (xs ++ ys)
-both_empty [] ys h k = k
-both_empty (x ∷ xs) ys h k = (h.0, both_empty xs ys h.1 k)
 
 own_empty : (n : ℕ) (slots : List (Option BlockValue)) → AreEmpty (take n (None ∷ slots)) → AreEmpty (take (n - 1) slots)
 own_empty zero slots h = tt
@@ -274,9 +270,10 @@ run_empty true flags es e slots le h rest = subst AreEmpty (sym (gone_of-run (sl
 run_empty false flags es e slots le h rest =
     let front = run_gone (λ b. b ≡ None) (part_count e) (part_flags flags es) (by_part (e ∷ es) slots) h in
     subst AreEmpty (sym (gone_of-run (slot_count e) false (slot_flags flags es) slots))
-    (both_empty (take (slot_count e) slots) (gone_of (slot_flags flags es) (drop (slot_count e) slots))
+    (all_append (λ b. b ≡ None) (take (slot_count e) slots) (gone_of (slot_flags flags es) (drop (slot_count e) slots))
     (own_empty (part_count e) slots (subst AreEmpty (own_taken e slots (by_part es (drop (slot_count e) slots)) le) front)) rest)
 
+-- where no part that goes has a block, no slot that goes has one
 pub slots_gone : (flags : List Bool) (es : List Entry) (slots : List (Option BlockValue)) → length slots ≡ slot_total es
     → AreEmpty (gone_of (part_flags flags es) (by_part es slots)) → AreEmpty (gone_of (slot_flags flags es) slots)
 slots_gone [] es slots len h = tt

@@ -77,9 +77,10 @@ pub stretch_is : (block : ℕ) (es : List Entry) (t : ℕ) (index : IndexValue) 
     → IsScan block es t index → ((i : ℕ) → i < t → first_slot tallies i ≡ slot_base es i)
     → part_total (take t es) < 2 ^ 64 → IsRunFrom from (ref_at index.pages.pages) (Some run) → IsRun run → from ≡ min page FILE_PAGES
     → IsStretch (page_slot es index) page
-    (record { first = run.first; end = run.end; number = first_slot tallies (unwrap_or (place_of es run.start.entry) 0) + run.start.place })
+    (record { first = run.first; end = run.end; slot = first_slot tallies (unwrap_or (place_of es run.start.entry) 0) + run.start.place })
 stretch_is block es t index tallies run from page scan bases small is good at =
-    let last = page_found block es t index tallies run (run.end - 1) scan bases is.0 (omega (arith, good.some)) (omega (arith, good.some)) in
+    let last =
+    page_found block es t index tallies run (run.end - 1) scan bases is.0 (omega (arith, good.some)) (omega (arith, good.some)) in
     let same : from ≡ page = omega (arith, at, is.1, good.within) in
     record {
       ahead = omega (arith, same, is.1);
@@ -91,7 +92,7 @@ stretch_is block es t index tallies run from page scan bases small is good at =
 
 pub no_stretch_is : (es : List Entry) (index : IndexValue) (from page : ℕ) → IsRunFrom from (ref_at index.pages.pages) None
     → from ≡ min page FILE_PAGES → page + 1 < 2 ^ 64
-    → IsStretch (page_slot es index) page (record { first = 2 ^ 64 - 1; end = 2 ^ 64 - 1; number = 0 })
+    → IsStretch (page_slot es index) page (record { first = 2 ^ 64 - 1; end = 2 ^ 64 - 1; slot = 0 })
 no_stretch_is es index from page is at small = record {
   ahead = omega (arith, small);
   small = omega arith;

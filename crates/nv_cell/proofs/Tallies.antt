@@ -82,7 +82,7 @@ pick_there true t u = refl
 pick_there false t u = refl
 
 -- an entry's slots, and a run, begin where those before end
-pub next_slot : (tallies : List Tally) (i : ℕ) → first_slot tallies (suc i) ≡ (tally_at tallies i).slots
+pub next_slot : (tallies : List Tally) (i : ℕ) → first_slot tallies (suc i) ≡ (tally_at tallies i).slots_end
 next_slot tallies i =
     let a : (suc i == 0) ≡ false = grind (arith, nat_tests) in
     let b : suc i - 1 ≡ i = omega arith in
@@ -95,14 +95,14 @@ next_start ends i =
     rw (a, b) refl
 
 -- another tally with as many slots moves none
-same_slots : (tallies : List Tally) (i j : ℕ) (t : Tally) → i < length tallies → t.slots ≡ (tally_at tallies i).slots
-    → (tally_at (slice_set tallies i t) j).slots ≡ (tally_at tallies j).slots
-same_slots tallies i j t lt is = ap (λ (x : Tally). x.slots) (tally_set tallies i j t lt) ∙ go (i == j) refl where
-  go : (b : Bool) → (i == j) ≡ b → (cond (i == j) t (tally_at tallies j)).slots ≡ (tally_at tallies j).slots
-  go true q = let same : i ≡ j = eqb-true i j q in rw q (is ∙ ap (λ (k : ℕ). (tally_at tallies k).slots) same)
+same_slots : (tallies : List Tally) (i j : ℕ) (t : Tally) → i < length tallies → t.slots_end ≡ (tally_at tallies i).slots_end
+    → (tally_at (slice_set tallies i t) j).slots_end ≡ (tally_at tallies j).slots_end
+same_slots tallies i j t lt is = ap (λ (x : Tally). x.slots_end) (tally_set tallies i j t lt) ∙ go (i == j) refl where
+  go : (b : Bool) → (i == j) ≡ b → (cond (i == j) t (tally_at tallies j)).slots_end ≡ (tally_at tallies j).slots_end
+  go true q = let same : i ≡ j = eqb-true i j q in rw q (is ∙ ap (λ (k : ℕ). (tally_at tallies k).slots_end) same)
   go false q = rw q refl
 
-same_first : (tallies : List Tally) (i j : ℕ) (t : Tally) → i < length tallies → t.slots ≡ (tally_at tallies i).slots
+same_first : (tallies : List Tally) (i j : ℕ) (t : Tally) → i < length tallies → t.slots_end ≡ (tally_at tallies i).slots_end
     → first_slot (slice_set tallies i t) j ≡ first_slot tallies j
 same_first tallies i zero t lt is = refl
 same_first tallies i (suc j) t lt is =
@@ -352,32 +352,32 @@ each_new test f tallies t ends marks count len whole h =
 first_old : (tallies : List Tally) (t : Tally) (j : ℕ) → j ≤ length tallies → first_slot (tallies ++ t ∷ []) j ≡ first_slot tallies j
 first_old tallies t zero h = refl
 first_old tallies t (suc j) h =
-    next_slot (tallies ++ t ∷ []) j ∙ ap (λ (x : Tally). x.slots) (tally_old tallies t j (omega (arith, h))) ∙ sym (next_slot tallies j)
+    next_slot (tallies ++ t ∷ []) j ∙ ap (λ (x : Tally). x.slots_end) (tally_old tallies t j (omega (arith, h))) ∙ sym (next_slot tallies j)
 
 -- the slots of old entries, and the new one's
 slots_old : (tallies : List Tally) (t : Tally) (ends : List ℕ) (x j : ℕ) → length tallies ≡ length ends → j < length ends
-    → (tally_at tallies j).slots ≡ first_slot tallies j + (end_at ends j - start_at ends j - 1)
-    → (tally_at (tallies ++ t ∷ []) j).slots
+    → (tally_at tallies j).slots_end ≡ first_slot tallies j + (end_at ends j - start_at ends j - 1)
+    → (tally_at (tallies ++ t ∷ []) j).slots_end
     ≡ first_slot (tallies ++ t ∷ []) j + (end_at (ends ++ x ∷ []) j - start_at (ends ++ x ∷ []) j - 1)
 slots_old tallies t ends x j len lt h =
-    ap (λ (y : Tally). y.slots) (tally_old tallies t j (omega (arith, len, lt))) ∙ h
+    ap (λ (y : Tally). y.slots_end) (tally_old tallies t j (omega (arith, len, lt))) ∙ h
     ∙ rw (first_old tallies t j (omega (arith, len, lt)), start_old ends x j (omega (arith, lt)), end_old ends x j lt) refl
 
 slots_new : (tallies : List Tally) (t : Tally) (ends : List ℕ) (len count : ℕ) → length tallies ≡ length ends
-    → start_at ends (length ends) ≡ len → t.slots ≡ first_slot tallies (length tallies) + (count - 1)
-    → (tally_at (tallies ++ t ∷ []) (length ends)).slots
+    → start_at ends (length ends) ≡ len → t.slots_end ≡ first_slot tallies (length tallies) + (count - 1)
+    → (tally_at (tallies ++ t ∷ []) (length ends)).slots_end
     ≡ first_slot (tallies ++ t ∷ []) (length ends)
     + (end_at (ends ++ (len + count) ∷ []) (length ends) - start_at (ends ++ (len + count) ∷ []) (length ends) - 1)
 slots_new tallies t ends len count same whole is =
-    let own : (tally_at (tallies ++ t ∷ []) (length ends)).slots ≡ t.slots =
-    ap (λ (i : ℕ). (tally_at (tallies ++ t ∷ []) i).slots) (sym same) ∙ ap (λ (x : Tally). x.slots) (tally_new tallies t) in
+    let own : (tally_at (tallies ++ t ∷ []) (length ends)).slots_end ≡ t.slots_end =
+    ap (λ (i : ℕ). (tally_at (tallies ++ t ∷ []) i).slots_end) (sym same) ∙ ap (λ (x : Tally). x.slots_end) (tally_new tallies t) in
     let first : first_slot (tallies ++ t ∷ []) (length ends) ≡ first_slot tallies (length tallies) =
     ap (λ (i : ℕ). first_slot (tallies ++ t ∷ []) i) (sym same) ∙ first_old tallies t (length tallies) (omega arith) in
     let start = start_old ends (len + count) (length ends) (omega arith) in
     omega (arith, own, is, first, start, whole, end_new ends (len + count))
 
 pub add_tallies : (tallies : List Tally) (t : Tally) (ends : List ℕ) (marks : List Mark) (count : ℕ) → AreTallies tallies ends marks
-    → t.current ≡ count → t.there ≡ count → t.slots ≡ first_slot tallies (length tallies) + (count - 1)
+    → t.current ≡ count → t.there ≡ count → t.slots_end ≡ first_slot tallies (length tallies) + (count - 1)
     → AreTallies (tallies ++ t ∷ []) (ends ++ (length marks + count) ∷ []) (marks ++ replicate count Current)
 add_tallies tallies t ends marks count h current_is there_is slots_is = record {
   runs = rw size (add_runs ends (length marks) count h.runs h.within);

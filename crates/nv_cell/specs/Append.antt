@@ -24,9 +24,9 @@ abbrev pub blocks_for : Item → List BlockValue → List BlockValue
 blocks_for item blocks = take (length (item_blocks item)) blocks
 
 -- the block of each part of an item, by place: a page has one, and no other part
-abbrev pub slots_of : Item → List BlockValue → List (Option BlockValue)
-slots_of (Write first run size) blocks = None ∷ map Some blocks
-slots_of item blocks = replicate (length (parts_of item)) None
+abbrev pub part_blocks : Item → List BlockValue → List (Option BlockValue)
+part_blocks (Write first run size) blocks = None ∷ map Some blocks
+part_blocks item blocks = replicate (length (parts_of item)) None
 
 -- there is room for an entry, and it may stand behind the last one
 pub record MayAppend (e : Entry) (cell : CellValue) : Type 0 where
@@ -39,7 +39,7 @@ pub record MayAppend (e : Entry) (cell : CellValue) : Type 0 where
 
 -- the cell with one more entry, past the tail, with the blocks of its pages
 abbrev pub appended : Entry → List BlockValue → CellState → CellState
-appended e blocks cell = record cell { chain = appended_chain e cell.chain; blocks = cell.blocks ++ slots_of e.item blocks }
+appended e blocks cell = record cell { chain = appended_chain e cell.chain; blocks = cell.blocks ++ part_blocks e.item blocks }
 
 -- the room that is left once an entry with so many parts was appended
 abbrev pub after_append : ℕ → CellRoom → CellRoom

@@ -49,9 +49,9 @@ abbrev pub own_bytes : CellState → List ℕ
 own_bytes cell =
     let size = size_now cell.block (log_of cell) in take size (flat_map (own_page cell) (range_with_len 0 (pages_for cell.block size)))
 
--- the pages from `from` on: none before the stretch is present, and those of the stretch have numbers that rise by one
+-- the pages from `from` on: none before the stretch is present, and those of the stretch have slots that rise by one
 pub record IsStretch (numbers : ℕ → Option ℕ) (from : ℕ) (s : Stretch) : Type 0 where
   pub ahead : from < s.end
-  pub small : s.number + (s.end - s.first) < 2 ^ 64
+  pub small : s.slot + (s.end - s.first) < 2 ^ 64
   pub absent : (page : ℕ) → from ≤ page → page < s.first → numbers page ≡ None
-  pub present : (page : ℕ) → s.first ≤ page → page < s.end → numbers page ≡ Some (s.number + (page - s.first))
+  pub present : (page : ℕ) → s.first ≤ page → page < s.end → numbers page ≡ Some (s.slot + (page - s.first))

@@ -19,7 +19,7 @@ run_flags start [] ends = []
 run_flags start (stays ∷ flags) [] = []
 run_flags start (stays ∷ flags) (end ∷ ends) = replicate (end - start) stays ++ run_flags end flags ends
 
--- a flag for each of so many items of each entry of a log, by those of the entries
+-- the flag of each entry of a log, once for each of its items, of which it has `count`
 abbrev pub flags_by : (Entry → ℕ) → List Bool → List Entry → List Bool
 flags_by count [] log = []
 flags_by count (stays ∷ flags) [] = []

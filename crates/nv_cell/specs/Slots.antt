@@ -26,7 +26,7 @@ abbrev pub by_part : List Entry → List (Option BlockValue) → List (Option Bl
 by_part [] slots = []
 by_part (e ∷ later) slots = take (part_count e) (None ∷ slots) ++ by_part later (drop (slot_count e) slots)
 
--- the slots once one of them is emptied
+-- the slots once one of them, if any, is emptied
 abbrev pub emptied : List (Option BlockValue) → Option ℕ → List (Option BlockValue)
 emptied slots None = slots
 emptied slots (Some k) = slice_set slots k None

@@ -8,7 +8,7 @@ use Rattle.nv_cell.specs.declared.tally.Tally.{Tally}
 use Rattle.nv_cell.specs.Marks.{bit, is_current, is_there}
 
 abbrev pub no_tally : Tally
-no_tally = record { current = 0; there = 0; slots = 0 }
+no_tally = record { current = 0; there = 0; slots_end = 0 }
 
 abbrev pub tally_at : List Tally → ℕ → Tally
 tally_at tallies i = slice_index_or tallies i no_tally
@@ -59,15 +59,15 @@ pub record AreRuns (ends : List ℕ) (len : ℕ) : Type 0 where
   pub rising : (i j : ℕ) → i ≤ j → j < length ends → end_at ends i ≤ end_at ends j
   pub all : (n : ℕ) → n < len → (0 < length ends) × (n < end_at ends (length ends - 1))
 
--- where an entry's slots begin: those of the entries before it lie in front
-abbrev pub first_slot : List Tally → ℕ → ℕ
-first_slot tallies i = if i == 0 then 0 else (tally_at tallies (i - 1)).slots
-
 -- an item stands in the i-th run
 pub record IsInRun (ends : List ℕ) (n i : ℕ) : Type 0 where
   pub within : i < length ends
   pub start : start_at ends i ≤ n
   pub end : n < end_at ends i
+
+-- where an entry's slots begin: those of the entries before it lie in front
+abbrev pub first_slot : List Tally → ℕ → ℕ
+first_slot tallies i = if i == 0 then 0 else (tally_at tallies (i - 1)).slots_end
 
 -- each entry's tally counts its parts' marks, and says where its slots end: one for each part but the first
 pub record AreTallies (tallies : List Tally) (ends : List ℕ) (marks : List Mark) : Type 0 where
@@ -77,7 +77,7 @@ pub record AreTallies (tallies : List Tally) (ends : List ℕ) (marks : List Mar
   pub len : length tallies ≡ length ends
   pub current : (i : ℕ) → i < length ends → (tally_at tallies i).current ≡ count_in is_current marks (start_at ends i) (end_at ends i)
   pub there : (i : ℕ) → i < length ends → (tally_at tallies i).there ≡ count_in is_there marks (start_at ends i) (end_at ends i)
-  pub slots : (i : ℕ) → i < length ends → (tally_at tallies i).slots ≡ first_slot tallies i + (end_at ends i - start_at ends i - 1)
+  pub slots : (i : ℕ) → i < length ends → (tally_at tallies i).slots_end ≡ first_slot tallies i + (end_at ends i - start_at ends i - 1)
 
 -- each page's counts are those of its entries
 pub record AreCounts (pages : List PageCounts) (ends : List ℕ) (tallies : List Tally) : Type 0 where

@@ -7,7 +7,7 @@ ghost use Rattle.nv_entry.specs.Covered.{part_count};
 ghost use Rattle.nv_entry.specs.Keys.{parts_of};
 ghost use Rattle.nv_entry.specs.declared.item.Item.{Item as ItemValue};
 ghost use Rattle.nv_log.specs.Chain.{AppendsEntry, with_page};
-ghost use Rattle.nv_cell.specs.Append.{IsWithinFile, MayAppend, after_append, appended, blocks_for, slots_of};
+ghost use Rattle.nv_cell.specs.Append.{IsWithinFile, MayAppend, after_append, appended, blocks_for, part_blocks};
 ghost use Rattle.nv_cell.specs.Room.{AddsPage, IsReadyFor};
 ghost use Rattle.nv_cell.specs.Tallies.{no_counts};
 
@@ -126,7 +126,7 @@ fn push_slots(slots: &mut Vec<Option<Block>>, item: &Item, queue: &mut BlockQueu
     requires within { IsWithinFile item.now }
     requires there { length (item_blocks item.now) ≤ length queue.old.blocks }
     ensures slots { slots.new.items
-        ≡ slots.old.items ++ drop 1 (slots_of item.now (blocks_for item.now queue.old.blocks)) }
+        ≡ slots.old.items ++ drop 1 (part_blocks item.now (blocks_for item.now queue.old.blocks)) }
     ensures capacity { vec_capacity slots.new ≡ vec_capacity slots.old }
     ensures queue { queue.new ≡ record queue.old {
       blocks = drop (length (item_blocks item.now)) queue.old.blocks;

@@ -34,8 +34,8 @@ pub struct InodeCell {
     pub(crate) chain: Chain,
     pub(crate) index: CellIndex,
     pub(crate) marks: Marks,
-    // The block of each page part that is not out, by slot; also of parts that are not yet published. Each part of an entry
-    // has a slot but the first, which is no page.
+    // The block of each page part that is not out, also of parts not yet published: each part of an entry has a slot
+    // for it but the first, which is no page.
     pub(crate) blocks: Vec<Option<Block>>,
     // For how many more entries, and parts of entries, there is room.
     pub(crate) entries: usize,
@@ -189,6 +189,5 @@ fn take_block(slots: &mut Vec<Option<Block>>, slot: Option<usize>) -> Option<Blo
     ensures slots { slots.new.items ≡ emptied slots.old.items slot }
     ensures capacity { vec_capacity slots.new ≡ vec_capacity slots.old }
 {
-    let place = &mut slots[slot?];
-    place.take()
+    slots[slot?].take()
 }

@@ -86,6 +86,7 @@ pub fn pass_parts(
 {
     // The chain is one, so that its tail is no further than its entries.
     let _ends = chain.ends();
+    // What the log's slots leave: those past the tail.
     let mut fresh = slots.len();
     for i in 0..chain.tail() {
         let count = chain.entry_at(i).item.part_count() as usize;

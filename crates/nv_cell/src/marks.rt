@@ -14,9 +14,9 @@ use crate::{Mark, NumberedPart, PageCounts, Tally};
 use nv_base::Fault;
 use std::alloc::Global;
 
-/// The mark of each published part by its number, where the parts of each entry end among them, how many of each
-/// entry's parts are current or not out, where its slots end, and how many entries of each page have such a part. Pages
-/// are those of the chain: where they end is told by it.
+/// The mark of each published part by its number, where the parts of each entry end among them, where its slots end,
+/// how many of its parts are current or not out, and how many entries of each page have such a part. Pages are those of
+/// the chain: where they end is told by it.
 #[derive(Debug, Drop)]
 pub struct Marks {
     pub(crate) marks: Vec<Mark>,
@@ -106,7 +106,7 @@ impl Marks {
             return 0;
         }
         match self.tallies.get(entry - 1) {
-            Some(tally) => tally.slots,
+            Some(tally) => tally.slots_end,
             None => 0,
         }
     }
@@ -184,7 +184,7 @@ impl Marks {
         let tally = Tally {
             current: parts,
             there: parts,
-            slots: self.first_slot(self.tallies.len()) + parts.saturating_sub(1),
+            slots_end: self.first_slot(self.tallies.len()) + parts.saturating_sub(1),
         };
         let k = page_of(page_ends, self.tallies.len());
         self.pages[k] = self.pages[k].with_entry(tally);

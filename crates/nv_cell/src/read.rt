@@ -29,13 +29,13 @@ use std::ops::Range;
 /// How many pages a read looks up before it copies their bytes.
 const GROUP: usize = 16;
 
-/// Pages that follow one another and lie so in one entry, with the number of the first one's slot. No page from one
+/// Pages that follow one another and lie so in one entry, with the first one's slot. No page from one
 /// that was asked for up to the first of these is present.
 #[derive(Clone, Copy, Debug, PartialEq, Eq)]
 pub struct Stretch {
     pub first: u64,
     pub end: u64,
-    pub number: usize,
+    pub slot: usize,
 }
 
 impl InodeCell {
@@ -87,7 +87,7 @@ impl InodeCell {
             page,
             &mut place,
         );
-        block_at(&self.blocks, number_in(stretch, page))
+        block_at(&self.blocks, slot_in(stretch, page))
     }
 }
 
@@ -121,7 +121,7 @@ fn read_pages(
     while page < last {
         let pages = page..last.min(page.saturating_add(GROUP as u64));
         let count = (pages.end - pages.start) as usize;
-        find_numbers(block, index, chain, marks, &pages, &mut place, &mut numbers);
+        find_slots(block, index, chain, marks, &pages, &mut place, &mut numbers);
         find_blocks(slots, &numbers, count, &mut blocks);
         push_pages(bytes, block, &blocks, &pages, &places)?;
         page = pages.end;
@@ -129,9 +129,9 @@ fn read_pages(
     Ok(())
 }
 
-/// Puts the numbers of some pages' slots in front of a list; none for a page that is absent. The first page's run is
+/// Puts the slots of some pages in front of a list; none for a page that is absent. The first page's run is
 /// looked for at a place among the runs first, which becomes the place behind the last one's.
-fn find_numbers(
+fn find_slots(
     block: u64,
     index: &CellIndex,
     chain: &Chain,
@@ -155,23 +155,23 @@ fn find_numbers(
         if page == pages.start || stretch.end <= page {
             stretch = stretch_from(block, index, chain, marks, page, place);
         }
-        numbers[(page - pages.start) as usize] = number_in(stretch, page);
+        numbers[(page - pages.start) as usize] = slot_in(stretch, page);
     }
 }
 
-/// The number of a page's slot, by the stretch that has the page or comes behind it.
-fn number_in(stretch: Stretch, page: u64) -> Option<usize>
-    requires small { stretch.number + (stretch.end - stretch.first) < 2 ^ 64 }
+/// A page's slot, by the stretch that has the page or comes behind it.
+fn slot_in(stretch: Stretch, page: u64) -> Option<usize>
+    requires small { stretch.slot + (stretch.end - stretch.first) < 2 ^ 64 }
     requires ahead { page < stretch.end }
     ensures { (numbers : ℕ → Option ℕ) → IsStretch numbers page stretch → result ≡ numbers page }
 {
     if page < stretch.first {
         return None;
     }
-    Some(stretch.number + (page - stretch.first) as usize)
+    Some(stretch.slot + (page - stretch.first) as usize)
 }
 
-/// Puts the blocks of the slots of the first so many numbers in front of a list. Nothing else is done between one look and
+/// Puts the blocks in the first so many of these slots in front of a list. Nothing else is done between one look and
 /// the next, so that all of them come from memory at one time.
 fn find_blocks<'a>(
     slots: &'a [Option<Block>],
@@ -188,7 +188,7 @@ fn find_blocks<'a>(
     }
 }
 
-/// The block of the slot of a number, if there is one.
+/// The block in a slot, if there is one.
 pub fn block_at(slots: &[Option<Block>], number: Option<usize>) -> Option<&Block>
     ensures { option_copied result ≡ option_and_then (λ n. slice_index_or slots.now n None) number }
 {
@@ -263,16 +263,16 @@ fn stretch_from(
 
 /// No stretch is left.
 fn no_stretch() -> Stretch
-    ensures { result ≡ record { first = 2 ^ 64 - 1; end = 2 ^ 64 - 1; number = 0 } }
+    ensures { result ≡ record { first = 2 ^ 64 - 1; end = 2 ^ 64 - 1; slot = 0 } }
 {
     Stretch {
         first: u64::MAX,
         end: u64::MAX,
-        number: 0,
+        slot: 0,
     }
 }
 
-/// A run of pages, with the number of the slot of its first one.
+/// A run of pages, with the slot of its first one.
 fn stretch_of(chain: &Chain, marks: &Marks, run: &PageRun) -> Stretch
     requires known { IsSome (place_of chain.now.state.entries run.now.start.entry) }
     requires small { first_slot marks.now.tallies.items
@@ -281,7 +281,7 @@ fn stretch_of(chain: &Chain, marks: &Marks, run: &PageRun) -> Stretch
     ensures { result ≡ record {
       first = run.now.first;
       end = run.now.end;
-      number = first_slot marks.now.tallies.items
+      slot = first_slot marks.now.tallies.items
           (unwrap_or (place_of chain.now.state.entries run.now.start.entry) 0)
           + run.now.start.place;
     } }
@@ -290,7 +290,7 @@ fn stretch_of(chain: &Chain, marks: &Marks, run: &PageRun) -> Stretch
     Stretch {
         first: u64::from(run.first),
         end: u64::from(run.end),
-        number: marks.first_slot(place) + run.start.place as usize,
+        slot: marks.first_slot(place) + run.start.place as usize,
     }
 }
 

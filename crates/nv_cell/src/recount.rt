@@ -1,4 +1,4 @@
-//! Where the parts of entries end, and the tallies of entries and counts of pages, told anew by the marks.
+//! Where the parts and slots of entries end, and the tallies of entries and counts of pages, told anew by the marks.
 
 ghost use Rattle.std.specs.Prelude.{◌≡◌, ℕ, ◌+◌, ◌<◌, ◌≤◌, length, vec_capacity};
 ghost use Rattle.std.specs.List.{count_by};
@@ -11,16 +11,16 @@ ghost use Rattle.nv_cell.specs.Tallies.{AreCounts, AreRuns, AreTallied, AreTalli
 use crate::{Mark, Marks, PageCounts, Tally};
 use nv_log::Chain;
 
-/// How many marks are current, and how many are not out, of an entry whose slots end there.
-fn tally_of(marks: &[Mark], slots: usize) -> Tally
+/// The tally of an entry with these marks, whose slots end at `slots_end`.
+fn tally_of(marks: &[Mark], slots_end: usize) -> Tally
     ensures current { result.current ≡ count_by is_current marks.now }
     ensures there { result.there ≡ count_by is_there marks.now }
-    ensures slots { result.slots ≡ slots }
+    ensures slots { result.slots_end ≡ slots_end }
 {
     Tally {
         current: marks.iter().filter(|mark| mark.is_current()).count(),
         there: there_in(marks),
-        slots,
+        slots_end,
     }
 }
 
@@ -31,15 +31,15 @@ fn there_in(marks: &[Mark]) -> usize
     marks.iter().filter(|mark| mark.is_there()).count()
 }
 
-/// The tally of the marks of a run, of an entry whose slots end there.
-fn tally_in(marks: &[Mark], start: usize, end: usize, slots: usize) -> Tally
+/// The tally of an entry with the marks of a run, whose slots end at `slots_end`.
+fn tally_in(marks: &[Mark], start: usize, end: usize, slots_end: usize) -> Tally
     requires onward { start ≤ end }
     requires within { end ≤ length marks.now }
     ensures current { result.current ≡ count_in is_current marks.now start end }
     ensures there { result.there ≡ count_in is_there marks.now start end }
-    ensures slots { result.slots ≡ slots }
+    ensures slots { result.slots_end ≡ slots_end }
 {
-    tally_of(&marks[start..end], slots)
+    tally_of(&marks[start..end], slots_end)
 }
 
 /// How many entries with these tallies are live, and how many are valid.
@@ -68,12 +68,12 @@ fn retally(ends: &mut Vec<usize>, tallies: &mut Vec<Tally>, marks: &[Mark], chai
     ends.clear();
     tallies.clear();
     let mut start = 0;
-    let mut slots = 0;
+    let mut slots_end = 0;
     for t in 0..chain.tail() {
         let count = chain.entry_at(t).item.part_count() as usize;
         let end = start + count;
-        slots += count.saturating_sub(1);
-        let tally = tally_in(marks, start, end, slots);
+        slots_end += count.saturating_sub(1);
+        let tally = tally_in(marks, start, end, slots_end);
         tallies.push_reserved(tally);
         ends.push_reserved(end);
         start = end;

@@ -1,4 +1,5 @@
-//! How many parts of an entry are current or not out, and how many entries of a page have such a part.
+//! How many parts of an entry are current or not out and where its slots end, and how many entries of a page have such
+//! a part.
 
 ghost use Rattle.std.specs.Prelude.{◌≡◌, ◌+◌, ◌-◌, ◌<◌, ◌≤◌, ◌^◌, true, false};
 ghost use Rattle.nv_cell.specs.Marks.{bit, is_current, is_there};
@@ -11,7 +12,7 @@ use crate::Mark;
 pub struct Tally {
     pub current: usize,
     pub there: usize,
-    pub slots: usize,
+    pub slots_end: usize,
 }
 
 /// How many entries of a page have a current part, and how many have one that is current, killed or kept.
@@ -49,7 +50,7 @@ impl Tally {
             } else {
                 self.there - 1
             },
-            slots: self.slots,
+            slots_end: self.slots_end,
         }
     }
 }

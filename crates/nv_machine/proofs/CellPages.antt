@@ -9,7 +9,7 @@ use Rattle.std.proofs.lemmas.List.{get_or_append_left, get_or-append_right, take
 use Rattle.nv_alloc.specs.Block.{BlockValue, number_of, numbers_of}
 use Rattle.nv_calls.specs.Plain.{stamped}
 use Rattle.nv_calls.specs.Slots.{last_commit}
-use Rattle.nv_cell.specs.Append.{IsWithinFile, appended, slots_of}
+use Rattle.nv_cell.specs.Append.{IsWithinFile, appended, part_blocks}
 use Rattle.nv_cell.specs.Cell.{CellState, page_block}
 use Rattle.nv_cell.specs.Numbers.{is_number}
 use Rattle.nv_cell.proofs.Appending.{back_block, length_slots, slot_block}
@@ -202,7 +202,7 @@ module _ (log : List Entry) (cell : CellState) (h : HasPages log cell) (e : Entr
   es = cell.chain.entries
 
   abbrev slots : List (Option BlockValue)
-  slots = slots_of e.item bs
+  slots = part_blocks e.item bs
 
   pub appended_pages : IsWithinFile e.item → numbers_of bs ≡ item_blocks e.item → HasPages log (appended e bs cell)
   appended_pages within nums = record {
@@ -226,9 +226,9 @@ module _ (log : List Entry) (cell : CellState) (h : HasPages log cell) (e : Entr
 pub appended_node : (cell : CellState) (t : ℕ) (e : Entry) (bs : List BlockValue) → HasPages (take t cell.chain.entries) cell
     → node_by (appended e bs cell) (take t cell.chain.entries) ≡ node_by cell (take t cell.chain.entries)
 appended_node cell t e bs h = same_node cell (appended e bs cell) t refl
-    (λ page number is. let p = page_there cell t page number h is in among_more cell.blocks (slots_of e.item bs) p.0 number p.2)
+    (λ page number is. let p = page_there cell t page number h is in among_more cell.blocks (part_blocks e.item bs) p.0 number p.2)
 
 pub appended_sound : (cell : CellState) (t : ℕ) (e : Entry) (bs : List BlockValue) → HasPages (take t cell.chain.entries) cell
     → IsSoundIn cell (take t cell.chain.entries) → IsSoundIn (appended e bs cell) (take t cell.chain.entries)
 appended_sound cell t e bs h = same_sound cell (appended e bs cell) t refl
-    (λ page number is. let p = page_there cell t page number h is in among_more cell.blocks (slots_of e.item bs) p.0 number p.2)
+    (λ page number is. let p = page_there cell t page number h is in among_more cell.blocks (part_blocks e.item bs) p.0 number p.2)

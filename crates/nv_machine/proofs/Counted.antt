@@ -10,7 +10,7 @@ use Rattle.nv_alloc.specs.Numbers.{times}
 use Rattle.nv_alloc.proofs.GivingLemmas.{kept_of-append, times-blocks, times-given}
 use Rattle.nv_alloc.proofs.Lists.{times-append}
 use Rattle.nv_calls.specs.Retiring.{erased, freed, freed_by, freed_one, is_erased, keeper_of, retired, retired_one, settled, name_of, released, released_blocks}
-use Rattle.nv_cell.specs.Append.{appended, blocks_for, slots_of}
+use Rattle.nv_cell.specs.Append.{appended, blocks_for, part_blocks}
 use Rattle.nv_cell.specs.Cell.{CellState, number_in, published}
 use Rattle.nv_cell.specs.declared.killed.KilledPart.{KilledPart}
 use Rattle.nv_entry.specs.Blocks.{item_blocks}
@@ -120,7 +120,7 @@ some_slots (b ∷ bs) = ap (λ (l : List ℕ). b.number ∷ l) (some_slots bs)
 
 -- an item's slots have the blocks of its pages
 slot_numbers : (item : Item) (bs : List BlockValue)
-    → flat_map of_part (slots_of item (blocks_for item bs)) ≡ numbers_of (blocks_for item bs)
+    → flat_map of_part (part_blocks item (blocks_for item bs)) ≡ numbers_of (blocks_for item bs)
 slot_numbers (Write first run size) bs = some_slots (blocks_for (Write first run size) bs)
 slot_numbers (Init kind mode) bs = refl
 slot_numbers (SetSize size) bs = refl
@@ -138,7 +138,7 @@ one_appended : (n : ℕ) (e : Entry) (bs : List BlockValue) (cell : CellState)
     → times n (stored_in (appended e (blocks_for e.item bs) cell)) ≡ times n (stored_in cell) + times n (numbers_of (blocks_for e.item bs))
 one_appended n e bs cell =
     let taken = blocks_for e.item bs in
-    let parts = ap (times n) (flat_more cell.blocks (slots_of e.item taken)) in
+    let parts = ap (times n) (flat_more cell.blocks (part_blocks e.item taken)) in
     let own = ap (times n) (slot_numbers e.item bs) in
     omega (
       arith,
@@ -146,7 +146,7 @@ one_appended n e bs cell =
       stored_times n (appended e taken cell),
       parts,
       own,
-      times-append n (flat_map of_part cell.blocks) (flat_map of_part (slots_of e.item taken)),
+      times-append n (flat_map of_part cell.blocks) (flat_map of_part (part_blocks e.item taken)),
     )
 
 appended_times : (n : ℕ) (entries : List Entry) (bs : List BlockValue) (cell : CellState)

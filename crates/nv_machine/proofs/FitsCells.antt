@@ -5,7 +5,7 @@ use Rattle.std.proofs.lemmas.List.{take-append-drop, take-append-le}
 use Rattle.nv_alloc.specs.Block.{BlockValue, numbers_of}
 use Rattle.nv_alloc.specs.Numbers.{has}
 use Rattle.nv_calls.specs.Retiring.{erased, is_erased, keeper_of, retired, retired_one, settled as settled_part}
-use Rattle.nv_cell.specs.Append.{appended, blocks_for, slots_of}
+use Rattle.nv_cell.specs.Append.{appended, blocks_for, part_blocks}
 use Rattle.nv_cell.specs.Cell.{CellState, empty_cell, number_in, published}
 use Rattle.nv_cell.specs.declared.killed.KilledPart.{KilledPart}
 use Rattle.nv_entry.specs.Blocks.{item_blocks}
@@ -47,7 +47,7 @@ longer (x ∷ xs) ys zero b e = e
 longer (x ∷ xs) ys (suc n) b e = longer xs ys n b e
 
 appended_wider : (e : Entry) (bs : List BlockValue) (cell : CellState) → IsWider cell (appended e bs cell)
-appended_wider e bs cell = record { generation = refl; block = refl; blocks = λ n b h. longer cell.blocks (slots_of e.item bs) n b h }
+appended_wider e bs cell = record { generation = refl; block = refl; blocks = λ n b h. longer cell.blocks (part_blocks e.item bs) n b h }
 
 entries_wider : (entries : List Entry) (bs : List BlockValue) (cell : CellState) → IsWider cell (with_entries entries bs cell)
 entries_wider [] bs cell = same_wider cell
@@ -92,7 +92,7 @@ one_stored : (e : Entry) (item : Item) → e.item ≡ item → (bs : List BlockV
     → AllByRecursion (IsIn (appended e bs cell)) bs
 one_stored e (Write first run size) is bs cell h =
     all_to (λ (b : BlockValue). (n : ℕ) × (slice_index_or (map Some bs) n None ≡ Some b)) (IsIn (appended e bs cell))
-    (λ b m. subst (λ (i : Item). (n : ℕ) × (slice_index_or (cell.blocks ++ slots_of i bs) n None ≡ Some b)) (sym is)
+    (λ b m. subst (λ (i : Item). (n : ℕ) × (slice_index_or (cell.blocks ++ part_blocks i bs) n None ≡ Some b)) (sym is)
     (behind cell.blocks (None ∷ map Some bs) (suc m.0) b m.1)) bs (each_some bs)
 one_stored e (Init kind mode) is bs cell h = none_here (appended e bs cell) bs h
 one_stored e (SetSize size) is bs cell h = none_here (appended e bs cell) bs h

@@ -8,7 +8,7 @@ use Rattle.std.specs.Prelude.{◌==◌, option_to_list, slice_index_or}
 use Rattle.std.specs.Option.{option_map}
 use Rattle.nv_alloc.specs.Block.{AreSized, BlockValue, number_of, numbers_of}
 use Rattle.nv_calls.specs.Retiring.{erased, freed, freed_by, freed_one, is_erased, keeper_of, retired, retired_one, settled}
-use Rattle.nv_cell.specs.Append.{IsWithinFile, appended, blocks_for, slots_of}
+use Rattle.nv_cell.specs.Append.{IsWithinFile, appended, blocks_for, part_blocks}
 use Rattle.nv_cell.specs.Cell.{AreSlotsSized, CellState, HasBlocks, empty_cell, mark_or_fresh, number_in, page_block, published}
 use Rattle.nv_cell.specs.Marks.{is_there, mark_at}
 use Rattle.nv_cell.specs.Numbers.{dies, part_base, published_mark}
@@ -73,7 +73,7 @@ long_none zero = refl
 long_none (suc n) = ap suc (long_none n)
 
 slot_count : (item : Item) (bs : List BlockValue) → IsWithinFile item → length bs ≡ length (item_blocks item)
-    → length (slots_of item bs) ≡ length (parts_of item)
+    → length (part_blocks item bs) ≡ length (parts_of item)
 slot_count (Write first run size) bs within many =
     ap suc (length-map bs Some ∙ many ∙ length-range_with_len run.start run.len) ∙ sym (length_parts first size run within)
 slot_count (Init kind mode) bs within many = long_none 3
@@ -91,7 +91,7 @@ one_sized size (x ∷ bs) all (suc n) b h = one_sized size bs all.1 n b h
 none_sized : (size many : ℕ) → AreSlotsSized size (replicate many None)
 none_sized size many n b h = let z : None ≡ Some b = sym (none_at many n) ∙ h in cc
 
-slots_sized : (size : ℕ) (item : Item) (bs : List BlockValue) → AreSized size bs → AreSlotsSized size (slots_of item bs)
+slots_sized : (size : ℕ) (item : Item) (bs : List BlockValue) → AreSized size bs → AreSlotsSized size (part_blocks item bs)
 slots_sized size (Write first run len) bs all zero b h = cc
 slots_sized size (Write first run len) bs all (suc n) b h = one_sized size bs all n b h
 slots_sized size (Init kind mode) bs all n b h = none_sized size 3 n b h
@@ -118,7 +118,7 @@ back_block block (x ∷ xs) ys n le =
 
 -- an entry's own: what one more entry in an empty cell has
 own_block : (block : ℕ) (e : Entry) (bs : List BlockValue) → IsWithinFile e.item → numbers_of bs ≡ item_blocks e.item → AreSized block bs
-    → (n : ℕ) (b : BlockValue) → slice_index_or (slots_of e.item bs) n None ≡ Some b → page_block block (e ∷ []) n ≡ Some b.number
+    → (n : ℕ) (b : BlockValue) → slice_index_or (part_blocks e.item bs) n None ≡ Some b → page_block block (e ∷ []) n ≡ Some b.number
 own_block block e bs within nums sized n b is =
     let empty : CellState = empty_cell block 0 0 0 in
     let all : HasBlocks (appended e bs empty) =
@@ -143,7 +143,7 @@ appended_parted block e bs cell within nums sized h = record {
   pages = h.pages;
 } where
   slots : List (Option BlockValue)
-  slots = slots_of e.item bs
+  slots = part_blocks e.item bs
 
   many : length bs ≡ length (item_blocks e.item)
   many = sym (length-map bs number_of) ∙ ap length nums

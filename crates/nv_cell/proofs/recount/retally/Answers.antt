@@ -28,8 +28,8 @@ overflow_add-end c =
       c.loop-t.invariant.started,
     )
 
-pub overflow_add-slots : goal.overflow_add-slots
-overflow_add-slots c =
+pub overflow_add-slots_end : goal.overflow_add-slots_end
+overflow_add-slots_end c =
     let es = c.args.chain.now.state.entries in
     let t = c.loop-t.t in
     let e = c.entry_at.result.now in
@@ -84,9 +84,9 @@ loop-t-preserved c =
     let there : tally.there ≡ want_there t = c.tally_in-tally.ensures.there ∙ ap (λ s. count_in is_there marks s end) inv.started
     ∙ ap (λ k. count_in is_there marks (part_base es t) k) to in
     let want_slots : ℕ → ℕ = λ i. slot_base es (i + 1) in
-    let next : c.loop-t.slots + c.saturating_sub-slots.result ≡ slot_base es (t + 1) =
-    omega (arith, slot_next es t e lt is, c.part_count-count.ensures, c.saturating_sub-slots.ensures, inv.slotted) in
-    let slots : tally.slots ≡ want_slots t = c.tally_in-tally.ensures.slots ∙ next in
+    let next : c.loop-t.slots_end + c.saturating_sub-slots_end.result ≡ slot_base es (t + 1) =
+    omega (arith, slot_next es t e lt is, c.part_count-count.ensures, c.saturating_sub-slots_end.ensures, inv.slotted) in
+    let slots : tally.slots_end ≡ want_slots t = c.tally_in-tally.ensures.slots ∙ next in
     record {
       started = to;
       slotted = next;
@@ -99,7 +99,7 @@ loop-t-preserved c =
       there = λ i li. rw c.push_reserved.ensures.items
           (one_more (λ x. x.there) no_tally c.loop-t.tallies.items tally want_there t inv.tallies_len inv.there there i li);
       slots = λ i li. rw c.push_reserved.ensures.items
-          (one_more (λ x. x.slots) no_tally c.loop-t.tallies.items tally want_slots t inv.tallies_len inv.slots slots i li);
+          (one_more (λ x. x.slots_end) no_tally c.loop-t.tallies.items tally want_slots t inv.tallies_len inv.slots slots i li);
       ends_capacity = c.push_reserved-in-loop-t.ensures.capacity ∙ inv.ends_capacity;
       tallies_capacity = c.push_reserved.ensures.capacity ∙ inv.tallies_capacity;
     }

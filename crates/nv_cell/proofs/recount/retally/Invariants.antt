@@ -9,7 +9,7 @@ use Rattle.nv_cell.proofs.recount.retally.Given as goal
 abbrev pub invariant-loop-t : goal.invariant-loop-t
 invariant-loop-t l = record {
   started : l.start ≡ part_base l.chain.state.entries l.t;
-  slotted : l.slots ≡ slot_base l.chain.state.entries l.t;
+  slotted : l.slots_end ≡ slot_base l.chain.state.entries l.t;
   ends_len : length l.ends.items ≡ l.t;
   tallies_len : length l.tallies.items ≡ l.t;
   ended : (i : ℕ) → i < l.t → end_at l.ends.items i ≡ part_base l.chain.state.entries (i + 1);
@@ -17,7 +17,7 @@ invariant-loop-t l = record {
       ≡ count_in is_current l.marks (part_base l.chain.state.entries i) (part_base l.chain.state.entries (i + 1));
   there : (i : ℕ) → i < l.t → (tally_at l.tallies.items i).there
       ≡ count_in is_there l.marks (part_base l.chain.state.entries i) (part_base l.chain.state.entries (i + 1));
-  slots : (i : ℕ) → i < l.t → (tally_at l.tallies.items i).slots ≡ slot_base l.chain.state.entries (i + 1);
+  slots : (i : ℕ) → i < l.t → (tally_at l.tallies.items i).slots_end ≡ slot_base l.chain.state.entries (i + 1);
   ends_capacity : vec_capacity l.ends ≡ vec_capacity l.fn.ends;
   tallies_capacity : vec_capacity l.tallies ≡ vec_capacity l.fn.tallies;
 }

@@ -82,7 +82,14 @@ invariant_of-self c =
         tallies = omega (arith, inv.spare.tallies, more, within, entries);
       };
       slots = spread.1;
-      blocks_room = omega (arith, inv.blocks_room, slot_total-append es (e ∷ []), parts, c.part_count-parts.ensures, c.push_slots.ensures.capacity);
+      blocks_room = omega (
+        arith,
+        inv.blocks_room,
+        slot_total-append es (e ∷ []),
+        parts,
+        c.part_count-parts.ensures,
+        c.push_slots.ensures.capacity,
+      );
       pages_room = omega (arith, inv.pages_room, c.append.ensures.spare, c.count_pages.ensures.capacity);
       no_numbers = inv.no_numbers;
       no_killed = inv.no_killed;
@@ -105,6 +112,7 @@ pub returns-clause-state : goal.returns-clause-state
 returns-clause-state c =
     let i = c.self.inside in
     let e : Entry = c.args.entry in
-    let spread = slots_append i.chain.state.entries i.blocks.items c.push_slots.new.slots.items e (blocks_for e.item c.args.queue.now.blocks)
+    let bs = blocks_for e.item c.args.queue.now.blocks in
+    let spread = slots_append i.chain.state.entries i.blocks.items c.push_slots.new.slots.items e bs
     c.self.invariant.slots c.requires.next.within c.requires.blocks c.push_slots.ensures.slots in
     rw (← c.self.view_is, c.append.ensures.state, spread.0) refl

@@ -17,7 +17,7 @@ found c =
     let i = c.self.inside in
     let numbers = page_slot i.chain.state.entries i.index in
     c.block_at.ensures
-    ∙ rw (c.number_in.ensures numbers c.stretch_from-stretch.ensures, c.deref.ensures.value, c.from-page.ensures)
+    ∙ rw (c.slot_in.ensures numbers c.stretch_from-stretch.ensures, c.deref.ensures.value, c.from-page.ensures)
     (page_in_slot (state_in i) i.blocks.items i.index c.args.page refl c.self.invariant.slots c.ends-ends.ensures.chain.rising
     c.self.invariant.refs)
 

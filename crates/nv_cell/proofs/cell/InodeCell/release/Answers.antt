@@ -1,13 +1,10 @@
-use Rattle.std.proofs.Common.{◌≡◌, ◌<◌, Some, None, arith, refl, ap, sym, ◌∙◌, length}
-use Rattle.std.specs.Option.{option_map}
+use Rattle.std.proofs.Common.{◌≡◌, ◌<◌, ◌⊎◌, Some, None, length, arith, refl, ap, sym, ◌∙◌, subst, slice_index_or, slice_set}
+use Rattle.std.specs.Option.{IfSome, option_map}
 use Rattle.nv_cell.specs.declared.mark.Mark.TheVariants.{Killed, Kept, Out}
 use Rattle.nv_cell.specs.Cell.{mark_named, number_in}
 use Rattle.nv_cell.specs.Fields.{state_in}
-use Rattle.std.proofs.Common.{subst, ◌⊎◌, slice_index_or, slice_set}
-use Rattle.std.specs.Option.{IfSome}
-use Rattle.nv_cell.specs.Numbers.{StandsIn}
 use Rattle.nv_cell.specs.Slots.{by_part}
-use Rattle.nv_cell.proofs.PartSlots.{few_found, slot_found}
+use Rattle.nv_cell.proofs.PartSlots.{few_found, slot_taken}
 use Rattle.nv_cell.proofs.Publishes.{first_base}
 use Rattle.nv_cell.proofs.Publishing.{total_take}
 use Rattle.nv_cell.proofs.Remarking.{block_leaves, is_idle, length_set, marks_stay, some_same}
@@ -39,9 +36,8 @@ pub take_block-requires : goal.take_block-requires
 take_block-requires c =
     let i = c.self.inside in
     let p = c.unwrap-found.result in
-    let low = subst (λ o. IfSome o (λ q. q.entry < i.chain.state.tail)) c.unwrap-found.ensures c.find_part.ensures.entry in
-    let stands = subst (λ o. IfSome o (StandsIn i.chain.state.entries)) c.unwrap-found.ensures c.find_part.ensures.stands in
-    let at = slot_found i c.self.invariant p low stands c.slot-slot.result c.slot-slot.ensures in
+    let at = slot_taken i c.self.invariant c.find_part.result p c.unwrap-found.ensures c.find_part.ensures.entry
+    c.find_part.ensures.stands c.slot-slot.result c.slot-slot.ensures in
     at.within
 
 pub invariant_of-self : goal.invariant_of-self
@@ -50,9 +46,8 @@ invariant_of-self c =
     let inv = c.self.invariant in
     let i = c.self.inside in
     let p = c.unwrap-found.result in
-    let low = subst (λ o. IfSome o (λ q. q.entry < i.chain.state.tail)) c.unwrap-found.ensures c.find_part.ensures.entry in
-    let stands = subst (λ o. IfSome o (StandsIn i.chain.state.entries)) c.unwrap-found.ensures c.find_part.ensures.stands in
-    let at = slot_found i c.self.invariant p low stands c.slot-slot.result c.slot-slot.ensures in
+    let at = slot_taken i c.self.invariant c.find_part.result p c.unwrap-found.ensures c.find_part.ensures.entry
+    c.find_part.ensures.stands c.slot-slot.result c.slot-slot.ensures in
     let m = is_idle s c.args.part (subst
     (λ v. (mark_named v.state c.args.part ≡ Some Killed) ⊎ (mark_named v.state c.args.part ≡ Some Kept))
     (sym c.self.view_is) c.requires) in
@@ -100,9 +95,8 @@ returns-clause-block c =
     let s = state_in c.self.inside in
     let i = c.self.inside in
     let p = c.unwrap-found.result in
-    let low = subst (λ o. IfSome o (λ q. q.entry < i.chain.state.tail)) c.unwrap-found.ensures c.find_part.ensures.entry in
-    let stands = subst (λ o. IfSome o (StandsIn i.chain.state.entries)) c.unwrap-found.ensures c.find_part.ensures.stands in
-    let at = slot_found i c.self.invariant p low stands c.slot-slot.result c.slot-slot.ensures in
+    let at = slot_taken i c.self.invariant c.find_part.result p c.unwrap-found.ensures c.find_part.ensures.entry
+    c.find_part.ensures.stands c.slot-slot.result c.slot-slot.ensures in
     let m = is_idle s c.args.part (subst
     (λ v. (mark_named v.state c.args.part ≡ Some Killed) ⊎ (mark_named v.state c.args.part ≡ Some Kept))
     (sym c.self.view_is) c.requires) in
@@ -115,9 +109,8 @@ returns-clause-state c =
     let s = state_in c.self.inside in
     let i = c.self.inside in
     let p = c.unwrap-found.result in
-    let low = subst (λ o. IfSome o (λ q. q.entry < i.chain.state.tail)) c.unwrap-found.ensures c.find_part.ensures.entry in
-    let stands = subst (λ o. IfSome o (StandsIn i.chain.state.entries)) c.unwrap-found.ensures c.find_part.ensures.stands in
-    let at = slot_found i c.self.invariant p low stands c.slot-slot.result c.slot-slot.ensures in
+    let at = slot_taken i c.self.invariant c.find_part.result p c.unwrap-found.ensures c.find_part.ensures.entry
+    c.find_part.ensures.stands c.slot-slot.result c.slot-slot.ensures in
     let m = is_idle s c.args.part (subst
     (λ v. (mark_named v.state c.args.part ≡ Some Killed) ⊎ (mark_named v.state c.args.part ≡ Some Kept))
     (sym c.self.view_is) c.requires) in

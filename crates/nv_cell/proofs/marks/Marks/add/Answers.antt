@@ -47,10 +47,10 @@ returns-clause-tallied c =
     let at_end : c.len-2.result ≡ length m.tallies.items = omega (arith, c.len-2.ensures) in
     let ends = c.push_reserved.ensures.items ∙ ap (λ n. m.ends.items ++ n ∷ []) len in
     let parts = c.args.parts in
-    let t : Tally = record { current = parts; there = parts; slots = c.first_slot.result + c.saturating_sub.result } in
+    let t : Tally = record { current = parts; there = parts; slots_end = c.first_slot.result + c.saturating_sub.result } in
     let first : c.first_slot.result ≡ first_slot m.tallies.items (length m.tallies.items) = c.first_slot.ensures
     ∙ ap (first_slot m.tallies.items) (omega (arith, c.len.ensures)) in
-    let slots : t.slots ≡ first_slot m.tallies.items (length m.tallies.items) + (parts - 1) =
+    let slots : t.slots_end ≡ first_slot m.tallies.items (length m.tallies.items) + (parts - 1) =
     omega (arith, first, c.saturating_sub.ensures) in
     add_tallied m c.args.page_ends.now c.page_of-k.result parts t c.index.result.now c.with_entry.result c.push_current.new.marks
     c.push_reserved.new.self c.push_reserved-2.new.self c.requires.tallied (rw at_end at c.page_of-k.ensures) c.requires.page

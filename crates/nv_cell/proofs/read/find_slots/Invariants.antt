@@ -1,7 +1,7 @@
 use Rattle.std.proofs.Common.{◌≡◌, ℕ, ◌+◌, ◌-◌, ◌<◌, None, length, slice_index_or}
 use Rattle.nv_cell.specs.Pages.{IsStretch}
 use Rattle.nv_cell.specs.Slots.{page_slot}
-use Rattle.nv_cell.proofs.read.find_numbers.Given as goal
+use Rattle.nv_cell.proofs.read.find_slots.Given as goal
 
 abbrev pub invariant-loop-page : goal.invariant-loop-page
 invariant-loop-page l = record {

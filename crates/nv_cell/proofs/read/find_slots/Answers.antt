@@ -5,8 +5,8 @@ use Rattle.std.proofs.lemmas.List.{get_or-set_other, length-set}
 use Rattle.nv_cell.specs.Pages.{IsStretch}
 use Rattle.nv_cell.specs.Slots.{page_slot}
 use Rattle.nv_cell.proofs.Stretches.{stretch_on}
-use Rattle.nv_cell.proofs.read.find_numbers.Goals as goal
-use Rattle.nv_cell.proofs.read.find_numbers.Goals.{then-page-pages, else-page-pages+else-stretch-page}
+use Rattle.nv_cell.proofs.read.find_slots.Goals as goal
+use Rattle.nv_cell.proofs.read.find_slots.Goals.{then-page-pages, else-page-pages+else-stretch-page}
 
 pub loop-page-preserved : goal.loop-page-preserved
 loop-page-preserved c =
@@ -25,14 +25,14 @@ loop-page-preserved c =
     record {
       numbers = λ k lt. elim (cases_lt (start + k) page) [
         | inl low ↦
-            get_or-set_other c.loop-page.numbers (page - start) k c.number_in.result None (λ q. omega (arith, low, q))
+            get_or-set_other c.loop-page.numbers (page - start) k c.slot_in.result None (λ q. omega (arith, low, q))
             ∙ c.loop-page.invariant.numbers k low
         | inr high ↦
             let at : k ≡ page - start = omega (arith, lt, high) in
             let same : page ≡ start + k = omega (arith, lt, high) in
-            get_or-set_at c.loop-page.numbers (page - start) k c.number_in.result None at (omega (arith, c.loop-page.invariant.len, c.loop-page-test.true, c.loop-page.auto.page, c.requires.few))
-            ∙ c.number_in.ensures numbers is ∙ ap numbers same
+            get_or-set_at c.loop-page.numbers (page - start) k c.slot_in.result None at (omega (arith, c.loop-page.invariant.len, c.loop-page-test.true, c.loop-page.auto.page, c.requires.few))
+            ∙ c.slot_in.ensures numbers is ∙ ap numbers same
       ];
       stretch = λ lt. let same : page ≡ page + 1 - 1 = omega arith in subst (λ (p : ℕ). IsStretch numbers p c.if-page-pages.stretch) same is;
-      len = omega (arith, c.loop-page.invariant.len, length-set c.loop-page.numbers (page - start) c.number_in.result);
+      len = omega (arith, c.loop-page.invariant.len, length-set c.loop-page.numbers (page - start) c.slot_in.result);
     }
