@@ -12,7 +12,7 @@ use Rattle.nv_calls.specs.Slots.{last_commit}
 use Rattle.nv_cell.specs.Append.{IsWithinFile, appended, part_blocks}
 use Rattle.nv_cell.specs.Cell.{CellState, page_block}
 use Rattle.nv_cell.specs.Numbers.{is_number}
-use Rattle.nv_cell.proofs.Appending.{back_block, length_slots, slot_block}
+use Rattle.nv_cell.proofs.Appending.{back_block, length_part_blocks, part_block_is}
 use Rattle.nv_cell.proofs.Numbers.{scan_key, scan_n, scan_names, total_append}
 use Rattle.nv_cell.proofs.PagesNow.{block_scanned, front_block}
 use Rattle.nv_cell.proofs.Publishing.{covered_take}
@@ -207,7 +207,7 @@ module _ (log : List Entry) (cell : CellState) (h : HasPages log cell) (e : Entr
   pub appended_pages : IsWithinFile e.item → numbers_of bs ≡ item_blocks e.item → HasPages log (appended e bs cell)
   appended_pages within nums = record {
     pages = λ n number unc says. at n number unc says;
-    len = omega (arith, length-append cell.blocks slots, h.len, length_slots e.item bs within nums, total_append es (e ∷ []));
+    len = omega (arith, length-append cell.blocks slots, h.len, length_part_blocks e.item bs within nums, total_append es (e ∷ []));
     within = omega (arith, h.within, length-append es (e ∷ []));
   } where
     at : (n number : ℕ) → is_covered cell.block log n ≡ false → page_block cell.block (es ++ e ∷ []) n ≡ Some number
@@ -218,7 +218,7 @@ module _ (log : List Entry) (cell : CellState) (h : HasPages log cell) (e : Entr
           ∙ h.pages n number unc (sym (front_block cell.block es (e ∷ []) n lt) ∙ says)
       | inr ge ↦
           ap (option_map number_of) (get_or-append_right cell.blocks slots (part_total es) n None h.len ge)
-          ∙ slot_block cell.block e.item bs (n - part_total es) within nums
+          ∙ part_block_is cell.block e.item bs (n - part_total es) within nums
           ∙ sym (back_block cell.block es (e ∷ []) n ge) ∙ says
     ]
 
