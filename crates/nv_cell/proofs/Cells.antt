@@ -141,10 +141,10 @@ mark_now block es tail n old new lt le was is =
           rw (k, p) (was (ltb-true n (part_base es tail) r) ∙ rw q refl)
       go false p false q false r = let k : new ≡ Current = rw (low, p, r) at is in rw (k, p) refl
 
-end_old : (ends : List ℕ) (x j : ℕ) → j < length ends → end_at (ends ++ x ∷ []) j ≡ end_at ends j
+pub end_old : (ends : List ℕ) (x j : ℕ) → j < length ends → end_at (ends ++ x ∷ []) j ≡ end_at ends j
 end_old ends x j lt = grind (arith, common_steps)
 
-end_new : (ends : List ℕ) (x : ℕ) → end_at (ends ++ x ∷ []) (length ends) ≡ x
+pub end_new : (ends : List ℕ) (x : ℕ) → end_at (ends ++ x ∷ []) (length ends) ≡ x
 end_new ends x = grind (arith, common_steps)
 
 pub end_step : (ends : List ℕ) (es : List Entry) (t x i : ℕ) → length ends ≡ t → x ≡ part_base es (t + 1) → i < t + 1

@@ -88,7 +88,7 @@ next_slot tallies i =
     let b : suc i - 1 ≡ i = omega arith in
     rw (a, b) refl
 
-next_start : (ends : List ℕ) (i : ℕ) → start_at ends (suc i) ≡ end_at ends i
+pub next_start : (ends : List ℕ) (i : ℕ) → start_at ends (suc i) ≡ end_at ends i
 next_start ends i =
     let a : (suc i == 0) ≡ false = grind (arith, nat_tests) in
     let b : suc i - 1 ≡ i = omega arith in

@@ -7,8 +7,10 @@ pub mod Killed
 pub mod Named
 pub mod Numbers
 pub mod Marks
+pub mod Runs
 pub mod Tallies
 pub mod Pages
+pub mod PartEnds
 pub mod Slots
 pub mod Readers
 pub mod Reading

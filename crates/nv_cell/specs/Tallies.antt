@@ -6,6 +6,7 @@ use Rattle.nv_cell.specs.declared.marks.Marks.{Marks}
 use Rattle.nv_cell.specs.declared.tally.PageCounts.{PageCounts}
 use Rattle.nv_cell.specs.declared.tally.Tally.{Tally}
 use Rattle.nv_cell.specs.Marks.{bit, is_current, is_there}
+pub use Rattle.nv_cell.specs.Runs.{start_at, end_at, AreRuns, IsInRun}
 
 abbrev pub no_tally : Tally
 no_tally = record { current = 0; there = 0; slots_end = 0 }
@@ -43,27 +44,9 @@ recounted c was now = record {
 abbrev pub with_entry : PageCounts → Tally → PageCounts
 with_entry c t = record { live = c.live + bit (is_live t); valid = c.valid + bit (is_valid t) }
 
--- a list is cut into runs, of which the i-th ends before `end_at ends i`
-abbrev pub start_at : List ℕ → ℕ → ℕ
-start_at ends i = if i == 0 then 0 else slice_index_or ends (i - 1) 0
-
-abbrev pub end_at : List ℕ → ℕ → ℕ
-end_at ends i = slice_index_or ends i 0
-
 -- how many of the items from `from` up to `to` pass a test
 abbrev pub count_in : {X : Type 0} → (X → Bool) → List X → ℕ → ℕ → ℕ
 count_in test xs from to = count_by test (take (to - from) (drop from xs))
-
--- the runs cover a list of so many items
-pub record AreRuns (ends : List ℕ) (len : ℕ) : Type 0 where
-  pub rising : (i j : ℕ) → i ≤ j → j < length ends → end_at ends i ≤ end_at ends j
-  pub all : (n : ℕ) → n < len → (0 < length ends) × (n < end_at ends (length ends - 1))
-
--- an item stands in the i-th run
-pub record IsInRun (ends : List ℕ) (n i : ℕ) : Type 0 where
-  pub within : i < length ends
-  pub start : start_at ends i ≤ n
-  pub end : n < end_at ends i
 
 -- where an entry's slots begin: those of the entries before it lie in front
 abbrev pub first_slot : List Tally → ℕ → ℕ

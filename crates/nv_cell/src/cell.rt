@@ -43,6 +43,8 @@ pub struct InodeCell {
     // Room for the parts that a publish kills; empty between calls.
     pub(crate) numbers: Vec<NumberedPart>,
     pub(crate) killed: Vec<KilledPart>,
+    // What the last publish saw ahead: kept so that the compiler does not leave the look out.
+    pub(crate) ahead: usize,
 }
 
 impl Model for InodeCell {
@@ -79,6 +81,7 @@ impl InodeCell {
             parts: 0,
             numbers: Vec::new(alloc),
             killed: Vec::new(alloc),
+            ahead: 0,
         }
     }
 
@@ -127,11 +130,12 @@ impl InodeCell {
         // Ids rise along all entries, so that each part has a name of its own.
         let _ends = self.chain.ends();
         let tail = self.chain.tail();
-        take_effect(
+        self.ahead = take_effect(
             &mut self.index,
             &mut self.numbers,
             &mut self.marks,
             &self.chain,
+            &self.blocks,
             self.block,
             tail,
         );

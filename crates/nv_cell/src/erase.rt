@@ -53,6 +53,7 @@ impl InodeCell {
             parts: _,
             numbers: _,
             killed: _,
+            ahead: _,
         } = self;
         dismantle_slots(blocks);
         dismantle_pages(chain.into_blocks());

@@ -10,8 +10,10 @@ ghost use Rattle.nv_cell.specs.Tallies.{AreCounts, AreRuns, AreTallied, HasSpare
 ghost use Rattle.nv_cell.specs.declared.mark.Mark.TheVariants as mark;
 
 use crate::grow::{LEAST_ENTRIES, LEAST_PARTS, grow};
-use crate::{Mark, NumberedPart, PageCounts, Tally};
+use crate::{Mark, NumberedPart, PageCounts, PartEnds, Tally};
+use nv_alloc::Block;
 use nv_base::Fault;
+use nv_log::Chain;
 use std::alloc::Global;
 
 /// The mark of each published part by its number, where the parts of each entry end among them, where its slots end,
@@ -20,7 +22,7 @@ use std::alloc::Global;
 #[derive(Debug, Drop)]
 pub struct Marks {
     pub(crate) marks: Vec<Mark>,
-    pub(crate) ends: Vec<usize>,
+    pub(crate) ends: PartEnds,
     pub(crate) tallies: Vec<Tally>,
     pub(crate) pages: Vec<PageCounts>,
     /// How many parts are not out.
@@ -28,7 +30,7 @@ pub struct Marks {
 }
 
 /// Where a run begins.
-fn start_of(ends: &[usize], run: usize) -> usize
+pub fn start_of(ends: &[usize], run: usize) -> usize
     ensures { result ≡ start_at ends.now run }
 {
     if run == 0 {
@@ -45,7 +47,7 @@ fn is_in_run(ends: &[usize], run: usize, n: usize) -> bool
 }
 
 /// The run that an item stands in: the guessed one, or else found by halving over the ends of the runs.
-fn run_of(ends: &[usize], guess: usize, n: usize) -> usize
+pub fn run_of(ends: &[usize], guess: usize, n: usize) -> usize
     requires { AreRuns ends.now (n + 1) }
     ensures { IsInRun ends.now n result }
 {
@@ -62,6 +64,22 @@ pub fn page_of(page_ends: &[usize], entry: usize) -> usize
 {
     let first = page_ends.first().copied().unwrap_or(1);
     run_of(page_ends, entry / first.max(1), entry)
+}
+
+/// Looks at what the naming and the release of a part look at, its entry and its block, while its tally is on the way too:
+/// so memory is waited for once and not three times. The block is looked for where it is if each entry so far has a part.
+/// A number that rests on all that was seen.
+fn look_ahead(chain: &Chain, slots: &[Option<Block>], part: &NumberedPart) -> usize {
+    let mut seen: usize = 0;
+    if part.entry < chain.len() {
+        let entry = chain.entry_at(part.entry);
+        // Both ends of the entry, which may lie in two lines of a cache; so may the block's place.
+        seen = (entry.id.place as usize).wrapping_add(entry.item.part_count() as usize);
+    }
+    match slots.get(part.number.wrapping_sub(part.entry).wrapping_sub(1)) {
+        Some(Some(block)) => seen.wrapping_add(block.bytes().len()),
+        Some(None) | None => seen,
+    }
 }
 
 /// Adds marks of current parts.
@@ -84,7 +102,7 @@ impl Marks {
     {
         Marks {
             marks: Vec::new(alloc),
-            ends: Vec::new(alloc),
+            ends: PartEnds::new(alloc),
             tallies: Vec::new(alloc),
             pages: Vec::new(alloc),
             there: 0,
@@ -95,7 +113,7 @@ impl Marks {
     pub fn first(&self, entry: usize) -> usize
         ensures { result ≡ start_at self.now.ends.items entry }
     {
-        start_of(&self.ends, entry)
+        self.ends.start(entry)
     }
 
     /// Where the slots of an entry begin, by the entry's place in the log.
@@ -147,7 +165,7 @@ impl Marks {
         requires runs { AreRuns self.now.ends.items (part.number + 1) }
         ensures { IsInRun self.now.ends.items part.number result }
     {
-        run_of(&self.ends, part.entry, part.number)
+        self.ends.entry_of(part.entry, part.number)
     }
 
     /// Makes room for the marks of so many parts and entries more, and for so many pages in all.
@@ -163,7 +181,7 @@ impl Marks {
         ensures err { FailsOnly OutOfMemory result }
     {
         grow(&mut self.marks, parts, LEAST_PARTS)?;
-        grow(&mut self.ends, entries, LEAST_ENTRIES)?;
+        self.ends.reserve(entries)?;
         grow(&mut self.tallies, entries, LEAST_ENTRIES)?;
         self.pages.reserve(pages.saturating_sub(self.pages.len()))?;
         Ok(())
@@ -194,8 +212,14 @@ impl Marks {
         self.tallies.push_reserved(tally);
     }
 
-    /// Marks current parts killed.
-    pub fn kill_all(&mut self, page_ends: &[usize], killed: &[NumberedPart])
+    /// Marks current parts killed. What it tells is that of [`look_ahead`], of all of them.
+    pub fn kill_all(
+        &mut self,
+        page_ends: &[usize],
+        killed: &[NumberedPart],
+        chain: &Chain,
+        slots: &[Option<Block>],
+    ) -> usize
         requires current { (i : ℕ) → i < length killed.now → is_current
             (mark_at self.old.marks.items (slice_index (numbers_in killed.now) i)) ≡ true }
         requires tallied { AreTallied self.old page_ends.now }
@@ -207,9 +231,12 @@ impl Marks {
         ensures room { SameCapacity self.old self.new }
         ensures tallied { AreTallied self.new page_ends.now }
     {
+        let mut ahead: usize = 0;
         for part in killed {
+            ahead = ahead.wrapping_add(look_ahead(chain, slots, part));
             self.set(page_ends, *part, Mark::Killed);
         }
+        ahead
     }
 
     /// Gives a part that is not out another mark than current. Its entry's tally and its page's counts go along. The

@@ -21,7 +21,7 @@ impl InodeCell {
         // The chain is one, so that its tail is no further than its entries.
         let _ends = self.chain.ends();
         let first = self.marks.first(entry);
-        let end = self.marks.ends[entry];
+        let end = self.marks.ends.end(entry);
         &self.marks.marks[first..end]
     }
 

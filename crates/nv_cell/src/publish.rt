@@ -16,6 +16,7 @@ ghost use Rattle.nv_cell.specs.declared.mark.Mark.TheVariants as mark;
 
 use crate::effects::apply_all;
 use crate::{CellIndex, KilledPart, Marks, NumberedPart};
+use nv_alloc::Block;
 use nv_entry::PartId;
 use nv_log::Chain;
 
@@ -46,15 +47,17 @@ fn add_all(marks: &mut Marks, chain: &Chain, tail: usize)
 }
 
 /// Brings index and marks from the entries before the tail up to all entries, and puts the parts on the list that
-/// were current, or are newly published, and are not current after it, by number.
+/// were current, or are newly published, and are not current after it, by number. What it tells is that of
+/// [`Marks::kill_all`].
 pub fn take_effect(
     index: &mut CellIndex,
     numbers: &mut Vec<NumberedPart>,
     marks: &mut Marks,
     chain: &Chain,
+    slots: &[Option<Block>],
     block: u64,
     tail: usize,
-)
+) -> usize
     requires block { 0 < block }
     requires tail { tail ≤ length chain.now.state.entries }
     requires counted { length marks.old.ends.items ≡ tail }
@@ -100,8 +103,9 @@ pub fn take_effect(
     let ends = chain.ends();
     add_all(marks, chain, tail);
     apply_all(index, numbers, chain, marks, block, tail);
-    marks.kill_all(ends, numbers);
+    let ahead = marks.kill_all(ends, numbers, chain, slots);
     numbers.sort_unstable_by_key(|part| part.number);
+    ahead
 }
 
 /// A part by its name, with its birth.

@@ -8,7 +8,7 @@ ghost use Rattle.nv_cell.specs.Marks.{is_current, is_there};
 ghost use Rattle.nv_cell.specs.Numbers.{part_base};
 ghost use Rattle.nv_cell.specs.Tallies.{AreCounts, AreRuns, AreTallied, AreTallies, SameCapacity, count_in, end_at, is_live, is_valid};
 
-use crate::{Mark, Marks, PageCounts, Tally};
+use crate::{Mark, Marks, PageCounts, PartEnds, Tally};
 use nv_log::Chain;
 
 /// The tally of an entry with these marks, whose slots end at `slots_end`.
@@ -54,7 +54,7 @@ fn counts_of(tallies: &[Tally]) -> PageCounts
 }
 
 /// Tells where the parts and slots of each entry of the log end, and what each entry has, by the marks.
-fn retally(ends: &mut Vec<usize>, tallies: &mut Vec<Tally>, marks: &[Mark], chain: &Chain)
+fn retally(ends: &mut PartEnds, tallies: &mut Vec<Tally>, marks: &[Mark], chain: &Chain)
     requires marks { length marks.now ≡ part_total (log chain.now.state) }
     requires ends_room { chain.now.state.tail ≤ vec_capacity ends.old }
     requires tallies_room { chain.now.state.tail ≤ vec_capacity tallies.old }

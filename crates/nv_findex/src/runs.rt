@@ -88,6 +88,19 @@ fn ended_at(runs: &[PageRun], guess: usize, page: u32) -> usize
     ended_by(runs, page)
 }
 
+/// The same behind a run: a write of just the pages of one run ends where the next one begins.
+fn ended_behind(runs: &[PageRun], run: usize, page: u32) -> usize
+    requires { AreRuns runs.now }
+    ensures within { result ≤ length runs.now }
+    ensures border { IsBorder page result runs.now }
+{
+    let next = run.saturating_add(1).min(runs.len());
+    if is_border(runs, next, page) {
+        return next;
+    }
+    ended_near(runs, run, page)
+}
+
 /// The run that holds a page, or else the first one behind it.
 pub fn run_from(runs: &[PageRun], page: u32) -> Option<PageRun>
     requires { AreRuns runs.now }
@@ -279,7 +292,7 @@ pub fn put(runs: &mut Vec<PageRun>, run: PageRun)
 {
     let old = runs.as_slice();
     let at = ended_by(old, run.first);
-    let to = ended_near(old, at, run.end);
+    let to = ended_behind(old, at, run.end);
     let next = rest_at(old, to, run.end);
     let kept = keep_below(runs, at, run.first);
     put_joined(runs, kept, to, run, next);

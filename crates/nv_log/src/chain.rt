@@ -191,15 +191,15 @@ impl Chain {
         ensures { option_copied result ≡ entry_of self.now.state id }
     {
         let place = self.place_of(id)?;
+        self.reads.raise(1);
         Some(self.entry_at(place))
     }
 
-    /// The entry at a place, also past the tail.
+    /// The entry at a place, also past the tail: for changes, which go by places. It is not counted as read.
     pub fn entry_at(&self, place: usize) -> &Entry
         requires { place < length self.now.state.entries }
         ensures { slice_get self.now.state.entries place ≡ Some result.now }
     {
-        self.reads.raise(1);
         &self.entries[place]
     }
 
@@ -364,8 +364,8 @@ impl Chain {
     }
 
     /// How many entries were handed out to be read so far, up to the greatest number: each one of
-    /// [`Chain::entry`], [`Chain::entry_at`] and [`Chain::last_published`], and those of [`Chain::entries`],
-    /// [`Chain::log`] and [`Chain::page_entries`].
+    /// [`Chain::entry`] and [`Chain::last_published`], and those of [`Chain::entries`], [`Chain::log`] and
+    /// [`Chain::page_entries`].
     pub fn reads(&self) -> u64 {
         self.reads.get()
     }

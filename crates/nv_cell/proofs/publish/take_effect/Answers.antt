@@ -24,8 +24,8 @@ apply_all-requires-clause-ends c =
       small = omega (arith, c.add_all.ensures.len);
     }
 
-pub kill_all-requires-clause-current : goal.kill_all-requires-clause-current
-kill_all-requires-clause-current c i lt =
+pub kill_all-ahead-requires-clause-current : goal.kill_all-ahead-requires-clause-current
+kill_all-ahead-requires-clause-current c i lt =
     let es = c.args.chain.now.state.entries in
     let parts = c.deref.result.now in
     let n = slice_index (numbers_in parts) i in
@@ -47,7 +47,7 @@ returns-clause-marks c n =
     let k : times n (numbers_in parts) ≡ cond d 1 0 =
     ap (λ (ps : List NumberedPart). times n (numbers_in ps)) c.deref.ensures.value
     ∙ only n (cond d 1 0) c.args.numbers.now.items c.apply_all.new.killed.items c.requires.empty (c.apply_all.ensures.killed n) in
-    c.kill_all.ensures.marks n
+    c.kill_all-ahead.ensures.marks n
     ∙ ap (λ (b : Bool). cond b mark.Killed (mark_at c.add_all.new.marks.marks.items n)) (in_dies n (numbers_in parts) d k)
     ∙ ap (λ (m : Mark). cond (dies c.args.block c.args.chain.now.state.entries c.args.tail n) mark.Killed m) (c.add_all.ensures.marks n)
 

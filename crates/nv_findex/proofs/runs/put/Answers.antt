@@ -5,19 +5,19 @@ use Rattle.nv_findex.proofs.runs.put.Goals as goal
 
 pub put_joined-requires-clause-order : goal.put_joined-requires-clause-order
 put_joined-requires-clause-order c =
-    let order = border_le c.args.run.first c.args.run.end c.ended_by-at.result c.ended_near-to.result c.as_slice-old.result.now
-    (omega (arith, c.requires.run.some)) c.ended_by-at.ensures.border c.ended_near-to.ensures.border in
+    let order = border_le c.args.run.first c.args.run.end c.ended_by-at.result c.ended_behind-to.result c.as_slice-old.result.now
+    (omega (arith, c.requires.run.some)) c.ended_by-at.ensures.border c.ended_behind-to.ensures.border in
     omega (arith, order, c.keep_below-kept.ensures.one)
 
 pub returns-clause-put : goal.returns-clause-put
 returns-clause-put c =
     let first = rw c.as_slice-old.ensures.value at c.ended_by-at.ensures.border in
-    let last = rw c.as_slice-old.ensures.value at c.ended_near-to.ensures.border in
+    let last = rw c.as_slice-old.ensures.value at c.ended_behind-to.ensures.border in
     let order = border_le c.args.run.first c.args.run.end _ _ _ (omega (arith, c.requires.run.some)) first last in
     let kept = c.keep_below-kept.ensures in
     let parts = rw (
       kept.before,
-      kept.behind (c.ended_near-to.result + 1) (omega (arith, order)),
+      kept.behind (c.ended_behind-to.result + 1) (omega (arith, order)),
       c.rest_at-next.ensures.rest,
       c.as_slice-old.ensures.value,
       add-one,

@@ -7,7 +7,6 @@ use Rattle.nv_cell.specs.Tallies.{end_at, start_at}
 use Rattle.nv_cell.proofs.Cells.{base_rises}
 use Rattle.nv_cell.proofs.PageMarks.{entry_marks}
 use Rattle.nv_cell.proofs.Publishes.{first_base}
-use Rattle.nv_cell.proofs.Runs.{at_index}
 use Rattle.nv_cell.proofs.cell.InodeCell.marks_of.Goals as goal
 
 -- the marks of an entry stand among all
@@ -23,24 +22,21 @@ pub slice_bounds-result-count : goal.slice_bounds-result-count
 slice_bounds-result-count c =
     let i = c.self.inside in
     let lt = subst (λ (v : CellValue). c.args.entry < v.state.chain.tail) (sym c.self.view_is) c.requires in
-    let end = at_index i.marks.ends.items c.args.entry c.index-end.result.now 0 c.index-end.ensures
-    (omega (arith, lt, c.self.invariant.ends_len)) in
+    let end = c.end-end.ensures in
     omega (arith, range i c.args.entry c.self.invariant lt, c.first-first.ensures, end)
 
 pub slice_bounds-result-start : goal.slice_bounds-result-start
 slice_bounds-result-start c =
     let i = c.self.inside in
     let lt = subst (λ (v : CellValue). c.args.entry < v.state.chain.tail) (sym c.self.view_is) c.requires in
-    let end = at_index i.marks.ends.items c.args.entry c.index-end.result.now 0 c.index-end.ensures
-    (omega (arith, lt, c.self.invariant.ends_len)) in
+    let end = c.end-end.ensures in
     omega (arith, range i c.args.entry c.self.invariant lt, c.first-first.ensures, end)
 
 pub slice_bounds-result-end : goal.slice_bounds-result-end
 slice_bounds-result-end c =
     let i = c.self.inside in
     let lt = subst (λ (v : CellValue). c.args.entry < v.state.chain.tail) (sym c.self.view_is) c.requires in
-    let end = at_index i.marks.ends.items c.args.entry c.index-end.result.now 0 c.index-end.ensures
-    (omega (arith, lt, c.self.invariant.ends_len)) in
+    let end = c.end-end.ensures in
     let r = range i c.args.entry c.self.invariant lt in
     let len : length c.deref.result.now ≡ length i.marks.marks.items = ap length c.deref.ensures.value in
     omega (arith, r, len, end)
@@ -49,8 +45,7 @@ pub returns : goal.returns
 returns c =
     let i = c.self.inside in
     let lt = subst (λ (v : CellValue). c.args.entry < v.state.chain.tail) (sym c.self.view_is) c.requires in
-    let end = at_index i.marks.ends.items c.args.entry c.index-end.result.now 0 c.index-end.ensures
-    (omega (arith, lt, c.self.invariant.ends_len)) in
+    let end = c.end-end.ensures in
     rw (← c.self.view_is, c.deref.ensures.value, end, c.first-first.ensures)
     (entry_marks i.chain.state i.marks.ends.items i.marks.marks.items c.args.entry
     c.ends-ends.ensures.chain.within c.self.invariant.ends lt)

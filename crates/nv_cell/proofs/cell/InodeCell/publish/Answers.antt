@@ -23,8 +23,8 @@ use Rattle.nv_cell.proofs.Publishes.{filtered_low, first_base}
 use Rattle.nv_cell.proofs.Publishing.{take_whole}
 use Rattle.nv_cell.proofs.cell.InodeCell.publish.Goals as goal
 
-pub take_effect-requires-clause-names : goal.take_effect-requires-clause-names
-take_effect-requires-clause-names c =
+pub take_effect-self-inside-requires-clause-names : goal.take_effect-self-inside-requires-clause-names
+take_effect-self-inside-requires-clause-names c =
     let s = state_in c.self.inside in
     let ready : IsReady (value_in c.self.inside) = subst (λ v. IsReady v) (sym c.self.view_is) c.requires.ready in
     rw c.tail-tail.ensures.value (names_ready (items_of (drop s.chain.tail s.chain.entries))
@@ -35,31 +35,31 @@ pub name_all-requires-clause-ends : goal.name_all-requires-clause-ends
 name_all-requires-clause-ends c =
     let es = c.self.inside.chain.state.entries in
     record {
-      first = first_base c.take_effect.new.marks.ends.items es (length es) c.take_effect.ensures.ended;
-      small = omega (arith, c.take_effect.ensures.len);
+      first = first_base c.take_effect-self-inside.new.marks.ends.items es (length es) c.take_effect-self-inside.ensures.ended;
+      small = omega (arith, c.take_effect-self-inside.ensures.len);
     }
 
 pub name_all-requires-clause-within : goal.name_all-requires-clause-within
 name_all-requires-clause-within c i d lt =
     let es = c.self.inside.chain.state.entries in
-    filtered_low (dies c.self.inside.block es c.tail-tail.result) (part_total es) (numbers_in c.deref.result.now) i d
-    (ap numbers_in c.deref.ensures.value ∙ c.take_effect.ensures.killed)
-    (omega (arith, lt, length_numbers c.deref.result.now))
+    filtered_low (dies c.self.inside.block es c.tail-tail.result) (part_total es) (numbers_in c.deref-2.result.now) i d
+    (ap numbers_in c.deref-2.ensures.value ∙ c.take_effect-self-inside.ensures.killed)
+    (omega (arith, lt, length_numbers c.deref-2.result.now))
 
 pub name_all-requires-clause-room : goal.name_all-requires-clause-room
 name_all-requires-clause-room c =
     let s = state_in c.self.inside in
     let ready : IsReady (value_in c.self.inside) = subst (λ v. IsReady v) (sym c.self.view_is) c.requires.ready in
-    let few = rw c.tail-tail.ensures.value at c.take_effect.ensures.few in
-    rw (c.deref.ensures.value, c.replace-killed.ensures.value) (omega (arith, few, ready.killed))
+    let few = rw c.tail-tail.ensures.value at c.take_effect-self-inside.ensures.few in
+    rw (c.deref-2.ensures.value, c.replace-killed.ensures.value) (omega (arith, few, ready.killed))
 
-pub take_effect-requires-clause-pages : goal.take_effect-requires-clause-pages
-take_effect-requires-clause-pages c =
+pub take_effect-self-inside-requires-clause-pages : goal.take_effect-self-inside-requires-clause-pages
+take_effect-self-inside-requires-clause-pages c =
     let ready : IsReady (value_in c.self.inside) = subst (λ v. IsReady v) (sym c.self.view_is) c.requires.ready in
     rw c.tail-tail.ensures.value ready.runs
 
-pub take_effect-requires-clause-room : goal.take_effect-requires-clause-room
-take_effect-requires-clause-room c =
+pub take_effect-self-inside-requires-clause-room : goal.take_effect-self-inside-requires-clause-room
+take_effect-self-inside-requires-clause-room c =
     let ready : IsReady (value_in c.self.inside) = subst (λ v. IsReady v) (sym c.self.view_is) c.requires.ready in
     rw c.tail-tail.ensures.value (omega (arith, ready.killed, ap length c.self.invariant.no_numbers))
 
@@ -70,15 +70,15 @@ invariant_of-self c =
     let inv = c.self.invariant in
     let to : c.publish_to.new.self.state ≡ record c.self.inside.chain.state { tail = length es } = c.publish_to.ensures.state
     ∙ ap (λ (t : ℕ). record c.self.inside.chain.state { tail = t }) c.len.ensures in
-    let marks = c.take_effect.new.marks.marks.items in
+    let marks = c.take_effect-self-inside.new.marks.marks.items in
     let is : (n : ℕ) → mark_at marks n ≡ published_mark s.block es s.chain.tail s.marks n =
-    λ n. rw c.tail-tail.ensures.value at (c.take_effect.ensures.marks n) in
-    let r = c.take_effect.ensures.room in
+    λ n. rw c.tail-tail.ensures.value at (c.take_effect-self-inside.ensures.marks n) in
+    let r = c.take_effect-self-inside.ensures.room in
     rw to (record {
       some = inv.some;
       pages = inv.pages;
       marks = record {
-        len = c.take_effect.ensures.len ∙ ap part_total (sym (take_whole es));
+        len = c.take_effect-self-inside.ensures.len ∙ ap part_total (sym (take_whole es));
         current = λ n lt.
             mark_now s.block es s.chain.tail n (mark_at s.marks n) (mark_at marks n) (rw (take_whole es) at lt)
             (omega (arith, c.tail-tail.ensures.value, c.tail-tail.ensures.within)) (λ l. inv.marks.current n l) (is n)
@@ -88,26 +88,26 @@ invariant_of-self c =
         len = inv.blocks.len;
         numbers = λ n. inv.blocks.numbers n
             ∙ ap (λ (b : Bool). cond b (page_block s.block es n) None)
-            (sym (there_stays s.block es s.chain.tail s.marks marks inv.marks.len c.take_effect.ensures.len inv.marks.current is n));
+            (sym (there_stays s.block es s.chain.tail s.marks marks inv.marks.len c.take_effect-self-inside.ensures.len inv.marks.current is n));
         sized = inv.blocks.sized;
       };
-      refs = λ key. c.take_effect.ensures.scan key ∙ ap (λ (xs : List Entry). scan_ref s.block xs key) (sym (take_whole es));
-      names = subst (λ (xs : List Entry). HaveSameBindings (bindings_of xs) c.take_effect.new.index.names.names)
-          (sym (take_whole es)) c.take_effect.ensures.bound;
-      ends_len = c.take_effect.ensures.counted;
-      ends = c.take_effect.ensures.ended;
-      tallied = c.take_effect.ensures.tallied;
+      refs = λ key. c.take_effect-self-inside.ensures.scan key ∙ ap (λ (xs : List Entry). scan_ref s.block xs key) (sym (take_whole es));
+      names = subst (λ (xs : List Entry). HaveSameBindings (bindings_of xs) c.take_effect-self-inside.new.index.names.names)
+          (sym (take_whole es)) c.take_effect-self-inside.ensures.bound;
+      ends_len = c.take_effect-self-inside.ensures.counted;
+      ends = c.take_effect-self-inside.ensures.ended;
+      tallied = c.take_effect-self-inside.ensures.tallied;
       spare = record {
-        marks = omega (arith, inv.spare.marks, r.marks, c.take_effect.ensures.len, inv.marks.len);
-        ends = omega (arith, inv.spare.ends, r.ends, c.take_effect.ensures.counted, inv.ends_len);
+        marks = omega (arith, inv.spare.marks, r.marks, c.take_effect-self-inside.ensures.len, inv.marks.len);
+        ends = omega (arith, inv.spare.ends, r.ends, c.take_effect-self-inside.ensures.counted, inv.ends_len);
         tallies = omega (
           arith,
           inv.spare.tallies,
           r.tallies,
-          c.take_effect.ensures.counted,
+          c.take_effect-self-inside.ensures.counted,
           inv.ends_len,
           inv.tallied.tallies.len,
-          c.take_effect.ensures.tallied.tallies.len,
+          c.take_effect-self-inside.ensures.tallied.tallies.len,
         );
       };
       slots = inv.slots;
@@ -118,20 +118,20 @@ invariant_of-self c =
     })
 
 -- the chain and the marks that are left
-chain_is : (c : goal.After-self-1)
+chain_is : (c : goal.After-self-2-1)
     → c.publish_to.new.self.state ≡ record c.self.inside.chain.state { tail = length c.self.inside.chain.state.entries }
 chain_is c =
     c.publish_to.ensures.state ∙ ap (λ (t : ℕ). record c.self.inside.chain.state { tail = t }) c.len.ensures
 
-marks_are : (c : goal.After-self-1) → c.take_effect.new.marks.marks.items ≡ (published (state_in c.self.inside)).marks
+marks_are : (c : goal.After-self-2-1) → c.take_effect-self-inside.new.marks.marks.items ≡ (published (state_in c.self.inside)).marks
 marks_are c =
     let s = state_in c.self.inside in
     let es = s.chain.entries in
     let f : ℕ → Mark = published_mark s.block es s.chain.tail s.marks in
-    let marks = c.take_effect.new.marks.marks.items in
-    let is : (n : ℕ) → mark_at marks n ≡ f n = λ n. rw c.tail-tail.ensures.value at (c.take_effect.ensures.marks n) in
+    let marks = c.take_effect-self-inside.new.marks.marks.items in
+    let is : (n : ℕ) → mark_at marks n ≡ f n = λ n. rw c.tail-tail.ensures.value at (c.take_effect-self-inside.ensures.marks n) in
     let all = list_from marks f Out 0 (λ n lt. is n ∙ (let z : n ≡ 0 + n = omega arith in ap f z)) in
-    rw c.take_effect.ensures.len at all
+    rw c.take_effect-self-inside.ensures.len at all
 
 pub returns-clause-state : goal.returns-clause-state
 returns-clause-state c = rw (← c.self.view_is, chain_is c, marks_are c) refl
@@ -140,11 +140,11 @@ pub returns-clause-few : goal.returns-clause-few
 returns-clause-few c =
     let s = state_in c.self.inside in
     let es = s.chain.entries in
-    let few = rw c.tail-tail.ensures.value at c.take_effect.ensures.few in
-    let told : length c.name_all.new.killed.items ≡ length c.deref.result.now =
+    let few = rw c.tail-tail.ensures.value at c.take_effect-self-inside.ensures.few in
+    let told : length c.name_all.new.killed.items ≡ length c.deref-2.result.now =
     sym (length-map c.name_all.new.killed.items Some) ∙ ap length c.name_all.ensures
-    ∙ length-map (numbers_in c.deref.result.now) (killed_part es) ∙ length_numbers c.deref.result.now in
-    rw (← c.self.view_is) (omega (arith, few, told, c.deref.ensures.len, c.name_all.new.killed.ok))
+    ∙ length-map (numbers_in c.deref-2.result.now) (killed_part es) ∙ length_numbers c.deref-2.result.now in
+    rw (← c.self.view_is) (omega (arith, few, told, c.deref-2.ensures.len, c.name_all.new.killed.ok))
 
 pub returns-clause-marked : goal.returns-clause-marked
 returns-clause-marked c =
@@ -153,6 +153,6 @@ returns-clause-marked c =
     let tail : c.tail-tail.result ≡ s.chain.tail = c.tail-tail.ensures.value in
     let told : map Some c.name_all.new.killed.items ≡ map (killed_part es) (killed_of s) =
     c.name_all.ensures
-    ∙ ap (map (killed_part es)) (ap numbers_in c.deref.ensures.value ∙ c.take_effect.ensures.killed
+    ∙ ap (map (killed_part es)) (ap numbers_in c.deref-2.ensures.value ∙ c.take_effect-self-inside.ensures.killed
     ∙ ap (killed_numbers s.block es) tail) in
     rw (chain_is c, marks_are c) (published_killed s c.name_all.new.killed.items c.ends-ends.ensures.chain.rising told)
