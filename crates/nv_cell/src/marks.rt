@@ -66,14 +66,14 @@ pub fn page_of(page_ends: &[usize], entry: usize) -> usize
     run_of(page_ends, entry / first.max(1), entry)
 }
 
-/// Looks at what the naming and the release of a part look at, its entry and its block, while its tally is on the way too:
-/// so memory is waited for once and not three times. The block is looked for where it is if each entry so far has a part.
-/// A number that rests on all that was seen.
+/// Looks at what the naming and the release of a part will look at, its entry and its block, while its tally is on the
+/// way too: so memory is waited for once and not three times. The block is looked for in the slot that the part has
+/// where no entry is without parts. Gives a number that rests on all that was seen.
 fn look_ahead(chain: &Chain, slots: &[Option<Block>], part: &NumberedPart) -> usize {
     let mut seen: usize = 0;
     if part.entry < chain.len() {
         let entry = chain.entry_at(part.entry);
-        // Both ends of the entry, which may lie in two lines of a cache; so may the block's place.
+        // Both ends of the entry, which may lie in two lines of a cache, as those of the slot below may.
         seen = (entry.id.place as usize).wrapping_add(entry.item.part_count() as usize);
     }
     match slots.get(part.number.wrapping_sub(part.entry).wrapping_sub(1)) {

@@ -88,7 +88,8 @@ invariant_of-self c =
         len = inv.blocks.len;
         numbers = λ n. inv.blocks.numbers n
             ∙ ap (λ (b : Bool). cond b (page_block s.block es n) None)
-            (sym (there_stays s.block es s.chain.tail s.marks marks inv.marks.len c.take_effect-self-inside.ensures.len inv.marks.current is n));
+            (sym (there_stays s.block es s.chain.tail s.marks marks inv.marks.len c.take_effect-self-inside.ensures.len
+            inv.marks.current is n));
         sized = inv.blocks.sized;
       };
       refs = λ key. c.take_effect-self-inside.ensures.scan key ∙ ap (λ (xs : List Entry). scan_ref s.block xs key) (sym (take_whole es));
