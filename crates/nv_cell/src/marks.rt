@@ -212,7 +212,7 @@ impl Marks {
         self.tallies.push_reserved(tally);
     }
 
-    /// Marks current parts killed. What it tells is that of [`look_ahead`], of all of them.
+    /// Marks current parts killed. Gives what [`look_ahead`] saw of all of them.
     pub fn kill_all(
         &mut self,
         page_ends: &[usize],

@@ -12,6 +12,17 @@ use crate::part_ends::EvenRun;
 use std::alloc::{AllocError, Global};
 
 impl EvenRun {
+    /// The run of no entries.
+    fn empty() -> EvenRun
+        ensures { result ≡ record { from = 0; start = 0; parts = 0 } }
+    {
+        EvenRun {
+            from: 0,
+            start: 0,
+            parts: 0,
+        }
+    }
+
     /// Where the parts of an entry begin that is not before the run.
     fn start_of(self, entry: usize) -> usize
         requires from { self.from ≤ entry }
@@ -46,11 +57,7 @@ impl PartEnds {
     {
         PartEnds {
             ends: Vec::new(alloc),
-            even: EvenRun {
-                from: 0,
-                start: 0,
-                parts: 0,
-            },
+            even: EvenRun::empty(),
         }
     }
 
@@ -116,10 +123,6 @@ impl PartEnds {
         ensures capacity { vec_capacity self.new ≡ vec_capacity self.old }
     {
         self.ends.clear();
-        self.even = EvenRun {
-            from: 0,
-            start: 0,
-            parts: 0,
-        };
+        self.even = EvenRun::empty();
     }
 }

@@ -47,8 +47,8 @@ fn add_all(marks: &mut Marks, chain: &Chain, tail: usize)
 }
 
 /// Brings index and marks from the entries before the tail up to all entries, and puts the parts on the list that
-/// were current, or are newly published, and are not current after it, by number. What it tells is that of
-/// [`Marks::kill_all`].
+/// were current, or are newly published, and are not current after it, by number. Gives what was seen
+/// ahead, as [`Marks::kill_all`] does.
 pub fn take_effect(
     index: &mut CellIndex,
     numbers: &mut Vec<NumberedPart>,
