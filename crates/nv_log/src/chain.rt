@@ -195,7 +195,7 @@ impl Chain {
         Some(self.entry_at(place))
     }
 
-    /// The entry at a place, also past the tail: for changes, which go by places. It is not counted as read.
+    /// The entry at a place, also past the tail. It is not counted as read.
     pub fn entry_at(&self, place: usize) -> &Entry
         requires { place < length self.now.state.entries }
         ensures { slice_get self.now.state.entries place ≡ Some result.now }
@@ -365,7 +365,7 @@ impl Chain {
 
     /// How many entries were handed out to be read so far, up to the greatest number: each one of
     /// [`Chain::entry`] and [`Chain::last_published`], and those of [`Chain::entries`], [`Chain::log`] and
-    /// [`Chain::page_entries`].
+    /// [`Chain::page_entries`]. What goes by places, as changes do, by [`Chain::entry_at`], is not among them.
     pub fn reads(&self) -> u64 {
         self.reads.get()
     }
