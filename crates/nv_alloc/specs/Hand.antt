@@ -14,4 +14,5 @@ blocks_of hand = hand.data.blocks ++ hand.pages.blocks ++ hand.chain
 abbrev pub IsLowestHome : ℕ → ℕ → List ℕ → Option ℕ → Type 0
 IsLowestHome blocks cpus numbers None = AllByRecursion (λ n. blocks ≤ n) numbers
 IsLowestHome blocks cpus numbers (Some cpu) =
-    (cpu < cpus) × ((n : ℕ) × (has numbers n ≡ true) × IsHome blocks cpus cpu n) × AllByRecursion (λ n. home_start blocks cpus cpu ≤ n) numbers
+    (cpu < cpus) × ((n : ℕ) × (has numbers n ≡ true) × IsHome blocks cpus cpu n)
+    × AllByRecursion (λ n. home_start blocks cpus cpu ≤ n) numbers

@@ -12,4 +12,5 @@ pub record QueueValue : Type 0 where
 
 -- the queue once its blocks were offered to the list
 abbrev pub after_home : FreeBlocks → QueueValue → QueueValue
-after_home list queue = record queue { blocks = kept_of list queue.blocks; room = queue.room + length queue.blocks - length (kept_of list queue.blocks) }
+after_home list queue =
+    record queue { blocks = kept_of list queue.blocks; room = queue.room + length queue.blocks - length (kept_of list queue.blocks) }

@@ -14,4 +14,5 @@ with_bytes_at (block ∷ blocks) (suc place) bytes = block ∷ with_bytes_at blo
 
 -- the queue ends with the last bytes that were written through `bytes` in the block at the place
 abbrev pub LendsBytesAt : MutBor QueueValue → ℕ → MutBor (List ℕ) → Fml
-LendsBytesAt queue place bytes = Lends the_row (Array u8 0) queue bytes (λ w. record queue.now { blocks = with_bytes_at queue.now.blocks place w })
+LendsBytesAt queue place bytes =
+    Lends the_row (Array u8 0) queue bytes (λ w. record queue.now { blocks = with_bytes_at queue.now.blocks place w })

@@ -6,7 +6,8 @@ use Rattle.nv_alloc.specs.declared.runs.FreeRun.{FreeRun}
 -- the runs with a number before them: it joins a first run that begins right after it
 abbrev pub join : ℕ → List FreeRun → List FreeRun
 join n [] = record { first = n; last = n } ∷ []
-join n (run ∷ runs) = if run.first == n + 1 then record { first = n; last = run.last } ∷ runs else record { first = n; last = n } ∷ run ∷ runs
+join n (run ∷ runs) =
+    if run.first == n + 1 then record { first = n; last = run.last } ∷ runs else record { first = n; last = n } ∷ run ∷ runs
 
 -- the maximal runs of a rising list, in rising order
 abbrev pub runs_of : List ℕ → List FreeRun

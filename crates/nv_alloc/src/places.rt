@@ -109,7 +109,8 @@ fn fill_nodes(tree: &mut [u32], len: u32)
 /// Gives a node the lower of its children's places.
 fn fill_node(tree: &mut [u32], node: usize)
     requires { 2 * node + 1 < length tree.old }
-    ensures { tree.new ≡ slice_set tree.old node (min (slice_index tree.old (2 * node)) (slice_index tree.old (2 * node + 1))) }
+    ensures { tree.new ≡ slice_set tree.old node
+        (min (slice_index tree.old (2 * node)) (slice_index tree.old (2 * node + 1))) }
 {
     tree[node] = lower_child(tree, node);
 }

@@ -38,7 +38,8 @@ impl<'a> Model for Runs<'a> {
 
     ghost view = { λ r. runs_of (numbers_of (present r.slots.now)) };
 
-    ghost invariant = { λ r. ArePlaced r.start r.slots.now × (r.start + length r.slots.now < 2 ^ 32) };
+    ghost invariant = { λ r. ArePlaced r.start r.slots.now
+        × (r.start + length r.slots.now < 2 ^ 32) };
 }
 
 impl<'a> Runs<'a> {

@@ -30,7 +30,8 @@ all_used snapshots deferred in_hands from (cell ∷ cells) marked =
     subst (λ (n : ℕ). IsMarkedCell snapshots deferred in_hands n (slice_index_or cells i d)) on (marked (suc i) d (omega (arith, lt)))))
 
 -- the blocks in use are those that cells have, and those in hands
-pub used_are_had : (d : Device) → HasMarkedCells d → used_of d.cells d.book d.in_hands d.blocks ≡ flat_map blocks_of_cell d.cells ++ d.blocks
+pub used_are_had : (d : Device) → HasMarkedCells d
+    → used_of d.cells d.book d.in_hands d.blocks ≡ flat_map blocks_of_cell d.cells ++ d.blocks
 used_are_had d marked =
     ap (λ (xs : List ℕ). xs ++ d.blocks) (all_used (ids d.book.snaps) d.book.deferred d.in_hands 0 d.cells (λ i default lt.
     let zeroth : i ≡ 0 + i = omega arith in

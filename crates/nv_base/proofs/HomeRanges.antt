@@ -12,7 +12,8 @@ home_start-mono blocks cpus c d p h =
     le-div (c * blocks / cpus) (d * blocks) cpus p (omega arith)
 
 -- which range a number is in, by products
-home_by_products : (blocks cpus number cpu : ℕ) → 0 < cpus → cpu * blocks < (number + 1) * cpus → (number + 1) * cpus ≤ (cpu + 1) * blocks → IsHome blocks cpus cpu number
+home_by_products : (blocks cpus number cpu : ℕ) → 0 < cpus → cpu * blocks < (number + 1) * cpus → (number + 1) * cpus ≤ (cpu + 1) * blocks
+    → IsHome blocks cpus cpu number
 home_by_products blocks cpus number cpu p low high = record {
   from = let k : home_start blocks cpus cpu < number + 1 = div_below (cpu * blocks) cpus (number + 1) p low in omega arith;
   below = let k : number + 1 ≤ home_start blocks cpus (cpu + 1) = le-div (number + 1) ((cpu + 1) * blocks) cpus p high in omega arith;
@@ -55,6 +56,7 @@ cuts blocks cpus p = record {
     home = home blocks cpus number;
     is_cpu = home_below blocks cpus number p h;
     is_home = is_home blocks cpus number p h;
-    only = λ cpu lt x. let k = one_home blocks cpus number cpu (home blocks cpus number) p x (is_home blocks cpus number p h) in let a = k.0 in let b = k.1 in omega (arith, a, b);
+    only = λ cpu lt x. let k = one_home blocks cpus number cpu (home blocks cpus number) p x (is_home blocks cpus number p h) in
+        let a = k.0 in let b = k.1 in omega (arith, a, b);
   };
 }

@@ -14,7 +14,8 @@ same_from_parts a b commit place =
 -- of two ids the one stands before the other, or they are one
 pub cases_id : (a b : EntryId) → IsIdBefore a b ⊎ (a ≡ b) ⊎ IsIdBefore b a
 cases_id a b = commits (cases_order a.commit b.commit) where
-  places : a.commit ≡ b.commit → (a.place ≡ b.place) ⊎ ((a.place < b.place) ⊎ (b.place < a.place)) → IsIdBefore a b ⊎ (a ≡ b) ⊎ IsIdBefore b a
+  places : a.commit ≡ b.commit → (a.place ≡ b.place) ⊎ ((a.place < b.place) ⊎ (b.place < a.place)) → IsIdBefore a b ⊎ (a ≡ b)
+      ⊎ IsIdBefore b a
   places same (inl e) = inr (inl (same_from_parts a b same e))
   places same (inr (inl lt)) = inl (inr (same, lt))
   places same (inr (inr gt)) = inr (inr (inr (sym same, gt)))
@@ -41,7 +42,8 @@ Decides-before a b =
 
 pub Decides-same : (a b : EntryId) → Decides (is_same_id a b) (a ≡ b)
 Decides-same a b =
-    Decides-like _ (λ parts. same_from_parts a b parts.0 parts.1) (λ e. (ap (λ (id : EntryId). id.commit) e, ap (λ (id : EntryId). id.place) e))
+    Decides-like _ (λ parts. same_from_parts a b parts.0 parts.1)
+    (λ e. (ap (λ (id : EntryId). id.commit) e, ap (λ (id : EntryId). id.place) e))
     (Decides-and _ _ (Decides-eqb a.commit b.commit) (Decides-eqb a.place b.place))
 
 -- an id before another is not the same

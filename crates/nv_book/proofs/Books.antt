@@ -87,7 +87,8 @@ records-absent (m ∷ ms) s out = go (m.snapshot == s) refl (records-absent ms s
   go false e h = h
 
 pub book-empty : (snaps epoch commit : ℕ) → commit ≤ NUMBER →
-    IsBook (record { living = []; epoch = epoch; most = snaps }) commit (record { manifests = []; most = snaps; deferred = []; room = 0 }) []
+    IsBook (record { living = []; epoch = epoch; most = snaps }) commit
+    (record { manifests = []; most = snaps; deferred = []; room = 0 }) []
 unfolding IsLegal replay undone
 book-empty snaps epoch commit fits = record {
   filed = record { all = refl; filed = tt; unheld = tt };

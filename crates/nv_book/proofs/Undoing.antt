@@ -125,7 +125,8 @@ replay-longer base [] e = refl
 replay-longer base (x ∷ es) e = replay-longer (after base x) es e
 
 -- an event is noted where n are kept
-module _ (n most : ℕ) (now : State) (es : List Event) (e : Event) (fits : length es ≤ n) (h : IsHistory most now es) (next : IsNext most now e) where
+module _ (n most : ℕ) (now : State) (es : List Event) (e : Event) (fits : length es ≤ n) (h : IsHistory most now es)
+    (next : IsNext most now e) where
   abbrev all : List Event
   all = es ++ e ∷ []
 

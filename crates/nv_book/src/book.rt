@@ -331,8 +331,10 @@ impl Book {
     /// The living snapshots.
     pub fn snaps(&self) -> &SnapList
         ensures snaps { result.now ≡ self.now.state.snaps }
-        ensures filed { let now = self.now.state in AreFiled (ids now.snaps) now.manifests now.deferred }
-        ensures dead { let now = self.now.state in AreDead now.snaps.epoch now.manifests now.deferred }
+        ensures filed { let now = self.now.state in
+            AreFiled (ids now.snaps) now.manifests now.deferred }
+        ensures dead { let now = self.now.state in
+            AreDead now.snaps.epoch now.manifests now.deferred }
     {
         &self.snaps
     }
@@ -340,8 +342,10 @@ impl Book {
     /// The manifests of the living snapshots, oldest first.
     pub fn manifests(&self) -> &[Manifest]
         ensures manifests { result.now ≡ self.now.state.manifests }
-        ensures filed { let now = self.now.state in AreFiled (ids now.snaps) now.manifests now.deferred }
-        ensures dead { let now = self.now.state in AreDead now.snaps.epoch now.manifests now.deferred }
+        ensures filed { let now = self.now.state in
+            AreFiled (ids now.snaps) now.manifests now.deferred }
+        ensures dead { let now = self.now.state in
+            AreDead now.snaps.epoch now.manifests now.deferred }
     {
         self.store.manifests()
     }
@@ -349,8 +353,10 @@ impl Book {
     /// The deferred list.
     pub fn deferred(&self) -> &Records
         ensures deferred { result.now ≡ self.now.state.deferred }
-        ensures filed { let now = self.now.state in AreFiled (ids now.snaps) now.manifests now.deferred }
-        ensures dead { let now = self.now.state in AreDead now.snaps.epoch now.manifests now.deferred }
+        ensures filed { let now = self.now.state in
+            AreFiled (ids now.snaps) now.manifests now.deferred }
+        ensures dead { let now = self.now.state in
+            AreDead now.snaps.epoch now.manifests now.deferred }
     {
         self.store.deferred()
     }

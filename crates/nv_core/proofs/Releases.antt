@@ -45,7 +45,8 @@ release_turns shared picked old hand after cells new d r turn set here state is 
     hand_after picked.ino (calls.released picked old) (calls.released_blocks picked old) hand empty ∙ ap hand_of (sym is) in
     ap (λ (c : CellState). end_turn r.slots (machine.Drains (one_more d)) (with_cell picked.ino (calls.erased (calls.released picked c)) s)
     (with_erased picked.ino (calls.released picked c) (record empty_hand { blocks = calls.released_blocks picked c })) r) here
-    ∙ ap₂ (λ (cs : List CellState) (h : HandState). end_turn r.slots (machine.Drains (one_more d)) (record s { cells = cs }) h r) states hands
+    ∙ ap₂ (λ (cs : List CellState) (h : HandState). end_turn r.slots (machine.Drains (one_more d)) (record s { cells = cs }) h r) states
+    hands
     ∙ ends
 
 -- ---- blocks of the device

@@ -20,7 +20,8 @@ use Rattle.nv_core.proofs.Homes.{no_home}
 use Rattle.nv_core.specs.Told.{IsEither}
 use Rattle.nv_core.specs.Visits.{IsFoundBy, IsRefusedBy}
 
-pub refuses : (s : Shared) (r : Running) (fault : Fault) → r.slots ≡ [] → refuse fault s empty_hand r ≡ machine.Ends (Err fault) s empty_hand
+pub refuses : (s : Shared) (r : Running) (fault : Fault) → r.slots ≡ []
+    → refuse fault s empty_hand r ≡ machine.Ends (Err fault) s empty_hand
 refuses s r fault none =
     ap (λ (slots : List ℕ). end_turn slots (machine.Refuses fault) s empty_hand r) none
     ∙ ap (λ (home : Option ℕ). rest_turn home None s empty_hand (record r { ending = machine.Refuses fault })) (no_home 0 0 s.lists)

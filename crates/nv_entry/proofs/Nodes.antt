@@ -52,7 +52,8 @@ range-suc a zero = ap (λ x. x ∷ []) (sym (add-zero a))
 range-suc a (suc n) = ap (λ xs. a ∷ xs) (range-suc (a + 1) n ∙ ap (λ x. range_with_len (a + 1) n ++ x ∷ []) (omega arith))
 
 -- one more page, behind the others
-pub pages-more : (page : ℕ → List ℕ) (count : ℕ) → flat_map page (range_with_len 0 (count + 1)) ≡ flat_map page (range_with_len 0 count) ++ page count
+pub pages-more : (page : ℕ → List ℕ) (count : ℕ)
+    → flat_map page (range_with_len 0 (count + 1)) ≡ flat_map page (range_with_len 0 count) ++ page count
 pages-more page count =
     rw add-one (ap (flat_map page) (range-suc 0 count)
     ∙ flat_map-append page (range_with_len 0 count) ((0 + count) ∷ [])

@@ -108,5 +108,6 @@ reads_at r epoch before e later unspanned h =
     (go (nat_le e.epoch epoch) refl) where
       go : (t : Bool) → nat_le e.epoch epoch ≡ t
           → ReadsSame r.block (up_to epoch before ++ up_to epoch (e ∷ later)) (up_to epoch before ++ up_to epoch later)
-      go true q = rw q (leaving_reads r.block (up_to epoch before) e (up_to epoch later) (may_leave_at r epoch before e later unspanned q h))
+      go true q = rw q
+          (leaving_reads r.block (up_to epoch before) e (up_to epoch later) (may_leave_at r epoch before e later unspanned q h))
       go false q = rw q (reads_refl r.block (up_to epoch before ++ up_to epoch later))

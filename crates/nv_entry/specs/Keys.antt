@@ -67,7 +67,8 @@ sets block (Init kind mode) ModeKey = Present (datum.Mode mode)
 sets block (Init kind mode) SizeKey = Present (datum.Size 0)
 sets block (Init kind mode) key = Untouched
 sets block (Write first run size) SizeKey = Present (datum.Size size)
-sets block (Write first run size) (PageKey page) = if in_run first run page then Present (datum.Block (run.start + (page - first))) else Untouched
+sets block (Write first run size) (PageKey page) =
+    if in_run first run page then Present (datum.Block (run.start + (page - first))) else Untouched
 sets block (Write first run size) key = Untouched
 sets block (SetSize size) SizeKey = Present (datum.Size size)
 sets block (SetSize size) (PageKey page) = if is_past block size page then Absent else Untouched

@@ -36,8 +36,10 @@ source_after e (Present value) before = source_of e (Present value)
 pub record OneMore (block : ℕ) (log : List Entry) (e : Entry) : Type 0 where
   pub value : (key : Key) → value_now block (log ++ e ∷ []) key ≡ value_after (sets block e.item key) (value_now block log key)
   pub earlier : (epoch : ℕ) (key : Key) → epoch < e.epoch → value_at block epoch (log ++ e ∷ []) key ≡ value_at block epoch log key
-  pub death : (key : Key) → first_cover block (log ++ e ∷ []) key ≡ option_or (first_cover block log key) (if covers block e.item key then Some e.epoch else None)
-  pub source : (page : ℕ) → page_source block (log ++ e ∷ []) page ≡ source_after e (sets block e.item (PageKey page)) (page_source block log page)
+  pub death : (key : Key) → first_cover block (log ++ e ∷ []) key
+      ≡ option_or (first_cover block log key) (if covers block e.item key then Some e.epoch else None)
+  pub source : (page : ℕ)
+      → page_source block (log ++ e ∷ []) page ≡ source_after e (sets block e.item (PageKey page)) (page_source block log page)
   pub names : names_of (log ++ e ∷ []) ≡ names_after e.item (names_of log)
 
 -- two logs read the same: each value, where each page stands, the names in order, and the node by whatever
@@ -105,8 +107,10 @@ abbrev pub GoIfPageDroppable : Retention → List Entry → List (List Entry) �
 GoIfPageDroppable r kept [] [] = Unit {0}
 GoIfPageDroppable r kept [] (stays ∷ flags) = ⊥
 GoIfPageDroppable r kept (page ∷ pages) [] = ⊥
-GoIfPageDroppable r kept (page ∷ pages) (true ∷ flags) = (IsPageDroppable r kept page (entries_of pages) → ⊥) × GoIfPageDroppable r (kept ++ page) pages flags
-GoIfPageDroppable r kept (page ∷ pages) (false ∷ flags) = IsPageDroppable r kept page (entries_of pages) × GoIfPageDroppable r kept pages flags
+GoIfPageDroppable r kept (page ∷ pages) (true ∷ flags) =
+    (IsPageDroppable r kept page (entries_of pages) → ⊥) × GoIfPageDroppable r (kept ++ page) pages flags
+GoIfPageDroppable r kept (page ∷ pages) (false ∷ flags) =
+    IsPageDroppable r kept page (entries_of pages) × GoIfPageDroppable r kept pages flags
 
 -- fast cleaning takes out the pages that are droppable throughout and no others, and keeps what is read
 pub record IsFast (r : Retention) (pages : List (List Entry)) : Type 0 where

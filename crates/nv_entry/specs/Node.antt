@@ -34,7 +34,14 @@ abbrev pub file_bytes : (ℕ → List ℕ) → ℕ → List Entry → List ℕ
 file_bytes bytes block log = take (size_now block log) (pages_bytes bytes block log (pages_for block (size_now block log)))
 
 abbrev pub node_of_kind : Option Datum → (ℕ → List ℕ) → ℕ → List Entry → Option NodeCopy
-node_of_kind (Some (datum.Kind kind)) bytes block log = Some (record { kind = kind; mode = mode_now block log; size = size_now block log; bytes = file_bytes bytes block log; names = names_of log })
+node_of_kind (Some (datum.Kind kind)) bytes block log =
+    Some (record {
+      kind = kind;
+      mode = mode_now block log;
+      size = size_now block log;
+      bytes = file_bytes bytes block log;
+      names = names_of log;
+    })
 node_of_kind value bytes block log = None
 
 -- the node now: kind, mode, size, bytes and names; none where the kind is absent

@@ -76,7 +76,8 @@ Makes bytes block (Write first run size) (Some node) (Some after) =
     × Rewrites bytes block (Write first run size) size node after
 Makes bytes block (SetSize size) (Some node) (Some after) = Rewrites bytes block (SetSize size) size node after
 Makes bytes block (SetMode mode) (Some node) (Some after) = after ≡ record node { mode = mode }
-Makes bytes block (Bind name to) (Some node) (Some after) = (node.kind ≡ Dir) × (after ≡ record node { names = with_last name to node.names })
+Makes bytes block (Bind name to) (Some node) (Some after) =
+    (node.kind ≡ Dir) × (after ≡ record node { names = with_last name to node.names })
 Makes bytes block (Unbind name) (Some node) (Some after) = (node.kind ≡ Dir) × (after ≡ record node { names = without name node.names })
 Makes bytes block Gone (Some node) None = Unit {0}
 Makes bytes block item before after = ⊥
@@ -104,7 +105,8 @@ pub record HaveText (bytes : ℕ → List ℕ) (block offset : ℕ) (text before
 -- a run of such blocks
 pub record HasText (bytes : ℕ → List ℕ) (block offset : ℕ) (text before : List ℕ) (run : Run) : Type 0 where
   pub count : run.len ≡ pages_touched block offset (length text)
-  pub filled : (place : ℕ) → place < run.len → bytes (run.start + place) ≡ page_of block (offset / block + place) (written offset text before)
+  pub filled : (place : ℕ) → place < run.len
+      → bytes (run.start + place) ≡ page_of block (offset / block + place) (written offset text before)
 
 -- a node after a write
 abbrev pub rewritten : ℕ → List ℕ → NodeCopy → NodeCopy

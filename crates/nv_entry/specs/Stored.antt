@@ -50,7 +50,8 @@ block_after block item page before = before
 -- what is stored after one more item
 abbrev pub stored_after : ℕ → Item → Stored → Stored
 stored_after block (Init kind mode) s = record s { kind = Some kind; mode = mode; size = 0 }
-stored_after block (Write first run size) s = record s { size = size; blocks = λ page. block_after block (Write first run size) page (s.blocks page) }
+stored_after block (Write first run size) s =
+    record s { size = size; blocks = λ page. block_after block (Write first run size) page (s.blocks page) }
 stored_after block (SetSize size) s = record s { size = size; blocks = λ page. block_after block (SetSize size) page (s.blocks page) }
 stored_after block (SetMode mode) s = record s { mode = mode }
 stored_after block (Bind name to) s = record s { names = names_after (Bind name to) s.names }

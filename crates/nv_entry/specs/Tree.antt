@@ -26,7 +26,8 @@ node_and_below (Some node) path below = record { path = path; node = node } ∷ 
 -- the tree from a handle on, at most so many nodes deep
 abbrev pub tree_from : (Handle → Option NodeCopy) → ℕ → List (List ℕ) → Handle → List TreeNode
 tree_from nodes zero path handle = []
-tree_from nodes (suc depth) path handle = node_and_below (nodes handle) path (λ bound. tree_from nodes depth (path_below path bound.name) bound.to)
+tree_from nodes (suc depth) path handle =
+    node_and_below (nodes handle) path (λ bound. tree_from nodes depth (path_below path bound.name) bound.to)
 
 abbrev pub root : Handle
 root = record { ino = 0; generation = 1 }

@@ -36,7 +36,8 @@ fn passes_test(retention: &Retention<'_>, before: &[Entry], entry: &Entry, later
 
 fn hides_any(block: u64, item: &Item, before: &[Entry]) -> bool
     requires { 0 < block }
-    ensures { result ≡ list_any (λ (earlier : Entry). hides block item.now earlier.item) before.now }
+    ensures { result
+        ≡ list_any (λ (earlier : Entry). hides block item.now earlier.item) before.now }
 {
     before
         .iter()

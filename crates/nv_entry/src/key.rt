@@ -175,7 +175,8 @@ fn page_setting(block: u64, item: &Item, page: u32) -> Setting
 /// What a run of blocks, the first of which is page `first`, does to a page that a file can have.
 fn run_setting(first: u32, run: &Run, page: u32) -> Setting
     requires { page < FILE_PAGES }
-    ensures { result ≡ (if in_run first run.now page then Present (Block (run.now.start + (page - first))) else Untouched) }
+    ensures { result ≡ (if in_run first run.now page
+        then Present (Block (run.now.start + (page - first))) else Untouched) }
 {
     if page < first || page - first >= run.len {
         return Setting::Untouched;

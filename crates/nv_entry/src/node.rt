@@ -42,7 +42,8 @@ pub fn node_when<B: BlockBytes>(
     blocks: &B,
 ) -> Result<Option<NodeCopy>, AllocError>
     requires { 0 < block }
-    ensures { IfOk result (λ node. node ≡ node_now (B.bytes_of blocks.now) block (seen when log.now)) }
+    ensures { IfOk result
+        (λ node. node ≡ node_now (B.bytes_of blocks.now) block (seen when log.now)) }
 {
     match value_when(block, when, log, Key::Kind) {
         Some(Datum::Kind(kind)) => Ok(Some(NodeCopy {
@@ -83,7 +84,8 @@ pub fn file_bytes_when<B: BlockBytes>(
     blocks: &B,
 ) -> Result<Bytes, AllocError>
     requires { 0 < block }
-    ensures { IfOk result (λ bytes. bytes ≡ file_bytes (B.bytes_of blocks.now) block (seen when log.now)) }
+    ensures { IfOk result
+        (λ bytes. bytes ≡ file_bytes (B.bytes_of blocks.now) block (seen when log.now)) }
 {
     let size = size_when(when, log);
     let mut bytes = Vec::new(alloc);

@@ -55,17 +55,21 @@ pub fn removal_moves_holders_down()
         youngest_holder living birth death ≡ Some s →
         youngest_holder (without s living) birth death ≡ if_born_by birth (next_older living s) }
     ensures others { (living : List ℕ) (s t birth death : ℕ) → t ≢ s →
-        youngest_holder living birth death ≡ Some t → youngest_holder (without s living) birth death ≡ Some t }
+        youngest_holder living birth death ≡ Some t
+        → youngest_holder (without s living) birth death ≡ Some t }
     ensures none { (living : List ℕ) (s birth death : ℕ) →
-        youngest_holder living birth death ≡ None → youngest_holder (without s living) birth death ≡ None }
+        youngest_holder living birth death ≡ None
+        → youngest_holder (without s living) birth death ≡ None }
 {}
 
 /// A snapshot has pins exactly where it lives. Making, removing, pinning and unpinning one snapshot leaves the
 /// pins of all others.
 pub fn pins_stay_with_their_snapshot()
-    ensures lives { (living : List Snapshot) (s : ℕ) → IsSome (pins_at living s) ↔ Contains (numbers living) s }
+    ensures lives { (living : List Snapshot) (s : ℕ) → IsSome (pins_at living s)
+        ↔ Contains (numbers living) s }
     ensures made { (living : List Snapshot) (made : Snapshot) (s : ℕ) →
-        pins_at (living ++ made ∷ []) s ≡ option_or (pins_at living s) (if made.number == s then Some made.pins else None) }
+        pins_at (living ++ made ∷ []) s
+        ≡ option_or (pins_at living s) (if made.number == s then Some made.pins else None) }
     ensures removed { (living : List Snapshot) (s : ℕ) → pins_at (living_without living s) s ≡ None }
     ensures kept { (living : List Snapshot) (s other : ℕ) → other ≢ s →
         pins_at (living_without living s) other ≡ pins_at living other }

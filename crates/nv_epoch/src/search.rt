@@ -13,7 +13,8 @@ fn count_below(living: &[Snapshot], bound: Epoch) -> usize
     requires { IsRising (numbers living.now) }
     ensures in_range { result ≤ length living.now }
     ensures older { (k : ℕ) → k < result → slice_index (numbers living.now) k < bound }
-    ensures others { (k : ℕ) → result ≤ k → k < length living.now → bound ≤ slice_index (numbers living.now) k }
+    ensures others { (k : ℕ) → result ≤ k → k < length living.now
+        → bound ≤ slice_index (numbers living.now) k }
 {
     living.partition_point(|s| s.number < bound)
 }

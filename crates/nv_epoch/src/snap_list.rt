@@ -29,9 +29,11 @@ impl Model for SnapList {
 
     ghost Value = { Snapshots };
 
-    ghost view = { λ list. record { living = list.living.items; epoch = list.epoch; most = list.most } };
+    ghost view = { λ list.
+        record { living = list.living.items; epoch = list.epoch; most = list.most } };
 
-    ghost invariant = { λ list. IsSound (record { living = list.living.items; epoch = list.epoch; most = list.most })
+    ghost invariant = { λ list. IsSound
+        (record { living = list.living.items; epoch = list.epoch; most = list.most })
         × (list.most ≤ vec_capacity list.living) };
 }
 
@@ -42,7 +44,8 @@ impl SnapList {
     pub fn new(alloc: Global, snaps: u64, first_epoch: Epoch) -> Result<SnapList, Fault>
         requires some_epoch { 1 ≤ first_epoch }
         requires epoch_fits { first_epoch ≤ NUMBER }
-        ensures ok { IfOk result (λ list. list ≡ record { living = []; epoch = first_epoch; most = snaps }) }
+        ensures ok { IfOk result
+            (λ list. list ≡ record { living = []; epoch = first_epoch; most = snaps }) }
         ensures err { IfErr result (λ fault. fault ≡ Fault.OutOfMemory) }
     {
         Ok(SnapList {

@@ -24,7 +24,8 @@ pub record PageMap : Type 0 where
 -- the pages first to first + len - 1 lie in the entry, from its place 0 on, and all others where they lay
 abbrev pub SetsRun : ℕ → ℕ → EntryId → (ℕ → Option PageRef) → (ℕ → Option PageRef) → Type 0
 SetsRun first len entry old new =
-    (page : ℕ) → new page ≡ (if nat_le first page && nat_lt page (first + len) then Some (record { entry = entry; place = page - first }) else old page)
+    (page : ℕ) → new page
+    ≡ (if nat_le first page && nat_lt page (first + len) then Some (record { entry = entry; place = page - first }) else old page)
 
 -- the pages below `from` lie where they lay, and no other is present
 abbrev pub CutsFrom : ℕ → (ℕ → Option PageRef) → (ℕ → Option PageRef) → Type 0

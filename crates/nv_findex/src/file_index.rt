@@ -28,7 +28,8 @@ impl Model for FileIndex {
 
     ghost Value = { PageMap };
 
-    ghost view = { λ i. record { pages = i.runs.items; room = vec_capacity i.runs - vec_len i.runs } };
+    ghost view = { λ i.
+        record { pages = i.runs.items; room = vec_capacity i.runs - vec_len i.runs } };
 
     ghost invariant = { λ i. AreRuns i.runs.items };
 }
@@ -144,7 +145,8 @@ impl FileIndex {
         requires room { 2 ≤ self.old.room }
         ensures pages { SetsRun first len entry (ref_at self.old.pages) (ref_at self.new.pages) }
         ensures runs { run_count_of self.new.pages ≤ run_count_of self.old.pages + 2 }
-        ensures room { self.new.room + run_count_of self.new.pages ≡ self.old.room + run_count_of self.old.pages }
+        ensures room { self.new.room + run_count_of self.new.pages
+            ≡ self.old.room + run_count_of self.old.pages }
     {
         let run = PageRun {
             first,
@@ -160,7 +162,8 @@ impl FileIndex {
     pub fn cut_from(&mut self, page: u32)
         ensures pages { CutsFrom page (ref_at self.old.pages) (ref_at self.new.pages) }
         ensures runs { run_count_of self.new.pages ≤ run_count_of self.old.pages }
-        ensures room { self.new.room + run_count_of self.new.pages ≡ self.old.room + run_count_of self.old.pages }
+        ensures room { self.new.room + run_count_of self.new.pages
+            ≡ self.old.room + run_count_of self.old.pages }
     {
         runs::cut(&mut self.runs, page);
     }

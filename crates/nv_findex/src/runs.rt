@@ -261,7 +261,8 @@ fn put_joined(runs: &mut Vec<PageRun>, from: usize, to: usize, run: PageRun, nex
     requires order { from ≤ to + 1 }
     requires variant { is_some next ≡ nat_lt to (vec_len runs.old) }
     requires room { vec_len runs.old + 2 ≤ vec_capacity runs.old }
-    ensures items { runs.new.items ≡ take from runs.old.items ++ join run (option_to_list next ++ drop (to + 1) runs.old.items) }
+    ensures items { runs.new.items ≡ take from runs.old.items
+        ++ join run (option_to_list next ++ drop (to + 1) runs.old.items) }
     ensures len { vec_len runs.new ≤ vec_len runs.old + 2 }
     ensures capacity { vec_capacity runs.new ≡ vec_capacity runs.old }
 {

@@ -30,7 +30,8 @@ impl Model for Journal {
 
     ghost view = { λ journal. take journal.count journal.places };
 
-    ghost invariant = { λ journal. (journal.count ≤ 4) × IsJournal (take journal.count journal.places) };
+    ghost invariant = { λ journal. (journal.count ≤ 4)
+        × IsJournal (take journal.count journal.places) };
 }
 
 impl Journal {
@@ -83,7 +84,8 @@ impl Journal {
     /// The old tail that was noted for the inode, if the journal is open and names it.
     pub fn tail_of(&self, ino: Ino) -> Option<u64>
         ensures value { result ≡ tail_noted self.now ino }
-        ensures noted { (tail : ℕ) → (result ≡ Some tail) ↔ Contains self.now (record { ino = ino; tail = tail }) }
+        ensures noted { (tail : ℕ) → (result ≡ Some tail)
+            ↔ Contains self.now (record { ino = ino; tail = tail }) }
     {
         self.pending().iter().find(|t| t.ino == ino).map(|t| t.tail)
     }

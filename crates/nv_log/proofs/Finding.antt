@@ -117,6 +117,8 @@ found_within es id (Some k) e = small (nat_lt (position_or_len (has_id id) es) (
     small false lt is = cc
 
 -- an entry of that id stands at its place
-pub placed : (es : List Entry) (id : EntryId) (k : ℕ) (d : Entry) → IsLog es → k < length es → is_same_id (get_or es k d).id id ≡ true → place_of es id ≡ Some k
+pub placed : (es : List Entry) (id : EntryId) (k : ℕ) (d : Entry) → IsLog es → k < length es → is_same_id (get_or es k d).id id ≡ true
+    → place_of es id ≡ Some k
 placed es id k d is within here =
-    place_at es id k d within (λ j lt. before-other (get_or es j d).id (get_or es k d).id id (ordered_at es j k d is lt within).id_rises here) here
+    place_at es id k d within
+    (λ j lt. before-other (get_or es j d).id (get_or es k d).id id (ordered_at es j k d is lt within).id_rises here) here

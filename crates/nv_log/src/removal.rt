@@ -63,9 +63,11 @@ pub fn take_pages(
 ) -> usize
     requires parted { (page : ℕ) × AreEnds page 0 ends.old.items (length entries.old.items) }
     ensures entries { entries.new.items
-        ≡ joined (left_of (flags_from first stays.now) (parts_from 0 ends.old.items entries.old.items)) }
+        ≡ joined (left_of (flags_from first stays.now)
+        (parts_from 0 ends.old.items entries.old.items)) }
     ensures ends { ends.new.items
-        ≡ ends_from 0 (left_of (flags_from first stays.now) (parts_from 0 ends.old.items entries.old.items)) }
+        ≡ ends_from 0
+        (left_of (flags_from first stays.now) (parts_from 0 ends.old.items entries.old.items)) }
     ensures tail { result ≡ length (joined (left_of (flags_from first stays.now)
         (parts_from 0 ends.old.items (take tail entries.old.items)))) }
     ensures entries_capacity { vec_capacity entries.new ≡ vec_capacity entries.old }

@@ -44,7 +44,8 @@ ref_behind : (first : Entry) (block : ℕ) (log : List Entry) (p : ℕ) (r : Par
     → scan_ref block log (PageKey p) ≡ Some r → IsIdBefore first.id r.entry
 ref_behind first block [] p r all q = cc
 ref_behind first block (e ∷ later) p r all q =
-    go (any_cover block later (PageKey p)) (λ h. ref_behind first block later p r all.1 h) (sym (scan_ref-cons block e later (PageKey p)) ∙ q)
+    go (any_cover block later (PageKey p)) (λ h. ref_behind first block later p r all.1 h)
+    (sym (scan_ref-cons block e later (PageKey p)) ∙ q)
   where
     own : (s : Setting) → left_by s (part_ref e.id (place_in e.item (PageKey p))) None ≡ Some r → IsIdBefore first.id r.entry
     own Untouched h = cc
@@ -86,7 +87,8 @@ record Numbered (block : ℕ) (log : List Entry) (p : ℕ) (r : PartRef) : Type 
   scanned : scan_n block log (PageKey p) ≡ Some n
   named : number_named log (page_part p r.entry) ≡ Some n
 
-numbered : (block : ℕ) (log : List Entry) (p : ℕ) (r : PartRef) → IsLog log → scan_ref block log (PageKey p) ≡ Some r → Numbered block log p r
+numbered : (block : ℕ) (log : List Entry) (p : ℕ) (r : PartRef) → IsLog log → scan_ref block log (PageKey p) ≡ Some r
+    → Numbered block log p r
 numbered block [] p r is q = cc
 numbered block (e ∷ later) p r is q =
     go (any_cover block later (PageKey p)) refl (λ h. numbered block later p r is.1 h) (sym (scan_ref-cons block e later (PageKey p)) ∙ q)
@@ -139,7 +141,8 @@ none_held block log p is q =
     ap (option_and_then block_in) ((refs_give block log is).value (PageKey p) ∙ ap (option_and_then (value_in block log (PageKey p))) q)
 
 -- the block of the part that holds a page
-held_block : (cell : CellState) (t p n : ℕ) (b : BlockValue) → IsCell cell → scan_n cell.block (take t cell.chain.entries) (PageKey p) ≡ Some n
+held_block : (cell : CellState) (t p n : ℕ) (b : BlockValue) → IsCell cell
+    → scan_n cell.block (take t cell.chain.entries) (PageKey p) ≡ Some n
     → slice_index_or cell.blocks n None ≡ Some b → block_now cell.block (take t cell.chain.entries) p ≡ Some b.number
 held_block cell t p n b is scanned slot =
     let es = cell.chain.entries in
@@ -184,7 +187,8 @@ page_own cell p is = go (scan_ref cell.block (log_of cell) (PageKey p)) refl whe
 pub own_shown : (cell : CellState) → IsLog cell.chain.entries → own_bytes cell ≡ shown_bytes (part_bytes cell) cell.block (log_of cell)
 own_shown cell is =
     ap (take (size_now cell.block (log_of cell)))
-    (pages_same (own_page cell) (shown_page (part_bytes cell) cell.block (log_of cell)) 0 (pages_for cell.block (size_now cell.block (log_of cell)))
+    (pages_same (own_page cell) (shown_page (part_bytes cell) cell.block (log_of cell)) 0
+    (pages_for cell.block (size_now cell.block (log_of cell)))
     (λ page le lt. page_own cell page is))
 
 -- ---- by the bytes of blocks
@@ -208,14 +212,16 @@ cell_gives cell t bytes is le same there p low =
     at : (n : ℕ) → scan_n cell.block log (PageKey p) ≡ Some n → (id : PartId) → block_named cell id ≡ slice_index_or cell.blocks n None
         → (slot : Option BlockValue) → slice_index_or cell.blocks n None ≡ slot → IsSome (block_named cell id)
         → part_bytes cell id ≡ option_map bytes (block_now cell.block log p)
-    at n scanned id named None slot h = let none : block_named cell id ≡ None = named ∙ slot in let z : false ≡ true = subst IsSome none h in cc
+    at n scanned id named None slot h = let none : block_named cell id ≡ None = named ∙ slot in
+        let z : false ≡ true = subst IsSome none h in cc
     at n scanned id named (Some b) slot h =
         ap (option_map (λ (v : BlockValue). v.bytes)) (named ∙ slot) ∙ ap Some (sym (same n b slot))
         ∙ sym (ap (option_map bytes) (held_block cell t p n b is scanned slot))
 
     go : (o : Option PartRef) → scan_ref cell.block log (PageKey p) ≡ o
         → IfSome (page_writer cell.block log p) (λ entry. IsSome (block_named cell (page_part p entry)))
-        → option_and_then (λ entry. part_bytes cell (page_part p entry)) (page_writer cell.block log p) ≡ option_map bytes (block_now cell.block log p)
+        → option_and_then (λ entry. part_bytes cell (page_part p entry)) (page_writer cell.block log p)
+        ≡ option_map bytes (block_now cell.block log p)
     go None q h = rw q (sym (ap (option_map bytes) (none_held cell.block log p rising q)))
     go (Some r) q h =
         let id = page_part p r.entry in

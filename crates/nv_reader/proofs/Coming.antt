@@ -12,7 +12,8 @@ use Rattle.nv_entry.specs.declared.node.NodeCopy.{NodeCopy}
 use Rattle.nv_entry.specs.declared.tree.TreeNode.{TreeNode}
 use Rattle.nv_reader.specs.Walk.{GivesNext, Visit, given_for, given_in, left_after, name_visits, next_handle, root_visit, to_come, visit_count, visits_after, visits_to_come, wanted_node}
 
-pub whole : (nodes : Handle → Option NodeCopy) (depth : ℕ) (root : Handle) → to_come nodes (root_visit depth root) ≡ tree_from nodes depth [] root
+pub whole : (nodes : Handle → Option NodeCopy) (depth : ℕ) (root : Handle)
+    → to_come nodes (root_visit depth root) ≡ tree_from nodes depth [] root
 whole nodes zero root = refl
 whole nodes (suc below) root = append-nil (tree_from nodes (suc below) [] root)
 
@@ -26,7 +27,8 @@ no_visits_below [] = refl
 no_visits_below (bound ∷ names) = omega (arith, no_visits_below names)
 
 names_to_come : (nodes : Handle → Option NodeCopy) (below : ℕ) (path : List (List ℕ)) (names : List BoundName)
-    → flat_map (λ (bound : BoundName). tree_from nodes below (path_below path bound.name) bound.to) names ≡ to_come nodes (name_visits below path names)
+    → flat_map (λ (bound : BoundName). tree_from nodes below (path_below path bound.name) bound.to) names
+    ≡ to_come nodes (name_visits below path names)
 names_to_come nodes zero path names = none_below names
 names_to_come nodes (suc below) path [] = refl
 names_to_come nodes (suc below) path (bound ∷ names) =
@@ -45,13 +47,16 @@ name_count nodes (suc below) path (bound ∷ names) =
 
 -- what is left after the next visit, by its node
 next_of : (nodes : Handle → Option NodeCopy) (visit : Visit) (later : List Visit) (found : Option NodeCopy)
-    → node_and_below found visit.path (λ bound. tree_from nodes visit.below (path_below visit.path bound.name) bound.to) ++ to_come nodes later
+    → node_and_below found visit.path (λ bound. tree_from nodes visit.below (path_below visit.path bound.name) bound.to)
+    ++ to_come nodes later
     ≡ option_to_list (given_for (visit ∷ later) found) ++ to_come nodes (visits_after (visit ∷ later) found)
 next_of nodes visit later None = refl
 next_of nodes visit later (Some node) =
-    ap (λ trees. record { path = visit.path; node = node } ∷ (trees ++ to_come nodes later)) (names_to_come nodes visit.below visit.path node.names)
+    ap (λ trees. record { path = visit.path; node = node } ∷ (trees ++ to_come nodes later))
+    (names_to_come nodes visit.below visit.path node.names)
     ∙ ap (λ trees. record { path = visit.path; node = node } ∷ trees)
-    (sym (flat_map-append (λ (v : Visit). tree_from nodes (suc v.below) v.path v.handle) (name_visits visit.below visit.path node.names) later))
+    (sym (flat_map-append (λ (v : Visit). tree_from nodes (suc v.below) v.path v.handle)
+    (name_visits visit.below visit.path node.names) later))
 
 fewer_of : (nodes : Handle → Option NodeCopy) (visit : Visit) (later : List Visit) (found : Option NodeCopy)
     → (sum_by (λ (bound : BoundName). visit_count nodes visit.below bound.to) (names_of_node found) + 1) + visits_to_come nodes later
@@ -65,11 +70,13 @@ gives_next : (nodes : Handle → Option NodeCopy) (visit : Visit) (later : List 
     → GivesNext nodes (visit ∷ later) (given_for (visit ∷ later) (nodes visit.handle)) (visits_after (visit ∷ later) (nodes visit.handle))
 gives_next nodes visit later = record {
   next = next_of nodes visit later (nodes visit.handle);
-  fewer = sum_by-cons (λ (v : Visit). visit_count nodes (suc v.below) v.handle) visit later ∙ fewer_of nodes visit later (nodes visit.handle);
+  fewer = sum_by-cons (λ (v : Visit). visit_count nodes (suc v.below) v.handle) visit later
+      ∙ fewer_of nodes visit later (nodes visit.handle);
 }
 
 -- the same of any walk that has visits to make
-pub handed_next : (nodes : Handle → Option NodeCopy) (visits : List Visit) (node : Option NodeCopy) (given : Option TreeNode) (left : List Visit)
+pub handed_next : (nodes : Handle → Option NodeCopy) (visits : List Visit) (node : Option NodeCopy)
+    (given : Option TreeNode) (left : List Visit)
     → IsSome (next_handle visits) → node ≡ wanted_node nodes visits → given ≡ given_for visits node → left ≡ visits_after visits node
     → GivesNext nodes visits given left
 handed_next nodes [] _ given left some found is rest = cc
@@ -88,7 +95,8 @@ pub record IsWhole (nodes : Handle → Option NodeCopy) (count : ℕ) (visits : 
   pub given : given_in nodes count visits ≡ to_come nodes visits
   pub left : left_after nodes count visits ≡ []
 
-pub whole_walk : (nodes : Handle → Option NodeCopy) (count : ℕ) (visits : List Visit) → visits_to_come nodes visits ≤ count → IsWhole nodes count visits
+pub whole_walk : (nodes : Handle → Option NodeCopy) (count : ℕ) (visits : List Visit) → visits_to_come nodes visits ≤ count
+    → IsWhole nodes count visits
 whole_walk nodes zero visits enough =
     let none : visits ≡ [] = none_to_come nodes visits (omega (arith, enough)) in
     record { given = sym (ap (to_come nodes) none); left = none }

@@ -38,11 +38,13 @@ pub visits_are_few : (nodes : Handle → Option NodeCopy) (depth : ℕ) (path : 
     → visit_count nodes depth handle ≤ name_count (tree_from nodes depth path handle) + 1
 visits_are_few nodes zero path handle = omega arith
 visits_are_few nodes (suc depth) path handle =
-    below_node (nodes handle) path (λ bound. visit_count nodes depth bound.to) (λ bound. tree_from nodes depth (path_below path bound.name) bound.to)
+    below_node (nodes handle) path (λ bound. visit_count nodes depth bound.to)
+    (λ bound. tree_from nodes depth (path_below path bound.name) bound.to)
     (λ bound. visits_are_few nodes depth (path_below path bound.name) bound.to)
 
 -- the nodes below some names are no more than these names, and those of the nodes there
-nodes_below : (trees : BoundName → List TreeNode) (names : List BoundName) → ((bound : BoundName) → length (trees bound) ≤ name_count (trees bound) + 1)
+nodes_below : (trees : BoundName → List TreeNode) (names : List BoundName)
+    → ((bound : BoundName) → length (trees bound) ≤ name_count (trees bound) + 1)
     → length (flat_map trees names) ≤ name_count (flat_map trees names) + length names
 nodes_below trees [] each = omega arith
 nodes_below trees (bound ∷ names) each =
@@ -72,6 +74,12 @@ nodes_are_few nodes (suc depth) path handle =
     (λ bound. nodes_are_few nodes depth (path_below path bound.name) bound.to)
 
 -- a new walk has the visits of its root to make
-pub visits_of_root : (nodes : Handle → Option NodeCopy) (depth : ℕ) (root : Handle) → visits_to_come nodes (root_visit depth root) ≡ visit_count nodes depth root
+pub visits_of_root : (nodes : Handle → Option NodeCopy) (depth : ℕ) (root : Handle)
+    → visits_to_come nodes (root_visit depth root) ≡ visit_count nodes depth root
 visits_of_root nodes zero root = refl
-visits_of_root nodes (suc depth) root = omega (arith, sum_by-cons (λ (v : Visit). visit_count nodes (suc v.below) v.handle) (record { path = []; below = depth; handle = root }) [])
+visits_of_root nodes (suc depth) root =
+    omega (
+      arith,
+      sum_by-cons (λ (v : Visit). visit_count nodes (suc v.below) v.handle)
+          (record { path = []; below = depth; handle = root }) [],
+    )

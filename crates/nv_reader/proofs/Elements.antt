@@ -21,7 +21,8 @@ contains_cases x y xs (zero, lt, is) = inl is
 contains_cases x y xs (suc k, lt, is) = inr (k, omega (arith, lt), is)
 
 -- what stands below some elements stands below one of them
-pub contains_below : {X Y : Type 0} (f : X → List Y) (xs : List X) (y : Y) → Contains (flat_map f xs) y → (x : X) × (Contains xs x) × (Contains (f x) y)
+pub contains_below : {X Y : Type 0} (f : X → List Y) (xs : List X) (y : Y) → Contains (flat_map f xs) y → (x : X) × (Contains xs x)
+    × (Contains (f x) y)
 contains_below f [] y at = absurd (contains_none y at)
 contains_below f (x ∷ xs) y at = elim (Contains-append_cases (f x) (flat_map f xs) y at) [
   | inl here ↦ (x, contains_first x xs, here)
@@ -56,7 +57,8 @@ sum_within f [] all differ each = omega arith
 sum_within {X} f (x ∷ xs) all differ each =
     let at : Contains all x = each x (contains_first x xs) in
     let rest : sum_by f xs ≤ sum_by f (remove all at.0) =
-    sum_within f xs (remove all at.0) (pairs_later (λ x y. x ≢ y) x xs differ) (λ y there. stays y there at (each y (contains_later y x xs there))) in
+    sum_within f xs (remove all at.0) (pairs_later (λ x y. x ≢ y) x xs differ)
+    (λ y there. stays y there at (each y (contains_later y x xs there))) in
     omega (arith, rest, sum_by-cons f x xs, sum_by-remove f all at.0 x at.1, ap f at.2)
   where
     stays : (y : X) → Contains xs y → (at : Contains all x) → (there : Contains all y) → Contains (remove all at.0) y

@@ -54,12 +54,14 @@ pub split_at : (log : List Entry) (i : ℕ) (e : Entry) → i < length log → e
 split_at log i e lt is = sym (take-append-drop i log) ∙ ap (λ (xs : List Entry). take i log ++ xs) (drop-more log i e lt is)
 
 -- epochs never fall along a log
-behind_all : (e : Entry) (log : List Entry) → AllByRecursion (MayFollow e) log → (j : ℕ) (d : Entry) → j < length log → e.epoch ≤ (get_or log j d).epoch
+behind_all : (e : Entry) (log : List Entry) → AllByRecursion (MayFollow e) log → (j : ℕ) (d : Entry) → j < length log
+    → e.epoch ≤ (get_or log j d).epoch
 behind_all e [] all j d lt = absurd (omega arith)
 behind_all e (x ∷ log) all zero d lt = all.0.epoch_stays
 behind_all e (x ∷ log) all (suc j) d lt = behind_all e log all.1 j d (omega (arith, lt))
 
-pub epochs_climb : (log : List Entry) → IsLog log → (i j : ℕ) (d : Entry) → i ≤ j → j < length log → (get_or log i d).epoch ≤ (get_or log j d).epoch
+pub epochs_climb : (log : List Entry) → IsLog log → (i j : ℕ) (d : Entry) → i ≤ j → j < length log
+    → (get_or log i d).epoch ≤ (get_or log j d).epoch
 epochs_climb [] is i j d le lt = absurd (omega arith)
 epochs_climb (e ∷ log) is zero zero d le lt = omega arith
 epochs_climb (e ∷ log) is zero (suc j) d le lt = behind_all e log is.0 j d (omega (arith, lt))
@@ -67,12 +69,14 @@ epochs_climb (e ∷ log) is (suc i) zero d le lt = absurd (omega arith)
 epochs_climb (e ∷ log) is (suc i) (suc j) d le lt = epochs_climb log is.1 i j d (omega (arith, le)) (omega (arith, lt))
 
 -- the front that passes a test, where nothing behind it does
-pub front_passes : (p : Entry → Bool) (log : List Entry) (n : ℕ) → n ≤ length log → ((k : ℕ) (d : Entry) → k < n → p (get_or log k d) ≡ true)
+pub front_passes : (p : Entry → Bool) (log : List Entry) (n : ℕ) → n ≤ length log
+    → ((k : ℕ) (d : Entry) → k < n → p (get_or log k d) ≡ true)
     → ((k : ℕ) (d : Entry) → n ≤ k → k < length log → p (get_or log k d) ≡ false) → take n log ≡ filter p log
 front_passes p [] zero le all none = refl
 front_passes p [] (suc n) le all none = absurd (omega arith)
 front_passes p (e ∷ log) zero le all none =
-    let rest = front_passes p log zero (omega arith) (λ k d lt. absurd (omega (arith, lt))) (λ k d from lt. none (suc k) d (omega arith) (omega (arith, lt))) in
+    let rest = front_passes p log zero (omega arith) (λ k d lt. absurd (omega (arith, lt)))
+    (λ k d from lt. none (suc k) d (omega arith) (omega (arith, lt))) in
     rw (none zero e (omega arith) (omega arith)) rest
 front_passes p (e ∷ log) (suc n) le all none =
     let rest = front_passes p log n (omega (arith, le)) (λ k d lt. all (suc k) d (omega (arith, lt)))

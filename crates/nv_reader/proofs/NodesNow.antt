@@ -27,7 +27,8 @@ some_at (x ∷ xs) zero lt = refl
 some_at (x ∷ xs) (suc i) lt = some_at xs i (omega (arith, lt))
 
 abbrev pub told : Stat → (ℕ → List ℕ) → ℕ → List Entry → NodeCopy
-told stat bytes block log = record { kind = stat.kind; mode = stat.mode; size = stat.size; bytes = file_bytes bytes block log; names = names_of log }
+told stat bytes block log =
+    record { kind = stat.kind; mode = stat.mode; size = stat.size; bytes = file_bytes bytes block log; names = names_of log }
 
 -- what a log tells of its inode is that of its node
 pub node_told : (bytes : ℕ → List ℕ) (block : ℕ) (log : List Entry)
@@ -39,7 +40,8 @@ node_told bytes block (e ∷ later) = go (value_now block log KindKey) (last_of 
 
   go : (kind : Option Datum) (last : Option Entry) → IsSome last
       → node_of_kind kind bytes block log
-      ≡ option_map (λ stat. told stat bytes block log) (option_and_then (λ k. option_map (stat_by block log k) last) (option_and_then kind_in kind))
+      ≡ option_map (λ stat. told stat bytes block log)
+      (option_and_then (λ k. option_map (stat_by block log k) last) (option_and_then kind_in kind))
   go None last some = refl
   go (Some (datum.Kind kind)) (Some x) some = refl
   go (Some (datum.Kind kind)) None some = cc
@@ -55,6 +57,7 @@ size_told block log stat is = kinds (stored block log).kind is where
   lasts kind None h = cc
   lasts kind (Some e) h = cc
 
-  kinds : (kind : Option Kind) → option_and_then (λ k. option_map (stat_by block log k) (last_of log)) kind ≡ Some stat → stat.size ≡ size_now block log
+  kinds : (kind : Option Kind) → option_and_then (λ k. option_map (stat_by block log k) (last_of log)) kind ≡ Some stat
+      → stat.size ≡ size_now block log
   kinds None h = cc
   kinds (Some k) h = lasts k (last_of log) h

@@ -32,7 +32,8 @@ shown_is : (parts : PartId → Option (List ℕ)) (bytes : ℕ → List ℕ) (bl
     → shown_bytes parts block log ≡ file_bytes bytes block log
 shown_is parts bytes block log have =
     ap (take (size_now block log))
-    (pages_same (shown_page parts block log) (λ page. page_bytes bytes block (block_now block log page)) 0 (pages_for block (size_now block log))
+    (pages_same (shown_page parts block log) (λ page. page_bytes bytes block (block_now block log page)) 0
+    (pages_for block (size_now block log))
     (λ page le lt. page_shown bytes block (block_now block log page) _ (have page (omega (arith, lt)))))
 
 pub with_bytes : (text : List ℕ) (bytes : ℕ → List ℕ) (block : ℕ) (log : List Entry) → text ≡ file_bytes bytes block log

@@ -110,8 +110,10 @@ told_write block e later first size cut p run slot is lt h =
     let part = scan_ref block later (PageKey p) in
     let own : PartRef = part_ref e.id (p - first + 1) in
     let value : Datum = Block (run.start + (p - first)) in
-    let told : any_cover block later (PageKey p) ≡ (is_some (writer part) || c) = h.told ∙ ap (λ (o : Option EntryId). is_some o || c) h.writer in
-    let test : (a && nat_lt p (min (first + run.len) cut)) ≡ (a && (b && not c)) = ap (λ (x : Bool). a && x) (below_both p (first + run.len) cut) in
+    let told : any_cover block later (PageKey p) ≡ (is_some (writer part) || c) = h.told
+    ∙ ap (λ (o : Option EntryId). is_some o || c) h.writer in
+    let test : (a && nat_lt p (min (first + run.len) cut))
+    ≡ (a && (b && not c)) = ap (λ (x : Bool). a && x) (below_both p (first + run.len) cut) in
     let held : cond (a && nat_lt p (min (first + run.len) cut)) (option_or slot (Some e.id)) slot
     ≡ cond (a && (b && not c)) (option_or slot (Some e.id)) slot =
     ap (λ (x : Bool). cond x (option_or slot (Some e.id)) slot) test in
@@ -129,9 +131,11 @@ told_cut block e later size cut p slot is lt h =
     let past = nat_le (div_ceil size block) p in
     let part = scan_ref block later (PageKey p) in
     let own : PartRef = part_ref e.id 0 in
-    let told : any_cover block later (PageKey p) ≡ (is_some (writer part) || c) = h.told ∙ ap (λ (o : Option EntryId). is_some o || c) h.writer in
+    let told : any_cover block later (PageKey p) ≡ (is_some (writer part) || c) = h.told
+    ∙ ap (λ (o : Option EntryId). is_some o || c) h.writer in
     record {
       writer = h.writer ∙ kept_once (past && true) c part own
           ∙ sym (ap writer (scan_ref-cons block e later (PageKey p)) ∙ rw (is, told, file_page p lt) refl);
-      told = rw (is, h.told, file_page p lt) (cut_once past c slot ∙ ap (λ (x : Bool). is_some slot || x) (sym (past_one p (div_ceil size block) cut)));
+      told = rw (is, h.told, file_page p lt)
+          (cut_once past c slot ∙ ap (λ (x : Bool). is_some slot || x) (sym (past_one p (div_ceil size block) cut)));
     }

@@ -34,7 +34,8 @@ last_step : (nodes : Handle → Option NodeCopy) (handle : Handle) (between : Li
 last_step nodes handle [] top above way = way
 last_step nodes handle (x ∷ between) top above way = way
 
-end_lives : (nodes : Handle → Option NodeCopy) (top : Handle) (above : List Handle) (handle : Handle) → IsUnder nodes top above handle → IsSome (nodes handle)
+end_lives : (nodes : Handle → Option NodeCopy) (top : Handle) (above : List Handle) (handle : Handle) → IsUnder nodes top above handle
+    → IsSome (nodes handle)
 end_lives nodes top above handle under = subst (λ h. IsSome (nodes h)) under.is (go under.between under.way) where
   go : (between : List Handle) → IsWay nodes (between ++ top ∷ above) → IsSome (nodes (end_of between top))
   go [] way = last_lives nodes top above way
@@ -53,7 +54,8 @@ under_more nodes next top above handle under = record {
   go (x ∷ between) = refl
 
 -- two ways that end in inodes of one number are equally long
-same_long : (nodes : Handle → Option NodeCopy) (inodes : ℕ) → FormTree nodes inodes → (p q : List Handle) (u v : Handle) (above beside : List Handle)
+same_long : (nodes : Handle → Option NodeCopy) (inodes : ℕ) → FormTree nodes inodes
+    → (p q : List Handle) (u v : Handle) (above beside : List Handle)
     → IsWay nodes (p ++ u ∷ above) → IsWay nodes (q ++ v ∷ beside) → (end_of p u).ino ≡ (end_of q v).ino
     → length (p ++ u ∷ above) ≡ length (q ++ v ∷ beside)
 same_long nodes inodes tree [] [] u v above beside way other same = ap suc (same_end nodes inodes tree u v above beside way other same)
@@ -65,8 +67,10 @@ same_long nodes inodes tree (x ∷ p) (y ∷ q) u v above beside way other same 
     ap suc (same_end nodes inodes tree x y (p ++ u ∷ above) (q ++ v ∷ beside) way other same)
 
 -- two ways that end in inodes of one number, equally far below two handles, go on from inodes of one number
-climb : (nodes : Handle → Option NodeCopy) (inodes : ℕ) → FormTree nodes inodes → (p q : List Handle) (u v : Handle) (above beside : List Handle)
-    → IsWay nodes (p ++ u ∷ above) → IsWay nodes (q ++ v ∷ beside) → (end_of p u).ino ≡ (end_of q v).ino → length p ≡ length q → u.ino ≡ v.ino
+climb : (nodes : Handle → Option NodeCopy) (inodes : ℕ) → FormTree nodes inodes
+    → (p q : List Handle) (u v : Handle) (above beside : List Handle)
+    → IsWay nodes (p ++ u ∷ above) → IsWay nodes (q ++ v ∷ beside) → (end_of p u).ino ≡ (end_of q v).ino → length p ≡ length q
+    → u.ino ≡ v.ino
 climb nodes inodes tree [] [] u v above beside way other same long = same
 climb nodes inodes tree [] (y ∷ q) u v above beside way other same long = absurd (omega (arith, long))
 climb nodes inodes tree (x ∷ p) [] u v above beside way other same long = absurd (omega (arith, long))
@@ -81,18 +85,21 @@ climb nodes inodes tree (x ∷ p) (y ∷ q) u v above beside way other same long
 
 -- ---- what a tree reaches
 
-nothing_under : (nodes : Handle → Option NodeCopy) (depth : ℕ) (handle : Handle) → nodes handle ≡ None → handles_from nodes depth handle ≡ []
+nothing_under : (nodes : Handle → Option NodeCopy) (depth : ℕ) (handle : Handle) → nodes handle ≡ None
+    → handles_from nodes depth handle ≡ []
 nothing_under nodes zero handle none = refl
 nothing_under nodes (suc depth) handle none = rw none refl
 
-lives : (nodes : Handle → Option NodeCopy) (depth : ℕ) (handle h : Handle) → Contains (handles_from nodes depth handle) h → IsSome (nodes handle)
+lives : (nodes : Handle → Option NodeCopy) (depth : ℕ) (handle h : Handle) → Contains (handles_from nodes depth handle) h
+    → IsSome (nodes handle)
 lives nodes depth handle h at = go (nodes handle) refl where
   go : (found : Option NodeCopy) → nodes handle ≡ found → IsSome (nodes handle)
   go None is = absurd (contains_none h (subst (λ (hs : List Handle). Contains hs h) (nothing_under nodes depth handle is) at))
   go (Some node) is = rw is refl
 
 -- a name of a node leads there
-leads_to : (nodes : Handle → Option NodeCopy) (dir : Handle) (bound : BoundName) → Contains (names_under nodes dir) bound → IsSome (nodes bound.to)
+leads_to : (nodes : Handle → Option NodeCopy) (dir : Handle) (bound : BoundName) → Contains (names_under nodes dir) bound
+    → IsSome (nodes bound.to)
     → IsEntered nodes dir bound.to
 leads_to nodes dir bound at some = record { place = at.0; bound = bound; leads = (at.1, at.2, some); there = refl }
 
@@ -106,17 +113,20 @@ reached nodes (suc depth) a above way h at =
         → ((next : Handle) → IsWay nodes (next ∷ a ∷ above) → Contains (handles_from nodes depth next) h → IsUnder nodes next (a ∷ above) h)
         → IsUnder nodes a above h
     go None is at further = absurd (contains_none h at)
-    go (Some node) is at further = elim (contains_cases h a (flat_map (λ (bound : BoundName). handles_from nodes depth bound.to) node.names) at) [
-      | inl same ↦ record { between = []; way = way; is = same }
-      | inr later ↦
-          let below = contains_below (λ (bound : BoundName). handles_from nodes depth bound.to) node.names h later in
-          let bound = below.0 in
-          let named : Contains (names_under nodes a) bound = subst (λ (o : Option NodeCopy). Contains (names_of_node o) bound) (sym is) below.1 in
-          let enters = leads_to nodes a bound named (lives nodes depth bound.to h below.2) in
-          under_more nodes bound.to a above h (further bound.to (enters, way) below.2)
-    ]
+    go (Some node) is at further =
+        elim (contains_cases h a (flat_map (λ (bound : BoundName). handles_from nodes depth bound.to) node.names) at) [
+          | inl same ↦ record { between = []; way = way; is = same }
+          | inr later ↦
+              let below = contains_below (λ (bound : BoundName). handles_from nodes depth bound.to) node.names h later in
+              let bound = below.0 in
+              let named : Contains (names_under nodes a) bound = subst
+              (λ (o : Option NodeCopy). Contains (names_of_node o) bound) (sym is) below.1 in
+              let enters = leads_to nodes a bound named (lives nodes depth bound.to h below.2) in
+              under_more nodes bound.to a above h (further bound.to (enters, way) below.2)
+        ]
 
-pub reached_lives : (nodes : Handle → Option NodeCopy) (depth : ℕ) (h : Handle) → Contains (handles_from nodes depth root) h → IsSome (nodes h)
+pub reached_lives : (nodes : Handle → Option NodeCopy) (depth : ℕ) (h : Handle) → Contains (handles_from nodes depth root) h
+    → IsSome (nodes h)
 reached_lives nodes depth h at = end_lives nodes root [] h (reached nodes depth root [] (refl, lives nodes depth root h at) h at)
 
 -- ---- no inode twice
@@ -131,8 +141,10 @@ name_at nodes dir before later bound is some = (
 )
 
 -- what stands below two names of a directory has no inode in common
-names_apart : (nodes : Handle → Option NodeCopy) (inodes : ℕ) → FormTree nodes inodes → (a : Handle) (above : List Handle) (j k : ℕ) (b c : BoundName)
-    → LeadsAt nodes a j b → LeadsAt nodes a k c → j < k → (x y : Handle) → IsUnder nodes b.to (a ∷ above) x → IsUnder nodes c.to (a ∷ above) y
+names_apart : (nodes : Handle → Option NodeCopy) (inodes : ℕ) → FormTree nodes inodes
+    → (a : Handle) (above : List Handle) (j k : ℕ) (b c : BoundName)
+    → LeadsAt nodes a j b → LeadsAt nodes a k c → j < k → (x y : Handle) → IsUnder nodes b.to (a ∷ above) x
+    → IsUnder nodes c.to (a ∷ above) y
     → inodes_differ x y
 names_apart nodes inodes tree a above j k b c leads leads' less x y under under' = λ same.
     let ends : (end_of under.between b.to).ino ≡ (end_of under'.between c.to).ino =
@@ -145,13 +157,16 @@ names_apart nodes inodes tree a above j k b c leads leads' less x y under under'
     omega (arith, one.1, less)
 
 -- what stands below a directory is not the directory
-below_apart : (nodes : Handle → Option NodeCopy) (inodes : ℕ) → FormTree nodes inodes → (a : Handle) (above : List Handle) → IsWay nodes (a ∷ above)
+below_apart : (nodes : Handle → Option NodeCopy) (inodes : ℕ) → FormTree nodes inodes → (a : Handle) (above : List Handle)
+    → IsWay nodes (a ∷ above)
     → (b y : Handle) → IsUnder nodes b (a ∷ above) y → inodes_differ a y
 below_apart nodes inodes tree a above way b y under = λ same.
-    let long = same_long nodes inodes tree [] under.between a b above (a ∷ above) way under.way (same ∙ sym (ap (λ (h : Handle). h.ino) under.is)) in
+    let long = same_long nodes inodes tree [] under.between a b above (a ∷ above) way under.way
+    (same ∙ sym (ap (λ (h : Handle). h.ino) under.is)) in
     omega (arith, long, length-append under.between (b ∷ a ∷ above))
 
-names_differ : (nodes : Handle → Option NodeCopy) (inodes : ℕ) → FormTree nodes inodes → (depth : ℕ) (a : Handle) (above : List Handle) → IsWay nodes (a ∷ above)
+names_differ : (nodes : Handle → Option NodeCopy) (inodes : ℕ) → FormTree nodes inodes → (depth : ℕ) (a : Handle) (above : List Handle)
+    → IsWay nodes (a ∷ above)
     → ((b : Handle) → IsWay nodes (b ∷ a ∷ above) → AllPairs inodes_differ (handles_from nodes depth b))
     → (before names : List BoundName) → before ++ names ≡ names_under nodes a
     → AllPairs inodes_differ (flat_map (λ (bound : BoundName). handles_from nodes depth bound.to) names)
@@ -166,8 +181,10 @@ names_differ nodes inodes tree depth a above way each before (b ∷ names) is =
     split : (before ++ b ∷ []) ++ names ≡ names_under nodes a
     split = append_assoc before (b ∷ []) names ∙ is
 
-    under : (bound : BoundName) (j : ℕ) → LeadsAt nodes a j bound → (x : Handle) → Contains (below bound) x → IsUnder nodes bound.to (a ∷ above) x
-    under bound j leads x at = reached nodes depth bound.to (a ∷ above) (record { place = j; bound = bound; leads = leads; there = refl }, way) x at
+    under : (bound : BoundName) (j : ℕ) → LeadsAt nodes a j bound → (x : Handle) → Contains (below bound) x
+        → IsUnder nodes bound.to (a ∷ above) x
+    under bound j leads x at =
+        reached nodes depth bound.to (a ∷ above) (record { place = j; bound = bound; leads = leads; there = refl }, way) x at
 
     own : (found : Option NodeCopy) → nodes b.to ≡ found → AllPairs inodes_differ (below b)
     own None none = subst (AllPairs inodes_differ) (sym (nothing_under nodes depth b.to none)) (λ i j d lt le. absurd (omega (arith, le)))
@@ -191,7 +208,8 @@ names_differ nodes inodes tree depth a above way each before (b ∷ names) is =
         names_apart nodes inodes tree a above (length before) place b c leads leads' (omega arith) x y
         (under b (length before) leads x at) (under c place leads' y later.2)
 
-all_differ : (nodes : Handle → Option NodeCopy) (inodes : ℕ) → FormTree nodes inodes → (depth : ℕ) (a : Handle) (above : List Handle) → IsWay nodes (a ∷ above)
+all_differ : (nodes : Handle → Option NodeCopy) (inodes : ℕ) → FormTree nodes inodes → (depth : ℕ) (a : Handle) (above : List Handle)
+    → IsWay nodes (a ∷ above)
     → AllPairs inodes_differ (handles_from nodes depth a)
 all_differ nodes inodes tree zero a above way = λ i j d lt le. absurd (omega (arith, le))
 all_differ nodes inodes tree (suc depth) a above way =
@@ -217,7 +235,8 @@ all_differ nodes inodes tree (suc depth) a above way =
         (names_differ nodes inodes tree depth a above way each [] node.names
         (ap names_of_node (sym is)))
 
-pub none_twice : (nodes : Handle → Option NodeCopy) (inodes depth : ℕ) → FormTree nodes inodes → AllPairs inodes_differ (handles_from nodes depth root)
+pub none_twice : (nodes : Handle → Option NodeCopy) (inodes depth : ℕ) → FormTree nodes inodes
+    → AllPairs inodes_differ (handles_from nodes depth root)
 none_twice nodes inodes depth tree = go (nodes root) refl where
   go : (found : Option NodeCopy) → nodes root ≡ found → AllPairs inodes_differ (handles_from nodes depth root)
   go None is = subst (AllPairs inodes_differ) (sym (nothing_under nodes depth root is)) (λ i j d lt le. absurd (omega (arith, le)))

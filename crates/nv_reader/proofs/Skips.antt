@@ -95,7 +95,8 @@ holders_fresh entry first end page was now h lt within none q = go (cases_eq q p
       ∙ ap (λ (b : Bool). cond b (option_or (entry_at was q) (Some entry)) (entry_at was q))
       (same_test first q page (page + 1) end lt (omega arith) (λ ge. omega (arith, ge, ne)))
 
-holders_held : (entry : EntryId) (first end page : ℕ) (was now : List (Option Writer)) → AreSkips was → HasFilled entry first end page was now
+holders_held : (entry : EntryId) (first end page : ℕ) (was now : List (Option Writer)) → AreSkips was
+    → HasFilled entry first end page was now
     → page < end → page < length now → (w : Writer) → slot now page ≡ Some w
     → (q : ℕ) → entry_at (written entry end now page w) q ≡ told_by entry first (min w.past end) was q
 holders_held entry first end page was now skips h lt within w some q = same ∙ h.holders q ∙ go (cases_lt q page) (cases_lt q w.past) where
@@ -110,14 +111,16 @@ holders_held entry first end page was now skips h lt within w some q = same ∙ 
     go : (q ≡ page) ⊎ (q ≡ page → ⊥) → entry_at (set now page put) q ≡ entry_at now q
     go (inl is) =
         subst (λ (n : ℕ). entry_at (set now page put) n ≡ entry_at now n) (sym is)
-        (ap (option_map (λ (w : Writer). w.entry)) (get_or-set_same now page put None within) ∙ sym (ap (option_map (λ (w : Writer). w.entry)) some))
+        (ap (option_map (λ (w : Writer). w.entry)) (get_or-set_same now page put None within)
+        ∙ sym (ap (option_map (λ (w : Writer). w.entry)) some))
     go (inr ne) = ap (option_map (λ (w : Writer). w.entry)) (get_or-set_other now page q put None ne)
 
   moved : (nat_le first q && nat_lt q (min page end)) ≡ (nat_le first q && nat_lt q (min w.past end))
       → told_by entry first (min page end) was q ≡ told_by entry first (min w.past end) was q
   moved is = ap (λ (b : Bool). cond b (option_or (entry_at was q) (Some entry)) (entry_at was q)) is
 
-  go : (q < page) ⊎ (page ≤ q) → (q < w.past) ⊎ (w.past ≤ q) → told_by entry first (min page end) was q ≡ told_by entry first (min w.past end) was q
+  go : (q < page) ⊎ (page ≤ q) → (q < w.past) ⊎ (w.past ≤ q)
+      → told_by entry first (min page end) was q ≡ told_by entry first (min w.past end) was q
   go (inl less) far = moved (same_test first q page w.past end lt (skips.ahead page w before) (λ ge. omega (arith, ge, less)))
   go (inr ge) (inr far) = moved (same_test first q page w.past end lt (skips.ahead page w before) (λ _. far))
   go (inr ge) (inl near) =
@@ -126,7 +129,8 @@ holders_held entry first end page was now skips h lt within w some q = same ∙ 
       ∙ sym (kept_held (nat_le first q && nat_lt q (min w.past end)) (entry_at was q) entry there)
 
 -- one page more is gone over, from which on `held` says how far to go: each page up to there is held
-filled_more : (entry : EntryId) (first end page : ℕ) (was now : List (Option Writer)) (held : Writer) → HasFilled entry first end page was now
+filled_more : (entry : EntryId) (first end page : ℕ) (was now : List (Option Writer)) (held : Writer)
+    → HasFilled entry first end page was now
     → page < end → page < length now → page < held.past → ((q : ℕ) → page < q → q < held.past → IsSome (slot was q))
     → ((q : ℕ) → entry_at (written entry end now page held) q ≡ told_by entry first (min held.past end) was q)
     → HasFilled entry first end held.past was (written entry end now page held)
@@ -158,18 +162,20 @@ filled_more entry first end page was now held h lt within more between holders =
 
   kept : (p q : ℕ) (w : Writer) → slot after p ≡ Some w → p ≤ q → q < w.past → (held.past ≤ q → end ≤ q)
       → (q ≡ page) ⊎ (q ≡ page → ⊥) → IsSome (slot after q)
-  kept p q w at le lt out (inl is) = subst (λ (n : ℕ). IsSome (slot after n)) (sym is) (subst (λ (o : Option Writer). IsSome o) (sym at_page) refl)
-  kept p q w at le lt out (inr ne) = subst (λ (o : Option Writer). IsSome o) (sym (other q ne)) (go (cases_lt q page) (cases_lt q held.past)) where
-    old : (page ≤ q → held.past ≤ q) → IsSome (slot now q)
-    old past = elim (cases_eq p page) [
-      | inl is ↦ absurd (omega (arith, is, le, lt, past, out, ap (λ (x : Writer). x.past) (own p w at is)))
-      | inr differs ↦ h.held p q w (sym (other p differs) ∙ at) le lt (λ ge. out (past ge))
-    ]
+  kept p q w at le lt out (inl is) =
+      subst (λ (n : ℕ). IsSome (slot after n)) (sym is) (subst (λ (o : Option Writer). IsSome o) (sym at_page) refl)
+  kept p q w at le lt out (inr ne) =
+      subst (λ (o : Option Writer). IsSome o) (sym (other q ne)) (go (cases_lt q page) (cases_lt q held.past)) where
+        old : (page ≤ q → held.past ≤ q) → IsSome (slot now q)
+        old past = elim (cases_eq p page) [
+          | inl is ↦ absurd (omega (arith, is, le, lt, past, out, ap (λ (x : Writer). x.past) (own p w at is)))
+          | inr differs ↦ h.held p q w (sym (other p differs) ∙ at) le lt (λ ge. out (past ge))
+        ]
 
-    go : (q < page) ⊎ (page ≤ q) → (q < held.past) ⊎ (held.past ≤ q) → IsSome (slot now q)
-    go (inl less) far = old (λ ge. absurd (omega (arith, ge, less)))
-    go (inr ge) (inl near) = subst (λ (o : Option Writer). IsSome o) (sym (h.behind q ge)) (between q (omega (arith, ge, ne)) near)
-    go (inr ge) (inr far) = old (λ _. far)
+        go : (q < page) ⊎ (page ≤ q) → (q < held.past) ⊎ (held.past ≤ q) → IsSome (slot now q)
+        go (inl less) far = old (λ ge. absurd (omega (arith, ge, less)))
+        go (inr ge) (inl near) = subst (λ (o : Option Writer). IsSome o) (sym (h.behind q ge)) (between q (omega (arith, ge, ne)) near)
+        go (inr ge) (inr far) = old (λ _. far)
 
 -- the same by what stands at the page, and that the loop goes on
 pub record GoesOn (entry : EntryId) (first end page : ℕ) (was now : List (Option Writer)) (held : Writer) : Type 0 where
@@ -199,7 +205,8 @@ goes_on entry first end page was now held skips h lt within is = go (slot now pa
       })
 
 -- once the run is gone over, its pages are held and each skip is sound
-pub all_filled : (entry : EntryId) (first end page : ℕ) (was now : List (Option Writer)) → HasFilled entry first end page was now → end ≤ page → AreSkips now
+pub all_filled : (entry : EntryId) (first end page : ℕ) (was now : List (Option Writer)) → HasFilled entry first end page was now
+    → end ≤ page → AreSkips now
 all_filled entry first end page was now h past = record {
   ahead = h.ahead;
   held = λ p q w at le lt. h.held p q w at le lt (λ ge. omega (arith, ge, past));

@@ -24,7 +24,8 @@ IsWay nodes [] = ⊥
 IsWay nodes (handle ∷ []) = (handle.ino ≡ 0) × IsSome (nodes handle)
 IsWay nodes (handle ∷ dir ∷ above) = IsEntered nodes dir handle × IsWay nodes (dir ∷ above)
 
-pub last_lives : (nodes : Handle → Option NodeCopy) (handle : Handle) (above : List Handle) → IsWay nodes (handle ∷ above) → IsSome (nodes handle)
+pub last_lives : (nodes : Handle → Option NodeCopy) (handle : Handle) (above : List Handle) → IsWay nodes (handle ∷ above)
+    → IsSome (nodes handle)
 last_lives nodes handle [] way = way.1
 last_lives nodes handle (dir ∷ above) way = subst (λ h. IsSome (nodes h)) way.0.there way.0.leads.2
 
@@ -53,7 +54,8 @@ differs nodes inodes tree a b above beside way other less = go (a.ino == b.ino) 
   go false is = refl
   go true is = absurd (omega (arith, less, same_end nodes inodes tree a b above beside way other (eqb-true a.ino b.ino is)))
 
-differs_above : (nodes : Handle → Option NodeCopy) (inodes : ℕ) → FormTree nodes inodes → (a : Handle) (above : List Handle) → IsWay nodes (a ∷ above)
+differs_above : (nodes : Handle → Option NodeCopy) (inodes : ℕ) → FormTree nodes inodes → (a : Handle) (above : List Handle)
+    → IsWay nodes (a ∷ above)
     → (b : Handle) (beside : List Handle) → IsWay nodes (b ∷ beside) → length beside < length above
     → AllByRecursion (λ y. (a.ino == y) ≡ false) (map (λ (h : Handle). h.ino) (b ∷ beside))
 differs_above nodes inodes tree a above way b [] other less = (differs nodes inodes tree a b above [] way other less, tt)
@@ -62,7 +64,8 @@ differs_above nodes inodes tree a above way b (dir ∷ beside) other less = (
   differs_above nodes inodes tree a above way dir beside other.1 (omega (arith, less)),
 )
 
-all_differ : (nodes : Handle → Option NodeCopy) (inodes : ℕ) → FormTree nodes inodes → (a : Handle) (above : List Handle) → IsWay nodes (a ∷ above)
+all_differ : (nodes : Handle → Option NodeCopy) (inodes : ℕ) → FormTree nodes inodes → (a : Handle) (above : List Handle)
+    → IsWay nodes (a ∷ above)
     → IsDistinct eqb (map (λ (h : Handle). h.ino) (a ∷ above))
 unfolding IsDistinct
 all_differ nodes inodes tree a [] way = (tt, tt)
@@ -77,7 +80,8 @@ below_if_met n q x xs less rest met = go (eqb q x) refl met where
   go true is met = omega (arith, less, eqb-true q x is)
   go false is met = rest met
 
-all_below : (nodes : Handle → Option NodeCopy) (inodes : ℕ) → FormTree nodes inodes → (a : Handle) (above : List Handle) → IsWay nodes (a ∷ above)
+all_below : (nodes : Handle → Option NodeCopy) (inodes : ℕ) → FormTree nodes inodes → (a : Handle) (above : List Handle)
+    → IsWay nodes (a ∷ above)
     → (q : ℕ) → list_any (eqb q) (map (λ (h : Handle). h.ino) (a ∷ above)) ≡ true → q < inodes
 all_below nodes inodes tree a [] way q = below_if_met inodes q a.ino [] (tree.numbered a (last_lives nodes a [] way)) (λ met. cc)
 all_below nodes inodes tree a (dir ∷ above) way q =
@@ -85,7 +89,8 @@ all_below nodes inodes tree a (dir ∷ above) way q =
     (all_below nodes inodes tree dir above way.1 q)
 
 -- a way has at most as many nodes as there are inodes
-ways_end : (nodes : Handle → Option NodeCopy) (inodes : ℕ) → FormTree nodes inodes → (a : Handle) (above : List Handle) → IsWay nodes (a ∷ above)
+ways_end : (nodes : Handle → Option NodeCopy) (inodes : ℕ) → FormTree nodes inodes → (a : Handle) (above : List Handle)
+    → IsWay nodes (a ∷ above)
     → length above < inodes
 ways_end nodes inodes tree a above way =
     let short = length-le_from_distinct_below (map (λ (h : Handle). h.ino) (a ∷ above)) inodes
@@ -97,13 +102,15 @@ enough_below : (nodes : Handle → Option NodeCopy) (inodes : ℕ) → FormTree 
     → IsWay nodes (a ∷ above) → inodes ≤ length above + left → CutsNothing nodes left a
 enough_below nodes inodes tree zero a above way enough = absurd (omega (arith, enough, ways_end nodes inodes tree a above way))
 enough_below nodes inodes tree (suc left) a above way enough = λ bound at.
-    go bound at (nodes bound.to) refl (λ enters. enough_below nodes inodes tree left bound.to (a ∷ above) (enters, way) (omega (arith, enough))) where
+    go bound at (nodes bound.to) refl
+    (λ enters. enough_below nodes inodes tree left bound.to (a ∷ above) (enters, way) (omega (arith, enough))) where
       go : (bound : BoundName) → Contains (names_under nodes a) bound → (found : Option NodeCopy) → nodes bound.to ≡ found
           → (IsEntered nodes a bound.to → CutsNothing nodes left bound.to) → CutsNothing nodes left bound.to
       go bound at None is further = none_cut nodes left bound.to is
       go bound at (Some node) is further = further (record { place = at.0; bound = bound; leads = (at.1, at.2, rw is refl); there = refl })
 
-pub inodes_bound : (nodes : Handle → Option NodeCopy) (inodes depth : ℕ) → FormTree nodes inodes → inodes ≤ depth → CutsNothing nodes depth root
+pub inodes_bound : (nodes : Handle → Option NodeCopy) (inodes depth : ℕ) → FormTree nodes inodes → inodes ≤ depth
+    → CutsNothing nodes depth root
 inodes_bound nodes inodes depth tree enough = go (nodes root) refl where
   go : (found : Option NodeCopy) → nodes root ≡ found → CutsNothing nodes depth root
   go None is = none_cut nodes depth root is

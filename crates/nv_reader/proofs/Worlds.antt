@@ -27,7 +27,8 @@ use Rattle.nv_reader.proofs.Ways.{below_if_met}
 abbrev node_of : TreeNode → Option NodeCopy
 node_of t = Some t.node
 
-beside_names : (nodes : Handle → Option NodeCopy) (trees : BoundName → List TreeNode) (handles : BoundName → List Handle) (names : List BoundName)
+beside_names : (nodes : Handle → Option NodeCopy) (trees : BoundName → List TreeNode) (handles : BoundName → List Handle)
+    (names : List BoundName)
     → ((bound : BoundName) → map node_of (trees bound) ≡ map nodes (handles bound))
     → map node_of (flat_map trees names) ≡ map nodes (flat_map handles names)
 beside_names nodes trees handles [] each = refl
@@ -39,18 +40,19 @@ beside_names nodes trees handles (bound ∷ names) each =
 pub nodes_beside : (nodes : Handle → Option NodeCopy) (depth : ℕ) (path : List (List ℕ)) (handle : Handle)
     → map node_of (tree_from nodes depth path handle) ≡ map nodes (handles_from nodes depth handle)
 nodes_beside nodes zero path handle = refl
-nodes_beside nodes (suc depth) path handle = go (nodes handle) refl (λ bound. nodes_beside nodes depth (path_below path bound.name) bound.to) where
-  trees : BoundName → List TreeNode
-  trees bound = tree_from nodes depth (path_below path bound.name) bound.to
+nodes_beside nodes (suc depth) path handle =
+    go (nodes handle) refl (λ bound. nodes_beside nodes depth (path_below path bound.name) bound.to) where
+      trees : BoundName → List TreeNode
+      trees bound = tree_from nodes depth (path_below path bound.name) bound.to
 
-  handles : BoundName → List Handle
-  handles bound = handles_from nodes depth bound.to
+      handles : BoundName → List Handle
+      handles bound = handles_from nodes depth bound.to
 
-  go : (found : Option NodeCopy) → nodes handle ≡ found → ((bound : BoundName) → map node_of (trees bound) ≡ map nodes (handles bound))
-      → map node_of (node_and_below found path trees) ≡ map nodes (handle_and_below found handle handles)
-  go None is each = refl
-  go (Some node) is each =
-      ap₂ (λ (o : Option NodeCopy) (os : List (Option NodeCopy)). o ∷ os) (sym is) (beside_names nodes trees handles node.names each)
+      go : (found : Option NodeCopy) → nodes handle ≡ found → ((bound : BoundName) → map node_of (trees bound) ≡ map nodes (handles bound))
+          → map node_of (node_and_below found path trees) ≡ map nodes (handle_and_below found handle handles)
+      go None is each = refl
+      go (Some node) is each =
+          ap₂ (λ (o : Option NodeCopy) (os : List (Option NodeCopy)). o ∷ os) (sym is) (beside_names nodes trees handles node.names each)
 
 sum_mapped : {X Y : Type 0} (f : Y → ℕ) (g : X → Y) (xs : List X) → sum_by f (map g xs) ≡ sum_by (λ x. f (g x)) xs
 sum_mapped f g [] = refl
@@ -87,7 +89,8 @@ inodes_below inodes (h ∷ handles) each q =
     below_if_met inodes q h.ino (map (λ (x : Handle). x.ino) handles) (each h (contains_first h handles))
     (inodes_below inodes handles (λ x at. each x (contains_later x h handles at)) q)
 
-pub nodes_within : (nodes : Handle → Option NodeCopy) (inodes depth : ℕ) → FormTree nodes inodes → length (tree_from nodes depth [] root) ≤ inodes
+pub nodes_within : (nodes : Handle → Option NodeCopy) (inodes depth : ℕ) → FormTree nodes inodes
+    → length (tree_from nodes depth [] root) ≤ inodes
 nodes_within nodes inodes depth tree =
     let handles = handles_from nodes depth root in
     let few = length-le_from_distinct_below (map (λ (h : Handle). h.ino) handles) inodes
@@ -140,19 +143,20 @@ visits_bounded nodes most few (suc depth) handle =
 nodes_by_visits : (nodes : Handle → Option NodeCopy) (depth : ℕ) (path : List (List ℕ)) (handle : Handle)
     → length (tree_from nodes depth path handle) ≤ visit_count nodes depth handle
 nodes_by_visits nodes zero path handle = omega arith
-nodes_by_visits nodes (suc depth) path handle = go (nodes handle) (λ bound. nodes_by_visits nodes depth (path_below path bound.name) bound.to) where
-  trees : BoundName → List TreeNode
-  trees bound = tree_from nodes depth (path_below path bound.name) bound.to
+nodes_by_visits nodes (suc depth) path handle =
+    go (nodes handle) (λ bound. nodes_by_visits nodes depth (path_below path bound.name) bound.to) where
+      trees : BoundName → List TreeNode
+      trees bound = tree_from nodes depth (path_below path bound.name) bound.to
 
-  visits : BoundName → ℕ
-  visits bound = visit_count nodes depth bound.to
+      visits : BoundName → ℕ
+      visits bound = visit_count nodes depth bound.to
 
-  go : (found : Option NodeCopy) → ((bound : BoundName) → length (trees bound) ≤ visits bound)
-      → length (node_and_below found path trees) ≤ sum_by visits (names_of_node found) + 1
-  go None each = omega arith
-  go (Some node) each =
-      let below = sum_by-le-sum_by (λ (bound : BoundName). length (trees bound)) visits node.names each in
-      omega (arith, length-flat_map trees node.names, below)
+      go : (found : Option NodeCopy) → ((bound : BoundName) → length (trees bound) ≤ visits bound)
+          → length (node_and_below found path trees) ≤ sum_by visits (names_of_node found) + 1
+      go None each = omega arith
+      go (Some node) each =
+          let below = sum_by-le-sum_by (λ (bound : BoundName). length (trees bound)) visits node.names each in
+          omega (arith, length-flat_map trees node.names, below)
 
 pub most_visits_made : (nodes : Handle → Option NodeCopy) (most depth : ℕ) (handle : Handle) → HaveAtMost nodes most
     → visits_to_come nodes (root_visit depth handle) ≤ most_visits most depth
@@ -160,4 +164,5 @@ most_visits_made nodes most depth handle few = omega (arith, visits_of_root node
 
 pub most_nodes_given : (nodes : Handle → Option NodeCopy) (most depth : ℕ) (handle : Handle) → HaveAtMost nodes most
     → length (tree_from nodes depth [] handle) ≤ most_visits most depth
-most_nodes_given nodes most depth handle few = omega (arith, nodes_by_visits nodes depth [] handle, visits_bounded nodes most few depth handle)
+most_nodes_given nodes most depth handle few =
+    omega (arith, nodes_by_visits nodes depth [] handle, visits_bounded nodes most few depth handle)

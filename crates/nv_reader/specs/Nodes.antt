@@ -12,7 +12,8 @@ node_under node cells logs handle =
     if handle.generation == (cells handle.ino).generation then node (cells handle.ino) (logs handle.ino) else None
 
 -- now, by the settled logs, where `noted` has the tails that open journals have noted
-abbrev pub settled_nodes : {Node : Type 0} → (CellState → List Entry → Option Node) → (ℕ → CellState) → (ℕ → Option ℕ) → Handle → Option Node
+abbrev pub settled_nodes : {Node : Type 0} → (CellState → List Entry → Option Node) → (ℕ → CellState) → (ℕ → Option ℕ) → Handle
+    → Option Node
 settled_nodes node cells noted = node_under node cells (λ ino. settled (noted ino) (cells ino))
 
 -- at the end of an epoch

@@ -60,14 +60,16 @@ pub fn a_whole_walk_gives_the_tree()
 
 /// Two depths that cut nothing give the same tree.
 pub fn deep_enough_depths_agree()
-    ensures { (nodes : Handle → Option NodeCopy) (one other : ℕ) (path : List (List ℕ)) (handle : Handle) →
+    ensures { (nodes : Handle → Option NodeCopy) (one other : ℕ)
+        (path : List (List ℕ)) (handle : Handle) →
         CutsNothing nodes one handle → CutsNothing nodes other handle →
         tree_from nodes one path handle ≡ tree_from nodes other path handle }
 {}
 
 /// Where the directories form a tree, a depth of as many nodes as there are inodes cuts nothing.
 pub fn inodes_bound_the_depth()
-    ensures { (nodes : Handle → Option NodeCopy) (inodes depth : ℕ) → FormTree nodes inodes → inodes ≤ depth →
+    ensures { (nodes : Handle → Option NodeCopy) (inodes depth : ℕ) → FormTree nodes inodes
+        → inodes ≤ depth →
         CutsNothing nodes depth root }
 {}
 

@@ -12,7 +12,8 @@ use Rattle.nv_core.specs.Worlds.{WorldState}
 use Rattle.nv_core.specs.Worlds.{IsBounded, IsStep, Leads, Shows, gos, most_goes, reply_of}
 
 -- the world after events and one more
-pub after-more : (w : machine.World) (events : List machine.Event) (e : machine.Event) → after w (events ++ e ∷ []) ≡ (step (after w events) e).world
+pub after-more : (w : machine.World) (events : List machine.Event) (e : machine.Event)
+    → after w (events ++ e ∷ []) ≡ (step (after w events) e).world
 after-more w [] e = refl
 after-more w (first ∷ events) e = after-more (step w first).world events e
 
@@ -20,9 +21,11 @@ after-more w (first ∷ events) e = after-more (step w first).world events e
 pub replies-more : (w : machine.World) (events : List machine.Event) (e : machine.Event)
     → replies w (events ++ e ∷ []) ≡ replies w events ++ (step (after w events) e).reply ∷ []
 replies-more w [] e = refl
-replies-more w (first ∷ events) e = ap (λ (rest : List machine.Reply). (step w first).reply ∷ rest) (replies-more (step w first).world events e)
+replies-more w (first ∷ events) e =
+    ap (λ (rest : List machine.Reply). (step w first).reply ∷ rest) (replies-more (step w first).world events e)
 
-pub gos-more : (actor : ℕ) (grants : List Bool) (granted : Bool) → gos actor (grants ++ granted ∷ []) ≡ gos actor grants ++ machine.Go actor granted ∷ []
+pub gos-more : (actor : ℕ) (grants : List Bool) (granted : Bool)
+    → gos actor (grants ++ granted ∷ []) ≡ gos actor grants ++ machine.Go actor granted ∷ []
 gos-more actor [] granted = refl
 gos-more actor (first ∷ grants) granted = ap (λ (rest : List machine.Event). machine.Go actor first ∷ rest) (gos-more actor grants granted)
 
@@ -131,7 +134,8 @@ ran old new actor reply bounded gone m shows =
         most = most_goes;
         goes = had;
         ended = λ moved. bounded m shows actor had.grants
-            (all.all_are ∙ ap (λ (r : machine.Reply). replicate all.before machine.Moved ++ r ∷ []) moved ∙ replicate-more all.before machine.Moved
+            (all.all_are ∙ ap (λ (r : machine.Reply). replicate all.before machine.Moved ++ r ∷ []) moved
+            ∙ replicate-more all.before machine.Moved
             ∙ ap (λ (k : ℕ). replicate k machine.Moved) (one_more all.before ∙ all.ends moved));
       },
       by.2,
@@ -141,7 +145,8 @@ ran old new actor reply bounded gone m shows =
 pub started_runs : (old mid new : WorldState) (actor : ℕ) (call : Call) (reply last : Reply) → reply ≡ Started
     → ((m : machine.World) → Shows old m → IsStep m (Start actor call) reply mid)
     → Leads (λ m n. Runs m actor (reply_of last) n) mid new
-    → Leads (λ m n. RunsFrom (step m (machine.Start actor call)).reply (step m (machine.Start actor call)).world actor (reply_of last) n) old new
+    → Leads (λ m n. RunsFrom (step m (machine.Start actor call)).reply (step m (machine.Start actor call)).world actor (reply_of last) n)
+    old new
 started_runs old mid new actor call reply last started makes runs m shows =
     let made = makes m shows in
     let by = runs (step m (machine.Start actor call)).world made.shows in (
@@ -161,7 +166,8 @@ stays_by (Refused fault) w actor ne = (refl, refl)
 -- one that was not does not
 pub refused_stays : (old new : WorldState) (actor : ℕ) (call : Call) (reply : Reply) → reply ≢ Started
     → ((m : machine.World) → Shows old m → IsStep m (Start actor call) reply new)
-    → Leads (λ m n. RunsFrom (step m (machine.Start actor call)).reply (step m (machine.Start actor call)).world actor (reply_of reply) n) old new
+    → Leads (λ m n. RunsFrom (step m (machine.Start actor call)).reply (step m (machine.Start actor call)).world actor (reply_of reply) n)
+    old new
 refused_stays old new actor call reply ne makes m shows =
     let made = makes m shows in
     let after = step m (machine.Start actor call) in (

@@ -88,7 +88,8 @@ row calls.List = entry (codes "list") (field.Handle ∷ []) (λ dir. call.List d
 row calls.Lookup = entry (codes "lookup") (field.Handle ∷ field.Text ∷ []) (λ dir name. call.Lookup dir name)
 row calls.Unlink = entry (codes "unlink") (field.Handle ∷ field.Text ∷ []) (λ dir name. call.Unlink dir name)
 row calls.Rmdir = entry (codes "rmdir") (field.Handle ∷ field.Text ∷ []) (λ dir name. call.Rmdir dir name)
-row calls.Rename = entry (codes "rename") (field.Handle ∷ field.Text ∷ field.Handle ∷ field.Text ∷ []) (λ from old to new. call.Rename from old to new)
+row calls.Rename =
+    entry (codes "rename") (field.Handle ∷ field.Text ∷ field.Handle ∷ field.Text ∷ []) (λ from old to new. call.Rename from old to new)
 row calls.Snap = entry (codes "snap") [] (call.Snapshots snapshots.Snap)
 row calls.Drop = entry (codes "drop") (field.Number ∷ []) (λ s. call.Snapshots (snapshots.Drop s))
 row calls.Show = entry (codes "show") (field.Number ∷ []) (λ s. call.Snapshots (snapshots.Show s))

@@ -90,7 +90,8 @@ Acts old command.Audit text new = Reports (line_of (codes "audit ok")) old text 
 
 -- the words of a line without a fault: a `format` where no world is made, and else a command on the world
 abbrev pub PlaysWords : Option World → List (List ℕ) → List ℕ → Option World → Type 0
-PlaysWords None words text new = (numbers : GeometryNumbers) × (format_of words ≡ Ok numbers) × Formats (first_bad_field numbers) numbers text new
+PlaysWords None words text new =
+    (numbers : GeometryNumbers) × (format_of words ≡ Ok numbers) × Formats (first_bad_field numbers) numbers text new
 PlaysWords (Some old) words text new =
     (command : Command) × (world : World) × (command_of words ≡ Ok command) × Acts old command text world × (new ≡ Some world)
 
@@ -102,7 +103,8 @@ Plays old line text new = MatchBool (is_skipped line) ((text ≡ []) × (new ≡
 abbrev pub PlaysAll : Option World → List (List ℕ) → List ℕ → Option World → Type 0
 PlaysAll old [] text new = (text ≡ []) × (new ≡ old)
 PlaysAll old (line ∷ lines) text new =
-    (first rest : List ℕ) × (mid : Option World) × IsLine line × Plays old line first mid × PlaysAll mid lines rest new × (text ≡ first ++ rest)
+    (first rest : List ℕ) × (mid : Option World) × IsLine line × Plays old line first mid × PlaysAll mid lines rest new
+    × (text ≡ first ++ rest)
 
 -- the most lines of a script
 abbrev pub most_lines : ℕ
@@ -146,24 +148,30 @@ HasCommand bytes = (line rest : List ℕ) × IsLine line × (bytes ≡ (line ++ 
 
 -- the next line was played, and of its text these bytes alone were written
 abbrev pub BreaksOff : List ℕ → Option World → List ℕ → Type 0
-BreaksOff bytes world sent = (line rest text : List ℕ) × (new : Option World) × IsLine line × (bytes ≡ (line ++ 10 ∷ []) ++ rest) × Plays world line text new × IsCutOff sent text
+BreaksOff bytes world sent = (line rest text : List ℕ) × (new : Option World) × IsLine line × (bytes ≡ (line ++ 10 ∷ []) ++ rest)
+    × Plays world line text new × IsCutOff sent text
 
 -- all lines were played and their text was written, and nothing is left
 abbrev pub EndsWell : (input left : Option (List ℕ)) → (List ℕ → Type 0) → Type 0
-EndsWell input left Writes = (lines : List (List ℕ)) × (text : List ℕ) × (world : Option World) × Played input lines [] text world × IsAtEnd left × Writes text
+EndsWell input left Writes =
+    (lines : List (List ℕ)) × (text : List ℕ) × (world : Option World) × Played input lines [] text world × IsAtEnd left × Writes text
 
 -- the first lines were played and their text was written
 abbrev pub EndsAfter : (input : Option (List ℕ)) → (List ℕ → Type 0) → (List (List ℕ) → List ℕ → Option World → Type 0) → Type 0
-EndsAfter input Writes Also = (lines : List (List ℕ)) × (rest text : List ℕ) × (world : Option World) × Played input lines rest text world × Also lines rest world × Writes text
+EndsAfter input Writes Also = (lines : List (List ℕ)) × (rest text : List ℕ) × (world : Option World) × Played input lines rest text world
+    × Also lines rest world × Writes text
 
 -- how a script ends early: by a fault of the next line, with the number of that line; by a failed read, of whose
 -- reader no more than a piece of the next line is gone; for want of memory, before the first line or at a command;
 -- by a failed write, which leaves a front of the text of the line after them
 abbrev pub EndsBy : Fault → (input left : Option (List ℕ)) → (List ℕ → Type 0) → Type 0
-EndsBy (fault.ScriptFault why number) input left Writes = EndsAfter input Writes (λ lines rest world. (number ≡ length lines + 1) × IsFault number (is_some world) rest why)
-EndsBy fault.Read input left Writes = EndsAfter input Writes (λ lines rest world. (piece : List ℕ) × IsLine piece × Consumes input left (ended lines ++ piece))
+EndsBy (fault.ScriptFault why number) input left Writes =
+    EndsAfter input Writes (λ lines rest world. (number ≡ length lines + 1) × IsFault number (is_some world) rest why)
+EndsBy fault.Read input left Writes =
+    EndsAfter input Writes (λ lines rest world. (piece : List ℕ) × IsLine piece × Consumes input left (ended lines ++ piece))
 EndsBy fault.OutOfMemory input left Writes = EndsAfter input Writes (λ lines rest world. (lines ≡ []) ⊎ HasCommand rest)
-EndsBy fault.Write input left Writes = (lines : List (List ℕ)) × (rest text sent : List ℕ) × (world : Option World) × Played input lines rest text world × BreaksOff rest world sent × Writes (text ++ sent)
+EndsBy fault.Write input left Writes = (lines : List (List ℕ)) × (rest text sent : List ℕ) × (world : Option World)
+    × Played input lines rest text world × BreaksOff rest world sent × Writes (text ++ sent)
 EndsBy _ input left Writes = ⊥
 
 -- how a script ends: what the reader has at first and is left with, and what is written

@@ -84,17 +84,20 @@ reply_line (Refused fault) = refused_line fault
 
 -- the snapshots: how many live, epoch and last commit; and of each the blocks that it holds, those that a drop defers, and pins
 abbrev pub snap_line : SnapCounts → List ℕ
-snap_line snap = line_of (codes "snap " ++ decimal snap.snapshot ++ codes " held " ++ decimal snap.held ++ codes " gain " ++ decimal snap.gain
+snap_line snap =
+    line_of (codes "snap " ++ decimal snap.snapshot ++ codes " held " ++ decimal snap.held ++ codes " gain " ++ decimal snap.gain
     ++ codes " pins " ++ decimal snap.pins)
 
 abbrev pub snaps_lines : Snaps → List ℕ
 snaps_lines snaps =
-    line_of (codes "snaps " ++ decimal (length snaps.living) ++ codes " epoch " ++ decimal snaps.epoch ++ codes " commit " ++ decimal snaps.commit)
+    line_of (codes "snaps " ++ decimal (length snaps.living) ++ codes " epoch " ++ decimal snaps.epoch ++ codes " commit "
+    ++ decimal snaps.commit)
     ++ flat_map snap_line snaps.living
 
 -- where the blocks are
 abbrev pub space_line : Space → List ℕ
-space_line space = line_of (codes "free " ++ decimal space.free ++ codes " chain " ++ decimal space.chain ++ codes " data " ++ decimal space.«data»
+space_line space =
+    line_of (codes "free " ++ decimal space.free ++ codes " chain " ++ decimal space.chain ++ codes " data " ++ decimal space.«data»
     ++ codes " pending " ++ decimal space.pending ++ codes " hand " ++ decimal space.hand)
 
 -- a run of free blocks by its ends, or one block by its number

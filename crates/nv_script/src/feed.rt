@@ -55,7 +55,8 @@ impl Model for Feed {
     ghost view = { λ feed. drop feed.at (take feed.end feed.chunk.items) };
 
     ghost invariant = { λ feed. (feed.at ≤ feed.end) × (feed.end ≤ length feed.chunk.items)
-        × (0 < length feed.chunk.items) × EndsLine (take feed.end feed.chunk.items) feed.lines_end };
+        × (0 < length feed.chunk.items)
+        × EndsLine (take feed.end feed.chunk.items) feed.lines_end };
 }
 
 impl Feed {

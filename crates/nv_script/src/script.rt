@@ -148,7 +148,8 @@ impl Player {
     ) -> Result<bool, Fault>
         requires { number ≤ MAX_LINES + 1 }
         ensures { (input old : Option (List ℕ)) (m : Option machine.World)
-            → ShowsAny self.old.world m → AtLine input (prepend_known self.old.feed (R.remaining reader.old))
+            → ShowsAny self.old.world m
+            → AtLine input (prepend_known self.old.feed (R.remaining reader.old))
             old (W.contents writer.old) self.old.outbox number m
             → TurnIs result input (R.remaining reader.new)
             (prepend_known self.new.feed (R.remaining reader.new))

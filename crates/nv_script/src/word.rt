@@ -269,5 +269,6 @@ pub fn push_number(out: &mut Vec<u8>, number: u64) -> Result<(), AllocError>
 
 /// A law: printed text reads back as the bytes that were printed.
 pub fn printed_text_reads_back()
-    ensures { (bytes : List ℕ) → All (λ byte. byte < 256) bytes → unescaped (escaped bytes) ≡ Some bytes }
+    ensures { (bytes : List ℕ) → All (λ byte. byte < 256) bytes
+        → unescaped (escaped bytes) ≡ Some bytes }
 {}

@@ -20,7 +20,8 @@ AreAlikeAt r marks e later =
     (place : ℕ) (pair : Pair) → slice_get (pairs_of r.block e later) place ≡ Some pair → is_there (mark_at marks place) ≡ keeps r pair
 
 -- one more entry whose marks are so
-pub here_alike : (r : Retention) (log : List Entry) (all : List (List Mark)) (marks : List Mark) (place : ℕ) (found e : Entry) (later : List Entry)
+pub here_alike : (r : Retention) (log : List Entry) (all : List (List Mark)) (marks : List Mark) (place : ℕ)
+    (found e : Entry) (later : List Entry)
     → AreAlikeAt r marks found later → marks ≡ slice_index_or all place [] → found ≡ get_or log place found
     → later ≡ drop (place + 1) log → slice_get log place ≡ Some e
     → AreAlikeAt r (slice_index_or all place []) e (drop (suc place) log)
@@ -38,7 +39,8 @@ pub all_alike : (r : Retention) (log : List Entry) (marks : List Mark)
 all_alike r [] marks each n pair q = absurd (omega (arith, slice_get_within (pairs r.block []) n pair q))
 all_alike r (e ∷ later) marks each n pair q =
     let c = part_count e in
-    go (cases_lt n c) (λ le. all_alike r later (drop c marks) (λ j e1 at. each (suc j) e1 at) (n - c) pair (sym (pair_later r.block e later n le) ∙ q))
+    go (cases_lt n c)
+    (λ le. all_alike r later (drop c marks) (λ j e1 at. each (suc j) e1 at) (n - c) pair (sym (pair_later r.block e later n le) ∙ q))
   where
     go : (n < part_count e) ⊎ (part_count e ≤ n)
         → (part_count e ≤ n → is_there (mark_at (drop (part_count e) marks) (n - part_count e)) ≡ keeps r pair)

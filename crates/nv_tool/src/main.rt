@@ -35,7 +35,8 @@ fn answered<R: Print + Eprint>(rt: &R, error: &clap::Error) -> Outcome
         ⊎ (kind_of error.now ≡ ErrorKind.DisplayVersion)
         → (result ≡ Outcome.Shown) ⊎ (result ≡ Outcome.Failed Fault.Write) }
     ensures refused { kind_of error.now ≢ ErrorKind.OutOfMemory
-        → kind_of error.now ≢ ErrorKind.DisplayHelp → kind_of error.now ≢ ErrorKind.DisplayVersion → result ≡ Outcome.Refused }
+        → kind_of error.now ≢ ErrorKind.DisplayHelp → kind_of error.now ≢ ErrorKind.DisplayVersion
+        → result ≡ Outcome.Refused }
 {
     if error.kind() == ErrorKind::OutOfMemory {
         return Outcome::Failed(Fault::OutOfMemory);

@@ -23,11 +23,13 @@ loop-page-preserved g c =
     let held : entry_at writers page ≡ page_writer block log page =
     elim (cases_lt page 65536) [
       | inl lt ↦ c.in_ok-writers.ensures.writers page (omega (arith, lt, c.loop-page-test.true, c.min.ensures, c.from.ensures))
-      | inr ge ↦ ap (option_map (λ (w : Writer). w.entry)) (get_or_past writers page None (omega (arith, ge, c.in_ok-writers.ensures.len, c.min.ensures)))
+      | inr ge ↦ ap (option_map (λ (w : Writer). w.entry))
+          (get_or_past writers page None (omega (arith, ge, c.in_ok-writers.ensures.len, c.min.ensures)))
           ∙ sym (writer_past block page log ge)
     ] in
     c.in_ok-push_page.ensures
     ∙ ap (λ (o : Option (List ℕ)). c.loop-page.text.items ++ page_text block o) (c.page_in.ensures ∙ lent)
-    ∙ ap (λ (o : Option EntryId). c.loop-page.text.items ++ page_text block (option_and_then (λ (entry : EntryId). parts (page_part page entry)) o)) held
+    ∙ ap (λ (o : Option EntryId). c.loop-page.text.items
+    ++ page_text block (option_and_then (λ (entry : EntryId). parts (page_part page entry)) o)) held
     ∙ ap (λ (xs : List ℕ). xs ++ shown_page parts block log page) c.loop-page.invariant
     ∙ sym (pages-more (shown_page parts block log) page)

@@ -13,7 +13,8 @@ returns c = elim c.loop-i-test.branch [
       let log = c.args.log.now in
       let none : c.loop-i.i ≡ 0 = omega (arith, w.loop-i-test.false) in
       let all : names_of (drop c.loop-i.i log) ≡ names_of log = ap (λ (n : ℕ). names_of (drop n log)) none in
-      c.from_vec.ensures ∙ c.reverse.ensures.items ∙ ap reverse c.loop-i.invariant.names ∙ reverse-reverse (names_of (drop c.loop-i.i log)) ∙ all
+      c.from_vec.ensures ∙ c.reverse.ensures.items ∙ ap reverse c.loop-i.invariant.names ∙ reverse-reverse (names_of (drop c.loop-i.i log))
+      ∙ all
   | then-loop-i-test+in-Gone w ↦
       let log = c.args.log.now in
       let i : ℕ = c.loop-i.i - 1 in
@@ -24,5 +25,6 @@ returns c = elim c.loop-i-test.branch [
       let behind : names_of log ≡ names_of (drop (i + 1) log) =
       ap names_of (split_at log i e lt w.index-log-i.is) ∙ names_behind (take i log) (drop (i + 1) log) e gone in
       let all : names_of (drop c.loop-i.i log) ≡ names_of log = ap (λ (n : ℕ). names_of (drop n log)) (sym next) ∙ sym behind in
-      c.from_vec.ensures ∙ c.reverse.ensures.items ∙ ap reverse c.loop-i.invariant.names ∙ reverse-reverse (names_of (drop c.loop-i.i log)) ∙ all
+      c.from_vec.ensures ∙ c.reverse.ensures.items ∙ ap reverse c.loop-i.invariant.names ∙ reverse-reverse (names_of (drop c.loop-i.i log))
+      ∙ all
 ]

@@ -14,11 +14,13 @@ loop-page-preserved c =
     let held = c.unwrap_or-held.result in
     let within : page < length now = omega (arith, c.loop-page-test.true, c.min-end.ensures, c.requires.cut, c.loop-page.auto.writers) in
     let is = c.unwrap_or-held.ensures
-    ∙ ap (λ (o : Option Writer). unwrap_or o (fresh c.args.entry.now page)) (get_or_read now page c.index-writers-page.result within c.index-writers-page.is None) in
+    ∙ ap (λ (o : Option Writer). unwrap_or o (fresh c.args.entry.now page))
+    (get_or_read now page c.index-writers-page.result within c.index-writers-page.is None) in
     let on = goes_on c.args.entry.now first end page c.args.writers.now now held c.requires.skips c.loop-page.invariant.filled
     c.loop-page-test.true within is in
     record {
       len = length-set now page _ ∙ c.loop-page.auto.writers;
-      filled = subst (λ (n : ℕ). HasFilled c.args.entry.now first end held.past c.args.writers.now (set now page (Some (record held { past = n }))))
+      filled = subst
+          (λ (n : ℕ). HasFilled c.args.entry.now first end held.past c.args.writers.now (set now page (Some (record held { past = n }))))
           (sym c.max.ensures) on.filled;
     }

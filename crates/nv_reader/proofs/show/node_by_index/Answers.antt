@@ -26,7 +26,8 @@ returns-clause-own c =
     ∙ ap (λ (n : ℕ). read_at 0 n (own_bytes cell)) (size_told cell.block log stat is)
     ∙ whole_read _ _ ∙ own_shown cell c.known.ensures.chain.rising in
     let names : c.in_ok-list.field-0 ≡ names_of log = c.in_ok-list.ensures.names in
-    ap₂ (λ (b : List ℕ) (n : List BoundName). Some (record { kind = stat.kind; mode = stat.mode; size = stat.size; bytes = b; names = n })) text names
+    ap₂ (λ (b : List ℕ) (n : List BoundName). Some (record { kind = stat.kind; mode = stat.mode; size = stat.size; bytes = b; names = n }))
+    text names
     ∙ sym (ap (option_map (λ (node : NodeCopy). record node { bytes = shown }))
     (node_told (λ number. []) cell.block log ∙ ap (option_map (λ s. told s (λ number. []) cell.block log)) is))
 
@@ -41,5 +42,6 @@ returns-clause-node c bytes same =
     ∙ ap (λ (n : ℕ). read_at 0 n (file_bytes bytes cell.block log)) (size_told cell.block log stat is)
     ∙ whole_read _ _ in
     let names : c.in_ok-list.field-0 ≡ names_of log = c.in_ok-list.ensures.names in
-    ap₂ (λ (b : List ℕ) (n : List BoundName). Some (record { kind = stat.kind; mode = stat.mode; size = stat.size; bytes = b; names = n })) text names
+    ap₂ (λ (b : List ℕ) (n : List BoundName). Some (record { kind = stat.kind; mode = stat.mode; size = stat.size; bytes = b; names = n }))
+    text names
     ∙ sym (node_told bytes cell.block log ∙ ap (option_map (λ s. told s bytes cell.block log)) is)

@@ -23,4 +23,6 @@ returns-clause-node c bytes same there =
     let le : tail ≤ cell.chain.tail = c.requires tail c.in-Some.is in
     let there' : NoneOut cell (take tail cell.chain.entries) = rw c.in-Some.is at (there tail c.in-Some.is) in
     returns-clause-own c
-    ∙ rw c.in-Some.is (node_shown (part_bytes cell) bytes cell.block (take tail cell.chain.entries) (cell_gives cell tail bytes c.known.ensures le same there'))
+    ∙ rw c.in-Some.is
+    (node_shown (part_bytes cell) bytes cell.block (take tail cell.chain.entries)
+    (cell_gives cell tail bytes c.known.ensures le same there'))

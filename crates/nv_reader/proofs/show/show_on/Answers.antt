@@ -21,7 +21,8 @@ returns-clause-own c =
     let cell = c.args.cell.now.state in
     let block : c.block_bytes.result ≡ cell.block = c.block_bytes.ensures.value in
     let logs : c.log-2.result.now ≡ log_of cell = c.log-2.ensures.value ∙ ap log c.log.ensures.state in
-    let is : c.entries_to-log.result.now ≡ up_to c.args.epoch (log_of cell) = c.entries_to-log.ensures.entries ∙ ap (up_to c.args.epoch) logs in
+    let is : c.entries_to-log.result.now ≡ up_to c.args.epoch (log_of cell) = c.entries_to-log.ensures.entries
+    ∙ ap (up_to c.args.epoch) logs in
     c.in_ok-node_by.ensures ∙ ap₂ (λ (b : ℕ) (es : List Entry). shown_node (part_bytes cell) b es) block is
 
 pub returns-clause-node : goal.returns-clause-node

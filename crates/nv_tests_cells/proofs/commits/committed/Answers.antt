@@ -21,7 +21,8 @@ commit_on-requires g c =
     let can : CanReady cells hand u = search rules in
     let filled : IsReadyBy cells hand u now ready =
     subst (IsReadyBy cells hand u now) (sym c.fill.ensures.ready)
-    (c.what_is_filled_stays_ready.ensures cells now hand u c.in_ok-ready.ready ready.hand.«data» c.in_ok-ready.ensures.ok c.fill.ensures.rest) in
+    (c.what_is_filled_stays_ready.ensures cells now hand u c.in_ok-ready.ready ready.hand.«data» c.in_ok-ready.ensures.ok
+    c.fill.ensures.rest) in
     c.what_is_ready_can_be_committed.ensures cells now hand u book 0 ready can c.ready_on.ensures.cells filled (record {
       entered = (0, (c.args.book.now.state, ap (λ (b : BookValue). b.state) c.enter.ensures));
       take = search rules;

@@ -7,4 +7,5 @@ returns c = λ yes.
     let count : (c.args.at + length c.args.part.now) - c.args.at ≡ length c.args.part.now = omega arith in
     c.copy_from_slice.ensures.after
     ∙ rw count
-    (sym (pick_l-range_with_len 0 c.args.text.now c.args.at (length c.args.part.now) (omega (arith, c.if-count-at.false, c.if-count-at-2.false))))
+    (sym (pick_l-range_with_len 0 c.args.text.now c.args.at (length c.args.part.now)
+    (omega (arith, c.if-count-at.false, c.if-count-at-2.false))))

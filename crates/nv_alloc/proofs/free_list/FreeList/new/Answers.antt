@@ -6,7 +6,8 @@ use Rattle.nv_alloc.proofs.free_list.FreeList.new.Goals as goal
 
 pub invariant_of-result : goal.invariant_of-result
 invariant_of-result c = shelf_full c.args.geometry.now.numbers.block c.home_start-start.result
-    (c.home_start.result - c.home_start-start.result) c.in_ok-slots.slots.items c.in_ok-free.free c.in_ok-slots.ensures c.in_ok-free.ensures (omega (arith, c.home_start-start.ensures.within, c.home_start.ensures.within, c.args.geometry.now.limits.blocks_fit))
+    (c.home_start.result - c.home_start-start.result) c.in_ok-slots.slots.items c.in_ok-free.free c.in_ok-slots.ensures c.in_ok-free.ensures
+    (omega (arith, c.home_start-start.ensures.within, c.home_start.ensures.within, c.args.geometry.now.limits.blocks_fit))
 
 pub returns-clause-end : goal.returns-clause-end
 returns-clause-end c =
@@ -24,7 +25,8 @@ pub returns-clause-blocks : goal.returns-clause-blocks
 returns-clause-blocks c =
     let slots : c.in_ok-slots.slots.items ≡ full_slots c.args.geometry.now.numbers.block c.home_start-start.result
     (c.home_start.result - c.home_start-start.result) = c.in_ok-slots.ensures in
-    let count : c.home_start-start.result + length c.in_ok-slots.slots.items - c.home_start-start.result ≡ c.home_start.result - c.home_start-start.result =
+    let count : c.home_start-start.result + length c.in_ok-slots.slots.items - c.home_start-start.result
+    ≡ c.home_start.result - c.home_start-start.result =
     omega (
       arith,
       ap length slots,

@@ -10,16 +10,20 @@ unreachable-requires c =
     absurd (omega (arith, ap length empty, some))
 
 pub unreachable-requires-in-None : goal.unreachable-requires-in-None
-unreachable-requires-in-None c = shelf_some c.self.invariant c.in-Some.place c.index_mut.result.now c.in-Some.ensures c.index_mut.ensures.value c.in-None.ensures.value
+unreachable-requires-in-None c =
+    shelf_some c.self.invariant c.in-Some.place c.index_mut.result.now c.in-Some.ensures c.index_mut.ensures.value c.in-None.ensures.value
 
 pub invariant_of-self : goal.invariant_of-self
 invariant_of-self c = rw (c.take.ensures.after, c.remove.ensures)
-    (shelf_take c.self.invariant c.in-Some.place c.index_mut.result.now c.in-Some.ensures c.index_mut.ensures.value c.in-Some-take.block c.in-Some-take.ensures.value)
+    (shelf_take c.self.invariant c.in-Some.place c.index_mut.result.now c.in-Some.ensures c.index_mut.ensures.value c.in-Some-take.block
+    c.in-Some-take.ensures.value)
 
 pub returns-clause-lowest : goal.returns-clause-lowest
 returns-clause-lowest c = rw (c.take.ensures.after, ← c.self.view_is)
-    (shelf_taken c.self.invariant c.in-Some.place c.index_mut.result.now c.in-Some.ensures c.index_mut.ensures.value c.in-Some-take.block c.in-Some-take.ensures.value)
+    (shelf_taken c.self.invariant c.in-Some.place c.index_mut.result.now c.in-Some.ensures c.index_mut.ensures.value c.in-Some-take.block
+    c.in-Some-take.ensures.value)
 
 pub returns-clause-sized : goal.returns-clause-sized
 returns-clause-sized c = rw (← c.self.view_is)
-    (taken_sized c.self.invariant c.in-Some.place c.index_mut.result.now c.in-Some.ensures c.index_mut.ensures.value c.in-Some-take.block c.in-Some-take.ensures.value)
+    (taken_sized c.self.invariant c.in-Some.place c.index_mut.result.now c.in-Some.ensures c.index_mut.ensures.value c.in-Some-take.block
+    c.in-Some-take.ensures.value)

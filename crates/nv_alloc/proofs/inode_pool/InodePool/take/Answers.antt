@@ -29,7 +29,8 @@ invariant_of-self c =
     })
 
 pub returns-clause-lowest : goal.returns-clause-lowest
-returns-clause-lowest c = rw (← c.self.view_is, c.new.ensures, c.from.ensures, pool_taken c.self.inside.free c.in_ok-place.place c.in_ok-place.ensures) refl
+returns-clause-lowest c =
+    rw (← c.self.view_is, c.new.ensures, c.from.ensures, pool_taken c.self.inside.free c.in_ok-place.place c.in_ok-place.ensures) refl
 
 pub returns-clause-rest : goal.returns-clause-rest
 returns-clause-rest c = rw (← c.self.view_is, c.remove.ensures) (ap

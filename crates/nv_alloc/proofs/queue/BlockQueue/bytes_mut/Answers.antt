@@ -14,7 +14,11 @@ returns c =
       (
         refl,
         λ w. rw (← c.self.view_is)
-            (λ i. record { blocks = set-with_bytes blocks c.args.place lent w within c.index_mut-block.ensures.value i; size = c.self.inside.size; room = deque_capacity c.self.inside.blocks - deque_len c.self.inside.blocks }),
+            (λ i. record {
+              blocks = set-with_bytes blocks c.args.place lent w within c.index_mut-block.ensures.value i;
+              size = c.self.inside.size;
+              room = deque_capacity c.self.inside.blocks - deque_len c.self.inside.blocks;
+            }),
       ),
       record {
         writes_back = tt;

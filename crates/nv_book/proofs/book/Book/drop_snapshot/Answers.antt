@@ -12,7 +12,8 @@ use Rattle.nv_book.proofs.book.Book.drop_snapshot.Goals as goal
 
 same : (c : goal.After-note) → ids (after_removal c.self.inside.snaps c.args.s) ≡ without c.args.s (ids c.self.inside.snaps)
 same c =
-    subst (λ (list : Snapshots). ids list ≡ without c.args.s (ids c.self.inside.snaps)) c.in_ok-remove.ensures.ok c.in_ok-remove.ensures.numbers
+    subst (λ (list : Snapshots). ids list ≡ without c.args.s (ids c.self.inside.snaps)) c.in_ok-remove.ensures.ok
+    c.in_ok-remove.ensures.numbers
 
 -- the drop is noted in the state without the snapshot
 drop-noted : (c : goal.After-note) → let now = state_now (after_removal c.self.inside.snaps c.args.s) c.self.inside.commit in

@@ -10,7 +10,8 @@ invariant_of-self c =
     let told = c.take_pages-self-inside.ensures in
     record {
       chain = rw (told.entries, told.ends, told.tail) (IsChain-with_entries_left stays (state_in c.self.inside) c.self.invariant.chain);
-      run = c.behind-self-inside.ensures c.take_pages-self-inside.new.entries.items (omega (arith, c.len.ensures, c.take_pages-self-inside.new.entries.ok));
+      run = c.behind-self-inside.ensures c.take_pages-self-inside.new.entries.items
+          (omega (arith, c.len.ensures, c.take_pages-self-inside.new.entries.ok));
       there = c.self.invariant.there;
       blocks_room = c.self.invariant.blocks_room;
       ends_room = rw told.ends_capacity c.self.invariant.ends_room;

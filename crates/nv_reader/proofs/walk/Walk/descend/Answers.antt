@@ -21,4 +21,5 @@ returns-clause-ok c =
     subst (λ (vs : List Visit). IsSome (next_handle vs)) (sym c.self.view_is) c.requires in
     rw (← c.self.view_is, path, left)
     (entered_from i.depth i.way.path.items i.way.left.items i.next first rest c.args.names some
-    c.self.invariant.within (λ (same : length i.way.path.items + 1 ≡ i.depth). omega (arith, same, c.if-len-self.false, c.len.ensures, i.way.path.ok)) names)
+    c.self.invariant.within
+    (λ (same : length i.way.path.items + 1 ≡ i.depth). omega (arith, same, c.if-len-self.false, c.len.ensures, i.way.path.ok)) names)

@@ -19,9 +19,11 @@ returns-in_err-turn g c =
     rw (p.1, p.2) (c.in_err-turn.ensures _ _ c.loop-number.invariant.1 c.loop-number.invariant.3 c.loop-number.invariant.2)
 
 pub returns-then-not-branch : goal.returns-then-not-branch
-returns-then-not-branch g c = rw c.if-not-branch.true at (c.in_ok-turn.ensures _ _ c.loop-number.invariant.1 c.loop-number.invariant.3 c.loop-number.invariant.2)
+returns-then-not-branch g c =
+    rw c.if-not-branch.true at (c.in_ok-turn.ensures _ _ c.loop-number.invariant.1 c.loop-number.invariant.3 c.loop-number.invariant.2)
 
 pub loop-number-preserved : goal.loop-number-preserved
 loop-number-preserved g c =
-    let turned = rw c.if-not-branch.false at (c.in_ok-turn.ensures _ _ c.loop-number.invariant.1 c.loop-number.invariant.3 c.loop-number.invariant.2) in
+    let turned = rw c.if-not-branch.false at
+    (c.in_ok-turn.ensures _ _ c.loop-number.invariant.1 c.loop-number.invariant.3 c.loop-number.invariant.2) in
     (omega (arith, turned.0), turned.1, turned.2, turned.3)

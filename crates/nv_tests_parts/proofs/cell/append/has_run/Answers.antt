@@ -10,6 +10,7 @@ loop-block-preserved c =
       can = tt;
       finite = tt;
       most = omega arith;
-      numbers = run_goes_on c.args.queue.now.blocks _ c.loop-block.taken c.args.run.start _ here c.loop-block.invariant.numbers (omega (arith, c.number.ensures, c.number-in-loop-block.ensures));
+      numbers = run_goes_on c.args.queue.now.blocks _ c.loop-block.taken c.args.run.start _ here c.loop-block.invariant.numbers
+          (omega (arith, c.number.ensures, c.number-in-loop-block.ensures));
       rest = (cut_more c.loop-block.taken c.args.queue.now.blocks _ _ here).0;
     }

@@ -13,6 +13,7 @@ returns g c =
     let es = log cell.chain in
     let told : c.log-2.result.now ≡ es = c.log-2.ensures.value ∙ ap log c.log.ensures.state in
     let flags : c.thorough_flags.result.items ≡ entries_stay r [] es = c.thorough_flags.ensures ∙ ap (entries_stay r []) told in
-    let goes = (c.thorough_takes_what_is_droppable.ensures r es (IsLog-take cell.chain.tail cell.chain.entries c.known.ensures.chain.rising)).goes in
+    let goes = (c.thorough_takes_what_is_droppable.ensures r es
+    (IsLog-take cell.chain.tail cell.chain.entries c.known.ensures.chain.rising)).goes in
     c.droppable_entries_may_go.ensures r cell c.thorough_flags.result.items c.known.ensures c.marks_are.ensures
     (subst (GoIfDroppable r [] es) (sym flags) goes)

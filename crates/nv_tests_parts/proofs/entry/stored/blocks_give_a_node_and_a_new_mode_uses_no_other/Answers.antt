@@ -13,5 +13,6 @@ other block mode number log item set (inr its) = absurd (subst (λ (x : Item). I
 pub returns : goal.returns
 returns c = record {
   node = λ bytes other block log some sound same. (c.logs_use_their_blocks.ensures.same bytes other block log some sound same).is;
-  blocks = λ block mode number log e set uses. other block mode number log e.item set (c.logs_use_their_blocks.ensures.more block log e number uses);
+  blocks = λ block mode number log e set uses. other block mode number log e.item set
+      (c.logs_use_their_blocks.ensures.more block log e number uses);
 }
