@@ -146,7 +146,8 @@ as_many block (e ∷ es) =
     length-append (pairs_of block e es) (pairs block es) ∙ omega
     (arith, length-map (parts_of e.item) (pair_of block e es), as_many block es)
 
--- where the marks of a cell are what a retention says, the blocks in use are the pages of its chain and the blocks that it has
+-- where the marks of a cell are what a retention says, the blocks in use are the pages of its chain and
+-- the blocks that it has
 pub blocks_are_used : (r : Retention) (cell : CellState) → IsCell cell → AreMarksOf r cell
     → used_by r cell ≡ numbers_of cell.chain.blocks ++ blocks_had cell
 blocks_are_used r cell is are =

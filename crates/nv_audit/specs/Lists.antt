@@ -49,8 +49,8 @@ abbrev pub blocks_kept : Retention → List Entry → List ℕ
 blocks_kept r [] = []
 blocks_kept r (e ∷ later) = kept_of r e later ++ blocks_kept r later
 
--- the blocks that an inode uses: the pages of its log, those of the pairs that are kept, and those of what is appended and not yet
--- published
+-- the blocks that an inode uses: the pages of its log, those of the pairs that are kept, and those of what is appended
+-- and not yet published
 abbrev pub used_by : Retention → CellState → List ℕ
 used_by r cell = numbers_of cell.chain.blocks ++ blocks_kept r (log_of cell) ++ blocks_said r.block (fresh_of cell)
 

@@ -21,8 +21,8 @@ deferred_of ino deferred = map part_of (filter (λ (r : Record). r.ino == ino) d
 abbrev pub pending_of : ℕ → List Record → List InodePart → List PartId
 pending_of ino deferred parts = deferred_of ino deferred ++ of_inode ino parts
 
--- what keeps the pairs of an inode's log that are not current, where these snapshots live, these records are deferred, and calls have
--- these parts in their hands
+-- what keeps the pairs of an inode's log that are not current, where these snapshots live, these records are deferred,
+-- and calls have these parts in their hands
 abbrev pub retention_by : List ℕ → List Record → List InodePart → ℕ → CellState → Retention
 retention_by snapshots deferred in_hands ino cell = record {
   block = cell.block;

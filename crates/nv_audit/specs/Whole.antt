@@ -20,8 +20,8 @@ use Rattle.nv_audit.specs.Pending.{retention_by}
 use Rattle.nv_audit.specs.Records.{AreRecorded}
 use Rattle.nv_audit.specs.declared.part_list.InodePart.{InodePart}
 
--- the numbers of its geometry, the cell of each inode, the free list of each CPU and the book; and of the hands of all calls the
--- blocks, and the parts that are killed or picked
+-- the numbers of its geometry, the cell of each inode, the free list of each CPU and the book; and of the hands of all
+-- calls the blocks, and the parts that are killed or picked
 pub record Device : Type 0 where
   pub numbers : GeometryNumbers
   pub cells : List CellState
@@ -30,8 +30,8 @@ pub record Device : Type 0 where
   pub in_hands : List InodePart
   pub blocks : List ℕ
 
--- the counts of an inode are those of its log, where these snapshots live, these records are deferred, and calls have these parts in
--- their hands
+-- the counts of an inode are those of its log, where these snapshots live, these records are deferred, and calls have
+-- these parts in their hands
 abbrev pub IsCountedBy : List ℕ → List Record → List InodePart → ℕ → CellState → Type 0
 IsCountedBy snapshots deferred in_hands ino cell = AreCounted (retention_by snapshots deferred in_hands ino cell) cell
 

@@ -7,10 +7,10 @@ ghost use Rattle.nv_audit.specs.Counts.{AreCounted, scanned_counts};
 use nv_cell::{InodeCell, PageCounts};
 use nv_entry::{Retention, live, valid};
 
-/// Whether the counts of each page are those that its entries have from scratch: how many of them have a current pair,
-/// and how many one that is needed, pending or killed. Costs for each entry and each of its parts a walk over the
-/// entries behind it, up to the one that covers the part's key, and where there is one, over the snapshots and the pending
-/// parts.
+/// Whether the counts of each page are those that its entries have from scratch: how many of them have a
+/// current pair, and how many one that is needed, pending or killed. Costs for each entry and each of its parts
+/// a walk over the entries behind it, up to the one that covers the part's key, and where there is one, over
+/// the snapshots and the pending parts.
 pub fn are_counted(retention: &Retention<'_>, cell: &InodeCell) -> bool
     ensures { IsTrue result ↔ AreCounted (retention_of retention.now) cell.now.state }
 {

@@ -19,7 +19,8 @@ pub fn marks_give_counts()
         → AreCounted r cell }
 {}
 
-/// Where they are, the blocks that its inode uses are the pages of its chain and the blocks that the cell has for parts.
+/// Where they are, the blocks that its inode uses are the pages of its chain and the blocks that
+/// the cell has for parts.
 pub fn marks_give_used_blocks()
     ensures { (r : Retention) (cell : CellState) → IsCell cell → AreMarksOf r cell
         → used_by r cell ≡ numbers_of cell.chain.blocks ++ blocks_had cell }

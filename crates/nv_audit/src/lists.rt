@@ -20,11 +20,11 @@ use nv_cell::InodeCell;
 use nv_entry::{Entry, Item, Pair, Part, Retention};
 use std::alloc::{AllocError, Global};
 
-/// Whether the free list of each CPU has the numbers of its home range that are not used: neither by a page of a log, nor
-/// by a pair that is needed, pending or killed, nor by what is appended and not yet published, nor by a hand. Costs one
-/// pass over all numbers; for each inode one over the deferred records and the parts in hands; and for each part of each
-/// log a walk over the entries behind it and, where it is no longer current, over the snapshots and that inode's pending
-/// parts.
+/// Whether the free list of each CPU has the numbers of its home range that are not used: neither by a page of a
+/// log, nor by a pair that is needed, pending or killed, nor by what is appended and not yet published, nor by a
+/// hand. Costs one pass over all numbers; for each inode one over the deferred records and the parts in hands; and
+/// for each part of each log a walk over the entries behind it and, where it is no longer current, over the
+/// snapshots and that inode's pending parts.
 pub fn are_free(
     alloc: Global,
     geometry: &Geometry,

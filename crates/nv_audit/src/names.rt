@@ -8,8 +8,8 @@ ghost use Rattle.nv_audit.specs.Names.{AreIndexNames, AreLogNames, IsItemName, I
 use nv_entry::{Entry, Item};
 use nv_nindex::{Binding, NameIndex};
 
-/// Whether an index of names binds each name as the log does, to the same and by the same entry. Costs one pass over the
-/// log for each name that either tells of.
+/// Whether an index of names binds each name as the log does, to the same and by the same entry. Costs one pass over
+/// the log for each name that either tells of.
 pub fn are_names_of(log: &[Entry], index: &NameIndex) -> bool
     ensures { IsTrue result ↔ HaveSameBindings (bindings_of log.now) index.now.names }
 {

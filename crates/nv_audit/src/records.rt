@@ -16,8 +16,8 @@ use nv_entry::{Entry, Pair, PartId};
 use std::alloc::{AllocError, Global};
 
 /// Whether for each living snapshot the recorded parts that it holds are those that the logs say: of the pairs that it
-/// holds those that are neither current nor in a hand. Costs for each snapshot one pass over all records, for each part of
-/// each log a walk over the entries behind it, and the square of the parts that the snapshot holds.
+/// holds those that are neither current nor in a hand. Costs for each snapshot one pass over all records, for each part
+/// of each log a walk over the entries behind it, and the square of the parts that the snapshot holds.
 pub fn are_recorded(
     alloc: Global,
     cells: &[InodeCell],

@@ -24,10 +24,10 @@ use std::alloc::Global;
 /// Judges a device between two steps, of which the hands of all calls have some blocks and parts.
 ///
 /// `Mismatch` with the first part that differs from one scan of all logs: inode by inode the index, the names and the
-/// counts, and then the records and the free lists. What a cell keeps as its index and names is at all times the scan of its
-/// log, so that these two never differ. `OutOfMemory` where room was refused. It costs what [`are_pages_of`],
-/// [`are_names_of`], [`are_counted`], [`are_recorded`] and [`are_free`] cost, the first three for each inode, and for each
-/// inode a pass over the deferred records and the parts in hands.
+/// counts, and then the records and the free lists. What a cell keeps as its index and names is at all times the scan
+/// of its log, so that these two never differ. `OutOfMemory` where room was refused. It costs what [`are_pages_of`],
+/// [`are_names_of`], [`are_counted`], [`are_recorded`] and [`are_free`] cost, the first three for each inode, and for
+/// each inode a pass over the deferred records and the parts in hands.
 pub fn audit(
     alloc: Global,
     geometry: &Geometry,

@@ -1,5 +1,5 @@
--- The record list: one list of all recorded parts, in the order in which they came to their present holders. It tells the
--- manifests and the deferred list.
+-- The record list: one list of all recorded parts, in the order in which they came to their present holders. It tells
+-- the manifests and the deferred list.
 use Rattle.std.specs.Prelude.{◌≡◌, ℕ, ◌==◌, Bool, false, not, if◌then◌else◌, is_none, List, [], ◌∷◌, ◌++◌, map, filter, Option, Some, None}
 use Rattle.nv_book.specs.declared.manifest.Manifest.{Manifest}
 use Rattle.nv_book.specs.declared.record.Record.{Record}
@@ -25,8 +25,8 @@ manifest_of s rs = record { snapshot = s; records = rs }
 abbrev pub manifest_told : List ℕ → List Record → ℕ → Manifest
 manifest_told living rs s = manifest_of s (kept_by s living rs)
 
--- each manifest has the records of the list that its snapshot is the youngest to hold, and the deferred list those that no
--- living one holds, all in the order of the list
+-- each manifest has the records of the list that its snapshot is the youngest to hold, and the deferred list those that
+-- no living one holds, all in the order of the list
 pub record IsRecordList (living : List ℕ) (manifests : List Manifest) (deferred rs : List Record) : Type 0 where
   pub manifests_are : manifests ≡ map (manifest_told living rs) living
   pub deferred_is : deferred ≡ unheld living rs

@@ -13,8 +13,8 @@ pub record Store : Type 0 where
   pub deferred : List Record
   pub room : ℕ
 
--- the records are counted; with those that there is room for they are at most 2 ^ 62, and there is a spare node for each
--- of the latter; all nodes together are at most 2 ^ 62; there is room for the most manifests
+-- the records are counted; with those that there is room for they are at most 2 ^ 62, and there is a spare node for
+-- each of the latter; all nodes together are at most 2 ^ 62; there is room for the most manifests
 pub record IsStore (store : Store) (count spare capacity : ℕ) : Type 0 where
   pub counted : record_count store.manifests + length store.deferred ≡ count
   pub fits : count + store.room ≤ NUMBER

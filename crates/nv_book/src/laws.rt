@@ -1,5 +1,6 @@
-//! Laws of manifests: how a record that is retired, a snapshot that is made and one that is dropped leave each record
-//! with its youngest living holder, and in which order. Each is a function that does nothing, whose contract is the law.
+//! Laws of manifests: how a record that is retired, a snapshot that is made and one that is dropped leave each
+//! record with its youngest living holder, and in which order. Each is a function that does nothing, whose
+//! contract is the law.
 //!
 //! A list `living` has the numbers of the living snapshots.
 
@@ -55,8 +56,9 @@ pub fn filed_records_are_listed()
         IsRecordList living manifests deferred (all_records manifests ++ deferred) }
 {}
 
-/// The manifests and the deferred list are told by one list of records: a retired record that has a holder goes to its
-/// end, a drop moves the records of its snapshot there in order, and a pick takes out the first without a living holder.
+/// The manifests and the deferred list are told by one list of records: a retired record that has a holder
+/// goes to its end, a drop moves the records of its snapshot there in order, and a pick takes out the first
+/// without a living holder.
 pub fn one_list_tells_all()
     ensures begins { IsRecordList [] [] [] [] }
     ensures retired { (living : List ℕ) (manifests : List Manifest) (deferred rs : List Record)

@@ -1,4 +1,5 @@
--- The node under a handle by one cell, whose inode has a number: the cell's where the handle has that number, and else none.
+-- The node under a handle by one cell, whose inode has a number: the cell's where the handle has that
+-- number, and else none.
 use Rattle.std.proofs.Common.{◌≡◌, ℕ, ◌==◌, Bool, true, false, cond, List, [], Option, Some, None, refl}
 use Rattle.std.specs.Prelude.{Ok, option_and_then, option_map}
 use Rattle.nv_base.specs.declared.numbers.Handle.{Handle}

@@ -1,4 +1,5 @@
--- The cells of a commit have blocks with the bytes that a function gives, where those before had, and those of its hand.
+-- The cells of a commit have blocks with the bytes that a function gives, where those before had,
+-- and those of its hand.
 use Rattle.std.proofs.Common.{◌≡◌, ℕ, zero, suc, ◌<◌, List, [], ◌∷◌, ◌++◌, Option, Some, None, length, map, take, drop, replicate, refl, subst, ◌∙◌, slice_index_or, slice_set}
 use Rattle.std.specs.List.{AllByRecursion, sum_by}
 use Rattle.nv_alloc.specs.Block.{BlockValue}

@@ -1,5 +1,5 @@
--- The calls of the plain world on files and directories, by the step that decides: what its looks find, refusal at the check, effect at the
--- commit, and answer; and the plan of each. No changes: no commit.
+-- The calls of the plain world on files and directories, by the step that decides: what its looks find, refusal at the
+-- check, effect at the commit, and answer; and the plan of each. No changes: no commit.
 use Rattle.std.specs.Prelude.{◌≡◌, ℕ, ◌/◌, ◌<◌, ◌&&◌, nat_lt, Bool, true, false, List, [], ◌∷◌, length, Option, None, is_some}
 use Rattle.nv_base.specs.declared.limits.TheConstants.{FILE_PAGES}
 use Rattle.nv_base.specs.declared.numbers.Handle.{Handle}

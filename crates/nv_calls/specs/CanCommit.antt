@@ -36,8 +36,8 @@ pub record CanTakeItems (stamp : Stamp) (hand : Hand) (items : List Item) (cell 
 abbrev pub numbers_of_all : List CellPlanValue → List ℕ
 numbers_of_all plans = flat_map (λ (p : CellPlanValue). numbers_in p.items) plans
 
--- all items of a commit can be appended: each cell can take its own, and the hand has the pages that the logs need, and in
--- front the blocks of the items' pages
+-- all items of a commit can be appended: each cell can take its own, and the hand has the pages that the logs need, and
+-- in front the blocks of the items' pages
 pub record CanAppendAll (cells : List (ℕ × CellValue)) (commit : CommitValue) : Type 0 where
   pub each : (j : ℕ) → j < length commit.plans
       → CanTakeItems commit.stamp commit.hand (plan_at commit.plans j).items (value_at cells (place_of commit.plans j))
@@ -122,8 +122,8 @@ pub record TakesCommit (stamp : Stamp) (cell : CellValue) : Type 0 where
   pub version : cell.state.version < 2 ^ 62
   pub generation : cell.state.generation < NUMBER
 
--- what a commit asks beside a call that is ready: it was entered, its cells take a commit of that number, the book has room
--- for its records, and a CPU's journal is closed
+-- what a commit asks beside a call that is ready: it was entered, its cells take a commit of that number, the book has
+-- room for its records, and a CPU's journal is closed
 pub record AllowsCommit (cells : List (ℕ × CellValue)) (book : BookValue) (cpu : ℕ) (ready : ReadyValue) : Type 0 where
   pub entered : IsEntered book.state
   pub take : AllByRecursion (λ p. TakesCommit (stamp_of book.state) (value_at cells p.at)) ready.plans

@@ -22,7 +22,8 @@ pub record AreFilled (block : ℕ) (nodes : Handle → Option NodeCopy) (present
 abbrev pub AreRead : (ℕ → List ℕ) → List BlockValue → Type 0
 AreRead bytes blocks = AllByRecursion (λ (b : BlockValue). bytes b.number ≡ b.bytes) blocks
 
--- blocks that have the pages of a call that was ready, over the cells that it was filled by and with the text of a source
+-- blocks that have the pages of a call that was ready, over the cells that it was filled by and with
+-- the text of a source
 pub record HavePages (bytes : ℕ → List ℕ) (cells : List (ℕ × CellValue)) (byte_at : ℕ → ℕ) (ready : ReadyValue) (blocks : List BlockValue)
     : Type 0 where
   pub filled : blocks ≡ filled (fresh_pages ready.hand.data.size (nodes_in cells) (sourced byte_at ready.update)) ready.hand.data.blocks

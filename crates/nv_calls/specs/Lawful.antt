@@ -13,8 +13,8 @@ use Rattle.nv_cell.specs.Effects.{BindOne}
 use Rattle.nv_calls.specs.declared.plan.Planned.{Planned}
 use Rattle.nv_calls.specs.Refusals.{kind_of}
 
--- a log begins with its kind; bytes are a file's, in pages and up to sizes that a file can have; names are a directory's,
--- and lawful; nothing follows the end
+-- a log begins with its kind; bytes are a file's, in pages and up to sizes that a file can have; names are a
+-- directory's, and lawful; nothing follows the end
 abbrev pub IsLawful : ℕ → Item → Option Kind → Type 0
 IsLawful block (Init kind mode) None = Unit {0}
 IsLawful block (Write first run size) (Some File) = (0 < run.len) × (first + run.len ≤ FILE_PAGES) × (size ≤ FILE_PAGES * block)

@@ -133,8 +133,9 @@ pub record HasLogPages (cells : List (ℕ × CellValue)) (hand : Hand) (u : Upda
   pub enough : pages_wanted cells (planned_by cells hand u) ≤ length hand.pages.blocks
   pub chain : length hand.chain ≡ 0
 
--- a call over these cells and with this hand is ready: its blocks are maximal runs, none left out, whatever their bytes; the
--- cells have room for its items, and the hand for the blocks that it may set free, and the pages that the logs need
+-- a call over these cells and with this hand is ready: its blocks are maximal runs, none left out, whatever
+-- their bytes; the cells have room for its items, and the hand for the blocks that it may set free, and the
+-- pages that the logs need
 pub record IsReadyBy (cells : List (ℕ × CellValue)) (hand : Hand) (u : Update) (now : List (ℕ × CellValue)) (ready : ReadyValue)
     : Type 0 where
   pub update : ready.update ≡ u

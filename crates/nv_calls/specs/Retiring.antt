@@ -1,4 +1,5 @@
--- What becomes of the parts that a commit killed: a snapshot keeps a part, until its record is released, or its block is free.
+-- What becomes of the parts that a commit killed: a snapshot keeps a part, until its record is
+-- released, or its block is free.
 use Rattle.std.specs.Prelude.{ℕ, ◌+◌, ◌-◌, ◌&&◌, Bool, if◌then◌else◌, nat_le, List, [], ◌∷◌, ◌++◌, Option, Some, None, length, option_to_list, slice_index_or}
 use Rattle.std.specs.List.{flat_map}
 use Rattle.nv_alloc.specs.Block.{BlockValue}

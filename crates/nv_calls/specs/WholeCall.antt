@@ -18,8 +18,9 @@ use Rattle.nv_calls.specs.Prepared.{CanReady, HaveNoLessRoom, IsReadyBy, taken_b
 use Rattle.nv_calls.specs.Ready.{ReadyValue}
 use Rattle.nv_calls.specs.declared.update.Update.{Update}
 
--- the call and its hand; its cells before it, once it was made ready, and after its commit; what was ready, and its blocks
--- once they were filled; the source's bytes; and the book, the snapshots that live in it, and the CPU of the commit
+-- the call and its hand; its cells before it, once it was made ready, and after its commit; what was ready,
+-- and its blocks once they were filled; the source's bytes; and the book, the snapshots that live in it,
+-- and the CPU of the commit
 pub record WholeCall : Type 0 where
   pub update : Update
   pub hand : Hand
@@ -41,8 +42,8 @@ filled_of call = with_blocks call.blocks call.ready
 abbrev pub effect_of : WholeCall → List Change
 effect_of call = effect (nodes_in call.before) (taken_by call.before call.hand call.update).made (sourced call.byte_at call.update)
 
--- it was made ready, its blocks were filled, which have the bytes that `bytes` gives, and it was committed; the cells after it are
--- whole, as each `InodeCell` is
+-- it was made ready, its blocks were filled, which have the bytes that `bytes` gives, and it was committed; the cells
+-- after it are whole, as each `InodeCell` is
 pub record IsWholeCall (bytes : ℕ → List ℕ) (call : WholeCall) : Type 0 where
   pub can_ready : CanReady call.before call.hand call.update
   pub room : HaveNoLessRoom call.before call.now

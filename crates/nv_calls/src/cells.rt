@@ -93,8 +93,8 @@ pub trait Cells {
         ensures places { places self.new ≡ places self.old }
         ensures beside { beside self.new ≡ beside self.old };
 
-    /// Appends an entry past the tail, with the blocks of its pages from the front of the queue. A cell that is ready for
-    /// items of which this is the first is then ready for the others.
+    /// Appends an entry past the tail, with the blocks of its pages from the front of the queue. A cell that is ready
+    /// for items of which this is the first is then ready for the others.
     fn append(&mut self, k: usize, entry: Entry, queue: &mut BlockQueue)
         requires within { k < length (cells self.old) }
         requires next { MayAppend entry (value_at (cells self.old) k) }

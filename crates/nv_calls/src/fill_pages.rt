@@ -184,13 +184,13 @@ fn fill_blocks<C: Cells, S: Source>(
 }
 
 /// Fills the fresh blocks of a call that is ready: each with the bytes of its page before, with those of a source in
-/// their places, and of a page that is cut with zeros from the size on. Where the logs of the cells are sound, these are
-/// the pages of the file after the call. A write asks the source once for each page that
-/// it touches, for the part of the text that lies there, in rising order; no other call asks it.
+/// their places, and of a page that is cut with zeros from the size on. Where the logs of the cells are sound, these
+/// are the pages of the file after the call. A write asks the source once for each page that it touches, for the part
+/// of the text that lies there, in rising order; no other call asks it.
 ///
-/// `Read` where the source failed, which is asked no more then. Whatever comes of it, nothing but the bytes of the call's
-/// own blocks has changed, so that it can be given up. Takes no memory, and costs the bytes of these blocks and a look-up
-/// for each.
+/// `Read` where the source failed, which is asked no more then. Whatever comes of it, nothing but the bytes of the
+/// call's own blocks has changed, so that it can be given up. Takes no memory, and costs the bytes of these blocks
+/// and a look-up for each.
 pub fn fill<C: Cells, S: Source>(ready: &mut Ready, cells: &C, source: &mut S) -> Result<(), Fault>
     requires can { CanFill (C.cells cells.now) ready.old.update ready.old.hand.data }
     requires failures { S.failed source.old < 2 ^ 64 - 1 }

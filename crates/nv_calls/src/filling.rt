@@ -21,7 +21,8 @@ fn copy_page(bytes: &mut [u8], page: Option<&Block>)
     }
 }
 
-/// The same where not the whole block is to be filled otherwise: before `from` and from `to` on it has the page's bytes.
+/// The same where not the whole block is to be filled otherwise: before `from` and from `to` on it
+/// has the page's bytes.
 fn copy_rest(bytes: &mut [u8], page: Option<&Block>, from: usize, to: usize)
     requires page { ForSome (option_copied page) (λ b. length b.bytes ≡ length bytes.old) }
     ensures front { take from bytes.new
@@ -61,9 +62,9 @@ fn fill_page<S: Source>(
     source.fill(at, &mut bytes[from..to])
 }
 
-/// Fills the fresh block at a place of a queue with the bytes of a page, and with those of a text from `from` up to `to`
-/// in their places. The source is asked once, whatever it answers. Whatever comes of it, the queue is the same but for
-/// the bytes of this block. Takes no memory, and costs the bytes of a block.
+/// Fills the fresh block at a place of a queue with the bytes of a page, and with those of a text from `from` up to
+/// `to` in their places. The source is asked once, whatever it answers. Whatever comes of it, the queue is the same but
+/// for the bytes of this block. Takes no memory, and costs the bytes of a block.
 pub(crate) fn fill_block<S: Source>(
     queue: &mut BlockQueue,
     place: usize,

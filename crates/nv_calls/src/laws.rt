@@ -164,7 +164,8 @@ pub fn what_is_filled_stays_ready()
         → IsReadyBy cells hand update now (with_blocks blocks ready) }
 {}
 
-/// Where its blocks have the pages that a fill puts there, its plan fits its effect, in all slots that its cells are of.
+/// Where its blocks have the pages that a fill puts there, its plan fits its effect, in all slots
+/// that its cells are of.
 pub fn filled_plans_fit()
     ensures { (bytes : ℕ → List ℕ) (cells now : List (ℕ × CellValue)) (hand : Hand)
         (update : Update) (ready : ReadyValue) (byte_at : ℕ → ℕ) (blocks : List BlockValue)

@@ -5,8 +5,8 @@ ghost use Rattle.nv_calls.specs.Progress.{step_of};
 
 use crate::Commit;
 
-/// A step of a commit: it appends the entries of the next inode, opens the journal, publishes the next inode, closes the
-/// journal, retires what the publish of the next inode killed, or has nothing left but to leave.
+/// A step of a commit: it appends the entries of the next inode, opens the journal, publishes the next inode, closes
+/// the journal, retires what the publish of the next inode killed, or has nothing left but to leave.
 #[derive(Clone, Copy, Debug, PartialEq, Eq)]
 pub enum CommitStep {
     Append,

@@ -62,8 +62,8 @@ impl Receipt {
         self.made
     }
 
-    /// The inodes that got entries, with the old tails that the journal noted before they were published: none where that
-    /// was one inode, which needs no journal.
+    /// The inodes that got entries, with the old tails that the journal noted before they were published: none where
+    /// that was one inode, which needs no journal.
     pub fn noted(&self) -> &[OldTail]
         ensures { result.now ≡ self.now.noted }
     {
@@ -72,9 +72,9 @@ impl Receipt {
 }
 
 impl Commit {
-    /// The receipt of a commit whose steps are all done, and what the hand still holds. The steps know no more of the cells
-    /// than each asks, so it is not for the public: who goes step by step could lend each step other cells. Takes no
-    /// memory.
+    /// The receipt of a commit whose steps are all done, and what the hand still holds. The steps know no more of
+    /// the cells than each asks, so it is not for the public: who goes step by step could lend each step other
+    /// cells. Takes no memory.
     pub(crate) fn finish(self) -> (Receipt, Hand)
         requires retired { self.retired ≡ length self.plans }
         requires closed { self.journal ≡ None }

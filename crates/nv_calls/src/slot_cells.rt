@@ -9,8 +9,8 @@ use nv_cell::{InodeCell, KilledPart};
 use nv_entry::{Entry, Item, PartId};
 use nv_log::Chain;
 
-/// The cells of all slots, of which those of some numbers, that rise, are lent to a call. What stands beside them is the
-/// cells of all other slots.
+/// The cells of all slots, of which those of some numbers, that rise, are lent to a call. What stands beside them is
+/// the cells of all other slots.
 #[derive(Drop)]
 pub struct SlotCells<'a> {
     pub cells: &'a mut [InodeCell],

@@ -11,7 +11,7 @@ pub enum SnapshotCall {
     Drop(Epoch),
     /// Asks for the tree as it was when a snapshot was made.
     Show(Epoch),
-    /// Releases the first deferred records, at most so many: a number outside 1 to [`nv_base::limits::DRAIN`] counts as the
-    /// nearest of these.
+    /// Releases the first deferred records, at most so many: a number outside 1 to [`nv_base::limits::DRAIN`] counts as
+    /// the nearest of these.
     Drain(u64),
 }

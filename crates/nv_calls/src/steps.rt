@@ -58,8 +58,8 @@ pub fn append_on<C: Cells>(cells: &mut C, commit: &mut Commit)
     commit.appended += 1;
 }
 
-/// Opens a CPU's journal with the cells that get entries and their tails, where they are two or more and all entries are
-/// appended. Takes no memory; the time is that of at most four cells.
+/// Opens a CPU's journal with the cells that get entries and their tails, where they are two or more and all entries
+/// are appended. Takes no memory; the time is that of at most four cells.
 pub fn open_on<C: Cells>(book: &mut Book, cells: &C, commit: &mut Commit, cpu: u64)
     requires turn { commit.old.appended ≡ length commit.old.plans }
     requires first { commit.old.published ≡ 0 }
@@ -122,8 +122,9 @@ pub fn publish_on<C: Cells>(_book: &Book, cells: &mut C, commit: &mut Commit)
     commit.published += 1;
 }
 
-/// Closes the journal that a commit opened, once all entries are published; it still has what the commit noted. From here
-/// on a new inode has its number: it leaves the call's hand. Takes no memory; the time is that of at most four cells.
+/// Closes the journal that a commit opened, once all entries are published; it still has what the commit
+/// noted. From here on a new inode has its number: it leaves the call's hand. Takes no memory; the time is
+/// that of at most four cells.
 pub fn close_on(book: &mut Book, commit: &mut Commit)
     requires turn { commit.old.published ≡ length commit.old.plans }
     requires journal { HasJournal book.old.state commit.old }
@@ -141,10 +142,10 @@ pub fn close_on(book: &mut Book, commit: &mut Commit)
 }
 
 /// Retires the parts that the publish of the next cell killed: each is recorded for the youngest living snapshot that
-/// holds it, or else goes out, and its block to the call's hand. A gone inode of which nothing is kept is erased, and its
-/// chain and number go to the hand. All entries are published, and the journal is closed. Takes no memory; the time is
-/// that of the killed parts, each times the logarithms of the snapshots, entries and pages, and where an inode is erased
-/// that of its entries.
+/// holds it, or else goes out, and its block to the call's hand. A gone inode of which nothing is kept is erased, and
+/// its chain and number go to the hand. All entries are published, and the journal is closed. Takes no memory; the time
+/// is that of the killed parts, each times the logarithms of the snapshots, entries and pages, and where an inode is
+/// erased that of its entries.
 pub fn retire_on<C: Cells>(book: &mut Book, cells: &mut C, commit: &mut Commit)
     requires turn { commit.old.retired < length commit.old.plans }
     requires published { commit.old.published ≡ length commit.old.plans }

@@ -179,8 +179,8 @@ pub fn lookup_on(ino: Ino, cell: &InodeCell, call: Call) -> Result<View, Fault>
     })
 }
 
-/// The names that a `List` finds in the cell of an inode. `Stale` where it asks for another, `OutOfMemory` where room for
-/// them was refused.
+/// The names that a `List` finds in the cell of an inode. `Stale` where it asks for another, `OutOfMemory` where room
+/// for them was refused.
 pub fn list_on(ino: Ino, cell: &InodeCell, call: Call) -> Result<View, Fault>
     requires { is_list call ≡ true }
     ensures view { (bytes : ℕ → List ℕ) → IfOk result (IsView bytes ino cell.now call) }
@@ -200,8 +200,8 @@ pub fn list_on(ino: Ino, cell: &InodeCell, call: Call) -> Result<View, Fault>
     })
 }
 
-/// The bytes that a `Read` finds in the cell of an inode. `Stale` where it asks for another, `OutOfMemory` where room for
-/// them was refused. Costs the pages that it reads, and one look-up for each run of them.
+/// The bytes that a `Read` finds in the cell of an inode. `Stale` where it asks for another, `OutOfMemory` where room
+/// for them was refused. Costs the pages that it reads, and one look-up for each run of them.
 pub fn read_on(ino: Ino, cell: &InodeCell, call: Call) -> Result<View, Fault>
     requires { is_read call ≡ true }
     ensures own { IfOk result (IsOwnView ino cell.now call) }

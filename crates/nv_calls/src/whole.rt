@@ -162,12 +162,13 @@ fn retire_all<C: Cells>(book: &mut Book, cells: &mut C, commit: &mut Commit)
     }
 }
 
-/// Commits what is ready as the book's latest commit, which [`Book::enter`] gave last: all entries are appended, and then
-/// published, of two or more cells inside the CPU's journal, and what that kills is retired. Every entry has the number
-/// and the epoch of that commit. Takes no memory; the time is that of its steps: of the entries, the blocks that they take
-/// and the parts that they kill, whatever else the logs hold.
+/// Commits what is ready as the book's latest commit, which [`Book::enter`] gave last: all entries are appended, and
+/// then published, of two or more cells inside the CPU's journal, and what that kills is retired. Every entry has the
+/// number and the epoch of that commit. Takes no memory; the time is that of its steps: of the entries, the blocks that
+/// they take and the parts that they kill, whatever else the logs hold.
 ///
-/// [`crate::laws::what_is_ready_can_be_committed`] gives what it asks, of what was made ready and of what its caller knows.
+/// [`crate::laws::what_is_ready_can_be_committed`] gives what it asks, of what was made ready and of
+/// what its caller knows.
 pub fn commit_on<C: Cells>(
     book: &mut Book,
     cells: &mut C,

@@ -1,4 +1,5 @@
--- The blocks of every world add up, since each stands once in the machine's, and no more are picked than there are actors.
+-- The blocks of every world add up, since each stands once in the machine's, and no more are picked
+-- than there are actors.
 use Rattle.std.proofs.Common.{◌≡◌, ℕ, ◌+◌, ◌≤◌, ◌∙◌, ap, arith, length, subst, sym}
 use Rattle.std.specs.List.{sum_by}
 use Rattle.nv_base.specs.declared.geometry.GeometryNumbers.{GeometryNumbers}

@@ -1,4 +1,5 @@
--- Whatever events came from a new world on, each part is that of one scan of all logs, so that an audit finds nothing that differs.
+-- Whatever events came from a new world on, each part is that of one scan of all logs, so that an audit finds
+-- nothing that differs.
 use Rattle.std.proofs.Common.{◌≡◌, ℕ, ◌++◌, ◌∙◌, Bool, List, Some, ap, arith, flat_map, refl, slice_get, slice_index_or, subst, sym}
 use Rattle.std.specs.Prelude.{◌||◌}
 use Rattle.std.specs.List.{Contains}

@@ -1,4 +1,5 @@
--- Each living snapshot has as many records of each part as the logs say: one where it holds it and it is neither current nor in a hand.
+-- Each living snapshot has as many records of each part as the logs say: one where it holds it and it is neither
+-- current nor in a hand.
 use Rattle.std.proofs.Common.{◌≡◌, ◌≢◌, ℕ, zero, suc, ◌+◌, ◌<◌, ◌≤◌, ◌==◌, ◌&&◌, ◌++◌, ◌∙◌, Bool, true, false, not, List, [], ◌∷◌, Option, Some, None, ap, ap₂, arith, filter, flat_map, if◌then◌else◌, refl, slice_get, slice_index_or, subst, sym}
 use Rattle.std.specs.Prelude.{◌||◌}
 use Rattle.std.specs.List.{AllByRecursion, Contains, list_any}

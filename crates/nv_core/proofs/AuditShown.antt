@@ -1,4 +1,5 @@
--- What the code gathers of hands is what the machine's calls have in them, so that a world agrees and an audit tells no mismatch.
+-- What the code gathers of hands is what the machine's calls have in them, so that a world agrees and an
+-- audit tells no mismatch.
 use Rattle.std.proofs.Common.{◌≡◌, ℕ, zero, suc, ◌<◌, ◌≤◌, ◌==◌, ◌&&◌, ◌⊎◌, inl, inr, ◌++◌, ◌∙◌, Bool, true, false, List, [], ◌∷◌, Option, Some, None, ap, ap₂, arith, drop, filter, flat_map, if◌then◌else◌, length, map, nat_lt, refl, slice_index_or, subst, sym, take}
 use Rattle.std.specs.Prelude.{IfErr, Result, Ok, Err, not}
 use Rattle.std.proofs.lemmas.Bool.{and_parts, eqb-true, ltb-false, ltb-true}

@@ -112,7 +112,8 @@ shown_some held (Some other) (Some r) running e shows =
     let same : other ≡ running = cc in
     record { r = r; is = refl; shows = subst (λ (q : Running). ShowsCall held q r) same shows }
 
--- THE LEMMA: where the shared parts and the actors of a world show those of the machine, an actor's call can make its next step
+-- THE LEMMA: where the shared parts and the actors of a world show those of the machine, an actor's call
+-- can make its next step
 pub can_step : (shared : Shared) (actors : List Actor) (m : machine.World) (events : List machine.Event)
     → IsWithinLimits shared.geometry.numbers → m ≡ after (formatted shared.geometry.numbers) events
     → shared_of shared ≡ m.shared → length actors ≡ length m.actors → (actor : ℕ) → actor < length actors → (own : Actor)

@@ -17,8 +17,8 @@ use Rattle.nv_epoch.specs.SnapList.{pins_of}
 use Rattle.nv_machine.specs.World.{Pin, Release, Shared, Show, SnapshotStep, Unpin, cell_at}
 use Rattle.nv_reader.specs.Cells.{NoneOut}
 
--- the part of a picked record is kept in its cell, which stands still; its blocks are the device's; and one that is gone has not yet
--- its last generation
+-- the part of a picked record is kept in its cell, which stands still; its blocks are the device's; and one that is
+-- gone has not yet its last generation
 pub record HasPicked (g : GeometryNumbers) (s : Shared) (picked : Record) : Type 0 where
   pub kept : mark_named (cell_at s picked.ino) (name_of picked) ≡ Some Kept
   pub still : IsStill g.block (cell_at s picked.ino)
@@ -26,8 +26,8 @@ pub record HasPicked (g : GeometryNumbers) (s : Shared) (picked : Record) : Type
   pub parts : (n : ℕ) (b : BlockValue) → slice_index_or (cell_at s picked.ino).blocks n None ≡ Some b → b.number < g.blocks
   pub generation : is_gone (log_of (cell_at s picked.ino)) ≡ true → (cell_at s picked.ino).generation < NUMBER
 
--- a snapshot that is to be pinned has fewer pins than it may have; one that is shown has all its pages; one that is to be unpinned
--- has a pin
+-- a snapshot that is to be pinned has fewer pins than it may have; one that is shown has all its pages; one that is to
+-- be unpinned has a pin
 abbrev pub HasOn : GeometryNumbers → Shared → SnapshotStep → Type 0
 HasOn g s (Pin snapshot) = ForSome (pins_of s.book.snaps snapshot) (λ pins. pins < PINS)
 HasOn g s (Show snapshot showing) = (ino : ℕ) → NoneOut (cell_at s ino) (up_to snapshot (log_of (cell_at s ino)))

@@ -1,4 +1,5 @@
--- In every world that events lead to a living snapshot has all its pages, and its nodes by the logs are those by the settled logs.
+-- In every world that events lead to a living snapshot has all its pages, and its nodes by the logs are those
+-- by the settled logs.
 use Rattle.std.proofs.Common.{◌≡◌, ℕ, ◌<◌, ◌==◌, ◌++◌, ◌∙◌, if◌then◌else◌, List, None, IsSome, ap, inl, inr, length, refl, subst, sym}
 use Rattle.std.specs.List.{Contains}
 use Rattle.std.proofs.lemmas.Bool.{cases_lt}

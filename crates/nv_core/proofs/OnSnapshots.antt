@@ -1,5 +1,5 @@
--- What the laws of the machine say of the steps of calls on snapshots: pins are those of the shows under way, a living snapshot has all
--- its pages, and a picked record's part is kept in a cell that stands still.
+-- What the laws of the machine say of the steps of calls on snapshots: pins are those of the shows under way, a living
+-- snapshot has all its pages, and a picked record's part is kept in a cell that stands still.
 use Rattle.std.proofs.Common.{◌≡◌, ℕ, zero, suc, ◌<◌, ◌≤◌, ◌++◌, ◌∙◌, Bool, true, false, cond, List, [], ◌∷◌, Option, Some, None, IsSome, ap, arith, inl, inr, length, refl, slice_get, slice_index_or, subst, sym}
 use Rattle.std.specs.Prelude.{count_by, option_and_then}
 use Rattle.std.specs.List.{AllByRecursion, Contains, flat_map}

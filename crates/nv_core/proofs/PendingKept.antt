@@ -1,4 +1,5 @@
--- No more blocks are pending than are kept: each pending record of a page is of a kept part of its own, which has a block.
+-- No more blocks are pending than are kept: each pending record of a page is of a kept part of its
+-- own, which has a block.
 use Rattle.std.proofs.Common.{◌≡◌, ◌∙◌, ℕ, zero, suc, ◌+◌, ◌-◌, ◌<◌, ◌≤◌, ◌&&◌, ◌==◌, ◌++◌, Bool, true, false, cond, List, [], ◌∷◌, Option, Some, None, ap, arith, drop, flat_map, is_some, length, length-append, nat_lt, option_map, option_to_list, refl, slice_get, slice_index_or, subst, sym, take-append-drop}
 use Rattle.std.specs.Prelude.{option_and_then}
 use Rattle.std.specs.List.{AllByRecursion}

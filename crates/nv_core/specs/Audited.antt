@@ -1,4 +1,5 @@
--- What an audit is told of a world: what is shared, and of all hands the blocks and the parts that are killed or picked.
+-- What an audit is told of a world: what is shared, and of all hands the blocks and the parts that
+-- are killed or picked.
 use Rattle.std.specs.Prelude.{ℕ, ◌≤◌, List, [], ◌∷◌, ◌++◌, drop, length, map, Option, Some, None, take}
 use Rattle.std.specs.List.{flat_map}
 use Rattle.nv_audit.specs.Records.{inode_part}

@@ -17,7 +17,8 @@ pub record Begin : Type 0 where
 abbrev pub first_of : Begin → CommitValue
 first_of b = begun (stamp_of b.shelf.state) b.ready
 
--- the commit and the book once all entries are appended, and the journal of a CPU is open where they are of two inodes or more
+-- the commit and the book once all entries are appended, and the journal of a CPU is open where they
+-- are of two inodes or more
 abbrev pub noted_by : ℕ → List (ℕ × CellValue) → CommitValue → CommitValue
 noted_by cpu cells commit = if nat_lt 1 (length commit.plans) then after_open cpu (old_tails cells commit.plans) commit else commit
 

@@ -18,11 +18,12 @@ use Rattle.nv_machine.specs.World as machine
 use Rattle.nv_core.specs.Audited.{device_of}
 use Rattle.nv_core.specs.Worlds.{Shows, WorldState}
 
--- A WORLD BESIDE THE PLAIN WORLD AND THE LIST OF ITS RECORDS. Each inode's counts, the records that living snapshots hold and each
--- free list are what one scan of all logs and of the snapshots gives, where what hands have and what is deferred are named apart, and
--- so is the pool of inode numbers; an actor without a call has an empty hand and no lock, and deferred are the records that no living
--- snapshot holds. The settled logs give the plain world's nodes, and so its tree. And each living snapshot reads as the plain
--- world's copy, which was taken when it was made: node by node, and so as a tree
+-- A WORLD BESIDE THE PLAIN WORLD AND THE LIST OF ITS RECORDS. Each inode's counts, the records that living
+-- snapshots hold and each free list are what one scan of all logs and of the snapshots gives, where what hands have
+-- and what is deferred are named apart, and so is the pool of inode numbers; an actor without a call has an empty
+-- hand and no lock, and deferred are the records that no living snapshot holds. The settled logs give the plain
+-- world's nodes, and so its tree. And each living snapshot reads as the plain world's copy, which was taken when it
+-- was made: node by node, and so as a tree
 pub record IsConsistent (g : GeometryNumbers) (w : machine.World) (plain : Plain) (records : List Record) : Type 0 where
   pub scan : Agrees (device_of g w)
   pub pool : w.shared.pool.numbers ≡ pool_from_scratch g w
@@ -36,7 +37,8 @@ pub record IsConsistent (g : GeometryNumbers) (w : machine.World) (plain : Plain
   pub snapshot_trees : (snapshot : ℕ) → Contains (ids w.shared.book.snaps) snapshot
       → copied_tree (length w.shared.cells) plain.copies snapshot ≡ Some (snapshot_tree w snapshot)
 
--- the same of the world to which events lead from a new one, beside the plain world and the record list to which they lead
+-- the same of the world to which events lead from a new one, beside the plain world and the record
+-- list to which they lead
 abbrev pub IsConsistentAfter : GeometryNumbers → List machine.Event → Type 0
 IsConsistentAfter g events =
     IsConsistent g (after (formatted g) events) (plain_after (formatted g) events (plain_of (formatted g)))

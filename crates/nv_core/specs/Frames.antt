@@ -4,7 +4,8 @@ use Rattle.nv_alloc.specs.Numbers.{has}
 use Rattle.nv_calls.specs.SlotCells.{cell_in, other_cells}
 use Rattle.nv_core.specs.declared.shared.Shared.{Shared}
 
--- a step of an actor that holds these slots leaves all other cells as they were, and the book where another actor commits
+-- a step of an actor that holds these slots leaves all other cells as they were, and the book where
+-- another actor commits
 pub record LeavesRest (actor : ℕ) (held : List ℕ) (old new : Shared) : Type 0 where
   pub geometry : new.geometry ≡ old.geometry
   pub lists : length new.lists.items ≡ length old.lists.items

@@ -106,8 +106,8 @@ chain_in cell = length cell.chain.blocks
 abbrev pub chain_of : Shared → ℕ
 chain_of s = sum_by chain_in s.cells
 
--- where the blocks are: in free lists, pages of logs, current or held by a living snapshot, pending, of which there are so many,
--- and all others
+-- where the blocks are: in free lists, pages of logs, current or held by a living snapshot, pending, of which there are
+-- so many, and all others
 abbrev pub space_in : ℕ → ℕ → Shared → Space
 space_in blocks pending s = record {
   free = free_of s;

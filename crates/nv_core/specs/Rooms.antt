@@ -1,5 +1,5 @@
--- What of a running call the machine does not tell: whether it is of the kind that its next step wants, the room in its hand, and
--- what its check found and its growths made.
+-- What of a running call the machine does not tell: whether it is of the kind that its next step wants, the room in its
+-- hand, and what its check found and its growths made.
 use Rattle.std.specs.Prelude.{◌≡◌, ℕ, ◌+◌, ◌<◌, ◌≤◌, ◌%◌, Bool, true, false, List, [], length, Option, Some, None, unwrap_or}
 use Rattle.std.specs.List.{AllByRecursion}
 use Rattle.nv_alloc.specs.declared.hand.Hand.{Hand}
@@ -110,7 +110,8 @@ hand_held (hold.Commit commit) = commit.hand
 
 -- ---- from the check to the growths
 
--- a call has passed its check over the cells of its slots, has something to commit, and the number of a new inode in its hand
+-- a call has passed its check over the cells of its slots, has something to commit, and the number of a
+-- new inode in its hand
 pub record IsChecked (shared : Shared) (slots : List ℕ) (hand : Hand) (looked : Looked) (u : Update) : Type 0 where
   pub read : CanRead shared slots (handles looked (blank_call u))
   pub lent : AreCells (lent_cells slots shared.cells.items)
@@ -201,8 +202,8 @@ WantsBlocks wanted shared hand running =
 abbrev pub HoldsOne : Hand → Type 0
 HoldsOne hand = 0 < hand.«data».room + length hand.«data».blocks
 
--- a show has another visit to make; a drain releases no more than it may, and behind its first pick it has room for the block of
--- a record
+-- a show has another visit to make; a drain releases no more than it may, and behind its first pick it has room for
+-- the block of a record
 abbrev pub HasStepRoom : SnapshotStep → Hand → Type 0
 HasStepRoom (on.Show snapshot showing) hand = is_over (showing_of showing) ≡ false
 HasStepRoom (on.Pick draining) hand = (draining.released + draining.left < DRAIN) × (0 < draining.released → HoldsOne hand)

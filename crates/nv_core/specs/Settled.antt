@@ -10,7 +10,8 @@ use Rattle.nv_machine.specs.World.{Shared, cell_at}
 use Rattle.nv_reader.specs.Cells.{NoneOut}
 use Rattle.nv_core.specs.Visits.{HasOwnBytes}
 
--- a noted tail is one of the log's, and each page of the settled log has its block, the only one of its number in the cell
+-- a noted tail is one of the log's, and each page of the settled log has its block, the only one of
+-- its number in the cell
 pub record CanSettle (s : Shared) (ino : ℕ) : Type 0 where
   pub tail : settled_tail s.book.journals ino (cell_at s ino).chain.tail ≤ (cell_at s ino).chain.tail
   pub own : HasOwnBytes s ino

@@ -47,8 +47,8 @@ use Rattle.nv_core.specs.declared.next.SnapshotStep.TheVariants as on
 use Rattle.nv_core.specs.declared.running.Running.{Running}
 use Rattle.nv_core.specs.declared.shared.Shared.{Shared}
 
--- before its check a call holds all cells that it reads, none of which has entries past its tail, and has nothing in its hand but
--- the number of a new inode, whose slot is empty
+-- before its check a call holds all cells that it reads, none of which has entries past its tail, and has nothing in
+-- its hand but the number of a new inode, whose slot is empty
 pub record CanBeChecked (shared : Shared) (hand : Hand) (running : Running) : Type 0 where
   pub still : AreStill shared (slots_in running.slots)
   pub empty : blocks_of hand ≡ []

@@ -129,8 +129,8 @@ starting c = record { call = c; plan = []; commit = 0; epoch = 0 }
 
 -- ---- commits on their way
 
--- of the plans that are appended some are published, and of these some retired; the journal is open from the first publish of
--- two or more inodes to the last
+-- of the plans that are appended some are published, and of these some retired; the journal is open from the first
+-- publish of two or more inodes to the last
 pub record IsOnItsWay (commit : CommitValue) : Type 0 where
   pub appended : commit.appended ≤ length commit.plans
   pub published : commit.published ≤ length commit.plans

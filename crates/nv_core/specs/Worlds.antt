@@ -67,7 +67,8 @@ reply_of reply.Waits = machine.Waiting
 reply_of (reply.Done answer) = machine.Done answer
 reply_of (reply.Refused fault) = machine.Refused fault
 
--- an event is replied to as the machine replies, where its memory was granted or refused, and leads to what shows its world
+-- an event is replied to as the machine replies, where its memory was granted or refused, and leads to
+-- what shows its world
 pub record IsStep (m : machine.World) (e : Event) (reply : Reply) (after : WorldState) : Type 0 where
   pub granted : Bool
   pub reply_is : reply_of reply ≡ (machine_step.step m (event_of e granted)).reply
@@ -87,8 +88,8 @@ pub record IsRun (m : machine.World) (events : List Event) (replies : List Reply
 
 -- ---- the invariant
 
--- a world shows the machine's after these events from a new one, so that the machine's laws hold of it; and there is room
--- for what its calls are about to do
+-- a world shows the machine's after these events from a new one, so that the machine's laws hold of it; and there is
+-- room for what its calls are about to do
 pub record IsWorldAfter (w : WorldState) (m : machine.World) (events : List machine.Event) : Type 0 where
   pub limits : IsWithinLimits w.shared.geometry.numbers
   pub reached : m ≡ machine_step.after (formatted w.shared.geometry.numbers) events

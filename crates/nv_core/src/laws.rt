@@ -8,12 +8,12 @@ ghost use Rattle.nv_machine.specs.World as machine;
 
 use crate::World;
 
-/// Whatever events come from a new world on, each inode's counts, the records that living snapshots hold, each free list and the
-/// pool of inode numbers are what one scan of all logs and of the snapshots gives, with what hands have and what is deferred named
-/// apart: an idle actor has nothing, and deferred are the records that no living snapshot holds. The settled logs give the nodes
-/// and the tree of the plain world, in which each call makes its change at its commit point; and each living snapshot reads as the
-/// tree that stood when it was made. An inode's index and names are at all times those of one scan of its log
-/// ([`nv_cell::InodeCell`]).
+/// Whatever events come from a new world on, each inode's counts, the records that living snapshots hold, each free
+/// list and the pool of inode numbers are what one scan of all logs and of the snapshots gives, with what hands have
+/// and what is deferred named apart: an idle actor has nothing, and deferred are the records that no living snapshot
+/// holds. The settled logs give the nodes and the tree of the plain world, in which each call makes its change at its
+/// commit point; and each living snapshot reads as the tree that stood when it was made. An inode's index and names are
+/// at all times those of one scan of its log ([`nv_cell::InodeCell`]).
 pub fn worlds_are_consistent()
     ensures { (g : GeometryNumbers) (events : List machine.Event) → IsWithinLimits g
         → IsConsistentAfter g events }

@@ -32,9 +32,9 @@ pub(crate) struct Draining {
     pub(crate) left: u64,
 }
 
-/// The step of a call on snapshots. It makes one, or drops one; it pins one, shows its nodes inode by inode, and unpins
-/// it, with what it has seen; or it picks a deferred record, locks its inode and releases it. A snapshot is given by its
-/// number.
+/// The step of a call on snapshots. It makes one, or drops one; it pins one, shows its nodes inode by inode, and
+/// unpins it, with what it has seen; or it picks a deferred record, locks its inode and releases it. A snapshot is
+/// given by its number.
 #[derive(Drop)]
 pub(crate) enum SnapshotStep {
     Make,
@@ -47,8 +47,8 @@ pub(crate) enum SnapshotStep {
     Release(Draining, Record),
 }
 
-/// How a call is to end: with its answer, refused, or not yet, since a name was bound anew after the looks; a drain goes on
-/// to the next record, as long as it may release more.
+/// How a call is to end: with its answer, refused, or not yet, since a name was bound anew after the looks; a drain
+/// goes on to the next record, as long as it may release more.
 #[derive(Clone, Copy, Debug, PartialEq, Eq)]
 pub(crate) enum Ending {
     Answers,

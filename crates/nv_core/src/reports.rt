@@ -55,8 +55,8 @@ pub struct LogCounts {
 }
 
 impl World {
-    /// Where the blocks are: no block is lost, and none is counted twice. Takes no memory, and time by all slots, by the parts
-    /// of all logs, and by the runs of deferred records.
+    /// Where the blocks are: no block is lost, and none is counted twice. Takes no memory, and time by all slots, by
+    /// the parts of all logs, and by the runs of deferred records.
     pub fn space(&self) -> Space
         ensures places { (m : machine.World) → Shows self.now m → result ≡ space_of m }
         ensures all { result.free + result.chain + result.data + result.pending + result.hand

@@ -43,7 +43,8 @@ LeadsAt nodes dir place bound =
     let names = names_under nodes dir in
     (place < length names) × (slice_index_or names place bound ≡ bound) × IsSome (nodes bound.to)
 
--- the directories form a tree below the root, with so many inodes at most: no name leads to the root, and no two names lead to one inode
+-- the directories form a tree below the root, with so many inodes at most: no name leads to the root, and no two
+-- names lead to one inode
 pub record FormTree (nodes : Handle → Option NodeCopy) (inodes : ℕ) : Type 0 where
   pub numbered : (handle : Handle) → IsSome (nodes handle) → handle.ino < inodes
   pub root_unnamed : (dir : Handle) (place : ℕ) (bound : BoundName) → LeadsAt nodes dir place bound → root.ino < bound.to.ino

@@ -24,7 +24,8 @@ pins_at (t ∷ ts) s = if t.number == s then Some t.pins else pins_at ts s
 abbrev pub pins_of : Snapshots → ℕ → Option ℕ
 pins_of list s = pins_at list.living s
 
--- numbers rise and lie below the epoch, pins and snapshots are no more than allowed, epochs are 1 to the greatest number
+-- numbers rise and lie below the epoch, pins and snapshots are no more than allowed, epochs are 1
+-- to the greatest number
 pub record IsSound (list : Snapshots) : Type 0 where
   pub rising : IsRising (ids list)
   pub below_epoch : All (λ s. s < list.epoch) (ids list)

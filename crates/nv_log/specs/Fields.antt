@@ -10,7 +10,8 @@ state_in c = record { page = c.page; blocks = c.blocks.items; ends = c.ends.item
 abbrev pub value_in : Inside → ChainValue
 value_in c = record { state = state_in c; spare = c.reserved - vec_len c.blocks }
 
--- the fields are a chain's, with a run of commits at its end, and there is room for as many pages as are reserved, with their ends and their entries
+-- the fields are a chain's, with a run of commits at its end, and there is room for as many pages as are reserved, with
+-- their ends and their entries
 pub record AreFields (c : Inside) : Type 0 where
   pub chain : IsChain (state_in c)
   pub run : IsCommitRun c.entries.items c.run

@@ -1,4 +1,5 @@
--- What a call holds before its check: the slots of its handles and of the number in its hand, with nothing past their tails.
+-- What a call holds before its check: the slots of its handles and of the number in its hand, with
+-- nothing past their tails.
 use Rattle.std.proofs.Common.{◌≡◌, ℕ, ◌<◌, ◌==◌, ◌++◌, ◌∙◌, Bool, true, false, List, [], ◌∷◌, Option, Some, None, ap, arith, length, refl, subst, sym}
 use Rattle.std.specs.List.{AllByRecursion}
 use Rattle.std.proofs.lemmas.Bool.{false≢true}
@@ -131,7 +132,8 @@ module _ (g : GeometryNumbers) (w : World) (actor : ℕ) (r : Running) (runs : (
   own_tails is ino there = held_tails w actor r is runs (ap commits_at next) ino
       (ap (λ (k : Next). has (held_at k r.slots) ino) next ∙ there)
 
-  -- where the check does not end it, it holds a slot: a call whose handles are all out of range has none, and is refused
+  -- where the check does not end it, it holds a slot: a call whose handles are all out of range has
+  -- none, and is refused
   pub some_slots : ArePooled g w → (block : ℕ) → ending_at block w.shared hand r ≡ None → 0 < length r.slots
   some_slots pooled block e =
       let s = w.shared in

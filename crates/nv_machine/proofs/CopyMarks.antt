@@ -1,4 +1,5 @@
--- What marks tell of an earlier epoch's log: the parts that it has and has not covered are there, and none of them goes out next.
+-- What marks tell of an earlier epoch's log: the parts that it has and has not covered are there, and none
+-- of them goes out next.
 use Rattle.std.proofs.Common.{◌≡◌, ℕ, zero, suc, ◌+◌, ◌<◌, ◌≤◌, ◌++◌, ◌∙◌, ◌⊎◌, ap₂, true, false, List, [], ◌∷◌, drop, inl, inr, length, Option, Some, None, IsSome, ap, arith, refl, subst, sym, take}
 use Rattle.std.specs.List.{AllByRecursion, Contains, flat_map}
 use Rattle.std.specs.Option.{option_map}

@@ -33,8 +33,8 @@ use Rattle.nv_machine.proofs.SnapsAlike.{AreBefore}
 
 -- ---- what is known of a world
 
--- what the marks of its cells tell: the parts that a living snapshot's logs have and have not covered are there, and none of them
--- goes out next
+-- what the marks of its cells tell: the parts that a living snapshot's logs have and have not covered are there, and
+-- none of them goes out next
 pub record HaveMarks (w : World) : Type 0 where
   pub held : (epoch ino : ℕ) → Contains (ids w.shared.book.snaps) epoch → IsHeldAt epoch (cell_at w.shared ino)
   pub goes : (epoch actor : ℕ) (r : Running) → Contains (ids w.shared.book.snaps) epoch → (actor_at w actor).running ≡ Some r

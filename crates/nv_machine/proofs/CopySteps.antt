@@ -1,5 +1,5 @@
--- What becomes of the copies at the end of an earlier epoch at every kind of step: each cell keeps its own, or had none and is
--- emptied.
+-- What becomes of the copies at the end of an earlier epoch at every kind of step: each cell keeps its own, or had
+-- none and is emptied.
 use Rattle.std.proofs.Common.{◌≡◌, ◌⊎◌, ℕ, ◌+◌, ◌<◌, ◌++◌, ◌∙◌, Bool, true, false, List, [], ◌∷◌, if◌then◌else◌, inl, inr, length, Option, Some, None, ap, refl, set, subst, sym, take}
 use Rattle.std.specs.List.{Contains}
 use Rattle.std.specs.Prelude.{slice_index_or}
@@ -147,8 +147,8 @@ append_continues epoch entries bs pages cell later =
 
 -- ---- every kind
 
--- what is ready to go out: the killed parts of a retire are of its cell; and the part of a release is not one that the epoch's log
--- has and has not covered
+-- what is ready to go out: the killed parts of a retire are of its cell; and the part of a release is not one that the
+-- epoch's log has and has not covered
 abbrev pub GoesOut : ℕ → Next → Shared → HandState → Running → Type 0
 GoesOut epoch (Retire place) s h r = AreParts (cell_at s (slot_at (written_slots r) place)) (first_killed h.killed)
 GoesOut epoch (Snapshots (Release draining picked)) s h r =

@@ -232,7 +232,8 @@ release_times n picked s h inside none =
 
 -- ---- every kind
 
--- what a kind needs to know: the cell that it is lent is there, and where it erases one no block is left in a part of it
+-- what a kind needs to know: the cell that it is lent is there, and where it erases one no block is
+-- left in a part of it
 abbrev pub CanCount : Next → Shared → HandState → Running → Type 0
 CanCount (Append place) s h r = slot_at (written_slots r) place < length s.cells
 CanCount (Publish place) s h r = slot_at (written_slots r) place < length s.cells

@@ -1,4 +1,5 @@
--- Directories stay a tree where a name leaves with its node, a node begins under a new name, and a node moves to another name.
+-- Directories stay a tree where a name leaves with its node, a node begins under a new name, and a node
+-- moves to another name.
 use Rattle.std.proofs.Common.{◌≡◌, ◌≢◌, ◌⊎◌, inl, inr, ℕ, zero, suc, ap₂, Bool, true, false, cond, not, if◌then◌else◌, List, [], ◌∷◌, ◌++◌, filter, Option, Some, None, IsSome, arith, refl, ap, sym, subst, ◌∙◌}
 use Rattle.std.specs.List.{Contains}
 use Rattle.nv_base.specs.Names.{same_name}

@@ -1,4 +1,5 @@
--- Whatever events come but drops, what is deferred, and picked and not yet answered for, falls by what drains are answered.
+-- Whatever events come but drops, what is deferred, and picked and not yet answered for, falls by what
+-- drains are answered.
 use Rattle.std.proofs.Common.{◌≡◌, ◌≢◌, ℕ, suc, ◌+◌, ◌<◌, ◌≤◌, ◌==◌, ◌++◌, ◌∙◌, Bool, true, false, List, [], ◌∷◌, length, nat_lt, Option, Some, None, ap, arith, get_or-set_other, refl, set, slice_index_or, sym}
 use Rattle.std.specs.List.{sum_by}
 use Rattle.std.proofs.lemmas.Bool.{eqb-false, eqb-true, ltb-true, true≢false}

@@ -48,7 +48,8 @@ abbrev pub drops_at : Next → Bool
 drops_at (Snapshots step) = drops_on step
 drops_at other = false
 
--- a step of a call, where so many records were deferred or owed to it before the step: no more are, with what it is answered
+-- a step of a call, where so many records were deferred or owed to it before the step: no more are,
+-- with what it is answered
 abbrev pub OnDeferred : ℕ → Call → Turn → Type 0
 OnDeferred most c (Moves t h q) = (length t.book.deferred + owed_at q.next q.ending ≤ most) × (drops_at q.next ≡ false)
 OnDeferred most c Waits = Unit {0}

@@ -1,4 +1,5 @@
--- What holds of each element of a list: of lists one behind another, of those that pass a test, and of what follows from it.
+-- What holds of each element of a list: of lists one behind another, of those that pass a test, and of
+-- what follows from it.
 use Rattle.std.proofs.Common.{◌++◌, Bool, true, false, cond, List, [], ◌∷◌, filter}
 use Rattle.std.specs.List.{AllByRecursion}
 

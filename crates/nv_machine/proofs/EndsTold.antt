@@ -1,4 +1,5 @@
--- What has been decided of a call follows from its next step: nothing before its commit point, and from there on its answer.
+-- What has been decided of a call follows from its next step: nothing before its commit point, and from
+-- there on its answer.
 use Rattle.std.proofs.Common.{◌≡◌, ◌+◌, ◌<◌, ◌∙◌, ◌∷◌, ℕ, zero, suc, Bool, true, false, List, [], Option, Some, None, ap, arith, if◌then◌else◌, length, nat_lt, refl, sym, subst}
 use Rattle.std.specs.Prelude.{Result, Ok, Err}
 use Rattle.std.proofs.lemmas.Bool.{lt-ltb, ltb-false, ltb-true, false≢true}

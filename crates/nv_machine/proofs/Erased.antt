@@ -1,4 +1,5 @@
--- A cell whose inode is gone, once its killed parts are retired: nothing is there of it, and all blocks are in the hand.
+-- A cell whose inode is gone, once its killed parts are retired: nothing is there of it, and all
+-- blocks are in the hand.
 use Rattle.std.proofs.Common.{◌≡◌, ℕ, zero, suc, ◌+◌, ◌<◌, ◌≤◌, ◌==◌, ◌&&◌, ◌||◌, ◌++◌, ◌∙◌, Bool, true, false, List, [], ◌∷◌, Option, Some, None, ap, arith, flat_map, if◌then◌else◌, length, not, refl, slice_index_or}
 use Rattle.std.specs.List.{list_any}
 use Rattle.std.proofs.lemmas.Bool.{false≢true}
@@ -85,7 +86,8 @@ block_times (o ∷ slots) zero b e =
 block_times (o ∷ slots) (suc n) b e =
     omega (arith, block_times slots n b e, times-append b.number (of_part o) (flat_map of_part slots))
 
--- every block of a part that a cell has is among the blocks that are set free, where the cell that is left has the same chain and none
+-- every block of a part that a cell has is among the blocks that are set free, where the cell that is left has
+-- the same chain and none
 pub all_freed : (old new : CellState) (free : List BlockValue) → new.chain ≡ old.chain
     → ((k : ℕ) → times k (stored_in new) + times k (numbers_of free) ≡ times k (stored_in old))
     → ((n : ℕ) → slice_index_or new.blocks n None ≡ None) → (n : ℕ) (b : BlockValue) → slice_index_or old.blocks n None ≡ Some b

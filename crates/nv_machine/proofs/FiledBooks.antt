@@ -1,5 +1,5 @@
--- What holds of the snapshots, the manifests and the deferred list beside the record list, and that what a retire, a making, a drop,
--- a pin and a pick leave has it too.
+-- What holds of the snapshots, the manifests and the deferred list beside the record list, and that what a retire, a
+-- making, a drop, a pin and a pick leave has it too.
 use Rattle.std.proofs.Common.{◌≡◌, ℕ, ◌+◌, ◌-◌, ◌<◌, ◌≤◌, ◌==◌, ◌++◌, Bool, true, false, cond, not, List, [], ◌∷◌, ap, arith, drop, filter, refl, subst, sym}
 use Rattle.std.specs.Prelude.{is_none}
 use Rattle.std.specs.List.{All, AllByRecursion, Contains}
@@ -22,8 +22,8 @@ use Rattle.nv_machine.proofs.FiledDrops.{makes, removes}
 use Rattle.nv_machine.proofs.EachOf.{all_append}
 use Rattle.nv_machine.proofs.FiledLists.{all_first, all_moved}
 
--- the living snapshots rise and are below the epoch; the manifests and the deferred list are told by the list; and what is on it
--- died by now
+-- the living snapshots rise and are below the epoch; the manifests and the deferred list are told by the list; and what
+-- is on it died by now
 pub record IsListed (snaps : Snapshots) (manifests : List Manifest) (deferred rs : List Record) : Type 0 where
   pub rising : IsRising (ids snaps)
   pub below : All (λ s. s < snaps.epoch) (ids snaps)

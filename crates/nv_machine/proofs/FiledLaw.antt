@@ -1,4 +1,5 @@
--- Whatever events come, marks say of every slot what is killed, recorded and out; so each part that is kept has one record.
+-- Whatever events come, marks say of every slot what is killed, recorded and out; so each part that is
+-- kept has one record.
 use Rattle.std.proofs.Common.{◌≡◌, ℕ, zero, suc, ◌-◌, ◌<◌, ◌≤◌, ◌++◌, ◌∙◌, Bool, true, false, List, [], ◌∷◌, Option, Some, None, ap, arith, flat_map, if◌then◌else◌, length, nat_lt, refl, replicate, subst, sym}
 use Rattle.std.specs.Prelude.{not, slice_index_or}
 use Rattle.std.specs.List.{AllByRecursion}

@@ -1,5 +1,5 @@
--- The record list as a list: how its records are counted, what the manifests and the deferred list have of it, and what a retire, a
--- drop and a pick leave of it.
+-- The record list as a list: how its records are counted, what the manifests and the deferred list have of it, and what
+-- a retire, a drop and a pick leave of it.
 use Rattle.std.proofs.Common.{◌≡◌, ℕ, zero, suc, ◌+◌, ◌<◌, ◌==◌, ◌++◌, ◌∙◌, Bool, true, false, cond, not, List, [], ◌∷◌, Option, Some, None, ap, arith, filter, length, length-append, if◌then◌else◌, map, refl}
 use Rattle.std.specs.Prelude.{is_none}
 use Rattle.std.specs.List.{All, AllByRecursion, Contains}

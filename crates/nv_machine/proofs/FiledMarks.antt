@@ -1,5 +1,5 @@
--- What marks say of the parts of a log: which are killed and not yet retired, which are recorded, and which are out; and that a
--- publish, a retire, a release and an erasing leave it so.
+-- What marks say of the parts of a log: which are killed and not yet retired, which are recorded, and which are out;
+-- and that a publish, a retire, a release and an erasing leave it so.
 use Rattle.std.proofs.Common.{◌≡◌, ℕ, zero, suc, ◌+◌, ◌-◌, ◌<◌, ◌≤◌, ◌==◌, ◌&&◌, ◌++◌, ◌∙◌, Bool, true, false, cond, not, List, [], ◌∷◌, Option, Some, None, ap, arith, get_or-set_other, get_or-set_same, inl, inr, length, length-set, refl, set, slice_get, sym}
 use Rattle.std.specs.List.{AllByRecursion, Contains}
 use Rattle.std.proofs.lemmas.Bool.{cases_lt, eqb-false, eqb-true, false≢true}
@@ -45,8 +45,8 @@ IsDying epoch block log k = HasPair block log k.part k.birth epoch
 abbrev pub IsTold : ℕ → ℕ → List Entry → Record → Type 0
 IsTold ino block log d = d.ino ≡ ino → HasPair block log (name_of d) d.birth d.death
 
--- a part is current exactly where no later entry covers it; it is marked killed exactly where it is killed, and kept exactly where it
--- is recorded, and each such part is so once; and where it is out no living snapshot holds it
+-- a part is current exactly where no later entry covers it; it is marked killed exactly where it is killed, and kept
+-- exactly where it is recorded, and each such part is so once; and where it is out no living snapshot holds it
 pub record AreMarks (living : List ℕ) (ino epoch : ℕ) (killed : List KilledPart) (records : List Record) (block : ℕ) (log : List Entry)
     (marks : List Mark) : Type 0 where
   pub len : length marks ≡ part_total log

@@ -1,5 +1,5 @@
--- The marks of every slot of a world, beside the killed parts in all hands, the record list and what drains have picked; and that
--- steps which leave cells and snapshots keep them so.
+-- The marks of every slot of a world, beside the killed parts in all hands, the record list and what drains have
+-- picked; and that steps which leave cells and snapshots keep them so.
 use Rattle.std.proofs.Common.{◌≡◌, ◌≢◌, ℕ, ◌<◌, ◌≤◌, ◌==◌, ◌++◌, ◌∙◌, Bool, true, false, List, [], Option, Some, None, ap, flat_map, get_or-set_other, get_or-set_same, arith, length, length-set, refl, set, subst, sym}
 use Rattle.std.specs.List.{AllByRecursion}
 use Rattle.std.proofs.lemmas.Bool.{eqb-true, true≢false}
@@ -21,8 +21,8 @@ use Rattle.nv_machine.proofs.PartsFor.{alone, none_of, same_of}
 abbrev pub picked_in : World → List Record
 picked_in w = flat_map picked_by_actor w.actors
 
--- what marks say of each slot; what stands past a tail is of the book's epoch; and what is picked has died by now, and no living
--- snapshot holds it
+-- what marks say of each slot; what stands past a tail is of the book's epoch; and what is picked has died by now, and
+-- no living snapshot holds it
 pub record AreMarked (w : World) (rs : List Record) : Type 0 where
   pub cells : (ino : ℕ) → MarksOf (ids w.shared.book.snaps) ino w.shared.book.snaps.epoch (killed_in w ino) (rs ++ picked_in w)
       (cell_at w.shared ino)

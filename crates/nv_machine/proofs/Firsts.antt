@@ -1,5 +1,5 @@
--- Which steps go on to which: those before a check, and the last ones, to their like; those of a commit to no taking, nor past
--- both; and a check to a taking's first list.
+-- Which steps go on to which: those before a check, and the last ones, to their like; those of a commit to no taking,
+-- nor past both; and a check to a taking's first list.
 use Rattle.std.proofs.Common.{◌≡◌, ℕ, zero, suc, ◌+◌, ◌==◌, Bool, true, false, List, [], ◌∷◌, Option, Some, None, if◌then◌else◌, length, nat_lt, refl}
 use Rattle.std.specs.Prelude.{Ok, Err}
 use Rattle.nv_calls.specs.Refusals.{Check as Tests}

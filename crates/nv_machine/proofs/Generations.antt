@@ -1,5 +1,5 @@
--- A slot that has an inode is not of the last generation, and neither is one that a call writes: a number that is withheld is in no
--- hand, and a slot has no inode until it is written by the call that has its number.
+-- A slot that has an inode is not of the last generation, and neither is one that a call writes: a number that is
+-- withheld is in no hand, and a slot has no inode until it is written by the call that has its number.
 use Rattle.std.proofs.Common.{◌≡◌, inl, inr, ℕ, zero, suc, ◌-◌, ◌<◌, ◌≤◌, ◌∙◌, Bool, true, false, List, [], ◌∷◌, Option, Some, None, ap, arith, if◌then◌else◌, length, nat_lt, refl, replicate, subst, sym, take}
 use Rattle.std.specs.Prelude.{slice_index_or}
 use Rattle.std.specs.List.{flat_map}

@@ -1,4 +1,5 @@
--- The slots whose inodes are gone are those that a commit has published and not yet retired: every kind of step keeps that.
+-- The slots whose inodes are gone are those that a commit has published and not yet retired: every
+-- kind of step keeps that.
 use Rattle.std.proofs.Common.{◌≡◌, ◌≢◌, ℕ, ◌+◌, ◌<◌, ◌≤◌, ◌==◌, ◌∙◌, Bool, true, false, List, [], ◌∷◌, Option, Some, None, ap, arith, drop, if◌then◌else◌, length, refl, subst, sym, take}
 use Rattle.std.specs.Prelude.{◌||◌}
 use Rattle.std.proofs.lemmas.Bool.{eqb-true, false≢true, true≢false}

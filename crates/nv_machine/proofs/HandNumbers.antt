@@ -1,5 +1,5 @@
--- The blocks of hands and cells are of the device, those of a hand in no list; and the number in it is that of a slot and not in the
--- pool.
+-- The blocks of hands and cells are of the device, those of a hand in no list; and the number in it is that of a slot
+-- and not in the pool.
 use Rattle.std.proofs.Common.{◌≡◌, ℕ, ◌+◌, ◌<◌, ◌≤◌, false, Some, None, arith, inl, inr, refl, slice_index_or}
 use Rattle.std.specs.List.{AllByRecursion, flat_map}
 use Rattle.std.proofs.lemmas.Bool.{cases_lt}

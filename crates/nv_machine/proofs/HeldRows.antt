@@ -22,7 +22,8 @@ first_steps =
 abbrev at : ℕ → World
 at steps = (line (played (formatted device) first_steps) (Goes 0 steps)).world
 
--- block 3 is past the tail, then both blocks are in use, the older one killed; then it is in the hand, and at the end free
+-- block 3 is past the tail, then both blocks are in use, the older one killed; then it is in the
+-- hand, and at the end free
 appended : free_by_logs device (at 6) 0 ≡ 4 ∷ 5 ∷ 6 ∷ 7 ∷ []
 appended = refl
 

@@ -1,4 +1,5 @@
--- What each kind makes of what is shared and of the hand, where it does its work; and that a turn keeps what this keeps.
+-- What each kind makes of what is shared and of the hand, where it does its work; and that a turn
+-- keeps what this keeps.
 use Rattle.std.proofs.Common.{ℕ, zero, suc, ◌++◌, Bool, true, false, List, [], ◌∷◌, Option, Some, None, drop, length, take}
 use Rattle.std.specs.Prelude.{◌%◌, Ok, Err}
 use Rattle.nv_alloc.specs.Numbers.{put_by}

@@ -1,4 +1,5 @@
--- The killed parts of a slot, among lists that belong to slots one by one; and what all actors have, where one has something else.
+-- The killed parts of a slot, among lists that belong to slots one by one; and what all actors have, where
+-- one has something else.
 use Rattle.std.proofs.Common.{◌≡◌, ◌≢◌, ℕ, zero, suc, ◌+◌, ◌<◌, ◌≤◌, ◌==◌, ◌++◌, ◌∙◌, Bool, true, false, List, [], ◌∷◌, add-one, ap, append-nil, arith, drop, drop-cons, flat_map, if◌then◌else◌, length, nat_lt, refl, set, sym, take}
 use Rattle.std.specs.Prelude.{◌||◌, slice_index_or}
 use Rattle.std.specs.List.{AllByRecursion}

@@ -25,7 +25,8 @@ use Rattle.nv_machine.proofs.Sequels.{appending_on, is_on_files, locking_on, loo
 abbrev pub one_if : Bool → ℕ
 one_if b = cond b 1 0
 
--- so many shows there were and are, where an actor's call is one or not, before a step and after it: the pins are as many
+-- so many shows there were and are, where an actor's call is one or not, before a step and after it:
+-- the pins are as many
 abbrev pub Fits : ℕ → Bool → Bool → Living → Living → Type 0
 Fits snapshot before now old new =
     (shows after : ℕ) → after + one_if before ≡ shows + one_if now → ArePins shows (pins_of old snapshot)

@@ -1,4 +1,5 @@
--- The law of erasing, of the release step: where the record that it releases was the last that kept a gone inode, this is erased whole.
+-- The law of erasing, of the release step: where the record that it releases was the last that kept a gone inode,
+-- this is erased whole.
 use Rattle.std.proofs.Common.{◌≡◌, ◌≢◌, ℕ, ◌<◌, ◌==◌, ◌||◌, ◌++◌, ◌∙◌, Bool, true, false, List, [], ◌∷◌, Option, Some, None, ap, append-nil, arith, filter, get_or-set_same, if◌then◌else◌, inl, inr, length, map, refl, slice_get, slice_index_or, subst, sym, take}
 use Rattle.std.specs.Prelude.{suc, zero}
 use Rattle.std.specs.List.{AllByRecursion, list_any}

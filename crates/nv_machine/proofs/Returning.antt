@@ -27,7 +27,8 @@ use Rattle.nv_machine.proofs.PoolTurns.{Standing}
 
 -- ---- a turn
 
--- it leaves the number in the hand of a call that is late, or ends, or goes on to the next pick, with the number in the pool
+-- it leaves the number in the hand of a call that is late, or ends, or goes on to the next pick, with
+-- the number in the pool
 abbrev OnWay : ℕ → Turn → Type 0
 OnWay ino (Moves t h q) =
     ((is_late q.next ≡ true) × (h.ino ≡ Some ino)) ⊎ ((is_done_with (Some q) ≡ true) × (has t.pool.numbers ino ≡ true))

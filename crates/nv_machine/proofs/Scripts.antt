@@ -20,7 +20,8 @@ use Rattle.nv_machine.specs.World.{Go, Moved, Reply, Shared, Start, Started, Wor
 
 -- ---- scripts
 
--- a call is started and goes on as long as it moves; it is started; or an actor goes on so many times, or as long as it moves
+-- a call is started and goes on as long as it moves; it is started; or an actor goes on so many times,
+-- or as long as it moves
 pub data Line : Type 0 where
   DoCall : (actor : ℕ) (c : Call) → Line
   StartCall : (actor : ℕ) (c : Call) → Line

@@ -1,4 +1,5 @@
--- Whatever events come, the plain world has the epoch and the snapshots of the book, and refuses what the machine refuses.
+-- Whatever events come, the plain world has the epoch and the snapshots of the book, and refuses what
+-- the machine refuses.
 use Rattle.std.proofs.Common.{◌≡◌, ℕ, zero, suc, ◌∙◌, if◌then◌else◌, List, [], ◌∷◌, length, Option, Some, None, ap, refl}
 use Rattle.std.specs.Prelude.{nat_le, Err}
 use Rattle.nv_base.specs.Limits.{IsWithinLimits}

@@ -1,5 +1,5 @@
--- Worked rows of snapshots: born and dead in one epoch, born behind the snapshot, deferred is not free, a record moves down, and
--- refusals.
+-- Worked rows of snapshots: born and dead in one epoch, born behind the snapshot, deferred is not free, a record
+-- moves down, and refusals.
 use Rattle.std.proofs.Common.{◌≡◌, ◌++◌, ℕ, false, List, [], ◌∷◌, Some, None, map, refl}
 use Rattle.nv_base.specs.declared.fault.Fault.TheVariants as fault
 use Rattle.nv_base.specs.declared.node.Kind.{Kind}

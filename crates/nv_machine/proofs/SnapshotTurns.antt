@@ -1,4 +1,5 @@
--- What a turn of a call on snapshots comes to: it waits, ends the call, or goes on to a step of such a call or to the last steps.
+-- What a turn of a call on snapshots comes to: it waits, ends the call, or goes on to a step of such a call
+-- or to the last steps.
 use Rattle.std.proofs.Common.{◌≡◌, ◌∷◌, ◌⊎◌, ℕ, zero, suc, Bool, true, false, List, [], Option, Some, None, Result, Ok, Err, refl, inl, inr, ap}
 use Rattle.nv_base.specs.declared.fault.Fault.{Fault}
 use Rattle.nv_book.specs.declared.record.Record.{Record}

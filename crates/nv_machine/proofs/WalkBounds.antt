@@ -1,4 +1,5 @@
--- Where every name leads to a node, a walk makes as many visits as it gives out nodes; so a tree of so many inodes has no more.
+-- Where every name leads to a node, a walk makes as many visits as it gives out nodes; so a tree of so
+-- many inodes has no more.
 use Rattle.std.proofs.Common.{◌≡◌, ℕ, zero, suc, ◌+◌, ◌≤◌, List, [], ◌∷◌, length, Option, Some, None, IsSome, ap, arith, refl, subst, sym}
 use Rattle.std.specs.List.{Contains, flat_map, sum_by}
 use Rattle.std.proofs.lemmas.List.{length-append}

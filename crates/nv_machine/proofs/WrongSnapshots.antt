@@ -1,4 +1,5 @@
--- What the laws of snapshots refuse: wrong steps of a drop, a retire, a release, a write, a show and a drain, at worked rows.
+-- What the laws of snapshots refuse: wrong steps of a drop, a retire, a release, a write, a show and a
+-- drain, at worked rows.
 use Rattle.std.proofs.Common.{◌≡◌, ◌++◌, ℕ, true, List, [], ◌∷◌, Option, Some, None, ap, arith, length, refl}
 use Rattle.std.specs.Prelude.{map, replicate, slice_index_or, slice_set}
 use Rattle.nv_base.specs.declared.fault.Fault.TheVariants as fault

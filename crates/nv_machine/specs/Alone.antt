@@ -14,8 +14,8 @@ use Rattle.nv_machine.specs.World.{Event, Go}
 abbrev pub goes : ℕ → List Bool → List Event
 goes actor grants = map (Go actor) grants
 
--- a call is told what the plain world answers on these nodes, which do not refuse it, and `after` are those with its effect; `made` is
--- the handle of a new inode, and `commit` the number of the commit, if it makes one
+-- a call is told what the plain world answers on these nodes, which do not refuse it, and `after` are those with its
+-- effect; `made` is the handle of a new inode, and `commit` the number of the commit, if it makes one
 pub record IsAnsweredOn (block : ℕ) (nodes after : Handle → Option PlainNode) (c : Call) (told : Answer) : Type 0 where
   pub made : Handle
   pub commit : ℕ

@@ -54,7 +54,8 @@ rank_behind cpus other = 0
 abbrev pub bound : ℕ → Running → ℕ
 bound cpus r = rank_behind cpus r.ending + r.rounds * round cpus + rank cpus (length r.slots) r.next
 
--- the steps of a call: eight rounds, a visit for each inode that there can be, or a round for each record that it may release
+-- the steps of a call: eight rounds, a visit for each inode that there can be, or a round for each
+-- record that it may release
 abbrev pub most_steps_of : Call → ℕ → ℕ
 most_steps_of (call.Snapshots (on.Drain count)) cpus = (8 + DRAIN) * round cpus
 most_steps_of (call.Snapshots c) cpus = 8 * round cpus + INODES

@@ -56,8 +56,8 @@ IsLastRound nodes r fault = (fault ≡ Contended) × IsOvertaken nodes r × (r.s
 abbrev pub IsRoundless : Running → Fault → Type 0
 IsRoundless r fault = (fault ≡ Contended) × (r.rounds ≡ 0)
 
--- for what a step of a call on snapshots refuses it: no further epoch or no room for one more snapshot, no such snapshot, one that
--- has a pin, or memory that a show or a first pick asks for
+-- for what a step of a call on snapshots refuses it: no further epoch or no room for one more snapshot, no such
+-- snapshot, one that has a pin, or memory that a show or a first pick asks for
 abbrev pub IsCauseOn : SnapshotStep → Bool → Shared → Fault → Type 0
 IsCauseOn Make granted s fault = make_tests s.book.snaps ≡ Err fault
 IsCauseOn (Drop snapshot) granted s fault = drop_tests (pins_of s.book.snaps snapshot) ≡ Err fault
@@ -88,7 +88,8 @@ MayBeOvertaken other nodes r = ⊥
 
 -- ---- a step that refuses its call
 
--- whatever fault a call is to end with meets this, and the call has only its last steps left; and this holds where it is overtaken
+-- whatever fault a call is to end with meets this, and the call has only its last steps left; and this holds
+-- where it is overtaken
 abbrev pub EndsFor : (Fault → Type 0) → Type 0 → Next → Ending → Type 0
 EndsFor P Q next (Refuses fault) = P fault × IsEnding next
 EndsFor P Q next Answers = Unit {0}

@@ -23,8 +23,8 @@ IsReachedBy nodes (dir ∷ above) handle = LeadsTo nodes dir handle × IsReached
 abbrev pub AreApart : BoundName → BoundName → Type 0
 AreApart one other = (one.name ≢ other.name) × (one.to ≢ other.to)
 
--- each name is that of a directory and leads to a node but the root, which is a directory; no two names of a directory are
--- equal, and no two names lead to one handle
+-- each name is that of a directory and leads to a node but the root, which is a directory; no two names of a directory
+-- are equal, and no two names lead to one handle
 pub record HaveOneName (nodes : Handle → Option NodeCopy) : Type 0 where
   pub top : is_directory (kind_of (nodes root)) ≡ true
   pub unnamed : (dir : Handle) → LeadsTo nodes dir root → ⊥

@@ -41,8 +41,8 @@ abbrev pub is_on_snapshots : Call → Bool
 is_on_snapshots (call.Snapshots c) = true
 is_on_snapshots other = false
 
--- WHETHER A STEP DECIDES that its call is answered, by the nodes of the plain world: a commit point does; a check where the call has
--- nothing to do; and a visit that is answered, and that the plain world does not refuse
+-- WHETHER A STEP DECIDES that its call is answered, by the nodes of the plain world: a commit point does; a check where
+-- the call has nothing to do; and a visit that is answered, and that the plain world does not refuse
 abbrev pub decides : Next → ℕ → Shared → Running → Turn → Bool
 decides Check block s r t = has_nothing_to_do block (node_in (settled_nodes s)) r
 decides Visit block s r t = is_pass (refusal block (node_in (settled_nodes s)) r.call) && is_answered t

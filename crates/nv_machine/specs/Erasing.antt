@@ -17,7 +17,8 @@ use Rattle.nv_machine.specs.Settled.{settled}
 use Rattle.nv_machine.specs.Step.{changed}
 use Rattle.nv_machine.specs.World.{Back, Give, Leave, Next, Pick, Retire, Running, Shared, Snapshots, Unlock, World, actor_at, cell_at, empty_hand}
 
--- what keeps the pairs of a slot, but for a hand that has killed them: the living snapshots and, by name, these that are pending
+-- what keeps the pairs of a slot, but for a hand that has killed them: the living snapshots and, by name,
+-- these that are pending
 abbrev pub keepers_of : List Record → Shared → ℕ → Retention
 keepers_of pending s ino = record {
   block = (cell_at s ino).block;
@@ -25,8 +26,8 @@ keepers_of pending s ino = record {
   pending = map name_of (filter (is_of_slot ino) pending);
 }
 
--- THE INODE OF A SLOT IS GONE, AND NOTHING IS KEPT OF IT: its settled log ends with the entry that says it is gone, and no
--- pair of that log is current, held by a living snapshot or among these that are pending
+-- THE INODE OF A SLOT IS GONE, AND NOTHING IS KEPT OF IT: its settled log ends with the entry that says it is gone, and
+-- no pair of that log is current, held by a living snapshot or among these that are pending
 pub record IsOver (pending : List Record) (s : Shared) (ino : ℕ) : Type 0 where
   pub gone : is_gone (settled s ino) ≡ true
   pub kept : AllByRecursion (λ (pair : Pair). keeps (keepers_of pending s ino) pair ≡ false)
@@ -40,8 +41,8 @@ pending_but actor w = pending_in (changed w.shared empty_hand None actor w)
 abbrev pub emptied : CellState → CellState
 emptied cell = empty_cell cell.block cell.chain.page (cell.generation + 1) cell.version
 
--- ERASED WHOLE, by a step of an actor: the slot is empty, of the next generation; the actor's hand has each page of the chain, the
--- block of each part, and the number, unless the slot is now of the last generation
+-- ERASED WHOLE, by a step of an actor: the slot is empty, of the next generation; the actor's hand has each page of the
+-- chain, the block of each part, and the number, unless the slot is now of the last generation
 pub record IsErasedWhole (actor ino : ℕ) (w t : World) : Type 0 where
   pub slot : cell_at t.shared ino ≡ emptied (cell_at w.shared ino)
   pub chain : (actor_at t actor).hand.chain ≡ (actor_at w actor).hand.chain ++ (cell_at w.shared ino).chain.blocks

@@ -7,8 +7,8 @@ use Rattle.nv_machine.specs.Sequence.{beginning, begun}
 use Rattle.nv_machine.specs.Step.{Step, turn, turned}
 use Rattle.nv_machine.specs.World.{Append, Back, Check, Close, Ends, Enter, Give, Leave, Lock, LockPicked, Look, Moves, Next, Number, Open, Publish, Ready, Release, Retire, Running, Shared, Show, SnapshotStep, Snapshots, Started, TakeBlocks, TakePages, Turn, Unlock, Visit, Waits, World, actor_at, cell_at, list_at, owner_at}
 
--- the parts that a step may change: the free list of a CPU, the pool, the cell of a slot, the lock of a slot, the book, and
--- the commit lock
+-- the parts that a step may change: the free list of a CPU, the pool, the cell of a slot, the lock of a slot, the
+-- book, and the commit lock
 pub record Lent : Type 0 where
   pub list : Option ℕ
   pub pool : Bool
@@ -80,8 +80,8 @@ pub record LeavesOthers (actor : ℕ) (w v : World) : Type 0 where
   pub count : length v.actors ≡ length w.actors
   pub numbers : v.numbers ≡ w.numbers
 
--- ONE STEP: what an actor's Go comes to is the turn of the step that comes next in its call, which changes its actor and the
--- parts that it is lent, and nothing else
+-- ONE STEP: what an actor's Go comes to is the turn of the step that comes next in its call, which changes its actor
+-- and the parts that it is lent, and nothing else
 pub record IsOneStep (w : World) (actor : ℕ) (granted : Bool) (r : Running) (made : Step) : Type 0 where
   pub is_turn : made ≡ turned (turn w.numbers.block actor granted w.shared (actor_at w actor).hand r) actor w
   pub frame : Frame (lent r.next (length w.shared.lists) actor r) w.shared made.world.shared

@@ -1,4 +1,5 @@
--- The free lists by the logs: which blocks are used, said by logs, chains and hands, and not by the blocks that cells have.
+-- The free lists by the logs: which blocks are used, said by logs, chains and hands, and not by the
+-- blocks that cells have.
 use Rattle.std.specs.Prelude.{ℕ, ◌+◌, ◌-◌, ◌==◌, Bool, true, if◌then◌else◌, List, [], ◌∷◌, ◌++◌, drop, filter, length, map, take, Option, Some, None, option_to_list, slice_get}
 use Rattle.std.specs.List.{flat_map, range_with_len}
 use Rattle.nv_alloc.specs.Block.{numbers_of}
@@ -88,7 +89,8 @@ abbrev pub in_use_by : Retention → Option Pair → Bool
 in_use_by r None = true
 in_use_by r (Some pair) = keeps r pair
 
--- a part is in use whose pair is; and so are all parts of entries past the tail, which the commit under way has appended
+-- a part is in use whose pair is; and so are all parts of entries past the tail, which the commit
+-- under way has appended
 abbrev pub is_in_use : Retention → CellState → ℕ → Bool
 is_in_use r cell n = in_use_by r (slice_get (pairs cell.block (log_of cell)) n)
 

@@ -1,4 +1,5 @@
--- What each world keeps of settled logs: their pages have blocks, and journals note tails of the commit under way alone.
+-- What each world keeps of settled logs: their pages have blocks, and journals note tails of the
+-- commit under way alone.
 use Rattle.std.specs.Prelude.{◌≡◌, ℕ, ◌+◌, ◌/◌, ◌%◌, ◌^◌, ◌<◌, ◌≤◌, ◌⊎◌, Bool, true, false, nat_lt, List, [], ◌∷◌, drop, length, take, Option, Some, None, slice_index_or, slice_set}
 use Rattle.std.specs.List.{AllByRecursion}
 use Rattle.std.specs.Option.{option_map}
@@ -44,8 +45,8 @@ abbrev pub IsReleaseCoveredBy : Shared → Option Running → Type 0
 IsReleaseCoveredBy s None = Unit {0}
 IsReleaseCoveredBy s (Some r) = IsReleaseCovered s r.next
 
--- what is known of the numbers of blocks: those of a cell differ, those in hands are numbers of blocks, and the hand of an
--- actor without a call is empty; and drains release what is covered
+-- what is known of the numbers of blocks: those of a cell differ, those in hands are numbers of blocks, and the hand of
+-- an actor without a call is empty; and drains release what is covered
 pub record AreBlocksApart (w : World) : Type 0 where
   pub cells : (ino : ℕ) → AreApart (cell_at w.shared ino).blocks
   pub small : (actor : ℕ) → AllByRecursion (λ (b : BlockValue). b.number < 2 ^ 32) (actor_at w actor).hand.blocks
@@ -58,7 +59,8 @@ pub record AreBlocksApart (w : World) : Type 0 where
 abbrev pub AreClosed : List (List OldTail) → Type 0
 AreClosed journals = AllByRecursion (λ (tails : List OldTail). tails ≡ []) journals
 
--- the journal of one CPU notes a tail for each of these slots and no other, none past a log's own; no other journal notes anything
+-- the journal of one CPU notes a tail for each of these slots and no other, none past a log's own; no other
+-- journal notes anything
 pub record HasNoted (s : Shared) (cpu : ℕ) (written : List ℕ) : Type 0 where
   pub alone : AreClosed (slice_set s.book.journals cpu [])
   pub noted : (ino tail other : ℕ) → has written ino ≡ true

@@ -53,8 +53,8 @@ last_turn (Refuses fault) s h r = Ends (Err fault) s h
 last_turn Overtaken s h r = Ends (Err Contended) s h
 last_turn (Drains draining) s h r = drained_turn draining.left draining.released s h r
 
--- nothing is locked: blocks go home, CPU by CPU, and then a number goes back; where nothing is left, the step replies, or a drain
--- goes on
+-- nothing is locked: blocks go home, CPU by CPU, and then a number goes back; where nothing is left, the step
+-- replies, or a drain goes on
 abbrev pub rest_turn : Option ℕ → Option ℕ → Shared → HandState → Running → Turn
 rest_turn (Some cpu) number s h r = Moves s h (go_to (Give cpu) r)
 rest_turn None (Some ino) s h r = Moves s h (go_to Back r)
@@ -121,8 +121,8 @@ lock_turn None actor place s h r = go_on (Lock place) (with_owner (slot_at r.slo
 
 -- ---- check
 
--- whether a check ends the call, and how: by the tests before the names are compared with what the looks found; by a name
--- that was bound anew; by the other tests; for want of a number; or since there is nothing to commit
+-- whether a check ends the call, and how: by the tests before the names are compared with what the looks found; by a
+-- name that was bound anew; by the other tests; for want of a number; or since there is nothing to commit
 abbrev pub check_ending : Tests → Bool → Tests → Bool → List Change → Option Ending
 check_ending (Err fault) same tests numbered effect = Some (Refuses fault)
 check_ending (Ok passed) false tests numbered effect = Some Overtaken
@@ -254,8 +254,8 @@ retired_cell ino killed s r = retired (ids s.book.snaps) ino r.epoch killed (cel
 abbrev pub retired_book : ℕ → List KilledPart → Shared → Running → BookState
 retired_book ino killed s r = record s.book { manifests = with_records (ids s.book.snaps) ino r.epoch killed s.book.manifests }
 
--- the blocks that this sets free go to the hand; a gone inode that keeps nothing is erased, and its chain goes there too, with
--- its number, unless its slot's next generation is the last
+-- the blocks that this sets free go to the hand; a gone inode that keeps nothing is erased, and its chain goes there
+-- too, with its number, unless its slot's next generation is the last
 abbrev pub with_freed : ℕ → List KilledPart → Shared → Running → HandState → HandState
 with_freed ino killed s r h = record h {
   blocks = h.blocks ++ freed_by (ids s.book.snaps) ino r.epoch killed (cell_at s ino);

@@ -42,8 +42,8 @@ abbrev pub is_answered : Turn → Bool
 is_answered (Ends (Ok found) t after) = true
 is_answered other = false
 
--- what a step does where nothing stops its call: a visit answers, a step on snapshots answers or moves on, and any other goes on
--- towards the commit
+-- what a step does where nothing stops its call: a visit answers, a step on snapshots answers or moves on, and any
+-- other goes on towards the commit
 abbrev pub does_its_work : Next → Turn → Bool
 does_its_work Visit turn = is_answered turn
 does_its_work (Snapshots step) turn = is_answered turn || moves_on turn
@@ -60,8 +60,8 @@ denied_at (Snapshots (Show snapshot showing)) s h r =
     Moves s h (record r { ending = Refuses OutOfMemory; next = Snapshots (Unpin snapshot []) })
 denied_at other s h r = refuse OutOfMemory s h r
 
--- THE TURN WHERE MEMORY IS REFUSED, by the turn where it is granted: it refuses the call where that one does its work, with
--- what is shared and the hand as they were; and where that one does not, it is the same
+-- THE TURN WHERE MEMORY IS REFUSED, by the turn where it is granted: it refuses the call where that one does its work,
+-- with what is shared and the hand as they were; and where that one does not, it is the same
 abbrev pub denied_turn : Next → Shared → HandState → Running → Turn → Turn
 denied_turn k s h r granted = if does_its_work k granted then denied_at k s h (noted k s h r) else granted
 

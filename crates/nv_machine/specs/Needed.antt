@@ -1,4 +1,5 @@
--- What is left once all that was deferred is drained: which blocks are needed, and how many records drains were answered.
+-- What is left once all that was deferred is drained: which blocks are needed, and how many records
+-- drains were answered.
 use Rattle.std.specs.Prelude.{◌≡◌, ℕ, ◌+◌, ◌-◌, ◌++◌, Bool, true, false, if◌then◌else◌, List, [], ◌∷◌, length, Option, Some, None, option_to_list, slice_get}
 use Rattle.std.specs.List.{AllByRecursion, flat_map, range_with_len}
 use Rattle.nv_alloc.specs.Block.{numbers_of}

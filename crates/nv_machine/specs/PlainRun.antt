@@ -34,8 +34,8 @@ root_alone = record { node = empty_node Dir 493; changed = 0 }
 abbrev pub new_plain : Plain
 new_plain = record { nodes = λ handle. if same_handle handle root then Some root_alone else None; commit = 0; epoch = 1; copies = [] }
 
--- what a step does there: nothing; it fixes the number of a commit; the commit has its effect; or a step of a call on snapshots
--- has its own
+-- what a step does there: nothing; it fixes the number of a commit; the commit has its effect; or a step of a call on
+-- snapshots has its own
 pub data Deed : Type 0 where
   Nothing : Deed
   Numbers : Deed
@@ -91,8 +91,8 @@ is_of snapshot copy = copy.snapshot == snapshot
 abbrev pub with_pins : ℕ → (ℕ → ℕ) → Copy → Copy
 with_pins snapshot change copy = if is_of snapshot copy then record copy { pins = change copy.pins } else copy
 
--- a making adds a copy of the nodes as they are, which the epoch names, and begins the next epoch; a drop takes one out; a show has
--- a pin from its first step to its last. A drain changes nothing
+-- a making adds a copy of the nodes as they are, which the epoch names, and begins the next epoch; a drop takes one
+-- out; a show has a pin from its first step to its last. A drain changes nothing
 abbrev pub after_step : SnapshotStep → Plain → Plain
 after_step Make p = record p {
   epoch = p.epoch + 1;

@@ -5,8 +5,8 @@ use Rattle.nv_machine.specs.Locks.{AreLocks}
 use Rattle.nv_machine.specs.Order.{IsInOrder}
 use Rattle.nv_machine.specs.World.{World}
 
--- locks are held by their calls, logs are in order, settled logs have their blocks, past them stand the entries of commits
--- under way alone, and no two blocks have one number
+-- locks are held by their calls, logs are in order, settled logs have their blocks, past them stand the entries of
+-- commits under way alone, and no two blocks have one number
 pub record IsReached (w : World) : Type 0 where
   pub locks : AreLocks w
   pub order : IsInOrder w

@@ -27,7 +27,8 @@ LeavesBooks next s Waits = Unit {0}
 LeavesBooks next s (Ends (Ok found) t h) = Unit {0}
 LeavesBooks next s (Ends (Err fault) t h) = SameBooks next s t
 
--- a call on snapshots is to be answered up to its last steps, but for a show that is refused, which is left to take its pin off
+-- a call on snapshots is to be answered up to its last steps, but for a show that is refused, which is
+-- left to take its pin off
 abbrev pub GoesOn : Next → Ending → Type 0
 GoesOn (Snapshots step) e = is_going_on step ≡ true → e ≡ Answers
 GoesOn other e = Unit {0}

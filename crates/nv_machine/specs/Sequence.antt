@@ -14,8 +14,8 @@ use Rattle.nv_machine.specs.World.{Answers, Append, Check, Close, Draining, Drop
 
 -- ---- how calls begin
 
--- a new inode takes its number first; names are looked up; slots that are told are locked; a visit is its call's only step; a
--- call on snapshots has steps of its own
+-- a new inode takes its number first; names are looked up; slots that are told are locked; a visit is its call's only
+-- step; a call on snapshots has steps of its own
 pub data Beginning : Type 0 where
   Numbers : Beginning
   Looks : Beginning
@@ -72,8 +72,8 @@ opening written = if nat_lt 1 (length written) then Open else publishing 0 writt
 abbrev pub appending : ℕ → List ℕ → Next
 appending place written = if nat_lt place (length written) then Append place else opening written
 
--- THE SEQUENCE: what comes behind a step that has done its work. A check and a taking go on by what is still wanted, and a
--- leave and the last steps by what is locked or in the hand.
+-- THE SEQUENCE: what comes behind a step that has done its work. A check and a taking go on by what is still wanted,
+-- and a leave and the last steps by what is locked or in the hand.
 abbrev pub sequel : Running → Next → Next
 sequel r Number = locking 0 r.slots
 sequel r (Look place) = looking (place + 1) r
@@ -104,7 +104,8 @@ started c next slots = record {
   epoch = 0;
 }
 
--- a drain may release as many records as its number says, where a number outside 1 to 1,048,576 counts as the nearest of these
+-- a drain may release as many records as its number says, where a number outside 1 to 1,048,576 counts as
+-- the nearest of these
 abbrev pub new_draining : ℕ → Draining
 new_draining count = record { released = 0; left = max 1 (min count DRAIN) - 1 }
 

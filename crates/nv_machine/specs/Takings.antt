@@ -9,8 +9,8 @@ use Rattle.nv_machine.specs.World.{Ends, Event, Go, HandState, Moves, Next, Runn
 
 -- ---- what was asked
 
--- a list that a step asked: of which CPU, how many blocks it had before the step and how many after it, and how many more
--- the hand has after it
+-- a list that a step asked: of which CPU, how many blocks it had before the step and how many after it, and how many
+-- more the hand has after it
 pub record Asked : Type 0 where
   pub cpu : ℕ
   pub had : ℕ

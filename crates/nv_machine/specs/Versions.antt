@@ -1,4 +1,5 @@
--- A cell's version and the number of the last commit: what bounds the one by the other, and which cells a commit has yet to publish.
+-- A cell's version and the number of the last commit: what bounds the one by the other, and which cells a
+-- commit has yet to publish.
 use Rattle.std.specs.Prelude.{◌≡◌, ℕ, ◌<◌, ◌≤◌, true, List, [], drop, Option, Some, None}
 use Rattle.nv_alloc.specs.Numbers.{has}
 use Rattle.nv_base.specs.declared.limits.TheConstants.{NUMBER}

@@ -19,8 +19,8 @@ use Rattle.nv_reader.specs.Walk as walk
 
 -- ---- what is shared
 
--- the free list of each CPU, the pool of inode numbers, the cell of each slot and the actor that holds its lock, the book,
--- and the actor that holds the commit lock
+-- the free list of each CPU, the pool of inode numbers, the cell of each slot and the actor that holds its lock, the
+-- book, and the actor that holds the commit lock
 pub record Shared : Type 0 where
   pub lists : List FreeBlocks
   pub pool : FreeInodes
@@ -31,8 +31,8 @@ pub record Shared : Type 0 where
 
 -- ---- what is an actor's own
 
--- what a call has taken and not yet placed: data blocks, log pages, the pages of an erased chain, an inode number, and the
--- parts that it killed, publish by publish
+-- what a call has taken and not yet placed: data blocks, log pages, the pages of an erased chain, an inode number, and
+-- the parts that it killed, publish by publish
 pub record HandState : Type 0 where
   pub blocks : List BlockValue
   pub pages : List BlockValue
@@ -51,8 +51,8 @@ pub record Draining : Type 0 where
   pub released : ℕ
   pub left : ℕ
 
--- a step of a call on snapshots. It makes one, or drops one; it pins one, shows its nodes inode by inode and unpins it, with what
--- it has seen; or it picks a deferred record, locks its inode and releases it
+-- a step of a call on snapshots. It makes one, or drops one; it pins one, shows its nodes inode by inode and unpins it,
+-- with what it has seen; or it picks a deferred record, locks its inode and releases it
 pub data SnapshotStep : Type 0 where
   Make : SnapshotStep
   Drop : (snapshot : ℕ) → SnapshotStep
@@ -85,16 +85,17 @@ pub data Next : Type 0 where
   Visit : Next
   Snapshots : (step : SnapshotStep) → Next
 
--- how a call is to end: with its answer, refused, or not yet, since a name was bound anew after the looks; a drain goes on to
--- the next record, as long as it may release more
+-- how a call is to end: with its answer, refused, or not yet, since a name was bound anew after the looks; a drain goes
+-- on to the next record, as long as it may release more
 pub data Ending : Type 0 where
   Answers : Ending
   Refuses : (fault : Fault) → Ending
   Overtaken : Ending
   Drains : (draining : Draining) → Ending
 
--- a call that runs: what its looks found, and how many more rounds of them it may make; the slots that it locks, in rising
--- number; the handle of a new inode; how many blocks of a taking it still wants; its plan; its commit's number and epoch
+-- a call that runs: what its looks found, and how many more rounds of them it may make; the slots that it
+-- locks, in rising number; the handle of a new inode; how many blocks of a taking it still wants; its plan; its
+-- commit's number and epoch
 pub record Running : Type 0 where
   pub call : Call
   pub next : Next
@@ -119,7 +120,8 @@ pub record World : Type 0 where
   pub shared : Shared
   pub actors : List Actor
 
--- an actor starts a call, or its call goes on; `granted` says whether the memory is there that the step asks for, if any
+-- an actor starts a call, or its call goes on; `granted` says whether the memory is there that the
+-- step asks for, if any
 pub data Event : Type 0 where
   Start : (actor : ℕ) (call : Call) → Event
   Go : (actor : ℕ) (granted : Bool) → Event

@@ -8,8 +8,8 @@ ghost use Rattle.nv_machine.specs.Format.{formatted};
 ghost use Rattle.nv_machine.specs.Step.{after, replies};
 ghost use Rattle.nv_machine.specs.World.{Event, Go, Moved, World};
 
-/// No call has ever more steps left than [`crate::laws::calls_end`] says of one that starts, whatever events came. So no row of
-/// `Go` of one actor, as long as it may be, moves its call more often, one after another.
+/// No call has ever more steps left than [`crate::laws::calls_end`] says of one that starts, whatever events came. So
+/// no row of `Go` of one actor, as long as it may be, moves its call more often, one after another.
 pub fn no_call_goes_on_for_ever()
     ensures steps { (g : GeometryNumbers) (events : List Event) (actor : ℕ) → IsWithinLimits g
         → bound_at (after (formatted g) events) actor ≤ most_steps g.cpus }

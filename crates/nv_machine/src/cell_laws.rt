@@ -14,9 +14,9 @@ ghost use Rattle.nv_machine.specs.Step.{after};
 ghost use Rattle.nv_machine.specs.Versions.{to_publish};
 ghost use Rattle.nv_machine.specs.World.{Event, Publish, Running, actor_at, cell_at};
 
-/// No slot that has an inode is of the last generation, and none whose number is in the pool or in a hand: the number of a slot
-/// of the last generation is withheld. So neither is any that a call has locked, from its check to its commit point, nor any
-/// that it writes.
+/// No slot that has an inode is of the last generation, and none whose number is in the pool or in a hand: the number
+/// of a slot of the last generation is withheld. So neither is any that a call has locked, from its check to its commit
+/// point, nor any that it writes.
 pub fn generations_are_left()
     ensures inodes { (g : GeometryNumbers) (events : List Event) (ino : ℕ) → IsWithinLimits g
         → has_inode (cell_at (after (formatted g) events).shared ino) ≡ true
@@ -38,8 +38,9 @@ pub fn generations_are_left()
         < NUMBER }
 {}
 
-/// No cell has seen more commits than were entered, of which there are no more than [`NUMBER`]. For a commit counts one more in
-/// each slot that it publishes, once: a slot that it has yet to publish has not seen it, and so has not had the last version.
+/// No cell has seen more commits than were entered, of which there are no more than [`NUMBER`]. For a commit counts
+/// one more in each slot that it publishes, once: a slot that it has yet to publish has not seen it, and so has not
+/// had the last version.
 pub fn versions_are_left()
     ensures cells { (g : GeometryNumbers) (events : List Event) (ino : ℕ) → IsWithinLimits g
         → (cell_at (after (formatted g) events).shared ino).version

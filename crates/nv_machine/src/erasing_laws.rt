@@ -12,11 +12,12 @@ ghost use Rattle.nv_machine.specs.Reads.{slot_at, written_slots};
 ghost use Rattle.nv_machine.specs.Step.{after, step};
 ghost use Rattle.nv_machine.specs.World.{Draining, Event, Go, Release, Retire, Running, Snapshots, actor_at, cell_at};
 
-/// Whatever events came from a new world on, an inode that is gone and of which nothing is kept is erased in the step that
-/// retires what was killed of it, or in the one that releases its last record: its chain and the blocks of its parts go to the
-/// hand of the call, its slot is empty and of the next generation, and its number is in the hand, unless that generation is
-/// the last. From there on the number stays in the hand, whatever others do, up to the step that ends the call, or the drain's
-/// record, which puts it into the pool. So no slot has such an inode while no commit is under way.
+/// Whatever events came from a new world on, an inode that is gone and of which nothing is kept is erased in the
+/// step that retires what was killed of it, or in the one that releases its last record: its chain and the blocks
+/// of its parts go to the hand of the call, its slot is empty and of the next generation, and its number is in the
+/// hand, unless that generation is the last. From there on the number stays in the hand, whatever others do, up to
+/// the step that ends the call, or the drain's record, which puts it into the pool. So no slot has such an inode
+/// while no commit is under way.
 pub fn gone_inodes_are_erased()
     ensures retire { (g : GeometryNumbers) (events : List Event) (actor place : ℕ) (granted : Bool)
         (r : Running) → IsWithinLimits g

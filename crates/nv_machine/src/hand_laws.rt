@@ -1,5 +1,5 @@
-//! Laws of what is in a hand, and of what a call holds at its check and at a visit, that the code of the steps relies on.
-//! Each is the contract of a function that does nothing.
+//! Laws of what is in a hand, and of what a call holds at its check and at a visit, that the code of the steps relies
+//! on. Each is the contract of a function that does nothing.
 
 ghost use Rattle.std.specs.Prelude.{◌≡◌, ◌+◌, ◌<◌, ◌≤◌, ℕ, List, [], None, Some, false, length, true};
 ghost use Rattle.std.specs.List.{AllByRecursion};
@@ -45,9 +45,9 @@ pub fn cells_have_their_own_bytes()
         (bytes_among (cell_at (after (formatted g) events).shared ino).blocks) }
 {}
 
-/// Before its check a call has nothing in its hand but the number of a new inode, whose slot is empty and locked. It holds the
-/// slots of all its handles, where these are slots, and outside of a commit none of those that it holds has entries past its tail.
-/// A call whose handles are all out of range has no slot: its check refuses it.
+/// Before its check a call has nothing in its hand but the number of a new inode, whose slot is empty and locked. It
+/// holds the slots of all its handles, where these are slots, and outside of a commit none of those that it holds has
+/// entries past its tail. A call whose handles are all out of range has no slot: its check refuses it.
 pub fn checks_find_their_slots()
     ensures none { (g : GeometryNumbers) (events : List Event) (actor : ℕ) (r : Running)
         → IsWithinLimits g → (actor_at (after (formatted g) events) actor).running ≡ Some r
@@ -81,8 +81,9 @@ pub fn looks_are_in_directories()
         → place < length (directories r.call) }
 {}
 
-/// Each slot's cell is a cell, with blocks of the device's size: its chain has its pages, its log is one, each published part has
-/// its mark, and each page that is not out its block. The bytes of its blocks are those that a search for their numbers finds.
+/// Each slot's cell is a cell, with blocks of the device's size: its chain has its pages, its log is one, each
+/// published part has its mark, and each page that is not out its block. The bytes of its blocks are those that a
+/// search for their numbers finds.
 pub fn cells_are_cells()
     ensures is { (g : GeometryNumbers) (events : List Event) (ino : ℕ) → IsWithinLimits g
         → ino < length (after (formatted g) events).shared.cells

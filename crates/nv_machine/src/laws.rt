@@ -1,5 +1,6 @@
-//! Laws of the machine of steps: what a step changes and waits for, that calls end, and where each block and each number
-//! stands. Each is the contract of a function that does nothing; [`crate::plain_laws`] has those of nodes and answers.
+//! Laws of the machine of steps: what a step changes and waits for, that calls end, and where each block
+//! and each number stands. Each is the contract of a function that does nothing; [`crate::plain_laws`] has
+//! those of nodes and answers.
 
 ghost use Rattle.std.specs.Prelude.{◌≡◌, ◌≢◌, ◌+◌, ◌<◌, ◌≤◌, ℕ, Bool, List, Some, None, length, true, slice_get, slice_index_or, false};
 ghost use Rattle.std.specs.Option.{option_map};
@@ -53,8 +54,8 @@ pub fn one_step()
 {}
 
 /// A number step takes the first number of the pool, if it has one, and a taking from a list its first blocks, as many
-/// as are still wanted or all that it has, behind those of their kind in the hand; nothing else in the hand changes. Pool and
-/// lists are in rising order ([`pool_is_from_scratch`], [`lists_are_sorted`]), so these are the lowest.
+/// as are still wanted or all that it has, behind those of their kind in the hand; nothing else in the hand changes.
+/// Pool and lists are in rising order ([`pool_is_from_scratch`], [`lists_are_sorted`]), so these are the lowest.
 pub fn the_lowest_are_taken()
     ensures number { (block actor : ℕ) (granted : Bool) (s : Shared) (h : HandState) (r : Running)
         → h.ino ≡ None → Leaves (HasFirst s) (kind_turn Number block actor granted s h r) }
@@ -68,21 +69,21 @@ pub fn the_lowest_are_taken()
         (kind_turn (TakePages asked) block actor granted s h r) }
 {}
 
-/// A call takes its data first and then its log pages, in two takings, neither of which wants any of the other's. The first
-/// begins at the check, and wants exactly the blocks of the call; the second begins once all of these are in the hand, and
-/// wants exactly the pages of the plan that they make. A taking of nothing has no step. Each goes on from list to list as
-/// long as anything is left of what it wants, and the call is ready only once both have all.
+/// A call takes its data first and then its log pages, in two takings, neither of which wants any of the other's. The
+/// first begins at the check, and wants exactly the blocks of the call; the second begins once all of these are in the
+/// hand, and wants exactly the pages of the plan that they make. A taking of nothing has no step. Each goes on from
+/// list to list as long as anything is left of what it wants, and the call is ready only once both have all.
 pub fn data_is_taken_before_log_pages()
     ensures { (block actor : ℕ) (granted : Bool) (s : Shared) (h : HandState) (r : Running)
         → TakesInTurn r.next block actor s r (turn block actor granted s h r) }
 {}
 
-/// Memory that is refused makes one and the same turn of every step that grows anything (a check, a ready, an enter, a visit
-/// but a stat, a show's visit, a drain's first pick), also where that step of that call would have asked for none: where the
-/// step would have done its work, it refuses the call instead, and leaves all that is shared and the hand as they were. Where
-/// it would not, it waits or ends the call as it would have: so a refusal of the plain world, want of a number and the last
-/// commit number come first. All other steps go on as ever. And where memory is granted, no step refuses a call for want of
-/// it.
+/// Memory that is refused makes one and the same turn of every step that grows anything (a check, a ready, an enter, a
+/// visit but a stat, a show's visit, a drain's first pick), also where that step of that call would have asked for
+/// none: where the step would have done its work, it refuses the call instead, and leaves all that is shared and the
+/// hand as they were. Where it would not, it waits or ends the call as it would have: so a refusal of the plain world,
+/// want of a number and the last commit number come first. All other steps go on as ever. And where memory is granted,
+/// no step refuses a call for want of it.
 pub fn refused_memory_makes_one_turn()
     ensures refused { (block actor : ℕ) (s : Shared) (h : HandState) (r : Running)
         → grows r.next r.call ≡ true → turn block actor false s h r
@@ -104,8 +105,8 @@ pub fn who_holds_what()
         → (actor_at w actor).running ≡ Some r → HasLent w.shared actor r }
 {}
 
-/// A `Go` that waits changes nothing, and comes only where another actor holds the lock that the step needs: so none waits where
-/// no other actor runs a call.
+/// A `Go` that waits changes nothing, and comes only where another actor holds the lock that the step needs: so none
+/// waits where no other actor runs a call.
 pub fn who_waits()
     ensures why { (w : World) (actor : ℕ) (granted : Bool) (r : Running) → AreLocks w
         → actor < length w.actors → (actor_at w actor).running ≡ Some r
@@ -116,9 +117,9 @@ pub fn who_waits()
         → (step w (Go actor granted)).reply ≢ Waiting }
 {}
 
-/// Calls end: a call is started with a bound on its steps that depends on the call and the number of CPUs alone, each `Go`
-/// that moves it lowers the bound, and no event of another actor raises it. So however the events of all
-/// actors go, a call moves at most as often as its bound says, up to the next start of its actor.
+/// Calls end: a call is started with a bound on its steps that depends on the call and the number of CPUs alone, each
+/// `Go` that moves it lowers the bound, and no event of another actor raises it. So however the events of all actors
+/// go, a call moves at most as often as its bound says, up to the next start of its actor.
 pub fn calls_end()
     ensures starts { (w : World) (actor : ℕ) (c : Call) → (step w (Start actor c)).reply ≡ Started
         → bound_at (step w (Start actor c)).world actor ≤ most_steps_of c (length w.shared.lists) }
@@ -158,11 +159,11 @@ pub fn lists_are_from_scratch()
         ≡ free_from_scratch g (after (formatted g) events) cpu }
 {}
 
-/// Each free list is what the logs leave: the numbers of the CPU's home range that no page of a chain has, no page of
-/// a log in use and no hand. Of the pairs of a log, in order, those are in use that are needed (current, or held by a living
-/// snapshot), pending (deferred, or picked by a drain that has not yet released them) or killed: published over, and not yet
-/// retired by the call in whose hand they stand. So is each part of the entries that a commit has appended and not yet
-/// published. A cell has the block of each page in use, of the number that its entry says, and no other.
+/// Each free list is what the logs leave: the numbers of the CPU's home range that no page of a chain has, no page of a
+/// log in use and no hand. Of the pairs of a log, in order, those are in use that are needed (current, or held by a
+/// living snapshot), pending (deferred, or picked by a drain that has not yet released them) or killed: published over,
+/// and not yet retired by the call in whose hand they stand. So is each part of the entries that a commit has appended
+/// and not yet published. A cell has the block of each page in use, of the number that its entry says, and no other.
 pub fn lists_are_told_by_logs()
     ensures lists { (g : GeometryNumbers) (events : List Event) (cpu : ℕ)
         → IsWithinLimits g → cpu < g.cpus
@@ -211,9 +212,9 @@ pub fn blocks_are_told()
         → ArePagesTold g.block (cell_at (after (formatted g) events).shared ino) }
 {}
 
-/// Each entry of a log stands on a page of its chain, and no page has more entries than the geometry says, or none. So that
-/// this stays, a hand has exactly the log pages that its call's plan needs, from the last taking on: with those that a taking
-/// still wants at first, then those of the entries that are yet to be appended, and none once all are.
+/// Each entry of a log stands on a page of its chain, and no page has more entries than the geometry says, or none. So
+/// that this stays, a hand has exactly the log pages that its call's plan needs, from the last taking on: with those
+/// that a taking still wants at first, then those of the entries that are yet to be appended, and none once all are.
 pub fn logs_have_their_pages()
     ensures pages { (g : GeometryNumbers) (events : List Event) (ino : ℕ) → IsWithinLimits g
         → ino < length (after (formatted g) events).shared.cells
@@ -224,10 +225,10 @@ pub fn logs_have_their_pages()
         (actor_at (after (formatted g) events) actor).hand r }
 {}
 
-/// Log pages are given out by rising inode: an append puts the first of the hand's pages, as many as its inode needs, at
-/// the end of that inode's chain in their order, and the inodes of a commit rise. As the list of a taking rises
-/// ([`lists_are_sorted`]) and its blocks stand in the hand in their order ([`the_lowest_are_taken`]), the lower inode has the
-/// lower pages of each list.
+/// Log pages are given out by rising inode: an append puts the first of the hand's pages, as many as its inode needs,
+/// at the end of that inode's chain in their order, and the inodes of a commit rise. As the list of a taking rises
+/// ([`lists_are_sorted`]) and its blocks stand in the hand in their order ([`the_lowest_are_taken`]), the lower inode
+/// has the lower pages of each list.
 pub fn log_pages_go_by_rising_inode()
     ensures appends { (place block actor : ℕ) (granted : Bool) (s : Shared) (h : HandState)
         (r : Running) → slot_at (written_slots r) place < length s.cells

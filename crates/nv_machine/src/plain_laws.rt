@@ -67,11 +67,10 @@ pub fn the_plain_world_counts_commits()
         → (after w events).shared.book.commit ≡ (plain_after w events p).commit }
 {}
 
-/// A call that has begun to append is answered, whatever follows, and one that was refused is answered that
-/// refusal: from there on each of its steps moves it on towards that end, or is its last and replies it. A call whose
-/// commit is lent a cell to change is such a call, so that one which ends refused has changed no log
-/// ([`crate::laws::one_step`]) and made no commit. Of calls that commit no node tells the answer, so that it is the one of the
-/// commit point.
+/// A call that has begun to append is answered, whatever follows, and one that was refused is answered that refusal:
+/// from there on each of its steps moves it on towards that end, or is its last and replies it. A call whose commit is
+/// lent a cell to change is such a call, so that one which ends refused has changed no log ([`crate::laws::one_step`])
+/// and made no commit. Of calls that commit no node tells the answer, so that it is the one of the commit point.
 pub fn what_commits_is_answered()
     ensures commits { (w : World) (actor : ℕ) (granted : Bool) (r : Running) → IsKept w
         → actor < length w.actors → (actor_at w actor).running ≡ Some r
@@ -148,8 +147,8 @@ pub fn new_worlds_lead_where_laws_hold()
 {}
 
 /// At each commit point, whatever events come from a new world on, the plain world does not refuse the call, the plan
-/// that stands fits the effect that its call has on the nodes of now, and so the commit point has that effect. `bytes_in`
-/// gives the bytes of all blocks of all cells.
+/// that stands fits the effect that its call has on the nodes of now, and so the commit point has that effect.
+/// `bytes_in` gives the bytes of all blocks of all cells.
 pub fn plans_fit_at_commit_points()
     ensures fits { (g : GeometryNumbers) (events : List Event) (actor : ℕ) (granted : Bool)
         (r : Running) → IsWithinLimits g → actor < length (after (formatted g) events).actors
@@ -187,8 +186,8 @@ pub fn checked_calls_still_pass()
         → looked (node_in (settled_nodes (after (formatted g) events).shared)) r.call ≡ r.looked }
 {}
 
-/// The plain world of a new world has the root, an empty directory of mode 493 that no commit has changed, and nothing else;
-/// and it has no commit and no snapshot, and is in the first epoch.
+/// The plain world of a new world has the root, an empty directory of mode 493 that no commit has changed, and nothing
+/// else; and it has no commit and no snapshot, and is in the first epoch.
 pub fn the_plain_world_begins_with_the_root()
     ensures nodes { (g : GeometryNumbers) → IsWithinLimits g → (handle : Handle)
         → (plain_of (formatted g)).nodes handle ≡ new_plain.nodes handle }
@@ -197,8 +196,8 @@ pub fn the_plain_world_begins_with_the_root()
     ensures copies { (g : GeometryNumbers) → (plain_of (formatted g)).copies ≡ new_plain.copies }
 {}
 
-/// The plain world's nodes are those of the settled logs after every list of events, so its tree is theirs, and these logs are
-/// sound.
+/// The plain world's nodes are those of the settled logs after every list of events, so its tree is theirs, and
+/// these logs are sound.
 pub fn the_plain_world_is_that_of_settled_logs()
     ensures nodes { (g : GeometryNumbers) (events : List Event) → IsWithinLimits g
         → (handle : Handle) → settled_nodes (after (formatted g) events).shared handle
@@ -211,13 +210,13 @@ pub fn the_plain_world_is_that_of_settled_logs()
         → AreSound (after (formatted g) events).shared }
 {}
 
-/// A step that refuses a call does so for a fault whose cause is there at that step: the plain world refuses the call at
-/// the look, the check or the visit; it does not, and no number was free; the last list was asked and is short; no
+/// A step that refuses a call does so for a fault whose cause is there at that step: the plain world refuses the call
+/// at the look, the check or the visit; it does not, and no number was free; the last list was asked and is short; no
 /// further commit number is there, and then it always refuses; no round of looks is left; or memory that the step asks
 /// for was not granted. A call is overtaken at its check alone, where a name is bound anew. A refused call has only its
-/// last steps left, which lead to that refusal ([`what_commits_is_answered`]). The tests are those over the nodes of the
-/// cells, whatever the state; from a new world on and whatever events come, they are those over the settled nodes, which
-/// the plain world has.
+/// last steps left, which lead to that refusal ([`what_commits_is_answered`]). The tests are those over the nodes of
+/// the cells, whatever the state; from a new world on and whatever events come, they are those over the settled nodes,
+/// which the plain world has.
 pub fn refusals_have_causes()
     ensures causes { (block actor : ℕ) (granted : Bool) (s : Shared) (h : HandState) (r : Running)
         → r.ending ≡ Answers
@@ -245,9 +244,9 @@ pub fn refusals_have_causes()
         → kind_turn Enter block actor granted s h r ≡ refuse CommitLimit s h r }
 {}
 
-/// A taking that falls short has asked every list: where a step that asks a list refuses its call, whatever events came from
-/// a new world on, its taking has asked each CPU's free list once, from the actor's own on; each gave all that it had
-/// to the hand, and the sum is short of what the taking wants.
+/// A taking that falls short has asked every list: where a step that asks a list refuses its call, whatever events came
+/// from a new world on, its taking has asked each CPU's free list once, from the actor's own on; each gave all that it
+/// had to the hand, and the sum is short of what the taking wants.
 pub fn short_takings_have_asked_every_list()
     ensures { (g : GeometryNumbers) (events : List Event) (actor : ℕ) (granted : Bool) (r : Running)
         → IsWithinLimits g → (actor_at (after (formatted g) events) actor).running ≡ Some r
@@ -259,10 +258,10 @@ pub fn short_takings_have_asked_every_list()
         (after (formatted g) events).shared (actor_at (after (formatted g) events) actor).hand r) }
 {}
 
-/// A step that refuses its call leaves the book (the number of the last commit, the epoch, journals, snapshots and records) and
-/// all cells as they were, also an enter, which is lent the book; and so does each further step of a call that is
-/// not to be answered, but that the last step of a show takes its pin off. A call on snapshots that is refused has its
-/// last steps left alone; so it is in every world that events lead to.
+/// A step that refuses its call leaves the book (the number of the last commit, the epoch, journals, snapshots and
+/// records) and all cells as they were, also an enter, which is lent the book; and so does each further step of a call
+/// that is not to be answered, but that the last step of a show takes its pin off. A call on snapshots that is refused
+/// has its last steps left alone; so it is in every world that events lead to.
 pub fn refused_calls_leave_books_and_cells()
     ensures kept { (w : World) (actor : ℕ) (granted : Bool) (r : Running) → IsKept w
         → (actor_at w actor).running ≡ Some r → GoesOn r.next r.ending
@@ -293,8 +292,8 @@ pub fn contended_calls_have_failed_eight_checks()
         → 8 ≤ failed_checks actor (step w (Start actor c)).world events }
 {}
 
-/// A call is refused for want of a number only after its number step found none free: one that has none at its check has met
-/// such a step since it was started.
+/// A call is refused for want of a number only after its number step found none free: one that has none at its check
+/// has met such a step since it was started.
 pub fn calls_without_a_number_found_none()
     ensures { (g : GeometryNumbers) (before events : List Event) (actor : ℕ) (c : Call)
         (r : Running) → IsWithinLimits g
@@ -306,8 +305,8 @@ pub fn calls_without_a_number_found_none()
         → met_none actor (step (after (formatted g) before) (Start actor c)).world events ≡ true }
 {}
 
-/// A new inode's handle is new, whatever events came from a new world on: at the commit point of a call that makes an inode
-/// no node is under its handle, which is not the root's, nor that of a commit point before. Generations rise
+/// A new inode's handle is new, whatever events came from a new world on: at the commit point of a call that makes an
+/// inode no node is under its handle, which is not the root's, nor that of a commit point before. Generations rise
 /// whenever a number comes back.
 pub fn made_handles_are_new()
     ensures no_node { (g : GeometryNumbers) (events : List Event) (actor : ℕ) (granted : Bool)
@@ -336,11 +335,11 @@ pub fn visits_read_settled_nodes()
         → told ≡ answer (settled_nodes w.shared) r.made r.call }
 {}
 
-/// A call on files and directories is answered only where that was decided, and once: whatever events come from a new world on, a call that
-/// is Done has made its commit since it was started, or is a visit, or had nothing to change at its check, and at that
-/// event the plain world does not refuse it (at a commit point by [`plans_fit_at_commit_points`]); it is told what the
-/// plain world answers there, on the settled nodes. Of a call that is refused nothing was decided. And what commits has
-/// something to change.
+/// A call on files and directories is answered only where that was decided, and once: whatever events come from a new
+/// world on, a call that is Done has made its commit since it was started, or is a visit, or had nothing to change at
+/// its check, and at that event the plain world does not refuse it (at a commit point by
+/// [`plans_fit_at_commit_points`]); it is told what the plain world answers there, on the settled nodes. Of a call that
+/// is refused nothing was decided. And what commits has something to change.
 pub fn calls_are_decided_once()
     ensures done { (g : GeometryNumbers) (events : List Event) (actor : ℕ) (granted : Bool)
         (r : Running) (told : Answer) → IsWithinLimits g

@@ -1,5 +1,5 @@
-//! Laws of calls that are made alone, as by a single user: from the start of a call to its last step no other actor makes a
-//! step. Each is the contract of a function that does nothing.
+//! Laws of calls that are made alone, as by a single user: from the start of a call to its last step no other actor
+//! makes a step. Each is the contract of a function that does nothing.
 
 ghost use Rattle.std.specs.Prelude.{◌≡◌, ◌++◌, ℕ, Bool, List, ◌∷◌, Some, false};
 ghost use Rattle.nv_base.specs.Limits.{IsWithinLimits};
@@ -15,11 +15,11 @@ ghost use Rattle.nv_machine.specs.Settled.{settled_nodes};
 ghost use Rattle.nv_machine.specs.Step.{after, step};
 ghost use Rattle.nv_machine.specs.World.{Done, Event, Go, Refused, Running, Start, Started, actor_at};
 
-/// A call on files and directories that is made alone is told what the plain world answers on the nodes that stood when it was
-/// started; these do not refuse it, and with its effect they are those that stand after its last step. One that is refused is
-/// refused for what these nodes refuse it for; where they do not, for want of a number, of blocks, of a commit number or of
-/// memory, and never as contended. It leaves the nodes as they stood. None waits where no other actor runs a call
-/// ([`crate::laws::who_waits`]).
+/// A call on files and directories that is made alone is told what the plain world answers on the nodes that stood when
+/// it was started; these do not refuse it, and with its effect they are those that stand after its last step. One that
+/// is refused is refused for what these nodes refuse it for; where they do not, for want of a number, of blocks, of a
+/// commit number or of memory, and never as contended. It leaves the nodes as they stood. None waits where no other
+/// actor runs a call ([`crate::laws::who_waits`]).
 pub fn calls_alone_are_the_plain_worlds()
     ensures answered { (g : GeometryNumbers) (before : List Event) (actor : ℕ) (c : Call)
         (grants : List Bool) (granted : Bool) (r : Running) (told : Answer) → IsWithinLimits g

@@ -1,6 +1,6 @@
-//! Laws of the machine of steps on snapshots: which records there are, what each living snapshot holds, that it reads as the
-//! tree that stood when it was made, and what its calls are answered and refused. Each is the contract of a function that does
-//! nothing.
+//! Laws of the machine of steps on snapshots: which records there are, what each living snapshot holds, that it reads
+//! as the tree that stood when it was made, and what its calls are answered and refused. Each is the contract of a
+//! function that does nothing.
 
 ghost use Rattle.std.specs.Prelude.{◌≡◌, ◌⊎◌, ◌&&◌, ◌++◌, ◌<◌, ◌≤◌, ℕ, Bool, true, List, [], ◌∷◌, Contains, IsSome, None, Ok, Some, length, not, slice_get};
 ghost use Rattle.std.specs.List.{AllByRecursion};
@@ -32,12 +32,12 @@ ghost use Rattle.nv_machine.specs.Snapshots.{snapshot_turn};
 ghost use Rattle.nv_machine.specs.Step.{after, step};
 ghost use Rattle.nv_machine.specs.World.{Done, Draining, Drop, Ends, Event, Go, HandState, Make, Pick, Refused, Refuses, Running, Shared, SnapshotStep, Snapshots, Start, Started, Unpin, Waiting, actor_at, cell_at, list_at};
 
-/// The records are one list, whatever events came from a new world on: a retire step puts the killed parts of its inode to its
-/// end, in order, that a living snapshot holds; a drop moves there, in order, the records that its snapshot was the youngest to
-/// hold; and a pick takes out the first that no living snapshot holds. The manifests and the deferred list are that list,
-/// each record with its youngest living holder, or deferred where it has none. A part is marked kept exactly where it has one
-/// record, in a manifest, deferred, or picked by a drain that has not yet released it; none has two; and each record is of a
-/// pair of its inode's log.
+/// The records are one list, whatever events came from a new world on: a retire step puts the killed parts of its inode
+/// to its end, in order, that a living snapshot holds; a drop moves there, in order, the records that its snapshot was
+/// the youngest to hold; and a pick takes out the first that no living snapshot holds. The manifests and the deferred
+/// list are that list, each record with its youngest living holder, or deferred where it has none. A part is marked
+/// kept exactly where it has one record, in a manifest, deferred, or picked by a drain that has not yet released it;
+/// none has two; and each record is of a pair of its inode's log.
 pub fn records_are_filed()
     ensures list { (g : GeometryNumbers) (events : List Event) → IsWithinLimits g
         → IsRecordList (ids (after (formatted g) events).shared.book.snaps)
@@ -55,8 +55,8 @@ pub fn records_are_filed()
         (recorded_in (after (formatted g) events)) }
 {}
 
-/// For each living snapshot the pairs that are recorded with it as a holder are those that it holds by the logs, less the
-/// current ones and those that are killed and not yet retired.
+/// For each living snapshot the pairs that are recorded with it as a holder are those that it holds by the logs, less
+/// the current ones and those that are killed and not yet retired.
 pub fn snapshots_hold_what_logs_tell()
     ensures { (g : GeometryNumbers) (events : List Event) (snapshot ino n : ℕ) (pair : Pair)
         → IsWithinLimits g
@@ -68,10 +68,10 @@ pub fn snapshots_hold_what_logs_tell()
         && not (is_killed_pair (after (formatted g) events) ino pair))) }
 {}
 
-/// Each living snapshot reads as the nodes that stood when it was made, whatever events came since: at its epoch the settled
-/// logs give the plain world's copy, which no event changes. So they form a tree, and it is the tree of that copy. A show that
-/// is answered is told that tree, and its snapshot lives up to its last step; one whose memory was refused is told so by that
-/// step.
+/// Each living snapshot reads as the nodes that stood when it was made, whatever events came since: at its epoch the
+/// settled logs give the plain world's copy, which no event changes. So they form a tree, and it is the tree of that
+/// copy. A show that is answered is told that tree, and its snapshot lives up to its last step; one whose memory was
+/// refused is told so by that step.
 pub fn snapshots_read_as_they_were()
     ensures copies { (g : GeometryNumbers) (events : List Event) → IsWithinLimits g
         → AreCopied (after (formatted g) events).shared
@@ -104,16 +104,16 @@ pub fn snapshots_read_as_they_were()
         × Contains (ids (after (formatted g) events).shared.book.snaps) snapshot }
 {}
 
-/// A snapshot has a pin for each show of it that is between its first step and its last; so each snapshot that such a show is of
-/// lives.
+/// A snapshot has a pin for each show of it that is between its first step and its last; so each snapshot that
+/// such a show is of lives.
 pub fn pins_are_of_shows()
     ensures { (g : GeometryNumbers) (events : List Event) (snapshot : ℕ) → IsWithinLimits g
         → ArePins (shows_of snapshot (after (formatted g) events))
         (pins_of (after (formatted g) events).shared.book.snaps snapshot) }
 {}
 
-/// What a making, a drop and a show are refused for is what the plain world refuses them for at that step, with its epoch and its
-/// copies: such a step waits, or it is refused for that fault, and for none where there is none.
+/// What a making, a drop and a show are refused for is what the plain world refuses them for at that step, with its
+/// epoch and its copies: such a step waits, or it is refused for that fault, and for none where there is none.
 pub fn snapshot_refusals_are_told()
     ensures tests { (g : GeometryNumbers) (events : List Event) (kind : SnapshotStep)
         → IsWithinLimits g → tests_on kind (after (formatted g) events).shared.book.snaps
@@ -128,7 +128,8 @@ pub fn snapshot_refusals_are_told()
         (step (after (formatted g) events) (Go actor granted)).reply }
 {}
 
-/// A making that is answered is told the epoch that it ends, which its snapshot is named by; a drop is told nothing more.
+/// A making that is answered is told the epoch that it ends, which its snapshot is named by; a drop
+/// is told nothing more.
 pub fn makings_and_drops_are_answered()
     ensures made { (g : GeometryNumbers) (events : List Event) (actor : ℕ) (granted : Bool)
         (r : Running) (told : Answer) → IsWithinLimits g
@@ -145,8 +146,8 @@ pub fn makings_and_drops_are_answered()
         → told ≡ answers.Nothing }
 {}
 
-/// A drain is answered how many records its steps have released; as long as it runs it is refused only for want of memory before
-/// the first. And a pick finds nothing only where nothing is deferred.
+/// A drain is answered how many records its steps have released; as long as it runs it is refused only for want of
+/// memory before the first. And a pick finds nothing only where nothing is deferred.
 pub fn drains_count_their_releases()
     ensures answer { (g : GeometryNumbers) (before events : List Event) (actor count told : ℕ)
         (granted : Bool) → IsWithinLimits g
@@ -176,10 +177,11 @@ pub fn drains_count_their_releases()
         → s.book.deferred ≡ [] }
 {}
 
-/// Where no call runs and nothing is deferred, each free list is exactly the numbers of its CPU's home range that nothing needs:
-/// no page of a chain is of that number, and no page of a pair that is current or that a living snapshot holds. And from a
-/// world in which no call runs, whatever events come but drops, nothing is deferred any more once drains were answered,
-/// together, as many records as were deferred there: so it is once `drain 1` was answered 1 as often as there were.
+/// Where no call runs and nothing is deferred, each free list is exactly the numbers of its CPU's home range that
+/// nothing needs: no page of a chain is of that number, and no page of a pair that is current or that a living snapshot
+/// holds. And from a world in which no call runs, whatever events come but drops, nothing is deferred any more once
+/// drains were answered, together, as many records as were deferred there: so it is once `drain 1` was answered 1 as
+/// often as there were.
 pub fn drained_worlds_use_what_is_needed()
     ensures rest { (g : GeometryNumbers) (events : List Event) (cpu : ℕ) → IsWithinLimits g
         → cpu < g.cpus → IsAtRest (after (formatted g) events)

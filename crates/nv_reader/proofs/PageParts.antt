@@ -52,8 +52,8 @@ past_one p end cut = grind (arith, nat_tests)
 abbrev writer : Option PartRef → Option EntryId
 writer o = option_map (λ (r : PartRef). r.entry) o
 
--- what a Write leaves of a page's entry, where `a` and `b` say that the page is not before or behind its run, and `c` that
--- it is cut off later
+-- what a Write leaves of a page's entry, where `a` and `b` say that the page is not before or behind its run, and `c`
+-- that it is cut off later
 put_once : (a b c : Bool) (value : Datum) (part : Option PartRef) (own : PartRef)
     → cond (a && (b && not c)) (option_or (writer part) (Some own.entry)) (writer part)
     ≡ writer (cond (is_some (writer part) || c) part (left_by (cond ((a && b) && true) (Present value) Untouched) own None))

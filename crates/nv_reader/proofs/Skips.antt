@@ -12,8 +12,8 @@ use Rattle.nv_reader.specs.declared.pages.Writer.{Writer}
 abbrev slot : List (Option Writer) → ℕ → Option Writer
 slot writers page = slice_index_or writers page None
 
--- what an entry has taken over of the pages from `first` up to `end` that lie before `page`: what is skipped is held once it
--- has them all
+-- what an entry has taken over of the pages from `first` up to `end` that lie before `page`: what is skipped is held
+-- once it has them all
 pub record HasFilled (entry : EntryId) (first end page : ℕ) (was now : List (Option Writer)) : Type 0 where
   pub begun : first ≤ page
   pub holders : (q : ℕ) → entry_at now q

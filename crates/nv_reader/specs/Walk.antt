@@ -61,8 +61,8 @@ visit_count nodes (suc depth) handle = sum_by (λ (bound : BoundName). visit_cou
 abbrev pub visits_to_come : (Handle → Option NodeCopy) → List Visit → ℕ
 visits_to_come nodes visits = sum_by (λ visit. visit_count nodes (suc visit.below) visit.handle) visits
 
--- Where some visits are to be made, the node of the next one is given out next: it is the first of the nodes to come, and
--- one visit less is left.
+-- Where some visits are to be made, the node of the next one is given out next: it is the first of the nodes to come,
+-- and one visit less is left.
 pub record GivesNext (nodes : Handle → Option NodeCopy) (visits : List Visit) (given : Option TreeNode) (left : List Visit) : Type 0 where
   pub next : to_come nodes visits ≡ option_to_list given ++ to_come nodes left
   pub fewer : visits_to_come nodes visits ≡ visits_to_come nodes left + 1

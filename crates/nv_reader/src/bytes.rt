@@ -23,8 +23,8 @@ pub(crate) trait PartBlocks {
         ensures { option_copied result ≡ bytes_of self.now part };
 }
 
-/// The bytes of a file of that size: page by page, zeros where a page is absent or its part has no block, cut at the size.
-/// Costs these bytes, a look-up of a block for each page, and what [`page_writers`] costs.
+/// The bytes of a file of that size: page by page, zeros where a page is absent or its part has no block, cut at the
+/// size. Costs these bytes, a look-up of a block for each page, and what [`page_writers`] costs.
 pub(crate) fn file_bytes<B: PartBlocks>(
     alloc: Global,
     block: u64,

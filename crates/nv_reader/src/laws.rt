@@ -14,8 +14,8 @@ ghost use Rattle.nv_reader.specs.Nodes.{node_under, nodes_at, settled_nodes, uns
 ghost use Rattle.nv_reader.specs.Walk.{given_in, left_after, name_count, root_visit, to_come, visits_to_come};
 ghost use Rattle.nv_reader.specs.Worlds.{HaveAll, HaveAtMost, handles_from, most_visits, names_of_all};
 
-/// Where every entry that counts and is not settled is of a later epoch, the settled log says of an epoch what the whole log
-/// says. So what [`show_on`](crate::show_on) gives of that epoch does not depend on calls that are under way.
+/// Where every entry that counts and is not settled is of a later epoch, the settled log says of an epoch what the
+/// whole log says. So what [`show_on`](crate::show_on) gives of that epoch does not depend on calls that are under way.
 pub fn settled_logs_tell_earlier_epochs()
     ensures { (cell : CellState) (noted : Option ℕ) (epoch : ℕ)
         → ForSome noted (λ tail. tail ≤ cell.chain.tail)
@@ -23,8 +23,9 @@ pub fn settled_logs_tell_earlier_epochs()
         → up_to epoch (log_of cell) ≡ up_to epoch (settled noted cell) }
 {}
 
-/// The node under a handle is what its slot's cell gives, where that is of the handle's generation: at an epoch as
-/// [`show_on`](crate::show_on) says, and now as [`settled_on`](crate::settled_on) says. In any other generation there is none.
+/// The node under a handle is what its slot's cell gives, where that is of the handle's generation: at an epoch
+/// as [`show_on`](crate::show_on) says, and now as [`settled_on`](crate::settled_on) says. In any other
+/// generation there is none.
 pub fn handles_lead_to_their_generation()
     ensures then { (node : CellState → List Entry → Option NodeCopy) (cells : ℕ → CellState)
         → (epoch : ℕ) (handle : Handle) → handle.generation ≡ (cells handle.ino).generation
@@ -47,8 +48,8 @@ pub fn to_come_is_the_tree()
         to_come nodes (root_visit depth root) ≡ tree_from nodes depth [] root }
 {}
 
-/// A walk into which the node of each visit is handed gives out the tree, and is at its end once it has made the visits that
-/// it had to make.
+/// A walk into which the node of each visit is handed gives out the tree, and is at its end once it has made the visits
+/// that it had to make.
 pub fn a_whole_walk_gives_the_tree()
     ensures tree { (nodes : Handle → Option NodeCopy) (depth visits : ℕ) (root : Handle)
         → visits_to_come nodes (root_visit depth root) ≤ visits
@@ -73,8 +74,8 @@ pub fn inodes_bound_the_depth()
         CutsNothing nodes depth root }
 {}
 
-/// A walk makes at most one visit for each name of the nodes that it gives out, and one more, in any world. So the nodes are
-/// no more either.
+/// A walk makes at most one visit for each name of the nodes that it gives out, and one more, in any world. So the
+/// nodes are no more either.
 pub fn names_bound_the_visits()
     ensures visits { (nodes : Handle → Option NodeCopy) (depth : ℕ) (root : Handle)
         → visits_to_come nodes (root_visit depth root)
@@ -83,8 +84,8 @@ pub fn names_bound_the_visits()
         length (tree_from nodes depth [] root) ≤ name_count (tree_from nodes depth [] root) + 1 }
 {}
 
-/// Where the directories form a tree, no inode is visited twice: the nodes of the tree are those of these handles, whose inodes
-/// differ from one another, and so they are no more than the inodes.
+/// Where the directories form a tree, no inode is visited twice: the nodes of the tree are those of these handles,
+/// whose inodes differ from one another, and so they are no more than the inodes.
 pub fn no_inode_is_visited_twice()
     ensures handles { (nodes : Handle → Option NodeCopy) (depth : ℕ) (path : List (List ℕ))
         (handle : Handle) → map (λ t. Some t.node) (tree_from nodes depth path handle)
@@ -95,8 +96,8 @@ pub fn no_inode_is_visited_twice()
         length (tree_from nodes depth [] root) ≤ inodes }
 {}
 
-/// Where the directories form a tree, a walk makes at most as many visits as there are names in the whole world, and one
-/// more for the root; and it gives out at most as many nodes.
+/// Where the directories form a tree, a walk makes at most as many visits as there are names in the whole world, and
+/// one more for the root; and it gives out at most as many nodes.
 pub fn names_of_the_world_bound_the_visits()
     ensures visits { (nodes : Handle → Option NodeCopy) (inodes depth : ℕ) (all : List Handle)
         → FormTree nodes inodes → HaveAll nodes all
@@ -106,9 +107,9 @@ pub fn names_of_the_world_bound_the_visits()
         → length (tree_from nodes depth [] root) ≤ names_of_all nodes all + 1 }
 {}
 
-/// In any world a walk ends: where no directory has more than so many names, it makes no more visits than a walk of that depth
-/// makes through directories that all have as many; and it gives out no more nodes. That number grows exponentially with the
-/// depth: who cannot tell that the directories form a tree has to find that out before the walk.
+/// In any world a walk ends: where no directory has more than so many names, it makes no more visits than a walk of
+/// that depth makes through directories that all have as many; and it gives out no more nodes. That number grows
+/// exponentially with the depth: who cannot tell that the directories form a tree has to find that out before the walk.
 pub fn walks_end_in_any_world()
     ensures visits { (nodes : Handle → Option NodeCopy) (most depth : ℕ) (root : Handle)
         → HaveAtMost nodes most

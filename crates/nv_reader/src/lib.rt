@@ -1,8 +1,8 @@
 //! What is read of a world: the node that an inode is or was, by its cell, and the walk of the tree.
 //!
-//! [`show_on`] gives the node at the end of an epoch, and [`settled_on`] the node now, up to a tail that a journal has noted.
-//! A [`Walk`] says which node it wants next, its caller hands that node in, and the walk gives it out with its path. So it
-//! is the same walk wherever the nodes come from.
+//! [`show_on`] gives the node at the end of an epoch, and [`settled_on`] the node now, up to a tail that a journal has
+//! noted. A [`Walk`] says which node it wants next, its caller hands that node in, and the walk gives it out with its
+//! path. So it is the same walk wherever the nodes come from.
 #![tactic(auto)]
 
 mod attributes;

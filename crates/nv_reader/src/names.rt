@@ -7,8 +7,8 @@ use nv_entry::{BoundName, Entry, Item, NameList};
 use std::alloc::{AllocError, Global};
 use std::collections::HashSet;
 
-/// The names that a log binds, in its order. Costs one pass over the log from its end, with a look-up for each entry that
-/// tells of a name.
+/// The names that a log binds, in its order. Costs one pass over the log from its end, with a look-up for each entry
+/// that tells of a name.
 pub(crate) fn names_by(alloc: Global, log: &[Entry]) -> Result<NameList, AllocError>
     ensures { IfOk result (λ names. names ≡ names_of log.now) }
 {

@@ -9,8 +9,8 @@ use crate::names::names_by;
 use nv_entry::{Entry, NodeCopy};
 use std::alloc::{AllocError, Global};
 
-/// The node of a log: kind, mode, size, bytes and names. None where the inode has no kind there. Costs what it hands out and
-/// three passes over the log, with what [`file_bytes`] says of pages.
+/// The node of a log: kind, mode, size, bytes and names. None where the inode has no kind there. Costs what it hands
+/// out and three passes over the log, with what [`file_bytes`] says of pages.
 pub(crate) fn node_by<B: PartBlocks>(
     alloc: Global,
     block: u64,

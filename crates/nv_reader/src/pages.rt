@@ -21,8 +21,8 @@ pub(crate) struct Writer {
 /// The entries that hold the first `count` pages of a file.
 ///
 /// Costs one pass over the log from its end, however many pages an entry writes: in all in the order of the entries and
-/// `count` together, times the logarithm of `count`. What later entries hold is skipped, and each page that is gone over skips
-/// at least as far as the run that went over it.
+/// `count` together, times the logarithm of `count`. What later entries hold is skipped, and each page that is gone
+/// over skips at least as far as the run that went over it.
 pub(crate) fn page_writers(
     alloc: Global,
     block: u64,

@@ -28,9 +28,9 @@ impl PartBlocks for InodeCell {
 /// The node at the end of an epoch; a page whose part is out shows zeros. None where the inode has no kind there.
 /// `OutOfMemory` where room for it was refused.
 ///
-/// Costs what it hands out, and three passes over the log's entries up to the epoch, however many pages they write: in all
-/// in the order of these entries and the file's pages together, times the logarithm of the pages. The block of each page is
-/// looked up, which grows with the logarithm of the log.
+/// Costs what it hands out, and three passes over the log's entries up to the epoch, however many pages they write: in
+/// all in the order of these entries and the file's pages together, times the logarithm of the pages. The block of each
+/// page is looked up, which grows with the logarithm of the log.
 pub fn show_on(alloc: Global, cell: &InodeCell, epoch: Epoch) -> Result<Option<NodeCopy>, Fault>
     ensures own { IfOk result (λ node. node
         ≡ own_node cell.now.state (up_to epoch (log_of cell.now.state))) }
@@ -46,12 +46,12 @@ pub fn show_on(alloc: Global, cell: &InodeCell, epoch: Epoch) -> Result<Option<N
     Ok(node_by(alloc, cell.block_bytes(), log, cell)?)
 }
 
-/// The node now by the settled log: up to the tail that an open journal has noted, in entries, and else up to the log's own,
-/// where the cell's index gives it. A page of the noted log whose part is out shows zeros; without a noted tail no page's
-/// part is out. None where the inode has no kind there. `OutOfMemory` where room for it was refused.
+/// The node now by the settled log: up to the tail that an open journal has noted, in entries, and else up to the log's
+/// own, where the cell's index gives it. A page of the noted log whose part is out shows zeros; without a noted tail no
+/// page's part is out. None where the inode has no kind there. `OutOfMemory` where room for it was refused.
 ///
-/// Without a noted tail it costs what it hands out, with a look-up for each run of pages, and no pass over the log; with
-/// one, as much as [`show_on`].
+/// Without a noted tail it costs what it hands out, with a look-up for each run of pages, and no pass over the log;
+/// with one, as much as [`show_on`].
 pub fn settled_on(
     alloc: Global,
     cell: &InodeCell,

@@ -16,10 +16,11 @@ use std::marker::Model;
 /// A walk through a tree: a parent before its names, and these in their order. Contracts see the visits that are still
 /// to be made.
 ///
-/// It keeps the path of the next visit and the names that are still to be followed in each directory on the way, and no node.
+/// It keeps the path of the next visit and the names that are still to be followed in each directory on
+/// the way, and no node.
 ///
-/// Where the directories form no tree, the visits may grow exponentially with the depth: who cannot tell that they do has to
-/// find that out first.
+/// Where the directories form no tree, the visits may grow exponentially with the depth: who cannot tell that they do
+/// has to find that out first.
 #[derive(Drop)]
 pub struct Walk {
     alloc: Global,
@@ -99,7 +100,8 @@ impl Walk {
         self.next = self.way.next();
     }
 
-    /// Takes the node that was wanted, and gives it out with a copy of its path; none where the handle leads to no node.
+    /// Takes the node that was wanted, and gives it out with a copy of its path; none where the
+    /// handle leads to no node.
     pub fn hand_in(&mut self, node: Option<NodeCopy>) -> Result<Option<TreeNode>, Fault>
         requires { IsSome (next_handle self.old) }
         ensures given { IfOk result (λ given. given ≡ given_for self.old node) }

@@ -7,8 +7,8 @@ use nv_base::{Handle, Name};
 use nv_entry::{BoundName, NameList, Path};
 use std::alloc::{AllocError, Global};
 
-/// The names on the way down, and for each of them those of its directory that are to be followed after it, the next one
-/// last.
+/// The names on the way down, and for each of them those of its directory that are to be followed after
+/// it, the next one last.
 #[derive(Drop)]
 pub(crate) struct Way {
     pub(crate) path: Vec<Name>,
@@ -16,8 +16,8 @@ pub(crate) struct Way {
 }
 
 impl Way {
-    /// Goes to the next name that is left, in the innermost directory that has one, and says what it is bound to. None once
-    /// all are followed, and then the way is empty.
+    /// Goes to the next name that is left, in the innermost directory that has one, and says what it is bound to. None
+    /// once all are followed, and then the way is empty.
     pub(crate) fn next(&mut self) -> Option<Handle>
         requires { length self.old.path.items ≡ length self.old.left.items }
         ensures visits { (depth : ℕ)

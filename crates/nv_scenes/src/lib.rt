@@ -1,8 +1,8 @@
-//! What the tests of the libraries start from: geometries, ids and handles by their numbers, logs by lines, and the logs of
-//! the worked examples.
+//! What the tests of the libraries start from: geometries, ids and handles by their numbers, logs by lines, and the
+//! logs of the worked examples.
 //!
-//! No library stands on this crate but tests alone. What may end a test's process stands in the crates of tests, since a
-//! library may not.
+//! No library stands on this crate but tests alone. What may end a test's process stands in the crates of tests,
+//! since a library may not.
 #![tactic(auto)]
 
 mod ids;

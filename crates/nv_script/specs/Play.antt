@@ -29,8 +29,8 @@ Formats None numbers text new =
     ((text ≡ line_of (codes "formatted")) × (new ≡ Some (formatted numbers)))
     ⊎ ((text ≡ refused_line fault.OutOfMemory) × (new ≡ None))
 
--- a reply to each of at least one event and of `most` at most: each but the last says that the call moved on, and the last
--- says so only where there are so many
+-- a reply to each of at least one event and of `most` at most: each but the last says that the call moved on, and the
+-- last says so only where there are so many
 pub record AreReplies (most : ℕ) (all : List Reply) (last : Reply) : Type 0 where
   pub before : ℕ
   pub all_are : all ≡ replicate before Moved ++ last ∷ []

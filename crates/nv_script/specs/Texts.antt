@@ -82,7 +82,8 @@ reply_line Waiting = line_of (codes "waits")
 reply_line (Done answer) = line_of (codes "done" ++ answer_text answer)
 reply_line (Refused fault) = refused_line fault
 
--- the snapshots: how many live, epoch and last commit; and of each the blocks that it holds, those that a drop defers, and pins
+-- the snapshots: how many live, epoch and last commit; and of each the blocks that it holds, those that a
+-- drop defers, and pins
 abbrev pub snap_line : SnapCounts → List ℕ
 snap_line snap =
     line_of (codes "snap " ++ decimal snap.snapshot ++ codes " held " ++ decimal snap.held ++ codes " gain " ++ decimal snap.gain

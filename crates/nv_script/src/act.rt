@@ -112,8 +112,8 @@ fn act(world: &mut World, command: Command, out: &mut Vec<u8>) -> Result<(), All
     }
 }
 
-/// An actor's call goes on, and so often more at most, up to the first reply that it did not move. It is kept apart with
-/// one step in it, so that a step costs no call of its own.
+/// An actor's call goes on, and so often more at most, up to the first reply that it did not move. It is kept apart
+/// with one step in it, so that a step costs no call of its own.
 #[inline(never)]
 fn go(world: &mut World, actor: u64, more: u64) -> Reply
     ensures { Leads (λ m n. GoesOn (more + 1) m actor (reply_of result) n) world.old world.new }

@@ -49,8 +49,8 @@ pub fn play<R: Read, W: Write>(alloc: Global, reader: &mut R, writer: &mut W) ->
     player.play(alloc, reader, writer)
 }
 
-/// Plays a script as [`play`] does, and does not take its world apart: for a program that ends then, whose memory goes back
-/// as a whole. Taking a large world apart block by block can take a tenth of the time of its script.
+/// Plays a script as [`play`] does, and does not take its world apart: for a program that ends then, whose memory goes
+/// back as a whole. Taking a large world apart block by block can take a tenth of the time of its script.
 pub fn play_and_leave<R: Read, W: Write>(
     alloc: Global,
     reader: &mut R,

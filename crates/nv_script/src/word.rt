@@ -102,8 +102,8 @@ pub fn words(alloc: Global, line: &[u8]) -> Result<Vec<&[u8]>, AllocError>
     Ok(found)
 }
 
-/// Whether a byte stands for itself in escaped text: a visible one, but the one that begins an escaped byte. It is asked
-/// without a branch, so that many bytes are asked at once.
+/// Whether a byte stands for itself in escaped text: a visible one, but the one that begins an escaped byte. It is
+/// asked without a branch, so that many bytes are asked at once.
 fn is_plain(byte: u8) -> bool
     ensures { result ≡ is_plain byte }
 {

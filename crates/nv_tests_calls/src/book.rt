@@ -62,7 +62,8 @@ fn enter(rt: &impl Abort, book: &mut Book, seat: u64, need: u64) -> (Epoch, Comm
     }
 }
 
-// The same calls with the answers that are wanted. What they do to a book no clause says here, so that no test carries it along.
+// The same calls with the answers that are wanted. What they do to a book no clause says here, so that no
+// test carries it along.
 fn enters(rt: &impl Abort, book: &mut Book, need: u64, epoch: u64, number: u64) {
     let fixed = enter(rt, book, 0, need);
     same(rt, fixed, (Epoch::new(epoch), CommitNo::new(number)));

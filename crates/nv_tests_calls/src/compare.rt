@@ -1,4 +1,5 @@
-//! Comparisons, and lists that grow, proved once for all tests: an `assert_eq!` of a test's own is proved with the text that it would show.
+//! Comparisons, and lists that grow, proved once for all tests: an `assert_eq!` of a test's own is proved with the
+//! text that it would show.
 
 use std::alloc::Global;
 use std::fmt::Debug;
@@ -15,7 +16,8 @@ pub fn same_for<T: PartialEq + Debug + Drop>(rt: &impl Abort, row: &impl Debug, 
     assert_eq!(rt; found, want, "for {row:?}");
 }
 
-/// Asserts that what was found shows as what is wanted does, in a row of a table by its number: for what cannot be compared.
+/// Asserts that what was found shows as what is wanted does, in a row of a table by its number: for
+/// what cannot be compared.
 pub fn same_shown<T: Debug>(
     rt: &impl Abort,
     alloc: Global,

@@ -1,8 +1,8 @@
-//! The tests of the book, of file calls, of the world, of calls at once and of scripts, a module for each: worked examples,
-//! each call that takes memory once with ample memory, and what no contract says.
+//! The tests of the book, of file calls, of the world, of calls at once and of scripts, a module for each: worked
+//! examples, each call that takes memory once with ample memory, and what no contract says.
 //!
-//! They stand in a crate of their own since a crate with tests is proved twice. What they start from is in `nv_scenes`, and how
-//! they compare in `compare`.
+//! They stand in a crate of their own since a crate with tests is proved twice. What they start from is in `nv_scenes`,
+//! and how they compare in `compare`.
 #![tactic(auto)]
 
 #[cfg(test)]

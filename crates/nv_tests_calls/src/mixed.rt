@@ -1,5 +1,5 @@
-//! Calls of several actors, whose steps come in an order by a seed: each of the twelve calls against each, by two actors
-//! and by three.
+//! Calls of several actors, whose steps come in an order by a seed: each of the twelve calls against each, by two
+//! actors and by three.
 //!
 //! After every event plain scans over what the world reports find each block in one place. At the end replies and tree
 //! are those of the same calls one after another, in one of their orders, in a world with room for all. A call that was

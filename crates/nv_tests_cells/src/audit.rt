@@ -1,5 +1,5 @@
-//! The audit: of devices after calls, as they are and with one part of them changed, and of indexes that are made by hand.
-//! Where a growth is refused it is asked again.
+//! The audit: of devices after calls, as they are and with one part of them changed, and of indexes that are made by
+//! hand. Where a growth is refused it is asked again.
 
 mod indexes;
 

@@ -16,7 +16,8 @@ pub struct Takes {
     pub made: Option<u64>,
 }
 
-/// What a hand holds: the numbers of the blocks for pages, of log pages and of the pages of a chain, and that of an inode.
+/// What a hand holds: the numbers of the blocks for pages, of log pages and of the pages of a chain,
+/// and that of an inode.
 #[derive(Clone, Copy)]
 pub struct Held {
     pub data: &'static [u64],

@@ -1,6 +1,6 @@
-//! The tests of file calls on cells that are made by hand, from the check to the last retirement: the worked rows, the order of
-//! refusals, where the bytes of a write come from, and calls that are lent some slots of all; and of the audit. Where a growth is
-//! refused nothing has changed, and the call is made once more.
+//! The tests of file calls on cells that are made by hand, from the check to the last retirement: the worked rows, the
+//! order of refusals, where the bytes of a write come from, and calls that are lent some slots of all; and of the
+//! audit. Where a growth is refused nothing has changed, and the call is made once more.
 #![tactic(auto)]
 
 #[cfg(test)]

@@ -12,8 +12,8 @@ const LONG: &[u8] = &[b'a'; 1_025];
 /// The most bytes of a file, with blocks of one byte.
 const MOST: u64 = 65_536;
 
-/// The root has a directory 1 with a file 2, and a file 3. No cell has number 9. Where several tests fail, the row says the
-/// first; once file 3 is gone, its handle is stale before anything else.
+/// The root has a directory 1 with a file 2, and a file 3. No cell has number 9. Where several tests fail, the row says
+/// the first; once file 3 is gone, its handle is stale before anything else.
 const REFUSALS: &[Step] = &[
     Makes(Mkdir(0, "d"), &[1], 1, 1),
     Makes(Create(1, "x"), &[2], 2, 2),

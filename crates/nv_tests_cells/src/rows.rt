@@ -117,8 +117,8 @@ const A_REPLACED_FILE: &[Step] = &[
     Free(&[(1, 2), (4, 7)]),
 ];
 
-/// A rename over a file of another directory is one commit of three logs: the file that it moves gets no entry. The hand is
-/// left with what the replaced file had, and its number.
+/// A rename over a file of another directory is one commit of three logs: the file that it moves gets no entry. The
+/// hand is left with what the replaced file had, and its number.
 const THREE_INODES: &[Step] = &[
     Makes(Mkdir(0, "d"), &[1], 1, 1),
     Makes(Create(1, "x"), &[2], 2, 2),
@@ -142,8 +142,8 @@ const THREE_INODES: &[Step] = &[
     Finds(Reads::Stat(3), Stat(Kind::File, 420, 0, 4)),
 ];
 
-/// The same under a snapshot, which holds all that the commit kills: the hand is left with nothing, not even the page that
-/// one of the logs took.
+/// The same under a snapshot, which holds all that the commit kills: the hand is left with nothing, not even the page
+/// that one of the logs took.
 const THREE_INODES_UNDER_A_SNAPSHOT: &[Step] = &[
     Makes(Mkdir(0, "d"), &[1], 1, 1),
     Makes(Create(1, "x"), &[2], 2, 2),

@@ -1,7 +1,7 @@
 //! Calls that change nodes, as tables say them.
 //!
-//! An inode is said by its number, which is below 10, with its generation in front unless that is the first: 21 is inode 1 of
-//! generation 2.
+//! An inode is said by its number, which is below 10, with its generation in front unless that is the first: 21 is
+//! inode 1 of generation 2.
 
 use crate::compare::same;
 use nv_base::{Bytes, Fault, Handle, Mode};

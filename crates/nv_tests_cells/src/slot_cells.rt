@@ -13,8 +13,8 @@ use nv_calls::SlotCells;
 use nv_cell::InodeCell;
 use std::process::Abort;
 
-/// The slots that are lent to a call, the call, its log pages, the inode that it makes, the number of its commit, and then of
-/// each of all slots how many entries its log has, and its version.
+/// The slots that are lent to a call, the call, its log pages, the inode that it makes, the number of its commit, and
+/// then of each of all slots how many entries its log has, and its version.
 type Row = (
     [u64; 4],
     Says,

@@ -33,8 +33,8 @@ pub enum Step {
     Snapshot(u64),
     /// The entries of an inode's log, its version, and how many entries of each log page are live and how many valid.
     Log(u64, usize, u64, &'static [(usize, usize)]),
-    /// What the next commit leaves in its hand: the numbers of blocks of pages, of log pages that it took, and of the log of
-    /// the inode that it erases, which is the last.
+    /// What the next commit leaves in its hand: the numbers of blocks of pages, of log pages that it took, and of the
+    /// log of the inode that it erases, which is the last.
     Leaves(&'static [u64], &'static [u64], &'static [u64], Option<u64>),
     /// The inode that the last commit erased.
     Gone(Option<u64>),

@@ -1,5 +1,5 @@
-//! Writes whose texts come from other sources: one that fails, one that counts how often it is asked, a slow one, and one of
-//! single bytes.
+//! Writes whose texts come from other sources: one that fails, one that counts how often it is asked, a slow one, and
+//! one of single bytes.
 
 use crate::compare::{same, same_for};
 use crate::hands::taking;
@@ -143,8 +143,8 @@ fn a_source_that_counts(rt: HostRuntime) {
     }
 }
 
-/// A write that is made once. With ample memory it commits; with the runner's choice of one refused growth it may be refused,
-/// nothing has changed then, and it is made again.
+/// A write that is made once. With ample memory it commits; with the runner's choice of one refused growth it may be
+/// refused, nothing has changed then, and it is made again.
 #[test]
 fn one_refused_growth(rt: HostRuntime) {
     for case in CASES {

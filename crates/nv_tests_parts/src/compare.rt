@@ -1,4 +1,5 @@
-//! Comparisons, and lists that grow, proved once for all tests: an `assert_eq!` of a test's own is proved with the text that it would show.
+//! Comparisons, and lists that grow, proved once for all tests: an `assert_eq!` of a test's own is proved with the
+//! text that it would show.
 
 use std::fmt::Debug;
 use std::process::Abort;

@@ -1,5 +1,5 @@
-//! Names, free lists and queues of blocks that several modules start from. Where a growth is refused nothing has changed, and
-//! the call is made once more.
+//! Names, free lists and queues of blocks that several modules start from. Where a growth is refused nothing has
+//! changed, and the call is made once more.
 
 use crate::compare::same;
 use nv_alloc::{Block, BlockQueue, FreeList};

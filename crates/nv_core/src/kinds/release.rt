@@ -63,8 +63,8 @@ pub(crate) fn release(
     end(shared, hand, running, Ending::Drains(drained))
 }
 
-/// Puts the part of a record out, and its block to the hand. An inode that is gone and keeps nothing more is erased, and
-/// its chain and number go to the hand. Takes no memory.
+/// Puts the part of a record out, and its block to the hand. An inode that is gone and keeps nothing more is erased,
+/// and its chain and number go to the hand. Takes no memory.
 fn release_on(cell: &mut InodeCell, picked: Record, hand: &mut Hand)
     requires kept { mark_named cell.old.state (name_of picked) ≡ Some Kept }
     requires room { 0 < hand.old.data.room }

@@ -13,8 +13,8 @@ use std::process::Abort;
 use std::test::Fail;
 use std::thread;
 
-// A file is made and written by commits 1 and 2; with snapshots `1 ..= snaps` made since, commit 3 writes its first page
-// anew, which kills the size and the page that commit 2 set.
+// A file is made and written by commits 1 and 2; with snapshots `1 ..= snaps` made since, commit 3 writes its first
+// page anew, which kills the size and the page that commit 2 set.
 fn overwritten(rt: &impl Abort, book: &mut Book, snaps: u32) {
     for number in 1..3 {
         enters(rt, book, 0, 1, number);
@@ -60,8 +60,8 @@ fn deferred_is_not_free(rt: HostRuntime) {
     same(&rt, book.stored(), 0);
 }
 
-// Four pages of one entry, a gap, and a page of another entry, each with its commit; and how many runs there are after each of
-// them is picked.
+// Four pages of one entry, a gap, and a page of another entry, each with its commit; and how many runs there are after
+// each of them is picked.
 const KILLED: [(u64, u32, u64); 6] = [
     (1, 0, 3),
     (1, 1, 3),

@@ -9,9 +9,9 @@ use nv_scenes::geometry;
 use std::process::Abort;
 use std::test::Fail;
 
-/// Each block is in one place: in one free list once, and at home there; in a log; under a page of a file; or in a hand,
-/// which has none while no call is going on. A file that is taken away is in the tree up to the call's commit point, and its
-/// blocks may be in the hand by then.
+/// Each block is in one place: in one free list once, and at home there; in a log; under a page of a file; or in a
+/// hand, which has none while no call is going on. A file that is taken away is in the tree up to the call's commit
+/// point, and its blocks may be in the hand by then.
 pub(super) fn check_blocks(
     rt: &impl Abort,
     scene: &Scene,

@@ -1,8 +1,9 @@
-//! Each of the four calls on snapshots against each of the sixteen calls, and a third call beside them, in an order by a seed.
+//! Each of the four calls on snapshots against each of the sixteen calls, and a third call beside them,
+//! in an order by a seed.
 //!
-//! After every event each living snapshot reads as the tree that stood when it was made, no other is there, and the audit
-//! finds nothing. At the end, when all snapshots are dropped and all deferred records released, plain scans find each block
-//! in one place.
+//! After every event each living snapshot reads as the tree that stood when it was made, no other is there, and the
+//! audit finds nothing. At the end, when all snapshots are dropped and all deferred records released, plain scans find
+//! each block in one place.
 
 use super::blocks::check_blocks;
 use super::says::{ALL_KINDS, KINDS, Says, chosen};
@@ -22,8 +23,8 @@ const ROW: Row = [56, 2, BLOCK, 2, 10, SNAPS, 3];
 
 const SNAPS: u64 = 3;
 
-/// Calls behind what is prepared: snapshots 1 and 2 live then and hold what is no longer current, a whole file among it, and
-/// what 3 held besides is deferred.
+/// Calls behind what is prepared: snapshots 1 and 2 live then and hold what is no longer current, a whole file among
+/// it, and what 3 held besides is deferred.
 const SNAPPED: &[Says] = &[
     Create(0, b"f"),
     Write(6, 0, b"before"),
@@ -80,8 +81,8 @@ impl Snapped {
         self.note(rt, says, &reply)
     }
 
-    /// Notes the tree of a snapshot that was made, and no longer that of one that was dropped. A show has the tree that was
-    /// noted.
+    /// Notes the tree of a snapshot that was made, and no longer that of one that was dropped. A show has the
+    /// tree that was noted.
     fn note(&mut self, rt: &impl Abort, says: &Says, reply: &Reply) -> Result<(), Fail> {
         match (says, reply) {
             (Snap, Reply::Done(_)) => push(rt, &mut self.noted, Some(self.scene.world.tree()?)),

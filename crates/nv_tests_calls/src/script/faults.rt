@@ -75,8 +75,8 @@ const OUT_OF_RANGE_WRITTEN: &str = "formatted\n\
      refused E6 BadName\n\
      refused E3 Stale\n";
 
-/// The rows `events_and_lines`, `events_and_an_unended_line` and `numbers_out_of_range`: the lines before the last with what they
-/// write, and the last with its number and its fault.
+/// The rows `events_and_lines`, `events_and_an_unended_line` and `numbers_out_of_range`: the lines before the last with
+/// what they write, and the last with its number and its fault.
 const ENDED: &[(&str, &str, &str, u64, ScriptFaultKind)] = &[
     (EVENTS, EVENTS_WRITTEN, "jump\n", 12, ScriptFaultKind::Word),
     (EVENTS, EVENTS_WRITTEN, "tree", 12, ScriptFaultKind::Unended),

@@ -1,5 +1,5 @@
-//! Worked rows while the runner refuses memory once: a line that is refused is given again, and a call that is refused on its
-//! way is made again by `do`. `tools/refused-growths` refuses each growth of each row in turn.
+//! Worked rows while the runner refuses memory once: a line that is refused is given again, and a call that is refused
+//! on its way is made again by `do`. `tools/refused-growths` refuses each growth of each row in turn.
 
 use super::snapshots::{A_RECORD_MOVES_DOWN, BORN_AND_DEAD_IN_ONE_EPOCH, SNAPSHOT_REFUSALS};
 use super::worked::{CUT_THEN_GROWN, NAMES, PARTIAL_AT_BOTH_ENDS, Row};
@@ -41,7 +41,8 @@ impl<'a> Read for Patient<'a> {
     }
 }
 
-/// Takes one line's text at a time, and wants it to be the next whole lines of all text, or a refusal for want of memory.
+/// Takes one line's text at a time, and wants it to be the next whole lines of all text, or a
+/// refusal for want of memory.
 #[derive(Drop)]
 struct Expecting<'a> {
     text: &'a [u8],
@@ -67,8 +68,8 @@ impl<'a> Write for Expecting<'a> {
     }
 }
 
-/// Plays a row; what its `run` runs, if it has one, is given too. Each line has its answer, where it was refused at the next
-/// try; or want of memory for a line or its text ends the script behind the answers of the lines before.
+/// Plays a row; what its `run` runs, if it has one, is given too. Each line has its answer, where it was refused at the
+/// next try; or want of memory for a line or its text ends the script behind the answers of the lines before.
 fn answers_in_the_end<R: AllocGlobal + Abort>(rt: &R, row: Row, run: &[u8]) {
     let is_refused = Cell::new(false);
     let mut reader = Patient {

@@ -1,6 +1,6 @@
-//! Each call made in a new world by an actor that has made none, while the runner may refuse memory once. Where that is a
-//! growth of the call's own, it is refused at a step that grows something, nothing has changed, and the same call made
-//! again has its answer. `tools/refused-growths` refuses each growth of each row in turn.
+//! Each call made in a new world by an actor that has made none, while the runner may refuse memory once. Where that is
+//! a growth of the call's own, it is refused at a step that grows something, nothing has changed, and the same call
+//! made again has its answer. `tools/refused-growths` refuses each growth of each row in turn.
 
 use super::playing::{alone, new_world};
 use super::reports::Reports;
@@ -16,8 +16,8 @@ use nv_scenes as scenes;
 use std::alloc::Global;
 use std::process::Abort;
 
-/// A step that grows something, and how many steps the call makes where it is refused memory there: the steps up to that
-/// one, and then those that give back what the call has.
+/// A step that grows something, and how many steps the call makes where it is refused memory there: the steps up to
+/// that one, and then those that give back what the call has.
 type Growth = (&'static str, u64);
 
 /// What it shows; the calls before it, which another actor makes; a call, its answer, and which of its steps grow.
@@ -44,8 +44,8 @@ const EARLIER: u64 = 0;
 
 const ACTOR: u64 = 1;
 
-/// Of a new node: number, two locks, check, pages, ready, enter. Back go two unlocks and the number, and after the pages
-/// those too.
+/// Of a new node: number, two locks, check, pages, ready, enter. Back go two unlocks and the number, and after
+/// the pages those too.
 const NEW_NODE: &[Growth] = &[("check", 7), ("ready", 10), ("enter", 11)];
 
 /// Of a change of one node: a lock, check, one taking, ready, enter. Back go the unlock, and then the blocks.
@@ -58,8 +58,8 @@ const NO_TAKING: &[Growth] = &[("check", 3), ("ready", 4), ("enter", 5)];
 /// Of a visit.
 const VISIT: &[Growth] = &[("visit", 1)];
 
-/// An enter grows where the call may kill more parts than each call before it: four in a create or a mkdir, one more than
-/// its pages in a write.
+/// An enter grows where the call may kill more parts than each call before it: four in a create or a mkdir, one more
+/// than its pages in a write.
 const FOUR_PAGES: &[u8] = b"abcdefghijklmnop";
 
 /// Files and directories that are made, and bytes.

@@ -54,8 +54,8 @@ const STEPS: &[Played] = &[
     (Go(2), Want::Moved),
 ];
 
-/// The living snapshots then: the number of each, the blocks that it holds and that are no longer current, how many of these a
-/// drop puts on the deferred list, and its pins.
+/// The living snapshots then: the number of each, the blocks that it holds and that are no longer current, how many of
+/// these a drop puts on the deferred list, and its pins.
 const LIVING: &[(u64, u64, u64, u32)] = &[(1, 1, 1, 0), (3, 0, 0, 1), (5, 0, 0, 0)];
 
 fn has_snapshots(rt: &impl Abort, world: &World) {

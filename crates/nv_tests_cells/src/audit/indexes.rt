@@ -23,7 +23,8 @@ const PAGES: &[Line] = &[
     (4, 0, 2, Size(8)),
 ];
 
-/// Writes of an index, each with its first page, its length, and the commit of its entry; and whether they are those of the log.
+/// Writes of an index, each with its first page, its length, and the commit of its entry; and whether they
+/// are those of the log.
 type Runs = (&'static [(u32, u32, u64)], bool);
 
 const RUNS: &[Runs] = &[
@@ -68,7 +69,8 @@ const NAMES: &[Line] = &[
     (6, 0, 1, Bind("c", 4)),
 ];
 
-/// Names of an index, each with the inode that it leads to and the commit of its entry; and whether they are those of the log.
+/// Names of an index, each with the inode that it leads to and the commit of its entry; and whether they
+/// are those of the log.
 type Bindings = (&'static [(&'static str, u64, u64)], bool);
 
 const BINDINGS: &[Bindings] = &[

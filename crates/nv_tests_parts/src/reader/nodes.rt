@@ -76,8 +76,8 @@ const THE_OLD_BYTES: Case = Case {
     now: Shown::File(12, b"cccc\0\0\0\0dddd"),
 };
 
-/// Runs of three and four pages that overlap at their beginnings and ends, a cut in the middle of one, a hole, and a page behind
-/// a cut to nothing.
+/// Runs of three and four pages that overlap at their beginnings and ends, a cut in the middle of one, a hole, and a
+/// page behind a cut to nothing.
 const LONG_RUNS: Case = Case {
     entries: &[
         (1, File),
@@ -107,7 +107,8 @@ const LONG_RUNS: Case = Case {
     now: Shown::File(8, b"\0\0\0\0zzzz"),
 };
 
-/// Runs inside others and around them, so that what a later entry holds stands at the beginning, in the middle and at the end.
+/// Runs inside others and around them, so that what a later entry holds stands at the beginning, in the
+/// middle and at the end.
 const RUNS_IN_RUNS: Case = Case {
     entries: &[
         (1, File),
@@ -258,7 +259,8 @@ fn nodes(rt: HostRuntime) {
     }
 }
 
-/// Eight pages, each overwritten three times by itself: the settled node is read by the index, no more entries than pages.
+/// Eight pages, each overwritten three times by itself: the settled node is read by the index, no
+/// more entries than pages.
 #[test]
 fn settled_nodes_are_read_by_the_index(rt: HostRuntime) {
     let alloc = rt.alloc();

@@ -1,5 +1,5 @@
-//! Whole trees at each epoch, now, and up to noted tails: walks whose nodes are those of cells with logs that are made by
-//! hand.
+//! Whole trees at each epoch, now, and up to noted tails: walks whose nodes are those of cells with logs
+//! that are made by hand.
 
 use super::names::{has_path, new_walk, wants};
 use super::nodes::{node_at, settled_node};
@@ -103,8 +103,8 @@ const READER_SEES_THE_OLD_TREE: World = World {
     ],
 };
 
-/// Names that lead to an inode that was erased, to the one that has its slot now, and to one that is not yet made. The file
-/// `f` is overwritten after a snapshot, and gets another mode.
+/// Names that lead to an inode that was erased, to the one that has its slot now, and to one that is not yet made. The
+/// file `f` is overwritten after a snapshot, and gets another mode.
 const STALE_HANDLES: World = World {
     slots: &[
         Slot {
