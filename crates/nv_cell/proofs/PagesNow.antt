@@ -12,6 +12,7 @@ use Rattle.nv_entry.specs.Keys.{Key, sets, touches}
 use Rattle.nv_entry.specs.Laws.{is_present}
 use Rattle.nv_entry.specs.Log.{last_setting, later_of, value_of}
 use Rattle.nv_entry.specs.Refs.{place_in}
+use Rattle.nv_entry.proofs.Covering.{touched}
 use Rattle.nv_cell.specs.Cell.{page_block}
 use Rattle.nv_cell.proofs.Numbers.{scan_n}
 use Rattle.nv_cell.proofs.Placing.{place_key}
@@ -26,23 +27,6 @@ front_block block (x ∷ xs) ys n lt = go (nat_lt n (part_count x)) refl (λ l. 
       → page_block block (x ∷ (xs ++ ys)) n ≡ page_block block (x ∷ xs) n
   go true q rec = rw q refl
   go false q rec = rw q (rec (omega (arith, lt, ltb-false n (part_count x) q)))
-
--- an entry covers a key if the last setting of the key is one
-touched : (block : ℕ) (log : List Entry) (key : Key) → touches (last_setting block log key) ≡ any_cover block log key
-touched block [] key = refl
-touched block (e ∷ later) key =
-    go (sets block e.item key) (last_setting block later key) (any_cover block later key) (touched block later key)
-  where
-    go : (s l : Setting) (b : Bool) → touches l ≡ b → touches (later_of s l) ≡ (touches s || b)
-    go Untouched Untouched b h = h
-    go Untouched Absent b h = h
-    go Untouched (Present v) b h = h
-    go Absent Untouched b h = refl
-    go Absent Absent b h = refl
-    go Absent (Present v) b h = refl
-    go (Present v) Untouched b h = refl
-    go (Present v) Absent b h = refl
-    go (Present v) (Present w) b h = refl
 
 abbrev block_by : Setting → Option ℕ
 block_by s = option_and_then block_in (value_of s)

@@ -28,6 +28,23 @@ later_of-touching earlier Untouched h = cc
 later_of-touching earlier Absent h = refl
 later_of-touching earlier (Present value) h = refl
 
+-- the last setting of a key is one exactly where an entry covers the key
+pub touched : (block : ℕ) (log : List Entry) (key : Key) → touches (last_setting block log key) ≡ any_cover block log key
+touched block [] key = refl
+touched block (e ∷ later) key =
+    go (sets block e.item key) (last_setting block later key) (any_cover block later key) (touched block later key)
+  where
+    go : (s l : Setting) (b : Bool) → touches l ≡ b → touches (later_of s l) ≡ (touches s || b)
+    go Untouched Untouched b h = h
+    go Untouched Absent b h = h
+    go Untouched (Present v) b h = h
+    go Absent Untouched b h = refl
+    go Absent Absent b h = refl
+    go Absent (Present v) b h = refl
+    go (Present v) Untouched b h = refl
+    go (Present v) Absent b h = refl
+    go (Present v) (Present w) b h = refl
+
 -- ---- parts
 
 pub at_place_of : {X : Type 0} (P : X → Type 0) (xs : List X) (n : ℕ) (x : X) → AllByRecursion P xs → slice_get xs n ≡ Some x → P x

@@ -26,6 +26,7 @@ use Rattle.nv_entry.specs.declared.key.Setting.{Setting}
 use Rattle.nv_entry.specs.declared.key.Setting.TheVariants.{Absent, Present, Untouched}
 use Rattle.nv_entry.specs.declared.node.NodeCopy.{NodeCopy}
 use Rattle.nv_entry.specs.declared.part.Part.{Part}
+use Rattle.nv_entry.proofs.Covering.{touched}
 use Rattle.nv_entry.proofs.Later.{up_to-append}
 use Rattle.nv_machine.specs.Kept.{AreApart}
 use Rattle.nv_machine.specs.Reads.{bytes_among}
@@ -70,22 +71,6 @@ up_to_within epoch (e ∷ log) = go (nat_le e.epoch epoch) refl (up_to_within ep
   go false past all = all
 
 -- ---- the part that holds a key
-
-touched : (block : ℕ) (log : List Entry) (key : Key) → touches (last_setting block log key) ≡ any_cover block log key
-touched block [] key = refl
-touched block (e ∷ later) key =
-    go (sets block e.item key) (last_setting block later key) (any_cover block later key) (touched block later key)
-  where
-    go : (s l : Setting) (b : Bool) → touches l ≡ b → touches (later_of s l) ≡ (touches s || b)
-    go Untouched Untouched b h = h
-    go Untouched Absent b h = h
-    go Untouched (Present v) b h = h
-    go Absent Untouched b h = refl
-    go Absent Absent b h = refl
-    go Absent (Present v) b h = refl
-    go (Present v) Untouched b h = refl
-    go (Present v) Absent b h = refl
-    go (Present v) (Present w) b h = refl
 
 some_scanned : (block : ℕ) (log : List Entry) (key : Key) → is_present (last_setting block log key) ≡ true
     → is_some (scan_n block log key) ≡ true
