@@ -42,6 +42,7 @@ mod Leaving
 pub mod NamesLeft
 pub mod Removing
 pub mod PageFlags
+pub mod FieldsLeft
 pub mod Growing
 pub mod Numbered
 pub mod MayGoing

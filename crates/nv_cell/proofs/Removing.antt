@@ -95,8 +95,16 @@ stat_kept block new old values last =
     ∙ ap (λ v. stat_of (value_now block old KindKey) (value_now block old ModeKey) v (last_of new)) (values SizeKey)
     ∙ ap (stat_of (value_now block old KindKey) (value_now block old ModeKey) (value_now block old SizeKey)) last
 
-module _ {flags : List Bool} {cell : CellState} {chain : ChainState} (left : IsLeft flags cell.chain chain) (marks : HasMarks cell)
-    (blocks : HasBlocks cell) (may : MayGo flags cell) where
+-- entries may be taken out of a cell, and this chain is left
+pub record AreTaken (flags : List Bool) (cell : CellState) (chain : ChainState) : Type 0 where
+  pub left : IsLeft flags cell.chain chain
+  pub marks : HasMarks cell
+  pub blocks : HasBlocks cell
+  pub may : MayGo flags cell
+
+module _ {flags : List Bool} {cell : CellState} {chain : ChainState} (taken : AreTaken flags cell chain) where
+  open taken use {left, marks, blocks, may}
+
   pub may_leave : MayAllLeave cell.block [] (log_of cell) flags
   may_leave = cell_may_leave flags cell left.flags_len marks may
 
