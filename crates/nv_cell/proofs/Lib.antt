@@ -15,6 +15,7 @@ pub mod Naming
 pub mod NamedParts
 pub mod KilledParts
 pub mod Remarking
+pub mod Remarked
 pub mod Readied
 pub mod ReadySteps
 pub mod Bound

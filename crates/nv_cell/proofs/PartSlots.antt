@@ -148,13 +148,3 @@ module _ (i : Inside) (inv : AreFields i) (p : NumberedPart) (low : p.entry < i.
   slot_found h o is =
       is_slot_of i.chain.state.entries i.blocks.items p (start_at i.marks.ends.items p.entry) (first_slot i.marks.tallies.items p.entry) o h
       start first inv.slots is
-
--- the slot of a part that was looked for and found
-pub slot_taken : (i : Inside) → AreFields i → (o : Option NumberedPart) (p : NumberedPart) → o ≡ Some p
-    → IfSome o (λ q. q.entry < i.chain.state.tail) → IfSome o (StandsIn i.chain.state.entries) → (k : Option ℕ)
-    → k ≡ cond (nat_lt (start_at i.marks.ends.items p.entry) p.number) (Some (first_slot i.marks.tallies.items p.entry
-    + (p.number - start_at i.marks.ends.items p.entry - 1))) None
-    → IsSlotOf i.chain.state.entries i.blocks.items p.number k
-slot_taken i inv o p found low stands k is =
-    slot_found i inv p (subst (λ q. IfSome q (λ r. r.entry < i.chain.state.tail)) found low)
-    (subst (λ q. IfSome q (StandsIn i.chain.state.entries)) found stands) k is
