@@ -1,28 +1,26 @@
 -- A walk over the entries of a log that tells whether those that go may do so.
-use Rattle.std.proofs.Common.{◌≡◌, ℕ, zero, suc, ◌+◌, ◌-◌, ◌<◌, ◌≤◌, Bool, true, false, cond, ◌||◌, List, [], ◌∷◌, ◌++◌, length, take, drop, get_or, nat_lt, Some, slice_get, arith, refl, ap, sym, ◌∙◌, subst}
+use Rattle.std.proofs.Common.{◌≡◌, ℕ, zero, suc, ◌+◌, ◌-◌, ◌<◌, ◌≤◌, Bool, true, false, cond, ◌||◌, List, [], ◌∷◌, ◌++◌, length, take, drop, get_or, nat_lt, arith, refl, ap, sym, ◌∙◌, subst}
 use Rattle.std.specs.List.{AllByRecursion, list_any}
-use Rattle.std.proofs.lemmas.List.{append-nil, drop-drop, drop_all, get_or-take, get_or_default, length-take-le, take-take}
-use Rattle.std.proofs.lemmas.Option.{get_or_from_slice_get}
+use Rattle.std.proofs.lemmas.List.{append-nil, drop-drop, drop_all, get_or_default, length-take, take-take}
 use Rattle.nv_entry.specs.declared.item.Entry.{Entry}
 use Rattle.nv_entry.specs.Clean.{hides, select}
 use Rattle.nv_entry.specs.Covered.{part_count, part_total}
 use Rattle.nv_entry.specs.Leaving.{HidesNone}
 use Rattle.nv_entry.proofs.Flags.{rest_is}
 use Rattle.nv_entry.proofs.Hiding.{hides-false_before, hides_nothing_before}
-use Rattle.nv_log.specs.Chain.{ChainState, IsChain, gone_of, log}
+use Rattle.nv_log.specs.Chain.{gone_of, log}
+use Rattle.nv_cell.specs.declared.cell.InodeCell.TheInside.{Inside}
 use Rattle.nv_cell.specs.declared.mark.Mark.{Mark}
+use Rattle.nv_cell.specs.Fields.{AreFields}
 use Rattle.nv_cell.specs.declared.mark.Mark.TheVariants.{Out}
 use Rattle.nv_cell.specs.Marks.{is_there}
 use Rattle.nv_cell.specs.Numbers.{part_base}
-use Rattle.nv_cell.specs.Removal.{AreFlags, HideNoneLeft, flags_of, part_flags}
-use Rattle.nv_cell.specs.declared.stays.Stays.{Stays}
-use Rattle.nv_cell.specs.declared.tally.Tally.{Tally}
-use Rattle.nv_cell.specs.Tallies.{AreTallies, end_at, is_valid, start_at, tally_at}
+use Rattle.nv_cell.specs.Removal.{HideNoneLeft, part_flags}
+use Rattle.nv_cell.specs.Tallies.{end_at, is_valid, start_at, tally_at}
 use Rattle.nv_cell.proofs.Droppable.{all_out}
-use Rattle.nv_cell.proofs.PageFlags.{flags-count}
 use Rattle.nv_cell.proofs.PageMarks.{any_counts}
 use Rattle.nv_cell.proofs.Publishes.{first_base}
-use Rattle.nv_cell.proofs.RunFlags.{all_append, AreNext, flags_end, goes_on, gone_of-run, next_of, part_totals, run_gone}
+use Rattle.nv_cell.proofs.RunFlags.{all_append, AreNext, IsAt, flags_end, goes_on, gone_of-run, next_of, part_totals, run_gone}
 
 abbrev pub AreOut : List Mark → Type 0
 AreOut marks = AllByRecursion (λ m. m ≡ Out) marks
@@ -54,14 +52,13 @@ select_next (c ∷ flags) (x ∷ es) (suc i) b e lf le qb qe =
       go true h = ap (λ (ys : List Entry). x ∷ ys) h
       go false h = h
 
-module _ (block : ℕ) (flags : List Bool) (es : List Entry) (marks : List Mark) (i : ℕ) (e : Entry) (lf : i < length flags)
-    (le : i < length es) (at : e ≡ get_or es i e) where
+module _ {flags : List Bool} {es : List Entry} {i : ℕ} {e : Entry} (block : ℕ) (marks : List Mark) (at : IsAt flags es i e) where
   ahead : (b : Bool) → b ≡ get_or flags i b
       → HideNoneLeft block (select (take i flags) es) (drop i es) (drop i flags)
       ≡ HideNoneLeft block (select (take i flags) es) (e ∷ drop (i + 1) es) (b ∷ drop (i + 1) flags)
   ahead b is =
-      ap (λ (xs : List Entry). HideNoneLeft block (select (take i flags) es) xs (drop i flags)) (rest_is es i e le at)
-      ∙ ap (HideNoneLeft block (select (take i flags) es) (e ∷ drop (i + 1) es)) (rest_is flags i b lf is)
+      ap (λ (xs : List Entry). HideNoneLeft block (select (take i flags) es) xs (drop i flags)) (rest_is es i e at.entry at.is)
+      ∙ ap (HideNoneLeft block (select (take i flags) es) (e ∷ drop (i + 1) es)) (rest_is flags i b at.flag is)
 
   stays_hidden : true ≡ get_or flags i true
       → HideNoneLeft block (select (take i flags) es) (drop i es) (drop i flags)
@@ -69,7 +66,7 @@ module _ (block : ℕ) (flags : List Bool) (es : List Entry) (marks : List Mark)
   stays_hidden is =
       ahead true is
       ∙ ap (λ (xs : List Entry). HideNoneLeft block xs (drop (i + 1) es) (drop (i + 1) flags))
-      (sym (select_next flags es i true e lf le is at))
+      (sym (select_next flags es i true e at.flag at.entry is at.is))
 
   goes_hidden : false ≡ get_or flags i false
       → HideNoneLeft block (select (take i flags) es) (drop i es) (drop i flags)
@@ -77,13 +74,13 @@ module _ (block : ℕ) (flags : List Bool) (es : List Entry) (marks : List Mark)
       × HideNoneLeft block (select (take (i + 1) flags) es) (drop (i + 1) es) (drop (i + 1) flags))
   goes_hidden is =
       let same : select (take i flags) es ≡ select (take (i + 1) flags) es =
-      sym (select_next flags es i false e lf le is at ∙ append-nil (select (take i flags) es)) in
+      sym (select_next flags es i false e at.flag at.entry is at.is ∙ append-nil (select (take i flags) es)) in
       ahead false is
       ∙ ap (λ (xs : List Entry). HidesNone block (select (take i flags) es) e
       × HideNoneLeft block xs (drop (i + 1) es) (drop (i + 1) flags)) same
 
   next : (b : Bool) → b ≡ get_or flags i b → AreNext part_count part_total flags es i b e
-  next b is = next_of part_totals flags es i b e lf le is at
+  next b is = next_of part_totals at is
 
   out_before : (b : Bool) → b ≡ get_or flags i b → AreOut (cond b [] (marks_at es marks i e))
       → AreOut (gone_of (part_flags (drop (i + 1) flags) (drop (i + 1) es)) (drop (part_base es (i + 1)) marks))
@@ -137,7 +134,7 @@ module _ (block : ℕ) (flags : List Bool) (es : List Entry) (marks : List Mark)
   pub front_is : (ends : List ℕ) → start_at ends i ≡ part_base es i → end_at ends i ≡ part_base es (i + 1)
       → take (end_at ends i - start_at ends i) (drop (start_at ends i) marks) ≡ marks_at es marks i e
   front_is ends from to =
-      let n : AreNext part_count part_total flags es i (get_or flags i true) e = next (get_or flags i true) (own flags i lf) in
+      let n : AreNext part_count part_total flags es i (get_or flags i true) e = next (get_or flags i true) (own flags i at.flag) in
       let len : end_at ends i - start_at ends i ≡ part_count e = omega (arith, from, to, n.to) in
       ap (λ (k : ℕ). take k (drop (start_at ends i) marks)) len ∙ ap (λ (k : ℕ). take (part_count e) (drop k marks)) from
     where
@@ -162,57 +159,48 @@ pub there_or_out : (marks : List Mark) (there : Bool) → there ≡ list_any is_
 there_or_out marks there is = (λ none. all_out marks (sym is ∙ none), λ all. is ∙ none_there marks all)
 
 -- an entry that stays, and passes a test
-pub any_here : (test : Entry → Bool) (flags : List Bool) (log : List Entry) (i : ℕ) (e : Entry) → i < length flags → i < length log
-    → true ≡ get_or flags i true → e ≡ get_or log i e → test e ≡ true
-    → list_any test (select (drop i flags) (drop i log)) ≡ true
-any_here test flags log i e lf le stays at passes =
-    ap (λ (fs : List Bool). list_any test (select fs (drop i log))) (rest_is flags i true lf stays)
-    ∙ ap (λ (xs : List Entry). list_any test (select (true ∷ drop (i + 1) flags) xs)) (rest_is log i e le at)
+pub any_here : {flags : List Bool} {log : List Entry} {i : ℕ} {e : Entry} (test : Entry → Bool) → IsAt flags log i e
+    → true ≡ get_or flags i true → test e ≡ true → list_any test (select (drop i flags) (drop i log)) ≡ true
+any_here {flags} {log} {i} {e} test at stays passes =
+    ap (λ (fs : List Bool). list_any test (select fs (drop i log))) (rest_is flags i true at.flag stays)
+    ∙ ap (λ (xs : List Entry). list_any test (select (true ∷ drop (i + 1) flags) xs)) (rest_is log i e at.entry at.is)
     ∙ ap (λ (b : Bool). b || list_any test (select (drop (i + 1) flags) (drop (i + 1) log))) passes
+
+-- an entry and its flag are also at their place in the first flags
+pub at_front : {flags : List Bool} {es : List Entry} {i : ℕ} {e : Entry} (n : ℕ) → IsAt flags es i e → i < n → IsAt (take n flags) es i e
+at_front {flags} n at lt = record { flag = omega (arith, length-take n flags, at.flag, lt); entry = at.entry; is = at.is }
 
 -- ---- a cell's log
 
--- the entry at a place of the log, and the flags of all
-pub record IsAt (flags : List Bool) (chain : ChainState) (i : ℕ) (e : Entry) : Type 0 where
-  pub flag : i < length flags
-  pub entry : i < length (log chain)
-  pub is : e ≡ get_or (log chain) i e
-
-pub is_at : (stays : Stays) (chain : ChainState) (i : ℕ) (e : Entry) → IsChain chain → AreFlags stays chain → i < chain.tail
-    → slice_get chain.entries i ≡ Some e → IsAt (flags_of stays chain) chain i e
-is_at stays chain i e is are lt at = record {
-  flag = omega (arith, flags-count stays chain is are, lt);
-  entry = omega (arith, length-take-le chain.tail chain.entries is.within, lt);
-  is = sym (get_or-take chain.tail chain.entries i e lt ∙ get_or_from_slice_get chain.entries i e e at);
-}
-
--- whether a part of it is not out, by its tally
-pub there_is : (flags : List Bool) (chain : ChainState) (i : ℕ) (e : Entry) (tallies : List Tally) (ends : List ℕ) (marks : List Mark)
-    → IsAt flags chain i e → chain.tail ≤ length chain.entries → length ends ≡ chain.tail
-    → ((j : ℕ) → j < chain.tail → end_at ends j ≡ part_base chain.entries (j + 1)) → AreTallies tallies ends marks → i < chain.tail
-    → is_valid (tally_at tallies i) ≡ list_any is_there (marks_at (log chain) marks i e)
-there_is flags chain i e tallies ends marks at within len bases tallied lt =
+-- whether a part of an entry is not out, by its tally
+pub there_is : {flags : List Bool} {i : ℕ} {e : Entry} (cell : Inside) → AreFields cell → IsAt flags (log cell.chain.state) i e
+    → is_valid (tally_at cell.marks.tallies.items i) ≡ list_any is_there (marks_at (log cell.chain.state) cell.marks.marks.items i e)
+there_is {i = i} cell inv at =
+    let chain = cell.chain.state in
+    let ends = cell.marks.ends.items in
+    let marks = cell.marks.marks.items in
+    let tallied = inv.tallied.tallies in
+    let lt : i < chain.tail = omega (arith, at.entry, length-take chain.tail chain.entries) in
     let from : start_at ends i ≡ part_base (log chain) i =
-    first_base ends chain.entries chain.tail bases i lt ∙ ap part_total (sym (take-take i chain.tail chain.entries (omega (arith, lt)))) in
+    first_base ends chain.entries chain.tail inv.ends i lt
+    ∙ ap part_total (sym (take-take i chain.tail chain.entries (omega (arith, lt)))) in
     let to : end_at ends i ≡ part_base (log chain) (i + 1) =
-    bases i lt ∙ ap part_total (sym (take-take (i + 1) chain.tail chain.entries (omega (arith, lt)))) in
-    let part = front_is 0 flags (log chain) marks i e at.flag at.entry at.is ends from to in
-    ap (nat_lt 0) (tallied.there i (omega (arith, len, lt)))
+    inv.ends i lt ∙ ap part_total (sym (take-take (i + 1) chain.tail chain.entries (omega (arith, lt)))) in
+    let part = front_is 0 marks at ends from to in
+    ap (nat_lt 0) (tallied.there i (omega (arith, inv.ends_len, lt)))
     ∙ sym (any_counts is_there (take (end_at ends i - start_at ends i) (drop (start_at ends i) marks))) ∙ ap (list_any is_there) part
 
 -- an entry that goes: its parts, and what it hides
-pub goes_is : (block : ℕ) (flags : List Bool) (es : List Entry) (marks : List Mark) (i : ℕ) (e : Entry) (there : Bool)
-    → there ≡ list_any is_there (marks_at es marks i e) → there ≡ false
-    → list_any (λ (f : Entry). hides block e.item f.item) (select (take i flags) es) ≡ false → Goes block flags es marks i e
-goes_is block flags es marks i e there is none hidden = record {
-  out = (there_or_out (marks_at es marks i e) there is).0 none;
-  hidden = hides_nothing_before block e.item (select (take i flags) es) hidden;
-}
+module _ {block : ℕ} {flags : List Bool} {es : List Entry} {marks : List Mark} {i : ℕ} {e : Entry} where
+  pub goes_is : {there : Bool} → there ≡ list_any is_there (marks_at es marks i e) → there ≡ false
+      → list_any (λ (f : Entry). hides block e.item f.item) (select (take i flags) es) ≡ false → Goes block flags es marks i e
+  goes_is {there} is none hidden = record {
+    out = (there_or_out (marks_at es marks i e) there is).0 none;
+    hidden = hides_nothing_before block e.item (select (take i flags) es) hidden;
+  }
 
-pub not_there : (block : ℕ) (flags : List Bool) (es : List Entry) (marks : List Mark) (i : ℕ) (e : Entry) (there : Bool)
-    → there ≡ list_any is_there (marks_at es marks i e) → Goes block flags es marks i e → there ≡ false
-not_there block flags es marks i e there is goes = (there_or_out (marks_at es marks i e) there is).1 goes.out
+  pub not_there : {there : Bool} → there ≡ list_any is_there (marks_at es marks i e) → Goes block flags es marks i e → there ≡ false
+  not_there {there} is goes = (there_or_out (marks_at es marks i e) there is).1 goes.out
 
-pub not_hidden : (block : ℕ) (flags : List Bool) (es : List Entry) (marks : List Mark) (i : ℕ) (e : Entry)
-    → Goes block flags es marks i e → list_any (λ (f : Entry). hides block e.item f.item) (select (take i flags) es) ≡ false
-not_hidden block flags es marks i e goes = hides-false_before block e.item (select (take i flags) es) goes.hidden
+  pub not_hidden : Goes block flags es marks i e → list_any (λ (f : Entry). hides block e.item f.item) (select (take i flags) es) ≡ false
+  not_hidden goes = hides-false_before block e.item (select (take i flags) es) goes.hidden

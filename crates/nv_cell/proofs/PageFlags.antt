@@ -1,7 +1,9 @@
 -- Flags of pages as flags of the log's entries.
-use Rattle.std.proofs.Common.{◌≡◌, ℕ, zero, suc, ◌+◌, ◌-◌, ◌<◌, ◌≤◌, Bool, true, false, List, [], ◌∷◌, ◌++◌, length, take, replicate, get_or, inl, inr, arith, refl, ap, sym, ◌∙◌, length-append, add-one, subst}
+use Rattle.std.proofs.Common.{◌≡◌, ℕ, zero, suc, ◌+◌, ◌-◌, ◌<◌, ◌≤◌, Bool, true, false, List, [], ◌∷◌, ◌++◌, length, take, replicate, get_or, slice_get, Some, inl, inr, arith, refl, ap, sym, ◌∙◌, length-append, add-one, subst}
 use Rattle.std.proofs.lemmas.Bool.{cases_lt}
-use Rattle.std.proofs.lemmas.List.{get_or_default, length-take, get_or-take}
+use Rattle.std.proofs.lemmas.List.{get_or_default, length-take, length-take-le, get_or-take}
+use Rattle.std.proofs.lemmas.Option.{get_or_from_slice_get}
+use Rattle.nv_entry.specs.declared.item.Entry.{Entry}
 use Rattle.nv_log.specs.Chain.{AreEnds, ChainState, IsChain, end_of, joined, left_of, log, log_pages, pages_of, start_in, start_of, with_pages_left}
 use Rattle.nv_log.proofs.Flags.{joined-left_of, left_of-none, length-left_of, left_of-select, take-joined_left}
 use Rattle.nv_log.proofs.Parts.{length-ends_from, length-parts, part_at}
@@ -10,7 +12,7 @@ use Rattle.nv_cell.specs.Tallies.{IsInRun, end_at, start_at}
 use Rattle.nv_cell.specs.declared.stays.Stays.{Stays}
 use Rattle.nv_cell.specs.declared.stays.Stays.TheVariants.{Entries, Pages}
 use Rattle.nv_cell.proofs.Recounting.{start_next}
-use Rattle.nv_cell.proofs.RunFlags.{spread_is, stays_on}
+use Rattle.nv_cell.proofs.RunFlags.{IsAt, spread_is, stays_on}
 use Rattle.nv_cell.proofs.Removing.{IsLeft}
 
 in_front : (n m : ℕ) (b : Bool) (flags : List Bool) (d : Bool) → m < n → get_or (replicate n b ++ flags) m d ≡ b
@@ -131,6 +133,15 @@ pub flags-count : (stays : Stays) (chain : ChainState) → IsChain chain → Are
     → length (flags_of stays chain) ≡ chain.tail
 flags-count (Entries stays) chain is are = are
 flags-count (Pages stays) chain is are = log_flags-count stays.now chain is are
+
+-- the entry at a place of the log, and its flag
+pub is_at : (stays : Stays) (chain : ChainState) (i : ℕ) (e : Entry) → IsChain chain → AreFlags stays chain → i < chain.tail
+    → slice_get chain.entries i ≡ Some e → IsAt (flags_of stays chain) (log chain) i e
+is_at stays chain i e is are lt at = record {
+  flag = omega (arith, flags-count stays chain is are, lt);
+  entry = omega (arith, length-take-le chain.tail chain.entries is.within, lt);
+  is = sym (get_or-take chain.tail chain.entries i e lt ∙ get_or_from_slice_get chain.entries i e e at);
+}
 
 -- pages as runs of entries
 start_is : (ends : List ℕ) (len k : ℕ) → k < length ends → start_in ends len k ≡ start_at ends k

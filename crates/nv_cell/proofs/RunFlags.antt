@@ -230,21 +230,20 @@ pub record AreNext (count : Entry → ℕ) (total : List Entry → ℕ) (flags :
   pub to : total (take (i + 1) es) ≡ total (take i es) + count e
   pub within : total (take (i + 1) es) ≤ total es
 
--- an entry's items come next: of any entries, and of those of a log
-pub next_of : {count : Entry → ℕ} {total : List Entry → ℕ} → IsTotal count total → (flags : List Bool) (es : List Entry) (i : ℕ) (b : Bool)
-    (e : Entry) → i < length flags → i < length es → b ≡ get_or flags i b → e ≡ get_or es i e → AreNext count total flags es i b e
-next_of {count} t flags es i b e lf le qb qe = record {
-  ahead = flags_next count flags es i b e lf le qb qe;
-  to = base_on t es i e le qe;
+-- the entry at a place, and its flag
+pub record IsAt (flags : List Bool) (es : List Entry) (i : ℕ) (e : Entry) : Type 0 where
+  pub flag : i < length flags
+  pub entry : i < length es
+  pub is : e ≡ get_or es i e
+
+-- its items come next
+pub next_of : {count : Entry → ℕ} {total : List Entry → ℕ} {flags : List Bool} {es : List Entry} {i : ℕ} {b : Bool} {e : Entry}
+    → IsTotal count total → IsAt flags es i e → b ≡ get_or flags i b → AreNext count total flags es i b e
+next_of {count} {flags = flags} {es = es} {i = i} {b = b} {e = e} t at flag = record {
+  ahead = flags_next count flags es i b e at.flag at.entry flag at.is;
+  to = base_on t es i e at.entry at.is;
   within = base_within t es (i + 1);
 }
-
-pub next_in_log : {count : Entry → ℕ} {total : List Entry → ℕ} → IsTotal count total → (flags : List Bool) (all : List Entry) (tail i : ℕ)
-    (b : Bool) (e : Entry) → i < length flags → i < tail → tail ≤ length all
-    → b ≡ get_or flags i b → slice_get all i ≡ Some e → AreNext count total flags (take tail all) i b e
-next_in_log t flags all tail i b e lf lt le qb at =
-    next_of t flags (take tail all) i b e lf (omega (arith, length-take tail all, lt, le)) qb
-    (sym (get_or-take tail all i e lt ∙ get_or_from_slice_get all i e e at))
 
 -- a queue that the items of the first entries have passed through
 abbrev pub IsPassed : {X : Type 0} → (Entry → ℕ) → (List Entry → ℕ) → List X → List X → List Bool → List Entry → ℕ → Type 0
@@ -255,12 +254,12 @@ IsPassed count total old queue flags es i =
 abbrev pub AllGone : {X : Type 0} → (X → Type 0) → (Entry → ℕ) → (List Entry → ℕ) → List X → List Bool → List Entry → ℕ → Type 0
 AllGone P count total old flags es i = AllByRecursion P (gone_of (flags_by count (drop i flags) (drop i es)) (drop (total (take i es)) old))
 
-module _ {X : Type 0} {count : Entry → ℕ} {total : List Entry → ℕ} (old queue : List X) (flags : List Bool) (es : List Entry) (i n : ℕ)
-    (b : Bool) (e : Entry) (h : AreNext count total flags es i b e) (is : n ≡ count e) (fits : total es ≤ length old) where
+module _ {X : Type 0} {count : Entry → ℕ} {total : List Entry → ℕ} {old queue : List X} {flags : List Bool} {es : List Entry} {i n : ℕ}
+    {b : Bool} {e : Entry} (h : AreNext count total flags es i b e) (is : n ≡ count e)
+    (passing : IsPassed count total old queue flags es i) (fits : total es ≤ length old) where
   -- the items of one more entry have passed
-  pub passes_on : (next : List X) → IsPassed count total old queue flags es i → next ≡ drop n queue ++ cond b (take n queue) []
-      → IsPassed count total old next flags es (i + 1)
-  passes_on next passing turned =
+  pub passes_on : (next : List X) → next ≡ drop n queue ++ cond b (take n queue) [] → IsPassed count total old next flags es (i + 1)
+  passes_on next turned =
       let later = flags_by count (drop (i + 1) flags) (drop (i + 1) es) in
       let start = total (take i es) in
       let ahead : flags_by count (drop i flags) (drop i es) ≡ replicate n b ++ later = h.ahead
@@ -270,15 +269,14 @@ module _ {X : Type 0} {count : Entry → ℕ} {total : List Entry → ℕ} (old 
       (omega (arith, h.within, fits)) turned
 
   -- they stand in the queue
-  pub entry_there : IsPassed count total old queue flags es i → n ≤ length queue
-  entry_there passing =
+  pub entry_there : n ≤ length queue
+  entry_there =
       (front_is old queue (flags_by count flags es) (total (take i es)) n (flags_by count (drop i flags) (drop i es)) passing
       (omega (arith, h.to, h.within, is, fits))).1
 
   -- the items of the next entry pass a test where it goes
-  pub entry_goes : (P : X → Type 0) → b ≡ false → IsPassed count total old queue flags es i → AllGone P count total old flags es i
-      → AllByRecursion P (take n queue)
-  entry_goes P goes passing all =
+  pub entry_goes : (P : X → Type 0) → b ≡ false → AllGone P count total old flags es i → AllByRecursion P (take n queue)
+  entry_goes P goes all =
       let later = flags_by count (drop (i + 1) flags) (drop (i + 1) es) in
       let rest = drop (total (take i es)) old in
       let front = front_is old queue (flags_by count flags es) (total (take i es)) n (flags_by count (drop i flags) (drop i es)) passing

@@ -1,6 +1,6 @@
 //! Marks of parts and slots of blocks close up where entries go.
 
-ghost use Rattle.std.specs.Prelude.{◌≡◌, ℕ, ◌+◌, ◌-◌, ◌<◌, ◌≤◌, ◌++◌, [], None, false, if◌then◌else◌, drop, length, take};
+ghost use Rattle.std.specs.Prelude.{◌≡◌, ℕ, ◌+◌, ◌-◌, ◌<◌, ◌≤◌, ◌++◌, [], None, false, if◌then◌else◌, drop, length, take, vec_capacity};
 ghost use Rattle.std.specs.List.{AllByRecursion};
 ghost use Rattle.std.specs.VecDeque.{deque_capacity};
 ghost use Rattle.nv_entry.specs.Covered.{part_total};
@@ -12,6 +12,26 @@ use crate::{Mark, Stays};
 use nv_alloc::Block;
 use nv_log::Chain;
 use std::collections::VecDeque;
+use std::mem;
+
+/// Takes the items of a list as a queue.
+fn queue_of<T>(items: &mut Vec<T>) -> VecDeque<T>
+    ensures items { result.items ≡ items.old.items }
+    ensures room { deque_capacity result ≡ vec_capacity items.old }
+    ensures none { items.new.items ≡ [] }
+{
+    let alloc = *items.allocator();
+    VecDeque::from_vec(mem::replace(items, Vec::new(alloc)))
+}
+
+/// Puts a queue's items into a list that has none.
+fn put_back<T>(items: &mut Vec<T>, queue: VecDeque<T>)
+    requires { items.old.items ≡ [] }
+    ensures items { items.new.items ≡ queue.items }
+    ensures room { vec_capacity items.new ≡ deque_capacity queue }
+{
+    mem::replace(items, queue.into_vec()).destroy_empty();
+}
 
 /// Lets the marks of the next parts go.
 fn drop_marks(marks: &mut VecDeque<Mark>, count: usize)
@@ -62,10 +82,10 @@ fn pass(marks: &mut VecDeque<Mark>, slots: &mut VecDeque<Option<Block>>, count: 
     }
 }
 
-/// Leaves the parts of the entries that stay, and their slots.
-pub fn pass_parts(
-    marks: &mut VecDeque<Mark>,
-    slots: &mut VecDeque<Option<Block>>,
+/// Leaves the marks and slots of the entries that stay. No memory is taken.
+pub fn close_parts(
+    marks: &mut Vec<Mark>,
+    slots: &mut Vec<Option<Block>>,
     chain: &Chain,
     stays: Stays<'_>,
 )
@@ -81,17 +101,21 @@ pub fn pass_parts(
     ensures slots { slots.new.items
         ≡ left_of (slot_flags (flags_of stays.entry chain.now.state) (log chain.now.state))
         slots.old.items }
-    ensures marks_room { deque_capacity marks.new ≡ deque_capacity marks.old }
-    ensures slots_room { deque_capacity slots.new ≡ deque_capacity slots.old }
+    ensures marks_room { vec_capacity marks.new ≡ vec_capacity marks.old }
+    ensures slots_room { vec_capacity slots.new ≡ vec_capacity slots.old }
 {
+    let mut mark_queue = queue_of(marks);
+    let mut slot_queue = queue_of(slots);
     // The chain is one, so that its tail is no further than its entries.
     let _ends = chain.ends();
     // What the log's slots leave: those past the tail.
-    let mut fresh = slots.len();
+    let mut fresh = slot_queue.len();
     for i in 0..chain.tail() {
         let count = chain.entry_at(i).item.part_count() as usize;
         fresh -= count.saturating_sub(1);
-        pass(marks, slots, count, stays.at(chain, i));
+        pass(&mut mark_queue, &mut slot_queue, count, stays.at(chain, i));
     }
-    slots.rotate_left(fresh);
+    slot_queue.rotate_left(fresh);
+    put_back(marks, mark_queue);
+    put_back(slots, slot_queue);
 }

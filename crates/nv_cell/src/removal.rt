@@ -1,72 +1,18 @@
 //! What a cleaner does to a cell: entries leave that nothing keeps.
 
-ghost use Rattle.std.specs.Prelude.{◌≡◌, ℕ, ◌+◌, ◌-◌, ◌≤◌, ◌++◌, [], None, length, not, vec_capacity, vec_len};
+ghost use Rattle.std.specs.Prelude.{◌≡◌, ◌+◌, ◌-◌, ◌≤◌, ◌++◌, length, not, vec_len};
 ghost use Rattle.std.specs.Int.{div_ceil};
-ghost use Rattle.std.specs.List.{AllByRecursion, count_by};
-ghost use Rattle.std.specs.VecDeque.{deque_capacity};
+ghost use Rattle.std.specs.List.{count_by};
 ghost use Rattle.nv_alloc.specs.Block.{AreSized};
 ghost use Rattle.nv_entry.specs.Clean.{select};
-ghost use Rattle.nv_entry.specs.Covered.{part_total};
 ghost use Rattle.nv_entry.specs.Leaving.{KeepsTheRest};
 ghost use Rattle.nv_log.specs.Chain.{compacted, gone_of, left_of, log, with_pages_left};
 ghost use Rattle.nv_cell.specs.Cell.{log_of};
-ghost use Rattle.nv_cell.specs.Removal.{AreFlags, ArePublished, KeepsTheLast, MayGo, flags_of, left_in, log_flags, part_flags, slot_flags};
-ghost use Rattle.nv_cell.specs.Slots.{slot_total};
+ghost use Rattle.nv_cell.specs.Removal.{ArePublished, KeepsTheLast, MayGo, left_in, log_flags};
 
-use crate::closing::pass_parts;
-use crate::{InodeCell, Mark, Stays};
+use crate::closing::close_parts;
+use crate::{InodeCell, Stays};
 use nv_alloc::{Block, BlockQueue};
-use nv_log::Chain;
-use std::collections::VecDeque;
-use std::mem;
-
-/// Takes the items of a list as a queue.
-fn queue_of<T>(items: &mut Vec<T>) -> VecDeque<T>
-    ensures items { result.items ≡ items.old.items }
-    ensures room { deque_capacity result ≡ vec_capacity items.old }
-    ensures none { items.new.items ≡ [] }
-{
-    let alloc = *items.allocator();
-    VecDeque::from_vec(mem::replace(items, Vec::new(alloc)))
-}
-
-/// Puts a queue's items into a list that has none.
-fn put_back<T>(items: &mut Vec<T>, queue: VecDeque<T>)
-    requires { items.old.items ≡ [] }
-    ensures items { items.new.items ≡ queue.items }
-    ensures room { vec_capacity items.new ≡ deque_capacity queue }
-{
-    mem::replace(items, queue.into_vec()).destroy_empty();
-}
-
-/// Leaves the marks and slots of the entries that stay.
-fn close_parts(
-    marks: &mut Vec<Mark>,
-    slots: &mut Vec<Option<Block>>,
-    chain: &Chain,
-    stays: Stays<'_>,
-)
-    requires flags { AreFlags stays chain.now.state }
-    requires marks_there { length marks.old.items ≡ part_total (log chain.now.state) }
-    requires slots_there { slot_total (log chain.now.state) ≤ length slots.old.items }
-    requires none { AllByRecursion (λ block. block ≡ None)
-        (gone_of (slot_flags (flags_of stays chain.now.state) (log chain.now.state))
-        slots.old.items) }
-    ensures marks { marks.new.items
-        ≡ left_of (part_flags (flags_of stays.entry chain.now.state) (log chain.now.state))
-        marks.old.items }
-    ensures slots { slots.new.items
-        ≡ left_of (slot_flags (flags_of stays.entry chain.now.state) (log chain.now.state))
-        slots.old.items }
-    ensures marks_room { vec_capacity marks.new ≡ vec_capacity marks.old }
-    ensures slots_room { vec_capacity slots.new ≡ vec_capacity slots.old }
-{
-    let mut mark_queue = queue_of(marks);
-    let mut slot_queue = queue_of(slots);
-    pass_parts(&mut mark_queue, &mut slot_queue, chain, stays);
-    put_back(marks, mark_queue);
-    put_back(slots, slot_queue);
-}
 
 impl InodeCell {
     /// Leaves the entries of the log that are flagged as staying, a flag for each, and those past the tail, and moves

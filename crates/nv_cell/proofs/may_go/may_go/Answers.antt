@@ -1,10 +1,10 @@
-use Rattle.std.proofs.Common.{◌≡◌, ◌≤◌, ◌<◌, true, false, get_or, arith, sym, ◌∙◌}
+use Rattle.std.proofs.Common.{◌≤◌, ◌<◌, true, false, arith, sym, ◌∙◌}
 use Rattle.std.proofs.lemmas.List.{length-take-le}
 use Rattle.nv_log.specs.Chain.{log}
 use Rattle.nv_cell.specs.Fields.{state_in}
 use Rattle.nv_cell.specs.Removal.{flags_of}
-use Rattle.nv_cell.proofs.MayGoing.{Goes, goes_before, goes_is, is_at, none_left, not_hidden, not_there, one_goes, rest_goes, stays_before, there_is}
-use Rattle.nv_cell.proofs.PageFlags.{flags-count}
+use Rattle.nv_cell.proofs.MayGoing.{Goes, goes_before, goes_is, none_left, not_hidden, not_there, one_goes, rest_goes, stays_before, there_is}
+use Rattle.nv_cell.proofs.PageFlags.{flags-count, is_at}
 use Rattle.nv_cell.proofs.may_go.may_go.Goals as goal
 use Rattle.nv_cell.proofs.may_go.may_go.Goals.{else-goes-via-then-goes+else-hides_left, then-has_there, else-has_there, else-goes-via-else-goes}
 
@@ -16,66 +16,48 @@ has_there-requires c =
 pub returns-then-hides_left : goal.returns-then-hides_left
 returns-then-hides_left c =
     let s = state_in c.cell.inside in
-    let flags = flags_of c.args.stays s.chain in
-    let es = log s.chain in
-    let i = c.loop-i.i in
-    let e = c.entry_at.result.now in
-    let is = c.ends-ends.ensures.chain in
-    let fields = c.cell.invariant in
+    let lt : c.loop-i.i < s.chain.tail = omega (arith, c.loop-i-test.true, c.tail-i-end.ensures.value) in
     let req = rw (← c.cell.view_is) at c.requires in
+    let at = is_at c.args.stays s.chain c.loop-i.i _ c.ends-ends.ensures.chain req lt c.entry_at.ensures in
     let inv = rw (← c.cell.view_is) at c.loop-i.invariant in
-    let lt : i < s.chain.tail = omega (arith, c.loop-i-test.true, c.tail-i-end.ensures.value) in
-    let at = is_at c.args.stays s.chain i e is req lt c.entry_at.ensures in
-    let goes : false ≡ get_or flags i false = rw c.if-goes.true at c.at-goes.ensures in
-    let there = c.has_there.ensures
-    ∙ there_is flags s.chain i e c.cell.inside.marks.tallies.items c.cell.inside.marks.ends.items s.marks at is.within fields.ends_len
-    fields.ends fields.tallied.tallies lt in
+    let goes = rw c.if-goes.true at c.at-goes.ensures in
+    let there = c.has_there.ensures ∙ there_is c.cell.inside c.cell.invariant at in
     rw (← c.cell.view_is) (
       (λ t. cc),
       (λ may.
-          let rest = inv.down (record { out = may.out; hidden = may.hidden }) in
-          let one = one_goes s.block flags es s.marks i e at.flag at.entry at.is goes rest in
+          let one = one_goes s.block s.marks at goes (inv.down (record { out = may.out; hidden = may.hidden })) in
           elim c.if-has_there.branch [
-            | then-has_there w ↦
-                sym (not_there s.block flags es s.marks i e c.has_there.result there one) ∙ w.if-has_there.true
-            | else-has_there w ↦
-                sym (not_hidden s.block flags es s.marks i e one) ∙ sym w.hides_left.ensures ∙ sym w.value-is ∙ c.if-hides_left.true
+            | then-has_there w ↦ sym (not_there there one) ∙ w.if-has_there.true
+            | else-has_there w ↦ sym (not_hidden one) ∙ sym w.hides_left.ensures ∙ sym w.value-is ∙ c.if-hides_left.true
           ]),
     )
 
 pub loop-i-preserved : goal.loop-i-preserved
 loop-i-preserved c =
     let s = state_in c.cell.inside in
-    let flags = flags_of c.args.stays s.chain in
-    let es = log s.chain in
     let i = c.loop-i.i in
     let e = c.entry_at.result.now in
-    let is = c.ends-ends.ensures.chain in
-    let fields = c.cell.invariant in
-    let req = rw (← c.cell.view_is) at c.requires in
-    let inv = rw (← c.cell.view_is) at c.loop-i.invariant in
     let lt : i < s.chain.tail = omega (arith, c.loop-i-test.true, c.tail-i-end.ensures.value) in
-    let at = is_at c.args.stays s.chain i e is req lt c.entry_at.ensures in
-    let there = there_is flags s.chain i e c.cell.inside.marks.tallies.items c.cell.inside.marks.ends.items s.marks at is.within
-    fields.ends_len fields.ends fields.tallied.tallies lt in
+    let req = rw (← c.cell.view_is) at c.requires in
+    let at = is_at c.args.stays s.chain i e c.ends-ends.ensures.chain req lt c.entry_at.ensures in
+    let inv = rw (← c.cell.view_is) at c.loop-i.invariant in
     rw (← c.cell.view_is) (elim c.else-goes.branch [
       | else-goes-via-then-goes+else-hides_left w ↦
-          let goes : false ≡ get_or flags i false = rw w.if-goes.true at c.at-goes.ensures in
-          let one : Goes s.block flags es s.marks i e = elim w.if-has_there.branch [
+          let goes = rw w.if-goes.true at c.at-goes.ensures in
+          let there = w.has_there.ensures ∙ there_is c.cell.inside c.cell.invariant at in
+          let one : Goes s.block (flags_of c.args.stays s.chain) (log s.chain) s.marks i e = elim w.if-has_there.branch [
             | then-has_there v ↦ let clash = sym v.value-is ∙ w.if-hides_left.false in cc
-            | else-has_there v ↦
-                goes_is s.block flags es s.marks i e w.has_there.result (w.has_there.ensures ∙ there) v.if-has_there.false
-                (sym v.hides_left.ensures ∙ sym v.value-is ∙ w.if-hides_left.false)
+            | else-has_there v ↦ goes_is there v.if-has_there.false (sym v.hides_left.ensures ∙ sym v.value-is ∙ w.if-hides_left.false)
           ] in
           record {
-            down = λ all. rest_goes s.block flags es s.marks i e at.flag at.entry at.is false goes (inv.down all);
-            up = λ rest. inv.up (goes_before s.block flags es s.marks i e at.flag at.entry at.is goes one rest);
+            down = λ all. rest_goes s.block s.marks at false goes (inv.down all);
+            up = λ rest. inv.up (goes_before s.block s.marks at goes one rest);
           }
       | else-goes-via-else-goes w ↦
-          let stays : true ≡ get_or flags i true = rw w.if-goes.false at c.at-goes.ensures in
+          let stays = rw w.if-goes.false at c.at-goes.ensures in
           record {
-            down = λ all. rest_goes s.block flags es s.marks i e at.flag at.entry at.is true stays (inv.down all);
-            up = λ rest. inv.up (stays_before s.block flags es s.marks i e at.flag at.entry at.is stays rest);
+            down = λ all. rest_goes s.block s.marks at true stays (inv.down all);
+            up = λ rest. inv.up (stays_before s.block s.marks at stays rest);
           }
     ])
 
