@@ -89,3 +89,36 @@ fields_grown old new h g =
       no_numbers = g.numbers.items ∙ h.no_numbers;
       no_killed = g.killed.items ∙ h.no_killed;
     }
+
+-- the same where no more entries and parts are to follow than before
+pub fields_kept : {old new : Inside} → AreFields old
+    → new ≡ record old {
+      chain = new.chain;
+      index = new.index;
+      marks = new.marks;
+      blocks = new.blocks;
+      numbers = new.numbers;
+      killed = new.killed;
+    }
+    → new.chain.state ≡ old.chain.state → HaveGrown old.marks new.marks → HasGrown old.blocks new.blocks
+    → HasSameParts old.index new.index → HasGrown old.numbers new.numbers → HasGrown old.killed new.killed
+    → length new.chain.state.blocks + new.chain.spare ≤ vec_capacity new.marks.pages → AreFields new
+fields_kept {old} {new} h same chain marks blocks index numbers killed pages =
+    let es = old.chain.state.entries in
+    let entries = ap (λ (c : Inside). c.entries) same in
+    let parts = ap (λ (c : Inside). c.parts) same in
+    fields_grown old new h (record {
+      block = ap (λ (c : Inside). c.block) same;
+      generation = ap (λ (c : Inside). c.generation) same;
+      version = ap (λ (c : Inside). c.version) same;
+      chain = chain;
+      marks = marks;
+      blocks = blocks;
+      index = index;
+      numbers = numbers;
+      killed = killed;
+      spare = rw (entries, parts) (spare_grown old.marks new.marks (part_total es - length old.marks.marks.items + old.parts)
+          (length es - old.chain.state.tail + old.entries) marks h.spare);
+      places = omega (arith, h.blocks_room, blocks.capacity, parts);
+      pages = pages;
+    })

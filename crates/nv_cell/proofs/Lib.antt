@@ -9,6 +9,7 @@ pub mod Publishing
 pub mod Cells
 pub mod Publishes
 pub mod FirstSlots
+pub mod EntryRead
 pub mod PartEnds
 pub mod Published
 pub mod Naming

@@ -58,10 +58,10 @@ pub record IsRead (m : Marks) (n i : ℕ) (was : Mark) (old : Tally) : Type 0 wh
   pub old_is : old ≡ tally_at m.tallies.items i
   pub counts : Counts m.marks.items old was
 
-pub reads : (m : Marks) (n i : ℕ) (ends : List ℕ) (was : Mark) (old : Tally) → AreTallies m.tallies.items m.ends.items m.marks.items
+pub reads : (m : Marks) {n i : ℕ} {ends : List ℕ} {was : Mark} {old : Tally} → AreTallies m.tallies.items m.ends.items m.marks.items
     → is_there (mark_at m.marks.items n) ≡ true → ends ≡ m.ends.items → IsInRun ends n i
     → was ≡ slice_index_or m.marks.items n was → old ≡ slice_index_or m.tallies.items i old → IsRead m n i was old
-reads m n i ends was old h there same at was_at old_at =
+reads m {n} {i} {ends} {was} {old} h there same at was_at old_at =
     let run : IsInRun m.ends.items n i = rw same at at in
     let lt : n < length m.marks.items = there_within m.marks.items n there in
     let li : i < length m.tallies.items = omega (arith, run.within, h.len) in
@@ -78,7 +78,7 @@ reads m n i ends was old h there same at was_at old_at =
     }
 
 -- a part gets another mark, and its entry's tally and its page's counts go along
-pub set_tallied : (m : Marks) (page_ends : List ℕ) (n i k : ℕ) (mark was : Mark) (old t : Tally) (before c : PageCounts) (there : ℕ)
+pub set_tallied : {m : Marks} {page_ends : List ℕ} {n i k : ℕ} {was : Mark} {old t : Tally} {before c : PageCounts} (mark : Mark) (there : ℕ)
     → AreTallied m page_ends
     → IsRead m n i was old → is_there (mark_at m.marks.items n) ≡ true → IsInRun page_ends i k
     → t ≡ moved old was mark → before ≡ slice_index_or m.pages.items k before → c ≡ recounted before old t
@@ -90,7 +90,7 @@ pub set_tallied : (m : Marks) (page_ends : List ℕ) (n i k : ℕ) (mark was : M
       there =
           there;
     }) page_ends
-set_tallied m page_ends n i k mark was old t before c there h r lives at t_is before_at c_is there_is =
+set_tallied {m} {page_ends} {n} {i} {k} {was} {old} {t} {before} {c} mark there h r lives at t_is before_at c_is there_is =
     let lk : k < length m.pages.items = omega (arith, at.within, h.counts.len) in
     let b : before ≡ counts_at m.pages.items k = at_index m.pages.items k before no_counts before_at lk in
     let e : t ≡ moved (tally_at m.tallies.items i) (mark_at m.marks.items n) mark = t_is ∙ rw (r.old_is, r.was_is) refl in

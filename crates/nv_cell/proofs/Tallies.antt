@@ -434,10 +434,10 @@ pub record CountsPage (c : PageCounts) (t : Tally) : Type 0 where
   pub live : bit (is_live t) ≤ c.live
   pub valid : bit (is_valid t) ≤ c.valid
 
-pub counts_page : (tallies : List Tally) (ends : List ℕ) (pages : List PageCounts) (i k : ℕ) (c : PageCounts) → AreCounts pages ends tallies
+pub counts_page : {tallies : List Tally} {ends : List ℕ} {pages : List PageCounts} {i k : ℕ} {c : PageCounts} → AreCounts pages ends tallies
     → IsInRun ends i k → i < length tallies → c ≡ slice_index_or pages k c
     → CountsPage c (tally_at tallies i)
-counts_page tallies ends pages i k c h at lt is =
+counts_page {tallies} {ends} {pages} {i} {k} {c} h at lt is =
     let lk : k < length pages = omega (arith, at.within, h.len) in
     let b : c ≡ counts_at pages k = at_index pages k c no_counts is lk in
     record {

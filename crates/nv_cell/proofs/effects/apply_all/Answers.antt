@@ -1,10 +1,10 @@
-use Rattle.std.proofs.Common.{◌≡◌, ◌+◌, ◌<◌, arith, ap, sym, ◌∙◌, length, take, drop, List, slice_index_or}
+use Rattle.std.proofs.Common.{◌+◌, arith, ap, sym, ◌∙◌, take, drop, List}
 use Rattle.std.proofs.lemmas.List.Sums.{sum_by-cons}
-use Rattle.std.proofs.lemmas.Option.{get_or_from_slice_get, slice_get_within}
 use Rattle.nv_entry.specs.declared.item.Entry.{Entry}
 use Rattle.nv_entry.specs.Refs.{ref_after, scan_ref}
 use Rattle.nv_cell.specs.Effects.{items_of}
 use Rattle.nv_cell.specs.Weights.{runs_of}
+use Rattle.nv_cell.proofs.EntryRead.{entry_read}
 use Rattle.nv_cell.proofs.Readied.{ready_after, reserved_after}
 use Rattle.nv_cell.proofs.Bound.{bound_push}
 use Rattle.nv_cell.proofs.Publishing.{IsScan, are_named, kill_step, scan_push, take_next, drop_next}
@@ -21,13 +21,12 @@ push_covered-requires-clause-room c =
     let es = c.args.chain.now.state.entries in
     let t = c.loop-t.t in
     let e = c.entry_at-entry.result.now in
-    let lt : t < length es = slice_get_within es t e c.entry_at-entry.ensures in
-    let is : e ≡ slice_index_or es t e = sym (get_or_from_slice_get es t e e c.entry_at-entry.ensures) in
+    let p = entry_read es t e c.entry_at-entry.ensures in
     let w = weight_is c.args.block (take t es) c.loop-t.index e.item c.loop-t.invariant.scan c.loop-t.invariant.bound
     c.name_count-names.ensures.distinct in
-    let len = rw (drop_next es t e lt is) at c.loop-t.invariant.len in
-    let p = weights_push c.args.block (take t es) e (items_of (drop (t + 1) es)) in
-    omega (arith, w, len, p, c.requires.room, c.loop-t.invariant.capacity)
+    let len = rw (drop_next es t e p.within p.is) at c.loop-t.invariant.len in
+    let more = weights_push c.args.block (take t es) e (items_of (drop (t + 1) es)) in
+    omega (arith, w, len, more, c.requires.room, c.loop-t.invariant.capacity)
 
 pub loop-t-preserved : goal.loop-t-preserved
 loop-t-preserved c =
@@ -35,32 +34,31 @@ loop-t-preserved c =
     let t = c.loop-t.t in
     let e = c.entry_at-entry.result.now in
     let h : IsScan c.args.block es t c.loop-t.index = record { log = c.requires.rising; scan = c.loop-t.invariant.scan } in
-    let lt : t < length es = slice_get_within es t e c.entry_at-entry.ensures in
-    let is : e ≡ slice_index_or es t e = sym (get_or_from_slice_get es t e e c.entry_at-entry.ensures) in
-    let ready = rw (drop_next es t e lt is) at c.loop-t.invariant.names in
-    let pages = rw (drop_next es t e lt is) at c.loop-t.invariant.pages in
-    let len = rw (drop_next es t e lt is) at c.loop-t.invariant.len in
+    let p = entry_read es t e c.entry_at-entry.ensures in
+    let ready = rw (drop_next es t e p.within p.is) at c.loop-t.invariant.names in
+    let pages = rw (drop_next es t e p.within p.is) at c.loop-t.invariant.pages in
+    let len = rw (drop_next es t e p.within p.is) at c.loop-t.invariant.len in
     let w = weight_is c.args.block (take t es) c.loop-t.index e.item c.loop-t.invariant.scan c.loop-t.invariant.bound
     c.name_count-names.ensures.distinct in
-    let p = rw (← take_next es t e lt is) at (weights_push c.args.block (take t es) e (items_of (drop (t + 1) es))) in
+    let more = rw (← take_next es t e p.within p.is) at (weights_push c.args.block (take t es) e (items_of (drop (t + 1) es))) in
     record {
       room =
-          let room = rw (drop_next es t e lt is) at c.loop-t.invariant.room in
+          let room = rw (drop_next es t e p.within p.is) at c.loop-t.invariant.room in
           omega (arith, c.put.ensures.room, room, sum_by-cons runs_of e.item (items_of (drop (t + 1) es)));
       reserved = λ none.
-          let h = rw (drop_next es t e lt is) at (c.loop-t.invariant.reserved none) in
+          let h = rw (drop_next es t e p.within p.is) at (c.loop-t.invariant.reserved none) in
           (h.0.1, reserved_after e.id e.item c.loop-t.index.names c.put.new.self.names c.put.ensures.names h.0.0 ∙ h.1);
       pages = omega (arith, c.put.ensures.room, pages, sum_by-cons runs_of e.item (items_of (drop (t + 1) es)));
       names = ready_after e.id e.item (items_of (drop (t + 1) es)) c.loop-t.index.names c.put.new.self.names c.put.ensures.names ready;
-      bound = rw (take_next es t e lt is)
+      bound = rw (take_next es t e p.within p.is)
           (bound_push (take t es) e c.loop-t.index.names c.put.new.self.names c.put.ensures.names c.loop-t.invariant.bound);
       scan = λ key. c.put.ensures.refs key ∙ ap (ref_after c.args.block e key) (c.loop-t.invariant.scan key)
           ∙ sym (scan_push c.args.block (take t es) e key)
-          ∙ ap (λ (xs : List Entry). scan_ref c.args.block xs key) (sym (take_next es t e lt is));
+          ∙ ap (λ (xs : List Entry). scan_ref c.args.block xs key) (sym (take_next es t e p.within p.is));
       capacity = c.push_covered.ensures.capacity ∙ c.loop-t.invariant.capacity;
-      len = omega (arith, c.push_covered.ensures.len, w, len, p);
+      len = omega (arith, c.push_covered.ensures.len, w, len, more);
       killed = λ n.
-          let s = kill_step c.args.block es c.args.tail t n e c.loop-t.index h c.loop-t.auto.t lt is in
+          let s = kill_step c.args.block es c.args.tail t n e c.loop-t.index h c.loop-t.auto.t p.within p.is in
           omega (arith, c.loop-t.invariant.killed n, c.push_covered.ensures.numbers n, s);
     }
 
@@ -69,9 +67,8 @@ put-requires-clause-names c =
     let es = c.args.chain.now.state.entries in
     let t = c.loop-t.t in
     let e = c.entry_at-entry.result.now in
-    let lt : t < length es = slice_get_within es t e c.entry_at-entry.ensures in
-    let is : e ≡ slice_index_or es t e = sym (get_or_from_slice_get es t e e c.entry_at-entry.ensures) in
-    let ready = rw (drop_next es t e lt is) at c.loop-t.invariant.names in
+    let p = entry_read es t e c.entry_at-entry.ensures in
+    let ready = rw (drop_next es t e p.within p.is) at c.loop-t.invariant.names in
     ready.1.0
 
 pub put-requires-clause-room : goal.put-requires-clause-room
@@ -79,7 +76,6 @@ put-requires-clause-room c =
     let es = c.args.chain.now.state.entries in
     let t = c.loop-t.t in
     let e = c.entry_at-entry.result.now in
-    let lt : t < length es = slice_get_within es t e c.entry_at-entry.ensures in
-    let is : e ≡ slice_index_or es t e = sym (get_or_from_slice_get es t e e c.entry_at-entry.ensures) in
-    let pages = rw (drop_next es t e lt is) at c.loop-t.invariant.pages in
+    let p = entry_read es t e c.entry_at-entry.ensures in
+    let pages = rw (drop_next es t e p.within p.is) at c.loop-t.invariant.pages in
     omega (arith, pages, sum_by-cons runs_of e.item (items_of (drop (t + 1) es)))

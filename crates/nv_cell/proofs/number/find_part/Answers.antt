@@ -1,23 +1,19 @@
-use Rattle.std.proofs.Common.{◌≡◌, ◌+◌, ◌<◌, None, length, arith, ap, sym, ◌∙◌, slice_index_or}
+use Rattle.std.proofs.Common.{◌≡◌, ◌+◌, ◌<◌, None, arith, ap, sym, ◌∙◌}
 use Rattle.std.specs.Option.{option_map}
-use Rattle.std.proofs.lemmas.Option.{get_or_from_slice_get, slice_get_within}
 use Rattle.nv_log.specs.Chain.{place_of as chain_place_of}
 use Rattle.nv_cell.specs.Numbers.{part_base}
-use Rattle.nv_cell.proofs.Cells.{base_next, base_rises}
+use Rattle.nv_cell.proofs.EntryRead.{entry_read, parts_below}
 use Rattle.nv_cell.proofs.Naming.{named_here, named_nowhere, named_past, place_low}
 use Rattle.nv_cell.proofs.number.find_part.Goals as goal
 
 pub overflow_add-result : goal.overflow_add-result
 overflow_add-result c =
-    let es = c.args.chain.now.state.entries in
-    let i = c.in-Some.i in
+    let chain = c.args.chain.now.state in
     let e = c.entry_at.result.now in
-    let lt : i < length es = slice_get_within es i e c.entry_at.ensures in
-    let is : e ≡ slice_index_or es i e = sym (get_or_from_slice_get es i e e c.entry_at.ensures) in
-    let b = base_next es i e lt is in
+    let below : c.in-Some.i < chain.tail = omega (arith, c.tail.ensures.value) in
     let low = place_low e.item c.args.id.part c.in-Some-place_of.place (sym c.in-Some-place_of.ensures) in
-    let up = base_rises es (i + 1) c.args.chain.now.state.tail (omega (arith, c.tail.ensures.value)) in
-    omega (arith, b, low, up, c.requires.small, c.first.ensures, c.requires.ends i (omega (arith, c.tail.ensures.value)))
+    let parts = parts_below chain.entries c.in-Some.i chain.tail e c.entry_at.ensures below in
+    omega (arith, parts, low, c.requires.small, c.first.ensures, c.requires.ends c.in-Some.i below)
 
 pub returns-then-i-tail-clause-number : goal.returns-then-i-tail-clause-number
 returns-then-i-tail-clause-number c =
@@ -51,12 +47,8 @@ returns-in_default-clause-number c =
 
 pub returns-in-Some-place_of-clause-stands : goal.returns-in-Some-place_of-clause-stands
 returns-in-Some-place_of-clause-stands c =
-    let es = c.args.chain.now.state.entries in
-    let i = c.in-Some.i in
     let e = c.entry_at.result.now in
-    let lt : i < length es = slice_get_within es i e c.entry_at.ensures in
-    let is : e ≡ slice_index_or es i e = sym (get_or_from_slice_get es i e e c.entry_at.ensures) in
-    let b = base_next es i e lt is in
+    let p = entry_read c.args.chain.now.state.entries c.in-Some.i e c.entry_at.ensures in
     let low = place_low e.item c.args.id.part c.in-Some-place_of.place (sym c.in-Some-place_of.ensures) in
-    let f : c.first.result ≡ part_base es i = c.first.ensures ∙ c.requires.ends i (omega (arith, c.tail.ensures.value)) in
-    record { within = lt; start = omega (arith, f); end = omega (arith, f, b, low) }
+    let f = c.first.ensures ∙ c.requires.ends c.in-Some.i (omega (arith, c.tail.ensures.value)) in
+    record { within = p.within; start = omega (arith, f); end = omega (arith, f, p.parts, low) }

@@ -1,9 +1,9 @@
-use Rattle.std.proofs.Common.{◌≡◌, ℕ, ◌+◌, ◌<◌, [], ◌∷◌, arith, ap, sym, ◌∙◌, length, slice_index_or, length-append, replicate}
-use Rattle.std.proofs.lemmas.Option.{get_or_from_slice_get, slice_get_within}
+use Rattle.std.proofs.Common.{◌≡◌, ℕ, ◌+◌, [], ◌∷◌, arith, ap, sym, ◌∙◌, length, length-append, replicate}
 use Rattle.nv_cell.specs.declared.mark.Mark.TheVariants.{Current}
 use Rattle.nv_cell.specs.Marks.{mark_at}
 use Rattle.nv_cell.specs.Numbers.{part_base}
-use Rattle.nv_cell.proofs.Cells.{base_next, base_rises, mark_step, end_step}
+use Rattle.nv_cell.proofs.Cells.{base_rises, mark_step, end_step}
+use Rattle.nv_cell.proofs.EntryRead.{entry_read}
 use Rattle.nv_cell.proofs.Publishing.{total_take}
 use Rattle.nv_cell.proofs.Publishes.{chain_runs}
 use Rattle.nv_cell.proofs.Runs.{fewer_runs}
@@ -15,16 +15,14 @@ add-requires-clause-room c =
     let es = c.args.chain.now.state.entries in
     let t = c.loop-t.t in
     let e = c.entry_at-entry.result.now in
-    let lt : t < length es = slice_get_within es t e c.entry_at-entry.ensures in
-    let is : e ≡ slice_index_or es t e = sym (get_or_from_slice_get es t e e c.entry_at-entry.ensures) in
-    let b = base_next es t e lt is in
+    let p = entry_read es t e c.entry_at-entry.ensures in
     let r = c.loop-t.invariant.room in
     let up = base_rises es c.args.tail t c.loop-t.auto.t in
     record {
       marks =
           omega (
             arith,
-            b,
+            p.parts,
             up,
             total_take es
                 (t + 1),
@@ -34,7 +32,7 @@ add-requires-clause-room c =
             c.requires.room.marks,
             c.requires.len,
           );
-      ends = omega (arith, c.loop-t.invariant.counted, r.ends, c.requires.room.ends, c.requires.counted, lt);
+      ends = omega (arith, c.loop-t.invariant.counted, r.ends, c.requires.room.ends, c.requires.counted, p.within);
       tallies =
           omega (
             arith,
@@ -44,7 +42,7 @@ add-requires-clause-room c =
             c.requires.room.tallies,
             c.requires.tallied.tallies.len,
             c.requires.counted,
-            lt,
+            p.within,
           );
     }
 
@@ -53,22 +51,20 @@ add-requires-clause-page c =
     let es = c.args.chain.now.state.entries in
     let t = c.loop-t.t in
     let e = c.entry_at-entry.result.now in
-    let lt : t < length es = slice_get_within es t e c.entry_at-entry.ensures in
+    let p = entry_read es t e c.entry_at-entry.ensures in
     let n = length c.loop-t.marks.tallies.items in
     rw c.ends.ensures.value (fewer_runs c.args.chain.now.state.ends (length es) (n + 1)
     (chain_runs c.args.chain.now.state c.ends.ensures.chain)
-    (omega (arith, c.loop-t.invariant.counted, c.loop-t.invariant.tallied.tallies.len, lt)))
+    (omega (arith, c.loop-t.invariant.counted, c.loop-t.invariant.tallied.tallies.len, p.within)))
 
 pub loop-t-preserved : goal.loop-t-preserved
 loop-t-preserved c =
     let es = c.args.chain.now.state.entries in
     let t = c.loop-t.t in
     let e = c.entry_at-entry.result.now in
-    let lt : t < length es = slice_get_within es t e c.entry_at-entry.ensures in
-    let is : e ≡ slice_index_or es t e = sym (get_or_from_slice_get es t e e c.entry_at-entry.ensures) in
-    let b = base_next es t e lt is in
+    let p = entry_read es t e c.entry_at-entry.ensures in
     let up : part_base es (t + 1) ≡ part_base es t + c.part_count.result =
-    b ∙ ap (λ (k : ℕ). part_base es t + k) (sym c.part_count.ensures) in
+    p.parts ∙ ap (λ (k : ℕ). part_base es t + k) (sym c.part_count.ensures) in
     let len = c.loop-t.invariant.len in
     let r = c.loop-t.invariant.room in
     let s = c.add.ensures.room in

@@ -1,82 +1,45 @@
-use Rattle.std.proofs.Common.{◌≡◌, ℕ, ◌+◌, ◌<◌, length, arith, ap, sym, ◌∙◌, slice_index_or}
-use Rattle.std.proofs.lemmas.Option.{get_or_from_slice_get, slice_get_within}
+use Rattle.std.proofs.Common.{◌≡◌, ℕ, ◌+◌, length, arith, ap, ◌∙◌}
 use Rattle.std.proofs.lemmas.List.{length_push}
 use Rattle.nv_cell.specs.Marks.{is_current, is_there}
 use Rattle.nv_cell.specs.Numbers.{part_base}
 use Rattle.nv_cell.specs.Slots.{slot_base}
 use Rattle.nv_cell.specs.Tallies.{count_in, no_tally}
-use Rattle.nv_cell.proofs.Cells.{base_next, base_rises, end_step}
-use Rattle.nv_cell.proofs.FirstSlots.{slot_few, slot_next}
+use Rattle.nv_cell.proofs.Cells.{end_step}
+use Rattle.nv_cell.proofs.EntryRead.{entry_read, parts_below, slots_below}
 use Rattle.nv_cell.proofs.Recounting.{tallied_by, one_more}
 use Rattle.nv_cell.proofs.recount.retally.Goals as goal
 
 pub overflow_add-end : goal.overflow_add-end
 overflow_add-end c =
-    let es = c.args.chain.now.state.entries in
-    let t = c.loop-t.t in
-    let e = c.entry_at.result.now in
-    let lt : t < length es = slice_get_within es t e c.entry_at.ensures in
-    let is : e ≡ slice_index_or es t e = sym (get_or_from_slice_get es t e e c.entry_at.ensures) in
-    let tail = c.args.chain.now.state.tail in
-    let all : length c.args.marks.now ≡ part_base es tail = c.requires.marks in
-    omega (
-      arith,
-      base_next es t e lt is,
-      base_rises es (t + 1) tail (omega (arith, c.loop-t-test.true, c.tail-t-end.ensures.value)),
-      all,
-      c.part_count-count.ensures,
-      c.loop-t.invariant.started,
-    )
+    let chain = c.args.chain.now.state in
+    let low = parts_below chain.entries c.loop-t.t chain.tail _ c.entry_at.ensures
+    (omega (arith, c.loop-t-test.true, c.tail-t-end.ensures.value)) in
+    omega (arith, low, c.requires.marks, c.part_count-count.ensures, c.loop-t.invariant.started)
 
 pub overflow_add-slots_end : goal.overflow_add-slots_end
 overflow_add-slots_end c =
-    let es = c.args.chain.now.state.entries in
-    let t = c.loop-t.t in
-    let e = c.entry_at.result.now in
-    let lt : t < length es = slice_get_within es t e c.entry_at.ensures in
-    let is : e ≡ slice_index_or es t e = sym (get_or_from_slice_get es t e e c.entry_at.ensures) in
-    let tail = c.args.chain.now.state.tail in
-    let all : length c.args.marks.now ≡ part_base es tail = c.requires.marks in
-    omega (
-      arith,
-      slot_next es t e lt is,
-      slot_few es (t + 1),
-      base_rises es (t + 1) tail (omega (arith, c.loop-t-test.true, c.tail-t-end.ensures.value)),
-      all,
-      c.part_count-count.ensures,
-      c.loop-t.invariant.slotted,
-    )
+    let chain = c.args.chain.now.state in
+    let low = slots_below chain.entries c.loop-t.t chain.tail _ c.entry_at.ensures
+    (omega (arith, c.loop-t-test.true, c.tail-t-end.ensures.value)) in
+    omega (arith, low, c.requires.marks, c.part_count-count.ensures, c.loop-t.invariant.slotted)
 
 pub tally_in-tally-requires-clause-within : goal.tally_in-tally-requires-clause-within
 tally_in-tally-requires-clause-within c =
-    let es = c.args.chain.now.state.entries in
-    let t = c.loop-t.t in
-    let e = c.entry_at.result.now in
-    let lt : t < length es = slice_get_within es t e c.entry_at.ensures in
-    let is : e ≡ slice_index_or es t e = sym (get_or_from_slice_get es t e e c.entry_at.ensures) in
-    let tail = c.args.chain.now.state.tail in
-    let all : length c.args.marks.now ≡ part_base es tail = c.requires.marks in
-    omega (
-      arith,
-      base_next es t e lt is,
-      base_rises es (t + 1) tail (omega (arith, c.loop-t-test.true, c.tail-t-end.ensures.value)),
-      all,
-      c.part_count-count.ensures,
-      c.loop-t.invariant.started,
-    )
+    let chain = c.args.chain.now.state in
+    let low = parts_below chain.entries c.loop-t.t chain.tail _ c.entry_at.ensures
+    (omega (arith, c.loop-t-test.true, c.tail-t-end.ensures.value)) in
+    omega (arith, low, c.requires.marks, c.part_count-count.ensures, c.loop-t.invariant.started)
 
 pub loop-t-preserved : goal.loop-t-preserved
 loop-t-preserved c =
     let es = c.args.chain.now.state.entries in
     let marks = c.args.marks.now in
     let t = c.loop-t.t in
-    let e = c.entry_at.result.now in
-    let lt : t < length es = slice_get_within es t e c.entry_at.ensures in
-    let is : e ≡ slice_index_or es t e = sym (get_or_from_slice_get es t e e c.entry_at.ensures) in
+    let p = entry_read es t _ c.entry_at.ensures in
     let inv = c.loop-t.invariant in
     let tally = c.tally_in-tally.result in
     let end = c.loop-t.start + c.part_count-count.result in
-    let to : end ≡ part_base es (t + 1) = omega (arith, base_next es t e lt is, c.part_count-count.ensures, inv.started) in
+    let to : end ≡ part_base es (t + 1) = omega (arith, p.parts, c.part_count-count.ensures, inv.started) in
     let want_current : ℕ → ℕ = λ i. count_in is_current marks (part_base es i) (part_base es (i + 1)) in
     let want_there : ℕ → ℕ = λ i. count_in is_there marks (part_base es i) (part_base es (i + 1)) in
     let current : tally.current ≡ want_current t = c.tally_in-tally.ensures.current
@@ -85,7 +48,7 @@ loop-t-preserved c =
     ∙ ap (λ k. count_in is_there marks (part_base es t) k) to in
     let want_slots : ℕ → ℕ = λ i. slot_base es (i + 1) in
     let next : c.loop-t.slots_end + c.saturating_sub-slots_end.result ≡ slot_base es (t + 1) =
-    omega (arith, slot_next es t e lt is, c.part_count-count.ensures, c.saturating_sub-slots_end.ensures, inv.slotted) in
+    omega (arith, p.slots, c.part_count-count.ensures, c.saturating_sub-slots_end.ensures, inv.slotted) in
     let slots : tally.slots_end ≡ want_slots t = c.tally_in-tally.ensures.slots ∙ next in
     record {
       started = to;

@@ -1,69 +1,37 @@
 use Rattle.std.proofs.Common.{◌≡◌, ℕ, ◌+◌, ◌-◌, ◌<◌, ◌≤◌, arith, refl, ap, sym, ◌∙◌, subst, length, max, take, true, false}
 use Rattle.std.specs.Prelude.{vec_capacity, vec_len}
 use Rattle.nv_entry.specs.Covered.{part_total}
-use Rattle.nv_cell.specs.Cell.{CellValue, log_of}
+use Rattle.nv_cell.specs.Cell.{log_of}
 use Rattle.nv_cell.specs.Fields.{state_in, value_in}
-use Rattle.nv_cell.specs.Room.{IsReadyFor}
 use Rattle.nv_cell.specs.Index.{bindings_of}
 use Rattle.nv_cell.specs.Weights.{parts_in, weights_by, weights_in}
 use Rattle.nv_log.specs.Chain.{ChainState}
 use Rattle.nv_nindex.specs.NameIndex.{binding_of}
 use Rattle.nv_cell.proofs.Published.{names_ready}
 use Rattle.nv_cell.proofs.Weighing.{weights_are, weights_were}
-use Rattle.nv_cell.proofs.Growing.{fields_grown, same_parts, spare_grown}
+use Rattle.nv_cell.proofs.Growing.{fields_grown, fields_kept, same_parts, spare_grown}
 use Rattle.nv_cell.proofs.Publishing.{take_whole}
 use Rattle.nv_cell.proofs.ReadySteps.{settled_publish, settled_ready}
 use Rattle.nv_cell.proofs.cell.InodeCell.ready.Goals as goal
 
 pub invariant_of-self-in_err-grow_log : goal.invariant_of-self-in_err-grow_log
 invariant_of-self-in_err-grow_log c =
-    let i = c.self.inside in
-    let inv = c.self.invariant in
-    fields_grown i _ inv (record {
-      block = refl;
-      generation = refl;
-      version = refl;
-      chain = c.grow_log.ensures.chain;
-      marks = c.grow_log.ensures.marks;
-      blocks = c.grow_log.ensures.blocks;
-      index = same_parts i.index;
-      numbers = c.grow_lists.ensures.numbers;
-      killed = c.grow_lists.ensures.killed;
-      spare =
-          spare_grown i.marks c.grow_log.new.marks (part_total i.chain.state.entries - length i.marks.marks.items + i.parts)
-          (length i.chain.state.entries - i.chain.state.tail + i.entries) c.grow_log.ensures.marks inv.spare;
-      places = omega (arith, inv.blocks_room, c.grow_log.ensures.blocks.capacity);
-      pages = c.grow_log.ensures.pages;
-    })
+    let log = c.grow_log.ensures in
+    fields_kept c.self.invariant refl log.chain log.marks log.blocks (same_parts c.self.inside.index) c.grow_lists.ensures.numbers
+    c.grow_lists.ensures.killed log.pages
 
 pub invariant_of-self-in_err-reserve : goal.invariant_of-self-in_err-reserve
 invariant_of-self-in_err-reserve c =
-    let i = c.self.inside in
-    let inv = c.self.invariant in
-    fields_grown i _ inv (record {
-      block = refl;
-      generation = refl;
-      version = refl;
-      chain = c.grow_log.ensures.chain;
-      marks = c.grow_log.ensures.marks;
-      blocks = c.grow_log.ensures.blocks;
-      index = c.reserve.ensures.same;
-      numbers = c.grow_lists.ensures.numbers;
-      killed = c.grow_lists.ensures.killed;
-      spare =
-          spare_grown i.marks c.grow_log.new.marks (part_total i.chain.state.entries - length i.marks.marks.items + i.parts)
-          (length i.chain.state.entries - i.chain.state.tail + i.entries) c.grow_log.ensures.marks inv.spare;
-      places = omega (arith, inv.blocks_room, c.grow_log.ensures.blocks.capacity);
-      pages = c.grow_log.ensures.pages;
-    })
+    let log = c.grow_log.ensures in
+    fields_kept c.self.invariant refl log.chain log.marks log.blocks c.reserve.ensures.same c.grow_lists.ensures.numbers
+    c.grow_lists.ensures.killed log.pages
 
 pub invariant_of-self-2 : goal.invariant_of-self-2
 invariant_of-self-2 c =
     let i = c.self.inside in
     let inv = c.self.invariant in
     let es = i.chain.state.entries in
-    let settled : i.chain.state.tail ≡ length es =
-    subst (λ (v : CellValue). v.state.chain.tail ≡ length v.state.chain.entries) (sym c.self.view_is) c.requires.settled in
+    let settled : i.chain.state.tail ≡ length es = rw (← c.self.view_is) at c.requires.settled in
     let whole : part_total (take i.chain.state.tail es) ≡ part_total es =
     ap (λ (t : ℕ). part_total (take t es)) settled ∙ ap part_total (take_whole es) in
     let g = c.grow_log.ensures.marks in
@@ -119,8 +87,7 @@ returns-clause-ok c =
     let same : weights_in i.block (take c.grow_log.new.chain.state.tail c.grow_log.new.chain.state.entries) items
     ≡ weights_in i.block (log_of (state_in i)) items =
     ap (λ (s : ChainState). weights_in i.block (take s.tail s.entries) items) c.grow_log.ensures.chain in
-    let settled : i.chain.state.tail ≡ length i.chain.state.entries =
-    subst (λ (v : CellValue). v.state.chain.tail ≡ length v.state.chain.entries) (sym c.self.view_is) c.requires.settled in
+    let settled : i.chain.state.tail ≡ length i.chain.state.entries = rw (← c.self.view_is) at c.requires.settled in
     settled_ready items _ (subst (λ (s : ChainState). s.tail ≡ length s.entries) (sym c.grow_log.ensures.chain) settled)
     (record {
       pages = c.in_ok-grow_log.ensures.reserved;
@@ -147,9 +114,7 @@ returns-in_err-grow_lists-clause-enough c ready =
     let i = c.self.inside in
     let inv = c.self.invariant in
     let items = c.args.items.now in
-    let r : IsReadyFor items (value_in i) = subst (λ (v : CellValue). IsReadyFor items v) (sym c.self.view_is) ready in
-    let p = settled_publish items (value_in i)
-    (subst (λ (v : CellValue). v.state.chain.tail ≡ length v.state.chain.entries) (sym c.self.view_is) c.requires.settled) r in
+    let p = settled_publish items (value_in i) (rw (← c.self.view_is) at c.requires.settled) (rw (← c.self.view_is) at ready) in
     let less = weights_were i.block (log_of (state_in i)) i.index items inv.refs inv.names c.most_killed-killed.ensures.distinct in
     let no : false ≡ true =
     c.in_err-grow_lists.ensures.enough (omega (arith, p.killed, less, c.most_killed-killed.ensures.value, ap length inv.no_numbers))
@@ -160,8 +125,7 @@ pub returns-in_err-grow_log-clause-enough : goal.returns-in_err-grow_log-clause-
 returns-in_err-grow_log-clause-enough c ready =
     let i = c.self.inside in
     let inv = c.self.invariant in
-    let items = c.args.items.now in
-    let r : IsReadyFor items (value_in i) = subst (λ (v : CellValue). IsReadyFor items v) (sym c.self.view_is) ready in
+    let r = rw (← c.self.view_is) at ready in
     let no : false ≡ true = c.in_err-grow_log.ensures.enough
     (record {
       marks = omega (arith, inv.spare.marks, r.append.parts, c.part_total-parts.ensures);
@@ -176,9 +140,7 @@ returns-in_err-reserve-clause-enough c ready =
     let i = c.self.inside in
     let inv = c.self.invariant in
     let items = c.args.items.now in
-    let r : IsReadyFor items (value_in i) = subst (λ (v : CellValue). IsReadyFor items v) (sym c.self.view_is) ready in
-    let p = settled_publish items (value_in i)
-    (subst (λ (v : CellValue). v.state.chain.tail ≡ length v.state.chain.entries) (sym c.self.view_is) c.requires.settled) r in
+    let p = settled_publish items (value_in i) (rw (← c.self.view_is) at c.requires.settled) (rw (← c.self.view_is) at ready) in
     let no : false ≡ true = c.in_err-reserve.ensures.enough p.runs
     (names_ready items (record { names = bindings_of (log_of (state_in i)); reserved = i.index.names.reserved }) i.index.names inv.names
     refl p.names) in
