@@ -3,10 +3,13 @@ use Rattle.std.proofs.Common.{◌≡◌, ℕ, ◌+◌, ◌<◌, ◌≤◌, Bool,
 use Rattle.std.specs.Prelude.{None, vec_capacity}
 use Rattle.std.specs.List.{AllByRecursion}
 use Rattle.std.proofs.lemmas.List.{length-take}
+use Rattle.std.specs.Global.{Vec}
 use Rattle.nv_alloc.specs.Block.{AreSized, BlockValue}
-use Rattle.nv_log.specs.Chain.{ChainState, IsChain, compacted, gone_of, left_of, with_pages_left}
+use Rattle.nv_entry.specs.Covered.{part_total}
+use Rattle.nv_log.specs.Chain.{ChainState, IsChain, compacted, gone_of, left_of, log, with_pages_left}
 use Rattle.nv_nindex.specs.NameIndex.{HaveSameBindings}
 use Rattle.nv_cell.specs.declared.cell.InodeCell.TheInside.{Inside}
+use Rattle.nv_cell.specs.declared.mark.Mark.{Mark}
 use Rattle.nv_cell.specs.Cell.{log_of}
 use Rattle.nv_cell.specs.Fields.{AreFields, state_in}
 use Rattle.nv_cell.specs.Numbers.{part_base}
@@ -41,19 +44,6 @@ pages_taken {cell} stays inv is len published may chain_is = record {
   may = may;
 }
 
--- what closing up and a recount make of the fields, where entries are taken out
-pub record IsClosed (flags : List Bool) (old new : Inside) : Type 0 where
-  pub same : new ≡ record old { chain = new.chain; marks = new.marks; blocks = new.blocks }
-  pub marks : new.marks.marks.items ≡ left_of (part_flags flags (log_of (state_in old))) old.marks.marks.items
-  pub slots : new.blocks.items ≡ left_of (slot_flags flags (log_of (state_in old))) old.blocks.items
-  pub slots_room : vec_capacity new.blocks ≡ vec_capacity old.blocks
-  pub room : SameCapacity old.marks new.marks
-  pub len : length new.marks.ends.items ≡ new.chain.state.tail
-  pub ended : (i : ℕ) → i < new.chain.state.tail → end_at new.marks.ends.items i ≡ part_base new.chain.state.entries (i + 1)
-  pub tallied : AreTallied new.marks new.chain.state.ends
-  pub pages : AreSized old.block new.chain.state.blocks
-  pub pages_room : length new.chain.state.blocks + new.chain.spare ≤ vec_capacity old.marks.pages
-
 module _ {flags : List Bool} {old : Inside} {chain : ChainState} (inv : AreFields old)
     (taken : AreTaken flags (state_in old) chain) where
   -- the slots are there, and those that go have no block
@@ -70,54 +60,86 @@ module _ {flags : List Bool} {old : Inside} {chain : ChainState} (inv : AreField
   slots_closed next is = left_by_part taken.left old.blocks.items inv.slots next is
 
   -- no more entries are published than before
-  pub tail_falls : chain.tail ≤ length old.marks.ends.items
+  tail_falls : chain.tail ≤ length old.marks.ends.items
   tail_falls =
       let s = old.chain.state in
       omega (arith, (fewer taken.left).tail, inv.ends_len, length-take s.tail s.entries)
 
-module _ {flags : List Bool} {old new : Inside} (inv : AreFields old)
-    (taken : AreTaken flags (state_in old) new.chain.state) (closed : IsClosed flags old new) where
-  pub fields_left : AreFields new
-  fields_left =
-      let s = old.chain.state in
-      let t = new.chain.state in
-      let few = fewer taken.left in
-      let slots = slots_closed inv taken new.blocks.items closed.slots in
-      let tail = tail_falls inv taken in
-      let r = closed.room in
-      let before = total_take s.entries s.tail in
-      let after = total_take t.entries t.tail in
-      let count = ap length closed.marks ∙ marks_count taken in
-      let ends_len = closed.len in
-      let tallies_len = closed.tallied.tallies.len in
-      subst AreFields (sym closed.same) (record {
-        some = inv.some;
-        pages = closed.pages;
-        marks = rw closed.marks (let h = marks_left taken in record { len = h.len; current = h.current });
-        blocks = rw (closed.marks, slots.0) (let h = blocks_left taken in record { len = h.len; numbers = h.numbers; sized = h.sized });
-        refs = λ key. inv.refs key ∙ sym (refs_left taken key);
-        names = subst (λ bs. HaveSameBindings bs old.index.names.names) (sym (names_left taken)) inv.names;
-        ends_len = ends_len;
-        ends = closed.ended;
-        tallied = closed.tallied;
-        spare = record {
-          marks = omega (arith, count, before, after, few.parts, inv.spare.marks, inv.marks.len, r.marks);
-          ends = omega (arith, few.entries, tail, ends_len, inv.spare.ends, inv.ends_len, r.ends);
-          tallies = omega (
-            arith,
-            few.entries,
-            tail,
-            ends_len,
-            tallies_len,
-            inv.spare.tallies,
-            inv.tallied.tallies.len,
-            inv.ends_len,
-            r.tallies,
-          );
-        };
-        slots = slots.1;
-        blocks_room = omega (arith, few.slots, inv.blocks_room, closed.slots_room);
-        pages_room = omega (arith, closed.pages_room, r.pages);
-        no_numbers = inv.no_numbers;
-        no_killed = inv.no_killed;
-      })
+  -- what is left can be counted, and there is room for it
+  pub may_recount : {closed : List Mark} → closed ≡ left_of (part_flags flags (log_of (state_in old))) old.marks.marks.items
+      → IsChain old.chain.state → length chain.ends ≤ length old.chain.state.ends
+      → record {
+        marks : length closed ≡ part_total (log chain);
+        ends_room : chain.tail ≤ vec_capacity old.marks.ends;
+        tallies_room : chain.tail ≤ vec_capacity old.marks.tallies;
+        pages_room : length chain.ends ≤ vec_capacity old.marks.pages;
+      }
+  may_recount closed is few = record {
+    marks = ap length closed ∙ marks_count taken;
+    ends_room = omega (arith, tail_falls, inv.spare.ends);
+    tallies_room = omega (arith, tail_falls, inv.ends_len, inv.tallied.tallies.len, inv.spare.tallies);
+    pages_room = omega (arith, few, is.paged, inv.pages_room);
+  }
+
+-- marks and slots are closed up and the marks counted anew, and the pages are of the right size and few enough
+pub fields_left : {flags : List Bool} {old new : Inside} {closed : Vec Mark} → AreFields old
+    → AreTaken flags (state_in old) new.chain.state → new ≡ record old { chain = new.chain; marks = new.marks; blocks = new.blocks }
+    → record {
+      marks : closed.items ≡ left_of (part_flags flags (log_of (state_in old))) old.marks.marks.items;
+      slots : new.blocks.items ≡ left_of (slot_flags flags (log_of (state_in old))) old.blocks.items;
+      marks_room : vec_capacity closed ≡ vec_capacity old.marks.marks;
+      slots_room : vec_capacity new.blocks ≡ vec_capacity old.blocks;
+    }
+    → record {
+      marks : new.marks.marks ≡ closed;
+      len : length new.marks.ends.items ≡ new.chain.state.tail;
+      ended : (i : ℕ) → i < new.chain.state.tail → end_at new.marks.ends.items i ≡ part_base new.chain.state.entries (i + 1);
+      tallied : AreTallied new.marks new.chain.state.ends;
+      room : SameCapacity (record old.marks { marks = closed }) new.marks;
+    }
+    → AreSized old.block new.chain.state.blocks → length new.chain.state.blocks + new.chain.spare ≤ vec_capacity old.marks.pages
+    → AreFields new
+fields_left {old = old} {new = new} inv taken same closed recount pages pages_room =
+    let s = old.chain.state in
+    let t = new.chain.state in
+    let few = fewer taken.left in
+    let slots = slots_closed inv taken new.blocks.items closed.slots in
+    let tail = tail_falls inv taken in
+    let r = recount.room in
+    let before = total_take s.entries s.tail in
+    let after = total_take t.entries t.tail in
+    let marks_are = ap (λ v. v.items) recount.marks ∙ closed.marks in
+    let count = ap length marks_are ∙ marks_count taken in
+    let ends_len = recount.len in
+    let tallies_len = recount.tallied.tallies.len in
+    subst AreFields (sym same) (record {
+      some = inv.some;
+      pages = pages;
+      marks = rw marks_are (let h = marks_left taken in record { len = h.len; current = h.current });
+      blocks = rw (marks_are, slots.0) (let h = blocks_left taken in record { len = h.len; numbers = h.numbers; sized = h.sized });
+      refs = λ key. inv.refs key ∙ sym (refs_left taken key);
+      names = subst (λ bs. HaveSameBindings bs old.index.names.names) (sym (names_left taken)) inv.names;
+      ends_len = ends_len;
+      ends = recount.ended;
+      tallied = recount.tallied;
+      spare = record {
+        marks = omega (arith, count, before, after, few.parts, inv.spare.marks, inv.marks.len, r.marks, closed.marks_room);
+        ends = omega (arith, few.entries, tail, ends_len, inv.spare.ends, inv.ends_len, r.ends);
+        tallies = omega (
+          arith,
+          few.entries,
+          tail,
+          ends_len,
+          tallies_len,
+          inv.spare.tallies,
+          inv.tallied.tallies.len,
+          inv.ends_len,
+          r.tallies,
+        );
+      };
+      slots = slots.1;
+      blocks_room = omega (arith, few.slots, inv.blocks_room, closed.slots_room);
+      pages_room = omega (arith, pages_room, r.pages);
+      no_numbers = inv.no_numbers;
+      no_killed = inv.no_killed;
+    })

@@ -122,6 +122,11 @@ scanned_slot block es t key r slots is found some len =
 
 -- ---- the slot that a cell finds
 
+-- each entry's parts begin where the entry before it ends
+pub parts_begin : (i : Inside) → AreFields i → (k : ℕ) → k < i.chain.state.tail
+    → start_at i.marks.ends.items k ≡ part_base i.chain.state.entries k
+parts_begin i inv = first_base i.marks.ends.items i.chain.state.entries i.chain.state.tail inv.ends
+
 -- each entry's slots begin where its tally says
 pub slots_begin : (i : Inside) → AreFields i → (k : ℕ) → k < i.chain.state.tail
     → first_slot i.marks.tallies.items k ≡ slot_base i.chain.state.entries k
@@ -131,7 +136,7 @@ slots_begin i inv k lt =
 
 module _ (i : Inside) (inv : AreFields i) (p : NumberedPart) (low : p.entry < i.chain.state.tail) where
   start : start_at i.marks.ends.items p.entry ≡ part_base i.chain.state.entries p.entry
-  start = first_base i.marks.ends.items i.chain.state.entries i.chain.state.tail inv.ends p.entry low
+  start = parts_begin i inv p.entry low
 
   first : first_slot i.marks.tallies.items p.entry ≡ slot_base i.chain.state.entries p.entry
   first = slots_begin i inv p.entry low

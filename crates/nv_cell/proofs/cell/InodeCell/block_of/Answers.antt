@@ -1,14 +1,11 @@
 use Rattle.std.proofs.Common.{ap, ◌∙◌, None, slice_index_or}
 use Rattle.std.specs.Prelude.{option_and_then}
 use Rattle.nv_cell.specs.Fields.{state_in}
-use Rattle.nv_cell.proofs.PartSlots.{few_found, slot_found}
-use Rattle.nv_cell.proofs.Publishes.{first_base}
+use Rattle.nv_cell.proofs.PartSlots.{few_found, parts_begin, slot_found}
 use Rattle.nv_cell.proofs.cell.InodeCell.block_of.Goals as goal
 
 pub find_part-requires-clause-ends : goal.find_part-requires-clause-ends
-find_part-requires-clause-ends c =
-    let i = c.self.inside in
-    first_base i.marks.ends.items i.chain.state.entries i.chain.state.tail c.self.invariant.ends
+find_part-requires-clause-ends c = parts_begin c.self.inside c.self.invariant
 
 pub slot-requires : goal.slot-requires
 slot-requires c = record {

@@ -1,9 +1,9 @@
-use Rattle.std.proofs.Common.{length, arith, refl, ap, ◌∙◌}
+use Rattle.std.proofs.Common.{arith, refl}
 use Rattle.nv_entry.proofs.Leaving.{keeps_the_rest}
 use Rattle.nv_cell.specs.Cell.{log_of}
 use Rattle.nv_cell.specs.Fields.{state_in}
-use Rattle.nv_cell.proofs.FieldsLeft.{compact_taken, fields_left, slots_empty, slots_closed, slots_there, tail_falls}
-use Rattle.nv_cell.proofs.Removing.{fresh_within, last_stays, marks_count, may_leave, packed_within}
+use Rattle.nv_cell.proofs.FieldsLeft.{compact_taken, fields_left, slots_empty, slots_closed, slots_there, may_recount}
+use Rattle.nv_cell.proofs.Removing.{fresh_within, last_stays, may_leave, packed_within}
 use Rattle.nv_cell.proofs.cell.InodeCell.compact.Goals as goal
 
 pub close_parts-requires : goal.close_parts-requires
@@ -20,14 +20,7 @@ recount-requires c =
     let is = c.ends-ends.ensures.chain in
     let now = c.compact-old.ensures.state in
     let taken = compact_taken c.args.stays.now c.args.pages.items inv is given.flags given.may now in
-    let tail = tail_falls inv taken in
-    let few = packed_within c.args.stays.now c.args.pages.items c.self.inside.chain.state is in
-    record {
-      marks = ap length c.close_parts.ensures.marks ∙ marks_count taken;
-      ends_room = omega (arith, tail, inv.spare.ends);
-      tallies_room = omega (arith, tail, inv.ends_len, inv.tallied.tallies.len, inv.spare.tallies);
-      pages_room = rw now (omega (arith, few, is.paged, inv.pages_room));
-    }
+    may_recount inv taken c.close_parts.ensures.marks is (rw now (packed_within c.args.stays.now c.args.pages.items c.self.inside.chain.state is))
 
 pub invariant_of-self : goal.invariant_of-self
 invariant_of-self c =
@@ -35,22 +28,11 @@ invariant_of-self c =
     let inv = c.self.invariant in
     let is = c.ends-ends.ensures.chain in
     let now = c.compact-old.ensures.state in
-    let r = c.recount.ensures.room in
     let taken = compact_taken c.args.stays.now c.args.pages.items inv is given.flags given.may now in
-    let few = fresh_within c.args.stays.now c.args.pages.items c.self.inside.chain.state is
+    let fresh = fresh_within c.args.stays.now c.args.pages.items c.self.inside.chain.state is
     (omega (arith, given.pages, c.args.pages.ok)) in
-    fields_left inv taken (record {
-      same = refl;
-      marks = ap (λ v. v.items) c.recount.ensures.marks ∙ c.close_parts.ensures.marks;
-      slots = c.close_parts.ensures.slots;
-      slots_room = c.close_parts.ensures.slots_room;
-      room = record { marks = r.marks ∙ c.close_parts.ensures.marks_room; ends = r.ends; tallies = r.tallies; pages = r.pages };
-      len = c.recount.ensures.len;
-      ended = c.recount.ensures.ended;
-      tallied = c.recount.ensures.tallied;
-      pages = rw now given.sized;
-      pages_room = rw (now, c.compact-old.ensures.spare) (omega (arith, few, is.paged, inv.pages_room));
-    })
+    fields_left inv taken refl c.close_parts.ensures c.recount.ensures (rw now given.sized)
+    (rw (now, c.compact-old.ensures.spare) (omega (arith, fresh, is.paged, inv.pages_room)))
 
 pub returns : goal.returns
 returns c =

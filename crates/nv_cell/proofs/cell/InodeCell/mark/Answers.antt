@@ -3,13 +3,11 @@ use Rattle.std.specs.Option.{option_map}
 use Rattle.nv_cell.specs.Cell.{log_of}
 use Rattle.nv_cell.specs.Fields.{state_in}
 use Rattle.nv_cell.specs.Named.{number_named}
-use Rattle.nv_cell.proofs.Publishes.{first_base}
+use Rattle.nv_cell.proofs.PartSlots.{parts_begin}
 use Rattle.nv_cell.proofs.cell.InodeCell.mark.Goals as goal
 
 pub find_part-requires-clause-ends : goal.find_part-requires-clause-ends
-find_part-requires-clause-ends c =
-    let i = c.self.inside in
-    first_base i.marks.ends.items i.chain.state.entries i.chain.state.tail c.self.invariant.ends
+find_part-requires-clause-ends c = parts_begin c.self.inside c.self.invariant
 
 pub returns : goal.returns
 returns c =

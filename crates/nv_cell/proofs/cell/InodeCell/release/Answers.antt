@@ -2,16 +2,13 @@ use Rattle.std.proofs.Common.{None, refl, ap, ◌∙◌, slice_index_or}
 use Rattle.nv_cell.specs.declared.mark.Mark.TheVariants.{Out}
 use Rattle.nv_cell.specs.Fields.{state_in}
 use Rattle.nv_cell.specs.Slots.{by_part}
-use Rattle.nv_cell.proofs.PartSlots.{few_found, slot_found}
-use Rattle.nv_cell.proofs.Publishes.{first_base}
+use Rattle.nv_cell.proofs.PartSlots.{few_found, parts_begin, slot_found}
 use Rattle.nv_cell.proofs.Remarked.{fields_out, is_found}
 use Rattle.nv_cell.proofs.Remarking.{is_idle}
 use Rattle.nv_cell.proofs.cell.InodeCell.release.Goals as goal
 
 pub find_part-requires-clause-ends : goal.find_part-requires-clause-ends
-find_part-requires-clause-ends c =
-    let i = c.self.inside in
-    first_base i.marks.ends.items i.chain.state.entries i.chain.state.tail c.self.invariant.ends
+find_part-requires-clause-ends c = parts_begin c.self.inside c.self.invariant
 
 pub set-requires-clause-there : goal.set-requires-clause-there
 set-requires-clause-there c =

@@ -1,12 +1,12 @@
-use Rattle.std.proofs.Common.{◌≡◌, length, arith, refl, ap, ◌∙◌}
+use Rattle.std.proofs.Common.{◌≡◌, length, arith, refl}
 use Rattle.nv_entry.proofs.Leaving.{keeps_the_rest}
 use Rattle.nv_log.proofs.Flags.{all_gone, all_left, length-left_of}
 use Rattle.nv_cell.specs.Cell.{log_of}
 use Rattle.nv_cell.specs.Fields.{state_in}
 use Rattle.nv_cell.specs.Removal.{log_flags}
-use Rattle.nv_cell.proofs.FieldsLeft.{pages_taken, fields_left, slots_empty, slots_closed, slots_there, tail_falls}
+use Rattle.nv_cell.proofs.FieldsLeft.{pages_taken, fields_left, slots_empty, slots_closed, slots_there, may_recount}
 use Rattle.nv_cell.proofs.PageFlags.{pages_fewer}
-use Rattle.nv_cell.proofs.Removing.{last_stays, marks_count, may_leave}
+use Rattle.nv_cell.proofs.Removing.{last_stays, may_leave}
 use Rattle.nv_cell.proofs.cell.InodeCell.remove_pages.Goals as goal
 
 pub close_parts-requires : goal.close_parts-requires
@@ -29,14 +29,7 @@ recount-requires c =
     let is = c.ends-ends.ensures.chain in
     let now = c.unlink_pages.ensures.state in
     let taken = pages_taken c.args.stays.now inv is given.flags given.published given.may now in
-    let tail = tail_falls inv taken in
-    let few = pages_fewer c.args.stays.now c.self.inside.chain.state in
-    record {
-      marks = ap length c.close_parts.ensures.marks ∙ marks_count taken;
-      ends_room = omega (arith, tail, inv.spare.ends);
-      tallies_room = omega (arith, tail, inv.ends_len, inv.tallied.tallies.len, inv.spare.tallies);
-      pages_room = rw now (omega (arith, few, is.paged, inv.pages_room));
-    }
+    may_recount inv taken c.close_parts.ensures.marks is (rw now (pages_fewer c.args.stays.now c.self.inside.chain.state))
 
 pub invariant_of-self : goal.invariant_of-self
 invariant_of-self c =
@@ -44,22 +37,11 @@ invariant_of-self c =
     let inv = c.self.invariant in
     let is = c.ends-ends.ensures.chain in
     let now = c.unlink_pages.ensures.state in
-    let r = c.recount.ensures.room in
     let taken = pages_taken c.args.stays.now inv is given.flags given.published given.may now in
-    let s = c.self.inside.chain.state in
-    fields_left inv taken (record {
-      same = refl;
-      marks = ap (λ v. v.items) c.recount.ensures.marks ∙ c.close_parts.ensures.marks;
-      slots = c.close_parts.ensures.slots;
-      slots_room = c.close_parts.ensures.slots_room;
-      room = record { marks = r.marks ∙ c.close_parts.ensures.marks_room; ends = r.ends; tallies = r.tallies; pages = r.pages };
-      len = c.recount.ensures.len;
-      ended = c.recount.ensures.ended;
-      tallied = c.recount.ensures.tallied;
-      pages = rw now (all_left (λ b. length b.bytes ≡ c.self.inside.block) c.args.stays.now s.blocks inv.pages);
-      pages_room = rw (now, c.unlink_pages.ensures.spare)
-          (omega (arith, length-left_of c.args.stays.now s.blocks, inv.pages_room));
-    })
+    let blocks = c.self.inside.chain.state.blocks in
+    fields_left inv taken refl c.close_parts.ensures c.recount.ensures
+    (rw now (all_left (λ b. length b.bytes ≡ c.self.inside.block) c.args.stays.now blocks inv.pages))
+    (rw (now, c.unlink_pages.ensures.spare) (omega (arith, length-left_of c.args.stays.now blocks, inv.pages_room)))
 
 pub returns : goal.returns
 returns c =

@@ -1,15 +1,13 @@
 use Rattle.std.proofs.Common.{refl}
 use Rattle.nv_cell.specs.declared.mark.Mark.TheVariants.{Kept}
 use Rattle.nv_cell.specs.Fields.{state_in}
-use Rattle.nv_cell.proofs.Publishes.{first_base}
+use Rattle.nv_cell.proofs.PartSlots.{parts_begin}
 use Rattle.nv_cell.proofs.Remarked.{fields_kept, is_found}
 use Rattle.nv_cell.proofs.Remarking.{is_killed}
 use Rattle.nv_cell.proofs.cell.InodeCell.retire.Goals as goal
 
 pub find_part-requires-clause-ends : goal.find_part-requires-clause-ends
-find_part-requires-clause-ends c =
-    let i = c.self.inside in
-    first_base i.marks.ends.items i.chain.state.entries i.chain.state.tail c.self.invariant.ends
+find_part-requires-clause-ends c = parts_begin c.self.inside c.self.invariant
 
 pub set-requires-clause-there : goal.set-requires-clause-there
 set-requires-clause-there c =
