@@ -95,7 +95,8 @@ module _ {flags : List Bool} {es : List Entry} {i : ℕ} {e : Entry} (block : �
       ap (λ (fs : List Bool). gone_of fs xs) n.ahead ∙ gone_of-run c b later xs
       ∙ ap (λ (ms : List Mark). cond b [] (take c xs) ++ gone_of later ms)
       (drop-drop c (part_base es i) marks ∙ ap (λ (k : ℕ). drop k marks) (sym n.to)) in
-      subst AreOut (sym split) (all_append (λ m. m ≡ Out) (cond b [] (take c xs)) (gone_of later (drop (part_base es (i + 1)) marks)) front rest)
+      subst AreOut (sym split)
+      (all_append (λ m. m ≡ Out) (cond b [] (take c xs)) (gone_of later (drop (part_base es (i + 1)) marks)) front rest)
 
   -- what the entries from one on may do, the later ones may do
   pub rest_goes : (b : Bool) → b ≡ get_or flags i b → RestGoes block flags es marks i → RestGoes block flags es marks (i + 1)

@@ -78,7 +78,8 @@ reads m {n} {i} {ends} {was} {old} h there same at was_at old_at =
     }
 
 -- a part gets another mark, and its entry's tally and its page's counts go along
-pub set_tallied : {m : Marks} {page_ends : List ℕ} {n i k : ℕ} {was : Mark} {old t : Tally} {before c : PageCounts} (mark : Mark) (there : ℕ)
+pub set_tallied : {m : Marks} {page_ends : List ℕ} {n i k : ℕ} {was : Mark} {old t : Tally} {before c : PageCounts}
+    (mark : Mark) (there : ℕ)
     → AreTallied m page_ends
     → IsRead m n i was old → is_there (mark_at m.marks.items n) ≡ true → IsInRun page_ends i k
     → t ≡ moved old was mark → before ≡ slice_index_or m.pages.items k before → c ≡ recounted before old t

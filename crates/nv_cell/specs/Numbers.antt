@@ -103,7 +103,8 @@ HasRoomFor count list = vec_len list + count ≤ vec_capacity list
 
 -- the parts that the index names at the keys which pass a test, at most so many, are put on a list
 pub record Pushes (es : List Entry) (index : IndexValue) (test : Key → Bool) (most : ℕ) (old new : Vec NumberedPart) : Type 0 where
-  pub numbers : (n : ℕ) → times n (numbers_in new.items) ≡ times n (numbers_in old.items) + (if is_named es index n && test (key_at es n) then 1 else 0)
+  pub numbers : (n : ℕ)
+      → times n (numbers_in new.items) ≡ times n (numbers_in old.items) + (if is_named es index n && test (key_at es n) then 1 else 0)
   pub len : vec_len new ≤ vec_len old + most
   pub capacity : vec_capacity new ≡ vec_capacity old
 
@@ -126,4 +127,6 @@ killed_part (e ∷ later) n =
 -- the mark of the part n once the entries from `tail` on are published
 abbrev pub published_mark : ℕ → List Entry → ℕ → List Mark → ℕ → Mark
 published_mark block es tail marks n =
-    if dies block es tail n then Killed else if nat_lt n (part_base es tail) then mark_at marks n else if nat_lt n (part_total es) then Current else Out
+    if dies block es tail n then Killed
+    else if nat_lt n (part_base es tail) then mark_at marks n
+    else if nat_lt n (part_total es) then Current else Out

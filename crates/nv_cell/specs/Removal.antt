@@ -71,8 +71,8 @@ left_in stays chain cell = record cell {
   blocks = left_of (part_flags stays (log_of cell)) cell.blocks;
 }
 
--- the last entry stays, and with it the id and the epoch that the next one has to follow; what the inode tells of itself
--- stays, and so does whether it is gone
+-- the last entry stays, and with it the id and the epoch that the next one has to follow; what the inode tells of
+-- itself stays, and so does whether it is gone
 pub record KeepsTheLast (old new : CellState) : Type 0 where
   pub entry : last_entry new.chain ≡ last_entry old.chain
   pub stat : stat_now new.block (log_of new) ≡ stat_now old.block (log_of old)

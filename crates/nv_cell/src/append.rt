@@ -17,8 +17,8 @@ use nv_base::limits::FILE_PAGES;
 use nv_entry::{Entry, Item};
 
 impl InodeCell {
-    /// Adds a page of the log behind the others: a block of the cell's size. Takes no memory. What the cell is ready for,
-    /// it stays ready for.
+    /// Adds a page of the log behind the others: a block of the cell's size. Takes no memory. What the cell is ready
+    /// for, it stays ready for.
     pub fn add_page(&mut self, block: Block)
         requires reserved { 0 < self.old.room.pages }
         requires sized { length block.bytes ≡ self.old.state.block }
@@ -51,8 +51,9 @@ impl InodeCell {
         self.chain.may_append(entry.id, entry.epoch) && is_within_file(&entry.item)
     }
 
-    /// Appends an entry past the tail, with the blocks of its pages from the front of the queue. Takes no memory; the
-    /// time is that of its parts. A cell that is ready for items of which this is the first is then ready for the others.
+    /// Appends an entry past the tail, with the blocks of its pages from the front of the queue. Takes no
+    /// memory; the time is that of its parts. A cell that is ready for items of which this is the first is then
+    /// ready for the others.
     pub fn append(&mut self, entry: Entry, queue: &mut BlockQueue)
         requires next { MayAppend entry self.old }
         requires size { queue.old.size ≡ self.old.state.block }

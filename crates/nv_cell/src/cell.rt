@@ -21,8 +21,8 @@ use std::alloc::Global;
 use std::marker::Model;
 use std::mem;
 
-/// An inode with its log, or an empty slot. Its index, and which of its parts are marked current, are at all times those
-/// of one scan of its log; the counts of its pages are those of its marks.
+/// An inode with its log, or an empty slot. Its index, and which of its parts are marked current, are at all times
+/// those of one scan of its log; the counts of its pages are those of its marks.
 ///
 /// A cell owns the blocks of its log pages and of its data, so it is no `Drop`.
 pub struct InodeCell {
@@ -167,8 +167,8 @@ impl InodeCell {
         self.marks.set(self.chain.ends(), found, Mark::Kept);
     }
 
-    /// Puts a killed or kept part out, and hands out its block, which a page has and no other part. Takes no memory; the
-    /// time grows with the logarithm of the entries and pages.
+    /// Puts a killed or kept part out, and hands out its block, which a page has and no other part. Takes no memory;
+    /// the time grows with the logarithm of the entries and pages.
     pub fn release(&mut self, part: PartId) -> Option<Block>
         requires { (mark_named self.old.state part ≡ Some Mark.Killed)
             ⊎ (mark_named self.old.state part ≡ Some Mark.Kept) }

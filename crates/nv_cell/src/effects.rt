@@ -15,8 +15,8 @@ use crate::kills::push_covered;
 use crate::{CellIndex, Marks, NumberedPart};
 use nv_log::Chain;
 
-/// Brings the index from the entries before the tail up to all entries, and puts the parts on the list that were current,
-/// or are newly published, and are not current after it.
+/// Brings the index from the entries before the tail up to all entries, and puts the parts on the list that were
+/// current, or are newly published, and are not current after it.
 pub fn apply_all(
     index: &mut CellIndex,
     killed: &mut Vec<NumberedPart>,
@@ -41,7 +41,8 @@ pub fn apply_all(
     ensures scan { (key : Key) → ref_of index.new key ≡ scan_ref block chain.now.state.entries key }
     ensures bound { HaveSameBindings (bindings_of chain.now.state.entries) index.new.names.names }
     ensures killed { (n : ℕ) → times n (numbers_in killed.new.items)
-        ≡ times n (numbers_in killed.old.items) + (if dies block chain.now.state.entries tail n then 1 else 0) }
+        ≡ times n (numbers_in killed.old.items)
+        + (if dies block chain.now.state.entries tail n then 1 else 0) }
     ensures len { vec_len killed.new ≤ vec_len killed.old
         + weights_in block (take tail chain.now.state.entries)
         (items_of (drop tail chain.now.state.entries)) }

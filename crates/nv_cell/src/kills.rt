@@ -18,7 +18,8 @@ fn push_part(killed: &mut Vec<NumberedPart>, chain: &Chain, marks: &Marks, part:
     requires known { IsPart chain.now.state.entries part }
     requires room { HasRoomFor 1 killed.old }
     ensures numbers { (n : ℕ) → times n (numbers_in killed.new.items)
-        ≡ times n (numbers_in killed.old.items) + (if number chain.now.state.entries part == n then 1 else 0) }
+        ≡ times n (numbers_in killed.old.items)
+        + (if number chain.now.state.entries part == n then 1 else 0) }
     ensures len { vec_len killed.new ≡ vec_len killed.old + 1 }
     ensures capacity { vec_capacity killed.new ≡ vec_capacity killed.old }
 {

@@ -10,8 +10,8 @@ pub enum Mark {
     Current,
     /// It is no longer current, and not yet retired.
     Killed,
-    /// Retired and not yet released. A caller retires a part that it records: for a living snapshot that holds it, or as
-    /// deferred.
+    /// Retired and not yet released. A caller retires a part that it records: for a living snapshot that
+    /// holds it, or as deferred.
     Kept,
     /// Nothing keeps it, and its block is gone.
     Out,

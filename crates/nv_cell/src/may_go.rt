@@ -12,8 +12,8 @@ use nv_entry::{Item, hides};
 use nv_log::Chain;
 
 impl InodeCell {
-    /// Whether the entries of the log may go that are not flagged as staying, a flag for each. The time is linear in the
-    /// entries, and for each that goes that of the entries before it.
+    /// Whether the entries of the log may go that are not flagged as staying, a flag for each. The time is linear in
+    /// the entries, and for each that goes that of the entries before it.
     pub fn may_go(&self, stays: &[bool]) -> bool
         requires flags { length stays.now ≡ self.now.state.chain.tail }
         ensures { IsTrue result ↔ MayGo stays.now self.now.state }

@@ -15,8 +15,8 @@ impl InodeCell {
     /// The marks of the parts of a published entry, by the entry's place in the log.
     pub fn marks_of(&self, entry: usize) -> &[Mark]
         requires { entry < self.now.state.chain.tail }
-        ensures { result.now
-            ≡ slice_index_or (marks_by_entry (log_of self.now.state) self.now.state.marks) entry [] }
+        ensures { result.now ≡ slice_index_or
+            (marks_by_entry (log_of self.now.state) self.now.state.marks) entry [] }
     {
         // The chain is one, so that its tail is no further than its entries.
         let _ends = self.chain.ends();

@@ -39,9 +39,9 @@ pub struct Stretch {
 }
 
 impl InodeCell {
-    /// At most `len` bytes of a file from a place on, none past its end: zeros where it has no page. `OutOfMemory` where
-    /// room for them was refused. Costs the pages that it reads, and one look-up for each run of them and for each
-    /// sixteen pages.
+    /// At most `len` bytes of a file from a place on, none past its end: zeros where it has no page.
+    /// `OutOfMemory` where room for them was refused. Costs the pages that it reads, and one look-up for each
+    /// run of them and for each sixteen pages.
     pub fn read(&self, at: u64, len: u64) -> Result<Bytes, Fault>
         ensures own { IfOk result (λ read. read ≡ read_at at len (own_bytes self.now.state)) }
         ensures bytes { (bytes : ℕ → List ℕ) → AreBytesOf self.now.state bytes
@@ -181,7 +181,8 @@ fn find_blocks<'a>(
 )
     requires { count ≤ GROUP }
     ensures { (k : ℕ) → k < count → option_copied (slice_index_or blocks.new k None)
-        ≡ option_and_then (λ n. slice_index_or slots.now n None) (slice_index_or numbers.now k None) }
+        ≡ option_and_then (λ n. slice_index_or slots.now n None)
+        (slice_index_or numbers.now k None) }
 {
     for k in 0..count {
         blocks[k] = block_at(slots, numbers[k]);
@@ -233,8 +234,8 @@ fn push_pages(
     Ok(())
 }
 
-/// The stretch that has a page, or the first one behind it. Its run is looked for at a place first, which becomes the place
-/// behind it.
+/// The stretch that has a page, or the first one behind it. Its run is looked for at a place first, which becomes
+/// the place behind it.
 fn stretch_from(
     block: u64,
     index: &CellIndex,

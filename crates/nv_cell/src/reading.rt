@@ -74,7 +74,8 @@ impl InodeCell {
 
 /// What a name is bound to by an index.
 fn bound_in(index: &CellIndex, name: &[u8]) -> Option<Handle>
-    ensures { result ≡ option_map (λ binding. binding.to) (binding_of name.now index.now.names.names) }
+    ensures { result
+        ≡ option_map (λ binding. binding.to) (binding_of name.now index.now.names.names) }
 {
     let binding = index.names.get(name)?;
     Some(binding.to)

@@ -16,10 +16,10 @@ use nv_alloc::{Block, BlockQueue};
 
 impl InodeCell {
     /// Leaves the entries of the log that are flagged as staying, a flag for each, and those past the tail, and moves
-    /// them to fresh pages, which take the place of the old ones: the blocks of these are handed out. The last published
-    /// entry stays; each part of an entry that goes is out, and it hides no earlier one that stays ([`InodeCell::may_go`]
-    /// tells). A scan of the log finds the same as before. The time is linear in the log's entries and parts, and no
-    /// memory is taken.
+    /// them to fresh pages, which take the place of the old ones: the blocks of these are handed out. The last
+    /// published entry stays; each part of an entry that goes is out, and it hides no earlier one that stays
+    /// ([`InodeCell::may_go`] tells). A scan of the log finds the same as before. The time is linear in the log's
+    /// entries and parts, and no memory is taken.
     pub fn compact(&mut self, stays: &[bool], pages: Vec<Block>) -> Vec<Block>
         requires flags { length stays.now ≡ self.old.state.chain.tail }
         requires pages { vec_len pages ≡ div_ceil

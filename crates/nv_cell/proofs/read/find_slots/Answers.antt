@@ -30,9 +30,11 @@ loop-page-preserved c =
         | inr high ↦
             let at : k ≡ page - start = omega (arith, lt, high) in
             let same : page ≡ start + k = omega (arith, lt, high) in
-            get_or-set_at c.loop-page.numbers (page - start) k c.slot_in.result None at (omega (arith, c.loop-page.invariant.len, c.loop-page-test.true, c.loop-page.auto.page, c.requires.few))
+            get_or-set_at c.loop-page.numbers (page - start) k c.slot_in.result None at
+            (omega (arith, c.loop-page.invariant.len, c.loop-page-test.true, c.loop-page.auto.page, c.requires.few))
             ∙ c.slot_in.ensures numbers is ∙ ap numbers same
       ];
-      stretch = λ lt. let same : page ≡ page + 1 - 1 = omega arith in subst (λ (p : ℕ). IsStretch numbers p c.if-page-pages.stretch) same is;
+      stretch = λ lt. let same : page ≡ page + 1 - 1 = omega arith in
+          subst (λ (p : ℕ). IsStretch numbers p c.if-page-pages.stretch) same is;
       len = omega (arith, c.loop-page.invariant.len, length-set c.loop-page.numbers (page - start) c.slot_in.result);
     }

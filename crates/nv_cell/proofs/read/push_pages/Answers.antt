@@ -41,5 +41,6 @@ loop-page-preserved c slots numbers count le sized blocks begun =
 
 pub returns : goal.returns
 returns c slots numbers count le sized blocks begun =
-    let same : c.loop-page.page ≡ c.args.pages.now.end = omega (arith, c.requires.rising, c.loop-page-test.false, c.loop-page.auto.page, c.loop-page.auto.page-end) in
+    let same : c.loop-page.page ≡ c.args.pages.now.end =
+    omega (arith, c.requires.rising, c.loop-page-test.false, c.loop-page.auto.page, c.loop-page.auto.page-end) in
     rw same at (c.loop-page.invariant slots numbers count le sized blocks begun)

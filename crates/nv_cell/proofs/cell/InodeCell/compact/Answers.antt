@@ -20,7 +20,8 @@ recount-requires c =
     let is = c.ends-ends.ensures.chain in
     let now = c.compact-old.ensures.state in
     let taken = compact_taken c.args.stays.now c.args.pages.items inv is given.flags given.may now in
-    may_recount inv taken c.close_parts.ensures.marks is (rw now (packed_within c.args.stays.now c.args.pages.items c.self.inside.chain.state is))
+    may_recount inv taken c.close_parts.ensures.marks is
+    (rw now (packed_within c.args.stays.now c.args.pages.items c.self.inside.chain.state is))
 
 pub invariant_of-self : goal.invariant_of-self
 invariant_of-self c =
