@@ -394,3 +394,8 @@ module _ (cells : List (ℕ × CellValue)) (book : BookValue) (cpu : ℕ) (ready
             ap₂ (λ (e n : ℕ). hand_after_killings (ids book.state.snaps) e (noted_killing now done) n done.hand) stamp_is same_places.count
             ∙ same_hand (ids book.state.snaps) start.stamp.epoch (noted_killing now done) (killing cells start) count done.hand killing_is
             ∙ ap (hand_after_killings (ids book.state.snaps) start.stamp.epoch (killing cells start) count) hand_is
+
+  -- all entries are appended, and then published
+  pub record AreAllPublished (now : List (ℕ × CellValue)) (done : CommitValue) : Type 0 where
+    pub appends : AreAppended
+    pub publishes : ArePublished appends now done
