@@ -12,12 +12,11 @@ use Rattle.nv_calls.specs.declared.call.Call.TheVariants as call
 use Rattle.nv_calls.specs.declared.looked.Looked.{Looked}
 use Rattle.nv_calls.specs.Locked.{Agree, SameCall, handles, if_any}
 use Rattle.nv_calls.specs.Plain.{PlainNode, node_in, same_handle}
-use Rattle.nv_calls.specs.Refusals.{Check, and_then, found, is_directory, kind_of, lookup, passes, refuse_if, want_bound, want_directory, want_file, want_lawful, want_node}
+use Rattle.nv_calls.specs.Refusals.{Check, and_then, found, is_directory, kind_of, passes, refuse_if, want_bound, want_directory, want_file, want_lawful, want_node}
 use Rattle.nv_entry.specs.Tree.{names_of_node}
-use Rattle.nv_calls.specs.calls.Lookup.{lookup_answer, lookup_refusal}
+use Rattle.nv_calls.specs.calls.Lookup.{lookup_refusal}
 use Rattle.nv_calls.specs.calls.Rename.{moved_refusal, own_place, pass_if, rename_early, rename_effect, rename_late, rename_plan, replaced_refusal}
 use Rattle.nv_calls.specs.calls.Rmdir.{rmdir_late}
-use Rattle.nv_calls.specs.calls.Stat.{stat_answer}
 use Rattle.nv_calls.specs.calls.Unlink.{leave_effect, leave_plan, unlink_late}
 
 module _ (nodes other : Handle → Option NodeCopy) where
@@ -32,9 +31,6 @@ module _ (nodes other : Handle → Option NodeCopy) where
   right : (xs ys : List Handle) → Same (xs ++ ys) → Same ys
   right [] ys h = h
   right (x ∷ xs) ys h = right xs ys h.1
-
-  lookup_same : (dir : Handle) (name : List ℕ) → other dir ≡ nodes dir → lookup other dir name ≡ lookup nodes dir name
-  lookup_same dir name same = ap (λ (node : Option NodeCopy). let f : Handle → Option NodeCopy = λ handle. node in lookup f dir name) same
 
   found_same : (dir : Handle) (name : List ℕ) → other dir ≡ nodes dir → found other dir name ≡ found nodes dir name
   found_same dir name same = ap (λ (node : Option NodeCopy). let f : Handle → Option NodeCopy = λ handle. node in found f dir name) same
@@ -116,12 +112,6 @@ module _ (block : ℕ) (plain others : Handle → Option PlainNode) (taken : Tak
   two_names first second = record { first = first; second = second }
 
   pub call_same : (c : Call) → Agree plain others (handles (looked n c) c) → SameIn c
-  call_same (call.Create dir name mode) h =
-      let e = same_node dir h.0 in
-      record { found = refl; early = refl; refusal = rw e refl; effect = refl; plan = refl; answer = refl; handles = refl; wanted = refl }
-  call_same (call.Mkdir dir name mode) h =
-      let e = same_node dir h.0 in
-      record { found = refl; early = refl; refusal = rw e refl; effect = refl; plan = refl; answer = refl; handles = refl; wanted = refl }
   call_same (call.Write file offset text) h =
       let e = same_node file h.0 in
       record {
@@ -131,57 +121,6 @@ module _ (block : ℕ) (plain others : Handle → Option PlainNode) (taken : Tak
         effect = refl;
         plan = write_same n o block taken file offset text e;
         answer = refl;
-        handles = refl;
-        wanted = refl;
-      }
-  call_same (call.Read file offset count) h =
-      let e = same_node file h.0 in
-      record {
-        found = refl;
-        early = refl;
-        refusal = rw e refl;
-        effect = refl;
-        plan = refl;
-        answer = rw e refl;
-        handles = refl;
-        wanted = refl;
-      }
-  call_same (call.Size file size) h =
-      let e = same_node file h.0 in
-      record {
-        found = refl;
-        early = refl;
-        refusal = rw e refl;
-        effect = refl;
-        plan = refl;
-        answer = refl;
-        handles = refl;
-        wanted = rw e refl;
-      }
-  call_same (call.Mode handle mode) h =
-      let e = same_node handle h.0 in
-      record { found = refl; early = refl; refusal = rw e refl; effect = refl; plan = refl; answer = refl; handles = refl; wanted = refl }
-  call_same (call.Stat handle) h =
-      let e = same_node handle h.0 in
-      record {
-        found = refl;
-        early = refl;
-        refusal = rw e refl;
-        effect = refl;
-        plan = refl;
-        answer = ap stat_answer h.0;
-        handles = refl;
-        wanted = refl;
-      }
-  call_same (call.List dir) h =
-      let e = same_node dir h.0 in
-      record {
-        found = refl;
-        early = refl;
-        refusal = rw e refl;
-        effect = refl;
-        plan = refl;
-        answer = rw e refl;
         handles = refl;
         wanted = refl;
       }
@@ -195,18 +134,6 @@ module _ (block : ℕ) (plain others : Handle → Option PlainNode) (taken : Tak
     handles = refl;
     wanted = refl;
   }
-  call_same (call.Lookup dir name) h =
-      let e = same_node dir h.0 in
-      record {
-        found = refl;
-        early = refl;
-        refusal = look_same n o dir name e;
-        effect = refl;
-        plan = refl;
-        answer = ap lookup_answer (lookup_same n o dir name e);
-        handles = refl;
-        wanted = refl;
-      }
   call_same (call.Unlink dir name) h =
       let s = all_same (dir ∷ if_any (found n dir name)) h in
       let bound = found_same n o dir name s.0 in
@@ -249,4 +176,17 @@ module _ (block : ℕ) (plain others : Handle → Option PlainNode) (taken : Tak
         answer = refl;
         handles = ap (λ (l : Looked). handles l c) both;
         wanted = refl;
+      }
+  -- any other call looks no name up before it locks, and its one handle tells what it reads
+  call_same c h =
+      let e = same_node _ h.0 in
+      record {
+        found = refl;
+        early = refl;
+        refusal = rw e refl;
+        effect = refl;
+        plan = refl;
+        answer = first_of (rw e, rw (h.0), cc);
+        handles = refl;
+        wanted = first_of (rw e, cc);
       }
