@@ -1,10 +1,10 @@
 -- The cells of some slots, of all of which one changes.
-use Rattle.std.proofs.Common.{◌≡◌, ◌≢◌, ℕ, ◌<◌, ◌==◌, Bool, true, false, true≢false, not, nat_lt, List, [], ◌∷◌, length, map, filter, arith, refl, ap, ap₂, sym, ◌∙◌}
+use Rattle.std.proofs.Common.{◌≡◌, ◌≢◌, ℕ, ◌<◌, ◌==◌, Bool, true, false, true≢false, not, nat_lt, List, [], ◌∷◌, length, map, filter, arith, refl, ap, ap₂, subst, sym, ◌∙◌}
 use Rattle.std.specs.Prelude.{slice_index_or, slice_set}
 use Rattle.std.specs.List.{AllPairs, range_with_len}
 use Rattle.std.proofs.lemmas.Bool.{eqb-true, eqb-false, eq-eqb, ltb-true, ltb-false}
 use Rattle.std.proofs.lemmas.Grind.{get_or-set_at}
-use Rattle.std.proofs.lemmas.List.{ext_get_or, get_or-map, get_or-set_other, length-set}
+use Rattle.std.proofs.lemmas.List.{ext_get_or, get_or_default, get_or-map, get_or-set_other, length-set}
 use Rattle.std.proofs.lemmas.List.Folds.{list_any_at}
 use Rattle.std.proofs.Math.ListN.{length-map}
 use Rattle.nv_alloc.specs.Numbers.{has, unused}
@@ -100,6 +100,14 @@ module _ (slots : List ℕ) (all : List CellValue) (k place : ℕ) (v : CellValu
 
   pub lent_before : value_at (lent_cells slots all) k ≡ cell_in all place
   lent_before = ap (λ (c : ℕ × CellValue). c.1) (lent_at slots all k lt) ∙ ap (cell_in all) (sym is)
+
+  -- what a step makes of the slot's cell, it makes of the k-th that is lent
+  pub lent_step : (R : CellValue → CellValue → Type 0) (spare : CellValue) → R (slice_index_or all place spare) v
+      → R (value_at (lent_cells slots all) k) (value_at (lent_cells slots now) k)
+  lent_step R spare step =
+      subst (λ (old : CellValue). R old (value_at (lent_cells slots now) k))
+      (get_or_default all place spare (no_cell.1) there ∙ sym lent_before)
+      (subst (R (slice_index_or all place spare)) (sym lent_value) step)
 
   in_slots : has slots place ≡ true
   in_slots = list_any_at (λ m. m == place) slots k 0 lt (eq-eqb (slice_index_or slots k 0) place (sym is))

@@ -1,11 +1,7 @@
-use Rattle.std.proofs.Common.{◌≡◌, sym, ◌∙◌, subst}
-use Rattle.std.specs.Prelude.{slice_index_or, slice_set}
-use Rattle.std.proofs.lemmas.List.{get_or_default}
-use Rattle.nv_cell.specs.Cell.{CellValue}
+use Rattle.std.proofs.Common.{List}
 use Rattle.nv_cell.specs.Room.{IsReadyFor}
-use Rattle.nv_calls.specs.Cells.{no_cell, value_at}
-use Rattle.nv_calls.specs.SlotCells.{lent_cells}
-use Rattle.nv_calls.proofs.LentSlots.{lent_before, lent_only, lent_value, others_stay}
+use Rattle.nv_entry.specs.declared.item.Item.{Item}
+use Rattle.nv_calls.proofs.LentSlots.{lent_only, lent_step, others_stay}
 use Rattle.nv_calls.proofs.slot_cells.SlotCellsCells.add_page.Goals as goal
 
 pub returns-clause-cells : goal.returns-clause-cells
@@ -15,18 +11,8 @@ pub returns-clause-beside : goal.returns-clause-beside
 returns-clause-beside c = search (others_stay)
 
 pub returns-clause-ready : goal.returns-clause-ready
-returns-clause-ready c items is =
-    let slots = c.args.self.now.slots.now in
-    let all = c.args.self.now.cells.now in
-    let place = c.slot-slot.result in
-    let old : CellValue = slice_index_or all place c.index-cells-slot.result in
-    let new : CellValue = c.add_page.new.self in
-    let rises = c.args.self.now.rising in
-    let is_place = c.slot-slot.ensures.is in
-    let there = c.slot-slot.ensures.there in
-    let was : value_at (lent_cells slots all) c.args.k ≡ old =
-    lent_before slots all c.args.k place new rises c.requires.within is_place there
-    ∙ sym (get_or_default all place c.index-cells-slot.result (no_cell.1) there) in
-    let now : value_at (lent_cells slots (slice_set all place new)) c.args.k ≡ new =
-    lent_value slots all c.args.k place new rises c.requires.within is_place there in
-    subst (IsReadyFor items) (sym now) (c.add_page.ensures.ready items (subst (IsReadyFor items) was is))
+returns-clause-ready c =
+    let lent = c.args.self.now in
+    let slot = c.slot-slot in
+    lent_step lent.slots.now lent.cells.now c.args.k slot.result _ lent.rising c.requires.within slot.ensures.is slot.ensures.there
+    (λ old new. (items : List Item) → IsReadyFor items old → IsReadyFor items new) _ c.add_page.ensures.ready
