@@ -1,24 +1,22 @@
 use Rattle.std.proofs.Common.{◌<◌, length, arith, ◌∙◌}
 use Rattle.nv_calls.proofs.AppendAll.{can_next, goes_on}
+use Rattle.nv_calls.proofs.whole.append_all.Given as given
 use Rattle.nv_calls.proofs.whole.append_all.Goals as goal
+use Rattle.nv_calls.proofs.whole.append_all.Goals.{After-append_on-arg-in-loop-plan-1}
+
+turn : (g : given.Over) (c : goal.After-append_on-arg-in-loop-plan-1 g) → c.loop-plan._plan < length c.args.commit.now.plans
+turn g c = omega (arith, c.loop-plan-test.true, c.planned-plan-end.ensures)
 
 pub append_on-requires-clause-can : goal.append_on-requires-clause-can
-append_on-requires-clause-can g c =
-    let l = c.loop-plan in
-    let lt : l._plan < length c.args.commit.now.plans = omega (arith, c.loop-plan-test.true, c.planned-plan-end.ensures) in
-    can_next l._plan (g.C.Cells.cells c.args.cells.now) c.args.commit.now
-    (g.C.Cells.cells l.cells) l.commit c.requires.placed lt l.invariant.way
-    c.requires.can
+append_on-requires-clause-can g c = can_next _ _ _ _ _ c.requires.placed (turn g c) c.loop-plan.invariant.way c.requires.can
 
 pub loop-plan-preserved : goal.loop-plan-preserved
 loop-plan-preserved g c =
-    let l = c.loop-plan in
-    let lt : l._plan < length c.args.commit.now.plans = omega (arith, c.loop-plan-test.true, c.planned-plan-end.ensures) in
+    let lt = turn g (goal.at.loop-plan-preserved g c).After-append_on-arg-in-loop-plan-1 in
+    let i = c.loop-plan.invariant in
+    let e = c.append_on.ensures in
     record {
-      way = goes_on l._plan (g.C.Cells.cells c.args.cells.now) c.args.commit.now
-          (g.C.Cells.cells l.cells) l.commit c.requires.placed lt l.invariant.way
-          (g.C.Cells.cells c.append_on.new.cells) c.append_on.new.commit c.append_on.ensures.cells c.append_on.ensures.commit
-          c.append_on.ensures.can_publish;
-      places = c.append_on.ensures.places ∙ l.invariant.places;
-      beside = c.append_on.ensures.beside ∙ l.invariant.beside;
+      way = goes_on _ _ _ _ _ c.requires.placed lt i.way _ _ e.cells e.commit e.can_publish;
+      places = e.places ∙ i.places;
+      beside = e.beside ∙ i.beside;
     }
