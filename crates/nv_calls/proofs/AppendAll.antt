@@ -21,7 +21,7 @@ use Rattle.nv_calls.specs.PlanByPlan.{AppendsTo}
 use Rattle.nv_calls.specs.Ready.{ArePlaced, CellPlanValue, no_plan, plan_at}
 use Rattle.nv_calls.specs.Steps.{CanAppendPlan, hand_after, numbers_in, with_plan, without_front}
 use Rattle.nv_calls.proofs.Appends.{front, map-drop, map-take, none_front}
-use Rattle.nv_calls.proofs.CellLists.{only_value, other-only, value_with}
+use Rattle.nv_calls.proofs.CellLists.{only_value, other-only, value_given}
 use Rattle.nv_calls.proofs.Changes.{apart, none_changed, one_more, plans_more, plans_none}
 
 pub begins : (cells : List (ℕ × CellValue)) (start : CommitValue) → start.appended ≡ 0 → start.place ≡ 0
@@ -129,12 +129,7 @@ module _ (j : ℕ) (cells : List (ℕ × CellValue)) (start : CommitValue) (now 
       let made : new ≡ with_value now plan.at (grown cells start j) =
       only ∙ ap₂ (λ (k : ℕ) (v : CellValue). with_value now k v) at_is becomes in
       let changed : OnlyAt plan.at now new = only_value now new plan.at (grown cells start j) within made in
-      let state : state_at new plan.at ≡ (grown cells start j).state =
-      ap (λ (cs : List (ℕ × CellValue)). state_at cs plan.at) made
-      ∙ ap (λ (v : CellValue). v.state) (value_with now plan.at (grown cells start j) within) in
-      let room : (value_at new plan.at).room ≡ (grown cells start j).room =
-      ap (λ (cs : List (ℕ × CellValue)). (value_at cs plan.at).room) made
-      ∙ ap (λ (v : CellValue). v.room) (value_with now plan.at (grown cells start j) within) in
+      let value : value_at new plan.at ≡ grown cells start j = value_given now new plan.at (grown cells start j) within made in
       let own : IsReadyFor [] (value_at new plan.at) = subst (λ (k : ℕ). IsReadyFor [] (value_at new k)) at_is ready in
       let chain : (state_at now (to_append commit).at).chain ≡ (state_at cells plan.at).chain =
       ap (λ (k : ℕ). (state_at now k).chain) at_is ∙ ap (λ (v : CellValue). v.state.chain) value_is_still in
@@ -162,7 +157,7 @@ module _ (j : ℕ) (cells : List (ℕ × CellValue)) (start : CommitValue) (now 
         appended = c.appended;
       } in d) is) in
       record {
-        changed = one_more j start.plans (λ i. (grown cells start i).state) cells now new placed lt way.changed changed state;
+        changed = one_more j start.plans (λ i. (grown cells start i).state) cells now new placed lt way.changed changed (ap (λ (v : CellValue). v.state) value);
         plans = plans_more j start.plans commit.plans later.plans (record (to_append commit) { items = [] }) lt way.plans
             (ap (λ (c : CommitValue). c.plans) is
             ∙ ap (λ (n : ℕ). slice_set commit.plans n (record (to_append commit) { items = [] })) appended_is)
@@ -176,7 +171,7 @@ module _ (j : ℕ) (cells : List (ℕ × CellValue)) (start : CommitValue) (now 
         rooms = below_more (λ i. (value_at new (place_of start.plans i)).room ≡ (grown cells start i).room) j
             (λ i li. ap (λ (v : CellValue). v.room) (other-only now new plan.at (place_of start.plans i) changed
             (apart cells start.plans placed i j (omega (arith, li, lt)) lt (λ e. omega (arith, li, e))))
-            ∙ way.rooms i li) room;
+            ∙ way.rooms i li) (ap (λ (v : CellValue). v.room) value);
         ready = below_more (λ i. IsReadyFor [] (value_at new (place_of start.plans i))) j
             (λ i li. subst (λ (v : CellValue). IsReadyFor [] v)
             (sym (other-only now new plan.at (place_of start.plans i) changed

@@ -9,6 +9,10 @@ value_with [] k v lt = absurd (omega (arith, lt))
 value_with (x ∷ xs) zero v lt = refl
 value_with (x ∷ xs) (suc k) v lt = value_with xs k v (omega (arith, lt))
 
+pub value_given : (cells now : List (ℕ × CellValue)) (k : ℕ) (v : CellValue) → k < length cells → now ≡ with_value cells k v
+    → value_at now k ≡ v
+value_given cells now k v lt is = ap (λ (cs : List (ℕ × CellValue)). value_at cs k) is ∙ value_with cells k v lt
+
 pub with_twice : (cells : List (ℕ × CellValue)) (k : ℕ) (v w : CellValue) → with_value (with_value cells k v) k w ≡ with_value cells k w
 with_twice [] k v w = refl
 with_twice (x ∷ xs) zero v w = refl
@@ -63,7 +67,7 @@ ino-only cells now k other only =
 pub only_value : (cells now : List (ℕ × CellValue)) (k : ℕ) (v : CellValue) → k < length cells → now ≡ with_value cells k v
     → OnlyAt k cells now
 only_value cells now k v lt is =
-    is ∙ ap (with_value cells k) (sym (ap (λ (cs : List (ℕ × CellValue)). value_at cs k) is ∙ value_with cells k v lt))
+    is ∙ ap (with_value cells k) (sym (value_given cells now k v lt is))
 
 pub length-only : (cells now : List (ℕ × CellValue)) (k : ℕ) → OnlyAt k cells now → length now ≡ length cells
 length-only cells now k only = ap length only ∙ length-with cells k (value_at now k)

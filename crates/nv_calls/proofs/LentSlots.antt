@@ -11,7 +11,7 @@ use Rattle.nv_alloc.specs.Numbers.{has, unused}
 use Rattle.nv_cell.specs.Cell.{CellValue}
 use Rattle.nv_calls.specs.Cells.{OnlyAt, ino_at, no_cell, value_at, with_value}
 use Rattle.nv_calls.specs.SlotCells.{cell_in, lent_cells, other_cells}
-use Rattle.nv_calls.proofs.CellLists.{only_value, value_with}
+use Rattle.nv_calls.proofs.CellLists.{only_value, value_given}
 
 abbrev Rises : List ℕ → Type 0
 Rises slots = AllPairs (λ (a b : ℕ). a < b) slots
@@ -96,7 +96,7 @@ module _ (slots : List ℕ) (all : List CellValue) (k place : ℕ) (v : CellValu
   lent_only = only_value (lent_cells slots all) (lent_cells slots now) k v within lent_with
 
   pub lent_value : value_at (lent_cells slots now) k ≡ v
-  lent_value = ap (λ (cells : List (ℕ × CellValue)). value_at cells k) lent_with ∙ value_with (lent_cells slots all) k v within
+  lent_value = value_given (lent_cells slots all) (lent_cells slots now) k v within lent_with
 
   pub lent_before : value_at (lent_cells slots all) k ≡ cell_in all place
   lent_before = ap (λ (c : ℕ × CellValue). c.1) (lent_at slots all k lt) ∙ ap (cell_in all) (sym is)

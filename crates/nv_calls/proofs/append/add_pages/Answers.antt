@@ -1,12 +1,14 @@
-use Rattle.std.proofs.Common.{◌≡◌, ℕ, ◌+◌, List, Some, ap, refl, sym, ◌∙◌, arith, subst, take, drop, slice_get}
+use Rattle.std.proofs.Common.{◌≡◌, ◌+◌, Some, ap, refl, sym, ◌∙◌, arith, subst, take, drop, slice_get}
 use Rattle.nv_alloc.specs.Queue.{QueueValue}
 use Rattle.nv_log.specs.Chain.{IsChain}
 use Rattle.nv_cell.specs.Cell.{CellValue}
 use Rattle.nv_calls.specs.Cells.{value_at, with_value}
 use Rattle.nv_calls.specs.Steps.{with_pages}
 use Rattle.nv_calls.proofs.Appends.{first_sized, no_pages, none_front, one_front, page_added}
-use Rattle.nv_calls.proofs.CellLists.{only_again, value_with, with_same}
+use Rattle.nv_calls.proofs.CellLists.{only_again, value_given, with_same}
+use Rattle.nv_calls.proofs.append.add_pages.Given as given
 use Rattle.nv_calls.proofs.append.add_pages.Goals as goal
+use Rattle.nv_calls.proofs.append.add_pages.Goals.{After-add_page-arg-1}
 
 pub loop-added-init : goal.loop-added-init
 loop-added-init g c =
@@ -21,6 +23,11 @@ loop-added-init g c =
       beside = refl;
     }
 
+-- the cell has the front pages
+now_is : (g : given.Over) (c : goal.After-add_page-arg-1 g) → value_at (g.C.Cells.cells c.loop-added.cells) c.args.k
+    ≡ with_pages (take c.loop-added._added c.args.pages.now.blocks) (value_at (g.C.Cells.cells c.args.cells.now) c.args.k)
+now_is g c = value_given _ _ _ _ c.requires.within c.loop-added.invariant.cells
+
 pub loop-added-preserved : goal.loop-added-preserved
 loop-added-preserved g c =
     let l = c.loop-added in
@@ -32,12 +39,11 @@ loop-added-preserved g c =
     let new = value_at (g.C.Cells.cells c.add_page.new.self) k in
     let v0 = value_at cells k in
     let bs = c.args.pages.now.blocks in
-    let now_is : now ≡ with_pages (take n bs) v0 =
-    ap (λ (cs : List (ℕ × CellValue)). value_at cs k) i.cells ∙ value_with cells k (with_pages (take n bs) v0) c.requires.within in
+    let is = now_is g (goal.at.loop-added-preserved g c).After-add_page-arg-1 in
     let here : Some c.in-Some.block ≡ slice_get (drop n bs) 0 =
     c.in-Some.ensures.block ∙ ap (λ (q : QueueValue). slice_get q.blocks 0) i.pages in
     let chain : IsChain now.state.chain = subst (λ (v : CellValue). IsChain v.state.chain) c.cell.ensures c.known.ensures.chain in
-    let p = page_added n v0 now new bs c.in-Some.block here chain now_is c.add_page.ensures.state c.add_page.ensures.room in
+    let p = page_added n v0 now new bs c.in-Some.block here chain is c.add_page.ensures.state c.add_page.ensures.room in
     record {
       cells = only_again cells (g.C.Cells.cells l.cells) (g.C.Cells.cells c.add_page.new.self) k (with_pages (take n bs) v0)
           (with_pages (take (n + 1) bs) v0) i.cells c.add_page.ensures.cells p.value;
@@ -52,13 +58,5 @@ loop-added-preserved g c =
 pub add_page-requires-clause-sized : goal.add_page-requires-clause-sized
 add_page-requires-clause-sized g c =
     let l = c.loop-added in
-    let i = l.invariant in
-    let k = c.args.k in
-    let n = l._added in
-    let cells = g.C.Cells.cells c.args.cells.now in
-    let now = value_at (g.C.Cells.cells l.cells) k in
-    let now_is : now ≡ with_pages (take n c.args.pages.now.blocks) (value_at cells k) =
-    ap (λ (cs : List (ℕ × CellValue)). value_at cs k) i.cells
-    ∙ value_with cells k (with_pages (take n c.args.pages.now.blocks) (value_at cells k)) c.requires.within in
     first_sized l.pages.size l.pages.blocks c.in-Some.block c.block_bytes-size.ensures.sized c.in-Some.ensures.block
-    ∙ ap (λ (q : QueueValue). q.size) i.pages ∙ c.requires.size ∙ sym (ap (λ (v : CellValue). v.state.block) now_is)
+    ∙ ap (λ (q : QueueValue). q.size) l.invariant.pages ∙ c.requires.size ∙ sym (ap (λ (v : CellValue). v.state.block) (now_is g c))

@@ -4,7 +4,7 @@ use Rattle.nv_log.specs.Chain.{pages_for}
 use Rattle.nv_cell.specs.Cell.{CellValue}
 use Rattle.nv_calls.specs.Cells.{value_at, with_value}
 use Rattle.nv_calls.specs.Steps.{stamped_entries, with_entries, with_pages, with_plan}
-use Rattle.nv_calls.proofs.CellLists.{value_with, with_twice}
+use Rattle.nv_calls.proofs.CellLists.{value_given, with_twice}
 use Rattle.nv_calls.proofs.append.append_plan.Goals as goal
 
 pub returns-clause-cells : goal.returns-clause-cells
@@ -25,8 +25,7 @@ returns-clause-cells g c =
     let mid_is : mid ≡ with_value cells k (paged (pages_for v0.state.chain (length items))) =
     c.add_pages.ensures.cells ∙ ap (λ (n : ℕ). with_value cells k (paged n)) count in
     let now_is : value_at mid k ≡ paged (pages_for v0.state.chain (length items)) =
-    ap (λ (cs : List (ℕ × CellValue)). value_at cs k) mid_is
-    ∙ value_with cells k (paged (pages_for v0.state.chain (length items))) c.requires.within in
+    value_given cells mid k (paged (pages_for v0.state.chain (length items))) c.requires.within mid_is in
     c.append_items.ensures.cells
     ∙ ap₂ (λ (xs : List Item) (v : CellValue). with_value mid k (with_entries (stamped_entries stamp place xs) hand.data.blocks v))
     c.from_vec-left.ensures.items now_is

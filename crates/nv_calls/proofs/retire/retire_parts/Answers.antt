@@ -9,7 +9,7 @@ use Rattle.nv_cell.specs.declared.killed.KilledPart.{KilledPart}
 use Rattle.nv_epoch.specs.SnapList.{ids}
 use Rattle.nv_calls.specs.Cells.{ino_at, state_at, value_at, with_value}
 use Rattle.nv_calls.specs.Retiring.{freed_by, freed_one, part_in, retired, retired_one, with_back, with_records}
-use Rattle.nv_calls.proofs.CellLists.{ino_stays, length-only, only_along, value_with}
+use Rattle.nv_calls.proofs.CellLists.{ino_stays, length-only, only_along, value_given}
 use Rattle.nv_calls.proofs.Retires.{back_more, back_none, block_stays, freed_few, others_wait, rest_is}
 use Rattle.nv_calls.proofs.retire.retire_parts.Goals as goal
 
@@ -60,7 +60,7 @@ loop-part-preserved g c =
     c.retire_part.ensures.cells ∙ ap₂ (λ (xs : List ℕ) (m : ℕ). with_value now k (record (value_at now k) {
       state = retired_one xs m epoch d s;
     })) lives i.number in
-    let value_is : value_at new k ≡ value = ap (λ (xs : List (ℕ × CellValue)). value_at xs k) changed ∙ value_with now k value within in
+    let value_is : value_at new k ≡ value = value_given now new k value within changed in
     let manifests : c.retire_part.new.book.state.manifests ≡ with_records living ino epoch (d ∷ []) l.book.state.manifests =
     ap (λ (b : BookState). b.manifests) c.retire_part.ensures.book
     ∙ ap₂ (λ (xs : List ℕ) (m : ℕ). with_records xs m epoch (d ∷ []) l.book.state.manifests) lives i.number in

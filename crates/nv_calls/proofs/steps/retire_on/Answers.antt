@@ -7,7 +7,7 @@ use Rattle.nv_calls.specs.Cells.{OnlyAt, ino_at, state_at, value_at}
 use Rattle.nv_calls.specs.Commit.{CommitValue}
 use Rattle.nv_calls.specs.Ready.{plan_at}
 use Rattle.nv_calls.specs.Retiring.{retired, room_erased}
-use Rattle.nv_calls.proofs.CellLists.{only_along, only_value, value_with}
+use Rattle.nv_calls.proofs.CellLists.{only_along, only_value, value_given}
 use Rattle.nv_calls.proofs.Retires.{chain_stays, generation_stays, gone_fits}
 use Rattle.nv_calls.proofs.steps.retire_on.Given as given
 use Rattle.nv_calls.proofs.steps.retire_on.Goals as goal
@@ -50,7 +50,7 @@ module _ (g : given.Over) (c : goal.After-erase_gone-arg-2-1 g) where
   }
 
   now : value_at mid k ≡ value
-  now = ap (λ (xs : List (ℕ × CellValue)). value_at xs k) c.retire_parts.ensures.cells ∙ value_with cells k value within
+  now = value_given cells mid k value within c.retire_parts.ensures.cells
 
   only : OnlyAt k cells mid
   only = only_value cells mid k value within c.retire_parts.ensures.cells
