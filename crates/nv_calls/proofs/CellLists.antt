@@ -77,6 +77,10 @@ pub value_first : (i : ℕ) (v : CellValue) (k : ℕ) → k < 1 → value_at ((i
 value_first i v zero lt = refl
 value_first i v (suc k) lt = absurd (omega (arith, lt))
 
+pub value_front : (c : ℕ × CellValue) (cells : List (ℕ × CellValue)) (k : ℕ) → k ≡ 0 → value_at (c ∷ cells) k ≡ c.1
+value_front c cells zero is = refl
+value_front c cells (suc k) is = absurd (omega (arith, is))
+
 pub value_behind : (c : ℕ × CellValue) (cells : List (ℕ × CellValue)) (k : ℕ) → (k ≡ 0 → ⊥)
     → value_at (c ∷ cells) k ≡ value_at cells (k - 1)
 value_behind c cells zero other = absurd (other refl)
