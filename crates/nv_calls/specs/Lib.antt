@@ -15,6 +15,7 @@ pub mod Plain
 pub mod Plan
 pub mod PlanByPlan
 pub mod Progress
+pub mod PublishedPlans
 pub mod PublishedSlots
 pub mod PagesWanted
 pub mod Prepared

@@ -4,15 +4,14 @@ ghost use Rattle.std.specs.Prelude.{◌≡◌, ℕ, ◌<◌, ◌≤◌, ◌+◌,
 ghost use Rattle.std.specs.List.{sum_by};
 ghost use Rattle.std.specs.Option.{IsSome, option_map};
 ghost use Rattle.nv_base.specs.declared.numbers.Handle.{Handle};
-ghost use Rattle.nv_cell.specs.Cell.{published};
 ghost use Rattle.nv_cell.specs.Room.{IsReadyFor};
 ghost use Rattle.nv_epoch.specs.SnapList.{ids};
-ghost use Rattle.nv_calls.specs.CanCommit.{CanAppendAll, CanBePublished, CanCommit, CanRetireAll, KillsAsTold};
-ghost use Rattle.nv_calls.specs.Cells.{AreCells, state_at, value_at};
+ghost use Rattle.nv_calls.specs.CanCommit.{CanAppendAll, CanBePublished, CanCommit, CanRetireAll};
+ghost use Rattle.nv_calls.specs.Cells.{AreCells, value_at};
 ghost use Rattle.nv_calls.specs.Commit.{HasJournal, begun, stamp_of};
 ghost use Rattle.nv_calls.specs.Committed.{ChangesPlanned, HaveAppendRoom, HaveSamePlaces, committed, grown, hand_after_killings, hand_before, hand_left, journaled, killed_count, killing, manifests_after, noted_killing, place_before, place_of, receipt_by, room_left, settled_cell, settled_room};
-ghost use Rattle.nv_calls.specs.Ready.{ArePlaced, need_of, old_tails, plan_at};
-ghost use Rattle.nv_calls.specs.Retiring.{killed_by};
+ghost use Rattle.nv_calls.specs.PublishedPlans.{PublishesAll};
+ghost use Rattle.nv_calls.specs.Ready.{ArePlaced, need_of, old_tails};
 
 use crate::steps::{append_on, close_on, open_on, publish_on, retire_on};
 use crate::{Cells, Commit, Ready, Receipt};
@@ -58,17 +57,8 @@ fn publish_all<C: Cells>(book: &Book, cells: &mut C, commit: &mut Commit)
     requires placed { ArePlaced (C.cells cells.old) commit.old.plans }
     requires can { (j : ℕ) → j < length commit.old.plans
         → CanBePublished (value_at (C.cells cells.old) (place_of commit.old.plans j)) }
-    ensures cells { ChangesPlanned commit.old.plans
-        (λ j. published (state_at (C.cells cells.old) (place_of commit.old.plans j)))
+    ensures published { PublishesAll commit.old.plans commit.new.plans
         (C.cells cells.old) (C.cells cells.new) }
-    ensures room { HaveAppendRoom commit.old.plans
-        (λ j. (value_at (C.cells cells.old) (place_of commit.old.plans j)).room)
-        (C.cells cells.new) }
-    ensures killed { (j : ℕ) → j < length commit.old.plans → (plan_at commit.new.plans j).killed
-        ≡ killed_by (state_at (C.cells cells.old) (place_of commit.old.plans j)) }
-    ensures told { (j : ℕ) → j < length commit.old.plans
-        → KillsAsTold (state_at (C.cells cells.old) (place_of commit.old.plans j)) }
-    ensures plans { HaveSamePlaces commit.old.plans commit.new.plans }
     ensures commit { commit.new ≡ record commit.old {
       plans = commit.new.plans;
       published = length commit.old.plans;
@@ -96,17 +86,8 @@ fn publish_noted<C: Cells>(book: &mut Book, cells: &mut C, commit: &mut Commit, 
     requires cpu { cpu < length book.old.state.journals }
     requires closed { slice_index_or book.old.state.journals cpu [] ≡ [] }
     ensures book { book.new ≡ book.old }
-    ensures cells { ChangesPlanned commit.old.plans
-        (λ j. published (state_at (C.cells cells.old) (place_of commit.old.plans j)))
+    ensures published { PublishesAll commit.old.plans commit.new.plans
         (C.cells cells.old) (C.cells cells.new) }
-    ensures room { HaveAppendRoom commit.old.plans
-        (λ j. (value_at (C.cells cells.old) (place_of commit.old.plans j)).room)
-        (C.cells cells.new) }
-    ensures killed { (j : ℕ) → j < length commit.old.plans → (plan_at commit.new.plans j).killed
-        ≡ killed_by (state_at (C.cells cells.old) (place_of commit.old.plans j)) }
-    ensures told { (j : ℕ) → j < length commit.old.plans
-        → KillsAsTold (state_at (C.cells cells.old) (place_of commit.old.plans j)) }
-    ensures plans { HaveSamePlaces commit.old.plans commit.new.plans }
     ensures commit { commit.new ≡ record commit.old {
       plans = commit.new.plans;
       hand = record commit.old.hand { ino = None };

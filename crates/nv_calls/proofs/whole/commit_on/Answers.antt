@@ -33,10 +33,10 @@ published : (g : given.Over) (c : goal.After-commit-3-1 g)
     (g.C.Cells.cells c.publish_noted.new.cells) c.publish_noted.new.commit
 published g c =
     let all = c.append_all.ensures in
-    let told = c.publish_noted.ensures in
+    let told = c.publish_noted.ensures.published in
     record {
       appends = appended_by _ _ _ _ _ _ _ _ c.begin-commit.ensures all.cells all.room all.ready all.plans all.commit;
-      publishes = published_by _ _ _ _ _ _ _ _ _ _ told.cells told.room told.killed told.told told.plans told.commit;
+      publishes = published_by _ _ _ _ _ _ _ _ _ _ told.cells told.room told.killed told.told told.places c.publish_noted.ensures.commit;
     }
 
 pub retire_all-requires-clause-placed : goal.retire_all-requires-clause-placed
