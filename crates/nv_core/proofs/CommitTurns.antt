@@ -12,8 +12,11 @@ use Rattle.nv_machine.specs.World as machine
 use Rattle.nv_machine.specs.World.{Moves}
 use Rattle.nv_core.proofs.Others.{others_stay}
 use Rattle.nv_core.specs.Appends.{IsPlanOf}
+use Rattle.nv_core.specs.CommitSteps.{HasStepped}
 use Rattle.nv_core.specs.Frames.{LeavesCells}
+use Rattle.nv_core.specs.Rooms.{HasRooms, HasRoomsAfter}
 use Rattle.nv_core.specs.Shown.{Told, hand_in, machine_step, shared_of, shown_commit, slots_in}
+use Rattle.nv_core.specs.Steps.{CanStep}
 use Rattle.nv_core.specs.Told.{IsCommitOf, IsPlaceOf}
 use Rattle.nv_core.specs.Turns.{IsTurn, LeavesOthers}
 use Rattle.nv_core.specs.Worlds.{ShowsCall, told_of}
@@ -29,13 +32,13 @@ TurnsCommit next actor shared running commit shared_after after =
     → IsPlanOf (slots_in running.slots) told.plan
     → (kind_turn (machine_step next commit) shared.geometry.numbers.block actor true (shared_of shared) (hand_in commit)
     (shown_commit commit told running) ≡ Moves (shared_of shared_after) (hand_in after) (shown_commit after told running))
-    × IsCommitOf (slots_in running.slots) after told × IsPlaceOf (slots_in running.slots) after told
+    × IsPlaceOf (slots_in running.slots) after told
 
-pub turns_commit : (next : CommitStep) (actor : ℕ) (shared : Shared) (running : Running) (r : machine.Running) (commit : CommitValue)
+turns_commit : (next : CommitStep) (actor : ℕ) (shared : Shared) (running : Running) (r : machine.Running) (commit : CommitValue)
     (shared_after : Shared) (after : CommitValue) → step_of commit ≡ next → ShowsCall (hold.Commit commit) running r
-    → TurnsCommit next actor shared running commit shared_after after
+    → HasStepped running shared shared_after commit after → TurnsCommit next actor shared running commit shared_after after
     → IsTurn actor shared (hold.Commit commit) r result.Moves shared_after (hold.Commit after) running
-turns_commit next actor shared running r commit shared_after after here shows by =
+turns_commit next actor shared running r commit shared_after after here shows stepped by =
     let told = told_of r in
     let one = by told shows.plan shows.place.1 shows.place.0 in
     record {
@@ -47,7 +50,7 @@ turns_commit next actor shared running r commit shared_after after here shows by
           (hand_in commit)
           (shown_commit commit told running)) here
           ∙ one.0;
-      shows = record { shown = refl; job = shows.job; plan = one.1; place = (shows.place.0, one.2) };
+      shows = record { shown = refl; job = shows.job; plan = stepped.told told shows.plan; place = (shows.place.0, one.1) };
     }
 
 -- a commit holds all its slots
@@ -59,7 +62,7 @@ held_all step.Close commit slots = refl
 held_all step.Retire commit slots = refl
 held_all step.Leave commit slots = refl
 
-pub rest_commit : (actor : ℕ) (old new : Shared) (running : Running) (r : machine.Running) (commit : CommitValue)
+rest_commit : (actor : ℕ) (old new : Shared) (running : Running) (r : machine.Running) (commit : CommitValue)
     → ShowsCall (hold.Commit commit) running r → old.holder ≡ Some actor → LeavesCells (slots_in running.slots) old new
     → LeavesOthers actor r old new
 rest_commit actor old new running r commit shows own leaves =
@@ -73,3 +76,21 @@ rest_commit actor old new running r commit shows own leaves =
           (ap (λ (xs : List ℕ). has xs ino) (sym held) ∙ none);
       book = λ other is apart. absurd (apart (ap (λ (o : Option ℕ). unwrap_or o 0) (sym is ∙ own)));
     }
+
+-- what a step of a commit makes for its call: its turn, the room for the next step, and the others' cells as they were
+pub record HasCommitted (actor : ℕ) (old new : Shared) (running : Running) (before after : CommitValue) : Type 0 where
+  pub turns : (r : machine.Running) → ShowsCall (hold.Commit before) running r
+      → IsTurn actor old (hold.Commit before) r result.Moves new (hold.Commit after) running
+  pub rooms : HasRoomsAfter result.Moves new (hold.Commit after) running
+  pub rest : (r : machine.Running) → ShowsCall (hold.Commit before) running r → LeavesOthers actor r old new
+
+-- so it is for each kind of step
+pub commits : (next : CommitStep) (actor : ℕ) (old new : Shared) (running : Running) (before after : CommitValue)
+    → next ≡ step_of before → CanStep old (hold.Commit before) running actor → HasRooms old (hold.Commit before) running
+    → HasStepped running old new before after → TurnsCommit next actor old running before new after
+    → HasCommitted actor old new running before after
+commits next actor old new running before after is can rooms stepped by = record {
+  turns = λ r shows. turns_commit next actor old running r before new after (sym is) shows stepped by;
+  rooms = (rooms.0, rooms.1, stepped.sized, stepped.committing);
+  rest = λ r shows. rest_commit actor old new running r before shows can.own stepped.rest;
+}
