@@ -81,37 +81,21 @@ none_for (c ∷ cells) = omega (arith, none_for cells, sum_by-cons (count_for []
 first_for : (p : Planned) (plan : List Planned) (cells : List (ℕ × CellValue))
     → sum_by (count_for (p ∷ plan)) cells ≤ sum_by (only_for p.handle.ino (length p.items)) cells + sum_by (count_for plan) cells
 first_for p plan [] = omega arith
-first_for p plan (c ∷ cells) = go (p.handle.ino == c.0) refl (first_for p plan cells) where
-  n : ℕ
-  n = length p.items
-
-  go : (b : Bool) → (p.handle.ino == c.0) ≡ b
-      → sum_by (count_for (p ∷ plan)) cells ≤ sum_by (only_for p.handle.ino n) cells + sum_by (count_for plan) cells
-      → sum_by (count_for (p ∷ plan)) (c ∷ cells) ≤ sum_by (only_for p.handle.ino n) (c ∷ cells) + sum_by (count_for plan) (c ∷ cells)
-  go true q rest =
-      let here : only_for p.handle.ino n c ≡ n = ap (λ (b : Bool). cond b n 0) q in
-      let own : count_for (p ∷ plan) c ≡ n = ap (λ (b : Bool). length (cond b p.items (items_for plan c.0))) q in
-      omega (
-        arith,
-        rest,
-        here,
-        own,
-        sum_by-cons (only_for p.handle.ino n) c cells,
-        sum_by-cons (count_for plan) c cells,
-        sum_by-cons (count_for (p ∷ plan)) c cells,
-      )
-  go false q rest =
-      let here : only_for p.handle.ino n c ≡ 0 = ap (λ (b : Bool). cond b n 0) q in
-      let own : count_for (p ∷ plan) c ≡ count_for plan c = ap (λ (b : Bool). length (cond b p.items (items_for plan c.0))) q in
-      omega (
-        arith,
-        rest,
-        here,
-        own,
-        sum_by-cons (only_for p.handle.ino n) c cells,
-        sum_by-cons (count_for plan) c cells,
-        sum_by-cons (count_for (p ∷ plan)) c cells,
-      )
+first_for p plan (c ∷ cells) =
+    let here : count_for (p ∷ plan) c ≤ only_for p.handle.ino (length p.items) c + count_for plan c = at_most (p.handle.ino == c.0) in
+    omega (
+      arith,
+      here,
+      first_for p plan cells,
+      sum_by-cons (only_for p.handle.ino (length p.items)) c cells,
+      sum_by-cons (count_for plan) c cells,
+      sum_by-cons (count_for (p ∷ plan)) c cells,
+    )
+  where
+    at_most : (b : Bool)
+        → length (cond b p.items (items_for plan c.0)) ≤ cond b (length p.items) 0 + length (items_for plan c.0)
+    at_most true = omega arith
+    at_most false = omega arith
 
 each_once : (plan : List Planned) (cells : List (ℕ × CellValue)) → Rising cells → sum_by (count_for plan) cells ≤ item_sum plan
 each_once [] cells rises = omega (arith, none_for cells)

@@ -46,13 +46,12 @@ shows_after turn.Moves hand after told is = record { shown = refl; job = is; pla
 shows_after turn.Waits hand after told is = record { shown = refl; job = is; plan = tt; place = tt }
 shows_after (turn.Ends result) hand after told is = tt
 
--- a call whose hand is alone
-pub turns_alone : (next : Next) (actor : ℕ) (shared : Shared) (hand : Hand) (running : Running) (r : machine.Running) (result : Turn)
+turned : (next : Next) (actor : ℕ) (shared : Shared) (hand : Hand) (running : Running) (r : machine.Running) (result : Turn)
     (shared_after : Shared) (hand_after : Hand) (after : Running) → running.next ≡ next → ShowsCall (hold.Hand hand) running r
-    → KeepsJob running after
+    → ((told : Told) → IsToldOf running told → ShowsAfter result (hold.Hand hand_after) after (shown told after))
     → TurnsAlone next actor shared hand running result shared_after hand_after after
     → IsTurn actor shared (hold.Hand hand) r result shared_after (hold.Hand hand_after) after
-turns_alone next actor shared hand running r result shared_after hand_after after here shows keeps by =
+turned next actor shared hand running r result shared_after hand_after after here shows then by =
     let told = told_of r in
     let one = by told shows.job in
     record {
@@ -63,8 +62,18 @@ turns_alone next actor shared hand running r result shared_after hand_after afte
           ∙ ap (λ (n : Next). machine_step.kind_turn (next_of n) shared.geometry.numbers.block actor one.0 (shared_of shared) (hand_of hand)
           (shown told running)) here
           ∙ one.1;
-      shows = shows_after result hand_after after told (told_same running after told keeps shows.job);
+      shows = then told shows.job;
     }
+
+-- a call whose hand is alone
+pub turns_alone : (next : Next) (actor : ℕ) (shared : Shared) (hand : Hand) (running : Running) (r : machine.Running) (result : Turn)
+    (shared_after : Shared) (hand_after : Hand) (after : Running) → running.next ≡ next → ShowsCall (hold.Hand hand) running r
+    → KeepsJob running after
+    → TurnsAlone next actor shared hand running result shared_after hand_after after
+    → IsTurn actor shared (hold.Hand hand) r result shared_after (hold.Hand hand_after) after
+turns_alone next actor shared hand running r result shared_after hand_after after here shows keeps =
+    turned next actor shared hand running r result shared_after hand_after after here shows
+    (λ told is. shows_after result hand_after after told (told_same running after told keeps is))
 
 -- ---- what is owed
 
@@ -118,19 +127,9 @@ pub turns_visit : (actor : ℕ) (shared : Shared) (hand : Hand) (running : Runni
     → running.next ≡ next.Visit → ShowsCall (hold.Hand hand) running r → (result ≢ turn.Moves) → (result ≡ turn.Waits → after ≡ running)
     → TurnsAlone next.Visit actor shared hand running result shared hand after
     → IsTurn actor shared (hold.Hand hand) r result shared (hold.Hand hand) after
-turns_visit actor shared hand running r result after here shows ends waits by =
-    let told = told_of r in
-    let one = by told shows.job in
-    record {
-      granted = one.0;
-      after = shown told after;
-      is = ap (λ (x : machine.Running). machine_step.turn shared.geometry.numbers.block actor one.0 (shared_of shared) (hand_of hand) x)
-          (sym shows.shown)
-          ∙ ap (λ (n : Next). machine_step.kind_turn (next_of n) shared.geometry.numbers.block actor one.0 (shared_of shared) (hand_of hand)
-          (shown told running)) here
-          ∙ one.1;
-      shows = visit_after result hand running after told ends waits shows.job;
-    }
+turns_visit actor shared hand running r result after here shows ends waits =
+    turned next.Visit actor shared hand running r result shared hand after here shows
+    (λ told is. visit_after result hand running after told ends waits is)
 
 -- an empty hand is that of the call
 pub visit_any : (h empty : machine.HandState) (by : Bool → machine.HandState → machine.Turn) (result : Turn) (s : machine.Shared)

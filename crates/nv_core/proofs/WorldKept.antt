@@ -121,22 +121,25 @@ stays_idle w m actor d new state shows lt none same back =
           (set_back w.actors actor state d lt (sym back)),
     )
 
+-- what an actor makes of a Go
+pub record HasGone (w : WorldState) (actor : ℕ) (before : Actor) (answer : Reply) (new : Shared) (state : Actor) : Type 0 where
+  pub idle : before.running ≡ None → (answer ≡ reply.Refused ActorIdle) × (new ≡ w.shared) × (state ≡ before)
+  pub turns : (running : Running) (r : machine.Running) → before.running ≡ Some running → ShowsCall before.hold running r
+      → HasTurned actor w.shared before.hold running r answer new state
+  pub rest : (running : Running) (r : machine.Running) → before.running ≡ Some running → ShowsCall before.hold running r
+      → LeavesOthers actor r w.shared new
+  pub rooms : HasActorRooms new state.hold state.running
+
 -- THE STEP OF AN ACTOR: of its call, or none
 pub go_steps : (w : WorldState) (m : machine.World) (actor : ℕ) (d : Actor) (new : Shared) (state : Actor) (answer : Reply) → Shows w m
     → actor < length w.actors → IsWorld w
-    → ((slice_index_or w.actors actor d).running ≡ None → (answer ≡ reply.Refused ActorIdle) × (new ≡ w.shared)
-    × (state ≡ slice_index_or w.actors actor d))
-    → ((running : Running) (r : machine.Running) → (slice_index_or w.actors actor d).running ≡ Some running
-    → ShowsCall (slice_index_or w.actors actor d).hold running r
-    → HasTurned actor w.shared (slice_index_or w.actors actor d).hold running r answer new state)
-    → ((running : Running) (r : machine.Running) → (slice_index_or w.actors actor d).running ≡ Some running
-    → ShowsCall (slice_index_or w.actors actor d).hold running r → LeavesOthers actor r w.shared new)
+    → HasGone w actor (slice_index_or w.actors actor d) answer new state
     → IsStep m (event.Go actor) answer (world_with new actor state w)
-go_steps w m actor d new state answer shows lt is idle turns leaves = by (slice_index_or w.actors actor d).running refl where
+go_steps w m actor d new state answer shows lt is gone = by (slice_index_or w.actors actor d).running refl where
   by : (o : Option Running) → (slice_index_or w.actors actor d).running ≡ o
       → IsStep m (event.Go actor) answer (world_with new actor state w)
   by None none =
-      let told = idle none in
+      let told = gone.idle none in
       let all = stays_idle w m actor d new state shows lt none told.1 told.2 in
       record {
         granted = true;
@@ -149,29 +152,22 @@ go_steps w m actor d new state answer shows lt is idle turns leaves = by (slice_
       let call = shows_some (slice_index_or w.actors actor d).hold running (actor_at is.0 actor).running
       (subst (λ (o : Option Running). ShowsRunning (slice_index_or w.actors actor d).hold o
       (actor_at is.0 actor).running) some own.running) in
-      let one = steps_on w m actor d new state running answer shows lt some (leaves running call.0 some call.2).geometry
-      (λ r shown. turns running r some shown) in
+      let one = steps_on w m actor d new state running answer shows lt some (gone.rest running call.0 some call.2).geometry
+      (λ r shown. gone.turns running r some shown) in
       record { granted = one.0; reply_is = one.1; shows = one.2 }
 
 pub go_keeps : (w : WorldState) (actor : ℕ) (d : Actor) (new : Shared) (state : Actor) (answer : Reply)
     → actor < length w.actors → IsWorld w
-    → ((slice_index_or w.actors actor d).running ≡ None → (answer ≡ reply.Refused ActorIdle) × (new ≡ w.shared)
-    × (state ≡ slice_index_or w.actors actor d))
-    → ((running : Running) (r : machine.Running) → (slice_index_or w.actors actor d).running ≡ Some running
-    → ShowsCall (slice_index_or w.actors actor d).hold running r
-    → HasTurned actor w.shared (slice_index_or w.actors actor d).hold running r answer new state)
-    → ((running : Running) (r : machine.Running) → (slice_index_or w.actors actor d).running ≡ Some running
-    → ShowsCall (slice_index_or w.actors actor d).hold running r → LeavesOthers actor r w.shared new)
-    → HasActorRooms new state.hold state.running
+    → HasGone w actor (slice_index_or w.actors actor d) answer new state
     → IsWorld (world_with new actor state w)
-go_keeps w actor d new state answer lt is idle turns leaves rooms = by (slice_index_or w.actors actor d).running refl where
+go_keeps w actor d new state answer lt is gone = by (slice_index_or w.actors actor d).running refl where
   by : (o : Option Running) → (slice_index_or w.actors actor d).running ≡ o → IsWorld (world_with new actor state w)
   by None none =
-      let told = idle none in
+      let told = gone.idle none in
       subst IsWorld (sym (stays_idle w is.0 actor d new state is.2.shows lt none told.1 told.2).1) is
   by (Some running) some =
-      goes_on w is actor d new state running answer lt some (λ r shown. turns running r some shown)
-      (λ r shown. leaves running r some shown) rooms
+      goes_on w is actor d new state running answer lt some (λ r shown. gone.turns running r some shown)
+      (λ r shown. gone.rest running r some shown) gone.rooms
 
 -- ---- an actor that starts a call
 

@@ -53,6 +53,8 @@ returns c =
     let gives = rw was at c.publish_in.ensures in
     let k = (to_publish old).at in
     let within : k < length slots = omega (arith, publish_within _ _ _ old at.committing due, lent_count slots cells) in
+    let state : (cell_in new (slot_at slots k)).state ≡ published (cell_in cells (slot_at slots k)).state = gives.state in
+    let commit : after ≡ after_publish (killed_by (cell_in cells (slot_at slots k)).state) old = gives.commit in
     let only : OnlyAt k (lent_cells slots cells) (lent_cells slots new) =
     subst (λ (xs : List CellValue). OnlyAt k (lent_cells slots xs) (lent_cells slots new)) was c.publish_in.ensures.cells in
     let few =
@@ -74,21 +76,21 @@ returns c =
           (publish_open _ _ _ old at.committing due)
           refl (at.slots k within)
           (only_among slots cells new k gives.count within running.slots.rising at.slots only gives.others)
-          gives.state gives.commit
+          state commit
           ∙ moves_written shared shared.book new (hand_in after) (shown_commit after told running) gives.count;
       step = record {
-        told = λ told is. publish_told slots old after _ told full gives.commit is;
+        told = λ told is. publish_told slots old after _ told full commit is;
         committing =
             committing_written slots shared shared.book new after gives.count
             (publish_goes _ _ _ old at.committing due (lent_cells slots new) after only
-            (there ∙ gives.state ∙ ap published here)
-            (gives.commit ∙ ap (λ (s : CellState). after_publish (killed_by s) old) here) few marked room);
+            (there ∙ state ∙ ap published here)
+            (commit ∙ ap (λ (s : CellState). after_publish (killed_by s) old) here) few marked room);
         sized =
-            subst (λ (x : CommitValue). IsHandOf shared.geometry.numbers x.hand) (sym gives.commit)
+            subst (λ (x : CommitValue). IsHandOf shared.geometry.numbers x.hand) (sym commit)
             (record { blocks = at.sized.blocks; pages = at.sized.pages });
         rest = cells_left slots shared shared.book new gives.count gives.others;
       };
       placed = λ told.
-          placed_all slots old after told full (ap (λ (x : CommitValue). x.appended) gives.commit)
-          (ap (λ (x : CommitValue). length x.plans) gives.commit ∙ length-set old.plans old.published _);
+          placed_all slots old after told full (ap (λ (x : CommitValue). x.appended) commit)
+          (ap (λ (x : CommitValue). length x.plans) commit ∙ length-set old.plans old.published _);
     }

@@ -1,41 +1,42 @@
-use Rattle.std.proofs.Common.{◌≡◌, ◌∙◌, ap, arith, refl, sym}
+use Rattle.std.proofs.Common.{◌≡◌, ◌∙◌, ℕ, List, ap, arith, map, refl, sym}
 use Rattle.std.specs.List.{sum_by}
-use Rattle.nv_cell.specs.Cell.{CellValue}
-use Rattle.nv_core.specs.Reports.{chain_in, chain_of, free_in, free_of, kept_in, kept_of}
-use Rattle.nv_core.specs.Shown.{shared_of}
+use Rattle.nv_cell.specs.Cell.{CellState, CellValue}
+use Rattle.nv_core.specs.Reports.{chain_in, free_in, kept_in}
 use Rattle.nv_core.proofs.Kept.{sum_states}
 use Rattle.nv_core.proofs.shared.Shared.space.Goals as goal
+
+-- what was counted over the cells is the sum over what is shown of them
+counted : (f : CellState → ℕ) (cells was : List CellValue) (count : ℕ) → count ≡ sum_by (λ (v : CellValue). f v.state) was → was ≡ cells
+    → count ≡ sum_by f (map (λ (v : CellValue). v.state) cells)
+counted f cells was count is same = is ∙ ap (sum_by (λ (v : CellValue). f v.state)) same ∙ sym (sum_states f cells)
 
 pub overflow_sub-hand-3 : goal.overflow_sub-hand-3
 overflow_sub-hand-3 c =
     let s = c.args.self.now in
-    let free : c.free_blocks-free.result ≡ free_of (shared_of s) =
-    c.free_blocks-free.ensures ∙ ap (sum_by free_in) c.deref.ensures.value in
-    let chain : c.log_pages-chain.result ≡ chain_of (shared_of s) =
-    c.log_pages-chain.ensures ∙ ap (sum_by (λ (v : CellValue). chain_in v.state)) c.deref-2.ensures.value
-    ∙ sym (sum_states chain_in s.cells.items) in
-    let kept : c.data_blocks-kept.result ≡ kept_of (shared_of s) =
-    c.data_blocks-kept.ensures ∙ ap (sum_by (λ (v : CellValue). kept_in s.book.state v.state)) c.deref-3.ensures.value
-    ∙ sym (sum_states (kept_in s.book.state) s.cells.items) in
-    omega (arith, free, chain, kept, c.requires.blocks)
+    omega (
+      arith,
+      c.free_blocks-free.ensures ∙ ap (sum_by free_in) c.deref.ensures.value,
+      counted chain_in s.cells.items _ _ c.log_pages-chain.ensures c.deref-2.ensures.value,
+      counted (kept_in s.book.state) s.cells.items _ _ c.data_blocks-kept.ensures c.deref-3.ensures.value,
+      c.requires.blocks,
+    )
 
 pub overflow_sub-data : goal.overflow_sub-data
 overflow_sub-data c =
     let s = c.args.self.now in
-    let kept : c.data_blocks-kept.result ≡ kept_of (shared_of s) =
-    c.data_blocks-kept.ensures ∙ ap (sum_by (λ (v : CellValue). kept_in s.book.state v.state)) c.deref-3.ensures.value
-    ∙ sym (sum_states (kept_in s.book.state) s.cells.items) in
-    omega (arith, kept, c.deferred_blocks.ensures.value, c.requires.pending)
+    omega (
+      arith,
+      counted (kept_in s.book.state) s.cells.items _ _ c.data_blocks-kept.ensures c.deref-3.ensures.value,
+      c.deferred_blocks.ensures.value,
+      c.requires.pending,
+    )
 
 pub returns : goal.returns
 returns c =
     let s = c.args.self.now in
-    let free : c.free_blocks-free.result ≡ free_of (shared_of s) =
-    c.free_blocks-free.ensures ∙ ap (sum_by free_in) c.deref.ensures.value in
-    let chain : c.log_pages-chain.result ≡ chain_of (shared_of s) =
-    c.log_pages-chain.ensures ∙ ap (sum_by (λ (v : CellValue). chain_in v.state)) c.deref-2.ensures.value
-    ∙ sym (sum_states chain_in s.cells.items) in
-    let kept : c.data_blocks-kept.result ≡ kept_of (shared_of s) =
-    c.data_blocks-kept.ensures ∙ ap (sum_by (λ (v : CellValue). kept_in s.book.state v.state)) c.deref-3.ensures.value
-    ∙ sym (sum_states (kept_in s.book.state) s.cells.items) in
-    rw (free, chain, kept, c.deferred_blocks.ensures.value) refl
+    rw (
+      c.free_blocks-free.ensures ∙ ap (sum_by free_in) c.deref.ensures.value,
+      counted chain_in s.cells.items _ _ c.log_pages-chain.ensures c.deref-2.ensures.value,
+      counted (kept_in s.book.state) s.cells.items _ _ c.data_blocks-kept.ensures c.deref-3.ensures.value,
+      c.deferred_blocks.ensures.value,
+    ) refl

@@ -1,12 +1,7 @@
-use Rattle.std.proofs.Common.{◌≡◌, Some, None, subst, sym}
-use Rattle.nv_base.specs.declared.fault.Fault.TheVariants.{ActorIdle}
-use Rattle.nv_machine.specs.World as machine
-use Rattle.nv_core.proofs.WorldKept.{can_go, go_keeps, go_steps}
+use Rattle.std.proofs.Common.{subst, sym}
+use Rattle.nv_core.proofs.WorldKept.{HasGone, can_go, go_keeps, go_steps}
 use Rattle.nv_core.specs.Rooms.{HasActorRooms}
-use Rattle.nv_core.specs.Turns.{HasTurned, LeavesOthers}
-use Rattle.nv_core.specs.Worlds.{Shows, ShowsCall, WorldState}
-use Rattle.nv_core.specs.declared.event.Reply.TheVariants as reply
-use Rattle.nv_core.specs.declared.running.Running.{Running}
+use Rattle.nv_core.specs.Worlds.{Shows, WorldState}
 use Rattle.nv_core.specs.declared.world.Actor.{Actor}
 use Rattle.nv_core.proofs.world.World.go.Goals as goal
 
@@ -27,32 +22,19 @@ pub invariant_of-self : goal.invariant_of-self
 invariant_of-self c =
     let at = c.in-Some.ensures.item in
     let own = c.in-Some.state.now in
-    let s = c.self.inside.shared in
-    let new = c.go_on.new.shared in
-    let state = c.go_on.new.state in
-    let w : WorldState = record { shared = s; actors = c.self.inside.actors.items } in
-    go_keeps w c.args.actor own new state c.go_on.result at.3.0 c.self.invariant
-    (subst (λ (a : Actor). a.running ≡ None → (c.go_on.result ≡ reply.Refused ActorIdle) × (new ≡ s) × (state ≡ a)) (at.3.1 own)
-    c.go_on.ensures.idle)
-    (subst (λ (a : Actor). (running : Running) (r : machine.Running) → a.running ≡ Some running → ShowsCall a.hold running r
-    → HasTurned c.args.actor s a.hold running r c.go_on.result new state) (at.3.1 own) c.go_on.ensures.turns)
-    (subst (λ (a : Actor). (running : Running) (r : machine.Running) → a.running ≡ Some running → ShowsCall a.hold running r
-    → LeavesOthers c.args.actor r s new) (at.3.1 own) c.go_on.ensures.rest)
-    c.go_on.ensures.rooms
+    let w : WorldState = record { shared = c.self.inside.shared; actors = c.self.inside.actors.items } in
+    let gone : HasGone w c.args.actor own c.go_on.result c.go_on.new.shared c.go_on.new.state =
+    record { idle = c.go_on.ensures.idle; turns = c.go_on.ensures.turns; rest = c.go_on.ensures.rest; rooms = c.go_on.ensures.rooms } in
+    go_keeps w c.args.actor own c.go_on.new.shared c.go_on.new.state c.go_on.result at.3.0 c.self.invariant
+    (subst (λ (a : Actor). HasGone w c.args.actor a c.go_on.result c.go_on.new.shared c.go_on.new.state) (at.3.1 own) gone)
 
 pub returns-in-Some : goal.returns-in-Some
 returns-in-Some c m shows =
     let at = c.in-Some.ensures.item in
     let own = c.in-Some.state.now in
-    let s = c.self.inside.shared in
-    let new = c.go_on.new.shared in
-    let state = c.go_on.new.state in
-    let w : WorldState = record { shared = s; actors = c.self.inside.actors.items } in
-    go_steps w m c.args.actor own new state c.go_on.result (subst (λ (v : WorldState). Shows v m) (sym c.self.view_is) shows) at.3.0
-    c.self.invariant
-    (subst (λ (a : Actor). a.running ≡ None → (c.go_on.result ≡ reply.Refused ActorIdle) × (new ≡ s) × (state ≡ a)) (at.3.1 own)
-    c.go_on.ensures.idle)
-    (subst (λ (a : Actor). (running : Running) (r : machine.Running) → a.running ≡ Some running → ShowsCall a.hold running r
-    → HasTurned c.args.actor s a.hold running r c.go_on.result new state) (at.3.1 own) c.go_on.ensures.turns)
-    (subst (λ (a : Actor). (running : Running) (r : machine.Running) → a.running ≡ Some running → ShowsCall a.hold running r
-    → LeavesOthers c.args.actor r s new) (at.3.1 own) c.go_on.ensures.rest)
+    let w : WorldState = record { shared = c.self.inside.shared; actors = c.self.inside.actors.items } in
+    let gone : HasGone w c.args.actor own c.go_on.result c.go_on.new.shared c.go_on.new.state =
+    record { idle = c.go_on.ensures.idle; turns = c.go_on.ensures.turns; rest = c.go_on.ensures.rest; rooms = c.go_on.ensures.rooms } in
+    go_steps w m c.args.actor own c.go_on.new.shared c.go_on.new.state c.go_on.result
+    (subst (λ (v : WorldState). Shows v m) (sym c.self.view_is) shows) at.3.0 c.self.invariant
+    (subst (λ (a : Actor). HasGone w c.args.actor a c.go_on.result c.go_on.new.shared c.go_on.new.state) (at.3.1 own) gone)
