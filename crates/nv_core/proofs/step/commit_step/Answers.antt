@@ -9,8 +9,7 @@ append-requires c = record { at = at_step step.Append _ _ _ _ c.in-Append.ensure
 pub returns-in-Append : goal.returns-in-Append
 returns-in-Append c =
     let done =
-    commits step.Append c.args.actor c.args.shared.now c.append.new.shared c.args.running.now c.args.commit.now c.append.new.commit
-    c.in-Append.ensures c.requires.can c.requires.rooms c.append.ensures.step
+    commits step.Append _ _ _ _ _ _ c.in-Append.ensures c.requires.can c.requires.rooms c.append.ensures.step
     (λ told is place plan. (c.append.ensures.turn told is place, c.append.ensures.place told is place plan)) in
     record { turn = done.turns; rooms = done.rooms; rest = done.rest }
 
@@ -21,8 +20,7 @@ pub returns-in-Open : goal.returns-in-Open
 returns-in-Open c =
     let turn = rw c.cpu_of-cpu.ensures.value at c.open.ensures.turn in
     let done =
-    commits step.Open c.args.actor c.args.shared.now c.open.new.shared c.args.running.now c.args.commit.now c.open.new.commit
-    c.in-Open.ensures c.requires.can c.requires.rooms c.open.ensures.step
+    commits step.Open _ _ _ _ _ _ c.in-Open.ensures c.requires.can c.requires.rooms c.open.ensures.step
     (λ told is place plan. (turn told is, c.open.ensures.placed told)) in
     record { turn = done.turns; rooms = done.rooms; rest = done.rest }
 
@@ -32,8 +30,7 @@ publish-requires c = record { at = at_step step.Publish _ _ _ _ c.in-Publish.ens
 pub returns-in-Publish : goal.returns-in-Publish
 returns-in-Publish c =
     let done =
-    commits step.Publish c.args.actor c.args.shared.now c.publish.new.shared c.args.running.now c.args.commit.now c.publish.new.commit
-    c.in-Publish.ensures c.requires.can c.requires.rooms c.publish.ensures.step
+    commits step.Publish _ _ _ _ _ _ c.in-Publish.ensures c.requires.can c.requires.rooms c.publish.ensures.step
     (λ told is place plan. (c.publish.ensures.turn told is, c.publish.ensures.placed told)) in
     record { turn = done.turns; rooms = done.rooms; rest = done.rest }
 
@@ -44,8 +41,7 @@ pub returns-in-Close : goal.returns-in-Close
 returns-in-Close c =
     let turn = rw c.cpu_of-cpu.ensures.value at c.close.ensures.turn in
     let done =
-    commits step.Close c.args.actor c.args.shared.now c.close.new.shared c.args.running.now c.args.commit.now c.close.new.commit
-    c.in-Close.ensures c.requires.can c.requires.rooms c.close.ensures.step
+    commits step.Close _ _ _ _ _ _ c.in-Close.ensures c.requires.can c.requires.rooms c.close.ensures.step
     (λ told is place plan. (turn told is, c.close.ensures.placed told)) in
     record { turn = done.turns; rooms = done.rooms; rest = done.rest }
 
@@ -55,7 +51,6 @@ retire-requires c = record { at = at_step step.Retire _ _ _ _ c.in-Retire.ensure
 pub returns-in-Retire : goal.returns-in-Retire
 returns-in-Retire c =
     let done =
-    commits step.Retire c.args.actor c.args.shared.now c.retire.new.shared c.args.running.now c.args.commit.now c.retire.new.commit
-    c.in-Retire.ensures c.requires.can c.requires.rooms c.retire.ensures.step
+    commits step.Retire _ _ _ _ _ _ c.in-Retire.ensures c.requires.can c.requires.rooms c.retire.ensures.step
     (λ told is place plan. (c.retire.ensures.turn told is, c.retire.ensures.placed told)) in
     record { turn = done.turns; rooms = done.rooms; rest = done.rest }
