@@ -1,4 +1,4 @@
-use Rattle.std.proofs.Common.{◌≡◌, ◌∙◌, ap, refl, sym}
+use Rattle.std.proofs.Common.{◌∙◌, ap, refl, sym}
 use Rattle.nv_core.proofs.Actors.{has_turned, same_some}
 use Rattle.nv_core.specs.Turns.{replied, still}
 use Rattle.nv_core.specs.declared.event.Reply.TheVariants as reply
