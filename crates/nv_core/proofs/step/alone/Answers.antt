@@ -11,45 +11,31 @@ use Rattle.nv_core.proofs.step.alone.Goals as goal
 
 pub returns-in-Number-clause-turn : goal.returns-in-Number-clause-turn
 returns-in-Number-clause-turn c r shows =
-    turns_alone next.Number c.args.actor c.args.shared.now c.args.hand.now c.args.running.now r c.number.result c.number.new.shared
-    c.number.new.hand c.number.new.running
-    c.in-Number.is shows c.number.ensures.job (λ told is. (true, c.number.ensures.turn told is))
+    turns_alone next.Number _ _ _ _ _ _ _ _ _ c.in-Number.is shows c.number.ensures.job (λ told is. (true, c.number.ensures.turn told is))
 
 pub returns-in-Look-clause-turn : goal.returns-in-Look-clause-turn
 returns-in-Look-clause-turn c r shows =
-    turns_alone (next.Look c.in-Look.place) c.args.actor c.args.shared.now c.args.hand.now c.args.running.now r c.look.result
-    c.args.shared.now c.args.hand.now c.look.new.running
-    c.in-Look.is shows c.look.ensures.job (λ told is. (true, c.look.ensures.turn told is))
+    turns_alone (next.Look c.in-Look.place) _ _ _ _ _ _ _ _ _ c.in-Look.is shows c.look.ensures.job (λ told is. (true, c.look.ensures.turn told is))
 
 pub returns-in-Lock-clause-turn : goal.returns-in-Lock-clause-turn
 returns-in-Lock-clause-turn c r shows =
-    turns_alone (next.Lock c.in-Lock.place) c.args.actor c.args.shared.now c.args.hand.now c.args.running.now r c.lock.result
-    c.lock.new.shared c.args.hand.now c.lock.new.running
-    c.in-Lock.is shows c.lock.ensures.job (λ told is. (true, c.lock.ensures.turn told (hand_of c.args.hand.now)))
+    turns_alone (next.Lock c.in-Lock.place) _ _ _ _ _ _ _ _ _ c.in-Lock.is shows c.lock.ensures.job (λ told is. (true, c.lock.ensures.turn told (hand_of c.args.hand.now)))
 
 pub returns-in-Check-clause-turn : goal.returns-in-Check-clause-turn
 returns-in-Check-clause-turn c r shows =
-    turns_alone next.Check c.args.actor c.args.shared.now c.args.hand.now c.args.running.now r c.check.result c.check.new.shared
-    c.check.new.hand c.check.new.running
-    c.in-Check.is shows c.check.ensures.job (λ told is. either _ _ (c.check.ensures.turn told is))
+    turns_alone next.Check _ _ _ _ _ _ _ _ _ c.in-Check.is shows c.check.ensures.job (λ told is. either _ _ (c.check.ensures.turn told is))
 
 pub returns-in-TakeBlocks-clause-turn : goal.returns-in-TakeBlocks-clause-turn
 returns-in-TakeBlocks-clause-turn c r shows =
-    turns_alone (next.TakeBlocks c.in-TakeBlocks.asked) c.args.actor c.args.shared.now c.args.hand.now c.args.running.now r
-    c.take_blocks.result c.take_blocks.new.shared c.take_blocks.new.hand c.take_blocks.new.running
-    c.in-TakeBlocks.is shows c.take_blocks.ensures.job (λ told is. (true, c.take_blocks.ensures.turn told is))
+    turns_alone (next.TakeBlocks c.in-TakeBlocks.asked) _ _ _ _ _ _ _ _ _ c.in-TakeBlocks.is shows c.take_blocks.ensures.job (λ told is. (true, c.take_blocks.ensures.turn told is))
 
 pub returns-in-TakePages-clause-turn : goal.returns-in-TakePages-clause-turn
 returns-in-TakePages-clause-turn c r shows =
-    turns_alone (next.TakePages c.in-TakePages.asked) c.args.actor c.args.shared.now c.args.hand.now c.args.running.now r
-    c.take_pages.result c.take_pages.new.shared c.take_pages.new.hand c.take_pages.new.running
-    c.in-TakePages.is shows c.take_pages.ensures.job (λ told is. (true, c.take_pages.ensures.turn told))
+    turns_alone (next.TakePages c.in-TakePages.asked) _ _ _ _ _ _ _ _ _ c.in-TakePages.is shows c.take_pages.ensures.job (λ told is. (true, c.take_pages.ensures.turn told))
 
 pub returns-in-Unlock-clause-turn : goal.returns-in-Unlock-clause-turn
 returns-in-Unlock-clause-turn c r shows =
-    turns_alone (next.Unlock c.in-Unlock.place) c.args.actor c.args.shared.now c.args.hand.now c.args.running.now r c.unlock.result
-    c.unlock.new.shared c.args.hand.now c.unlock.new.running
-    c.in-Unlock.is shows c.unlock.ensures.job (λ told is. (
+    turns_alone (next.Unlock c.in-Unlock.place) _ _ _ _ _ _ _ _ _ c.in-Unlock.is shows c.unlock.ensures.job (λ told is. (
       true,
       c.unlock.ensures.turn told
           (owes_unlock c.in-Unlock.place c.args.running.now told c.in-Unlock.is c.requires.rooms.0 is),
@@ -57,9 +43,7 @@ returns-in-Unlock-clause-turn c r shows =
 
 pub returns-in-Give-clause-turn : goal.returns-in-Give-clause-turn
 returns-in-Give-clause-turn c r shows =
-    turns_alone (next.Give c.in-Give.cpu) c.args.actor c.args.shared.now c.args.hand.now c.args.running.now r c.give.result
-    c.give.new.shared c.give.new.hand c.give.new.running
-    c.in-Give.is shows c.give.ensures.job (λ told is. (
+    turns_alone (next.Give c.in-Give.cpu) _ _ _ _ _ _ _ _ _ c.in-Give.is shows c.give.ensures.job (λ told is. (
       true,
       c.give.ensures.turn told
           (owes_give c.in-Give.cpu c.args.running.now told c.in-Give.is c.requires.rooms.0 is),
@@ -67,9 +51,7 @@ returns-in-Give-clause-turn c r shows =
 
 pub returns-in-Back-clause-turn : goal.returns-in-Back-clause-turn
 returns-in-Back-clause-turn c r shows =
-    turns_alone next.Back c.args.actor c.args.shared.now c.args.hand.now c.args.running.now r c.back.result c.back.new.shared
-    c.back.new.hand c.back.new.running
-    c.in-Back.is shows c.back.ensures.job (λ told is.
+    turns_alone next.Back _ _ _ _ _ _ _ _ _ c.in-Back.is shows c.back.ensures.job (λ told is.
     (true, c.back.ensures.turn told (owes_back c.args.running.now told c.in-Back.is c.requires.rooms.0 is)))
 
 pub returns-in-Visit-clause-turn : goal.returns-in-Visit-clause-turn
