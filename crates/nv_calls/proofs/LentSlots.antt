@@ -13,18 +13,18 @@ use Rattle.nv_calls.specs.Cells.{OnlyAt, ino_at, no_cell, value_at, with_value}
 use Rattle.nv_calls.specs.SlotCells.{cell_in, lent_cells, other_cells}
 use Rattle.nv_calls.proofs.CellLists.{only_value, value_given}
 
-abbrev Rises : List ℕ → Type 0
+abbrev pub Rises : List ℕ → Type 0
 Rises slots = AllPairs (λ (a b : ℕ). a < b) slots
 
-lent_at : (slots : List ℕ) (all : List CellValue) (k : ℕ) → k < length slots
+pub lent_at : (slots : List ℕ) (all : List CellValue) (k : ℕ) → k < length slots
     → slice_index_or (lent_cells slots all) k no_cell ≡ (slice_index_or slots k 0, cell_in all (slice_index_or slots k 0))
 lent_at slots all k lt = get_or-map (λ (ino : ℕ). (ino, cell_in all ino)) slots k 0 no_cell lt
 
-lent_length : (slots : List ℕ) (all : List CellValue) → length (lent_cells slots all) ≡ length slots
+pub lent_length : (slots : List ℕ) (all : List CellValue) → length (lent_cells slots all) ≡ length slots
 lent_length slots all = length-map slots (λ (ino : ℕ). (ino, cell_in all ino))
 
 -- two places have different slots
-apart : (slots : List ℕ) (i k : ℕ) → Rises slots → i < length slots → k < length slots → i ≢ k
+pub apart : (slots : List ℕ) (i k : ℕ) → Rises slots → i < length slots → k < length slots → i ≢ k
     → slice_index_or slots i 0 ≢ slice_index_or slots k 0
 apart slots i k rises small lt ne same = go (nat_lt i k) refl where
   go : (b : Bool) → nat_lt i k ≡ b → ⊥

@@ -1,35 +1,19 @@
 -- One of the cells that are lent changes: so does that of its slot among all, and no other.
-use Rattle.std.proofs.Common.{◌≡◌, ◌≢◌, ℕ, ◌<◌, ◌==◌, ◌∙◌, Bool, true, false, true≢false, nat_lt, List, length, arith, refl, ap, sym}
+use Rattle.std.proofs.Common.{◌≡◌, ◌≢◌, ℕ, ◌<◌, ◌==◌, ◌∙◌, Bool, true, false, true≢false, List, length, refl, ap, sym}
 use Rattle.std.specs.Prelude.{slice_index_or, slice_set}
 use Rattle.std.specs.List.{AllPairs}
-use Rattle.std.proofs.lemmas.Bool.{eqb-true, eqb-false, eq-eqb, ltb-true, ltb-false}
+use Rattle.std.proofs.lemmas.Bool.{eqb-true, eqb-false, eq-eqb}
 use Rattle.std.proofs.lemmas.Grind.{get_or-set_at, get_or_default_zero}
-use Rattle.std.proofs.lemmas.List.{ext_get_or, get_or-map, get_or-set_other, length-map, length-set}
+use Rattle.std.proofs.lemmas.List.{ext_get_or, get_or-set_other, length-set}
 use Rattle.std.proofs.lemmas.List.Folds.{Any-from_list_any, list_any_at}
 use Rattle.nv_alloc.specs.Numbers.{has}
 use Rattle.nv_cell.specs.Cell.{CellValue}
 use Rattle.nv_calls.specs.Cells.{ino_at, no_cell, value_at, with_value}
 use Rattle.nv_calls.specs.SlotCells.{cell_in, lent_cells, other_cells}
+use Rattle.nv_calls.proofs.LentSlots.{apart, lent_at}
 use Rattle.nv_machine.specs.Reads.{slot_at}
 use Rattle.nv_core.specs.Parts.{HaveSlots, IsOnlyAt}
 use Rattle.nv_core.proofs.Others.{others_stay}
-
-pub lent_count : (slots : List ℕ) (all : List CellValue) → length (lent_cells slots all) ≡ length slots
-lent_count slots all = length-map {B = ℕ × CellValue} slots (λ (ino : ℕ). (ino, cell_in all ino))
-
-pub lent_at : (slots : List ℕ) (all : List CellValue) (k : ℕ) → k < length slots
-    → slice_index_or (lent_cells slots all) k no_cell ≡ (slice_index_or slots k 0, cell_in all (slice_index_or slots k 0))
-lent_at slots all k lt = get_or-map (λ (ino : ℕ). (ino, cell_in all ino)) slots k 0 no_cell lt
-
-apart : (slots : List ℕ) (i k : ℕ) → AllPairs (λ (a b : ℕ). a < b) slots → i < length slots → k < length slots → i ≢ k
-    → slice_index_or slots i 0 ≢ slice_index_or slots k 0
-apart slots i k rises small lt ne same = go (nat_lt i k) refl where
-  go : (b : Bool) → nat_lt i k ≡ b → ⊥
-  go true less = let up : slice_index_or slots i 0 < slice_index_or slots k 0 = rises i k 0 (ltb-true i k less) lt in absurd
-      (omega (arith, up, same))
-  go false more =
-      let up : slice_index_or slots k 0 < slice_index_or slots i 0 = rises k i 0 (omega (arith, ltb-false i k more, ne)) small in
-      absurd (omega (arith, up, same))
 
 pub only_among : (slots : List ℕ) (old new : List CellValue) (k : ℕ) → length new ≡ length old → k < length slots
     → AllPairs (λ (a b : ℕ). a < b) slots → HaveSlots old slots

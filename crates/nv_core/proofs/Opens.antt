@@ -22,7 +22,7 @@ use Rattle.nv_core.specs.Shown.{Told, commit_next, hand_in, machine_step, shared
 use Rattle.nv_core.specs.Told.{IsCommitOf, IsOnItsWay}
 use Rattle.nv_core.specs.declared.running.Running.{Running}
 use Rattle.nv_core.specs.declared.shared.Shared.{Shared}
-use Rattle.nv_core.proofs.Among.{lent_at}
+use Rattle.nv_calls.proofs.LentSlots.{lent_at}
 use Rattle.nv_core.proofs.Publishes.{state_there}
 
 -- what is told of the commit stays

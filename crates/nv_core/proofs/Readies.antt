@@ -19,7 +19,7 @@ use Rattle.nv_calls.specs.Plan.{runs_of}
 use Rattle.nv_calls.specs.declared.call.Call.{Call}
 use Rattle.nv_machine.specs.Reads.{copies, has_last_page, is_written, plan_by, slot_at}
 use Rattle.nv_machine.specs.World as machine
-use Rattle.nv_core.proofs.Among.{lent_at}
+use Rattle.nv_calls.proofs.LentSlots.{lent_at}
 use Rattle.nv_core.proofs.Others.{others_stay}
 use Rattle.nv_core.proofs.Takes.{plan_same}
 use Rattle.nv_core.proofs.Takings.{takes_at}

@@ -7,7 +7,8 @@ use Rattle.nv_cell.specs.Cell.{CellValue}
 use Rattle.nv_machine.specs.Reads.{slot_at}
 use Rattle.nv_core.specs.Rooms.{IsHandOf}
 use Rattle.nv_core.specs.Shown.{hand_in, shown_commit, slots_in}
-use Rattle.nv_core.proofs.Among.{lent_count, only_among}
+use Rattle.nv_calls.proofs.LentSlots.{lent_length}
+use Rattle.nv_core.proofs.Among.{only_among}
 use Rattle.nv_core.proofs.Appends.{append_place, append_told, appends, lent_only, lent_value, lent_with}
 use Rattle.nv_core.proofs.Phases.{append_can, append_goes, append_within}
 use Rattle.nv_core.proofs.Stages.{append_due}
@@ -27,7 +28,7 @@ append_in-requires c =
           omega (
             arith,
             append_within _ _ _ old going due,
-            lent_count slots c.args.shared.now.cells.items,
+            lent_length slots c.args.shared.now.cells.items,
           );
       can =
           subst (λ (xs : List CellValue). CanAppendPlan old.stamp old.place (to_append old).items old.hand
@@ -48,7 +49,7 @@ returns c =
     let was = c.deref_mut.ensures.value in
     let gives = rw was at c.append_in.ensures in
     let k = (to_append old).at in
-    let within : k < length slots = omega (arith, append_within _ _ _ old at.committing due, lent_count slots cells) in
+    let within : k < length slots = omega (arith, append_within _ _ _ old at.committing due, lent_length slots cells) in
     let value : CellValue = with_plan old.stamp old.place (to_append old).items old.hand (value_at (lent_cells slots cells) k) in
     let lent : lent_cells slots new ≡ with_value (lent_cells slots cells) k value =
     subst (λ (xs : List CellValue). lent_cells slots new ≡ with_value (lent_cells slots xs) k

@@ -6,7 +6,8 @@ use Rattle.nv_machine.specs.World as machine
 use Rattle.nv_core.specs.Committing.{IsCommitting}
 use Rattle.nv_core.specs.Rooms.{IsHandOf, committing_cpu}
 use Rattle.nv_core.specs.Shown.{hand_in, shared_of, shown_commit, slots_in}
-use Rattle.nv_core.proofs.Among.{all_still, lent_count}
+use Rattle.nv_calls.proofs.LentSlots.{lent_length}
+use Rattle.nv_core.proofs.Among.{all_still}
 use Rattle.nv_core.proofs.Opens.{open_told, opens}
 use Rattle.nv_core.proofs.PublishPhase.{open_cells, open_closed, open_cpu, open_full, open_goes, open_placed, open_shut}
 use Rattle.nv_core.proofs.Stages.{open_due}
@@ -49,7 +50,7 @@ returns c =
     let still : cells ≡ new = sym (all_still slots cells new gives.count gives.cells gives.others) in
     record {
       turn = λ told is.
-          opens shared running old told c.args.cpu is at.slots (λ j lt. omega (arith, placed.within j lt, lent_count slots cells)) full
+          opens shared running old told c.args.cpu is at.slots (λ j lt. omega (arith, placed.within j lt, lent_length slots cells)) full
           due.none due.two
           ∙ sym (ap₂ (λ (b : BookValue) (x : CommitValue). machine.Moves (record (shared_of shared) { book = b.state }) (hand_in x)
           (shown_commit x told running)) gives.book gives.commit)

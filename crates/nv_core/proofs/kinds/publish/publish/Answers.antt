@@ -11,7 +11,8 @@ use Rattle.nv_cell.specs.Weights.{weights_in}
 use Rattle.nv_machine.specs.Reads.{slot_at}
 use Rattle.nv_core.specs.Rooms.{IsHandOf}
 use Rattle.nv_core.specs.Shown.{hand_in, shown_commit, slots_in}
-use Rattle.nv_core.proofs.Among.{lent_count, only_among}
+use Rattle.nv_calls.proofs.LentSlots.{lent_length}
+use Rattle.nv_core.proofs.Among.{only_among}
 use Rattle.nv_core.proofs.Appends.{lent_value}
 use Rattle.nv_core.proofs.PublishPhase.{publish_can, publish_full, publish_goes, publish_noted, publish_open, publish_within}
 use Rattle.nv_core.proofs.Publishes.{publish_told, publishes}
@@ -27,7 +28,7 @@ publish_in-requires c =
     let going = c.requires.at.committing in
     let due = publish_due old c.requires.at.step in
     let k = (to_publish old).at in
-    let within : k < length slots = omega (arith, publish_within _ _ _ old going due, lent_count slots cells) in
+    let within : k < length slots = omega (arith, publish_within _ _ _ old going due, lent_length slots cells) in
     rw c.deref_mut.ensures.value (record {
       slots = c.requires.at.slots;
       turn = due.some;
@@ -52,7 +53,7 @@ returns c =
     let was = c.deref_mut.ensures.value in
     let gives = rw was at c.publish_in.ensures in
     let k = (to_publish old).at in
-    let within : k < length slots = omega (arith, publish_within _ _ _ old at.committing due, lent_count slots cells) in
+    let within : k < length slots = omega (arith, publish_within _ _ _ old at.committing due, lent_length slots cells) in
     let state : (cell_in new (slot_at slots k)).state ≡ published (cell_in cells (slot_at slots k)).state = gives.state in
     let commit : after ≡ after_publish (killed_by (cell_in cells (slot_at slots k)).state) old = gives.commit in
     let only : OnlyAt k (lent_cells slots cells) (lent_cells slots new) =

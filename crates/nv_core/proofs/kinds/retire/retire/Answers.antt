@@ -9,7 +9,8 @@ use Rattle.nv_cell.specs.Cell.{CellValue}
 use Rattle.nv_epoch.specs.SnapList.{ids}
 use Rattle.nv_machine.specs.Reads.{slot_at}
 use Rattle.nv_core.specs.Shown.{hand_in, shown_commit, slots_in}
-use Rattle.nv_core.proofs.Among.{lent_at, lent_count, only_among}
+use Rattle.nv_calls.proofs.LentSlots.{lent_at, lent_length}
+use Rattle.nv_core.proofs.Among.{only_among}
 use Rattle.nv_core.proofs.Appends.{lent_value}
 use Rattle.nv_core.proofs.RetirePhase.{retire_can, retire_dead, retire_free, retire_full, retire_goes, retire_room, retire_shut, retire_within}
 use Rattle.nv_core.proofs.Retires.{all_appended, hand_stays, retire_told, retires}
@@ -25,7 +26,7 @@ retire_in-requires c =
     let going = c.requires.at.committing in
     let due = retire_due old c.requires.at.step in
     let k = (to_retire old).at in
-    let within : k < length slots = omega (arith, retire_within _ _ _ old going due, lent_count slots cells) in
+    let within : k < length slots = omega (arith, retire_within _ _ _ old going due, lent_length slots cells) in
     rw c.deref_mut.ensures.value (record {
       slots = c.requires.at.slots;
       turn = due.2;
@@ -60,7 +61,7 @@ returns c =
     let i = slot_at slots k in
     let living = ids shared.book.state.snaps in
     let parts = (to_retire old).killed in
-    let within : k < length slots = omega (arith, retire_within _ _ _ old at.committing due, lent_count slots cells) in
+    let within : k < length slots = omega (arith, retire_within _ _ _ old at.committing due, lent_length slots cells) in
     let only : OnlyAt k (lent_cells slots cells) (lent_cells slots new) =
     subst (λ (xs : List CellValue). OnlyAt k (lent_cells slots xs) (lent_cells slots new)) was c.retire_in.ensures.cells in
     let room =
