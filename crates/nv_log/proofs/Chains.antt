@@ -76,10 +76,22 @@ pub open_within : (chain : ChainState) → 0 < room_of chain → open_of chain <
 open_within chain room =
     is_within chain.page (length chain.entries - start_of chain (open_of chain)) (length chain.blocks) (open_of chain) room
 
+-- an entry that may follow the last id and epoch may follow the last entry
+follows_last : (chain : ChainState) (e : Entry) → ForSome (last_id chain) (λ last. IsIdBefore last e.id)
+    → ForSome (last_epoch chain) (λ last. last ≤ e.epoch) → 0 < length chain.entries
+    → MayFollow (get_or chain.entries (length chain.entries - 1) e) e
+follows_last chain e id epoch some =
+    let last = slice_get-get_or chain.entries (length chain.entries - 1) e (omega arith) in
+    record {
+      id_rises = id _ (ap (option_map (λ (x : Entry). x.id)) last);
+      epoch_stays = epoch _ (ap (option_map (λ (x : Entry). x.epoch)) last);
+    }
+
 -- a chain with one more entry is a chain
-pub IsChain-appended : (chain : ChainState) (e : Entry) → IsChain chain → 0 < room_of chain → (0 < length chain.entries
-    → MayFollow (get_or chain.entries (length chain.entries - 1) e) e) → IsChain (appended e chain)
-IsChain-appended chain e is room last =
+pub IsChain-appended : (chain : ChainState) (e : Entry) → IsChain chain → 0 < room_of chain
+    → ForSome (last_id chain) (λ last. IsIdBefore last e.id) → ForSome (last_epoch chain) (λ last. last ≤ e.epoch)
+    → IsChain (appended e chain)
+IsChain-appended chain e is room id epoch =
     let opened = opens chain is in
     let len = length chain.entries in
     let front = take (open_of chain) chain.ends in
@@ -91,19 +103,8 @@ IsChain-appended chain e is room last =
       parted =
           rw size (AreEnds-push chain.page 0 front (start_of chain (open_of chain)) (len + 1) (AreEnds-take chain.page 0 chain.ends len
           (open_of chain) is.parted opened.at_most) (omega (arith, opened.begins)) (omega (arith, opened.free, opened.begins)));
-      rising = IsLog-push chain.entries e is.rising last;
+      rising = IsLog-push chain.entries e is.rising (follows_last chain e id epoch);
       within = omega (arith, is.within, size);
-    }
-
--- an entry that may follow the last id and epoch may follow the last entry
-pub follows_last : (chain : ChainState) (e : Entry) → ForSome (last_id chain) (λ last. IsIdBefore last e.id)
-    → ForSome (last_epoch chain) (λ last. last ≤ e.epoch) → 0 < length chain.entries
-    → MayFollow (get_or chain.entries (length chain.entries - 1) e) e
-follows_last chain e id epoch some =
-    let last = slice_get-get_or chain.entries (length chain.entries - 1) e (omega arith) in
-    record {
-      id_rises = id _ (ap (option_map (λ (x : Entry). x.id)) last);
-      epoch_stays = epoch _ (ap (option_map (λ (x : Entry). x.epoch)) last);
     }
 
 -- what the ids and epochs of a chain's end ask, by its last entry
@@ -273,7 +274,7 @@ IsChain-with_entries_left stays chain is =
     }
 
 -- nor is it another without these pages
-pub IsChain-with_pages_left : (stays : List Bool) (chain : ChainState) → IsChain chain → IsChain (with_pages_left stays chain)
+IsChain-with_pages_left : (stays : List Bool) (chain : ChainState) → IsChain chain → IsChain (with_pages_left stays chain)
 IsChain-with_pages_left stays chain is =
     let rest = IsChain-with_entries_left stays chain is in
     record {
@@ -290,12 +291,26 @@ IsChain-with_pages_left stays chain is =
       within = rest.within;
     }
 
--- each page that is left keeps its entries, and the log keeps what such a page had of it
-pub keeps_pages : (stays : List Bool) (chain : ChainState) → IsChain chain → KeepsPages stays chain (with_pages_left stays chain)
-keeps_pages stays chain is = record {
-  pages_are = parts-joined 0 (left_of stays (pages_of chain));
-  log_is = take-joined_left chain.page stays chain.ends chain.tail chain.entries is.parted;
-}
+-- another chain, of some pages of the old one: each keeps its entries, and the log keeps what such a page had of it
+pub record HasPagesLeft (stays : List Bool) (old new : ChainState) : Type 0 where
+  pub state : new ≡ with_pages_left stays old
+  pub chain : IsChain new
+  pub keeps : KeepsPages stays old new
+
+-- once the entries of the other pages are out, their blocks go too
+pub has_pages_left : (stays : List Bool) (old taken : ChainState) (blocks : List BlockValue) → IsChain old
+    → taken ≡ with_entries_left stays old → blocks ≡ left_of stays taken.blocks
+    → HasPagesLeft stays old (record taken { blocks = blocks })
+has_pages_left stays old taken blocks is out left =
+    let whole : record taken { blocks = blocks } ≡ with_pages_left stays old = rw (left, out) refl in
+    rw whole (record {
+      state = refl;
+      chain = IsChain-with_pages_left stays old is;
+      keeps = record {
+        pages_are = parts-joined 0 (left_of stays (pages_of old));
+        log_is = take-joined_left old.page stays old.ends old.tail old.entries is.parted;
+      };
+    })
 
 -- a chain with what is left of its entries on fresh pages is a chain
 pub IsChain-compacted : (stays : List Bool) (pages : List BlockValue) (chain : ChainState) → IsChain chain

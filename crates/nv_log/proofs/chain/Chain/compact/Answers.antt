@@ -8,13 +8,15 @@ use Rattle.nv_log.specs.Chain.{ChainValue, IsChain, compacted, left_of, log}
 use Rattle.nv_log.proofs.Chains.{IsChain-compacted, compacted_few}
 use Rattle.nv_log.proofs.Flags.{left_of-select, take-left_of}
 use Rattle.nv_log.proofs.chain.Chain.compact.Goals as goal
+use Rattle.nv_log.proofs.chain.Chain.compact.Goals.{After-len}
+
+left : (c : After-len) → c.len.result ≡ length (left_of c.args.stays.now (state_in c.self.inside).entries)
+left c = omega (arith, c.len.ensures, c.take_entries.new.entries.ok, ap length c.take_entries.ensures.entries)
 
 pub pack-requires-clause-room : goal.pack-requires-clause-room
 pack-requires-clause-room c =
     let chain = state_in c.self.inside in
-    let n : c.len.result ≡ length (left_of c.args.stays.now chain.entries) =
-    omega (arith, c.len.ensures, c.take_entries.new.entries.ok, ap length c.take_entries.ensures.entries) in
-    rw n (omega (
+    rw (left (goal.at.pack-requires-clause-room c).After-len) (omega (
       arith,
       compacted_few c.args.stays.now chain c.self.invariant.chain,
       c.self.invariant.there,
@@ -23,24 +25,17 @@ pack-requires-clause-room c =
     ))
 
 -- the state that the fields leave
-whole : (c : goal.After-replace) → state_in (record {
-  page = c.self.inside.page;
-  blocks = c.replace.new.dest;
-  ends = c.pack.new.ends;
-  entries = c.take_entries.new.entries;
+whole : (c : goal.After-replace) → record (state_in c.self.inside) {
+  blocks = c.replace.new.dest.items;
+  ends = c.pack.new.ends.items;
+  entries = c.take_entries.new.entries.items;
   tail = c.staying-self-inside.result;
-  run = c.behind-self-inside.result;
-  reserved = c.len-self-inside.result;
-  reads = c.self.inside.reads;
-}) ≡ compacted c.args.stays.now c.args.pages.items (state_in c.self.inside)
+} ≡ compacted c.args.stays.now c.args.pages.items (state_in c.self.inside)
 whole c =
-    let chain = state_in c.self.inside in
-    let n : c.len.result ≡ length (left_of c.args.stays.now chain.entries) =
-    omega (arith, c.len.ensures, c.take_entries.new.entries.ok, ap length c.take_entries.ensures.entries) in
     rw (
       c.replace.ensures.after,
       c.pack.ensures.ends,
-      n,
+      left (goal.at.invariant_of-self c).After-len,
       c.take_entries.ensures.entries,
       c.staying-self-inside.ensures,
       c.deref.ensures.value,

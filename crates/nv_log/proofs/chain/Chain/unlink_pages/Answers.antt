@@ -1,7 +1,7 @@
-use Rattle.std.proofs.Common.{◌≡◌, length, ap, arith, sym, subst, ◌∙◌}
+use Rattle.std.proofs.Common.{◌≡◌, length, ap, arith, sym, ◌∙◌}
 use Rattle.nv_log.specs.Fields.{state_in}
-use Rattle.nv_log.specs.Chain.{ChainState, ChainValue, IsChain, KeepsPages, joined, left_of, log, log_pages, pages_of, with_entries_left, with_pages_left}
-use Rattle.nv_log.proofs.Chains.{IsChain-with_pages_left, keeps_pages}
+use Rattle.nv_log.specs.Chain.{ChainState, ChainValue, joined, left_of, log, log_pages, pages_of, with_entries_left}
+use Rattle.nv_log.proofs.Chains.{HasPagesLeft, has_pages_left}
 use Rattle.nv_log.proofs.Flags.{left_of-select, length-left_of}
 use Rattle.nv_log.proofs.Parts.{length-parts}
 use Rattle.nv_log.proofs.chain.Chain.unlink_pages.Goals as goal
@@ -11,28 +11,15 @@ taken : (c : goal.After-hand_out) → state_in c.self.inside ≡ with_entries_le
 taken c = ap (λ v. v.state) c.self.view_is ∙ c.leave_pages.ensures.state
 
 -- the state that the fields leave
-whole : (c : goal.After-hand_out) → state_in (record {
-  page = c.self.inside.page;
-  blocks = c.hand_out.new.blocks;
-  ends = c.self.inside.ends;
-  entries = c.self.inside.entries;
-  tail = c.self.inside.tail;
-  run = c.self.inside.run;
-  reserved = c.self.inside.reserved;
-  reads = c.self.inside.reads;
-}) ≡ with_pages_left c.args.stays.now c.args.self.now.state
-whole c =
-    let stays = c.args.stays.now in
-    let left = c.hand_out.ensures.blocks ∙ ap (λ (s : ChainState). left_of stays s.blocks) (taken c) in
-    ap (λ (s : ChainState). record s { blocks = c.hand_out.new.blocks.items }) (taken c)
-    ∙ ap (λ bs. record (with_entries_left stays c.args.self.now.state) { blocks = bs }) left
+left : (c : goal.After-hand_out)
+    → HasPagesLeft c.args.stays.now c.args.self.now.state (record (state_in c.self.inside) { blocks = c.hand_out.new.blocks.items })
+left c = has_pages_left c.args.stays.now _ _ _ c.leave_pages.ensures.was (taken c) c.hand_out.ensures.blocks
 
 pub invariant_of-self : goal.invariant_of-self
 invariant_of-self c =
-    let stays = c.args.stays.now in
-    let fewer = length-left_of stays c.self.inside.blocks.items in
+    let fewer = length-left_of c.args.stays.now c.self.inside.blocks.items in
     record {
-      chain = subst IsChain (sym (whole c)) (IsChain-with_pages_left stays c.args.self.now.state c.leave_pages.ensures.was);
+      chain = (left c).chain;
       there =
           omega (
             arith,
@@ -48,23 +35,19 @@ invariant_of-self c =
       entries_room = c.self.invariant.entries_room;
     }
 
-kept : (c : goal.After-hand_out)
-    → KeepsPages c.args.stays.now c.args.self.now.state (with_pages_left c.args.stays.now c.args.self.now.state)
-kept c = keeps_pages c.args.stays.now c.args.self.now.state c.leave_pages.ensures.was
-
 pub returns-clause-pages : goal.returns-clause-pages
 returns-clause-pages c =
     let chain = c.args.self.now.state in
     let each : length c.args.stays.now ≡ length (pages_of chain) =
     c.requires.flags ∙ sym (length-parts 0 chain.ends chain.entries) in
-    ap pages_of (whole c) ∙ (kept c).pages_are ∙ left_of-select c.args.stays.now (pages_of chain) each
+    (left c).keeps.pages_are ∙ left_of-select c.args.stays.now (pages_of chain) each
 
 pub returns-clause-log : goal.returns-clause-log
 returns-clause-log c =
     let chain = c.args.self.now.state in
     let each : length c.args.stays.now ≡ length (log_pages chain) =
     c.requires.flags ∙ sym (length-parts 0 chain.ends (log chain)) in
-    ap log (whole c) ∙ (kept c).log_is ∙ ap joined (left_of-select c.args.stays.now (log_pages chain) each)
+    (left c).keeps.log_is ∙ ap joined (left_of-select c.args.stays.now (log_pages chain) each)
 
 pub returns-clause-spare : goal.returns-clause-spare
 returns-clause-spare c =
