@@ -4,6 +4,7 @@ pub mod Ends
 pub mod Filing
 pub mod Listing
 pub mod Places
+pub mod Putting
 pub mod RecordLists
 pub mod Series
 pub mod Split

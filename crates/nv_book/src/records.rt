@@ -42,6 +42,7 @@ impl Records {
     }
 
     /// How many runs the records are stored as.
+    #[tactic(auto, using(crate::proofs::Putting::count_laws))]
     pub fn stored(&self) -> usize
         ensures { result ≡ run_count_of self.now }
     {
@@ -49,6 +50,7 @@ impl Records {
     }
 
     /// Puts a record to the end. It takes no memory, and a spare node where the record doesn't go on the last.
+    #[tactic(auto, using(crate::proofs::Putting::count_laws))]
     pub(crate) fn push(&mut self, last: Record, spare: &mut SpareNodes)
         requires spare { 0 < spare.old }
         requires fits { run_count_of self.old + spare.old < 2 ^ 63 }
@@ -64,6 +66,7 @@ impl Records {
     }
 
     /// Takes the first record out, in constant time.
+    #[tactic(auto, using(crate::proofs::Putting::count_laws))]
     pub(crate) fn pick(&mut self) -> Option<Record>
         ensures first { result ≡ slice_get self.old 0 }
         ensures rest { self.new ≡ drop 1 self.old }
@@ -105,6 +108,7 @@ impl Records {
 
     /// Moves the records in order: those born by the snapshot `older` to the end of `kept`, all others to the end of
     /// `deferred`. It takes no memory, and time by this list's runs alone.
+    #[tactic(auto, using(crate::proofs::Putting::count_laws))]
     pub(crate) fn split_by_birth(
         self,
         older: &Option<Epoch>,

@@ -52,6 +52,7 @@ fn fill(node: &mut LinkedList<Run>, run: Run)
 }
 
 /// Puts a run to the end of a list, in a spare node where it isn't one with the last.
+#[tactic(auto, using(crate::proofs::Putting::put_laws))]
 pub fn add(list: &mut LinkedList<Run>, spare: &mut LinkedList<Run>, run: Run)
     requires runs { AreRuns list.old }
     requires run { IsRun run }
@@ -93,6 +94,7 @@ pub fn take_first(list: &mut LinkedList<Run>) -> (Run, LinkedList<Run>)
 }
 
 /// Puts a run that has a node of its own to the end of a list.
+#[tactic(auto, using(crate::proofs::Putting::put_laws))]
 pub fn put_node(list: &mut LinkedList<Run>, run: Run, mut node: LinkedList<Run>)
     requires runs { AreRuns list.old }
     requires run { IsRun run }

@@ -8,6 +8,7 @@ use Rattle.nv_book.specs.Records.{run_count_of, moved_down, let_go}
 use Rattle.nv_book.proofs.Counts.{moved-and-let_go, none-moves-down}
 use Rattle.nv_book.proofs.Places.{drop-place, put-none, records-place, remove-place, total-both, total-dropped, total-removed}
 use Rattle.nv_book.proofs.manifest.drop_at.Goals as goal
+use Rattle.nv_book.proofs.manifest.drop_at.Goals.{After-index_mut-next}
 
 oldest : (ms : List Manifest) (k s : ℕ) (o : Option ℕ) → IsRising (snapshots ms) → k < length ms → get_or (snapshots ms) k 0 ≡ s →
     o ≡ None → remove ms k ≡ after_drop s o ms
@@ -32,54 +33,46 @@ returns-then-place-eq0-clause-count c =
     let d = length-append c.args.deferred.now (let_go c.args.older.now rs) in
     rw (c.remove-records.ensures.items, c.split_by_birth.ensures.deferred) (omega (arith, g, none, both, d))
 
+-- the manifest that takes the records stands before the removed one
+next-there : (c : After-index_mut-next)
+    → c.index_mut-next.result.now ≡ get_or (remove c.args.manifests.now.items c.args.place) (c.args.place - 1) c.index_mut-next.result.now
+next-there c =
+    subst (λ ms. c.index_mut-next.result.now ≡ get_or ms (c.args.place - 1) c.index_mut-next.result.now) c.remove-records.ensures.items
+    c.index_mut-next.ensures.value
+
 pub split_by_birth-requires-2 : goal.split_by_birth-requires-2
 split_by_birth-requires-2 c =
-    let pos : 0 < c.args.place = omega (arith, c.if-place-eq0.false) in
-    let en = subst (λ ms. c.index_mut-next.result.now ≡ get_or ms (c.args.place - 1) c.index_mut-next.result.now)
-    c.remove-records.ensures.items c.index_mut-next.ensures.value in
-    let both = total-both _ _ c.args.s c.requires.rising (c.removal_moves_holders_down.ensures.rising _ c.args.s c.requires.rising)
-    c.requires.within c.requires.at pos run_count_of c.remove-records.result c.index_mut-next.result.now
-    c.remove-records.ensures.value en in
-    let fits = c.requires.fits in
-    record { fits = omega (arith, both, fits) }
+    let asked = c.requires in
+    let both = total-both _ _ c.args.s asked.rising (c.removal_moves_holders_down.ensures.rising _ c.args.s asked.rising) asked.within
+    asked.at (omega (arith, c.if-place-eq0.false)) run_count_of c.remove-records.result c.index_mut-next.result.now
+    c.remove-records.ensures.value (next-there (goal.at.split_by_birth-requires-2 c).After-index_mut-next) in
+    record { fits = omega (arith, both, asked.fits) }
 
-pub returns-clause-manifests : goal.returns-clause-manifests
-returns-clause-manifests c =
+pub returns : goal.returns
+returns c =
+    let asked = c.requires in
     let pos : 0 < c.args.place = omega (arith, c.if-place-eq0.false) in
-    let en = subst (λ ms. c.index_mut-next.result.now ≡ get_or ms (c.args.place - 1) c.index_mut-next.result.now)
-    c.remove-records.ensures.items c.index_mut-next.ensures.value in
-    rw (c.remove-records.ensures.items, c.split_by_birth-2.ensures.kept)
-    (drop-place _ _ _ c.requires.rising (c.removal_moves_holders_down.ensures.rising _ c.args.s c.requires.rising) c.requires.within
-    c.requires.at pos _ _ _ c.remove-records.ensures.value en (c.requires.older pos))
-
-pub returns-clause-deferred : goal.returns-clause-deferred
-returns-clause-deferred c = c.split_by_birth-2.ensures.deferred
-    ∙ ap (λ rs. c.args.deferred.now ++ let_go c.args.older.now rs)
-    (sym (records-place _ _ _ _ c.requires.rising c.requires.within c.requires.at c.remove-records.ensures.value))
-
-pub returns-clause-room : goal.returns-clause-room
-returns-clause-room c =
-    let pos : 0 < c.args.place = omega (arith, c.if-place-eq0.false) in
-    let en = subst (λ ms. c.index_mut-next.result.now ≡ get_or ms (c.args.place - 1) c.index_mut-next.result.now)
-    c.remove-records.ensures.items c.index_mut-next.ensures.value in
-    let n = total-dropped _ _ c.args.s c.requires.rising (c.removal_moves_holders_down.ensures.rising _ c.args.s c.requires.rising)
-    c.requires.within c.requires.at pos run_count_of c.remove-records.result c.index_mut-next.result.now
+    let gone = c.remove-records.result in
+    let next = c.index_mut-next.result.now in
+    let en = next-there (goal.at.returns c).After-index_mut-next in
+    let left = c.removal_moves_holders_down.ensures.rising _ c.args.s asked.rising in
+    let dropped = λ (f : List Record → ℕ). total-dropped _ _ c.args.s asked.rising left asked.within asked.at pos f gone next
     c.remove-records.ensures.value en c.split_by_birth-2.new.kept in
-    let runs = c.split_by_birth-2.ensures.runs in
-    rw c.remove-records.ensures.items (omega (arith, n, runs))
-
-pub returns-clause-count : goal.returns-clause-count
-returns-clause-count c =
-    let pos : 0 < c.args.place = omega (arith, c.if-place-eq0.false) in
-    let rs = c.remove-records.result.records in
-    let en = subst (λ ms. c.index_mut-next.result.now ≡ get_or ms (c.args.place - 1) c.index_mut-next.result.now)
-    c.remove-records.ensures.items c.index_mut-next.ensures.value in
-    let n = total-dropped _ _ c.args.s c.requires.rising (c.removal_moves_holders_down.ensures.rising _ c.args.s c.requires.rising)
-    c.requires.within c.requires.at pos length c.remove-records.result c.index_mut-next.result.now c.remove-records.ensures.value en
-    c.split_by_birth-2.new.kept in
-    let both = moved-and-let_go c.args.older.now rs in
-    let k : length c.split_by_birth-2.new.kept ≡ length c.index_mut-next.result.now.records + length (moved_down c.args.older.now rs) =
-    ap length c.split_by_birth-2.ensures.kept ∙ length-append c.index_mut-next.result.now.records (moved_down c.args.older.now rs) in
-    let d : length c.split_by_birth-2.new.deferred ≡ length c.args.deferred.now + length (let_go c.args.older.now rs) =
-    ap length c.split_by_birth-2.ensures.deferred ∙ length-append c.args.deferred.now (let_go c.args.older.now rs) in
-    rw c.remove-records.ensures.items (omega (arith, n, both, k, d))
+    let split = c.split_by_birth-2.ensures in
+    let older = c.args.older.now in
+    let both = moved-and-let_go older gone.records in
+    let kept : length c.split_by_birth-2.new.kept ≡ length next.records + length (moved_down older gone.records) =
+    ap length split.kept ∙ length-append next.records (moved_down older gone.records) in
+    let deferred : length c.split_by_birth-2.new.deferred ≡ length c.args.deferred.now + length (let_go older gone.records) =
+    ap length split.deferred ∙ length-append c.args.deferred.now (let_go older gone.records) in
+    record {
+      manifests =
+          rw (c.remove-records.ensures.items, split.kept)
+          (drop-place _ _ _ asked.rising left asked.within asked.at pos _ _ _ c.remove-records.ensures.value en (asked.older pos));
+      deferred =
+          split.deferred ∙ ap (λ rs. c.args.deferred.now ++ let_go older rs)
+          (sym (records-place _ _ _ _ asked.rising asked.within asked.at c.remove-records.ensures.value));
+      room = rw c.remove-records.ensures.items (omega (arith, dropped run_count_of, split.runs));
+      count = rw c.remove-records.ensures.items (omega (arith, dropped length, both, kept, deferred));
+      places = grind arith;
+    }

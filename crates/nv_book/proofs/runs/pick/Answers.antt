@@ -1,4 +1,5 @@
 use Rattle.std.proofs.Common.{◌<◌, List, Some, slice_get, drop, ◌≡◌, [], ◌∷◌, true, false, length, arith, refl, sym, ap, ◌∙◌}
+use Rattle.std.proofs.lemmas.Grind.{common_steps}
 use Rattle.nv_book.specs.declared.record.Record.{Record}
 use Rattle.nv_book.specs.declared.run.Run.{Run}
 use Rattle.nv_book.specs.Runs.{records_of}
@@ -12,32 +13,17 @@ cut-requires-clause-run c = (first-run _ _ (c.in_ok-first.ensures.variant.0 refl
 picked : (xs ys : List Record) (r : Record) → xs ≡ r ∷ ys → (Some r ≡ slice_get xs 0) × (ys ≡ drop 1 xs)
 picked xs ys r e = (rw e refl, rw e refl)
 
-pub returns-then-first-gt0-clause-first : goal.returns-then-first-gt0-clause-first
-returns-then-first-gt0-clause-first c =
-    (picked _ _ _ (cut-list _ _ (c.in_ok-first.ensures.variant.0 refl) c.in_ok-first.ensures.value c.requires c.if-first-gt0.true).0).0
+pub returns-then-first-gt0 : goal.returns-then-first-gt0
+returns-then-first-gt0 c =
+    let cut = cut-list _ _ (c.in_ok-first.ensures.variant.0 refl) c.in_ok-first.ensures.value c.requires c.if-first-gt0.true in
+    let front = picked _ _ _ cut.0 in
+    rw c.cut.ensures (record { first = front.0; rest = front.1; runs = cut.1; room = grind (arith, common_steps) })
 
-pub returns-then-first-gt0-clause-rest : goal.returns-then-first-gt0-clause-rest
-returns-then-first-gt0-clause-rest c =
-    rw c.cut.ensures (picked _ _ _
-    (cut-list _ _ (c.in_ok-first.ensures.variant.0 refl) c.in_ok-first.ensures.value c.requires c.if-first-gt0.true).0).1
-
-pub returns-then-first-gt0-clause-runs : goal.returns-then-first-gt0-clause-runs
-returns-then-first-gt0-clause-runs c =
-    rw c.cut.ensures (cut-list _ _ (c.in_ok-first.ensures.variant.0 refl) c.in_ok-first.ensures.value c.requires c.if-first-gt0.true).1
-
-pub returns-clause-first : goal.returns-clause-first
-returns-clause-first c =
-    (picked _ _ _ (drop-list _ _ (c.in_ok-first.ensures.variant.0 refl) c.in_ok-first.ensures.value c.requires c.if-first-gt0.false).0).0
-
-pub returns-clause-rest : goal.returns-clause-rest
-returns-clause-rest c =
-    rw c.pop_front-node.ensures.rest
-    (picked _ _ _ (drop-list _ _ (c.in_ok-first.ensures.variant.0 refl) c.in_ok-first.ensures.value c.requires c.if-first-gt0.false).0).1
-
-pub returns-clause-runs : goal.returns-clause-runs
-returns-clause-runs c =
-    rw c.pop_front-node.ensures.rest
-    (drop-list _ _ (c.in_ok-first.ensures.variant.0 refl) c.in_ok-first.ensures.value c.requires c.if-first-gt0.false).1
+pub returns : goal.returns
+returns c =
+    let left = drop-list _ _ (c.in_ok-first.ensures.variant.0 refl) c.in_ok-first.ensures.value c.requires c.if-first-gt0.false in
+    let front = picked _ _ _ left.0 in
+    rw c.pop_front-node.ensures.rest (record { first = front.0; rest = front.1; runs = left.1; room = grind (arith, common_steps) })
 
 none-of : (rs : List Run) → (0 < length rs → false ≡ true) → records_of rs ≡ []
 unfolding records_of
